@@ -1,0 +1,51 @@
+-- Dates and fields.
+use Rattle.std.proofs.Common.{◌≡◌, ℕ, zero, suc, ◌+◌, ◌-◌, ◌*◌, ◌/◌, ◌%◌, ◌<◌, ◌≤◌, Bool, true, false, List, [], ◌∷◌, length, drop, refl, arith, Some, None, Ok, sym, ◌∙◌}
+use Rattle.std.specs.Prelude.{slice_range, slice_index, ◌==◌, pos, nat_le, ◌&&◌}
+use Rattle.std.proofs.lemmas.Bool.Decides.{nat_tests}
+use Rattle.std.specs.Char.{is_ascii_digit, digit_value}
+use Rattle.std.specs.Str.{all_ascii_digits}
+use Rattle.std.specs.Str.Parse.{digits_value}
+use Rattle.csv.specs.Records.{field_at}
+use Rattle.gaz_ids.specs.Numbers.{read_id}
+use Rattle.gaz_records.specs.Days.{CivilDay, date_of, date_text, day_of, four, is_day, two}
+
+pub field_at-drop : (xs : List (List ℕ)) (k i : ℕ) → field_at (drop k xs) i ≡ field_at xs (k + i)
+unfolding field_at
+field_at-drop xs zero i = let e : 0 + i ≡ i = omega arith in rw e refl
+field_at-drop [] (suc k) i = refl
+field_at-drop (x ∷ xs) (suc k) i = let e : suc k + i ≡ suc (k + i) = omega arith in rw e (field_at-drop xs k i)
+
+pub ruleset field_drops = (field_at-drop)
+
+pub read_range : (w l h : ℕ) (s : List ℕ) (n : ℕ) → read_id w l h s ≡ Ok n → (l ≤ n) × (n ≤ h)
+unfolding read_id
+read_range w l h s n e = grind (arith, nat_tests)
+
+pub ruleset read_bounds = (read_range)
+
+digit : (k : ℕ) → k < 10 → is_ascii_digit (48 + k) ≡ true
+digit k h = grind (arith, nat_tests)
+
+digit-is : (k : ℕ) → k < 10 → digit_value (48 + k) ≡ k
+digit-is k h = grind (arith, nat_tests)
+
+two-digits : (n : ℕ) → n < 100 → all_ascii_digits (two n) ≡ true
+two-digits n h = rw (digit (n / 10) (omega arith), digit (n % 10) (omega arith)) refl
+
+two-value : (n : ℕ) → n < 100 → digits_value 10 (two n) ≡ n
+two-value n h = rw (digit-is (n / 10) (omega arith), digit-is (n % 10) (omega arith)) (omega arith)
+
+four-digits : (n : ℕ) → n < 10000 → all_ascii_digits (four n) ≡ true
+four-digits n h = rw (digit (n / 1000) (omega arith), digit (n / 100 % 10) (omega arith), digit (n / 10 % 10) (omega arith), digit (n % 10) (omega arith)) refl
+
+four-value : (n : ℕ) → n < 10000 → digits_value 10 (four n) ≡ n
+four-value n h = rw (digit-is (n / 1000) (omega arith), digit-is (n / 100 % 10) (omega arith), digit-is (n / 10 % 10) (omega arith), digit-is (n % 10) (omega arith)) (omega arith)
+
+-- a date that was written reads back
+pub date-back : (d : CivilDay) → is_day d ≡ true → date_of (date_text d) ≡ Some d
+unfolding date_of
+date-back d h =
+    let y : d.year < 10000 = grind (arith, nat_tests, h) in
+    let m : d.month < 100 = grind (arith, nat_tests, h) in
+    let a : d.day < 100 = grind (arith, nat_tests, h) in
+    rw (four-digits d.year y, two-digits d.month m, two-digits d.day a, four-value d.year y, two-value d.month m, two-value d.day a, h) refl

@@ -1,0 +1,42 @@
+-- Dates and how they are written.
+use Rattle.std.specs.Prelude.{ℕ, pos, ◌+◌, ◌*◌, ◌/◌, ◌%◌, ◌==◌, ◌&&◌, nat_le, List, [], ◌∷◌, ◌++◌, length, slice_index, slice_range, Option, Some, None, if◌then◌else◌, Bool}
+use Rattle.std.specs.Str.{all_ascii_digits}
+use Rattle.std.specs.Str.Parse.{digits_value}
+use Rattle.jiff_core.specs.Calendar.{days_in_month}
+
+-- a year, a month and a day
+pub record CivilDay : Type 0 where
+  pub year : ℕ
+  pub month : ℕ
+  pub day : ℕ
+
+-- the calendar has it, from the year 1
+abbrev pub is_day : CivilDay → Bool
+is_day d = nat_le 1 d.year && nat_le d.year 9999 && nat_le 1 d.month && nat_le d.month 12 && nat_le 1 d.day && nat_le d.day 31
+    && nat_le d.day (days_in_month (pos d.year) d.month)
+
+abbrev pub day_of : ℕ → ℕ → ℕ → Option CivilDay
+day_of y m d = if is_day (record { year = y; month = m; day = d }) then Some (record { year = y; month = m; day = d }) else None
+
+-- exactly YYYY-MM-DD
+unfoldable pub date_of : List ℕ → Option CivilDay
+date_of t =
+    if (length t == 10) && (slice_index t 4 == 45) && (slice_index t 7 == 45)
+    && all_ascii_digits (slice_range t 0 4) && all_ascii_digits (slice_range t 5 7) && all_ascii_digits (slice_range t 8 10)
+    then day_of (digits_value 10 (slice_range t 0 4)) (digits_value 10 (slice_range t 5 7)) (digits_value 10 (slice_range t 8 10)) else None
+
+abbrev pub two : ℕ → List ℕ
+two n = (48 + n / 10) ∷ (48 + n % 10) ∷ []
+
+abbrev pub four : ℕ → List ℕ
+four n = (48 + n / 1000) ∷ (48 + n / 100 % 10) ∷ (48 + n / 10 % 10) ∷ (48 + n % 10) ∷ []
+
+abbrev pub date_text : CivilDay → List ℕ
+date_text d = four d.year ++ (45 ∷ (two d.month ++ (45 ∷ two d.day)))
+
+-- one date isn't after another
+abbrev pub stamp : CivilDay → ℕ
+stamp d = (d.year * 100 + d.month) * 100 + d.day
+
+abbrev pub day_le : CivilDay → CivilDay → Bool
+day_le a b = nat_le (stamp a) (stamp b)

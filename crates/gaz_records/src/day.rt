@@ -1,0 +1,134 @@
+ghost use Rattle.std.specs.Prelude.{◌≡◌, ◌≤◌, ◌++◌, pos, nat_le, true, IfOk, OnOk};
+ghost use Rattle.jiff_core.specs.Calendar.{days_in_month};
+ghost use Rattle.gaz_records.specs.Days.{date_of, date_text, day_of, is_day, day_le};
+
+use gaz_ids::digits::{are_digits, value_of};
+use jiff::civil::Date;
+use std::alloc::{AllocError, Global};
+use std::marker::Model;
+
+/// A civil date, from the year 1 to 9999, of the calendar that ISO 8601 extends (`jiff`).
+#[derive(Clone, Copy, Debug, PartialEq, Eq)]
+pub struct Day {
+    year: u16,
+    month: u8,
+    day: u8,
+}
+
+impl Model for Day {
+    ghost use Rattle.std.specs.Prelude.{◌≡◌, true};
+    ghost use Rattle.gaz_records.specs.Days.{CivilDay, is_day};
+
+    ghost Value = { CivilDay };
+
+    ghost view = { λ d. record { year = d.year; month = d.month; day = d.day } };
+
+    ghost invariant = { λ d. is_day (record { year = d.year; month = d.month; day = d.day }) ≡ true };
+
+    ghost inverse = { λ v. record { year = v.year; month = v.month; day = v.day } };
+}
+
+// Whether the month has the day.
+fn has_day(year: u64, month: u64, day: u64) -> bool
+    requires year { (1 ≤ year) × (year ≤ 9999) }
+    requires month { (1 ≤ month) × (month ≤ 12) }
+    requires day { (1 ≤ day) × (day ≤ 31) }
+    ensures { result ≡ nat_le day (days_in_month (pos year) month) }
+{
+    let year = year as i16;
+    let month = month as i8;
+    let day = day as i8;
+    match Date::new(year, month, day) {
+        Ok(_) => true,
+        Err(_) => false,
+    }
+}
+
+impl Day {
+    #[tactic(auto, using(std::proofs::lemmas::Bool::Decides::nat_tests))]
+    /// The date, where the calendar has it.
+    pub fn of(year: u64, month: u64, day: u64) -> Option<Day>
+        ensures { result ≡ day_of year month day }
+    {
+        if year < 1 || 9999 < year {
+            return None;
+        }
+        if month < 1 || 12 < month {
+            return None;
+        }
+        if day < 1 || 31 < day {
+            return None;
+        }
+        if !has_day(year, month, day) {
+            return None;
+        }
+        Some(Day {
+            year: year as u16,
+            month: month as u8,
+            day: day as u8,
+        })
+    }
+
+    #[tactic(auto, using(std::proofs::lemmas::Bool::Decides::nat_tests), unfolding(crate::specs::Days::date_of))]
+    /// The date that is written as `YYYY-MM-DD`.
+    pub fn read(text: &[u8]) -> Option<Day>
+        ensures { result ≡ date_of text.now }
+    {
+        if text.len() != 10 || text[4] != b'-' || text[7] != b'-' {
+            return None;
+        }
+        let year = &text[0..4];
+        let month = &text[5..7];
+        let day = &text[8..10];
+        if !are_digits(year) || !are_digits(month) || !are_digits(day) {
+            return None;
+        }
+        Day::of(value_of(year), value_of(month), value_of(day))
+    }
+
+    /// Adds `YYYY-MM-DD`.
+    pub fn write(&self, out: &mut Vec<u8>) -> Result<(), AllocError>
+        ensures { OnOk result (out.new.items ≡ out.old.items ++ date_text self.now) }
+    {
+        let year = self.year;
+        out.extend_from_slice(&[
+            b'0' + (year / 1000) as u8,
+            b'0' + (year / 100 % 10) as u8,
+            b'0' + (year / 10 % 10) as u8,
+            b'0' + (year % 10) as u8,
+            b'-',
+            b'0' + self.month / 10,
+            b'0' + self.month % 10,
+            b'-',
+            b'0' + self.day / 10,
+            b'0' + self.day % 10,
+        ])
+    }
+
+    /// The bytes of `YYYY-MM-DD`.
+    pub fn bytes(&self, alloc: Global) -> Result<Vec<u8>, AllocError>
+        ensures { IfOk result (λ t. t.items ≡ date_text self.now) }
+    {
+        let mut out = Vec::new(alloc);
+        self.write(&mut out)?;
+        Ok(out)
+    }
+
+    /// What each date holds.
+    pub fn known(&self)
+        ensures { is_day self.now ≡ true }
+    {
+        let _ = &self.day;
+    }
+
+    /// Whether this date isn't after another.
+    pub fn is_by(&self, other: &Day) -> bool
+        ensures { result ≡ day_le self.now other.now }
+    {
+        let stamp = (u64::from(self.year) * 100 + u64::from(self.month)) * 100
+            + u64::from(self.day);
+        let other = (u64::from(other.year) * 100 + u64::from(other.month)) * 100
+            + u64::from(other.day);
+        stamp <= other
+    }
+}
