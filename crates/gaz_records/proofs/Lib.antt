@@ -1,1 +1,2 @@
 pub mod Dates
+pub mod KeyOrder

@@ -5,6 +5,7 @@ ghost use Rattle.gaz_records.specs.Items.{kind_of, read_item};
 use crate::fields::FieldFault;
 use crate::street::Street;
 use csv::ByteRecord;
+use std::alloc::AllocError;
 
 /// The kind of an item, by its record identifier: 11 street.
 #[derive(Clone, Copy, Debug, PartialEq, Eq)]
@@ -40,6 +41,17 @@ impl Item {
     {
         match self {
             Item::Street(_) => Kind::Street,
+        }
+    }
+}
+
+/// A clone is the same item.
+impl Clone for Item {
+    ghost is_clone = { λ a b. b ≡ a };
+
+    fn clone(&self) -> Result<Item, AllocError> {
+        match self {
+            Item::Street(street) => Ok(Item::Street(street.clone()?)),
         }
     }
 }

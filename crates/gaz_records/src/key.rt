@@ -3,6 +3,7 @@ ghost use Rattle.gaz_records.specs.Keys.{key_cmp, key_of};
 
 use crate::item::Item;
 use gaz_ids::Usrn;
+use std::alloc::AllocError;
 
 /// Which item of a custodian: its kind with its number. Keys of two custodians are apart.
 #[derive(Debug, PartialEq, Eq, PartialOrd, Ord, Drop)]
@@ -17,6 +18,17 @@ impl Key {
     {
         match item {
             Item::Street(street) => Key::Street(street.usrn),
+        }
+    }
+}
+
+/// A clone is the same key.
+impl Clone for Key {
+    ghost is_clone = { λ a b. b ≡ a };
+
+    fn clone(&self) -> Result<Key, AllocError> {
+        match self {
+            Key::Street(usrn) => Ok(Key::Street(*usrn)),
         }
     }
 }

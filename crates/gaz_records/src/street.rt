@@ -8,6 +8,7 @@ use crate::day::Day;
 use crate::fields::{FieldFault, field};
 use csv::ByteRecord;
 use gaz_ids::{Number, Usrn};
+use std::alloc::AllocError;
 use std::marker::Model;
 
 /// The type of a street, 1 to 4 (our profile).
@@ -103,5 +104,19 @@ impl Street {
         if let Some(end) = &self.end {
             end.known();
         }
+    }
+}
+
+/// A clone is the same street. It takes no memory.
+impl Clone for Street {
+    ghost is_clone = { λ a b. b ≡ a };
+
+    fn clone(&self) -> Result<Street, AllocError> {
+        Ok(Street {
+            usrn: self.usrn,
+            sort: self.sort,
+            start: self.start,
+            end: self.end,
+        })
     }
 }

@@ -1,0 +1,8 @@
+use Rattle.std.proofs.lemmas.Iterator.{YieldsList-from_chars}
+use Rattle.std.proofs.lemmas.Iterator.Consumers.{count_from_yields_List}
+use Rattle.gaz_addressable.specs.Texts.{char_count}
+use Rattle.gaz_addressable.proofs.text.count_chars.Goals as goal
+
+pub returns : goal.returns
+unfolding char_count
+returns c = count_from_yields_List c.chars.result _ c.count.ensures.ran (YieldsList-from_chars c.args.text.now c.utf8.text c.chars.ensures.rest)

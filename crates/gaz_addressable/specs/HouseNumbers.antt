@@ -1,0 +1,93 @@
+-- House numbers, their order, and how they are read and written.
+use Rattle.std.specs.Prelude.{ℕ, ◌==◌, ◌&&◌, ◌||◌, nat_lt, nat_le, List, [], ◌∷◌, ◌++◌, length, slice_index, Option, Some, None, option_map, Result, Ok, Err, if◌then◌else◌, Bool, true, decimal}
+use Rattle.gaz_ids.specs.Numbers.{read_id}
+
+-- a letter from A to Z
+abbrev pub is_letter : ℕ → Bool
+is_letter c = nat_le 65 c && nat_le c 90
+
+abbrev pub is_suffix : Option ℕ → Bool
+is_suffix None = true
+is_suffix (Some c) = is_letter c
+
+-- a number, and a suffix or none
+pub record HouseNumberValue : Type 0 where
+  pub n : ℕ
+  pub suffix : Option ℕ
+
+-- the number is from 1 to 9999, the suffix from A to Z
+abbrev pub is_house_number : HouseNumberValue → Bool
+is_house_number x = nat_le 1 x.n && nat_le x.n 9999 && is_suffix x.suffix
+
+-- no suffix comes before A
+abbrev pub rank : Option ℕ → ℕ
+rank None = 0
+rank (Some c) = c
+
+-- by the number, then by the suffix
+abbrev pub is_before : HouseNumberValue → HouseNumberValue → Bool
+is_before a b = nat_lt a.n b.n || ((a.n == b.n) && nat_lt (rank a.suffix) (rank b.suffix))
+
+-- one house number, or those up to a later one
+pub record RangeValue : Type 0 where
+  pub from : HouseNumberValue
+  pub to : Option HouseNumberValue
+
+abbrev pub is_before_end : HouseNumberValue → Option HouseNumberValue → Bool
+is_before_end a None = true
+is_before_end a (Some b) = is_before a b
+
+-- the end, where there is one, comes after the start
+abbrev pub rises : RangeValue → Bool
+rises r = is_before_end r.from r.to
+
+abbrev pub is_number_or_none : Option HouseNumberValue → Bool
+is_number_or_none None = true
+is_number_or_none (Some x) = is_house_number x
+
+abbrev pub is_range : RangeValue → Bool
+is_range r = is_house_number r.from && is_number_or_none r.to && rises r
+
+-- ---- reading
+
+-- the value of a reading that went well
+abbrev pub ok_of : {A F : Type 0} → Result A F → Option A
+ok_of (Ok x) = Some x
+ok_of (Err e) = None
+
+-- a field that may be left empty: none where it has another form
+abbrev pub optional : {A : Type 0} → (List ℕ → Option A) → List ℕ → Option (Option A)
+optional read t = if length t == 0 then Some None else option_map Some (read t)
+
+-- up to four digits that say 1 to 9999
+abbrev pub house_of : List ℕ → Option (Option ℕ)
+house_of t = optional (λ d. ok_of (read_id 4 1 9999 d)) t
+
+-- one letter from A to Z
+abbrev pub letter_in : List ℕ → Option ℕ
+letter_in t = if (length t == 1) && is_letter (slice_index t 0) then Some (slice_index t 0) else None
+
+abbrev pub suffix_of : List ℕ → Option (Option ℕ)
+suffix_of t = optional letter_in t
+
+-- ---- writing
+
+abbrev pub suffix_text : Option ℕ → List ℕ
+suffix_text None = []
+suffix_text (Some c) = c ∷ []
+
+-- as 12A
+abbrev pub number_text : HouseNumberValue → List ℕ
+number_text x = decimal x.n ++ suffix_text x.suffix
+
+abbrev pub to_text : Option HouseNumberValue → List ℕ
+to_text None = []
+to_text (Some x) = 45 ∷ number_text x
+
+-- as 12A-14, or as 12A
+abbrev pub range_text : RangeValue → List ℕ
+range_text r = number_text r.from ++ to_text r.to
+
+abbrev pub numbers_text : Option RangeValue → List ℕ
+numbers_text None = []
+numbers_text (Some r) = range_text r

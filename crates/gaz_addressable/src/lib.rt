@@ -1,0 +1,16 @@
+//! Addressable objects: house numbers and texts (BS 7666:2006, Part 2; the bounds are our profile's).
+#![tactic(auto)]
+
+pub mod laws;
+mod number;
+mod object;
+mod read;
+mod text;
+mod write;
+
+pub use number::{HouseDigits, HouseNumber, Range};
+pub use object::{ObjFault, Object};
+pub use text::{Text, TextFault};
+
+#[cfg(test)]
+mod tests;

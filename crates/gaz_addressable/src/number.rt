@@ -1,0 +1,107 @@
+ghost use Rattle.std.specs.Prelude.{◌≡◌, ◌++◌, OnOk, true};
+ghost use Rattle.gaz_addressable.specs.HouseNumbers.{is_before, is_house_number, is_range, number_text, range_text, suffix_text};
+
+use gaz_ids::Number;
+use itoa::Buffer;
+use std::alloc::AllocError;
+use std::marker::Model;
+
+/// The number of a house, 1 to 9999 (our profile).
+pub type HouseDigits = Number<10, 4, 1, 9999>;
+
+/// A house number with its suffix, `A` to `Z`, if it has one. In order a number without a suffix comes before those with one.
+#[derive(Clone, Copy, Debug, PartialEq, Eq, PartialOrd, Ord)]
+pub struct HouseNumber {
+    pub n: HouseDigits,
+    pub suffix: Option<u8>,
+}
+
+impl Model for HouseNumber {
+    ghost use Rattle.std.specs.Prelude.{◌≡◌, true};
+    ghost use Rattle.gaz_addressable.specs.HouseNumbers.{HouseNumberValue, is_suffix};
+
+    ghost Value = { HouseNumberValue };
+
+    ghost view = { λ x. record { n = x.n; suffix = x.suffix } };
+
+    ghost invariant = { λ x. is_suffix x.suffix ≡ true };
+
+    ghost inverse = { λ v. record { n = v.n; suffix = v.suffix } };
+}
+
+/// One house number, or all from one to a later one.
+#[derive(Clone, Copy, Debug, PartialEq, Eq)]
+pub struct Range {
+    pub from: HouseNumber,
+    pub to: Option<HouseNumber>,
+}
+
+impl Model for Range {
+    ghost use Rattle.std.specs.Prelude.{◌≡◌, true};
+    ghost use Rattle.gaz_addressable.specs.HouseNumbers.{RangeValue, rises};
+
+    ghost Value = { RangeValue };
+
+    ghost view = { λ x. record { from = x.from; to = x.to } };
+
+    ghost invariant = { λ x. rises (record { from = x.from; to = x.to }) ≡ true };
+
+    ghost inverse = { λ v. record { from = v.from; to = v.to } };
+}
+
+impl HouseNumber {
+    /// Whether this number comes before another.
+    pub fn is_before(&self, other: &HouseNumber) -> bool
+        ensures { result ≡ is_before self.now other.now }
+    {
+        let number = self.n.number();
+        let after = other.n.number();
+        number < after || number == after && self.suffix < other.suffix
+    }
+
+    /// Adds the suffix, if there is one.
+    pub fn write_suffix(&self, out: &mut Vec<u8>) -> Result<(), AllocError>
+        ensures { OnOk result (out.new.items ≡ out.old.items ++ suffix_text self.now.suffix) }
+    {
+        match self.suffix {
+            Some(letter) => Ok(out.push(letter)?),
+            None => Ok(()),
+        }
+    }
+
+    /// Adds the number and its suffix, as `12A`.
+    pub fn write(&self, out: &mut Vec<u8>) -> Result<(), AllocError>
+        ensures { OnOk result (out.new.items ≡ out.old.items ++ number_text self.now) }
+    {
+        let mut buffer = Buffer::new();
+        let digits = buffer.format(self.n.number());
+        out.extend_from_slice(digits.as_bytes())?;
+        self.write_suffix(out)
+    }
+}
+
+impl Range {
+    /// What each range holds, for callers, who see its value alone.
+    pub fn known(&self)
+        ensures { is_range self.now ≡ true }
+    {
+        let _ = self.from.n.number();
+        if let Some(to) = &self.to {
+            let _ = to.n.number();
+        }
+    }
+
+    /// Adds the numbers, as `12A-14`, or as `12A` where there is one.
+    pub fn write(&self, out: &mut Vec<u8>) -> Result<(), AllocError>
+        ensures { OnOk result (out.new.items ≡ out.old.items ++ range_text self.now) }
+    {
+        self.from.write(out)?;
+        match &self.to {
+            Some(to) => {
+                out.push(b'-')?;
+                to.write(out)
+            }
+            None => Ok(()),
+        }
+    }
+}

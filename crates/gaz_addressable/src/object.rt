@@ -1,0 +1,63 @@
+ghost use Rattle.std.specs.Prelude.{◌≡◌, IfOk, true};
+ghost use Rattle.gaz_addressable.specs.Objects.{is_object};
+
+use crate::number::Range;
+use crate::text::Text;
+use std::alloc::AllocError;
+use std::marker::Model;
+use thiserror::Error;
+
+/// Why five fields are no object: the first of these that applies, in the order that `Object::read` gives.
+#[derive(Clone, Copy, Debug, PartialEq, Eq, Error)]
+pub enum ObjFault {
+    #[error("no field is filled")]
+    Empty,
+    #[error("a number is not one from 1 to 9999")]
+    BadNumber,
+    #[error("a suffix is not one letter from A to Z, or has no number")]
+    BadSuffix,
+    #[error("an end number without a start number")]
+    EndWithoutStart,
+    #[error("the end number does not come after the start number")]
+    EndNotAfterStart,
+    #[error("the text is no text")]
+    BadText,
+    #[error("the text has more than 90 characters")]
+    TextTooLong,
+    #[error("out of memory")]
+    Memory,
+}
+
+/// An addressable object: house numbers, a text of at most 90 characters, or both.
+#[derive(Debug, Drop)]
+pub struct Object {
+    pub range: Option<Range>,
+    pub text: Option<Text<90>>,
+}
+
+impl Model for Object {
+    ghost use Rattle.std.specs.Prelude.{◌≡◌, true};
+    ghost use Rattle.gaz_addressable.specs.Objects.{ObjectValue, is_there};
+
+    ghost Value = { ObjectValue };
+
+    ghost view = { λ x. record { range = x.range; text = x.text } };
+
+    ghost invariant = { λ x. is_there x.range x.text ≡ true };
+}
+
+impl Object {
+    /// The same object.
+    pub fn copy(&self) -> Result<Object, AllocError>
+        ensures { IfOk result (λ o. o ≡ self.now) }
+    {
+        let text = match &self.text {
+            Some(text) => Some(text.copy()?),
+            None => None,
+        };
+        Ok(Object {
+            range: self.range,
+            text,
+        })
+    }
+}

@@ -1,0 +1,55 @@
+-- What the records of a good file say.
+use Rattle.std.specs.Prelude.{ℕ, List, [], ◌∷◌, drop, Option, Some, None, Result, Ok, Err}
+use Rattle.std.specs.List.{enumerate_from, filter_map}
+use Rattle.gaz_rows.specs.Rows.{Fields}
+use Rattle.gaz_records.specs.Days.{CivilDay, date_of}
+use Rattle.gaz_records.specs.Fields.{the}
+use Rattle.gaz_records.specs.Items.{read_item}
+use Rattle.gaz_records.specs.Table.{no_day}
+use Rattle.gaz_records.specs.declared.fields.FieldFault.{FieldFault}
+use Rattle.gaz_records.specs.declared.item.Item.{Item}
+use Rattle.gaz_records.specs.declared.item.Kind.{Kind}
+use Rattle.gaz_changefile.specs.Lines.{action_of, field, line_of}
+use Rattle.gaz_changefile.specs.declared.action.Action.{Action}
+use Rattle.gaz_changefile.specs.declared.change.Basis.{Basis}
+use Rattle.gaz_changefile.specs.declared.change.Change.{Change}
+use Rattle.gaz_changefile.specs.declared.line.Line.{Line}
+use Rattle.gaz_changefile.specs.declared.line.Line.TheVariants as line
+
+-- the date of a file, its basis lines and its changes, both in file order
+pub record Contents : Type 0 where
+  pub date : CivilDay
+  pub bases : List Basis
+  pub changes : List Change
+
+-- the date in the header
+abbrev pub date_in : List Fields → CivilDay
+date_in [] = no_day
+date_in (row ∷ rows) = the no_day (date_of (field row 4))
+
+-- a change, where its type and its item were read
+abbrev pub made : ℕ → Option Action → Result Item FieldFault → Option Change
+made place None item = None
+made place (Some a) (Err e) = None
+made place (Some a) (Ok x) = Some (record { place = place; action = a; item = x })
+
+-- the change that a change record says, whose item's fields stand behind the first three
+abbrev pub change_in : ℕ → Kind → Fields → Option Change
+change_in place kind row = made place (action_of (field row 1)) (read_item kind (drop 3 row))
+
+abbrev pub change_of : ℕ → Fields → Line → Option Change
+change_of place row (line.Change kind) = change_in place kind row
+change_of place row line.Trailer = None
+change_of place row line.Other = None
+
+-- the change of the record at a place, if it is a change record
+abbrev pub change_at : ℕ × Fields → Option Change
+change_at (place, row) = change_of place row (line_of row)
+
+-- the changes of these records, the first of which is record 1
+abbrev pub changes_in : List Fields → List Change
+changes_in rows = filter_map change_at (enumerate_from 1 rows)
+
+-- what a good file with these records contains
+unfoldable pub contents_of : List Fields → Contents
+contents_of rows = record { date = date_in rows; bases = []; changes = changes_in rows }

@@ -1,0 +1,42 @@
+-- What a reading means, as a relation.
+use Rattle.std.specs.Prelude.{◌≡◌, ◌⊎◌, ◌≤◌, ◌<◌, ℕ, ◌+◌, List, [], ◌∷◌, ◌++◌, length, Bool, true, false}
+use Rattle.std.specs.Str.{IsUtf8}
+use Rattle.gaz_rows.specs.Rows.{rows_of}
+use Rattle.gaz_changefile.specs.Contents.{Contents, contents_of}
+use Rattle.gaz_changefile.specs.Reading.{Bad, Good, Reading, reading}
+use Rattle.gaz_changefile.specs.Rules.{rules_at}
+
+-- none of the rules is broken
+abbrev pub AreKept : List (ℕ × Bool) → Type 0
+AreKept [] = Unit {0}
+AreKept ((rule, broken) ∷ rules) = (broken ≡ false) × AreKept rules
+
+-- the rule is broken, and none that stands before it
+pub record BreaksFirst (rules : List (ℕ × Bool)) (rule : ℕ) : Type 0 where
+  pub before : List (ℕ × Bool)
+  pub after : List (ℕ × Bool)
+  pub split : rules ≡ before ++ ((rule, true) ∷ after)
+  pub kept : AreKept before
+
+-- the records, and the end of the file, keep all their rules
+pub record IsGood (c v : ℕ) (bytes : List ℕ) (contents : Contents) : Type 0 where
+  pub text : IsUtf8 bytes
+  pub kept : (i : ℕ) → i ≤ length (rows_of bytes) → AreKept (rules_at c v (rows_of bytes) i)
+  pub contents_are : contents ≡ contents_of (rows_of bytes)
+
+-- the place is the least at which a rule is broken, and the rule is the first that is broken there
+pub record IsLeast (c v : ℕ) (bytes : List ℕ) (place rule : ℕ) : Type 0 where
+  pub text : IsUtf8 bytes
+  pub index : ℕ
+  pub place_is : place ≡ index + 1
+  pub within : index ≤ length (rows_of bytes)
+  pub broken : BreaksFirst (rules_at c v (rows_of bytes) index) rule
+  pub least : (i : ℕ) → i < index → AreKept (rules_at c v (rows_of bytes) i)
+
+-- what each reading means
+abbrev pub Tells : List ℕ → ℕ → ℕ → Reading → Type 0
+Tells bytes c v (Good contents) = IsGood c v bytes contents
+Tells bytes c v (Bad place rule) = ((IsUtf8 bytes → ⊥) × (place ≡ 1) × (rule ≡ 1)) ⊎ IsLeast c v bytes place rule
+
+abbrev pub LeastFault : Type 0
+LeastFault = (bytes : List ℕ) (c v : ℕ) → Tells bytes c v (reading bytes c v)

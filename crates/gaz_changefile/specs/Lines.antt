@@ -1,0 +1,70 @@
+-- What the fields of one record say.
+use Rattle.std.specs.Prelude.{ℕ, ◌==◌, List, Option, Some, None, if◌then◌else◌, Bool, true, false, codes}
+use Rattle.std.specs.Str.{bytes_eq}
+use Rattle.gaz_ids.specs.Numbers.{read_id}
+use Rattle.gaz_rows.specs.Rows.{Fields}
+use Rattle.gaz_records.specs.Fields as Records
+use Rattle.gaz_records.specs.Fields.{ok_of}
+use Rattle.gaz_records.specs.declared.item.Kind.TheVariants as kind
+use Rattle.gaz_changefile.specs.declared.action.Action.{Action}
+use Rattle.gaz_changefile.specs.declared.action.Action.TheVariants.{Insert, Update, Delete}
+use Rattle.gaz_changefile.specs.declared.line.Line.{Line}
+use Rattle.gaz_changefile.specs.declared.line.Line.TheVariants as line
+
+-- the field at a place, from 0; a missing one is empty
+abbrev pub field : Fields → ℕ → List ℕ
+field row i = Records.field row i
+
+-- the numbers of a file: digits up to a width, in a range
+abbrev pub read_profile : List ℕ → Option ℕ
+read_profile text = ok_of (read_id 4 1 9999 text)
+
+abbrev pub read_code : List ℕ → Option ℕ
+read_code text = ok_of (read_id 4 1 9999 text)
+
+abbrev pub read_volume : List ℕ → Option ℕ
+read_volume text = ok_of (read_id 6 1 999_999 text)
+
+abbrev pub read_order : List ℕ → Option ℕ
+read_order text = ok_of (read_id 4 1 5000 text)
+
+abbrev pub read_count : List ℕ → Option ℕ
+read_count text = ok_of (read_id 4 0 5000 text)
+
+-- a number was read, and is n
+abbrev pub is_value : ℕ → Option ℕ → Bool
+is_value n None = false
+is_value n (Some m) = m == n
+
+-- the change type: I, U or D
+abbrev pub action_of : List ℕ → Option Action
+action_of text =
+    if bytes_eq text (codes "I") then Some Insert
+    else if bytes_eq text (codes "U") then Some Update
+    else if bytes_eq text (codes "D") then Some Delete
+    else None
+
+-- what a record behind the header is, by its first field
+abbrev pub line_of : Fields → Line
+line_of row =
+    if bytes_eq (field row 0) (codes "11") then line.Change kind.Street
+    else if bytes_eq (field row 0) (codes "99") then line.Trailer
+    else line.Other
+
+abbrev pub is_change_line : Line → Bool
+is_change_line (line.Change k) = true
+is_change_line line.Trailer = false
+is_change_line line.Other = false
+
+abbrev pub is_trailer_line : Line → Bool
+is_trailer_line (line.Change k) = false
+is_trailer_line line.Trailer = true
+is_trailer_line line.Other = false
+
+-- the record is a change record
+abbrev pub is_change : Fields → Bool
+is_change row = is_change_line (line_of row)
+
+-- the record is a trailer
+abbrev pub is_trailer : Fields → Bool
+is_trailer row = is_trailer_line (line_of row)

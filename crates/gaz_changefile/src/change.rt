@@ -1,0 +1,21 @@
+use crate::action::Action;
+use gaz_records::Item;
+
+/// A change of an item.
+#[derive(Debug, Drop)]
+pub struct Change {
+    /// The number of the record that says so, from 1, which is the header's.
+    pub place: u64,
+    pub action: Action,
+    /// For a deletion its key alone counts.
+    pub item: Item,
+}
+
+/// A basis line: the file rests on what another custodian's file of this volume left.
+#[derive(Clone, Copy, Debug, PartialEq, Eq)]
+pub struct Basis {
+    /// A code from 1 to 9999.
+    pub custodian: u64,
+    /// A volume from 1 to 999,999.
+    pub volume: u64,
+}

@@ -1,0 +1,63 @@
+ghost use Rattle.std.specs.Prelude.{◌≡◌};
+ghost use Rattle.gaz_changefile.specs.declared.file.FileFault.TheVariants.{Memory};
+
+use crate::change::{Basis, Change};
+use gaz_records::Day;
+use std::alloc::{AllocError, AllocFailed};
+use std::marker::Model;
+use thiserror::Error;
+
+/// A good change file, seen as its contents.
+#[derive(Debug, Drop)]
+pub struct ChangeFile {
+    /// The date in the header.
+    pub date: Day,
+    /// The basis lines in file order. None is read yet.
+    pub bases: Vec<Basis>,
+    /// The changes in file order.
+    pub changes: Vec<Change>,
+}
+
+impl Model for ChangeFile {
+    ghost use Rattle.gaz_changefile.specs.Contents.{Contents};
+
+    ghost Value = { Contents };
+
+    ghost view = { λ f. record { date = f.date; bases = f.bases.items; changes = f.changes.items } };
+}
+
+/// Why bytes are no good change file, or want of memory.
+#[derive(Clone, Copy, Debug, PartialEq, Eq, Error)]
+pub enum FileFault {
+    /// The record, from 1 for the header, with the first fault, and the first rule that it breaks (module `rule`).
+    /// A missing trailer is named at the number of records plus 1.
+    #[error("record {place} breaks rule {rule}")]
+    Bad { place: u64, rule: u8 },
+    #[error("out of memory")]
+    Memory,
+}
+
+impl FileFault {
+    /// The record at `place` breaks the rule.
+    pub(crate) fn at(place: u64, rule: u8) -> FileFault
+        ensures { result ≡ FileFault.Bad place rule }
+    {
+        FileFault::Bad { place, rule }
+    }
+}
+
+impl From<AllocError> for FileFault {
+    ghost from_gives = { λ _ e. e ≡ Memory };
+
+    fn from(_e: AllocError) -> FileFault {
+        FileFault::Memory
+    }
+}
+
+impl<T: Drop> From<AllocFailed<T>> for FileFault {
+    ghost from_gives = { λ _ e. e ≡ Memory };
+
+    fn from(e: AllocFailed<T>) -> FileFault {
+        FileFault::from(AllocError::from(e))
+    }
+}

@@ -1,0 +1,46 @@
+ghost use Rattle.std.specs.Prelude.{◌≡◌, IfErr, IfOk, OnOk, Some, None};
+ghost use Rattle.csv.specs.Records.{fields_of};
+ghost use Rattle.gaz_records.specs.Days.{date_of};
+ghost use Rattle.gaz_changefile.specs.Lines.{field, line_of};
+ghost use Rattle.gaz_changefile.specs.Rules.{first_broken, header_rules};
+ghost use Rattle.gaz_changefile.specs.Steps.{IsFirstOf};
+ghost use Rattle.gaz_changefile.specs.declared.line.Line.TheVariants.{Other};
+
+use crate::file::FileFault;
+use crate::line::field;
+use crate::numbers::{Profile, is_value};
+use crate::rule;
+use csv::ByteRecord;
+use gaz_ids::{Code, Volume};
+use gaz_records::Day;
+
+const KNOWN_PROFILE: u64 = 1;
+
+#[tactic(auto, unfolding(crate::specs::Rules::header_rules))]
+/// The date of the header of this custodian's file of this volume, or the first rule that it breaks.
+pub(crate) fn read_header(row: &ByteRecord, code: Code, volume: Volume) -> Result<Day, FileFault>
+    ensures bad { IfErr result (IsFirstOf 1 (header_rules code volume (fields_of row.now))) }
+    ensures good { OnOk result (first_broken (header_rules code volume (fields_of row.now)) ≡ None) }
+    ensures date { IfOk result (λ date. date_of (field (fields_of row.now) 4) ≡ Some date) }
+    ensures other { OnOk result (line_of (fields_of row.now) ≡ Other) }
+{
+    if field(row, 0) != b"10".as_slice()
+        || row.len() != 5
+        || !is_value(Profile::read(field(row, 1)), KNOWN_PROFILE)
+    {
+        return Err(FileFault::at(1, rule::HEADER));
+    }
+    let Ok(custodian) = Code::read(field(row, 2)) else {
+        return Err(FileFault::at(1, rule::HEADER));
+    };
+    let Ok(of) = Volume::read(field(row, 3)) else {
+        return Err(FileFault::at(1, rule::HEADER));
+    };
+    let Some(date) = Day::read(field(row, 4)) else {
+        return Err(FileFault::at(1, rule::HEADER));
+    };
+    if custodian.number() != code.number() || of.number() != volume.number() {
+        return Err(FileFault::at(1, rule::ADDRESS));
+    }
+    Ok(date)
+}

@@ -1,0 +1,22 @@
+//! The change files of custodians: what a file says, or its first fault.
+#![tactic(auto)]
+
+mod action;
+mod change;
+mod draft;
+mod file;
+mod header;
+pub mod laws;
+mod line;
+mod numbers;
+mod read;
+mod record;
+pub mod rule;
+
+pub use action::Action;
+pub use change::{Basis, Change};
+pub use file::{ChangeFile, FileFault};
+pub use read::read_file;
+
+#[cfg(test)]
+mod tests;

@@ -1,0 +1,47 @@
+ghost use Rattle.std.specs.Prelude.{◌≡◌, IfErr, IfOk};
+ghost use Rattle.gaz_changefile.specs.Fault.{IsFault};
+ghost use Rattle.gaz_changefile.specs.Reading.{Good, reading};
+
+use crate::draft::Draft;
+use crate::file::{ChangeFile, FileFault};
+use crate::header::read_header;
+use crate::rule;
+use csv::ByteRecord;
+use gaz_ids::{Code, Volume};
+use gaz_rows::{next_row, open_rows};
+use std::alloc::Global;
+use std::str;
+
+/// Reads the file of a custodian and volume: its contents, or its first fault (`FileFault`).
+///
+/// The bytes are CSV in UTF-8, with or without a byte order mark; records are counted without empty lines.
+/// After a fault nothing is read on.
+pub fn read_file(
+    alloc: Global,
+    bytes: &[u8],
+    code: Code,
+    volume: Volume,
+) -> Result<ChangeFile, FileFault>
+    ensures good { IfOk result (λ f. reading bytes.now code volume ≡ Good f) }
+    ensures bad { IfErr result (IsFault bytes.now code volume) }
+{
+    let none = FileFault::at(1, rule::TEXT);
+    let Ok(_) = str::from_utf8(bytes) else {
+        return Err(none);
+    };
+    let mut rdr = open_rows(alloc, bytes);
+    let mut row = ByteRecord::new(alloc);
+    if !next_row(&mut rdr, &mut row)? {
+        return Err(none);
+    }
+    let date = read_header(&row, code, volume)?;
+    let mut draft = Draft::new(alloc, date);
+    for place in 2..u64::MAX {
+        if !next_row(&mut rdr, &mut row)? {
+            return draft.finish(alloc, place);
+        }
+        draft.add(&row, place)?;
+    }
+    // No file has so many records.
+    Err(FileFault::Memory)
+}

@@ -1,0 +1,66 @@
+ghost use Rattle.std.specs.Prelude.{◌≡◌, ◌≤◌, ◌<◌, ◌+◌, IfErr, IfOk, OnOk, Some, None};
+ghost use Rattle.csv.specs.Records.{fields_of};
+ghost use Rattle.gaz_changefile.specs.Rules.{change_rules, first_broken, trailer_rules};
+ghost use Rattle.gaz_changefile.specs.Contents.{change_in};
+ghost use Rattle.gaz_changefile.specs.Steps.{IsFirstOf};
+
+use crate::action::Action;
+use crate::change::Change;
+use crate::file::FileFault;
+use crate::line::field;
+use crate::numbers::{Count, is_value};
+use crate::rule;
+use csv::ByteRecord;
+use gaz_ids::Order;
+use gaz_records::{FieldFault, Item, Kind, read_item};
+
+const MOST_CHANGES: usize = 5000;
+
+#[tactic(auto, unfolding(crate::specs::Rules::change_rules))]
+/// The change of the record at `place`, behind so many other change records.
+pub(crate) fn read_change(
+    row: &ByteRecord,
+    kind: Kind,
+    place: u64,
+    before: usize,
+) -> Result<Change, FileFault>
+    requires { before ≤ 5000 }
+    ensures bad { IfErr result (IsFirstOf place (change_rules before kind (fields_of row.now))) }
+    ensures few { OnOk result (before < 5000) }
+    ensures good { OnOk result (first_broken (change_rules before kind (fields_of row.now)) ≡ None) }
+    ensures change { IfOk result (λ change. change_in place kind (fields_of row.now) ≡ Some change) }
+{
+    if before >= MOST_CHANGES {
+        return Err(FileFault::at(place, rule::LIMIT));
+    }
+    let item = match read_item(kind, row, 3) {
+        Ok(item) => item,
+        Err(FieldFault::Count) => return Err(FileFault::at(place, rule::SHAPE)),
+        Err(FieldFault::Form { .. }) => return Err(FileFault::at(place, rule::FORM)),
+        Err(FieldFault::Memory) => return Err(FileFault::Memory),
+    };
+    let Some(action) = Action::read(field(row, 1)) else {
+        return Err(FileFault::at(place, rule::FORM));
+    };
+    if !is_value(Order::read(field(row, 2)), before as u64 + 1) {
+        return Err(FileFault::at(place, rule::ORDER));
+    }
+    Ok(Change {
+        place,
+        action,
+        item,
+    })
+}
+
+#[tactic(auto, unfolding(crate::specs::Rules::trailer_rules))]
+/// Whether the trailer at `place` counts the change records before it.
+pub(crate) fn read_trailer(row: &ByteRecord, place: u64, before: usize) -> Result<(), FileFault>
+    requires { before ≤ 5000 }
+    ensures bad { IfErr result (IsFirstOf place (trailer_rules before (fields_of row.now))) }
+    ensures good { OnOk result (first_broken (trailer_rules before (fields_of row.now)) ≡ None) }
+{
+    if row.len() != 2 || !is_value(Count::read(field(row, 1)), before as u64) {
+        return Err(FileFault::at(place, rule::TRAILER));
+    }
+    Ok(())
+}

@@ -1,0 +1,25 @@
+//! The numbers of the rules by which a file is refused (our profile).
+
+/// The bytes aren't UTF-8, or there is no record.
+pub const TEXT: u8 = 1;
+
+/// The first record is no header of a known profile.
+pub const HEADER: u8 = 2;
+
+/// The header names another custodian or volume than the file came under.
+pub const ADDRESS: u8 = 3;
+
+/// A record of no known kind, or with too few or too many fields.
+pub const SHAPE: u8 = 5;
+
+/// A change type or a field of an item of a wrong form.
+pub const FORM: u8 = 6;
+
+/// An order that isn't the next of 1, 2, 3 and so on.
+pub const ORDER: u8 = 7;
+
+/// A trailer with another count, a record after the trailer, or no trailer at the end.
+pub const TRAILER: u8 = 8;
+
+/// More than 5,000 change records.
+pub const LIMIT: u8 = 9;

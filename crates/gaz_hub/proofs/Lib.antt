@@ -1,0 +1,9 @@
+pub mod Prefixes
+pub mod Pairs
+pub mod Orders
+pub mod Leading
+pub mod Steps
+pub mod Runs
+pub mod Judgings
+pub mod Replaying
+pub mod AnswerSteps

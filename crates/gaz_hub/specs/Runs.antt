@@ -1,0 +1,97 @@
+-- Whole runs of a hub, and what holds after each.
+use Rattle.std.specs.Prelude.{◌≡◌, ℕ, Bool, true, false, not, ◌&&◌, if◌then◌else◌, List, [], ◌∷◌, ◌++◌, is_none, is_ok, Option, Some, None, Result, Ok, Err}
+use Rattle.std.specs.Option.{option_or}
+use Rattle.std.specs.Ordering.{eq_by_cmp}
+use Rattle.std.specs.FinMap as map
+use Rattle.gaz_hub.specs.Received.{pair_cmp}
+use Rattle.gaz_hub.specs.Standing.{IsPartial, IsPrefixOf, NothingReady, standing}
+use Rattle.gaz_hub.specs.Outcomes.{outcome}
+use Rattle.gaz_hub.specs.Step.{Door, HubState, new_hub, Command, Submit, Ask, Stand, Settle, Response, Submitted, Told, Stands, Settled, Step, door}
+use Rattle.gaz_hub.specs.declared.answer.Answer.{Answer}
+use Rattle.gaz_hub.specs.declared.answer.Answer.TheVariants.{New, Repeat, Taken, Refused}
+use Rattle.gaz_hub.specs.declared.outcome.Outcome.{Outcome}
+use Rattle.gaz_hub.specs.declared.refusal.Refusal.{Refusal}
+use Rattle.gaz_hub.specs.declared.refusal.Refusal.TheVariants as refusal
+
+-- these responses to these commands, one step after another
+abbrev pub Run : Door → HubState → List Command → List Response → HubState → Type 0
+Run d old [] [] new = new ≡ old
+Run d old (command ∷ commands) (response ∷ responses) new = (mid : HubState) × Step d old command response mid × Run d mid commands responses new
+Run d old [] (response ∷ responses) new = ⊥
+Run d old (command ∷ commands) [] new = ⊥
+
+-- after such a response all is settled
+abbrev pub is_settled_answer : Answer → Bool
+is_settled_answer (New told) = true
+is_settled_answer (Repeat told) = true
+is_settled_answer (Taken digest) = true
+is_settled_answer (Refused r) = false
+
+abbrev pub is_settled : Response → Bool
+is_settled (Submitted answer) = is_settled_answer answer
+is_settled (Told told) = is_ok told
+is_settled (Stands stands) = is_ok stands
+is_settled (Settled done) = is_ok done
+
+abbrev pub same_pair : ℕ × ℕ → ℕ × ℕ → Bool
+same_pair = eq_by_cmp pair_cmp
+
+abbrev pub is_not_received : Refusal → Bool
+is_not_received (refusal.NotReceived cause) = true
+is_not_received (refusal.ReceivedUnsettled cause) = false
+is_not_received refusal.UnknownCustodian = false
+is_not_received refusal.BadVolume = false
+is_not_received refusal.TooLarge = false
+is_not_received refusal.UnknownProfile = false
+
+-- the submission was answered 51
+abbrev pub is_answered_51 : Answer → Bool
+is_answered_51 (New told) = false
+is_answered_51 (Repeat told) = false
+is_answered_51 (Taken digest) = false
+is_answered_51 (Refused r) = is_not_received r
+
+-- the bytes of a submission of the pair that passed the door and wasn't answered 51
+abbrev pub accepted : Door → ℕ × ℕ → Command → Response → Option (List ℕ)
+accepted d p (Submit c volume bytes) (Submitted answer) =
+    if same_pair p (c, volume) && (is_none (door d c volume bytes) && not (is_answered_51 answer)) then Some bytes else None
+accepted d p _ _ = None
+
+-- the bytes of the first such submission
+abbrev pub first_received : Door → ℕ × ℕ → List Command → List Response → Option (List ℕ)
+first_received d p (command ∷ commands) (response ∷ responses) = option_or (accepted d p command response) (first_received d p commands responses)
+first_received d p _ _ = None
+
+-- ---- the laws of whole runs
+
+-- what was received is what came first, and the board is partial over it
+pub record Abides (d : Door) (commands : List Command) (responses : List Response) (hub : HubState) : Type 0 where
+  pub first : (p : ℕ × ℕ) → map.get hub.received p ≡ first_received d p commands responses
+  pub partial : IsPartial d.register hub.received hub.board
+
+-- whatever commands come, in whatever order
+abbrev pub EveryRun : Type 0
+EveryRun = (d : Door) (commands : List Command) (responses : List Response) (hub : HubState) → Run d new_hub commands responses hub → Abides d commands responses hub
+
+-- after a response that settles, the board is the standing one
+abbrev pub EverySettledRun : Type 0
+EverySettledRun = (d : Door) (commands : List Command) (responses : List Response) (command : Command) (response : Response) (hub : HubState) →
+    Run d new_hub (commands ++ command ∷ []) (responses ++ response ∷ []) hub → is_settled response ≡ true → hub.board ≡ standing d.register hub.received
+
+-- a repeat changes nothing where all was settled, and is answered by the outcome then standing
+pub record ChangesNothing (d : Door) (old : HubState) (c volume : ℕ) (told : Outcome) (new : HubState) : Type 0 where
+  pub same : new ≡ old
+  pub outcome_is : outcome old.received (standing d.register old.received) c volume ≡ Some told
+
+abbrev pub EveryRepeat : Type 0
+EveryRepeat = (d : Door) (old new : HubState) (c volume : ℕ) (bytes : List ℕ) (told : Outcome) → IsPartial d.register old.received old.board → NothingReady old.received old.board →
+    Step d old (Submit c volume bytes) (Submitted (Repeat told)) new → ChangesNothing d old c volume told new
+
+-- a judgement once on the board is on every later board at its place
+abbrev pub JudgementsStay : Type 0
+JudgementsStay = (d : Door) (old new : HubState) (command : Command) (response : Response) → Step d old command response new → (c : ℕ) → IsPrefixOf (old.board c) (new.board c)
+
+-- runs that end settled with equal received sets leave equal boards, whatever came and in whatever order
+abbrev pub EqualReceived : Type 0
+EqualReceived = (d : Door) (one other : HubState) → IsPartial d.register one.received one.board → NothingReady one.received one.board →
+    IsPartial d.register other.received other.board → NothingReady other.received other.board → other.received ≡ one.received → other ≡ one

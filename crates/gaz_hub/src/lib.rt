@@ -1,0 +1,24 @@
+//! The hub: what was received, in what order it is judged, and what each custodian is told.
+#![tactic(auto)]
+
+mod answer;
+mod answering;
+mod files;
+mod hub;
+mod judging;
+pub mod laws;
+mod outcome;
+mod refusal;
+mod replay;
+mod sample;
+mod standing;
+
+pub use answer::{Answer, Digest};
+pub use answering::MAX_FILE;
+pub use hub::Hub;
+pub use outcome::Outcome;
+pub use refusal::Refusal;
+pub use standing::Standing;
+
+#[cfg(test)]
+mod tests;

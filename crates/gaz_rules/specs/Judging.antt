@@ -1,0 +1,50 @@
+-- What a change file comes to.
+use Rattle.std.specs.Prelude.{ℕ, List, [], ◌∷◌, ◌++◌, Option}
+use Rattle.std.specs.Option.{option_map}
+use Rattle.std.specs.List.{filter_map, fold}
+use Rattle.gaz_records.specs.Keys.{key_of}
+use Rattle.gaz_changefile.specs.Reading.{Reading, Good, Bad}
+use Rattle.gaz_changefile.specs.declared.change.Basis.{Basis}
+use Rattle.gaz_changefile.specs.declared.change.Change.{Change}
+use Rattle.gaz_shelf.specs.View.{View}
+use Rattle.gaz_shelf.specs.Board.{Judgement}
+use Rattle.gaz_shelf.specs.declared.verdict.Verdict.{Verdict}
+use Rattle.gaz_shelf.specs.declared.verdict.Verdict.TheVariants.{Applied, Rejected}
+use Rattle.gaz_rules.specs.Rules.{Blocks, effect, record_rules, end_rules, first_broken}
+
+-- a file with a fault has no basis
+abbrev pub bases_of : Reading → List Basis
+bases_of (Good file) = file.bases
+bases_of (Bad place rule) = []
+
+pub record Fault : Type 0 where
+  pub place : ℕ
+  pub rule : ℕ
+
+-- each change with the view that stands before it
+abbrev pub with_views : View → List Change → List (View × Change)
+with_views v [] = []
+with_views v (c ∷ cs) = (v, c) ∷ with_views (effect v c) cs
+
+abbrev pub fault_at : ℕ → Option ℕ → Option Fault
+fault_at place rule = option_map (λ r. record { place = place; rule = r }) rule
+
+-- the changes that don't fit the view before them, each with its least rule
+abbrev pub record_faults : Blocks → View → List Change → List Fault
+record_faults own v cs = filter_map (λ s. fault_at s.1.place (first_broken (record_rules own s.0 s.1.action s.1.item))) (with_views v cs)
+
+-- the changes whose keys break an end rule in the view w, each with its least rule
+abbrev pub end_faults : View → List (ℕ × View) → List Change → List Fault
+end_faults w out cs = filter_map (λ c. fault_at c.place (first_broken (end_rules w out (key_of c.item)))) cs
+
+-- rejected at the first fault, the view staying as it was; with no fault, applied
+abbrev pub judged_by_faults : View → View → List Fault → Judgement
+judged_by_faults v w [] = record { verdict = Applied; view = w }
+judged_by_faults v w (f ∷ fs) = record { verdict = Rejected f.place f.rule; view = v }
+
+-- the judgement of a file of the custodian with these blocks, on its view and on those of its basis custodians
+unfoldable pub judge : Blocks → View → List (ℕ × View) → Reading → Judgement
+judge own v out (Bad place rule) = record { verdict = Rejected place rule; view = v }
+judge own v out (Good file) =
+    let w = fold effect v file.changes in
+    judged_by_faults v w (record_faults own v file.changes ++ end_faults w out file.changes)

@@ -1,0 +1,82 @@
+-- The rules of a change file, as tests over whole views.
+use Rattle.std.specs.Prelude.{ℕ, nat_le, Bool, true, false, not, ◌&&◌, ◌||◌, List, [], ◌∷◌, Option}
+use Rattle.std.specs.Option.{option_map}
+use Rattle.std.specs.List.{list_any, find}
+use Rattle.gaz_records.specs.Keys.{key_of}
+use Rattle.gaz_records.specs.declared.item.Item.{Item}
+use Rattle.gaz_records.specs.declared.item.Item.TheVariants as item
+use Rattle.gaz_records.specs.declared.key.Key.{Key}
+use Rattle.gaz_shelf.specs.View.{View, with_item, without_key, holds, was_used}
+use Rattle.gaz_changefile.specs.declared.action.Action.{Action}
+use Rattle.gaz_changefile.specs.declared.action.Action.TheVariants.{Insert, Update, Delete}
+use Rattle.gaz_changefile.specs.declared.change.Change.{Change}
+
+-- the numbers that a custodian may give, as blocks with both ends included
+pub record Blocks : Type 0 where
+  pub uprn : List (ℕ × ℕ)
+  pub usrn : List (ℕ × ℕ)
+
+abbrev pub within : List (ℕ × ℕ) → ℕ → Bool
+within blocks n = list_any (λ b. nat_le b.0 n && nat_le n b.1) blocks
+
+-- ---- the effect of a change
+
+-- an insert and an update set the item and mark its key as used, a delete takes it
+abbrev pub done : Action → View → Item → View
+done Insert v i = with_item v i
+done Update v i = with_item v i
+done Delete v i = without_key v (key_of i)
+
+abbrev pub effect : View → Change → View
+effect v c = done c.action v c.item
+
+-- ---- record rules, on the view before the record
+
+abbrev pub is_insert : Action → Bool
+is_insert Insert = true
+is_insert Update = false
+is_insert Delete = false
+
+abbrev pub is_delete : Action → Bool
+is_delete Insert = false
+is_delete Update = false
+is_delete Delete = true
+
+-- 20: the number is in none of the custodian's own blocks of its kind
+abbrev pub is_outside : Blocks → Item → Bool
+is_outside own (item.Street s) = not (within own.usrn s.usrn)
+
+-- 21: an insert whose key was ever used
+abbrev pub is_used_again : View → Action → Item → Bool
+is_used_again v a i = is_insert a && was_used v (key_of i)
+
+-- 22: an update or a delete of what isn't there
+abbrev pub is_missing : View → Action → Item → Bool
+is_missing v a i = not (is_insert a) && not (holds v (key_of i))
+
+-- items that are closed or made historical, and never deleted
+abbrev pub stays : Item → Bool
+stays (item.Street s) = true
+
+-- 23: a delete of such an item
+abbrev pub takes_what_stays : Action → Item → Bool
+takes_what_stays a i = is_delete a && stays i
+
+-- the record rules by number, the least first
+abbrev pub record_rules : Blocks → View → Action → Item → List (ℕ × Bool)
+record_rules own v a i =
+    (20, is_outside own i)
+    ∷ (21, is_used_again v a i)
+    ∷ (22, is_missing v a i)
+    ∷ (23, takes_what_stays a i)
+    ∷ []
+
+-- ---- end rules, on the view after all records
+
+-- the end rules by number, the least first, of a key in a view, with each basis custodian's view: a street alone breaks none
+abbrev pub end_rules : View → List (ℕ × View) → Key → List (ℕ × Bool)
+end_rules w out k = []
+
+-- the least rule that is broken
+abbrev pub first_broken : List (ℕ × Bool) → Option ℕ
+first_broken rules = option_map (λ r. r.0) (find (λ r. r.1) rules)

@@ -1,0 +1,2 @@
+//! The rules of a gazetteer, and what a change file comes to under them.
+#![tactic(auto)]
