@@ -1,0 +1,9 @@
+use Rattle.std.proofs.Common.{◌≡◌, ◌-◌, ◌≤◌, ◌++◌, ℕ, List, length}
+use Rattle.std.specs.Io.KnownBytes.{Consumes}
+use Rattle.gaz_exchange.proofs.body.read_body.Given as goal
+
+abbrev pub invariant-pieces : goal.invariant-pieces
+invariant-pieces g l = (bs : List ℕ) × Consumes (g.R.Read.remaining l.fn.r) (g.R.Read.remaining l.r) bs × (l.fn.inlet ++ bs ≡ l.out.items ++ l.inlet) × (length l.out.items ≤ l.size)
+
+abbrev pub decreases-pieces : goal.decreases-pieces
+decreases-pieces g l = l.size - length l.out.items

@@ -1,0 +1,25 @@
+use Rattle.std.proofs.Common.{arith, length, rules, ◌-◌, ◌<◌, ◌≤◌, ◌≡◌, take, ap, ◌∙◌, sym, ◌++◌, length-drop, length-take}
+use Rattle.gaz_exchange.proofs.Bytes.{filled}
+use Rattle.gaz_exchange.proofs.inlet.Inlet.fill.Goals as goal
+
+pub returns : goal.returns
+returns g c =
+    let a = c.in_ok-n.ensures in
+    let start = c.self.inside.start in
+    let end = c.self.inside.end in
+    let m = c.move_to_front.ensures.part in
+    let long = c.move_to_front.ensures.length in
+    let room : length c.read.new.buf ≡ 8193 - (end - start) = search rules in
+    let f = filled (end - start) (8193 - (end - start)) c.in_ok-n.n c.move_to_front.new.bytes c.read.new.buf (omega (arith, c.self.invariant.1, long)) a.bound.0 in
+    let was : length c.self.inside.bytes ≡ 8193 = search rules in
+    let size = ap length c.self.view_is in
+    let read = take c.in_ok-n.n c.read.new.buf in
+    record {
+      read = (
+        read,
+        a.bytes.0,
+        f ∙ ap (λ l. l ++ read) (m ∙ c.self.view_is),
+        sym a.bound.1,
+        λ e. a.bytes.1 e (omega (arith, room, c.requires, size, was, c.self.invariant.0, c.self.invariant.1, length-drop start (take end c.self.inside.bytes), length-take end c.self.inside.bytes)),
+      );
+    }

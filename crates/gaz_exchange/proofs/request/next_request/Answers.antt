@@ -1,0 +1,22 @@
+use Rattle.std.proofs.Common.{◌≡◌, ◌∙◌, ◌++◌, ap, drop, append_assoc}
+use Rattle.std.proofs.KnownBytes.{Consumes-trans}
+use Rattle.gaz_exchange.specs.Heads.{BeginsWith}
+use Rattle.gaz_exchange.proofs.IncomingFacts.{bad_head, begins_more, head_then}
+use Rattle.gaz_exchange.proofs.request.next_request.Goals as goal
+
+pub returns-in-Bad : goal.returns-in-Bad
+returns-in-Bad g c =
+    let (bs, eaten, grown, next) = c.in-Bad.ensures in
+    (bs, eaten, rw grown at (bad_head _ _ next.0 next.1))
+
+pub returns-in-Head : goal.returns-in-Head
+returns-in-Head g c =
+    let (bs, eaten, grown, next) = c.in-Head.ensures in
+    let (more, drunk, behind) = c.with_body.ensures in
+    let (within, h, stands, short, few) = next in
+    let pending = c.next_head.new.inlet in
+    let begins : BeginsWith pending h (drop c.in-Head.spans.len pending) = record { reads = stands.reads; short = short; few = few } in
+    let needed = c.needed_of-needed.ensures h (rw c.pending-bytes.ensures.pending stands) in
+    let all : pending ++ more ≡ c.args.intake.now.inlet ++ (bs ++ more) = ap (λ l. l ++ more) grown ∙ append_assoc c.args.intake.now.inlet bs more in
+    let came = head_then (pending ++ more) h _ (begins_more pending h _ more begins) _ _ c.needed_of-needed.result c.with_body.result needed (rw c.take.ensures at behind) in
+    (bs ++ more, Consumes-trans _ _ _ _ _ eaten drunk, rw all at came)

@@ -1,0 +1,40 @@
+-- What the hub is asked by a request.
+use Rattle.std.specs.Prelude.{ℕ, if◌then◌else◌, List, codes, bytes_eq, Result, Ok, Err}
+use Rattle.httparse.specs.Grammar.{RequestHead}
+use Rattle.gaz_hub.specs.Step.{Command}
+use Rattle.gaz_hub.specs.Step as hub
+use Rattle.gaz_exchange.specs.Targets.{Target, Volume, Custodian, Nowhere, target_of, code_in, volume_in}
+use Rattle.gaz_exchange.specs.declared.fault.Allowed.TheVariants as allowed
+use Rattle.gaz_exchange.specs.declared.fault.Fault.{Fault}
+use Rattle.gaz_exchange.specs.declared.fault.Fault.TheVariants.{NoRoute, BadMethod}
+use Rattle.gaz_exchange.specs.declared.route.Call.{Call}
+use Rattle.gaz_exchange.specs.declared.route.Call.TheVariants.{Submit, Ask, Stand}
+use Rattle.gaz_exchange.specs.declared.route.Method.{Method}
+use Rattle.gaz_exchange.specs.declared.route.Method.TheVariants.{Get, Post, Other}
+
+-- methods have case (RFC 9110, section 9.1)
+abbrev pub method_of : List ℕ → Method
+method_of text = if bytes_eq text (codes "POST") then Post else if bytes_eq text (codes "GET") then Get else Other
+
+-- the target is looked at before the method
+abbrev pub call_at : Target → Method → Result Call Fault
+call_at Nowhere m = Err NoRoute
+call_at (Volume c v) Post = Ok (Submit (code_in c) (volume_in v))
+call_at (Volume c v) Get = Ok (Ask (code_in c) (volume_in v))
+call_at (Volume c v) Other = Err (BadMethod allowed.GetAndPost)
+call_at (Custodian c) Get = Ok (Stand (code_in c))
+call_at (Custodian c) Post = Err (BadMethod allowed.Get)
+call_at (Custodian c) Other = Err (BadMethod allowed.Get)
+
+abbrev pub command_of : List ℕ → Call → Command
+command_of body (Submit code volume) = hub.Submit code volume body
+command_of body (Ask code volume) = hub.Ask code volume
+command_of body (Stand code) = hub.Stand code
+
+abbrev pub with_body : List ℕ → Result Call Fault → Result Command Fault
+with_body body (Ok call) = Ok (command_of body call)
+with_body body (Err fault) = Err fault
+
+-- what the hub is asked by a request with this head and body, or why it isn't asked
+unfoldable pub asked : RequestHead → List ℕ → Result Command Fault
+asked h body = with_body body (call_at (target_of h.target) (method_of h.method))

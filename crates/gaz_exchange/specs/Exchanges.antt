@@ -1,0 +1,75 @@
+-- Requests and their replies in turn.
+use Rattle.std.specs.Prelude.{◌≡◌, ℕ, ◌<◌, ◌-◌, ◌==◌, ◌&&◌, ◌||◌, not, nat_lt, Bool, true, List, [], ◌∷◌, ◌++◌, length, IsTrue, Option, Some, None, Result, Ok, Err}
+use Rattle.std.specs.Option.{option_and_then}
+use Rattle.std.specs.List.{flat_map, filter_map, list_all}
+use Rattle.std.specs.Result.{result_ok}
+use Rattle.httparse.specs.Grammar.{RequestHead}
+use Rattle.gaz_hub.specs.Step.{Command, Response}
+use Rattle.gaz_exchange.specs.Asking.{asked}
+use Rattle.gaz_exchange.specs.Framing.{length_of, is_closing}
+use Rattle.gaz_exchange.specs.Heads.{BeginsWith}
+use Rattle.gaz_exchange.specs.Replies.{IsReplyText, reply_text, reply_to}
+use Rattle.gaz_exchange.specs.declared.fault.Fault.{Fault}
+use Rattle.gaz_exchange.specs.declared.fault.Fault.TheVariants.{NotReceived}
+use Rattle.gaz_exchange.specs.declared.framing.Framing.TheVariants.{Length}
+use Rattle.gaz_exchange.specs.declared.reply.Reply.TheVariants.{Refused}
+
+-- a request, what the hub said to it (none where it wasn't asked), and the reply's text
+pub record Exchange : Type 0 where
+  pub head : RequestHead
+  pub body : List ℕ
+  pub response : Option Response
+  pub reply : List ℕ
+
+-- the bytes begin with this request, whole, and rest follows
+pub record BeginsWithRequest (bytes : List ℕ) (h : RequestHead) (body rest : List ℕ) : Type 0 where
+  pub after : List ℕ
+  pub head : BeginsWith bytes h after
+  pub framed : length_of h ≡ Length (length body)
+  pub whole : after ≡ body ++ rest
+
+-- the text tells what the hub said, or why it wasn't asked; where there was no memory to find the route it tells 51
+abbrev pub IsReplyTo : Result Command Fault → Option Response → Bool → List ℕ → Type 0
+IsReplyTo (Ok command) (Some response) is_last text = IsReplyText (reply_to response) is_last text
+IsReplyTo (Ok command) None is_last text = text ≡ reply_text (Refused NotReceived) is_last
+IsReplyTo (Err fault) None is_last text = IsReplyText (Refused fault) is_last text
+IsReplyTo (Err fault) (Some response) is_last text = ⊥
+
+-- the bytes begin with the request of this exchange, which is answered so, and rest follows
+pub record IsExchanged (bytes : List ℕ) (e : Exchange) (rest : List ℕ) (is_last : Bool) : Type 0 where
+  pub request : BeginsWithRequest bytes e.head e.body rest
+  pub answered : IsReplyTo (asked e.head e.body) e.response is_last e.reply
+
+-- the conversation ends after this exchange, the first of at most so many
+abbrev pub ends_after : ℕ → Exchange → Bool
+ends_after most e = is_closing e.head || (most == 1)
+
+-- the bytes begin with these exchanges, at most so many, and rest follows; after one that ends the conversation comes none
+unfoldable pub Comes : ℕ → List ℕ → List Exchange → List ℕ → Type 0
+Comes most bytes [] rest = bytes ≡ rest
+Comes most bytes (e ∷ es) rest =
+    (0 < most) × (after : List ℕ) × IsExchanged bytes e after (ends_after most e)
+    × (IsTrue (ends_after most e) → es ≡ []) × Comes (most - 1) after es rest
+
+-- none of the requests ends the conversation by its own word
+abbrev pub all_open : List Exchange → Bool
+all_open es = list_all (λ e. not (is_closing e.head)) es
+
+-- another may follow these exchanges
+abbrev pub goes_on : ℕ → List Exchange → Bool
+goes_on most es = nat_lt (length es) most && all_open es
+
+-- the texts of the replies, one after the other
+abbrev pub replies : List Exchange → List ℕ
+replies es = flat_map (λ e. e.reply) es
+
+-- what the hub was asked in an exchange
+abbrev pub command_in : Exchange → Option Command
+command_in e = option_and_then (λ response. result_ok (asked e.head e.body)) e.response
+
+-- the commands that the hub was given in these exchanges, and its responses
+abbrev pub commands_of : List Exchange → List Command
+commands_of es = filter_map command_in es
+
+abbrev pub responses_of : List Exchange → List Response
+responses_of es = filter_map (λ e. e.response) es

@@ -1,0 +1,48 @@
+-- The refusals by number, and their status (RFC 9110, section 15).
+use Rattle.std.specs.Prelude.{ℕ, List, [], codes}
+use Rattle.gaz_hub.specs.declared.refusal.Refusal.{Refusal}
+use Rattle.gaz_hub.specs.declared.refusal.Refusal.TheVariants as hub
+use Rattle.gaz_exchange.specs.declared.fault.Allowed.TheVariants.{Get, GetAndPost}
+use Rattle.gaz_exchange.specs.declared.fault.Fault.{Fault}
+use Rattle.gaz_exchange.specs.declared.fault.Fault.TheVariants.{UnknownCustodian, BadVolume, TooLarge, UnknownProfile, NotThere, BadRequest, NoRoute, BadMethod, LengthRequired, NotReceived, Unsettled}
+
+-- a refusal of the hub's, whose cause isn't told
+abbrev pub fault_of : Refusal → Fault
+fault_of hub.UnknownCustodian = UnknownCustodian
+fault_of hub.BadVolume = BadVolume
+fault_of hub.TooLarge = TooLarge
+fault_of hub.UnknownProfile = UnknownProfile
+fault_of (hub.NotReceived cause) = NotReceived
+fault_of (hub.ReceivedUnsettled cause) = Unsettled
+
+abbrev pub number_of : Fault → ℕ
+number_of UnknownCustodian = 11
+number_of BadVolume = 12
+number_of TooLarge = 13
+number_of UnknownProfile = 16
+number_of NotThere = 17
+number_of BadRequest = 40
+number_of NoRoute = 41
+number_of (BadMethod allowed) = 42
+number_of LengthRequired = 43
+number_of NotReceived = 51
+number_of Unsettled = 52
+
+abbrev pub status_of : Fault → List ℕ
+status_of BadRequest = codes "400 Bad Request"
+status_of UnknownCustodian = codes "404 Not Found"
+status_of BadVolume = codes "404 Not Found"
+status_of NotThere = codes "404 Not Found"
+status_of NoRoute = codes "404 Not Found"
+status_of (BadMethod allowed) = codes "405 Method Not Allowed"
+status_of LengthRequired = codes "411 Length Required"
+status_of TooLarge = codes "413 Content Too Large"
+status_of UnknownProfile = codes "415 Unsupported Media Type"
+status_of NotReceived = codes "503 Service Unavailable"
+status_of Unsettled = codes "503 Service Unavailable"
+
+-- the methods that are allowed, where another was used
+abbrev pub allow_of : Fault → List ℕ
+allow_of (BadMethod Get) = codes "Allow: GET\r\n"
+allow_of (BadMethod GetAndPost) = codes "Allow: GET, POST\r\n"
+allow_of _ = []

@@ -1,0 +1,44 @@
+-- What the headers of a request say (RFC 9110, sections 5 and 7.6.1).
+use Rattle.std.specs.Prelude.{ℕ, ◌==◌, ◌&&◌, Bool, List, codes, find, count_by, map, Option}
+use Rattle.std.specs.Option.{option_map}
+use Rattle.std.specs.List.{list_any, slice_split}
+use Rattle.std.specs.Str.{str_eq_ignore_ascii_case}
+use Rattle.httparse.specs.Grammar.{RequestHead, trim_ows}
+use Rattle.httparse.specs.Spans.{name_and_value}
+
+-- a header's name, and its value without the white space around it
+abbrev pub Header : Type 0
+Header = List ℕ × List ℕ
+
+abbrev pub headers_of : RequestHead → List Header
+headers_of h = map name_and_value h.fields
+
+-- the header has the name, whatever the case of its letters
+abbrev pub is_named : List ℕ → Header → Bool
+is_named name header = str_eq_ignore_ascii_case header.0 name
+
+-- how many headers have the name
+abbrev pub count_of : List ℕ → List Header → ℕ
+count_of name headers = count_by (is_named name) headers
+
+-- the value of the first header of the name
+abbrev pub value_of : List ℕ → List Header → Option (List ℕ)
+value_of name headers = option_map (λ h. h.1) (find (is_named name) headers)
+
+-- the elements that commas divide
+abbrev pub elements : List ℕ → List (List ℕ)
+elements value = slice_split (λ b. b == 44) value
+
+-- the element is close, whatever its case and the white space around it
+abbrev pub is_close_option : List ℕ → Bool
+is_close_option element = str_eq_ignore_ascii_case (trim_ows element) (codes "close")
+
+abbrev pub has_close : List ℕ → Bool
+has_close value = list_any is_close_option (elements value)
+
+-- a Connection header that has it
+abbrev pub is_close_header : Header → Bool
+is_close_header h = is_named (codes "connection") h && has_close h.1
+
+abbrev pub asks_close : List Header → Bool
+asks_close headers = list_any is_close_header headers

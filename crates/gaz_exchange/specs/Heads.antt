@@ -1,0 +1,30 @@
+-- The heads of requests on a stream (RFC 9112, sections 2 to 5).
+use Rattle.std.specs.Prelude.{◌≡◌, ℕ, ◌≤◌, ◌==◌, ◌||◌, List, ◌++◌, length, Bool, true}
+use Rattle.std.specs.List.{list_all}
+use Rattle.httparse.specs.Grammar.{ReadsRequest, RequestHead, print_request}
+
+-- the bytes begin with this head, of at most 8,192 bytes and 32 headers, and rest follows
+pub record BeginsWith (bytes : List ℕ) (h : RequestHead) (rest : List ℕ) : Type 0 where
+  pub reads : ReadsRequest bytes h rest
+  pub short : length (print_request h) ≤ 8192
+  pub few : length h.fields ≤ 32
+
+-- the bytes begin with no head
+abbrev pub NoHead : List ℕ → Type 0
+NoHead bytes = (h : RequestHead) (rest : List ℕ) → BeginsWith bytes h rest → ⊥
+
+-- and never do, whatever bytes follow
+abbrev pub NeverHead : List ℕ → Type 0
+NeverHead bytes = (more : List ℕ) → NoHead (bytes ++ more)
+
+abbrev pub is_line_byte : ℕ → Bool
+is_line_byte b = (b == 13) || (b == 10)
+
+-- CR and LF alone
+abbrev pub is_blank : List ℕ → Bool
+is_blank bytes = list_all is_line_byte bytes
+
+-- no further request: nothing but CR and LF, in at most 8,192 bytes
+pub record IsOver (bytes : List ℕ) : Type 0 where
+  pub short : length bytes ≤ 8192
+  pub blank : is_blank bytes ≡ true

@@ -1,0 +1,54 @@
+-- A request as it is read.
+use Rattle.std.specs.Prelude.{◌≡◌, ◌⊎◌, ◌<◌, ◌++◌, ℕ, Bool, List, length, Option, Result, Err}
+use Rattle.std.specs.Io.KnownBytes.{IsAtEnd}
+use Rattle.httparse.specs.Grammar.{RequestHead}
+use Rattle.gaz_exchange.specs.Asking.{call_at, method_of}
+use Rattle.gaz_exchange.specs.Exchanges.{BeginsWithRequest}
+use Rattle.gaz_exchange.specs.Framing.{is_closing, length_of}
+use Rattle.gaz_exchange.specs.Heads.{IsOver}
+use Rattle.gaz_exchange.specs.Refusals.{IsRefused, IsUnfinished}
+use Rattle.gaz_exchange.specs.Targets.{target_of}
+use Rattle.gaz_exchange.specs.declared.fault.Fault.{Fault}
+use Rattle.gaz_exchange.specs.declared.fault.Fault.TheVariants.{BadRequest, NotReceived}
+use Rattle.gaz_exchange.specs.declared.framing.Framing.{Framing}
+use Rattle.gaz_exchange.specs.declared.framing.Framing.TheVariants.{Length, Refused}
+use Rattle.gaz_exchange.specs.declared.route.Call.{Call}
+use Rattle.gaz_exchange.specs.declared.route.Method.{Method}
+use Rattle.gaz_exchange.specs.declared.request.Incoming.{Incoming}
+use Rattle.gaz_exchange.specs.declared.request.Incoming.TheVariants as incoming
+use Rattle.gaz_exchange.specs.declared.request.Needed.{Needed}
+
+-- what the hub is asked at a target, unless there was no memory to find the route
+abbrev pub IsCallAt : List ℕ → Method → Result Call Fault → Type 0
+IsCallAt target method call = (call ≡ call_at (target_of target) method) ⊎ (call ≡ Err NotReceived)
+
+abbrev pub IsCall : RequestHead → Result Call Fault → Type 0
+IsCall h call = IsCallAt h.target (method_of h.method) call
+
+-- what the head says
+pub record IsNeeded (h : RequestHead) (needed : Needed) : Type 0 where
+  pub framing_is : needed.framing ≡ length_of h
+  pub call_is : IsCall h needed.call
+  pub closing_is : needed.closing ≡ is_closing h
+
+-- why a body can't be read
+abbrev pub CantRead : List ℕ → Framing → Option (List ℕ) → Fault → Type 0
+CantRead after (Length size) left fault =
+    ((fault ≡ BadRequest) × (length after < size) × IsAtEnd left) ⊎ ((fault ≡ NotReceived) × (0 < size))
+CantRead after (Refused why) left fault = why ≡ fault
+
+-- of the bytes that were pending or read, those that aren't used, and those that the reader has left
+abbrev pub IsIncoming : List ℕ → List ℕ → Option (List ℕ) → Incoming → Type 0
+IsIncoming bytes rest left (incoming.Request q) =
+    (h : RequestHead) × BeginsWithRequest bytes h q.body.items rest × IsCall h q.call × (q.closing ≡ is_closing h)
+IsIncoming bytes rest left (incoming.Refused fault) = IsRefused bytes left fault
+IsIncoming bytes rest left incoming.Over = IsOver bytes × IsAtEnd left
+IsIncoming bytes rest left incoming.Failed = IsUnfinished bytes
+
+-- of the bytes behind a head that were pending or read
+abbrev pub IsBehind : List ℕ → Needed → List ℕ → Option (List ℕ) → Incoming → Type 0
+IsBehind after needed rest left (incoming.Request q) =
+    (needed.framing ≡ Length (length q.body.items)) × (after ≡ q.body.items ++ rest) × (q.call ≡ needed.call) × (q.closing ≡ needed.closing)
+IsBehind after needed rest left (incoming.Refused fault) = CantRead after needed.framing left fault
+IsBehind after needed rest left incoming.Over = ⊥
+IsBehind after needed rest left incoming.Failed = (size : ℕ) × (needed.framing ≡ Length size) × (length after < size)

@@ -1,0 +1,16 @@
+pub mod Heads
+pub mod Headers
+pub mod Faults
+pub mod Framing
+pub mod Targets
+pub mod Asking
+pub mod Replies
+pub mod Exchanges
+pub mod Refusals
+pub mod Conversing
+pub mod Next
+pub mod Bodies
+pub mod Incoming
+pub mod Sending
+pub mod Turns
+pub mod Routing

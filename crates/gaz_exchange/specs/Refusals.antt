@@ -1,0 +1,47 @@
+-- Requests that are refused before they are whole, after which the conversation ends.
+use Rattle.std.specs.Prelude.{◌≡◌, ℕ, ◌<◌, ◌⊎◌, List, length, Option, true}
+use Rattle.std.specs.Io.KnownBytes.{IsAtEnd}
+use Rattle.httparse.specs.Grammar.{RequestHead}
+use Rattle.gaz_exchange.specs.Framing.{length_of}
+use Rattle.gaz_exchange.specs.Heads.{BeginsWith, IsOver, NeverHead, NoHead}
+use Rattle.gaz_exchange.specs.Replies.{IsReplyText}
+use Rattle.gaz_exchange.specs.declared.fault.Fault.{Fault}
+use Rattle.gaz_exchange.specs.declared.fault.Fault.TheVariants.{BadRequest, NotReceived}
+use Rattle.gaz_exchange.specs.declared.framing.Framing.TheVariants.{Length, Refused}
+use Rattle.gaz_exchange.specs.declared.reply.Reply.TheVariants as reply
+
+-- the bytes begin with a head whose body has this length, and so far these bytes stand behind it
+pub record HasHead (bytes : List ℕ) (size : ℕ) (after : List ℕ) : Type 0 where
+  pub head : RequestHead
+  pub begins : BeginsWith bytes head after
+  pub framed : length_of head ≡ Length size
+
+-- the bytes begin with a head whose length is refused
+pub record HasBadLength (bytes : List ℕ) (fault : Fault) : Type 0 where
+  pub head : RequestHead
+  pub after : List ℕ
+  pub begins : BeginsWith bytes head after
+  pub framed : length_of head ≡ Refused fault
+
+-- no head stands whole in the bytes, or not the whole body behind it
+abbrev pub IsUnfinished : List ℕ → Type 0
+IsUnfinished bytes = NoHead bytes ⊎ ((size : ℕ) × (after : List ℕ) × HasHead bytes size after × (length after < size))
+
+-- why the request at the front of the bytes is refused; left is what the reader has left
+pub data IsRefused (bytes : List ℕ) (left : Option (List ℕ)) : Fault → Type 0 where
+  -- it is no head, whatever bytes follow
+  no_head : NeverHead bytes → (IsOver bytes → ⊥) → IsRefused bytes left BadRequest
+  -- the input ended within the head
+  cut_head : NoHead bytes → (IsOver bytes → ⊥) → IsAtEnd left → IsRefused bytes left BadRequest
+  -- the body's length isn't told, or not taken
+  bad_length : (fault : Fault) → HasBadLength bytes fault → IsRefused bytes left fault
+  -- the input ended within the body
+  cut_body : (size : ℕ) (after : List ℕ) → HasHead bytes size after → length after < size → IsAtEnd left → IsRefused bytes left BadRequest
+  -- there was no memory for the body
+  no_memory : (size : ℕ) (after : List ℕ) → HasHead bytes size after → 0 < size → IsRefused bytes left NotReceived
+
+-- the request at the front of the bytes is refused, by a reply with this text
+pub record IsTurnedAway (bytes : List ℕ) (left : Option (List ℕ)) (text : List ℕ) : Type 0 where
+  pub fault : Fault
+  pub why : IsRefused bytes left fault
+  pub told : IsReplyText (reply.Refused fault) true text

@@ -1,0 +1,108 @@
+-- The text of a reply (RFC 9112, section 4; RFC 9110, section 15).
+use Rattle.std.specs.Prelude.{◌≡◌, ◌⊎◌, ℕ, Bool, true, false, if◌then◌else◌, List, [], ◌++◌, length, codes, Option, Some, None, Result, Ok, Err}
+use Rattle.std.specs.Fmt.{decimal}
+use Rattle.hex.specs.Hex.{encode_lower}
+use Rattle.gaz_hub.specs.Step.{Response, Submitted, Told, Stands, Settled}
+use Rattle.gaz_hub.specs.declared.answer.Answer.{Answer}
+use Rattle.gaz_hub.specs.declared.answer.Answer.TheVariants as answer
+use Rattle.gaz_hub.specs.declared.outcome.Outcome.{Outcome}
+use Rattle.gaz_hub.specs.declared.outcome.Outcome.TheVariants.{Applied, Rejected, Held}
+use Rattle.gaz_hub.specs.declared.refusal.Refusal.{Refusal}
+use Rattle.gaz_hub.specs.declared.standing.Standing.{Standing}
+use Rattle.gaz_exchange.specs.Faults.{allow_of, fault_of, number_of, status_of}
+use Rattle.gaz_exchange.specs.declared.fault.Fault.{Fault}
+use Rattle.gaz_exchange.specs.declared.fault.Fault.TheVariants.{NotThere, NotReceived, Unsettled}
+use Rattle.gaz_exchange.specs.declared.reply.Reply.{Reply}
+use Rattle.gaz_exchange.specs.declared.reply.Reply.TheVariants as reply
+
+-- what a reply says of an answer
+abbrev pub reply_of : Answer → Reply
+reply_of (answer.New outcome) = reply.New outcome
+reply_of (answer.Repeat outcome) = reply.Repeat outcome
+reply_of (answer.Taken digest) = reply.Taken digest
+reply_of (answer.Refused refusal) = reply.Refused (fault_of refusal)
+
+-- what it says of the outcome of a volume
+abbrev pub reply_told : Result (Option (List ℕ × Outcome)) Refusal → Reply
+reply_told (Ok None) = reply.Refused NotThere
+reply_told (Ok (Some told)) = reply.Told told.0 told.1
+reply_told (Err refusal) = reply.Refused (fault_of refusal)
+
+-- what it says of a custodian's standing
+abbrev pub reply_stands : Result Standing Refusal → Reply
+reply_stands (Ok standing) = reply.Stands standing
+reply_stands (Err refusal) = reply.Refused (fault_of refusal)
+
+-- what a reply says of what the hub said; settling alone is asked by no request
+abbrev pub reply_to : Response → Reply
+reply_to (Submitted answer) = reply_of answer
+reply_to (Told told) = reply_told told
+reply_to (Stands stands) = reply_stands stands
+reply_to (Settled done) = reply.Refused NotReceived
+
+abbrev pub status_line : Reply → List ℕ
+status_line (reply.New outcome) = codes "201 Created"
+status_line (reply.Repeat outcome) = codes "200 OK"
+status_line (reply.Taken digest) = codes "409 Conflict"
+status_line (reply.Told digest outcome) = codes "200 OK"
+status_line (reply.Stands standing) = codes "200 OK"
+status_line (reply.Refused fault) = status_of fault
+
+-- the header that names the allowed methods, where another was used
+abbrev pub allow_in : Reply → List ℕ
+allow_in (reply.Refused fault) = allow_of fault
+allow_in (reply.New outcome) = []
+allow_in (reply.Repeat outcome) = []
+allow_in (reply.Taken digest) = []
+allow_in (reply.Told digest outcome) = []
+allow_in (reply.Stands standing) = []
+
+-- a volume that is waited for
+abbrev pub want_text : ℕ → ℕ → List ℕ
+want_text custodian volume = codes "{\"custodian\":" ++ (decimal custodian ++ (codes ",\"volume\":" ++ (decimal volume ++ codes "}")))
+
+abbrev pub wants_text : Option (ℕ × ℕ) → List ℕ
+wants_text None = codes "null"
+wants_text (Some want) = want_text want.0 want.1
+
+-- the members of an outcome
+abbrev pub outcome_text : Outcome → List ℕ
+outcome_text Applied = codes "\"outcome\":\"applied\""
+outcome_text (Rejected place rule) = codes "\"outcome\":\"rejected\",\"record\":" ++ (decimal place ++ (codes ",\"rule\":" ++ decimal rule))
+outcome_text (Held custodian volume) = codes "\"outcome\":\"held\",\"wants\":" ++ want_text custodian volume
+
+-- compact JSON, its keys in byte order, and a line feed
+abbrev pub body_of : Reply → List ℕ
+body_of (reply.New outcome) = codes "{" ++ (outcome_text outcome ++ codes "}\n")
+body_of (reply.Repeat outcome) = codes "{" ++ (outcome_text outcome ++ codes "}\n")
+body_of (reply.Taken digest) = codes "{\"digest\":\"" ++ (encode_lower digest ++ codes "\",\"outcome\":\"taken\"}\n")
+body_of (reply.Told digest outcome) = codes "{\"digest\":\"" ++ (encode_lower digest ++ (codes "\"," ++ (outcome_text outcome ++ codes "}\n")))
+body_of (reply.Stands s) =
+    codes "{\"custodian\":" ++ (decimal s.custodian ++ (codes ",\"held\":" ++ (decimal s.held
+    ++ (codes ",\"judged\":" ++ (decimal s.judged ++ (codes ",\"wants\":" ++ (wants_text s.wants ++ codes "}\n")))))))
+body_of (reply.Refused fault) = codes "{\"refusal\":" ++ (decimal (number_of fault) ++ codes "}\n")
+
+-- said where the conversation ends after the reply
+abbrev pub close_of : Bool → List ℕ
+close_of is_last = if is_last then codes "Connection: close\r\n" else []
+
+-- status line, headers, an empty line, body
+unfoldable pub reply_text : Reply → Bool → List ℕ
+reply_text reply is_last =
+    codes "HTTP/1.1 " ++ (status_line reply
+    ++ (codes "\r\nContent-Type: application/json\r\nContent-Length: " ++ (decimal (length (body_of reply))
+    ++ (codes "\r\n" ++ (allow_in reply ++ (close_of is_last ++ (codes "\r\n" ++ body_of reply)))))))
+
+-- the request received its file
+abbrev pub is_received : Reply → Bool
+is_received (reply.New outcome) = true
+is_received (reply.Refused Unsettled) = true
+is_received _ = false
+
+-- the refusal for want of memory: 52 where the file was received, else 51
+abbrev pub memory_fault : Bool → Fault
+memory_fault received = if received then Unsettled else NotReceived
+
+-- the reply's text, or where it found no memory that of 52 or 51
+abbrev pub IsReplyText : Reply → Bool → List ℕ → Type 0
+IsReplyText r is_last text = (text ≡ reply_text r is_last) ⊎ (text ≡ reply_text (reply.Refused (memory_fault (is_received r))) is_last)

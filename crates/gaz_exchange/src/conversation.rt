@@ -1,0 +1,177 @@
+ghost use Rattle.std.specs.Prelude.{◌≡◌, Ok};
+ghost use Rattle.gaz_hub.specs.Sample.{state_of};
+ghost use Rattle.gaz_exchange.specs.Conversing.{Conversation, ended_after};
+ghost use Rattle.gaz_exchange.specs.Turns.{Answers, Asks, IsAsked, IsTurn, Refuses, turn_of};
+
+use crate::fault::Fault;
+use crate::reply::Reply;
+use crate::request::{Incoming, Intake, Request, next_request};
+use crate::route::Call;
+use crate::send::send;
+use gaz_hub::Hub;
+use std::alloc::Global;
+use std::io::{Read, Write};
+
+/// Why a conversation ended.
+#[derive(Clone, Copy, Debug, PartialEq, Eq)]
+pub enum Ended {
+    /// So many requests were answered as were allowed.
+    Most,
+    /// After the last reply, by the request or by its refusal.
+    Closed,
+    /// The input ended outside of a request.
+    InputEnd,
+}
+
+/// A conversation that ended.
+#[derive(Clone, Copy, Debug, PartialEq, Eq)]
+pub struct Served {
+    /// The replies that were wholly written.
+    pub requests: u64,
+    pub ended: Ended,
+}
+
+/// What failed in a conversation.
+#[derive(Clone, Copy, Debug, PartialEq, Eq)]
+pub enum Cause {
+    /// The reader failed, whatever its error.
+    ReadFault,
+    /// The writer failed, whatever its error, or took nothing of what it was given.
+    WriteFault,
+}
+
+/// A conversation that couldn't go on.
+#[derive(Clone, Copy, Debug, PartialEq, Eq)]
+pub struct Stopped {
+    /// The replies that were wholly written.
+    pub requests: u64,
+    pub cause: Cause,
+}
+
+/// What came of one turn of a conversation.
+#[derive(Clone, Copy, Debug, PartialEq, Eq)]
+pub enum Turn {
+    /// A request was answered, and others may follow.
+    Answered,
+    /// The last reply was written.
+    Closed,
+    /// The input ended outside of a request.
+    Over,
+    Stopped(Cause),
+}
+
+// Asks the hub.
+fn ask_call(hub: &mut Hub, call: Call, body: &[u8]) -> Reply
+    ensures { Asks (Ok call) body.now (state_of hub.old) (state_of hub.new) result }
+{
+    match call {
+        Call::Submit { code, volume } => hub.submit(code, volume, body).into(),
+        Call::Ask { code, volume } => Reply::told(hub.outcome(code, volume)),
+        Call::Stand { code } => Reply::stands(hub.status(code)),
+    }
+}
+
+// Asks the hub, where the request asks anything of it.
+fn ask(hub: &mut Hub, request: &Request) -> Reply
+    ensures { IsAsked request.now (state_of hub.old) (state_of hub.new) result }
+{
+    match request.call {
+        Ok(call) => ask_call(hub, call, &request.body),
+        Err(fault) => Reply::Refused(fault),
+    }
+}
+
+fn turn_after(ends: bool, whole: bool) -> Turn
+    ensures { result ≡ turn_of ends whole }
+{
+    if !whole {
+        return Turn::Stopped(Cause::WriteFault);
+    }
+    if ends { Turn::Closed } else { Turn::Answered }
+}
+
+// Answers a request that came whole; `is_last` where no more may follow.
+fn answer<W: Write>(
+    alloc: Global,
+    w: &mut W,
+    hub: &mut Hub,
+    request: &Request,
+    is_last: bool,
+) -> Turn
+    ensures { Answers (W.contents w.old) (W.contents w.new) (state_of hub.old) (state_of hub.new)
+        request.now is_last result }
+{
+    let ends = request.closing || is_last;
+    let reply = ask(hub, request);
+    turn_after(ends, send(alloc, w, reply, ends))
+}
+
+// Answers what is no request, or one whose body can't be read.
+fn refuse<W: Write>(alloc: Global, w: &mut W, fault: Fault) -> Turn
+    ensures { Refuses (W.contents w.old) (W.contents w.new) fault result }
+{
+    turn_after(true, send(alloc, w, Reply::Refused(fault), true))
+}
+
+// Reads one request and answers it; `is_last` where no more may follow.
+fn take_turn<R: Read, W: Write>(
+    alloc: Global,
+    r: &mut R,
+    w: &mut W,
+    hub: &mut Hub,
+    intake: &mut Intake,
+    is_last: bool,
+) -> Turn
+    ensures { IsTurn is_last intake.old.inlet intake.new.inlet (R.remaining r.old) (R.remaining r.new)
+        (W.contents w.old) (W.contents w.new) (state_of hub.old) (state_of hub.new) result }
+{
+    match next_request(alloc, r, intake) {
+        Incoming::Request(request) => answer(alloc, w, hub, &request, is_last),
+        Incoming::Refused(fault) => refuse(alloc, w, fault),
+        Incoming::Over => Turn::Over,
+        Incoming::Failed => Turn::Stopped(Cause::ReadFault),
+    }
+}
+
+// The end after the last reply.
+fn closed_after(requests: u64, most: u64) -> Served
+    ensures { result ≡ record { requests = requests; ended = ended_after requests most } }
+{
+    let ended = if requests == most {
+        Ended::Most
+    } else {
+        Ended::Closed
+    };
+    Served { requests, ended }
+}
+
+/// Answers the requests of a stream in turn, at most `most` of them.
+pub fn converse<R: Read, W: Write>(
+    alloc: Global,
+    r: &mut R,
+    w: &mut W,
+    hub: &mut Hub,
+    most: u64,
+) -> Result<Served, Stopped>
+    ensures { Conversation most (R.remaining r.old) (R.remaining r.new) (W.contents w.old) (W.contents w.new)
+        (state_of hub.old) (state_of hub.new) result }
+{
+    let mut intake = Intake::new();
+    for n in 0..most {
+        match take_turn(alloc, r, w, hub, &mut intake, n + 1 == most) {
+            Turn::Answered => {}
+            Turn::Closed => return Ok(closed_after(n + 1, most)),
+            Turn::Over => {
+                return Ok(Served {
+                    requests: n,
+                    ended: Ended::InputEnd,
+                });
+            }
+            Turn::Stopped(cause) => return Err(Stopped { requests: n, cause }),
+        }
+    }
+    Ok(Served {
+        requests: most,
+        ended: Ended::Most,
+    })
+}

@@ -1,0 +1,77 @@
+ghost use Rattle.std.specs.Prelude.{◌≡◌, ◌≤◌, ◌<◌, true, length, map, All, IfSome, IfNone};
+ghost use Rattle.std.specs.Str.{all_ascii_digits};
+ghost use Rattle.std.specs.Str.Parse.{digits_value};
+ghost use Rattle.httparse.specs.Spans.{IsHeaderWithin, header_bytes};
+ghost use Rattle.gaz_exchange.specs.Framing.{is_post_method, length_in, size_in};
+
+use crate::fault::Fault;
+use crate::headers::{find_value, how_many};
+use gaz_ids::digits::are_digits;
+use httparse::spans::HeaderSpan;
+
+/// The bytes that a body may have.
+pub const BODY_LIMIT: usize = 1_048_576;
+
+/// How long the body of a request is.
+#[derive(Clone, Copy, Debug, PartialEq, Eq)]
+pub enum Framing {
+    /// In bytes, at most 1,048,576.
+    Length(usize),
+    /// The length isn't told, or not taken.
+    Refused(Fault),
+}
+
+// The number that the digits write, where a body may have so many bytes. Any number of leading zeros is fine.
+fn limited_value(digits: &[u8]) -> Option<usize>
+    requires { all_ascii_digits digits.now ≡ true }
+    ensures value { IfSome result (λ n. n ≡ digits_value 10 digits.now) }
+    ensures fits { IfSome result (λ n. n ≤ 1048576) }
+    ensures exceeds { IfNone result (1048576 < digits_value 10 digits.now) }
+{
+    let mut value = 0;
+    for byte in digits {
+        value = value * 10 + usize::from(*byte - b'0');
+        if value > BODY_LIMIT {
+            return None;
+        }
+    }
+    Some(value)
+}
+
+// The size that the value of a `Content-Length` tells.
+fn size_of(value: &[u8]) -> Framing
+    ensures { result ≡ size_in value.now }
+{
+    if value.is_empty() || !are_digits(value) {
+        return Framing::Refused(Fault::BadRequest);
+    }
+    match limited_value(value) {
+        Some(size) => Framing::Length(size),
+        None => Framing::Refused(Fault::TooLarge),
+    }
+}
+
+/// How long the body of a request with this method and these headers is (RFC 9112, section 6; our profile takes no transfer coding).
+pub fn find_framing(buf: &[u8], is_post: bool, headers: &[HeaderSpan]) -> Framing
+    requires { All (IsHeaderWithin (length buf.now)) headers.now }
+    ensures { result ≡ length_in is_post (map (header_bytes buf.now) headers.now) }
+{
+    if how_many(buf, headers, b"transfer-encoding") > 0 {
+        return Framing::Refused(Fault::LengthRequired);
+    }
+    if how_many(buf, headers, b"content-length") > 1 {
+        return Framing::Refused(Fault::BadRequest);
+    }
+    match find_value(buf, headers, b"content-length") {
+        Some(value) => size_of(value),
+        None if is_post => Framing::Refused(Fault::LengthRequired),
+        None => Framing::Length(0),
+    }
+}
+
+/// Whether the method is POST; methods have case (RFC 9110, section 9.1).
+pub fn is_post(method: &[u8]) -> bool
+    ensures { result ≡ is_post_method method.now }
+{
+    method == b"POST".as_slice()
+}

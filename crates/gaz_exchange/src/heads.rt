@@ -1,0 +1,89 @@
+ghost use Rattle.std.specs.Prelude.{◌≡◌, ◌++◌, ℕ, List};
+ghost use Rattle.std.specs.Io.KnownBytes.{Consumes};
+ghost use Rattle.gaz_exchange.specs.Heads.{is_blank};
+ghost use Rattle.gaz_exchange.specs.Next.{IsLook, IsNext};
+
+use crate::inlet::{INLET_SIZE, Inlet};
+use httparse::Status;
+use httparse::spans::{HeaderSpan, RequestSpans, parse_request};
+use std::io::Read;
+
+/// The bytes that a head may have, with the empty lines before it.
+const HEAD_LIMIT: usize = 8192;
+
+/// What comes next on a stream.
+#[derive(Debug, Drop)]
+pub enum Next {
+    /// A head, at the front of the pending bytes.
+    Head(RequestSpans),
+    /// No head, whatever comes.
+    Bad,
+    /// The end, outside of a request.
+    Over,
+    /// The reader failed before the head's end.
+    Failed,
+}
+
+/// What the pending bytes begin with.
+#[derive(Debug, Drop)]
+pub enum Look {
+    Head(RequestSpans),
+    /// No head yet.
+    Open,
+    /// None ever.
+    Never,
+}
+
+// CR and LF alone.
+fn blank(bytes: &[u8]) -> bool
+    ensures { result ≡ is_blank bytes.now }
+{
+    bytes.iter().all(|b| *b == b'\r' || *b == b'\n')
+}
+
+fn parse_head(bytes: &[u8], headers: &mut [HeaderSpan; 32]) -> Look
+    ensures { IsLook bytes.now headers.new result }
+{
+    match parse_request(bytes, headers) {
+        Ok(Status::Complete(spans)) => {
+            if spans.len > HEAD_LIMIT {
+                return Look::Never;
+            }
+            Look::Head(spans)
+        }
+        Ok(Status::Partial) => Look::Open,
+        Err(_) => {
+            if blank(bytes) {
+                return Look::Open;
+            }
+            Look::Never
+        }
+    }
+}
+
+/// Reads up to the end of the next head.
+pub fn next_head<R: Read>(r: &mut R, inlet: &mut Inlet, headers: &mut [HeaderSpan; 32]) -> Next
+    ensures { (bs : List ℕ) × Consumes (R.remaining r.old) (R.remaining r.new) bs × (inlet.new ≡ inlet.old ++ bs)
+        × IsNext inlet.new (R.remaining r.new) headers.new result }
+{
+    'reads: loop {
+        match parse_head(inlet.pending(), headers) {
+            Look::Head(spans) => return Next::Head(spans),
+            Look::Never => return Next::Bad,
+            Look::Open => {}
+        }
+        if inlet.pending().len() == INLET_SIZE {
+            return Next::Bad;
+        }
+        match inlet.fill(r) {
+            Ok(0) => {
+                if blank(inlet.pending()) {
+                    return Next::Over;
+                }
+                return Next::Bad;
+            }
+            Ok(_) => {}
+            Err(_) => return Next::Failed,
+        }
+    }
+}

@@ -1,0 +1,78 @@
+ghost use Rattle.std.specs.Prelude.{◌≡◌, ◌≤◌, ◌<◌, ◌++◌, ◌-◌, ℕ, List, [], length, take, drop, MatchResult};
+ghost use Rattle.std.specs.Io.KnownBytes.{Consumes, IsAtEnd, Keeps};
+
+use std::io;
+use std::io::Read;
+use std::marker::Model;
+
+/// The bytes that a head may have, and one more, which shows that it has too many.
+pub const INLET_SIZE: usize = 8193;
+
+/// Bytes that were read and not yet used, at most 8,193 of them.
+#[derive(Drop)]
+pub struct Inlet {
+    bytes: [u8; INLET_SIZE],
+    start: usize,
+    end: usize,
+}
+
+impl Model for Inlet {
+    ghost Value = { List ℕ };
+
+    ghost view = { λ b. drop b.start (take b.end b.bytes) };
+
+    ghost invariant = { λ b. (b.start ≤ b.end) × (b.end ≤ 8193) };
+}
+
+// Moves a part to the front.
+fn move_to_front(bytes: &mut [u8; INLET_SIZE], start: usize, end: usize)
+    requires { (start ≤ end) × (end ≤ 8193) }
+    ensures part { take (end - start) bytes.new ≡ drop start (take end bytes.old) }
+    ensures length { length bytes.new ≡ 8193 }
+{
+    bytes.copy_within(start..end, 0);
+}
+
+impl Inlet {
+    pub fn new() -> Self
+        ensures { result ≡ [] }
+    {
+        Inlet {
+            bytes: [0; INLET_SIZE],
+            start: 0,
+            end: 0,
+        }
+    }
+
+    /// The bytes.
+    pub fn pending(&self) -> &[u8]
+        ensures pending { result.now ≡ self.now }
+        ensures short { length self.now ≤ 8193 }
+    {
+        &self.bytes[self.start..self.end]
+    }
+
+    /// Uses the first `count` bytes up.
+    pub fn take(&mut self, count: usize)
+        requires { count ≤ length self.old }
+        ensures { self.new ≡ drop count self.old }
+    {
+        self.start += count;
+    }
+
+    /// Reads once. No bytes come only at the end of the input.
+    pub fn fill<R: Read>(&mut self, r: &mut R) -> io::Result<usize>
+        requires { length self.old < 8193 }
+        ensures read { MatchResult result
+            (λ n. (bs : List ℕ) × Consumes (R.remaining r.old) (R.remaining r.new) bs × (self.new ≡ self.old ++ bs) × (length bs ≡ n)
+            × (n ≡ 0 → IsAtEnd (R.remaining r.new)))
+            (λ _. Keeps (R.remaining r.old) (R.remaining r.new) × (self.new ≡ self.old)) }
+    {
+        move_to_front(&mut self.bytes, self.start, self.end);
+        self.end -= self.start;
+        self.start = 0;
+        let n = r.read(&mut self.bytes[self.end..])?;
+        self.end += n;
+        Ok(n)
+    }
+}

@@ -1,0 +1,125 @@
+ghost use Rattle.std.specs.Prelude.{◌≡◌, ◌++◌, [], ℕ, List};
+ghost use Rattle.std.specs.Io.KnownBytes.{Consumes};
+ghost use Rattle.httparse.specs.Grammar.{RequestHead};
+ghost use Rattle.httparse.specs.Spans.{IsRequestAt};
+ghost use Rattle.gaz_exchange.specs.Next.{IsHeadAt};
+ghost use Rattle.gaz_exchange.specs.Incoming.{IsBehind, IsIncoming, IsNeeded};
+
+use crate::body::{Body, read_body};
+use crate::fault::Fault;
+use crate::framing::{Framing, find_framing, is_post};
+use crate::headers::closes;
+use crate::heads::{Next, next_head};
+use crate::inlet::Inlet;
+use crate::route::{Call, Method, Routes};
+use httparse::spans::{EMPTY_HEADER_SPAN, HeaderSpan, RequestSpans};
+use std::alloc::Global;
+use std::io::Read;
+
+/// A request that came whole.
+#[derive(Debug, Drop)]
+pub struct Request {
+    /// What the hub is asked, or why it isn't.
+    pub call: Result<Call, Fault>,
+    /// Whether the conversation ends after it by its own word.
+    pub closing: bool,
+    pub body: Vec<u8>,
+}
+
+/// What comes next on a stream.
+#[derive(Debug, Drop)]
+pub enum Incoming {
+    Request(Request),
+    /// What is no request, or one whose body can't be read.
+    Refused(Fault),
+    /// The end, outside of a request.
+    Over,
+    /// The reader failed within a request.
+    Failed,
+}
+
+/// What is needed of a head when its bytes are gone.
+#[derive(Clone, Copy, Debug)]
+pub struct Needed {
+    framing: Framing,
+    call: Result<Call, Fault>,
+    closing: bool,
+}
+
+/// What reading takes from one request to the next.
+#[derive(Drop)]
+pub struct Intake {
+    pub inlet: Inlet,
+    pub headers: [HeaderSpan; 32],
+    pub routes: Routes,
+}
+
+impl Intake {
+    pub fn new() -> Self
+        ensures { result.inlet ≡ [] }
+    {
+        Intake {
+            inlet: Inlet::new(),
+            headers: [EMPTY_HEADER_SPAN; 32],
+            routes: Routes::new(),
+        }
+    }
+}
+
+fn needed_of(
+    alloc: Global,
+    bytes: &[u8],
+    spans: RequestSpans,
+    headers: &[HeaderSpan; 32],
+    routes: &mut Routes,
+) -> Needed
+    requires { IsHeadAt bytes.now headers.now spans }
+    ensures { (h : RequestHead) → IsRequestAt bytes.now headers.now spans h → IsNeeded h result }
+{
+    let headers = &headers[..spans.headers];
+    let method = spans.method.of(bytes);
+    Needed {
+        framing: find_framing(bytes, is_post(method), headers),
+        call: routes.call(alloc, spans.path.of(bytes), Method::of(method)),
+        closing: closes(bytes, spans.version, headers),
+    }
+}
+
+// Reads the body behind a head, and makes the request whole.
+fn with_body<R: Read>(alloc: Global, r: &mut R, inlet: &mut Inlet, needed: Needed) -> Incoming
+    ensures { (bs : List ℕ) × Consumes (R.remaining r.old) (R.remaining r.new) bs
+        × IsBehind (inlet.old ++ bs) needed inlet.new (R.remaining r.new) result }
+{
+    let size = match needed.framing {
+        Framing::Length(size) => size,
+        Framing::Refused(fault) => return Incoming::Refused(fault),
+    };
+    match read_body(alloc, r, inlet, size) {
+        Body::Whole(body) => Incoming::Request(Request {
+            call: needed.call,
+            closing: needed.closing,
+            body,
+        }),
+        Body::Short => Incoming::Refused(Fault::BadRequest),
+        Body::Memory => Incoming::Refused(Fault::NotReceived),
+        Body::Failed => Incoming::Failed,
+    }
+}
+
+/// Reads the next request.
+pub fn next_request<R: Read>(alloc: Global, r: &mut R, intake: &mut Intake) -> Incoming
+    ensures { (bs : List ℕ) × Consumes (R.remaining r.old) (R.remaining r.new) bs
+        × IsIncoming (intake.old.inlet ++ bs) intake.new.inlet (R.remaining r.new) result }
+{
+    match next_head(r, &mut intake.inlet, &mut intake.headers) {
+        Next::Head(spans) => {
+            let bytes = intake.inlet.pending();
+            let needed = needed_of(alloc, bytes, spans, &intake.headers, &mut intake.routes);
+            intake.inlet.take(spans.len);
+            with_body(alloc, r, &mut intake.inlet, needed)
+        }
+        Next::Bad => Incoming::Refused(Fault::BadRequest),
+        Next::Over => Incoming::Over,
+        Next::Failed => Incoming::Failed,
+    }
+}

@@ -1,0 +1,61 @@
+//! `gazhub`: a hub for street and property gazetteers, on standard input and output.
+#![tactic(auto)]
+
+#[cfg(test)]
+mod fixtures;
+#[cfg(test)]
+mod tests;
+
+use gaz_exchange::{Cause, converse};
+use gaz_hub::Hub;
+use std::process::ExitCode;
+use std::{env, io};
+
+/// The most requests of one run.
+const MOST: u64 = 100_000;
+
+const FAULT: u8 = 3;
+
+const USAGE: u8 = 2;
+
+// Holds a conversation on standard input and output, over a hub in memory. The exit status.
+fn play<R: Input + Print + Eprint + AllocGlobal>(rt: &R) -> u8 {
+    let mut hub = Hub::new(rt.alloc());
+    let stopped = match converse(
+        rt.alloc(),
+        &mut rt.reader(),
+        &mut io::writer(rt),
+        &mut hub,
+        MOST,
+    ) {
+        Ok(_) => return 0,
+        Err(stopped) => stopped,
+    };
+    let name = match stopped.cause {
+        Cause::ReadFault => "ReadFault",
+        Cause::WriteFault => "WriteFault",
+    };
+    let _ = eprintln!(rt; "gazhub: {name}");
+    FAULT
+}
+
+// Whether the words are none, or the one word `play`.
+fn asks_play(rt: &HostRuntime) -> io::Result<bool> {
+    let mut words = env::args(rt)?.skip(1);
+    let first_is_play = match words.next() {
+        Some(word) => word.as_str() == "play",
+        None => return Ok(true),
+    };
+    Ok(first_is_play && words.next().is_none())
+}
+
+fn main(rt: HostRuntime) -> ExitCode {
+    match asks_play(&rt) {
+        Ok(true) => ExitCode::from(play(&rt)),
+        Ok(false) => {
+            let _ = eprintln!(rt; "gazhub: usage");
+            ExitCode::from(USAGE)
+        }
+        Err(_) => ExitCode::from(FAULT),
+    }
+}

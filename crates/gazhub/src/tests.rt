@@ -1,0 +1,420 @@
+//! Worked cases: conversations over one hub. The expected texts are those of docs/exchange.md.
+
+use crate::fixtures::*;
+use gaz_exchange::{Ended, converse};
+use gaz_hub::Hub;
+use std::alloc::{AllocError, Global};
+use std::process::Abort;
+use std::test::Fail;
+
+const APPLIED: &str = "{\"outcome\":\"applied\"}";
+
+const CREATED: &str = "201 Created";
+
+const OK: &str = "200 OK";
+
+const CONFLICT: &str = "409 Conflict";
+
+const NOT_FOUND: &str = "404 Not Found";
+
+// One request, and the reply that it gets.
+#[derive(Clone, Copy)]
+struct Case<'a> {
+    method: &'a str,
+    target: &'a str,
+    body: &'a [u8],
+    status: &'a str,
+    reply: &'a str,
+}
+
+fn post<'a>(target: &'a str, body: &'a str, status: &'a str, reply: &'a str) -> Case<'a> {
+    Case {
+        method: "POST",
+        target,
+        body: body.as_bytes(),
+        status,
+        reply,
+    }
+}
+
+fn get<'a>(target: &'a str, status: &'a str, reply: &'a str) -> Case<'a> {
+    Case {
+        method: "GET",
+        target,
+        body: &[],
+        status,
+        reply,
+    }
+}
+
+fn request_of(alloc: Global, case: &Case<'_>) -> Result<Vec<u8>, AllocError> {
+    let Case { method, target, .. } = case;
+    let size = case.body.len();
+    let head = format!(in alloc;
+        "{method} {target} HTTP/1.1\r\nHost: hub\r\nContent-Length: {size}\r\n\r\n"
+    )?;
+    let mut request = Vec::from_slice(alloc, head.as_bytes())?;
+    request.extend_from_slice(case.body)?;
+    Ok(request)
+}
+
+fn reply_of(alloc: Global, status: &str, more: &str, body: &str) -> Result<String, AllocError> {
+    let size = body.len().saturating_add(1);
+    format!(in alloc;
+        "HTTP/1.1 {status}\r\nContent-Type: application/json\r\nContent-Length: {size}\r\n{more}\r\n{body}\n"
+    )
+}
+
+// What one conversation over these bytes writes.
+fn written(alloc: Global, hub: &mut Hub, given: &[u8], most: u64) -> Vec<u8> {
+    let mut reader = given;
+    let mut out = Vec::new(alloc);
+    let _ = converse(alloc, &mut reader, &mut out, hub, most);
+    out
+}
+
+// Each case in a conversation of its own, over one hub.
+fn holds<R: Abort + AllocGlobal>(rt: &R, cases: &[Case<'_>]) -> Result<(), Fail> {
+    let mut hub = Hub::new(rt.alloc());
+    for case in cases {
+        let request = request_of(rt.alloc(), case)?;
+        let got = written(rt.alloc(), &mut hub, &request, 2);
+        let wanted = reply_of(rt.alloc(), case.status, "", case.reply)?;
+        assert_eq!(rt;
+            got.as_slice(),
+            wanted.as_bytes(),
+            "{} {}",
+            case.method,
+            case.target
+        );
+    }
+    Ok(())
+}
+
+#[test]
+fn a_repeat_gets_the_outcome_and_another_file_the_digest(rt: HostRuntime) -> Result<(), Fail> {
+    let taken = format!(in rt.alloc();
+        "{{\"digest\":\"{DIGEST_OF_STREET_101}\",\"outcome\":\"taken\"}}"
+    )?;
+    let told = format!(in rt.alloc();
+        "{{\"digest\":\"{DIGEST_OF_STREET_101}\",\"outcome\":\"applied\"}}"
+    )?;
+    let one = "/custodians/1001/volumes/1";
+    holds(
+        &rt,
+        &[
+            post(one, STREET_101, CREATED, APPLIED),
+            post(one, STREET_101, OK, APPLIED),
+            get(
+                "/custodians/1001",
+                OK,
+                "{\"custodian\":1001,\"held\":0,\"judged\":1,\"wants\":{\"custodian\":1001,\"volume\":2}}",
+            ),
+            post(one, STREET_101_DATED_03, CONFLICT, &taken),
+            get(one, OK, &told),
+            get("/custodians/1001/volumes/2", NOT_FOUND, "{\"refusal\":17}"),
+        ],
+    )
+}
+
+#[test]
+fn a_gap_holds_what_is_behind_it(rt: HostRuntime) -> Result<(), Fail> {
+    let held = "{\"outcome\":\"held\",\"wants\":{\"custodian\":1001,\"volume\":2}}";
+    let taken = format!(in rt.alloc();
+        "{{\"digest\":\"{DIGEST_OF_STREET_102}\",\"outcome\":\"taken\"}}"
+    )?;
+    let (one, two, three) = (
+        "/custodians/1001/volumes/1",
+        "/custodians/1001/volumes/2",
+        "/custodians/1001/volumes/3",
+    );
+    holds(
+        &rt,
+        &[
+            post(one, STREET_101, CREATED, APPLIED),
+            post(three, STREET_102_CLOSED, CREATED, held),
+            post(two, STREET_102, CREATED, APPLIED),
+            post(three, STREET_102_CLOSED, OK, APPLIED),
+            post(two, STREET_102_AND_101_AGAIN, CONFLICT, &taken),
+        ],
+    )
+}
+
+#[test]
+fn a_rejected_volume_stays_used(rt: HostRuntime) -> Result<(), Fail> {
+    let taken = format!(in rt.alloc();
+        "{{\"digest\":\"{DIGEST_OF_STREET_102_AND_101_AGAIN}\",\"outcome\":\"taken\"}}"
+    )?;
+    let (one, two, three) = (
+        "/custodians/1001/volumes/1",
+        "/custodians/1001/volumes/2",
+        "/custodians/1001/volumes/3",
+    );
+    holds(
+        &rt,
+        &[
+            post(one, STREET_101, CREATED, APPLIED),
+            post(
+                three,
+                STREET_102_CLOSED,
+                CREATED,
+                "{\"outcome\":\"held\",\"wants\":{\"custodian\":1001,\"volume\":2}}",
+            ),
+            post(
+                two,
+                STREET_102_AND_101_AGAIN,
+                CREATED,
+                "{\"outcome\":\"rejected\",\"record\":3,\"rule\":21}",
+            ),
+            post(
+                three,
+                STREET_102_CLOSED,
+                OK,
+                "{\"outcome\":\"rejected\",\"record\":2,\"rule\":22}",
+            ),
+            post(two, STREET_102, CONFLICT, &taken),
+        ],
+    )
+}
+
+#[test]
+fn faulty_files_are_received(rt: HostRuntime) -> Result<(), Fail> {
+    let nothing = format!(in rt.alloc();
+        "{{\"digest\":\"{DIGEST_OF_NOTHING}\",\"outcome\":\"taken\"}}"
+    )?;
+    let abc = format!(in rt.alloc();
+        "{{\"digest\":\"{DIGEST_OF_ABC}\",\"outcome\":\"rejected\",\"record\":1,\"rule\":2}}"
+    )?;
+    holds(
+        &rt,
+        &[
+            post(
+                "/custodians/1003/volumes/1",
+                "",
+                CREATED,
+                "{\"outcome\":\"rejected\",\"record\":1,\"rule\":1}",
+            ),
+            post("/custodians/1003/volumes/1", "abc", CONFLICT, &nothing),
+            post(
+                "/custodians/1002/volumes/1",
+                "abc",
+                CREATED,
+                "{\"outcome\":\"rejected\",\"record\":1,\"rule\":2}",
+            ),
+            get("/custodians/1002/volumes/1", OK, &abc),
+            post(
+                "/custodians/1001/volumes/1",
+                TRAILER_SHORT,
+                CREATED,
+                "{\"outcome\":\"rejected\",\"record\":1,\"rule\":3}",
+            ),
+        ],
+    )?;
+    holds(
+        &rt,
+        &[
+            post(
+                "/custodians/1002/volumes/1",
+                TRAILER_SHORT,
+                CREATED,
+                "{\"outcome\":\"rejected\",\"record\":3,\"rule\":8}",
+            ),
+            post(
+                "/custodians/1002/volumes/2",
+                TRAILER_MISSING,
+                CREATED,
+                "{\"outcome\":\"rejected\",\"record\":3,\"rule\":8}",
+            ),
+            post(
+                "/custodians/1002/volumes/3",
+                TRAILER_TWICE,
+                CREATED,
+                "{\"outcome\":\"rejected\",\"record\":4,\"rule\":8}",
+            ),
+        ],
+    )
+}
+
+#[test]
+fn sizes_and_volumes_have_limits(rt: HostRuntime) -> Result<(), Fail> {
+    let mut hub = Hub::new(rt.alloc());
+    let wide = vec![in rt.alloc(); b'a'; 1_048_576]?;
+    let case = Case {
+        method: "POST",
+        target: "/custodians/1001/volumes/1",
+        body: &wide,
+        status: CREATED,
+        reply: "",
+    };
+    let request = request_of(rt.alloc(), &case)?;
+    let got = written(rt.alloc(), &mut hub, &request, 2);
+    let wanted = reply_of(
+        rt.alloc(),
+        CREATED,
+        "",
+        "{\"outcome\":\"rejected\",\"record\":1,\"rule\":2}",
+    )?;
+    assert_eq!(rt; got.as_slice(), wanted.as_bytes());
+    let large = b"POST /custodians/1001/volumes/2 HTTP/1.1\r\nContent-Length: 1048577\r\n\r\n";
+    let got = written(rt.alloc(), &mut hub, large, 2);
+    let wanted = reply_of(
+        rt.alloc(),
+        "413 Content Too Large",
+        "Connection: close\r\n",
+        "{\"refusal\":13}",
+    )?;
+    assert_eq!(rt; got.as_slice(), wanted.as_bytes());
+    for case in [
+        get("/custodians/1001/volumes/2", NOT_FOUND, "{\"refusal\":17}"),
+        post(
+            "/custodians/1001/volumes/999999",
+            "abc",
+            CREATED,
+            "{\"outcome\":\"held\",\"wants\":{\"custodian\":1001,\"volume\":2}}",
+        ),
+        post(
+            "/custodians/1001/volumes/1000000",
+            "abc",
+            NOT_FOUND,
+            "{\"refusal\":12}",
+        ),
+        post(
+            "/custodians/9999/volumes/x",
+            "abc",
+            NOT_FOUND,
+            "{\"refusal\":11}",
+        ),
+        post(
+            "/custodians/12345/volumes/1",
+            "abc",
+            NOT_FOUND,
+            "{\"refusal\":11}",
+        ),
+        get("/custodians/9999", NOT_FOUND, "{\"refusal\":11}"),
+        get("/nothing", NOT_FOUND, "{\"refusal\":41}"),
+    ] {
+        let request = request_of(rt.alloc(), &case)?;
+        let got = written(rt.alloc(), &mut hub, &request, 2);
+        let wanted = reply_of(rt.alloc(), case.status, "", case.reply)?;
+        assert_eq!(rt; got.as_slice(), wanted.as_bytes(), "{}", case.target);
+    }
+    Ok(())
+}
+
+#[test]
+fn prefixes_are_named_by_their_first_fault(rt: HostRuntime) -> Result<(), Fail> {
+    for size in 0..=STREET_101.len() {
+        let wanted = match size {
+            0 => "{\"outcome\":\"rejected\",\"record\":1,\"rule\":1}",
+            1..=21 => "{\"outcome\":\"rejected\",\"record\":1,\"rule\":2}",
+            22 | 23 => "{\"outcome\":\"rejected\",\"record\":2,\"rule\":8}",
+            24..=46 => "{\"outcome\":\"rejected\",\"record\":2,\"rule\":5}",
+            49 => "{\"outcome\":\"rejected\",\"record\":3,\"rule\":5}",
+            47..=51 => "{\"outcome\":\"rejected\",\"record\":3,\"rule\":8}",
+            _ => APPLIED,
+        };
+        let case = Case {
+            method: "POST",
+            target: "/custodians/1001/volumes/1",
+            body: STREET_101.as_bytes().get(..size).ok_or("too long")?,
+            status: CREATED,
+            reply: wanted,
+        };
+        holds(&rt, &[case])?;
+    }
+    Ok(())
+}
+
+#[test]
+fn what_breaks_the_framing_is_refused(rt: HostRuntime) -> Result<(), Fail> {
+    let path = "/custodians/1001/volumes/1";
+    for (method, headers, body, status, number) in [
+        (
+            "POST",
+            "Content-Length: 53\r\n",
+            "10,1,1001,",
+            "400 Bad Request",
+            40u8,
+        ),
+        ("POST", "", "", "411 Length Required", 43),
+        (
+            "POST",
+            "Transfer-Encoding: chunked\r\nContent-Length: 1\r\n",
+            "a",
+            "411 Length Required",
+            43,
+        ),
+        (
+            "POST",
+            "Content-Length: 1\r\ncontent-length: 1\r\n",
+            "a",
+            "400 Bad Request",
+            40,
+        ),
+        ("POST", "Content-Length: +1\r\n", "a", "400 Bad Request", 40),
+        (
+            "POST",
+            "Content-Length: 99999999999999999999\r\n",
+            "",
+            "413 Content Too Large",
+            13,
+        ),
+        ("POST", "Bad Header: x\r\n", "", "400 Bad Request", 40),
+    ] {
+        let mut hub = Hub::new(rt.alloc());
+        let request = format!(in rt.alloc(); "{method} {path} HTTP/1.1\r\n{headers}\r\n{body}")?;
+        let got = written(rt.alloc(), &mut hub, request.as_bytes(), 2);
+        let refusal = format!(in rt.alloc(); "{{\"refusal\":{number}}}")?;
+        let wanted = reply_of(rt.alloc(), status, "Connection: close\r\n", &refusal)?;
+        assert_eq!(rt; got.as_slice(), wanted.as_bytes(), "{headers}");
+        let after = written(
+            rt.alloc(),
+            &mut hub,
+            b"GET /custodians/1001/volumes/1 HTTP/1.1\r\n\r\n",
+            2,
+        );
+        let wanted = reply_of(rt.alloc(), NOT_FOUND, "", "{\"refusal\":17}")?;
+        assert_eq!(rt; after.as_slice(), wanted.as_bytes(), "{headers}");
+    }
+    let mut hub = Hub::new(rt.alloc());
+    let got = written(
+        rt.alloc(),
+        &mut hub,
+        b"PUT /custodians/1001 HTTP/1.1\r\n\r\n",
+        2,
+    );
+    let wanted = reply_of(
+        rt.alloc(),
+        "405 Method Not Allowed",
+        "Allow: GET\r\n",
+        "{\"refusal\":42}",
+    )?;
+    assert_eq!(rt; got.as_slice(), wanted.as_bytes());
+    Ok(())
+}
+
+#[test]
+fn a_conversation_ends_as_it_is_told(rt: HostRuntime) -> Result<(), Fail> {
+    let three = b"GET /n HTTP/1.1\r\n\r\nGET /n HTTP/1.1\r\n\r\nGET /n HTTP/1.1\r\n\r\n";
+    let plain = reply_of(rt.alloc(), NOT_FOUND, "", "{\"refusal\":41}")?;
+    let last = reply_of(
+        rt.alloc(),
+        NOT_FOUND,
+        "Connection: close\r\n",
+        "{\"refusal\":41}",
+    )?;
+    let mut hub = Hub::new(rt.alloc());
+    let mut reader = three.as_slice();
+    let mut out = Vec::new(rt.alloc());
+    let served = converse(rt.alloc(), &mut reader, &mut out, &mut hub, 2).map_err(|_| "stopped")?;
+    assert!(rt; served.requests == 2 && matches!(served.ended, Ended::Most));
+    let wanted = format!(in rt.alloc(); "{plain}{last}")?;
+    assert_eq!(rt; out.as_slice(), wanted.as_bytes());
+    let closing = b"GET /n HTTP/1.1\r\nConnection: x, Close\r\n\r\nGET /n HTTP/1.1\r\n\r\n";
+    let mut reader = closing.as_slice();
+    let mut out = Vec::new(rt.alloc());
+    let served = converse(rt.alloc(), &mut reader, &mut out, &mut hub, 3).map_err(|_| "stopped")?;
+    assert!(rt; served.requests == 1 && matches!(served.ended, Ended::Closed));
+    assert_eq!(rt; out.as_slice(), last.as_bytes());
+    Ok(())
+}
