@@ -6,6 +6,7 @@ import re
 import sys
 import time
 
+MOST = 100_000
 OWN = [(100, 199), (99_999_999, 99_999_999)]
 DAY = re.compile(r"\d{4}-\d\d-\d\d\Z", re.ASCII)
 
@@ -108,27 +109,85 @@ def outcome(data):
     return b'{"outcome":"rejected","record":%d,"rule":%d}\n' % fault
 
 
-def answer(source, sink):
-    """Answers POSTs to /custodians/1001/volumes/1, reading each file again for its outcome."""
-    received = None
-    while True:
+REQUEST = re.compile(rb"([!#$%&'*+.^_`|~0-9A-Za-z-]+) ([!-~\x80-\xff]+) HTTP/1\.([01])\r?\n\Z")
+HEADER = re.compile(rb"([!#$%&'*+.^_`|~0-9A-Za-z-]+):[ \t]*([\t -~\x80-\xff]*?)[ \t]*\r?\n\Z")
+
+
+def head_of(source):
+    """Method, target, minor version and headers of the next request; None at the end of the input, False for no head."""
+    size, line = 0, source.readline()
+    while line in (b"\r\n", b"\n"):
+        size += len(line)
         line = source.readline()
-        if not line:
-            return
-        method, target, _ = line.split()
-        headers = {}
-        while (line := source.readline()) not in (b"\r\n", b"\n"):
-            name, _, value = line.partition(b":")
-            headers[name.strip().lower()] = value.strip()
-        body = source.read(int(headers[b"content-length"]))
-        _, custodians, code, volumes, volume = target.split(b"/")
-        assert (method, custodians, int(code), volumes, int(volume)) == (b"POST", b"custodians", 1001, b"volumes", 1)
-        status = b"201 Created" if received is None else b"200 OK"
-        if received is None:
-            received = body
-        assert received == body
-        text = outcome(received)
-        sink.write(b"HTTP/1.1 %s\r\nContent-Type: application/json\r\nContent-Length: %d\r\n\r\n%s" % (status, len(text), text))
+    if not line:
+        return None
+    found = REQUEST.match(line)
+    headers = []
+    while found and (line := source.readline()) not in (b"\r\n", b"\n"):
+        size += len(line)
+        header = HEADER.match(line)
+        if header is None or len(headers) == 32 or size > 8192:
+            return False
+        headers.append((header[1].lower(), header[2]))
+    return found and (*found.groups(), headers)
+
+
+def length_of(method, headers):
+    """The body's length, or the refusal of it."""
+    lengths = [value for name, value in headers if name == b"content-length"]
+    if any(name == b"transfer-encoding" for name, _ in headers):
+        return None, (b"411 Length Required", 43)
+    if len(lengths) > 1 or (lengths and not lengths[0].isdigit()):
+        return None, (b"400 Bad Request", 40)
+    if not lengths:
+        return (None, (b"411 Length Required", 43)) if method == b"POST" else (0, None)
+    size = int(lengths[0])
+    return (None, (b"413 Content Too Large", 13)) if size > 1_048_576 else (size, None)
+
+
+def is_closing(minor, headers):
+    elements = (e.strip(b" \t").lower() for name, value in headers if name == b"connection" for e in value.split(b","))
+    return minor == b"0" or b"close" in elements
+
+
+def reply(sink, status, text, closes):
+    close = b"Connection: close\r\n" if closes else b""
+    head = b"HTTP/1.1 %s\r\nContent-Type: application/json\r\nContent-Length: %d\r\n%s\r\n" % (status, len(text), close)
+    sink.write(head + text)
+
+
+def answer_to(target, body, received):
+    """The status and body of the reply to a POST, and what stands at 1001/1 afterwards."""
+    segments = target.split(b"/")
+    if len(segments) != 5 or segments[1] != b"custodians" or segments[3] != b"volumes":
+        return b"404 Not Found", b'{"refusal":41}\n', received
+    if number(segments[2].decode(), 4, 1, 9999) != 1001:
+        return b"404 Not Found", b'{"refusal":11}\n', received
+    if number(segments[4].decode(), 6, 1, 999_999) != 1:
+        return b"404 Not Found", b'{"refusal":12}\n', received
+    status = b"201 Created" if received is None else b"200 OK"
+    received = received or body
+    assert received == body
+    return status, outcome(received), received
+
+
+def answer(source, sink):
+    """Answers POSTs in turn, reading the file of 1001/1 again for each outcome."""
+    received = None
+    for count in range(1, MOST + 1):
+        head = head_of(source)
+        if not head:
+            return head is None or reply(sink, b"400 Bad Request", b'{"refusal":40}\n', True)
+        method, target, minor, headers = head
+        size, refusal = length_of(method, headers)
+        if refusal:
+            return reply(sink, refusal[0], b'{"refusal":%d}\n' % refusal[1], True)
+        body = source.read(size)
+        closes = count == MOST or is_closing(minor, headers)
+        status, text, received = answer_to(target, body, received)
+        reply(sink, status, text, closes)
+        if closes:
+            return None
 
 
 def best_reading(data, rounds):
