@@ -18,23 +18,22 @@ const DIGEST: Digest = [
 #[test]
 fn files_are_judged_and_told(rt: HostRuntime) -> Result<(), Fail> {
     let mut hub = Hub::new(rt.alloc());
-    let applied = Outcome::Applied;
-    assert_eq!(rt; hub.submit(1001, 1, STREET_101), Answer::New(applied));
-    assert_eq!(rt; hub.submit(1001, 1, STREET_101), Answer::Repeat(applied));
+    assert_eq!(rt; hub.submit(1001, 1, STREET_101), Answer::New(Outcome::Applied));
+    assert_eq!(rt; hub.submit(1001, 1, STREET_101), Answer::Repeat(Outcome::Applied));
     assert_eq!(rt; hub.submit(1001, 1, A_DAY_LATER), Answer::Taken { digest: DIGEST });
-    assert_eq!(rt; hub.outcome(1001, 1), Ok(Some((DIGEST, applied))));
-    let no_record = Outcome::Rejected { place: 1, rule: 1 };
-    assert_eq!(rt; hub.submit(1003, 1, b""), Answer::New(no_record));
+    assert_eq!(rt; hub.outcome(1001, 1), Ok(Some((DIGEST, Outcome::Applied))));
+    let no_record = Answer::New(Outcome::Rejected { place: 1, rule: 1 });
+    assert_eq!(rt; hub.submit(1003, 1, b""), no_record);
     let custodian = Code::of(1002).ok_or("code")?;
     let volume = Volume::of(1).ok_or("volume")?;
-    let held = Outcome::Held { custodian, volume };
-    assert_eq!(rt; hub.submit(1002, 3, b"abc"), Answer::New(held));
+    let held = Answer::New(Outcome::Held { custodian, volume });
     let standing = Standing {
         custodian,
         held: 1,
         judged: 0,
         wants: Some((custodian, volume)),
     };
+    assert_eq!(rt; hub.submit(1002, 3, b"abc"), held);
     assert_eq!(rt; hub.status(1002), Ok(standing));
     assert_eq!(rt; hub.status(9999), Err(Refusal::UnknownCustodian));
     assert_eq!(rt; hub.submit(1001, 0, b""), Answer::Refused(Refusal::BadVolume));

@@ -8,7 +8,7 @@ fn a_row_with_quotes_reads_back(rt: HostRuntime) -> Result<(), Fail> {
     assert_eq!(rt; text.as_slice(), b"a,\"b,c\",\"d\"\"e\"".as_slice());
     let row = read_row(rt.alloc(), &text)?.ok_or("a row")?;
     assert_eq!(rt; row.len(), 3);
-    assert!(rt; row.get(1).is_some_and(|field| field == b"b,c"));
-    assert!(rt; row.get(2).is_some_and(|field| field == b"d\"e"));
+    assert!(rt; row.get(1).is_some_and(|field| field == b"b,c".as_slice()));
+    assert!(rt; row.get(2).is_some_and(|field| field == b"d\"e".as_slice()));
     Ok(())
 }
