@@ -1,5 +1,5 @@
 -- A conversation, turn by turn.
-use Rattle.std.proofs.Common.{◌≡◌, ℕ, suc, ◌+◌, ◌-◌, ◌<◌, ◌≤◌, Bool, true, false, List, [], ◌∷◌, ◌++◌, length, Option, Some, None, Ok, Err, ◌⊎◌, inl, inr, refl, ap, sym, ◌∙◌, arith, append_assoc, append-nil, length-append}
+use Rattle.std.proofs.Common.{◌≡◌, ℕ, ◌+◌, ◌-◌, ◌<◌, ◌≤◌, Bool, true, false, List, [], ◌∷◌, ◌++◌, length, Option, Ok, Err, ◌⊎◌, inl, inr, refl, ap, sym, ◌∙◌, arith, append-nil, length-append}
 use Rattle.std.specs.Prelude.{◌&&◌, ◌||◌, not, nat_lt, ◌==◌, if◌then◌else◌}
 use Rattle.std.specs.Io.KnownBytes.{Appends, Consumes}
 use Rattle.std.proofs.KnownBytes.{Appends-nil, Appends-trans, Consumes-nil, Consumes-trans}
@@ -8,11 +8,11 @@ use Rattle.std.proofs.lemmas.List.Elements.{filter_map-append}
 use Rattle.gaz_hub.specs.Sample.{sample_door}
 use Rattle.gaz_hub.specs.Runs.{Run}
 use Rattle.gaz_hub.specs.Step.{HubState}
-use Rattle.gaz_exchange.specs.Conversing.{Conversation, ComesTo, EndsAnswered, EndsAs, EndsRefused, ended_after}
-use Rattle.gaz_exchange.specs.Exchanges.{Comes, Exchange, IsExchanged, all_open, command_in, commands_of, ends_after, goes_on, replies, responses_of}
+use Rattle.gaz_exchange.specs.Conversing.{Conversation, EndsAnswered, EndsAs, EndsRefused, ended_after}
+use Rattle.gaz_exchange.specs.Exchanges.{Comes, Exchange, all_open, command_in, commands_of, ends_after, goes_on, replies, responses_of}
 use Rattle.gaz_exchange.specs.Framing.{is_closing}
 use Rattle.gaz_exchange.specs.Refusals.{IsTurnedAway}
-use Rattle.gaz_exchange.specs.Turns.{Exchanges, IsTurn, TurnsOut}
+use Rattle.gaz_exchange.specs.Turns.{Exchanges, IsTurn}
 use Rattle.gaz_exchange.specs.declared.conversation.Cause.{Cause}
 use Rattle.gaz_exchange.specs.declared.conversation.Cause.TheVariants.{ReadFault, WriteFault}
 use Rattle.gaz_exchange.specs.declared.conversation.Ended.{Ended}

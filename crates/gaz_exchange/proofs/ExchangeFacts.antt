@@ -1,12 +1,12 @@
 -- Exchanges, one after the other.
-use Rattle.std.proofs.Common.{◌≡◌, ℕ, zero, suc, ◌+◌, ◌-◌, ◌<◌, ◌≤◌, Bool, true, false, cond, List, [], ◌∷◌, ◌++◌, length, Option, Some, None, refl, ap, sym, ◌∙◌, arith, append_assoc, append-nil, length-append}
+use Rattle.std.proofs.Common.{◌≡◌, ℕ, suc, ◌-◌, ◌<◌, Bool, true, false, List, [], ◌∷◌, ◌++◌, length, refl, ap, sym, ◌∙◌, arith, append_assoc, append-nil, length-append}
 use Rattle.std.specs.Prelude.{◌&&◌, ◌||◌, not, nat_lt, ◌==◌, IsTrue}
-use Rattle.std.specs.List.{list_all, filter_map, flat_map, cons_option}
+use Rattle.std.specs.List.{list_all}
 use Rattle.std.proofs.lemmas.Bool.Decides.{nat_tests}
 use Rattle.std.proofs.lemmas.List.Folds.{list_all-append}
 use Rattle.gaz_hub.specs.Runs.{Run}
-use Rattle.gaz_hub.specs.Step.{Door, HubState, Command, Response, Step}
-use Rattle.gaz_exchange.specs.Exchanges.{BeginsWithRequest, Comes, Exchange, IsExchanged, command_in, commands_of, all_open, ends_after, goes_on, replies, responses_of}
+use Rattle.gaz_hub.specs.Step.{Door, HubState, Command, Response}
+use Rattle.gaz_exchange.specs.Exchanges.{BeginsWithRequest, Comes, Exchange, IsExchanged, all_open, ends_after, goes_on, replies}
 use Rattle.gaz_exchange.specs.Framing.{is_closing}
 use Rattle.gaz_exchange.proofs.IncomingFacts.{begins_more}
 

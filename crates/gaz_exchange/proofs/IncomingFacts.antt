@@ -1,14 +1,13 @@
 -- A request as it is read.
-use Rattle.std.proofs.Common.{◌≡◌, ℕ, Bool, true, false, List, ◌++◌, length, drop, Option, ◌<◌, ◌≤◌, ◌⊎◌, inl, inr, arith, refl, ◌∙◌, sym, ap, rules}
+use Rattle.std.proofs.Common.{◌≡◌, ℕ, true, false, List, ◌++◌, Option, ◌⊎◌, inl, inr, arith, ◌∙◌, sym, ap}
 use Rattle.std.specs.Io.KnownBytes.{IsAtEnd}
 use Rattle.httparse.specs.Grammar.{RequestHead}
 use Rattle.httparse.proofs.GrammarLemmas.{ReadsRequest-append}
-use Rattle.gaz_exchange.specs.Exchanges.{BeginsWithRequest}
 use Rattle.gaz_exchange.specs.Framing.{length_of}
-use Rattle.gaz_exchange.specs.Heads.{BeginsWith, IsOver, NeverHead, NoHead, is_blank}
+use Rattle.gaz_exchange.specs.Heads.{BeginsWith, IsOver, NeverHead, NoHead}
 use Rattle.gaz_exchange.specs.Incoming.{CantRead, IsBehind, IsIncoming, IsNeeded}
 use Rattle.gaz_exchange.specs.Next.{IsMore}
-use Rattle.gaz_exchange.specs.Refusals.{HasBadLength, HasHead, IsRefused, IsUnfinished, no_head, cut_head, bad_length, cut_body, no_memory}
+use Rattle.gaz_exchange.specs.Refusals.{HasHead, IsRefused, no_head, cut_head, bad_length, cut_body, no_memory}
 use Rattle.gaz_exchange.specs.declared.fault.Fault.{Fault}
 use Rattle.gaz_exchange.specs.declared.fault.Fault.TheVariants.{BadRequest}
 use Rattle.gaz_exchange.specs.declared.framing.Framing.{Framing}

@@ -6,3 +6,6 @@ pub mod IncomingFacts
 pub mod ExchangeFacts
 pub mod TurnFacts
 pub mod ConversationFacts
+pub mod SeekFacts
+pub mod RouteFacts
+pub mod WalkFacts

@@ -1,5 +1,5 @@
 -- Bytes that come and go.
-use Rattle.std.proofs.Common.{◌≡◌, ℕ, ◌+◌, Bool, true, false, Option, List, ◌++◌, take, drop, ap, ◌∙◌, sym, append_assoc, take-append-drop}
+use Rattle.std.proofs.Common.{◌≡◌, ℕ, ◌+◌, false, Option, List, ◌++◌, take, drop, ap, ◌∙◌, sym, append_assoc, take-append-drop}
 use Rattle.std.proofs.Math.Seq.{take-add}
 use Rattle.std.proofs.KnownBytes.{Appends-trans}
 use Rattle.std.specs.Io.KnownBytes.{Appends}

@@ -1,23 +1,18 @@
 -- One turn of a conversation.
-use Rattle.std.proofs.Common.{◌≡◌, ℕ, Bool, true, false, List, [], ◌∷◌, ◌++◌, Option, Some, None, Result, Ok, Err, ◌⊎◌, inl, inr, refl, ap, sym, ◌∙◌, append-nil}
+use Rattle.std.proofs.Common.{◌≡◌, ℕ, Bool, true, false, List, [], ◌++◌, Option, Some, None, Result, Ok, Err, inl, inr, refl, ap, sym, ◌∙◌, append-nil}
 use Rattle.std.specs.Prelude.{◌||◌}
-use Rattle.std.specs.Io.KnownBytes.{Appends, Consumes}
+use Rattle.std.specs.Io.KnownBytes.{Consumes}
 use Rattle.httparse.specs.Grammar.{RequestHead}
-use Rattle.gaz_hub.specs.Sample.{sample_door}
-use Rattle.gaz_hub.specs.Runs.{Run}
-use Rattle.gaz_hub.specs.Step.{Command, HubState, Response, Step}
+use Rattle.gaz_hub.specs.Step.{HubState}
 use Rattle.gaz_exchange.specs.Asking.{asked, call_at, command_of, method_of, with_body}
-use Rattle.gaz_exchange.specs.Exchanges.{BeginsWithRequest, Exchange, IsExchanged, IsReplyTo, commands_of, responses_of}
+use Rattle.gaz_exchange.specs.Exchanges.{BeginsWithRequest, Exchange, IsReplyTo}
 use Rattle.gaz_exchange.specs.Framing.{is_closing}
 use Rattle.gaz_exchange.specs.Incoming.{IsCall}
-use Rattle.gaz_exchange.specs.Refusals.{IsRefused, IsTurnedAway}
+use Rattle.gaz_exchange.specs.Refusals.{IsRefused}
 use Rattle.gaz_exchange.specs.Replies.{IsReplyText, is_received, memory_fault, reply_text}
-use Rattle.gaz_exchange.specs.Sending.{IsPut}
 use Rattle.gaz_exchange.specs.Targets.{Target, Volume, Custodian, Nowhere, target_of}
-use Rattle.gaz_exchange.specs.Turns.{Answers, Asks, Exchanges, IsAsked, IsTurn, Refuses, TurnsOut, turn_of}
-use Rattle.gaz_exchange.specs.declared.conversation.Cause.TheVariants.{ReadFault, WriteFault}
+use Rattle.gaz_exchange.specs.Turns.{Answers, Asks, Exchanges, IsTurn, Refuses, TurnsOut, turn_of}
 use Rattle.gaz_exchange.specs.declared.conversation.Turn.{Turn}
-use Rattle.gaz_exchange.specs.declared.conversation.Turn.TheVariants.{Answered, Closed, Over, Stopped}
 use Rattle.gaz_exchange.specs.declared.fault.Allowed.TheVariants as allowed
 use Rattle.gaz_exchange.specs.declared.fault.Allowed.TheVariants.{GetAndPost}
 use Rattle.gaz_exchange.specs.declared.route.Method.{Method}

@@ -1,7 +1,9 @@
 -- The routes as the router holds them.
-use Rattle.std.specs.Prelude.{ℕ, List, [], ◌∷◌, ◌++◌, codes}
+use Rattle.std.specs.Prelude.{◌≡◌, ℕ, List, [], ◌∷◌, ◌++◌, codes}
 use Rattle.matchit.specs.Rows.{RowsOf, param_token}
 use Rattle.matchit.specs.Router.{RouteOf}
+use Rattle.matchit.specs.Params.{AllText, walk}
+use Rattle.matchit.specs.declared.params.Params.{Params}
 use Rattle.gaz_exchange.specs.declared.route.Place.{Place}
 use Rattle.gaz_exchange.specs.declared.route.Place.TheVariants.{Custodian, Volume}
 
@@ -25,3 +27,12 @@ custodian_route = record {
 
 abbrev pub routes : RowsOf (RouteOf Place)
 routes = (volume_route.pattern, volume_route) ∷ (custodian_route.pattern, custodian_route) ∷ []
+
+-- each parameter with the part of the target that it took
+abbrev pub parts_of : Params → List (List ℕ × List ℕ)
+parts_of p = walk p.pattern.now p.text.now p.path.now p.names.now 0 0
+
+-- the parameters took these segments
+pub record Took (p : Params) (taken : List (List ℕ × List ℕ)) : Type 0 where
+  pub parts : parts_of p ≡ taken
+  pub texts : AllText (parts_of p)

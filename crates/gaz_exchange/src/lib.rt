@@ -14,3 +14,6 @@ mod route;
 mod send;
 
 pub use conversation::{Cause, Ended, Served, Stopped, converse};
+
+#[cfg(test)]
+mod tests;

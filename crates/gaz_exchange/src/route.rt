@@ -1,14 +1,15 @@
-ghost use Rattle.std.specs.Prelude.{◌≡◌, ◌<◌, IfSome, IsUtf8, length, position};
+ghost use Rattle.std.specs.Prelude.{◌≡◌, ◌∷◌, [], ℕ, List, Some, codes, IfSome, IsUtf8};
 ghost use Rattle.std.specs.Option.{ForSome};
+ghost use Rattle.matchit.specs.Params.{AllText, named as part_named};
 ghost use Rattle.gaz_exchange.specs.Asking.{call_at, method_of};
 ghost use Rattle.gaz_exchange.specs.Incoming.{IsCallAt};
-ghost use Rattle.gaz_exchange.specs.Routing.{routes};
-ghost use Rattle.gaz_exchange.specs.Targets as named;
-ghost use Rattle.gaz_exchange.specs.Targets.{behind, code_in, code_text, front, is_slash, target_of, volume_in, volume_text};
+ghost use Rattle.gaz_exchange.specs.Routing.{Took, parts_of, routes};
+ghost use Rattle.gaz_exchange.specs.Targets as seen;
+ghost use Rattle.gaz_exchange.specs.Targets.{code_in, target_of, volume_in};
 
 use crate::fault::{Allowed, Fault};
 use gaz_ids::{Code, Volume};
-use matchit::Router;
+use matchit::{Params, Router};
 use std::alloc::Global;
 
 /// What is at a target.
@@ -49,57 +50,16 @@ pub enum Call {
     Stand { code: u64 },
 }
 
-fn code_of(text: &[u8]) -> u64
+fn code_of(text: &str) -> u64
     ensures { result ≡ code_in text.now }
 {
-    Code::read(text).map_or(0, Code::number)
+    Code::read(text.as_bytes()).map_or(0, Code::number)
 }
 
-fn volume_of(text: &[u8]) -> u64
+fn volume_of(text: &str) -> u64
     ensures { result ≡ volume_in text.now }
 {
-    Volume::read(text).map_or(0, Volume::number)
-}
-
-// Where the first slash stands.
-fn slash_at(text: &[u8]) -> Option<usize>
-    ensures value { result ≡ position is_slash text.now }
-    ensures bound { IfSome result (λ at. at < length text.now) }
-{
-    text.iter().position(|byte| *byte == b'/')
-}
-
-// What stands up to the first slash.
-fn front(text: &[u8]) -> &[u8]
-    ensures { result.now ≡ front text.now }
-{
-    match slash_at(text) {
-        Some(at) => &text[..at],
-        None => text,
-    }
-}
-
-// What stands behind the first slash.
-fn behind(text: &[u8]) -> &[u8]
-    ensures { result.now ≡ behind text.now }
-{
-    match slash_at(text) {
-        Some(at) => &text[at + 1..],
-        None => &[],
-    }
-}
-
-// The code in a target, as in `/custodians/1001/volumes/1`.
-fn code_text(target: &[u8]) -> &[u8]
-    ensures { result.now ≡ code_text target.now }
-{
-    front(behind(behind(target)))
-}
-
-fn volume_text(target: &[u8]) -> &[u8]
-    ensures { result.now ≡ volume_text target.now }
-{
-    front(behind(behind(behind(behind(target)))))
+    Volume::read(text.as_bytes()).map_or(0, Volume::number)
 }
 
 fn make_router(alloc: Global) -> Option<Router<Place>>
@@ -116,11 +76,19 @@ fn make_router(alloc: Global) -> Option<Router<Place>>
     }
 }
 
-fn volume_call(target: &[u8], method: Method) -> Result<Call, Fault>
-    ensures { result ≡ call_at (named.Volume (code_text target.now) (volume_text target.now)) method }
+// The part of the target that a parameter took.
+fn taken<'v>(params: &Params<'_, 'v>, name: &str) -> &'v str
+    ensures { AllText (parts_of params.now) → (part : List ℕ) → part_named name.now (parts_of params.now) ≡ Some part → result.now ≡ part }
 {
-    let code = code_of(code_text(target));
-    let volume = volume_of(volume_text(target));
+    params.get(name).unwrap_or("")
+}
+
+// What a request asks of a custodian's volume.
+fn volume_call(params: &Params<'_, '_>, method: Method) -> Result<Call, Fault>
+    ensures { (c v : List ℕ) → Took params.now ((codes "c", c) ∷ (codes "v", v) ∷ []) → result ≡ call_at (seen.Volume c v) method }
+{
+    let code = code_of(taken(params, "c"));
+    let volume = volume_of(taken(params, "v"));
     match method {
         Method::Post => Ok(Call::Submit { code, volume }),
         Method::Get => Ok(Call::Ask { code, volume }),
@@ -128,30 +96,28 @@ fn volume_call(target: &[u8], method: Method) -> Result<Call, Fault>
     }
 }
 
-fn custodian_call(target: &[u8], method: Method) -> Result<Call, Fault>
-    ensures { result ≡ call_at (named.Custodian (code_text target.now)) method }
+// What a request asks of a custodian.
+fn custodian_call(params: &Params<'_, '_>, method: Method) -> Result<Call, Fault>
+    ensures { (c : List ℕ) → Took params.now ((codes "c", c) ∷ []) → result ≡ call_at (seen.Custodian c) method }
 {
+    let code = code_of(taken(params, "c"));
     match method {
-        Method::Get => Ok(Call::Stand {
-            code: code_of(code_text(target)),
-        }),
+        Method::Get => Ok(Call::Stand { code }),
         Method::Post | Method::Other => Err(Fault::BadMethod(Allowed::Get)),
     }
 }
 
-#[tactic(auto, unfolding(crate::specs::Targets::target_of))]
 // What a request asks of the hub.
 fn find_call(router: &Router<Place>, target: &str, method: Method) -> Result<Call, Fault>
     requires { router.now ≡ routes }
     ensures { result ≡ call_at (target_of target.now) method }
 {
-    let found = match router.at(target) {
-        Ok(found) => found,
-        Err(_) => return Err(Fault::NoRoute),
-    };
-    match *found.value {
-        Place::Volume => volume_call(target.as_bytes(), method),
-        Place::Custodian => custodian_call(target.as_bytes(), method),
+    match router.at(target) {
+        Ok(found) => match found.value {
+            Place::Volume => volume_call(&found.params, method),
+            Place::Custodian => custodian_call(&found.params, method),
+        },
+        Err(_) => Err(Fault::NoRoute),
     }
 }
 

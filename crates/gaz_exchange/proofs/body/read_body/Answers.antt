@@ -1,5 +1,4 @@
-use Rattle.std.proofs.Common.{rules, ◌≡◌, ◌∙◌, ◌≤◌, ◌<◌, ◌+◌, ◌-◌, ◌++◌, ℕ, List, [], length, drop, take, arith, refl, sym, length-append, length-take, true}
-use Rattle.std.specs.Result.{is_ok}
+use Rattle.std.proofs.Common.{◌++◌, take, arith, refl, length-append, length-take}
 use Rattle.std.proofs.KnownBytes.{Consumes-trans}
 use Rattle.gaz_exchange.proofs.StreamFacts.{body_more}
 use Rattle.gaz_exchange.proofs.body.read_body.Goals as goal

@@ -1,4 +1,4 @@
-use Rattle.std.proofs.Common.{arith, get_or, drop, ◌≡◌, ◌-◌, ◌+◌, ◌*◌}
+use Rattle.std.proofs.Common.{arith, get_or, drop, ◌-◌, ◌+◌, ◌*◌}
 use Rattle.gaz_ids.proofs.Numerals.{digit_at, number_step, grows}
 use Rattle.gaz_exchange.proofs.framing.limited_value.Goals as goal
 

@@ -1,4 +1,4 @@
-use Rattle.std.proofs.Common.{arith, inr, ◌<◌, ◌≤◌}
+use Rattle.std.proofs.Common.{arith, inr}
 use Rattle.gaz_exchange.proofs.HeadFacts.{never_too_long, no_from_none, never_from_long}
 use Rattle.gaz_exchange.proofs.heads.parse_head.Goals as goal
 

@@ -3,7 +3,6 @@ use Rattle.httparse.specs.Spans.{header_bytes}
 use Rattle.gaz_exchange.specs.Asking.{method_of}
 use Rattle.gaz_exchange.specs.Framing.{is_closing, is_post, is_post_method, length_of}
 use Rattle.gaz_exchange.specs.Headers.{headers_of}
-use Rattle.gaz_exchange.specs.Incoming.{IsCallAt}
 use Rattle.gaz_exchange.proofs.request.needed_of.Goals as goal
 
 pub returns : goal.returns

@@ -1,4 +1,4 @@
-use Rattle.std.proofs.Common.{◌+◌, arith, drop, length, length-drop}
+use Rattle.std.proofs.Common.{◌+◌, arith, length-drop}
 use Rattle.std.proofs.lemmas.List.{take_rest}
 use Rattle.std.proofs.KnownBytes.{Appends-kept}
 use Rattle.gaz_exchange.proofs.StreamFacts.{put_more, put_part}

@@ -1,4 +1,4 @@
-use Rattle.std.proofs.Common.{arith, length, rules, ◌-◌, ◌<◌, ◌≤◌, ◌≡◌, take, ap, ◌∙◌, sym, ◌++◌, length-drop, length-take}
+use Rattle.std.proofs.Common.{arith, length, rules, ◌-◌, ◌≡◌, take, ap, ◌∙◌, sym, ◌++◌, length-drop, length-take}
 use Rattle.gaz_exchange.proofs.Bytes.{filled}
 use Rattle.gaz_exchange.proofs.inlet.Inlet.fill.Goals as goal
 

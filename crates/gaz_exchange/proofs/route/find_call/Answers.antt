@@ -1,0 +1,26 @@
+use Rattle.std.proofs.Common.{◌∙◌, ap, arith, sym}
+use Rattle.gaz_exchange.specs.Asking.{call_at}
+use Rattle.gaz_exchange.proofs.RouteFacts.{named_nowhere}
+use Rattle.gaz_exchange.proofs.SeekFacts.{AllBytes}
+use Rattle.gaz_exchange.proofs.WalkFacts.{found_custodian, found_volume}
+use Rattle.gaz_exchange.proofs.route.find_call.Goals as goal
+
+pub returns-in-Err : goal.returns-in-Err
+returns-in-Err c =
+    let bytes : AllBytes c.args.target.now = λ i. omega (arith, c.type_inv.target i) in
+    let none = rw c.requires at c.in-Err.ensures.missing in
+    ap (λ t. call_at t c.args.method) (sym (named_nowhere c.args.target.now bytes none))
+
+pub returns-in-Volume : goal.returns-in-Volume
+returns-in-Volume c =
+    let bytes : AllBytes c.args.target.now = λ i. omega (arith, c.type_inv.target i) in
+    let found = rw c.requires at c.in-Ok.ensures.found in
+    let (code, volume, named, took) = found_volume c.args.target.now c.in-Ok.found.params c.in-Ok.found.value.now bytes c.utf8.target found c.in-Ok.ensures.path c.in-Volume.is in
+    c.volume_call.ensures code volume took ∙ ap (λ t. call_at t c.args.method) (sym named)
+
+pub returns-in-Custodian : goal.returns-in-Custodian
+returns-in-Custodian c =
+    let bytes : AllBytes c.args.target.now = λ i. omega (arith, c.type_inv.target i) in
+    let found = rw c.requires at c.in-Ok.ensures.found in
+    let (code, named, took) = found_custodian c.args.target.now c.in-Ok.found.params c.in-Ok.found.value.now bytes c.utf8.target found c.in-Ok.ensures.path c.in-Custodian.is in
+    c.custodian_call.ensures code took ∙ ap (λ t. call_at t c.args.method) (sym named)

@@ -1,0 +1,323 @@
+//! Conversations over fake readers and writers. The expected texts are those of docs/exchange.md and RFC 9112.
+
+use crate::{Cause, Ended, Served, Stopped, converse};
+use gaz_hub::Hub;
+use std::alloc::Global;
+use std::cell::Cell;
+use std::io::{self, ErrorKind, Read, Write};
+use std::test::Fail;
+
+/// Inserts street 101, as volume 1 of custodian 1001.
+const POST: &str =
+    "POST /custodians/1001/volumes/1 HTTP/1.1\r\nHost: hub\r\nContent-Length: 53\r\n\r\n10,1,1001,1,2024-01-02\n11,I,1,101,1,2001-04-01,\n99,1\n";
+
+const APPLIED: &str =
+    "HTTP/1.1 201 Created\r\nContent-Type: application/json\r\nContent-Length: 22\r\n\r\n{\"outcome\":\"applied\"}\n";
+
+const CUT: &str =
+    "HTTP/1.1 400 Bad Request\r\nContent-Type: application/json\r\nContent-Length: 15\r\nConnection: close\r\n\r\n{\"refusal\":40}\n";
+
+// Gives so many bytes a read at most, and fails at the end where it is told to.
+#[derive(Drop)]
+struct Pieces<'a> {
+    left: &'a [u8],
+    step: usize,
+    fails: bool,
+    reads: usize,
+}
+
+impl<'a> Pieces<'a> {
+    fn new(text: &'a str, step: usize, fails: bool) -> Pieces<'a> {
+        Pieces {
+            left: text.as_bytes(),
+            step,
+            fails,
+            reads: 0,
+        }
+    }
+}
+
+impl Read for Pieces<'_> {
+    fn read(&mut self, buf: &mut [u8]) -> io::Result<usize> {
+        self.reads = self.reads.saturating_add(1);
+        let n = self.left.len().min(self.step).min(buf.len());
+        if n == 0 && self.fails {
+            return Err(io::Error::from(ErrorKind::Interrupted));
+        }
+        let (front, rest) = self.left.split_at(n);
+        buf[..n].copy_from_slice(front);
+        self.left = rest;
+        Ok(n)
+    }
+}
+
+// Takes so many bytes in all, one a write, and then fails.
+#[derive(Drop)]
+struct Narrow {
+    taken: Vec<u8>,
+    most: usize,
+}
+
+impl Write for Narrow {
+    fn write(&mut self, buf: &[u8]) -> io::Result<usize> {
+        if self.taken.len() >= self.most {
+            return Err(io::Error::from(ErrorKind::Other));
+        }
+        match buf.first() {
+            Some(byte) => {
+                self.taken.push(*byte)?;
+                Ok(1)
+            }
+            None => Ok(0),
+        }
+    }
+
+    fn flush(&mut self) -> io::Result<()> {
+        Ok(())
+    }
+}
+
+// Sends each request only when the reply to the one before it was flushed, and else fails.
+#[derive(Drop)]
+struct Patient<'a> {
+    request: &'a [u8],
+    sent: usize,
+    most: usize,
+    flushed: &'a Cell<usize>,
+}
+
+impl Read for Patient<'_> {
+    fn read(&mut self, buf: &mut [u8]) -> io::Result<usize> {
+        if self.flushed.get() < self.sent {
+            return Err(io::Error::from(ErrorKind::WouldBlock));
+        }
+        let n = self.request.len().min(buf.len());
+        if self.sent >= self.most {
+            return Ok(0);
+        }
+        buf[..n].copy_from_slice(&self.request[..n]);
+        self.sent = self.sent.saturating_add(1);
+        Ok(n)
+    }
+}
+
+// Counts the flushes behind something written.
+#[derive(Drop)]
+struct Flushes<'a> {
+    held: bool,
+    flushed: &'a Cell<usize>,
+}
+
+impl Write for Flushes<'_> {
+    fn write(&mut self, buf: &[u8]) -> io::Result<usize> {
+        self.held = true;
+        Ok(buf.len())
+    }
+
+    fn flush(&mut self) -> io::Result<()> {
+        if self.held {
+            self.held = false;
+            self.flushed.set(self.flushed.get().saturating_add(1));
+        }
+        Ok(())
+    }
+}
+
+// What comes of a text, by reads of so many bytes.
+fn held(alloc: Global, r: &mut Pieces<'_>, most: u64) -> (Result<Served, Stopped>, Vec<u8>) {
+    let mut hub = Hub::new(alloc);
+    let mut out = Vec::new(alloc);
+    let ended = converse(alloc, r, &mut out, &mut hub, most);
+    (ended, out)
+}
+
+#[test]
+fn replies_are_told(rt: HostRuntime) -> Result<(), Fail> {
+    let close =
+        "HTTP/1.1 200 OK\r\nContent-Type: application/json\r\nContent-Length: 22\r\nConnection: close\r\n\r\n{\"outcome\":\"applied\"}\n";
+    let twice = format!(in rt.alloc(); "{POST}\r\n{POST}")?;
+    let both = format!(in rt.alloc(); "{APPLIED}{close}")?;
+    let most = Ok(Served {
+        requests: 2,
+        ended: Ended::Most,
+    });
+    for step in [1, 7, 100_000] {
+        let mut r = Pieces::new(&twice, step, true);
+        let (ended, out) = held(rt.alloc(), &mut r, 2);
+        assert_eq!(rt; ended, most, "reads of {step}");
+        assert_eq!(rt; out.as_slice(), both.as_bytes(), "reads of {step}");
+    }
+    let standing = "GET /custodians/1001 HTTP/1.0\n\n";
+    let told =
+        "HTTP/1.1 200 OK\r\nContent-Type: application/json\r\nContent-Length: 77\r\nConnection: close\r\n\r\n{\"custodian\":1001,\"held\":0,\"judged\":0,\"wants\":{\"custodian\":1001,\"volume\":1}}\n";
+    let (ended, out) = held(rt.alloc(), &mut Pieces::new(standing, 9, true), 9);
+    assert_eq!(rt;
+        ended,
+        Ok(Served {
+            requests: 1,
+            ended: Ended::Closed
+        })
+    );
+    assert_eq!(rt; out.len(), told.len());
+    assert_eq!(rt; out.as_slice(), told.as_bytes());
+    Ok(())
+}
+
+#[test]
+fn what_cannot_be_read_is_refused(rt: HostRuntime) -> Result<(), Fail> {
+    let closed = Ok(Served {
+        requests: 1,
+        ended: Ended::Closed,
+    });
+    let cut = "POST /custodians/1001/volumes/1 HTTP/1.1\r\nContent-Length: 53\r\n\r\n10,1,1001,";
+    let (ended, out) = held(rt.alloc(), &mut Pieces::new(cut, 64, false), 9);
+    assert_eq!(rt; ended, closed);
+    assert_eq!(rt; out.as_slice(), CUT.as_bytes());
+    for (text, status) in [
+        ("GET  / HTTP/1.1\r\n\r\n", "HTTP/1.1 400"),
+        ("GET / HTTP/1.1\r\nHost", "HTTP/1.1 400"),
+        ("POST / HTTP/1.1\r\n\r\n", "HTTP/1.1 411"),
+        (
+            "GET / HTTP/1.1\r\ntransfer-encoding:\r\nContent-Length: 0\r\n\r\n",
+            "HTTP/1.1 411",
+        ),
+        (
+            "POST / HTTP/1.1\r\nContent-Length: 0\r\ncontent-length: 0\r\n\r\n",
+            "HTTP/1.1 400",
+        ),
+        ("POST / HTTP/1.1\r\nContent-Length:\r\n\r\n", "HTTP/1.1 400"),
+        (
+            "POST / HTTP/1.1\r\nContent-Length: 1048577\r\n\r\n",
+            "HTTP/1.1 413",
+        ),
+        (
+            "POST / HTTP/1.1\r\nContent-Length: 99999999999999999999\r\n\r\n",
+            "HTTP/1.1 413",
+        ),
+    ] {
+        let (ended, out) = held(rt.alloc(), &mut Pieces::new(text, 64, false), 9);
+        assert_eq!(rt; ended, closed, "{text}");
+        assert!(rt; out.as_slice().starts_with(status.as_bytes()), "{text}");
+    }
+    Ok(())
+}
+
+#[test]
+fn routes_and_methods(rt: HostRuntime) -> Result<(), Fail> {
+    for (text, status) in [
+        (
+            "GET /custodians/1001/volumes/1 HTTP/1.1\r\n\r\n",
+            "HTTP/1.1 404",
+        ),
+        (
+            "PUT /custodians/x/volumes/0 HTTP/1.1\r\n\r\n",
+            "HTTP/1.1 405",
+        ),
+        (
+            "PUT /custodians/x HTTP/1.1\r\nConnection: keep-alive ,\t Close\r\n\r\n",
+            "HTTP/1.1 405",
+        ),
+        ("GET /custodians/ HTTP/1.1\r\n\r\n", "HTTP/1.1 404"),
+        (
+            "GET /custodians//volumes/1 HTTP/1.1\r\n\r\n",
+            "HTTP/1.1 404",
+        ),
+        (
+            "GET /custodians/1001/volumes/1/ HTTP/1.1\r\n\r\n",
+            "HTTP/1.1 404",
+        ),
+    ] {
+        let (ended, out) = held(rt.alloc(), &mut Pieces::new(text, 64, false), 9);
+        assert!(rt; ended.is_ok_and(|served| served.requests == 1), "{text}");
+        assert!(rt; out.as_slice().starts_with(status.as_bytes()), "{text}");
+    }
+    Ok(())
+}
+
+#[test]
+fn reads_are_few(rt: HostRuntime) -> Result<(), Fail> {
+    let mut r = Pieces::new(POST, 1, false);
+    let (ended, _) = held(rt.alloc(), &mut r, 9);
+    assert_eq!(rt;
+        ended,
+        Ok(Served {
+            requests: 1,
+            ended: Ended::InputEnd
+        })
+    );
+    assert_eq!(rt; r.reads, POST.len() + 1);
+    let mut r = Pieces::new(POST, 1, false);
+    let (ended, _) = held(rt.alloc(), &mut r, 0);
+    assert_eq!(rt;
+        ended,
+        Ok(Served {
+            requests: 0,
+            ended: Ended::Most
+        })
+    );
+    assert_eq!(rt; r.reads, 0);
+    Ok(())
+}
+
+#[test]
+fn faults_of_the_stream(rt: HostRuntime) -> Result<(), Fail> {
+    let (ended, out) = held(rt.alloc(), &mut Pieces::new(POST, 64, true), 9);
+    assert_eq!(rt;
+        ended,
+        Err(Stopped {
+            requests: 1,
+            cause: Cause::ReadFault
+        })
+    );
+    assert_eq!(rt; out.as_slice(), APPLIED.as_bytes());
+    for most in [0, 1, 97] {
+        let mut hub = Hub::new(rt.alloc());
+        let mut w = Narrow {
+            taken: Vec::new(rt.alloc()),
+            most,
+        };
+        let ended = converse(
+            rt.alloc(),
+            &mut Pieces::new(POST, 64, false),
+            &mut w,
+            &mut hub,
+            9,
+        );
+        assert_eq!(rt;
+            ended,
+            Err(Stopped {
+                requests: 0,
+                cause: Cause::WriteFault
+            })
+        );
+        assert_eq!(rt; w.taken.len(), most);
+        assert!(rt; APPLIED.as_bytes().starts_with(&w.taken));
+    }
+    Ok(())
+}
+
+#[test]
+fn a_reply_never_waits(rt: HostRuntime) -> Result<(), Fail> {
+    let flushed = Cell::new(0);
+    let mut r = Patient {
+        request: POST.as_bytes(),
+        sent: 0,
+        most: 3,
+        flushed: &flushed,
+    };
+    let mut w = Flushes {
+        held: false,
+        flushed: &flushed,
+    };
+    let mut hub = Hub::new(rt.alloc());
+    let ended = converse(rt.alloc(), &mut r, &mut w, &mut hub, 9);
+    assert_eq!(rt;
+        ended,
+        Ok(Served {
+            requests: 3,
+            ended: Ended::InputEnd
+        })
+    );
+    assert_eq!(rt; flushed.get(), 3);
+    Ok(())
+}
