@@ -7,3 +7,4 @@ pub mod Runs
 pub mod Judgings
 pub mod Replaying
 pub mod AnswerSteps
+pub mod Examples

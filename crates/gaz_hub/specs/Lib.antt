@@ -6,3 +6,4 @@ pub mod Runs
 pub mod Sample
 pub mod Judged
 pub mod Replays
+pub mod Examples

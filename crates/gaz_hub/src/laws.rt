@@ -1,4 +1,5 @@
 //! Laws over the definitions alone: whichever ready file is judged first, whatever commands come.
+ghost use Rattle.gaz_hub.specs.Examples.{WorkedExamples};
 ghost use Rattle.gaz_hub.specs.Runs.{EqualReceived, EveryRepeat, EveryRun, EverySettledRun, JudgementsStay};
 ghost use Rattle.gaz_hub.specs.Standing.{AnyOrder, MoreFiles, StandingIsSettled};
 
@@ -47,5 +48,11 @@ pub fn judgements_stay()
 /// Equal received sets leave equal boards, whatever came and in whatever order.
 pub fn equal_received()
     ensures { EqualReceived }
+{
+}
+
+/// What the definitions come to on worked examples.
+pub fn worked_examples()
+    ensures { WorkedExamples }
 {
 }

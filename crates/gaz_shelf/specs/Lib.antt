@@ -1,3 +1,4 @@
 pub mod View
 pub mod ViewCode
 pub mod Board
+pub mod Examples
