@@ -163,7 +163,7 @@ stands F k c volume held w r same known is e h =
     let D = standing sample_register F in
     let count : held ≡ held_count F D k = h ∙ ap (λ (n : ℕ). count_by (λ p. (p.0 == k) && not (nat_le p.1 n)) (map.keys F)) is.reached_is in
     let right : ◌≡◌ {A = Standing} (record { custodian = k; held = held; judged = r.reached; wants = w }) (status F D k) =
-      λ i. record { custodian = k; held = count i; judged = is.reached_is i; wants = (e ∙ is.wants_is) i } in
+    λ i. record { custodian = k; held = count i; judged = is.reached_is i; wants = (e ∙ is.wants_is) i } in
     record {
       let_in = rw known refl;
       received = refl;

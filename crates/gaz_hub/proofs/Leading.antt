@@ -39,9 +39,10 @@ same_judged G F bigger all B c h =
 
 leads_more : (G : Register) (F bigger : Received) → HasAllOf bigger F → (B : Board) (order : List ℕ) (C : Board) → Leads G F B order C → Leads G bigger B order C
 leads_more G F bigger all B [] C e = e
-leads_more G F bigger all B (c ∷ order) C l =
-    (more_ready F bigger all B c l.0,
-      subst (λ X. Leads G bigger X order C) (same_judged G F bigger all B c l.0) (leads_more G F bigger all (judge_one G F B c) order C l.1))
+leads_more G F bigger all B (c ∷ order) C l = (
+  more_ready F bigger all B c l.0,
+  subst (λ X. Leads G bigger X order C) (same_judged G F bigger all B c l.0) (leads_more G F bigger all (judge_one G F B c) order C l.1),
+)
 
 pub follows_more : (G : Register) (F bigger : Received) → HasAllOf bigger F → (B C : Board) → Follows G F B C → Follows G bigger B C
 follows_more G F bigger all B C f = record { order = f.order; leads = leads_more G F bigger all B f.order C f.leads }
@@ -56,7 +57,6 @@ follows_on G F A B C f g = record { order = f.order ++ g.order; leads = leads_on
 pub follows_itself : (G : Register) (F : Received) (B C : Board) → C ≡ B → Follows G F B C
 follows_itself G F B C e = record { order = []; leads = e }
 
-
 -- one judgement more
 pub partial_one : (G : Register) (F : Received) (B : Board) (c : ℕ) → ready F B c ≡ true → IsPartial G F B → IsPartial G F (judge_one G F B c)
 partial_one G F B c h partial = follows_on G F empty_board B (judge_one G F B c) partial (record { order = c ∷ []; leads = (h, refl) })
@@ -70,7 +70,7 @@ first_then G F B C c h f = record { order = c ∷ f.order; leads = (h, f.leads) 
 some_ready : (F : Received) (B : Board) → NothingReady F B ⊎ ((c : ℕ) × (ready F B c ≡ true))
 some_ready F B =
     elim (list_any (λ (e : (ℕ × ℕ) × List ℕ). ready F B e.0.0) (map.entries F))
-      as (λ b. list_any (λ (e : (ℕ × ℕ) × List ℕ). ready F B e.0.0) (map.entries F) ≡ b → NothingReady F B ⊎ ((c : ℕ) × (ready F B c ≡ true))) [
+    as (λ b. list_any (λ (e : (ℕ × ℕ) × List ℕ). ready F B e.0.0) (map.entries F) ≡ b → NothingReady F B ⊎ ((c : ℕ) × (ready F B c ≡ true))) [
       | true ↦ λ some. let one = some_of_any (λ (e : (ℕ × ℕ) × List ℕ). ready F B e.0.0) (map.entries F) some in inr (one.0.0.0, one.1)
       | false ↦ λ none. inl (none_ready F B none)
     ] refl
@@ -80,18 +80,18 @@ at_top G F B partial closed = follows_itself G F B (standing G F) (sym (any_orde
 
 climbs : (G : Register) (F : Received) (n : ℕ) (B : Board) → IsPartial G F B → map.len F ≤ done_count F B + n → Follows G F B (standing G F)
 climbs G F zero B partial few = elim (some_ready F B) [
-    | inl closed ↦ at_top G F B partial closed
-    | inr s ↦
-        let more = one_counts G F B s.0 s.1 in
-        let most = done_at_most F (judge_one G F B s.0) in
-        absurd (omega arith)
-  ]
+  | inl closed ↦ at_top G F B partial closed
+  | inr s ↦
+      let more = one_counts G F B s.0 s.1 in
+      let most = done_at_most F (judge_one G F B s.0) in
+      absurd (omega arith)
+]
 climbs G F (suc n) B partial few = elim (some_ready F B) [
-    | inl closed ↦ at_top G F B partial closed
-    | inr s ↦
-        let more = one_counts G F B s.0 s.1 in
-        first_then G F B (standing G F) s.0 s.1 (climbs G F n (judge_one G F B s.0) (partial_one G F B s.0 s.1 partial) (omega arith))
-  ]
+  | inl closed ↦ at_top G F B partial closed
+  | inr s ↦
+      let more = one_counts G F B s.0 s.1 in
+      first_then G F B (standing G F) s.0 s.1 (climbs G F n (judge_one G F B s.0) (partial_one G F B s.0 s.1 partial) (omega arith))
+]
 
 pub to_standing : (G : Register) (F : Received) (B : Board) → IsPartial G F B → Follows G F B (standing G F)
 to_standing G F B partial = climbs G F (map.len F) B partial (omega arith)

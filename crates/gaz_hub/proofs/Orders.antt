@@ -164,25 +164,25 @@ moved_stays_below G F bigger B B' C all lawful closed moved below c =
           let rests = reached_stays B C below _ is.rests in
           let most : reached B c ≤ reached C c = prefix_length (B c) (C c) (below c) in
           let farther : reached B c < reached C c =
-            elim (leb_tells (suc (reached B c)) (reached C c)) [
-              | inl h ↦ h.1
-              | inr h ↦
-                  let e : reached B c ≡ reached C c = omega arith in
-                  let also : IsReady bigger C c = record {
-                    bytes = is.bytes;
-                    in_range = subst (λ n. n + 1 ≤ 999999) e is.in_range;
-                    came = ap (λ n. map.get bigger (c, n + 1)) (sym e) ∙ came;
-                    rests = subst (λ n. are_reached C (bases_of (reading is.bytes c (n + 1))) ≡ true) e rests;
-                  } in
-                  absurd (true≢false (sym (ready_from bigger C c also) ∙ closed c))
-            ] in
+          elim (leb_tells (suc (reached B c)) (reached C c)) [
+            | inl h ↦ h.1
+            | inr h ↦
+                let e : reached B c ≡ reached C c = omega arith in
+                let also : IsReady bigger C c = record {
+                  bytes = is.bytes;
+                  in_range = subst (λ n. n + 1 ≤ 999999) e is.in_range;
+                  came = ap (λ n. map.get bigger (c, n + 1)) (sym e) ∙ came;
+                  rests = subst (λ n. are_reached C (bases_of (reading is.bytes c (n + 1))) ≡ true) e rests;
+                } in
+                absurd (true≢false (sym (ready_from bigger C c also) ∙ closed c))
+          ] in
           let entry = lawful.each c (reached B c) farther in
           let same_bytes : Some entry.bytes ≡ Some is.bytes = sym entry.came ∙ came in
           let bytes : entry.bytes ≡ is.bytes = cc in
           let there : slice_get (C c) (reached B c) ≡ Some (next G F B c is) =
-            entry.is
-            ∙ ap (λ b. Some (judgement_after G C c (reached B c) (reading b c (reached B c + 1)))) bytes
-            ∙ ap Some (judgement_stays G B C below c (reached B c) (reading is.bytes c (reached B c + 1)) (omega arith) is.rests) in
+          entry.is
+          ∙ ap (λ b. Some (judgement_after G C c (reached B c) (reading b c (reached B c + 1)))) bytes
+          ∙ ap Some (judgement_stays G B C below c (reached B c) (reading is.bytes c (reached B c + 1)) (omega arith) is.rests) in
           subst (λ js. IsPrefixOf js (C c)) (sym (m.1 ∙ with_next_is G F B c is)) (prefix_push (B c) (C c) (next G F B c is) (below c) there)
     ]
 
@@ -280,7 +280,7 @@ none_ready F B none c =
       | true ↦ λ e.
           let is = ready_gives F B c e in
           absurd (true≢false (sym (any_of_found pair_cmp (λ x. ready F B x.0) (c, reached B c + 1) is.bytes (map.entries F)
-            (λ x t. subst (λ y. ready F B y.0 ≡ true) (tied _ x t) e) (found F _ _ is.came)) ∙ none))
+          (λ x t. subst (λ y. ready F B y.0 ≡ true) (tied _ x t) e) (found F _ _ is.came)) ∙ none))
       | false ↦ λ _. refl
     ] refl
 

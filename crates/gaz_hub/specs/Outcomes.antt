@@ -19,9 +19,9 @@ wants F B c =
     let volume = reached B c + 1 in
     if nat_le volume 999999
     then option_map_or
-        (λ r. option_map (λ d. (d.custodian, d.volume)) (find (λ d. not (nat_le d.volume (reached B d.custodian))) (bases_of r)))
-        (next_reading F B c)
-        (Some (c, volume))
+    (λ r. option_map (λ d. (d.custodian, d.volume)) (find (λ d. not (nat_le d.volume (reached B d.custodian))) (bases_of r)))
+    (next_reading F B c)
+    (Some (c, volume))
     else None
 
 abbrev pub outcome_of : Verdict → Outcome
@@ -32,8 +32,8 @@ outcome_of (verdict.Rejected place rule) = Rejected place rule
 abbrev pub outcome : Received → Board → ℕ → ℕ → Option Outcome
 outcome F B c volume =
     option_map_or (λ j. Some (outcome_of j.verdict))
-        (slice_get (B c) (volume - 1))
-        (option_map (λ w. Held w.0 w.1) (wants F B c))
+    (slice_get (B c) (volume - 1))
+    (option_map (λ w. Held w.0 w.1) (wants F B c))
 
 -- how many files of a custodian were received and aren't judged
 abbrev pub held_count : Received → Board → ℕ → ℕ

@@ -59,7 +59,11 @@ fn apply(view: &mut WholeView, change: &Change) -> Result<(), AllocError>
 }
 
 /// Does the changes in order up to the first that doesn't fit.
-fn apply_all(code: Code, view: &mut WholeView, changes: &[Change]) -> Result<Option<Fault>, AllocError>
+fn apply_all(
+    code: Code,
+    view: &mut WholeView,
+    changes: &[Change],
+) -> Result<Option<Fault>, AllocError>
     ensures { IfOk result (FoundFault (sample_register code) view.old changes.now view.new) }
 {
     for change in changes {

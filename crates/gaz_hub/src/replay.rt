@@ -22,11 +22,20 @@ pub struct Replay {
 fn noted(volume: u64, asked: u64, judged: Verdict, so_far: Option<Verdict>) -> Option<Verdict>
     ensures { result ≡ (if volume == asked then Some judged else so_far) }
 {
-    if volume == asked { Some(judged) } else { so_far }
+    if volume == asked {
+        Some(judged)
+    } else {
+        so_far
+    }
 }
 
 /// Judges a custodian's files in volume order up to the first that wasn't received, and notes the verdict of the volume asked for.
-pub fn replay_files(alloc: Global, files: &Files, code: Code, asked: u64) -> Result<Replay, AllocError>
+pub fn replay_files(
+    alloc: Global,
+    files: &Files,
+    code: Code,
+    asked: u64,
+) -> Result<Replay, AllocError>
     requires { 1 ≤ asked }
     ensures { IfOk result (IsReplay files.now code asked) }
 {

@@ -10,17 +10,25 @@ const A_DAY_LATER: &[u8] = b"10,1,1001,1,2024-01-03\n11,I,1,101,1,2001-04-01,\n9
 
 /// What `sha256sum` prints of `STREET_101`.
 const DIGEST: Digest = [
-    0xc1, 0x1c, 0xef, 0xb3, 0x03, 0xdb, 0xb5, 0x49, 0xc3, 0x3d, 0x04, 0x3a,
-    0x8e, 0x51, 0x25, 0x58, 0x16, 0xb3, 0xe9, 0xcc, 0x36, 0x1a, 0x34, 0x9f,
-    0x38, 0x14, 0xc5, 0xde, 0xc1, 0x96, 0x34, 0xde,
+    0xc1, 0x1c, 0xef, 0xb3, 0x03, 0xdb, 0xb5, 0x49, 0xc3, 0x3d, 0x04, 0x3a, 0x8e, 0x51, 0x25, 0x58,
+    0x16, 0xb3, 0xe9, 0xcc, 0x36, 0x1a, 0x34, 0x9f, 0x38, 0x14, 0xc5, 0xde, 0xc1, 0x96, 0x34, 0xde,
 ];
 
 #[test]
 fn files_are_judged_and_told(rt: HostRuntime) -> Result<(), Fail> {
     let mut hub = Hub::new(rt.alloc());
-    assert_eq!(rt; hub.submit(1001, 1, STREET_101), Answer::New(Outcome::Applied));
-    assert_eq!(rt; hub.submit(1001, 1, STREET_101), Answer::Repeat(Outcome::Applied));
-    assert_eq!(rt; hub.submit(1001, 1, A_DAY_LATER), Answer::Taken { digest: DIGEST });
+    assert_eq!(rt;
+        hub.submit(1001, 1, STREET_101),
+        Answer::New(Outcome::Applied)
+    );
+    assert_eq!(rt;
+        hub.submit(1001, 1, STREET_101),
+        Answer::Repeat(Outcome::Applied)
+    );
+    assert_eq!(rt;
+        hub.submit(1001, 1, A_DAY_LATER),
+        Answer::Taken { digest: DIGEST }
+    );
     assert_eq!(rt; hub.outcome(1001, 1), Ok(Some((DIGEST, Outcome::Applied))));
     let no_record = Answer::New(Outcome::Rejected { place: 1, rule: 1 });
     assert_eq!(rt; hub.submit(1003, 1, b""), no_record);
@@ -36,7 +44,10 @@ fn files_are_judged_and_told(rt: HostRuntime) -> Result<(), Fail> {
     assert_eq!(rt; hub.submit(1002, 3, b"abc"), held);
     assert_eq!(rt; hub.status(1002), Ok(standing));
     assert_eq!(rt; hub.status(9999), Err(Refusal::UnknownCustodian));
-    assert_eq!(rt; hub.submit(1001, 0, b""), Answer::Refused(Refusal::BadVolume));
+    assert_eq!(rt;
+        hub.submit(1001, 0, b""),
+        Answer::Refused(Refusal::BadVolume)
+    );
     assert_eq!(rt; hub.settle(), Ok(()));
     Ok(())
 }

@@ -43,6 +43,7 @@ worked_examples_hold = record { on_views = on_views; on_boards = on_boards }
       is_taken = rw (get_no_more (key.Street 101)) refl;
       stays_used = used_one (key.Street 101);
     }
+
     on_boards : WorkedBoards
     on_boards = record {
       two_reached = refl;

@@ -4,5 +4,4 @@ ghost use Rattle.gaz_shelf.specs.Examples.{WorkedExamples};
 /// What the definitions come to on worked examples.
 pub fn worked_examples()
     ensures { WorkedExamples }
-{
-}
+{}

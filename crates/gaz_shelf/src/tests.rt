@@ -22,7 +22,10 @@ fn a_taken_street_stays_used(rt: HostRuntime) -> Result<(), Fail> {
     view.put(street(102)?)?;
     view.take(&first);
     assert!(rt; view.get(&first).is_none() && !view.holds(&first) && view.was_used(&first));
-    assert!(rt; view.get(&second).is_some_and(|item| Key::of(item) == second));
+    assert!(rt;
+        view.get(&second)
+            .is_some_and(|item| Key::of(item) == second)
+    );
     assert!(rt; before.holds(&first) && !before.was_used(&second));
     Ok(())
 }
