@@ -154,7 +154,6 @@ def reply(sink, status, text, closes):
     close = b"Connection: close\r\n" if closes else b""
     head = b"HTTP/1.1 %s\r\nContent-Type: application/json\r\nContent-Length: %d\r\n%s\r\n" % (status, len(text), close)
     sink.write(head + text)
-    sink.flush()  # as gazhub does: a reply doesn't wait for the next request
 
 
 def answer_to(target, body, received):

@@ -8,13 +8,13 @@ use Rattle.std.proofs.lemmas.List.Elements.{filter_map-append}
 use Rattle.gaz_hub.specs.Sample.{sample_door}
 use Rattle.gaz_hub.specs.Runs.{Run}
 use Rattle.gaz_hub.specs.Step.{HubState}
-use Rattle.gaz_exchange.specs.Conversing.{Conversation, EndsAnswered, EndsAs, EndsRefused, ended_after}
+use Rattle.gaz_exchange.specs.Conversing.{Conversation, EndsAnswered, EndsAs, EndsRefused, StopsAs, StopsWaiting, ended_after}
 use Rattle.gaz_exchange.specs.Exchanges.{Comes, Exchange, all_open, command_in, commands_of, ends_after, goes_on, replies, responses_of}
 use Rattle.gaz_exchange.specs.Framing.{is_closing}
 use Rattle.gaz_exchange.specs.Refusals.{IsTurnedAway}
-use Rattle.gaz_exchange.specs.Turns.{Exchanges, IsTurn}
-use Rattle.gaz_exchange.specs.declared.conversation.Cause.{Cause}
-use Rattle.gaz_exchange.specs.declared.conversation.Cause.TheVariants.{ReadFault, WriteFault}
+use Rattle.gaz_exchange.specs.Turns.{Exchanges, IsTurn, Waits}
+use Rattle.gaz_exchange.specs.declared.supply.Cause.{Cause}
+use Rattle.gaz_exchange.specs.declared.supply.Cause.TheVariants.{ReadFault, WriteFault}
 use Rattle.gaz_exchange.specs.declared.conversation.Ended.{Ended}
 use Rattle.gaz_exchange.specs.declared.conversation.Ended.TheVariants as ended
 use Rattle.gaz_exchange.specs.declared.conversation.Turn.TheVariants.{Answered, Closed, Over, Stopped}
@@ -193,7 +193,7 @@ module _ (most n : ℕ) (had left later held holds after : Option (List ℕ)) (o
     appended = Appends-trans held holds after (replies s.exchanges) t.written s.appended t.appended;
     comes = all_come t.read e t.consumed x;
     run = all_run t.read e t.consumed x;
-    comes_to = inl (record { earlier = s.exchanges; in_hand = e; sent = t.written; lost = lost; split = refl; cut = cut; counted = sym s.count; told = refl });
+    comes_to = inr (inl (record { earlier = s.exchanges; in_hand = e; sent = t.written; lost = lost; split = refl; cut = cut; counted = sym s.count; told = refl }));
   }
 
   stops_refusing : (t : IsTurn ((n + 1) == most) inlet rest left later holds after mid new (Stopped WriteFault)) (lost : List ℕ)
@@ -208,27 +208,36 @@ module _ (most n : ℕ) (had left later held holds after : Option (List ℕ)) (o
     appended = Appends-trans held holds after (replies s.exchanges) t.written s.appended t.appended;
     comes = still_come t.read t.consumed same;
     run = still_run t.read t.consumed same;
-    comes_to = inr (record { open_yet = open_yet; sent = t.written; lost = lost; turned_away = away; counted = sym s.count; told = refl });
+    comes_to = inr (inr (record { open_yet = open_yet; sent = t.written; lost = lost; turned_away = away; counted = sym s.count; told = refl }));
   }
+
+  -- the next request isn't whole
+  module _ (read written : List ℕ) (consumed : Consumes left later read) (appended : Appends holds after written) (w : Waits (inlet ++ read) mid new written) where
+    waiting : StopsWaiting most s.exchanges (inlet ++ read) n (replies s.exchanges)
+    waiting = record { open_yet = open_yet; unfinished = w.0; counted = sym s.count; told = refl }
+
+    stops_waiting : (cause : Cause) → StopsAs most s.exchanges (inlet ++ read) later n cause (replies s.exchanges)
+        → Conversation most had later held after old new (Err (record { requests = n; cause = cause }))
+    stops_waiting cause how = record {
+      read = s.read ++ read;
+      written = replies s.exchanges;
+      exchanges = s.exchanges;
+      rest = inlet ++ read;
+      consumed = still_consumed read consumed w.1;
+      appended = quiet written appended w.2;
+      comes = still_come read consumed w.1;
+      run = still_run read consumed w.1;
+      comes_to = how;
+    }
 
   pub stops : (cause : Cause) → IsTurn ((n + 1) == most) inlet rest left later holds after mid new (Stopped cause)
       → Conversation most had later held after old new (Err (record { requests = n; cause = cause }))
-  stops ReadFault t =
-      let (unfinished, same, none) = t.out in
-      record {
-        read = s.read ++ t.read;
-        written = replies s.exchanges;
-        exchanges = s.exchanges;
-        rest = inlet ++ t.read;
-        consumed = still_consumed t.read t.consumed same;
-        appended = quiet t.written t.appended none;
-        comes = still_come t.read t.consumed same;
-        run = still_run t.read t.consumed same;
-        comes_to = record { open_yet = open_yet; unfinished = unfinished; counted = sym s.count; told = refl };
-      }
+  stops ReadFault t = stops_waiting t.read t.written t.consumed t.appended t.out ReadFault (waiting t.read t.written t.consumed t.appended t.out)
   stops WriteFault t =
-      let (lost, how) = t.out in
-      elim how [ inl w ↦ stops_answering t lost w.0 w.1 w.2 | inr w ↦ stops_refusing t lost w.0 w.1 ]
+      elim t.out [
+        | inl w ↦ stops_waiting t.read t.written t.consumed t.appended w WriteFault (inl (waiting t.read t.written t.consumed t.appended w))
+        | inr cut ↦ elim cut.1 [ inl w ↦ stops_answering t cut.0 w.0 w.1 w.2 | inr w ↦ stops_refusing t cut.0 w.0 w.1 ]
+      ]
 
 -- so many were answered as were allowed
 pub ends_most : (most n : ℕ) (had left held holds : Option (List ℕ)) (old new : HubState) (inlet : List ℕ)

@@ -43,4 +43,4 @@ module _ (bytes : List ℕ) (h : RequestHead) (after : List ℕ) (begins : Begin
       (h, record { after = after; head = begins; framed = sym n.framing_is ∙ b.0; whole = b.1 }, rw b.2 n.call_is, b.3 ∙ n.closing_is)
   head_then rest needed (incoming.Refused fault) n b = cant_read needed.framing fault n.framing_is b
   head_then rest needed incoming.Over n b = absurd b
-  head_then rest needed incoming.Failed n b = inr (b.0, after, has_head b.0 (sym n.framing_is ∙ b.1), b.2)
+  head_then rest needed (incoming.Failed cause) n b = inr (b.0, after, has_head b.0 (sym n.framing_is ∙ b.1), b.2)

@@ -1,8 +1,8 @@
 -- Bytes that come and go.
-use Rattle.std.proofs.Common.{◌≡◌, ℕ, ◌+◌, false, Option, List, ◌++◌, take, drop, ap, ◌∙◌, sym, append_assoc, take-append-drop}
+use Rattle.std.proofs.Common.{◌≡◌, ℕ, ◌+◌, false, Option, None, Some, List, [], ◌++◌, take, drop, ap, ◌∙◌, sym, append_assoc, take-append-drop}
 use Rattle.std.proofs.Math.Seq.{take-add}
-use Rattle.std.proofs.KnownBytes.{Appends-trans}
-use Rattle.std.specs.Io.KnownBytes.{Appends}
+use Rattle.std.proofs.KnownBytes.{Appends-nil, Appends-trans}
+use Rattle.std.specs.Io.KnownBytes.{Appends, Keeps}
 use Rattle.gaz_exchange.specs.Sending.{IsPut}
 
 -- one piece of a body more
@@ -20,3 +20,14 @@ put_part held holds text n p = record { sent = take n text; lost = drop n text; 
 pub put_more : (held mid holds : Option (List ℕ)) (text : List ℕ) (at n : ℕ) → Appends held mid (take at text) → Appends mid holds (take n (drop at text))
     → Appends held holds (take (at + n) text)
 put_more held mid holds text at n p q = rw (take-add at n text) (Appends-trans held mid holds (take at text) (take n (drop at text)) p q)
+
+-- a writer that keeps its bytes, and then takes others
+pub kept_appends : (a b c : Option (List ℕ)) (bs : List ℕ) → Keeps a b → Appends b c bs → Appends a c bs
+kept_appends None b c bs kept more = tt
+kept_appends (Some x) None c bs kept more = absurd kept
+kept_appends (Some x) (Some y) None bs kept more = absurd more
+kept_appends (Some x) (Some y) (Some z) bs kept more = rw (← kept) more
+
+-- it takes none
+pub kept_appends_none : (a b : Option (List ℕ)) → Keeps a b → Appends a b []
+kept_appends_none a b kept = kept_appends a b b [] kept (Appends-nil b)

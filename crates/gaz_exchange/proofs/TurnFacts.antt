@@ -1,18 +1,21 @@
 -- One turn of a conversation.
 use Rattle.std.proofs.Common.{◌≡◌, ℕ, Bool, true, false, List, [], ◌++◌, Option, Some, None, Result, Ok, Err, inl, inr, refl, ap, sym, ◌∙◌, append-nil}
 use Rattle.std.specs.Prelude.{◌||◌}
-use Rattle.std.specs.Io.KnownBytes.{Consumes}
+use Rattle.std.specs.Io.KnownBytes.{Consumes, Keeps}
 use Rattle.httparse.specs.Grammar.{RequestHead}
 use Rattle.gaz_hub.specs.Step.{HubState}
 use Rattle.gaz_exchange.specs.Asking.{asked, call_at, command_of, method_of, with_body}
 use Rattle.gaz_exchange.specs.Exchanges.{BeginsWithRequest, Exchange, IsReplyTo}
 use Rattle.gaz_exchange.specs.Framing.{is_closing}
 use Rattle.gaz_exchange.specs.Incoming.{IsCall}
-use Rattle.gaz_exchange.specs.Refusals.{IsRefused}
+use Rattle.gaz_exchange.specs.Refusals.{IsRefused, IsUnfinished}
 use Rattle.gaz_exchange.specs.Replies.{IsReplyText, is_received, memory_fault, reply_text}
 use Rattle.gaz_exchange.specs.Targets.{Target, Volume, Custodian, Nowhere, target_of}
-use Rattle.gaz_exchange.specs.Turns.{Answers, Asks, Exchanges, IsTurn, Refuses, TurnsOut, turn_of}
+use Rattle.gaz_exchange.specs.Turns.{Answers, Asks, Exchanges, IsTurn, Refuses, TurnsOut, Waits, turn_of}
 use Rattle.gaz_exchange.specs.declared.conversation.Turn.{Turn}
+use Rattle.gaz_exchange.specs.declared.conversation.Turn.TheVariants.{Stopped}
+use Rattle.gaz_exchange.specs.declared.supply.Cause.{Cause}
+use Rattle.gaz_exchange.specs.declared.supply.Cause.TheVariants.{ReadFault, WriteFault}
 use Rattle.gaz_exchange.specs.declared.fault.Allowed.TheVariants as allowed
 use Rattle.gaz_exchange.specs.declared.fault.Allowed.TheVariants.{GetAndPost}
 use Rattle.gaz_exchange.specs.declared.route.Method.{Method}
@@ -23,6 +26,7 @@ use Rattle.gaz_exchange.specs.declared.reply.Reply.{Reply}
 use Rattle.gaz_exchange.specs.declared.reply.Reply.TheVariants.{Refused}
 use Rattle.gaz_exchange.specs.declared.request.Request.{Request}
 use Rattle.gaz_exchange.specs.declared.route.Call.{Call}
+use Rattle.gaz_exchange.proofs.StreamFacts.{kept_appends, kept_appends_none}
 
 -- what isn't asked was received by nobody
 unasked : (target : Target) (method : Method) (why : Fault) → call_at target method ≡ Err why → is_received (Refused why) ≡ false
@@ -103,8 +107,8 @@ module _ (h : RequestHead) (bytes body rest text : List ℕ) (closing is_last : 
 module _ (h : RequestHead) (bytes rest text : List ℕ) (is_last : Bool) (old new : HubState) (left : Option (List ℕ)) (o : IsOut h bytes rest text is_last old new) where
   pub answer_turn : (sent lost : List ℕ) (ends whole : Bool) → ends ≡ (is_closing h || is_last) → text ≡ sent ++ lost → (whole ≡ true → lost ≡ [])
       → TurnsOut is_last bytes rest left old new sent (turn_of ends whole)
-  answer_turn sent lost true false e cut all = (lost, inl (o.made, o.exchanges, o.of_text ∙ cut))
-  answer_turn sent lost false false e cut all = (lost, inl (o.made, o.exchanges, o.of_text ∙ cut))
+  answer_turn sent lost true false e cut all = inr (lost, inl (o.made, o.exchanges, o.of_text ∙ cut))
+  answer_turn sent lost false false e cut all = inr (lost, inl (o.made, o.exchanges, o.of_text ∙ cut))
   answer_turn sent lost true true e cut all =
       inl (o.made, o.exchanges, sym (o.of_text ∙ cut ∙ ap (λ l. sent ++ l) (all refl) ∙ append-nil sent), ap (λ x. is_closing x || is_last) o.of_head ∙ sym e)
   answer_turn sent lost false true e cut all =
@@ -115,25 +119,37 @@ pub refuse_turn : (is_last : Bool) (bytes rest : List ℕ) (left : Option (List 
     → IsRefused bytes left fault → IsReplyText (Refused fault) true text → text ≡ sent ++ lost → (whole ≡ true → lost ≡ []) → new ≡ old
     → TurnsOut is_last bytes rest left old new sent (turn_of true whole)
 refuse_turn is_last bytes rest left old new fault text sent lost false why told cut all same =
-    (lost, inr (record { fault = fault; why = why; told = rw cut at told }, same))
+    inr (lost, inr (record { fault = fault; why = why; told = rw cut at told }, same))
 refuse_turn is_last bytes rest left old new fault text sent lost true why told cut all same =
     inr (record { fault = fault; why = why; told = rw (cut ∙ ap (λ l. sent ++ l) (all refl) ∙ append-nil sent) at told }, same)
 
 -- the turn of a request that came whole
-pub turn_of_answer : (is_last : Bool) (pending read bytes rest : List ℕ) (had left held holds : Option (List ℕ)) (old new : HubState) (q : Request) (h : RequestHead) (turn : Turn)
-    → Consumes had left read → bytes ≡ pending ++ read → BeginsWithRequest bytes h q.body.items rest → IsCall h q.call → q.closing ≡ is_closing h
-    → Answers held holds old new q is_last turn → IsTurn is_last pending rest had left held holds old new turn
-turn_of_answer is_last pending read bytes rest had left held holds old new q h turn eaten all begins call closing a =
+pub turn_of_answer : (is_last : Bool) (pending read bytes rest : List ℕ) (had left held mid holds : Option (List ℕ)) (old new : HubState) (q : Request) (h : RequestHead) (turn : Turn)
+    → Consumes had left read → Keeps held mid → bytes ≡ pending ++ read → BeginsWithRequest bytes h q.body.items rest → IsCall h q.call → q.closing ≡ is_closing h
+    → Answers mid holds old new q is_last turn → IsTurn is_last pending rest had left held holds old new turn
+turn_of_answer is_last pending read bytes rest had left held mid holds old new q h turn eaten kept all begins call closing a =
     let put = a.sent.put in
     let o = exchange_out h bytes q.body.items rest a.sent.text q.closing is_last old new a.reply begins closing a.sent.told q.call call a.asked in
     let out = answer_turn h bytes rest a.sent.text is_last old new left o put.sent put.lost (q.closing || is_last) a.whole (ap (λ b. b || is_last) closing) put.cut put.all in
-    record { read = read; written = put.sent; consumed = eaten; appended = put.appended; out = rw (a.turn_is, ← all) out }
+    record { read = read; written = put.sent; consumed = eaten; appended = kept_appends held mid holds put.sent kept put.appended; out = rw (a.turn_is, ← all) out }
 
 -- the turn of what is refused
-pub turn_of_refusal : (is_last : Bool) (pending read bytes rest : List ℕ) (had left held holds : Option (List ℕ)) (old : HubState) (fault : Fault) (turn : Turn)
-    → Consumes had left read → bytes ≡ pending ++ read → IsRefused bytes left fault → Refuses held holds fault turn
+pub turn_of_refusal : (is_last : Bool) (pending read bytes rest : List ℕ) (had left held mid holds : Option (List ℕ)) (old : HubState) (fault : Fault) (turn : Turn)
+    → Consumes had left read → Keeps held mid → bytes ≡ pending ++ read → IsRefused bytes left fault → Refuses mid holds fault turn
     → IsTurn is_last pending rest had left held holds old old turn
-turn_of_refusal is_last pending read bytes rest had left held holds old fault turn eaten all why a =
+turn_of_refusal is_last pending read bytes rest had left held mid holds old fault turn eaten kept all why a =
     let put = a.sent.put in
     let out = refuse_turn is_last bytes rest left old old fault a.sent.text put.sent put.lost a.whole why a.sent.told put.cut put.all refl in
-    record { read = read; written = put.sent; consumed = eaten; appended = put.appended; out = rw (a.turn_is, ← all) out }
+    record { read = read; written = put.sent; consumed = eaten; appended = kept_appends held mid holds put.sent kept put.appended; out = rw (a.turn_is, ← all) out }
+
+waits_out : (is_last : Bool) (bytes rest : List ℕ) (left : Option (List ℕ)) (old new : HubState) (cause : Cause) → Waits bytes old new []
+    → TurnsOut is_last bytes rest left old new [] (Stopped cause)
+waits_out is_last bytes rest left old new ReadFault w = w
+waits_out is_last bytes rest left old new WriteFault w = inl w
+
+-- the turn where the reader or the writer fails before a request is whole
+pub turn_of_failure : (is_last : Bool) (pending read rest : List ℕ) (had left held mid : Option (List ℕ)) (old : HubState) (cause : Cause)
+    → Consumes had left read → Keeps held mid → IsUnfinished (pending ++ read) → IsTurn is_last pending rest had left held mid old old (Stopped cause)
+turn_of_failure is_last pending read rest had left held mid old cause eaten kept short =
+    let out = waits_out is_last (pending ++ read) rest left old old cause (short, refl, refl) in
+    record { read = read; written = []; consumed = eaten; appended = kept_appends_none held mid kept; out = out }

@@ -3,17 +3,17 @@ use Rattle.std.specs.Prelude.{◌≡◌, ℕ, ◌<◌, List, ◌++◌, length, O
 use Rattle.std.specs.Io.KnownBytes.{IsAtEnd}
 use Rattle.gaz_exchange.specs.declared.body.Body.{Body}
 use Rattle.gaz_exchange.specs.declared.body.Body.TheVariants.{Whole, Short, Memory, Failed}
-use Rattle.gaz_exchange.specs.declared.body.Supply.{Supply}
-use Rattle.gaz_exchange.specs.declared.body.Supply.TheVariants as refill
+use Rattle.gaz_exchange.specs.declared.supply.Supply.{Supply}
+use Rattle.gaz_exchange.specs.declared.supply.Supply.TheVariants as supply
 
 -- of the bytes behind the head that were read, those that aren't used, and those that the reader has left
 abbrev pub IsBody : List ℕ → ℕ → List ℕ → Option (List ℕ) → Body → Type 0
 IsBody bytes size rest left (Whole v) = (bytes ≡ v.items ++ rest) × (length v.items ≡ size)
 IsBody bytes size rest left Short = (length bytes < size) × IsAtEnd left
 IsBody bytes size rest left Memory = 0 < size
-IsBody bytes size rest left Failed = length bytes < size
+IsBody bytes size rest left (Failed cause) = length bytes < size
 
 abbrev pub IsRefill : List ℕ → Option (List ℕ) → Supply → Type 0
-IsRefill pending left refill.Some = 0 < length pending
-IsRefill pending left refill.End = (length pending ≡ 0) × IsAtEnd left
-IsRefill pending left refill.Failed = length pending ≡ 0
+IsRefill pending left supply.Some = 0 < length pending
+IsRefill pending left supply.End = (length pending ≡ 0) × IsAtEnd left
+IsRefill pending left (supply.Failed cause) = length pending ≡ 0

@@ -9,8 +9,8 @@ use Rattle.gaz_exchange.specs.Exchanges.{Exchange, Comes, goes_on, replies, comm
 use Rattle.gaz_exchange.specs.Refusals.{IsTurnedAway, IsUnfinished}
 use Rattle.gaz_exchange.specs.declared.conversation.Ended.{Ended}
 use Rattle.gaz_exchange.specs.declared.conversation.Ended.TheVariants.{Most, Closed, InputEnd}
-use Rattle.gaz_exchange.specs.declared.conversation.Cause.{Cause}
-use Rattle.gaz_exchange.specs.declared.conversation.Cause.TheVariants.{ReadFault, WriteFault}
+use Rattle.gaz_exchange.specs.declared.supply.Cause.{Cause}
+use Rattle.gaz_exchange.specs.declared.supply.Cause.TheVariants.{ReadFault, WriteFault}
 use Rattle.gaz_exchange.specs.declared.conversation.Served.{Served}
 use Rattle.gaz_exchange.specs.declared.conversation.Stopped.{Stopped}
 
@@ -38,8 +38,8 @@ pub record EndsRefused (most : ℕ) (es : List Exchange) (rest : List ℕ) (left
   pub counted : n ≡ length es + 1
   pub told : written ≡ replies es ++ text
 
--- the reader failed before the next request was whole
-pub record StopsReading (most : ℕ) (es : List Exchange) (rest : List ℕ) (n : ℕ) (written : List ℕ) : Type 0 where
+-- the reader failed, or the writer in a flush, before the next request was whole
+pub record StopsWaiting (most : ℕ) (es : List Exchange) (rest : List ℕ) (n : ℕ) (written : List ℕ) : Type 0 where
   pub open_yet : goes_on most es ≡ true
   pub unfinished : IsUnfinished rest
   pub counted : n ≡ length es
@@ -75,8 +75,8 @@ EndsAs most es rest left n Most written = (ended_after n most ≡ Most) × (Ends
 EndsAs most es rest left n Closed written = (ended_after n most ≡ Closed) × (EndsAnswered most es n written ⊎ EndsRefused most es rest left n written)
 
 abbrev pub StopsAs : ℕ → List Exchange → List ℕ → Option (List ℕ) → ℕ → Cause → List ℕ → Type 0
-StopsAs most es rest left n ReadFault written = StopsReading most es rest n written
-StopsAs most es rest left n WriteFault written = StopsAnswering es n written ⊎ StopsRefusing most es rest left n written
+StopsAs most es rest left n ReadFault written = StopsWaiting most es rest n written
+StopsAs most es rest left n WriteFault written = StopsWaiting most es rest n written ⊎ StopsAnswering es n written ⊎ StopsRefusing most es rest left n written
 
 -- how it ended
 abbrev pub ComesTo : ℕ → List Exchange → List ℕ → Option (List ℕ) → Result Served Stopped → List ℕ → Type 0

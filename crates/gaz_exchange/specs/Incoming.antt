@@ -43,7 +43,7 @@ IsIncoming bytes rest left (incoming.Request q) =
     (h : RequestHead) × BeginsWithRequest bytes h q.body.items rest × IsCall h q.call × (q.closing ≡ is_closing h)
 IsIncoming bytes rest left (incoming.Refused fault) = IsRefused bytes left fault
 IsIncoming bytes rest left incoming.Over = IsOver bytes × IsAtEnd left
-IsIncoming bytes rest left incoming.Failed = IsUnfinished bytes
+IsIncoming bytes rest left (incoming.Failed cause) = IsUnfinished bytes
 
 -- of the bytes behind a head that were pending or read
 abbrev pub IsBehind : List ℕ → Needed → List ℕ → Option (List ℕ) → Incoming → Type 0
@@ -51,4 +51,4 @@ IsBehind after needed rest left (incoming.Request q) =
     (needed.framing ≡ Length (length q.body.items)) × (after ≡ q.body.items ++ rest) × (q.call ≡ needed.call) × (q.closing ≡ needed.closing)
 IsBehind after needed rest left (incoming.Refused fault) = CantRead after needed.framing left fault
 IsBehind after needed rest left incoming.Over = ⊥
-IsBehind after needed rest left incoming.Failed = (size : ℕ) × (needed.framing ≡ Length size) × (length after < size)
+IsBehind after needed rest left (incoming.Failed cause) = (size : ℕ) × (needed.framing ≡ Length size) × (length after < size)

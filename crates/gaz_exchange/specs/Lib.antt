@@ -9,6 +9,7 @@ pub mod Exchanges
 pub mod Refusals
 pub mod Conversing
 pub mod Next
+pub mod Supplies
 pub mod Bodies
 pub mod Incoming
 pub mod Sending

@@ -30,4 +30,4 @@ abbrev pub IsNext : List ℕ → Option (List ℕ) → List HeaderSpan → Next 
 IsNext pending left headers (Head spans) = IsHeadAt pending headers spans
 IsNext pending left headers Bad = (NeverHead pending ⊎ (NoHead pending × IsAtEnd left)) × IsMore pending
 IsNext pending left headers Over = IsOver pending × IsAtEnd left
-IsNext pending left headers Failed = NoHead pending
+IsNext pending left headers (Failed cause) = NoHead pending

@@ -87,11 +87,14 @@ abbrev pub close_of : Bool → List ℕ
 close_of is_last = if is_last then codes "Connection: close\r\n" else []
 
 -- status line, headers, an empty line, body
+unfoldable pub message : List ℕ → List ℕ → List ℕ → Bool → List ℕ
+message status headers body is_last =
+    codes "HTTP/1.1 " ++ (status
+    ++ (codes "\r\nContent-Type: application/json\r\nContent-Length: " ++ (decimal (length body)
+    ++ (codes "\r\n" ++ (headers ++ (close_of is_last ++ (codes "\r\n" ++ body)))))))
+
 unfoldable pub reply_text : Reply → Bool → List ℕ
-reply_text reply is_last =
-    codes "HTTP/1.1 " ++ (status_line reply
-    ++ (codes "\r\nContent-Type: application/json\r\nContent-Length: " ++ (decimal (length (body_of reply))
-    ++ (codes "\r\n" ++ (allow_in reply ++ (close_of is_last ++ (codes "\r\n" ++ body_of reply)))))))
+reply_text reply is_last = message (status_line reply) (allow_in reply) (body_of reply) is_last
 
 -- the request received its file
 abbrev pub is_received : Reply → Bool

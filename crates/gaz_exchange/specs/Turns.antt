@@ -11,7 +11,7 @@ use Rattle.gaz_exchange.specs.Heads.{IsOver}
 use Rattle.gaz_exchange.specs.Refusals.{IsTurnedAway, IsUnfinished}
 use Rattle.gaz_exchange.specs.Replies.{reply_to}
 use Rattle.gaz_exchange.specs.Sending.{IsSent}
-use Rattle.gaz_exchange.specs.declared.conversation.Cause.TheVariants.{ReadFault, WriteFault}
+use Rattle.gaz_exchange.specs.declared.supply.Cause.TheVariants.{ReadFault, WriteFault}
 use Rattle.gaz_exchange.specs.declared.conversation.Turn.{Turn}
 use Rattle.gaz_exchange.specs.declared.conversation.Turn.TheVariants.{Answered, Closed, Over, Stopped}
 use Rattle.gaz_exchange.specs.declared.fault.Fault.{Fault}
@@ -56,6 +56,10 @@ pub record Exchanges (is_last : Bool) (bytes : List ℕ) (e : Exchange) (rest : 
   pub exchanged : IsExchanged bytes e rest ends
   pub run : Run sample_door old (commands_of (e ∷ [])) (responses_of (e ∷ [])) new
 
+-- the request isn't whole yet
+abbrev pub Waits : List ℕ → HubState → HubState → List ℕ → Type 0
+Waits bytes old new written = IsUnfinished bytes × (new ≡ old) × (written ≡ [])
+
 abbrev pub TurnsOut : Bool → List ℕ → List ℕ → Option (List ℕ) → HubState → HubState → List ℕ → Turn → Type 0
 TurnsOut is_last bytes rest left old new written Answered =
     (e : Exchange) × Exchanges is_last bytes e rest old new × (written ≡ e.reply) × ((is_closing e.head || is_last) ≡ false)
@@ -63,10 +67,10 @@ TurnsOut is_last bytes rest left old new written Closed =
     ((e : Exchange) × Exchanges is_last bytes e rest old new × (written ≡ e.reply) × ((is_closing e.head || is_last) ≡ true))
     ⊎ (IsTurnedAway bytes left written × (new ≡ old))
 TurnsOut is_last bytes rest left old new written Over = IsOver bytes × IsAtEnd left × (new ≡ old) × (written ≡ [])
-TurnsOut is_last bytes rest left old new written (Stopped ReadFault) = IsUnfinished bytes × (new ≡ old) × (written ≡ [])
-TurnsOut is_last bytes rest left old new written (Stopped WriteFault) =
-    (lost : List ℕ) × (((e : Exchange) × Exchanges is_last bytes e rest old new × (e.reply ≡ written ++ lost))
-    ⊎ (IsTurnedAway bytes left (written ++ lost) × (new ≡ old)))
+TurnsOut is_last bytes rest left old new written (Stopped ReadFault) = Waits bytes old new written
+TurnsOut is_last bytes rest left old new written (Stopped WriteFault) = Waits bytes old new written
+    ⊎ ((lost : List ℕ) × (((e : Exchange) × Exchanges is_last bytes e rest old new × (e.reply ≡ written ++ lost))
+    ⊎ (IsTurnedAway bytes left (written ++ lost) × (new ≡ old))))
 
 -- from the bytes that were pending and are, the reader's, the writer's, and the hub before and after
 pub record IsTurn (is_last : Bool) (pending rest : List ℕ) (had left held holds : Option (List ℕ)) (old new : HubState) (turn : Turn) : Type 0 where

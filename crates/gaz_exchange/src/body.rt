@@ -1,10 +1,11 @@
 ghost use Rattle.std.specs.Prelude.{◌≡◌, ◌++◌, ℕ, List};
-ghost use Rattle.std.specs.Io.KnownBytes.{Consumes};
+ghost use Rattle.std.specs.Io.KnownBytes.{Consumes, Keeps};
 ghost use Rattle.gaz_exchange.specs.Bodies.{IsBody, IsRefill};
 
 use crate::inlet::Inlet;
+use crate::supply::{Cause, Supply, read_more};
 use std::alloc::Global;
-use std::io::Read;
+use std::io::{Read, Write};
 
 /// What came of a body.
 #[derive(Debug, Drop)]
@@ -14,36 +15,33 @@ pub enum Body {
     Short,
     /// No memory for it.
     Memory,
-    /// The reader failed within it.
-    Failed,
+    /// The reader or the writer failed within it.
+    Failed(Cause),
 }
 
-#[derive(Drop)]
-enum Supply {
-    Some,
-    End,
-    Failed,
-}
-
-// Reads once where nothing is pending.
-fn refill<R: Read>(r: &mut R, inlet: &mut Inlet) -> Supply
-    ensures { (bs : List ℕ) × Consumes (R.remaining r.old) (R.remaining r.new) bs × (inlet.new ≡ inlet.old ++ bs)
+// Asks for more where nothing is pending.
+fn refill<R: Read, W: Write>(r: &mut R, w: &mut W, inlet: &mut Inlet) -> Supply
+    ensures read { (bs : List ℕ) × Consumes (R.remaining r.old) (R.remaining r.new) bs × (inlet.new ≡ inlet.old ++ bs)
         × IsRefill inlet.new (R.remaining r.new) result }
+    ensures written { Keeps (W.contents w.old) (W.contents w.new) }
 {
     if !inlet.pending().is_empty() {
         return Supply::Some;
     }
-    match inlet.fill(r) {
-        Ok(0) => Supply::End,
-        Ok(_) => Supply::Some,
-        Err(_) => Supply::Failed,
-    }
+    read_more(r, w, inlet)
 }
 
 /// Reads a body of `size` bytes. An empty one takes no memory.
-pub fn read_body<R: Read>(alloc: Global, r: &mut R, inlet: &mut Inlet, size: usize) -> Body
-    ensures { (bs : List ℕ) × Consumes (R.remaining r.old) (R.remaining r.new) bs
+pub fn read_body<R: Read, W: Write>(
+    alloc: Global,
+    r: &mut R,
+    w: &mut W,
+    inlet: &mut Inlet,
+    size: usize,
+) -> Body
+    ensures read { (bs : List ℕ) × Consumes (R.remaining r.old) (R.remaining r.new) bs
         × IsBody (inlet.old ++ bs) size inlet.new (R.remaining r.new) result }
+    ensures written { Keeps (W.contents w.old) (W.contents w.new) }
 {
     if size == 0 {
         return Body::Whole(Vec::new(alloc));
@@ -52,10 +50,10 @@ pub fn read_body<R: Read>(alloc: Global, r: &mut R, inlet: &mut Inlet, size: usi
         return Body::Memory;
     };
     'pieces: while out.len() < size {
-        match refill(r, inlet) {
+        match refill(r, w, inlet) {
             Supply::Some => {}
             Supply::End => return Body::Short,
-            Supply::Failed => return Body::Failed,
+            Supply::Failed(cause) => return Body::Failed(cause),
         }
         let part = inlet.pending();
         let count = part.len().min(size - out.len());

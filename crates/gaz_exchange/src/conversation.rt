@@ -8,6 +8,7 @@ use crate::reply::Reply;
 use crate::request::{Incoming, Intake, Request, next_request};
 use crate::route::Call;
 use crate::send::send;
+use crate::supply::Cause;
 use gaz_hub::Hub;
 use std::alloc::Global;
 use std::io::{Read, Write};
@@ -29,15 +30,6 @@ pub struct Served {
     /// The replies that were wholly written.
     pub requests: u64,
     pub ended: Ended,
-}
-
-/// What failed in a conversation.
-#[derive(Clone, Copy, Debug, PartialEq, Eq)]
-pub enum Cause {
-    /// The reader failed, whatever its error.
-    ReadFault,
-    /// The writer failed, whatever its error, or took nothing of what it was given.
-    WriteFault,
 }
 
 /// A conversation that couldn't go on.
@@ -125,11 +117,11 @@ fn take_turn<R: Read, W: Write>(
     ensures { IsTurn is_last intake.old.inlet intake.new.inlet (R.remaining r.old) (R.remaining r.new)
         (W.contents w.old) (W.contents w.new) (state_of hub.old) (state_of hub.new) result }
 {
-    match next_request(alloc, r, intake) {
+    match next_request(alloc, r, w, intake) {
         Incoming::Request(request) => answer(alloc, w, hub, &request, is_last),
         Incoming::Refused(fault) => refuse(alloc, w, fault),
         Incoming::Over => Turn::Over,
-        Incoming::Failed => Turn::Stopped(Cause::ReadFault),
+        Incoming::Failed(cause) => Turn::Stopped(cause),
     }
 }
 

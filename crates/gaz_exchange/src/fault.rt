@@ -1,5 +1,7 @@
 ghost use Rattle.std.specs.Prelude.{◌≡◌};
-ghost use Rattle.gaz_exchange.specs.Faults.{allow_of, fault_of, number_of, status_of};
+ghost use Rattle.gaz_exchange.specs.Faults.{fault_of};
+ghost use Rattle.gaz_exchange.specs.Replies.{reply_text};
+ghost use Rattle.gaz_exchange.specs.declared.reply.Reply.TheVariants as Reply;
 
 use gaz_hub::Refusal;
 
@@ -52,50 +54,68 @@ impl From<Refusal> for Fault {
     }
 }
 
+// The text of a refusal: its status, the header lines of its own, and its number of two digits.
+macro_rules! refusal {
+    ($is_last:expr, $status:literal, $headers:literal, $number:literal) => {
+        if $is_last {
+            refusal_text!($status, $headers, "Connection: close\r\n", $number)
+        } else {
+            refusal_text!($status, $headers, "", $number)
+        }
+    };
+}
+
+macro_rules! refusal_text {
+    ($status:literal, $headers:literal, $close:literal, $number:literal) => {
+        concat!(
+            "HTTP/1.1 ",
+            $status,
+            "\r\nContent-Type: application/json\r\nContent-Length: 15\r\n",
+            $headers,
+            $close,
+            "\r\n{\"refusal\":",
+            $number,
+            "}\n"
+        )
+    };
+}
+
+impl Allowed {
+    // The whole reply where another method was used.
+    fn text(self, is_last: bool) -> &'static str
+        ensures { result.now ≡ reply_text (Reply.Refused (Fault.BadMethod self)) is_last }
+    {
+        match self {
+            Allowed::Get => refusal!(is_last, "405 Method Not Allowed", "Allow: GET\r\n", "42"),
+            Allowed::GetAndPost => {
+                refusal!(
+                    is_last,
+                    "405 Method Not Allowed",
+                    "Allow: GET, POST\r\n",
+                    "42"
+                )
+            }
+        }
+    }
+}
+
 impl Fault {
-    /// The number that the reply tells.
-    pub fn number(self) -> u64
-        ensures { result ≡ number_of self }
+    /// The whole reply (RFC 9110, section 15, on the status and `Allow`), which takes no memory; `is_last` where the conversation ends after it.
+    pub fn text(self, is_last: bool) -> &'static str
+        ensures { result.now ≡ reply_text (Reply.Refused self) is_last }
     {
         match self {
-            Fault::UnknownCustodian => 11,
-            Fault::BadVolume => 12,
-            Fault::TooLarge => 13,
-            Fault::UnknownProfile => 16,
-            Fault::NotThere => 17,
-            Fault::BadRequest => 40,
-            Fault::NoRoute => 41,
-            Fault::BadMethod(_) => 42,
-            Fault::LengthRequired => 43,
-            Fault::NotReceived => 51,
-            Fault::Unsettled => 52,
-        }
-    }
-
-    /// The status and its reason (RFC 9110, section 15).
-    pub fn status(self) -> &'static str
-        ensures { result.now ≡ status_of self }
-    {
-        match self {
-            Fault::UnknownCustodian | Fault::BadVolume | Fault::NotThere | Fault::NoRoute =>
-                "404 Not Found",
-            Fault::TooLarge => "413 Content Too Large",
-            Fault::UnknownProfile => "415 Unsupported Media Type",
-            Fault::BadRequest => "400 Bad Request",
-            Fault::BadMethod(_) => "405 Method Not Allowed",
-            Fault::LengthRequired => "411 Length Required",
-            Fault::NotReceived | Fault::Unsettled => "503 Service Unavailable",
-        }
-    }
-
-    /// The header that 405 asks for (RFC 9110, section 15.5.6).
-    pub fn allow(self) -> &'static str
-        ensures { result.now ≡ allow_of self }
-    {
-        match self {
-            Fault::BadMethod(Allowed::Get) => "Allow: GET\r\n",
-            Fault::BadMethod(Allowed::GetAndPost) => "Allow: GET, POST\r\n",
-            _ => "",
+            Fault::UnknownCustodian => refusal!(is_last, "404 Not Found", "", "11"),
+            Fault::BadVolume => refusal!(is_last, "404 Not Found", "", "12"),
+            Fault::TooLarge => refusal!(is_last, "413 Content Too Large", "", "13"),
+            Fault::UnknownProfile => refusal!(is_last, "415 Unsupported Media Type", "", "16"),
+            Fault::NotThere => refusal!(is_last, "404 Not Found", "", "17"),
+            Fault::BadRequest => refusal!(is_last, "400 Bad Request", "", "40"),
+            Fault::NoRoute => refusal!(is_last, "404 Not Found", "", "41"),
+            Fault::BadMethod(allowed) => allowed.text(is_last),
+            Fault::LengthRequired => refusal!(is_last, "411 Length Required", "", "43"),
+            Fault::NotReceived => refusal!(is_last, "503 Service Unavailable", "", "51"),
+            Fault::Unsettled => refusal!(is_last, "503 Service Unavailable", "", "52"),
         }
     }
 }

@@ -1,12 +1,13 @@
 ghost use Rattle.std.specs.Prelude.{◌≡◌, ◌++◌, ℕ, List};
-ghost use Rattle.std.specs.Io.KnownBytes.{Consumes};
+ghost use Rattle.std.specs.Io.KnownBytes.{Consumes, Keeps};
 ghost use Rattle.gaz_exchange.specs.Heads.{is_blank};
 ghost use Rattle.gaz_exchange.specs.Next.{IsLook, IsNext};
 
 use crate::inlet::{INLET_SIZE, Inlet};
+use crate::supply::{Cause, Supply, read_more};
 use httparse::Status;
 use httparse::spans::{HeaderSpan, RequestSpans, parse_request};
-use std::io::Read;
+use std::io::{Read, Write};
 
 /// The bytes that a head may have, with the empty lines before it.
 const HEAD_LIMIT: usize = 8192;
@@ -20,8 +21,8 @@ pub enum Next {
     Bad,
     /// The end, outside of a request.
     Over,
-    /// The reader failed before the head's end.
-    Failed,
+    /// The reader or the writer failed before the head's end.
+    Failed(Cause),
 }
 
 /// What the pending bytes begin with.
@@ -62,9 +63,15 @@ fn parse_head(bytes: &[u8], headers: &mut [HeaderSpan; 32]) -> Look
 }
 
 /// Reads up to the end of the next head.
-pub fn next_head<R: Read>(r: &mut R, inlet: &mut Inlet, headers: &mut [HeaderSpan; 32]) -> Next
-    ensures { (bs : List ℕ) × Consumes (R.remaining r.old) (R.remaining r.new) bs × (inlet.new ≡ inlet.old ++ bs)
+pub fn next_head<R: Read, W: Write>(
+    r: &mut R,
+    w: &mut W,
+    inlet: &mut Inlet,
+    headers: &mut [HeaderSpan; 32],
+) -> Next
+    ensures read { (bs : List ℕ) × Consumes (R.remaining r.old) (R.remaining r.new) bs × (inlet.new ≡ inlet.old ++ bs)
         × IsNext inlet.new (R.remaining r.new) headers.new result }
+    ensures written { Keeps (W.contents w.old) (W.contents w.new) }
 {
     'reads: loop {
         match parse_head(inlet.pending(), headers) {
@@ -75,15 +82,15 @@ pub fn next_head<R: Read>(r: &mut R, inlet: &mut Inlet, headers: &mut [HeaderSpa
         if inlet.pending().len() == INLET_SIZE {
             return Next::Bad;
         }
-        match inlet.fill(r) {
-            Ok(0) => {
+        match read_more(r, w, inlet) {
+            Supply::Some => {}
+            Supply::End => {
                 if blank(inlet.pending()) {
                     return Next::Over;
                 }
                 return Next::Bad;
             }
-            Ok(_) => {}
-            Err(_) => return Next::Failed,
+            Supply::Failed(cause) => return Next::Failed(cause),
         }
     }
 }

@@ -12,8 +12,10 @@ mod reply;
 mod request;
 mod route;
 mod send;
+mod supply;
 
-pub use conversation::{Cause, Ended, Served, Stopped, converse};
+pub use conversation::{Ended, Served, Stopped, converse};
+pub use supply::Cause;
 
 #[cfg(test)]
 mod tests;

@@ -1,5 +1,5 @@
-ghost use Rattle.std.specs.Prelude.{◌≡◌, IfOk, string_bytes};
-ghost use Rattle.gaz_exchange.specs.Replies.{allow_in, body_of, is_received, memory_fault, outcome_text, reply_of, reply_stands, reply_text, reply_told, status_line, want_text, wants_text};
+ghost use Rattle.std.specs.Prelude.{◌≡◌, [], IfOk, string_bytes};
+ghost use Rattle.gaz_exchange.specs.Replies.{body_of, close_of, is_received, memory_fault, message, outcome_text, reply_of, reply_stands, reply_text, reply_told, want_text, wants_text};
 
 use crate::fault::Fault;
 use gaz_hub::{Answer, Digest, Outcome, Refusal, Standing};
@@ -102,11 +102,21 @@ fn standing_body(alloc: Global, standing: Standing) -> Result<String, AllocError
     )
 }
 
-fn refusal_body(alloc: Global, fault: Fault) -> Result<String, AllocError>
-    ensures { IfOk result (λ text. string_bytes text ≡ body_of (Reply.Refused fault)) }
+fn close_of(is_last: bool) -> &'static str
+    ensures { result.now ≡ close_of is_last }
 {
-    let number = fault.number();
-    format!(in alloc; "{{\"refusal\":{number}}}\n")
+    if is_last { "Connection: close\r\n" } else { "" }
+}
+
+// A message that says what came of a request, but for a refusal's.
+fn message_of(alloc: Global, status: &str, body: &str, is_last: bool) -> Result<String, AllocError>
+    ensures { IfOk result (λ text. string_bytes text ≡ message status.now [] body.now is_last) }
+{
+    let close = close_of(is_last);
+    let size = body.len();
+    format!(in alloc;
+        "HTTP/1.1 {status}\r\nContent-Type: application/json\r\nContent-Length: {size}\r\n{close}\r\n{body}"
+    )
 }
 
 impl Reply {
@@ -134,40 +144,6 @@ impl Reply {
         }
     }
 
-    fn status(&self) -> &'static str
-        ensures { result.now ≡ status_line self.now }
-    {
-        match self {
-            Reply::New(_) => "201 Created",
-            Reply::Repeat(_) | Reply::Told(..) | Reply::Stands(_) => "200 OK",
-            Reply::Taken(_) => "409 Conflict",
-            Reply::Refused(fault) => fault.status(),
-        }
-    }
-
-    fn allow(&self) -> &'static str
-        ensures { result.now ≡ allow_in self.now }
-    {
-        match self {
-            Reply::Refused(fault) => fault.allow(),
-            _ => "",
-        }
-    }
-
-    // Compact JSON and a line feed. The texts have nothing that JSON escapes.
-    fn body(&self, alloc: Global) -> Result<String, AllocError>
-        ensures { IfOk result (λ text. string_bytes text ≡ body_of self.now) }
-    {
-        match *self {
-            Reply::New(outcome) => outcome_body(alloc, outcome),
-            Reply::Repeat(outcome) => outcome_body(alloc, outcome),
-            Reply::Taken(digest) => taken_body(alloc, digest),
-            Reply::Told(digest, outcome) => told_body(alloc, digest, outcome),
-            Reply::Stands(standing) => standing_body(alloc, standing),
-            Reply::Refused(fault) => refusal_body(alloc, fault),
-        }
-    }
-
     /// Whether it tells that the file of the request was received.
     pub fn tells_received(&self) -> bool
         ensures { result ≡ is_received self.now }
@@ -184,33 +160,45 @@ impl Reply {
     pub fn text(&self, alloc: Global, is_last: bool) -> Result<String, AllocError>
         ensures { IfOk result (λ text. string_bytes text ≡ reply_text self.now is_last) }
     {
-        let status = self.status();
-        let allow = self.allow();
-        let close = if is_last { "Connection: close\r\n" } else { "" };
-        let body = self.body(alloc)?;
-        let size = body.len();
-        format!(in alloc;
-            "HTTP/1.1 {status}\r\nContent-Type: application/json\r\nContent-Length: {size}\r\n{allow}{close}\r\n{body}"
-        )
+        match *self {
+            Reply::New(outcome) => {
+                message_of(
+                    alloc,
+                    "201 Created",
+                    &outcome_body(alloc, outcome)?,
+                    is_last,
+                )
+            }
+            Reply::Repeat(outcome) => {
+                message_of(alloc, "200 OK", &outcome_body(alloc, outcome)?, is_last)
+            }
+            Reply::Taken(digest) => {
+                message_of(alloc, "409 Conflict", &taken_body(alloc, digest)?, is_last)
+            }
+            Reply::Told(digest, outcome) => {
+                message_of(
+                    alloc,
+                    "200 OK",
+                    &told_body(alloc, digest, outcome)?,
+                    is_last,
+                )
+            }
+            Reply::Stands(standing) => {
+                message_of(alloc, "200 OK", &standing_body(alloc, standing)?, is_last)
+            }
+            Reply::Refused(fault) => String::from_str(alloc, fault.text(is_last)),
+        }
     }
 }
 
 /// The reply where another finds no memory: 52 where the file of the request was received, else 51.
-pub fn memory_text(received: bool, is_last: bool) -> &'static [u8]
+pub fn memory_text(received: bool, is_last: bool) -> &'static str
     ensures { result.now ≡ reply_text (Reply.Refused (memory_fault received)) is_last }
 {
-    match (received, is_last) {
-        (false, false) => {
-            b"HTTP/1.1 503 Service Unavailable\r\nContent-Type: application/json\r\nContent-Length: 15\r\n\r\n{\"refusal\":51}\n"
-        }
-        (false, true) => {
-            b"HTTP/1.1 503 Service Unavailable\r\nContent-Type: application/json\r\nContent-Length: 15\r\nConnection: close\r\n\r\n{\"refusal\":51}\n"
-        }
-        (true, false) => {
-            b"HTTP/1.1 503 Service Unavailable\r\nContent-Type: application/json\r\nContent-Length: 15\r\n\r\n{\"refusal\":52}\n"
-        }
-        (true, true) => {
-            b"HTTP/1.1 503 Service Unavailable\r\nContent-Type: application/json\r\nContent-Length: 15\r\nConnection: close\r\n\r\n{\"refusal\":52}\n"
-        }
-    }
+    let fault = if received {
+        Fault::Unsettled
+    } else {
+        Fault::NotReceived
+    };
+    fault.text(is_last)
 }

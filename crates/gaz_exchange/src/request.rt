@@ -1,5 +1,5 @@
 ghost use Rattle.std.specs.Prelude.{◌≡◌, ◌++◌, [], ℕ, List};
-ghost use Rattle.std.specs.Io.KnownBytes.{Consumes};
+ghost use Rattle.std.specs.Io.KnownBytes.{Consumes, Keeps};
 ghost use Rattle.httparse.specs.Grammar.{RequestHead};
 ghost use Rattle.httparse.specs.Spans.{IsRequestAt};
 ghost use Rattle.gaz_exchange.specs.Next.{IsHeadAt};
@@ -12,9 +12,10 @@ use crate::headers::closes;
 use crate::heads::{Next, next_head};
 use crate::inlet::Inlet;
 use crate::route::{Call, Method, Routes};
+use crate::supply::Cause;
 use httparse::spans::{EMPTY_HEADER_SPAN, HeaderSpan, RequestSpans};
 use std::alloc::Global;
-use std::io::Read;
+use std::io::{Read, Write};
 
 /// A request that came whole.
 #[derive(Debug, Drop)]
@@ -34,8 +35,8 @@ pub enum Incoming {
     Refused(Fault),
     /// The end, outside of a request.
     Over,
-    /// The reader failed within a request.
-    Failed,
+    /// The reader or the writer failed before the request was whole.
+    Failed(Cause),
 }
 
 /// What is needed of a head when its bytes are gone.
@@ -86,15 +87,22 @@ fn needed_of(
 }
 
 // Reads the body behind a head, and makes the request whole.
-fn with_body<R: Read>(alloc: Global, r: &mut R, inlet: &mut Inlet, needed: Needed) -> Incoming
-    ensures { (bs : List ℕ) × Consumes (R.remaining r.old) (R.remaining r.new) bs
+fn with_body<R: Read, W: Write>(
+    alloc: Global,
+    r: &mut R,
+    w: &mut W,
+    inlet: &mut Inlet,
+    needed: Needed,
+) -> Incoming
+    ensures read { (bs : List ℕ) × Consumes (R.remaining r.old) (R.remaining r.new) bs
         × IsBehind (inlet.old ++ bs) needed inlet.new (R.remaining r.new) result }
+    ensures written { Keeps (W.contents w.old) (W.contents w.new) }
 {
     let size = match needed.framing {
         Framing::Length(size) => size,
         Framing::Refused(fault) => return Incoming::Refused(fault),
     };
-    match read_body(alloc, r, inlet, size) {
+    match read_body(alloc, r, w, inlet, size) {
         Body::Whole(body) => Incoming::Request(Request {
             call: needed.call,
             closing: needed.closing,
@@ -102,24 +110,30 @@ fn with_body<R: Read>(alloc: Global, r: &mut R, inlet: &mut Inlet, needed: Neede
         }),
         Body::Short => Incoming::Refused(Fault::BadRequest),
         Body::Memory => Incoming::Refused(Fault::NotReceived),
-        Body::Failed => Incoming::Failed,
+        Body::Failed(cause) => Incoming::Failed(cause),
     }
 }
 
 /// Reads the next request.
-pub fn next_request<R: Read>(alloc: Global, r: &mut R, intake: &mut Intake) -> Incoming
-    ensures { (bs : List ℕ) × Consumes (R.remaining r.old) (R.remaining r.new) bs
+pub fn next_request<R: Read, W: Write>(
+    alloc: Global,
+    r: &mut R,
+    w: &mut W,
+    intake: &mut Intake,
+) -> Incoming
+    ensures read { (bs : List ℕ) × Consumes (R.remaining r.old) (R.remaining r.new) bs
         × IsIncoming (intake.old.inlet ++ bs) intake.new.inlet (R.remaining r.new) result }
+    ensures written { Keeps (W.contents w.old) (W.contents w.new) }
 {
-    match next_head(r, &mut intake.inlet, &mut intake.headers) {
+    match next_head(r, w, &mut intake.inlet, &mut intake.headers) {
         Next::Head(spans) => {
             let bytes = intake.inlet.pending();
             let needed = needed_of(alloc, bytes, spans, &intake.headers, &mut intake.routes);
             intake.inlet.take(spans.len);
-            with_body(alloc, r, &mut intake.inlet, needed)
+            with_body(alloc, r, w, &mut intake.inlet, needed)
         }
         Next::Bad => Incoming::Refused(Fault::BadRequest),
         Next::Over => Incoming::Over,
-        Next::Failed => Incoming::Failed,
+        Next::Failed(cause) => Incoming::Failed(cause),
     }
 }

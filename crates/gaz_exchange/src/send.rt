@@ -23,19 +23,26 @@ fn write_all<W: Write>(w: &mut W, text: &[u8]) -> bool
     true
 }
 
-// Writes the text and flushes the writer, so that the client has it before anything more is read.
-fn put<W: Write>(w: &mut W, text: &[u8]) -> bool
+// Writes the text, and flushes the writer where no other follows: before a read the inlet does that.
+fn put<W: Write>(w: &mut W, text: &[u8], is_last: bool) -> bool
     ensures { IsPut (W.contents w.old) (W.contents w.new) text.now result }
 {
-    write_all(w, text) && w.flush().is_ok()
+    write_all(w, text) && (!is_last || w.flush().is_ok())
 }
 
 /// Writes a reply, or where it finds no memory the one that tells so. At `false` the writer failed.
 pub fn send<W: Write>(alloc: Global, w: &mut W, reply: Reply, is_last: bool) -> bool
     ensures { IsSent (W.contents w.old) (W.contents w.new) reply is_last result }
 {
+    if let Reply::Refused(fault) = reply {
+        return put(w, fault.text(is_last).as_bytes(), is_last);
+    }
     match reply.text(alloc, is_last) {
-        Ok(text) => put(w, text.as_bytes()),
-        Err(_) => put(w, memory_text(reply.tells_received(), is_last)),
+        Ok(text) => put(w, text.as_bytes(), is_last),
+        Err(_) => put(
+            w,
+            memory_text(reply.tells_received(), is_last).as_bytes(),
+            is_last,
+        ),
     }
 }

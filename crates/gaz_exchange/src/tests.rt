@@ -77,6 +77,23 @@ impl Write for Narrow {
     }
 }
 
+// Takes all that it is given, and can't flush it.
+#[derive(Drop)]
+struct Stuck {
+    taken: Vec<u8>,
+}
+
+impl Write for Stuck {
+    fn write(&mut self, buf: &[u8]) -> io::Result<usize> {
+        self.taken.extend_from_slice(buf)?;
+        Ok(buf.len())
+    }
+
+    fn flush(&mut self) -> io::Result<()> {
+        Err(io::Error::from(ErrorKind::Other))
+    }
+}
+
 // Sends each request only when the reply to the one before it was flushed, and else fails.
 #[derive(Drop)]
 struct Patient<'a> {
@@ -293,6 +310,26 @@ fn faults_of_the_stream(rt: HostRuntime) -> Result<(), Fail> {
         assert_eq!(rt; w.taken.len(), most);
         assert!(rt; APPLIED.as_bytes().starts_with(&w.taken));
     }
+    Ok(())
+}
+
+#[test]
+fn a_writer_that_cant_flush(rt: HostRuntime) -> Result<(), Fail> {
+    let mut hub = Hub::new(rt.alloc());
+    let mut r = Pieces::new(POST, 64, false);
+    let mut w = Stuck {
+        taken: Vec::new(rt.alloc()),
+    };
+    let ended = converse(rt.alloc(), &mut r, &mut w, &mut hub, 9);
+    assert_eq!(rt;
+        ended,
+        Err(Stopped {
+            requests: 0,
+            cause: Cause::WriteFault
+        })
+    );
+    assert_eq!(rt; r.reads, 0);
+    assert_eq!(rt; w.taken.len(), 0);
     Ok(())
 }
 

@@ -8,6 +8,7 @@ mod tests;
 
 use gaz_exchange::{Cause, converse};
 use gaz_hub::Hub;
+use std::io::BufWriter;
 use std::process::ExitCode;
 use std::{env, io};
 
@@ -20,14 +21,12 @@ const USAGE: u8 = 2;
 
 // Holds a conversation on standard input and output, over a hub in memory. The exit status.
 fn play<R: Input + Print + Eprint + AllocGlobal>(rt: &R) -> u8 {
+    let Ok(mut w) = BufWriter::new(rt.alloc(), io::writer(rt)) else {
+        let _ = eprintln!(rt; "gazhub: Memory");
+        return FAULT;
+    };
     let mut hub = Hub::new(rt.alloc());
-    let stopped = match converse(
-        rt.alloc(),
-        &mut rt.reader(),
-        &mut io::writer(rt),
-        &mut hub,
-        MOST,
-    ) {
+    let stopped = match converse(rt.alloc(), &mut rt.reader(), &mut w, &mut hub, MOST) {
         Ok(_) => return 0,
         Err(stopped) => stopped,
     };

@@ -4,15 +4,15 @@ use Rattle.gaz_exchange.specs.Heads.{BeginsWith}
 use Rattle.gaz_exchange.proofs.IncomingFacts.{bad_head, begins_more, head_then}
 use Rattle.gaz_exchange.proofs.request.next_request.Goals as goal
 
-pub returns-in-Bad : goal.returns-in-Bad
-returns-in-Bad g c =
-    let (bs, eaten, grown, next) = c.in-Bad.ensures in
+pub returns-in-Bad-clause-read : goal.returns-in-Bad-clause-read
+returns-in-Bad-clause-read g c =
+    let (bs, eaten, grown, next) = c.in-Bad.ensures.read in
     (bs, eaten, rw grown at (bad_head _ _ next.0 next.1))
 
-pub returns-in-Head : goal.returns-in-Head
-returns-in-Head g c =
-    let (bs, eaten, grown, next) = c.in-Head.ensures in
-    let (more, drunk, behind) = c.with_body.ensures in
+pub returns-in-Head-clause-read : goal.returns-in-Head-clause-read
+returns-in-Head-clause-read g c =
+    let (bs, eaten, grown, next) = c.in-Head.ensures.read in
+    let (more, drunk, behind) = c.with_body.ensures.read in
     let (within, h, stands, short, few) = next in
     let pending = c.next_head.new.inlet in
     let begins : BeginsWith pending h (drop c.in-Head.spans.len pending) = record { reads = stands.reads; short = short; few = few } in

@@ -1,0 +1,41 @@
+ghost use Rattle.std.specs.Prelude.{◌++◌, ◌<◌, ◌≡◌, ℕ, List, length};
+ghost use Rattle.std.specs.Io.KnownBytes.{Consumes, Keeps};
+ghost use Rattle.gaz_exchange.specs.Supplies.{IsSupply};
+
+use crate::inlet::Inlet;
+use std::io::{Read, Write};
+
+/// What failed in a conversation.
+#[derive(Clone, Copy, Debug, PartialEq, Eq)]
+pub enum Cause {
+    /// The reader failed, whatever its error.
+    ReadFault,
+    /// The writer failed, whatever its error, or took nothing of what it was given.
+    WriteFault,
+}
+
+/// What came of asking for more bytes.
+#[derive(Clone, Copy, Debug, PartialEq, Eq)]
+pub enum Supply {
+    Some,
+    /// The input ended.
+    End,
+    Failed(Cause),
+}
+
+/// Flushes the writer and then reads once, so that no reply waits for bytes that it doesn't need.
+pub fn read_more<R: Read, W: Write>(r: &mut R, w: &mut W, inlet: &mut Inlet) -> Supply
+    requires { length inlet.old < 8193 }
+    ensures read { (bs : List ℕ) × Consumes (R.remaining r.old) (R.remaining r.new) bs × (inlet.new ≡ inlet.old ++ bs)
+        × IsSupply bs (R.remaining r.new) result }
+    ensures written { Keeps (W.contents w.old) (W.contents w.new) }
+{
+    if w.flush().is_err() {
+        return Supply::Failed(Cause::WriteFault);
+    }
+    match inlet.fill(r) {
+        Ok(0) => Supply::End,
+        Ok(_) => Supply::Some,
+        Err(_) => Supply::Failed(Cause::ReadFault),
+    }
+}
