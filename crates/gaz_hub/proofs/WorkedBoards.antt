@@ -103,6 +103,7 @@ on_standing = record {
   without_files = stands_empty;
   up_to_the_gap = stands_sent;
   without_gap = stands_all;
+  goes_on_with_more = (no_text_judged ∷ no_text_judged ∷ [], rw (stands_sent, stands_all) refl);
   is_settled = standing_is_settled sample_register sent;
 }
 

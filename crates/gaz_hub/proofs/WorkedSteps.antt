@@ -2,6 +2,7 @@
 use Rattle.std.proofs.Common.{◌≡◌, ℕ, List, [], refl, sym, ap, ◌∙◌, subst, true≢false}
 use Rattle.std.specs.Prelude.{Option, Some, None}
 use Rattle.std.specs.FinMap as map
+use Rattle.sha2.specs.Sha256.{sha256}
 use Rattle.gaz_shelf.specs.Board.{Board, empty_board}
 use Rattle.gaz_hub.specs.Received.{pair_cmp}
 use Rattle.gaz_hub.specs.Standing.{Follows, standing}
@@ -102,6 +103,9 @@ on_submissions = record {
   never_twice = λ s. no_none _ _ (get_sent (1003, 3)) s.free;
 }
 
+same_bytes : (o : Option (List ℕ)) (a b : List ℕ) → o ≡ Some a → o ≡ Some b → a ≡ b
+same_bytes o a b e f = let same : Some a ≡ Some b = sym e ∙ f in cc
+
 pub on_repeats : WorkedRepeats
 on_repeats = record {
   repeated = record { let_in = refl; there = get_sent (1003, 1); received = refl; settled = gap_settled; answer = refl };
@@ -110,6 +114,7 @@ on_repeats = record {
   never_new_again = λ s. no_none _ _ (get_sent (1003, 1)) s.free;
   never_lost = λ s. no_none _ _ (get_sent (1003, 1)) (sym (ap (λ X. map.get X (1003, 1)) s.received) ∙ map.get-empty pair_cmp (1003, 1));
   taken = record { let_in = refl; others = no_text; there = get_sent (1003, 1); differ = λ e. cc; digest_is = refl; received = refl; settled = gap_settled };
+  no_other_digest = λ digest s. s.digest_is ∙ ap sha256 (same_bytes _ s.others no_text s.there (get_sent (1003, 1)));
   never_by_volume_alone = λ s. let e : Some no_text ≡ Some [] = sym (get_sent (1003, 1)) ∙ s.there in cc;
   never_taken_by_itself = λ s. let e : Some no_text ≡ Some s.others = sym (get_sent (1003, 1)) ∙ s.there in s.differ cc;
 }

@@ -61,6 +61,7 @@ pub record WorkedStanding : Type 0 where
   pub without_files : standing sample_register map.empty ≡ empty_board
   pub up_to_the_gap : standing sample_register sent ≡ one_judged
   pub without_gap : standing sample_register all_sent ≡ three_judged
+  pub goes_on_with_more : IsPrefixOf (standing sample_register sent 1003) (standing sample_register all_sent 1003)
   pub is_settled : StandsSettled sample_register sent
 
 -- which boards lead to which

@@ -1,5 +1,5 @@
 -- Worked examples on the door and on the steps of a hub.
-use Rattle.std.specs.Prelude.{◌≡◌, true, false, [], Some, None, Ok, Err}
+use Rattle.std.specs.Prelude.{◌≡◌, ℕ, List, true, false, [], Some, None, Ok, Err}
 use Rattle.sha2.specs.Sha256.{sha256}
 use Rattle.gaz_shelf.specs.Board.{empty_board}
 use Rattle.gaz_shelf.specs.declared.fault.ShelfFault.TheVariants as fault
@@ -60,6 +60,7 @@ pub record WorkedRepeats : Type 0 where
   pub never_new_again : Goes gap_hub (Submit 1003 1 no_text) (Submitted (New (Rejected 1 1))) gap_hub → ⊥
   pub never_lost : Goes gap_hub (Submit 1003 1 no_text) (Submitted (Repeat (Rejected 1 1))) new_hub → ⊥
   pub taken : Goes gap_hub (Submit 1003 1 []) (Submitted (Taken (sha256 no_text))) gap_hub
+  pub no_other_digest : (digest : List ℕ) → Goes gap_hub (Submit 1003 1 []) (Submitted (Taken digest)) gap_hub → digest ≡ sha256 no_text
   pub never_by_volume_alone : Goes gap_hub (Submit 1003 1 []) (Submitted (Repeat (Rejected 1 1))) gap_hub → ⊥
   pub never_taken_by_itself : Goes gap_hub (Submit 1003 1 no_text) (Submitted (Taken (sha256 no_text))) gap_hub → ⊥
 
