@@ -1,18 +1,18 @@
 -- The answers of a hub that replays, as steps.
-use Rattle.std.proofs.Common.{◌≡◌, ◌≢◌, ◌≤◌, ◌<◌, ◌+◌, ◌-◌, ℕ, zero, suc, Bool, true, false, cond, not, ◌&&◌, List, [], ◌∷◌, length, refl, sym, ap, ◌∙◌, subst, arith}
+use Rattle.std.proofs.Common.{◌≡◌, ◌≢◌, ◌≤◌, ◌<◌, ◌-◌, ℕ, zero, suc, Bool, true, false, cond, not, ◌&&◌, List, [], ◌∷◌, length, refl, sym, ap, ◌∙◌, subst, arith}
 use Rattle.std.specs.Cmp.{eq_by_cmp_equiv}
-use Rattle.std.specs.Prelude.{slice_get, nat_le, count_by, ◌==◌, Option, Some, None, Result, Ok, Err, IsSome}
-use Rattle.std.specs.Option.{option_map, option_map_or}
+use Rattle.std.specs.Prelude.{slice_get, nat_le, count_by, ◌==◌, Option, Some, None, Ok, Err}
+use Rattle.std.specs.Option.{option_map}
 use Rattle.std.specs.FinMap as map
 use Rattle.sha2.specs.Sha256.{sha256}
-use Rattle.gaz_shelf.specs.Board.{Judgement, Board, reached}
+use Rattle.gaz_shelf.specs.Board.{Judgement}
 use Rattle.gaz_shelf.specs.declared.fault.ShelfFault.{ShelfFault}
 use Rattle.gaz_shelf.specs.declared.verdict.Verdict.{Verdict}
 use Rattle.gaz_hub.specs.Received.{Received, HasAllOf, with_file}
 use Rattle.gaz_hub.specs.Standing.{standing}
 use Rattle.gaz_hub.specs.Outcomes.{held_count, outcome, outcome_of, status, wants}
 use Rattle.gaz_hub.specs.Sample.{is_sample_code, sample_door, sample_register, state_of}
-use Rattle.gaz_hub.specs.Step.{Ask, Asks, Command, NotReceived, Settles, Settle, Stand, Submit, Submits, TellsStanding, TurnedAway, Unsettled, WasAsked, IsToldOf, door, early_refusal, is_volume, turned_away}
+use Rattle.gaz_hub.specs.Step.{Asks, Command, NotReceived, Settles, Settle, Stand, Submits, TellsStanding, Unsettled, WasAsked, door, early_refusal, is_volume, turned_away}
 use Rattle.gaz_hub.specs.Replays.{IsReplay}
 use Rattle.gaz_hub.specs.declared.answer.Answer.TheVariants.{New, Repeat, Taken, Refused}
 use Rattle.gaz_hub.specs.declared.outcome.Outcome.{Outcome}

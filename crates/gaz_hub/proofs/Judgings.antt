@@ -1,14 +1,13 @@
 -- Judging a file change by change.
 use Rattle.std.proofs.Common.{◌≡◌, ℕ, List, [], ◌∷◌, ◌++◌, refl, sym, ap, ◌∙◌}
-use Rattle.std.proofs.lemmas.List.{append-nil}
-use Rattle.std.specs.Prelude.{Option, Some, None}
-use Rattle.std.specs.List.{fold, filter_map}
+use Rattle.std.specs.Prelude.{Some, None}
+use Rattle.std.specs.List.{fold}
 use Rattle.gaz_changefile.specs.declared.change.Change.{Change}
 use Rattle.gaz_changefile.specs.Contents.{Contents}
 use Rattle.gaz_changefile.specs.Reading.{Reading, Good, Bad}
 use Rattle.gaz_shelf.specs.View.{View}
 use Rattle.gaz_shelf.specs.Board.{Judgement}
-use Rattle.gaz_rules.specs.Rules.{Blocks, effect, first_broken, record_rules, end_rules}
+use Rattle.gaz_rules.specs.Rules.{Blocks, effect, first_broken, record_rules}
 use Rattle.gaz_shelf.specs.declared.verdict.Verdict.TheVariants.{Applied, Rejected}
 use Rattle.gaz_hub.specs.Judged.{IsJudged}
 use Rattle.gaz_rules.specs.Judging.{Fault, judge, judged_by_faults, record_faults, end_faults}

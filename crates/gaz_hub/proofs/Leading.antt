@@ -1,19 +1,11 @@
 -- Boards that follow one another.
-use Rattle.std.proofs.Common.{◌≡◌, ◌≢◌, ◌≤◌, ◌<◌, ◌+◌, ℕ, zero, suc, Bool, true, false, cond, not, eqb, ◌||◌, ◌&&◌, List, [], ◌∷◌, ◌++◌, ◌⊎◌, inl, inr, refl, sym, ap, ◌∙◌, subst, true≢false, is_none, arith, eqb-true}
+use Rattle.std.proofs.Common.{◌≡◌, ◌≤◌, ◌+◌, ℕ, zero, suc, true, false, cond, eqb, List, [], ◌∷◌, ◌++◌, ◌⊎◌, inl, inr, refl, sym, ◌∙◌, subst, arith, eqb-true}
 use Rattle.std.proofs.Math.Path.{fun_ext}
-use Rattle.std.proofs.lemmas.Cmp.{on_total, then_total}
-use Rattle.std.specs.Cmp.{IsTotalOrder, nat_cmp_total}
-use Rattle.std.specs.Ordering.{nat_cmp, eq_by_cmp}
-use Rattle.std.specs.Prelude.{Option, Some, None}
 use Rattle.std.specs.List.{list_any}
-use Rattle.std.specs.Cmp.{Equal-is}
-use Rattle.std.proofs.lemmas.Map.Lookups.{exact_pairs, exact_unsigned}
 use Rattle.std.specs.FinMap as map
-use Rattle.gaz_changefile.specs.Reading.{reading}
-use Rattle.gaz_rules.specs.Judging.{bases_of}
-use Rattle.gaz_shelf.specs.Board.{Board, empty_board, reached}
-use Rattle.gaz_hub.specs.Received.{Received, pair_cmp, HasAllOf, with_file}
-use Rattle.gaz_hub.specs.Standing.{Register, ready, with_next, judge_one, standing, Leads, Follows, IsPartial, NothingReady, are_reached, IsPrefixOf, StandingIsSettled}
+use Rattle.gaz_shelf.specs.Board.{Board, empty_board}
+use Rattle.gaz_hub.specs.Received.{Received, HasAllOf}
+use Rattle.gaz_hub.specs.Standing.{Register, ready, with_next, judge_one, standing, Leads, Follows, IsPartial, NothingReady, StandingIsSettled}
 use Rattle.gaz_hub.proofs.Prefixes.{some_of_any}
 use Rattle.gaz_hub.proofs.Orders.{IsReady, ready_gives, ready_from, with_next_is, any_order_holds, one_counts, done_at_most, done_count, none_ready, standing_closed}
 

@@ -8,3 +8,7 @@ pub mod Judgings
 pub mod Replaying
 pub mod AnswerSteps
 pub mod Examples
+pub mod WorkedBoards
+pub mod WorkedAnswers
+pub mod WorkedSteps
+pub mod WorkedRuns

@@ -1,24 +1,24 @@
 -- That the order in which files are judged doesn't matter.
-use Rattle.std.proofs.Common.{◌≡◌, ℕ, zero, suc, ◌+◌, ◌<◌, ◌≤◌, Bool, true, false, ◌&&◌, ◌||◌, cond, if◌then◌else◌, ◌⊎◌, inl, inr, List, [], ◌∷◌, ◌++◌, map, length, refl, sym, ap, ◌∙◌, subst, append_assoc, append-nil, length-append, arith, true≢false, leb, eqb, leb-true, le-leb, leb-false, eqb-true, eq-eqb, ne_eqb}
+use Rattle.std.proofs.Common.{◌≡◌, ℕ, zero, suc, ◌+◌, ◌<◌, ◌≤◌, Bool, true, false, cond, ◌⊎◌, inl, inr, List, [], ◌∷◌, ◌++◌, map, length, refl, sym, ap, ◌∙◌, subst, append-nil, arith, true≢false, leb, eqb, leb-true, le-leb, eqb-true, eq-eqb}
 use Rattle.std.proofs.Math.Path.{fun_ext}
 use Rattle.std.proofs.Common.{le_trans, le_of_eq}
 use Rattle.std.proofs.lemmas.List.{length_push}
 use Rattle.std.proofs.lemmas.Bool.Decides.{leb_tells}
 use Rattle.std.proofs.lemmas.Map.Lookups.{exact_pairs, exact_unsigned}
-use Rattle.std.specs.Prelude.{slice_get, nat_le, Option, Some, None, IsTrue}
-use Rattle.std.specs.Option.{option_map_or, option_map, unwrap_or}
-use Rattle.std.specs.List.{list_all, list_any}
+use Rattle.std.specs.Prelude.{slice_get, nat_le, Some}
+use Rattle.std.specs.Option.{unwrap_or}
+use Rattle.std.specs.List.{list_any}
 use Rattle.std.specs.Ordering.{nat_cmp, eq_by_cmp}
 use Rattle.std.specs.Cmp.{Equal-is}
 use Rattle.std.specs.FinMap as map
-use Rattle.gaz_shelf.specs.View.{View, empty_view}
+use Rattle.gaz_shelf.specs.View.{empty_view}
 use Rattle.gaz_changefile.specs.Reading.{Reading, reading}
 use Rattle.gaz_rules.specs.Judging.{bases_of, judge}
-use Rattle.gaz_shelf.specs.Board.{Judgement, Board, empty_board, reached, views, view_after}
+use Rattle.gaz_shelf.specs.Board.{Judgement, Board, empty_board, reached, view_after}
 use Rattle.gaz_hub.specs.Received.{Received, pair_cmp, HasAllOf}
-use Rattle.gaz_hub.specs.Standing.{Register, basis_views, are_reached, next_reading, ready, judgement_after, with_next, judge_one, round, rounds, standing, Leads, Follows, IsPartial, NothingReady, IsPrefixOf, AnyOrder, MoreFiles, StandingIsSettled, StandsSettled}
+use Rattle.gaz_hub.specs.Standing.{Register, basis_views, are_reached, ready, judgement_after, with_next, judge_one, round, rounds, standing, Leads, NothingReady, IsPrefixOf, AnyOrder, MoreFiles}
 use Rattle.gaz_changefile.specs.declared.change.Basis.{Basis}
-use Rattle.gaz_hub.proofs.Prefixes.{prefix_refl, prefix_trans, prefix_length, prefix_same, prefix_push, get_front, get_front_plain, get_pushed, both_parts, joined, gives_some, at_some, count, more_counted, count_all, one_more_counted, any_of_found, some_of_any}
+use Rattle.gaz_hub.proofs.Prefixes.{prefix_length, prefix_same, prefix_push, get_front, get_front_plain, get_pushed, both_parts, joined, gives_some, at_some, count, count_all, one_more_counted, any_of_found, some_of_any}
 
 -- each custodian's list in C goes on from that in B
 abbrev pub Below : Board → Board → Type 0

@@ -1,28 +1,25 @@
 -- How replaying goes on file by file.
-use Rattle.std.proofs.Common.{◌≡◌, ◌≢◌, ◌≤◌, ◌<◌, ◌+◌, ◌-◌, ℕ, zero, suc, Bool, true, false, cond, List, [], ◌∷◌, ◌++◌, ◌⊎◌, inl, inr, map, length, take, refl, sym, ap, ◌∙◌, subst, true≢false, arith, add-one, le-leb, eqb, eqb-true}
-use Rattle.std.proofs.lemmas.Bool.Decides.{leb_tells, nat_tests}
+use Rattle.std.proofs.Common.{◌≡◌, ◌≢◌, ◌≤◌, ◌<◌, ◌+◌, ◌-◌, ℕ, zero, suc, Bool, true, false, cond, List, [], ◌∷◌, ◌⊎◌, inl, inr, map, length, take, refl, sym, ap, ◌∙◌, subst, true≢false, arith, add-one, le-leb, eqb, eqb-true}
 use Rattle.std.proofs.lemmas.Bool.{cases_Bool, cases_lt, eqb-false}
 use Rattle.std.proofs.lemmas.List.{take_all}
-use Rattle.std.specs.Prelude.{slice_get, nat_le, nat_eq, ◌==◌, Option, Some, None, unwrap_or, if◌then◌else◌}
-use Rattle.std.specs.Option.{option_map, option_map_or}
+use Rattle.std.specs.Prelude.{slice_get, Option, Some, None, unwrap_or}
+use Rattle.std.specs.Option.{option_map}
 use Rattle.std.specs.Str.{is_utf8}
 use Rattle.std.specs.FinMap as finite
 use Rattle.gaz_changefile.specs.declared.change.Basis.{Basis}
 use Rattle.gaz_changefile.specs.Contents.{Contents, contents_of}
-use Rattle.gaz_changefile.specs.Reading.{Reading, Good, Bad, Fault, by_faults, faults, reading}
+use Rattle.gaz_changefile.specs.Reading.{Reading, Bad, Fault, by_faults, reading}
 use Rattle.gaz_shelf.specs.View.{View, empty_view}
-use Rattle.gaz_shelf.specs.Board.{Judgement, Board, reached, view_after, views}
+use Rattle.gaz_shelf.specs.Board.{Judgement, Board, reached, view_after}
 use Rattle.gaz_shelf.specs.declared.verdict.Verdict.{Verdict}
 use Rattle.gaz_rules.specs.Judging.{bases_of, judge}
 use Rattle.gaz_ids.specs.Numbers.{in_range, of_id}
 use Rattle.gaz_hub.specs.Received.{Received}
-use Rattle.gaz_hub.specs.Standing.{Register, are_reached, basis_views, judgement_after, next_reading, ready, standing}
-use Rattle.gaz_hub.specs.Outcomes.{wants}
+use Rattle.gaz_hub.specs.Standing.{are_reached, basis_views, judgement_after, standing}
 use Rattle.gaz_hub.specs.Judged.{IsJudged}
 use Rattle.gaz_hub.specs.Sample.{sample_register}
 use Rattle.gaz_hub.specs.Replays.{IsReplay}
-use Rattle.gaz_hub.specs.declared.replay.Replay.{Replay}
-use Rattle.gaz_hub.proofs.Orders.{Entry, IsLawful, ready_from, standing_closed, standing_lawful}
+use Rattle.gaz_hub.proofs.Orders.{ready_from, standing_closed, standing_lawful}
 
 -- the volume of a number
 pub of_gives : (n v : ℕ) → Some v ≡ of_id 1 999999 n → v ≡ n

@@ -1,16 +1,14 @@
 -- What a run of steps keeps.
-use Rattle.std.proofs.Common.{◌≡◌, ◌≢◌, ℕ, Bool, true, false, List, [], ◌∷◌, ◌++◌, refl, sym, ap, ◌∙◌, subst}
+use Rattle.std.proofs.Common.{◌≡◌, ℕ, true, List, [], ◌∷◌, ◌++◌, refl, sym, ap, ◌∙◌, subst}
 use Rattle.std.specs.Prelude.{Option, Some, None}
 use Rattle.std.specs.Option.{option_or}
 use Rattle.std.specs.FinMap as map
-use Rattle.gaz_shelf.specs.Board.{Board, empty_board, Judgement}
+use Rattle.gaz_shelf.specs.Board.{Board, empty_board}
 use Rattle.gaz_hub.specs.Received.{Received, pair_cmp}
 use Rattle.gaz_hub.specs.Standing.{Follows, IsPartial, NothingReady, standing, Leads, IsPrefixOf, judge_one, Register}
 use Rattle.gaz_hub.specs.Outcomes.{outcome}
-use Rattle.gaz_hub.specs.Step.{Door, HubState, Command, Submit, Response, Submitted, Step, new_hub}
-use Rattle.gaz_hub.specs.Runs.{Run, is_settled, accepted, first_received, Abides, EveryRun, EverySettledRun, EveryRepeat, ChangesNothing, JudgementsStay, EqualReceived}
-use Rattle.gaz_hub.specs.declared.answer.Answer.TheVariants.{Repeat}
-use Rattle.gaz_hub.specs.declared.outcome.Outcome.{Outcome}
+use Rattle.gaz_hub.specs.Step.{Door, HubState, Command, Response, new_hub}
+use Rattle.gaz_hub.specs.Runs.{Run, is_settled, first_received, EveryRun, EverySettledRun, EveryRepeat, JudgementsStay, EqualReceived}
 use Rattle.gaz_hub.proofs.Orders.{any_order_holds, judge_one_moved, moved_below}
 use Rattle.gaz_hub.proofs.Prefixes.{prefix_refl, prefix_trans}
 use Rattle.gaz_hub.proofs.Leading.{follows_itself, follows_more, follows_on}
@@ -68,10 +66,13 @@ leads_below G F B [] C e c = subst (λ X. IsPrefixOf (B c) (X c)) (sym e) (prefi
 leads_below G F B (d ∷ order) C l c =
     prefix_trans (B c) (judge_one G F B d c) (C c) (moved_below G F B (judge_one G F B d) (judge_one_moved G F B d l.0) c) (leads_below G F (judge_one G F B d) order C l.1 c)
 
+pub follows_below : (G : Register) (F : Received) (B C : Board) → Follows G F B C → (c : ℕ) → IsPrefixOf (B c) (C c)
+follows_below G F B C f = leads_below G F B f.order C f.leads
+
 pub judgements_stay_holds : JudgementsStay
 judgements_stay_holds d old new command response s c =
     let g = goes d old command response new s in
-    leads_below d.register new.received old.board g.board.order new.board g.board.leads c
+    follows_below d.register new.received old.board new.board g.board c
 
 same_state : (one other : HubState) → other.received ≡ one.received → other.board ≡ one.board → other ≡ one
 same_state one other e f = λ i. record { received = e i; board = f i }

@@ -1,15 +1,13 @@
 -- What one step keeps.
-use Rattle.std.proofs.Common.{◌≡◌, ◌≢◌, ◌≤◌, ◌+◌, ℕ, Bool, true, false, cond, not, eqb, ◌||◌, ◌&&◌, List, [], ◌∷◌, ◌++◌, ◌⊎◌, inl, inr, refl, sym, ap, ◌∙◌, subst, true≢false, is_none}
-use Rattle.std.specs.Ordering.{eq_by_cmp}
-use Rattle.std.specs.Prelude.{Option, Some, None, Result, Ok, Err}
+use Rattle.std.proofs.Common.{◌≡◌, ℕ, Bool, true, false, cond, not, ◌&&◌, List, refl, sym, ap, ◌∙◌, subst, true≢false, is_none}
+use Rattle.std.specs.Prelude.{Option, Some, None, Ok, Err}
 use Rattle.std.specs.Option.{option_or}
 use Rattle.std.specs.Cmp.{Equal-is}
 use Rattle.std.specs.FinMap as map
 use Rattle.gaz_shelf.specs.Board.{Board}
-use Rattle.gaz_shelf.specs.declared.fault.ShelfFault.{ShelfFault}
 use Rattle.gaz_hub.specs.Received.{Received, pair_cmp, HasAllOf, with_file}
 use Rattle.gaz_hub.specs.Standing.{Follows, NothingReady}
-use Rattle.gaz_hub.specs.Step.{Door, HubState, Command, Submit, Ask, Stand, Settle, Response, Submitted, Told, Stands, Settled, Step, Submits, Refuses, TurnedAway, NotReceived, Unsettled, WasNew, WasRepeated, WasTaken, WasAsked, Settles, door}
+use Rattle.gaz_hub.specs.Step.{Door, HubState, Command, Submit, Ask, Stand, Settle, Response, Submitted, Told, Stands, Settled, Step, Submits, Refuses, TurnedAway, NotReceived, WasAsked, Settles, door}
 use Rattle.gaz_hub.specs.Runs.{accepted, is_settled, same_pair, is_answered_51}
 use Rattle.gaz_hub.specs.declared.answer.Answer.{Answer}
 use Rattle.gaz_hub.specs.declared.answer.Answer.TheVariants.{New, Repeat, Taken, Refused}

@@ -1,5 +1,5 @@
 -- What judging a file says.
-use Rattle.std.specs.Prelude.{◌≡◌, ℕ, List, [], ◌∷◌, Option, Some, None}
+use Rattle.std.specs.Prelude.{◌≡◌, List, [], ◌∷◌, Option, Some, None}
 use Rattle.std.specs.List.{fold}
 use Rattle.gaz_changefile.specs.declared.change.Change.{Change}
 use Rattle.gaz_shelf.specs.View.{View}

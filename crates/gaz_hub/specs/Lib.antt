@@ -7,3 +7,7 @@ pub mod Sample
 pub mod Judged
 pub mod Replays
 pub mod Examples
+pub mod WorkedBoards
+pub mod WorkedAnswers
+pub mod WorkedSteps
+pub mod WorkedRuns

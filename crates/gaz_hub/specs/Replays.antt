@@ -1,7 +1,7 @@
 -- What replaying a custodian's files comes to.
-use Rattle.std.specs.Prelude.{◌≡◌, ◌-◌, ℕ, slice_get, Option, None}
+use Rattle.std.specs.Prelude.{◌≡◌, ◌-◌, ℕ, slice_get, None}
 use Rattle.std.specs.Option.{option_map}
-use Rattle.gaz_shelf.specs.Board.{Judgement, reached}
+use Rattle.gaz_shelf.specs.Board.{reached}
 use Rattle.gaz_hub.specs.Received.{Received}
 use Rattle.gaz_hub.specs.Standing.{standing}
 use Rattle.gaz_hub.specs.Outcomes.{wants}

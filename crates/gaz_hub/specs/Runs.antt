@@ -1,12 +1,12 @@
 -- Whole runs of a hub, and what holds after each.
-use Rattle.std.specs.Prelude.{◌≡◌, ℕ, Bool, true, false, not, ◌&&◌, if◌then◌else◌, List, [], ◌∷◌, ◌++◌, is_none, is_ok, Option, Some, None, Result, Ok, Err}
+use Rattle.std.specs.Prelude.{◌≡◌, ℕ, Bool, true, false, not, ◌&&◌, if◌then◌else◌, List, [], ◌∷◌, ◌++◌, is_none, is_ok, Option, Some, None}
 use Rattle.std.specs.Option.{option_or}
 use Rattle.std.specs.Ordering.{eq_by_cmp}
 use Rattle.std.specs.FinMap as map
 use Rattle.gaz_hub.specs.Received.{pair_cmp}
 use Rattle.gaz_hub.specs.Standing.{IsPartial, IsPrefixOf, NothingReady, standing}
 use Rattle.gaz_hub.specs.Outcomes.{outcome}
-use Rattle.gaz_hub.specs.Step.{Door, HubState, new_hub, Command, Submit, Ask, Stand, Settle, Response, Submitted, Told, Stands, Settled, Step, door}
+use Rattle.gaz_hub.specs.Step.{Door, HubState, new_hub, Command, Submit, Response, Submitted, Told, Stands, Settled, Step, door}
 use Rattle.gaz_hub.specs.declared.answer.Answer.{Answer}
 use Rattle.gaz_hub.specs.declared.answer.Answer.TheVariants.{New, Repeat, Taken, Refused}
 use Rattle.gaz_hub.specs.declared.outcome.Outcome.{Outcome}

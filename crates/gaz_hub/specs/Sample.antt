@@ -1,6 +1,5 @@
 -- The custodians of the sample register, and a hub over them.
-use Rattle.std.specs.Prelude.{ℕ, ◌==◌, Bool, true, false, ◌||◌, if◌then◌else◌, List, [], ◌∷◌}
-use Rattle.gaz_rules.specs.Rules.{Blocks}
+use Rattle.std.specs.Prelude.{ℕ, ◌==◌, Bool, false, ◌||◌, if◌then◌else◌, [], ◌∷◌}
 use Rattle.gaz_hub.specs.Received.{Received}
 use Rattle.gaz_hub.specs.Standing.{Register, standing}
 use Rattle.gaz_hub.specs.Step.{Door, HubState}

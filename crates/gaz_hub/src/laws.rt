@@ -1,7 +1,10 @@
 //! Laws over the definitions alone: whichever ready file is judged first, whatever commands come.
-ghost use Rattle.gaz_hub.specs.Examples.{WorkedExamples};
 ghost use Rattle.gaz_hub.specs.Runs.{EqualReceived, EveryRepeat, EveryRun, EverySettledRun, JudgementsStay};
 ghost use Rattle.gaz_hub.specs.Standing.{AnyOrder, MoreFiles, StandingIsSettled};
+ghost use Rattle.gaz_hub.specs.WorkedAnswers.{WorkedAnswers};
+ghost use Rattle.gaz_hub.specs.WorkedBoards.{WorkedBoards};
+ghost use Rattle.gaz_hub.specs.WorkedRuns.{WorkedRuns};
+ghost use Rattle.gaz_hub.specs.WorkedSteps.{WorkedSteps};
 
 /// Every partial board with nothing ready is the standing one, whichever ready file was judged first.
 pub fn any_order()
@@ -43,7 +46,22 @@ pub fn equal_received()
     ensures { EqualReceived }
 {}
 
-/// What the definitions come to on worked examples.
-pub fn worked_examples()
-    ensures { WorkedExamples }
+/// What was received, who is ready, and which boards come next, on worked examples.
+pub fn worked_boards()
+    ensures { WorkedBoards }
+{}
+
+/// What judging comes to and what custodians are told, on worked examples.
+pub fn worked_answers()
+    ensures { WorkedAnswers }
+{}
+
+/// Which steps a hub may take, and which it may not, on worked examples.
+pub fn worked_steps()
+    ensures { WorkedSteps }
+{}
+
+/// Which runs a hub may go through, and what holds after them, on worked examples.
+pub fn worked_runs()
+    ensures { WorkedRuns }
 {}

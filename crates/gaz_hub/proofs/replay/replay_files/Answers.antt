@@ -1,10 +1,10 @@
-use Rattle.std.proofs.Common.{◌≡◌, ◌≤◌, ◌+◌, ℕ, arith, sym, ◌∙◌, ap, Some, None, subst, []}
+use Rattle.std.proofs.Common.{◌≡◌, ℕ, arith, sym, ◌∙◌, ap, subst, []}
 use Rattle.std.specs.FinMap as map
 use Rattle.gaz_hub.specs.Judged.{IsJudged}
 use Rattle.gaz_changefile.specs.Reading.{reading}
 use Rattle.gaz_rules.specs.Judging.{judge}
 use Rattle.gaz_hub.specs.Sample.{sample_register}
-use Rattle.gaz_hub.proofs.Replaying.{Replayed, of_gives, replay_start, replay_next, replay_end, replay_full}
+use Rattle.gaz_hub.proofs.Replaying.{Replayed, of_gives, replay_next, replay_end, replay_full}
 use Rattle.gaz_hub.proofs.replay.replay_files.Goals as goal
 
 pub returns-in-None : goal.returns-in-None

@@ -1,4 +1,4 @@
-use Rattle.std.proofs.Common.{◌∙◌, sym, ap, refl, Some, ℕ, List}
+use Rattle.std.proofs.Common.{◌∙◌, sym, ap, refl, Some}
 use Rattle.std.specs.FinMap as map
 use Rattle.gaz_shelf.proofs.Trees.{get_tree}
 use Rattle.gaz_hub.specs.Received.{Received, pair_cmp}

@@ -1,4 +1,4 @@
-use Rattle.std.proofs.Common.{◌∙◌, sym, ap, refl, ℕ, List}
+use Rattle.std.proofs.Common.{◌∙◌, ap, refl, ℕ, List}
 use Rattle.std.specs.FinMap as map
 use Rattle.gaz_shelf.proofs.Trees.{inserted}
 use Rattle.gaz_hub.specs.Received.{Received, pair_cmp, with_file}

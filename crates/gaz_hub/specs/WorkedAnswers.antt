@@ -1,0 +1,66 @@
+-- Worked examples on judging, on what is told of files, and on the sample register.
+use Rattle.std.specs.Prelude.{◌≡◌, true, false, [], ◌∷◌, Some, None}
+use Rattle.gaz_rules.specs.Examples.{again, insertion}
+use Rattle.gaz_rules.specs.Rules.{within}
+use Rattle.gaz_shelf.specs.Board.{Board, empty_board, reached}
+use Rattle.gaz_shelf.specs.Examples.{one_street}
+use Rattle.gaz_shelf.specs.View.{empty_view}
+use Rattle.gaz_shelf.specs.declared.verdict.Verdict.TheVariants as verdict
+use Rattle.gaz_hub.specs.Judged.{FoundFault, IsJudged}
+use Rattle.gaz_hub.specs.Outcomes.{held_count, outcome, outcome_of, status, wants}
+use Rattle.gaz_hub.specs.Replays.{IsReplay}
+use Rattle.gaz_hub.specs.Sample.{is_sample_code, sample_door, sample_register, state_of}
+use Rattle.gaz_hub.specs.declared.outcome.Outcome.TheVariants.{Applied, Rejected, Held}
+use Rattle.gaz_hub.specs.Examples.{all_sent, gap_hub, no_text, no_text_judged, one_judged, sent, three_judged}
+
+pub record WorkedOutcomes : Type 0 where
+  pub of_applied : outcome_of verdict.Applied ≡ Applied
+  pub of_rejected : outcome_of (verdict.Rejected 3 8) ≡ Rejected 3 8
+  pub judged : outcome sent one_judged 1003 1 ≡ Some (Rejected 1 1)
+  pub held : outcome sent one_judged 1003 3 ≡ Some (Held 1003 2)
+  pub held_no_longer : outcome all_sent three_judged 1003 3 ≡ Some (Rejected 1 1)
+  pub wants_the_missing : wants sent one_judged 1003 ≡ Some (1003, 2)
+  pub wants_the_first : wants sent one_judged 1002 ≡ Some (1002, 1)
+  pub wants_nothing_when_ready : wants sent empty_board 1003 ≡ None
+  pub wants_nothing_after_the_last : (B : Board) → reached B 1003 ≡ 999_999 → wants sent B 1003 ≡ None
+  pub holds_one : held_count sent one_judged 1003 ≡ 1
+  pub held_before : held_count sent empty_board 1003 ≡ 2
+  pub holds_no_others : held_count sent one_judged 1002 ≡ 0
+  pub stands : status sent one_judged 1003 ≡ record { custodian = 1003; held = 1; judged = 1; wants = Some (1003, 2) }
+
+pub record WorkedJudgements : Type 0 where
+  pub is_judged : IsJudged no_text_judged (verdict.Rejected 1 1) empty_view
+  pub never_applied : IsJudged no_text_judged verdict.Applied empty_view → ⊥
+  pub never_with_a_street : IsJudged no_text_judged (verdict.Rejected 1 1) one_street → ⊥
+  pub fits : FoundFault (sample_register 1001) empty_view (insertion ∷ []) one_street None
+  pub at_fault : FoundFault (sample_register 1001) empty_view (insertion ∷ again ∷ []) one_street (Some (record { place = 3; rule = 21 }))
+  pub never_at_the_first : FoundFault (sample_register 1001) empty_view (insertion ∷ again ∷ []) one_street (Some (record { place = 2; rule = 21 })) → ⊥
+  pub never_without_fault : FoundFault (sample_register 1001) empty_view (insertion ∷ again ∷ []) one_street None → ⊥
+  pub never_without_effect : FoundFault (sample_register 1001) empty_view (insertion ∷ []) empty_view None → ⊥
+
+pub record WorkedReplays : Type 0 where
+  pub of_judged : IsReplay sent 1003 1 (record { reached = 1; verdict = Some (verdict.Rejected 1 1); wants = Some 2 })
+  pub of_held : IsReplay sent 1003 3 (record { reached = 1; verdict = None; wants = Some 2 })
+  pub never_over_a_gap : IsReplay sent 1003 3 (record { reached = 2; verdict = Some (verdict.Rejected 1 1); wants = Some 2 }) → ⊥
+  pub never_of_another : IsReplay sent 1003 3 (record { reached = 1; verdict = Some (verdict.Rejected 1 1); wants = Some 2 }) → ⊥
+  pub never_without_want : IsReplay sent 1003 3 (record { reached = 1; verdict = None; wants = None }) → ⊥
+
+pub record WorkedSample : Type 0 where
+  pub first_code : is_sample_code 1001 ≡ true
+  pub last_code : is_sample_code 1003 ≡ true
+  pub no_code : is_sample_code 1004 ≡ false
+  pub last_of_block : within (sample_register 1001).usrn 199 ≡ true
+  pub greatest_street : within (sample_register 1001).usrn 99_999_999 ≡ true
+  pub of_a_neighbour : within (sample_register 1001).usrn 200 ≡ false
+  pub in_second_block : within (sample_register 1002).usrn 200 ≡ true
+  pub in_third_block : within (sample_register 1003).usrn 399 ≡ true
+  pub without_code : (sample_register 1004).usrn ≡ []
+  pub not_known : sample_door.knows 1004 ≡ false
+  pub none_foreign : sample_door.is_foreign no_text ≡ false
+  pub state : state_of sent ≡ gap_hub
+
+pub record WorkedAnswers : Type 0 where
+  pub on_outcomes : WorkedOutcomes
+  pub on_judgements : WorkedJudgements
+  pub on_replays : WorkedReplays
+  pub on_sample : WorkedSample
