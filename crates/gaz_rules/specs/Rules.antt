@@ -42,9 +42,11 @@ is_delete Insert = false
 is_delete Update = false
 is_delete Delete = true
 
--- 20: the number is in none of the custodian's own blocks of its kind
+-- 20: a street or a BLPU, and its number is in none of the custodian's own blocks of that kind
 abbrev pub is_outside : Blocks → Item → Bool
 is_outside own (item.Street s) = not (within own.usrn s.usrn)
+is_outside own (item.Blpu b) = not (within own.uprn b.uprn)
+is_outside own _ = false
 
 -- 21: an insert whose key was ever used
 abbrev pub is_used_again : View → Action → Item → Bool
@@ -54,9 +56,11 @@ is_used_again v a i = is_insert a && was_used v (key_of i)
 abbrev pub is_missing : View → Action → Item → Bool
 is_missing v a i = not (is_insert a) && not (holds v (key_of i))
 
--- items that are closed or made historical, and never deleted
+-- a street or a BLPU: it is closed or made historical, and never deleted
 abbrev pub stays : Item → Bool
 stays (item.Street s) = true
+stays (item.Blpu b) = true
+stays _ = false
 
 -- 23: a delete of such an item
 abbrev pub takes_what_stays : Action → Item → Bool
