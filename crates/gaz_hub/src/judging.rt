@@ -1,7 +1,7 @@
 ghost use Rattle.std.specs.Prelude.{◌≡◌, [], ◌∷◌, ◌++◌, List, IfOk, OnOk, Some, None};
 ghost use Rattle.std.specs.List.{fold};
 ghost use Rattle.gaz_changefile.specs.Reading.{Good, reading};
-ghost use Rattle.gaz_rules.specs.Rules.{done, effect, is_outside, first_broken, record_rules};
+ghost use Rattle.gaz_rules.specs.Rules.{done, effect, first_broken, is_outside, record_rules, stays};
 ghost use Rattle.gaz_rules.specs.Judging.{judge, record_faults};
 ghost use Rattle.gaz_hub.specs.Judged.{FoundFault, IsJudged};
 ghost use Rattle.gaz_hub.specs.Sample.{sample_register};
@@ -25,7 +25,16 @@ fn is_outside(code: Code, item: &Item) -> bool
 {
     match item {
         Item::Street(street) => !is_own_usrn(code, street.usrn),
+        // The custodians have no blocks of UPRNs yet.
+        Item::Blpu(_) => true,
+        Item::Descriptor(_) | Item::Xref(_) | Item::Lpi(_) => false,
     }
+}
+
+fn stays(item: &Item) -> bool
+    ensures { result ≡ stays item.now }
+{
+    matches!(item, Item::Street(_) | Item::Blpu(_))
 }
 
 /// The least record rule that a change breaks, if any, on the view before it.
@@ -40,8 +49,8 @@ fn broken_rule(code: Code, view: &WholeView, change: &Change) -> Option<u8>
         Action::Insert if view.was_used(&key) => Some(21),
         Action::Insert => None,
         _ if !view.holds(&key) => Some(22),
-        Action::Delete => Some(23),
-        Action::Update => None,
+        Action::Delete if stays(&change.item) => Some(23),
+        Action::Delete | Action::Update => None,
     }
 }
 
