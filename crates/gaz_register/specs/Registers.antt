@@ -1,5 +1,5 @@
 -- What a register of custodians holds, and whose a number is.
-use Rattle.std.specs.Prelude.{◌≡◌, ℕ, ◌<◌, ◌≤◌, ◌==◌, ◌&&◌, ◌||◌, not, nat_lt, nat_le, Bool, true, List, [], length, Option, option_map, is_some}
+use Rattle.std.specs.Prelude.{◌≡◌, ℕ, ◌<◌, ◌≤◌, ◌==◌, ◌&&◌, ◌||◌, not, nat_lt, nat_le, Bool, true, List, [], length, Option, Some, None, option_map, is_some, if◌then◌else◌}
 use Rattle.std.specs.List.{AllAdjacentBelow, find, flat_map, list_all, list_any}
 use Rattle.std.specs.Option.{option_map_or}
 use Rattle.gaz_ids.specs.Numbers.{in_range}
@@ -38,6 +38,10 @@ custodian_of register code = find (λ c. c.code == code) register
 -- whether the register has a custodian with this code
 abbrev pub knows : RegisterValue → ℕ → Bool
 knows register code = is_some (custodian_of register code)
+
+-- the code of this number, where the register has a custodian with it
+abbrev pub code_of : RegisterValue → ℕ → Option ℕ
+code_of register number = if knows register number then Some number else None
 
 -- the name of the custodian with this code
 abbrev pub name_of : RegisterValue → ℕ → Option (List ℕ)

@@ -4,7 +4,7 @@ ghost use Rattle.std.specs.Option.{option_copied};
 ghost use Rattle.std.specs.List.Sorted.{IsNonDecreasingBy};
 ghost use Rattle.gaz_register.specs.Drafts.{OrMemory};
 ghost use Rattle.gaz_register.specs.Reading.{checked};
-ghost use Rattle.gaz_register.specs.Registers.{IsRegister, blocks_of, custodian_of, is_custodian, knows, name_of, owner_of_uprn, owner_of_usrn, within};
+ghost use Rattle.gaz_register.specs.Registers.{IsRegister, blocks_of, code_of, custodian_of, is_custodian, knows, name_of, owner_of_uprn, owner_of_usrn, within};
 
 use crate::custodian::{Custodian, find_custodian, have_own_codes};
 use crate::fault::RegFault;
@@ -74,6 +74,20 @@ impl Register {
         ensures { result ≡ knows self.now code }
     {
         self.custodian(code).is_some()
+    }
+
+    /// The code of this number, where the register has a custodian with it.
+    pub fn code_of(&self, number: u64) -> Option<Code>
+        ensures { result ≡ code_of self.now number }
+    {
+        let custodians = self.custodians();
+        let Some(code) = Code::of(number) else {
+            return None;
+        };
+        match find_custodian(custodians, code) {
+            Some(_) => Some(code),
+            None => None,
+        }
     }
 
     /// The name of the custodian with this code.

@@ -15,7 +15,8 @@ use Rattle.gaz_shelf.specs.Board.{Judgement}
 use Rattle.gaz_shelf.specs.Examples.{no_more, one_street, street}
 use Rattle.gaz_shelf.specs.View.{View, empty_view, with_item, without_key}
 use Rattle.gaz_shelf.specs.declared.verdict.Verdict.TheVariants.{Applied, Rejected}
-use Rattle.gaz_rules.specs.Rules.{Blocks, first_broken, is_outside, record_rules, stays}
+use Rattle.gaz_register.specs.Registers.{Blocks}
+use Rattle.gaz_rules.specs.Rules.{first_broken, is_outside, record_rules, stays}
 use Rattle.gaz_rules.specs.Judging.{judge}
 
 -- streets 100 to 199 and 300, properties 1000 to 1999

@@ -1,23 +1,16 @@
 -- The rules of a change file, as tests over whole views.
-use Rattle.std.specs.Prelude.{ℕ, nat_le, Bool, true, false, not, ◌&&◌, ◌||◌, List, [], ◌∷◌, Option}
+use Rattle.std.specs.Prelude.{ℕ, Bool, true, false, not, ◌&&◌, ◌||◌, List, [], ◌∷◌, Option}
 use Rattle.std.specs.Option.{option_map}
-use Rattle.std.specs.List.{list_any, find}
+use Rattle.std.specs.List.{find}
 use Rattle.gaz_records.specs.Keys.{key_of}
 use Rattle.gaz_records.specs.declared.item.Item.{Item}
 use Rattle.gaz_records.specs.declared.item.Item.TheVariants as item
 use Rattle.gaz_records.specs.declared.key.Key.{Key}
+use Rattle.gaz_register.specs.Registers.{Blocks, within}
 use Rattle.gaz_shelf.specs.View.{View, with_item, without_key, holds, was_used}
 use Rattle.gaz_changefile.specs.declared.action.Action.{Action}
 use Rattle.gaz_changefile.specs.declared.action.Action.TheVariants.{Insert, Update, Delete}
 use Rattle.gaz_changefile.specs.declared.change.Change.{Change}
-
--- the numbers that a custodian may give, as blocks with both ends included
-pub record Blocks : Type 0 where
-  pub uprn : List (ℕ × ℕ)
-  pub usrn : List (ℕ × ℕ)
-
-abbrev pub within : List (ℕ × ℕ) → ℕ → Bool
-within blocks n = list_any (λ b. nat_le b.0 n && nat_le n b.1) blocks
 
 -- ---- the effect of a change
 
