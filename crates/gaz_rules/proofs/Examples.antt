@@ -7,7 +7,6 @@ use Rattle.gaz_records.proofs.KeyOrder.{keys_total}
 use Rattle.gaz_records.specs.declared.key.Key.TheVariants as key
 use Rattle.gaz_shelf.proofs.Examples.{get_no_more, get_one, used_none, used_one}
 use Rattle.gaz_shelf.specs.Examples.{one_street}
-use Rattle.gaz_shelf.specs.View.{empty_view}
 use Rattle.gaz_rules.specs.Judging.{judge}
 use Rattle.gaz_rules.specs.Examples.{WorkedExamples, WorkedJudgements, WorkedKinds, WorkedRules, descriptor, one_name}
 
