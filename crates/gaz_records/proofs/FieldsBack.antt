@@ -35,8 +35,12 @@ street-back : (x : StreetValue) → is_usrn x.usrn ≡ true → is_sort x.sort �
 unfolding read_street field_at
 street-back x usrn sort start end order =
     let f = street_texts x in
-    rw (usrn-says f 0 x.usrn refl usrn, says-number f 1 1 1 4 x.sort refl (lit< tt) (lit< tt) (lit< tt) sort, says-day f 2 x.start refl start,
-      says-end f 3 x.start x.end refl refl start end order) refl
+    rw (
+      usrn-says f 0 x.usrn refl usrn,
+      says-number f 1 1 1 4 x.sort refl (lit< tt) (lit< tt) (lit< tt) sort,
+      says-day f 2 x.start refl start,
+      says-end f 3 x.start x.end refl refl start end order,
+    ) refl
 
 pub street_fields : (x : StreetValue) → is_street x ≡ true → read_street (street_texts x) ≡ Ok x
 street_fields x h =
@@ -51,8 +55,14 @@ descriptor-back : (x : DescriptorValue) → is_usrn x.usrn ≡ true → is_text 
 unfolding read_descriptor field_at
 descriptor-back x usrn description locality town area =
     let f = descriptor_texts x in
-    rw (usrn-says f 0 x.usrn refl usrn, says-lang f 1 x.lang refl, says-text f 2 100 x.description refl description, says-opt_text f 3 35 x.locality refl locality,
-      says-opt_text f 4 30 x.town refl town, says-text f 5 30 x.area refl area) refl
+    rw (
+      usrn-says f 0 x.usrn refl usrn,
+      says-lang f 1 x.lang refl,
+      says-text f 2 100 x.description refl description,
+      says-opt_text f 3 35 x.locality refl locality,
+      says-opt_text f 4 30 x.town refl town,
+      says-text f 5 30 x.area refl area,
+    ) refl
 
 pub descriptor_fields : (x : DescriptorValue) → is_descriptor x ≡ true → read_descriptor (descriptor_texts x) ≡ Ok x
 descriptor_fields x h =
@@ -67,9 +77,16 @@ blpu-back : (x : BlpuValue) → is_uprn x.uprn ≡ true → is_some (of_blpu x.s
 unfolding read_blpu field_at
 blpu-back x uprn status easting northing parent postcode start end order =
     let f = blpu_texts x in
-    rw (uprn-says f 0 x.uprn refl uprn, says-blpu_status f 1 x.status refl status, says-number f 2 6 0 700_000 x.easting refl (lit< tt) (lit< tt) (lit< tt) (from-zero x.easting 700_000 easting),
-      says-number f 3 7 0 1_300_000 x.northing refl (lit< tt) (lit< tt) (lit< tt) (from-zero x.northing 1_300_000 northing), says-parent f 4 x.parent refl parent, says-opt_text f 5 8 x.postcode refl postcode,
-      says-day f 6 x.start refl start, says-end f 7 x.start x.end refl refl start end order) refl
+    rw (
+      uprn-says f 0 x.uprn refl uprn,
+      says-blpu_status f 1 x.status refl status,
+      says-number f 2 6 0 700_000 x.easting refl (lit< tt) (lit< tt) (lit< tt) (from-zero x.easting 700_000 easting),
+      says-number f 3 7 0 1_300_000 x.northing refl (lit< tt) (lit< tt) (lit< tt) (from-zero x.northing 1_300_000 northing),
+      says-parent f 4 x.parent refl parent,
+      says-opt_text f 5 8 x.postcode refl postcode,
+      says-day f 6 x.start refl start,
+      says-end f 7 x.start x.end refl refl start end order,
+    ) refl
 
 pub blpu_fields : (x : BlpuValue) → is_blpu x ≡ true → read_blpu (blpu_texts x) ≡ Ok x
 blpu_fields x h =
@@ -87,8 +104,14 @@ xref-back : (x : XrefValue) → is_label 14 x.key ≡ true → is_uprn x.uprn �
 unfolding read_xref field_at
 xref-back x key uprn source reference start end order =
     let f = xref_texts x in
-    rw (says-label f 0 14 x.key refl key, uprn-says f 1 x.uprn refl uprn, says-label f 2 6 x.source refl source, says-text f 3 50 x.reference refl reference,
-      says-day f 4 x.start refl start, says-end f 5 x.start x.end refl refl start end order) refl
+    rw (
+      says-label f 0 14 x.key refl key,
+      uprn-says f 1 x.uprn refl uprn,
+      says-label f 2 6 x.source refl source,
+      says-text f 3 50 x.reference refl reference,
+      says-day f 4 x.start refl start,
+      says-end f 5 x.start x.end refl refl start end order,
+    ) refl
 
 pub xref_fields : (x : XrefValue) → is_xref x ≡ true → read_xref (xref_texts x) ≡ Ok x
 xref_fields x h =
@@ -107,12 +130,30 @@ lpi-back : (key : List ℕ) (uprn : ℕ) (lang : Lang) (status : Status) (usrn :
 unfolding read_lpi field_at
 lpi-back key uprn lang status usrn None first start end k p u o f s e order =
     let t = lpi_texts (record { key = key; uprn = uprn; lang = lang; status = status; usrn = usrn; secondary = None; primary = first; start = start; end = end }) in
-    rw (says-label t 0 14 key refl k, uprn-says t 1 uprn refl p, says-lang t 2 lang refl, says-status t 3 status refl, usrn-says t 4 usrn refl u,
-      says-blank_object t 5 refl, says-object t 10 first refl f, says-day t 15 start refl s, says-end t 16 start end refl refl s e order) refl
+    rw (
+      says-label t 0 14 key refl k,
+      uprn-says t 1 uprn refl p,
+      says-lang t 2 lang refl,
+      says-status t 3 status refl,
+      usrn-says t 4 usrn refl u,
+      says-blank_object t 5 refl,
+      says-object t 10 first refl f,
+      says-day t 15 start refl s,
+      says-end t 16 start end refl refl s e order,
+    ) refl
 lpi-back key uprn lang status usrn (Some second) first start end k p u o f s e order =
     let t = lpi_texts (record { key = key; uprn = uprn; lang = lang; status = status; usrn = usrn; secondary = Some second; primary = first; start = start; end = end }) in
-    rw (says-label t 0 14 key refl k, uprn-says t 1 uprn refl p, says-lang t 2 lang refl, says-status t 3 status refl, usrn-says t 4 usrn refl u,
-      says-opt_object t 5 second refl refl refl refl refl o, says-object t 10 first refl f, says-day t 15 start refl s, says-end t 16 start end refl refl s e order) refl
+    rw (
+      says-label t 0 14 key refl k,
+      uprn-says t 1 uprn refl p,
+      says-lang t 2 lang refl,
+      says-status t 3 status refl,
+      usrn-says t 4 usrn refl u,
+      says-opt_object t 5 second refl refl refl refl refl o,
+      says-object t 10 first refl f,
+      says-day t 15 start refl s,
+      says-end t 16 start end refl refl s e order,
+    ) refl
 
 pub lpi_fields : (x : LpiValue) → is_lpi x ≡ true → read_lpi (lpi_texts x) ≡ Ok x
 lpi_fields x h =
@@ -123,4 +164,4 @@ lpi_fields x h =
     let h5 = and-left _ _ h4 in
     let h6 = and-left _ _ h5 in
     lpi-back x.key x.uprn x.lang x.status x.usrn x.secondary x.primary x.start x.end
-      (and-left _ _ h6) (and-right _ _ h6) (and-right _ _ h5) (and-right _ _ h4) (and-right _ _ h3) (and-right _ _ h2) (and-right _ _ h1) (and-right _ _ h)
+    (and-left _ _ h6) (and-right _ _ h6) (and-right _ _ h5) (and-right _ _ h4) (and-right _ _ h3) (and-right _ _ h2) (and-right _ _ h1) (and-right _ _ h)

@@ -30,7 +30,7 @@ blpu_said f = record {
   parent = the None (says (Opt uprn) f 4);
   postcode = the None (says (Opt (TextTo 8)) f 5);
   start = the no_day (says Date f 6);
-  end = the None (says (Opt EndDate) f 7)
+  end = the None (says (Opt EndDate) f 7);
 }
 
 -- the BLPU that fields say, or what is wrong with them

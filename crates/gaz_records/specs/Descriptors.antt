@@ -27,7 +27,7 @@ descriptor_said f = record {
   description = the [] (says (TextTo 100) f 2);
   locality = the None (says (Opt (TextTo 35)) f 3);
   town = the None (says (Opt (TextTo 30)) f 4);
-  area = the [] (says (TextTo 30) f 5)
+  area = the [] (says (TextTo 30) f 5);
 }
 
 -- the descriptor that fields say, or what is wrong with them

@@ -40,7 +40,7 @@ lpi_said f = record {
   secondary = the None (says (Opt AddressableObject) f 5);
   primary = the no_object (says AddressableObject f 10);
   start = the no_day (says Date f 15);
-  end = the None (says (Opt EndDate) f 16)
+  end = the None (says (Opt EndDate) f 16);
 }
 
 -- the LPI that fields say, or what is wrong with them

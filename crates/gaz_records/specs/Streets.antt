@@ -18,7 +18,7 @@ street_said f = record {
   usrn = the 0 (says usrn f 0);
   sort = the 0 (says (Digits 1 1 4) f 1);
   start = the no_day (says Date f 2);
-  end = the None (says (Opt EndDate) f 3)
+  end = the None (says (Opt EndDate) f 3);
 }
 
 -- the street that fields say, or what is wrong with them

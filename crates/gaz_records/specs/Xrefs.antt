@@ -25,7 +25,7 @@ xref_said f = record {
   source = the [] (says (LabelTo 6) f 2);
   reference = the [] (says (TextTo 50) f 3);
   start = the no_day (says Date f 4);
-  end = the None (says (Opt EndDate) f 5)
+  end = the None (says (Opt EndDate) f 5);
 }
 
 -- the cross reference that fields say, or what is wrong with them

@@ -4,7 +4,9 @@ use gaz_addressable::{Object, Text};
 use std::alloc::AllocError;
 
 /// The same text, if there is one.
-pub fn copy_text<const MOST: u64>(text: &Option<Text<MOST>>) -> Result<Option<Text<MOST>>, AllocError>
+pub fn copy_text<const MOST: u64>(
+    text: &Option<Text<MOST>>,
+) -> Result<Option<Text<MOST>>, AllocError>
     ensures { IfOk result (λ t. t ≡ text.now) }
 {
     match text {

@@ -37,7 +37,11 @@ impl Model for Descriptor {
 impl Descriptor {
     #[tactic(auto, using(std::proofs::lemmas::Bool::Decides::nat_tests), unfolding(crate::specs::Descriptors::read_descriptor))]
     /// The descriptor that the fields behind the first ones say.
-    pub(crate) fn read(alloc: Global, row: &ByteRecord, skip: usize) -> Result<Descriptor, FieldFault>
+    pub(crate) fn read(
+        alloc: Global,
+        row: &ByteRecord,
+        skip: usize,
+    ) -> Result<Descriptor, FieldFault>
         requires { skip ≤ 3 }
         ensures { OrMemory result (read_descriptor (drop skip (fields_of row.now))) }
     {

@@ -42,7 +42,12 @@ pub enum Item {
 ///
 /// `Count` where there are too few or too many of them, else `Form` with the first field, from 1, of a wrong form; an object
 /// counts as its first field. `Memory` may come in place of either.
-pub fn read_item(alloc: Global, kind: Kind, row: &ByteRecord, skip: usize) -> Result<Item, FieldFault>
+pub fn read_item(
+    alloc: Global,
+    kind: Kind,
+    row: &ByteRecord,
+    skip: usize,
+) -> Result<Item, FieldFault>
     requires { skip ≤ 3 }
     ensures { OrMemory result (read_item kind (drop skip (fields_of row.now))) }
 {

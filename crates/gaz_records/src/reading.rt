@@ -37,9 +37,7 @@ fn bad(i: usize) -> FieldFault
     requires { i ≤ 16 }
     ensures { result ≡ FieldFault.Form (i + 1) }
 {
-    FieldFault::Form {
-        field: i as u8 + 1,
-    }
+    FieldFault::Form { field: i as u8 + 1 }
 }
 
 impl<'a> Fields<'a> {
@@ -70,7 +68,10 @@ impl<'a> Fields<'a> {
 
     #[tactic(auto, unfolding(crate::specs::Forms::says))]
     /// A number.
-    pub fn number<const KIND: u64, const WIDTH: u64, const LOW: u64, const HIGH: u64>(&self, i: usize) -> Result<Number<KIND, WIDTH, LOW, HIGH>, FieldFault>
+    pub fn number<const KIND: u64, const WIDTH: u64, const LOW: u64, const HIGH: u64>(
+        &self,
+        i: usize,
+    ) -> Result<Number<KIND, WIDTH, LOW, HIGH>, FieldFault>
         requires width { WIDTH ≤ 18 }
         requires place { i ≤ 16 }
         ensures { Tells result i (says (Digits WIDTH LOW HIGH) self.now i) }
@@ -83,7 +84,10 @@ impl<'a> Fields<'a> {
 
     #[tactic(auto, unfolding(crate::specs::Forms::says))]
     /// A number that may be left out.
-    pub fn opt_number<const KIND: u64, const WIDTH: u64, const LOW: u64, const HIGH: u64>(&self, i: usize) -> Result<Option<Number<KIND, WIDTH, LOW, HIGH>>, FieldFault>
+    pub fn opt_number<const KIND: u64, const WIDTH: u64, const LOW: u64, const HIGH: u64>(
+        &self,
+        i: usize,
+    ) -> Result<Option<Number<KIND, WIDTH, LOW, HIGH>>, FieldFault>
         requires width { WIDTH ≤ 18 }
         requires place { i ≤ 16 }
         ensures { Tells result i (says (Opt (Digits WIDTH LOW HIGH)) self.now i) }
@@ -161,7 +165,11 @@ impl<'a> Fields<'a> {
 
     #[tactic(auto, unfolding(crate::specs::Forms::says))]
     /// A text that may be left out.
-    pub fn opt_text<const MOST: u64>(&self, alloc: Global, i: usize) -> Result<Option<Text<MOST>>, FieldFault>
+    pub fn opt_text<const MOST: u64>(
+        &self,
+        alloc: Global,
+        i: usize,
+    ) -> Result<Option<Text<MOST>>, FieldFault>
         requires { i ≤ 16 }
         ensures { TellsOrMemory result i (says (Opt (TextTo MOST)) self.now i) }
     {

@@ -79,7 +79,10 @@ pub fn next_number(out: &mut Vec<u8>, n: u64) -> Result<(), AllocError>
 }
 
 /// Adds a comma and a text, if there is one.
-pub fn next_text<const MOST: u64>(out: &mut Vec<u8>, text: &Option<Text<MOST>>) -> Result<(), AllocError>
+pub fn next_text<const MOST: u64>(
+    out: &mut Vec<u8>,
+    text: &Option<Text<MOST>>,
+) -> Result<(), AllocError>
     ensures { OnOk result (out.new.items ≡ out.old.items ++ fields_text default_writer (or_empty text.now ∷ [])) }
 {
     match text {
