@@ -136,7 +136,7 @@ impl Clone for Item {
     }
 }
 
-/// Adds the row of the item's fields as `csv` writes it, without a line end.
+/// Adds the row of the item's fields as `csv` writes it, without a line end. After want of memory a part of the row may be there.
 pub fn write_item(item: &Item, out: &mut Vec<u8>) -> Result<(), AllocError>
     ensures { OnOk result (out.new.items ≡ out.old.items ++ item_text item.now) }
 {

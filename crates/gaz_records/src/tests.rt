@@ -313,9 +313,11 @@ fn lengths_count_characters(rt: HostRuntime) -> Result<(), Fail> {
     for (count, good) in [(100, true), (101, false)] {
         let name = vec![in alloc; "é"; count]?.concat(alloc)?;
         let row = format!(in alloc; "101,ENG,{name},\u{80},Arden\u{a0},Arden")?;
+        let answer = item_of_text(alloc, Kind::Descriptor, row.as_bytes());
+        assert_eq!(rt; answer.is_ok(), good);
         assert_eq!(rt;
-            item_of_text(alloc, Kind::Descriptor, row.as_bytes()).is_ok(),
-            good
+            answer.is_err_and(|e| e == FieldFault::Form { field: 3 }),
+            !good
         );
     }
     Ok(())
