@@ -48,21 +48,21 @@ impl Custodian {
         self.code
     }
 
-    /// The name, 1 to 60 characters.
+    /// The name: 1 to 60 characters, none below U+0020 nor U+007F, with no space at either end.
     pub fn name(&self) -> &str
         ensures { result.now ≡ self.now.name }
     {
         self.name.as_str()
     }
 
-    /// The custodian's own blocks of UPRNs.
+    /// The custodian's own blocks of UPRNs, at most 8, by rising first number.
     pub fn uprn(&self) -> &[Block]
         ensures { result.now ≡ self.now.own.uprn }
     {
         self.uprn.as_slice()
     }
 
-    /// The custodian's own blocks of USRNs.
+    /// The custodian's own blocks of USRNs, at most 8, by rising first number.
     pub fn usrn(&self) -> &[Block]
         ensures { result.now ≡ self.now.own.usrn }
     {

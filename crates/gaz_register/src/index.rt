@@ -89,7 +89,7 @@ fn rises(holdings: &[Holding]) -> bool
 }
 
 /// The blocks of one kind of all custodians with their owners, by rising first number; `Overlap` where a number is in
-/// two of them.
+/// two of them. Sorted blocks overlap only where two neighbours do, so each is compared with the one before alone.
 pub(crate) fn index_of(
     alloc: Global,
     custodians: &[Custodian],

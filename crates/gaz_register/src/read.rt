@@ -120,7 +120,7 @@ fn custodians_from(alloc: Global, drafts: &[Draft]) -> Result<Vec<Custodian>, Re
 impl Register {
     #[tactic(auto, using(std::proofs::lemmas::Bool::Decides::nat_tests), unfolding(crate::specs::Reading::register_of))]
     /// Reads a register from TOML: an array of tables `custodian`, each with exactly `code`, `name`, `uprn` and `usrn`
-    /// (our profile).
+    /// (our profile). A text that is none gives its first fault in the order of `RegFault`; docs/register.md lists them.
     pub fn read(alloc: Global, text: &[u8]) -> Result<Register, RegFault>
         ensures { OrMemory result (register_of text.now) }
     {

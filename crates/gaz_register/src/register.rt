@@ -54,7 +54,7 @@ impl Register {
         })
     }
 
-    /// The custodians by rising code.
+    /// The custodians by rising code, at most 400.
     pub fn custodians(&self) -> &[Custodian]
         ensures value { result.now ≡ self.now }
         ensures lawful { IsRegister self.now }
@@ -100,21 +100,21 @@ impl Register {
         }
     }
 
-    /// The custodian whose block holds the UPRN.
+    /// The custodian whose block holds the UPRN, or nobody. The time grows with the logarithm of the blocks.
     pub fn owner_uprn(&self, uprn: Uprn) -> Option<Code>
         ensures { result ≡ owner_of_uprn self.now uprn }
     {
         owner_at(&self.uprn, uprn.number())
     }
 
-    /// The custodian whose block holds the USRN.
+    /// The custodian whose block holds the USRN, or nobody. The time grows with the logarithm of the blocks.
     pub fn owner_usrn(&self, usrn: Usrn) -> Option<Code>
         ensures { result ≡ owner_of_usrn self.now usrn }
     {
         owner_at(&self.usrn, usrn.number())
     }
 
-    /// Whether the custodian's own block holds the UPRN.
+    /// Whether the custodian's own block holds the UPRN; never where the register lacks the custodian.
     pub fn allotted(&self, code: Code, uprn: Uprn) -> bool
         ensures { result ≡ within (blocks_of self.now code).uprn uprn }
     {
@@ -127,7 +127,7 @@ impl Register {
         }
     }
 
-    /// Whether the custodian's own block holds the USRN.
+    /// Whether the custodian's own block holds the USRN; never where the register lacks the custodian.
     pub fn allotted_usrn(&self, code: Code, usrn: Usrn) -> bool
         ensures { result ≡ within (blocks_of self.now code).usrn usrn }
     {

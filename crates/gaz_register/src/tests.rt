@@ -4,24 +4,24 @@ use std::alloc::{AllocError, Global};
 use std::process::Abort;
 use std::test::Fail;
 
-const SAMPLE: &str = "[[custodian]]
+const SAMPLE: &str = r#"[[custodian]]
 code = 1001
-name = \"Upper County\"
+name = "Upper County"
 uprn = [[1, 99999], [999999999000, 999999999999]]
 usrn = [[100, 199], [99999999, 99999999]]
 
 [[custodian]]
 code = 1002
-name = \"Lower District\"
+name = "Lower District"
 uprn = [[100000, 199999]]
 usrn = [[200, 299]]
 
 [[custodian]]
 code = 1003
-name = \"Bay District\"
+name = "Bay District"
 uprn = [[200000, 299999]]
 usrn = [[300, 399]]
-";
+"#;
 
 const SAMPLE_TEXT: &str =
     "1001,Upper County,1-99999 999999999000-999999999999,100-199 99999999-99999999
@@ -35,8 +35,13 @@ fn edited(rt: &impl Abort, alloc: Global, old: &str, new: &str) -> Result<String
     format!(in alloc; "{before}{new}{after}")
 }
 
-fn fault_of(alloc: Global, text: &str) -> Option<RegFault> {
-    Register::read(alloc, text.as_bytes()).err()
+// The fault of a text, if it has one. Want of memory is none.
+fn fault_of(alloc: Global, text: &[u8]) -> Result<Option<RegFault>, RegFault> {
+    match Register::read(alloc, text) {
+        Ok(_) => Ok(None),
+        Err(RegFault::Memory) => Err(RegFault::Memory),
+        Err(fault) => Ok(Some(fault)),
+    }
 }
 
 fn code(rt: &impl Abort, number: u64) -> Code {
@@ -63,15 +68,16 @@ fn the_sample_is_read(rt: HostRuntime) -> Result<(), Fail> {
     assert_eq!(rt; register.name(code(&rt, 1004)), None);
     assert!(rt; register.holds(bay));
     assert!(rt; !register.holds(code(&rt, 1004)));
+    assert!(rt; register.custodian(bay).is_some());
     Ok(())
 }
 
 #[test]
 fn custodians_and_blocks_stand_in_order(rt: HostRuntime) -> Result<(), Fail> {
-    let text = "custodian = [
-        { code = 7, name = \"Q, \\\"x\\\"\", uprn = [[5, 6], [1, 1]], usrn = [] },
-        { code = 3, name = \"é\", uprn = [], usrn = [[2, 2]] },
-    ]";
+    let text = r#"custodian = [
+        { code = 7, name = "Q, \"x\"", uprn = [[5, 6], [1, 1]], usrn = [] },
+        { code = 3, name = "é", uprn = [], usrn = [[2, 2]] },
+    ]"#;
     let register = Register::read(rt.alloc(), text.as_bytes())?;
     assert_eq!(rt;
         register.text(rt.alloc())?.as_str(),
@@ -80,64 +86,78 @@ fn custodians_and_blocks_stand_in_order(rt: HostRuntime) -> Result<(), Fail> {
     let custodians = register.custodians();
     assert_eq!(rt; custodians.len(), 2);
     assert_eq!(rt; custodians[0].code(), code(&rt, 3));
+    assert_eq!(rt; custodians[0].name(), "é");
     assert_eq!(rt; custodians[1].uprn().len(), 2);
     assert!(rt;
-        custodians[0]
-            .usrn()
-            .iter()
-            .all(|block| block.first() == 2 && block.last() == 2)
+        custodians[0].usrn().iter().all(|block| block.first() == 2
+            && block.last() == 2
+            && block.holds(2))
     );
     Ok(())
 }
 
 #[test]
-fn the_first_fault_is_named(rt: HostRuntime) -> Result<(), Fail> {
+fn what_holds_no_custodians_is_refused(rt: HostRuntime) -> Result<(), Fail> {
+    let texts = [
+        ("[[custodian]", RegFault::NotToml),
+        ("", RegFault::Shape),
+        ("custodian = 3", RegFault::Shape),
+        ("custodian = []", RegFault::Shape),
+        ("custodian = [3]", RegFault::Shape),
+    ];
+    for (text, fault) in texts {
+        assert_eq!(rt;
+            fault_of(rt.alloc(), text.as_bytes())?,
+            Some(fault),
+            "{text}"
+        );
+    }
+    let no_utf8 = b"custodian = \"\xFF\"";
+    assert_eq!(rt; fault_of(rt.alloc(), no_utf8)?, Some(RegFault::NotToml));
+    Ok(())
+}
+
+#[test]
+fn a_wrong_shape_is_refused(rt: HostRuntime) -> Result<(), Fail> {
     let edits = [
-        ("[[custodian]]", "[[custodian]", RegFault::NotToml),
-        ("code = 1001", "code = true", RegFault::Shape),
-        ("code = 1001", "code = 1001\nkind = 1", RegFault::Shape),
-        ("code = 1001\n", "", RegFault::Shape),
-        ("[[1, 99999], ", "[[1], ", RegFault::Shape),
-        ("[[1, 99999], ", "[[1, 2, 3], ", RegFault::Shape),
-        ("[[1, 99999], ", "[[\"a\", 2], ", RegFault::Shape),
-        ("[[custodian]]", "kind = 1\n[[custodian]]", RegFault::Shape),
+        ("code = 1001", "code = 1001\nkind = 1"),
+        ("[[1, 99999], ", "[[1], "),
+        ("[[1, 99999], ", "[[1, 2, 3], "),
+        ("[[1, 99999], ", "[[\"a\", 2], "),
+        ("[[1, 99999], ", "[1, "),
+        ("code = 1001", "code = true"),
+        ("code = 1001", "code = 1001.0"),
+        ("\"Upper County\"", "1001"),
+        ("[[200, 299]]", "200"),
+        ("code = 1001\n", ""),
+        ("[[custodian]]", "kind = 1\n[[custodian]]"),
+    ];
+    for (old, new) in edits {
+        let text = edited(&rt, rt.alloc(), old, new)?;
+        let fault = fault_of(rt.alloc(), text.as_bytes())?;
+        assert_eq!(rt; fault, Some(RegFault::Shape), "{new}");
+    }
+    Ok(())
+}
+
+#[test]
+fn a_wrong_value_is_refused(rt: HostRuntime) -> Result<(), Fail> {
+    let name = "\"Lower District\"";
+    let nine = "[[1, 1], [2, 2], [3, 3], [4, 4], [5, 5], [6, 6], [7, 7], [8, 8], [9, 9]]";
+    let edits = [
         ("code = 1001", "code = 0", RegFault::BadCode),
         ("code = 1001", "code = 10000", RegFault::BadCode),
         ("code = 1001", "code = -1", RegFault::BadCode),
-        ("\"Lower District\"", "\"\"", RegFault::BadName),
-        (
-            "\"Lower District\"",
-            "\"Lower District \"",
-            RegFault::BadName,
-        ),
-        (
-            "\"Lower District\"",
-            "\" Lower District\"",
-            RegFault::BadName,
-        ),
-        (
-            "\"Lower District\"",
-            "\"Lower\\tDistrict\"",
-            RegFault::BadName,
-        ),
-        (
-            "\"Lower District\"",
-            "\"Lower\\u007FDistrict\"",
-            RegFault::BadName,
-        ),
+        (name, "\"\"", RegFault::BadName),
+        (name, "\"Lower District \"", RegFault::BadName),
+        (name, "\" Lower District\"", RegFault::BadName),
+        (name, "\"Lower\\tDistrict\"", RegFault::BadName),
+        (name, "\"Lower\\u007FDistrict\"", RegFault::BadName),
         ("[[300, 399]]", "[[300, 299]]", RegFault::BadBlock),
+        ("[[300, 399]]", nine, RegFault::BadBlock),
         ("[[300, 399]]", "[[0, 299]]", RegFault::BadBlock),
         ("[[300, 399]]", "[[300, 100000000]]", RegFault::BadBlock),
-        (
-            "[[200000, 299999]]",
-            "[[200000, 1000000000000]]",
-            RegFault::BadBlock,
-        ),
-        (
-            "[[300, 399]]",
-            "[[1, 1], [2, 2], [3, 3], [4, 4], [5, 5], [6, 6], [7, 7], [8, 8], [9, 9]]",
-            RegFault::BadBlock,
-        ),
+        ("299999]]", "1000000000000]]", RegFault::BadBlock),
         ("code = 1002", "code = 1001", RegFault::SameCode),
         ("[[100000, 199999]]", "[[99999, 199999]]", RegFault::Overlap),
         ("[[100, 199], ", "[[100, 200], ", RegFault::Overlap),
@@ -149,41 +169,42 @@ fn the_first_fault_is_named(rt: HostRuntime) -> Result<(), Fail> {
     ];
     for (old, new, fault) in edits {
         let text = edited(&rt, rt.alloc(), old, new)?;
-        assert_eq!(rt; fault_of(rt.alloc(), text.as_str()), Some(fault), "{new}");
+        assert_eq!(rt;
+            fault_of(rt.alloc(), text.as_bytes())?,
+            Some(fault),
+            "{new}"
+        );
     }
-    for text in ["", "custodian = 3", "custodian = []", "custodian = [3]"] {
-        assert_eq!(rt; fault_of(rt.alloc(), text), Some(RegFault::Shape), "{text}");
-    }
-    assert_eq!(rt;
-        Register::read(rt.alloc(), b"custodian = \"\xFF\"").err(),
-        Some(RegFault::NotToml)
-    );
     Ok(())
 }
 
 #[test]
 fn an_earlier_custodian_is_judged_first(rt: HostRuntime) -> Result<(), Fail> {
-    let text = "custodian = [
-        { code = 1, name = \"A\", uprn = [[2, 1]], usrn = [] },
-        { code = 0, name = \"B\", uprn = [], usrn = [] },
-    ]";
-    assert_eq!(rt; fault_of(rt.alloc(), text), Some(RegFault::BadBlock));
-    let name = "a name of sixty characters, with é as one of them, is a name";
-    assert_eq!(rt; name.chars().count(), 60);
-    let text = format!(in rt.alloc();
-        "custodian = [{{ code = 1, name = \"{name}\", uprn = [], usrn = [] }}]"
-    )?;
-    assert_eq!(rt; fault_of(rt.alloc(), text.as_str()), None);
-    let text = format!(in rt.alloc();
-        "custodian = [{{ code = 1, name = \"{name}s\", uprn = [], usrn = [] }}]"
-    )?;
+    let text = r#"custodian = [
+        { code = 1, name = "A", uprn = [[2, 1]], usrn = [] },
+        { code = 0, name = "B", uprn = [], usrn = [] },
+    ]"#;
     assert_eq!(rt;
-        fault_of(rt.alloc(), text.as_str()),
-        Some(RegFault::BadName)
+        fault_of(rt.alloc(), text.as_bytes())?,
+        Some(RegFault::BadBlock)
     );
     Ok(())
 }
 
+#[test]
+fn a_name_has_at_most_60_characters(rt: HostRuntime) -> Result<(), Fail> {
+    let name = "a name of sixty characters, with é as one of them, is a name";
+    assert_eq!(rt; name.chars().count(), 60);
+    for (end, fault) in [("", None), ("s", Some(RegFault::BadName))] {
+        let text = format!(in rt.alloc();
+            "custodian = [{{ code = 1, name = \"{name}{end}\", uprn = [], usrn = [] }}]"
+        )?;
+        assert_eq!(rt; fault_of(rt.alloc(), text.as_bytes())?, fault);
+    }
+    Ok(())
+}
+
+// A text of so many custodians, with the codes from 1 on and no blocks.
 fn many(alloc: Global, count: u64) -> Result<String, AllocError> {
     let mut text = String::new(alloc);
     for number in 0..count {
@@ -198,10 +219,9 @@ fn many(alloc: Global, count: u64) -> Result<String, AllocError> {
 
 #[test]
 fn at_most_400_custodians(rt: HostRuntime) -> Result<(), Fail> {
-    assert_eq!(rt; fault_of(rt.alloc(), many(rt.alloc(), 400)?.as_str()), None);
-    assert_eq!(rt;
-        fault_of(rt.alloc(), many(rt.alloc(), 401)?.as_str()),
-        Some(RegFault::TooMany)
-    );
+    for (count, fault) in [(400, None), (401, Some(RegFault::TooMany))] {
+        let text = many(rt.alloc(), count)?;
+        assert_eq!(rt; fault_of(rt.alloc(), text.as_bytes())?, fault);
+    }
     Ok(())
 }
