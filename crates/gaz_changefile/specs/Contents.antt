@@ -2,10 +2,9 @@
 use Rattle.std.specs.Prelude.{ℕ, List, [], ◌∷◌, drop, Option, Some, None, Result, Ok, Err}
 use Rattle.std.specs.List.{enumerate_from, filter_map}
 use Rattle.gaz_rows.specs.Rows.{Fields}
-use Rattle.gaz_records.specs.Days.{CivilDay, date_of}
+use Rattle.gaz_records.specs.Days.{CivilDay, date_of, no_day}
 use Rattle.gaz_records.specs.Fields.{the}
 use Rattle.gaz_records.specs.Items.{read_item}
-use Rattle.gaz_records.specs.Table.{no_day}
 use Rattle.gaz_records.specs.declared.fields.FieldFault.{FieldFault}
 use Rattle.gaz_records.specs.declared.item.Item.{Item}
 use Rattle.gaz_records.specs.declared.item.Kind.{Kind}

@@ -1,5 +1,6 @@
 pub mod Lines
 pub mod Contents
+pub mod Profile
 pub mod Rules
 pub mod Reading
 pub mod Fault

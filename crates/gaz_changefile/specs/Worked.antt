@@ -1,7 +1,8 @@
--- Worked files, whose readings were told beforehand.
-use Rattle.std.specs.Prelude.{◌≡◌, ℕ, List, [], ◌∷◌, ◌++◌, None, codes}
+-- Worked files, whose readings and profiles were told beforehand.
+use Rattle.std.specs.Prelude.{◌≡◌, ℕ, List, [], ◌∷◌, ◌++◌, None, Some, codes}
 use Rattle.gaz_records.specs.declared.item.Item.TheVariants as item
 use Rattle.gaz_changefile.specs.Contents.{Contents}
+use Rattle.gaz_changefile.specs.Profile.{profile_of}
 use Rattle.gaz_changefile.specs.Reading.{Bad, Good, reading}
 use Rattle.gaz_changefile.specs.declared.action.Action.TheVariants.{Insert}
 
@@ -37,3 +38,17 @@ pub record WorkedFiles : Type 0 where
   pub two_marks : reading (0xEF ∷ 0xBB ∷ 0xBF ∷ 0xEF ∷ 0xBB ∷ 0xBF ∷ (header ++ line (codes "99,0"))) 1001 1 ≡ Bad 1 2
   pub not_text : reading (0xFF ∷ []) 1001 1 ≡ Bad 1 1
   pub empty : reading [] 1001 1 ≡ Bad 1 1
+
+-- the profile that a first record names, whatever else is in it
+pub record WorkedProfiles : Type 0 where
+  pub other_fields : profile_of (codes "10,7,x") ≡ Some 7
+  pub leading_zeros : profile_of (codes "10,0009") ≡ Some 9
+  pub not_text : profile_of (codes "10,7," ++ (0xFF ∷ [])) ≡ Some 7
+  pub quote_left_open : profile_of (codes "10," ++ (34 ∷ codes "7")) ≡ Some 7
+  pub not_digits : profile_of (codes "10,x,1001,2,2024-01-02") ≡ None
+  pub nought : profile_of (codes "10,0") ≡ None
+  pub too_great : profile_of (codes "10,10000") ≡ None
+  pub one_field : profile_of (codes "10") ≡ None
+  pub other_identifier : profile_of (codes "010,7") ≡ None
+  pub in_second_record : profile_of (line (codes "99,0") ++ codes "10,7") ≡ None
+  pub no_record : profile_of [] ≡ None

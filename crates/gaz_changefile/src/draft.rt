@@ -37,7 +37,12 @@ impl Draft {
 
     #[tactic(auto, unfolding(crate::specs::Rules::later_rules))]
     /// Goes on with the record at `place`.
-    pub(crate) fn add(&mut self, row: &ByteRecord, place: u64) -> Result<(), FileFault>
+    pub(crate) fn add(
+        &mut self,
+        alloc: Global,
+        row: &ByteRecord,
+        place: u64,
+    ) -> Result<(), FileFault>
         requires { length self.old.changes.items ≤ 5000 }
         ensures bad { IfErr result (IsFirstOf place (later_rules (length self.old.changes.items) self.old.ended (Some (fields_of row.now)))) }
         ensures good { OnOk result (Adds self.old self.new place (fields_of row.now)) }
@@ -48,7 +53,7 @@ impl Draft {
         let before = self.changes.len();
         match Line::of(row) {
             Line::Change(kind) => {
-                let change = read_change(row, kind, place, before)?;
+                let change = read_change(alloc, row, kind, place, before)?;
                 self.changes.push(change)?;
                 Ok(())
             }

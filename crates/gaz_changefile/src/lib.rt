@@ -9,6 +9,7 @@ mod header;
 pub mod laws;
 mod line;
 mod numbers;
+mod profile;
 mod read;
 mod record;
 pub mod rule;
@@ -16,6 +17,7 @@ pub mod rule;
 pub use action::Action;
 pub use change::{Basis, Change};
 pub use file::{ChangeFile, FileFault};
+pub use profile::profile_of;
 pub use read::read_file;
 
 #[cfg(test)]

@@ -40,7 +40,7 @@ pub fn read_file(
         if !next_row(&mut rdr, &mut row)? {
             return draft.finish(alloc, place);
         }
-        draft.add(&row, place)?;
+        draft.add(alloc, &row, place)?;
     }
     // No file has so many records.
     Err(FileFault::Memory)

@@ -13,12 +13,14 @@ use crate::rule;
 use csv::ByteRecord;
 use gaz_ids::Order;
 use gaz_records::{FieldFault, Item, Kind, read_item};
+use std::alloc::Global;
 
 const MOST_CHANGES: usize = 5000;
 
 #[tactic(auto, unfolding(crate::specs::Rules::change_rules))]
 /// The change of the record at `place`, behind so many other change records.
 pub(crate) fn read_change(
+    alloc: Global,
     row: &ByteRecord,
     kind: Kind,
     place: u64,
@@ -33,7 +35,7 @@ pub(crate) fn read_change(
     if before >= MOST_CHANGES {
         return Err(FileFault::at(place, rule::LIMIT));
     }
-    let item = match read_item(kind, row, 3) {
+    let item = match read_item(alloc, kind, row, 3) {
         Ok(item) => item,
         Err(FieldFault::Count) => return Err(FileFault::at(place, rule::SHAPE)),
         Err(FieldFault::Form { .. }) => return Err(FileFault::at(place, rule::FORM)),

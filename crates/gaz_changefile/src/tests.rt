@@ -30,7 +30,9 @@ fn street_101_is_read(rt: HostRuntime) -> Result<(), Fail> {
     assert_eq!(rt; file.changes.len(), 1);
     let change = &file.changes[0];
     assert_eq!(rt; (change.place, change.action), (2, Action::Insert));
-    let Item::Street(street) = &change.item;
+    let Item::Street(street) = &change.item else {
+        return Err("not a street".into());
+    };
     assert_eq!(rt; (street.usrn.number(), street.sort), (101, 1));
     assert_eq!(rt; street.end, None);
     Ok(())
@@ -158,5 +160,28 @@ fn the_limit_is_5000_changes(rt: HostRuntime) -> Result<(), Fail> {
     assert_eq!(rt; told(rt.alloc(), most.as_bytes(), 1001, 1), (0, 0));
     let more = file_of(rt.alloc(), 5001)?;
     assert_eq!(rt; told(rt.alloc(), more.as_bytes(), 1001, 1), (5002, 9));
+    Ok(())
+}
+
+#[test]
+fn the_profile_that_a_file_names(rt: HostRuntime) -> Result<(), Fail> {
+    let files = [
+        (STREET_101, Some(1)),
+        (b"10,7,x".as_slice(), Some(7)),
+        (b"10,0009".as_slice(), Some(9)),
+        (b"\xef\xbb\xbf\n10,7\n99,0".as_slice(), Some(7)),
+        (b"10,7,\xff".as_slice(), Some(7)),
+        (b"10,\"7".as_slice(), Some(7)),
+        (b"10,x,1001,2,2024-01-02".as_slice(), None),
+        (b"10,0".as_slice(), None),
+        (b"10,10000".as_slice(), None),
+        (b"10".as_slice(), None),
+        (b"010,7".as_slice(), None),
+        (b"99,0\n10,7".as_slice(), None),
+        (b"".as_slice(), None),
+    ];
+    for (i, (file, want)) in files.iter().enumerate() {
+        assert_eq!(rt; profile_of(rt.alloc(), file)?, *want, "file {i}");
+    }
     Ok(())
 }

@@ -5,9 +5,8 @@ use Rattle.std.specs.Io.KnownBytes.{Appends, Consumes}
 use Rattle.std.proofs.KnownBytes.{Appends-nil, Appends-trans, Consumes-nil, Consumes-trans}
 use Rattle.std.proofs.lemmas.Bool.Decides.{nat_tests}
 use Rattle.std.proofs.lemmas.List.Elements.{filter_map-append}
-use Rattle.gaz_hub.specs.Sample.{sample_door}
 use Rattle.gaz_hub.specs.Runs.{Run}
-use Rattle.gaz_hub.specs.Step.{HubState}
+use Rattle.gaz_hub.specs.Step.{Door, HubState}
 use Rattle.gaz_exchange.specs.Conversing.{Conversation, EndsAnswered, EndsAs, EndsRefused, StopsAs, StopsWaiting, ended_after}
 use Rattle.gaz_exchange.specs.Exchanges.{Comes, Exchange, all_open, command_in, commands_of, ends_after, goes_on, replies, responses_of}
 use Rattle.gaz_exchange.specs.Framing.{is_closing}
@@ -30,237 +29,238 @@ ends_by most es rest left n written ended.Most e w = (e, w)
 ends_by most es rest left n written ended.Closed e w = (e, w)
 ends_by most es rest left n written ended.InputEnd e w = absurd (no_input_end (n == most) e)
 
--- n requests were answered, and none of them ends the conversation
-pub record IsSoFar (most n : ℕ) (had left held holds : Option (List ℕ)) (old new : HubState) (inlet : List ℕ) : Type 0 where
-  pub read : List ℕ
-  pub exchanges : List Exchange
-  pub consumed : Consumes had left read
-  pub appended : Appends held holds (replies exchanges)
-  pub comes : Comes most read exchanges inlet
-  pub run : Run sample_door old (commands_of exchanges) (responses_of exchanges) new
-  pub count : length exchanges ≡ n
-  pub opens : all_open exchanges ≡ true
+module _ (d : Door) where
+  -- n requests were answered, and none of them ends the conversation
+  pub record IsSoFar (most n : ℕ) (had left held holds : Option (List ℕ)) (old new : HubState) (inlet : List ℕ) : Type 0 where
+    pub read : List ℕ
+    pub exchanges : List Exchange
+    pub consumed : Consumes had left read
+    pub appended : Appends held holds (replies exchanges)
+    pub comes : Comes most read exchanges inlet
+    pub run : Run d old (commands_of exchanges) (responses_of exchanges) new
+    pub count : length exchanges ≡ n
+    pub opens : all_open exchanges ≡ true
 
-pub so_far_none : (most : ℕ) (had held : Option (List ℕ)) (old : HubState) (inlet : List ℕ) → inlet ≡ [] → IsSoFar most 0 had had held held old old inlet
-so_far_none most had held old inlet e = record {
-  read = [];
-  exchanges = [];
-  consumed = Consumes-nil had;
-  appended = Appends-nil held;
-  comes = rw e (comes_none most []);
-  run = refl;
-  count = refl;
-  opens = refl;
-}
-
-module _ (most n : ℕ) (had left later held holds after : Option (List ℕ)) (old mid new : HubState) (inlet rest : List ℕ)
-    (s : IsSoFar most n had left held holds old mid inlet) (below : n < most) where
-  open_yet : goes_on most s.exchanges ≡ true
-  open_yet =
-      let count = s.count in
-      let room : nat_lt (length s.exchanges) most ≡ true = grind (arith, nat_tests, count, below) in
-      both_are (nat_lt (length s.exchanges) most) (all_open s.exchanges) room s.opens
-
-  last_is : (e : Exchange) → (is_closing e.head || ((n + 1) == most)) ≡ ends_after (most - length s.exchanges) e
-  last_is e =
-      let count = s.count in
-      let same : ((n + 1) == most) ≡ ((most - length s.exchanges) == 1) = grind (arith, nat_tests, count, below) in
-      ap (λ b. is_closing e.head || b) same
-
-  -- the exchanges with one more
-  module _ (read : List ℕ) (e : Exchange) (consumed : Consumes left later read) (x : Exchanges ((n + 1) == most) (inlet ++ read) e rest mid new) where
-    all_consumed : Consumes had later (s.read ++ read)
-    all_consumed = Consumes-trans had left later s.read read s.consumed consumed
-
-    all_come : Comes most (s.read ++ read) (s.exchanges ++ e ∷ []) rest
-    all_come =
-        comes_more most (s.read ++ read) s.exchanges (inlet ++ read) e rest x.ends open_yet
-        (comes_read most s.read s.exchanges inlet read s.comes) x.exchanged (x.ends_is ∙ last_is e)
-
-    all_run : Run sample_door old (commands_of (s.exchanges ++ e ∷ [])) (responses_of (s.exchanges ++ e ∷ [])) new
-    all_run =
-        rw (filter_map-append command_in s.exchanges (e ∷ []), filter_map-append (λ y. y.response) s.exchanges (e ∷ []))
-        (run_both sample_door old mid new (commands_of s.exchanges) (commands_of (e ∷ [])) (responses_of s.exchanges) (responses_of (e ∷ [])) s.run x.run)
-
-    one_more : length (s.exchanges ++ e ∷ []) ≡ n + 1
-    one_more = length-append s.exchanges (e ∷ []) ∙ ap (λ k. k + 1) s.count
-
-    all_written : (written : List ℕ) → Appends holds after written → written ≡ e.reply → Appends held after (replies (s.exchanges ++ e ∷ []))
-    all_written written a w = rw (replies-more s.exchanges e, ← w) (Appends-trans held holds after (replies s.exchanges) written s.appended a)
-
-    ends_or_not : goes_on most (s.exchanges ++ e ∷ []) ≡ not (is_closing e.head || ((n + 1) == most))
-    ends_or_not = goes_on-more most s.exchanges e open_yet ∙ ap not (sym (last_is e))
-
-  -- the same exchanges, though more was read
-  module _ (read : List ℕ) (consumed : Consumes left later read) (same : new ≡ mid) where
-    still_consumed : Consumes had later (s.read ++ read)
-    still_consumed = Consumes-trans had left later s.read read s.consumed consumed
-
-    still_come : Comes most (s.read ++ read) s.exchanges (inlet ++ read)
-    still_come = comes_read most s.read s.exchanges inlet read s.comes
-
-    still_run : Run sample_door old (commands_of s.exchanges) (responses_of s.exchanges) new
-    still_run = rw same s.run
-
-  quiet : (written : List ℕ) → Appends holds after written → written ≡ [] → Appends held after (replies s.exchanges)
-  quiet written a e =
-      let all = Appends-trans held holds after (replies s.exchanges) written s.appended a in
-      rw (e, append-nil (replies s.exchanges)) at all
-
-  pub so_far_more : IsTurn ((n + 1) == most) inlet rest left later holds after mid new Answered → IsSoFar most (n + 1) had later held after old new rest
-  so_far_more t =
-      let (e, x, told, goes) = t.out in
-      let others : goes_on most (s.exchanges ++ e ∷ []) ≡ true = ends_or_not t.read e t.consumed x ∙ ap not goes in
-      record {
-        read = s.read ++ t.read;
-        exchanges = s.exchanges ++ e ∷ [];
-        consumed = all_consumed t.read e t.consumed x;
-        appended = all_written t.read e t.consumed x t.written t.appended told;
-        comes = all_come t.read e t.consumed x;
-        run = all_run t.read e t.consumed x;
-        count = one_more t.read e t.consumed x;
-        opens = (both (nat_lt (length (s.exchanges ++ e ∷ [])) most) (all_open (s.exchanges ++ e ∷ [])) others).1;
-      }
-
-  closed_by_reply : (t : IsTurn ((n + 1) == most) inlet rest left later holds after mid new Closed) (e : Exchange) → Exchanges ((n + 1) == most) (inlet ++ t.read) e rest mid new
-      → t.written ≡ e.reply → (is_closing e.head || ((n + 1) == most)) ≡ true
-      → Conversation most had later held after old new (Ok (record { requests = n + 1; ended = ended_after (n + 1) most }))
-  closed_by_reply t e x told ends = record {
-    read = s.read ++ t.read;
-    written = replies (s.exchanges ++ e ∷ []);
-    exchanges = s.exchanges ++ e ∷ [];
-    rest = rest;
-    consumed = all_consumed t.read e t.consumed x;
-    appended = all_written t.read e t.consumed x t.written t.appended told;
-    comes = all_come t.read e t.consumed x;
-    run = all_run t.read e t.consumed x;
-    comes_to = ends_by most (s.exchanges ++ e ∷ []) rest later (n + 1) (replies (s.exchanges ++ e ∷ [])) (ended_after (n + 1) most) refl (inl (record {
-      done = ends_or_not t.read e t.consumed x ∙ ap not ends;
-      counted = sym (one_more t.read e t.consumed x);
-      told = refl;
-    }));
+  pub so_far_none : (most : ℕ) (had held : Option (List ℕ)) (old : HubState) (inlet : List ℕ) → inlet ≡ [] → IsSoFar most 0 had had held held old old inlet
+  so_far_none most had held old inlet e = record {
+    read = [];
+    exchanges = [];
+    consumed = Consumes-nil had;
+    appended = Appends-nil held;
+    comes = rw e (comes_none most []);
+    run = refl;
+    count = refl;
+    opens = refl;
   }
 
-  closed_by_refusal : (t : IsTurn ((n + 1) == most) inlet rest left later holds after mid new Closed) → IsTurnedAway (inlet ++ t.read) later t.written → new ≡ mid
-      → Conversation most had later held after old new (Ok (record { requests = n + 1; ended = ended_after (n + 1) most }))
-  closed_by_refusal t away same = record {
-    read = s.read ++ t.read;
-    written = replies s.exchanges ++ t.written;
-    exchanges = s.exchanges;
-    rest = inlet ++ t.read;
-    consumed = still_consumed t.read t.consumed same;
-    appended = Appends-trans held holds after (replies s.exchanges) t.written s.appended t.appended;
-    comes = still_come t.read t.consumed same;
-    run = still_run t.read t.consumed same;
-    comes_to = ends_by most s.exchanges (inlet ++ t.read) later (n + 1) (replies s.exchanges ++ t.written) (ended_after (n + 1) most) refl (inr (record {
-      open_yet = open_yet;
-      text = t.written;
-      turned_away = away;
-      counted = ap (λ k. k + 1) (sym s.count);
-      told = refl;
-    }));
-  }
+  module _ (most n : ℕ) (had left later held holds after : Option (List ℕ)) (old mid new : HubState) (inlet rest : List ℕ)
+      (s : IsSoFar most n had left held holds old mid inlet) (below : n < most) where
+    open_yet : goes_on most s.exchanges ≡ true
+    open_yet =
+        let count = s.count in
+        let room : nat_lt (length s.exchanges) most ≡ true = grind (arith, nat_tests, count, below) in
+        both_are (nat_lt (length s.exchanges) most) (all_open s.exchanges) room s.opens
 
-  pub ends_closed : IsTurn ((n + 1) == most) inlet rest left later holds after mid new Closed
-      → Conversation most had later held after old new (Ok (record { requests = n + 1; ended = ended_after (n + 1) most }))
-  ends_closed t = elim t.out [ inl w ↦ closed_by_reply t w.0 w.1 w.2 w.3 | inr w ↦ closed_by_refusal t w.0 w.1 ]
+    last_is : (e : Exchange) → (is_closing e.head || ((n + 1) == most)) ≡ ends_after (most - length s.exchanges) e
+    last_is e =
+        let count = s.count in
+        let same : ((n + 1) == most) ≡ ((most - length s.exchanges) == 1) = grind (arith, nat_tests, count, below) in
+        ap (λ b. is_closing e.head || b) same
 
-  pub ends_over : IsTurn ((n + 1) == most) inlet rest left later holds after mid new Over
-      → Conversation most had later held after old new (Ok (record { requests = n; ended = ended.InputEnd }))
-  ends_over t =
-      let (over, at_end, same, none) = t.out in
-      record {
-        read = s.read ++ t.read;
-        written = replies s.exchanges;
-        exchanges = s.exchanges;
-        rest = inlet ++ t.read;
-        consumed = still_consumed t.read t.consumed same;
-        appended = quiet t.written t.appended none;
-        comes = still_come t.read t.consumed same;
-        run = still_run t.read t.consumed same;
-        comes_to = record { open_yet = open_yet; over = over; at_end = at_end; counted = sym s.count; told = refl };
-      }
+    -- the exchanges with one more
+    module _ (read : List ℕ) (e : Exchange) (consumed : Consumes left later read) (x : Exchanges d ((n + 1) == most) (inlet ++ read) e rest mid new) where
+      all_consumed : Consumes had later (s.read ++ read)
+      all_consumed = Consumes-trans had left later s.read read s.consumed consumed
 
-  stops_answering : (t : IsTurn ((n + 1) == most) inlet rest left later holds after mid new (Stopped WriteFault)) (lost : List ℕ) (e : Exchange)
-      → Exchanges ((n + 1) == most) (inlet ++ t.read) e rest mid new → e.reply ≡ t.written ++ lost
-      → Conversation most had later held after old new (Err (record { requests = n; cause = WriteFault }))
-  stops_answering t lost e x cut = record {
-    read = s.read ++ t.read;
-    written = replies s.exchanges ++ t.written;
-    exchanges = s.exchanges ++ e ∷ [];
-    rest = rest;
-    consumed = all_consumed t.read e t.consumed x;
-    appended = Appends-trans held holds after (replies s.exchanges) t.written s.appended t.appended;
-    comes = all_come t.read e t.consumed x;
-    run = all_run t.read e t.consumed x;
-    comes_to = inr (inl (record { earlier = s.exchanges; in_hand = e; sent = t.written; lost = lost; split = refl; cut = cut; counted = sym s.count; told = refl }));
-  }
+      all_come : Comes most (s.read ++ read) (s.exchanges ++ e ∷ []) rest
+      all_come =
+          comes_more most (s.read ++ read) s.exchanges (inlet ++ read) e rest x.ends open_yet
+          (comes_read most s.read s.exchanges inlet read s.comes) x.exchanged (x.ends_is ∙ last_is e)
 
-  stops_refusing : (t : IsTurn ((n + 1) == most) inlet rest left later holds after mid new (Stopped WriteFault)) (lost : List ℕ)
-      → IsTurnedAway (inlet ++ t.read) later (t.written ++ lost) → new ≡ mid
-      → Conversation most had later held after old new (Err (record { requests = n; cause = WriteFault }))
-  stops_refusing t lost away same = record {
-    read = s.read ++ t.read;
-    written = replies s.exchanges ++ t.written;
-    exchanges = s.exchanges;
-    rest = inlet ++ t.read;
-    consumed = still_consumed t.read t.consumed same;
-    appended = Appends-trans held holds after (replies s.exchanges) t.written s.appended t.appended;
-    comes = still_come t.read t.consumed same;
-    run = still_run t.read t.consumed same;
-    comes_to = inr (inr (record { open_yet = open_yet; sent = t.written; lost = lost; turned_away = away; counted = sym s.count; told = refl }));
-  }
+      all_run : Run d old (commands_of (s.exchanges ++ e ∷ [])) (responses_of (s.exchanges ++ e ∷ [])) new
+      all_run =
+          rw (filter_map-append command_in s.exchanges (e ∷ []), filter_map-append (λ y. y.response) s.exchanges (e ∷ []))
+          (run_both d old mid new (commands_of s.exchanges) (commands_of (e ∷ [])) (responses_of s.exchanges) (responses_of (e ∷ [])) s.run x.run)
 
-  -- the next request isn't whole
-  module _ (read written : List ℕ) (consumed : Consumes left later read) (appended : Appends holds after written) (w : Waits (inlet ++ read) mid new written) where
-    waiting : StopsWaiting most s.exchanges (inlet ++ read) n (replies s.exchanges)
-    waiting = record { open_yet = open_yet; unfinished = w.0; counted = sym s.count; told = refl }
+      one_more : length (s.exchanges ++ e ∷ []) ≡ n + 1
+      one_more = length-append s.exchanges (e ∷ []) ∙ ap (λ k. k + 1) s.count
 
-    stops_waiting : (cause : Cause) → StopsAs most s.exchanges (inlet ++ read) later n cause (replies s.exchanges)
-        → Conversation most had later held after old new (Err (record { requests = n; cause = cause }))
-    stops_waiting cause how = record {
-      read = s.read ++ read;
-      written = replies s.exchanges;
-      exchanges = s.exchanges;
-      rest = inlet ++ read;
-      consumed = still_consumed read consumed w.1;
-      appended = quiet written appended w.2;
-      comes = still_come read consumed w.1;
-      run = still_run read consumed w.1;
-      comes_to = how;
-    }
+      all_written : (written : List ℕ) → Appends holds after written → written ≡ e.reply → Appends held after (replies (s.exchanges ++ e ∷ []))
+      all_written written a w = rw (replies-more s.exchanges e, ← w) (Appends-trans held holds after (replies s.exchanges) written s.appended a)
 
-  pub stops : (cause : Cause) → IsTurn ((n + 1) == most) inlet rest left later holds after mid new (Stopped cause)
-      → Conversation most had later held after old new (Err (record { requests = n; cause = cause }))
-  stops ReadFault t = stops_waiting t.read t.written t.consumed t.appended t.out ReadFault (waiting t.read t.written t.consumed t.appended t.out)
-  stops WriteFault t =
-      elim t.out [
-        | inl w ↦ stops_waiting t.read t.written t.consumed t.appended w WriteFault (inl (waiting t.read t.written t.consumed t.appended w))
-        | inr cut ↦ elim cut.1 [ inl w ↦ stops_answering t cut.0 w.0 w.1 w.2 | inr w ↦ stops_refusing t cut.0 w.0 w.1 ]
-      ]
+      ends_or_not : goes_on most (s.exchanges ++ e ∷ []) ≡ not (is_closing e.head || ((n + 1) == most))
+      ends_or_not = goes_on-more most s.exchanges e open_yet ∙ ap not (sym (last_is e))
 
--- so many were answered as were allowed
-pub ends_most : (most n : ℕ) (had left held holds : Option (List ℕ)) (old new : HubState) (inlet : List ℕ)
-    → IsSoFar most n had left held holds old new inlet → most ≤ n → n ≤ most
-    → Conversation most had left held holds old new (Ok (record { requests = most; ended = ended.Most }))
-ends_most most n had left held holds old new inlet s above below =
-    let same : n ≡ most = omega arith in
-    let full : length s.exchanges ≡ most = s.count ∙ same in
-    let none : nat_lt (length s.exchanges) most ≡ false = grind (arith, nat_tests, full) in
-    let test : (most == most) ≡ true = grind (arith, nat_tests) in
-    let ends : ended_after most most ≡ ended.Most = rw test refl in
-    record {
-      read = s.read;
-      written = replies s.exchanges;
-      exchanges = s.exchanges;
-      rest = inlet;
-      consumed = s.consumed;
-      appended = s.appended;
-      comes = s.comes;
-      run = s.run;
-      comes_to = ends_by most s.exchanges inlet left most (replies s.exchanges) ended.Most ends (inl (record {
-        done = ap (λ b. b && all_open s.exchanges) none;
-        counted = sym full;
+    -- the same exchanges, though more was read
+    module _ (read : List ℕ) (consumed : Consumes left later read) (same : new ≡ mid) where
+      still_consumed : Consumes had later (s.read ++ read)
+      still_consumed = Consumes-trans had left later s.read read s.consumed consumed
+
+      still_come : Comes most (s.read ++ read) s.exchanges (inlet ++ read)
+      still_come = comes_read most s.read s.exchanges inlet read s.comes
+
+      still_run : Run d old (commands_of s.exchanges) (responses_of s.exchanges) new
+      still_run = rw same s.run
+
+    quiet : (written : List ℕ) → Appends holds after written → written ≡ [] → Appends held after (replies s.exchanges)
+    quiet written a e =
+        let all = Appends-trans held holds after (replies s.exchanges) written s.appended a in
+        rw (e, append-nil (replies s.exchanges)) at all
+
+    pub so_far_more : IsTurn d ((n + 1) == most) inlet rest left later holds after mid new Answered → IsSoFar most (n + 1) had later held after old new rest
+    so_far_more t =
+        let (e, x, told, goes) = t.out in
+        let others : goes_on most (s.exchanges ++ e ∷ []) ≡ true = ends_or_not t.read e t.consumed x ∙ ap not goes in
+        record {
+          read = s.read ++ t.read;
+          exchanges = s.exchanges ++ e ∷ [];
+          consumed = all_consumed t.read e t.consumed x;
+          appended = all_written t.read e t.consumed x t.written t.appended told;
+          comes = all_come t.read e t.consumed x;
+          run = all_run t.read e t.consumed x;
+          count = one_more t.read e t.consumed x;
+          opens = (both (nat_lt (length (s.exchanges ++ e ∷ [])) most) (all_open (s.exchanges ++ e ∷ [])) others).1;
+        }
+
+    closed_by_reply : (t : IsTurn d ((n + 1) == most) inlet rest left later holds after mid new Closed) (e : Exchange) → Exchanges d ((n + 1) == most) (inlet ++ t.read) e rest mid new
+        → t.written ≡ e.reply → (is_closing e.head || ((n + 1) == most)) ≡ true
+        → Conversation d most had later held after old new (Ok (record { requests = n + 1; ended = ended_after (n + 1) most }))
+    closed_by_reply t e x told ends = record {
+      read = s.read ++ t.read;
+      written = replies (s.exchanges ++ e ∷ []);
+      exchanges = s.exchanges ++ e ∷ [];
+      rest = rest;
+      consumed = all_consumed t.read e t.consumed x;
+      appended = all_written t.read e t.consumed x t.written t.appended told;
+      comes = all_come t.read e t.consumed x;
+      run = all_run t.read e t.consumed x;
+      comes_to = ends_by most (s.exchanges ++ e ∷ []) rest later (n + 1) (replies (s.exchanges ++ e ∷ [])) (ended_after (n + 1) most) refl (inl (record {
+        done = ends_or_not t.read e t.consumed x ∙ ap not ends;
+        counted = sym (one_more t.read e t.consumed x);
         told = refl;
       }));
     }
+
+    closed_by_refusal : (t : IsTurn d ((n + 1) == most) inlet rest left later holds after mid new Closed) → IsTurnedAway (inlet ++ t.read) later t.written → new ≡ mid
+        → Conversation d most had later held after old new (Ok (record { requests = n + 1; ended = ended_after (n + 1) most }))
+    closed_by_refusal t away same = record {
+      read = s.read ++ t.read;
+      written = replies s.exchanges ++ t.written;
+      exchanges = s.exchanges;
+      rest = inlet ++ t.read;
+      consumed = still_consumed t.read t.consumed same;
+      appended = Appends-trans held holds after (replies s.exchanges) t.written s.appended t.appended;
+      comes = still_come t.read t.consumed same;
+      run = still_run t.read t.consumed same;
+      comes_to = ends_by most s.exchanges (inlet ++ t.read) later (n + 1) (replies s.exchanges ++ t.written) (ended_after (n + 1) most) refl (inr (record {
+        open_yet = open_yet;
+        text = t.written;
+        turned_away = away;
+        counted = ap (λ k. k + 1) (sym s.count);
+        told = refl;
+      }));
+    }
+
+    pub ends_closed : IsTurn d ((n + 1) == most) inlet rest left later holds after mid new Closed
+        → Conversation d most had later held after old new (Ok (record { requests = n + 1; ended = ended_after (n + 1) most }))
+    ends_closed t = elim t.out [ inl w ↦ closed_by_reply t w.0 w.1 w.2 w.3 | inr w ↦ closed_by_refusal t w.0 w.1 ]
+
+    pub ends_over : IsTurn d ((n + 1) == most) inlet rest left later holds after mid new Over
+        → Conversation d most had later held after old new (Ok (record { requests = n; ended = ended.InputEnd }))
+    ends_over t =
+        let (over, at_end, same, none) = t.out in
+        record {
+          read = s.read ++ t.read;
+          written = replies s.exchanges;
+          exchanges = s.exchanges;
+          rest = inlet ++ t.read;
+          consumed = still_consumed t.read t.consumed same;
+          appended = quiet t.written t.appended none;
+          comes = still_come t.read t.consumed same;
+          run = still_run t.read t.consumed same;
+          comes_to = record { open_yet = open_yet; over = over; at_end = at_end; counted = sym s.count; told = refl };
+        }
+
+    stops_answering : (t : IsTurn d ((n + 1) == most) inlet rest left later holds after mid new (Stopped WriteFault)) (lost : List ℕ) (e : Exchange)
+        → Exchanges d ((n + 1) == most) (inlet ++ t.read) e rest mid new → e.reply ≡ t.written ++ lost
+        → Conversation d most had later held after old new (Err (record { requests = n; cause = WriteFault }))
+    stops_answering t lost e x cut = record {
+      read = s.read ++ t.read;
+      written = replies s.exchanges ++ t.written;
+      exchanges = s.exchanges ++ e ∷ [];
+      rest = rest;
+      consumed = all_consumed t.read e t.consumed x;
+      appended = Appends-trans held holds after (replies s.exchanges) t.written s.appended t.appended;
+      comes = all_come t.read e t.consumed x;
+      run = all_run t.read e t.consumed x;
+      comes_to = inr (inl (record { earlier = s.exchanges; in_hand = e; sent = t.written; lost = lost; split = refl; cut = cut; counted = sym s.count; told = refl }));
+    }
+
+    stops_refusing : (t : IsTurn d ((n + 1) == most) inlet rest left later holds after mid new (Stopped WriteFault)) (lost : List ℕ)
+        → IsTurnedAway (inlet ++ t.read) later (t.written ++ lost) → new ≡ mid
+        → Conversation d most had later held after old new (Err (record { requests = n; cause = WriteFault }))
+    stops_refusing t lost away same = record {
+      read = s.read ++ t.read;
+      written = replies s.exchanges ++ t.written;
+      exchanges = s.exchanges;
+      rest = inlet ++ t.read;
+      consumed = still_consumed t.read t.consumed same;
+      appended = Appends-trans held holds after (replies s.exchanges) t.written s.appended t.appended;
+      comes = still_come t.read t.consumed same;
+      run = still_run t.read t.consumed same;
+      comes_to = inr (inr (record { open_yet = open_yet; sent = t.written; lost = lost; turned_away = away; counted = sym s.count; told = refl }));
+    }
+
+    -- the next request isn't whole
+    module _ (read written : List ℕ) (consumed : Consumes left later read) (appended : Appends holds after written) (w : Waits (inlet ++ read) mid new written) where
+      waiting : StopsWaiting most s.exchanges (inlet ++ read) n (replies s.exchanges)
+      waiting = record { open_yet = open_yet; unfinished = w.0; counted = sym s.count; told = refl }
+
+      stops_waiting : (cause : Cause) → StopsAs most s.exchanges (inlet ++ read) later n cause (replies s.exchanges)
+          → Conversation d most had later held after old new (Err (record { requests = n; cause = cause }))
+      stops_waiting cause how = record {
+        read = s.read ++ read;
+        written = replies s.exchanges;
+        exchanges = s.exchanges;
+        rest = inlet ++ read;
+        consumed = still_consumed read consumed w.1;
+        appended = quiet written appended w.2;
+        comes = still_come read consumed w.1;
+        run = still_run read consumed w.1;
+        comes_to = how;
+      }
+
+    pub stops : (cause : Cause) → IsTurn d ((n + 1) == most) inlet rest left later holds after mid new (Stopped cause)
+        → Conversation d most had later held after old new (Err (record { requests = n; cause = cause }))
+    stops ReadFault t = stops_waiting t.read t.written t.consumed t.appended t.out ReadFault (waiting t.read t.written t.consumed t.appended t.out)
+    stops WriteFault t =
+        elim t.out [
+          | inl w ↦ stops_waiting t.read t.written t.consumed t.appended w WriteFault (inl (waiting t.read t.written t.consumed t.appended w))
+          | inr cut ↦ elim cut.1 [ inl w ↦ stops_answering t cut.0 w.0 w.1 w.2 | inr w ↦ stops_refusing t cut.0 w.0 w.1 ]
+        ]
+
+  -- so many were answered as were allowed
+  pub ends_most : (most n : ℕ) (had left held holds : Option (List ℕ)) (old new : HubState) (inlet : List ℕ)
+      → IsSoFar most n had left held holds old new inlet → most ≤ n → n ≤ most
+      → Conversation d most had left held holds old new (Ok (record { requests = most; ended = ended.Most }))
+  ends_most most n had left held holds old new inlet s above below =
+      let same : n ≡ most = omega arith in
+      let full : length s.exchanges ≡ most = s.count ∙ same in
+      let none : nat_lt (length s.exchanges) most ≡ false = grind (arith, nat_tests, full) in
+      let test : (most == most) ≡ true = grind (arith, nat_tests) in
+      let ends : ended_after most most ≡ ended.Most = rw test refl in
+      record {
+        read = s.read;
+        written = replies s.exchanges;
+        exchanges = s.exchanges;
+        rest = inlet;
+        consumed = s.consumed;
+        appended = s.appended;
+        comes = s.comes;
+        run = s.run;
+        comes_to = ends_by most s.exchanges inlet left most (replies s.exchanges) ended.Most ends (inl (record {
+          done = ap (λ b. b && all_open s.exchanges) none;
+          counted = sym full;
+          told = refl;
+        }));
+      }

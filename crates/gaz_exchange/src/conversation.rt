@@ -1,5 +1,5 @@
 ghost use Rattle.std.specs.Prelude.{◌≡◌, Ok};
-ghost use Rattle.gaz_hub.specs.Sample.{state_of};
+ghost use Rattle.gaz_hub.specs.Hubs.{door_of, state_of};
 ghost use Rattle.gaz_exchange.specs.Conversing.{Conversation, ended_after};
 ghost use Rattle.gaz_exchange.specs.Turns.{Answers, Asks, IsAsked, IsTurn, Refuses, turn_of};
 
@@ -54,7 +54,8 @@ pub enum Turn {
 
 // Asks the hub.
 fn ask_call(hub: &mut Hub, call: Call, body: &[u8]) -> Reply
-    ensures { Asks (Ok call) body.now (state_of hub.old) (state_of hub.new) result }
+    ensures asked { Asks (door_of hub.old.register) (Ok call) body.now (state_of hub.old) (state_of hub.new) result }
+    ensures register { hub.new.register ≡ hub.old.register }
 {
     match call {
         Call::Submit { code, volume } => hub.submit(code, volume, body).into(),
@@ -65,7 +66,8 @@ fn ask_call(hub: &mut Hub, call: Call, body: &[u8]) -> Reply
 
 // Asks the hub, where the request asks anything of it.
 fn ask(hub: &mut Hub, request: &Request) -> Reply
-    ensures { IsAsked request.now (state_of hub.old) (state_of hub.new) result }
+    ensures asked { IsAsked (door_of hub.old.register) request.now (state_of hub.old) (state_of hub.new) result }
+    ensures register { hub.new.register ≡ hub.old.register }
 {
     match request.call {
         Ok(call) => ask_call(hub, call, &request.body),
@@ -90,8 +92,9 @@ fn answer<W: Write>(
     request: &Request,
     is_last: bool,
 ) -> Turn
-    ensures { Answers (W.contents w.old) (W.contents w.new) (state_of hub.old) (state_of hub.new)
+    ensures answered { Answers (door_of hub.old.register) (W.contents w.old) (W.contents w.new) (state_of hub.old) (state_of hub.new)
         request.now is_last result }
+    ensures register { hub.new.register ≡ hub.old.register }
 {
     let ends = request.closing || is_last;
     let reply = ask(hub, request);
@@ -114,8 +117,9 @@ fn take_turn<R: Read, W: Write>(
     intake: &mut Intake,
     is_last: bool,
 ) -> Turn
-    ensures { IsTurn is_last intake.old.inlet intake.new.inlet (R.remaining r.old) (R.remaining r.new)
+    ensures turn { IsTurn (door_of hub.old.register) is_last intake.old.inlet intake.new.inlet (R.remaining r.old) (R.remaining r.new)
         (W.contents w.old) (W.contents w.new) (state_of hub.old) (state_of hub.new) result }
+    ensures register { hub.new.register ≡ hub.old.register }
 {
     match next_request(alloc, r, w, intake) {
         Incoming::Request(request) => answer(alloc, w, hub, &request, is_last),
@@ -145,8 +149,9 @@ pub fn converse<R: Read, W: Write>(
     hub: &mut Hub,
     most: u64,
 ) -> Result<Served, Stopped>
-    ensures { Conversation most (R.remaining r.old) (R.remaining r.new) (W.contents w.old) (W.contents w.new)
+    ensures conversation { Conversation (door_of hub.old.register) most (R.remaining r.old) (R.remaining r.new) (W.contents w.old) (W.contents w.new)
         (state_of hub.old) (state_of hub.new) result }
+    ensures register { hub.new.register ≡ hub.old.register }
 {
     let mut intake = Intake::new();
     for n in 0..most {

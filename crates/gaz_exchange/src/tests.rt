@@ -2,10 +2,24 @@
 
 use crate::{Cause, Ended, Served, Stopped, converse};
 use gaz_hub::Hub;
+use gaz_register::{RegFault, Register};
 use std::alloc::Global;
 use std::cell::Cell;
 use std::io::{self, ErrorKind, Read, Write};
 use std::test::Fail;
+
+const REGISTER: &[u8] = b"[[custodian]]
+code = 1001
+name = \"Upper County\"
+uprn = []
+usrn = [[100, 199]]
+
+[[custodian]]
+code = 1003
+name = \"Bay District\"
+uprn = []
+usrn = [[300, 399]]
+";
 
 /// Inserts street 101, as volume 1 of custodian 1001.
 const POST: &str =
@@ -140,12 +154,19 @@ impl Write for Flushes<'_> {
     }
 }
 
+fn new_hub(alloc: Global) -> Result<Hub, RegFault> {
+    let register = Register::read(alloc, REGISTER)?;
+    Ok(Hub::new(alloc, register))
+}
+
+type Held = (Result<Served, Stopped>, Vec<u8>);
+
 // What comes of a text, by reads of so many bytes.
-fn held(alloc: Global, r: &mut Pieces<'_>, most: u64) -> (Result<Served, Stopped>, Vec<u8>) {
-    let mut hub = Hub::new(alloc);
+fn held(alloc: Global, r: &mut Pieces<'_>, most: u64) -> Result<Held, RegFault> {
+    let mut hub = new_hub(alloc)?;
     let mut out = Vec::new(alloc);
     let ended = converse(alloc, r, &mut out, &mut hub, most);
-    (ended, out)
+    Ok((ended, out))
 }
 
 #[test]
@@ -160,14 +181,14 @@ fn replies_are_told(rt: HostRuntime) -> Result<(), Fail> {
     });
     for step in [1, 7, 100_000] {
         let mut r = Pieces::new(&twice, step, true);
-        let (ended, out) = held(rt.alloc(), &mut r, 2);
+        let (ended, out) = held(rt.alloc(), &mut r, 2)?;
         assert_eq!(rt; ended, most, "reads of {step}");
         assert_eq!(rt; out.as_slice(), both.as_bytes(), "reads of {step}");
     }
     let standing = "GET /custodians/1001 HTTP/1.0\n\n";
     let told =
         "HTTP/1.1 200 OK\r\nContent-Type: application/json\r\nContent-Length: 77\r\nConnection: close\r\n\r\n{\"custodian\":1001,\"held\":0,\"judged\":0,\"wants\":{\"custodian\":1001,\"volume\":1}}\n";
-    let (ended, out) = held(rt.alloc(), &mut Pieces::new(standing, 9, true), 9);
+    let (ended, out) = held(rt.alloc(), &mut Pieces::new(standing, 9, true), 9)?;
     assert_eq!(rt;
         ended,
         Ok(Served {
@@ -187,7 +208,7 @@ fn what_cannot_be_read_is_refused(rt: HostRuntime) -> Result<(), Fail> {
         ended: Ended::Closed,
     });
     let cut = "POST /custodians/1001/volumes/1 HTTP/1.1\r\nContent-Length: 53\r\n\r\n10,1,1001,";
-    let (ended, out) = held(rt.alloc(), &mut Pieces::new(cut, 64, false), 9);
+    let (ended, out) = held(rt.alloc(), &mut Pieces::new(cut, 64, false), 9)?;
     assert_eq!(rt; ended, closed);
     assert_eq!(rt; out.as_slice(), CUT.as_bytes());
     for (text, status) in [
@@ -212,7 +233,7 @@ fn what_cannot_be_read_is_refused(rt: HostRuntime) -> Result<(), Fail> {
             "HTTP/1.1 413",
         ),
     ] {
-        let (ended, out) = held(rt.alloc(), &mut Pieces::new(text, 64, false), 9);
+        let (ended, out) = held(rt.alloc(), &mut Pieces::new(text, 64, false), 9)?;
         assert_eq!(rt; ended, closed, "{text}");
         assert!(rt; out.as_slice().starts_with(status.as_bytes()), "{text}");
     }
@@ -244,7 +265,7 @@ fn routes_and_methods(rt: HostRuntime) -> Result<(), Fail> {
             "HTTP/1.1 404",
         ),
     ] {
-        let (ended, out) = held(rt.alloc(), &mut Pieces::new(text, 64, false), 9);
+        let (ended, out) = held(rt.alloc(), &mut Pieces::new(text, 64, false), 9)?;
         assert!(rt; ended.is_ok_and(|served| served.requests == 1), "{text}");
         assert!(rt; out.as_slice().starts_with(status.as_bytes()), "{text}");
     }
@@ -254,7 +275,7 @@ fn routes_and_methods(rt: HostRuntime) -> Result<(), Fail> {
 #[test]
 fn reads_are_few(rt: HostRuntime) -> Result<(), Fail> {
     let mut r = Pieces::new(POST, 1, false);
-    let (ended, _) = held(rt.alloc(), &mut r, 9);
+    let (ended, _) = held(rt.alloc(), &mut r, 9)?;
     assert_eq!(rt;
         ended,
         Ok(Served {
@@ -264,7 +285,7 @@ fn reads_are_few(rt: HostRuntime) -> Result<(), Fail> {
     );
     assert_eq!(rt; r.reads, POST.len() + 1);
     let mut r = Pieces::new(POST, 1, false);
-    let (ended, _) = held(rt.alloc(), &mut r, 0);
+    let (ended, _) = held(rt.alloc(), &mut r, 0)?;
     assert_eq!(rt;
         ended,
         Ok(Served {
@@ -278,7 +299,7 @@ fn reads_are_few(rt: HostRuntime) -> Result<(), Fail> {
 
 #[test]
 fn faults_of_the_stream(rt: HostRuntime) -> Result<(), Fail> {
-    let (ended, out) = held(rt.alloc(), &mut Pieces::new(POST, 64, true), 9);
+    let (ended, out) = held(rt.alloc(), &mut Pieces::new(POST, 64, true), 9)?;
     assert_eq!(rt;
         ended,
         Err(Stopped {
@@ -288,7 +309,7 @@ fn faults_of_the_stream(rt: HostRuntime) -> Result<(), Fail> {
     );
     assert_eq!(rt; out.as_slice(), APPLIED.as_bytes());
     for most in [0, 1, 97] {
-        let mut hub = Hub::new(rt.alloc());
+        let mut hub = new_hub(rt.alloc())?;
         let mut w = Narrow {
             taken: Vec::new(rt.alloc()),
             most,
@@ -315,7 +336,7 @@ fn faults_of_the_stream(rt: HostRuntime) -> Result<(), Fail> {
 
 #[test]
 fn a_writer_that_cant_flush(rt: HostRuntime) -> Result<(), Fail> {
-    let mut hub = Hub::new(rt.alloc());
+    let mut hub = new_hub(rt.alloc())?;
     let mut r = Pieces::new(POST, 64, false);
     let mut w = Stuck {
         taken: Vec::new(rt.alloc()),
@@ -346,7 +367,7 @@ fn a_reply_never_waits(rt: HostRuntime) -> Result<(), Fail> {
         held: false,
         flushed: &flushed,
     };
-    let mut hub = Hub::new(rt.alloc());
+    let mut hub = new_hub(rt.alloc())?;
     let ended = converse(rt.alloc(), &mut r, &mut w, &mut hub, 9);
     assert_eq!(rt;
         ended,

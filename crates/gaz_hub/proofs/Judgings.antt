@@ -1,5 +1,6 @@
 -- Judging a file change by change.
-use Rattle.std.proofs.Common.{◌≡◌, ℕ, List, [], ◌∷◌, ◌++◌, refl, sym, ap, ◌∙◌}
+use Rattle.std.proofs.Common.{◌≡◌, ◌<◌, ℕ, suc, List, [], ◌∷◌, ◌++◌, length, drop, get_or, refl, sym, ap, ◌∙◌}
+use Rattle.std.proofs.Math.Seq.{drop-cons}
 use Rattle.std.specs.Prelude.{Some, None}
 use Rattle.std.specs.List.{fold}
 use Rattle.gaz_changefile.specs.declared.change.Change.{Change}
@@ -7,7 +8,8 @@ use Rattle.gaz_changefile.specs.Contents.{Contents}
 use Rattle.gaz_changefile.specs.Reading.{Reading, Good, Bad}
 use Rattle.gaz_shelf.specs.View.{View}
 use Rattle.gaz_shelf.specs.Board.{Judgement}
-use Rattle.gaz_rules.specs.Rules.{Blocks, effect, first_broken, record_rules}
+use Rattle.gaz_register.specs.Registers.{Blocks}
+use Rattle.gaz_rules.specs.Rules.{effect, first_broken, record_rules}
 use Rattle.gaz_shelf.specs.declared.verdict.Verdict.TheVariants.{Applied, Rejected}
 use Rattle.gaz_hub.specs.Judged.{IsJudged}
 use Rattle.gaz_rules.specs.Judging.{Fault, judge, judged_by_faults, record_faults, end_faults}
@@ -21,6 +23,14 @@ fault_first own v x rest rule e = rw e refl
 pub fault_none : (own : Blocks) (v : View) (x : Change) (rest : List Change) → first_broken (record_rules own v x.action x.item) ≡ None
     → record_faults own v (x ∷ rest) ≡ record_faults own (effect v x) rest
 fault_none own v x rest e = rw e refl
+
+-- where the changes before it fit, it is the first fault of all
+pub found_fault : (own : Blocks) (v w : View) (changes : List Change) (i : ℕ) (x : Change) (rule : ℕ) → i < length changes → x ≡ get_or changes i x
+    → record_faults own v changes ≡ record_faults own w (drop i changes) → first_broken (record_rules own w x.action x.item) ≡ Some rule
+    → (rest : List Fault) × (record_faults own v changes ≡ record { place = x.place; rule = rule } ∷ rest)
+found_fault own v w changes i x rule below is so e =
+    let here : drop i changes ≡ x ∷ drop (suc i) changes = drop-cons changes i x below ∙ ap (λ y. y ∷ drop (suc i) changes) (sym is) in
+    (record_faults own (effect w x) (drop (suc i) changes), so ∙ ap (record_faults own w) here ∙ fault_first own w x (drop (suc i) changes) rule e)
 
 -- streets alone break no end rule
 no_end_faults : (w : View) (out : List (ℕ × View)) (cs : List Change) → end_faults w out cs ≡ []

@@ -5,7 +5,8 @@ use Rattle.gaz_changefile.specs.declared.change.Change.{Change}
 use Rattle.gaz_shelf.specs.View.{View}
 use Rattle.gaz_shelf.specs.Board.{Judgement}
 use Rattle.gaz_shelf.specs.declared.verdict.Verdict.{Verdict}
-use Rattle.gaz_rules.specs.Rules.{Blocks, effect}
+use Rattle.gaz_register.specs.Registers.{Blocks}
+use Rattle.gaz_rules.specs.Rules.{effect}
 use Rattle.gaz_rules.specs.Judging.{Fault, record_faults}
 use Rattle.gaz_hub.specs.declared.judging.Fault as found
 

@@ -4,6 +4,7 @@ pub mod Outcomes
 pub mod Step
 pub mod Runs
 pub mod Sample
+pub mod Hubs
 pub mod Judged
 pub mod Replays
 pub mod Examples

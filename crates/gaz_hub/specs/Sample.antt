@@ -1,4 +1,4 @@
--- The custodians of the sample register, and a hub over them.
+-- The custodians of the worked examples, and a hub over them.
 use Rattle.std.specs.Prelude.{ℕ, ◌==◌, Bool, false, ◌||◌, if◌then◌else◌, [], ◌∷◌}
 use Rattle.gaz_hub.specs.Received.{Received}
 use Rattle.gaz_hub.specs.Standing.{Register, standing}
@@ -15,7 +15,7 @@ sample_register c =
 abbrev pub is_sample_code : ℕ → Bool
 is_sample_code c = (c == 1001) || (c == 1002) || (c == 1003)
 
--- no profile is turned away at the door
+-- no profile is turned away
 abbrev pub sample_door : Door
 sample_door = record { register = sample_register; knows = is_sample_code; is_foreign = λ bytes. false }
 

@@ -7,7 +7,7 @@ use Rattle.gaz_changefile.specs.declared.change.Basis.{Basis}
 use Rattle.gaz_changefile.specs.Reading.{Reading, reading}
 use Rattle.gaz_shelf.specs.View.{View}
 use Rattle.gaz_shelf.specs.Board.{Judgement, Board, empty_board, reached, view_after}
-use Rattle.gaz_rules.specs.Rules.{Blocks}
+use Rattle.gaz_register.specs.Registers.{Blocks}
 use Rattle.gaz_rules.specs.Judging.{bases_of, judge}
 use Rattle.gaz_hub.specs.Received.{Received, HasAllOf}
 

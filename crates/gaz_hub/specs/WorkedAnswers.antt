@@ -1,7 +1,7 @@
 -- Worked examples on judging, on what is told of files, and on the sample register.
 use Rattle.std.specs.Prelude.{◌≡◌, true, false, [], ◌∷◌, Some, None}
 use Rattle.gaz_rules.specs.Examples.{again, insertion}
-use Rattle.gaz_rules.specs.Rules.{within}
+use Rattle.gaz_register.specs.Registers.{within}
 use Rattle.gaz_shelf.specs.Board.{Board, empty_board, reached}
 use Rattle.gaz_shelf.specs.Examples.{one_street}
 use Rattle.gaz_shelf.specs.View.{empty_view}
@@ -39,11 +39,11 @@ pub record WorkedJudgements : Type 0 where
   pub never_without_effect : FoundFault (sample_register 1001) empty_view (insertion ∷ []) empty_view None → ⊥
 
 pub record WorkedReplays : Type 0 where
-  pub of_judged : IsReplay sent 1003 1 (record { reached = 1; verdict = Some (verdict.Rejected 1 1); wants = Some 2 })
-  pub of_held : IsReplay sent 1003 3 (record { reached = 1; verdict = None; wants = Some 2 })
-  pub never_over_a_gap : IsReplay sent 1003 3 (record { reached = 2; verdict = Some (verdict.Rejected 1 1); wants = Some 2 }) → ⊥
-  pub never_of_another : IsReplay sent 1003 3 (record { reached = 1; verdict = Some (verdict.Rejected 1 1); wants = Some 2 }) → ⊥
-  pub never_without_want : IsReplay sent 1003 3 (record { reached = 1; verdict = None; wants = None }) → ⊥
+  pub of_judged : IsReplay sample_register sent 1003 1 (record { reached = 1; verdict = Some (verdict.Rejected 1 1); wants = Some 2 })
+  pub of_held : IsReplay sample_register sent 1003 3 (record { reached = 1; verdict = None; wants = Some 2 })
+  pub never_over_a_gap : IsReplay sample_register sent 1003 3 (record { reached = 2; verdict = Some (verdict.Rejected 1 1); wants = Some 2 }) → ⊥
+  pub never_of_another : IsReplay sample_register sent 1003 3 (record { reached = 1; verdict = Some (verdict.Rejected 1 1); wants = Some 2 }) → ⊥
+  pub never_without_want : IsReplay sample_register sent 1003 3 (record { reached = 1; verdict = None; wants = None }) → ⊥
 
 pub record WorkedSample : Type 0 where
   pub first_code : is_sample_code 1001 ≡ true

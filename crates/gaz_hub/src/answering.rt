@@ -2,18 +2,20 @@ ghost use Rattle.std.specs.Prelude.{◌≡◌, ◌↔◌, IfOk, IfErr, IsSome, I
 ghost use Rattle.std.specs.FinMap as map;
 ghost use Rattle.sha2.specs.Sha256.{sha256};
 ghost use Rattle.gaz_hub.specs.Outcomes.{outcome, outcome_of};
-ghost use Rattle.gaz_hub.specs.Sample.{is_sample_code, sample_door, sample_register, state_of};
+ghost use Rattle.gaz_register.specs.Registers.{blocks_of, knows};
+ghost use Rattle.gaz_hub.specs.Hubs.{door_of, is_foreign, settled_on};
 ghost use Rattle.gaz_hub.specs.Standing.{standing};
-ghost use Rattle.gaz_hub.specs.Step.{Asks, Submits, TellsStanding, turned_away};
+ghost use Rattle.gaz_hub.specs.Step.{Asks, Submits, TellsStanding, door, turned_away};
 
 use crate::answer::{Answer, Digest as FileDigest};
 use crate::files::Files;
 use crate::outcome::Outcome;
 use crate::refusal::Refusal;
 use crate::replay::replay_files;
-use crate::sample::is_sample_code;
 use crate::standing::Standing;
+use gaz_changefile::profile_of;
 use gaz_ids::{Code, Volume};
+use gaz_register::Register;
 use gaz_shelf::{ShelfFault, Verdict};
 use sha2::{Digest, Sha256};
 use std::alloc::{AllocError, Global};
@@ -22,25 +24,27 @@ use std::alloc::{AllocError, Global};
 pub const MAX_FILE: usize = 1_048_576;
 
 // The code, where the register has it.
-fn known_code(code: u64) -> Result<Code, Refusal>
-    ensures refused { IfErr result (λ r. (r ≡ Refusal.UnknownCustodian) × (is_sample_code code ≡ false)) }
-    ensures known { IfOk result (λ c. (c ≡ code) × (is_sample_code code ≡ true)) }
+fn known_code(register: &Register, code: u64) -> Result<Code, Refusal>
+    ensures refused { IfErr result (λ r. (r ≡ Refusal.UnknownCustodian) × (knows register.now code ≡ false)) }
+    ensures known { IfOk result (λ c. (c ≡ code) × (knows register.now code ≡ true)) }
 {
-    if !is_sample_code(code) {
-        return Err(Refusal::UnknownCustodian);
-    }
-    match Code::of(code) {
+    match register.code_of(code) {
         Some(code) => Ok(code),
-        None => unreachable!(),
+        None => Err(Refusal::UnknownCustodian),
     }
 }
 
 // The pair under which a file of this size came, or the first refusal of the door.
-fn at_door(code: u64, volume: u64, size: usize) -> Result<(Code, Volume), Refusal>
-    ensures refused { IfErr result (λ r. turned_away sample_door code volume size ≡ Some r) }
-    ensures let_in { IfOk result (λ p. (turned_away sample_door code volume size ≡ None) × (p ≡ (code, volume))) }
+fn at_door(
+    register: &Register,
+    code: u64,
+    volume: u64,
+    size: usize,
+) -> Result<(Code, Volume), Refusal>
+    ensures refused { IfErr result (λ r. turned_away (door_of register.now) code volume size ≡ Some r) }
+    ensures let_in { IfOk result (λ p. (turned_away (door_of register.now) code volume size ≡ None) × (p ≡ (code, volume))) }
 {
-    let code = known_code(code)?;
+    let code = known_code(register, code)?;
     let Some(volume) = Volume::of(volume) else {
         return Err(Refusal::BadVolume);
     };
@@ -48,6 +52,16 @@ fn at_door(code: u64, volume: u64, size: usize) -> Result<(Code, Volume), Refusa
         return Err(Refusal::TooLarge);
     }
     Ok((code, volume))
+}
+
+// Whether the file names a profile that isn't known. There is one, 1.
+fn names_unknown_profile(alloc: Global, file: &[u8]) -> Result<bool, AllocError>
+    ensures { IfOk result (λ foreign. foreign ≡ is_foreign file.now) }
+{
+    match profile_of(alloc, file)? {
+        Some(profile) => Ok(profile != 1),
+        None => Ok(false),
+    }
 }
 
 fn outcome_of(verdict: Verdict) -> Outcome
@@ -72,11 +86,17 @@ fn are_same(a: &[u8], b: &[u8]) -> bool
 }
 
 // The outcome of a received file.
-fn tell(alloc: Global, files: &Files, code: Code, volume: Volume) -> Result<Outcome, AllocError>
+fn tell(
+    alloc: Global,
+    register: &Register,
+    files: &Files,
+    code: Code,
+    volume: Volume,
+) -> Result<Outcome, AllocError>
     requires { IsSome (map.get files.now (code, volume)) }
-    ensures { IfOk result (λ told. outcome files.now (standing sample_register files.now) code volume ≡ Some told) }
+    ensures { IfOk result (λ told. outcome files.now (standing (blocks_of register.now) files.now) code volume ≡ Some told) }
 {
-    let replay = replay_files(alloc, files, code, volume.number())?;
+    let replay = replay_files(alloc, register, files, code, volume.number())?;
     match (replay.verdict, replay.wants) {
         (Some(verdict), _) => Ok(outcome_of(verdict)),
         (None, Some(volume)) => Ok(Outcome::Held {
@@ -90,67 +110,88 @@ fn tell(alloc: Global, files: &Files, code: Code, volume: Volume) -> Result<Outc
 // The answer to a submission of what is there already.
 fn submit_again(
     alloc: Global,
+    register: &Register,
     files: &Files,
     code: Code,
     volume: Volume,
     file: &[u8],
     there: &[u8],
 ) -> Answer
-    requires let_in { turned_away sample_door code volume (length file.now) ≡ None }
+    requires let_in { door (door_of register.now) code volume file.now ≡ None }
     requires there { map.get files.now (code, volume) ≡ Some there.now }
-    ensures { Submits sample_door (state_of files.now) code volume file.now result (state_of files.now) }
+    ensures { Submits (door_of register.now) (settled_on register.now files.now) code volume file.now result (settled_on register.now files.now) }
 {
     if !are_same(there, file) {
         return Answer::Taken {
             digest: digest_of(there),
         };
     }
-    match tell(alloc, files, code, volume) {
+    match tell(alloc, register, files, code, volume) {
         Ok(told) => Answer::Repeat(told),
         Err(_) => Answer::Refused(Refusal::NotReceived(ShelfFault::Memory)),
     }
 }
 
 // The answer to a submission of what isn't there yet.
-fn submit_new(alloc: Global, files: &mut Files, code: Code, volume: Volume, file: &[u8]) -> Answer
-    requires let_in { turned_away sample_door code volume (length file.now) ≡ None }
+fn submit_new(
+    alloc: Global,
+    register: &Register,
+    files: &mut Files,
+    code: Code,
+    volume: Volume,
+    file: &[u8],
+) -> Answer
+    requires let_in { door (door_of register.now) code volume file.now ≡ None }
     requires free { map.get files.old (code, volume) ≡ None }
-    ensures { Submits sample_door (state_of files.old) code volume file.now result (state_of files.new) }
+    ensures { Submits (door_of register.now) (settled_on register.now files.old) code volume file.now result (settled_on register.now files.new) }
 {
     match files.receive(code, volume, file) {
         Ok(()) => {}
         Err(_) => return Answer::Refused(Refusal::NotReceived(ShelfFault::Memory)),
     }
-    match tell(alloc, files, code, volume) {
+    match tell(alloc, register, files, code, volume) {
         Ok(told) => Answer::New(told),
         Err(_) => Answer::Refused(Refusal::ReceivedUnsettled(ShelfFault::Memory)),
     }
 }
 
 /// The answer to a submission.
-pub fn submit_file(alloc: Global, files: &mut Files, code: u64, volume: u64, file: &[u8]) -> Answer
-    ensures { Submits sample_door (state_of files.old) code volume file.now result (state_of files.new) }
+pub fn submit_file(
+    alloc: Global,
+    register: &Register,
+    files: &mut Files,
+    code: u64,
+    volume: u64,
+    file: &[u8],
+) -> Answer
+    ensures { Submits (door_of register.now) (settled_on register.now files.old) code volume file.now result (settled_on register.now files.new) }
 {
-    let (code, volume) = match at_door(code, volume, file.len()) {
+    let (code, volume) = match at_door(register, code, volume, file.len()) {
         Ok(pair) => pair,
         Err(refusal) => return Answer::Refused(refusal),
     };
+    match names_unknown_profile(alloc, file) {
+        Ok(false) => {}
+        Ok(true) => return Answer::Refused(Refusal::UnknownProfile),
+        Err(_) => return Answer::Refused(Refusal::NotReceived(ShelfFault::Memory)),
+    }
     match files.get(code, volume) {
-        Some(there) => submit_again(alloc, files, code, volume, file, there),
-        None => submit_new(alloc, files, code, volume, file),
+        Some(there) => submit_again(alloc, register, files, code, volume, file, there),
+        None => submit_new(alloc, register, files, code, volume, file),
     }
 }
 
 /// The digest and the outcome of a volume, where it was received.
 pub fn ask(
     alloc: Global,
+    register: &Register,
     files: &Files,
     code: u64,
     volume: u64,
 ) -> Result<Option<(FileDigest, Outcome)>, Refusal>
-    ensures { Asks sample_door (state_of files.now) code volume result (state_of files.now) }
+    ensures { Asks (door_of register.now) (settled_on register.now files.now) code volume result (settled_on register.now files.now) }
 {
-    let (code, volume) = match at_door(code, volume, 0) {
+    let (code, volume) = match at_door(register, code, volume, 0) {
         Ok(pair) => pair,
         Err(refusal) => return Err(refusal),
     };
@@ -158,7 +199,7 @@ pub fn ask(
         Some(there) => there,
         None => return Ok(None),
     };
-    match tell(alloc, files, code, volume) {
+    match tell(alloc, register, files, code, volume) {
         Ok(told) => Ok(Some((digest_of(there), told))),
         Err(_) => Err(Refusal::NotReceived(ShelfFault::Memory)),
     }
@@ -175,14 +216,19 @@ fn wanted(custodian: Code, volume: Option<Volume>) -> Option<(Code, Volume)>
 }
 
 /// How far a custodian's files are judged.
-pub fn stand(alloc: Global, files: &Files, code: u64) -> Result<Standing, Refusal>
-    ensures { TellsStanding sample_door (state_of files.now) code result (state_of files.now) }
+pub fn stand(
+    alloc: Global,
+    register: &Register,
+    files: &Files,
+    code: u64,
+) -> Result<Standing, Refusal>
+    ensures { TellsStanding (door_of register.now) (settled_on register.now files.now) code result (settled_on register.now files.now) }
 {
-    let custodian = match known_code(code) {
+    let custodian = match known_code(register, code) {
         Ok(custodian) => custodian,
         Err(refusal) => return Err(refusal),
     };
-    match replay_files(alloc, files, custodian, 1) {
+    match replay_files(alloc, register, files, custodian, 1) {
         Ok(replay) => Ok(Standing {
             custodian,
             held: files.count_above(custodian, replay.reached),

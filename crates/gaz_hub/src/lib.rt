@@ -10,7 +10,6 @@ pub mod laws;
 mod outcome;
 mod refusal;
 mod replay;
-mod sample;
 mod standing;
 
 pub use answer::{Answer, Digest};

@@ -1,9 +1,11 @@
 ghost use Rattle.std.specs.Prelude.{◌≡◌, ◌≤◌, ◌==◌, if◌then◌else◌, IfOk};
+ghost use Rattle.gaz_register.specs.Registers.{blocks_of};
 ghost use Rattle.gaz_hub.specs.Replays.{IsReplay};
 
 use crate::files::Files;
 use crate::judging::judge_file;
 use gaz_ids::{Code, Volume};
+use gaz_register::Register;
 use gaz_shelf::{Verdict, WholeView};
 use std::alloc::{AllocError, Global};
 
@@ -32,12 +34,13 @@ fn noted(volume: u64, asked: u64, judged: Verdict, so_far: Option<Verdict>) -> O
 /// Judges a custodian's files in volume order up to the first that wasn't received, and notes the verdict of the volume asked for.
 pub fn replay_files(
     alloc: Global,
+    register: &Register,
     files: &Files,
     code: Code,
     asked: u64,
 ) -> Result<Replay, AllocError>
     requires { 1 ≤ asked }
-    ensures { IfOk result (IsReplay files.now code asked) }
+    ensures { IfOk result (IsReplay (blocks_of register.now) files.now code asked) }
 {
     let mut view = WholeView::new(alloc);
     let mut verdict = None;
@@ -55,7 +58,7 @@ pub fn replay_files(
                 });
             }
         };
-        let judged = judge_file(alloc, code, volume, bytes, &mut view)?;
+        let judged = judge_file(alloc, register, code, volume, bytes, &mut view)?;
         verdict = noted(reached + 1, asked, judged, verdict);
     }
     Ok(Replay {

@@ -1,6 +1,26 @@
 use crate::{Answer, Digest, Hub, Outcome, Refusal, Standing};
 use gaz_ids::{Code, Volume};
+use gaz_register::Register;
 use std::test::Fail;
+
+const REGISTER: &[u8] = b"[[custodian]]
+code = 1001
+name = \"Upper County\"
+uprn = [[1, 99999]]
+usrn = [[100, 199]]
+
+[[custodian]]
+code = 1002
+name = \"Lower District\"
+uprn = []
+usrn = [[200, 299]]
+
+[[custodian]]
+code = 1003
+name = \"Bay District\"
+uprn = []
+usrn = [[300, 399]]
+";
 
 /// Inserts street 101, as volume 1 of custodian 1001.
 const STREET_101: &[u8] = b"10,1,1001,1,2024-01-02\n11,I,1,101,1,2001-04-01,\n99,1\n";
@@ -16,7 +36,8 @@ const DIGEST: Digest = [
 
 #[test]
 fn files_are_judged_and_told(rt: HostRuntime) -> Result<(), Fail> {
-    let mut hub = Hub::new(rt.alloc());
+    let register = Register::read(rt.alloc(), REGISTER)?;
+    let mut hub = Hub::new(rt.alloc(), register);
     assert_eq!(rt;
         hub.submit(1001, 1, STREET_101),
         Answer::New(Outcome::Applied)
@@ -48,6 +69,10 @@ fn files_are_judged_and_told(rt: HostRuntime) -> Result<(), Fail> {
         hub.submit(1001, 0, b""),
         Answer::Refused(Refusal::BadVolume)
     );
+    let foreign = Answer::Refused(Refusal::UnknownProfile);
+    assert_eq!(rt; hub.submit(1001, 1, b"10,7,x"), foreign);
+    assert_eq!(rt; hub.submit(1001, 2, b"10,7,\xff"), foreign);
+    assert_eq!(rt; hub.outcome(1001, 2), Ok(None));
     assert_eq!(rt; hub.settle(), Ok(()));
     Ok(())
 }

@@ -1,12 +1,17 @@
-//! The numbers of a gazetteer: UPRNs, USRNs, custodian codes, volumes and orders.
+//! The numbers of a gazetteer, as UPRNs, USRNs, custodian codes, volumes and orders, and its codes of languages and statuses.
 #![tactic(auto)]
 
 pub mod digits;
 mod fault;
+mod lang;
+pub mod laws;
 mod number;
+mod status;
 
 pub use fault::IdFault;
+pub use lang::Lang;
 pub use number::{Code, Number, Order, Uprn, Usrn, Volume};
+pub use status::Status;
 
 #[cfg(test)]
 mod tests;

@@ -1,4 +1,4 @@
-use crate::{Code, IdFault, Order, Uprn, Usrn, Volume};
+use crate::{Code, IdFault, Lang, Order, Status, Uprn, Usrn, Volume};
 
 #[test]
 fn a_number_reads(rt: HostRuntime) {
@@ -18,4 +18,25 @@ fn a_number_prints_without_leading_zeros(rt: HostRuntime) -> std::io::Result<()>
     let text = format!(in rt.alloc(); "{seven}")?;
     assert_eq!(rt; text.as_str(), "7");
     Ok(())
+}
+
+#[test]
+fn codes_read_and_print(rt: HostRuntime) {
+    for (text, lang, number) in [("CYM", Lang::Cym, 2), ("ENG", Lang::Eng, 1)] {
+        assert_eq!(rt; Lang::read(text.as_bytes()), Some(lang));
+        assert_eq!(rt; lang.text(), text.as_bytes());
+        assert_eq!(rt; lang.number(), number);
+    }
+    for (text, status, number) in [
+        ("1", Status::Approved, 1),
+        ("3", Status::Alternative, 3),
+        ("6", Status::Provisional, 6),
+        ("8", Status::Historical, 8),
+    ] {
+        assert_eq!(rt; Status::read(text.as_bytes()), Some(status));
+        assert_eq!(rt; status.text(), text.as_bytes());
+        assert_eq!(rt; status.number(), number);
+    }
+    assert!(rt; Lang::read(b"eng").is_none() && Status::read(b"2").is_none());
+    assert!(rt; Lang::Cym < Lang::Eng && Lang::Cym.compare(Lang::Eng).is_lt());
 }

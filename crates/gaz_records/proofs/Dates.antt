@@ -1,21 +1,12 @@
--- Dates and fields.
+-- Dates read back.
 use Rattle.std.proofs.Common.{◌≡◌, ℕ, zero, suc, ◌+◌, ◌-◌, ◌*◌, ◌/◌, ◌%◌, ◌<◌, ◌≤◌, Bool, true, false, List, [], ◌∷◌, length, drop, refl, arith, Some, None, Ok, sym, ◌∙◌}
 use Rattle.std.specs.Prelude.{slice_range, slice_index, ◌==◌, pos, nat_le, ◌&&◌}
 use Rattle.std.proofs.lemmas.Bool.Decides.{nat_tests}
 use Rattle.std.specs.Char.{is_ascii_digit, digit_value}
 use Rattle.std.specs.Str.{all_ascii_digits}
 use Rattle.std.specs.Str.Parse.{digits_value}
-use Rattle.csv.specs.Records.{field_at}
 use Rattle.gaz_ids.specs.Numbers.{read_id}
 use Rattle.gaz_records.specs.Days.{CivilDay, date_of, date_text, day_of, four, is_day, two}
-
-pub field_at-drop : (xs : List (List ℕ)) (k i : ℕ) → field_at (drop k xs) i ≡ field_at xs (k + i)
-unfolding field_at
-field_at-drop xs zero i = let e : 0 + i ≡ i = omega arith in rw e refl
-field_at-drop [] (suc k) i = refl
-field_at-drop (x ∷ xs) (suc k) i = let e : suc k + i ≡ suc (k + i) = omega arith in rw e (field_at-drop xs k i)
-
-pub ruleset field_drops = (field_at-drop)
 
 pub read_range : (w l h : ℕ) (s : List ℕ) (n : ℕ) → read_id w l h s ≡ Ok n → (l ≤ n) × (n ≤ h)
 unfolding read_id

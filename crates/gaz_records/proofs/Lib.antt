@@ -1,2 +1,9 @@
+pub mod Both
 pub mod Dates
+pub mod Places
+pub mod LabelBytes
+pub mod Written
+pub mod Says
+pub mod FieldsBack
+pub mod ItemsBack
 pub mod KeyOrder

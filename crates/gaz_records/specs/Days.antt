@@ -1,5 +1,5 @@
 -- Dates and how they are written.
-use Rattle.std.specs.Prelude.{ℕ, pos, ◌+◌, ◌*◌, ◌/◌, ◌%◌, ◌==◌, ◌&&◌, nat_le, List, [], ◌∷◌, ◌++◌, length, slice_index, slice_range, Option, Some, None, if◌then◌else◌, Bool}
+use Rattle.std.specs.Prelude.{ℕ, pos, ◌+◌, ◌*◌, ◌/◌, ◌%◌, ◌==◌, ◌&&◌, nat_le, true, List, [], ◌∷◌, ◌++◌, length, slice_index, slice_range, Option, Some, None, if◌then◌else◌, Bool}
 use Rattle.std.specs.Str.{all_ascii_digits}
 use Rattle.std.specs.Str.Parse.{digits_value}
 use Rattle.jiff_core.specs.Calendar.{days_in_month}
@@ -14,6 +14,14 @@ pub record CivilDay : Type 0 where
 abbrev pub is_day : CivilDay → Bool
 is_day d = nat_le 1 d.year && nat_le d.year 9999 && nat_le 1 d.month && nat_le d.month 12 && nat_le 1 d.day && nat_le d.day 31
     && nat_le d.day (days_in_month (pos d.year) d.month)
+
+-- no date, for where there is none to tell
+abbrev pub no_day : CivilDay
+no_day = record { year = 0; month = 0; day = 0 }
+
+abbrev pub are_days : Option CivilDay → Bool
+are_days None = true
+are_days (Some d) = is_day d
 
 abbrev pub day_of : ℕ → ℕ → ℕ → Option CivilDay
 day_of y m d = if is_day (record { year = y; month = m; day = d }) then Some (record { year = y; month = m; day = d }) else None
@@ -34,9 +42,18 @@ four n = (48 + n / 1000) ∷ (48 + n / 100 % 10) ∷ (48 + n / 10 % 10) ∷ (48 
 abbrev pub date_text : CivilDay → List ℕ
 date_text d = four d.year ++ (45 ∷ (two d.month ++ (45 ∷ two d.day)))
 
+abbrev pub end_text : Option CivilDay → List ℕ
+end_text None = []
+end_text (Some d) = date_text d
+
 -- one date isn't after another
 abbrev pub stamp : CivilDay → ℕ
 stamp d = (d.year * 100 + d.month) * 100 + d.day
 
 abbrev pub day_le : CivilDay → CivilDay → Bool
 day_le a b = nat_le (stamp a) (stamp b)
+
+-- an end date that may be missing isn't before the start
+abbrev pub ends_by : CivilDay → Option CivilDay → Bool
+ends_by start None = true
+ends_by start (Some end) = day_le start end

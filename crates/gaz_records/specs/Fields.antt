@@ -1,7 +1,6 @@
--- The fields of a record and the forms that they have.
-use Rattle.std.specs.Prelude.{◌≡◌, ◌⊎◌, ℕ, ◌==◌, List, [], ◌∷◌, length, Option, Some, None, option_map, option_and_then, Result, Ok, Err, if◌then◌else◌, Bool, true, false}
+-- The fields of a record, and what a reading of them may answer.
+use Rattle.std.specs.Prelude.{◌≡◌, ◌⊎◌, ℕ, ◌+◌, ◌==◌, List, [], length, Option, Some, None, Result, Ok, Err, if◌then◌else◌}
 use Rattle.csv.specs.Records.{field_at}
-use Rattle.gaz_records.specs.Days.{CivilDay, date_of, day_le}
 use Rattle.gaz_records.specs.declared.fields.FieldFault.{FieldFault}
 use Rattle.gaz_records.specs.declared.fields.FieldFault.TheVariants as fault
 
@@ -18,37 +17,24 @@ abbrev pub ok_of : {A E : Type 0} → Result A E → Option A
 ok_of (Ok x) = Some x
 ok_of (Err e) = None
 
--- a field that may be left empty
-abbrev pub optional : {A : Type 0} → (List ℕ → Option A) → List ℕ → Option (Option A)
-optional read t = if length t == 0 then Some None else option_map Some (read t)
-
 -- the value, which is there where all forms fit
 abbrev pub the : {A : Type 0} → A → Option A → A
 the d None = d
 the d (Some x) = x
 
--- an end date that may be missing isn't before the start
-abbrev pub ends_by : Option CivilDay → Option CivilDay → Bool
-ends_by start None = true
-ends_by None (Some end) = true
-ends_by (Some start) (Some end) = day_le start end
+-- the fields, where there are so many
+abbrev pub counted : ℕ → List (List ℕ) → Result (List (List ℕ)) FieldFault
+counted count f = if length f == count then Ok f else Err fault.Count
 
--- a date that may be left out, not before the start
-abbrev pub end_of : Option CivilDay → List ℕ → Option (Option CivilDay)
-end_of start t = option_and_then (λ end. if ends_by start end then Some end else None) (optional date_of t)
+-- what the field at a place says, or that it has a wrong form
+abbrev pub Tells : {A : Type 0} → Result A FieldFault → ℕ → Option A → Type 0
+Tells (Ok x) i said = said ≡ Some x
+Tells (Err e) i said = (said ≡ None) × (e ≡ fault.Form (i + 1))
 
--- the number of the first field whose form fails
-abbrev pub first_bad : List (ℕ × Bool) → Option ℕ
-first_bad [] = None
-first_bad ((n, fits) ∷ rest) = if fits then first_bad rest else Some n
-
-abbrev pub unless_bad : {A : Type 0} → Option ℕ → A → Result A FieldFault
-unless_bad None x = Ok x
-unless_bad (Some n) x = Err (fault.Form n)
-
--- so many fields, each in its form, say this value
-abbrev pub in_form : {A : Type 0} → ℕ → List (ℕ × Bool) → A → List (List ℕ) → Result A FieldFault
-in_form count forms x f = if length f == count then unless_bad (first_bad forms) x else Err fault.Count
+-- the same, or want of memory
+abbrev pub TellsOrMemory : {A : Type 0} → Result A FieldFault → ℕ → Option A → Type 0
+TellsOrMemory (Ok x) i said = said ≡ Some x
+TellsOrMemory (Err e) i said = (e ≡ fault.Memory) ⊎ ((said ≡ None) × (e ≡ fault.Form (i + 1)))
 
 -- the answer, or want of memory in its place
 abbrev pub OrMemory : {A : Type 0} → Result A FieldFault → Result A FieldFault → Type 0

@@ -1,5 +1,12 @@
 pub mod Days
 pub mod Fields
+pub mod Labels
+pub mod Forms
 pub mod Table
+pub mod Streets
+pub mod Descriptors
+pub mod Blpus
+pub mod Xrefs
+pub mod Lpis
 pub mod Items
 pub mod Keys

@@ -1,55 +1,38 @@
--- The field table of a street: its fields in order, and the form of each.
-use Rattle.std.specs.Prelude.{ℕ, ◌&&◌, nat_le, List, [], ◌∷◌, Option, Some, None, is_some, Result, Bool, true}
-use Rattle.gaz_ids.specs.Numbers.{read_id}
-use Rattle.gaz_records.specs.Days.{CivilDay, date_of, is_day}
-use Rattle.gaz_records.specs.Fields.{end_of, ends_by, field, in_form, ok_of, the}
-use Rattle.gaz_records.specs.declared.fields.FieldFault.{FieldFault}
+-- The field table: for each kind of item the fields of its record after the order field, each with its form.
+use Rattle.std.specs.Prelude.{List, [], ◌∷◌}
+use Rattle.gaz_records.specs.Forms.{Form, Digits, Language, BlpuStatus, LpiStatus, LabelTo, TextTo, Date, EndDate, AddressableObject, Opt}
+use Rattle.gaz_records.specs.declared.item.Kind.{Kind}
+use Rattle.gaz_records.specs.declared.item.Kind.TheVariants as kind
 
-abbrev pub usrn_of : List ℕ → Option ℕ
-usrn_of t = ok_of (read_id 8 1 99_999_999 t)
+abbrev pub usrn : Form
+usrn = Digits 8 1 99_999_999
 
--- 1 officially designated name, 2 street description, 3 numbered street, 4 unofficial name
-abbrev pub sort_of : List ℕ → Option ℕ
-sort_of t = ok_of (read_id 1 1 4 t)
+abbrev pub uprn : Form
+uprn = Digits 12 1 999_999_999_999
 
-abbrev pub no_day : CivilDay
-no_day = record { year = 0; month = 0; day = 0 }
+-- 11 street: usrn (key); type; start date; end date
+abbrev pub street_table : List Form
+street_table = usrn ∷ Digits 1 1 4 ∷ Date ∷ Opt EndDate ∷ []
 
--- a street: its number, its type, and the dates from which and up to which it is one
-pub record StreetValue : Type 0 where
-  pub usrn : ℕ
-  pub sort : ℕ
-  pub start : CivilDay
-  pub end : Option CivilDay
+-- 15 descriptor: usrn, language (key); description; locality; town; administrative area
+abbrev pub descriptor_table : List Form
+descriptor_table = usrn ∷ Language ∷ TextTo 100 ∷ Opt (TextTo 35) ∷ Opt (TextTo 30) ∷ TextTo 30 ∷ []
 
--- usrn; type; start date; end date, which may be left out
-abbrev pub street_forms : List (List ℕ) → List (ℕ × Bool)
-street_forms f =
-    (1, is_some (usrn_of (field f 0)))
-    ∷ (2, is_some (sort_of (field f 1)))
-    ∷ (3, is_some (date_of (field f 2)))
-    ∷ (4, is_some (end_of (date_of (field f 2)) (field f 3)))
-    ∷ []
+-- 21 BLPU: uprn (key); status; easting, northing in metres; parent uprn; postcode; start date; end date
+abbrev pub blpu_table : List Form
+blpu_table = uprn ∷ BlpuStatus ∷ Digits 6 0 700_000 ∷ Digits 7 0 1_300_000 ∷ Opt uprn ∷ Opt (TextTo 8) ∷ Date ∷ Opt EndDate ∷ []
 
-abbrev pub street_of : List (List ℕ) → StreetValue
-street_of f = record {
-  usrn = the 0 (usrn_of (field f 0));
-  sort = the 0 (sort_of (field f 1));
-  start = the no_day (date_of (field f 2));
-  end = the None (end_of (date_of (field f 2)) (field f 3));
-}
+-- 23 cross reference: key (key); uprn; source; reference; start date; end date
+abbrev pub xref_table : List Form
+xref_table = LabelTo 14 ∷ uprn ∷ LabelTo 6 ∷ TextTo 50 ∷ Date ∷ Opt EndDate ∷ []
 
--- the street that four fields say, or what is wrong with them
-unfoldable pub read_street : List (List ℕ) → Result StreetValue FieldFault
-read_street f = in_form 4 (street_forms f) (street_of f) f
+-- 24 LPI: key (key); uprn; language; status; usrn; secondary object; primary object; start date; end date
+abbrev pub lpi_table : List Form
+lpi_table = LabelTo 14 ∷ uprn ∷ Language ∷ LpiStatus ∷ usrn ∷ Opt AddressableObject ∷ AddressableObject ∷ Date ∷ Opt EndDate ∷ []
 
--- what every street holds beside the ranges of its parts
-abbrev pub is_street : StreetValue → Bool
-is_street x = nat_le 1 x.sort && nat_le x.sort 4 && ends_by (Some x.start) x.end
-
-abbrev pub is_usrn : ℕ → Bool
-is_usrn n = nat_le 1 n && nat_le n 99_999_999
-
-abbrev pub are_days : Option CivilDay → Bool
-are_days None = true
-are_days (Some d) = is_day d
+abbrev pub table_of : Kind → List Form
+table_of kind.Street = street_table
+table_of kind.Descriptor = descriptor_table
+table_of kind.Blpu = blpu_table
+table_of kind.Xref = xref_table
+table_of kind.Lpi = lpi_table

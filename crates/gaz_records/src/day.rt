@@ -86,12 +86,12 @@ impl Day {
         Day::of(value_of(year), value_of(month), value_of(day))
     }
 
-    /// Adds `YYYY-MM-DD`.
-    pub fn write(&self, out: &mut Vec<u8>) -> Result<(), AllocError>
-        ensures { OnOk result (out.new.items ≡ out.old.items ++ date_text self.now) }
+    /// The digits of `YYYY-MM-DD`.
+    pub fn digits(&self) -> [u8; 10]
+        ensures { result ≡ date_text self.now }
     {
         let year = self.year;
-        out.extend_from_slice(&[
+        [
             b'0' + (year / 1000) as u8,
             b'0' + (year / 100 % 10) as u8,
             b'0' + (year / 10 % 10) as u8,
@@ -102,16 +102,21 @@ impl Day {
             b'-',
             b'0' + self.day / 10,
             b'0' + self.day % 10,
-        ])
+        ]
+    }
+
+    /// Adds `YYYY-MM-DD`.
+    pub fn write(&self, out: &mut Vec<u8>) -> Result<(), AllocError>
+        ensures { OnOk result (out.new.items ≡ out.old.items ++ date_text self.now) }
+    {
+        out.extend_from_slice(&self.digits())
     }
 
     /// The bytes of `YYYY-MM-DD`.
     pub fn bytes(&self, alloc: Global) -> Result<Vec<u8>, AllocError>
         ensures { IfOk result (λ t. t.items ≡ date_text self.now) }
     {
-        let mut out = Vec::new(alloc);
-        self.write(&mut out)?;
-        Ok(out)
+        Vec::from_slice(alloc, &self.digits())
     }
 
     /// What each date holds.

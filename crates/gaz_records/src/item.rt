@@ -1,36 +1,88 @@
-ghost use Rattle.std.specs.Prelude.{◌≡◌, ◌≤◌, drop};
+ghost use Rattle.std.specs.Prelude.{◌≡◌, ◌≤◌, ◌++◌, drop, IfOk, Ok, OnOk, true};
 ghost use Rattle.csv.specs.Records.{fields_of};
-ghost use Rattle.gaz_records.specs.Items.{kind_of, read_item};
+ghost use Rattle.gaz_records.specs.Fields.{OrMemory};
+ghost use Rattle.gaz_records.specs.Items.{is_item, item_of_text, item_text, kind_of, read_item};
 
+use crate::blpu::Blpu;
+use crate::descriptor::Descriptor;
 use crate::fields::FieldFault;
+use crate::lpi::Lpi;
 use crate::street::Street;
+use crate::xref::Xref;
 use csv::ByteRecord;
-use std::alloc::AllocError;
+use gaz_rows::read_row;
+use std::alloc::{AllocError, Global};
 
-/// The kind of an item, by its record identifier: 11 street.
+/// The kind of an item.
 #[derive(Clone, Copy, Debug, PartialEq, Eq)]
 pub enum Kind {
+    /// Record identifier 11.
     Street,
+    /// Record identifier 15.
+    Descriptor,
+    /// Record identifier 21.
+    Blpu,
+    /// Record identifier 23.
+    Xref,
+    /// Record identifier 24.
+    Lpi,
 }
 
 /// An item of a custodian's gazetteer.
 #[derive(Debug, Drop)]
 pub enum Item {
     Street(Street),
+    Descriptor(Descriptor),
+    Blpu(Blpu),
+    Xref(Xref),
+    Lpi(Lpi),
 }
 
 /// The item of a kind that the fields of a record behind the first `skip` ones say.
 ///
-/// `Count` where there are too few or too many of them, else `Form` with the first field, from 1, of a wrong form.
-pub fn read_item(kind: Kind, row: &ByteRecord, skip: usize) -> Result<Item, FieldFault>
+/// `Count` where there are too few or too many of them, else `Form` with the first field, from 1, of a wrong form; an object
+/// counts as its first field. `Memory` may come in place of either.
+pub fn read_item(
+    alloc: Global,
+    kind: Kind,
+    row: &ByteRecord,
+    skip: usize,
+) -> Result<Item, FieldFault>
     requires { skip ≤ 3 }
-    ensures { result ≡ read_item kind (drop skip (fields_of row.now)) }
+    ensures { OrMemory result (read_item kind (drop skip (fields_of row.now))) }
 {
     match kind {
         Kind::Street => match Street::read(row, skip) {
             Ok(street) => Ok(Item::Street(street)),
             Err(fault) => Err(fault),
         },
+        Kind::Descriptor => match Descriptor::read(alloc, row, skip) {
+            Ok(descriptor) => Ok(Item::Descriptor(descriptor)),
+            Err(fault) => Err(fault),
+        },
+        Kind::Blpu => match Blpu::read(alloc, row, skip) {
+            Ok(blpu) => Ok(Item::Blpu(blpu)),
+            Err(fault) => Err(fault),
+        },
+        Kind::Xref => match Xref::read(alloc, row, skip) {
+            Ok(xref) => Ok(Item::Xref(xref)),
+            Err(fault) => Err(fault),
+        },
+        Kind::Lpi => match Lpi::read(alloc, row, skip) {
+            Ok(lpi) => Ok(Item::Lpi(lpi)),
+            Err(fault) => Err(fault),
+        },
+    }
+}
+
+/// The item of a kind that a text says which is one row: `Count` where it isn't one row, else as `read_item`.
+pub fn item_of_text(alloc: Global, kind: Kind, text: &[u8]) -> Result<Item, FieldFault>
+    ensures { OrMemory result (item_of_text kind text.now) }
+{
+    match read_row(alloc, text) {
+        Ok(Some(row)) => read_item(alloc, kind, &row, 0),
+        Ok(None) => Err(FieldFault::Count),
+        Err(_) => Err(FieldFault::Memory),
     }
 }
 
@@ -41,6 +93,36 @@ impl Item {
     {
         match self {
             Item::Street(_) => Kind::Street,
+            Item::Descriptor(_) => Kind::Descriptor,
+            Item::Blpu(_) => Kind::Blpu,
+            Item::Xref(_) => Kind::Xref,
+            Item::Lpi(_) => Kind::Lpi,
+        }
+    }
+
+    /// What each item holds, for callers, who see its value alone.
+    pub fn known(&self)
+        ensures { is_item self.now ≡ true }
+    {
+        match self {
+            Item::Street(street) => street.known(),
+            Item::Descriptor(descriptor) => descriptor.known(),
+            Item::Blpu(blpu) => blpu.known(),
+            Item::Xref(xref) => xref.known(),
+            Item::Lpi(lpi) => lpi.known(),
+        }
+    }
+
+    /// The same item.
+    pub fn copy(&self) -> Result<Item, AllocError>
+        ensures { IfOk result (λ x. x ≡ self.now) }
+    {
+        match self {
+            Item::Street(street) => Ok(Item::Street(street.clone()?)),
+            Item::Descriptor(descriptor) => Ok(Item::Descriptor(descriptor.clone()?)),
+            Item::Blpu(blpu) => Ok(Item::Blpu(blpu.clone()?)),
+            Item::Xref(xref) => Ok(Item::Xref(xref.clone()?)),
+            Item::Lpi(lpi) => Ok(Item::Lpi(lpi.clone()?)),
         }
     }
 }
@@ -50,8 +132,30 @@ impl Clone for Item {
     ghost is_clone = { λ a b. b ≡ a };
 
     fn clone(&self) -> Result<Item, AllocError> {
-        match self {
-            Item::Street(street) => Ok(Item::Street(street.clone()?)),
-        }
+        self.copy()
     }
+}
+
+/// Adds the row of the item's fields as `csv` writes it, without a line end. After want of memory a part of the row may be there.
+pub fn write_item(item: &Item, out: &mut Vec<u8>) -> Result<(), AllocError>
+    ensures { OnOk result (out.new.items ≡ out.old.items ++ item_text item.now) }
+{
+    match item {
+        Item::Street(street) => Ok(street.write(out)?),
+        Item::Descriptor(descriptor) => Ok(descriptor.write(out)?),
+        Item::Blpu(blpu) => Ok(blpu.write(out)?),
+        Item::Xref(xref) => Ok(xref.write(out)?),
+        Item::Lpi(lpi) => Ok(lpi.write(out)?),
+    }
+}
+
+/// The row of the item's fields as `csv` writes it, without a line end. It reads back as the same item.
+pub fn item_text(alloc: Global, item: &Item) -> Result<Vec<u8>, AllocError>
+    ensures text { IfOk result (λ t. t.items ≡ item_text item.now) }
+    ensures reads_back { item_of_text (kind_of item.now) (item_text item.now) ≡ Ok item.now }
+{
+    item.known();
+    let mut out = Vec::new(alloc);
+    write_item(item, &mut out)?;
+    Ok(out)
 }

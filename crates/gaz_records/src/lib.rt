@@ -1,17 +1,31 @@
-//! The records of a gazetteer: streets, their fields and their keys.
+//! The records of a gazetteer: streets, their descriptors, BLPUs, cross references and LPIs, their fields, rows and keys.
 #![tactic(auto)]
 
+mod blpu;
+mod copies;
 mod day;
+mod descriptor;
 mod fields;
 mod item;
 mod key;
+mod label;
+pub mod laws;
+mod lpi;
+mod reading;
+mod row;
 mod street;
+mod xref;
 
+pub use blpu::{Blpu, Easting, Northing};
 pub use day::Day;
+pub use descriptor::Descriptor;
 pub use fields::FieldFault;
-pub use item::{Item, Kind, read_item};
-pub use key::Key;
+pub use item::{Item, Kind, item_of_text, item_text, read_item, write_item};
+pub use key::{Key, key_of};
+pub use label::{Label, RecordKey, Source};
+pub use lpi::Lpi;
 pub use street::Street;
+pub use xref::Xref;
 
 #[cfg(test)]
 mod tests;

@@ -1,11 +1,12 @@
-ghost use Rattle.std.specs.Prelude.{◌≡◌, ◌≤◌, drop, IfSome, Some, true};
+ghost use Rattle.std.specs.Prelude.{◌≡◌, ◌≤◌, ◌++◌, drop, OnOk, true};
 ghost use Rattle.csv.specs.Records.{fields_of};
-ghost use Rattle.gaz_records.specs.Days.{is_day};
-ghost use Rattle.gaz_records.specs.Fields.{end_of};
-ghost use Rattle.gaz_records.specs.Table.{are_days, is_street, is_usrn, read_street, sort_of};
+ghost use Rattle.gaz_rows.specs.Rows.{line_of};
+ghost use Rattle.gaz_records.specs.Streets.{is_street, read_street, street_texts};
 
 use crate::day::Day;
-use crate::fields::{FieldFault, field};
+use crate::fields::FieldFault;
+use crate::reading::Fields;
+use crate::row::{add_number, next_dates, next_number};
 use csv::ByteRecord;
 use gaz_ids::{Number, Usrn};
 use std::alloc::AllocError;
@@ -27,77 +28,41 @@ pub struct Street {
 }
 
 impl Model for Street {
-    ghost use Rattle.std.specs.Prelude.{◌≡◌, true};
-    ghost use Rattle.gaz_records.specs.Table.{StreetValue, is_street};
+    ghost use Rattle.std.specs.Prelude.{◌≡◌, ◌&&◌, true};
+    ghost use Rattle.gaz_records.specs.Days.{ends_by};
+    ghost use Rattle.gaz_records.specs.Streets.{StreetValue, is_sort};
 
     ghost Value = { StreetValue };
 
     ghost view = { λ x. record { usrn = x.usrn; sort = x.sort; start = x.start; end = x.end } };
 
-    ghost invariant = { λ x. is_street (record { usrn = x.usrn; sort = x.sort; start = x.start; end = x.end }) ≡ true };
-}
-
-#[tactic(auto, using(crate::proofs::Dates::read_bounds))]
-fn read_sort(text: &[u8]) -> Option<u8>
-    ensures value { result ≡ sort_of text.now }
-    ensures range { IfSome result (λ n. (1 ≤ n) × (n ≤ 4)) }
-{
-    match Sort::read(text) {
-        Ok(n) => Some(n.number() as u8),
-        Err(_) => None,
-    }
-}
-
-/// An end date that may be left out, not before the start.
-pub fn read_end(start: &Day, text: &[u8]) -> Option<Option<Day>>
-    ensures { result ≡ end_of (Some start.now) text.now }
-{
-    if text.is_empty() {
-        return Some(None);
-    }
-    let end = Day::read(text)?;
-    if start.is_by(&end) {
-        Some(Some(end))
-    } else {
-        None
-    }
+    ghost invariant = { λ x. (is_sort x.sort && ends_by x.start x.end) ≡ true };
 }
 
 impl Street {
-    #[tactic(auto, using(std::proofs::lemmas::Bool::Decides::nat_tests), unfolding(crate::specs::Table::read_street))]
+    #[tactic(auto, using(std::proofs::lemmas::Bool::Decides::nat_tests), unfolding(crate::specs::Streets::read_street))]
     /// The street that the fields behind the first ones say.
-    pub fn read(row: &ByteRecord, skip: usize) -> Result<Street, FieldFault>
+    pub(crate) fn read(row: &ByteRecord, skip: usize) -> Result<Street, FieldFault>
         requires { skip ≤ 3 }
         ensures { result ≡ read_street (drop skip (fields_of row.now)) }
     {
-        if row.len() != skip + 4 {
-            return Err(FieldFault::Count);
-        }
-        let Ok(usrn) = Usrn::read(field(row, skip, 0)) else {
-            return Err(FieldFault::Form { field: 1 });
-        };
-        let Some(sort) = read_sort(field(row, skip, 1)) else {
-            return Err(FieldFault::Form { field: 2 });
-        };
-        let Some(start) = Day::read(field(row, skip, 2)) else {
-            return Err(FieldFault::Form { field: 3 });
-        };
-        let Some(end) = read_end(&start, field(row, skip, 3)) else {
-            return Err(FieldFault::Form { field: 4 });
-        };
+        let fields = Fields::open(row, skip, 4)?;
+        let usrn = fields.number(0)?;
+        let sort: Sort = fields.number(1)?;
+        let start = fields.day(2)?;
+        let end = fields.end_day(3, &start)?;
         Ok(Street {
             usrn,
-            sort,
+            sort: sort.number() as u8,
             start,
             end,
         })
     }
-}
 
-impl Street {
+    #[tactic(auto, using(std::proofs::lemmas::Bool::Decides::nat_tests))]
     /// What each street holds, for callers, who see its value alone.
     pub fn known(&self)
-        ensures { (is_street self.now ≡ true) × (is_usrn self.now.usrn ≡ true) × (is_day self.now.start ≡ true) × (are_days self.now.end ≡ true) }
+        ensures { is_street self.now ≡ true }
     {
         let _ = self.usrn.number();
         self.start.known();
@@ -105,9 +70,19 @@ impl Street {
             end.known();
         }
     }
+
+    /// Adds the row of the fields as `csv` writes it, without a line end.
+    pub(crate) fn write(&self, out: &mut Vec<u8>) -> Result<(), AllocError>
+        ensures { OnOk result (out.new.items ≡ out.old.items ++ line_of (street_texts self.now)) }
+    {
+        add_number(out, self.usrn.number())?;
+        next_number(out, u64::from(self.sort))?;
+        next_dates(out, &self.start, &self.end)?;
+        Ok(())
+    }
 }
 
-/// A clone is the same street. It takes no memory.
+/// A clone is the same street.
 impl Clone for Street {
     ghost is_clone = { λ a b. b ≡ a };
 

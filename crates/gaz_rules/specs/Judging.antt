@@ -8,9 +8,9 @@ use Rattle.gaz_changefile.specs.declared.change.Basis.{Basis}
 use Rattle.gaz_changefile.specs.declared.change.Change.{Change}
 use Rattle.gaz_shelf.specs.View.{View}
 use Rattle.gaz_shelf.specs.Board.{Judgement}
-use Rattle.gaz_shelf.specs.declared.verdict.Verdict.{Verdict}
 use Rattle.gaz_shelf.specs.declared.verdict.Verdict.TheVariants.{Applied, Rejected}
-use Rattle.gaz_rules.specs.Rules.{Blocks, effect, record_rules, end_rules, first_broken}
+use Rattle.gaz_register.specs.Registers.{Blocks}
+use Rattle.gaz_rules.specs.Rules.{effect, record_rules, end_rules, first_broken}
 
 -- a file with a fault has no basis
 abbrev pub bases_of : Reading → List Basis

@@ -1,23 +1,16 @@
 -- The rules of a change file, as tests over whole views.
-use Rattle.std.specs.Prelude.{ℕ, nat_le, Bool, true, false, not, ◌&&◌, ◌||◌, List, [], ◌∷◌, Option}
+use Rattle.std.specs.Prelude.{ℕ, Bool, true, false, not, ◌&&◌, List, [], ◌∷◌, Option}
 use Rattle.std.specs.Option.{option_map}
-use Rattle.std.specs.List.{list_any, find}
+use Rattle.std.specs.List.{find}
 use Rattle.gaz_records.specs.Keys.{key_of}
 use Rattle.gaz_records.specs.declared.item.Item.{Item}
 use Rattle.gaz_records.specs.declared.item.Item.TheVariants as item
 use Rattle.gaz_records.specs.declared.key.Key.{Key}
+use Rattle.gaz_register.specs.Registers.{Blocks, within}
 use Rattle.gaz_shelf.specs.View.{View, with_item, without_key, holds, was_used}
 use Rattle.gaz_changefile.specs.declared.action.Action.{Action}
 use Rattle.gaz_changefile.specs.declared.action.Action.TheVariants.{Insert, Update, Delete}
 use Rattle.gaz_changefile.specs.declared.change.Change.{Change}
-
--- the numbers that a custodian may give, as blocks with both ends included
-pub record Blocks : Type 0 where
-  pub uprn : List (ℕ × ℕ)
-  pub usrn : List (ℕ × ℕ)
-
-abbrev pub within : List (ℕ × ℕ) → ℕ → Bool
-within blocks n = list_any (λ b. nat_le b.0 n && nat_le n b.1) blocks
 
 -- ---- the effect of a change
 
@@ -42,9 +35,11 @@ is_delete Insert = false
 is_delete Update = false
 is_delete Delete = true
 
--- 20: the number is in none of the custodian's own blocks of its kind
+-- 20: a street or a BLPU, and its number is in none of the custodian's own blocks of that kind
 abbrev pub is_outside : Blocks → Item → Bool
 is_outside own (item.Street s) = not (within own.usrn s.usrn)
+is_outside own (item.Blpu b) = not (within own.uprn b.uprn)
+is_outside own _ = false
 
 -- 21: an insert whose key was ever used
 abbrev pub is_used_again : View → Action → Item → Bool
@@ -54,9 +49,11 @@ is_used_again v a i = is_insert a && was_used v (key_of i)
 abbrev pub is_missing : View → Action → Item → Bool
 is_missing v a i = not (is_insert a) && not (holds v (key_of i))
 
--- items that are closed or made historical, and never deleted
+-- a street or a BLPU: it is closed or made historical, and never deleted
 abbrev pub stays : Item → Bool
 stays (item.Street s) = true
+stays (item.Blpu b) = true
+stays _ = false
 
 -- 23: a delete of such an item
 abbrev pub takes_what_stays : Action → Item → Bool

@@ -1,5 +1,5 @@
 -- The judgements of all custodians.
-use Rattle.std.specs.Prelude.{ℕ, List, [], ◌∷◌, ◌++◌, map, length, slice_get, unwrap_or}
+use Rattle.std.specs.Prelude.{ℕ, List, [], ◌∷◌, map, length, slice_get, unwrap_or}
 use Rattle.gaz_shelf.specs.View.{View, empty_view}
 use Rattle.gaz_shelf.specs.declared.verdict.Verdict.{Verdict}
 

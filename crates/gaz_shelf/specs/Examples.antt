@@ -1,11 +1,11 @@
 -- Worked examples, computed from the definitions.
-use Rattle.std.specs.Prelude.{◌≡◌, ℕ, ◌==◌, true, false, List, [], ◌∷◌, Some, None, if◌then◌else◌}
+use Rattle.std.specs.Prelude.{◌≡◌, ℕ, ◌==◌, true, false, [], ◌∷◌, Some, None, if◌then◌else◌}
 use Rattle.std.specs.FinMap as map
 use Rattle.gaz_records.specs.declared.item.Item.{Item}
 use Rattle.gaz_records.specs.declared.item.Item.TheVariants as item
 use Rattle.gaz_records.specs.declared.key.Key.TheVariants as key
 use Rattle.gaz_shelf.specs.View.{View, empty_view, holds, was_used, with_item, without_key}
-use Rattle.gaz_shelf.specs.Board.{Board, Judgement, empty_board, reached, view_after}
+use Rattle.gaz_shelf.specs.Board.{Board, empty_board, reached, view_after}
 use Rattle.gaz_shelf.specs.declared.verdict.Verdict.TheVariants.{Applied, Rejected}
 
 -- an open street of 2001

@@ -3,11 +3,15 @@
 
 #[cfg(test)]
 mod fixtures;
+mod sample;
 #[cfg(test)]
 mod tests;
 
 use gaz_exchange::{Cause, converse};
 use gaz_hub::Hub;
+use gaz_register::{RegFault, Register};
+use sample::SAMPLE;
+use std::alloc::Global;
 use std::io::BufWriter;
 use std::process::ExitCode;
 use std::{env, io};
@@ -19,13 +23,22 @@ const FAULT: u8 = 3;
 
 const USAGE: u8 = 2;
 
+// A hub of the custodians of the sample register, that received nothing.
+fn new_hub(alloc: Global) -> Result<Hub, RegFault> {
+    let register = Register::read(alloc, SAMPLE.as_bytes())?;
+    Ok(Hub::new(alloc, register))
+}
+
 // Holds a conversation on standard input and output, over a hub in memory. The exit status.
 fn play<R: Input + Print + Eprint + AllocGlobal>(rt: &R) -> u8 {
     let Ok(mut w) = BufWriter::new(rt.alloc(), io::writer(rt)) else {
         let _ = eprintln!(rt; "gazhub: Memory");
         return FAULT;
     };
-    let mut hub = Hub::new(rt.alloc());
+    let Ok(mut hub) = new_hub(rt.alloc()) else {
+        let _ = eprintln!(rt; "gazhub: Memory");
+        return FAULT;
+    };
     let stopped = match converse(rt.alloc(), &mut rt.reader(), &mut w, &mut hub, MOST) {
         Ok(_) => return 0,
         Err(stopped) => stopped,

@@ -1,6 +1,7 @@
 //! Worked cases: conversations over one hub. The expected texts are those of docs/exchange.md.
 
 use crate::fixtures::*;
+use crate::new_hub;
 use gaz_exchange::{Ended, converse};
 use gaz_hub::Hub;
 use std::alloc::{AllocError, Global};
@@ -75,7 +76,7 @@ fn written(alloc: Global, hub: &mut Hub, given: &[u8], most: u64) -> Vec<u8> {
 
 // Each case in a conversation of its own, over one hub.
 fn holds<R: Abort + AllocGlobal>(rt: &R, cases: &[Case<'_>]) -> Result<(), Fail> {
-    let mut hub = Hub::new(rt.alloc());
+    let mut hub = new_hub(rt.alloc())?;
     for case in cases {
         let request = request_of(rt.alloc(), case)?;
         let got = written(rt.alloc(), &mut hub, &request, 2);
@@ -237,7 +238,7 @@ fn faulty_files_are_received(rt: HostRuntime) -> Result<(), Fail> {
 
 #[test]
 fn sizes_and_volumes_have_limits(rt: HostRuntime) -> Result<(), Fail> {
-    let mut hub = Hub::new(rt.alloc());
+    let mut hub = new_hub(rt.alloc())?;
     let wide = vec![in rt.alloc(); b'a'; 1_048_576]?;
     let case = Case {
         method: "POST",
@@ -361,7 +362,7 @@ fn what_breaks_the_framing_is_refused(rt: HostRuntime) -> Result<(), Fail> {
         ),
         ("POST", "Bad Header: x\r\n", "", "400 Bad Request", 40),
     ] {
-        let mut hub = Hub::new(rt.alloc());
+        let mut hub = new_hub(rt.alloc())?;
         let request = format!(in rt.alloc(); "{method} {path} HTTP/1.1\r\n{headers}\r\n{body}")?;
         let got = written(rt.alloc(), &mut hub, request.as_bytes(), 2);
         let refusal = format!(in rt.alloc(); "{{\"refusal\":{number}}}")?;
@@ -376,7 +377,7 @@ fn what_breaks_the_framing_is_refused(rt: HostRuntime) -> Result<(), Fail> {
         let wanted = reply_of(rt.alloc(), NOT_FOUND, "", "{\"refusal\":17}")?;
         assert_eq!(rt; after.as_slice(), wanted.as_bytes(), "{headers}");
     }
-    let mut hub = Hub::new(rt.alloc());
+    let mut hub = new_hub(rt.alloc())?;
     let got = written(
         rt.alloc(),
         &mut hub,
@@ -403,7 +404,7 @@ fn a_conversation_ends_as_it_is_told(rt: HostRuntime) -> Result<(), Fail> {
         "Connection: close\r\n",
         "{\"refusal\":41}",
     )?;
-    let mut hub = Hub::new(rt.alloc());
+    let mut hub = new_hub(rt.alloc())?;
     let mut reader = three.as_slice();
     let mut out = Vec::new(rt.alloc());
     let served = converse(rt.alloc(), &mut reader, &mut out, &mut hub, 2).map_err(|_| "stopped")?;
@@ -417,4 +418,48 @@ fn a_conversation_ends_as_it_is_told(rt: HostRuntime) -> Result<(), Fail> {
     assert!(rt; served.requests == 1 && matches!(served.ended, Ended::Closed));
     assert_eq!(rt; out.as_slice(), last.as_bytes());
     Ok(())
+}
+
+#[test]
+fn the_door_asks_for_the_profile(rt: HostRuntime) -> Result<(), Fail> {
+    let media = "415 Unsupported Media Type";
+    let foreign = "{\"refusal\":16}";
+    let one = "/custodians/1001/volumes/1";
+    let other = "{\"outcome\":\"rejected\",\"record\":1,\"rule\":3}";
+    let header = "{\"outcome\":\"rejected\",\"record\":1,\"rule\":2}";
+    let three = "/custodians/1001/volumes/3";
+    let strange = b"10,7,\xff".as_slice();
+    holds(
+        &rt,
+        &[
+            post("/custodians/1002/volumes/1", STREET_101, CREATED, other),
+            post(
+                "/custodians/9999/volumes/1",
+                STREET_101,
+                NOT_FOUND,
+                "{\"refusal\":11}",
+            ),
+            post(one, "10,7,x", media, foreign),
+            post(one, STREET_101, CREATED, APPLIED),
+            post(one, "10,7,x", media, foreign),
+            post(
+                "/custodians/1001/volumes/2",
+                "10,x,1001,2,2024-01-02",
+                CREATED,
+                header,
+            ),
+            Case {
+                method: "POST",
+                target: three,
+                body: strange,
+                status: media,
+                reply: foreign,
+            },
+            post(three, "10,\"7", media, foreign),
+            post(three, "10,0", CREATED, header),
+            post("/custodians/1001/volumes/4", "10,10000", CREATED, header),
+            post("/custodians/1001/volumes/5", "10", CREATED, header),
+            post("/custodians/1001/volumes/6", "010,7", CREATED, header),
+        ],
+    )
 }

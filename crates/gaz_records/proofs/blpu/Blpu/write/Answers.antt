@@ -1,0 +1,28 @@
+use Rattle.std.proofs.Common.{[], ◌∷◌}
+use Rattle.std.specs.Prelude.{decimal}
+use Rattle.gaz_ids.specs.Codes.{status_text}
+use Rattle.gaz_records.specs.Blpus.{parent_text}
+use Rattle.gaz_records.specs.Days.{date_text, end_text}
+use Rattle.gaz_records.specs.Fields.{or_empty}
+use Rattle.gaz_records.proofs.Written.{more, row_is}
+use Rattle.gaz_records.proofs.blpu.Blpu.write.Goals as goal
+
+pub returns : goal.returns
+returns c =
+    let x = c.self.inside in
+    let uprn = rw c.number.ensures.value at c.in_ok-add_number.ensures in
+    let status = rw c.text.ensures at c.in_ok-next_field.ensures in
+    let easting = rw c.number-2.ensures.value at c.in_ok-next_number.ensures in
+    let northing = rw c.number-3.ensures.value at c.in_ok-next_number-2.ensures in
+    let s = status_text x.status in
+    let e = decimal x.easting in
+    let n = decimal x.northing in
+    let p = parent_text x.parent in
+    let c' = or_empty x.postcode in
+    let dates = date_text x.start ∷ end_text x.end ∷ [] in
+    let two = more _ _ _ (s ∷ []) (e ∷ []) status easting in
+    let three = more _ _ _ (s ∷ e ∷ []) (n ∷ []) two northing in
+    let four = more _ _ _ (s ∷ e ∷ n ∷ []) (p ∷ []) three c.in_ok-next_parent.ensures in
+    let five = more _ _ _ (s ∷ e ∷ n ∷ p ∷ []) (c' ∷ []) four c.in_ok-next_text.ensures in
+    let all = more _ _ _ (s ∷ e ∷ n ∷ p ∷ c' ∷ []) dates five c.in_ok-next_dates.ensures in
+    rw (← c.self.view_is) (row_is c.args.out.now.items _ _ (decimal x.uprn) (s ∷ e ∷ n ∷ p ∷ c' ∷ dates) uprn all)

@@ -1,0 +1,59 @@
+-- BLPUs: what their fields say, and how they are written.
+use Rattle.std.specs.Prelude.{ℕ, ◌&&◌, nat_le, List, [], ◌∷◌, Option, Some, None, is_some, Result, Bool, true, decimal}
+use Rattle.gaz_ids.specs.Codes.{status_text}
+use Rattle.gaz_ids.specs.declared.status.Status.{Status}
+use Rattle.gaz_ids.specs.declared.status.Status.TheVariants.{Approved}
+use Rattle.gaz_addressable.specs.Objects.{is_text_or_none}
+use Rattle.gaz_records.specs.Days.{CivilDay, are_days, date_text, end_text, ends_by, is_day, no_day}
+use Rattle.gaz_records.specs.Fields.{or_empty, the}
+use Rattle.gaz_records.specs.Forms.{BlpuStatus, Date, Digits, EndDate, Opt, TextTo, in_form, of_blpu, says}
+use Rattle.gaz_records.specs.Table.{blpu_table, uprn}
+use Rattle.gaz_records.specs.declared.fields.FieldFault.{FieldFault}
+
+-- a property: its number and status, where it lies, what it is part of, its postcode and its dates
+pub record BlpuValue : Type 0 where
+  pub uprn : ℕ
+  pub status : Status
+  pub easting : ℕ
+  pub northing : ℕ
+  pub parent : Option ℕ
+  pub postcode : Option (List ℕ)
+  pub start : CivilDay
+  pub end : Option CivilDay
+
+abbrev pub blpu_said : List (List ℕ) → BlpuValue
+blpu_said f = record {
+  uprn = the 0 (says uprn f 0);
+  status = the Approved (says BlpuStatus f 1);
+  easting = the 0 (says (Digits 6 0 700_000) f 2);
+  northing = the 0 (says (Digits 7 0 1_300_000) f 3);
+  parent = the None (says (Opt uprn) f 4);
+  postcode = the None (says (Opt (TextTo 8)) f 5);
+  start = the no_day (says Date f 6);
+  end = the None (says (Opt EndDate) f 7);
+}
+
+-- the BLPU that fields say, or what is wrong with them
+unfoldable pub read_blpu : List (List ℕ) → Result BlpuValue FieldFault
+read_blpu f = in_form blpu_table f (blpu_said f)
+
+abbrev pub parent_text : Option ℕ → List ℕ
+parent_text None = []
+parent_text (Some n) = decimal n
+
+-- the texts of its fields
+abbrev pub blpu_texts : BlpuValue → List (List ℕ)
+blpu_texts x = decimal x.uprn ∷ status_text x.status ∷ decimal x.easting ∷ decimal x.northing
+    ∷ parent_text x.parent ∷ or_empty x.postcode ∷ date_text x.start ∷ end_text x.end ∷ []
+
+abbrev pub is_uprn : ℕ → Bool
+is_uprn n = nat_le 1 n && nat_le n 999_999_999_999
+
+abbrev pub is_parent : Option ℕ → Bool
+is_parent None = true
+is_parent (Some n) = is_uprn n
+
+-- what the table allows
+abbrev pub is_blpu : BlpuValue → Bool
+is_blpu x = is_uprn x.uprn && is_some (of_blpu x.status) && nat_le x.easting 700_000 && nat_le x.northing 1_300_000 && is_parent x.parent
+    && is_text_or_none 8 x.postcode && is_day x.start && are_days x.end && ends_by x.start x.end

@@ -1,0 +1,37 @@
+-- Labels of letters and digits, as the keys of records.
+use Rattle.std.specs.Prelude.{◌≡◌, ℕ, ◌-◌, ◌&&◌, ◌||◌, nat_le, Bool, true, List, [], ◌∷◌, ◌++◌, length, take, replicate, Option, Some, None, if◌then◌else◌}
+use Rattle.std.specs.declared.cmp.Ordering.{Ordering}
+use Rattle.std.specs.Ordering.{nat_cmp, eq_by_cmp}
+use Rattle.std.specs.Cmp.Lexicographic.{slice_cmp}
+
+-- A to Z or 0 to 9
+abbrev pub is_label_byte : ℕ → Bool
+is_label_byte b = (nat_le 65 b && nat_le b 90) || (nat_le 48 b && nat_le b 57)
+
+abbrev pub are_label_bytes : List ℕ → Bool
+are_label_bytes [] = true
+are_label_bytes (b ∷ bs) = is_label_byte b && are_label_bytes bs
+
+-- 1 to so many of them
+abbrev pub is_label : ℕ → List ℕ → Bool
+is_label most t = nat_le 1 (length t) && nat_le (length t) most && are_label_bytes t
+
+abbrev pub label_of : ℕ → List ℕ → Option (List ℕ)
+label_of most t = if is_label most t then Some t else None
+
+-- labels are in the order of their bytes
+abbrev pub label_cmp : List ℕ → List ℕ → Ordering
+label_cmp = slice_cmp nat_cmp
+
+abbrev pub label_eq : List ℕ → List ℕ → Bool
+label_eq = eq_by_cmp label_cmp
+
+-- the bytes with 0 behind them, so many in all
+abbrev pub padded : ℕ → List ℕ → List ℕ
+padded most t = t ++ replicate (most - length t) 0
+
+-- the first of these bytes are a label, and the others are 0
+pub record IsPadded (most len : ℕ) (bytes : List ℕ) : Type 0 where
+  pub taken : length (take len bytes) ≡ len
+  pub label : is_label most (take len bytes) ≡ true
+  pub rest : padded most (take len bytes) ≡ bytes

@@ -1,0 +1,40 @@
+-- Streets: what their fields say, and how they are written.
+use Rattle.std.specs.Prelude.{ℕ, ◌&&◌, nat_le, List, [], ◌∷◌, Option, Some, None, Result, Bool, decimal}
+use Rattle.gaz_records.specs.Days.{CivilDay, are_days, date_text, end_text, ends_by, is_day, no_day}
+use Rattle.gaz_records.specs.Fields.{the}
+use Rattle.gaz_records.specs.Forms.{Date, Digits, EndDate, Opt, in_form, says}
+use Rattle.gaz_records.specs.Table.{street_table, usrn}
+use Rattle.gaz_records.specs.declared.fields.FieldFault.{FieldFault}
+
+-- a street: its number, its type, and the dates from which and up to which it is one
+pub record StreetValue : Type 0 where
+  pub usrn : ℕ
+  pub sort : ℕ
+  pub start : CivilDay
+  pub end : Option CivilDay
+
+abbrev pub street_said : List (List ℕ) → StreetValue
+street_said f = record {
+  usrn = the 0 (says usrn f 0);
+  sort = the 0 (says (Digits 1 1 4) f 1);
+  start = the no_day (says Date f 2);
+  end = the None (says (Opt EndDate) f 3);
+}
+
+-- the street that fields say, or what is wrong with them
+unfoldable pub read_street : List (List ℕ) → Result StreetValue FieldFault
+read_street f = in_form street_table f (street_said f)
+
+-- the texts of its fields
+abbrev pub street_texts : StreetValue → List (List ℕ)
+street_texts x = decimal x.usrn ∷ decimal x.sort ∷ date_text x.start ∷ end_text x.end ∷ []
+
+abbrev pub is_usrn : ℕ → Bool
+is_usrn n = nat_le 1 n && nat_le n 99_999_999
+
+abbrev pub is_sort : ℕ → Bool
+is_sort n = nat_le 1 n && nat_le n 4
+
+-- what the table allows
+abbrev pub is_street : StreetValue → Bool
+is_street x = is_usrn x.usrn && is_sort x.sort && is_day x.start && are_days x.end && ends_by x.start x.end

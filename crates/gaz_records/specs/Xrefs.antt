@@ -1,0 +1,41 @@
+-- Cross references: what their fields say, and how they are written.
+use Rattle.std.specs.Prelude.{ℕ, ◌&&◌, List, [], ◌∷◌, Option, Some, None, Result, Bool, decimal}
+use Rattle.gaz_addressable.specs.Texts.{is_text}
+use Rattle.gaz_records.specs.Days.{CivilDay, are_days, date_text, end_text, ends_by, is_day, no_day}
+use Rattle.gaz_records.specs.Fields.{the}
+use Rattle.gaz_records.specs.Forms.{Date, EndDate, LabelTo, Opt, TextTo, in_form, says}
+use Rattle.gaz_records.specs.Labels.{is_label}
+use Rattle.gaz_records.specs.Table.{uprn, xref_table}
+use Rattle.gaz_records.specs.Blpus.{is_uprn}
+use Rattle.gaz_records.specs.declared.fields.FieldFault.{FieldFault}
+
+-- by what another source knows a property
+pub record XrefValue : Type 0 where
+  pub key : List ℕ
+  pub uprn : ℕ
+  pub source : List ℕ
+  pub reference : List ℕ
+  pub start : CivilDay
+  pub end : Option CivilDay
+
+abbrev pub xref_said : List (List ℕ) → XrefValue
+xref_said f = record {
+  key = the [] (says (LabelTo 14) f 0);
+  uprn = the 0 (says uprn f 1);
+  source = the [] (says (LabelTo 6) f 2);
+  reference = the [] (says (TextTo 50) f 3);
+  start = the no_day (says Date f 4);
+  end = the None (says (Opt EndDate) f 5);
+}
+
+-- the cross reference that fields say, or what is wrong with them
+unfoldable pub read_xref : List (List ℕ) → Result XrefValue FieldFault
+read_xref f = in_form xref_table f (xref_said f)
+
+-- the texts of its fields
+abbrev pub xref_texts : XrefValue → List (List ℕ)
+xref_texts x = x.key ∷ decimal x.uprn ∷ x.source ∷ x.reference ∷ date_text x.start ∷ end_text x.end ∷ []
+
+-- what the table allows
+abbrev pub is_xref : XrefValue → Bool
+is_xref x = is_label 14 x.key && is_uprn x.uprn && is_label 6 x.source && is_text 50 x.reference && is_day x.start && are_days x.end && ends_by x.start x.end

@@ -1,0 +1,132 @@
+ghost use Rattle.std.specs.Prelude.{◌≡◌, ◌≤◌, ◌++◌, drop, OnOk, true};
+ghost use Rattle.csv.specs.Records.{fields_of};
+ghost use Rattle.gaz_rows.specs.Rows.{line_of};
+ghost use Rattle.gaz_records.specs.Fields.{OrMemory};
+ghost use Rattle.gaz_records.specs.Blpus.{blpu_texts, is_blpu, read_blpu};
+
+use crate::copies::copy_text;
+use crate::day::Day;
+use crate::fields::FieldFault;
+use crate::reading::Fields;
+use crate::row::{add_number, next_dates, next_field, next_number, next_parent, next_text};
+use csv::ByteRecord;
+use gaz_addressable::Text;
+use gaz_ids::{Number, Status, Uprn};
+use std::alloc::{AllocError, Global};
+use std::marker::Model;
+
+/// Metres east of the false origin of the National Grid, 0 to 700,000 (our profile).
+pub type Easting = Number<21, 6, 0, 700_000>;
+
+/// Metres north of the false origin of the National Grid, 0 to 1,300,000 (our profile).
+pub type Northing = Number<22, 7, 0, 1_300_000>;
+
+/// A basic land and property unit (BS 7666:2006, Part 2).
+///
+/// It is no alternative, and its end date isn't before its start date. `parent` is the BLPU of which it is a part.
+#[derive(Debug, Drop)]
+pub struct Blpu {
+    pub uprn: Uprn,
+    pub status: Status,
+    pub easting: Easting,
+    pub northing: Northing,
+    pub parent: Option<Uprn>,
+    pub postcode: Option<Text<8>>,
+    pub start: Day,
+    pub end: Option<Day>,
+}
+
+impl Model for Blpu {
+    ghost use Rattle.std.specs.Prelude.{◌≡◌, ◌&&◌, is_some, true};
+    ghost use Rattle.gaz_records.specs.Days.{ends_by};
+    ghost use Rattle.gaz_records.specs.Forms.{of_blpu};
+    ghost use Rattle.gaz_records.specs.Blpus.{BlpuValue};
+
+    ghost Value = { BlpuValue };
+
+    ghost view = { λ x. record { uprn = x.uprn; status = x.status; easting = x.easting; northing = x.northing; parent = x.parent; postcode = x.postcode; start = x.start; end = x.end } };
+
+    ghost invariant = { λ x. (is_some (of_blpu x.status) && ends_by x.start x.end) ≡ true };
+}
+
+impl Blpu {
+    #[tactic(auto, using(std::proofs::lemmas::Bool::Decides::nat_tests), unfolding(crate::specs::Blpus::read_blpu))]
+    /// The BLPU that the fields behind the first ones say.
+    pub(crate) fn read(alloc: Global, row: &ByteRecord, skip: usize) -> Result<Blpu, FieldFault>
+        requires { skip ≤ 3 }
+        ensures { OrMemory result (read_blpu (drop skip (fields_of row.now))) }
+    {
+        let fields = Fields::open(row, skip, 8)?;
+        let uprn = fields.number(0)?;
+        let status = fields.blpu_status(1)?;
+        let easting = fields.number(2)?;
+        let northing = fields.number(3)?;
+        let parent = fields.opt_number(4)?;
+        let postcode = fields.opt_text(alloc, 5)?;
+        let start = fields.day(6)?;
+        let end = fields.end_day(7, &start)?;
+        Ok(Blpu {
+            uprn,
+            status,
+            easting,
+            northing,
+            parent,
+            postcode,
+            start,
+            end,
+        })
+    }
+
+    #[tactic(auto, using(std::proofs::lemmas::Bool::Decides::nat_tests))]
+    /// What each BLPU holds, for callers, who see its value alone.
+    pub fn known(&self)
+        ensures { is_blpu self.now ≡ true }
+    {
+        let _ = self.uprn.number();
+        let _ = self.easting.number();
+        let _ = self.northing.number();
+        if let Some(parent) = &self.parent {
+            let _ = parent.number();
+        }
+        if let Some(postcode) = &self.postcode {
+            let _ = postcode.as_bytes();
+        }
+        self.start.known();
+        if let Some(end) = &self.end {
+            end.known();
+        }
+    }
+
+    /// Adds the row of the fields as `csv` writes it, without a line end.
+    pub(crate) fn write(&self, out: &mut Vec<u8>) -> Result<(), AllocError>
+        ensures { OnOk result (out.new.items ≡ out.old.items ++ line_of (blpu_texts self.now)) }
+    {
+        add_number(out, self.uprn.number())?;
+        next_field(out, self.status.text())?;
+        next_number(out, self.easting.number())?;
+        next_number(out, self.northing.number())?;
+        next_parent(out, self.parent)?;
+        next_text(out, &self.postcode)?;
+        next_dates(out, &self.start, &self.end)?;
+        Ok(())
+    }
+}
+
+/// A clone is the same BLPU.
+impl Clone for Blpu {
+    ghost is_clone = { λ a b. b ≡ a };
+
+    fn clone(&self) -> Result<Blpu, AllocError> {
+        let postcode = copy_text(&self.postcode)?;
+        Ok(Blpu {
+            uprn: self.uprn,
+            status: self.status,
+            easting: self.easting,
+            northing: self.northing,
+            parent: self.parent,
+            postcode,
+            start: self.start,
+            end: self.end,
+        })
+    }
+}

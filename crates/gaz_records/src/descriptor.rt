@@ -1,0 +1,113 @@
+ghost use Rattle.std.specs.Prelude.{◌≡◌, ◌≤◌, ◌++◌, drop, OnOk, true};
+ghost use Rattle.csv.specs.Records.{fields_of};
+ghost use Rattle.gaz_rows.specs.Rows.{line_of};
+ghost use Rattle.gaz_records.specs.Fields.{OrMemory};
+ghost use Rattle.gaz_records.specs.Descriptors.{descriptor_texts, is_descriptor, read_descriptor};
+
+use crate::copies::copy_text;
+use crate::fields::FieldFault;
+use crate::reading::Fields;
+use crate::row::{add_number, next_field, next_text};
+use csv::ByteRecord;
+use gaz_addressable::Text;
+use gaz_ids::{Lang, Usrn};
+use std::alloc::{AllocError, Global};
+use std::marker::Model;
+
+/// A street's descriptor: what it is called in a language, and where it lies (BS 7666:2006, Part 1; the lengths are our profile's).
+#[derive(Debug, Drop)]
+pub struct Descriptor {
+    pub usrn: Usrn,
+    pub lang: Lang,
+    pub description: Text<100>,
+    pub locality: Option<Text<35>>,
+    pub town: Option<Text<30>>,
+    /// The administrative area.
+    pub area: Text<30>,
+}
+
+impl Model for Descriptor {
+    ghost use Rattle.gaz_records.specs.Descriptors.{DescriptorValue};
+
+    ghost Value = { DescriptorValue };
+
+    ghost view = { λ x. record { usrn = x.usrn; lang = x.lang; description = x.description; locality = x.locality; town = x.town; area = x.area } };
+}
+
+impl Descriptor {
+    #[tactic(auto, using(std::proofs::lemmas::Bool::Decides::nat_tests), unfolding(crate::specs::Descriptors::read_descriptor))]
+    /// The descriptor that the fields behind the first ones say.
+    pub(crate) fn read(
+        alloc: Global,
+        row: &ByteRecord,
+        skip: usize,
+    ) -> Result<Descriptor, FieldFault>
+        requires { skip ≤ 3 }
+        ensures { OrMemory result (read_descriptor (drop skip (fields_of row.now))) }
+    {
+        let fields = Fields::open(row, skip, 6)?;
+        let usrn = fields.number(0)?;
+        let lang = fields.lang(1)?;
+        let description = fields.text(alloc, 2)?;
+        let locality = fields.opt_text(alloc, 3)?;
+        let town = fields.opt_text(alloc, 4)?;
+        let area = fields.text(alloc, 5)?;
+        Ok(Descriptor {
+            usrn,
+            lang,
+            description,
+            locality,
+            town,
+            area,
+        })
+    }
+
+    #[tactic(auto, using(std::proofs::lemmas::Bool::Decides::nat_tests))]
+    /// What each descriptor holds, for callers, who see its value alone.
+    pub fn known(&self)
+        ensures { is_descriptor self.now ≡ true }
+    {
+        let _ = self.usrn.number();
+        let _ = self.description.as_bytes();
+        if let Some(locality) = &self.locality {
+            let _ = locality.as_bytes();
+        }
+        if let Some(town) = &self.town {
+            let _ = town.as_bytes();
+        }
+        let _ = self.area.as_bytes();
+    }
+
+    /// Adds the row of the fields as `csv` writes it, without a line end.
+    pub(crate) fn write(&self, out: &mut Vec<u8>) -> Result<(), AllocError>
+        ensures { OnOk result (out.new.items ≡ out.old.items ++ line_of (descriptor_texts self.now)) }
+    {
+        add_number(out, self.usrn.number())?;
+        next_field(out, self.lang.text())?;
+        next_field(out, self.description.as_bytes())?;
+        next_text(out, &self.locality)?;
+        next_text(out, &self.town)?;
+        next_field(out, self.area.as_bytes())?;
+        Ok(())
+    }
+}
+
+/// A clone is the same descriptor.
+impl Clone for Descriptor {
+    ghost is_clone = { λ a b. b ≡ a };
+
+    fn clone(&self) -> Result<Descriptor, AllocError> {
+        let description = self.description.copy()?;
+        let locality = copy_text(&self.locality)?;
+        let town = copy_text(&self.town)?;
+        let area = self.area.copy()?;
+        Ok(Descriptor {
+            usrn: self.usrn,
+            lang: self.lang,
+            description,
+            locality,
+            town,
+            area,
+        })
+    }
+}

@@ -1,0 +1,115 @@
+ghost use Rattle.std.specs.Prelude.{◌≡◌, ◌≤◌, length, true};
+ghost use Rattle.std.proofs.Common.{rules};
+ghost use Rattle.std.specs.Cmp.{partial_order_from_own_ties};
+ghost use Rattle.std.specs.Cmp.Rules.{comparing};
+ghost use Rattle.std.specs.Ordering.{as_partial_cmp};
+ghost use Rattle.gaz_records.specs.Labels.{are_label_bytes, is_label, label_cmp, label_eq, label_of};
+
+use std::cmp::Ordering;
+use std::marker::Model;
+
+/// A label of 1 to `MOST` letters `A` to `Z` and digits `0` to `9` (our profile). Its order is that of its bytes.
+#[derive(Clone, Copy, Debug)]
+pub struct Label<const MOST: usize> {
+    bytes: [u8; MOST],
+    len: usize,
+}
+
+/// The key of a cross reference or an LPI.
+pub type RecordKey = Label<14>;
+
+/// Where a cross reference comes from.
+pub type Source = Label<6>;
+
+impl<const MOST: usize> Model for Label<MOST> {
+    ghost use Rattle.std.specs.Prelude.{ℕ, List, length, take};
+    ghost use Rattle.gaz_records.specs.Labels.{IsPadded, padded};
+
+    ghost Value = { List ℕ };
+
+    // The bytes behind the label are 0, so that equal labels are equal in all bytes.
+    ghost view = { λ a. take a.len a.bytes };
+
+    ghost invariant = { λ a. IsPadded MOST a.len a.bytes };
+
+    ghost inverse = { λ t. record { bytes = padded MOST t; len = length t } };
+
+    ghost inverse_ok = { λ a h i. record { bytes = h.rest i; len = h.taken i } };
+}
+
+fn has_label_bytes(bytes: &[u8]) -> bool
+    ensures { result ≡ are_label_bytes bytes.now }
+{
+    for byte in bytes {
+        if !byte.is_ascii_uppercase() && !byte.is_ascii_digit() {
+            return false;
+        }
+    }
+    true
+}
+
+impl<const MOST: usize> Label<MOST> {
+    #[tactic(auto, using(std::proofs::lemmas::Bool::Decides::nat_tests))]
+    /// The label that these bytes are.
+    pub fn read(text: &[u8]) -> Option<Self>
+        ensures { result ≡ label_of MOST text.now }
+    {
+        if text.is_empty() || text.len() > MOST || !has_label_bytes(text) {
+            return None;
+        }
+        let mut bytes = [0; MOST];
+        for (i, byte) in text.iter().enumerate() {
+            bytes[i] = *byte;
+        }
+        Some(Label {
+            bytes,
+            len: text.len(),
+        })
+    }
+
+    /// The letters and digits.
+    pub fn as_bytes(&self) -> &[u8]
+        ensures value { result.now ≡ self.now }
+        ensures form { is_label MOST self.now ≡ true }
+    {
+        &self.bytes[..self.len]
+    }
+}
+
+impl<const MOST: usize> Ord for Label<MOST> {
+    ghost cmp = { label_cmp };
+
+    ghost total = { Prim.search (comparing, rules) };
+
+    ghost matches_partial_cmp = { Prim.search (comparing, rules) };
+
+    ghost matches_eq = { Prim.search (comparing, rules) };
+
+    fn cmp(&self, other: &Self) -> Ordering {
+        self.as_bytes().cmp(other.as_bytes())
+    }
+}
+
+impl<const MOST: usize> PartialOrd for Label<MOST> {
+    ghost partial_cmp = { as_partial_cmp label_cmp };
+
+    ghost laws = { partial_order_from_own_ties (Prim.search (comparing, rules)) (Prim.search (comparing, rules)) };
+
+    fn partial_cmp(&self, other: &Self) -> Option<Ordering> {
+        Some(self.cmp(other))
+    }
+}
+
+impl<const MOST: usize> PartialEq for Label<MOST> {
+    ghost eq = { label_eq };
+
+    ghost laws = { Prim.search (comparing, rules) };
+
+    fn eq(&self, other: &Self) -> bool {
+        self.cmp(other).is_eq()
+    }
+}
+
+impl<const MOST: usize> Eq for Label<MOST> {
+    ghost laws = { Prim.search (comparing, rules) };
+}

@@ -1,0 +1,12 @@
+ghost use Rattle.gaz_records.specs.Items.{ItemsReadBack};
+ghost use Rattle.gaz_records.specs.Keys.{KeysAreOrdered};
+
+/// An item reads back as the same item, from the texts of its fields and from its row.
+pub fn items_read_back()
+    ensures { ItemsReadBack }
+{}
+
+/// The order of keys is total, and keys that tie are one.
+pub fn keys_are_ordered()
+    ensures { KeysAreOrdered }
+{}

@@ -1,0 +1,130 @@
+ghost use Rattle.std.specs.Prelude.{◌≡◌, ◌≤◌, ◌++◌, drop, OnOk, true};
+ghost use Rattle.csv.specs.Records.{fields_of};
+ghost use Rattle.gaz_rows.specs.Rows.{line_of};
+ghost use Rattle.gaz_records.specs.Fields.{OrMemory};
+ghost use Rattle.gaz_records.specs.Lpis.{is_lpi, lpi_texts, read_lpi};
+
+use crate::copies::copy_object;
+use crate::day::Day;
+use crate::fields::FieldFault;
+use crate::label::RecordKey;
+use crate::reading::Fields;
+use crate::row::{add_field, next_dates, next_field, next_number, next_object, next_secondary};
+use csv::ByteRecord;
+use gaz_addressable::Object;
+use gaz_ids::{Lang, Status, Uprn, Usrn};
+use std::alloc::{AllocError, Global};
+use std::marker::Model;
+
+/// A land and property identifier: an address of a BLPU on a street (BS 7666:2006, Part 2).
+///
+/// Its end date isn't before its start date.
+#[derive(Debug, Drop)]
+pub struct Lpi {
+    pub key: RecordKey,
+    pub uprn: Uprn,
+    pub lang: Lang,
+    pub status: Status,
+    pub usrn: Usrn,
+    pub secondary: Option<Object>,
+    pub primary: Object,
+    pub start: Day,
+    pub end: Option<Day>,
+}
+
+impl Model for Lpi {
+    ghost use Rattle.std.specs.Prelude.{◌≡◌, true};
+    ghost use Rattle.gaz_records.specs.Days.{ends_by};
+    ghost use Rattle.gaz_records.specs.Lpis.{LpiValue};
+
+    ghost Value = { LpiValue };
+
+    ghost view = { λ x. record { key = x.key; uprn = x.uprn; lang = x.lang; status = x.status; usrn = x.usrn; secondary = x.secondary; primary = x.primary; start = x.start; end = x.end } };
+
+    ghost invariant = { λ x. ends_by x.start x.end ≡ true };
+}
+
+impl Lpi {
+    #[tactic(auto, using(std::proofs::lemmas::Bool::Decides::nat_tests), unfolding(crate::specs::Lpis::read_lpi))]
+    /// The LPI that the fields behind the first ones say.
+    pub(crate) fn read(alloc: Global, row: &ByteRecord, skip: usize) -> Result<Lpi, FieldFault>
+        requires { skip ≤ 3 }
+        ensures { OrMemory result (read_lpi (drop skip (fields_of row.now))) }
+    {
+        let fields = Fields::open(row, skip, 17)?;
+        let key = fields.label(0)?;
+        let uprn = fields.number(1)?;
+        let lang = fields.lang(2)?;
+        let status = fields.lpi_status(3)?;
+        let usrn = fields.number(4)?;
+        let secondary = fields.opt_object(alloc, 5)?;
+        let primary = fields.object(alloc, 10)?;
+        let start = fields.day(15)?;
+        let end = fields.end_day(16, &start)?;
+        Ok(Lpi {
+            key,
+            uprn,
+            lang,
+            status,
+            usrn,
+            secondary,
+            primary,
+            start,
+            end,
+        })
+    }
+
+    #[tactic(auto, using(std::proofs::lemmas::Bool::Decides::nat_tests))]
+    /// What each LPI holds, for callers, who see its value alone.
+    pub fn known(&self)
+        ensures { is_lpi self.now ≡ true }
+    {
+        let _ = self.key.as_bytes();
+        let _ = self.uprn.number();
+        let _ = self.usrn.number();
+        if let Some(object) = &self.secondary {
+            object.known();
+        }
+        self.primary.known();
+        self.start.known();
+        if let Some(end) = &self.end {
+            end.known();
+        }
+    }
+
+    /// Adds the row of the fields as `csv` writes it, without a line end.
+    pub(crate) fn write(&self, out: &mut Vec<u8>) -> Result<(), AllocError>
+        ensures { OnOk result (out.new.items ≡ out.old.items ++ line_of (lpi_texts self.now)) }
+    {
+        add_field(out, self.key.as_bytes())?;
+        next_number(out, self.uprn.number())?;
+        next_field(out, self.lang.text())?;
+        next_field(out, self.status.text())?;
+        next_number(out, self.usrn.number())?;
+        next_secondary(out, &self.secondary)?;
+        next_object(out, &self.primary)?;
+        next_dates(out, &self.start, &self.end)?;
+        Ok(())
+    }
+}
+
+/// A clone is the same LPI.
+impl Clone for Lpi {
+    ghost is_clone = { λ a b. b ≡ a };
+
+    fn clone(&self) -> Result<Lpi, AllocError> {
+        let secondary = copy_object(&self.secondary)?;
+        let primary = self.primary.copy()?;
+        Ok(Lpi {
+            key: self.key,
+            uprn: self.uprn,
+            lang: self.lang,
+            status: self.status,
+            usrn: self.usrn,
+            secondary,
+            primary,
+            start: self.start,
+            end: self.end,
+        })
+    }
+}

@@ -1,0 +1,174 @@
+ghost use Rattle.std.specs.Prelude.{◌≡◌, ◌++◌, [], ◌∷◌, None, OnOk, decimal};
+ghost use Rattle.std.specs.List.{list_any};
+ghost use Rattle.csv.specs.Writing.{default_writer, escaped, field_text, fields_text, needs_byte};
+ghost use Rattle.gaz_addressable.specs.Objects.{texts_of, digits_text, letter_text};
+ghost use Rattle.gaz_records.specs.Days.{date_text, end_text};
+ghost use Rattle.gaz_records.specs.Fields.{or_empty};
+ghost use Rattle.gaz_records.specs.Blpus.{parent_text};
+ghost use Rattle.gaz_records.specs.Lpis.{secondary_texts};
+
+use crate::day::Day;
+use gaz_addressable::{HouseNumber, Object, Text};
+use gaz_ids::Uprn;
+use itoa::Buffer;
+use std::alloc::AllocError;
+
+// Whether a byte calls for quotes round its field (RFC 4180).
+fn needs_quotes(field: &[u8]) -> bool
+    ensures { result ≡ list_any (needs_byte default_writer) field.now }
+{
+    for byte in field {
+        if *byte == b',' || *byte == b'"' || *byte == b'\r' || *byte == b'\n' {
+            return true;
+        }
+    }
+    false
+}
+
+#[tactic(auto, using(std::proofs::lemmas::Bool::Decides::nat_tests, crate::proofs::Written::writing))]
+// Adds the bytes of a field between its quotes, in which each quote stands twice.
+fn add_escaped(out: &mut Vec<u8>, field: &[u8]) -> Result<(), AllocError>
+    ensures { OnOk result (out.new.items ≡ out.old.items ++ escaped default_writer field.now) }
+{
+    for byte in field {
+        if *byte == b'"' {
+            out.push(b'"')?;
+        }
+        out.push(*byte)?;
+    }
+    Ok(())
+}
+
+/// Adds a field as `csv` writes it.
+pub fn add_field(out: &mut Vec<u8>, field: &[u8]) -> Result<(), AllocError>
+    ensures { OnOk result (out.new.items ≡ out.old.items ++ field_text default_writer field.now) }
+{
+    if !needs_quotes(field) {
+        return out.extend_from_slice(field);
+    }
+    out.push(b'"')?;
+    add_escaped(out, field)?;
+    out.push(b'"')?;
+    Ok(())
+}
+
+#[tactic(auto, using(crate::proofs::Written::writing))]
+/// Adds a comma and a field.
+pub fn next_field(out: &mut Vec<u8>, field: &[u8]) -> Result<(), AllocError>
+    ensures { OnOk result (out.new.items ≡ out.old.items ++ fields_text default_writer (field.now ∷ [])) }
+{
+    out.push(b',')?;
+    add_field(out, field)?;
+    Ok(())
+}
+
+/// Adds the digits of a number.
+pub fn add_number(out: &mut Vec<u8>, n: u64) -> Result<(), AllocError>
+    ensures { OnOk result (out.new.items ≡ out.old.items ++ field_text default_writer (decimal n)) }
+{
+    let mut buffer = Buffer::new();
+    add_field(out, buffer.format(n).as_bytes())
+}
+
+/// Adds a comma and the digits of a number.
+pub fn next_number(out: &mut Vec<u8>, n: u64) -> Result<(), AllocError>
+    ensures { OnOk result (out.new.items ≡ out.old.items ++ fields_text default_writer (decimal n ∷ [])) }
+{
+    let mut buffer = Buffer::new();
+    next_field(out, buffer.format(n).as_bytes())
+}
+
+/// Adds a comma and a text, if there is one.
+pub fn next_text<const MOST: u64>(
+    out: &mut Vec<u8>,
+    text: &Option<Text<MOST>>,
+) -> Result<(), AllocError>
+    ensures { OnOk result (out.new.items ≡ out.old.items ++ fields_text default_writer (or_empty text.now ∷ [])) }
+{
+    match text {
+        Some(text) => next_field(out, text.as_bytes()),
+        None => next_field(out, b""),
+    }
+}
+
+/// Adds a comma and the digits of a UPRN, if there is one.
+pub fn next_parent(out: &mut Vec<u8>, parent: Option<Uprn>) -> Result<(), AllocError>
+    ensures { OnOk result (out.new.items ≡ out.old.items ++ fields_text default_writer (parent_text parent ∷ [])) }
+{
+    match parent {
+        Some(uprn) => next_number(out, uprn.number()),
+        None => next_field(out, b""),
+    }
+}
+
+// Adds a comma and the digits of a house number, if there is one.
+fn next_digits(out: &mut Vec<u8>, number: Option<HouseNumber>) -> Result<(), AllocError>
+    ensures { OnOk result (out.new.items ≡ out.old.items ++ fields_text default_writer (digits_text number ∷ [])) }
+{
+    match number {
+        Some(number) => next_number(out, number.n.number()),
+        None => next_field(out, b""),
+    }
+}
+
+// Adds a comma and the suffix of a house number, if it has one.
+fn next_letter(out: &mut Vec<u8>, number: Option<HouseNumber>) -> Result<(), AllocError>
+    ensures { OnOk result (out.new.items ≡ out.old.items ++ fields_text default_writer (letter_text number ∷ [])) }
+{
+    match number {
+        Some(number) => match number.suffix {
+            Some(letter) => next_field(out, &[letter]),
+            None => next_field(out, b""),
+        },
+        None => next_field(out, b""),
+    }
+}
+
+/// Adds the five fields of an object, each behind a comma.
+pub fn next_object(out: &mut Vec<u8>, object: &Object) -> Result<(), AllocError>
+    ensures { OnOk result (out.new.items ≡ out.old.items ++ fields_text default_writer (texts_of object.now)) }
+{
+    next_digits(out, object.from())?;
+    next_letter(out, object.from())?;
+    next_digits(out, object.to())?;
+    next_letter(out, object.to())?;
+    next_text(out, &object.text)?;
+    Ok(())
+}
+
+#[tactic(auto, unfolding(csv::specs::Writing::fields_text))]
+// Adds five empty fields, each behind a comma.
+fn next_blank(out: &mut Vec<u8>) -> Result<(), AllocError>
+    ensures { OnOk result (out.new.items ≡ out.old.items ++ fields_text default_writer (secondary_texts None)) }
+{
+    out.extend_from_slice(b",,,,,")
+}
+
+/// Adds the five fields of an object, if there is one, each behind a comma.
+pub fn next_secondary(out: &mut Vec<u8>, object: &Option<Object>) -> Result<(), AllocError>
+    ensures { OnOk result (out.new.items ≡ out.old.items ++ fields_text default_writer (secondary_texts object.now)) }
+{
+    match object {
+        Some(object) => next_object(out, object),
+        None => next_blank(out),
+    }
+}
+
+// Adds a comma and a date, if there is one.
+fn next_end(out: &mut Vec<u8>, end: &Option<Day>) -> Result<(), AllocError>
+    ensures { OnOk result (out.new.items ≡ out.old.items ++ fields_text default_writer (end_text end.now ∷ [])) }
+{
+    match end {
+        Some(end) => next_field(out, &end.digits()),
+        None => next_field(out, b""),
+    }
+}
+
+/// Adds a start date and an end date, if there is one, each behind a comma.
+pub fn next_dates(out: &mut Vec<u8>, start: &Day, end: &Option<Day>) -> Result<(), AllocError>
+    ensures { OnOk result (out.new.items ≡ out.old.items ++ fields_text default_writer (date_text start.now ∷ end_text end.now ∷ [])) }
+{
+    next_field(out, &start.digits())?;
+    next_end(out, end)?;
+    Ok(())
+}

@@ -1,0 +1,110 @@
+ghost use Rattle.std.specs.Prelude.{◌≡◌, ◌≤◌, ◌++◌, drop, OnOk, true};
+ghost use Rattle.csv.specs.Records.{fields_of};
+ghost use Rattle.gaz_rows.specs.Rows.{line_of};
+ghost use Rattle.gaz_records.specs.Fields.{OrMemory};
+ghost use Rattle.gaz_records.specs.Xrefs.{is_xref, read_xref, xref_texts};
+
+use crate::day::Day;
+use crate::fields::FieldFault;
+use crate::label::{RecordKey, Source};
+use crate::reading::Fields;
+use crate::row::{add_field, next_dates, next_field, next_number};
+use csv::ByteRecord;
+use gaz_addressable::Text;
+use gaz_ids::Uprn;
+use std::alloc::{AllocError, Global};
+use std::marker::Model;
+
+/// An application cross reference: by what another source knows a BLPU (BS 7666:2006, Part 2; the bounds are our profile's).
+///
+/// Its end date isn't before its start date.
+#[derive(Debug, Drop)]
+pub struct Xref {
+    pub key: RecordKey,
+    pub uprn: Uprn,
+    pub source: Source,
+    pub reference: Text<50>,
+    pub start: Day,
+    pub end: Option<Day>,
+}
+
+impl Model for Xref {
+    ghost use Rattle.std.specs.Prelude.{◌≡◌, true};
+    ghost use Rattle.gaz_records.specs.Days.{ends_by};
+    ghost use Rattle.gaz_records.specs.Xrefs.{XrefValue};
+
+    ghost Value = { XrefValue };
+
+    ghost view = { λ x. record { key = x.key; uprn = x.uprn; source = x.source; reference = x.reference; start = x.start; end = x.end } };
+
+    ghost invariant = { λ x. ends_by x.start x.end ≡ true };
+}
+
+impl Xref {
+    #[tactic(auto, using(std::proofs::lemmas::Bool::Decides::nat_tests), unfolding(crate::specs::Xrefs::read_xref))]
+    /// The cross reference that the fields behind the first ones say.
+    pub(crate) fn read(alloc: Global, row: &ByteRecord, skip: usize) -> Result<Xref, FieldFault>
+        requires { skip ≤ 3 }
+        ensures { OrMemory result (read_xref (drop skip (fields_of row.now))) }
+    {
+        let fields = Fields::open(row, skip, 6)?;
+        let key = fields.label(0)?;
+        let uprn = fields.number(1)?;
+        let source = fields.label(2)?;
+        let reference = fields.text(alloc, 3)?;
+        let start = fields.day(4)?;
+        let end = fields.end_day(5, &start)?;
+        Ok(Xref {
+            key,
+            uprn,
+            source,
+            reference,
+            start,
+            end,
+        })
+    }
+
+    #[tactic(auto, using(std::proofs::lemmas::Bool::Decides::nat_tests))]
+    /// What each cross reference holds, for callers, who see its value alone.
+    pub fn known(&self)
+        ensures { is_xref self.now ≡ true }
+    {
+        let _ = self.key.as_bytes();
+        let _ = self.uprn.number();
+        let _ = self.source.as_bytes();
+        let _ = self.reference.as_bytes();
+        self.start.known();
+        if let Some(end) = &self.end {
+            end.known();
+        }
+    }
+
+    /// Adds the row of the fields as `csv` writes it, without a line end.
+    pub(crate) fn write(&self, out: &mut Vec<u8>) -> Result<(), AllocError>
+        ensures { OnOk result (out.new.items ≡ out.old.items ++ line_of (xref_texts self.now)) }
+    {
+        add_field(out, self.key.as_bytes())?;
+        next_number(out, self.uprn.number())?;
+        next_field(out, self.source.as_bytes())?;
+        next_field(out, self.reference.as_bytes())?;
+        next_dates(out, &self.start, &self.end)?;
+        Ok(())
+    }
+}
+
+/// A clone is the same cross reference.
+impl Clone for Xref {
+    ghost is_clone = { λ a b. b ≡ a };
+
+    fn clone(&self) -> Result<Xref, AllocError> {
+        let reference = self.reference.copy()?;
+        Ok(Xref {
+            key: self.key,
+            uprn: self.uprn,
+            source: self.source,
+            reference,
+            start: self.start,
+            end: self.end,
+        })
+    }
+}

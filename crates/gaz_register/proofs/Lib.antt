@@ -1,0 +1,16 @@
+pub mod Sorting
+pub mod EachTwo
+pub mod Owners
+pub mod Gather
+pub mod Upward
+pub mod Documents
+pub mod Looking
+pub mod Registered
+pub mod Lawful
+pub mod Rowwise
+pub mod Keyed
+pub mod Telling
+pub mod Ownership
+pub mod Named
+pub mod Utf8
+pub mod Codes

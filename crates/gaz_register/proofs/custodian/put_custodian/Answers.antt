@@ -1,0 +1,20 @@
+use Rattle.std.proofs.Common.{rules, ℕ, nat_le, ◌∙◌}
+use Rattle.std.proofs.lemmas.List.Sorted.{IsPartitionPoint-from_clause, IsPartitionedBy-leb}
+use Rattle.std.specs.List.Sorted.{IsNonDecreasingBy}
+use Rattle.gaz_register.proofs.Sorting.{Splits, splits, insert_is_place, insert_rises}
+use Rattle.gaz_register.specs.Registers.{CustodianValue}
+use Rattle.gaz_register.proofs.custodian.put_custodian.Goals as goal
+
+pub returns : goal.returns
+returns c =
+    let xs = c.args.custodians.now.items in
+    let key : CustodianValue → ℕ = λ c. c.code in
+    let up : IsNonDecreasingBy key c.deref.result.now = rw c.deref.ensures.value c.requires in
+    let point = IsPartitionPoint-from_clause (λ b. nat_le b.code c.args.custodian.code) c.deref.result.now c.partition_point-at.result
+    c.partition_point-at.ensures.partitioned (IsPartitionedBy-leb key c.deref.result.now c.args.custodian.code up) (λ a r q k. search rules) in
+    let s : Splits key c.args.custodian xs c.partition_point-at.result =
+    rw (← c.deref.ensures.value) (splits key c.args.custodian c.deref.result.now c.partition_point-at.result c.partition_point-at.ensures.bound point) in
+    record {
+      placed = c.in_ok-insert.ensures.items ∙ insert_is_place key c.args.custodian xs c.partition_point-at.result s;
+      rises = rw c.in_ok-insert.ensures.items (insert_rises key c.args.custodian xs c.partition_point-at.result s c.requires);
+    }

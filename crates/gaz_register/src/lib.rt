@@ -1,0 +1,21 @@
+//! The register of custodians: who they are, and which blocks of UPRNs and USRNs are theirs.
+#![tactic(auto)]
+
+mod block;
+mod custodian;
+mod draft;
+mod fault;
+mod index;
+pub mod laws;
+mod name;
+mod read;
+mod register;
+mod text;
+
+pub use block::Block;
+pub use custodian::Custodian;
+pub use fault::RegFault;
+pub use register::Register;
+
+#[cfg(test)]
+mod tests;
