@@ -12,3 +12,4 @@ pub mod WorkedBoards
 pub mod WorkedAnswers
 pub mod WorkedSteps
 pub mod WorkedRuns
+pub mod WorkedHubs

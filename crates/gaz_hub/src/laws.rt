@@ -3,6 +3,7 @@ ghost use Rattle.gaz_hub.specs.Runs.{EqualReceived, EveryRepeat, EveryRun, Every
 ghost use Rattle.gaz_hub.specs.Standing.{AnyOrder, MoreFiles, StandingIsSettled};
 ghost use Rattle.gaz_hub.specs.WorkedAnswers.{WorkedAnswers};
 ghost use Rattle.gaz_hub.specs.WorkedBoards.{WorkedBoards};
+ghost use Rattle.gaz_hub.specs.WorkedHubs.{WorkedHubs};
 ghost use Rattle.gaz_hub.specs.WorkedRuns.{WorkedRuns};
 ghost use Rattle.gaz_hub.specs.WorkedSteps.{WorkedSteps};
 
@@ -64,4 +65,9 @@ pub fn worked_steps()
 /// Which runs a hub may go through, and what holds after them, on worked examples.
 pub fn worked_runs()
     ensures { WorkedRuns }
+{}
+
+/// The door and the blocks of a hub over a register, on worked examples.
+pub fn worked_hubs()
+    ensures { WorkedHubs }
 {}
