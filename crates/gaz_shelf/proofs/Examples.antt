@@ -1,15 +1,20 @@
 -- What the definitions come to on worked examples.
-use Rattle.std.proofs.Common.{◌≡◌, ◌∙◌, ◌||◌, cond, ap, refl, false}
-use Rattle.std.specs.Prelude.{Some, None}
+use Rattle.std.proofs.Common.{◌≡◌, ◌∙◌, ◌||◌, cond, ap, refl, false, List, [], ◌∷◌}
+use Rattle.std.specs.Prelude.{Some, None, fold, codes}
 use Rattle.std.specs.Ordering.{eq_by_cmp}
 use Rattle.std.specs.FinMap as map
 use Rattle.std.specs.FinSet as set
 use Rattle.gaz_records.proofs.KeyOrder.{keys_total}
-use Rattle.gaz_records.specs.Keys.{key_cmp}
+use Rattle.gaz_ids.specs.declared.lang.Lang.TheVariants.{Eng}
+use Rattle.gaz_ids.specs.declared.status.Status.TheVariants.{Approved}
+use Rattle.gaz_records.specs.Keys.{key_cmp, key_of}
+use Rattle.gaz_records.specs.declared.item.Item.{Item}
 use Rattle.gaz_records.specs.declared.key.Key.{Key}
 use Rattle.gaz_records.specs.declared.key.Key.TheVariants as key
-use Rattle.gaz_shelf.specs.View.{empty_view, was_used}
-use Rattle.gaz_shelf.specs.Examples.{WorkedBoards, WorkedExamples, WorkedViews, no_more, one_street, street}
+use Rattle.gaz_shelf.specs.View.{View, empty_view, was_used, with_item}
+use Rattle.gaz_shelf.specs.Words.{entries}
+use Rattle.gaz_shelf.specs.Examples.{WorkedBoards, WorkedExamples, WorkedPages, WorkedViews, WorkedWords, all_kinds, lpi, no_more, one_street, put_in_turn, street}
+use Rattle.gaz_shelf.proofs.Trees.{no_entries}
 
 pub get_none : (k : Key) → map.get empty_view.items k ≡ None
 unfolding empty_view
@@ -28,8 +33,24 @@ used_one k = set.contains-insert keys_total empty_view.used (key.Street 101) k �
 pub get_no_more : (k : Key) → map.get no_more.items k ≡ cond (eq_by_cmp key_cmp k (key.Street 101)) None (map.get one_street.items k)
 get_no_more k = map.get-remove keys_total one_street.items (key.Street 101) k
 
+-- the entries that putting these items one after another leaves
+abbrev entries_put : List (Key × Item) → List Item → List (Key × Item)
+entries_put es [] = es
+entries_put es (i ∷ is) = entries_put (map.put key_cmp (key_of i) i es) is
+
+entries_after : (v : View) (es : List (Key × Item)) → entries v ≡ es → (is : List Item) → entries (fold with_item v is) ≡ entries_put es is
+entries_after v es e [] = e
+entries_after v es e (i ∷ is) = entries_after (with_item v i) (map.put key_cmp (key_of i) i es) (map.entries-insert keys_total v.items (key_of i) i ∙ ap (map.put key_cmp (key_of i) i) e) is
+
+no_entries_yet : entries empty_view ≡ []
+unfolding empty_view
+no_entries_yet = no_entries _ _
+
+these : (is : List Item) → entries (fold with_item empty_view is) ≡ entries_put [] is
+these = entries_after empty_view [] no_entries_yet
+
 pub worked_examples_hold : WorkedExamples
-worked_examples_hold = record { on_views = on_views; on_boards = on_boards }
+worked_examples_hold = record { on_views = on_views; on_words = on_words; on_pages = on_pages; on_boards = on_boards }
   where
     on_views : WorkedViews
     on_views = record {
@@ -42,6 +63,40 @@ worked_examples_hold = record { on_views = on_views; on_boards = on_boards }
       other_not_used = used_one (key.Street 102);
       is_taken = rw (get_no_more (key.Street 101)) refl;
       stays_used = used_one (key.Street 101);
+    }
+
+    in_turn : entries all_kinds ≡ entries_put [] put_in_turn
+    in_turn = these put_in_turn
+
+    one_address : List Item
+    one_address = lpi (codes "L4") 1002 Eng Approved 101 ∷ []
+
+    on_words : WorkedWords
+    on_words = record {
+      its_addresses = rw in_turn refl;
+      of_a_part = rw in_turn refl;
+      of_none = rw in_turn refl;
+      of_nothing = rw no_entries_yet refl;
+      on_street = rw in_turn refl;
+      on_street_in_welsh = rw in_turn refl;
+      another_name_alone = rw in_turn refl;
+      part_on_street = rw (these one_address) refl;
+      not_in_welsh = rw (these one_address) refl;
+      has_a_part = rw in_turn refl;
+      has_no_part = rw in_turn refl;
+    }
+
+    on_pages : WorkedPages
+    on_pages = record {
+      first_street = rw in_turn refl;
+      second_street = rw in_turn refl;
+      no_more_streets = rw in_turn refl;
+      welsh_first = rw in_turn refl;
+      after_welsh = rw in_turn refl;
+      properties = rw in_turn refl;
+      cross_references = rw in_turn refl;
+      two_addresses = rw in_turn refl;
+      none_asked = refl;
     }
 
     on_boards : WorkedBoards

@@ -1,2 +1,6 @@
 pub mod Trees
 pub mod Examples
+pub mod Keeping
+pub mod Pairs
+pub mod Ledgers
+pub mod Mem

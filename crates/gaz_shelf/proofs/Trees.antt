@@ -65,7 +65,7 @@ nothing_in : {X : Type 0} (xs : List X) → length xs ≡ 0 → xs ≡ []
 nothing_in [] e = refl
 nothing_in (x ∷ xs) e = absurd (omega arith)
 
-no_entries : {K : Type 0} (X : Type 0) (R : K → K → Ordering) → map.entries (map.empty {X = X} {R = R}) ≡ []
+pub no_entries : {K : Type 0} (X : Type 0) (R : K → K → Ordering) → map.entries (map.empty {X = X} {R = R}) ≡ []
 no_entries X R = nothing_in _ (sym (map.len-entries (map.empty {X = X} {R = R})) ∙ map.len-empty R X)
 
 module _ {K X : Type 0} {R S : K → K → Ordering} (same : (a b : K) → S a b ≡ R a b) where

@@ -1,5 +1,5 @@
 -- The judgements of all custodians.
-use Rattle.std.specs.Prelude.{ℕ, List, [], ◌∷◌, map, length, slice_get, unwrap_or}
+use Rattle.std.specs.Prelude.{ℕ, zero, suc, ◌==◌, if◌then◌else◌, List, [], ◌∷◌, ◌++◌, map, length, slice_get, unwrap_or, Option, None, option_map}
 use Rattle.gaz_shelf.specs.View.{View, empty_view}
 use Rattle.gaz_shelf.specs.declared.verdict.Verdict.{Verdict}
 
@@ -26,3 +26,19 @@ views js = empty_view ∷ map (λ j. j.view) js
 -- the view of a custodian after a volume that it has reached
 abbrev pub view_after : Board → ℕ → ℕ → View
 view_after B c volume = unwrap_or (slice_get (views (B c)) volume) empty_view
+
+-- the last one
+abbrev pub last_view : Board → ℕ → View
+last_view B c = view_after B c (reached B c)
+
+-- the judgement of a volume, where it is judged; the first is volume 1
+abbrev pub judgement_on : Board → ℕ → ℕ → Option Judgement
+judgement_on B c zero = None
+judgement_on B c (suc n) = slice_get (B c) n
+
+abbrev pub verdict_on : Board → ℕ → ℕ → Option Verdict
+verdict_on B c volume = option_map (λ j. j.verdict) (judgement_on B c volume)
+
+-- the board with one more judgement of a custodian
+abbrev pub adds : Board → ℕ → Judgement → Board
+adds B c j = λ d. if d == c then B d ++ j ∷ [] else B d

@@ -1,4 +1,9 @@
 pub mod View
+pub mod Words
 pub mod ViewCode
 pub mod Board
+pub mod Received
+pub mod Keeper
+pub mod Ledgers
+pub mod Mem
 pub mod Examples

@@ -1,3 +1,4 @@
+use std::alloc::AllocError;
 use thiserror::Error;
 
 /// Why a keeper couldn't answer.
@@ -8,4 +9,15 @@ pub enum ShelfFault {
     /// What keeps the tables failed.
     #[error("the store failed")]
     Store,
+}
+
+impl From<AllocError> for ShelfFault {
+    ghost use Rattle.std.specs.Prelude.{◌≡◌};
+    ghost use Rattle.gaz_shelf.specs.declared.fault.ShelfFault.TheVariants.{Memory};
+
+    ghost from_gives = { λ _ e. e ≡ Memory };
+
+    fn from(_: AllocError) -> ShelfFault {
+        ShelfFault::Memory
+    }
 }

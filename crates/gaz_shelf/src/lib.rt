@@ -2,13 +2,24 @@
 #![tactic(auto)]
 
 mod fault;
+mod faulty;
+mod files;
 pub mod laws;
+mod ledger;
+mod mem_shelf;
+mod shelf;
 mod verdict;
 mod whole_view;
+mod words;
+mod writing;
 
 pub use fault::ShelfFault;
+pub use faulty::Faulty;
+pub use mem_shelf::MemShelf;
+pub use shelf::{Inbox, Shelf};
 pub use verdict::Verdict;
 pub use whole_view::WholeView;
+pub use writing::{Ending, put_all, write_volume};
 
 #[cfg(test)]
 mod tests;

@@ -1,6 +1,11 @@
-use crate::WholeView;
-use gaz_ids::Usrn;
-use gaz_records::{Day, Item, Key, Street};
+ghost use Rattle.std.specs.Prelude.{◌≡◌, OnOk};
+ghost use Rattle.gaz_shelf.specs.Keeper.{Idle};
+
+use crate::{Ending, Faulty, Inbox, MemShelf, Shelf, Verdict, WholeView, write_volume};
+use gaz_ids::{Code, Lang, Uprn, Usrn, Volume};
+use gaz_records::{Day, Item, Key, Kind, RecordKey, Street, item_of_text, item_text};
+use std::alloc::Global;
+use std::process::Abort;
 use std::test::Fail;
 
 // An open street of 2001.
@@ -27,5 +32,409 @@ fn a_taken_street_stays_used(rt: HostRuntime) -> Result<(), Fail> {
             .is_some_and(|item| Key::of(item) == second)
     );
     assert!(rt; before.holds(&first) && !before.was_used(&second));
+    Ok(())
+}
+
+// ---- one list of calls over two keepers, between which no judgement is in progress
+
+fn item(alloc: Global, kind: Kind, row: &str) -> Result<Item, Fail> {
+    Ok(item_of_text(alloc, kind, row.as_bytes())?)
+}
+
+fn items(alloc: Global, rows: &[(Kind, &str)]) -> Result<Vec<Item>, Fail> {
+    let mut items = Vec::new(alloc);
+    for (kind, row) in rows {
+        items.push(item(alloc, *kind, row)?)?;
+    }
+    Ok(items)
+}
+
+fn custodian(number: u64) -> Result<Code, Fail> {
+    Ok(Code::of(number).ok_or("a code")?)
+}
+
+fn volume(number: u64) -> Result<Volume, Fail> {
+    Ok(Volume::of(number).ok_or("a volume")?)
+}
+
+fn blpu_key(number: u64) -> Result<Key, Fail> {
+    Ok(Key::Blpu(Uprn::of(number).ok_or("a UPRN")?))
+}
+
+fn street_key(number: u64) -> Result<Key, Fail> {
+    Ok(Key::Street(Usrn::of(number).ok_or("a USRN")?))
+}
+
+fn lpi_key(text: &str) -> Result<Key, Fail> {
+    Ok(Key::Lpi(RecordKey::read(text.as_bytes()).ok_or("a key")?))
+}
+
+// The item is there, and this row is written of it, or none is where none is given.
+fn is_row(
+    rt: &(impl Abort + AllocGlobal),
+    found: &Option<Item>,
+    row: Option<&str>,
+) -> Result<(), Fail> {
+    match (found, row) {
+        (None, None) => {}
+        (Some(item), Some(row)) => {
+            assert_eq!(rt;
+                item_text(rt.alloc(), item)?.as_slice(),
+                row.as_bytes(),
+                "{row}"
+            );
+        }
+        _ => assert!(rt; false, "another row"),
+    }
+    Ok(())
+}
+
+fn receives<K: Inbox>(shelf: &mut K, code: u64, number: u64) -> Result<(), Fail>
+    requires { (K.seen shelf.old).progress ≡ Idle }
+    ensures { OnOk result ((K.seen shelf.new).progress ≡ Idle) }
+{
+    let (code, number) = (custodian(code)?, volume(number)?);
+    shelf.receive(code, number, b"a file")?;
+    Ok(())
+}
+
+fn writes<K: Inbox>(shelf: &mut K, code: u64, items: Vec<Item>, ending: Ending) -> Result<(), Fail>
+    requires { (K.seen shelf.old).progress ≡ Idle }
+    ensures { OnOk result ((K.seen shelf.new).progress ≡ Idle) }
+{
+    write_volume(shelf, custodian(code)?, items, ending)?;
+    Ok(())
+}
+
+fn skips<K: Inbox>(shelf: &mut K, code: u64, place: u64, rule: u8) -> Result<(), Fail>
+    requires { (K.seen shelf.old).progress ≡ Idle }
+    ensures { OnOk result ((K.seen shelf.new).progress ≡ Idle) }
+{
+    shelf.skip(custodian(code)?, place, rule)?;
+    Ok(())
+}
+
+// How many volumes are judged and held.
+fn has_counts<K: Inbox>(
+    rt: &(impl Abort + AllocGlobal),
+    shelf: &mut K,
+    code: u64,
+    reached: u64,
+    held: u64,
+) -> Result<(), Fail>
+    requires { (K.seen shelf.old).progress ≡ Idle }
+    ensures { OnOk result ((K.seen shelf.new).progress ≡ Idle) }
+{
+    let code = custodian(code)?;
+    assert_eq!(rt; shelf.reached(code)?, reached);
+    assert_eq!(rt; shelf.held(code)?, held);
+    Ok(())
+}
+
+// The item in the last view, and in the view after a volume.
+fn has_item<K: Inbox>(
+    rt: &(impl Abort + AllocGlobal),
+    shelf: &mut K,
+    code: u64,
+    key: &Key,
+    row: Option<&str>,
+) -> Result<(), Fail>
+    requires { (K.seen shelf.old).progress ≡ Idle }
+    ensures { OnOk result ((K.seen shelf.new).progress ≡ Idle) }
+{
+    let found = shelf.current(custodian(code)?, key)?;
+    is_row(rt, &found, row)
+}
+
+fn had_item<K: Inbox>(
+    rt: &(impl Abort + AllocGlobal),
+    shelf: &mut K,
+    code: u64,
+    after: u64,
+    key: &Key,
+    row: Option<&str>,
+) -> Result<(), Fail>
+    requires { (K.seen shelf.old).progress ≡ Idle }
+    ensures { OnOk result ((K.seen shelf.new).progress ≡ Idle) }
+{
+    let found = shelf.at(custodian(code)?, after, key)?;
+    is_row(rt, &found, row)
+}
+
+// Whether the key was used, and whether the property has parts.
+fn has_used<K: Inbox>(
+    rt: &(impl Abort + AllocGlobal),
+    shelf: &mut K,
+    code: u64,
+    key: &Key,
+    used: bool,
+) -> Result<(), Fail>
+    requires { (K.seen shelf.old).progress ≡ Idle }
+    ensures { OnOk result ((K.seen shelf.new).progress ≡ Idle) }
+{
+    assert_eq!(rt; shelf.ever(custodian(code)?, key)?, used);
+    Ok(())
+}
+
+fn has_parts<K: Inbox>(
+    rt: &(impl Abort + AllocGlobal),
+    shelf: &mut K,
+    code: u64,
+    uprn: u64,
+    has: bool,
+) -> Result<(), Fail>
+    requires { (K.seen shelf.old).progress ≡ Idle }
+    ensures { OnOk result ((K.seen shelf.new).progress ≡ Idle) }
+{
+    let uprn = Uprn::of(uprn).ok_or("a UPRN")?;
+    assert_eq!(rt; shelf.children(custodian(code)?, uprn)?, has);
+    Ok(())
+}
+
+fn has_addresses<K: Inbox>(
+    rt: &(impl Abort + AllocGlobal),
+    shelf: &mut K,
+    code: u64,
+    uprn: u64,
+    keys: &[Key],
+) -> Result<(), Fail>
+    requires { (K.seen shelf.old).progress ≡ Idle }
+    ensures { OnOk result ((K.seen shelf.new).progress ≡ Idle) }
+{
+    let uprn = Uprn::of(uprn).ok_or("a UPRN")?;
+    let found = shelf.approved_of(custodian(code)?, uprn)?;
+    assert!(rt; found.as_slice() == keys);
+    Ok(())
+}
+
+fn has_address_on<K: Inbox>(
+    rt: &(impl Abort + AllocGlobal),
+    shelf: &mut K,
+    code: u64,
+    usrn: u64,
+    lang: Option<Lang>,
+    has: bool,
+) -> Result<(), Fail>
+    requires { (K.seen shelf.old).progress ≡ Idle }
+    ensures { OnOk result ((K.seen shelf.new).progress ≡ Idle) }
+{
+    let usrn = Usrn::of(usrn).ok_or("a USRN")?;
+    assert_eq!(rt; shelf.approved_on(custodian(code)?, usrn, lang)?, has);
+    Ok(())
+}
+
+fn has_verdict<K: Inbox>(
+    rt: &(impl Abort + AllocGlobal),
+    shelf: &mut K,
+    code: u64,
+    number: u64,
+    verdict: Option<Verdict>,
+) -> Result<(), Fail>
+    requires { (K.seen shelf.old).progress ≡ Idle }
+    ensures { OnOk result ((K.seen shelf.new).progress ≡ Idle) }
+{
+    assert!(rt; shelf.verdict(custodian(code)?, volume(number)?)? == verdict);
+    Ok(())
+}
+
+fn has_file<K: Inbox>(
+    rt: &(impl Abort + AllocGlobal),
+    shelf: &mut K,
+    code: u64,
+    number: u64,
+    has: bool,
+) -> Result<(), Fail>
+    requires { (K.seen shelf.old).progress ≡ Idle }
+    ensures { OnOk result ((K.seen shelf.new).progress ≡ Idle) }
+{
+    let found = shelf.received(custodian(code)?, volume(number)?)?;
+    assert_eq!(rt;
+        found.is_some_and(|bytes| bytes.as_slice() == b"a file".as_slice()),
+        has
+    );
+    Ok(())
+}
+
+// A page has this many items, of which the first is this row.
+fn has_page<K: Inbox>(
+    rt: &(impl Abort + AllocGlobal),
+    shelf: &mut K,
+    after: u64,
+    kind: Kind,
+    from: Option<Key>,
+    most: usize,
+    len: usize,
+    row: &str,
+) -> Result<(), Fail>
+    requires { (K.seen shelf.old).progress ≡ Idle }
+    ensures { OnOk result ((K.seen shelf.new).progress ≡ Idle) }
+{
+    let page = shelf.page(custodian(1001)?, after, kind, from, most)?;
+    assert_eq!(rt; page.len(), len);
+    match page.first() {
+        Some(item) => assert_eq!(rt;
+            item_text(rt.alloc(), item)?.as_slice(),
+            row.as_bytes(),
+            "{row}"
+        ),
+        None => assert!(rt; row.is_empty(), "{row}"),
+    }
+    Ok(())
+}
+
+// The second volume of 1001: a street is closed, a cross reference and an address go, another address comes.
+fn second_volume<K: Inbox>(shelf: &mut K, closed: Item, came: Item, gone: &Key) -> Result<(), Fail>
+    requires { (K.seen shelf.old).progress ≡ Idle }
+    ensures { OnOk result ((K.seen shelf.new).progress ≡ Idle) }
+{
+    shelf.begin(custodian(1001)?)?;
+    shelf.put(closed)?;
+    shelf.take(gone)?;
+    shelf.put(came)?;
+    shelf.keep()?;
+    Ok(())
+}
+
+const OPEN: &str = "102,1,2001-04-01,";
+
+const CLOSED: &str = "102,1,2001-04-01,2023-05-01";
+
+const FLAT: &str = "1002,1,1,1,1001,,2001-04-01,";
+
+const MILL: &str = "L1,1001,ENG,1,101,,,,,,1,,,,,2001-04-01,";
+
+const OTHER: &str = "L2,1001,ENG,3,102,,,,,,2,,,,,2001-04-01,";
+
+const FELIN: &str = "L3,1002,CYM,1,101,,,,,,3,,,,,2001-04-01,";
+
+fn writes_all<K: Inbox>(alloc: Global, shelf: &mut K) -> Result<(), Fail>
+    requires { (K.seen shelf.old).progress ≡ Idle }
+    ensures { OnOk result ((K.seen shelf.new).progress ≡ Idle) }
+{
+    let first = items(
+        alloc,
+        &[
+            (Kind::Lpi, OTHER),
+            (Kind::Street, OPEN),
+            (Kind::Street, "101,1,2001-04-01,"),
+            (Kind::Descriptor, "101,ENG,High Street,,,Arden"),
+            (Kind::Blpu, FLAT),
+            (Kind::Blpu, "1001,1,1,1,,,2001-04-01,"),
+            (Kind::Xref, "X1,1001,CTAX,7,2001-04-01,"),
+            (Kind::Lpi, MILL),
+        ],
+    )?;
+    receives(shelf, 1001, 1)?;
+    receives(shelf, 1001, 2)?;
+    receives(shelf, 1002, 1)?;
+    receives(shelf, 1001, 3)?;
+    writes(shelf, 1001, first, Ending::Keep)?;
+    skips(shelf, 1002, 2, 20)?;
+    second_volume(
+        shelf,
+        item(alloc, Kind::Street, CLOSED)?,
+        item(alloc, Kind::Lpi, FELIN)?,
+        &lpi_key("L2")?,
+    )?;
+    let late = items(alloc, &[(Kind::Blpu, "1003,1,1,1,,,2001-04-01,")])?;
+    writes(shelf, 1001, late, Ending::Abandon)
+}
+
+fn reads_counts<K: Inbox>(rt: &(impl Abort + AllocGlobal), shelf: &mut K) -> Result<(), Fail>
+    requires { (K.seen shelf.old).progress ≡ Idle }
+    ensures { OnOk result ((K.seen shelf.new).progress ≡ Idle) }
+{
+    has_counts(rt, shelf, 1001, 2, 1)?;
+    has_counts(rt, shelf, 1002, 1, 0)?;
+    has_counts(rt, shelf, 1003, 0, 0)?;
+    has_verdict(rt, shelf, 1001, 2, Some(Verdict::Applied))?;
+    has_verdict(rt, shelf, 1001, 3, None)?;
+    has_verdict(
+        rt,
+        shelf,
+        1002,
+        1,
+        Some(Verdict::Rejected { place: 2, rule: 20 }),
+    )?;
+    has_file(rt, shelf, 1001, 3, true)?;
+    has_file(rt, shelf, 1001, 4, false)
+}
+
+fn reads_items<K: Inbox>(rt: &(impl Abort + AllocGlobal), shelf: &mut K) -> Result<(), Fail>
+    requires { (K.seen shelf.old).progress ≡ Idle }
+    ensures { OnOk result ((K.seen shelf.new).progress ≡ Idle) }
+{
+    has_item(rt, shelf, 1001, &street_key(102)?, Some(CLOSED))?;
+    had_item(rt, shelf, 1001, 0, &street_key(102)?, None)?;
+    had_item(rt, shelf, 1001, 1, &street_key(102)?, Some(OPEN))?;
+    had_item(rt, shelf, 1001, 2, &street_key(102)?, Some(CLOSED))?;
+    had_item(rt, shelf, 1001, 1, &lpi_key("L2")?, Some(OTHER))?;
+    has_item(rt, shelf, 1001, &lpi_key("L2")?, None)?;
+    has_used(rt, shelf, 1001, &lpi_key("L2")?, true)?;
+    has_item(rt, shelf, 1001, &blpu_key(1003)?, None)?;
+    has_used(rt, shelf, 1001, &blpu_key(1003)?, false)?;
+    has_item(rt, shelf, 1002, &street_key(102)?, None)
+}
+
+fn reads_addresses<K: Inbox>(rt: &(impl Abort + AllocGlobal), shelf: &mut K) -> Result<(), Fail>
+    requires { (K.seen shelf.old).progress ≡ Idle }
+    ensures { OnOk result ((K.seen shelf.new).progress ≡ Idle) }
+{
+    has_addresses(rt, shelf, 1001, 1001, &[lpi_key("L1")?])?;
+    has_addresses(rt, shelf, 1001, 1002, &[lpi_key("L3")?])?;
+    has_address_on(rt, shelf, 1001, 101, None, true)?;
+    has_address_on(rt, shelf, 1001, 101, Some(Lang::Cym), true)?;
+    has_address_on(rt, shelf, 1001, 102, None, false)?;
+    has_address_on(rt, shelf, 1002, 101, None, false)?;
+    has_parts(rt, shelf, 1001, 1001, true)?;
+    has_parts(rt, shelf, 1001, 1002, false)
+}
+
+fn reads_pages<K: Inbox>(rt: &(impl Abort + AllocGlobal), shelf: &mut K) -> Result<(), Fail>
+    requires { (K.seen shelf.old).progress ≡ Idle }
+    ensures { OnOk result ((K.seen shelf.new).progress ≡ Idle) }
+{
+    has_page(rt, shelf, 0, Kind::Lpi, None, 5, 0, "")?;
+    has_page(rt, shelf, 1, Kind::Lpi, None, 1, 1, MILL)?;
+    has_page(rt, shelf, 1, Kind::Lpi, Some(lpi_key("L1")?), 2, 1, OTHER)?;
+    has_page(rt, shelf, 2, Kind::Lpi, None, 2, 2, MILL)?;
+    has_page(rt, shelf, 2, Kind::Lpi, Some(lpi_key("L2")?), 2, 1, FELIN)?;
+    has_page(
+        rt,
+        shelf,
+        2,
+        Kind::Street,
+        Some(street_key(101)?),
+        5,
+        1,
+        CLOSED,
+    )?;
+    has_page(rt, shelf, 2, Kind::Street, None, 5, 2, "101,1,2001-04-01,")?;
+    has_page(rt, shelf, 2, Kind::Blpu, Some(blpu_key(1001)?), 5, 1, FLAT)
+}
+
+fn shelf_pair<K: Inbox>(rt: &(impl Abort + AllocGlobal), shelf: &mut K) -> Result<(), Fail>
+    requires { (K.seen shelf.old).progress ≡ Idle }
+{
+    writes_all(rt.alloc(), shelf)?;
+    reads_counts(rt, shelf)?;
+    reads_items(rt, shelf)?;
+    reads_addresses(rt, shelf)?;
+    reads_pages(rt, shelf)
+}
+
+#[test]
+fn whole_maps_answer_so(rt: HostRuntime) -> Result<(), Fail> {
+    let mut shelf = MemShelf::new(rt.alloc());
+    shelf_pair(&rt, &mut shelf)
+}
+
+#[test]
+fn a_keeper_around_another_answers_so(rt: HostRuntime) -> Result<(), Fail> {
+    let mut shelf = Faulty::new(MemShelf::new(rt.alloc()), 0);
+    shelf_pair(&rt, &mut shelf)?;
+    let (looked, asked) = shelf.counted();
+    assert_eq!(rt; looked, 4);
+    assert_eq!(rt; asked, 5);
     Ok(())
 }

@@ -1,8 +1,11 @@
-ghost use Rattle.std.specs.Prelude.{◌≡◌, OnOk, OnErr, option_map};
+ghost use Rattle.std.specs.Prelude.{◌≡◌, IfOk, OnOk, OnErr, option_map};
 ghost use Rattle.std.specs.FinMap as map;
 ghost use Rattle.gaz_shelf.specs.View.{empty_view, holds, was_used, with_item, without_key};
+ghost use Rattle.gaz_shelf.specs.Words.{approved_of, approved_on, has_children, page};
 
-use gaz_records::{Item, Key};
+use crate::words::{any_approved_on, any_child_of, in_order, keys_of_approved, page_of};
+use gaz_ids::{Lang, Uprn, Usrn};
+use gaz_records::{Item, Key, Kind};
 use std::alloc::{AllocError, Global};
 use std::collections::{BTreeMap, BTreeSet};
 use std::marker::Model;
@@ -57,6 +60,44 @@ impl WholeView {
         ensures { result ≡ was_used self.now key.now }
     {
         self.used.contains(key)
+    }
+
+    /// The keys of a BLPU's approved LPIs, in key order.
+    pub fn approved_of(&self, alloc: Global, uprn: Uprn) -> Result<Vec<Key>, AllocError>
+        ensures { IfOk result (λ keys. keys.items ≡ approved_of self.now uprn) }
+    {
+        in_order(&self.items);
+        Ok(keys_of_approved(alloc, &self.items, uprn)?)
+    }
+
+    /// Whether an approved LPI is on a street, and in this language where one is given.
+    pub fn approved_on(&self, usrn: Usrn, lang: Option<Lang>) -> bool
+        ensures { result ≡ approved_on self.now usrn lang }
+    {
+        in_order(&self.items);
+        any_approved_on(&self.items, usrn, lang)
+    }
+
+    /// Whether a BLPU is a part of this one.
+    pub fn has_children(&self, uprn: Uprn) -> bool
+        ensures { result ≡ has_children self.now uprn }
+    {
+        in_order(&self.items);
+        any_child_of(&self.items, uprn)
+    }
+
+    /// The first `most` items of a kind after a key, or from the start, in key order.
+    pub fn page(
+        &self,
+        alloc: Global,
+        kind: Kind,
+        after: Option<Key>,
+        most: usize,
+    ) -> Result<Vec<Item>, AllocError>
+        ensures { IfOk result (λ items. items.items ≡ page self.now kind after most) }
+    {
+        in_order(&self.items);
+        Ok(page_of(alloc, &self.items, kind, after, most)?)
     }
 
     /// Sets an item at its key. Where memory runs out, no item is set.

@@ -1,0 +1,12 @@
+use Rattle.std.proofs.Common.{◌∙◌, ap, refl, ℕ, List}
+use Rattle.std.specs.FinMap as map
+use Rattle.gaz_shelf.proofs.Trees.{inserted}
+use Rattle.gaz_shelf.specs.Received.{Received, pair_cmp, with_file}
+use Rattle.gaz_shelf.proofs.Pairs.{pairs_total, pairs_exact}
+use Rattle.gaz_shelf.proofs.files.Files.receive.Goals as goal
+
+pub returns-clause-ok : goal.returns-clause-ok
+returns-clause-ok c =
+    inserted {S = pair_cmp} (λ a b. refl) pairs_total pairs_exact c.self.inside.by_pair.entries c.insert.new.self.entries (c.args.code, c.args.volume) c.in_ok-bytes.bytes.items c.in_ok-insert.ensures.updates.0
+    ∙ ap (λ (b : List ℕ). map.insert (map.from_entries c.self.inside.by_pair.entries) (c.args.code, c.args.volume) b) c.in_ok-bytes.ensures.items
+    ∙ ap (λ (F : Received). with_file F c.args.code c.args.volume c.args.bytes.now) c.self.view_is

@@ -1,0 +1,163 @@
+-- A keeper at one moment, and what each of its calls tells.
+use Rattle.std.specs.Prelude.{◌≡◌, ◌≢◌, ◌≤◌, ◌<◌, ◌+◌, ◌==◌, ⊤, ℕ, Bool, if◌then◌else◌, List, [], None, IsSome, Result, Err, IfOk, IfErr, OnOk, OnErr, fold}
+use Rattle.std.specs.FinMap as map
+use Rattle.gaz_shelf.specs.View.{View, empty_view, with_item}
+use Rattle.gaz_shelf.specs.Board.{Board, Judgement, adds, last_view, reached}
+use Rattle.gaz_shelf.specs.Received.{Received, with_file}
+use Rattle.gaz_records.specs.declared.item.Item.{Item}
+use Rattle.gaz_shelf.specs.declared.writing.Ending.{Ending}
+use Rattle.gaz_shelf.specs.declared.writing.Ending.TheVariants.{Keep, Abandon}
+use Rattle.gaz_shelf.specs.declared.fault.ShelfFault.{ShelfFault}
+use Rattle.gaz_shelf.specs.declared.fault.ShelfFault.TheVariants.{Memory, Store}
+use Rattle.gaz_shelf.specs.declared.verdict.Verdict.TheVariants.{Applied, Rejected}
+
+-- ---- what is kept
+
+-- the files, the board, and the view that the judgement in progress has made so far, which is the empty one while none is
+pub record Content : Type 0 where
+  pub files : Received
+  pub board : Board
+  pub working : View
+
+abbrev pub empty_content : Content
+empty_content = record { files = map.empty; board = λ c. []; working = empty_view }
+
+-- whether a judgement is in progress
+pub data Progress : Type 0 where
+  Idle : Progress
+  -- of this custodian
+  Open : ℕ → Progress
+  -- one of its calls failed
+  Broken : Progress
+
+-- a keeper at one moment
+pub record Seen : Type 1 where
+  pub content : Content
+  -- its state stands for this content
+  pub stands : Type 0
+  -- nobody else wrote on what it keeps
+  pub unharmed : Type 0
+  pub progress : Progress
+  -- how often it failed
+  pub failures : ℕ
+  -- that count is at its last value
+  pub is_full : Bool
+
+-- ---- the content before and after
+
+abbrev pub with_working : Content → View → Content
+with_working k w = record { files = k.files; board = k.board; working = w }
+
+-- no judgement is in progress any more
+abbrev pub closed : Content → Content
+closed k = with_working k empty_view
+
+-- a custodian's judgement begins on its last view
+abbrev pub begun : Content → ℕ → Content
+begun k c = with_working k (last_view k.board c)
+
+abbrev pub with_judgement : Content → ℕ → Judgement → Content
+with_judgement k c j = record { files = k.files; board = adds k.board c j; working = empty_view }
+
+-- the judgement in progress ends as applied
+abbrev pub kept : Progress → Content → Content
+kept Idle k = k
+kept (Open c) k = with_judgement k c (record { verdict = Applied; view = k.working })
+kept Broken k = k
+
+-- a custodian's next volume is rejected, and its view stays as it was
+abbrev pub skipped : Content → ℕ → ℕ → ℕ → Content
+skipped k c place rule = with_judgement k c (record { verdict = Rejected place rule; view = last_view k.board c })
+
+abbrev pub with_received : Content → ℕ → ℕ → List ℕ → Content
+with_received k c volume bytes = record { files = with_file k.files c volume bytes; board = k.board; working = k.working }
+
+-- ---- what is asked
+
+-- a custodian's next volume is at hand
+abbrev pub IsAtHand : Content → ℕ → Type 0
+IsAtHand k c = IsSome (map.get k.files (c, reached k.board c + 1))
+
+-- a volume was not received yet
+abbrev pub IsNew : Content → ℕ → ℕ → Type 0
+IsNew k c volume = map.get k.files (c, volume) ≡ None
+
+abbrev pub IsNotOpen : Progress → Type 0
+IsNotOpen p = (c : ℕ) → p ≢ Open c
+
+-- ---- what is read
+
+abbrev pub viewed : Progress → Content → ℕ → View
+viewed Idle k c = last_view k.board c
+viewed (Open d) k c = if c == d then k.working else last_view k.board c
+viewed Broken k c = last_view k.board c
+
+-- a custodian's view: the working one while it is being judged, else its last
+abbrev pub view_of : Seen → ℕ → View
+view_of s c = viewed s.progress s.content c
+
+-- ---- what a call tells
+
+-- no failure is forgotten, and one of the store is counted
+pub record Counts {T : Type 0} (old new : Seen) (result : Result T ShelfFault) : Type 0 where
+  pub kept : old.failures ≤ new.failures
+  pub store : IfErr result (λ e. e ≡ Store → old.failures < new.failures)
+
+-- a judgement in progress goes on, and a broken one stays so or is cleared
+abbrev pub IsLeft : Progress → Progress → Type 0
+IsLeft Idle new = new ≡ Idle
+IsLeft (Open c) new = new ≡ Open c
+IsLeft Broken new = IsNotOpen new
+
+-- the content is as it was
+pub record Keeps (old new : Seen) : Type 0 where
+  pub harm : new.unharmed → old.unharmed
+  pub stands : old.stands → new.unharmed → new.stands
+  pub content : old.stands → new.unharmed → new.content ≡ old.content
+  pub progress : IsLeft old.progress new.progress
+
+-- a call that reads: its answer is right, and after it no judgement is broken
+pub record Reads {T : Type 0} (old new : Seen) (result : Result T ShelfFault) (IsRight : T → Type 0) : Type 0 where
+  pub keeps : Keeps old new
+  pub right : old.stands → new.unharmed → IfOk result IsRight
+  pub cleared : OnOk result (new.progress ≢ Broken)
+  pub counts : Counts old new result
+
+-- a call of a judgement: where what it asks is so, the content becomes this one; a fault breaks the judgement and undoes it
+pub record Goes {T : Type 0} (old new : Seen) (result : Result T ShelfFault) (asked : Type 0) (becomes : Content) (after : Progress) : Type 0 where
+  pub harm : new.unharmed → old.unharmed
+  pub stands : old.stands → asked → new.unharmed → new.stands
+  pub done : old.stands → asked → new.unharmed → OnOk result (new.content ≡ becomes)
+  pub undone : old.stands → asked → new.unharmed → OnErr result (new.content ≡ closed old.content)
+  pub on : OnOk result (new.progress ≡ after)
+  pub broken : OnErr result (new.progress ≡ Broken)
+  pub counts : Counts old new result
+
+-- a call while no judgement is in progress: where what it asks is so, the content becomes this one; a fault changes nothing
+pub record Enters {T : Type 0} (old new : Seen) (result : Result T ShelfFault) (asked : Type 0) (becomes : Content) : Type 0 where
+  pub harm : new.unharmed → old.unharmed
+  pub stands : old.stands → asked → new.unharmed → new.stands
+  pub done : old.stands → asked → new.unharmed → OnOk result (new.content ≡ becomes)
+  pub undone : old.stands → asked → new.unharmed → OnErr result (new.content ≡ old.content)
+  pub progress : IsLeft old.progress new.progress
+  pub cleared : OnOk result (new.progress ≢ Broken)
+  pub counts : Counts old new result
+
+-- the working view becomes this one
+abbrev pub Sets : {T : Type 0} → Seen → Seen → Result T ShelfFault → View → Type 0
+Sets old new result w = Goes old new result ⊤ (with_working old.content w) old.progress
+
+-- a broken judgement is refused, which is a failure: it is counted unless the count is at its last value
+abbrev pub Refuses : {T : Type 0} → Seen → Result T ShelfFault → Type 0
+Refuses old result = old.progress ≡ Broken → result ≡ Err (if old.is_full then Memory else Store)
+
+-- ---- a whole judgement
+
+-- how a judgement is to end
+abbrev pub ended : Ending → Content → ℕ → View → Content
+ended Keep k c w = with_judgement k c (record { verdict = Applied; view = w })
+ended Abandon k c w = closed k
+
+-- items set one after another on a custodian's last view, and the judgement ended
+abbrev pub written : Content → ℕ → List Item → Ending → Content
+written k c items ending = ended ending k c (fold with_item (last_view k.board c) items)

@@ -1,0 +1,102 @@
+ghost use Rattle.std.specs.Prelude.{◌≡◌, ◌&&◌, ◌==◌, nat_le, not, OnOk, OnErr, option_map, count_by};
+ghost use Rattle.std.specs.FinMap as map;
+ghost use Rattle.std.specs.BTreeMap.{keys};
+ghost use Rattle.std.specs.List.Sorted.{IsStrictlySortedBy};
+ghost use Rattle.gaz_shelf.specs.Received.{count_above, pair_cmp, with_file};
+
+use gaz_ids::{Code, Volume};
+use std::alloc::{AllocError, Global};
+use std::collections::BTreeMap;
+use std::marker::Model;
+
+/// The bytes of a file as it was received.
+#[derive(Drop)]
+struct FileBytes {
+    bytes: Vec<u8>,
+}
+
+impl Model for FileBytes {
+    ghost use Rattle.std.specs.Prelude.{List, ℕ};
+
+    ghost Value = { List ℕ };
+
+    ghost view = { λ f. f.bytes.items };
+}
+
+impl FileBytes {
+    fn as_slice(&self) -> &[u8]
+        ensures { result.now ≡ self.now }
+    {
+        self.bytes.as_slice()
+    }
+}
+
+/// The files that were received, by custodian and volume.
+#[derive(Drop)]
+pub struct Files {
+    alloc: Global,
+    by_pair: BTreeMap<(Code, Volume), FileBytes>,
+}
+
+impl Model for Files {
+    ghost use Rattle.std.specs.FinMap as map;
+    ghost use Rattle.std.specs.Coded.{coded_list, coded_ℕ, coded×};
+    ghost use Rattle.gaz_shelf.specs.Received.{Received};
+
+    ghost Value = { Received };
+
+    ghost coded = { map.code (coded× coded_ℕ coded_ℕ) (coded_list coded_ℕ) };
+
+    ghost view = { λ f. map.from_entries f.by_pair.entries };
+}
+
+impl Files {
+    /// No files.
+    pub fn new(alloc: Global) -> Files
+        ensures { result ≡ map.empty }
+    {
+        Files {
+            alloc,
+            by_pair: BTreeMap::new(alloc),
+        }
+    }
+
+    /// The bytes of a file, where it was received.
+    pub fn get(&self, code: Code, volume: Volume) -> Option<&[u8]>
+        ensures { option_map (λ b. b.now) result ≡ map.get self.now (code, volume) }
+    {
+        match self.by_pair.get(&(code, volume)) {
+            Some(file) => Some(file.as_slice()),
+            None => None,
+        }
+    }
+
+    /// Receives a file. Where memory runs out, nothing is received.
+    pub fn receive(&mut self, code: Code, volume: Volume, bytes: &[u8]) -> Result<(), AllocError>
+        ensures ok { OnOk result (self.new ≡ with_file self.old code volume bytes.now) }
+        ensures err { OnErr result (self.new ≡ self.old) }
+    {
+        let bytes = Vec::from_slice(self.alloc, bytes)?;
+        self.by_pair.insert((code, volume), FileBytes { bytes })?;
+        Ok(())
+    }
+
+    /// How many files of a custodian are above a volume.
+    pub fn count_above(&self, code: Code, reached: u64) -> u64
+        ensures { result ≡ count_above self.now code reached }
+    {
+        count_keys_above(&self.by_pair, code, reached)
+    }
+}
+
+// Over the pairs as they stand.
+fn count_keys_above(by_pair: &BTreeMap<(Code, Volume), FileBytes>, code: Code, reached: u64) -> u64
+    ensures count { result ≡ count_by (λ p. (p.0 == code) && not (nat_le p.1 reached)) (keys by_pair.now) }
+    ensures ordered { IsStrictlySortedBy pair_cmp (keys by_pair.now) }
+{
+    let _count = by_pair.len();
+    by_pair
+        .keys()
+        .filter(|pair| pair.0 == code && pair.1.number() > reached)
+        .count() as u64
+}

@@ -1,0 +1,142 @@
+//! What is asked of a view, over its entries as they stand.
+ghost use Rattle.std.specs.Prelude.{◌≡◌, ◌&&◌, map, filter, take, IfOk};
+ghost use Rattle.std.specs.List.{list_any};
+ghost use Rattle.std.specs.BTreeMap.{keys};
+ghost use Rattle.std.specs.List.Sorted.{IsStrictlySortedBy};
+ghost use Rattle.gaz_shelf.specs.Words.{comes_after, is_approved_of, is_approved_on, is_child_of, is_in, is_of};
+
+use gaz_ids::{Lang, Status, Uprn, Usrn};
+use gaz_records::{Item, Key, Kind};
+use std::alloc::{AllocError, Global};
+use std::collections::BTreeMap;
+
+fn is_approved_of(uprn: Uprn, item: &Item) -> bool
+    ensures { result ≡ is_approved_of uprn item.now }
+{
+    let Item::Lpi(lpi) = item else {
+        return false;
+    };
+    matches!(lpi.status, Status::Approved) && lpi.uprn == uprn
+}
+
+fn is_in(lang: Option<Lang>, of: Lang) -> bool
+    ensures { result ≡ is_in lang of }
+{
+    match lang {
+        None => true,
+        Some(lang) => lang == of,
+    }
+}
+
+fn is_approved_on(usrn: Usrn, lang: Option<Lang>, item: &Item) -> bool
+    ensures { result ≡ is_approved_on usrn lang item.now }
+{
+    let Item::Lpi(lpi) = item else {
+        return false;
+    };
+    matches!(lpi.status, Status::Approved) && lpi.usrn == usrn && is_in(lang, lpi.lang)
+}
+
+fn is_child_of(uprn: Uprn, item: &Item) -> bool
+    ensures { result ≡ is_child_of uprn item.now }
+{
+    let Item::Blpu(blpu) = item else {
+        return false;
+    };
+    match blpu.parent {
+        None => false,
+        Some(parent) => parent == uprn,
+    }
+}
+
+fn is_of(kind: Kind, key: &Key) -> bool
+    ensures { result ≡ is_of kind key.now }
+{
+    match (kind, key) {
+        (Kind::Street, Key::Street(_)) => true,
+        (Kind::Descriptor, Key::Descriptor(_, _)) => true,
+        (Kind::Blpu, Key::Blpu(_)) => true,
+        (Kind::Xref, Key::Xref(_)) => true,
+        (Kind::Lpi, Key::Lpi(_)) => true,
+        _ => false,
+    }
+}
+
+fn comes_after(after: &Option<Key>, key: &Key) -> bool
+    ensures { result ≡ comes_after after.now key.now }
+{
+    match after {
+        None => true,
+        Some(after) => after.compare(key).is_lt(),
+    }
+}
+
+/// The entries stand in the order of keys.
+pub fn in_order(items: &BTreeMap<Key, Item>)
+    ensures { IsStrictlySortedBy ⟦<Key as Ord>⟧.cmp (keys items.now) }
+{
+    let _count = items.len();
+}
+
+/// The keys of a BLPU's approved LPIs.
+pub fn keys_of_approved(
+    alloc: Global,
+    items: &BTreeMap<Key, Item>,
+    uprn: Uprn,
+) -> Result<Vec<Key>, AllocError>
+    ensures { IfOk result (λ ks. ks.items ≡ map (λ e. e.0) (filter (λ e. is_approved_of uprn e.1) items.now.entries)) }
+{
+    let mut keys = Vec::new(alloc);
+    for (key, item) in items {
+        if is_approved_of(uprn, item) {
+            keys.push(*key)?;
+        }
+    }
+    Ok(keys)
+}
+
+/// Whether an approved LPI is on a street.
+pub fn any_approved_on(items: &BTreeMap<Key, Item>, usrn: Usrn, lang: Option<Lang>) -> bool
+    ensures { result ≡ list_any (λ e. is_approved_on usrn lang e.1) items.now.entries }
+{
+    for (_, item) in items {
+        if is_approved_on(usrn, lang, item) {
+            return true;
+        }
+    }
+    false
+}
+
+/// Whether a BLPU is a part of this one.
+pub fn any_child_of(items: &BTreeMap<Key, Item>, uprn: Uprn) -> bool
+    ensures { result ≡ list_any (λ e. is_child_of uprn e.1) items.now.entries }
+{
+    for (_, item) in items {
+        if is_child_of(uprn, item) {
+            return true;
+        }
+    }
+    false
+}
+
+/// The first items of a kind after a key.
+pub fn page_of(
+    alloc: Global,
+    items: &BTreeMap<Key, Item>,
+    kind: Kind,
+    after: Option<Key>,
+    most: usize,
+) -> Result<Vec<Item>, AllocError>
+    ensures { IfOk result (λ found. found.items ≡ take most (map (λ e. e.1) (filter (λ e. is_of kind e.0 && comes_after after e.0) items.now.entries))) }
+{
+    let mut found = Vec::new(alloc);
+    for (key, item) in items {
+        if found.len() == most {
+            return Ok(found);
+        }
+        if is_of(kind, key) && comes_after(&after, key) {
+            found.push(item.copy()?)?;
+        }
+    }
+    Ok(found)
+}

@@ -1,0 +1,49 @@
+//! Writing over any keeper.
+ghost use Rattle.std.specs.Prelude.{◌≡◌, ◌≢◌, fold};
+ghost use Rattle.gaz_shelf.specs.View.{with_item};
+ghost use Rattle.gaz_shelf.specs.Keeper.{Goes, Idle, IsAtHand, IsNotOpen, Seen, Sets, written};
+
+use crate::fault::ShelfFault;
+use crate::shelf::Shelf;
+use gaz_ids::Code;
+use gaz_records::Item;
+
+/// How a judgement is to end.
+#[derive(Clone, Copy, Debug, PartialEq, Eq)]
+pub enum Ending {
+    /// The volume is applied.
+    Keep,
+    /// The board stays as it was.
+    Abandon,
+}
+
+/// Sets these items in the working view, one after another, up to a fault.
+pub fn put_all<S: Shelf>(shelf: &mut S, items: Vec<Item>) -> Result<(), ShelfFault>
+    requires { (S.seen shelf.old).progress ≢ Idle }
+    ensures { Sets (S.seen shelf.old) (S.seen shelf.new) result (fold with_item (S.seen shelf.old).content.working items.items) }
+{
+    let mut items = items;
+    while !items.is_empty() {
+        let item = items.remove(0);
+        shelf.put(item)?;
+    }
+    Ok(())
+}
+
+/// Sets these items on a custodian's last view, as its next volume, which is to be at hand, and ends that judgement.
+pub fn write_volume<S: Shelf>(
+    shelf: &mut S,
+    code: Code,
+    items: Vec<Item>,
+    ending: Ending,
+) -> Result<(), ShelfFault>
+    requires { IsNotOpen (S.seen shelf.old).progress }
+    ensures { Goes (S.seen shelf.old) (S.seen shelf.new) result (IsAtHand (S.seen shelf.old).content code) (written (S.seen shelf.old).content code items.items ending) Idle }
+{
+    shelf.begin(code)?;
+    put_all(shelf, items)?;
+    match ending {
+        Ending::Keep => shelf.keep(),
+        Ending::Abandon => shelf.abandon(),
+    }
+}
