@@ -10,7 +10,8 @@ use Rattle.gaz_shelf.specs.View.{View}
 use Rattle.gaz_shelf.specs.Board.{Judgement}
 use Rattle.gaz_shelf.specs.declared.verdict.Verdict.TheVariants.{Applied, Rejected}
 use Rattle.gaz_register.specs.Registers.{Blocks}
-use Rattle.gaz_rules.specs.Rules.{effect, record_rules, end_rules, first_broken}
+use Rattle.gaz_rules.specs.EndRules.{end_rules}
+use Rattle.gaz_rules.specs.Rules.{effect, record_rules, first_broken}
 
 -- a file with a fault has no basis
 abbrev pub bases_of : Reading → List Basis

@@ -1,13 +1,14 @@
--- The rules of a change file, as tests over whole views.
-use Rattle.std.specs.Prelude.{ℕ, Bool, true, false, not, ◌&&◌, List, [], ◌∷◌, Option}
-use Rattle.std.specs.Option.{option_map}
+-- The record rules of a change file, as tests on the view before a record.
+use Rattle.std.specs.Prelude.{ℕ, ◌==◌, Bool, true, false, not, ◌&&◌, ◌||◌, List, [], ◌∷◌, Option}
+use Rattle.std.specs.Option.{option_map, option_map_or}
 use Rattle.std.specs.List.{find}
+use Rattle.std.specs.FinMap as map
 use Rattle.gaz_records.specs.Keys.{key_of}
 use Rattle.gaz_records.specs.declared.item.Item.{Item}
 use Rattle.gaz_records.specs.declared.item.Item.TheVariants as item
-use Rattle.gaz_records.specs.declared.key.Key.{Key}
 use Rattle.gaz_register.specs.Registers.{Blocks, within}
 use Rattle.gaz_shelf.specs.View.{View, with_item, without_key, holds, was_used}
+use Rattle.gaz_shelf.specs.Words.{same_lang}
 use Rattle.gaz_changefile.specs.declared.action.Action.{Action}
 use Rattle.gaz_changefile.specs.declared.action.Action.TheVariants.{Insert, Update, Delete}
 use Rattle.gaz_changefile.specs.declared.change.Change.{Change}
@@ -23,12 +24,17 @@ done Delete v i = without_key v (key_of i)
 abbrev pub effect : View → Change → View
 effect v c = done c.action v c.item
 
--- ---- record rules, on the view before the record
+-- ---- record rules
 
 abbrev pub is_insert : Action → Bool
 is_insert Insert = true
 is_insert Update = false
 is_insert Delete = false
+
+abbrev pub is_update : Action → Bool
+is_update Insert = false
+is_update Update = true
+is_update Delete = false
 
 abbrev pub is_delete : Action → Bool
 is_delete Insert = false
@@ -59,6 +65,16 @@ stays _ = false
 abbrev pub takes_what_stays : Action → Item → Bool
 takes_what_stays a i = is_delete a && stays i
 
+-- an LPI of another BLPU or in another language than before, or a cross reference of another BLPU
+abbrev pub is_moved : Item → Item → Bool
+is_moved (item.Lpi old) (item.Lpi new) = not (new.uprn == old.uprn) || not (same_lang new.lang old.lang)
+is_moved (item.Xref old) (item.Xref new) = not (new.uprn == old.uprn)
+is_moved _ _ = false
+
+-- 24: an update of what is there to such an item
+abbrev pub moves_what_stays : View → Action → Item → Bool
+moves_what_stays v a i = is_update a && option_map_or (λ old. is_moved old i) (map.get v.items (key_of i)) false
+
 -- the record rules by number, the least first
 abbrev pub record_rules : Blocks → View → Action → Item → List (ℕ × Bool)
 record_rules own v a i =
@@ -66,13 +82,8 @@ record_rules own v a i =
     ∷ (21, is_used_again v a i)
     ∷ (22, is_missing v a i)
     ∷ (23, takes_what_stays a i)
+    ∷ (24, moves_what_stays v a i)
     ∷ []
-
--- ---- end rules, on the view after all records
-
--- the end rules by number, the least first, of a key in a view, with each basis custodian's view: a street alone breaks none
-abbrev pub end_rules : View → List (ℕ × View) → Key → List (ℕ × Bool)
-end_rules w out k = []
 
 -- the least rule that is broken
 abbrev pub first_broken : List (ℕ × Bool) → Option ℕ

@@ -1,0 +1,23 @@
+-- What a judgement over a keeper tells.
+use Rattle.std.specs.Prelude.{◌≡◌, ℕ, Bool, true, List, Result, IfOk, OnOk, OnErr}
+use Rattle.gaz_changefile.specs.declared.change.Basis.{Basis}
+use Rattle.gaz_shelf.specs.Board.{Judgement}
+use Rattle.gaz_shelf.specs.Keeper.{Content, Counts, IsAtHand, IsNotOpen, Seen, closed, with_judgement}
+use Rattle.gaz_shelf.specs.declared.fault.ShelfFault.{ShelfFault}
+use Rattle.gaz_shelf.specs.declared.verdict.Verdict.{Verdict}
+use Rattle.gaz_rules.specs.Bases.{are_reached}
+
+-- what is asked of the content: the next volume is at hand, and all that it rests on is reached
+pub record IsReady (k : Content) (c : ℕ) (bases : List Basis) : Type 0 where
+  pub at_hand : IsAtHand k c
+  pub reached : are_reached k.board bases ≡ true
+
+-- a custodian's next file is judged: the verdict is this one, and just it and its view are added; a fault leaves files and board as they were
+pub record Judges (old new : Seen) (result : Result Verdict ShelfFault) (c : ℕ) (bases : List Basis) (j : Judgement) : Type 0 where
+  pub harm : new.unharmed → old.unharmed
+  pub stands : old.stands → IsReady old.content c bases → new.unharmed → new.stands
+  pub verdict : old.stands → IsReady old.content c bases → new.unharmed → IfOk result (λ v. v ≡ j.verdict)
+  pub done : old.stands → IsReady old.content c bases → new.unharmed → OnOk result (new.content ≡ with_judgement old.content c j)
+  pub undone : old.stands → IsReady old.content c bases → new.unharmed → OnErr result (new.content ≡ closed old.content)
+  pub idle : IsNotOpen new.progress
+  pub counts : Counts old new result

@@ -1,0 +1,37 @@
+-- The views that a lawful board may have.
+use Rattle.std.specs.Prelude.{◌≡◌, ◌≢◌, ◌≤◌, ℕ, Bool, true, false, List, [], Some}
+use Rattle.std.specs.FinMap as map
+use Rattle.gaz_records.specs.Keys.{key_of}
+use Rattle.gaz_records.specs.Lpis.{LpiValue}
+use Rattle.gaz_records.specs.declared.item.Item.{Item}
+use Rattle.gaz_records.specs.declared.key.Key.{Key}
+use Rattle.gaz_records.specs.declared.key.Key.TheVariants as key
+use Rattle.gaz_changefile.specs.Reading.{Reading}
+use Rattle.gaz_changefile.specs.declared.change.Basis.{Basis}
+use Rattle.gaz_register.specs.Registers.{Blocks, within}
+use Rattle.gaz_shelf.specs.View.{View, holds, was_used}
+use Rattle.gaz_shelf.specs.Board.{Board, view_after}
+use Rattle.gaz_rules.specs.EndRules.{ancestor, approved_at, closed_under_lpi, is_out_of_date, is_second, is_unnamed, lacks_blpu, lacks_own_street, lacks_parent, names_closed}
+
+-- no key at all breaks an end rule by what stands in the view itself, and what stands there is the custodian's own
+pub record IsSound (own : Blocks) (v : View) : Type 0 where
+  -- each item stands under its own key, and each key that stands there was used
+  pub keyed : (k : Key) (i : Item) → map.get v.items k ≡ Some i → key_of i ≡ k
+  pub used : (k : Key) → holds v k ≡ true → was_used v k ≡ true
+  -- 30 and 31
+  pub one_approved : (k : Key) → is_second v k ≡ false
+  pub blpu_there : (k : Key) → lacks_blpu v k ≡ false
+  -- 33 and 34, by a street that is in the view
+  pub street_open : (k : Key) → names_closed v [] k ≡ false
+  pub described : (k : Key) → is_unnamed v [] k ≡ false
+  -- 35, and 36 with chains of any length
+  pub parent_there : (k : Key) → lacks_parent v k ≡ false
+  pub no_ring : (uprn steps : ℕ) → 1 ≤ steps → ancestor v steps uprn ≢ Some uprn
+  -- 37 to 39
+  pub up_to_date : (k : Key) → is_out_of_date v k ≡ false
+  pub street_there : (k : Key) → lacks_own_street v k ≡ false
+  pub open_under_lpi : (k : Key) → closed_under_lpi v k ≡ false
+  -- streets and BLPUs are of the own blocks, and each street of them that an approved LPI names is there
+  pub own_streets : (usrn : ℕ) → holds v (key.Street usrn) ≡ true → within own.usrn usrn ≡ true
+  pub own_blpus : (uprn : ℕ) → holds v (key.Blpu uprn) ≡ true → within own.uprn uprn ≡ true
+  pub own_named : (k : Key) (l : LpiValue) → approved_at v k ≡ Some l → within own.usrn l.usrn ≡ true → holds v (key.Street l.usrn) ≡ true
