@@ -1,1 +1,5 @@
 pub mod Examples
+pub mod Chains
+pub mod Walks
+pub mod Progress
+pub mod Breaching

@@ -4,4 +4,7 @@ pub mod Judging
 pub mod Bases
 pub mod Judges
 pub mod Sound
+pub mod Rings
+pub mod Streets
+pub mod Breaches
 pub mod Examples

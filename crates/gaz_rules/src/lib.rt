@@ -1,4 +1,9 @@
 //! The rules of a gazetteer, and what a change file comes to under them.
 #![tactic(auto)]
 
+mod end_rules;
+mod key_faults;
 pub mod laws;
+mod name_faults;
+mod rings;
+mod streets;
