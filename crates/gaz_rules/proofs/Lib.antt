@@ -3,3 +3,4 @@ pub mod Chains
 pub mod Walks
 pub mod Progress
 pub mod Breaching
+pub mod Phases

@@ -8,3 +8,4 @@ pub mod Rings
 pub mod Streets
 pub mod Breaches
 pub mod Examples
+pub mod Phases

@@ -2,8 +2,15 @@
 #![tactic(auto)]
 
 mod end_rules;
+mod judging;
 mod key_faults;
 pub mod laws;
 mod name_faults;
+mod record_rules;
 mod rings;
 mod streets;
+
+pub use judging::judge;
+
+#[cfg(test)]
+mod tests;
