@@ -12,11 +12,11 @@ use Rattle.gaz_changefile.specs.declared.change.Change.{Change}
 use Rattle.gaz_register.specs.Registers.{Blocks}
 use Rattle.gaz_shelf.specs.Board.{Judgement, last_view}
 use Rattle.gaz_shelf.specs.View.{View}
-use Rattle.gaz_shelf.specs.Keeper.{Content, Counts, Goes, IsAtHand, Open, Reads, Seen, begun, closed, with_judgement}
+use Rattle.gaz_shelf.specs.Keeper.{Content, Counts, Goes, IsAtHand, Keeps, Open, Reads, Seen, begun, closed, with_judgement}
 use Rattle.gaz_shelf.specs.declared.fault.ShelfFault.{ShelfFault}
 use Rattle.gaz_shelf.specs.declared.verdict.Verdict.{Verdict}
 use Rattle.gaz_shelf.specs.declared.verdict.Verdict.TheVariants.{Applied, Rejected}
-use Rattle.gaz_shelf.proofs.Keeping.{on_err, on_ok, still_open}
+use Rattle.gaz_shelf.proofs.Keeping.{keeps_then, on_err, on_ok, still_open}
 use Rattle.gaz_rules.specs.Bases.{are_reached, basis_views, judged_on}
 use Rattle.gaz_rules.specs.EndRules.{end_rules}
 use Rattle.gaz_rules.specs.Judges.{IsReady, Judges}
@@ -27,14 +27,65 @@ use Rattle.gaz_rules.specs.Rules.{effect, first_broken}
 use Rattle.gaz_rules.specs.declared.judging.Fault as found
 use Rattle.gaz_rules.specs.declared.rings.Walked.{Walked}
 
+-- ---- the end rules, key by key
+
+-- what was asked of the end rules so far: the faults of what is left are those of all
+pub record AskedSoFar (old now : Seen) (c : ℕ) (bases : List Basis) (all left : List Change) (walked : Walked) : Type 0 where
+  pub keeps : Keeps old now
+  pub open_for : now.progress ≡ Open c
+  pub counted : old.failures ≤ now.failures
+  pub knows : old.stands → now.unharmed → are_reached old.content.board bases ≡ true → Knows old.content.working walked
+  pub faults : old.stands → now.unharmed → are_reached old.content.board bases ≡ true →
+      end_faults old.content.working (basis_views old.content.board bases) left ≡ end_faults old.content.working (basis_views old.content.board bases) all
+
 -- what the end rules' code tells of a content
 abbrev pub Told : List Basis → Item → Option ℕ → Walked → Walked → Content → Type 0
 Told bases item r before after k = are_reached k.board bases ≡ true → Knows k.working before → Knows k.working after × (r ≡ first_broken (end_rules k.working (basis_views k.board bases) (key_of item)))
 
-pub end_step : (w : View) (out : List (ℕ × View)) (cs : List Change) (i : ℕ) (ch : Change) (r : Option ℕ) → i < length cs → ch ≡ get_or cs i ch → r ≡ first_broken (end_rules w out (key_of ch.item)) →
-    end_faults w out (drop i cs) ≡ cons_option (fault_at ch.place r) (end_faults w out (drop (i + 1) cs))
-end_step w out cs i ch r h e is =
-    ap (end_faults w out) (drop_more cs i ch h) ∙ ap (λ x. end_faults w out (x ∷ drop (i + 1) cs)) (sym e) ∙ ap (λ q. cons_option (fault_at ch.place q) (end_faults w out (drop (i + 1) cs))) (sym is)
+-- the next change's key is asked
+pub asked_next : (old now next : Seen) (c : ℕ) (bases : List Basis) (all : List Change) (i : ℕ) (ch : Change) (before after : Walked) (r : Option ℕ) →
+    i < length all → ch ≡ get_or all i ch → AskedSoFar old now c bases all (drop i all) before →
+    Reads {T = Option ℕ} now next (Ok r) (λ r. Told bases ch.item r before after now.content) →
+    old.stands → next.unharmed → are_reached old.content.board bases ≡ true →
+    Knows old.content.working after
+    × (end_faults old.content.working (basis_views old.content.board bases) all ≡ cons_option (fault_at ch.place r) (end_faults old.content.working (basis_views old.content.board bases) (drop (i + 1) all)))
+asked_next old now next c bases all i ch before after r h e so_far asked stood fine ready =
+    let mid = asked.keeps.harm fine in
+    let rest = drop (i + 1) all in
+    let faults = end_faults old.content.working (basis_views old.content.board bases) in
+    let told = subst (Told bases ch.item r before after) (so_far.keeps.content stood mid) (asked.right (so_far.keeps.stands stood mid) fine) ready (so_far.knows stood mid ready) in
+    let step : faults (drop i all) ≡ faults (ch ∷ rest) = ap faults (drop_more all i ch h) ∙ ap (λ x. faults (x ∷ rest)) (sym e) in
+    (told.0, sym (so_far.faults stood mid ready) ∙ step ∙ ap (λ q. cons_option (fault_at ch.place q) (faults rest)) (sym told.1))
+
+-- it breaks none
+pub asked_on : (old now next : Seen) (c : ℕ) (bases : List Basis) (all : List Change) (i : ℕ) (ch : Change) (before after : Walked) →
+    i < length all → ch ≡ get_or all i ch → AskedSoFar old now c bases all (drop i all) before →
+    Reads {T = Option ℕ} now next (Ok None) (λ r. Told bases ch.item r before after now.content) →
+    AskedSoFar old next c bases all (drop (i + 1) all) after
+asked_on old now next c bases all i ch before after h e so_far asked =
+    let next_is = asked_next old now next c bases all i ch before after None h e so_far asked in
+    record {
+      keeps = keeps_then old now next so_far.keeps asked.keeps;
+      open_for = still_open now next c asked.keeps so_far.open_for;
+      counted = let a = so_far.counted in let b = asked.counts.kept in omega arith;
+      knows = λ stood fine ready. (next_is stood fine ready).0;
+      faults = λ stood fine ready. sym (next_is stood fine ready).1;
+    }
+
+-- it breaks this rule
+pub asked_last : (old now next : Seen) (c : ℕ) (bases : List Basis) (all : List Change) (i : ℕ) (ch : Change) (before after : Walked) (rule : ℕ) (f : found.Fault) →
+    i < length all → ch ≡ get_or all i ch → AskedSoFar old now c bases all (drop i all) before →
+    Reads {T = Option ℕ} now next (Ok (Some rule)) (λ r. Told bases ch.item r before after now.content) →
+    f ≡ record { place = ch.place; rule = rule } →
+    Reads {T = Option found.Fault} old next (Ok (Some f)) (λ r. are_reached old.content.board bases ≡ true → IsFirst (end_faults old.content.working (basis_views old.content.board bases) all) r)
+asked_last old now next c bases all i ch before after rule f h e so_far asked is =
+    record {
+      keeps = keeps_then old now next so_far.keeps asked.keeps;
+      right = λ stood fine ready. ap first_of (asked_next old now next c bases all i ch before after (Some rule) h e so_far asked stood fine ready).1
+          ∙ ap (λ (x : found.Fault). Some (record { place = x.place; rule = x.rule })) (sym is);
+      cleared = asked.cleared;
+      counts = record { kept = let a = so_far.counted in let b = asked.counts.kept in omega arith; store = tt };
+    }
 
 -- ---- the two phases together
 

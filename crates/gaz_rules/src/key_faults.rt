@@ -49,7 +49,7 @@ impl KeyFaults {
 }
 
 /// Whether something stands under a key in the view that is judged.
-fn is_there<S: Shelf>(shelf: &mut S, code: Code, key: &Key) -> Result<bool, ShelfFault>
+pub(crate) fn is_there<S: Shelf>(shelf: &mut S, code: Code, key: &Key) -> Result<bool, ShelfFault>
     requires { (S.seen shelf.old).progress ≡ Open code }
     ensures { Reads (S.seen shelf.old) (S.seen shelf.new) result (λ b. b ≡ holds (S.seen shelf.old).content.working key.now) }
 {

@@ -8,6 +8,7 @@ ghost use Rattle.gaz_shelf.specs.Keeper.{Open, Reads, Seen};
 ghost use Rattle.gaz_shelf.specs.View.{holds, was_used};
 ghost use Rattle.gaz_rules.specs.Rules.{first_broken, is_moved, is_outside, record_rules, stays};
 
+use crate::key_faults::is_there;
 use gaz_changefile::{Action, Change};
 use gaz_ids::Code;
 use gaz_records::{Item, Key};
@@ -38,14 +39,6 @@ fn is_moved(old: &Item, new: &Item) -> bool
         (Item::Xref(old), Item::Xref(new)) => new.uprn != old.uprn,
         _ => false,
     }
-}
-
-fn is_there<S: Shelf>(shelf: &mut S, code: Code, key: &Key) -> Result<bool, ShelfFault>
-    requires { (S.seen shelf.old).progress ≡ Open code }
-    ensures { Reads (S.seen shelf.old) (S.seen shelf.new) result (λ b. b ≡ holds (S.seen shelf.old).content.working key.now) }
-{
-    let found = shelf.current(code, key)?;
-    Ok(found.is_some())
 }
 
 /// The least rule that an insert under this key breaks, its number being the custodian's own.
