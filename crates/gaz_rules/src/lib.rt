@@ -2,6 +2,8 @@
 #![tactic(auto)]
 
 mod end_rules;
+#[cfg(test)]
+mod end_tests;
 mod key_faults;
 pub mod laws;
 mod name_faults;
