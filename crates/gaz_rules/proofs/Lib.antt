@@ -1,1 +1,11 @@
+pub mod Tests
+pub mod Keys
+pub mod Rings
+pub mod Approved
+pub mod Soundness
+pub mod Judged
+pub mod SoundBoards
+pub mod Worked
 pub mod Examples
+pub mod EndExamples
+pub mod JudgedExamples

@@ -4,4 +4,7 @@ pub mod Judging
 pub mod Bases
 pub mod Judges
 pub mod Sound
+pub mod Laws
 pub mod Examples
+pub mod EndExamples
+pub mod JudgedExamples
