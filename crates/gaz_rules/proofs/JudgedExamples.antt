@@ -5,7 +5,7 @@ use Rattle.gaz_records.specs.declared.key.Key.TheVariants as key
 use Rattle.gaz_shelf.proofs.Examples.{get_one}
 use Rattle.gaz_shelf.specs.Examples.{name, one_street}
 use Rattle.gaz_rules.specs.Judging.{judge}
-use Rattle.gaz_rules.specs.JudgedExamples.{WorkedEndFaults, WorkedExamples, WorkedFiles, WorkedForeign, WorkedRecordFaults}
+use Rattle.gaz_rules.specs.JudgedExamples.{WorkedBoards, WorkedEndFaults, WorkedExamples, WorkedFiles, WorkedForeign, WorkedRecordFaults}
 use Rattle.gaz_rules.proofs.Worked.{taken-put, views}
 use Rattle.gaz_rules.proofs.Examples.{on_kinds, on_record_rules, on_texts}
 use Rattle.gaz_rules.proofs.EndExamples.{on_end_rules}
@@ -51,6 +51,15 @@ on_foreign = record {
   unnamed_at_it = simp views;
 }
 
+on_boards : WorkedBoards
+unfolding judge
+on_boards = record {
+  reached = refl;
+  not_reached = refl;
+  open_at_volume = simp views;
+  closed_at_volume = simp views;
+}
+
 pub worked_examples_hold : WorkedExamples
 worked_examples_hold = record {
   on_record_rules = on_record_rules;
@@ -61,4 +70,5 @@ worked_examples_hold = record {
   on_record_faults = on_record_faults;
   on_end_faults = on_end_faults;
   on_foreign = on_foreign;
+  on_boards = on_boards;
 }

@@ -5,6 +5,7 @@ pub mod Approved
 pub mod Soundness
 pub mod Judged
 pub mod SoundBoards
+pub mod Sentences
 pub mod Worked
 pub mod Examples
 pub mod EndExamples

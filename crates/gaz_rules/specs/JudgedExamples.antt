@@ -1,19 +1,20 @@
 -- Worked examples of judgements, computed from the definitions.
-use Rattle.std.specs.Prelude.{◌≡◌, ℕ, List, [], ◌∷◌, fold, None, Some, codes}
+use Rattle.std.specs.Prelude.{◌≡◌, ℕ, ◌==◌, true, false, if◌then◌else◌, List, [], ◌∷◌, fold, None, Some, codes}
 use Rattle.gaz_ids.specs.declared.lang.Lang.TheVariants.{Eng}
 use Rattle.gaz_ids.specs.declared.status.Status.TheVariants.{Approved, Provisional}
 use Rattle.gaz_records.specs.declared.item.Item.{Item}
 use Rattle.gaz_records.specs.declared.key.Key.TheVariants as key
-use Rattle.gaz_changefile.specs.Reading.{Bad}
+use Rattle.gaz_changefile.specs.Reading.{Reading, Good, Bad}
 use Rattle.gaz_changefile.specs.declared.action.Action.{Action}
 use Rattle.gaz_changefile.specs.declared.action.Action.TheVariants.{Insert, Update, Delete}
 use Rattle.gaz_changefile.specs.declared.change.Change.{Change}
-use Rattle.gaz_shelf.specs.Board.{Judgement}
+use Rattle.gaz_shelf.specs.Board.{Board, Judgement}
 use Rattle.gaz_shelf.specs.Examples.{blpu, council_tax, lpi, name, one_street, street}
 use Rattle.gaz_shelf.specs.View.{View, empty_view, with_item, without_key}
 use Rattle.gaz_shelf.specs.declared.verdict.Verdict.TheVariants.{Applied, Rejected}
 use Rattle.gaz_rules.specs.Rules.{effect}
-use Rattle.gaz_rules.specs.Judging.{judge}
+use Rattle.gaz_rules.specs.Judging.{bases_of, judge}
+use Rattle.gaz_rules.specs.Bases.{are_reached, judged_on}
 use Rattle.gaz_rules.specs.Examples.{WorkedKinds, WorkedRecordRules, WorkedTexts, again, file_of, insertion, own}
 use Rattle.gaz_rules.specs.EndExamples.{WorkedEndRules, address, away, closed_street, closed_there, home, of_custodian, open_there, view_of}
 
@@ -74,6 +75,27 @@ pub record WorkedForeign : Type 0 where
   pub closed_at_it : judged_away (of_custodian 1002 closed_there ∷ []) ≡ record { verdict = Rejected 2 33; view = view_of (blpu 1001 None ∷ []) }
   pub unnamed_at_it : judged_away (of_custodian 1002 (street 201 ∷ []) ∷ []) ≡ record { verdict = Rejected 2 34; view = view_of (blpu 1001 None ∷ []) }
 
+-- street 201 of custodian 1002 is open after its volume 1, and closed after its volume 2
+abbrev pub two_volumes : Board
+two_volumes = λ c. if c == 1002
+    then record { verdict = Applied; view = view_of open_there } ∷ record { verdict = Applied; view = view_of closed_there } ∷ []
+    else []
+
+-- a file with an address on it, which rests on one of them
+abbrev pub resting_on : ℕ → Reading
+resting_on volume = Good (record {
+  date = record { year = 2024; month = 1; day = 2 };
+  bases = record { custodian = 1002; volume = volume } ∷ [];
+  changes = change 3 Insert (blpu 1001 None) ∷ change 4 Insert (lpi (codes "L1") 1001 Eng Approved 201) ∷ [];
+})
+
+-- on the views of a board, each after the named volume
+pub record WorkedBoards : Type 0 where
+  pub reached : are_reached two_volumes (bases_of (resting_on 2)) ≡ true
+  pub not_reached : are_reached two_volumes (bases_of (resting_on 3)) ≡ false
+  pub open_at_volume : judged_on own two_volumes 1001 (resting_on 1) ≡ record { verdict = Applied; view = view_of away }
+  pub closed_at_volume : judged_on own two_volumes 1001 (resting_on 2) ≡ record { verdict = Rejected 4 33; view = empty_view }
+
 pub record WorkedExamples : Type 0 where
   pub on_record_rules : WorkedRecordRules
   pub on_kinds : WorkedKinds
@@ -83,3 +105,4 @@ pub record WorkedExamples : Type 0 where
   pub on_record_faults : WorkedRecordFaults
   pub on_end_faults : WorkedEndFaults
   pub on_foreign : WorkedForeign
+  pub on_boards : WorkedBoards

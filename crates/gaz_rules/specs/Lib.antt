@@ -5,6 +5,7 @@ pub mod Bases
 pub mod Judges
 pub mod Sound
 pub mod Laws
+pub mod Sentences
 pub mod Examples
 pub mod EndExamples
 pub mod JudgedExamples

@@ -1,10 +1,16 @@
 //! What a reader of the definitions may rely on.
 ghost use Rattle.gaz_rules.specs.JudgedExamples.{WorkedExamples};
 ghost use Rattle.gaz_rules.specs.Laws.{BoardsStaySound, FindsRings, StaysSound};
+ghost use Rattle.gaz_rules.specs.Sentences.{TestsSay};
 
 /// What the definitions come to on worked examples.
 pub fn worked_examples()
     ensures { WorkedExamples }
+{}
+
+/// The tests of the rules on other items, and of where a street is found, are true just where their sentences hold.
+pub fn tests_say()
+    ensures { TestsSay }
 {}
 
 /// Rule 36 is broken where a chain of one or more parents, of any length, leads from a property to itself, and nowhere else.
