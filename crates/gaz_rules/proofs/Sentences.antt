@@ -17,8 +17,8 @@ use Rattle.gaz_records.specs.declared.key.Key.{Key}
 use Rattle.gaz_records.specs.declared.key.Key.TheVariants as key
 use Rattle.gaz_shelf.specs.View.{View, holds}
 use Rattle.gaz_shelf.specs.Words.{is_approved, same_lang}
-use Rattle.gaz_rules.specs.EndRules.{approved_at, as_approved, as_blpu, as_street, blpu_at, closed_under_lpi, found_in, if_some, is_closed, is_historical, is_past, is_second, lacks_descriptor, lacks_street, leaves_lpi, names_closed, names_past, past_under_lpi, same_key, street_at}
-use Rattle.gaz_rules.specs.Sentences.{ClosedUnderLpi, HasSecond, HaveNone, IsApprovedLpi, IsClosedStreet, IsFirstWith, IsPastBlpu, LeavesLpi, NamesClosed, NamesNowhere, NamesPast, NamesUnnamed, PastUnderLpi, TestsSay, views_in_turn}
+use Rattle.gaz_rules.specs.EndRules.{approved_at, as_approved, as_blpu, as_street, blpu_at, blpu_named, closed_under_lpi, found_in, if_some, is_closed, is_historical, is_past, is_second, lacks_blpu, lacks_descriptor, lacks_own_street, lacks_parent, lacks_street, leaves_lpi, names_closed, names_past, parent_of, past_under_lpi, same_key, street_at}
+use Rattle.gaz_rules.specs.Sentences.{ClosedUnderLpi, HasSecond, HaveNone, IsApprovedLpi, IsClosedStreet, IsFirstWith, IsPastBlpu, LacksBlpu, LacksOwnStreet, LacksParent, LeavesLpi, NamesClosed, NamesNowhere, NamesPast, NamesUnnamed, PastUnderLpi, TestsSay, views_in_turn}
 use Rattle.gaz_rules.proofs.Approved.{an_lpi, of_from, of_gives, on_from, on_gives, same_lang_is, same_lang_itself, some_from, some_gives}
 use Rattle.gaz_rules.proofs.Keys.{key_itself, key_tied}
 use Rattle.gaz_rules.proofs.SoundBoards.{all_first, all_rest}
@@ -69,6 +69,10 @@ some_value (Some x) e = (x, refl)
 no_value : {T : Type 0} (o : Option T) → is_none o ≡ true → o ≡ None
 no_value None e = refl
 no_value (Some x) e = absurd (true≢false (sym e))
+
+unheld_none : (v : View) (k : Key) → not (holds v k) ≡ true → fin.get v.items k ≡ None
+unheld_none v k h =
+    elim (fin.get v.items k) as (λ o. not (is_some o) ≡ true → o ≡ None) [ None ↦ λ _. refl | Some i ↦ λ e. absurd (true≢false (sym e)) ] h
 
 closed_told : (v : View) (usrn : ℕ) → is_closed v usrn ≡ true → IsClosedStreet v usrn
 closed_told v usrn h =
@@ -162,6 +166,16 @@ second_says v k = (told, from)
         (of_from v is.lpi.uprn (λ m. not (same_key m k)) is.other_key is.other (lpi_at v is.other_key is.other is.other_there) is.same_blpu
         (ap not (false_by (same_key is.other_key k) (λ tied. is.another (key_tied is.other_key k tied)))))
 
+blpu_says : (v : View) (k : Key) → (lacks_blpu v k ≡ true) ↔ LacksBlpu v k
+blpu_says v k = (
+  λ h.
+      let uprn = some_passes (option_and_then blpu_named (fin.get v.items k)) (λ n. not (holds v (key.Blpu n))) h in
+      let i = and_then_gives blpu_named (fin.get v.items k) uprn.0 uprn.1 in
+      record { item = i.0; uprn = uprn.0; there = i.1; names = i.2; gone = unheld_none v (key.Blpu uprn.0) uprn.2 },
+  λ is. passes_some (option_and_then blpu_named (fin.get v.items k)) (λ n. not (holds v (key.Blpu n))) is.uprn
+      (ap (option_and_then blpu_named) is.there ∙ is.names) (ap (λ o. not (is_some o)) is.gone),
+)
+
 street_says : (v : View) (out : List (ℕ × View)) (k : Key) → (lacks_street v out k ≡ true) ↔ NamesNowhere v out k
 street_says v out k = (
   λ h.
@@ -209,6 +223,23 @@ leaves_says v usrn lang = (
       (on_from v usrn (Some lang) is.lpi_key is.lpi (lpi_at v is.lpi_key is.lpi is.lpi_there) is.on_it (ap (λ x. same_lang x lang) is.in_it ∙ same_lang_itself lang)),
 )
 
+parent_says : (v : View) (uprn : ℕ) → (lacks_parent v (key.Blpu uprn) ≡ true) ↔ LacksParent v uprn
+parent_says v uprn = (
+  λ h.
+      let p = some_passes (parent_of v uprn) (λ n. not (holds v (key.Blpu n))) h in
+      let b = and_then_gives (λ b. b.parent) (blpu_at v uprn) p.0 p.1 in
+      let at = and_then_gives as_blpu (fin.get v.items (key.Blpu uprn)) b.0 b.1 in
+      record { blpu = b.0; parent = p.0; there = at.1 ∙ ap Some (a_blpu at.0 b.0 at.2); is_part = b.2; gone = unheld_none v (key.Blpu p.0) p.2 },
+  λ is. passes_some (parent_of v uprn) (λ n. not (holds v (key.Blpu n))) is.parent
+      (ap (λ o. option_and_then (λ b. b.parent) (option_and_then as_blpu o)) is.there ∙ is.is_part) (ap (λ o. not (is_some o)) is.gone),
+)
+
+own_street_says : (v : View) (usrn : ℕ) (lang : Lang) → (lacks_own_street v (key.Descriptor usrn lang) ≡ true) ↔ LacksOwnStreet v usrn lang
+own_street_says v usrn lang = (
+  λ h. let parts = both_parts (holds v (key.Descriptor usrn lang)) _ h in record { there = parts.0; gone = not_true _ parts.1 },
+  λ is. joined _ _ is.there (ap not is.gone),
+)
+
 names_past_says : (v : View) (k : Key) → (names_past v k ≡ true) ↔ NamesPast v k
 names_past_says v k = (
   λ h.
@@ -239,13 +270,16 @@ pub tests_say_holds : TestsSay
 tests_say_holds =
     record {
       second = second_says;
+      blpu = blpu_says;
       found = found_says;
       nowhere = nowhere_says;
       street = street_says;
       open_street = open_says;
       descriptor = descriptor_says;
       leaves = leaves_says;
+      parent = parent_says;
       names_past = names_past_says;
       past_under_lpi = past_under_says;
+      own_street = own_street_says;
       closed_under_lpi = closed_under_says;
     }

@@ -1,4 +1,4 @@
--- The end rules that speak of more than one item, as sentences on whole views.
+-- The end rules as sentences on whole views.
 use Rattle.std.specs.Prelude.{◌≡◌, ◌≢◌, ◌↔◌, ℕ, true, false, List, ◌∷◌, ◌++◌, map, Some, None}
 use Rattle.std.specs.List.{All}
 use Rattle.std.specs.FinMap as fin
@@ -8,11 +8,12 @@ use Rattle.gaz_records.specs.Blpus.{BlpuValue}
 use Rattle.gaz_records.specs.Days.{CivilDay}
 use Rattle.gaz_records.specs.Lpis.{LpiValue}
 use Rattle.gaz_records.specs.Streets.{StreetValue}
+use Rattle.gaz_records.specs.declared.item.Item.{Item}
 use Rattle.gaz_records.specs.declared.item.Item.TheVariants as item
 use Rattle.gaz_records.specs.declared.key.Key.{Key}
 use Rattle.gaz_records.specs.declared.key.Key.TheVariants as key
 use Rattle.gaz_shelf.specs.View.{View, holds}
-use Rattle.gaz_rules.specs.EndRules.{closed_under_lpi, found_in, is_second, lacks_descriptor, lacks_street, leaves_lpi, names_closed, names_past, past_under_lpi}
+use Rattle.gaz_rules.specs.EndRules.{blpu_named, closed_under_lpi, found_in, is_second, lacks_blpu, lacks_descriptor, lacks_own_street, lacks_parent, lacks_street, leaves_lpi, names_closed, names_past, past_under_lpi}
 
 -- ---- what stands in a view
 
@@ -62,6 +63,14 @@ pub record HasSecond (v : View) (k : Key) : Type 0 where
   pub another : other_key ≢ k
   pub same_blpu : other.uprn ≡ lpi.uprn
 
+-- 31: k is an LPI or a cross reference, and nothing stands under the BLPU that it names
+pub record LacksBlpu (v : View) (k : Key) : Type 0 where
+  pub item : Item
+  pub uprn : ℕ
+  pub there : fin.get v.items k ≡ Some item
+  pub names : blpu_named item ≡ Some uprn
+  pub gone : fin.get v.items (key.Blpu uprn) ≡ None
+
 -- 32: k is an approved LPI whose street is in none of the views
 pub record NamesNowhere (v : View) (out : List (ℕ × View)) (k : Key) : Type 0 where
   pub lpi : LpiValue
@@ -94,6 +103,14 @@ pub record LeavesLpi (v : View) (usrn : ℕ) (lang : Lang) : Type 0 where
   pub on_it : lpi.usrn ≡ usrn
   pub in_it : lpi.lang ≡ lang
 
+-- 35: a BLPU with a parent, under which nothing stands
+pub record LacksParent (v : View) (uprn : ℕ) : Type 0 where
+  pub blpu : BlpuValue
+  pub parent : ℕ
+  pub there : fin.get v.items (key.Blpu uprn) ≡ Some (item.Blpu blpu)
+  pub is_part : blpu.parent ≡ Some parent
+  pub gone : fin.get v.items (key.Blpu parent) ≡ None
+
 -- 37: k is an approved LPI whose BLPU is historical
 pub record NamesPast (v : View) (k : Key) : Type 0 where
   pub lpi : LpiValue
@@ -108,6 +125,11 @@ pub record PastUnderLpi (v : View) (uprn : ℕ) : Type 0 where
   pub lpi_there : IsApprovedLpi v lpi_key lpi
   pub its : lpi.uprn ≡ uprn
 
+-- 38: a descriptor is there, and its street isn't
+pub record LacksOwnStreet (v : View) (usrn : ℕ) (lang : Lang) : Type 0 where
+  pub there : holds v (key.Descriptor usrn lang) ≡ true
+  pub gone : holds v (key.Street usrn) ≡ false
+
 -- 39: a closed street that an approved LPI names
 pub record ClosedUnderLpi (v : View) (usrn : ℕ) : Type 0 where
   pub closed : IsClosedStreet v usrn
@@ -119,12 +141,15 @@ pub record ClosedUnderLpi (v : View) (usrn : ℕ) : Type 0 where
 -- each test is true just where its sentence holds
 pub record TestsSay : Type 0 where
   pub second : (v : View) (k : Key) → (is_second v k ≡ true) ↔ HasSecond v k
+  pub blpu : (v : View) (k : Key) → (lacks_blpu v k ≡ true) ↔ LacksBlpu v k
   pub found : (v w : View) (out : List (ℕ × View)) (usrn : ℕ) → (found_in v out usrn ≡ Some w) ↔ IsFirstWith (views_in_turn v out) usrn w
   pub nowhere : (v : View) (out : List (ℕ × View)) (usrn : ℕ) → (found_in v out usrn ≡ None) ↔ HaveNone (views_in_turn v out) usrn
   pub street : (v : View) (out : List (ℕ × View)) (k : Key) → (lacks_street v out k ≡ true) ↔ NamesNowhere v out k
   pub open_street : (v : View) (out : List (ℕ × View)) (k : Key) → (names_closed v out k ≡ true) ↔ NamesClosed v out k
   pub descriptor : (v : View) (out : List (ℕ × View)) (k : Key) → (lacks_descriptor v out k ≡ true) ↔ NamesUnnamed v out k
   pub leaves : (v : View) (usrn : ℕ) (lang : Lang) → (leaves_lpi v (key.Descriptor usrn lang) ≡ true) ↔ LeavesLpi v usrn lang
+  pub parent : (v : View) (uprn : ℕ) → (lacks_parent v (key.Blpu uprn) ≡ true) ↔ LacksParent v uprn
   pub names_past : (v : View) (k : Key) → (names_past v k ≡ true) ↔ NamesPast v k
   pub past_under_lpi : (v : View) (uprn : ℕ) → (past_under_lpi v (key.Blpu uprn) ≡ true) ↔ PastUnderLpi v uprn
+  pub own_street : (v : View) (usrn : ℕ) (lang : Lang) → (lacks_own_street v (key.Descriptor usrn lang) ≡ true) ↔ LacksOwnStreet v usrn lang
   pub closed_under_lpi : (v : View) (usrn : ℕ) → (closed_under_lpi v (key.Street usrn) ≡ true) ↔ ClosedUnderLpi v usrn

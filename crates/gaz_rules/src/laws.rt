@@ -8,7 +8,7 @@ pub fn worked_examples()
     ensures { WorkedExamples }
 {}
 
-/// The tests of the rules on other items, and of where a street is found, are true just where their sentences hold.
+/// The tests of the end rules, and of where a street is found, are true just where their sentences hold.
 pub fn tests_say()
     ensures { TestsSay }
 {}
