@@ -15,7 +15,7 @@ use Rattle.gaz_shelf.specs.View.{View}
 use Rattle.gaz_shelf.specs.Words.{approved_of, approved_on, entries, is_approved, is_approved_of, is_approved_on, is_in, same_lang}
 use Rattle.gaz_rules.specs.EndRules.{approved_at, as_approved}
 use Rattle.gaz_rules.proofs.Keys.{any_from, any_gives}
-use Rattle.gaz_rules.proofs.Tests.{and_then_gives, both_parts, false_by, joined}
+use Rattle.gaz_rules.proofs.Booleans.{and_then_gives, both_parts, false_by, joined}
 
 pub same_lang_is : (a b : Lang) → same_lang a b ≡ true → a ≡ b
 same_lang_is Cym Cym e = refl

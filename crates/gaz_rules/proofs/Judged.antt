@@ -23,7 +23,7 @@ use Rattle.gaz_rules.specs.Judging.{Fault, end_faults, fault_at, judge, judged_b
 use Rattle.gaz_rules.specs.Sound.{IsSound}
 use Rattle.gaz_rules.proofs.Keys.{key_tied}
 use Rattle.gaz_rules.proofs.Soundness.{AllFalse, IsForeign, Keeps, keeps_all, sound_after}
-use Rattle.gaz_rules.proofs.Tests.{by_test, false_by, neither, not_false}
+use Rattle.gaz_rules.proofs.Booleans.{by_test, false_by, neither, not_false}
 
 -- ---- from no faults
 

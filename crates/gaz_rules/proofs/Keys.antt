@@ -12,7 +12,7 @@ use Rattle.std.specs.FinMap.{IsAntisymmetric, FinMap, entries, entries_sorted, g
 use Rattle.gaz_records.proofs.KeyOrder.{keys_exact, keys_total}
 use Rattle.gaz_records.specs.Keys.{key_cmp}
 use Rattle.gaz_records.specs.declared.key.Key.{Key}
-use Rattle.gaz_rules.proofs.Tests.{or_true}
+use Rattle.gaz_rules.proofs.Booleans.{or_true}
 
 pub key_tied : (a b : Key) → eq_by_cmp key_cmp a b ≡ true → a ≡ b
 key_tied a b e = keys_exact a b ((Equal-is (key_cmp a b)).0 e)

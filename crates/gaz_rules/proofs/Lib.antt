@@ -1,6 +1,6 @@
-pub mod Tests
+pub mod Booleans
 pub mod Keys
-pub mod Rings
+pub mod ParentRings
 pub mod Approved
 pub mod Soundness
 pub mod Judged

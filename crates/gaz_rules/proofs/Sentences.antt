@@ -22,7 +22,7 @@ use Rattle.gaz_rules.specs.Sentences.{ClosedUnderLpi, HasSecond, HaveNone, IsApp
 use Rattle.gaz_rules.proofs.Approved.{an_lpi, of_from, of_gives, on_from, on_gives, same_lang_is, same_lang_itself, some_from, some_gives}
 use Rattle.gaz_rules.proofs.Keys.{key_itself, key_tied}
 use Rattle.gaz_rules.proofs.SoundBoards.{all_first, all_rest}
-use Rattle.gaz_rules.proofs.Tests.{and_then_gives, both_parts, false_by, joined, no_false, not_true, passes_some, some_passes}
+use Rattle.gaz_rules.proofs.Booleans.{and_then_gives, both_parts, false_by, joined, no_false, not_true, passes_some, some_passes}
 
 -- ---- what stands in a view
 

@@ -22,7 +22,7 @@ use Rattle.gaz_rules.specs.Sound.{AreDisjoint, AreSoundBases, IsSound, IsSoundBa
 use Rattle.gaz_rules.specs.Laws.{BoardsStaySound, StaysSound}
 use Rattle.gaz_rules.proofs.Approved.{on_gives, some_gives}
 use Rattle.gaz_rules.proofs.Judged.{judge_sound}
-use Rattle.gaz_rules.proofs.Tests.{and_false, both_false, fails_none, false_by, no_false}
+use Rattle.gaz_rules.proofs.Booleans.{and_false, both_false, fails_none, false_by, no_false}
 
 -- ---- the empty view
 

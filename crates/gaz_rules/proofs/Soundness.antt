@@ -15,8 +15,8 @@ use Rattle.gaz_rules.specs.EndRules.{ancestor, approved_at, as_approved, as_blpu
 use Rattle.gaz_rules.specs.Sound.{IsSound}
 use Rattle.gaz_rules.proofs.Approved.{of_from, of_gives, on_from, on_gives, same_lang_is, same_lang_itself, some_from, some_gives}
 use Rattle.gaz_rules.proofs.Keys.{key_itself, key_tied}
-use Rattle.gaz_rules.proofs.Rings.{join_chain, ring_breaks, some_below, split_chain}
-use Rattle.gaz_rules.proofs.Tests.{and_then_gives, both_false, both_parts, by_test, false_by, joined, neither, no_false, not_false, not_true, passes_some, some_passes, true_by, weaker}
+use Rattle.gaz_rules.proofs.ParentRings.{join_chain, ring_breaks, some_below, split_chain}
+use Rattle.gaz_rules.proofs.Booleans.{and_then_gives, both_false, both_parts, by_test, false_by, joined, neither, no_false, not_false, not_true, passes_some, some_passes, true_by, weaker}
 
 -- ---- what passes
 

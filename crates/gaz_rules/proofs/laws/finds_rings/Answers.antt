@@ -1,4 +1,4 @@
-use Rattle.gaz_rules.proofs.Rings.{finds_rings_holds}
+use Rattle.gaz_rules.proofs.ParentRings.{finds_rings_holds}
 use Rattle.gaz_rules.proofs.laws.finds_rings.Goals as goal
 
 pub returns : goal.returns

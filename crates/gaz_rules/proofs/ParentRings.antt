@@ -13,7 +13,7 @@ use Rattle.gaz_shelf.specs.View.{View, holds}
 use Rattle.gaz_rules.specs.EndRules.{ancestor, as_blpu, blpu_at, if_some, is_own_ancestor, parent_of, same_key}
 use Rattle.gaz_rules.specs.Laws.{FindsRings, IsOnRing}
 use Rattle.gaz_rules.proofs.Keys.{key_tied}
-use Rattle.gaz_rules.proofs.Tests.{and_then_gives, by_test, no_false, or_true, passes_some, some_passes}
+use Rattle.gaz_rules.proofs.Booleans.{and_then_gives, by_test, no_false, or_true, passes_some, some_passes}
 
 -- whether a test passes at some number below n
 pub some_below : (p : ℕ → Bool) (n : ℕ) → ((t : ℕ) × (t < n) × (p t ≡ true)) ⊎ ((t : ℕ) → t < n → p t ≡ false)
