@@ -15,7 +15,8 @@ use Rattle.std.specs.FinMap as map
 use Rattle.gaz_shelf.specs.View.{View}
 use Rattle.gaz_rules.specs.EndRules.{ancestor, parent_of, is_own_ancestor, if_some}
 use Rattle.gaz_records.specs.declared.key.Key.TheVariants as key
-use Rattle.gaz_rules.proofs.Chains.{and_then_gives, by_test, false_by, join_chain, ring_breaks, some_passes, split_chain}
+use Rattle.gaz_rules.proofs.Booleans.{and_then_gives, by_test, false_by, some_passes}
+use Rattle.gaz_rules.proofs.ParentRings.{join_chain, ring_breaks, split_chain}
 use Rattle.gaz_rules.specs.Rings.{IsKnown}
 
 -- ---- numbers as keys
