@@ -15,7 +15,8 @@ use Rattle.std.specs.FinMap as map
 use Rattle.gaz_shelf.specs.View.{View}
 use Rattle.gaz_rules.specs.EndRules.{ancestor, parent_of, is_own_ancestor, if_some}
 use Rattle.gaz_records.specs.declared.key.Key.TheVariants as key
-use Rattle.gaz_rules.proofs.Chains.{and_then_gives, by_test, false_by, join_chain, ring_breaks, some_passes, split_chain}
+use Rattle.gaz_rules.proofs.Booleans.{and_then_gives, by_test, false_by, some_passes}
+use Rattle.gaz_rules.proofs.ParentRings.{join_chain, ring_breaks, split_chain}
 use Rattle.gaz_rules.specs.Rings.{IsKnown}
 
 -- ---- numbers as keys
@@ -352,14 +353,22 @@ pub visited_as : (v : View) (k : ℕ) (before : ℕ → Option ℕ) (old : List 
     ((q : ℕ) → after q ≡ cond (is_at (nat_cmp at) q) (Some (length flags)) (stamps q)) → last ≡ flags ++ false ∷ [] → Walk v k before old after last (m + 1)
 visited_as v k before old stamps flags m at after last w here free set is = subst (λ f. Walk v k before old after f (m + 1)) (sym is) (visited v k before old stamps flags m at after w here free set)
 
--- the flag of one that was visited is its answer
-pub flag_right : (v : View) (stamps : ℕ → Option ℕ) (flags : List Bool) (x : ℕ) (r : Bool) →
-    IsKnown v stamps flags → is_some (stamps x) ≡ true → ((i : ℕ) (b : Bool) → stamps x ≡ Some i → slice_get flags i ≡ Some b → r ≡ b) → r ≡ is_own_ancestor v (key.Blpu x)
-flag_right v stamps flags x r known there told =
-    elim (stamps x) as (λ o. stamps x ≡ o → is_some o ≡ true → r ≡ is_own_ancestor v (key.Blpu x)) [
+-- whose parent was walked: the mark of its visit tells, and where it wasn't visited it is on no ring
+pub mark_right : (v : View) (stamps : ℕ → Option ℕ) (flags : List Bool) (x p : ℕ) (r : Bool) →
+    IsKnown v stamps flags → is_some (stamps p) ≡ true → parent_of v x ≡ Some p →
+    ((i : ℕ) (b : Bool) → stamps x ≡ Some i → slice_get flags i ≡ Some b → r ≡ b) → (stamps x ≡ None → r ≡ false) → r ≡ is_own_ancestor v (key.Blpu x)
+mark_right v stamps flags x p r known walked up told never =
+    elim (stamps x) as (λ o. stamps x ≡ o → r ≡ is_own_ancestor v (key.Blpu x)) [
+      | None ↦ λ is.
+          never is ∙ sym (off_ring v (λ y. is_some (stamps y) ≡ true) goes_on x 1 p (λ inside. true≢false (sym inside ∙ ap is_some is)) (ap (option_and_then (ancestor v 0)) up) walked)
+      | Some i ↦ λ is. told i _ is (known.right x i is)
+    ] refl
+  where
+    goes_on : (y q : ℕ) → is_some (stamps y) ≡ true → parent_of v y ≡ Some q → is_some (stamps q) ≡ true
+    goes_on y q s e = elim (stamps y) as (λ o. stamps y ≡ o → is_some o ≡ true → is_some (stamps q) ≡ true) [
       | None ↦ λ _ no. absurd (true≢false (sym no))
-      | Some i ↦ λ is _. told i _ is (known.right x i is)
-    ] refl there
+      | Some j ↦ λ was _. known.closed y j q was e
+    ] refl s
 
 -- a BLPU without a parent is on no ring
 pub no_parent : (v : View) (x : ℕ) → parent_of v x ≡ None → is_own_ancestor v (key.Blpu x) ≡ false

@@ -7,5 +7,9 @@ pub mod Sound
 pub mod Rings
 pub mod Streets
 pub mod Breaches
+pub mod Laws
+pub mod Sentences
 pub mod Examples
 pub mod Phases
+pub mod EndExamples
+pub mod JudgedExamples

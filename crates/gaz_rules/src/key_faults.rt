@@ -145,10 +145,10 @@ fn is_own_ancestor<S: Shelf>(
     requires { (S.seen shelf.old).progress ≡ Open code }
     ensures { Reads (S.seen shelf.old) (S.seen shelf.new) result (λ b. Knows (S.seen shelf.old).content.working walked.old → Knows (S.seen shelf.old).content.working walked.new × (parent ≡ parent_of (S.seen shelf.old).content.working uprn → b ≡ is_own_ancestor (S.seen shelf.old).content.working (key.Blpu uprn))) }
 {
-    let Some(_) = parent else {
+    let Some(parent) = parent else {
         return Ok(false);
     };
-    Ok(is_on_ring(shelf, code, walked, uprn)?)
+    Ok(is_on_ring(shelf, code, walked, uprn, parent)?)
 }
 
 fn is_filled(keys: &[Key]) -> bool

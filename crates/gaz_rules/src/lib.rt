@@ -2,6 +2,8 @@
 #![tactic(auto)]
 
 mod end_rules;
+#[cfg(test)]
+mod end_tests;
 mod judging;
 mod key_faults;
 pub mod laws;
@@ -9,8 +11,7 @@ mod name_faults;
 mod record_rules;
 mod rings;
 mod streets;
-
-pub use judging::judge;
-
 #[cfg(test)]
 mod tests;
+
+pub use judging::judge;

@@ -52,9 +52,10 @@ impl Walked {
         self.visits.get(&uprn).copied()
     }
 
-    /// Whether a BLPU that was visited is on a ring.
+    /// Whether a BLPU is on a ring, as far as it was visited.
     fn is_on_ring(&self, uprn: Uprn) -> bool
-        ensures { (i : ℕ) (b : Bool) → visit_of self.now uprn ≡ Some i → slice_get self.now.on_ring.items i ≡ Some b → result ≡ b }
+        ensures visited { (i : ℕ) (b : Bool) → visit_of self.now uprn ≡ Some i → slice_get self.now.on_ring.items i ≡ Some b → result ≡ b }
+        ensures never { visit_of self.now uprn ≡ None → result ≡ false }
     {
         let Some(visit) = self.visit_of(uprn) else {
             return false;
@@ -126,16 +127,17 @@ fn walk<S: Shelf>(
     Err(ShelfFault::Memory)
 }
 
-/// Whether a chain of parents leads from a BLPU back to it.
+/// Whether a chain of parents leads from a BLPU with this parent back to it.
 pub(crate) fn is_on_ring<S: Shelf>(
     shelf: &mut S,
     code: Code,
     walked: &mut Walked,
     uprn: Uprn,
+    parent: Uprn,
 ) -> Result<bool, ShelfFault>
     requires { (S.seen shelf.old).progress ≡ Open code }
-    ensures { Reads (S.seen shelf.old) (S.seen shelf.new) result (λ b. Knows (S.seen shelf.old).content.working walked.old → Knows (S.seen shelf.old).content.working walked.new × (b ≡ is_own_ancestor (S.seen shelf.old).content.working (key.Blpu uprn))) }
+    ensures { Reads (S.seen shelf.old) (S.seen shelf.new) result (λ b. Knows (S.seen shelf.old).content.working walked.old → Knows (S.seen shelf.old).content.working walked.new × (parent_of (S.seen shelf.old).content.working uprn ≡ Some parent → b ≡ is_own_ancestor (S.seen shelf.old).content.working (key.Blpu uprn))) }
 {
-    walk(shelf, code, walked, uprn)?;
+    walk(shelf, code, walked, parent)?;
     Ok(walked.is_on_ring(uprn))
 }

@@ -1,47 +1,19 @@
--- Chains of parents; no ring is longer than the view.
-use Rattle.std.proofs.Common.{◌≡◌, ◌≤◌, ◌<◌, ◌+◌, ◌-◌, ℕ, zero, suc, Bool, true, false, cond, nat_eq, ◌||◌, ◌⊎◌, inl, inr, refl, sym, ap, ◌∙◌, subst, true≢false, is_some, arith, eq-eqb, suc-add}
+-- Rings of parents: none is longer than the view.
+use Rattle.std.proofs.Common.{◌≡◌, ◌≤◌, ◌<◌, ◌+◌, ◌-◌, ℕ, zero, suc, Bool, true, false, cond, nat_eq, ◌||◌, ◌⊎◌, inl, inr, refl, sym, ap, ◌∙◌, subst, true≢false, is_some, arith, eqb-true, eq-eqb, suc-add}
 use Rattle.std.proofs.lemmas.Bool.Decides.{leb_tells}
-use Rattle.std.specs.Prelude.{Option, Some, None}
+use Rattle.std.specs.Prelude.{Some, None}
 use Rattle.std.specs.Option.{option_and_then, unwrap_or}
 use Rattle.std.specs.List.{list_any, range_with_len}
 use Rattle.std.specs.FinMap as map
+use Rattle.gaz_records.proofs.KeyOrder.{keys_total}
 use Rattle.gaz_records.specs.Keys.{key_cmp}
-use Rattle.gaz_shelf.specs.View.{View, holds}
-use Rattle.gaz_rules.specs.EndRules.{if_some, same_key, ancestor, parent_of, blpu_at, as_blpu, is_own_ancestor}
 use Rattle.gaz_records.specs.declared.key.Key.{Key}
 use Rattle.gaz_records.specs.declared.key.Key.TheVariants as key
-use Rattle.std.specs.Ordering.{eq_by_cmp}
-use Rattle.std.specs.Cmp.{Equal-is}
-use Rattle.gaz_records.proofs.KeyOrder.{keys_exact, keys_total}
-
--- ---- tests, and the values that pass them
-
-pub no_false : {P : Type 0} (b : Bool) → b ≡ true → b ≡ false → P
-no_false b t f = absurd (true≢false (sym t ∙ f))
-
-pub false_by : (b : Bool) → (b ≡ true → ⊥) → b ≡ false
-false_by true h = absurd (h refl)
-false_by false h = refl
-
-pub by_test : {P : Type 0} (b : Bool) → (b ≡ true → P) → (b ≡ false → P) → P
-by_test true y n = y refl
-by_test false y n = n refl
-
-pub some_passes : {T : Type 0} (o : Option T) (p : T → Bool) → if_some o p ≡ true → (x : T) × (o ≡ Some x) × (p x ≡ true)
-some_passes None p e = absurd (true≢false (sym e))
-some_passes (Some x) p e = (x, refl, e)
-
-pub passes_some : {T : Type 0} (o : Option T) (p : T → Bool) (x : T) → o ≡ Some x → p x ≡ true → if_some o p ≡ true
-passes_some o p x e h = ap (λ w. if_some w p) e ∙ h
-
-pub and_then_gives : {T U : Type 0} (f : T → Option U) (o : Option T) (y : U) → option_and_then f o ≡ Some y → (x : T) × (o ≡ Some x) × (f x ≡ Some y)
-and_then_gives f None y e = cc
-and_then_gives f (Some x) y e = (x, refl, e)
-
-key_tied : (a b : Key) → eq_by_cmp key_cmp a b ≡ true → a ≡ b
-key_tied a b e = keys_exact a b ((Equal-is (key_cmp a b)).0 e)
-
--- ---- rings
+use Rattle.gaz_shelf.specs.View.{View, holds}
+use Rattle.gaz_rules.specs.EndRules.{ancestor, as_blpu, blpu_at, if_some, is_own_ancestor, parent_of, same_key}
+use Rattle.gaz_rules.specs.Laws.{FindsRings, IsOnRing}
+use Rattle.gaz_rules.proofs.Keys.{key_tied}
+use Rattle.gaz_rules.proofs.Booleans.{and_then_gives, by_test, no_false, or_true, passes_some, some_passes}
 
 -- whether a test passes at some number below n
 pub some_below : (p : ℕ → Bool) (n : ℕ) → ((t : ℕ) × (t < n) × (p t ≡ true)) ⊎ ((t : ℕ) → t < n → p t ≡ false)
@@ -141,13 +113,27 @@ any_in_range p start (suc n) j a b h =
       | inl later ↦ or_true (p start) _ (any_in_range p (start + 1) n j (omega (arith, later.1)) (omega arith) h)
       | inr here ↦ let e : start ≡ j = omega arith in ap (λ x. x || list_any p (range_with_len (start + 1) n)) (ap p e ∙ h)
     ]
-  where
-    or_true : (a b : Bool) → b ≡ true → (a || b) ≡ true
-    or_true true b e = refl
-    or_true false b e = e
+
+in_range_some : (p : ℕ → Bool) (start n : ℕ) → list_any p (range_with_len start n) ≡ true → (j : ℕ) × (start ≤ j) × (p j ≡ true)
+in_range_some p start zero h = absurd (true≢false (sym h))
+in_range_some p start (suc n) h =
+    by_test (p start) (λ y. (start, omega arith, y))
+    (λ fails.
+    let rest = in_range_some p (start + 1) n (sym (ap (λ b. b || list_any p (range_with_len (start + 1) n)) fails) ∙ h) in
+    (rest.0, omega (arith, rest.1), rest.2))
 
 -- a ring of any length breaks the rule
 pub ring_breaks : (v : View) (n steps : ℕ) → 1 ≤ steps → ancestor v steps n ≡ Some n → is_own_ancestor v (key.Blpu n) ≡ true
 ring_breaks v n steps h e =
     let j = short_ring v steps steps n (omega arith) h e in
     any_in_range _ 1 (map.len v.items) j.0 j.1 (omega arith) (passes_some (ancestor v j.0 n) (λ a. nat_eq a n) n j.3 (eq-eqb n n refl))
+
+-- and what breaks it is on a ring
+ring_found : (v : View) (n : ℕ) → is_own_ancestor v (key.Blpu n) ≡ true → IsOnRing v n
+ring_found v n h =
+    let j = in_range_some (λ k. if_some (ancestor v k n) (λ a. nat_eq a n)) 1 (map.len v.items) h in
+    let end = some_passes (ancestor v j.0 n) (λ a. nat_eq a n) j.2 in
+    record { steps = j.0; at_least_one = j.1; leads = end.1 ∙ ap Some (eqb-true _ _ end.2) }
+
+pub finds_rings_holds : FindsRings
+finds_rings_holds v n = (ring_found v n, λ ring. ring_breaks v n ring.steps ring.at_least_one ring.leads)
