@@ -1,5 +1,6 @@
 pub mod View
 pub mod Words
+pub mod Reading
 pub mod ViewCode
 pub mod Board
 pub mod Received
