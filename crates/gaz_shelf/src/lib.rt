@@ -4,6 +4,7 @@
 mod fault;
 mod faulty;
 mod files;
+mod index;
 pub mod laws;
 mod ledger;
 mod mem_shelf;
