@@ -61,3 +61,7 @@ goes_then a b c x r asked k n m p q first same becomes second =
 
 pub still_idle : (a b : Seen) → Keeps a b → a.progress ≡ Idle → b.progress ≡ Idle
 still_idle a b k e = subst (λ p. IsLeft p b.progress) e k.progress
+
+pub where_err : {T E P : Type 0} (r : Result T E) → P → OnErr r P
+where_err (Ok x) h = tt
+where_err (Err e) h = h

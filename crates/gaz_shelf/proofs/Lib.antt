@@ -1,6 +1,10 @@
 pub mod Trees
 pub mod Examples
 pub mod Keeping
+pub mod Pages
+pub mod Marks
+pub mod Indexes
+pub mod Marked
 pub mod Pairs
 pub mod Ledgers
 pub mod Mem

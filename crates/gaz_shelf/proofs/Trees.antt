@@ -13,7 +13,7 @@ use Rattle.std.specs.Map.{lookup, keys_of}
 use Rattle.std.specs.List.Sorted.{IsStrictlySortedBy}
 
 module _ {K X : Type 0} {R S : K → K → Ordering} (same : (a b : K) → S a b ≡ R a b) where
-  find-is : (es : List (K × X)) (q : K) → map.find R q es ≡ lookup (is_at (S q)) es
+  pub find-is : (es : List (K × X)) (q : K) → map.find R q es ≡ lookup (is_at (S q)) es
   find-is [] q = refl
   find-is (e ∷ es) q = ap (λ r. cond (is_eq r) (Some e.1) (map.find R q es)) (sym (same q e.0)) ∙ ap (cond (is_at (S q) e.0) (Some e.1)) (find-is es q)
 
@@ -42,7 +42,7 @@ or_cond true b = refl
 or_cond false b = refl
 
 module _ {K : Type 0} {R S : K → K → Ordering} (same : (a b : K) → S a b ≡ R a b) where
-  any-is : (ks : List K) (q : K) → list_any (eq_by_cmp R q) ks ≡ list_any (is_at (S q)) ks
+  pub any-is : (ks : List K) (q : K) → list_any (eq_by_cmp R q) ks ≡ list_any (is_at (S q)) ks
   any-is [] q = refl
   any-is (k ∷ ks) q = ap (λ r. is_eq r || list_any (eq_by_cmp R q) ks) (sym (same q k)) ∙ ap (λ b. is_at (S q) k || b) (any-is ks q)
 

@@ -1,5 +1,7 @@
 pub mod View
 pub mod Words
+pub mod Reading
+pub mod Indexes
 pub mod ViewCode
 pub mod Board
 pub mod Received

@@ -1,5 +1,5 @@
 //! A keeper of whole maps.
-ghost use Rattle.std.specs.Prelude.{◌≡◌, ◌≢◌, ◌≤◌, ◌<◌, ◌==◌, ◌^◌, ◌-◌, ℕ, if◌then◌else◌, ⊤, IfOk, MatchOption, OnOk, OnErr, option_map};
+ghost use Rattle.std.specs.Prelude.{◌≡◌, ◌≢◌, ◌≤◌, ◌<◌, ◌==◌, ◌^◌, ◌-◌, ℕ, if◌then◌else◌, ⊤, IfOk, IsOk, MatchOption, OnOk, OnErr, option_map};
 ghost use Rattle.std.specs.FinMap as map;
 ghost use Rattle.gaz_shelf.specs.View.{empty_view, was_used};
 ghost use Rattle.gaz_shelf.specs.Words.{approved_of, approved_on, has_children, page};
@@ -288,12 +288,18 @@ impl Shelf for MemShelf {
 
     ghost seen = { seen_in };
 
-    fn reached(&mut self, code: Code) -> Result<u64, ShelfFault> {
+    fn reached(&mut self, code: Code) -> Result<u64, ShelfFault>
+        ensures reads { Reads (seen_in self.old) (seen_in self.new) result (λ n. n ≡ reached (content_in self.old).board code) }
+        ensures answers { IsOk result }
+    {
         self.clear();
         Ok(reached_in(&self.ledgers, code))
     }
 
-    fn verdict(&mut self, code: Code, volume: Volume) -> Result<Option<Verdict>, ShelfFault> {
+    fn verdict(&mut self, code: Code, volume: Volume) -> Result<Option<Verdict>, ShelfFault>
+        ensures reads { Reads (seen_in self.old) (seen_in self.new) result (λ v. v ≡ verdict_on (content_in self.old).board code volume) }
+        ensures answers { IsOk result }
+    {
         self.clear();
         Ok(self.find_verdict(code, volume))
     }
@@ -308,7 +314,10 @@ impl Shelf for MemShelf {
         Ok(self.find_at(code, volume, key)?)
     }
 
-    fn ever(&mut self, code: Code, key: &Key) -> Result<bool, ShelfFault> {
+    fn ever(&mut self, code: Code, key: &Key) -> Result<bool, ShelfFault>
+        ensures reads { Reads (seen_in self.old) (seen_in self.new) result (λ b. b ≡ was_used (view_of (seen_in self.old) code) key.now) }
+        ensures answers { IsOk result }
+    {
         self.clear();
         Ok(self.find_ever(code, key))
     }
@@ -422,7 +431,10 @@ impl Inbox for MemShelf {
         Ok(())
     }
 
-    fn held(&mut self, code: Code) -> Result<u64, ShelfFault> {
+    fn held(&mut self, code: Code) -> Result<u64, ShelfFault>
+        ensures reads { Reads (seen_in self.old) (seen_in self.new) result (λ n. n ≡ count_above (content_in self.old).files code (reached (content_in self.old).board code)) }
+        ensures answers { IsOk result }
+    {
         self.clear();
         Ok(
             self.files

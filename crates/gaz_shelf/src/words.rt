@@ -1,6 +1,5 @@
 //! What is asked of a view, over its entries as they stand.
 ghost use Rattle.std.specs.Prelude.{◌≡◌, ◌&&◌, map, filter, take, IfOk};
-ghost use Rattle.std.specs.List.{list_any};
 ghost use Rattle.std.specs.BTreeMap.{keys};
 ghost use Rattle.std.specs.List.Sorted.{IsStrictlySortedBy};
 ghost use Rattle.gaz_shelf.specs.Words.{comes_after, is_approved_of, is_approved_on, is_child_of, is_in, is_of};
@@ -10,7 +9,7 @@ use gaz_records::{Item, Key, Kind};
 use std::alloc::{AllocError, Global};
 use std::collections::BTreeMap;
 
-fn is_approved_of(uprn: Uprn, item: &Item) -> bool
+pub fn is_approved_of(uprn: Uprn, item: &Item) -> bool
     ensures { result ≡ is_approved_of uprn item.now }
 {
     let Item::Lpi(lpi) = item else {
@@ -28,7 +27,7 @@ fn is_in(lang: Option<Lang>, of: Lang) -> bool
     }
 }
 
-fn is_approved_on(usrn: Usrn, lang: Option<Lang>, item: &Item) -> bool
+pub fn is_approved_on(usrn: Usrn, lang: Option<Lang>, item: &Item) -> bool
     ensures { result ≡ is_approved_on usrn lang item.now }
 {
     let Item::Lpi(lpi) = item else {
@@ -37,7 +36,7 @@ fn is_approved_on(usrn: Usrn, lang: Option<Lang>, item: &Item) -> bool
     matches!(lpi.status, Status::Approved) && lpi.usrn == usrn && is_in(lang, lpi.lang)
 }
 
-fn is_child_of(uprn: Uprn, item: &Item) -> bool
+pub fn is_child_of(uprn: Uprn, item: &Item) -> bool
     ensures { result ≡ is_child_of uprn item.now }
 {
     let Item::Blpu(blpu) = item else {
@@ -76,47 +75,6 @@ pub fn in_order(items: &BTreeMap<Key, Item>)
     ensures { IsStrictlySortedBy ⟦<Key as Ord>⟧.cmp (keys items.now) }
 {
     let _count = items.len();
-}
-
-/// The keys of a BLPU's approved LPIs.
-pub fn keys_of_approved(
-    alloc: Global,
-    items: &BTreeMap<Key, Item>,
-    uprn: Uprn,
-) -> Result<Vec<Key>, AllocError>
-    ensures { IfOk result (λ ks. ks.items ≡ map (λ e. e.0) (filter (λ e. is_approved_of uprn e.1) items.now.entries)) }
-{
-    let mut keys = Vec::new(alloc);
-    for (key, item) in items {
-        if is_approved_of(uprn, item) {
-            keys.push(*key)?;
-        }
-    }
-    Ok(keys)
-}
-
-/// Whether an approved LPI is on a street.
-pub fn any_approved_on(items: &BTreeMap<Key, Item>, usrn: Usrn, lang: Option<Lang>) -> bool
-    ensures { result ≡ list_any (λ e. is_approved_on usrn lang e.1) items.now.entries }
-{
-    for (_, item) in items {
-        if is_approved_on(usrn, lang, item) {
-            return true;
-        }
-    }
-    false
-}
-
-/// Whether a BLPU is a part of this one.
-pub fn any_child_of(items: &BTreeMap<Key, Item>, uprn: Uprn) -> bool
-    ensures { result ≡ list_any (λ e. is_child_of uprn e.1) items.now.entries }
-{
-    for (_, item) in items {
-        if is_child_of(uprn, item) {
-            return true;
-        }
-    }
-    false
 }
 
 /// The first items of a kind after a key.

@@ -22,9 +22,7 @@ pub fn put_all<S: Shelf>(shelf: &mut S, items: Vec<Item>) -> Result<(), ShelfFau
     requires { (S.seen shelf.old).progress ≢ Idle }
     ensures { Sets (S.seen shelf.old) (S.seen shelf.new) result (fold with_item (S.seen shelf.old).content.working items.items) }
 {
-    let mut items = items;
-    while !items.is_empty() {
-        let item = items.remove(0);
+    for item in items {
         shelf.put(item)?;
     }
     Ok(())

@@ -1,12 +1,13 @@
 -- What is left comes to the same view.
-use Rattle.std.proofs.Common.{◌≡◌, ◌≤◌, vec_len}
+use Rattle.std.proofs.Common.{◌≡◌, ◌≤◌}
 use Rattle.std.specs.Prelude.{fold}
+use Rattle.std.specs.Vec.Iter.{into_iter_items}
 use Rattle.gaz_shelf.specs.View.{with_item}
 use Rattle.gaz_shelf.specs.Keeper.{closed, with_working}
 use Rattle.gaz_shelf.proofs.writing.put_all.Given as goal
 
-abbrev pub invariant-loop-items : goal.invariant-loop-items
-invariant-loop-items g l =
+abbrev pub invariant-loop-item : goal.invariant-loop-item
+invariant-loop-item g l =
     let now = g.S.Shelf.seen l.shelf in
     let was = g.S.Shelf.seen l.fn.shelf in
     record {
@@ -14,9 +15,6 @@ invariant-loop-items g l =
       stands : was.stands → now.unharmed → now.stands;
       going : now.progress ≡ was.progress;
       counted : was.failures ≤ now.failures;
-      left : was.stands → now.unharmed → with_working now.content (fold with_item now.content.working l.items.items) ≡ with_working was.content (fold with_item was.content.working l.fn.items.items);
+      left : was.stands → now.unharmed → with_working now.content (fold with_item now.content.working (into_iter_items l.item-iterator)) ≡ with_working was.content (fold with_item was.content.working l.fn.items.items);
       undone : was.stands → now.unharmed → closed now.content ≡ closed was.content;
     }
-
-abbrev pub decreases-loop-items : goal.decreases-loop-items
-decreases-loop-items g l = vec_len l.items

@@ -1,0 +1,242 @@
+-- The keys under a mark whose items have it are those of all items that have it.
+use Rattle.std.proofs.Common.{◌≡◌, ◌&&◌, ◌||◌, Bool, true, false, not, cond, List, [], ◌∷◌, map, refl, sym, ap, subst, ◌∙◌, ℕ}
+use Rattle.std.specs.Prelude.{Option, Some, None, filter, ◌==◌}
+use Rattle.std.proofs.lemmas.List.Kept.{IsStrictlySortedBy-filter}
+use Rattle.std.proofs.lemmas.Map.Views.{any-filter_same}
+use Rattle.std.specs.FinMap as finite
+use Rattle.std.specs.FinMap.{find}
+use Rattle.std.specs.List.{AllByRecursion, list_any}
+use Rattle.std.specs.List.Sorted.{IsStrictlySortedBy}
+use Rattle.std.specs.Map.{keys_of, lookup}
+use Rattle.std.specs.Option.{IfSome, option_map_or}
+use Rattle.std.specs.Ordering.{eq_by_cmp, is_eq}
+use Rattle.std.specs.declared.cmp.Ordering.{Ordering}
+use Rattle.std.specs.declared.cmp.Ordering.TheVariants.{Less, Equal, Greater}
+use Rattle.gaz_ids.specs.declared.lang.Lang.{Lang}
+use Rattle.gaz_ids.specs.declared.lang.Lang.TheVariants.{Cym, Eng}
+use Rattle.gaz_records.proofs.KeyOrder.{keys_exact, keys_same, keys_total}
+use Rattle.gaz_records.specs.Keys.{key_cmp}
+use Rattle.gaz_records.specs.contracts.key.KeyOrd.TheImpl.{cmp-value}
+use Rattle.gaz_records.specs.declared.item.Item.{Item}
+use Rattle.gaz_records.specs.declared.item.Item.TheVariants as item
+use Rattle.gaz_records.specs.declared.key.Key.{Key}
+use Rattle.std.specs.BTreeMap.{is_at}
+use Rattle.std.specs.BTreeSet.{BTreeSet}
+use Rattle.gaz_shelf.proofs.Indexes.{same_mark}
+use Rattle.gaz_shelf.proofs.Trees.{entries_tree, find-is}
+use Rattle.gaz_shelf.specs.Indexes.{FindsAll, has_mark, is_under, keys_under, mark_cmp, marked_at}
+use Rattle.gaz_shelf.specs.declared.index.Index.{Index}
+use Rattle.gaz_shelf.specs.Words.{is_approved, is_approved_on, is_in}
+use Rattle.gaz_shelf.specs.declared.index.Mark.{Mark}
+
+abbrev Row : Type 0
+Row = Key × Item
+
+abbrev Ascends : List Key → Type 0
+Ascends ks = IsStrictlySortedBy cmp-value.it ks
+
+abbrev has : List Key → Key → Bool
+has ks q = list_any (eq_by_cmp key_cmp q) ks
+
+is_equal : (o : Ordering) → is_eq o ≡ true → o ≡ Equal
+is_equal Less e = cc
+is_equal Equal e = refl
+is_equal Greater e = cc
+
+same_key : (q k : Key) → eq_by_cmp key_cmp q k ≡ true → q ≡ k
+same_key q k e = keys_exact q k (is_equal _ e)
+
+-- ---- lists that ascend and have the same keys are one
+
+abbrev alone : List Key → List (Key × Unit {0})
+alone ks = map (λ k. (k, tt)) ks
+
+keys_alone : (ks : List Key) → keys_of (alone ks) ≡ ks
+keys_alone [] = refl
+keys_alone (k ∷ ks) = ap (λ l. k ∷ l) (keys_alone ks)
+
+find_alone : (q : Key) (ks : List Key) → find key_cmp q (alone ks) ≡ cond (has ks q) (Some tt) None
+find_alone q [] = refl
+find_alone q (k ∷ ks) = elim (eq_by_cmp key_cmp q k) as (λ b. cond b (Some tt) (find key_cmp q (alone ks)) ≡ cond (b || has ks q) (Some tt) None) [ true ↦ refl | false ↦ find_alone q ks ]
+
+alone_back : (ks : List Key) → Ascends ks → finite.entries (finite.from_entries {R = key_cmp} (alone ks)) ≡ alone ks
+alone_back ks h = entries_tree keys_same keys_total (alone ks) (subst Ascends (sym (keys_alone ks)) h)
+
+same_keys : (xs ys : List Key) → Ascends xs → Ascends ys → ((q : Key) → has xs q ≡ has ys q) → xs ≡ ys
+same_keys xs ys hx hy same =
+    let maps = finite.same_map keys_total keys_exact (finite.from_entries {R = key_cmp} (alone xs)) (finite.from_entries {R = key_cmp} (alone ys)) (λ q.
+    finite.get-from_entries keys_total (alone xs) q ∙ find_alone q xs ∙ ap (λ b. cond b (Some tt) None) (same q) ∙ sym (find_alone q ys) ∙ sym (finite.get-from_entries keys_total (alone ys) q)) in
+    sym (keys_alone xs) ∙ ap keys_of (sym (alone_back xs hx) ∙ ap finite.entries maps ∙ alone_back ys hy) ∙ keys_alone ys
+
+-- ---- the rows that pass a test
+
+all_kept : (P : Key → Type 0) (p : Row → Bool) (es : List Row) → AllByRecursion P (keys_of es) → AllByRecursion P (keys_of (filter p es))
+all_kept P p [] h = tt
+all_kept P p (e ∷ es) h = elim (p e) as (λ b. AllByRecursion P (keys_of (cond b (e ∷ filter p es) (filter p es)))) [ true ↦ (h.0, all_kept P p es h.1) | false ↦ all_kept P p es h.1 ]
+
+rows_ascend : (p : Row → Bool) (es : List Row) → Ascends (keys_of es) → Ascends (keys_of (filter p es))
+unfolding IsStrictlySortedBy
+rows_ascend p [] h = tt
+rows_ascend p (e ∷ es) h = elim (p e) as (λ b. Ascends (keys_of (cond b (e ∷ filter p es) (filter p es)))) [ true ↦ (all_kept (λ y. cmp-value.it e.0 y ≡ Less) p es h.0, rows_ascend p es h.1) | false ↦ rows_ascend p es h.1 ]
+
+missing : (k : Key) (es : List Row) → AllByRecursion (λ y. cmp-value.it k y ≡ Less) (keys_of es) → find key_cmp k es ≡ None
+missing k [] h = refl
+missing k (e ∷ es) h = ap (λ r. cond (is_eq r) (Some e.1) (find key_cmp k es)) (sym (keys_same k e.0) ∙ h.0) ∙ missing k es h.1
+
+is_cons : {X : Type 0} → List X → Bool
+is_cons [] = false
+is_cons (x ∷ xs) = true
+
+some_kept : {X : Type 0} (p : X → Bool) (xs : List X) → list_any p xs ≡ is_cons (filter p xs)
+unfolding is_cons
+some_kept p [] = refl
+some_kept p (x ∷ xs) = elim (p x) as (λ b. (b || list_any p xs) ≡ is_cons (cond b (x ∷ filter p xs) (filter p xs))) [ true ↦ refl | false ↦ some_kept p xs ]
+
+some_keys : (es : List Row) → is_cons (keys_of es) ≡ is_cons es
+unfolding is_cons
+some_keys [] = refl
+some_keys (e ∷ es) = refl
+
+module _ (m : Mark) where
+  abbrev passes : Row → Bool
+  passes e = has_mark m e.1
+
+  -- a key has a marked item where one of the marked rows has that key
+  held : (es : List Row) → Ascends (keys_of es) → (q : Key) → has (keys_of (filter passes es)) q ≡ marked_at es m q
+  unfolding IsStrictlySortedBy
+  held [] h q = refl
+  held (e ∷ es) h q = by_test (held es h.1 q) (has_mark m e.1) refl (eq_by_cmp key_cmp q e.0) refl
+    where
+      by_test : has (keys_of (filter passes es)) q ≡ marked_at es m q → (b : Bool) → has_mark m e.1 ≡ b → (c : Bool) → eq_by_cmp key_cmp q e.0 ≡ c
+          → has (keys_of (cond b (e ∷ filter passes es) (filter passes es))) q ≡ option_map_or (has_mark m) (cond c (Some e.1) (find key_cmp q es)) false
+      by_test rest true is true at = ap (λ b. b || has (keys_of (filter passes es)) q) at ∙ sym is
+      by_test rest true is false at = ap (λ b. b || has (keys_of (filter passes es)) q) at ∙ rest
+      by_test rest false is true at = rest ∙ ap (λ (k : Key). marked_at es m k) (same_key q e.0 at) ∙ ap (λ (o : Option Item). option_map_or (has_mark m) o false) (missing e.0 es h.0) ∙ sym is
+      by_test rest false is false at = rest
+
+  module _ (es : List Row) (ks : List Key) (ascend : Ascends (keys_of es)) (in_order : Ascends ks) (finds : (k : Key) → IfSome (find key_cmp k es) (λ i. has_mark m i ≡ true → has ks k ≡ true)) where
+    found : (q : Key) (o : Option Item) → IfSome o (λ i. has_mark m i ≡ true → has ks q ≡ true) → (option_map_or (has_mark m) o false && has ks q) ≡ option_map_or (has_mark m) o false
+    found q None h = refl
+    found q (Some i) h = by_mark (has_mark m i) refl
+      where
+        by_mark : (b : Bool) → has_mark m i ≡ b → (b && has ks q) ≡ b
+        by_mark true is = h is
+        by_mark false is = refl
+
+    pub marked_keys : filter (marked_at es m) ks ≡ keys_of (filter passes es)
+    marked_keys = same_keys _ _ (IsStrictlySortedBy-filter cmp-value.it (marked_at es m) ks in_order) (rows_ascend passes es ascend) (λ q.
+        any-filter_same (eq_by_cmp key_cmp q) (marked_at es m) (marked_at es m q) (λ k is. ap (marked_at es m) (sym (same_key q k is))) ks
+        ∙ found q (find key_cmp q es) (finds q) ∙ sym (held es ascend q))
+
+    pub any_marked : list_any (marked_at es m) ks ≡ list_any passes es
+    any_marked = some_kept (marked_at es m) ks ∙ ap is_cons marked_keys ∙ some_keys (filter passes es) ∙ sym (some_kept passes es)
+
+-- ---- whichever language
+
+either_row : (p q r : Row → Bool) → ((e : Row) → p e ≡ (q e || r e)) → (es : List Row) → list_any p es ≡ (list_any q es || list_any r es)
+either_row p q r h [] = refl
+either_row p q r h (e ∷ es) = (λ i. h e i || either_row p q r h es i) ∙ swapped (q e) (r e) (list_any q es) (list_any r es)
+  where
+    swapped : (a b c d : Bool) → ((a || b) || (c || d)) ≡ ((a || c) || (b || d))
+    swapped true b c d = refl
+    swapped false true true d = refl
+    swapped false true false d = refl
+    swapped false false c d = refl
+
+either_lang : (usrn : ℕ) (i : Item) → is_approved_on usrn None i ≡ (is_approved_on usrn (Some Cym) i || is_approved_on usrn (Some Eng) i)
+either_lang usrn (item.Street x) = refl
+either_lang usrn (item.Descriptor x) = refl
+either_lang usrn (item.Blpu x) = refl
+either_lang usrn (item.Xref x) = refl
+either_lang usrn (item.Lpi l) = both (is_approved l.status) (l.usrn == usrn) l.lang
+  where
+    both : (a b : Bool) (l : Lang) → (a && b && true) ≡ ((a && b && is_in (Some Cym) l) || (a && b && is_in (Some Eng) l))
+    both false b l = refl
+    both true false l = refl
+    both true true Cym = refl
+    both true true Eng = refl
+
+pub any_lang : (usrn : ℕ) (es : List Row) → list_any (λ e. is_approved_on usrn None e.1) es ≡ (list_any (λ e. is_approved_on usrn (Some Cym) e.1) es || list_any (λ e. is_approved_on usrn (Some Eng) e.1) es)
+any_lang usrn es = either_row _ _ _ (λ e. either_lang usrn e.1) es
+
+-- ---- finding goes on where the index or the items change
+
+module _ (x y : Index) (es : List Row) where
+  -- a key is taken from under a mark that its item hasn't
+  pub still_finds : (mark : Mark) (key : Key) → FindsAll x es → marked_at es mark key ≡ false
+      → ((m : Mark) (k : Key) → is_under y m k ≡ (not (eq_by_cmp mark_cmp mark m && eq_by_cmp key_cmp key k) && is_under x m k)) → FindsAll y es
+  still_finds mark key finds without less m k = by_item (find key_cmp k es) refl (finds m k)
+    where
+      by_same : (i : Item) → find key_cmp k es ≡ Some i → has_mark m i ≡ true → (a : Bool) → eq_by_cmp mark_cmp mark m ≡ a → (b : Bool) → eq_by_cmp key_cmp key k ≡ b → is_under x m k ≡ true → (not (a && b) && is_under x m k) ≡ true
+      by_same i there is true at true at' under =
+          let other : marked_at es mark key ≡ true =
+          (λ j. marked_at es (same_mark mark m at j) (same_key key k at' j)) ∙ ap (λ (o : Option Item). option_map_or (has_mark m) o false) there ∙ is in
+          cc
+      by_same i there is true at false at' under = under
+      by_same i there is false at b at' under = under
+
+      by_item : (o : Option Item) → find key_cmp k es ≡ o → IfSome o (λ i. has_mark m i ≡ true → is_under x m k ≡ true) → IfSome o (λ i. has_mark m i ≡ true → is_under y m k ≡ true)
+      by_item None there h = tt
+      by_item (Some i) there h = λ is. less m k ∙ by_same i there is (eq_by_cmp mark_cmp mark m) refl (eq_by_cmp key_cmp key k) refl (h is)
+
+  -- more is under marks
+  pub finds_with_more : FindsAll x es → ((m : Mark) (k : Key) → is_under x m k ≡ true → is_under y m k ≡ true) → FindsAll y es
+  finds_with_more finds more m k = by_item (find key_cmp k es) (finds m k)
+    where
+      by_item : (o : Option Item) → IfSome o (λ i. has_mark m i ≡ true → is_under x m k ≡ true) → IfSome o (λ i. has_mark m i ≡ true → is_under y m k ≡ true)
+      by_item None h = tt
+      by_item (Some i) h = λ is. more m k (h is)
+
+module _ (x : Index) (es fs : List Row) (key : Key) where
+  abbrev Becomes : Option Item → Type 0
+  Becomes o = (q : Key) → lookup (is_at (cmp-value.it q)) fs ≡ cond (is_at (cmp-value.it key) q) o (lookup (is_at (cmp-value.it q)) es)
+
+  now_at : (o : Option Item) → Becomes o → (k : Key) → find key_cmp k fs ≡ cond (eq_by_cmp key_cmp key k) o (find key_cmp k es)
+  now_at o h k = find-is keys_same fs k ∙ h k ∙ (λ j. cond (is_eq (keys_same key k j)) o (sym (find-is keys_same es k) j))
+
+  abbrev Found : Mark → Key → Option Item → Type 0
+  Found m k o = IfSome o (λ i. has_mark m i ≡ true → is_under x m k ≡ true)
+
+  -- an item is gone
+  pub finds_fewer : FindsAll x es → Becomes None → FindsAll x fs
+  finds_fewer finds gone m k = subst (Found m k) (sym (now_at None gone k)) (by_same (eq_by_cmp key_cmp key k))
+    where
+      by_same : (b : Bool) → Found m k (cond b None (find key_cmp k es))
+      by_same true = tt
+      by_same false = finds m k
+
+  -- an item came, which is found under its marks
+  pub finds_new : (i : Item) → FindsAll x es → ((m : Mark) → has_mark m i ≡ true → is_under x m key ≡ true) → Becomes (Some i) → FindsAll x fs
+  finds_new i finds under came m k = subst (Found m k) (sym (now_at (Some i) came k)) (by_same (eq_by_cmp key_cmp key k) refl)
+    where
+      by_same : (b : Bool) → eq_by_cmp key_cmp key k ≡ b → Found m k (cond b (Some i) (find key_cmp k es))
+      by_same true at = λ is. ap (is_under x m) (sym (same_key key k at)) ∙ under m is
+      by_same false at = finds m k
+
+-- a copy finds the same
+pub finds_alike : (x y : Index) (es fs : List Row) → FindsAll x es → y.by_mark.entries ≡ x.by_mark.entries → fs ≡ es → FindsAll y fs
+finds_alike x y es fs finds same rows m k =
+    let P : List (Mark × BTreeSet Key) → List Row → Type 0 = λ sets rows. IfSome (find key_cmp k rows) (λ i. has_mark m i ≡ true → list_any (eq_by_cmp key_cmp k) (option_map_or (λ s. s.keys) (lookup (is_at (mark_cmp m)) sets) []) ≡ true) in
+    subst (λ sets. P sets fs) (sym same) (subst (P x.by_mark.entries) (sym rows) (finds m k))
+
+-- ---- what an index that finds all gives
+
+module _ (x : Index) (es : List Row) (m : Mark) (ascend : Ascends (keys_of es)) (finds : FindsAll x es) where
+  under_these : (ks : List Key) → ks ≡ keys_under x m → (k : Key) → IfSome (find key_cmp k es) (λ i. has_mark m i ≡ true → has ks k ≡ true)
+  under_these ks is k = subst (λ l. IfSome (find key_cmp k es) (λ i. has_mark m i ≡ true → has l k ≡ true)) (sym is) (finds m k)
+
+  nothing_ascends : Ascends []
+  unfolding IsStrictlySortedBy
+  nothing_ascends = tt
+
+  pub any_under : (ks : List Key) → Ascends ks → ks ≡ keys_under x m → list_any (marked_at es m) ks ≡ list_any (λ e. has_mark m e.1) es
+  any_under ks in_order is = any_marked m es ks ascend in_order (under_these ks is)
+
+  pub none_under : [] ≡ keys_under x m → false ≡ list_any (λ e. has_mark m e.1) es
+  none_under is = any_under [] nothing_ascends is
+
+  pub marked_under : (ks : List Key) → Ascends ks → ks ≡ keys_under x m → filter (marked_at es m) ks ≡ keys_of (filter (λ e. has_mark m e.1) es)
+  marked_under ks in_order is = marked_keys m es ks ascend in_order (under_these ks is)
+
+  pub nothing_under : [] ≡ keys_under x m → [] ≡ keys_of (filter (λ e. has_mark m e.1) es)
+  nothing_under is = marked_under [] nothing_ascends is

@@ -1,0 +1,25 @@
+use Rattle.std.proofs.Common.{◌∙◌, ap, sym, List}
+use Rattle.std.specs.List.{list_any}
+use Rattle.gaz_records.proofs.KeyOrder.{keys_same, keys_total}
+use Rattle.gaz_records.specs.declared.item.Item.{Item}
+use Rattle.gaz_records.specs.declared.key.Key.{Key}
+use Rattle.gaz_shelf.specs.Indexes.{has_mark}
+use Rattle.gaz_shelf.specs.View.{View}
+use Rattle.gaz_shelf.specs.Words.{entries}
+use Rattle.gaz_shelf.proofs.Trees.{entries_tree}
+use Rattle.gaz_shelf.proofs.Marked.{any_under, none_under}
+use Rattle.gaz_shelf.proofs.whole_view.WholeView.has_any.Goals as goal
+
+pub returns-in-Some : goal.returns-in-Some
+returns-in-Some c =
+    let es = c.self.inside.items.entries in
+    c.any_marked.ensures ∙ any_under c.self.inside.index es c.args.mark c.in_order.ensures c.self.invariant c.in-Some.keys.now.keys c.keys_in_order.ensures c.in-Some.ensures
+    ∙ ap (λ (l : List (Key × Item)). list_any (λ e. has_mark c.args.mark e.1) l) (sym (entries_tree keys_same keys_total es c.in_order.ensures))
+    ∙ ap (λ (v : View). list_any (λ e. has_mark c.args.mark e.1) (entries v)) c.self.view_is
+
+pub returns-in-None : goal.returns-in-None
+returns-in-None c =
+    let es = c.self.inside.items.entries in
+    none_under c.self.inside.index es c.args.mark c.in_order.ensures c.self.invariant c.in-None.ensures
+    ∙ ap (λ (l : List (Key × Item)). list_any (λ e. has_mark c.args.mark e.1) l) (sym (entries_tree keys_same keys_total es c.in_order.ensures))
+    ∙ ap (λ (v : View). list_any (λ e. has_mark c.args.mark e.1) (entries v)) c.self.view_is

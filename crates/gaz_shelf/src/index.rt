@@ -1,0 +1,191 @@
+//! Where a view's items are found beside their keys.
+ghost use Rattle.std.specs.Prelude.{◌≡◌, ◌&&◌, ◌||◌, ◌⊎◌, [], filter, not, true, IfOk, OnOk, OnErr, Some};
+ghost use Rattle.std.specs.List.{list_any};
+ghost use Rattle.std.specs.List.Sorted.{IsStrictlySortedBy};
+ghost use Rattle.std.specs.Option.{option_map_or};
+ghost use Rattle.std.specs.Ordering.{eq_by_cmp};
+ghost use Rattle.gaz_records.specs.Keys.{key_cmp};
+ghost use Rattle.gaz_records.specs.declared.key.Key.{Key};
+ghost use Rattle.gaz_shelf.specs.Indexes.{has_mark, is_under, keys_under, mark_cmp, marked_at};
+ghost use Rattle.gaz_shelf.specs.declared.index.Mark.{Mark};
+
+use crate::words::{is_approved_of, is_approved_on, is_child_of};
+use gaz_ids::{Lang, Status, Uprn, Usrn};
+use gaz_records::{Item, Key};
+use std::alloc::{AllocError, Global};
+use std::collections::{BTreeMap, BTreeSet};
+
+/// What items are looked up by beside their keys.
+#[derive(Clone, Copy, Debug, PartialEq, Eq, PartialOrd, Ord)]
+pub enum Mark {
+    /// An approved LPI of this BLPU.
+    AddressOf(Uprn),
+    /// An approved LPI on this street, in this language.
+    AddressOn(Usrn, Lang),
+    /// A BLPU that is a part of this one.
+    PartOf(Uprn),
+}
+
+impl Mark {
+    /// Whether an item has the mark.
+    pub fn is_on(&self, item: &Item) -> bool
+        ensures { result ≡ has_mark self.now item.now }
+    {
+        match self {
+            Mark::AddressOf(uprn) => is_approved_of(*uprn, item),
+            Mark::AddressOn(usrn, lang) => is_approved_on(*usrn, Some(*lang), item),
+            Mark::PartOf(uprn) => is_child_of(*uprn, item),
+        }
+    }
+}
+
+/// The marks of an item, of which there are at most two.
+pub fn marks_of(item: &Item) -> (Option<Mark>, Option<Mark>)
+    ensures { (m : Mark) → has_mark m item.now ≡ true → (result.0 ≡ Some m) ⊎ (result.1 ≡ Some m) }
+{
+    match item {
+        Item::Lpi(lpi) => match lpi.status {
+            Status::Approved => (
+                Some(Mark::AddressOf(lpi.uprn)),
+                Some(Mark::AddressOn(lpi.usrn, lpi.lang)),
+            ),
+            _ => (None, None),
+        },
+        Item::Blpu(blpu) => match blpu.parent {
+            Some(parent) => (Some(Mark::PartOf(parent)), None),
+            None => (None, None),
+        },
+        _ => (None, None),
+    }
+}
+
+/// Keys by the marks under which they are looked up.
+#[derive(Drop)]
+pub struct Index {
+    alloc: Global,
+    by_mark: BTreeMap<Mark, BTreeSet<Key>>,
+}
+
+impl Index {
+    /// No keys.
+    pub fn new(alloc: Global) -> Index
+        ensures { (m : Mark) → keys_under result m ≡ [] }
+    {
+        Index {
+            alloc,
+            by_mark: BTreeMap::new(alloc),
+        }
+    }
+
+    /// The keys under a mark, in key order.
+    pub fn get(&self, mark: Mark) -> Option<&BTreeSet<Key>>
+        ensures { option_map_or (λ s. s.now.keys) result [] ≡ keys_under self.now mark }
+    {
+        self.by_mark.get(&mark)
+    }
+
+    /// Adds a key under a mark. Where memory runs out, nothing is added.
+    pub fn add(&mut self, mark: Mark, key: Key) -> Result<(), AllocError>
+        ensures ok { OnOk result ((m : Mark) → (k : Key) → is_under self.new m k ≡ ((eq_by_cmp mark_cmp mark m && eq_by_cmp key_cmp key k) || is_under self.old m k)) }
+        ensures err { OnErr result ((m : Mark) → (k : Key) → is_under self.new m k ≡ is_under self.old m k) }
+    {
+        if let Some(keys) = self.by_mark.get_mut(&mark) {
+            keys.insert(key)?;
+            return Ok(());
+        }
+        let mut keys = BTreeSet::new(self.alloc);
+        keys.insert(key)?;
+        self.by_mark.insert(mark, keys)?;
+        Ok(())
+    }
+
+    // The same, where a mark is given.
+    fn add_some(&mut self, mark: Option<Mark>, key: &Key) -> Result<(), AllocError>
+        ensures ok { OnOk result ((m : Mark) → mark ≡ Some m → is_under self.new m key.now ≡ true) }
+        ensures kept { (m : Mark) → (k : Key) → is_under self.old m k ≡ true → is_under self.new m k ≡ true }
+    {
+        match mark {
+            Some(mark) => self.add(mark, *key),
+            None => Ok(()),
+        }
+    }
+
+    /// Adds a key under each mark of its item. Where memory runs out, it may be under some of them.
+    pub fn add_marks(&mut self, item: &Item, key: &Key) -> Result<(), AllocError>
+        ensures ok { OnOk result ((m : Mark) → has_mark m item.now ≡ true → is_under self.new m key.now ≡ true) }
+        ensures kept { (m : Mark) → (k : Key) → is_under self.old m k ≡ true → is_under self.new m k ≡ true }
+    {
+        let (first, second) = marks_of(item);
+        self.add_some(first, key)?;
+        self.add_some(second, key)?;
+        Ok(())
+    }
+
+    /// Takes a key from under a mark.
+    pub fn remove(&mut self, mark: Mark, key: &Key)
+        ensures { (m : Mark) → (k : Key) → is_under self.new m k ≡ (not (eq_by_cmp mark_cmp mark m && eq_by_cmp key_cmp key.now k) && is_under self.old m k) }
+    {
+        if let Some(keys) = self.by_mark.get_mut(&mark) {
+            keys.remove(key);
+        }
+    }
+}
+
+/// In a clone each mark has the same keys.
+impl Clone for Index {
+    ghost is_clone = { λ a b. b.by_mark.entries ≡ a.by_mark.entries };
+
+    fn clone(&self) -> Result<Index, AllocError> {
+        Ok(Index {
+            alloc: self.alloc,
+            by_mark: self.by_mark.clone()?,
+        })
+    }
+}
+
+/// Whether an item with the mark stands under the key.
+pub fn is_marked(items: &BTreeMap<Key, Item>, mark: &Mark, key: &Key) -> bool
+    ensures { result ≡ marked_at items.now.entries mark.now key.now }
+{
+    match items.get(key) {
+        Some(item) => mark.is_on(item),
+        None => false,
+    }
+}
+
+/// The keys stand in their order.
+pub fn keys_in_order(keys: &BTreeSet<Key>)
+    ensures { IsStrictlySortedBy ⟦<Key as Ord>⟧.cmp keys.now.keys }
+{
+    let _count = keys.len();
+}
+
+/// Those of these keys under which an item with the mark stands.
+pub fn keys_marked(
+    alloc: Global,
+    items: &BTreeMap<Key, Item>,
+    mark: &Mark,
+    keys: &BTreeSet<Key>,
+) -> Result<Vec<Key>, AllocError>
+    ensures { IfOk result (λ ks. ks.items ≡ filter (marked_at items.now.entries mark.now) keys.now.keys) }
+{
+    let mut found = Vec::new(alloc);
+    for key in keys {
+        if is_marked(items, mark, key) {
+            found.push(*key)?;
+        }
+    }
+    Ok(found)
+}
+
+/// Whether an item with the mark stands under one of these keys.
+pub fn any_marked(items: &BTreeMap<Key, Item>, mark: &Mark, keys: &BTreeSet<Key>) -> bool
+    ensures { result ≡ list_any (marked_at items.now.entries mark.now) keys.now.keys }
+{
+    for key in keys {
+        if is_marked(items, mark, key) {
+            return true;
+        }
+    }
+    false
+}

@@ -1,0 +1,70 @@
+//! Reading over any keeper.
+ghost use Rattle.std.specs.Prelude.{◌≡◌, ◌+◌, ◌<◌, ◌≤◌, ◌++◌, ◌^◌, if◌then◌else◌, IfOk, None, is_some, vec_len};
+ghost use Rattle.gaz_shelf.specs.Board.{reached, view_after};
+ghost use Rattle.gaz_shelf.specs.Keeper.{Reads, Seen};
+ghost use Rattle.gaz_shelf.specs.Reading.{IsKeyed, left_after, next_after};
+ghost use Rattle.gaz_shelf.specs.Words.{rest_of};
+
+use crate::fault::ShelfFault;
+use crate::shelf::Shelf;
+use gaz_ids::Code;
+use gaz_records::{Item, Key, Kind};
+use std::alloc::Global;
+
+/// All items of a kind after a volume, which is to be reached, in key order, read `most` at a time, which is at least 1.
+///
+/// Each item is to stand under its own key, since the next page is asked for after the key of the last item. `Memory` too where a keeper
+/// answers more items than memory holds.
+pub fn read_kind<S: Shelf>(
+    alloc: Global,
+    shelf: &mut S,
+    code: Code,
+    volume: u64,
+    kind: Kind,
+    most: usize,
+) -> Result<Vec<Item>, ShelfFault>
+    requires { 1 ≤ most }
+    ensures { Reads (S.seen shelf.old) (S.seen shelf.new) result (λ items. volume ≤ reached (S.seen shelf.old).content.board code → IsKeyed (view_after (S.seen shelf.old).content.board code volume) → items.items ≡ rest_of (view_after (S.seen shelf.old).content.board code volume) kind None) }
+{
+    let mut items = Vec::new(alloc);
+    let mut next = add_page(shelf, code, volume, kind, None, most, &mut items)?;
+    while let Some(after) = next {
+        next = add_page(shelf, code, volume, kind, Some(after), most, &mut items)?;
+    }
+    Ok(items)
+}
+
+// Adds a page, and answers the key after which the next page begins, or none after the last page.
+fn add_page<S: Shelf>(
+    shelf: &mut S,
+    code: Code,
+    volume: u64,
+    kind: Kind,
+    after: Option<Key>,
+    most: usize,
+    items: &mut Vec<Item>,
+) -> Result<Option<Key>, ShelfFault>
+    requires { 1 ≤ most }
+    ensures reads { Reads (S.seen shelf.old) (S.seen shelf.new) result (λ next. volume ≤ reached (S.seen shelf.old).content.board code → IsKeyed (view_after (S.seen shelf.old).content.board code volume) → items.new.items ++ left_after (view_after (S.seen shelf.old).content.board code volume) kind next ≡ items.old.items ++ rest_of (view_after (S.seen shelf.old).content.board code volume) kind after) }
+    ensures goes_on { IfOk result (λ next. vec_len items.old + (if is_some next then 1 else 0) ≤ vec_len items.new) }
+    ensures fits { vec_len items.new < 2 ^ 64 }
+{
+    let mut page = shelf.page(code, volume, kind, after, most)?;
+    let next = next_after(page.as_slice(), most);
+    items.append(&mut page)?;
+    let _count = items.len();
+    Ok(next)
+}
+
+// The key of a full page's last item, and none after a page that isn't full.
+fn next_after(page: &[Item], most: usize) -> Option<Key>
+    ensures { result ≡ next_after most page.now }
+{
+    if page.len() < most {
+        return None;
+    }
+    match page.last() {
+        Some(item) => Some(Key::of(item)),
+        None => None,
+    }
+}
