@@ -1,0 +1,5 @@
+pub mod Lines
+pub mod Pieces
+pub mod Finding
+pub mod Lookups
+pub mod Readings
