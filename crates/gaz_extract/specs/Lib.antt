@@ -3,3 +3,6 @@ pub mod Pieces
 pub mod Finding
 pub mod Lookups
 pub mod Readings
+pub mod Extracts
+pub mod Drafts
+pub mod Closing

@@ -2,8 +2,14 @@
 #![tactic(auto)]
 
 mod address;
+mod closed;
+mod draft;
+mod extracts;
 mod find;
 mod found;
+mod page;
 
 pub use address::{AddressLine, line};
+pub use closed::{Closed, closed_streets};
+pub use extracts::extract;
 pub use found::{Found, lookup};
