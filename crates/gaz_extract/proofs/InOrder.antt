@@ -50,9 +50,10 @@ none_low n k [] above h = (refl, refl)
 none_low n k (e ∷ es) above h =
     let two = both_true _ _ h in
     let is = still_high n k e.0 above two.0 in
-    let rest = none_low n k es above two.1 in
-    (ap (λ b. cond b (e ∷ filter (λ f. low n f.0) es) (filter (λ f. low n f.0) es)) is ∙ rest.0,
-    ap (λ b. cond (not b) (e ∷ filter (λ f. high n f.0) es) (filter (λ f. high n f.0) es)) is ∙ ap (λ l. e ∷ l) rest.1)
+    let rest = none_low n k es above two.1 in (
+      ap (λ b. cond b (e ∷ filter (λ f. low n f.0) es) (filter (λ f. low n f.0) es)) is ∙ rest.0,
+      ap (λ b. cond (not b) (e ∷ filter (λ f. high n f.0) es) (filter (λ f. high n f.0) es)) is ∙ ap (λ l. e ∷ l) rest.1,
+    )
 
 passing : (b : Bool) → b ≡ true → T b
 passing b e = subst T (sym e) tt

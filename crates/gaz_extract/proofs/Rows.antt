@@ -85,7 +85,7 @@ records-append n (x ∷ xs) ys = ap (λ l. record_of n x ∷ l) (records-append 
 pub with-append : (d : DraftValue) (xs ys : List Item) → with_items (with_items d xs) ys ≡ with_items d (xs ++ ys)
 with-append d xs ys =
     let texts : (d.text ++ lines_of (records_from d.next xs)) ++ lines_of (records_from (d.next + length xs) ys) ≡ d.text ++ lines_of (records_from d.next (xs ++ ys)) =
-        append_assoc d.text _ _ ∙ ap (λ l. d.text ++ l) (sym (lines-append (records_from d.next xs) (records_from (d.next + length xs) ys)) ∙ ap lines_of (sym (records-append d.next xs ys))) in
+    append_assoc d.text _ _ ∙ ap (λ l. d.text ++ l) (sym (lines-append (records_from d.next xs) (records_from (d.next + length xs) ys)) ∙ ap lines_of (sym (records-append d.next xs ys))) in
     let counts : (d.next + length xs) + length ys ≡ d.next + length (xs ++ ys) = simp length-append (omega arith) in
     λ i. record { text = texts i; next = counts i }
 

@@ -32,5 +32,5 @@ then_added a b c code volume d e f xs ys first second one two = λ stood fine wi
     let mid = second.harm fine in
     let v = view_after a.content.board code volume in
     let later = subst (λ (k : Content). volume ≤ reached k.board code → IsKeyed (view_after k.board code volume) → f ≡ with_items e (ys (view_after k.board code volume)))
-        (first.content stood mid) (two (first.stands stood mid) fine) within keyed in
+    (first.content stood mid) (two (first.stands stood mid) fine) within keyed in
     later ∙ ap (λ (x : DraftValue). with_items x (ys v)) (one stood mid within keyed) ∙ with-append d (xs v) (ys v)

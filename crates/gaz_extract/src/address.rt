@@ -65,7 +65,10 @@ fn add_range(out: &mut String, range: &Range) -> Result<(), AllocError>
 }
 
 // Adds a part that another follows.
-fn add_before<const MOST: u64>(out: &mut String, part: &Option<Text<MOST>>) -> Result<(), AllocError>
+fn add_before<const MOST: u64>(
+    out: &mut String,
+    part: &Option<Text<MOST>>,
+) -> Result<(), AllocError>
     ensures { OnOk result (string_bytes out.new ≡ string_bytes out.old ++ before part.now) }
 {
     if let Some(part) = part {
@@ -148,7 +151,11 @@ pub fn line(
     let mut out = String::new(alloc);
     add_secondary(&mut out, &lpi.secondary)?;
     add_before(&mut out, &lpi.primary.text)?;
-    add_street(&mut out, &lpi.primary.range, descriptor.description.as_str())?;
+    add_street(
+        &mut out,
+        &lpi.primary.range,
+        descriptor.description.as_str(),
+    )?;
     add_after(&mut out, &descriptor.locality)?;
     add_after(&mut out, &descriptor.town)?;
     add_area(&mut out, descriptor)?;

@@ -80,7 +80,8 @@ fn add_view<S: Shelf>(
     let draft = add_kind(shelf, code, volume, Kind::Descriptor, draft)?;
     let draft = add_kind(shelf, code, volume, Kind::Blpu, draft)?;
     let draft = add_kind(shelf, code, volume, Kind::Xref, draft)?;
-    add_kind(shelf, code, volume, Kind::Lpi, draft)
+    let draft = add_kind(shelf, code, volume, Kind::Lpi, draft)?;
+    Ok(draft)
 }
 
 /// The view of a custodian after a volume, as a file: the header `10,E,code,volume`, a record of the change type `I` for each item in

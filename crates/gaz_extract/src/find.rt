@@ -64,11 +64,7 @@ pub fn descriptor_in<S: Shelf>(
 }
 
 /// The BLPU of this number, in a custodian's last view.
-pub fn blpu_now<S: Shelf>(
-    shelf: &mut S,
-    code: Code,
-    uprn: Uprn,
-) -> Result<Option<Blpu>, ShelfFault>
+pub fn blpu_now<S: Shelf>(shelf: &mut S, code: Code, uprn: Uprn) -> Result<Option<Blpu>, ShelfFault>
     requires { IsNotOpen (S.seen shelf.old).progress }
     ensures tells { Tells (S.seen shelf.old) (S.seen shelf.new) result (λ b. b ≡ blpu_at (last_view (S.seen shelf.old).content.board code) uprn) }
     ensures not_open { IsNotOpen (S.seen shelf.new).progress }
@@ -80,11 +76,7 @@ pub fn blpu_now<S: Shelf>(
 }
 
 /// The LPI under a key, in a custodian's last view.
-pub fn lpi_now<S: Shelf>(
-    shelf: &mut S,
-    code: Code,
-    key: &Key,
-) -> Result<Option<Lpi>, ShelfFault>
+pub fn lpi_now<S: Shelf>(shelf: &mut S, code: Code, key: &Key) -> Result<Option<Lpi>, ShelfFault>
     requires { IsNotOpen (S.seen shelf.old).progress }
     ensures tells { Tells (S.seen shelf.old) (S.seen shelf.new) result (λ l. l ≡ lpi_at (last_view (S.seen shelf.old).content.board code) key.now) }
     ensures not_open { IsNotOpen (S.seen shelf.new).progress }

@@ -6,8 +6,8 @@ ghost use Rattle.gaz_extract.specs.Lines.{line_text};
 ghost use Rattle.gaz_extract.specs.Readings.{Tells};
 ghost use Rattle.gaz_extract.specs.Lookups.{address_in, descriptor_now, keeper_of_street, line_now, lookup, said_by};
 
-use crate::find::{blpu_now, descriptor_in, has_street, lpi_now};
 use crate::address::{AddressLine, line};
+use crate::find::{blpu_now, descriptor_in, has_street, lpi_now};
 use gaz_ids::{Code, Status, Uprn, Usrn};
 use gaz_records::{Blpu, Descriptor, Lpi};
 use gaz_register::Register;
@@ -42,11 +42,7 @@ fn keeper_of_street<S: Shelf>(
 }
 
 // The approved address of a property in a custodian's last view.
-fn address_now<S: Shelf>(
-    shelf: &mut S,
-    code: Code,
-    uprn: Uprn,
-) -> Result<Option<Lpi>, ShelfFault>
+fn address_now<S: Shelf>(shelf: &mut S, code: Code, uprn: Uprn) -> Result<Option<Lpi>, ShelfFault>
     requires { IsNotOpen (S.seen shelf.old).progress }
     ensures tells { Tells (S.seen shelf.old) (S.seen shelf.new) result (λ l. l ≡ address_in (last_view (S.seen shelf.old).content.board code) uprn) }
     ensures not_open { IsNotOpen (S.seen shelf.new).progress }

@@ -29,11 +29,11 @@ loop-turn-preserved g c =
       left = λ stood fine keyed.
           let mid = more.keeps.harm fine in
           let then = subst
-              (λ (k : Content). c.in_ok-volume.volume ≤ reached k.board code → IsKeyed (view_after k.board code c.in_ok-volume.volume) → new ++ filter_map (closed_by k.board register code) (left_after (view_after k.board code c.in_ok-volume.volume) kind.Lpi after) ≡ old ++ filter_map (closed_by k.board register code) (rest_of (view_after k.board code c.in_ok-volume.volume) kind.Lpi next))
-              (so_far.keeps.content stood mid) (more.right (so_far.keeps.stands stood mid) fine) in
+          (λ (k : Content). c.in_ok-volume.volume ≤ reached k.board code → IsKeyed (view_after k.board code c.in_ok-volume.volume) → new ++ filter_map (closed_by k.board register code) (left_after (view_after k.board code c.in_ok-volume.volume) kind.Lpi after) ≡ old ++ filter_map (closed_by k.board register code) (rest_of (view_after k.board code c.in_ok-volume.volume) kind.Lpi next))
+          (so_far.keeps.content stood mid) (more.right (so_far.keeps.stands stood mid) fine) in
           let here = subst
-              (λ (n : ℕ). n ≤ reached was.content.board code → IsKeyed (view_after was.content.board code n) → new ++ filter_map (closed_by was.content.board register code) (left_after (view_after was.content.board code n) kind.Lpi after) ≡ old ++ filter_map (closed_by was.content.board register code) (rest_of (view_after was.content.board code n) kind.Lpi next))
-              (so_far.volume stood mid) then in
+          (λ (n : ℕ). n ≤ reached was.content.board code → IsKeyed (view_after was.content.board code n) → new ++ filter_map (closed_by was.content.board register code) (left_after (view_after was.content.board code n) kind.Lpi after) ≡ old ++ filter_map (closed_by was.content.board register code) (rest_of (view_after was.content.board code n) kind.Lpi next))
+          (so_far.volume stood mid) then in
           let last = last_view was.content.board code in
           here (omega arith) keyed ∙ ap (λ l. old ++ filter_map (closed_by was.content.board register code) l) (sym (left_is_rest last kind.Lpi next (c.is_none.ensures ∙ ap not c.if-is_none.false))) ∙ so_far.left stood mid keyed;
     }

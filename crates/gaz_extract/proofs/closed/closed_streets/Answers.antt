@@ -26,7 +26,7 @@ loop-custodian-preserved g c =
       left = λ stood fine keyed.
           let mid = more.keeps.harm fine in
           let told = subst (λ (k : Content). IsKeyed (last_view k.board c.code.result) → new ≡ old ++ closed_of k.board register c.code.result)
-              (so_far.keeps.content stood mid) (more.right (so_far.keeps.stands stood mid) fine) (keyed c.code.result) in
+          (so_far.keeps.content stood mid) (more.right (so_far.keeps.stands stood mid) fine) (keyed c.code.result) in
           let named = told ∙ ap (λ n. old ++ closed_of B register n) c.code.ensures in
           let short = subst (λ (xs : List CustodianValue). i < length xs) all c.loop-custodian-test.true in
           let there = subst (λ (xs : List CustodianValue). custodian ≡ get_or xs i custodian) all c.custodian-item.is in

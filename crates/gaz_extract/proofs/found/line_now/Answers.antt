@@ -16,7 +16,7 @@ returns-clause-tells g c =
           let mid = second.keeps.harm fine in
           let address = sym c.in-Some.is ∙ first.right stood mid in
           let described = sym c.in-Some-2.is ∙ second.right (first.keeps.stands stood mid) fine
-              ∙ ap (λ (k : Content). descriptor_now k.board c.args.register.now c.args.code c.in-Some.lpi) (first.keeps.content stood mid) in
+          ∙ ap (λ (k : Content). descriptor_now k.board c.args.register.now c.args.code c.in-Some.lpi) (first.keeps.content stood mid) in
           let there = line_there (g.S.Shelf.seen c.args.shelf.now).content.board c.args.register.now c.args.code c.args.uprn c.args.blpu.now c.in-Some.lpi c.in-Some-2.descriptor address described in
           same_answer c.line_for.result _ _ there c.line_for.ensures.text;
       counts = memory_alone _ _ _ (let one = first.counts.kept in let two = second.counts.kept in omega arith) c.line_for.ensures.memory;
