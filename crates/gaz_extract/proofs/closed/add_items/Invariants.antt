@@ -1,0 +1,18 @@
+-- What was told and what is left to tell are all.
+use Rattle.std.proofs.Common.{◌≡◌, ◌≤◌, ◌++◌, drop}
+use Rattle.std.specs.List.{filter_map}
+use Rattle.gaz_shelf.specs.Keeper.{IsNotOpen, Keeps}
+use Rattle.gaz_extract.specs.Closing.{closed_by}
+use Rattle.gaz_extract.proofs.closed.add_items.Given as goal
+
+abbrev pub invariant-loop-item : goal.invariant-loop-item
+invariant-loop-item g l =
+    let now = g.S.Shelf.seen l.shelf in
+    let was = g.S.Shelf.seen l.fn.shelf in
+    let told = closed_by was.content.board l.register l.code in
+    record {
+      keeps : Keeps was now;
+      not_open : IsNotOpen now.progress;
+      counted : was.failures ≤ now.failures;
+      left : was.stands → now.unharmed → l.closed.items ++ filter_map told (drop l.item-index l.items) ≡ l.fn.closed.items ++ filter_map told l.items;
+    }

@@ -1,0 +1,45 @@
+-- The whole view of a custodian after a volume, as a file of insertions.
+use Rattle.std.specs.Prelude.{ℕ, ◌+◌, nat_le, List, [], ◌∷◌, ◌++◌, length, map, codes, decimal, Option, Some, None, if◌then◌else◌}
+use Rattle.gaz_records.specs.Items.{item_texts, kind_of}
+use Rattle.gaz_records.specs.declared.item.Item.{Item}
+use Rattle.gaz_records.specs.declared.item.Kind.{Kind}
+use Rattle.gaz_records.specs.declared.item.Kind.TheVariants as kind
+use Rattle.gaz_rows.specs.Rows.{Fields, lines_of}
+use Rattle.gaz_shelf.specs.Board.{Board, reached, view_after}
+use Rattle.gaz_shelf.specs.View.{View}
+use Rattle.gaz_shelf.specs.Words.{entries}
+
+-- the record identifier of a kind
+abbrev pub identifier : Kind → List ℕ
+identifier kind.Street = codes "11"
+identifier kind.Descriptor = codes "15"
+identifier kind.Blpu = codes "21"
+identifier kind.Xref = codes "23"
+identifier kind.Lpi = codes "24"
+
+-- the record that inserts an item, at its place in the order
+abbrev pub record_of : ℕ → Item → Fields
+record_of order i = identifier (kind_of i) ∷ codes "I" ∷ decimal order ∷ item_texts i
+
+-- the records of items, with orders that rise by one from this number
+abbrev pub records_from : ℕ → List Item → List Fields
+records_from order [] = []
+records_from order (i ∷ is) = record_of order i ∷ records_from (order + 1) is
+
+abbrev pub header : ℕ → ℕ → Fields
+header c volume = codes "10" ∷ codes "E" ∷ decimal c ∷ decimal volume ∷ []
+
+abbrev pub trailer : ℕ → Fields
+trailer count = codes "99" ∷ decimal count ∷ []
+
+-- the items of a view, in the order of keys
+abbrev pub items_of : View → List Item
+items_of v = map (λ e. e.1) (entries v)
+
+-- header, a record for each item, trailer
+abbrev pub extract_rows : ℕ → ℕ → List Item → List Fields
+extract_rows c volume items = header c volume ∷ (records_from 1 items ++ trailer (length items) ∷ [])
+
+-- the view of a custodian after a volume; none where the volume isn't reached
+abbrev pub extract : Board → ℕ → ℕ → Option (List ℕ)
+extract B c volume = if nat_le volume (reached B c) then Some (lines_of (extract_rows c volume (items_of (view_after B c volume)))) else None

@@ -1,0 +1,50 @@
+-- What stands in a view under a number or a text.
+use Rattle.std.specs.Prelude.{ℕ, Bool, false, Option, Some, None, is_some}
+use Rattle.std.specs.Option.{option_and_then, option_map_or}
+use Rattle.std.specs.FinMap as map
+use Rattle.gaz_ids.specs.declared.lang.Lang.{Lang}
+use Rattle.gaz_records.specs.Blpus.{BlpuValue}
+use Rattle.gaz_records.specs.Descriptors.{DescriptorValue}
+use Rattle.gaz_records.specs.Lpis.{LpiValue}
+use Rattle.gaz_records.specs.Streets.{StreetValue}
+use Rattle.gaz_records.specs.declared.item.Item.{Item}
+use Rattle.gaz_records.specs.declared.item.Item.TheVariants as item
+use Rattle.gaz_records.specs.declared.key.Key.{Key}
+use Rattle.gaz_records.specs.declared.key.Key.TheVariants as key
+use Rattle.gaz_shelf.specs.View.{View}
+
+abbrev pub as_street : Item → Option StreetValue
+as_street (item.Street s) = Some s
+as_street _ = None
+
+abbrev pub as_descriptor : Item → Option DescriptorValue
+as_descriptor (item.Descriptor d) = Some d
+as_descriptor _ = None
+
+abbrev pub as_blpu : Item → Option BlpuValue
+as_blpu (item.Blpu b) = Some b
+as_blpu _ = None
+
+abbrev pub as_lpi : Item → Option LpiValue
+as_lpi (item.Lpi l) = Some l
+as_lpi _ = None
+
+-- the street of this number
+abbrev pub street_at : View → ℕ → Option StreetValue
+street_at v usrn = option_and_then as_street (map.get v.items (key.Street usrn))
+
+-- the street of this number is there and has an end date
+abbrev pub has_closed_street : View → ℕ → Bool
+has_closed_street v usrn = option_map_or (λ s. is_some s.end) (street_at v usrn) false
+
+-- the descriptor of this street in this language
+abbrev pub descriptor_at : View → ℕ → Lang → Option DescriptorValue
+descriptor_at v usrn lang = option_and_then as_descriptor (map.get v.items (key.Descriptor usrn lang))
+
+-- the BLPU of this number
+abbrev pub blpu_at : View → ℕ → Option BlpuValue
+blpu_at v uprn = option_and_then as_blpu (map.get v.items (key.Blpu uprn))
+
+-- the LPI under this key
+abbrev pub lpi_at : View → Key → Option LpiValue
+lpi_at v k = option_and_then as_lpi (map.get v.items k)

@@ -1,0 +1,47 @@
+-- Where a property stands, and how it is addressed now.
+use Rattle.std.specs.Prelude.{ℕ, List, [], ◌∷◌, Option, Some, None, option_map, is_some, if◌then◌else◌}
+use Rattle.std.specs.List.{filter_map}
+use Rattle.std.specs.Option.{option_and_then}
+use Rattle.gaz_records.specs.Blpus.{BlpuValue}
+use Rattle.gaz_records.specs.Descriptors.{DescriptorValue}
+use Rattle.gaz_records.specs.Lpis.{LpiValue}
+use Rattle.gaz_register.specs.Registers.{RegisterValue, owner_of_usrn}
+use Rattle.gaz_shelf.specs.Board.{Board, last_view}
+use Rattle.gaz_shelf.specs.View.{View}
+use Rattle.gaz_shelf.specs.Words.{approved_of}
+use Rattle.gaz_extract.specs.Finding.{blpu_at, descriptor_at, lpi_at, street_at}
+use Rattle.gaz_extract.specs.Lines.{line_text}
+use Rattle.gaz_extract.specs.declared.found.Found.{Found}
+
+abbrev pub first_of : {A : Type 0} → List A → Option A
+first_of [] = None
+first_of (x ∷ xs) = Some x
+
+-- the approved address of a property in a view: that of the least key
+abbrev pub address_in : View → ℕ → Option LpiValue
+address_in v uprn = option_and_then (lpi_at v) (first_of (approved_of v uprn))
+
+-- whose last view tells of a street now: the custodian itself, where the street is in its last view, else the one whose block holds it
+abbrev pub keeper_of_street : Board → RegisterValue → ℕ → ℕ → Option ℕ
+keeper_of_street B register c usrn =
+    if is_some (street_at (last_view B c) usrn) then Some c else owner_of_usrn register usrn
+
+-- the descriptor of an address's street in its language, from that last view
+abbrev pub descriptor_now : Board → RegisterValue → ℕ → LpiValue → Option DescriptorValue
+descriptor_now B register c lpi = option_and_then (λ d. descriptor_at (last_view B d) lpi.usrn lpi.lang) (keeper_of_street B register c lpi.usrn)
+
+-- the line of a custodian's property; none without an approved address or its descriptor
+abbrev pub line_now : Board → RegisterValue → ℕ → ℕ → BlpuValue → Option (List ℕ)
+line_now B register c uprn blpu = option_and_then
+    (λ lpi. option_map (λ d. line_text lpi d blpu) (descriptor_now B register c lpi))
+    (address_in (last_view B c) uprn)
+
+-- what a custodian's last view says of a property, where the property stands in it
+abbrev pub said_by : Board → RegisterValue → ℕ → ℕ → Option Found
+said_by B register uprn c = option_map
+    (λ blpu. record { custodian = c; uprn = uprn; status = blpu.status; line = line_now B register c uprn blpu })
+    (blpu_at (last_view B c) uprn)
+
+-- where a property stands: with the least custodian of the register in whose last view it does
+abbrev pub lookup : Board → RegisterValue → ℕ → Option Found
+lookup B register uprn = first_of (filter_map (λ c. said_by B register uprn c.code) register)

@@ -1,0 +1,109 @@
+ghost use Rattle.std.specs.Prelude.{◌≡◌, ◌≤◌, None, option_map};
+ghost use Rattle.gaz_shelf.specs.Board.{reached, view_after};
+ghost use Rattle.gaz_shelf.specs.Keeper.{IsNotOpen};
+ghost use Rattle.gaz_shelf.specs.Reading.{IsKeyed, left_after};
+ghost use Rattle.gaz_shelf.specs.Words.{rest_of};
+ghost use Rattle.gaz_extract.specs.Drafts.{by_kind, with_items};
+ghost use Rattle.gaz_extract.specs.Extracts.{extract};
+ghost use Rattle.gaz_extract.specs.Readings.{Tells};
+
+use crate::draft::Draft;
+use crate::page::{PAGES, read_page};
+use gaz_ids::{Code, Volume};
+use gaz_records::{Key, Kind};
+use gaz_shelf::{Shelf, ShelfFault};
+use std::alloc::Global;
+
+/// A draft, and the key after which the next page begins, if there is one.
+#[derive(Drop)]
+struct Written {
+    draft: Draft,
+    next: Option<Key>,
+}
+
+// The draft with the records of the page after a key.
+fn add_page<S: Shelf>(
+    shelf: &mut S,
+    code: Code,
+    volume: u64,
+    kind: Kind,
+    after: Option<Key>,
+    draft: Draft,
+) -> Result<Written, ShelfFault>
+    requires { IsNotOpen (S.seen shelf.old).progress }
+    ensures tells { Tells (S.seen shelf.old) (S.seen shelf.new) result (λ w. volume ≤ reached (S.seen shelf.old).content.board code → IsKeyed (view_after (S.seen shelf.old).content.board code volume) → with_items w.draft (left_after (view_after (S.seen shelf.old).content.board code volume) kind w.next) ≡ with_items draft (rest_of (view_after (S.seen shelf.old).content.board code volume) kind after)) }
+    ensures not_open { IsNotOpen (S.seen shelf.new).progress }
+{
+    let page = read_page(shelf, code, volume, kind, after)?;
+    let draft = draft.append(page.items.as_slice())?;
+    Ok(Written {
+        draft,
+        next: page.next,
+    })
+}
+
+// The draft with the records of a kind.
+fn add_kind<S: Shelf>(
+    shelf: &mut S,
+    code: Code,
+    volume: u64,
+    kind: Kind,
+    draft: Draft,
+) -> Result<Draft, ShelfFault>
+    requires { IsNotOpen (S.seen shelf.old).progress }
+    ensures tells { Tells (S.seen shelf.old) (S.seen shelf.new) result (λ d. volume ≤ reached (S.seen shelf.old).content.board code → IsKeyed (view_after (S.seen shelf.old).content.board code volume) → d ≡ with_items draft (rest_of (view_after (S.seen shelf.old).content.board code volume) kind None)) }
+    ensures not_open { IsNotOpen (S.seen shelf.new).progress }
+{
+    let mut written = add_page(shelf, code, volume, kind, None, draft)?;
+    for _turn in 0..PAGES {
+        let Written { draft, next } = written;
+        if next.is_none() {
+            return Ok(draft);
+        }
+        written = add_page(shelf, code, volume, kind, next, draft)?;
+    }
+    Err(ShelfFault::Memory)
+}
+
+// The draft with the records of a view.
+fn add_view<S: Shelf>(
+    shelf: &mut S,
+    code: Code,
+    volume: u64,
+    draft: Draft,
+) -> Result<Draft, ShelfFault>
+    requires { IsNotOpen (S.seen shelf.old).progress }
+    ensures tells { Tells (S.seen shelf.old) (S.seen shelf.new) result (λ d. volume ≤ reached (S.seen shelf.old).content.board code → IsKeyed (view_after (S.seen shelf.old).content.board code volume) → d ≡ with_items draft (by_kind (view_after (S.seen shelf.old).content.board code volume))) }
+    ensures not_open { IsNotOpen (S.seen shelf.new).progress }
+{
+    let draft = add_kind(shelf, code, volume, Kind::Street, draft)?;
+    let draft = add_kind(shelf, code, volume, Kind::Descriptor, draft)?;
+    let draft = add_kind(shelf, code, volume, Kind::Blpu, draft)?;
+    let draft = add_kind(shelf, code, volume, Kind::Xref, draft)?;
+    let draft = add_kind(shelf, code, volume, Kind::Lpi, draft)?;
+    Ok(draft)
+}
+
+/// The view of a custodian after a volume, as a file: the header `10,E,code,volume`, a record of the change type `I` for each item in
+/// the order of keys, with orders 1, 2, 3, .. without limit, and the trailer `99,count`; rows as `csv` writes them, each ended by LF (our
+/// profile, docs/extracts.md). None where the volume isn't reached.
+///
+/// Each item of the view is to stand under its own key. It takes memory for itself and a page. `Memory` too where a keeper answers more
+/// pages than all volumes fill.
+pub fn extract<S: Shelf>(
+    alloc: Global,
+    shelf: &mut S,
+    code: Code,
+    volume: Volume,
+) -> Result<Option<Vec<u8>>, ShelfFault>
+    requires { IsNotOpen (S.seen shelf.old).progress }
+    ensures { Tells (S.seen shelf.old) (S.seen shelf.new) result (λ text. IsKeyed (view_after (S.seen shelf.old).content.board code volume) → option_map (λ t. t.items) text ≡ extract (S.seen shelf.old).content.board code volume) }
+{
+    if shelf.reached(code)? < volume.number() {
+        return Ok(None);
+    }
+    let draft = Draft::new(alloc, code, volume)?;
+    let draft = add_view(shelf, code, volume.number(), draft)?;
+    let text = draft.finish(alloc)?;
+    Ok(Some(text))
+}
