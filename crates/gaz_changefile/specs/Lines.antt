@@ -48,6 +48,10 @@ action_of text =
 abbrev pub line_of : Fields → Line
 line_of row =
     if bytes_eq (field row 0) (codes "11") then line.Change kind.Street
+    else if bytes_eq (field row 0) (codes "15") then line.Change kind.Descriptor
+    else if bytes_eq (field row 0) (codes "21") then line.Change kind.Blpu
+    else if bytes_eq (field row 0) (codes "23") then line.Change kind.Xref
+    else if bytes_eq (field row 0) (codes "24") then line.Change kind.Lpi
     else if bytes_eq (field row 0) (codes "99") then line.Trailer
     else line.Other
 
