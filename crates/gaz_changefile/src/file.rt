@@ -12,7 +12,7 @@ use thiserror::Error;
 pub struct ChangeFile {
     /// The date in the header.
     pub date: Day,
-    /// The basis lines in file order. None is read yet.
+    /// The basis lines in file order: at most 16, by rising custodian, none the own.
     pub bases: Vec<Basis>,
     /// The changes in file order.
     pub changes: Vec<Change>,

@@ -9,6 +9,7 @@ use gaz_records::Kind;
 #[derive(Clone, Copy, Debug, PartialEq, Eq)]
 pub(crate) enum Line {
     Change(Kind),
+    Basis,
     Trailer,
     Other,
 }
@@ -24,7 +25,7 @@ pub(crate) fn field(row: &ByteRecord, i: usize) -> &[u8]
 }
 
 impl Line {
-    /// Change records begin `11`, `15`, `21`, `23` or `24`, the trailer `99`.
+    /// Change records begin `11`, `15`, `21`, `23` or `24`, a basis line `90`, the trailer `99`.
     pub(crate) fn of(row: &ByteRecord) -> Line
         ensures { result ≡ line_of (fields_of row.now) }
     {
@@ -39,6 +40,8 @@ impl Line {
             Line::Change(Kind::Xref)
         } else if first == b"24".as_slice() {
             Line::Change(Kind::Lpi)
+        } else if first == b"90".as_slice() {
+            Line::Basis
         } else if first == b"99".as_slice() {
             Line::Trailer
         } else {

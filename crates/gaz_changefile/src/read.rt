@@ -35,10 +35,10 @@ pub fn read_file(
         return Err(none);
     }
     let date = read_header(&row, code, volume)?;
-    let mut draft = Draft::new(alloc, date);
+    let mut draft = Draft::new(alloc, code, date);
     for place in 2..u64::MAX {
         if !next_row(&mut rdr, &mut row)? {
-            return draft.finish(alloc, place);
+            return draft.finish(place);
         }
         draft.add(alloc, &row, place)?;
     }

@@ -107,7 +107,7 @@ fn files_and_their_first_faults(rt: HostRuntime) {
         ),
         (
             b"10,1,1001,1,2024-01-02\n90,1002,1\n99,0\n".as_slice(),
-            (2, 5),
+            (0, 0),
         ),
         (b"10,1,1001,1,2024-01-02\n\"\"\n99,0\n".as_slice(), (2, 5)),
     ];
