@@ -90,14 +90,14 @@ bad_here c v rows contents i n rule rules all e h =
     ap (by_faults contents) (all ∙ found.1)
 
 -- one record more at the end
-last_push : {X : Type 0} (o : Option X) (xs : List X) (x : X) → last_or o (xs ++ (x ∷ [])) ≡ Some x
+pub last_push : {X : Type 0} (o : Option X) (xs : List X) (x : X) → last_or o (xs ++ (x ∷ [])) ≡ Some x
 last_push o [] x = refl
 last_push o (y ∷ ys) x = last_push (Some y) ys x
 
-count_push : (p : Fields → Bool) (xs : List Fields) (x : Fields) → count_by p (xs ++ (x ∷ [])) ≡ count_by p xs + cond (p x) 1 0
+pub count_push : (p : Fields → Bool) (xs : List Fields) (x : Fields) → count_by p (xs ++ (x ∷ [])) ≡ count_by p xs + cond (p x) 1 0
 count_push p xs x = sum_by-append (λ y. cond (p y) 1 0) xs (x ∷ []) ∙ omega arith
 
-any_push : (p : Fields → Bool) (xs : List Fields) (x : Fields) → list_any p xs ≡ false → list_any p (xs ++ (x ∷ [])) ≡ p x
+pub any_push : (p : Fields → Bool) (xs : List Fields) (x : Fields) → list_any p xs ≡ false → list_any p (xs ++ (x ∷ [])) ≡ p x
 any_push p [] x e = or_false (p x)
   where
     or_false : (a : Bool) → (a || false) ≡ a
@@ -127,7 +127,7 @@ enumerate_push : {X : Type 0} (n : ℕ) (xs : List X) (x : X) → enumerate_from
 enumerate_push n [] x = let e : n + 0 ≡ n = omega arith in rw e refl
 enumerate_push n (y ∷ ys) x = let e : n + suc (length ys) ≡ (n + 1) + length ys = omega arith in rw (e, enumerate_push (n + 1) ys x) refl
 
-changes_push : (rows : List Fields) (row : Fields) (place : ℕ) → place ≡ length rows + 1 → changes_in (rows ++ (row ∷ [])) ≡ changes_in rows ++ listed (change_at (place, row))
+pub changes_push : (rows : List Fields) (row : Fields) (place : ℕ) → place ≡ length rows + 1 → changes_in (rows ++ (row ∷ [])) ≡ changes_in rows ++ listed (change_at (place, row))
 changes_push rows row place e =
     let p : 1 + length rows ≡ place = omega arith in
     rw (enumerate_push 1 rows row, p, filter_map-append change_at (enumerate_from 1 rows) ((place, row) ∷ []), cons_listed place row) refl
