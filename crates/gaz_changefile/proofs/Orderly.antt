@@ -58,7 +58,7 @@ not_false true h = refl
 not_false false h = cc h
 
 -- a number at the end that is above the last
-last_at : (xs : List ℕ) (k : ℕ) → k + 1 ≡ length xs → last_or None xs ≡ Some (slice_index xs k)
+pub last_at : (xs : List ℕ) (k : ℕ) → k + 1 ≡ length xs → last_or None xs ≡ Some (slice_index xs k)
 last_at [] k h = absurd (omega arith)
 last_at (x ∷ []) zero h = refl
 last_at (x ∷ []) (suc k) h = absurd (omega arith)

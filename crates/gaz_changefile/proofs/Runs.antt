@@ -71,14 +71,14 @@ pub record Kept (c v : ℕ) (rows before left : List Fields) (place : ℕ) (draf
 here : {A : Type 0} (f : ℕ → Option A) (i n : ℕ) (x : A) → f i ≡ Some x → (rest : List A) × (filter_map f (range_with_len i (n + 1)) ≡ x ∷ rest)
 here f i n x e = (filter_map f (range_with_len (i + 1) n), rw (add-one, e) refl)
 
-not_here : {A : Type 0} (f : ℕ → Option A) (i n : ℕ) → f i ≡ None → filter_map f (range_with_len i (n + 1)) ≡ filter_map f (range_with_len (i + 1) n)
+pub not_here : {A : Type 0} (f : ℕ → Option A) (i n : ℕ) → f i ≡ None → filter_map f (range_with_len i (n + 1)) ≡ filter_map f (range_with_len (i + 1) n)
 not_here f i n e = rw (add-one, e) refl
 
 fault_is : (c v : ℕ) (rows : List Fields) (i : ℕ) (rules : List (ℕ × Bool)) (rule : ℕ) → rules_at c v rows i ≡ rules → first_broken rules ≡ Some rule
     → fault_at c v rows i ≡ Some (record { place = i + 1; rule = rule })
 fault_is c v rows i rules rule e h = rw (e, h) refl
 
-no_fault : (c v : ℕ) (rows : List Fields) (i : ℕ) (rules : List (ℕ × Bool)) → rules_at c v rows i ≡ rules → first_broken rules ≡ None → fault_at c v rows i ≡ None
+pub no_fault : (c v : ℕ) (rows : List Fields) (i : ℕ) (rules : List (ℕ × Bool)) → rules_at c v rows i ≡ rules → first_broken rules ≡ None → fault_at c v rows i ≡ None
 no_fault c v rows i rules e h = rw (e, h) refl
 
 -- the first of the faults decides
@@ -123,7 +123,7 @@ cons_listed place row = one_listed (change_at (place, row))
 pub bases_push : (rows : List Fields) (row : Fields) → bases_in (rows ++ (row ∷ [])) ≡ bases_in rows ++ listed (basis_at row)
 bases_push rows row = rw (filter_map-append basis_at rows (row ∷ [])) (ap (λ (l : List Basis). bases_in rows ++ l) (one_listed (basis_at row)))
 
-enumerate_push : {X : Type 0} (n : ℕ) (xs : List X) (x : X) → enumerate_from n (xs ++ (x ∷ [])) ≡ enumerate_from n xs ++ ((n + length xs, x) ∷ [])
+pub enumerate_push : {X : Type 0} (n : ℕ) (xs : List X) (x : X) → enumerate_from n (xs ++ (x ∷ [])) ≡ enumerate_from n xs ++ ((n + length xs, x) ∷ [])
 enumerate_push n [] x = let e : n + 0 ≡ n = omega arith in rw e refl
 enumerate_push n (y ∷ ys) x = let e : n + suc (length ys) ≡ (n + 1) + length ys = omega arith in rw (e, enumerate_push (n + 1) ys x) refl
 

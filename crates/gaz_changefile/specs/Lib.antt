@@ -6,5 +6,6 @@ pub mod Reading
 pub mod Fault
 pub mod Files
 pub mod Steps
+pub mod Writing
 pub mod Laws
 pub mod Worked

@@ -1,5 +1,5 @@
 //! What a reader of the definitions may rely on.
-ghost use Rattle.gaz_changefile.specs.Laws.{BasesRise, ChangesArePlaced, LeastFault};
+ghost use Rattle.gaz_changefile.specs.Laws.{BasesRise, ChangesArePlaced, FilesReadBack, LeastFault};
 ghost use Rattle.gaz_changefile.specs.Worked.{WorkedBases, WorkedFiles, WorkedProfiles};
 
 /// A bad reading names the least place at which a rule is broken and, there, the first that is. A good one breaks none.
@@ -15,6 +15,11 @@ pub fn bases_rise()
 /// The changes of a good file are at most 5,000, and each is placed by the number of its record.
 pub fn changes_are_placed()
     ensures { ChangesArePlaced }
+{}
+
+/// What is written of a file reads back as the same file.
+pub fn files_read_back()
+    ensures { FilesReadBack }
 {}
 
 /// What some worked files say by the definition of a reading.

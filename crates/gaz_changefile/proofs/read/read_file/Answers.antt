@@ -1,7 +1,8 @@
 use Rattle.std.proofs.Common.{◌∙◌, [], ◌∷◌, ◌++◌, ap, sym, refl, Some, None}
-use Rattle.std.proofs.lemmas.Result.{IfErr-weaker, err_from_is_err_and}
+use Rattle.std.proofs.lemmas.Result.{IfErr-weaker, IfOk-weaker, err_from_is_err_and}
 use Rattle.csv.specs.Records.{fields_of}
 use Rattle.gaz_rows.specs.Rows.{rows_of}
+use Rattle.gaz_changefile.proofs.Orderly.{bases-rise, changes-are-placed}
 use Rattle.gaz_changefile.proofs.Runs.{bad_end, bad_header, bad_next, good_end, kept_more, kept_start, no_record, no_text, ok_both, read_text, told}
 use Rattle.gaz_changefile.specs.Reading.{Good}
 use Rattle.gaz_changefile.specs.Rules.{header_rules, later_rules}
@@ -45,6 +46,14 @@ returns-then-not-branch-2-clause-good c =
     ok_both c.finish.result _ _ _ c.finish.ensures.file c.finish.ensures.good (λ f is none.
     read_text bytes c.args.code c.args.volume c.in-Ok.ensures.cases.1 ∙ good_end c.args.code c.args.volume (rows_of bytes) before c.loop-place.place c.loop-place.draft (rw n at kept) none
     ∙ ap Good (sym is))
+
+pub returns-then-not-branch-2-clause-bases : goal.returns-then-not-branch-2-clause-bases
+returns-then-not-branch-2-clause-bases c =
+    IfOk-weaker c.finish.result _ _ (λ f good. bases-rise c.args.bytes.now c.args.code c.args.volume f good) (returns-then-not-branch-2-clause-good c)
+
+pub returns-then-not-branch-2-clause-changes : goal.returns-then-not-branch-2-clause-changes
+returns-then-not-branch-2-clause-changes c =
+    IfOk-weaker c.finish.result _ _ (λ f good. changes-are-placed c.args.bytes.now c.args.code c.args.volume f good) (returns-then-not-branch-2-clause-good c)
 
 pub returns-then-not-branch-2-clause-bad : goal.returns-then-not-branch-2-clause-bad
 returns-then-not-branch-2-clause-bad c =
