@@ -1,4 +1,5 @@
 use crate::action::Action;
+use gaz_ids::{Code, Volume};
 use gaz_records::Item;
 
 /// A change of an item.
@@ -14,8 +15,6 @@ pub struct Change {
 /// A basis line: the file rests on what another custodian's file of this volume left.
 #[derive(Clone, Copy, Debug, PartialEq, Eq)]
 pub struct Basis {
-    /// A code from 1 to 9999.
-    pub custodian: u64,
-    /// A volume from 1 to 999,999.
-    pub volume: u64,
+    pub custodian: Code,
+    pub volume: Volume,
 }
