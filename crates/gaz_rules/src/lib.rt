@@ -1,4 +1,7 @@
 //! The rules of a gazetteer, and what a change file comes to under them.
 #![tactic(auto)]
 
+mod judging;
 pub mod laws;
+
+pub use judging::judge;
