@@ -4,8 +4,8 @@ use Rattle.std.proofs.Math.Path.{fun_ext}
 use Rattle.std.specs.List.{list_any}
 use Rattle.std.specs.FinMap as map
 use Rattle.gaz_shelf.specs.Board.{Board, empty_board}
-use Rattle.gaz_hub.specs.Received.{Received, HasAllOf}
-use Rattle.gaz_hub.specs.Standing.{Register, ready, with_next, judge_one, standing, Leads, Follows, IsPartial, NothingReady, StandingIsSettled}
+use Rattle.gaz_shelf.specs.Received.{Received}
+use Rattle.gaz_hub.specs.Standing.{HasAllOf, Register, ready, with_next, judge_one, standing, Leads, Follows, IsPartial, NothingReady, StandingIsSettled}
 use Rattle.gaz_hub.proofs.Prefixes.{some_of_any}
 use Rattle.gaz_hub.proofs.Orders.{IsReady, ready_gives, ready_from, with_next_is, any_order_holds, one_counts, done_at_most, done_count, none_ready, standing_closed}
 
@@ -39,7 +39,7 @@ leads_more G F bigger all B (c ∷ order) C l = (
 pub follows_more : (G : Register) (F bigger : Received) → HasAllOf bigger F → (B C : Board) → Follows G F B C → Follows G bigger B C
 follows_more G F bigger all B C f = record { order = f.order; leads = leads_more G F bigger all B f.order C f.leads }
 
-leads_on : (G : Register) (F : Received) (A : Board) (first : List ℕ) (B : Board) (second : List ℕ) (C : Board) → Leads G F A first B → Leads G F B second C → Leads G F A (first ++ second) C
+pub leads_on : (G : Register) (F : Received) (A : Board) (first : List ℕ) (B : Board) (second : List ℕ) (C : Board) → Leads G F A first B → Leads G F B second C → Leads G F A (first ++ second) C
 leads_on G F A [] B second C e l = subst (λ X. Leads G F X second C) e l
 leads_on G F A (c ∷ first) B second C k l = (k.0, leads_on G F (judge_one G F A c) first B second C k.1 l)
 

@@ -1,12 +1,11 @@
 pub mod Prefixes
-pub mod Pairs
 pub mod Orders
 pub mod Leading
 pub mod Steps
 pub mod Runs
-pub mod Judgings
-pub mod Replaying
-pub mod AnswerSteps
+pub mod Looks
+pub mod Bounds
+pub mod Advancing
 pub mod Examples
 pub mod WorkedBoards
 pub mod WorkedAnswers

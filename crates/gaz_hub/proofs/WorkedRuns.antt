@@ -3,7 +3,7 @@ use Rattle.std.proofs.Common.{◌≡◌, refl, sym, ap, ◌∙◌}
 use Rattle.std.specs.Prelude.{Some}
 use Rattle.std.specs.FinMap as map
 use Rattle.gaz_hub.specs.Outcomes.{outcome}
-use Rattle.gaz_hub.specs.Received.{with_file}
+use Rattle.gaz_shelf.specs.Received.{with_file}
 use Rattle.gaz_hub.specs.Runs.{Run}
 use Rattle.gaz_hub.specs.Sample.{sample_door, sample_register}
 use Rattle.gaz_hub.specs.Standing.{standing}

@@ -1,25 +1,19 @@
--- A hub: its register and what it received, with all settled.
-use Rattle.std.specs.Prelude.{ℕ, ◌==◌, Bool, false, not, List, refl}
+-- A hub over a keeper: what each of its calls tells.
+use Rattle.std.specs.Prelude.{◌≡◌, ◌≤◌, ◌<◌, ℕ, ◌==◌, Bool, true, false, not, IsSome, List, Option, Some, None, Result, Ok, Err}
 use Rattle.std.specs.Option.{option_map_or}
-use Rattle.std.specs.Coded.{Coded, code_by, coded_list, coded_ℕ, coded×}
 use Rattle.std.specs.FinMap as map
 use Rattle.gaz_changefile.specs.Profile.{profile_of}
 use Rattle.gaz_register.specs.Registers.{RegisterValue, blocks_of, knows}
-use Rattle.gaz_register.specs.contracts.register.Register as register
-use Rattle.gaz_hub.specs.Received.{Received, pair_cmp}
-use Rattle.gaz_hub.specs.Standing.{standing}
-use Rattle.gaz_hub.specs.Step.{Door, HubState}
-
--- what a hub keeps
-pub record HubValue : Type 0 where
-  pub register : RegisterValue
-  pub received : Received
-
--- it is stored as the pair of its fields
-abbrev pub hub_code : Coded HubValue
-hub_code =
-    code_by (RegisterValue × Received) (coded× register.the_row.coded (map.code (coded× coded_ℕ coded_ℕ) (coded_list coded_ℕ)))
-    (λ h. (h.register, h.received)) (λ p. record { register = p.0; received = p.1 }) (λ _. refl)
+use Rattle.gaz_shelf.specs.Received.{Received}
+use Rattle.gaz_shelf.specs.Keeper.{Content, IsNotOpen, Seen}
+use Rattle.gaz_shelf.specs.declared.fault.ShelfFault.{ShelfFault}
+use Rattle.gaz_shelf.specs.declared.fault.ShelfFault.TheVariants.{Store}
+use Rattle.gaz_hub.specs.Step.{Command, Door, HubState, Response, Settled, Stands, Step, Submitted, Told}
+use Rattle.gaz_hub.specs.Runs.{Run}
+use Rattle.gaz_hub.specs.declared.answer.Answer.{Answer}
+use Rattle.gaz_hub.specs.declared.answer.Answer.TheVariants.{New, Repeat, Taken, Refused}
+use Rattle.gaz_hub.specs.declared.refusal.Refusal.{Refusal}
+use Rattle.gaz_hub.specs.declared.refusal.Refusal.TheVariants as refusal
 
 -- 16: the file names a profile, and it isn't 1
 abbrev pub is_foreign : List ℕ → Bool
@@ -29,9 +23,59 @@ is_foreign bytes = option_map_or (λ profile. not (profile == 1)) (profile_of by
 abbrev pub door_of : RegisterValue → Door
 door_of r = record { register = blocks_of r; knows = knows r; is_foreign = is_foreign }
 
--- the hub that has received this and settled all
-abbrev pub settled_on : RegisterValue → Received → HubState
-settled_on r F = record { received = F; board = standing (blocks_of r) F }
+-- what was received, and how far it is judged, of what a keeper keeps
+abbrev pub state_of : Content → HubState
+state_of k = record { received = k.files; board = k.board }
 
-abbrev pub state_of : HubValue → HubState
-state_of h = settled_on h.register h.received
+-- each received file is of a custodian that the door knows
+abbrev pub AreKnown : Door → Received → Type 0
+AreKnown d F = (p : ℕ × ℕ) → IsSome (map.get F p) → d.knows p.0 ≡ true
+
+-- the keeper stands for a content that such a hub may have
+abbrev pub StandsFor : Door → Seen → Type 0
+StandsFor d s = s.stands × AreKnown d s.content.files
+
+-- ---- what a call tells
+
+-- the fault that a refusal carries
+abbrev pub cause_in : Refusal → Option ShelfFault
+cause_in (refusal.NotReceived cause) = Some cause
+cause_in (refusal.ReceivedUnsettled cause) = Some cause
+cause_in refusal.UnknownCustodian = None
+cause_in refusal.BadVolume = None
+cause_in refusal.TooLarge = None
+cause_in refusal.UnknownProfile = None
+
+abbrev pub cause_in_answer : Answer → Option ShelfFault
+cause_in_answer (New told) = None
+cause_in_answer (Repeat told) = None
+cause_in_answer (Taken digest) = None
+cause_in_answer (Refused r) = cause_in r
+
+abbrev pub cause_of : Response → Option ShelfFault
+cause_of (Submitted answer) = cause_in_answer answer
+cause_of (Told (Ok told)) = None
+cause_of (Told (Err r)) = cause_in r
+cause_of (Stands (Ok standing)) = None
+cause_of (Stands (Err r)) = cause_in r
+cause_of (Settled (Ok done)) = None
+cause_of (Settled (Err fault)) = Some fault
+
+-- one call: where the keeper stood for a content before and nobody else wrote on it, a step of the hub on that content
+pub record Steps (d : Door) (old new : Seen) (command : Command) (response : Response) : Type 0 where
+  pub harm : new.unharmed → old.unharmed
+  pub stands : StandsFor d old → new.unharmed → StandsFor d new
+  pub step : StandsFor d old → new.unharmed → Step d (state_of old.content) command response (state_of new.content)
+  -- no judgement is in progress afterwards
+  pub idle : IsNotOpen new.progress
+  pub failures : old.failures ≤ new.failures
+  -- 51 and 52 carry Store only where the keeper's count of failures rose
+  pub cause : StandsFor d old → new.unharmed → cause_of response ≡ Some Store → old.failures < new.failures
+
+-- calls one after another: a run of the hub
+pub record Runs (d : Door) (old new : Seen) (commands : List Command) (responses : List Response) : Type 0 where
+  pub harm : new.unharmed → old.unharmed
+  pub stands : StandsFor d old → new.unharmed → StandsFor d new
+  pub run : StandsFor d old → new.unharmed → Run d (state_of old.content) commands responses (state_of new.content)
+  pub idle : IsNotOpen old.progress → IsNotOpen new.progress
+  pub failures : old.failures ≤ new.failures

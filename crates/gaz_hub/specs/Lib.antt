@@ -1,12 +1,11 @@
-pub mod Received
 pub mod Standing
 pub mod Outcomes
 pub mod Step
 pub mod Runs
 pub mod Sample
 pub mod Hubs
-pub mod Judged
-pub mod Replays
+pub mod Settling
+pub mod Asked
 pub mod Examples
 pub mod WorkedBoards
 pub mod WorkedAnswers

@@ -1,6 +1,6 @@
 -- The custodians of the worked examples, and a hub over them.
 use Rattle.std.specs.Prelude.{ℕ, ◌==◌, Bool, false, ◌||◌, if◌then◌else◌, [], ◌∷◌}
-use Rattle.gaz_hub.specs.Received.{Received}
+use Rattle.gaz_shelf.specs.Received.{Received}
 use Rattle.gaz_hub.specs.Standing.{Register, standing}
 use Rattle.gaz_hub.specs.Step.{Door, HubState}
 

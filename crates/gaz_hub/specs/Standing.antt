@@ -1,26 +1,17 @@
 -- Which files are judged, and what is left when all is settled.
-use Rattle.std.specs.Prelude.{◌≡◌, ℕ, zero, suc, ◌+◌, ◌==◌, nat_le, Bool, false, ◌&&◌, if◌then◌else◌, IsTrue, List, [], ◌∷◌, ◌++◌, map, Option}
+use Rattle.std.specs.Prelude.{◌≡◌, ℕ, zero, suc, ◌+◌, ◌==◌, nat_le, Bool, false, ◌&&◌, if◌then◌else◌, IsTrue, List, [], ◌∷◌, ◌++◌, Some, Option}
 use Rattle.std.specs.Option.{option_map, option_map_or}
-use Rattle.std.specs.List.{list_all}
 use Rattle.std.specs.FinMap as map
-use Rattle.gaz_changefile.specs.declared.change.Basis.{Basis}
 use Rattle.gaz_changefile.specs.Reading.{Reading, reading}
-use Rattle.gaz_shelf.specs.View.{View}
 use Rattle.gaz_shelf.specs.Board.{Judgement, Board, empty_board, reached, view_after}
 use Rattle.gaz_register.specs.Registers.{Blocks}
+use Rattle.gaz_rules.specs.Bases.{are_reached, basis_views}
 use Rattle.gaz_rules.specs.Judging.{bases_of, judge}
-use Rattle.gaz_hub.specs.Received.{Received, HasAllOf}
+use Rattle.gaz_shelf.specs.Received.{Received}
 
 -- each custodian's own blocks
 abbrev pub Register : Type 0
 Register = ℕ → Blocks
-
--- the custodian and the view on which each basis line rests, in the order of the file
-abbrev pub basis_views : Board → List Basis → List (ℕ × View)
-basis_views B bases = map (λ d. (d.custodian, view_after B d.custodian d.volume)) bases
-
-abbrev pub are_reached : Board → List Basis → Bool
-are_reached B bases = list_all (λ d. nat_le d.volume (reached B d.custodian)) bases
 
 -- ---- judging
 
@@ -77,6 +68,10 @@ abbrev pub NothingReady : Received → Board → Type 0
 NothingReady F B = (c : ℕ) → ready F B c ≡ false
 
 -- ---- the laws of order
+
+-- each file of the smaller set is in the bigger one, with the same bytes
+abbrev pub HasAllOf : Received → Received → Type 0
+HasAllOf bigger smaller = (p : ℕ × ℕ) (bytes : List ℕ) → map.get smaller p ≡ Some bytes → map.get bigger p ≡ Some bytes
 
 -- one list begins another
 abbrev pub IsPrefixOf : {X : Type 0} → List X → List X → Type 0

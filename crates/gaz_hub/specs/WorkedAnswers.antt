@@ -6,9 +6,7 @@ use Rattle.gaz_shelf.specs.Board.{Board, empty_board, reached}
 use Rattle.gaz_shelf.specs.Examples.{one_street}
 use Rattle.gaz_shelf.specs.View.{empty_view}
 use Rattle.gaz_shelf.specs.declared.verdict.Verdict.TheVariants as verdict
-use Rattle.gaz_hub.specs.Judged.{FoundFault, IsJudged}
 use Rattle.gaz_hub.specs.Outcomes.{held_count, outcome, outcome_of, status, wants}
-use Rattle.gaz_hub.specs.Replays.{IsReplay}
 use Rattle.gaz_hub.specs.Sample.{is_sample_code, sample_door, sample_register, state_of}
 use Rattle.gaz_hub.specs.declared.outcome.Outcome.TheVariants.{Applied, Rejected, Held}
 use Rattle.gaz_hub.specs.Examples.{all_sent, gap_hub, no_text, no_text_judged, one_judged, sent, three_judged}
@@ -28,23 +26,6 @@ pub record WorkedOutcomes : Type 0 where
   pub holds_no_others : held_count sent one_judged 1002 ≡ 0
   pub stands : status sent one_judged 1003 ≡ record { custodian = 1003; held = 1; judged = 1; wants = Some (1003, 2) }
 
-pub record WorkedJudgements : Type 0 where
-  pub is_judged : IsJudged no_text_judged (verdict.Rejected 1 1) empty_view
-  pub never_applied : IsJudged no_text_judged verdict.Applied empty_view → ⊥
-  pub never_with_a_street : IsJudged no_text_judged (verdict.Rejected 1 1) one_street → ⊥
-  pub fits : FoundFault (sample_register 1001) empty_view (insertion ∷ []) one_street None
-  pub at_fault : FoundFault (sample_register 1001) empty_view (insertion ∷ again ∷ []) one_street (Some (record { place = 3; rule = 21 }))
-  pub never_at_the_first : FoundFault (sample_register 1001) empty_view (insertion ∷ again ∷ []) one_street (Some (record { place = 2; rule = 21 })) → ⊥
-  pub never_without_fault : FoundFault (sample_register 1001) empty_view (insertion ∷ again ∷ []) one_street None → ⊥
-  pub never_without_effect : FoundFault (sample_register 1001) empty_view (insertion ∷ []) empty_view None → ⊥
-
-pub record WorkedReplays : Type 0 where
-  pub of_judged : IsReplay sample_register sent 1003 1 (record { reached = 1; verdict = Some (verdict.Rejected 1 1); wants = Some 2 })
-  pub of_held : IsReplay sample_register sent 1003 3 (record { reached = 1; verdict = None; wants = Some 2 })
-  pub never_over_a_gap : IsReplay sample_register sent 1003 3 (record { reached = 2; verdict = Some (verdict.Rejected 1 1); wants = Some 2 }) → ⊥
-  pub never_of_another : IsReplay sample_register sent 1003 3 (record { reached = 1; verdict = Some (verdict.Rejected 1 1); wants = Some 2 }) → ⊥
-  pub never_without_want : IsReplay sample_register sent 1003 3 (record { reached = 1; verdict = None; wants = None }) → ⊥
-
 pub record WorkedSample : Type 0 where
   pub first_code : is_sample_code 1001 ≡ true
   pub last_code : is_sample_code 1003 ≡ true
@@ -61,6 +42,4 @@ pub record WorkedSample : Type 0 where
 
 pub record WorkedAnswers : Type 0 where
   pub on_outcomes : WorkedOutcomes
-  pub on_judgements : WorkedJudgements
-  pub on_replays : WorkedReplays
   pub on_sample : WorkedSample

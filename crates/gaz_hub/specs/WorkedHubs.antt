@@ -1,8 +1,8 @@
 -- Worked examples on a hub over a register. What a file's profile is, the worked examples on profiles compute.
 use Rattle.std.specs.Prelude.{◌≡◌, ℕ, true, false, List, [], ◌∷◌, Some, None, codes}
-use Rattle.std.specs.FinMap as map
 use Rattle.gaz_changefile.specs.Profile.{profile_of}
 use Rattle.gaz_register.specs.Registers.{RegisterValue, within}
+use Rattle.gaz_shelf.specs.Keeper.{empty_content}
 use Rattle.gaz_hub.specs.Hubs.{door_of, is_foreign, state_of}
 use Rattle.gaz_hub.specs.Step.{new_hub, turned_away}
 use Rattle.gaz_hub.specs.declared.refusal.Refusal.TheVariants.{UnknownCustodian, BadVolume, TooLarge}
@@ -25,4 +25,4 @@ pub record WorkedHubs : Type 0 where
   pub too_large : turned_away (door_of upper_and_lower) 1001 1 1_048_577 ≡ Some TooLarge
   pub own_block : within ((door_of upper_and_lower).register 1002).usrn 299 ≡ true
   pub block_of_another : within ((door_of upper_and_lower).register 1002).usrn 199 ≡ false
-  pub begins : state_of (record { register = upper_and_lower; received = map.empty }) ≡ new_hub
+  pub begins : state_of empty_content ≡ new_hub

@@ -1,22 +1,25 @@
-ghost use Rattle.std.specs.Prelude.{◌≡◌, ◌↔◌, IfOk, IfErr, IsSome, IsTrue, OnOk, OnErr, Some, None, length, true, false, option_map};
+ghost use Rattle.std.specs.Prelude.{◌≡◌, ◌↔◌, IfOk, IfErr, IsTrue, Some, None, true, false, option_map};
 ghost use Rattle.std.specs.FinMap as map;
 ghost use Rattle.sha2.specs.Sha256.{sha256};
-ghost use Rattle.gaz_hub.specs.Outcomes.{outcome, outcome_of};
-ghost use Rattle.gaz_register.specs.Registers.{blocks_of, knows};
-ghost use Rattle.gaz_hub.specs.Hubs.{door_of, is_foreign, settled_on};
-ghost use Rattle.gaz_hub.specs.Standing.{standing};
-ghost use Rattle.gaz_hub.specs.Step.{Asks, Submits, TellsStanding, door, turned_away};
+ghost use Rattle.gaz_register.specs.Registers.{knows};
+ghost use Rattle.gaz_shelf.specs.Board.{reached};
+ghost use Rattle.gaz_shelf.specs.Keeper.{IsNotOpen, Seen};
+ghost use Rattle.gaz_hub.specs.Asked.{IsAgain, IsHeld, IsOutcome, IsToldNow, TakesIn};
+ghost use Rattle.gaz_hub.specs.Hubs.{Steps, door_of, is_foreign};
+ghost use Rattle.gaz_hub.specs.Outcomes.{held_count, outcome_of, status};
+ghost use Rattle.gaz_hub.specs.Settling.{Looks, Tells};
+ghost use Rattle.gaz_hub.specs.Step.{Ask, IsTold, Stand, Stands, Submit, Submitted, Told, door, turned_away};
 
 use crate::answer::{Answer, Digest as FileDigest};
-use crate::files::Files;
+use crate::looking::wants;
 use crate::outcome::Outcome;
 use crate::refusal::Refusal;
-use crate::replay::replay_files;
+use crate::settling::settle;
 use crate::standing::Standing;
 use gaz_changefile::profile_of;
 use gaz_ids::{Code, Volume};
 use gaz_register::Register;
-use gaz_shelf::{ShelfFault, Verdict};
+use gaz_shelf::{Inbox, ShelfFault, Verdict};
 use sha2::{Digest, Sha256};
 use std::alloc::{AllocError, Global};
 
@@ -85,156 +88,267 @@ fn are_same(a: &[u8], b: &[u8]) -> bool
     a == b
 }
 
-// The outcome of a received file.
-fn tell(
+// The outcome of a received file, read off the board as it is.
+fn tell<K: Inbox>(
     alloc: Global,
-    register: &Register,
-    files: &Files,
+    keeper: &mut K,
     code: Code,
     volume: Volume,
-) -> Result<Outcome, AllocError>
-    requires { IsSome (map.get files.now (code, volume)) }
-    ensures { IfOk result (λ told. outcome files.now (standing (blocks_of register.now) files.now) code volume ≡ Some told) }
+) -> Result<Outcome, ShelfFault>
+    ensures { Looks (K.seen keeper.old) (K.seen keeper.new) result (IsOutcome (K.seen keeper.old).content.files (K.seen keeper.old).content.board code volume) }
 {
-    let replay = replay_files(alloc, register, files, code, volume.number())?;
-    match (replay.verdict, replay.wants) {
-        (Some(verdict), _) => Ok(outcome_of(verdict)),
-        (None, Some(volume)) => Ok(Outcome::Held {
+    match keeper.verdict(code, volume)? {
+        Some(verdict) => Ok(outcome_of(verdict)),
+        None => tell_held(alloc, keeper, code, volume),
+    }
+}
+
+// The same of a file that isn't judged.
+fn tell_held<K: Inbox>(
+    alloc: Global,
+    keeper: &mut K,
+    code: Code,
+    volume: Volume,
+) -> Result<Outcome, ShelfFault>
+    ensures { Looks (K.seen keeper.old) (K.seen keeper.new) result (IsHeld (K.seen keeper.old).content.files (K.seen keeper.old).content.board code) }
+{
+    match wants(alloc, keeper, code)? {
+        Some((custodian, volume)) => Ok(Outcome::Held { custodian, volume }),
+        // A board on which something is ready; no settled one.
+        None => Ok(Outcome::Held {
             custodian: code,
             volume,
         }),
-        (None, None) => unreachable!(),
     }
 }
 
-// The answer to a submission of what is there already.
-fn submit_again(
+// The answer to a file whose pair was received before; none where it wasn't.
+fn answer_again<K: Inbox>(
     alloc: Global,
-    register: &Register,
-    files: &Files,
+    keeper: &mut K,
     code: Code,
     volume: Volume,
     file: &[u8],
-    there: &[u8],
-) -> Answer
-    requires let_in { door (door_of register.now) code volume file.now ≡ None }
-    requires there { map.get files.now (code, volume) ≡ Some there.now }
-    ensures { Submits (door_of register.now) (settled_on register.now files.now) code volume file.now result (settled_on register.now files.now) }
+) -> Result<Option<Answer>, ShelfFault>
+    ensures { Looks (K.seen keeper.old) (K.seen keeper.new) result (IsAgain (K.seen keeper.old).content.files (K.seen keeper.old).content.board code volume file.now) }
 {
-    if !are_same(there, file) {
-        return Answer::Taken {
-            digest: digest_of(there),
-        };
+    let Some(there) = keeper.received(code, volume)? else {
+        return Ok(None);
+    };
+    if !are_same(&there, file) {
+        return Ok(Some(Answer::Taken {
+            digest: digest_of(&there),
+        }));
     }
-    match tell(alloc, register, files, code, volume) {
-        Ok(told) => Answer::Repeat(told),
-        Err(_) => Answer::Refused(Refusal::NotReceived(ShelfFault::Memory)),
-    }
+    Ok(Some(Answer::Repeat(tell(alloc, keeper, code, volume)?)))
 }
 
-// The answer to a submission of what isn't there yet.
-fn submit_new(
+// The same once all is settled.
+fn settle_and_answer<K: Inbox>(
     alloc: Global,
     register: &Register,
-    files: &mut Files,
+    keeper: &mut K,
+    code: Code,
+    volume: Volume,
+    file: &[u8],
+) -> Result<Option<Answer>, ShelfFault>
+    requires { IsNotOpen (K.seen keeper.old).progress }
+    ensures { Tells (door_of register.now) (K.seen keeper.old) (K.seen keeper.new) result (IsAgain (K.seen keeper.new).content.files (K.seen keeper.new).content.board code volume file.now) }
+{
+    settle(alloc, register, keeper)?;
+    answer_again(alloc, keeper, code, volume, file)
+}
+
+// The outcome of a received file once all is settled.
+fn settle_and_tell<K: Inbox>(
+    alloc: Global,
+    register: &Register,
+    keeper: &mut K,
+    code: Code,
+    volume: Volume,
+) -> Result<Outcome, ShelfFault>
+    requires { IsNotOpen (K.seen keeper.old).progress }
+    ensures { Tells (door_of register.now) (K.seen keeper.old) (K.seen keeper.new) result (IsOutcome (K.seen keeper.new).content.files (K.seen keeper.new).content.board code volume) }
+{
+    settle(alloc, register, keeper)?;
+    tell(alloc, keeper, code, volume)
+}
+
+// The answer to a file whose pair wasn't received before.
+fn take_in<K: Inbox>(
+    alloc: Global,
+    register: &Register,
+    keeper: &mut K,
     code: Code,
     volume: Volume,
     file: &[u8],
 ) -> Answer
+    requires idle { IsNotOpen (K.seen keeper.old).progress }
     requires let_in { door (door_of register.now) code volume file.now ≡ None }
-    requires free { map.get files.old (code, volume) ≡ None }
-    ensures { Submits (door_of register.now) (settled_on register.now files.old) code volume file.now result (settled_on register.now files.new) }
+    ensures { TakesIn (door_of register.now) (K.seen keeper.old) (K.seen keeper.new) code volume file.now result }
 {
-    match files.receive(code, volume, file) {
+    match keeper.receive(code, volume, file) {
         Ok(()) => {}
-        Err(_) => return Answer::Refused(Refusal::NotReceived(ShelfFault::Memory)),
+        Err(fault) => return Answer::Refused(Refusal::NotReceived(fault)),
     }
-    match tell(alloc, register, files, code, volume) {
+    match settle_and_tell(alloc, register, keeper, code, volume) {
         Ok(told) => Answer::New(told),
-        Err(_) => Answer::Refused(Refusal::ReceivedUnsettled(ShelfFault::Memory)),
+        Err(fault) => Answer::Refused(Refusal::ReceivedUnsettled(fault)),
+    }
+}
+
+// The answer to a file that the door lets in.
+fn submit_let_in<K: Inbox>(
+    alloc: Global,
+    register: &Register,
+    keeper: &mut K,
+    code: Code,
+    volume: Volume,
+    file: &[u8],
+) -> Answer
+    requires idle { IsNotOpen (K.seen keeper.old).progress }
+    requires let_in { door (door_of register.now) code volume file.now ≡ None }
+    ensures { Steps (door_of register.now) (K.seen keeper.old) (K.seen keeper.new) (Submit code volume file.now) (Submitted result) }
+{
+    match settle_and_answer(alloc, register, keeper, code, volume, file) {
+        Ok(Some(answer)) => answer,
+        Ok(None) => take_in(alloc, register, keeper, code, volume, file),
+        Err(fault) => Answer::Refused(Refusal::NotReceived(fault)),
     }
 }
 
 /// The answer to a submission.
-pub fn submit_file(
+pub fn submit_file<K: Inbox>(
     alloc: Global,
     register: &Register,
-    files: &mut Files,
+    keeper: &mut K,
     code: u64,
     volume: u64,
     file: &[u8],
 ) -> Answer
-    ensures { Submits (door_of register.now) (settled_on register.now files.old) code volume file.now result (settled_on register.now files.new) }
+    requires { IsNotOpen (K.seen keeper.old).progress }
+    ensures { Steps (door_of register.now) (K.seen keeper.old) (K.seen keeper.new) (Submit code volume file.now) (Submitted result) }
 {
     let (code, volume) = match at_door(register, code, volume, file.len()) {
         Ok(pair) => pair,
         Err(refusal) => return Answer::Refused(refusal),
     };
     match names_unknown_profile(alloc, file) {
-        Ok(false) => {}
-        Ok(true) => return Answer::Refused(Refusal::UnknownProfile),
-        Err(_) => return Answer::Refused(Refusal::NotReceived(ShelfFault::Memory)),
-    }
-    match files.get(code, volume) {
-        Some(there) => submit_again(alloc, register, files, code, volume, file, there),
-        None => submit_new(alloc, register, files, code, volume, file),
+        Ok(false) => submit_let_in(alloc, register, keeper, code, volume, file),
+        Ok(true) => Answer::Refused(Refusal::UnknownProfile),
+        Err(_) => Answer::Refused(Refusal::NotReceived(ShelfFault::Memory)),
     }
 }
 
-/// The digest and the outcome of a volume, where it was received.
-pub fn ask(
+// The digest and the outcome of a volume, read off the board as it is.
+fn tell_of<K: Inbox>(
+    alloc: Global,
+    keeper: &mut K,
+    code: Code,
+    volume: Volume,
+) -> Result<Option<(FileDigest, Outcome)>, ShelfFault>
+    ensures { Looks (K.seen keeper.old) (K.seen keeper.new) result (IsToldNow (K.seen keeper.old).content.files (K.seen keeper.old).content.board code volume) }
+{
+    let Some(there) = keeper.received(code, volume)? else {
+        return Ok(None);
+    };
+    let told = tell(alloc, keeper, code, volume)?;
+    Ok(Some((digest_of(&there), told)))
+}
+
+// The same once all is settled.
+fn settle_and_tell_of<K: Inbox>(
     alloc: Global,
     register: &Register,
-    files: &Files,
+    keeper: &mut K,
+    code: Code,
+    volume: Volume,
+) -> Result<Option<(FileDigest, Outcome)>, ShelfFault>
+    requires { IsNotOpen (K.seen keeper.old).progress }
+    ensures { Tells (door_of register.now) (K.seen keeper.old) (K.seen keeper.new) result (IsTold (K.seen keeper.new).content.files (K.seen keeper.new).content.board code volume) }
+{
+    settle(alloc, register, keeper)?;
+    tell_of(alloc, keeper, code, volume)
+}
+
+/// The digest and the outcome of a volume, where it was received.
+pub fn ask<K: Inbox>(
+    alloc: Global,
+    register: &Register,
+    keeper: &mut K,
     code: u64,
     volume: u64,
 ) -> Result<Option<(FileDigest, Outcome)>, Refusal>
-    ensures { Asks (door_of register.now) (settled_on register.now files.now) code volume result (settled_on register.now files.now) }
+    requires { IsNotOpen (K.seen keeper.old).progress }
+    ensures { Steps (door_of register.now) (K.seen keeper.old) (K.seen keeper.new) (Ask code volume) (Told result) }
 {
     let (code, volume) = match at_door(register, code, volume, 0) {
         Ok(pair) => pair,
         Err(refusal) => return Err(refusal),
     };
-    let there = match files.get(code, volume) {
-        Some(there) => there,
-        None => return Ok(None),
-    };
-    match tell(alloc, register, files, code, volume) {
-        Ok(told) => Ok(Some((digest_of(there), told))),
-        Err(_) => Err(Refusal::NotReceived(ShelfFault::Memory)),
+    match settle_and_tell_of(alloc, register, keeper, code, volume) {
+        Ok(told) => Ok(told),
+        Err(fault) => Err(Refusal::NotReceived(fault)),
     }
 }
 
-// The volume that is wanted next, with its custodian.
-fn wanted(custodian: Code, volume: Option<Volume>) -> Option<(Code, Volume)>
-    ensures { result ≡ option_map (λ v. (custodian, v)) volume }
+// How many files of a custodian are judged, and how many aren't.
+fn count_files<K: Inbox>(keeper: &mut K, code: Code) -> Result<(u64, u64), ShelfFault>
+    ensures { Looks (K.seen keeper.old) (K.seen keeper.new) result (λ n. n ≡ (reached (K.seen keeper.old).content.board code, held_count (K.seen keeper.old).content.files (K.seen keeper.old).content.board code)) }
 {
-    match volume {
-        Some(volume) => Some((custodian, volume)),
-        None => None,
-    }
+    let judged = keeper.reached(code)?;
+    let held = keeper.held(code)?;
+    Ok((judged, held))
+}
+
+// How far a custodian's files are judged on the board as it is.
+fn status_of<K: Inbox>(
+    alloc: Global,
+    keeper: &mut K,
+    custodian: Code,
+) -> Result<Standing, ShelfFault>
+    ensures { Looks (K.seen keeper.old) (K.seen keeper.new) result (λ s. s ≡ status (K.seen keeper.old).content.files (K.seen keeper.old).content.board custodian) }
+{
+    let (judged, held) = count_files(keeper, custodian)?;
+    let wants = wants(alloc, keeper, custodian)?;
+    Ok(Standing {
+        custodian,
+        held,
+        judged,
+        wants,
+    })
+}
+
+// The same once all is settled.
+fn settle_and_stand<K: Inbox>(
+    alloc: Global,
+    register: &Register,
+    keeper: &mut K,
+    code: Code,
+) -> Result<Standing, ShelfFault>
+    requires { IsNotOpen (K.seen keeper.old).progress }
+    ensures { Tells (door_of register.now) (K.seen keeper.old) (K.seen keeper.new) result (λ s. s ≡ status (K.seen keeper.new).content.files (K.seen keeper.new).content.board code) }
+{
+    settle(alloc, register, keeper)?;
+    status_of(alloc, keeper, code)
 }
 
 /// How far a custodian's files are judged.
-pub fn stand(
+pub fn stand<K: Inbox>(
     alloc: Global,
     register: &Register,
-    files: &Files,
+    keeper: &mut K,
     code: u64,
 ) -> Result<Standing, Refusal>
-    ensures { TellsStanding (door_of register.now) (settled_on register.now files.now) code result (settled_on register.now files.now) }
+    requires { IsNotOpen (K.seen keeper.old).progress }
+    ensures { Steps (door_of register.now) (K.seen keeper.old) (K.seen keeper.new) (Stand code) (Stands result) }
 {
     let custodian = match known_code(register, code) {
         Ok(custodian) => custodian,
         Err(refusal) => return Err(refusal),
     };
-    match replay_files(alloc, register, files, custodian, 1) {
-        Ok(replay) => Ok(Standing {
-            custodian,
-            held: files.count_above(custodian, replay.reached),
-            judged: replay.reached,
-            wants: wanted(custodian, replay.wants),
-        }),
-        Err(_) => Err(Refusal::NotReceived(ShelfFault::Memory)),
+    match settle_and_stand(alloc, register, keeper, custodian) {
+        Ok(standing) => Ok(standing),
+        Err(fault) => Err(Refusal::NotReceived(fault)),
     }
 }

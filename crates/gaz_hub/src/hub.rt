@@ -1,47 +1,40 @@
-ghost use Rattle.std.specs.Prelude.{◌≡◌, IsOk};
-ghost use Rattle.std.specs.FinMap as map;
-ghost use Rattle.gaz_hub.specs.Hubs.{door_of, state_of};
-ghost use Rattle.gaz_hub.specs.Step.{Ask, Settle, Settled, Stand, Stands, Step, Submit, Submitted, Told};
+ghost use Rattle.std.specs.Prelude.{◌≡◌};
+ghost use Rattle.gaz_shelf.specs.Keeper.{IsNotOpen, Seen};
+ghost use Rattle.gaz_hub.specs.Hubs.{Steps, door_of};
+ghost use Rattle.gaz_hub.specs.Step.{Ask, Settle, Settled, Stand, Stands, Submit, Submitted, Told};
 
 use crate::answer::{Answer, Digest};
 use crate::answering::{ask, stand, submit_file};
-use crate::files::Files;
 use crate::outcome::Outcome;
 use crate::refusal::Refusal;
+use crate::settling::settle;
 use crate::standing::Standing;
 use gaz_register::Register;
-use gaz_shelf::ShelfFault;
+use gaz_shelf::{Inbox, ShelfFault};
 use std::alloc::Global;
-use std::marker::Model;
 
-/// A hub, seen as its register and what it received: it keeps the files alone, and replays them for each answer.
+/// A hub of the custodians of a register, which keeps files and board in a keeper.
+///
+/// Each call settles first: it judges what is ready, until nothing is. What a call does is said of the content of the keeper, where it
+/// stands for one and nobody else wrote on it up to the call's end.
 #[derive(Drop)]
-pub struct Hub {
+pub struct Hub<K: Inbox + Drop> {
     alloc: Global,
     register: Register,
-    files: Files,
+    keeper: K,
 }
 
-impl Model for Hub {
-    ghost use Rattle.gaz_hub.specs.Hubs.{HubValue, hub_code};
-
-    ghost Value = { HubValue };
-
-    ghost coded = { hub_code };
-
-    ghost view = { λ h. record { register = h.register; received = h.files } };
-}
-
-impl Hub {
-    /// A hub of the custodians of a register, that received nothing.
-    pub fn new(alloc: Global, register: Register) -> Hub
+impl<K: Inbox + Drop> Hub<K> {
+    /// A hub over a keeper in which no judgement is in progress.
+    pub fn new(alloc: Global, register: Register, keeper: K) -> Hub<K>
+        requires { IsNotOpen (K.seen keeper).progress }
         ensures register { result.register ≡ register }
-        ensures empty { result.received ≡ map.empty }
+        ensures keeper { result.keeper ≡ keeper }
     {
         Hub {
             alloc,
             register,
-            files: Files::new(alloc),
+            keeper,
         }
     }
 
@@ -52,18 +45,33 @@ impl Hub {
         &self.register
     }
 
+    /// The keeper.
+    pub fn shelf(&self) -> &K
+        ensures { result.now ≡ self.now.keeper }
+    {
+        &self.keeper
+    }
+
+    /// The register and the keeper, as they stand.
+    pub fn into_parts(self) -> (Register, K)
+        ensures { result ≡ (self.register, self.keeper) }
+    {
+        (self.register, self.keeper)
+    }
+
     /// Submits a file as a volume of a custodian.
     ///
     /// The first file of a pair that passes the door is received, whatever it holds, and stays. A file has at most 1,048,576
-    /// bytes, and names no profile but 1. `NotReceived` and `ReceivedUnsettled` come for want of memory alone.
+    /// bytes, and names no profile but 1. `NotReceived` and `ReceivedUnsettled` carry the keeper's fault, or want of memory.
     pub fn submit(&mut self, code: u64, volume: u64, file: &[u8]) -> Answer
-        ensures step { Step (door_of self.old.register) (state_of self.old) (Submit code volume file.now) (Submitted result) (state_of self.new) }
+        requires idle { IsNotOpen (K.seen self.old.keeper).progress }
+        ensures steps { Steps (door_of self.old.register) (K.seen self.old.keeper) (K.seen self.new.keeper) (Submit code volume file.now) (Submitted result) }
         ensures register { self.new.register ≡ self.old.register }
     {
         submit_file(
             self.alloc,
             &self.register,
-            &mut self.files,
+            &mut self.keeper,
             code,
             volume,
             file,
@@ -72,26 +80,28 @@ impl Hub {
 
     /// The digest and the outcome of a volume, where it was received.
     pub fn outcome(&mut self, code: u64, volume: u64) -> Result<Option<(Digest, Outcome)>, Refusal>
-        ensures step { Step (door_of self.old.register) (state_of self.old) (Ask code volume) (Told result) (state_of self.new) }
-        ensures same { self.new ≡ self.old }
+        requires idle { IsNotOpen (K.seen self.old.keeper).progress }
+        ensures steps { Steps (door_of self.old.register) (K.seen self.old.keeper) (K.seen self.new.keeper) (Ask code volume) (Told result) }
+        ensures register { self.new.register ≡ self.old.register }
     {
-        ask(self.alloc, &self.register, &self.files, code, volume)
+        ask(self.alloc, &self.register, &mut self.keeper, code, volume)
     }
 
     /// How far a custodian's files are judged.
     pub fn status(&mut self, code: u64) -> Result<Standing, Refusal>
-        ensures step { Step (door_of self.old.register) (state_of self.old) (Stand code) (Stands result) (state_of self.new) }
-        ensures same { self.new ≡ self.old }
+        requires idle { IsNotOpen (K.seen self.old.keeper).progress }
+        ensures steps { Steps (door_of self.old.register) (K.seen self.old.keeper) (K.seen self.new.keeper) (Stand code) (Stands result) }
+        ensures register { self.new.register ≡ self.old.register }
     {
-        stand(self.alloc, &self.register, &self.files, code)
+        stand(self.alloc, &self.register, &mut self.keeper, code)
     }
 
-    /// Judges until nothing is ready. A hub that replays its files has nothing to do.
+    /// Judges until nothing is ready: all custodians are looked at by rising code, again and again, until none is.
     pub fn settle(&mut self) -> Result<(), ShelfFault>
-        ensures step { Step (door_of self.old.register) (state_of self.old) Settle (Settled result) (state_of self.new) }
-        ensures same { self.new ≡ self.old }
-        ensures done { IsOk result }
+        requires idle { IsNotOpen (K.seen self.old.keeper).progress }
+        ensures steps { Steps (door_of self.old.register) (K.seen self.old.keeper) (K.seen self.new.keeper) Settle (Settled result) }
+        ensures register { self.new.register ≡ self.old.register }
     {
-        Ok(())
+        settle(self.alloc, &self.register, &mut self.keeper)
     }
 }

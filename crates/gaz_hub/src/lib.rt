@@ -3,13 +3,12 @@
 
 mod answer;
 mod answering;
-mod files;
 mod hub;
-mod judging;
 pub mod laws;
+mod looking;
 mod outcome;
 mod refusal;
-mod replay;
+mod settling;
 mod standing;
 
 pub use answer::{Answer, Digest};

@@ -1,6 +1,6 @@
 use Rattle.std.proofs.Common.{ℕ, List, refl}
 use Rattle.std.specs.FinMap as map
-use Rattle.gaz_hub.specs.Received.{pair_cmp}
+use Rattle.gaz_shelf.specs.Received.{pair_cmp}
 use Rattle.gaz_hub.specs.Standing.{standing}
 use Rattle.gaz_hub.proofs.laws.worked_hubs.Goals as goal
 

@@ -1,0 +1,376 @@
+-- How judging goes on over a keeper.
+use Rattle.std.proofs.Common.{◌≡◌, ◌≤◌, ◌<◌, ◌+◌, ◌*◌, ℕ, suc, Bool, true, false, cond, not, ◌&&◌, ◌||◌, eqb, eqb-true, List, [], ◌∷◌, ◌++◌, take, length, get_or, refl, sym, ap, ◌∙◌, subst, arith, length-append, true≢false, leb-true}
+use Rattle.std.proofs.Math.Path.{fun_ext}
+use Rattle.std.proofs.lemmas.List.{take_all}
+use Rattle.std.proofs.lemmas.List.Folds.{list_all_more}
+use Rattle.std.specs.Prelude.{⊤, Option, Some, None, IsSome, IsErrAnd, Result, Ok, Err, IfOk, IfErr, OnOk, OnErr, is_some}
+use Rattle.std.specs.Option.{option_map, option_map_or}
+use Rattle.std.specs.List.{find, list_all}
+use Rattle.std.specs.FinMap as map
+use Rattle.gaz_changefile.specs.Contents.{Contents}
+use Rattle.gaz_changefile.specs.Reading.{Good, Bad, Reading, reading}
+use Rattle.gaz_changefile.specs.declared.change.Basis.{Basis}
+use Rattle.gaz_register.specs.Registers.{Blocks, CustodianValue, RegisterValue, blocks_of, knows}
+use Rattle.gaz_shelf.specs.Board.{Board, Judgement, adds, last_view, reached}
+use Rattle.gaz_shelf.specs.Keeper.{Content, Counts, Enters, IsAtHand, IsNotOpen, Seen, closed, skipped, with_judgement}
+use Rattle.gaz_shelf.specs.Received.{Received}
+use Rattle.gaz_shelf.specs.declared.fault.ShelfFault.{ShelfFault}
+use Rattle.gaz_shelf.specs.declared.fault.ShelfFault.TheVariants.{Store}
+use Rattle.gaz_shelf.specs.declared.verdict.Verdict.{Verdict}
+use Rattle.gaz_rules.specs.Bases.{are_reached, judged_on}
+use Rattle.gaz_rules.specs.Judges.{IsReady, Judges}
+use Rattle.gaz_rules.specs.Judging.{bases_of, judge}
+use Rattle.gaz_hub.specs.Hubs.{AreKnown, StandsFor, door_of}
+use Rattle.gaz_hub.specs.Settling.{Advances, IsNext, Looks, Tells, Tries, judged_in}
+use Rattle.gaz_hub.specs.Standing.{Follows, Leads, NothingReady, Register, judge_one, judgement_after, next_reading, ready, with_next}
+use Rattle.gaz_hub.specs.Step.{Door}
+use Rattle.gaz_hub.specs.declared.looking.Next.{Next}
+use Rattle.gaz_hub.specs.declared.looking.Next.TheVariants as next
+use Rattle.gaz_hub.proofs.Bounds.{at_most}
+use Rattle.gaz_hub.proofs.Leading.{follows_itself, leads_on}
+use Rattle.gaz_hub.proofs.Looks.{counts_then, left_not_open}
+use Rattle.gaz_hub.proofs.Prefixes.{both_parts, joined}
+use Rattle.gaz_hub.proofs.Orders.{ready_gives}
+
+-- ---- one after another
+
+abbrev pub follows_in : (G : Register) (F K : Received) (B C : Board) → F ≡ K → Follows G F B C → Follows G K B C
+follows_in G F K B C e f = record { order = f.order; leads = subst (λ X. Leads G X B f.order C) e f.leads }
+
+pub known_in : (d : Door) (F K : Received) → F ≡ K → AreKnown d F → AreKnown d K
+known_in d F K e h = subst (AreKnown d) e h
+
+-- a look judges nothing
+pub advances_looking : {T : Type 0} (d : Door) (a b : Seen) (r : Result T ShelfFault) (P : T → Type 0) → Looks a b r P → IsNotOpen a.progress → Advances d 0 a b
+advances_looking d a b r P l idle =
+    record {
+      harm = l.keeps.harm;
+      stands = λ stood fine. (l.keeps.stands stood.0 fine, known_in d _ _ (sym (ap (λ (k : Content). k.files) (l.keeps.content stood.0 fine))) stood.1);
+      files = λ stood fine. ap (λ (k : Content). k.files) (l.keeps.content stood.0 fine);
+      board = λ stood fine. follows_itself d.register _ _ _ (ap (λ (k : Content). k.board) (l.keeps.content stood.0 fine));
+      many = λ stood fine. omega arith;
+      idle = left_not_open a.progress b.progress l.keeps.progress idle;
+      kept = l.counts.kept;
+    }
+
+many_of : (m n : ℕ) (xs ys : List ℕ) → m ≤ length xs → n ≤ length ys → m + n ≤ length (xs ++ ys)
+many_of m n xs ys f s = omega (arith, length-append xs ys, f, s)
+
+pub advances_then : (d : Door) (m n : ℕ) (a b c : Seen) → Advances d m a b → Advances d n b c → Advances d (m + n) a c
+advances_then d m n a b c first second =
+    record {
+      harm = λ fine. first.harm (second.harm fine);
+      stands = λ stood fine. second.stands (first.stands stood (second.harm fine)) fine;
+      files = λ stood fine. second.files (first.stands stood (second.harm fine)) fine ∙ first.files stood (second.harm fine);
+      board = λ stood fine.
+          let mid = second.harm fine in
+          let f = first.board stood mid in
+          let g = second.board (first.stands stood mid) fine in
+          record {
+            order = f.order ++ g.order;
+            leads = leads_on d.register a.content.files a.content.board f.order b.content.board g.order c.content.board f.leads
+                (subst (λ X. Leads d.register X b.content.board g.order c.content.board) (first.files stood mid) g.leads);
+          };
+      many = λ stood fine.
+          let mid = second.harm fine in
+          many_of m n (first.board stood mid).order (second.board (first.stands stood mid) fine).order (first.many stood mid) (second.many (first.stands stood mid) fine);
+      idle = second.idle;
+      kept = let f = first.kept in let s = second.kept in omega arith;
+    }
+
+pub advances_less : (d : Door) (m n : ℕ) (a b : Seen) → n ≤ m → Advances d m a b → Advances d n a b
+advances_less d m n a b h l =
+    record {
+      harm = l.harm;
+      stands = l.stands;
+      files = l.files;
+      board = l.board;
+      many = λ stood fine. let f = l.many stood fine in omega arith;
+      idle = l.idle;
+      kept = l.kept;
+    }
+
+-- ---- one judgement
+
+-- a call that adds a judgement, where what it asks is so
+pub record Adds {T : Type 0} (b c : Seen) (r : Result T ShelfFault) (code : ℕ) (asked : Type 0) (j : Judgement) : Type 0 where
+  pub harm : c.unharmed → b.unharmed
+  pub stands : b.stands → asked → c.unharmed → c.stands
+  pub done : b.stands → asked → c.unharmed → OnOk r (c.content ≡ with_judgement b.content code j)
+  pub undone : b.stands → asked → c.unharmed → OnErr r (closed c.content ≡ closed b.content)
+  pub idle : IsNotOpen c.progress
+  pub counts : Counts b c r
+
+on_ok : {T P Q : Type 0} (r : Result T ShelfFault) → (P → Q) → OnOk r P → OnOk r Q
+on_ok (Ok x) f h = f h
+on_ok (Err e) f h = tt
+
+on_err : {T P Q : Type 0} (r : Result T ShelfFault) → (P → Q) → OnErr r P → OnErr r Q
+on_err (Ok x) f h = tt
+on_err (Err e) f h = f h
+
+pub adds_judged : (b c : Seen) (r : Result Verdict ShelfFault) (code : ℕ) (bases : List Basis) (j : Judgement) → Judges b c r code bases j → Adds b c r code (IsReady b.content code bases) j
+adds_judged b c r code bases j l =
+    record {
+      harm = l.harm;
+      stands = l.stands;
+      done = l.done;
+      undone = λ stood met fine. on_err r (ap closed) (l.undone stood met fine);
+      idle = l.idle;
+      counts = l.counts;
+    }
+
+pub adds_skipped : {T : Type 0} (b c : Seen) (r : Result T ShelfFault) (code : ℕ) (own : Blocks) (place rule : ℕ) → IsNotOpen b.progress
+    → Enters b c r (IsAtHand b.content code) (skipped b.content code place rule) → Adds b c r code (IsAtHand b.content code) (judged_on own b.content.board code (Bad place rule))
+unfolding judge
+adds_skipped b c r code own place rule idle l =
+    record {
+      harm = l.harm;
+      stands = l.stands;
+      done = l.done;
+      undone = λ stood met fine. on_err r (ap closed) (l.undone stood met fine);
+      idle = left_not_open b.progress c.progress l.progress idle;
+      counts = l.counts;
+    }
+
+-- what a ready file asks for
+pub ready_rests : (F : Received) (B : Board) (c : ℕ) (r : Reading) → ready F B c ≡ true → next_reading F B c ≡ Some r → are_reached B (bases_of r) ≡ true
+ready_rests F B c r h e =
+    ap (λ o. option_map_or (λ (x : Reading). are_reached B (bases_of x)) o false) (sym e) ∙ (both_parts _ _ h).1
+
+was_some : {A R : Type 0} (f : A → R) (o : Option A) (r : R) → option_map f o ≡ Some r → IsSome o
+was_some f None r e = cc
+was_some f (Some x) r e = refl
+
+pub is_at_hand : (k : Content) (c : ℕ) (r : Reading) → next_reading k.files k.board c ≡ Some r → IsAtHand k c
+is_at_hand k c r e = was_some (λ bytes. reading bytes c (reached k.board c + 1)) (map.get k.files (c, reached k.board c + 1)) r e
+
+-- it is the judgement that the board gets
+added_is : (G : Register) (F : Received) (B : Board) (c : ℕ) (r : Reading) → next_reading F B c ≡ Some r → adds B c (judged_on (G c) B c r) ≡ judge_one G F B c
+added_is G F B c r e =
+    fun_ext (λ d. elim (eqb d c) as (λ b. eqb d c ≡ b → cond b (B d ++ judged_on (G c) B c r ∷ []) (B d) ≡ cond b (with_next G F B d) (B d)) [
+      | true ↦ λ t.
+          let is : d ≡ c = eqb-true d c t in
+          subst (λ x. B x ++ judged_on (G c) B c r ∷ [] ≡ with_next G F B x) (sym is)
+          (sym (ap (λ o. option_map_or (λ (x : Reading). B c ++ judgement_after G B c (reached B c) x ∷ []) o (B c)) e))
+      | false ↦ λ _. refl
+    ] refl)
+
+-- a custodian's next file is ready and reads so
+abbrev pub IsNow : Content → ℕ → Reading → Type 0
+IsNow k c r = (ready k.files k.board c ≡ true) × (next_reading k.files k.board c ≡ Some r)
+
+pub asks_good : (k : Content) (c : ℕ) (f : Contents) → IsNow k c (Good f) → IsReady k c f.bases
+asks_good k c f now = record { at_hand = is_at_hand k c (Good f) now.1; reached = ready_rests k.files k.board c (Good f) now.0 now.1 }
+
+pub asks_bad : (k : Content) (c place rule : ℕ) → IsNow k c (Bad place rule) → IsAtHand k c
+asks_bad k c place rule now = is_at_hand k c (Bad place rule) now.1
+
+now_in : (k m : Content) (c : ℕ) (r : Reading) → k ≡ m → IsNow k c r → IsNow m c r
+now_in k m c r e = subst (λ x. IsNow x c r) e
+
+-- after a look the same is added
+pub adds_after : {T U : Type 0} (a b c : Seen) (x : U) (r : Result T ShelfFault) (code : ℕ) (rd : Reading) (own : Blocks) (asked : Type 0) (P : U → Type 0)
+    → Looks a b (Ok x) P → (IsNow b.content code rd → asked) → Adds b c r code asked (judged_on own b.content.board code rd)
+    → Adds a c r code (IsNow a.content code rd) (judged_on own a.content.board code rd)
+adds_after a b c x r code rd own asked P l asks g =
+    record {
+      harm = λ fine. l.keeps.harm (g.harm fine);
+      stands = λ stood met fine. let mid = g.harm fine in g.stands (l.keeps.stands stood mid) (asks (now_in _ _ code rd (sym (l.keeps.content stood mid)) met)) fine;
+      done = λ stood met fine.
+          let mid = g.harm fine in
+          let same = l.keeps.content stood mid in
+          on_ok r (λ e. e ∙ ap (λ (k : Content). with_judgement k code (judged_on own k.board code rd)) same)
+          (g.done (l.keeps.stands stood mid) (asks (now_in _ _ code rd (sym same) met)) fine);
+      undone = λ stood met fine.
+          let mid = g.harm fine in
+          let same = l.keeps.content stood mid in
+          on_err r (λ e. e ∙ ap closed same) (g.undone (l.keeps.stands stood mid) (asks (now_in _ _ code rd (sym same) met)) fine);
+      idle = g.idle;
+      counts = counts_then a b c r l.counts.kept g.counts;
+    }
+
+module _ {T : Type 0} (d : Door) (a c : Seen) (code : ℕ) (rd : Reading) (met : a.stands → c.unharmed → IsNow a.content code rd) where
+  -- the file was judged
+  pub advances_judged : (x : T) → Adds a c (Ok x) code (IsNow a.content code rd) (judged_on (d.register code) a.content.board code rd) → Advances d 1 a c
+  advances_judged x g =
+      record {
+        harm = g.harm;
+        stands = λ stood fine. (g.stands stood.0 (met stood.0 fine) fine, known_in d _ _ (sym (ap (λ (k : Content). k.files) (g.done stood.0 (met stood.0 fine) fine))) stood.1);
+        files = λ stood fine. ap (λ (k : Content). k.files) (g.done stood.0 (met stood.0 fine) fine);
+        board = λ stood fine.
+            let now = met stood.0 fine in
+            record { order = code ∷ []; leads = (now.0, ap (λ (k : Content). k.board) (g.done stood.0 now fine) ∙ added_is d.register a.content.files a.content.board code rd now.1) };
+        many = λ stood fine. omega arith;
+        idle = g.idle;
+        kept = g.counts.kept;
+      }
+
+  -- it wasn't
+  pub advances_broken : (e : ShelfFault) → Adds {T = T} a c (Err e) code (IsNow a.content code rd) (judged_on (d.register code) a.content.board code rd) → Advances d 0 a c
+  advances_broken e g =
+      record {
+        harm = g.harm;
+        stands = λ stood fine. (g.stands stood.0 (met stood.0 fine) fine, known_in d _ _ (sym (ap (λ (k : Content). k.files) (g.undone stood.0 (met stood.0 fine) fine))) stood.1);
+        files = λ stood fine. ap (λ (k : Content). k.files) (g.undone stood.0 (met stood.0 fine) fine);
+        board = λ stood fine. follows_itself d.register _ _ _ (ap (λ (k : Content). k.board) (g.undone stood.0 (met stood.0 fine) fine));
+        many = λ stood fine. omega arith;
+        idle = g.idle;
+        kept = g.counts.kept;
+      }
+
+  pub tries_judged : (x : T) (IsAmong : ℕ → Type 0) → Adds a c (Ok x) code (IsNow a.content code rd) (judged_on (d.register code) a.content.board code rd) → Tries d a c (Ok true) IsAmong
+  tries_judged x IsAmong g =
+      record {
+        advances = advances_judged x g;
+        same = λ stood fine e. absurd (true≢false e);
+        rests = λ stood fine e. absurd (true≢false e);
+        counts = record { kept = g.counts.kept; store = tt };
+      }
+
+  pub tries_broken : (e : ShelfFault) (IsAmong : ℕ → Type 0) → Adds {T = T} a c (Err e) code (IsNow a.content code rd) (judged_on (d.register code) a.content.board code rd) → Tries d a c (Err e) IsAmong
+  tries_broken e IsAmong g =
+      record {
+        advances = advances_broken e g;
+        same = λ stood fine. tt;
+        rests = λ stood fine. tt;
+        counts = record { kept = g.counts.kept; store = g.counts.store };
+      }
+
+-- a custodian whose next file isn't ready
+pub tries_nothing : (d : Door) (a b : Seen) (code : ℕ) (n : Next) → Looks a b (Ok n) (IsNext a.content.files a.content.board code) → IsNotOpen a.progress
+    → (IsNext a.content.files a.content.board code n → ready a.content.files a.content.board code ≡ false) → Tries d a b (Ok false) (λ c. c ≡ code)
+tries_nothing d a b code n l idle is =
+    record {
+      advances = advances_looking d a b (Ok n) _ l idle;
+      same = λ stood fine e. ap (λ (k : Content). k.board) (l.keeps.content stood.0 fine);
+      rests = λ stood fine e c among. subst (λ x. ready a.content.files a.content.board x ≡ false) (sym among) (is (l.right stood.0 fine));
+      counts = record { kept = l.counts.kept; store = tt };
+    }
+
+-- a look that failed
+pub tries_blind : {T : Type 0} (d : Door) (a b : Seen) (e : ShelfFault) (P : T → Type 0) (IsAmong : ℕ → Type 0) → Looks a b (Err e) P → IsNotOpen a.progress → Tries d a b (Err e) IsAmong
+tries_blind d a b e P IsAmong l idle =
+    record {
+      advances = advances_looking d a b (Err e) P l idle;
+      same = λ stood fine. tt;
+      rests = λ stood fine. tt;
+      counts = record { kept = l.counts.kept; store = l.counts.store };
+    }
+
+-- ---- a round
+
+round_step : (d : Door) (more r : Bool) (a b c : Seen) → Advances d (judged_in (Ok more)) a b → Advances d (judged_in (Ok r)) b c → Advances d (judged_in (Ok (more || r))) a c
+round_step d true true a b c first second = advances_less d 2 1 a c (omega arith) (advances_then d 1 1 a b c first second)
+round_step d true false a b c first second = advances_then d 1 0 a b c first second
+round_step d false true a b c first second = advances_then d 0 1 a b c first second
+round_step d false false a b c first second = advances_then d 0 0 a b c first second
+
+neither : (x y : Bool) → (x || y) ≡ false → (x ≡ false) × (y ≡ false)
+neither true y e = absurd (true≢false e)
+neither false y e = (refl, e)
+
+-- each of the custodians is known, and each known one is among them
+pub all_rest : (reg : RegisterValue) (p : ℕ → Bool) → list_all (λ k. not (p k.code)) reg ≡ true → (c : ℕ) → knows reg c ≡ true → p c ≡ false
+all_rest [] p h c e = absurd (true≢false (sym e))
+all_rest (k ∷ reg) p h c e =
+    elim (eqb k.code c) as (λ b. eqb k.code c ≡ b → is_some (cond b (Some k) (find (λ (x : CustodianValue). eqb x.code c) reg)) ≡ true → p c ≡ false) [
+      | true ↦ λ t _. subst (λ x. p x ≡ false) (eqb-true k.code c t) (un_not (p k.code) (both_parts _ _ h).0)
+      | false ↦ λ _ rest. all_rest reg p (both_parts _ _ h).1 c rest
+    ] refl e
+  where
+    un_not : (b : Bool) → not b ≡ true → b ≡ false
+    un_not true e = cc
+    un_not false e = refl
+
+-- so many custodians were looked at: all is as before and none of them is ready, or a file was judged
+pub record Looked (d : Door) (reg : RegisterValue) (i : ℕ) (more : Bool) (a b : Seen) : Type 0 where
+  pub advances : Advances d (judged_in (Ok more)) a b
+  pub same : StandsFor d a → b.unharmed → more ≡ false → b.content.board ≡ a.content.board
+  pub rests : StandsFor d a → b.unharmed → more ≡ false → list_all (λ k. not (ready a.content.files a.content.board k.code)) (take i reg) ≡ true
+
+pub looked_on : (d : Door) (reg : RegisterValue) (i : ℕ) (more r : Bool) (a b c : Seen) (k : CustodianValue) → i < length reg → k ≡ get_or reg i k
+    → Looked d reg i more a b → Tries d b c (Ok r) (λ x. x ≡ k.code) → Looked d reg (i + 1) (more || r) a c
+looked_on d reg i more r a b c k below is first second =
+    record {
+      advances = round_step d more r a b c first.advances second.advances;
+      same = λ stood fine e.
+          let mid = second.advances.harm fine in
+          let no = neither more r e in
+          second.same (first.advances.stands stood mid) fine no.1 ∙ first.same stood mid no.0;
+      rests = λ stood fine e.
+          let mid = second.advances.harm fine in
+          let no = neither more r e in
+          let stays = ap (λ (x : Received × Board). ready x.0 x.1 k.code) (λ j. (first.advances.files stood mid j, first.same stood mid no.0 j)) in
+          let rest = sym stays ∙ second.rests (first.advances.stands stood mid) fine no.1 k.code refl in
+          list_all_more (λ (x : CustodianValue). not (ready a.content.files a.content.board x.code)) reg i k below
+          ∙ joined _ _ (first.rests stood mid no.0) (ap (λ (x : CustodianValue). not (ready a.content.files a.content.board x.code)) (sym is) ∙ ap not rest);
+    }
+
+pub looked_all : (d : Door) (reg : RegisterValue) (i : ℕ) (more : Bool) (a b : Seen) → length reg ≤ i → Looked d reg i more a b → Tries d a b (Ok more) (λ c. knows reg c ≡ true)
+looked_all d reg i more a b past l =
+    record {
+      advances = l.advances;
+      same = l.same;
+      rests = λ stood fine e c known.
+          all_rest reg (ready a.content.files a.content.board)
+          (ap (list_all (λ (k : CustodianValue). not (ready a.content.files a.content.board k.code))) (sym (take_all i reg past)) ∙ l.rests stood fine e) c known;
+      counts = record { kept = l.advances.kept; store = tt };
+    }
+
+pub looked_stopped : (d : Door) (reg : RegisterValue) (i : ℕ) (more : Bool) (a b c : Seen) (e : ShelfFault) (P Q : ℕ → Type 0) → Looked d reg i more a b → Tries d b c (Err e) P → Tries d a c (Err e) Q
+looked_stopped d reg i more a b c e P Q first second =
+    record {
+      advances = advances_less d _ 0 a c (omega arith) (advances_then d _ 0 a b c first.advances second.advances);
+      same = λ stood fine. tt;
+      rests = λ stood fine. tt;
+      counts = counts_then a b c (Err e) first.advances.kept second.counts;
+    }
+
+-- ---- settling
+
+-- nothing is ready where no custodian of the register is
+nothing_ready : (d : Door) (F : Received) (B : Board) → AreKnown d F → ((c : ℕ) → d.knows c ≡ true → ready F B c ≡ false) → NothingReady F B
+nothing_ready d F B known rest c =
+    elim (ready F B c) as (λ b. ready F B c ≡ b → b ≡ false) [
+      | true ↦ λ e. let is = ready_gives F B c e in sym e ∙ rest c (known (c, reached B c + 1) (ap is_some is.came))
+      | false ↦ λ _. refl
+    ] refl
+
+-- a round that judged nothing ends it
+pub settled_now : (d : Door) (m : ℕ) (a b c : Seen) → Advances d m a b → Tries d b c (Ok false) (λ x. d.knows x ≡ true) → Tells {T = Unit {0}} d a c (Ok tt) (λ _. ⊤)
+settled_now d m a b c first second =
+    record {
+      advances = advances_less d _ 0 a c (omega arith) (advances_then d m 0 a b c first second.advances);
+      settled = λ stood fine.
+          let mid = first.stands stood (second.advances.harm fine) in
+          subst (λ (x : Received × Board). NothingReady x.0 x.1) (λ i. (sym (second.advances.files mid fine) i, sym (second.same mid fine refl) i))
+          (nothing_ready d b.content.files b.content.board mid.1 (second.rests mid fine refl));
+      right = λ stood fine. tt;
+      cause = λ stood fine. tt;
+    }
+
+pub settling_stopped : {T : Type 0} (d : Door) (m : ℕ) (a b c : Seen) (e : ShelfFault) (P : ℕ → Type 0) (Q : T → Type 0) → Advances d m a b → Tries d b c (Err e) P → Tells d a c (Err e) Q
+settling_stopped d m a b c e P Q first second =
+    record {
+      advances = advances_less d _ 0 a c (omega arith) (advances_then d m 0 a b c first second.advances);
+      settled = λ stood fine. tt;
+      right = λ stood fine. tt;
+      cause = λ stood fine is. let more = second.counts.store is in let kept = first.kept in omega arith;
+    }
+
+-- more rounds than there can be
+pub settling_past : (reg : RegisterValue) (n : ℕ) (a b : Seen) → 999999 * length reg < n → Advances (door_of reg) n a b → Tells {T = Unit {0}} (door_of reg) a b (Err Store) (λ _. ⊤)
+settling_past reg n a b past l =
+    record {
+      advances = advances_less (door_of reg) n 0 a b (omega arith) l;
+      settled = λ stood fine. tt;
+      right = λ stood fine. tt;
+      cause = λ stood fine is. absurd (omega (arith, past, at_most reg n a b l stood fine));
+    }
+
+-- ---- faults passed on
+
+pub is_err : {T : Type 0} (r : Result T ShelfFault) (e : ShelfFault) → IsErrAnd r (λ x. x ≡ e) → r ≡ Err e
+is_err (Ok x) e h = absurd h
+is_err (Err f) e h = ap Err h

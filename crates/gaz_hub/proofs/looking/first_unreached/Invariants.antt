@@ -1,0 +1,15 @@
+-- What is left finds what all find.
+use Rattle.std.proofs.Common.{◌≡◌, ◌≤◌, drop}
+use Rattle.gaz_shelf.specs.Keeper.{Keeps}
+use Rattle.gaz_hub.specs.Settling.{first_unreached}
+use Rattle.gaz_hub.proofs.looking.first_unreached.Given as goal
+
+abbrev pub invariant-loop-basis : goal.invariant-loop-basis
+invariant-loop-basis g l =
+    let now = g.S.Shelf.seen l.shelf in
+    let was = g.S.Shelf.seen l.fn.shelf in
+    record {
+      keeps : Keeps was now;
+      counted : was.failures ≤ now.failures;
+      left : was.stands → now.unharmed → first_unreached was.content.board (drop l.basis-index l.bases) ≡ first_unreached was.content.board l.bases;
+    }

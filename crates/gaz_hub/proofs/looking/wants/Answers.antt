@@ -1,0 +1,7 @@
+-- What it waits for is what it is found to wait for.
+use Rattle.std.proofs.Common.{◌∙◌}
+use Rattle.gaz_hub.proofs.Looks.{looks_to, wanted_as}
+use Rattle.gaz_hub.proofs.looking.wants.Goals as goal
+
+pub returns : goal.returns
+returns g c = looks_to _ _ _ _ _ _ c.in_ok-next.ensures (λ h. c.wanted.ensures ∙ wanted_as _ _ _ _ h)

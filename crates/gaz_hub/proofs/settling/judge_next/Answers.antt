@@ -1,0 +1,45 @@
+-- The next file is judged where it is ready.
+use Rattle.std.proofs.Common.{◌≡◌, sym, ◌∙◌, subst}
+use Rattle.std.specs.Prelude.{Err}
+use Rattle.gaz_changefile.specs.Reading.{Bad, Good}
+use Rattle.gaz_register.specs.Registers.{blocks_of}
+use Rattle.gaz_hub.specs.Hubs.{door_of}
+use Rattle.gaz_hub.specs.Settling.{Tries}
+use Rattle.gaz_hub.proofs.Advancing.{adds_after, adds_judged, adds_skipped, asks_bad, asks_good, is_at_hand, is_err, ready_rests, tries_broken, tries_judged}
+use Rattle.gaz_hub.proofs.Looks.{left_not_open}
+use Rattle.gaz_hub.proofs.settling.judge_next.Goals as goal
+
+pub returns-in_err-judge-in-Good : goal.returns-in_err-judge-in-Good
+returns-in_err-judge-in-Good g c =
+    let a = g.K.Shelf.seen c.args.keeper.now in
+    let b = g.K.Shelf.seen c.look.new.keeper in
+    let d = door_of c.args.register.now in
+    let own = blocks_of c.args.register.now c.args.code in
+    let looked = rw c.in-Good.is at c.in_ok-next.ensures in
+    let e = c.in_err-judge-in-Good.field-0.0 in
+    let told = tries_broken d a (g.K.Shelf.seen c.judge.new.shelf) c.args.code (Good c.in-Good.file)
+    (λ stood fine. looked.right stood (c.in_err-judge-in-Good.ensures.harm fine)) e (λ k. k ≡ c.args.code)
+    (adds_after a b _ _ _ c.args.code (Good c.in-Good.file) own _ _ looked (asks_good b.content c.args.code c.in-Good.file) (adds_judged b _ _ _ _ _ c.in_err-judge-in-Good.ensures)) in
+    subst (λ r. Tries d a (g.K.Shelf.seen c.judge.new.shelf) r (λ k. k ≡ c.args.code)) (sym (is_err c.from_residual-in_err-judge-in-Good.result e c.from_residual-in_err-judge-in-Good.ensures.1)) told
+
+pub returns-in-Good : goal.returns-in-Good
+returns-in-Good g c =
+    let a = g.K.Shelf.seen c.args.keeper.now in
+    let b = g.K.Shelf.seen c.look.new.keeper in
+    let own = blocks_of c.args.register.now c.args.code in
+    let looked = rw c.in-Good.is at c.in_ok-next.ensures in
+    tries_judged (door_of c.args.register.now) a (g.K.Shelf.seen c.judge.new.shelf) c.args.code (Good c.in-Good.file)
+    (λ stood fine. looked.right stood (c.in_ok-judge-in-Good.ensures.harm fine)) _ _
+    (adds_after a b _ _ _ c.args.code (Good c.in-Good.file) own _ _ looked (asks_good b.content c.args.code c.in-Good.file) (adds_judged b _ _ _ _ _ c.in_ok-judge-in-Good.ensures))
+
+pub returns-in-Bad : goal.returns-in-Bad
+returns-in-Bad g c =
+    let a = g.K.Shelf.seen c.args.keeper.now in
+    let b = g.K.Shelf.seen c.look.new.keeper in
+    let own = blocks_of c.args.register.now c.args.code in
+    let rd = Bad c.in-Bad.place c.in-Bad.rule in
+    let looked = rw c.in-Bad.is at c.in_ok-next.ensures in
+    tries_judged (door_of c.args.register.now) a (g.K.Shelf.seen c.skip.new.self) c.args.code rd
+    (λ stood fine. looked.right stood (c.in_ok-skip-in-Bad.ensures.harm fine)) _ _
+    (adds_after a b _ _ _ c.args.code rd own _ _ looked (asks_bad b.content c.args.code c.in-Bad.place c.in-Bad.rule)
+      (adds_skipped b _ _ c.args.code own c.in-Bad.place c.in-Bad.rule (left_not_open a.progress b.progress looked.keeps.progress c.requires) c.in_ok-skip-in-Bad.ensures))

@@ -1,0 +1,59 @@
+-- What a hub over a keeper reads off a settled board, and how it takes a file in.
+use Rattle.std.specs.Prelude.{◌≡◌, ◌≢◌, ◌≤◌, ◌<◌, ℕ, List, Option, Some, None, IsSome}
+use Rattle.std.specs.FinMap as map
+use Rattle.sha2.specs.Sha256.{sha256}
+use Rattle.gaz_shelf.specs.Board.{Board}
+use Rattle.gaz_shelf.specs.Keeper.{IsNew, IsNotOpen, Seen}
+use Rattle.gaz_shelf.specs.Received.{Received}
+use Rattle.gaz_shelf.specs.declared.fault.ShelfFault.TheVariants.{Store}
+use Rattle.gaz_hub.specs.Hubs.{StandsFor, cause_in_answer, state_of}
+use Rattle.gaz_hub.specs.Outcomes.{outcome, wants}
+use Rattle.gaz_hub.specs.Standing.{NothingReady}
+use Rattle.gaz_hub.specs.Step.{Door, Submits}
+use Rattle.gaz_hub.specs.declared.answer.Answer.{Answer}
+use Rattle.gaz_hub.specs.declared.answer.Answer.TheVariants.{New, Repeat, Taken, Refused}
+use Rattle.gaz_hub.specs.declared.outcome.Outcome.{Outcome}
+use Rattle.gaz_hub.specs.declared.outcome.Outcome.TheVariants.{Held}
+
+-- the outcome of a received file on a settled board
+abbrev pub IsOutcome : Received → Board → ℕ → ℕ → Outcome → Type 0
+IsOutcome F B c volume told = IsSome (map.get F (c, volume)) → NothingReady F B → outcome F B c volume ≡ Some told
+
+-- what the next volume waits for is named, where it waits for something
+abbrev pub IsHeld : Received → Board → ℕ → Outcome → Type 0
+IsHeld F B c told = (d volume : ℕ) → wants F B c ≡ Some (d, volume) → told ≡ Held d volume
+
+-- the digest of a received file, and its outcome on a settled board
+pub record IsToldBy (F : Received) (B : Board) (c volume : ℕ) (digest : List ℕ) (told : Outcome) : Type 0 where
+  pub bytes : List ℕ
+  pub there : map.get F (c, volume) ≡ Some bytes
+  pub digest_is : digest ≡ sha256 bytes
+  pub outcome_is : IsOutcome F B c volume told
+
+abbrev pub IsToldNow : Received → Board → ℕ → ℕ → Option (List ℕ × Outcome) → Type 0
+IsToldNow F B c volume None = map.get F (c, volume) ≡ None
+IsToldNow F B c volume (Some told) = IsToldBy F B c volume told.0 told.1
+
+-- other bytes were received before, with this digest
+pub record IsTaken (F : Received) (c volume : ℕ) (bytes digest : List ℕ) : Type 0 where
+  pub others : List ℕ
+  pub there : map.get F (c, volume) ≡ Some others
+  pub differ : others ≢ bytes
+  pub digest_is : digest ≡ sha256 others
+
+-- the answer to a file whose pair was received before; none where it wasn't
+abbrev pub IsAgain : Received → Board → ℕ → ℕ → List ℕ → Option Answer → Type 0
+IsAgain F B c volume bytes None = map.get F (c, volume) ≡ None
+IsAgain F B c volume bytes (Some (Repeat told)) = (map.get F (c, volume) ≡ Some bytes) × IsOutcome F B c volume told
+IsAgain F B c volume bytes (Some (Taken digest)) = IsTaken F c volume bytes digest
+IsAgain F B c volume bytes (Some (New told)) = ⊥
+IsAgain F B c volume bytes (Some (Refused r)) = ⊥
+
+-- a file that is new is received, and all is settled
+pub record TakesIn (d : Door) (old new : Seen) (c volume : ℕ) (bytes : List ℕ) (answer : Answer) : Type 0 where
+  pub harm : new.unharmed → old.unharmed
+  pub stands : StandsFor d old → IsNew old.content c volume → new.unharmed → StandsFor d new
+  pub step : StandsFor d old → IsNew old.content c volume → new.unharmed → Submits d (state_of old.content) c volume bytes answer (state_of new.content)
+  pub idle : IsNotOpen new.progress
+  pub kept : old.failures ≤ new.failures
+  pub cause : StandsFor d old → IsNew old.content c volume → new.unharmed → cause_in_answer answer ≡ Some Store → old.failures < new.failures

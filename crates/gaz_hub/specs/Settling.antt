@@ -1,0 +1,96 @@
+-- Settling over a keeper: what a look at a custodian's next volume finds, and what judging adds.
+use Rattle.std.specs.Prelude.{◌≡◌, ◌≢◌, ◌≤◌, ◌<◌, ◌+◌, ⊤, ℕ, Bool, true, false, length, not, nat_le, List, Option, Some, None, Result, Ok, Err, OnOk, IfOk, IfErr}
+use Rattle.std.specs.List.{find}
+use Rattle.std.specs.FinMap as map
+use Rattle.gaz_changefile.specs.Contents.{Contents}
+use Rattle.gaz_changefile.specs.Reading.{Good, Bad, reading}
+use Rattle.gaz_changefile.specs.declared.change.Basis.{Basis}
+use Rattle.gaz_shelf.specs.Board.{Board, reached}
+use Rattle.gaz_shelf.specs.Keeper.{Counts, IsNotOpen, Keeps, Seen}
+use Rattle.gaz_shelf.specs.Received.{Received}
+use Rattle.gaz_shelf.specs.declared.fault.ShelfFault.{ShelfFault}
+use Rattle.gaz_shelf.specs.declared.fault.ShelfFault.TheVariants.{Store}
+use Rattle.gaz_hub.specs.Hubs.{StandsFor}
+use Rattle.gaz_hub.specs.Outcomes.{wants}
+use Rattle.gaz_hub.specs.Standing.{Follows, NothingReady, next_reading, ready}
+use Rattle.gaz_hub.specs.Step.{Door}
+use Rattle.gaz_hub.specs.declared.looking.NextFile.{NextFile}
+use Rattle.gaz_hub.specs.declared.looking.NextFile.TheVariants as file
+use Rattle.gaz_hub.specs.declared.looking.Next.{Next}
+use Rattle.gaz_hub.specs.declared.looking.Next.TheVariants as next
+
+-- ---- looking
+
+-- calls that read: the answer is right, and the content is as it was
+pub record Looks {T : Type 0} (old new : Seen) (result : Result T ShelfFault) (IsRight : T → Type 0) : Type 0 where
+  pub keeps : Keeps old new
+  pub right : old.stands → new.unharmed → IfOk result IsRight
+  pub counts : Counts old new result
+
+-- the first basis line whose volume isn't reached
+abbrev pub first_unreached : Board → List Basis → Option Basis
+first_unreached B bases = find (λ d. not (nat_le d.volume (reached B d.custodian))) bases
+
+-- a custodian's next volume, and its bytes where it was received
+abbrev pub IsNextFile : Received → Board → ℕ → NextFile → Type 0
+IsNextFile F B c file.Past = 999_999 ≤ reached B c
+IsNextFile F B c (file.Missing volume) = (volume ≡ reached B c + 1) × (volume ≤ 999_999) × (map.get F (c, volume) ≡ None)
+IsNextFile F B c (file.Here volume bytes) = (volume ≡ reached B c + 1) × (volume ≤ 999_999) × (map.get F (c, volume) ≡ Some bytes.items)
+
+-- a good file, or what it waits for
+abbrev pub IsWeighed : Board → Contents → Next → Type 0
+IsWeighed B f (next.Good contents) = (contents ≡ f) × (first_unreached B f.bases ≡ None)
+IsWeighed B f (next.Waits d volume) = first_unreached B f.bases ≡ Some (record { custodian = d; volume = volume })
+IsWeighed B f (next.Bad place rule) = ⊥
+IsWeighed B f next.Done = ⊥
+
+-- the same of bytes that came as a custodian's volume
+abbrev pub IsReadAs : Board → ℕ → ℕ → List ℕ → Next → Type 0
+IsReadAs B c volume bytes (next.Bad place rule) = reading bytes c volume ≡ Bad place rule
+IsReadAs B c volume bytes other = (f : Contents) × (reading bytes c volume ≡ Good f) × IsWeighed B f other
+
+-- it is ready and reads so, or it isn't and waits for this
+abbrev pub IsNext : Received → Board → ℕ → Next → Type 0
+IsNext F B c (next.Good contents) = (ready F B c ≡ true) × (next_reading F B c ≡ Some (Good contents))
+IsNext F B c (next.Bad place rule) = (ready F B c ≡ true) × (next_reading F B c ≡ Some (Bad place rule))
+IsNext F B c (next.Waits d volume) = (ready F B c ≡ false) × (wants F B c ≡ Some (d, volume))
+IsNext F B c next.Done = (ready F B c ≡ false) × (wants F B c ≡ None)
+
+-- what it waits for, if anything
+abbrev pub wanted_by : Next → Option (ℕ × ℕ)
+wanted_by (next.Waits d volume) = Some (d, volume)
+wanted_by (next.Good contents) = None
+wanted_by (next.Bad place rule) = None
+wanted_by next.Done = None
+
+-- ---- judging
+
+-- files were judged when they were ready, one at a time and at least so many; else nothing changed
+pub record Advances (d : Door) (least : ℕ) (old new : Seen) : Type 0 where
+  pub harm : new.unharmed → old.unharmed
+  pub stands : StandsFor d old → new.unharmed → StandsFor d new
+  pub files : StandsFor d old → new.unharmed → new.content.files ≡ old.content.files
+  pub board : StandsFor d old → new.unharmed → Follows d.register old.content.files old.content.board new.content.board
+  pub many : (stood : StandsFor d old) (fine : new.unharmed) → least ≤ length (board stood fine).order
+  pub idle : IsNotOpen new.progress
+  pub kept : old.failures ≤ new.failures
+
+-- how many files were surely judged in a call that answers whether any was
+abbrev pub judged_in : Result Bool ShelfFault → ℕ
+judged_in (Ok true) = 1
+judged_in (Ok false) = 0
+judged_in (Err fault) = 0
+
+-- a call that judges what is ready among some custodians, and answers whether any was; where none was, the board is as before
+pub record Tries (d : Door) (old new : Seen) (result : Result Bool ShelfFault) (IsAmong : ℕ → Type 0) : Type 0 where
+  pub advances : Advances d (judged_in result) old new
+  pub same : StandsFor d old → new.unharmed → IfOk result (λ more. more ≡ false → new.content.board ≡ old.content.board)
+  pub rests : StandsFor d old → new.unharmed → IfOk result (λ more. more ≡ false → (c : ℕ) → IsAmong c → ready old.content.files old.content.board c ≡ false)
+  pub counts : Counts old new result
+
+-- a call that settles and then reads: after an Ok nothing is ready, and the answer is right
+pub record Tells {T : Type 0} (d : Door) (old new : Seen) (result : Result T ShelfFault) (IsRight : T → Type 0) : Type 0 where
+  pub advances : Advances d 0 old new
+  pub settled : StandsFor d old → new.unharmed → OnOk result (NothingReady new.content.files new.content.board)
+  pub right : StandsFor d old → new.unharmed → IfOk result IsRight
+  pub cause : StandsFor d old → new.unharmed → IfErr result (λ e. e ≡ Store → old.failures < new.failures)

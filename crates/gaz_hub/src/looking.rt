@@ -1,0 +1,127 @@
+//! What a custodian's next volume is, and what it waits for.
+ghost use Rattle.std.specs.Prelude.{◌≡◌, ◌≤◌, ◌+◌, IfErr, IfOk};
+ghost use Rattle.gaz_changefile.specs.Reading.{Bad, Good, reading};
+ghost use Rattle.gaz_shelf.specs.Board.{reached};
+ghost use Rattle.gaz_shelf.specs.Keeper.{Seen};
+ghost use Rattle.gaz_hub.specs.Settling.{Looks, IsNext, IsNextFile, IsReadAs, IsWeighed, first_unreached, wanted_by};
+ghost use Rattle.gaz_hub.specs.Outcomes.{wants};
+
+use gaz_changefile::{Basis, ChangeFile, FileFault, read_file};
+use gaz_ids::{Code, Volume};
+use gaz_shelf::{Inbox, Shelf, ShelfFault};
+use std::alloc::Global;
+
+/// A custodian's next volume.
+#[derive(Drop)]
+pub enum NextFile {
+    /// Volume 999,999 is judged.
+    Past,
+    /// It wasn't received.
+    Missing(Volume),
+    /// It has these bytes.
+    Here(Volume, Vec<u8>),
+}
+
+/// What is to become of a custodian's next volume.
+#[derive(Drop)]
+pub enum Next {
+    /// It is ready: a good file.
+    Good(ChangeFile),
+    /// It is ready: a file with this first fault.
+    Bad { place: u64, rule: u8 },
+    /// It waits for this custodian's volume.
+    Waits(Code, Volume),
+    /// There is none.
+    Done,
+}
+
+impl Next {
+    /// The volume that it waits for, if any.
+    fn wanted(&self) -> Option<(Code, Volume)>
+        ensures { result ≡ wanted_by self.now }
+    {
+        match self {
+            Next::Waits(custodian, volume) => Some((*custodian, *volume)),
+            Next::Good(_) | Next::Bad { .. } | Next::Done => None,
+        }
+    }
+}
+
+/// The next volume of a custodian, and its bytes where it was received.
+pub fn next_file<K: Inbox>(keeper: &mut K, code: Code) -> Result<NextFile, ShelfFault>
+    ensures { Looks (K.seen keeper.old) (K.seen keeper.new) result (IsNextFile (K.seen keeper.old).content.files (K.seen keeper.old).content.board code) }
+{
+    let reached = keeper.reached(code)?;
+    if reached >= 999_999 {
+        return Ok(NextFile::Past);
+    }
+    let Some(volume) = Volume::of(reached + 1) else {
+        return Ok(NextFile::Past);
+    };
+    match keeper.received(code, volume)? {
+        Some(bytes) => Ok(NextFile::Here(volume, bytes)),
+        None => Ok(NextFile::Missing(volume)),
+    }
+}
+
+/// The first basis line whose volume isn't reached.
+fn first_unreached<S: Shelf>(shelf: &mut S, bases: &[Basis]) -> Result<Option<Basis>, ShelfFault>
+    ensures { Looks (S.seen shelf.old) (S.seen shelf.new) result (λ basis. basis ≡ first_unreached (S.seen shelf.old).content.board bases.now) }
+{
+    for basis in bases {
+        if shelf.reached(basis.custodian)? < basis.volume.number() {
+            return Ok(Some(*basis));
+        }
+    }
+    Ok(None)
+}
+
+/// What is to become of a good file.
+fn weigh<S: Shelf>(shelf: &mut S, file: ChangeFile) -> Result<Next, ShelfFault>
+    ensures { Looks (S.seen shelf.old) (S.seen shelf.new) result (IsWeighed (S.seen shelf.old).content.board file) }
+{
+    match first_unreached(shelf, &file.bases)? {
+        Some(basis) => Ok(Next::Waits(basis.custodian, basis.volume)),
+        None => Ok(Next::Good(file)),
+    }
+}
+
+/// What is to become of a file of these bytes.
+fn read_next<S: Shelf>(
+    alloc: Global,
+    shelf: &mut S,
+    code: Code,
+    volume: Volume,
+    bytes: &[u8],
+) -> Result<Next, ShelfFault>
+    ensures { Looks (S.seen shelf.old) (S.seen shelf.new) result (IsReadAs (S.seen shelf.old).content.board code volume bytes.now) }
+{
+    match read_file(alloc, bytes, code, volume) {
+        Ok(file) => weigh(shelf, file),
+        Err(FileFault::Bad { place, rule }) => Ok(Next::Bad { place, rule }),
+        Err(FileFault::Memory) => Err(ShelfFault::Memory),
+    }
+}
+
+/// What is to become of a custodian's next volume.
+pub fn look<K: Inbox>(alloc: Global, keeper: &mut K, code: Code) -> Result<Next, ShelfFault>
+    ensures { Looks (K.seen keeper.old) (K.seen keeper.new) result (IsNext (K.seen keeper.old).content.files (K.seen keeper.old).content.board code) }
+{
+    match next_file(keeper, code)? {
+        NextFile::Past => Ok(Next::Done),
+        NextFile::Missing(volume) => Ok(Next::Waits(code, volume)),
+        NextFile::Here(volume, bytes) => read_next(alloc, keeper, code, volume, &bytes),
+    }
+}
+
+/// What a custodian's next volume waits for; nothing where it is ready, or after volume 999,999.
+pub fn wants<K: Inbox>(
+    alloc: Global,
+    keeper: &mut K,
+    code: Code,
+) -> Result<Option<(Code, Volume)>, ShelfFault>
+    ensures { Looks (K.seen keeper.old) (K.seen keeper.new) result (λ w. w ≡ wants (K.seen keeper.old).content.files (K.seen keeper.old).content.board code) }
+{
+    let next = look(alloc, keeper, code)?;
+    Ok(next.wanted())
+}
