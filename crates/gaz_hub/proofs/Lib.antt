@@ -4,11 +4,4 @@ pub mod Orders
 pub mod Leading
 pub mod Steps
 pub mod Runs
-pub mod Judgings
-pub mod Replaying
-pub mod AnswerSteps
-pub mod Examples
-pub mod WorkedBoards
-pub mod WorkedAnswers
-pub mod WorkedSteps
-pub mod WorkedRuns
+pub mod Giving

@@ -15,7 +15,8 @@ use Rattle.gaz_shelf.specs.View.{empty_view}
 use Rattle.gaz_changefile.specs.Reading.{Reading, reading}
 use Rattle.gaz_rules.specs.Judging.{bases_of, judge}
 use Rattle.gaz_shelf.specs.Board.{Judgement, Board, empty_board, reached, view_after}
-use Rattle.gaz_hub.specs.Received.{Received, pair_cmp, HasAllOf}
+use Rattle.gaz_shelf.specs.Received.{Received, pair_cmp}
+use Rattle.gaz_hub.specs.Received.{HasAllOf}
 use Rattle.gaz_hub.specs.Standing.{Register, basis_views, are_reached, ready, judgement_after, with_next, judge_one, round, rounds, standing, Leads, NothingReady, IsPrefixOf, AnyOrder, MoreFiles}
 use Rattle.gaz_changefile.specs.declared.change.Basis.{Basis}
 use Rattle.gaz_hub.proofs.Prefixes.{prefix_length, prefix_same, prefix_push, get_front, get_front_plain, get_pushed, both_parts, joined, gives_some, at_some, count, count_all, one_more_counted, any_of_found, some_of_any}

@@ -4,7 +4,7 @@ use Rattle.std.specs.Prelude.{Option, Some, None}
 use Rattle.std.specs.Option.{option_or}
 use Rattle.std.specs.FinMap as map
 use Rattle.gaz_shelf.specs.Board.{Board, empty_board}
-use Rattle.gaz_hub.specs.Received.{Received, pair_cmp}
+use Rattle.gaz_shelf.specs.Received.{Received, pair_cmp}
 use Rattle.gaz_hub.specs.Standing.{Follows, IsPartial, NothingReady, standing, Leads, IsPrefixOf, judge_one, Register}
 use Rattle.gaz_hub.specs.Outcomes.{outcome}
 use Rattle.gaz_hub.specs.Step.{Door, HubState, Command, Response, new_hub}

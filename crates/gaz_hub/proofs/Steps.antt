@@ -5,7 +5,8 @@ use Rattle.std.specs.Option.{option_or}
 use Rattle.std.specs.Cmp.{Equal-is}
 use Rattle.std.specs.FinMap as map
 use Rattle.gaz_shelf.specs.Board.{Board}
-use Rattle.gaz_hub.specs.Received.{Received, pair_cmp, HasAllOf, with_file}
+use Rattle.gaz_shelf.specs.Received.{Received, pair_cmp, with_file}
+use Rattle.gaz_hub.specs.Received.{HasAllOf}
 use Rattle.gaz_hub.specs.Standing.{Follows, NothingReady}
 use Rattle.gaz_hub.specs.Step.{Door, HubState, Command, Submit, Ask, Stand, Settle, Response, Submitted, Told, Stands, Settled, Step, Submits, Refuses, TurnedAway, NotReceived, WasAsked, Settles, door}
 use Rattle.gaz_hub.specs.Runs.{accepted, is_settled, same_pair, is_answered_51}

@@ -3,13 +3,4 @@ pub mod Standing
 pub mod Outcomes
 pub mod Step
 pub mod Runs
-pub mod Sample
 pub mod Hubs
-pub mod Judged
-pub mod Replays
-pub mod Examples
-pub mod WorkedBoards
-pub mod WorkedAnswers
-pub mod WorkedSteps
-pub mod WorkedRuns
-pub mod WorkedHubs

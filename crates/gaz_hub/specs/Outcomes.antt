@@ -7,7 +7,7 @@ use Rattle.gaz_shelf.specs.Board.{Board, reached}
 use Rattle.gaz_shelf.specs.declared.verdict.Verdict.{Verdict}
 use Rattle.gaz_shelf.specs.declared.verdict.Verdict.TheVariants as verdict
 use Rattle.gaz_rules.specs.Judging.{bases_of}
-use Rattle.gaz_hub.specs.Received.{Received}
+use Rattle.gaz_shelf.specs.Received.{Received}
 use Rattle.gaz_hub.specs.Standing.{next_reading}
 use Rattle.gaz_hub.specs.declared.standing.Standing.{Standing}
 use Rattle.gaz_hub.specs.declared.outcome.Outcome.{Outcome}

@@ -9,7 +9,8 @@ use Rattle.gaz_shelf.specs.View.{View}
 use Rattle.gaz_shelf.specs.Board.{Judgement, Board, empty_board, reached, view_after}
 use Rattle.gaz_register.specs.Registers.{Blocks}
 use Rattle.gaz_rules.specs.Judging.{bases_of, judge}
-use Rattle.gaz_hub.specs.Received.{Received, HasAllOf}
+use Rattle.gaz_shelf.specs.Received.{Received}
+use Rattle.gaz_hub.specs.Received.{HasAllOf}
 
 -- each custodian's own blocks
 abbrev pub Register : Type 0

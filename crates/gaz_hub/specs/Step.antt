@@ -4,7 +4,7 @@ use Rattle.std.specs.FinMap as map
 use Rattle.sha2.specs.Sha256.{sha256}
 use Rattle.gaz_shelf.specs.Board.{Board, empty_board}
 use Rattle.gaz_shelf.specs.declared.fault.ShelfFault.{ShelfFault}
-use Rattle.gaz_hub.specs.Received.{Received, with_file}
+use Rattle.gaz_shelf.specs.Received.{Received, with_file}
 use Rattle.gaz_hub.specs.Standing.{Register, Follows, NothingReady}
 use Rattle.gaz_hub.specs.Outcomes.{outcome, status}
 use Rattle.gaz_hub.specs.declared.answer.Answer.{Answer}

@@ -1,48 +1,45 @@
-ghost use Rattle.std.specs.Prelude.{◌≡◌, IsOk};
-ghost use Rattle.std.specs.FinMap as map;
-ghost use Rattle.gaz_hub.specs.Hubs.{door_of, state_of};
-ghost use Rattle.gaz_hub.specs.Step.{Ask, Settle, Settled, Stand, Stands, Step, Submit, Submitted, Told};
+//! STUB: a hub over a keeper that gives up at every command that its door lets in.
+ghost use Rattle.std.specs.Prelude.{◌≡◌};
+ghost use Rattle.gaz_shelf.specs.Keeper.{IsNotOpen};
+ghost use Rattle.gaz_hub.specs.Hubs.{Steps, door_of};
+ghost use Rattle.gaz_hub.specs.Step.{Ask, Settle, Settled, Stand, Stands, Submit, Submitted, Told};
 
 use crate::answer::{Answer, Digest};
-use crate::answering::{ask, stand, submit_file};
-use crate::files::Files;
+use crate::answering::{at_door, known_code};
 use crate::outcome::Outcome;
 use crate::refusal::Refusal;
 use crate::standing::Standing;
 use gaz_register::Register;
-use gaz_shelf::ShelfFault;
+use gaz_shelf::{Inbox, ShelfFault};
 use std::alloc::Global;
-use std::marker::Model;
 
-/// A hub, seen as its register and what it received: it keeps the files alone, and replays them for each answer.
+/// A hub: the register of its custodians, and a keeper.
 #[derive(Drop)]
-pub struct Hub {
+pub struct Hub<K: Inbox + Drop> {
     alloc: Global,
     register: Register,
-    files: Files,
+    keeper: K,
 }
 
-impl Model for Hub {
-    ghost use Rattle.gaz_hub.specs.Hubs.{HubValue, hub_code};
-
-    ghost Value = { HubValue };
-
-    ghost coded = { hub_code };
-
-    ghost view = { λ h. record { register = h.register; received = h.files } };
-}
-
-impl Hub {
-    /// A hub of the custodians of a register, that received nothing.
-    pub fn new(alloc: Global, register: Register) -> Hub
+impl<K: Inbox + Drop> Hub<K> {
+    /// A hub of the custodians of a register, over a keeper.
+    pub fn new(alloc: Global, register: Register, keeper: K) -> Hub<K>
+        requires { IsNotOpen (K.seen keeper).progress }
         ensures register { result.register ≡ register }
-        ensures empty { result.received ≡ map.empty }
+        ensures keeper { result.keeper ≡ keeper }
     {
         Hub {
             alloc,
             register,
-            files: Files::new(alloc),
+            keeper,
         }
+    }
+
+    /// The hub's keeper.
+    pub fn shelf(&self) -> &K
+        ensures { result.now ≡ self.now.keeper }
+    {
+        &self.keeper
     }
 
     /// The register of the hub's custodians.
@@ -52,46 +49,55 @@ impl Hub {
         &self.register
     }
 
+    /// The register and the keeper.
+    pub fn into_parts(self) -> (Register, K)
+        ensures { result ≡ (self.register, self.keeper) }
+    {
+        (self.register, self.keeper)
+    }
+
     /// Submits a file as a volume of a custodian.
-    ///
-    /// The first file of a pair that passes the door is received, whatever it holds, and stays. A file has at most 1,048,576
-    /// bytes, and names no profile but 1. `NotReceived` and `ReceivedUnsettled` come for want of memory alone.
     pub fn submit(&mut self, code: u64, volume: u64, file: &[u8]) -> Answer
-        ensures step { Step (door_of self.old.register) (state_of self.old) (Submit code volume file.now) (Submitted result) (state_of self.new) }
+        requires idle { IsNotOpen (K.seen self.old.keeper).progress }
+        ensures steps { Steps (door_of self.old.register) (K.seen self.old.keeper) (K.seen self.new.keeper) (Submit code volume file.now) (Submitted result) }
         ensures register { self.new.register ≡ self.old.register }
     {
-        submit_file(
-            self.alloc,
-            &self.register,
-            &mut self.files,
-            code,
-            volume,
-            file,
-        )
+        match at_door(&self.register, code, volume, file.len()) {
+            Ok(_) => Answer::Refused(Refusal::NotReceived(ShelfFault::Memory)),
+            Err(refusal) => Answer::Refused(refusal),
+        }
     }
 
     /// The digest and the outcome of a volume, where it was received.
     pub fn outcome(&mut self, code: u64, volume: u64) -> Result<Option<(Digest, Outcome)>, Refusal>
-        ensures step { Step (door_of self.old.register) (state_of self.old) (Ask code volume) (Told result) (state_of self.new) }
-        ensures same { self.new ≡ self.old }
+        requires idle { IsNotOpen (K.seen self.old.keeper).progress }
+        ensures steps { Steps (door_of self.old.register) (K.seen self.old.keeper) (K.seen self.new.keeper) (Ask code volume) (Told result) }
+        ensures register { self.new.register ≡ self.old.register }
     {
-        ask(self.alloc, &self.register, &self.files, code, volume)
+        match at_door(&self.register, code, volume, 0) {
+            Ok(_) => Err(Refusal::NotReceived(ShelfFault::Memory)),
+            Err(refusal) => Err(refusal),
+        }
     }
 
     /// How far a custodian's files are judged.
     pub fn status(&mut self, code: u64) -> Result<Standing, Refusal>
-        ensures step { Step (door_of self.old.register) (state_of self.old) (Stand code) (Stands result) (state_of self.new) }
-        ensures same { self.new ≡ self.old }
+        requires idle { IsNotOpen (K.seen self.old.keeper).progress }
+        ensures steps { Steps (door_of self.old.register) (K.seen self.old.keeper) (K.seen self.new.keeper) (Stand code) (Stands result) }
+        ensures register { self.new.register ≡ self.old.register }
     {
-        stand(self.alloc, &self.register, &self.files, code)
+        match known_code(&self.register, code) {
+            Ok(_) => Err(Refusal::NotReceived(ShelfFault::Memory)),
+            Err(refusal) => Err(refusal),
+        }
     }
 
-    /// Judges until nothing is ready. A hub that replays its files has nothing to do.
+    /// Judges until nothing is ready.
     pub fn settle(&mut self) -> Result<(), ShelfFault>
-        ensures step { Step (door_of self.old.register) (state_of self.old) Settle (Settled result) (state_of self.new) }
-        ensures same { self.new ≡ self.old }
-        ensures done { IsOk result }
+        requires idle { IsNotOpen (K.seen self.old.keeper).progress }
+        ensures steps { Steps (door_of self.old.register) (K.seen self.old.keeper) (K.seen self.new.keeper) Settle (Settled result) }
+        ensures register { self.new.register ≡ self.old.register }
     {
-        Ok(())
+        Err(ShelfFault::Memory)
     }
 }

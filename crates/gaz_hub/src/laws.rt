@@ -1,11 +1,6 @@
 //! Laws over the definitions alone: whichever ready file is judged first, whatever commands come.
 ghost use Rattle.gaz_hub.specs.Runs.{EqualReceived, EveryRepeat, EveryRun, EverySettledRun, JudgementsStay};
 ghost use Rattle.gaz_hub.specs.Standing.{AnyOrder, MoreFiles, StandingIsSettled};
-ghost use Rattle.gaz_hub.specs.WorkedAnswers.{WorkedAnswers};
-ghost use Rattle.gaz_hub.specs.WorkedBoards.{WorkedBoards};
-ghost use Rattle.gaz_hub.specs.WorkedHubs.{WorkedHubs};
-ghost use Rattle.gaz_hub.specs.WorkedRuns.{WorkedRuns};
-ghost use Rattle.gaz_hub.specs.WorkedSteps.{WorkedSteps};
 
 /// Every partial board with nothing ready is the standing one, whichever ready file was judged first.
 pub fn any_order()
@@ -45,29 +40,4 @@ pub fn judgements_stay()
 /// Equal received sets leave equal boards, whatever came and in whatever order.
 pub fn equal_received()
     ensures { EqualReceived }
-{}
-
-/// What was received, who is ready, and which boards come next, on worked examples.
-pub fn worked_boards()
-    ensures { WorkedBoards }
-{}
-
-/// What judging comes to and what custodians are told, on worked examples.
-pub fn worked_answers()
-    ensures { WorkedAnswers }
-{}
-
-/// Which steps a hub may take, and which it may not, on worked examples.
-pub fn worked_steps()
-    ensures { WorkedSteps }
-{}
-
-/// Which runs a hub may go through, and what holds after them, on worked examples.
-pub fn worked_runs()
-    ensures { WorkedRuns }
-{}
-
-/// The door and the blocks of a hub over a register, on worked examples.
-pub fn worked_hubs()
-    ensures { WorkedHubs }
 {}

@@ -3,13 +3,10 @@
 
 mod answer;
 mod answering;
-mod files;
 mod hub;
-mod judging;
 pub mod laws;
 mod outcome;
 mod refusal;
-mod replay;
 mod standing;
 
 pub use answer::{Answer, Digest};
@@ -18,6 +15,3 @@ pub use hub::Hub;
 pub use outcome::Outcome;
 pub use refusal::Refusal;
 pub use standing::Standing;
-
-#[cfg(test)]
-mod tests;

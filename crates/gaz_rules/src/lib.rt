@@ -1,4 +1,3 @@
 //! The rules of a gazetteer, and what a change file comes to under them.
 #![tactic(auto)]
 
-pub mod laws;
