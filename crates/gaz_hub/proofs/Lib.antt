@@ -4,4 +4,5 @@ pub mod Orders
 pub mod Leading
 pub mod Steps
 pub mod Runs
+pub mod HubRuns
 pub mod Giving
