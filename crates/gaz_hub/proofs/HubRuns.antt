@@ -1,5 +1,5 @@
 -- Calls of a hub over a keeper, one after another.
-use Rattle.std.proofs.Common.{◌≡◌, ◌≤◌, List, [], ◌∷◌, ◌++◌, refl, sym, arith}
+use Rattle.std.proofs.Common.{◌≡◌, ◌≤◌, List, [], ◌∷◌, ◌++◌, refl, append-nil, arith}
 use Rattle.gaz_shelf.specs.Keeper.{Seen}
 use Rattle.gaz_hub.specs.Hubs.{Runs, Steps, StandsFor}
 use Rattle.gaz_hub.specs.Runs.{Run}
@@ -46,3 +46,8 @@ runs_then d old mid new cs ds rs ss x y =
       idle = λ i. y.idle (x.idle i);
       failures = omega (arith, first, second);
     }
+
+-- calls, and then none
+pub runs_still : (d : Door) (old mid new : Seen) (cs : List Command) (rs : List Response) → Runs d old mid cs rs → Runs d mid new [] []
+    → Runs d old new cs rs
+runs_still d old mid new cs rs x y = rw (append-nil cs, append-nil rs) at (runs_then d old mid new cs [] rs [] x y)
