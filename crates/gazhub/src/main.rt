@@ -1,6 +1,12 @@
 //! `gazhub`: a hub for street and property gazetteers, on standard input and output.
 #![tactic(auto)]
 
+ghost use Rattle.std.specs.Prelude.{◌≡◌, ◌⊎◌, IfOk};
+ghost use Rattle.gaz_shelf.specs.Keeper.{IsNotOpen};
+ghost use Rattle.gaz_shelf.specs.Mem.{seen_in};
+ghost use Rattle.gaz_hub.specs.Hubs.{state_of};
+ghost use Rattle.gaz_hub.specs.Step as step;
+
 #[cfg(test)]
 mod fixtures;
 mod sample;
@@ -10,6 +16,7 @@ mod tests;
 use gaz_exchange::{Cause, converse};
 use gaz_hub::Hub;
 use gaz_register::{RegFault, Register};
+use gaz_shelf::MemShelf;
 use sample::SAMPLE;
 use std::alloc::Global;
 use std::io::BufWriter;
@@ -24,13 +31,18 @@ const FAULT: u8 = 3;
 const USAGE: u8 = 2;
 
 // A hub of the custodians of the sample register, that received nothing.
-fn new_hub(alloc: Global) -> Result<Hub, RegFault> {
+fn new_hub(alloc: Global) -> Result<Hub<MemShelf>, RegFault>
+    ensures idle { IfOk result (λ hub. IsNotOpen (seen_in hub.keeper).progress) }
+    ensures empty { IfOk result (λ hub. state_of (seen_in hub.keeper).content ≡ step.new_hub) }
+{
     let register = Register::read(alloc, SAMPLE.as_bytes())?;
-    Ok(Hub::new(alloc, register))
+    Ok(Hub::new(alloc, register, MemShelf::new(alloc)))
 }
 
 // Holds a conversation on standard input and output, over a hub in memory. The exit status.
-fn play<R: Input + Print + Eprint + AllocGlobal>(rt: &R) -> u8 {
+fn play<R: Input + Print + Eprint + AllocGlobal>(rt: &R) -> u8
+    ensures { (result ≡ 0) ⊎ (result ≡ 3) }
+{
     let Ok(mut w) = BufWriter::new(rt.alloc(), io::writer(rt)) else {
         let _ = eprintln!(rt; "gazhub: Memory");
         return FAULT;
