@@ -5,19 +5,21 @@ use Rattle.std.specs.Io.KnownBytes.{Appends, Consumes}
 use Rattle.std.proofs.KnownBytes.{Appends-nil, Appends-trans, Consumes-nil, Consumes-trans}
 use Rattle.std.proofs.lemmas.Bool.Decides.{nat_tests}
 use Rattle.std.proofs.lemmas.List.Elements.{filter_map-append}
-use Rattle.gaz_hub.specs.Runs.{Run}
-use Rattle.gaz_hub.specs.Step.{Door, HubState}
+use Rattle.gaz_shelf.specs.Keeper.{Seen}
+use Rattle.gaz_hub.specs.Hubs.{Runs}
+use Rattle.gaz_hub.specs.Step.{Door}
+use Rattle.gaz_hub.proofs.HubRuns.{runs_none, runs_still, runs_then}
 use Rattle.gaz_exchange.specs.Conversing.{Conversation, EndsAnswered, EndsAs, EndsRefused, StopsAs, StopsWaiting, ended_after}
 use Rattle.gaz_exchange.specs.Exchanges.{Comes, Exchange, all_open, command_in, commands_of, ends_after, goes_on, replies, responses_of}
 use Rattle.gaz_exchange.specs.Framing.{is_closing}
 use Rattle.gaz_exchange.specs.Refusals.{IsTurnedAway}
-use Rattle.gaz_exchange.specs.Turns.{Exchanges, IsTurn, Waits}
+use Rattle.gaz_exchange.specs.Turns.{Exchanges, IsTurn, Rests, Waits}
 use Rattle.gaz_exchange.specs.declared.supply.Cause.{Cause}
 use Rattle.gaz_exchange.specs.declared.supply.Cause.TheVariants.{ReadFault, WriteFault}
 use Rattle.gaz_exchange.specs.declared.conversation.Ended.{Ended}
 use Rattle.gaz_exchange.specs.declared.conversation.Ended.TheVariants as ended
 use Rattle.gaz_exchange.specs.declared.conversation.Turn.TheVariants.{Answered, Closed, Over, Stopped}
-use Rattle.gaz_exchange.proofs.ExchangeFacts.{both, both_are, comes_more, comes_none, comes_read, goes_on-more, replies-more, run_both}
+use Rattle.gaz_exchange.proofs.ExchangeFacts.{both, both_are, comes_more, comes_none, comes_read, goes_on-more, replies-more}
 
 no_input_end : (b : Bool) → (if b then ended.Most else ended.Closed) ≡ ended.InputEnd → ⊥
 no_input_end true e = cc e
@@ -31,29 +33,29 @@ ends_by most es rest left n written ended.InputEnd e w = absurd (no_input_end (n
 
 module _ (d : Door) where
   -- n requests were answered, and none of them ends the conversation
-  pub record IsSoFar (most n : ℕ) (had left held holds : Option (List ℕ)) (old new : HubState) (inlet : List ℕ) : Type 0 where
+  pub record IsSoFar (most n : ℕ) (had left held holds : Option (List ℕ)) (old new : Seen) (inlet : List ℕ) : Type 0 where
     pub read : List ℕ
     pub exchanges : List Exchange
     pub consumed : Consumes had left read
     pub appended : Appends held holds (replies exchanges)
     pub comes : Comes most read exchanges inlet
-    pub run : Run d old (commands_of exchanges) (responses_of exchanges) new
+    pub runs : Runs d old new (commands_of exchanges) (responses_of exchanges)
     pub count : length exchanges ≡ n
     pub opens : all_open exchanges ≡ true
 
-  pub so_far_none : (most : ℕ) (had held : Option (List ℕ)) (old : HubState) (inlet : List ℕ) → inlet ≡ [] → IsSoFar most 0 had had held held old old inlet
+  pub so_far_none : (most : ℕ) (had held : Option (List ℕ)) (old : Seen) (inlet : List ℕ) → inlet ≡ [] → IsSoFar most 0 had had held held old old inlet
   so_far_none most had held old inlet e = record {
     read = [];
     exchanges = [];
     consumed = Consumes-nil had;
     appended = Appends-nil held;
     comes = rw e (comes_none most []);
-    run = refl;
+    runs = runs_none d old;
     count = refl;
     opens = refl;
   }
 
-  module _ (most n : ℕ) (had left later held holds after : Option (List ℕ)) (old mid new : HubState) (inlet rest : List ℕ)
+  module _ (most n : ℕ) (had left later held holds after : Option (List ℕ)) (old mid new : Seen) (inlet rest : List ℕ)
       (s : IsSoFar most n had left held holds old mid inlet) (below : n < most) where
     open_yet : goes_on most s.exchanges ≡ true
     open_yet =
@@ -77,10 +79,10 @@ module _ (d : Door) where
           comes_more most (s.read ++ read) s.exchanges (inlet ++ read) e rest x.ends open_yet
           (comes_read most s.read s.exchanges inlet read s.comes) x.exchanged (x.ends_is ∙ last_is e)
 
-      all_run : Run d old (commands_of (s.exchanges ++ e ∷ [])) (responses_of (s.exchanges ++ e ∷ [])) new
-      all_run =
+      all_runs : Runs d old new (commands_of (s.exchanges ++ e ∷ [])) (responses_of (s.exchanges ++ e ∷ []))
+      all_runs =
           rw (filter_map-append command_in s.exchanges (e ∷ []), filter_map-append (λ y. y.response) s.exchanges (e ∷ []))
-          (run_both d old mid new (commands_of s.exchanges) (commands_of (e ∷ [])) (responses_of s.exchanges) (responses_of (e ∷ [])) s.run x.run)
+          (runs_then d old mid new (commands_of s.exchanges) (commands_of (e ∷ [])) (responses_of s.exchanges) (responses_of (e ∷ [])) s.runs x.runs)
 
       one_more : length (s.exchanges ++ e ∷ []) ≡ n + 1
       one_more = length-append s.exchanges (e ∷ []) ∙ ap (λ k. k + 1) s.count
@@ -92,15 +94,15 @@ module _ (d : Door) where
       ends_or_not = goes_on-more most s.exchanges e open_yet ∙ ap not (sym (last_is e))
 
     -- the same exchanges, though more was read
-    module _ (read : List ℕ) (consumed : Consumes left later read) (same : new ≡ mid) where
+    module _ (read : List ℕ) (consumed : Consumes left later read) (rests : Rests d mid new) where
       still_consumed : Consumes had later (s.read ++ read)
       still_consumed = Consumes-trans had left later s.read read s.consumed consumed
 
       still_come : Comes most (s.read ++ read) s.exchanges (inlet ++ read)
       still_come = comes_read most s.read s.exchanges inlet read s.comes
 
-      still_run : Run d old (commands_of s.exchanges) (responses_of s.exchanges) new
-      still_run = rw same s.run
+      still_runs : Runs d old new (commands_of s.exchanges) (responses_of s.exchanges)
+      still_runs = runs_still d old mid new (commands_of s.exchanges) (responses_of s.exchanges) s.runs rests
 
     quiet : (written : List ℕ) → Appends holds after written → written ≡ [] → Appends held after (replies s.exchanges)
     quiet written a e =
@@ -117,7 +119,7 @@ module _ (d : Door) where
           consumed = all_consumed t.read e t.consumed x;
           appended = all_written t.read e t.consumed x t.written t.appended told;
           comes = all_come t.read e t.consumed x;
-          run = all_run t.read e t.consumed x;
+          runs = all_runs t.read e t.consumed x;
           count = one_more t.read e t.consumed x;
           opens = (both (nat_lt (length (s.exchanges ++ e ∷ [])) most) (all_open (s.exchanges ++ e ∷ [])) others).1;
         }
@@ -133,7 +135,7 @@ module _ (d : Door) where
       consumed = all_consumed t.read e t.consumed x;
       appended = all_written t.read e t.consumed x t.written t.appended told;
       comes = all_come t.read e t.consumed x;
-      run = all_run t.read e t.consumed x;
+      runs = all_runs t.read e t.consumed x;
       comes_to = ends_by most (s.exchanges ++ e ∷ []) rest later (n + 1) (replies (s.exchanges ++ e ∷ [])) (ended_after (n + 1) most) refl (inl (record {
         done = ends_or_not t.read e t.consumed x ∙ ap not ends;
         counted = sym (one_more t.read e t.consumed x);
@@ -141,17 +143,17 @@ module _ (d : Door) where
       }));
     }
 
-    closed_by_refusal : (t : IsTurn d ((n + 1) == most) inlet rest left later holds after mid new Closed) → IsTurnedAway (inlet ++ t.read) later t.written → new ≡ mid
+    closed_by_refusal : (t : IsTurn d ((n + 1) == most) inlet rest left later holds after mid new Closed) → IsTurnedAway (inlet ++ t.read) later t.written → Rests d mid new
         → Conversation d most had later held after old new (Ok (record { requests = n + 1; ended = ended_after (n + 1) most }))
-    closed_by_refusal t away same = record {
+    closed_by_refusal t away rests = record {
       read = s.read ++ t.read;
       written = replies s.exchanges ++ t.written;
       exchanges = s.exchanges;
       rest = inlet ++ t.read;
-      consumed = still_consumed t.read t.consumed same;
+      consumed = still_consumed t.read t.consumed rests;
       appended = Appends-trans held holds after (replies s.exchanges) t.written s.appended t.appended;
-      comes = still_come t.read t.consumed same;
-      run = still_run t.read t.consumed same;
+      comes = still_come t.read t.consumed rests;
+      runs = still_runs t.read t.consumed rests;
       comes_to = ends_by most s.exchanges (inlet ++ t.read) later (n + 1) (replies s.exchanges ++ t.written) (ended_after (n + 1) most) refl (inr (record {
         open_yet = open_yet;
         text = t.written;
@@ -168,16 +170,16 @@ module _ (d : Door) where
     pub ends_over : IsTurn d ((n + 1) == most) inlet rest left later holds after mid new Over
         → Conversation d most had later held after old new (Ok (record { requests = n; ended = ended.InputEnd }))
     ends_over t =
-        let (over, at_end, same, none) = t.out in
+        let (over, at_end, rests, none) = t.out in
         record {
           read = s.read ++ t.read;
           written = replies s.exchanges;
           exchanges = s.exchanges;
           rest = inlet ++ t.read;
-          consumed = still_consumed t.read t.consumed same;
+          consumed = still_consumed t.read t.consumed rests;
           appended = quiet t.written t.appended none;
-          comes = still_come t.read t.consumed same;
-          run = still_run t.read t.consumed same;
+          comes = still_come t.read t.consumed rests;
+          runs = still_runs t.read t.consumed rests;
           comes_to = record { open_yet = open_yet; over = over; at_end = at_end; counted = sym s.count; told = refl };
         }
 
@@ -192,27 +194,27 @@ module _ (d : Door) where
       consumed = all_consumed t.read e t.consumed x;
       appended = Appends-trans held holds after (replies s.exchanges) t.written s.appended t.appended;
       comes = all_come t.read e t.consumed x;
-      run = all_run t.read e t.consumed x;
+      runs = all_runs t.read e t.consumed x;
       comes_to = inr (inl (record { earlier = s.exchanges; in_hand = e; sent = t.written; lost = lost; split = refl; cut = cut; counted = sym s.count; told = refl }));
     }
 
     stops_refusing : (t : IsTurn d ((n + 1) == most) inlet rest left later holds after mid new (Stopped WriteFault)) (lost : List ℕ)
-        → IsTurnedAway (inlet ++ t.read) later (t.written ++ lost) → new ≡ mid
+        → IsTurnedAway (inlet ++ t.read) later (t.written ++ lost) → Rests d mid new
         → Conversation d most had later held after old new (Err (record { requests = n; cause = WriteFault }))
-    stops_refusing t lost away same = record {
+    stops_refusing t lost away rests = record {
       read = s.read ++ t.read;
       written = replies s.exchanges ++ t.written;
       exchanges = s.exchanges;
       rest = inlet ++ t.read;
-      consumed = still_consumed t.read t.consumed same;
+      consumed = still_consumed t.read t.consumed rests;
       appended = Appends-trans held holds after (replies s.exchanges) t.written s.appended t.appended;
-      comes = still_come t.read t.consumed same;
-      run = still_run t.read t.consumed same;
+      comes = still_come t.read t.consumed rests;
+      runs = still_runs t.read t.consumed rests;
       comes_to = inr (inr (record { open_yet = open_yet; sent = t.written; lost = lost; turned_away = away; counted = sym s.count; told = refl }));
     }
 
     -- the next request isn't whole
-    module _ (read written : List ℕ) (consumed : Consumes left later read) (appended : Appends holds after written) (w : Waits (inlet ++ read) mid new written) where
+    module _ (read written : List ℕ) (consumed : Consumes left later read) (appended : Appends holds after written) (w : Waits d (inlet ++ read) mid new written) where
       waiting : StopsWaiting most s.exchanges (inlet ++ read) n (replies s.exchanges)
       waiting = record { open_yet = open_yet; unfinished = w.0; counted = sym s.count; told = refl }
 
@@ -226,7 +228,7 @@ module _ (d : Door) where
         consumed = still_consumed read consumed w.1;
         appended = quiet written appended w.2;
         comes = still_come read consumed w.1;
-        run = still_run read consumed w.1;
+        runs = still_runs read consumed w.1;
         comes_to = how;
       }
 
@@ -240,7 +242,7 @@ module _ (d : Door) where
         ]
 
   -- so many were answered as were allowed
-  pub ends_most : (most n : ℕ) (had left held holds : Option (List ℕ)) (old new : HubState) (inlet : List ℕ)
+  pub ends_most : (most n : ℕ) (had left held holds : Option (List ℕ)) (old new : Seen) (inlet : List ℕ)
       → IsSoFar most n had left held holds old new inlet → most ≤ n → n ≤ most
       → Conversation d most had left held holds old new (Ok (record { requests = most; ended = ended.Most }))
   ends_most most n had left held holds old new inlet s above below =
@@ -257,7 +259,7 @@ module _ (d : Door) where
         consumed = s.consumed;
         appended = s.appended;
         comes = s.comes;
-        run = s.run;
+        runs = s.runs;
         comes_to = ends_by most s.exchanges inlet left most (replies s.exchanges) ended.Most ends (inl (record {
           done = ap (λ b. b && all_open s.exchanges) none;
           counted = sym full;

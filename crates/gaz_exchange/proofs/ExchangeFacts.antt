@@ -4,8 +4,6 @@ use Rattle.std.specs.Prelude.{◌&&◌, ◌||◌, not, nat_lt, ◌==◌, IsTrue}
 use Rattle.std.specs.List.{list_all}
 use Rattle.std.proofs.lemmas.Bool.Decides.{nat_tests}
 use Rattle.std.proofs.lemmas.List.Folds.{list_all-append}
-use Rattle.gaz_hub.specs.Runs.{Run}
-use Rattle.gaz_hub.specs.Step.{Door, HubState, Command, Response}
 use Rattle.gaz_exchange.specs.Exchanges.{BeginsWithRequest, Comes, Exchange, IsExchanged, all_open, ends_after, goes_on, replies}
 use Rattle.gaz_exchange.specs.Framing.{is_closing}
 use Rattle.gaz_exchange.proofs.IncomingFacts.{begins_more}
@@ -88,10 +86,3 @@ goes_on-more most es e o =
 pub replies-more : (es : List Exchange) (e : Exchange) → replies (es ++ e ∷ []) ≡ replies es ++ e.reply
 replies-more [] e = append-nil e.reply
 replies-more (x ∷ es) e = ap (λ l. x.reply ++ l) (replies-more es e) ∙ sym (append_assoc x.reply (replies es) e.reply)
-
--- one run after another
-pub run_both : (d : Door) (a b c : HubState) (cs ds : List Command) (rs ss : List Response) → Run d a cs rs b → Run d b ds ss c → Run d a (cs ++ ds) (rs ++ ss) c
-run_both d a b c [] ds [] ss x y = rw (← x) y
-run_both d a b c [] ds (r ∷ rs) ss x y = absurd x
-run_both d a b c (k ∷ cs) ds [] ss x y = absurd x
-run_both d a b c (k ∷ cs) ds (r ∷ rs) ss x y = (x.0, x.1, run_both d x.0 b c cs ds rs ss x.2 y)

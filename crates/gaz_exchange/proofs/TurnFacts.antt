@@ -3,7 +3,9 @@ use Rattle.std.proofs.Common.{◌≡◌, ℕ, Bool, true, false, List, [], ◌++
 use Rattle.std.specs.Prelude.{◌||◌}
 use Rattle.std.specs.Io.KnownBytes.{Consumes, Keeps}
 use Rattle.httparse.specs.Grammar.{RequestHead}
-use Rattle.gaz_hub.specs.Step.{Door, HubState}
+use Rattle.gaz_shelf.specs.Keeper.{Seen}
+use Rattle.gaz_hub.specs.Step.{Door}
+use Rattle.gaz_hub.proofs.HubRuns.{runs_none, runs_one}
 use Rattle.gaz_exchange.specs.Asking.{asked, call_at, command_of, method_of, with_body}
 use Rattle.gaz_exchange.specs.Exchanges.{BeginsWithRequest, Exchange, IsReplyTo}
 use Rattle.gaz_exchange.specs.Framing.{is_closing}
@@ -11,7 +13,7 @@ use Rattle.gaz_exchange.specs.Incoming.{IsCall}
 use Rattle.gaz_exchange.specs.Refusals.{IsRefused, IsUnfinished}
 use Rattle.gaz_exchange.specs.Replies.{IsReplyText, is_received, memory_fault, reply_text}
 use Rattle.gaz_exchange.specs.Targets.{Target, Volume, Custodian, Nowhere, target_of}
-use Rattle.gaz_exchange.specs.Turns.{Answers, Asks, Exchanges, IsTurn, Refuses, TurnsOut, Waits, turn_of}
+use Rattle.gaz_exchange.specs.Turns.{Answers, Asks, Exchanges, IsTurn, Refuses, Rests, TurnsOut, Waits, turn_of}
 use Rattle.gaz_exchange.specs.declared.conversation.Turn.{Turn}
 use Rattle.gaz_exchange.specs.declared.conversation.Turn.TheVariants.{Stopped}
 use Rattle.gaz_exchange.specs.declared.supply.Cause.{Cause}
@@ -62,13 +64,13 @@ module _ (h : RequestHead) (body text : List ℕ) (is_last : Bool) where
 
 module _ (d : Door) where
   -- what an answered request comes to
-  pub record IsOut (h : RequestHead) (bytes rest text : List ℕ) (is_last : Bool) (old new : HubState) : Type 0 where
+  pub record IsOut (h : RequestHead) (bytes rest text : List ℕ) (is_last : Bool) (old new : Seen) : Type 0 where
     pub made : Exchange
     pub of_head : made.head ≡ h
     pub of_text : made.reply ≡ text
     pub exchanges : Exchanges d is_last bytes made rest old new
 
-  module _ (h : RequestHead) (bytes body rest text : List ℕ) (closing is_last : Bool) (old new : HubState) (reply : Reply)
+  module _ (h : RequestHead) (bytes body rest text : List ℕ) (closing is_last : Bool) (old new : Seen) (reply : Reply)
       (begins : BeginsWithRequest bytes h body rest) (same : closing ≡ is_closing h) (told : IsReplyText reply (closing || is_last) text) where
     asked_with : (call : Call) → Ok call ≡ call_at (target_of h.target) (method_of h.method) → asked h body ≡ Ok (command_of body call)
     unfolding asked
@@ -86,7 +88,7 @@ module _ (d : Door) where
             ends = closing || is_last;
             ends_is = ap (λ b. b || is_last) same;
             exchanged = record { request = begins; answered = rw asks (rw a.2 at told) };
-            run = rw asks (new, a.1, refl);
+            runs = rw asks (runs_one d old new (command_of body call) a.0 a.1);
           };
         }
     exchange_out (Ok call) (inr e) a = absurd (cc e)
@@ -100,12 +102,12 @@ module _ (d : Door) where
             ends = closing || is_last;
             ends_is = ap (λ b. b || is_last) same;
             exchanged = record { request = begins; answered = untold h body text (closing || is_last) fault called (rw a.1 at told) };
-            run = a.0;
+            runs = a.0;
           };
         }
 
   -- the turn after a reply to a request
-  module _ (h : RequestHead) (bytes rest text : List ℕ) (is_last : Bool) (old new : HubState) (left : Option (List ℕ)) (o : IsOut h bytes rest text is_last old new) where
+  module _ (h : RequestHead) (bytes rest text : List ℕ) (is_last : Bool) (old new : Seen) (left : Option (List ℕ)) (o : IsOut h bytes rest text is_last old new) where
     pub answer_turn : (sent lost : List ℕ) (ends whole : Bool) → ends ≡ (is_closing h || is_last) → text ≡ sent ++ lost → (whole ≡ true → lost ≡ [])
         → TurnsOut d is_last bytes rest left old new sent (turn_of ends whole)
     answer_turn sent lost true false e cut all = inr (lost, inl (o.made, o.exchanges, o.of_text ∙ cut))
@@ -116,8 +118,8 @@ module _ (d : Door) where
         (o.made, o.exchanges, sym (o.of_text ∙ cut ∙ ap (λ l. sent ++ l) (all refl) ∙ append-nil sent), ap (λ x. is_closing x || is_last) o.of_head ∙ sym e)
 
   -- the turn after a refusal
-  pub refuse_turn : (is_last : Bool) (bytes rest : List ℕ) (left : Option (List ℕ)) (old new : HubState) (fault : Fault) (text sent lost : List ℕ) (whole : Bool)
-      → IsRefused bytes left fault → IsReplyText (Refused fault) true text → text ≡ sent ++ lost → (whole ≡ true → lost ≡ []) → new ≡ old
+  pub refuse_turn : (is_last : Bool) (bytes rest : List ℕ) (left : Option (List ℕ)) (old new : Seen) (fault : Fault) (text sent lost : List ℕ) (whole : Bool)
+      → IsRefused bytes left fault → IsReplyText (Refused fault) true text → text ≡ sent ++ lost → (whole ≡ true → lost ≡ []) → Rests d old new
       → TurnsOut d is_last bytes rest left old new sent (turn_of true whole)
   refuse_turn is_last bytes rest left old new fault text sent lost false why told cut all same =
       inr (lost, inr (record { fault = fault; why = why; told = rw cut at told }, same))
@@ -125,7 +127,7 @@ module _ (d : Door) where
       inr (record { fault = fault; why = why; told = rw (cut ∙ ap (λ l. sent ++ l) (all refl) ∙ append-nil sent) at told }, same)
 
   -- the turn of a request that came whole
-  pub turn_of_answer : (is_last : Bool) (pending read bytes rest : List ℕ) (had left held mid holds : Option (List ℕ)) (old new : HubState) (q : Request) (h : RequestHead) (turn : Turn)
+  pub turn_of_answer : (is_last : Bool) (pending read bytes rest : List ℕ) (had left held mid holds : Option (List ℕ)) (old new : Seen) (q : Request) (h : RequestHead) (turn : Turn)
       → Consumes had left read → Keeps held mid → bytes ≡ pending ++ read → BeginsWithRequest bytes h q.body.items rest → IsCall h q.call → q.closing ≡ is_closing h
       → Answers d mid holds old new q is_last turn → IsTurn d is_last pending rest had left held holds old new turn
   turn_of_answer is_last pending read bytes rest had left held mid holds old new q h turn eaten kept all begins call closing a =
@@ -135,27 +137,27 @@ module _ (d : Door) where
       record { read = read; written = put.sent; consumed = eaten; appended = kept_appends held mid holds put.sent kept put.appended; out = rw (a.turn_is, ← all) out }
 
   -- the turn of what is refused
-  pub turn_of_refusal : (is_last : Bool) (pending read bytes rest : List ℕ) (had left held mid holds : Option (List ℕ)) (old : HubState) (fault : Fault) (turn : Turn)
+  pub turn_of_refusal : (is_last : Bool) (pending read bytes rest : List ℕ) (had left held mid holds : Option (List ℕ)) (old : Seen) (fault : Fault) (turn : Turn)
       → Consumes had left read → Keeps held mid → bytes ≡ pending ++ read → IsRefused bytes left fault → Refuses mid holds fault turn
       → IsTurn d is_last pending rest had left held holds old old turn
   turn_of_refusal is_last pending read bytes rest had left held mid holds old fault turn eaten kept all why a =
       let put = a.sent.put in
-      let out = refuse_turn is_last bytes rest left old old fault a.sent.text put.sent put.lost a.whole why a.sent.told put.cut put.all refl in
+      let out = refuse_turn is_last bytes rest left old old fault a.sent.text put.sent put.lost a.whole why a.sent.told put.cut put.all (runs_none d old) in
       record { read = read; written = put.sent; consumed = eaten; appended = kept_appends held mid holds put.sent kept put.appended; out = rw (a.turn_is, ← all) out }
 
-  waits_out : (is_last : Bool) (bytes rest : List ℕ) (left : Option (List ℕ)) (old new : HubState) (cause : Cause) → Waits bytes old new []
+  waits_out : (is_last : Bool) (bytes rest : List ℕ) (left : Option (List ℕ)) (old new : Seen) (cause : Cause) → Waits d bytes old new []
       → TurnsOut d is_last bytes rest left old new [] (Stopped cause)
   waits_out is_last bytes rest left old new ReadFault w = w
   waits_out is_last bytes rest left old new WriteFault w = inl w
 
   -- the turn where the reader or the writer fails before a request is whole
-  pub turn_of_failure : (is_last : Bool) (pending read rest : List ℕ) (had left held mid : Option (List ℕ)) (old : HubState) (cause : Cause)
+  pub turn_of_failure : (is_last : Bool) (pending read rest : List ℕ) (had left held mid : Option (List ℕ)) (old : Seen) (cause : Cause)
       → Consumes had left read → Keeps held mid → IsUnfinished (pending ++ read) → IsTurn d is_last pending rest had left held mid old old (Stopped cause)
   turn_of_failure is_last pending read rest had left held mid old cause eaten kept short =
-      let out = waits_out is_last (pending ++ read) rest left old old cause (short, refl, refl) in
+      let out = waits_out is_last (pending ++ read) rest left old old cause (short, runs_none d old, refl) in
       record { read = read; written = []; consumed = eaten; appended = kept_appends_none held mid kept; out = out }
 
 -- a turn at one door is a turn at the same door by another name
-pub turn_at : (d e : Door) (is_last : Bool) (pending rest : List ℕ) (had left held holds : Option (List ℕ)) (old new : HubState) (turn : Turn) → d ≡ e
+pub turn_at : (d e : Door) (is_last : Bool) (pending rest : List ℕ) (had left held holds : Option (List ℕ)) (old new : Seen) (turn : Turn) → d ≡ e
     → IsTurn d is_last pending rest had left held holds old new turn → IsTurn e is_last pending rest had left held holds old new turn
 turn_at d e is_last pending rest had left held holds old new turn same t = subst (λ (x : Door). IsTurn x is_last pending rest had left held holds old new turn) same t

@@ -1,8 +1,9 @@
 -- A conversation: the requests of a stream, answered in turn.
 use Rattle.std.specs.Prelude.{◌≡◌, ℕ, ◌+◌, ◌⊎◌, ◌==◌, true, false, if◌then◌else◌, List, [], ◌∷◌, ◌++◌, length, Option, Result, Ok, Err}
 use Rattle.std.specs.Io.KnownBytes.{Appends, Consumes, IsAtEnd}
-use Rattle.gaz_hub.specs.Runs.{Run}
-use Rattle.gaz_hub.specs.Step.{Door, HubState}
+use Rattle.gaz_shelf.specs.Keeper.{Seen}
+use Rattle.gaz_hub.specs.Hubs.{Runs}
+use Rattle.gaz_hub.specs.Step.{Door}
 use Rattle.gaz_exchange.specs.Heads.{IsOver}
 use Rattle.gaz_exchange.specs.Exchanges.{Exchange, Comes, goes_on, replies, commands_of, responses_of}
 use Rattle.gaz_exchange.specs.Refusals.{IsTurnedAway, IsUnfinished}
@@ -82,8 +83,8 @@ abbrev pub ComesTo : ℕ → List Exchange → List ℕ → Option (List ℕ) �
 ComesTo most es rest left (Ok served) written = EndsAs most es rest left served.requests served.ended written
 ComesTo most es rest left (Err stopped) written = StopsAs most es rest left stopped.requests stopped.cause written
 
--- at a hub with this door, and at most so many requests: from the bytes that the reader had and has left, what the writer held and holds, and the hub before and after
-pub record Conversation (d : Door) (most : ℕ) (had left held holds : Option (List ℕ)) (old new : HubState) (result : Result Served Stopped) : Type 0 where
+-- at a hub with this door, and at most so many requests: from the bytes that the reader had and has left, what the writer held and holds, and the hub's keeper before and after
+pub record Conversation (d : Door) (most : ℕ) (had left held holds : Option (List ℕ)) (old new : Seen) (result : Result Served Stopped) : Type 0 where
   pub read : List ℕ
   pub written : List ℕ
   pub exchanges : List Exchange
@@ -91,5 +92,5 @@ pub record Conversation (d : Door) (most : ℕ) (had left held holds : Option (L
   pub consumed : Consumes had left read
   pub appended : Appends held holds written
   pub comes : Comes most read exchanges rest
-  pub run : Run d old (commands_of exchanges) (responses_of exchanges) new
+  pub runs : Runs d old new (commands_of exchanges) (responses_of exchanges)
   pub comes_to : ComesTo most exchanges rest left result written

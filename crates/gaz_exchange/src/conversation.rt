@@ -1,5 +1,6 @@
 ghost use Rattle.std.specs.Prelude.{◌≡◌, Ok};
-ghost use Rattle.gaz_hub.specs.Hubs.{door_of, state_of};
+ghost use Rattle.gaz_shelf.specs.Keeper.{IsNotOpen};
+ghost use Rattle.gaz_hub.specs.Hubs.{door_of};
 ghost use Rattle.gaz_exchange.specs.Conversing.{Conversation, ended_after};
 ghost use Rattle.gaz_exchange.specs.Turns.{Answers, Asks, IsAsked, IsTurn, Refuses, turn_of};
 
@@ -10,6 +11,7 @@ use crate::route::Call;
 use crate::send::send;
 use crate::supply::Cause;
 use gaz_hub::Hub;
+use gaz_shelf::Inbox;
 use std::alloc::Global;
 use std::io::{Read, Write};
 
@@ -53,8 +55,9 @@ pub enum Turn {
 }
 
 // Asks the hub.
-fn ask_call(hub: &mut Hub, call: Call, body: &[u8]) -> Reply
-    ensures asked { Asks (door_of hub.old.register) (Ok call) body.now (state_of hub.old) (state_of hub.new) result }
+fn ask_call<K: Inbox + Drop>(hub: &mut Hub<K>, call: Call, body: &[u8]) -> Reply
+    requires idle { IsNotOpen (K.seen hub.old.keeper).progress }
+    ensures asked { Asks (door_of hub.old.register) (Ok call) body.now (K.seen hub.old.keeper) (K.seen hub.new.keeper) result }
     ensures register { hub.new.register ≡ hub.old.register }
 {
     match call {
@@ -65,8 +68,9 @@ fn ask_call(hub: &mut Hub, call: Call, body: &[u8]) -> Reply
 }
 
 // Asks the hub, where the request asks anything of it.
-fn ask(hub: &mut Hub, request: &Request) -> Reply
-    ensures asked { IsAsked (door_of hub.old.register) request.now (state_of hub.old) (state_of hub.new) result }
+fn ask<K: Inbox + Drop>(hub: &mut Hub<K>, request: &Request) -> Reply
+    requires idle { IsNotOpen (K.seen hub.old.keeper).progress }
+    ensures asked { IsAsked (door_of hub.old.register) request.now (K.seen hub.old.keeper) (K.seen hub.new.keeper) result }
     ensures register { hub.new.register ≡ hub.old.register }
 {
     match request.call {
@@ -85,14 +89,15 @@ fn turn_after(ends: bool, whole: bool) -> Turn
 }
 
 // Answers a request that came whole; `is_last` where no more may follow.
-fn answer<W: Write>(
+fn answer<W: Write, K: Inbox + Drop>(
     alloc: Global,
     w: &mut W,
-    hub: &mut Hub,
+    hub: &mut Hub<K>,
     request: &Request,
     is_last: bool,
 ) -> Turn
-    ensures answered { Answers (door_of hub.old.register) (W.contents w.old) (W.contents w.new) (state_of hub.old) (state_of hub.new)
+    requires idle { IsNotOpen (K.seen hub.old.keeper).progress }
+    ensures answered { Answers (door_of hub.old.register) (W.contents w.old) (W.contents w.new) (K.seen hub.old.keeper) (K.seen hub.new.keeper)
         request.now is_last result }
     ensures register { hub.new.register ≡ hub.old.register }
 {
@@ -109,16 +114,17 @@ fn refuse<W: Write>(alloc: Global, w: &mut W, fault: Fault) -> Turn
 }
 
 // Reads one request and answers it; `is_last` where no more may follow.
-fn take_turn<R: Read, W: Write>(
+fn take_turn<R: Read, W: Write, K: Inbox + Drop>(
     alloc: Global,
     r: &mut R,
     w: &mut W,
-    hub: &mut Hub,
+    hub: &mut Hub<K>,
     intake: &mut Intake,
     is_last: bool,
 ) -> Turn
+    requires idle { IsNotOpen (K.seen hub.old.keeper).progress }
     ensures turn { IsTurn (door_of hub.old.register) is_last intake.old.inlet intake.new.inlet (R.remaining r.old) (R.remaining r.new)
-        (W.contents w.old) (W.contents w.new) (state_of hub.old) (state_of hub.new) result }
+        (W.contents w.old) (W.contents w.new) (K.seen hub.old.keeper) (K.seen hub.new.keeper) result }
     ensures register { hub.new.register ≡ hub.old.register }
 {
     match next_request(alloc, r, w, intake) {
@@ -142,15 +148,16 @@ fn closed_after(requests: u64, most: u64) -> Served
 }
 
 /// Answers the requests of a stream in turn, at most `most` of them.
-pub fn converse<R: Read, W: Write>(
+pub fn converse<R: Read, W: Write, K: Inbox + Drop>(
     alloc: Global,
     r: &mut R,
     w: &mut W,
-    hub: &mut Hub,
+    hub: &mut Hub<K>,
     most: u64,
 ) -> Result<Served, Stopped>
+    requires idle { IsNotOpen (K.seen hub.old.keeper).progress }
     ensures conversation { Conversation (door_of hub.old.register) most (R.remaining r.old) (R.remaining r.new) (W.contents w.old) (W.contents w.new)
-        (state_of hub.old) (state_of hub.new) result }
+        (K.seen hub.old.keeper) (K.seen hub.new.keeper) result }
     ensures register { hub.new.register ≡ hub.old.register }
 {
     let mut intake = Intake::new();

@@ -1,15 +1,14 @@
-ghost use Rattle.std.specs.Prelude.{◌≡◌, ◌∷◌, [], ℕ, List, Some, codes, IfSome, IsUtf8};
+ghost use Rattle.std.specs.Prelude.{◌≡◌, ◌∷◌, [], ℕ, List, codes, IfSome, IsUtf8};
 ghost use Rattle.std.specs.Option.{ForSome};
-ghost use Rattle.matchit.specs.Params.{AllText, named as part_named};
 ghost use Rattle.gaz_exchange.specs.Asking.{call_at, method_of};
 ghost use Rattle.gaz_exchange.specs.Incoming.{IsCallAt};
-ghost use Rattle.gaz_exchange.specs.Routing.{Took, parts_of, routes};
+ghost use Rattle.gaz_exchange.specs.Routing.{Took, routes};
 ghost use Rattle.gaz_exchange.specs.Targets as seen;
 ghost use Rattle.gaz_exchange.specs.Targets.{code_in, target_of, volume_in};
 
 use crate::fault::{Allowed, Fault};
 use gaz_ids::{Code, Volume};
-use matchit::{Params, Router};
+use matchit::{Params, ParamsIter, Router};
 use std::alloc::Global;
 
 /// What is at a target.
@@ -76,19 +75,23 @@ fn make_router(alloc: Global) -> Option<Router<Place>>
     }
 }
 
-// The part of the target that a parameter took.
-fn taken<'v>(params: &Params<'_, 'v>, name: &str) -> &'v str
-    ensures { AllText (parts_of params.now) → (part : List ℕ) → part_named name.now (parts_of params.now) ≡ Some part → result.now ≡ part }
+// The part of the target that the next parameter took.
+fn next_part<'v>(parts: &mut ParamsIter<'_, '_, 'v>) -> &'v str
+    ensures { (name part : List ℕ) (rest : List (List ℕ × List ℕ)) → parts.old ≡ (name, part) ∷ rest → IsUtf8 part → (result.now ≡ part) × (parts.new ≡ rest) }
 {
-    params.get(name).unwrap_or("")
+    match parts.next() {
+        Some((_, part)) => part,
+        None => "",
+    }
 }
 
 // What a request asks of a custodian's volume.
 fn volume_call(params: &Params<'_, '_>, method: Method) -> Result<Call, Fault>
     ensures { (c v : List ℕ) → Took params.now ((codes "c", c) ∷ (codes "v", v) ∷ []) → result ≡ call_at (seen.Volume c v) method }
 {
-    let code = code_of(taken(params, "c"));
-    let volume = volume_of(taken(params, "v"));
+    let mut parts = params.iter();
+    let code = code_of(next_part(&mut parts));
+    let volume = volume_of(next_part(&mut parts));
     match method {
         Method::Post => Ok(Call::Submit { code, volume }),
         Method::Get => Ok(Call::Ask { code, volume }),
@@ -100,7 +103,7 @@ fn volume_call(params: &Params<'_, '_>, method: Method) -> Result<Call, Fault>
 fn custodian_call(params: &Params<'_, '_>, method: Method) -> Result<Call, Fault>
     ensures { (c : List ℕ) → Took params.now ((codes "c", c) ∷ []) → result ≡ call_at (seen.Custodian c) method }
 {
-    let code = code_of(taken(params, "c"));
+    let code = code_of(next_part(&mut params.iter()));
     match method {
         Method::Get => Ok(Call::Stand { code }),
         Method::Post | Method::Other => Err(Fault::BadMethod(Allowed::Get)),

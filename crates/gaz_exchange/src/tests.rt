@@ -1,8 +1,13 @@
 //! Conversations over fake readers and writers. The expected texts are those of docs/exchange.md and RFC 9112.
 
+ghost use Rattle.std.specs.Prelude.{IfOk};
+ghost use Rattle.gaz_shelf.specs.Keeper.{IsNotOpen};
+ghost use Rattle.gaz_shelf.specs.Mem.{seen_in};
+
 use crate::{Cause, Ended, Served, Stopped, converse};
 use gaz_hub::Hub;
 use gaz_register::{RegFault, Register};
+use gaz_shelf::MemShelf;
 use std::alloc::Global;
 use std::cell::Cell;
 use std::io::{self, ErrorKind, Read, Write};
@@ -154,9 +159,11 @@ impl Write for Flushes<'_> {
     }
 }
 
-fn new_hub(alloc: Global) -> Result<Hub, RegFault> {
+fn new_hub(alloc: Global) -> Result<Hub<MemShelf>, RegFault>
+    ensures { IfOk result (λ hub. IsNotOpen (seen_in hub.keeper).progress) }
+{
     let register = Register::read(alloc, REGISTER)?;
-    Ok(Hub::new(alloc, register))
+    Ok(Hub::new(alloc, register, MemShelf::new(alloc)))
 }
 
 type Held = (Result<Served, Stopped>, Vec<u8>);

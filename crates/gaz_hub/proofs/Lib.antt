@@ -11,3 +11,4 @@ pub mod WorkedBoards
 pub mod WorkedAnswers
 pub mod WorkedSteps
 pub mod WorkedRuns
+pub mod HubRuns

@@ -1,18 +1,27 @@
 //! `gazhub`: a hub for street and property gazetteers, on standard input and output.
 #![tactic(auto)]
 
+ghost use Rattle.std.specs.Prelude.{◌≡◌, ◌⊎◌, IfOk};
+ghost use Rattle.gaz_shelf.specs.Keeper.{IsNotOpen};
+ghost use Rattle.gaz_shelf.specs.Mem.{seen_in};
+ghost use Rattle.gaz_hub.specs.Hubs.{state_of};
+ghost use Rattle.gaz_hub.specs.Step as step;
+ghost use Rattle.gaz_register.specs.Reading.{register_of};
+ghost use Rattle.gazhub.specs.Playing.{Plays};
+
 #[cfg(test)]
 mod fixtures;
 mod sample;
 #[cfg(test)]
 mod tests;
 
-use gaz_exchange::{Cause, converse};
+use gaz_exchange::{Cause, Served, Stopped, converse};
 use gaz_hub::Hub;
 use gaz_register::{RegFault, Register};
+use gaz_shelf::MemShelf;
 use sample::SAMPLE;
 use std::alloc::Global;
-use std::io::BufWriter;
+use std::io::{BufWriter, Read, Write};
 use std::process::ExitCode;
 use std::{env, io};
 
@@ -24,22 +33,40 @@ const FAULT: u8 = 3;
 const USAGE: u8 = 2;
 
 // A hub of the custodians of the sample register, that received nothing.
-fn new_hub(alloc: Global) -> Result<Hub, RegFault> {
+fn new_hub(alloc: Global) -> Result<Hub<MemShelf>, RegFault>
+    ensures register { IfOk result (λ hub. register_of SAMPLE.now ≡ Ok hub.register) }
+    ensures idle { IfOk result (λ hub. IsNotOpen (seen_in hub.keeper).progress) }
+    ensures empty { IfOk result (λ hub. state_of (seen_in hub.keeper).content ≡ step.new_hub) }
+{
     let register = Register::read(alloc, SAMPLE.as_bytes())?;
-    Ok(Hub::new(alloc, register))
+    Ok(Hub::new(alloc, register, MemShelf::new(alloc)))
 }
 
-// Holds a conversation on standard input and output, over a hub in memory. The exit status.
-fn play<R: Input + Print + Eprint + AllocGlobal>(rt: &R) -> u8 {
+// Answers the requests of a stream, at a hub that begins with nothing.
+fn answer_all<R: Read, W: Write>(
+    alloc: Global,
+    r: &mut R,
+    w: &mut W,
+) -> Result<Result<Served, Stopped>, RegFault>
+    ensures { IfOk result (Plays SAMPLE.now MOST (R.remaining r.old) (R.remaining r.new) (W.contents w.old) (W.contents w.new)) }
+{
+    let mut hub = new_hub(alloc)?;
+    Ok(converse(alloc, r, w, &mut hub, MOST))
+}
+
+// Holds a conversation on standard input and output. The exit status.
+fn play<R: Input + Print + Eprint + AllocGlobal>(rt: &R) -> u8
+    ensures { (result ≡ 0) ⊎ (result ≡ 3) }
+{
     let Ok(mut w) = BufWriter::new(rt.alloc(), io::writer(rt)) else {
         let _ = eprintln!(rt; "gazhub: Memory");
         return FAULT;
     };
-    let Ok(mut hub) = new_hub(rt.alloc()) else {
+    let Ok(ended) = answer_all(rt.alloc(), &mut rt.reader(), &mut w) else {
         let _ = eprintln!(rt; "gazhub: Memory");
         return FAULT;
     };
-    let stopped = match converse(rt.alloc(), &mut rt.reader(), &mut w, &mut hub, MOST) {
+    let stopped = match ended {
         Ok(_) => return 0,
         Err(stopped) => stopped,
     };

@@ -1,9 +1,13 @@
 //! Worked cases: conversations over one hub. The expected texts are those of docs/exchange.md.
 
+ghost use Rattle.gaz_shelf.specs.Keeper.{IsNotOpen};
+ghost use Rattle.gaz_shelf.specs.Mem.{seen_in};
+
 use crate::fixtures::*;
 use crate::new_hub;
 use gaz_exchange::{Ended, converse};
 use gaz_hub::Hub;
+use gaz_shelf::MemShelf;
 use std::alloc::{AllocError, Global};
 use std::process::Abort;
 use std::test::Fail;
@@ -67,7 +71,10 @@ fn reply_of(alloc: Global, status: &str, more: &str, body: &str) -> Result<Strin
 }
 
 // What one conversation over these bytes writes.
-fn written(alloc: Global, hub: &mut Hub, given: &[u8], most: u64) -> Vec<u8> {
+fn written(alloc: Global, hub: &mut Hub<MemShelf>, given: &[u8], most: u64) -> Vec<u8>
+    requires { IsNotOpen (seen_in hub.old.keeper).progress }
+    ensures { IsNotOpen (seen_in hub.new.keeper).progress }
+{
     let mut reader = given;
     let mut out = Vec::new(alloc);
     let _ = converse(alloc, &mut reader, &mut out, hub, most);

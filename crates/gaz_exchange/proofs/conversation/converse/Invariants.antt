@@ -1,9 +1,9 @@
 use Rattle.std.proofs.Common.{◌≡◌}
-use Rattle.gaz_hub.specs.Hubs.{door_of, state_of}
+use Rattle.gaz_hub.specs.Hubs.{door_of}
 use Rattle.gaz_exchange.proofs.ConversationFacts.{IsSoFar}
 use Rattle.gaz_exchange.proofs.conversation.converse.Given as goal
 
 abbrev pub invariant-loop-n : goal.invariant-loop-n
 invariant-loop-n g l =
     IsSoFar (door_of l.fn.hub.register) l.most l.n (g.R.Read.remaining l.fn.r) (g.R.Read.remaining l.r) (g.W.Write.contents l.fn.w) (g.W.Write.contents l.w)
-    (state_of l.fn.hub) (state_of l.hub) l.intake.inlet × (l.hub.register ≡ l.fn.hub.register)
+    (g.K.Shelf.seen l.fn.hub.keeper) (g.K.Shelf.seen l.hub.keeper) l.intake.inlet × (l.hub.register ≡ l.fn.hub.register)

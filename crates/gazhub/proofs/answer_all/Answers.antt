@@ -1,0 +1,13 @@
+use Rattle.gazhub.proofs.Beginning.{first_files_count}
+use Rattle.gazhub.proofs.answer_all.Goals as goal
+
+pub returns : goal.returns
+returns g c = record {
+  register = c.in_ok-hub.hub.register;
+  described = c.in_ok-hub.ensures.register;
+  first = c.in_ok-hub.hub.keeper;
+  last = c.converse.new.hub.keeper;
+  begins = c.in_ok-hub.ensures.empty;
+  conversation = c.converse.ensures.conversation;
+  abides = first_files_count _ c.in_ok-hub.hub.keeper c.converse.new.hub.keeper _ _ c.in_ok-hub.ensures.empty c.converse.ensures.conversation.runs;
+}
