@@ -1,1 +1,7 @@
-//! STUB: what a reader of the definitions may rely on.
+//! What a reader of the definitions may rely on.
+ghost use Rattle.gaz_rules.specs.Examples.{WorkedExamples};
+
+/// What the definitions come to on worked examples.
+pub fn worked_examples()
+    ensures { WorkedExamples }
+{}

@@ -1,7 +1,4 @@
 //! The rules of a gazetteer, and what a change file comes to under them.
 #![tactic(auto)]
 
-mod judging;
 pub mod laws;
-
-pub use judging::judge;
