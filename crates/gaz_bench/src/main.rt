@@ -1,11 +1,15 @@
 //! Times reading, for `bench/run`: `gaz_bench file FILE ROUNDS` that of a change file, `gaz_bench register FILE ROUNDS` that of a
-//! register. It prints the least time in microseconds.
+//! register. It prints the least time in microseconds. `gaz_bench judge ITEMS` times the judgement of a file of 1,000 changes into a
+//! gazetteer of so many items, and beside it that of a file without changes.
 #![tactic(auto)]
+
+mod judging;
 
 use anyhow::{Context, Result, ensure};
 use gaz_changefile::read_file;
 use gaz_ids::{Code, Volume};
 use gaz_register::Register;
+use judging::judging_micros;
 use std::time::Instant;
 use std::{env, fs};
 
@@ -52,7 +56,15 @@ fn best_micros(rt: &HostRuntime, what: What, bytes: &[u8], rounds: u32) -> Resul
 
 fn main(rt: HostRuntime) -> Result<()> {
     let mut words = env::args(&rt)?.skip(1);
-    let (Some(word), Some(path), Some(rounds)) = (words.next(), words.next(), words.next()) else {
+    let (Some(word), Some(path)) = (words.next(), words.next()) else {
+        return Ok(());
+    };
+    if word == "judge" {
+        let (with, without) = judging_micros(&rt, path.parse::<u64>()?)?;
+        println!(rt; "{with} {without}")?;
+        return Ok(());
+    }
+    let Some(rounds) = words.next() else {
         return Ok(());
     };
     let what = what_of(&word).context("neither a change file nor a register")?;

@@ -1,57 +1,46 @@
--- What the definitions come to on worked examples.
-use Rattle.std.proofs.Common.{◌≡◌, refl}
-use Rattle.std.specs.Prelude.{Some}
-use Rattle.std.specs.FinMap as map
-use Rattle.gaz_ids.specs.declared.lang.Lang.TheVariants.{Eng}
-use Rattle.gaz_records.proofs.KeyOrder.{keys_total}
-use Rattle.gaz_records.specs.declared.key.Key.TheVariants as key
-use Rattle.gaz_shelf.proofs.Examples.{get_no_more, get_one, used_none, used_one}
-use Rattle.gaz_shelf.specs.Examples.{one_street}
-use Rattle.gaz_rules.specs.Judging.{judge}
-use Rattle.gaz_rules.specs.Examples.{WorkedExamples, WorkedJudgements, WorkedKinds, WorkedRules, descriptor, one_name}
+-- What the record rules come to on worked examples.
+use Rattle.std.proofs.Common.{refl}
+use Rattle.gaz_rules.specs.Examples.{WorkedKinds, WorkedRecordRules, WorkedTexts}
+use Rattle.gaz_rules.proofs.Worked.{views}
 
-on_rules : WorkedRules
-on_rules = record {
+pub on_record_rules : WorkedRecordRules
+on_record_rules = record {
   below = refl;
-  first = rw (used_none (key.Street 100)) refl;
-  last = rw (used_none (key.Street 199)) refl;
+  first = simp views;
+  last = simp views;
   above = refl;
-  second_block = rw (used_none (key.Street 300)) refl;
-  used_again = rw (used_one (key.Street 101)) refl;
-  used_and_taken = rw (used_one (key.Street 101)) refl;
-  never_used = rw (used_one (key.Street 102)) refl;
-  updates_nothing = rw (get_one (key.Street 102)) refl;
-  updates_what_was_taken = rw (get_no_more (key.Street 101)) refl;
-  updates = rw (get_one (key.Street 101)) refl;
-  deletes_nothing = rw (get_one (key.Street 102)) refl;
-  streets_stay = rw (get_one (key.Street 101)) refl;
-  outside_first = refl;
+  second_block = simp views;
+  used_again = simp views;
+  used_and_taken = simp views;
+  never_used = simp views;
+  updates_nothing = simp views;
+  updates_what_was_taken = simp views;
+  updates = simp views;
+  deletes_nothing = simp views;
+  streets_stay = simp views;
+  updates_outside = refl;
+  deletes_outside = refl;
 }
 
-on_kinds : WorkedKinds
+pub on_kinds : WorkedKinds
 on_kinds = record {
   below = refl;
   first = refl;
   of_any_street = refl;
+  of_any_property = refl;
   blpus_stay = refl;
   descriptors_go = refl;
+  addresses_go = refl;
 }
 
--- the descriptor stands there
-get_name : map.get one_name.items (key.Descriptor 101 Eng) ≡ Some (descriptor 101)
-get_name = map.get-insert keys_total one_street.items (key.Descriptor 101 Eng) (descriptor 101) (key.Descriptor 101 Eng)
-
-on_judgements : WorkedJudgements
-unfolding judge
-on_judgements = record {
-  bad = refl;
-  empty = refl;
-  applied = rw (used_none (key.Street 101)) refl;
-  updated = rw (get_one (key.Street 101)) refl;
-  deleted = rw get_name refl;
-  rejected = rw (used_none (key.Street 101), used_one (key.Street 101)) refl;
-  rejected_at_first = rw (used_one (key.Street 101)) refl;
+pub on_texts : WorkedTexts
+on_texts = record {
+  of_another_property = simp views;
+  in_another_language = simp views;
+  another_name = simp views;
+  on_another_street = simp views;
+  taken_as_another = simp views;
+  reference_to_another = simp views;
+  reference_to_the_same = simp views;
+  same_text_of_another_kind = simp views;
 }
-
-pub worked_examples_hold : WorkedExamples
-worked_examples_hold = record { on_rules = on_rules; on_kinds = on_kinds; on_judgements = on_judgements }

@@ -1,1 +1,16 @@
+pub mod Booleans
+pub mod Keys
+pub mod ParentRings
+pub mod Approved
+pub mod Soundness
+pub mod Judged
+pub mod SoundBoards
+pub mod Sentences
+pub mod Worked
 pub mod Examples
+pub mod Walks
+pub mod Progress
+pub mod Breaching
+pub mod Phases
+pub mod EndExamples
+pub mod JudgedExamples

@@ -1,5 +1,5 @@
 -- What a judgement over a keeper tells.
-use Rattle.std.specs.Prelude.{◌≡◌, ℕ, Bool, true, List, Result, IfOk, OnOk, OnErr}
+use Rattle.std.specs.Prelude.{◌≡◌, ℕ, true, List, Result, IfOk, OnOk, OnErr}
 use Rattle.gaz_changefile.specs.declared.change.Basis.{Basis}
 use Rattle.gaz_shelf.specs.Board.{Judgement}
 use Rattle.gaz_shelf.specs.Keeper.{Content, Counts, IsAtHand, IsNotOpen, Seen, closed, with_judgement}

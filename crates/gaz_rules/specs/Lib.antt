@@ -4,4 +4,12 @@ pub mod Judging
 pub mod Bases
 pub mod Judges
 pub mod Sound
+pub mod Rings
+pub mod Streets
+pub mod Breaches
+pub mod Laws
+pub mod Sentences
 pub mod Examples
+pub mod Phases
+pub mod EndExamples
+pub mod JudgedExamples

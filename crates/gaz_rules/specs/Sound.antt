@@ -1,5 +1,6 @@
 -- The views that a lawful board may have.
-use Rattle.std.specs.Prelude.{◌≡◌, ◌≢◌, ◌≤◌, ℕ, Bool, true, false, List, [], Some}
+use Rattle.std.specs.Prelude.{◌≡◌, ◌≢◌, ◌≤◌, ℕ, true, false, List, [], Some}
+use Rattle.std.specs.List.{All}
 use Rattle.std.specs.FinMap as map
 use Rattle.gaz_records.specs.Keys.{key_of}
 use Rattle.gaz_records.specs.Lpis.{LpiValue}
@@ -7,10 +8,10 @@ use Rattle.gaz_records.specs.declared.item.Item.{Item}
 use Rattle.gaz_records.specs.declared.key.Key.{Key}
 use Rattle.gaz_records.specs.declared.key.Key.TheVariants as key
 use Rattle.gaz_changefile.specs.Reading.{Reading}
-use Rattle.gaz_changefile.specs.declared.change.Basis.{Basis}
 use Rattle.gaz_register.specs.Registers.{Blocks, within}
 use Rattle.gaz_shelf.specs.View.{View, holds, was_used}
 use Rattle.gaz_shelf.specs.Board.{Board, view_after}
+use Rattle.gaz_rules.specs.Judging.{bases_of}
 use Rattle.gaz_rules.specs.EndRules.{ancestor, approved_at, closed_under_lpi, is_out_of_date, is_second, is_unnamed, lacks_blpu, lacks_own_street, lacks_parent, names_closed}
 
 -- no key at all breaks an end rule by what stands in the view itself, and what stands there is the custodian's own
@@ -35,3 +36,29 @@ pub record IsSound (own : Blocks) (v : View) : Type 0 where
   pub own_streets : (usrn : ℕ) → holds v (key.Street usrn) ≡ true → within own.usrn usrn ≡ true
   pub own_blpus : (uprn : ℕ) → holds v (key.Blpu uprn) ≡ true → within own.uprn uprn ≡ true
   pub own_named : (k : Key) (l : LpiValue) → approved_at v k ≡ Some l → within own.usrn l.usrn ≡ true → holds v (key.Street l.usrn) ≡ true
+
+-- ---- views of many custodians
+
+-- each custodian's own blocks
+abbrev pub Owners : Type 0
+Owners = ℕ → Blocks
+
+-- no street number is in the own blocks of two custodians
+abbrev pub AreDisjoint : Owners → Type 0
+AreDisjoint own = (c d usrn : ℕ) → within (own c).usrn usrn ≡ true → within (own d).usrn usrn ≡ true → c ≡ d
+
+-- the view of another custodian than c, and sound for that one's blocks
+pub record IsSoundBasis (own : Owners) (c : ℕ) (b : ℕ × View) : Type 0 where
+  pub of_another : b.0 ≢ c
+  pub sound : IsSound (own b.0) b.1
+
+abbrev pub AreSoundBases : Owners → ℕ → List (ℕ × View) → Type 0
+AreSoundBases own c out = All (IsSoundBasis own c) out
+
+-- no basis line names the custodian itself
+abbrev pub NamesOthers : ℕ → Reading → Type 0
+NamesOthers c r = All (λ d. d.custodian ≢ c) (bases_of r)
+
+-- every view on the board is sound
+abbrev pub IsSoundBoard : Owners → Board → Type 0
+IsSoundBoard own B = (c volume : ℕ) → IsSound (own c) (view_after B c volume)

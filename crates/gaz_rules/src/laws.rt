@@ -1,7 +1,29 @@
 //! What a reader of the definitions may rely on.
-ghost use Rattle.gaz_rules.specs.Examples.{WorkedExamples};
+ghost use Rattle.gaz_rules.specs.JudgedExamples.{WorkedExamples};
+ghost use Rattle.gaz_rules.specs.Laws.{BoardsStaySound, FindsRings, StaysSound};
+ghost use Rattle.gaz_rules.specs.Sentences.{TestsSay};
 
 /// What the definitions come to on worked examples.
 pub fn worked_examples()
     ensures { WorkedExamples }
+{}
+
+/// The tests of the end rules, and of where a street is found, are true just where their sentences hold.
+pub fn tests_say()
+    ensures { TestsSay }
+{}
+
+/// Rule 36 is broken where a chain of one or more parents, of any length, leads from a property to itself, and nowhere else.
+pub fn finds_rings()
+    ensures { FindsRings }
+{}
+
+/// Touched keys are enough: judging a file leaves a sound view sound, where it rests on sound views of other custodians.
+pub fn stays_sound()
+    ensures { StaysSound }
+{}
+
+/// Where every view of a board is sound, every view is sound after one more judgement.
+pub fn boards_stay_sound()
+    ensures { BoardsStaySound }
 {}

@@ -1,4 +1,17 @@
 //! The rules of a gazetteer, and what a change file comes to under them.
 #![tactic(auto)]
 
+mod end_rules;
+#[cfg(test)]
+mod end_tests;
+mod judging;
+mod key_faults;
 pub mod laws;
+mod name_faults;
+mod record_rules;
+mod rings;
+mod streets;
+#[cfg(test)]
+mod tests;
+
+pub use judging::judge;

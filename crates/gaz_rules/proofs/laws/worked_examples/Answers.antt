@@ -1,4 +1,4 @@
-use Rattle.gaz_rules.proofs.Examples.{worked_examples_hold}
+use Rattle.gaz_rules.proofs.JudgedExamples.{worked_examples_hold}
 use Rattle.gaz_rules.proofs.laws.worked_examples.Goals as goal
 
 pub returns : goal.returns

@@ -1,0 +1,156 @@
+//! Times the judgement of a file over a keeper of whole maps.
+ghost use Rattle.std.specs.Prelude.{OnOk};
+ghost use Rattle.gaz_shelf.specs.Keeper.{IsNotOpen, Seen};
+
+use anyhow::{Context, Result, ensure};
+use gaz_changefile::{Action, Change, ChangeFile};
+use gaz_ids::{Code, Volume};
+use gaz_records::{Day, Item, Kind, item_of_text};
+use gaz_register::Register;
+use gaz_rules::judge;
+use gaz_shelf::{Ending, Inbox, MemShelf, Shelf, Verdict, write_volume};
+use std::alloc::Global;
+use std::time::Instant;
+
+const REGISTER: &[u8] = b"[[custodian]]
+code = 1001
+name = \"Upper County\"
+uprn = [[1, 99999]]
+usrn = [[1, 99999]]
+";
+
+/// How many addresses a judged file adds, as many others being changed: ten changes for each.
+const ADDED: u64 = 100;
+
+/// The rows of the address with a number: its street, that street's descriptor, its property, its LPI and a cross reference.
+fn rows(alloc: Global, n: u64) -> Result<Vec<(Kind, String)>> {
+    // A tenth of the properties have the nine after them as parts.
+    let parent = if n % 10 == 0 || n < 10 {
+        String::new(alloc)
+    } else {
+        format!(in alloc; "{}", n - n % 10)?
+    };
+    Ok(vec![in alloc;
+        (Kind::Street, format!(in alloc; "{n},1,2001-04-01,")?),
+        (Kind::Descriptor, format!(in alloc; "{n},ENG,High Street,,Arden,Arden")?),
+        (Kind::Blpu, format!(in alloc; "{n},1,450000,250000,{parent},AR1 2DN,2001-04-01,")?),
+        (Kind::Lpi, format!(in alloc; "L{n},{n},ENG,1,{n},,,,,Flat 2,12,A,14,,,2001-04-01,")?),
+        (Kind::Xref, format!(in alloc; "X{n},{n},TAX01,A/17,2010-05-01,")?),
+    ]?)
+}
+
+/// Adds the items of an address.
+fn add_items(alloc: Global, items: &mut Vec<Item>, n: u64) -> Result<()> {
+    let rows = rows(alloc, n)?;
+    for (kind, row) in &rows {
+        items.push(item_of_text(alloc, *kind, row.as_bytes())?)?;
+    }
+    Ok(())
+}
+
+/// Adds the changes that insert an address.
+fn add_insertions(alloc: Global, changes: &mut Vec<Change>, n: u64) -> Result<()> {
+    let rows = rows(alloc, n)?;
+    for (kind, row) in &rows {
+        changes.push(Change {
+            place: 2,
+            action: Action::Insert,
+            item: item_of_text(alloc, *kind, row.as_bytes())?,
+        })?;
+    }
+    Ok(())
+}
+
+/// Adds the changes that update an address, but for its cross reference, which goes.
+fn add_updates(alloc: Global, changes: &mut Vec<Change>, n: u64) -> Result<()> {
+    let rows = rows(alloc, n)?;
+    for (kind, row) in &rows {
+        let action = match kind {
+            Kind::Xref => Action::Delete,
+            _ => Action::Update,
+        };
+        changes.push(Change {
+            place: 2,
+            action,
+            item: item_of_text(alloc, *kind, row.as_bytes())?,
+        })?;
+    }
+    Ok(())
+}
+
+/// A file of these changes.
+fn file_of(changes: Vec<Change>, alloc: Global) -> Result<ChangeFile> {
+    Ok(ChangeFile {
+        date: Day::of(2024, 1, 2).context("a day")?,
+        bases: Vec::new(alloc),
+        changes,
+    })
+}
+
+/// A file of mixed changes: new addresses after the first so many, and changes of these, spread evenly.
+fn mixed(alloc: Global, addresses: u64) -> Result<ChangeFile> {
+    let mut changes = Vec::new(alloc);
+    let stride = addresses / ADDED;
+    for k in 0..ADDED {
+        add_insertions(alloc, &mut changes, addresses.saturating_add(k + 1))?;
+        add_updates(alloc, &mut changes, stride.saturating_mul(k).saturating_add(1))?;
+    }
+    file_of(changes, alloc)
+}
+
+/// Receives the custodian's next volume.
+fn receive<K: Inbox>(shelf: &mut K, code: Code) -> Result<()>
+    requires { IsNotOpen (K.seen shelf.old).progress }
+    ensures { OnOk result (IsNotOpen (K.seen shelf.new).progress) }
+{
+    let next = Volume::of(shelf.reached(code)?.saturating_add(1)).context("a volume")?;
+    shelf.receive(code, next, b"a file")?;
+    Ok(())
+}
+
+/// The time of judging a file, in microseconds.
+fn micros<K: Inbox>(
+    rt: &HostRuntime,
+    shelf: &mut K,
+    register: &Register,
+    code: Code,
+    file: &ChangeFile,
+) -> Result<u128>
+    requires { IsNotOpen (K.seen shelf.old).progress }
+    ensures { OnOk result (IsNotOpen (K.seen shelf.new).progress) }
+{
+    receive(shelf, code)?;
+    let start = Instant::now(rt)?;
+    let verdict = judge(rt.alloc(), shelf, register, code, file)?;
+    let spent = start.elapsed(rt)?.as_micros();
+    ensure!(verdict == Verdict::Applied, "the file has a fault");
+    Ok(spent)
+}
+
+/// Fills a custodian's gazetteer with so many addresses, of five items each.
+fn fill<K: Inbox>(alloc: Global, shelf: &mut K, code: Code, addresses: u64) -> Result<()>
+    requires { IsNotOpen (K.seen shelf.old).progress }
+    ensures { OnOk result (IsNotOpen (K.seen shelf.new).progress) }
+{
+    let mut items = Vec::new(alloc);
+    for k in 0..addresses {
+        add_items(alloc, &mut items, k.saturating_add(1))?;
+    }
+    receive(shelf, code)?;
+    write_volume(shelf, code, items, Ending::Keep)?;
+    Ok(())
+}
+
+/// The microseconds of judging a file of 1,000 mixed changes into a gazetteer of so many items, and of judging one without changes.
+pub fn judging_micros(rt: &HostRuntime, items: u64) -> Result<(u128, u128)> {
+    let register = Register::read(rt.alloc(), REGISTER)?;
+    let code = Code::of(1001).context("a code")?;
+    let addresses = items / 5;
+    let file = mixed(rt.alloc(), addresses)?;
+    let empty = file_of(Vec::new(rt.alloc()), rt.alloc())?;
+    let mut shelf = MemShelf::new(rt.alloc());
+    fill(rt.alloc(), &mut shelf, code, addresses)?;
+    let without = micros(rt, &mut shelf, &register, code, &empty)?;
+    let with = micros(rt, &mut shelf, &register, code, &file)?;
+    Ok((with, without))
+}

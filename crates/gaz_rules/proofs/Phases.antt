@@ -1,0 +1,204 @@
+-- The phases of a judgement, one step on and together.
+use Rattle.std.proofs.Common.{◌≡◌, ◌≤◌, ◌<◌, ◌+◌, ℕ, true, List, [], ◌∷◌, ◌++◌, length, drop, get_or, refl, sym, ap, ◌∙◌, subst, arith}
+use Rattle.std.proofs.lemmas.List.{drop_more}
+use Rattle.std.specs.Prelude.{Option, Some, None, Result, Ok, Err, IfOk, IfNone, OnOk}
+use Rattle.std.specs.List.{cons_option, fold}
+use Rattle.gaz_records.specs.Keys.{key_of}
+use Rattle.gaz_records.specs.declared.item.Item.{Item}
+use Rattle.gaz_changefile.specs.Contents.{Contents}
+use Rattle.gaz_changefile.specs.Reading.{Good}
+use Rattle.gaz_changefile.specs.declared.change.Basis.{Basis}
+use Rattle.gaz_changefile.specs.declared.change.Change.{Change}
+use Rattle.gaz_register.specs.Registers.{Blocks}
+use Rattle.gaz_shelf.specs.Board.{Judgement, last_view}
+use Rattle.gaz_shelf.specs.View.{View}
+use Rattle.gaz_shelf.specs.Keeper.{Content, Counts, Goes, IsAtHand, Keeps, Open, Reads, Seen, begun, closed, with_judgement}
+use Rattle.gaz_shelf.specs.declared.fault.ShelfFault.{ShelfFault}
+use Rattle.gaz_shelf.specs.declared.verdict.Verdict.{Verdict}
+use Rattle.gaz_shelf.specs.declared.verdict.Verdict.TheVariants.{Applied, Rejected}
+use Rattle.gaz_shelf.proofs.Keeping.{keeps_then, on_err, on_ok, still_open}
+use Rattle.gaz_rules.specs.Bases.{are_reached, basis_views, judged_on}
+use Rattle.gaz_rules.specs.EndRules.{end_rules}
+use Rattle.gaz_rules.specs.Judges.{IsReady, Judges}
+use Rattle.gaz_rules.specs.Judging.{Fault, end_faults, fault_at, judge, judged_by_faults, record_faults}
+use Rattle.gaz_rules.specs.Phases.{Ends, Finds, IsFirst, Works, conclusion, faults_in, first_of}
+use Rattle.gaz_rules.specs.Rings.{Knows}
+use Rattle.gaz_rules.specs.Rules.{effect, first_broken}
+use Rattle.gaz_rules.specs.declared.judging.Fault as found
+use Rattle.gaz_rules.specs.declared.rings.Walked.{Walked}
+
+-- ---- the end rules, key by key
+
+-- what was asked of the end rules so far: the faults of what is left are those of all
+pub record AskedSoFar (old now : Seen) (c : ℕ) (bases : List Basis) (all left : List Change) (walked : Walked) : Type 0 where
+  pub keeps : Keeps old now
+  pub open_for : now.progress ≡ Open c
+  pub counted : old.failures ≤ now.failures
+  pub knows : old.stands → now.unharmed → are_reached old.content.board bases ≡ true → Knows old.content.working walked
+  pub faults : old.stands → now.unharmed → are_reached old.content.board bases ≡ true →
+      end_faults old.content.working (basis_views old.content.board bases) left ≡ end_faults old.content.working (basis_views old.content.board bases) all
+
+-- what the end rules' code tells of a content
+abbrev pub Told : List Basis → Item → Option ℕ → Walked → Walked → Content → Type 0
+Told bases item r before after k = are_reached k.board bases ≡ true → Knows k.working before → Knows k.working after × (r ≡ first_broken (end_rules k.working (basis_views k.board bases) (key_of item)))
+
+-- the next change's key is asked
+pub asked_next : (old now next : Seen) (c : ℕ) (bases : List Basis) (all : List Change) (i : ℕ) (ch : Change) (before after : Walked) (r : Option ℕ) →
+    i < length all → ch ≡ get_or all i ch → AskedSoFar old now c bases all (drop i all) before →
+    Reads {T = Option ℕ} now next (Ok r) (λ r. Told bases ch.item r before after now.content) →
+    old.stands → next.unharmed → are_reached old.content.board bases ≡ true →
+    Knows old.content.working after
+    × (end_faults old.content.working (basis_views old.content.board bases) all ≡ cons_option (fault_at ch.place r) (end_faults old.content.working (basis_views old.content.board bases) (drop (i + 1) all)))
+asked_next old now next c bases all i ch before after r h e so_far asked stood fine ready =
+    let mid = asked.keeps.harm fine in
+    let rest = drop (i + 1) all in
+    let faults = end_faults old.content.working (basis_views old.content.board bases) in
+    let told = subst (Told bases ch.item r before after) (so_far.keeps.content stood mid) (asked.right (so_far.keeps.stands stood mid) fine) ready (so_far.knows stood mid ready) in
+    let step : faults (drop i all) ≡ faults (ch ∷ rest) = ap faults (drop_more all i ch h) ∙ ap (λ x. faults (x ∷ rest)) (sym e) in
+    (told.0, sym (so_far.faults stood mid ready) ∙ step ∙ ap (λ q. cons_option (fault_at ch.place q) (faults rest)) (sym told.1))
+
+-- it breaks none
+pub asked_on : (old now next : Seen) (c : ℕ) (bases : List Basis) (all : List Change) (i : ℕ) (ch : Change) (before after : Walked) →
+    i < length all → ch ≡ get_or all i ch → AskedSoFar old now c bases all (drop i all) before →
+    Reads {T = Option ℕ} now next (Ok None) (λ r. Told bases ch.item r before after now.content) →
+    AskedSoFar old next c bases all (drop (i + 1) all) after
+asked_on old now next c bases all i ch before after h e so_far asked =
+    let next_is = asked_next old now next c bases all i ch before after None h e so_far asked in
+    record {
+      keeps = keeps_then old now next so_far.keeps asked.keeps;
+      open_for = still_open now next c asked.keeps so_far.open_for;
+      counted = let a = so_far.counted in let b = asked.counts.kept in omega arith;
+      knows = λ stood fine ready. (next_is stood fine ready).0;
+      faults = λ stood fine ready. sym (next_is stood fine ready).1;
+    }
+
+-- it breaks this rule
+pub asked_last : (old now next : Seen) (c : ℕ) (bases : List Basis) (all : List Change) (i : ℕ) (ch : Change) (before after : Walked) (rule : ℕ) (f : found.Fault) →
+    i < length all → ch ≡ get_or all i ch → AskedSoFar old now c bases all (drop i all) before →
+    Reads {T = Option ℕ} now next (Ok (Some rule)) (λ r. Told bases ch.item r before after now.content) →
+    f ≡ record { place = ch.place; rule = rule } →
+    Reads {T = Option found.Fault} old next (Ok (Some f)) (λ r. are_reached old.content.board bases ≡ true → IsFirst (end_faults old.content.working (basis_views old.content.board bases) all) r)
+asked_last old now next c bases all i ch before after rule f h e so_far asked is =
+    record {
+      keeps = keeps_then old now next so_far.keeps asked.keeps;
+      right = λ stood fine ready. ap first_of (asked_next old now next c bases all i ch before after (Some rule) h e so_far asked stood fine ready).1
+          ∙ ap (λ (x : found.Fault). Some (record { place = x.place; rule = x.rule })) (sym is);
+      cleared = asked.cleared;
+      counts = record { kept = let a = so_far.counted in let b = asked.counts.kept in omega arith; store = tt };
+    }
+
+-- ---- the two phases together
+
+pub none_first : (fs : List Fault) → first_of fs ≡ None → fs ≡ []
+none_first [] e = refl
+none_first (f ∷ fs) e = cc
+
+if_ok_on : {T E : Type 0} (r : Result T E) (P Q : T → Type 0) → ((x : T) → P x → Q x) → IfOk r P → IfOk r Q
+if_ok_on (Ok x) P Q f h = f x h
+if_ok_on (Err e) P Q f h = tt
+
+if_none_of : {T : Type 0} (o : Option T) (P : Type 0) → P → IfNone o P
+if_none_of None P p = p
+if_none_of (Some x) P p = tt
+
+on_ok_of : {T E : Type 0} (r : Result T E) (P : Type 0) → P → OnOk r P
+on_ok_of (Ok x) P p = p
+on_ok_of (Err e) P p = tt
+
+counts_after : {T : Type 0} (a b c : Seen) (r : Result T ShelfFault) → a.failures ≤ b.failures → Counts b c r → Counts a c r
+counts_after a b c (Ok x) h k = record { kept = let more = k.kept in omega arith; store = tt }
+counts_after a b c (Err e) h k = record { kept = let more = k.kept in omega arith; store = λ is. let more = k.store is in omega arith }
+
+-- what the end rules find on a content
+abbrev EndsFind : Contents → Option found.Fault → Content → Type 0
+EndsFind file o k = are_reached k.board file.bases ≡ true → IsFirst (end_faults k.working (basis_views k.board file.bases) file.changes) o
+
+-- no record is at fault, and then the end rules are asked
+pub phases_together : (old mid new : Seen) (c : ℕ) (own : Blocks) (file : Contents) (r : Result (Option found.Fault) ShelfFault) →
+    old.progress ≡ Open c →
+    Works {T = Option found.Fault} old mid (Ok None) (Finds old.content mid.content (record_faults own old.content.working file.changes) (fold effect old.content.working file.changes)) →
+    Reads mid new r (λ o. EndsFind file o mid.content) →
+    Works old new r (λ o. are_reached old.content.board file.bases ≡ true → Finds old.content new.content (faults_in own old.content file) (fold effect old.content.working file.changes) o)
+phases_together old mid new c own file r is_open first second =
+    let w = fold effect old.content.working file.changes in
+    let now_open : new.progress ≡ Open c = still_open mid new c second.keeps (first.on ∙ is_open) in
+    record {
+      harm = λ fine. first.harm (second.keeps.harm fine);
+      stands = λ stood fine. second.keeps.stands (first.stands stood (second.keeps.harm fine)) fine;
+      right = λ stood fine.
+          let fine_mid = second.keeps.harm fine in
+          let stood_mid = first.stands stood fine_mid in
+          let found = first.right stood fine_mid in
+          let none = none_first _ found.first in
+          if_ok_on r _ _ (λ o told ready. record {
+            first =
+                ap (λ xs. first_of (xs ++ end_faults w (basis_views old.content.board file.bases) file.changes)) none
+                ∙ subst (EndsFind file o) found.view told ready;
+            view = if_none_of o _ (second.keeps.content stood_mid fine ∙ found.view);
+          }) (second.right stood_mid fine);
+      stay = λ stood fine.
+          let fine_mid = second.keeps.harm fine in
+          ap closed (second.keeps.content (first.stands stood fine_mid) fine) ∙ first.stay stood fine_mid;
+      on = on_ok_of r _ (now_open ∙ sym is_open);
+      going = λ e. cc;
+      counts = counts_after _ _ _ r first.counts.kept second.counts;
+    }
+
+-- ---- a whole judgement
+
+by_none : (v w : View) (fs : List Fault) → first_of fs ≡ None → judged_by_faults v w fs ≡ record { verdict = Applied; view = w }
+by_none v w [] e = refl
+by_none v w (f ∷ fs) e = cc
+
+by_some : (v w : View) (fs : List Fault) (f : Fault) → first_of fs ≡ Some f → judged_by_faults v w fs ≡ record { verdict = Rejected f.place f.rule; view = v }
+by_some v w [] f e = cc
+by_some v w (g ∷ fs) f e = let is : g ≡ f = cc in ap (λ (x : Fault). record { verdict = Rejected x.place x.rule; view = v }) is
+
+-- what the phases find, on the content on which the judgement began
+abbrev PhasesFind : Blocks → Contents → Content → Option found.Fault → Content → Type 0
+PhasesFind own file now o k = are_reached k.board file.bases ≡ true → Finds k now (faults_in own k file) (fold effect k.working file.changes) o
+
+-- the first fault found decides
+concluded : (own : Blocks) (old mid : Content) (c : ℕ) (file : Contents) (o : Option found.Fault) →
+    closed mid ≡ closed old →
+    Finds (begun old c) mid (faults_in own (begun old c) file) (fold effect (last_view old.board c) file.changes) o →
+    conclusion mid c o ≡ judged_on own old.board c (Good file)
+unfolding judge
+concluded own old mid c file None same finds =
+    let v = last_view old.board c in
+    ap (λ (k : Content). record { verdict = Applied; view = k.working }) finds.view ∙ sym (by_none v (fold effect v file.changes) _ finds.first)
+concluded own old mid c file (Some f) same finds =
+    let v = last_view old.board c in
+    ap (λ (k : Content). record { verdict = Rejected f.place f.rule; view = last_view k.board c }) same
+    ∙ sym (by_some v (fold effect v file.changes) _ (record { place = f.place; rule = f.rule }) finds.first)
+
+pub judged : (old opened mid new : Seen) (c : ℕ) (own : Blocks) (file : Contents) (o : Option found.Fault) (r : Result Verdict ShelfFault) →
+    Goes {T = Unit {0}} old opened (Ok tt) (IsAtHand old.content c) (begun old.content c) (Open c) →
+    Works {T = Option found.Fault} opened mid (Ok o) (λ o. PhasesFind own file mid.content o opened.content) →
+    Ends mid new r c (conclusion mid.content c o) →
+    Judges old new r c file.bases (judged_on own old.content.board c (Good file))
+judged old opened mid new c own file o r begins did ends =
+    let open_fine = λ (fine : new.unharmed). did.harm (ends.harm fine) in
+    let stood_open = λ (stood : old.stands) (ready : IsReady old.content c file.bases) (fine : new.unharmed). begins.stands stood ready.at_hand (open_fine fine) in
+    let stood_mid = λ (stood : old.stands) (ready : IsReady old.content c file.bases) (fine : new.unharmed). did.stands (stood_open stood ready fine) (ends.harm fine) in
+    let begun_is = λ (stood : old.stands) (ready : IsReady old.content c file.bases) (fine : new.unharmed). begins.done stood ready.at_hand (open_fine fine) in
+    let same = λ (stood : old.stands) (ready : IsReady old.content c file.bases) (fine : new.unharmed).
+    did.stay (stood_open stood ready fine) (ends.harm fine) ∙ ap closed (begun_is stood ready fine) in
+    let at_hand = λ (stood : old.stands) (ready : IsReady old.content c file.bases) (fine : new.unharmed).
+    subst (λ (k : Content). IsAtHand k c) (sym (same stood ready fine)) ready.at_hand in
+    let right = λ (stood : old.stands) (ready : IsReady old.content c file.bases) (fine : new.unharmed).
+    concluded own old.content mid.content c file o (same stood ready fine)
+    (subst (PhasesFind own file mid.content o) (begun_is stood ready fine) (did.right (stood_open stood ready fine) (ends.harm fine)) ready.reached) in
+    record {
+      harm = λ fine. begins.harm (open_fine fine);
+      stands = λ stood ready fine. ends.stands (stood_mid stood ready fine) (at_hand stood ready fine) fine;
+      verdict = λ stood ready fine. if_ok_on r _ _ (λ v is. is ∙ ap (λ (j : Judgement). j.verdict) (right stood ready fine)) ends.verdict;
+      done = λ stood ready fine.
+          on_ok r (λ is. is
+          ∙ ap (λ (k : Content). with_judgement k c (conclusion mid.content c o)) (same stood ready fine)
+          ∙ ap (with_judgement old.content c) (right stood ready fine)) (ends.done (stood_mid stood ready fine) (at_hand stood ready fine) fine);
+      undone = λ stood ready fine.
+          on_err r (λ is. is ∙ same stood ready fine) (ends.undone (stood_mid stood ready fine) (at_hand stood ready fine) fine);
+      idle = ends.idle;
+      counts = counts_after _ _ _ r (let a = begins.counts.kept in let b = did.counts.kept in omega arith) ends.counts;
+    }

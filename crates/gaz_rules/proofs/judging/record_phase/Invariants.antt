@@ -1,0 +1,24 @@
+-- What is left has the faults of all, and comes to the same view.
+use Rattle.std.proofs.Common.{◌≡◌, ◌≤◌, drop}
+use Rattle.std.specs.List.{fold}
+use Rattle.gaz_register.specs.Registers.{blocks_of}
+use Rattle.gaz_shelf.specs.Keeper.{Open, closed, with_working}
+use Rattle.gaz_rules.specs.Judging.{record_faults}
+use Rattle.gaz_rules.specs.Rules.{effect}
+use Rattle.gaz_rules.proofs.judging.record_phase.Given as goal
+
+abbrev pub invariant-loop-change : goal.invariant-loop-change
+invariant-loop-change g l =
+    let now = g.S.Shelf.seen l.shelf in
+    let was = g.S.Shelf.seen l.fn.shelf in
+    let own = blocks_of l.register l.code in
+    let left = drop l.change-index l.changes in
+    record {
+      harm : now.unharmed → was.unharmed;
+      stands : was.stands → now.unharmed → now.stands;
+      open_for : now.progress ≡ Open l.code;
+      counted : was.failures ≤ now.failures;
+      stay : was.stands → now.unharmed → closed now.content ≡ closed was.content;
+      faults : was.stands → now.unharmed → record_faults own now.content.working left ≡ record_faults own was.content.working l.changes;
+      view : was.stands → now.unharmed → with_working now.content (fold effect now.content.working left) ≡ with_working was.content (fold effect was.content.working l.changes);
+    }

@@ -1,0 +1,81 @@
+-- How a walk ends, and its next visit.
+use Rattle.std.proofs.Common.{◌≡◌, ◌≤◌, Some, None, sym, ap, ◌∙◌, subst, arith, length, is_some}
+use Rattle.std.specs.BTreeMap as tree
+use Rattle.std.specs.Ordering.{nat_cmp}
+use Rattle.gaz_rules.specs.Rings.{IsKnown}
+use Rattle.gaz_rules.specs.Rings.{visit_of}
+use Rattle.gaz_rules.specs.EndRules.{parent_of}
+use Rattle.gaz_shelf.proofs.Keeping.{keeps_then, still_open}
+use Rattle.gaz_rules.proofs.Progress.{not_broken}
+use Rattle.gaz_rules.proofs.Walks.{ends_known, ends_ring, ends_top, one_more, visited_as, first_seen, first_of_many}
+use Rattle.gaz_rules.proofs.rings.walk.Goals as goal
+
+pub returns-then-visit-start : goal.returns-then-visit-start
+returns-then-visit-start g c =
+    let inv = c.loop-step.invariant in
+    let stamp : visit_of c.loop-step.walked c.loop-step.at ≡ Some c.in-Some.visit = sym c.visit_of.ensures ∙ c.in-Some.is in
+    record {
+      keeps = inv.keeps;
+      right = λ stood fine known. (
+        ends_known _ _ _ _ _ _ _ _ _ known (inv.visits stood fine) (inv.here stood fine) stamp (omega arith),
+        first_seen _ _ _ _ _ _ _ _ _ (inv.visits stood fine) (inv.here stood fine) stamp,
+      );
+      cleared = not_broken _ c.args.code inv.open_for;
+      counts = record { kept = inv.counted; store = tt };
+    }
+
+pub returns-in-Some : goal.returns-in-Some
+returns-in-Some g c =
+    let inv = c.loop-step.invariant in
+    let closed = c.close_ring.ensures in
+    let stamp : visit_of c.loop-step.walked c.loop-step.at ≡ Some c.in-Some.visit = sym c.visit_of.ensures ∙ c.in-Some.is in
+    let late : length c.args.walked.now.on_ring.items ≤ c.in-Some.visit = omega arith in
+    let same : visit_of c.close_ring.new.self ≡ visit_of c.loop-step.walked = ap (λ m x. tree.get nat_cmp m x) closed.visits in
+    record {
+      keeps = inv.keeps;
+      right = λ stood fine known. (
+        subst (λ s. IsKnown (g.S.Shelf.seen c.args.shelf.now).content.working s c.close_ring.new.self.on_ring.items) (sym same)
+            (ends_ring _ _ _ _ _ c.loop-step.walked.on_ring.items c.close_ring.new.self.on_ring.items _ _ _ known (inv.visits stood fine) (inv.here stood fine) stamp late closed.before closed.after),
+        ap (λ s. is_some (s c.args.uprn)) same ∙ first_seen _ _ _ _ _ _ _ _ _ (inv.visits stood fine) (inv.here stood fine) stamp,
+      );
+      cleared = not_broken _ c.args.code inv.open_for;
+      counts = record { kept = inv.counted; store = tt };
+    }
+
+pub returns-in_default-2 : goal.returns-in_default-2
+returns-in_default-2 g c =
+    let inv = c.loop-step.invariant in
+    let up = c.in_ok-parent.ensures in
+    let was = g.S.Shelf.seen c.args.shelf.now in
+    let now = g.S.Shelf.seen c.parent_of.new.shelf in
+    let free : visit_of c.loop-step.walked c.loop-step.at ≡ None = sym c.visit_of.ensures ∙ c.in_default.is in
+    let visits = λ (stood : was.stands) (fine : now.unharmed). visited_as _ _ _ _ _ _ _ _ (visit_of c.visit.new.self) c.visit.new.self.on_ring.items (inv.visits stood (up.keeps.harm fine)) (inv.here stood (up.keeps.harm fine)) free c.in-Ok.ensures.visits c.in-Ok.ensures.on_ring in
+    record {
+      keeps = keeps_then _ _ _ inv.keeps up.keeps;
+      right = λ stood fine known.
+          let mid = up.keeps.harm fine in
+          let parent : c.in_ok-parent.field-0 ≡ parent_of was.content.working c.loop-step.at = up.right (inv.keeps.stands stood mid) fine ∙ ap (λ k. parent_of k.working c.loop-step.at) (inv.keeps.content stood mid) in (
+            ends_top _ _ _ _ _ _ _ known (visits stood fine) (one_more was.content.working _ _ _ (inv.here stood mid) ∙ sym parent ∙ c.in_default-2.is),
+            first_of_many _ _ _ _ _ _ _ (visits stood fine),
+          );
+      cleared = up.cleared;
+      counts = record { kept = let a = inv.counted in let b = up.counts.kept in omega arith; store = tt };
+    }
+
+pub loop-step-preserved : goal.loop-step-preserved
+loop-step-preserved g c =
+    let inv = c.loop-step.invariant in
+    let up = c.in_ok-parent.ensures in
+    let was = g.S.Shelf.seen c.args.shelf.now in
+    let now = g.S.Shelf.seen c.parent_of.new.shelf in
+    let free : visit_of c.loop-step.walked c.loop-step.at ≡ None = sym c.visit_of.ensures ∙ c.in_default.is in
+    record {
+      keeps = keeps_then _ _ _ inv.keeps up.keeps;
+      open_for = still_open _ _ c.args.code up.keeps inv.open_for;
+      counted = let a = inv.counted in let b = up.counts.kept in omega arith;
+      here = λ stood fine.
+          let mid = up.keeps.harm fine in
+          let parent : c.in_ok-parent.field-0 ≡ parent_of was.content.working c.loop-step.at = up.right (inv.keeps.stands stood mid) fine ∙ ap (λ k. parent_of k.working c.loop-step.at) (inv.keeps.content stood mid) in
+          one_more was.content.working _ _ _ (inv.here stood mid) ∙ sym parent ∙ c.in-Some-2.is;
+      visits = λ stood fine. visited_as _ _ _ _ _ _ _ _ (visit_of c.visit.new.self) c.visit.new.self.on_ring.items (inv.visits stood (up.keeps.harm fine)) (inv.here stood (up.keeps.harm fine)) free c.in-Ok.ensures.visits c.in-Ok.ensures.on_ring;
+    }

@@ -1,0 +1,57 @@
+-- The end rules that a key breaks, by what stands there and by the key itself.
+use Rattle.std.specs.Prelude.{ℕ, Bool, false, ◌||◌, List, [], ◌∷◌}
+use Rattle.gaz_records.specs.declared.key.Key.{Key}
+use Rattle.gaz_records.specs.declared.key.Key.TheVariants as key
+use Rattle.gaz_shelf.specs.View.{View, holds}
+use Rattle.gaz_rules.specs.EndRules.{closed_under_lpi, is_own_ancestor, is_past, is_second, lacks_blpu, lacks_descriptor, lacks_own_street, lacks_parent, lacks_street, leaves_lpi, names_closed, names_past, past_under_lpi}
+use Rattle.gaz_rules.specs.declared.key_faults.KeyFaults.{KeyFaults}
+use Rattle.gaz_rules.specs.declared.name_faults.BlpuState.{BlpuState}
+use Rattle.gaz_rules.specs.declared.name_faults.NameFaults.{NameFaults}
+
+-- whether a BLPU is there, and whether it is historical
+abbrev pub blpu_state : View → ℕ → BlpuState
+blpu_state v uprn = record { is_there = holds v (key.Blpu uprn); is_past = is_past v uprn }
+
+-- what an item breaks by what it names
+abbrev pub name_faults : View → List (ℕ × View) → Key → NameFaults
+name_faults v out k = record {
+  is_second = is_second v k;
+  lacks_blpu = lacks_blpu v k;
+  lacks_street = lacks_street v out k;
+  names_closed = names_closed v out k;
+  lacks_descriptor = lacks_descriptor v out k;
+  names_past = names_past v k;
+}
+
+-- at most that its BLPU isn't there
+abbrev pub blpu_fault : Bool → NameFaults
+blpu_fault lacks = record { is_second = false; lacks_blpu = lacks; lacks_street = false; names_closed = false; lacks_descriptor = false; names_past = false }
+
+-- what a key breaks for what others name
+abbrev pub key_faults : View → Key → KeyFaults
+key_faults v k = record {
+  leaves_lpi = leaves_lpi v k;
+  lacks_parent = lacks_parent v k;
+  is_own_ancestor = is_own_ancestor v k;
+  past_under_lpi = past_under_lpi v k;
+  lacks_own_street = lacks_own_street v k;
+  closed_under_lpi = closed_under_lpi v k;
+}
+
+abbrev pub no_key_fault : KeyFaults
+no_key_fault = record { leaves_lpi = false; lacks_parent = false; is_own_ancestor = false; past_under_lpi = false; lacks_own_street = false; closed_under_lpi = false }
+
+-- the end rules by number, the least first
+abbrev pub numbered : NameFaults → KeyFaults → List (ℕ × Bool)
+numbered n k =
+    (30, n.is_second)
+    ∷ (31, n.lacks_blpu)
+    ∷ (32, n.lacks_street)
+    ∷ (33, n.names_closed)
+    ∷ (34, n.lacks_descriptor || k.leaves_lpi)
+    ∷ (35, k.lacks_parent)
+    ∷ (36, k.is_own_ancestor)
+    ∷ (37, n.names_past || k.past_under_lpi)
+    ∷ (38, k.lacks_own_street)
+    ∷ (39, k.closed_under_lpi)
+    ∷ []

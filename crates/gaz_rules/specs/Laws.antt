@@ -1,0 +1,38 @@
+-- What a reader of the rules may rely on.
+use Rattle.std.specs.Prelude.{◌≡◌, ◌≤◌, ◌↔◌, ℕ, List, Some, true}
+use Rattle.gaz_records.specs.declared.key.Key.TheVariants as key
+use Rattle.gaz_changefile.specs.Reading.{Reading}
+use Rattle.gaz_register.specs.Registers.{Blocks, IsRegister, RegisterValue, blocks_of}
+use Rattle.gaz_shelf.specs.View.{View, empty_view}
+use Rattle.gaz_shelf.specs.Board.{Board, adds, empty_board}
+use Rattle.gaz_rules.specs.EndRules.{ancestor, is_own_ancestor}
+use Rattle.gaz_rules.specs.Judging.{judge}
+use Rattle.gaz_rules.specs.Bases.{judged_on}
+use Rattle.gaz_rules.specs.Sound.{AreDisjoint, AreSoundBases, IsSound, IsSoundBoard, NamesOthers, Owners}
+
+-- ---- rings
+
+-- a chain of one or more parents leads from the BLPU to itself
+pub record IsOnRing (v : View) (uprn : ℕ) : Type 0 where
+  pub steps : ℕ
+  pub at_least_one : 1 ≤ steps
+  pub leads : ancestor v steps uprn ≡ Some uprn
+
+-- rule 36 is broken on a ring of any length, and nowhere else
+abbrev pub FindsRings : Type 0
+FindsRings = (v : View) (uprn : ℕ) → (is_own_ancestor v (key.Blpu uprn) ≡ true) ↔ IsOnRing v uprn
+
+-- ---- touched keys are enough
+
+-- the empty view is sound; and after a file that rests on sound views of others, a sound view is still sound, though only the keys that the file touches were looked at
+pub record StaysSound : Type 0 where
+  pub empty : (own : Blocks) → IsSound own empty_view
+  pub after_file : (own : Owners) (c : ℕ) (v : View) (out : List (ℕ × View)) (r : Reading)
+      → AreDisjoint own → IsSound (own c) v → AreSoundBases own c out → IsSound (own c) (judge (own c) v out r).view
+
+-- the board without judgements is sound, and one more judgement leaves a sound board sound; the blocks of a register are disjoint
+pub record BoardsStaySound : Type 0 where
+  pub empty : (own : Owners) → IsSoundBoard own empty_board
+  pub after_file : (own : Owners) (B : Board) (c : ℕ) (r : Reading)
+      → AreDisjoint own → NamesOthers c r → IsSoundBoard own B → IsSoundBoard own (adds B c (judged_on (own c) B c r))
+  pub of_register : (register : RegisterValue) → IsRegister register → AreDisjoint (blocks_of register)

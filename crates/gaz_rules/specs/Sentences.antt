@@ -1,0 +1,155 @@
+-- The end rules as sentences on whole views.
+use Rattle.std.specs.Prelude.{◌≡◌, ◌≢◌, ◌↔◌, ℕ, true, false, List, ◌∷◌, ◌++◌, map, Some, None}
+use Rattle.std.specs.List.{All}
+use Rattle.std.specs.FinMap as fin
+use Rattle.gaz_ids.specs.declared.lang.Lang.{Lang}
+use Rattle.gaz_ids.specs.declared.status.Status.TheVariants.{Approved, Historical}
+use Rattle.gaz_records.specs.Blpus.{BlpuValue}
+use Rattle.gaz_records.specs.Days.{CivilDay}
+use Rattle.gaz_records.specs.Lpis.{LpiValue}
+use Rattle.gaz_records.specs.Streets.{StreetValue}
+use Rattle.gaz_records.specs.declared.item.Item.{Item}
+use Rattle.gaz_records.specs.declared.item.Item.TheVariants as item
+use Rattle.gaz_records.specs.declared.key.Key.{Key}
+use Rattle.gaz_records.specs.declared.key.Key.TheVariants as key
+use Rattle.gaz_shelf.specs.View.{View, holds}
+use Rattle.gaz_rules.specs.EndRules.{blpu_named, closed_under_lpi, found_in, is_second, lacks_blpu, lacks_descriptor, lacks_own_street, lacks_parent, lacks_street, leaves_lpi, names_closed, names_past, past_under_lpi}
+
+-- ---- what stands in a view
+
+-- an approved LPI stands under the key
+pub record IsApprovedLpi (v : View) (k : Key) (l : LpiValue) : Type 0 where
+  pub there : fin.get v.items k ≡ Some (item.Lpi l)
+  pub approved : l.status ≡ Approved
+
+-- a street with this number and an end date
+pub record IsClosedStreet (v : View) (usrn : ℕ) : Type 0 where
+  pub street : StreetValue
+  pub day : CivilDay
+  pub there : fin.get v.items (key.Street usrn) ≡ Some (item.Street street)
+  pub ended : street.end ≡ Some day
+
+-- a BLPU with this number that is historical
+pub record IsPastBlpu (v : View) (uprn : ℕ) : Type 0 where
+  pub blpu : BlpuValue
+  pub there : fin.get v.items (key.Blpu uprn) ≡ Some (item.Blpu blpu)
+  pub historical : blpu.status ≡ Historical
+
+-- the own view, then the basis views in the order of the file
+abbrev pub views_in_turn : View → List (ℕ × View) → List View
+views_in_turn v out = v ∷ map (λ b. b.1) out
+
+-- none of these views has the street
+abbrev pub HaveNone : List View → ℕ → Type 0
+HaveNone views usrn = All (λ u. holds u (key.Street usrn) ≡ false) views
+
+-- the first of these views that has the street
+pub record IsFirstWith (views : List View) (usrn : ℕ) (w : View) : Type 0 where
+  pub before : List View
+  pub after : List View
+  pub in_turn : views ≡ before ++ w ∷ after
+  pub none_before : HaveNone before usrn
+  pub has : holds w (key.Street usrn) ≡ true
+
+-- ---- the rules
+
+-- 30: k is an approved LPI, and another approved LPI has the same BLPU
+pub record HasSecond (v : View) (k : Key) : Type 0 where
+  pub lpi : LpiValue
+  pub other_key : Key
+  pub other : LpiValue
+  pub there : IsApprovedLpi v k lpi
+  pub other_there : IsApprovedLpi v other_key other
+  pub another : other_key ≢ k
+  pub same_blpu : other.uprn ≡ lpi.uprn
+
+-- 31: k is an LPI or a cross reference, and nothing stands under the BLPU that it names
+pub record LacksBlpu (v : View) (k : Key) : Type 0 where
+  pub item : Item
+  pub uprn : ℕ
+  pub there : fin.get v.items k ≡ Some item
+  pub names : blpu_named item ≡ Some uprn
+  pub gone : fin.get v.items (key.Blpu uprn) ≡ None
+
+-- 32: k is an approved LPI whose street is in none of the views
+pub record NamesNowhere (v : View) (out : List (ℕ × View)) (k : Key) : Type 0 where
+  pub lpi : LpiValue
+  pub there : IsApprovedLpi v k lpi
+  pub nowhere : HaveNone (views_in_turn v out) lpi.usrn
+
+-- 33: k is an approved LPI whose street is closed in the first view that has it
+pub record NamesClosed (v : View) (out : List (ℕ × View)) (k : Key) : Type 0 where
+  pub lpi : LpiValue
+  pub found : View
+  pub there : IsApprovedLpi v k lpi
+  pub first : IsFirstWith (views_in_turn v out) lpi.usrn found
+  pub closed : IsClosedStreet found lpi.usrn
+
+-- 34: k is an approved LPI, and the first view that has its street lacks the descriptor in its language
+pub record NamesUnnamed (v : View) (out : List (ℕ × View)) (k : Key) : Type 0 where
+  pub lpi : LpiValue
+  pub found : View
+  pub there : IsApprovedLpi v k lpi
+  pub first : IsFirstWith (views_in_turn v out) lpi.usrn found
+  pub unnamed : holds found (key.Descriptor lpi.usrn lpi.lang) ≡ false
+
+-- 34: the descriptor isn't there, its street is, and an approved LPI has that street and language
+pub record LeavesLpi (v : View) (usrn : ℕ) (lang : Lang) : Type 0 where
+  pub gone : holds v (key.Descriptor usrn lang) ≡ false
+  pub street_there : holds v (key.Street usrn) ≡ true
+  pub lpi_key : Key
+  pub lpi : LpiValue
+  pub lpi_there : IsApprovedLpi v lpi_key lpi
+  pub on_it : lpi.usrn ≡ usrn
+  pub in_it : lpi.lang ≡ lang
+
+-- 35: a BLPU with a parent, under which nothing stands
+pub record LacksParent (v : View) (uprn : ℕ) : Type 0 where
+  pub blpu : BlpuValue
+  pub parent : ℕ
+  pub there : fin.get v.items (key.Blpu uprn) ≡ Some (item.Blpu blpu)
+  pub is_part : blpu.parent ≡ Some parent
+  pub gone : fin.get v.items (key.Blpu parent) ≡ None
+
+-- 37: k is an approved LPI whose BLPU is historical
+pub record NamesPast (v : View) (k : Key) : Type 0 where
+  pub lpi : LpiValue
+  pub there : IsApprovedLpi v k lpi
+  pub past : IsPastBlpu v lpi.uprn
+
+-- 37: a historical BLPU that has an approved LPI
+pub record PastUnderLpi (v : View) (uprn : ℕ) : Type 0 where
+  pub past : IsPastBlpu v uprn
+  pub lpi_key : Key
+  pub lpi : LpiValue
+  pub lpi_there : IsApprovedLpi v lpi_key lpi
+  pub its : lpi.uprn ≡ uprn
+
+-- 38: a descriptor is there, and its street isn't
+pub record LacksOwnStreet (v : View) (usrn : ℕ) (lang : Lang) : Type 0 where
+  pub there : holds v (key.Descriptor usrn lang) ≡ true
+  pub gone : holds v (key.Street usrn) ≡ false
+
+-- 39: a closed street that an approved LPI names
+pub record ClosedUnderLpi (v : View) (usrn : ℕ) : Type 0 where
+  pub closed : IsClosedStreet v usrn
+  pub lpi_key : Key
+  pub lpi : LpiValue
+  pub lpi_there : IsApprovedLpi v lpi_key lpi
+  pub on_it : lpi.usrn ≡ usrn
+
+-- each test is true just where its sentence holds
+pub record TestsSay : Type 0 where
+  pub second : (v : View) (k : Key) → (is_second v k ≡ true) ↔ HasSecond v k
+  pub blpu : (v : View) (k : Key) → (lacks_blpu v k ≡ true) ↔ LacksBlpu v k
+  pub found : (v w : View) (out : List (ℕ × View)) (usrn : ℕ) → (found_in v out usrn ≡ Some w) ↔ IsFirstWith (views_in_turn v out) usrn w
+  pub nowhere : (v : View) (out : List (ℕ × View)) (usrn : ℕ) → (found_in v out usrn ≡ None) ↔ HaveNone (views_in_turn v out) usrn
+  pub street : (v : View) (out : List (ℕ × View)) (k : Key) → (lacks_street v out k ≡ true) ↔ NamesNowhere v out k
+  pub open_street : (v : View) (out : List (ℕ × View)) (k : Key) → (names_closed v out k ≡ true) ↔ NamesClosed v out k
+  pub descriptor : (v : View) (out : List (ℕ × View)) (k : Key) → (lacks_descriptor v out k ≡ true) ↔ NamesUnnamed v out k
+  pub leaves : (v : View) (usrn : ℕ) (lang : Lang) → (leaves_lpi v (key.Descriptor usrn lang) ≡ true) ↔ LeavesLpi v usrn lang
+  pub parent : (v : View) (uprn : ℕ) → (lacks_parent v (key.Blpu uprn) ≡ true) ↔ LacksParent v uprn
+  pub names_past : (v : View) (k : Key) → (names_past v k ≡ true) ↔ NamesPast v k
+  pub past_under_lpi : (v : View) (uprn : ℕ) → (past_under_lpi v (key.Blpu uprn) ≡ true) ↔ PastUnderLpi v uprn
+  pub own_street : (v : View) (usrn : ℕ) (lang : Lang) → (lacks_own_street v (key.Descriptor usrn lang) ≡ true) ↔ LacksOwnStreet v usrn lang
+  pub closed_under_lpi : (v : View) (usrn : ℕ) → (closed_under_lpi v (key.Street usrn) ≡ true) ↔ ClosedUnderLpi v usrn

@@ -1,0 +1,180 @@
+//! The judgement of a file, over any keeper.
+ghost use Rattle.std.specs.Prelude.{◌≡◌, ◌≢◌, true, Some, None};
+ghost use Rattle.std.specs.List.{fold};
+ghost use Rattle.gaz_records.specs.Keys.{key_of};
+ghost use Rattle.gaz_changefile.specs.Reading.{Good};
+ghost use Rattle.gaz_register.specs.Registers.{blocks_of};
+ghost use Rattle.gaz_shelf.specs.Keeper.{Idle, IsNotOpen, Open, Reads, Seen, with_working};
+ghost use Rattle.gaz_shelf.specs.View.{with_item, without_key};
+ghost use Rattle.gaz_rules.specs.Bases.{are_reached, basis_views, judged_on};
+ghost use Rattle.gaz_rules.specs.Judges.{Judges};
+ghost use Rattle.gaz_rules.specs.Judging.{end_faults, record_faults};
+ghost use Rattle.gaz_rules.specs.Phases.{Ends, Finds, GivesUp, IsFirst, Works, conclusion, faults_in};
+ghost use Rattle.gaz_rules.specs.Rules.{effect};
+
+use crate::rings::Walked;
+use crate::{end_rules, record_rules};
+use gaz_changefile::{Action, Basis, Change, ChangeFile};
+use gaz_ids::Code;
+use gaz_records::{Item, Key};
+use gaz_register::Register;
+use gaz_shelf::{Shelf, ShelfFault, Verdict};
+use std::alloc::Global;
+
+/// A record at fault and the rule that it breaks.
+#[derive(Clone, Copy, Debug)]
+pub(crate) struct Fault {
+    /// The number of the record, from 1 (the header).
+    pub place: u64,
+    pub rule: u8,
+}
+
+/// Sets a copy of an item in the working view.
+fn put_copy<S: Shelf>(shelf: &mut S, code: Code, item: &Item) -> Result<(), ShelfFault>
+    requires { (S.seen shelf.old).progress ≡ Open code }
+    ensures { Works (S.seen shelf.old) (S.seen shelf.new) result (λ _. (S.seen shelf.new).content ≡ with_working (S.seen shelf.old).content (with_item (S.seen shelf.old).content.working item.now)) }
+{
+    let copy = item.copy()?;
+    shelf.put(copy)
+}
+
+/// Does a change on the working view.
+fn perform<S: Shelf>(shelf: &mut S, code: Code, change: &Change) -> Result<(), ShelfFault>
+    requires { (S.seen shelf.old).progress ≡ Open code }
+    ensures { Works (S.seen shelf.old) (S.seen shelf.new) result (λ _. (S.seen shelf.new).content ≡ with_working (S.seen shelf.old).content (effect (S.seen shelf.old).content.working change.now)) }
+{
+    match change.action {
+        Action::Insert | Action::Update => put_copy(shelf, code, &change.item),
+        Action::Delete => shelf.take(&Key::of(&change.item)),
+    }
+}
+
+/// Does the changes one after another, up to the first that doesn't fit.
+fn record_phase<S: Shelf>(
+    shelf: &mut S,
+    register: &Register,
+    code: Code,
+    changes: &[Change],
+) -> Result<Option<Fault>, ShelfFault>
+    requires { (S.seen shelf.old).progress ≡ Open code }
+    ensures { Works (S.seen shelf.old) (S.seen shelf.new) result (Finds (S.seen shelf.old).content (S.seen shelf.new).content (record_faults (blocks_of register.now code) (S.seen shelf.old).content.working changes.now) (fold effect (S.seen shelf.old).content.working changes.now)) }
+{
+    for change in changes {
+        let place = change.place;
+        if let Some(rule) = record_rules::breach(shelf, register, code, change)? {
+            return Ok(Some(Fault { place, rule }));
+        }
+        perform(shelf, code, change)?;
+    }
+    Ok(None)
+}
+
+/// Looks for the first record whose key breaks an end rule.
+fn end_phase<S: Shelf>(
+    alloc: Global,
+    shelf: &mut S,
+    code: Code,
+    bases: &[Basis],
+    changes: &[Change],
+) -> Result<Option<Fault>, ShelfFault>
+    requires { (S.seen shelf.old).progress ≡ Open code }
+    ensures { Reads (S.seen shelf.old) (S.seen shelf.new) result (λ r. are_reached (S.seen shelf.old).content.board bases.now ≡ true → IsFirst (end_faults (S.seen shelf.old).content.working (basis_views (S.seen shelf.old).content.board bases.now) changes.now) r) }
+{
+    let mut walked = Walked::new(alloc);
+    for change in changes {
+        let place = change.place;
+        if let Some(rule) = end_rules::breach(shelf, code, bases, &mut walked, &change.item)? {
+            return Ok(Some(Fault { place, rule }));
+        }
+    }
+    Ok(None)
+}
+
+/// Does a file's changes on the working view, and looks for its first fault.
+fn phases<S: Shelf>(
+    alloc: Global,
+    shelf: &mut S,
+    register: &Register,
+    code: Code,
+    file: &ChangeFile,
+) -> Result<Option<Fault>, ShelfFault>
+    requires { (S.seen shelf.old).progress ≡ Open code }
+    ensures { Works (S.seen shelf.old) (S.seen shelf.new) result (λ r. are_reached (S.seen shelf.old).content.board file.now.bases ≡ true → Finds (S.seen shelf.old).content (S.seen shelf.new).content (faults_in (blocks_of register.now code) (S.seen shelf.old).content file.now) (fold effect (S.seen shelf.old).content.working file.now.changes) r) }
+{
+    if let Some(fault) = record_phase(shelf, register, code, &file.changes)? {
+        return Ok(Some(fault));
+    }
+    end_phase(alloc, shelf, code, &file.bases, &file.changes)
+}
+
+/// Gives a judgement up, whatever the keeper answers.
+fn give_up<S: Shelf>(shelf: &mut S)
+    requires { (S.seen shelf.old).progress ≢ Idle }
+    ensures { GivesUp (S.seen shelf.old) (S.seen shelf.new) }
+{
+    let Ok(()) = shelf.abandon() else {
+        return;
+    };
+}
+
+/// Ends a judgement as rejected for a fault.
+fn reject<S: Shelf>(shelf: &mut S, code: Code, fault: Fault) -> Result<Verdict, ShelfFault>
+    requires { (S.seen shelf.old).progress ≡ Open code }
+    ensures { Ends (S.seen shelf.old) (S.seen shelf.new) result code (conclusion (S.seen shelf.old).content code (Some fault)) }
+{
+    shelf.abandon()?;
+    shelf.skip(code, fault.place, fault.rule)?;
+    Ok(Verdict::Rejected {
+        place: fault.place,
+        rule: fault.rule,
+    })
+}
+
+/// Ends a judgement as applied.
+fn apply<S: Shelf>(shelf: &mut S, code: Code) -> Result<Verdict, ShelfFault>
+    requires { (S.seen shelf.old).progress ≡ Open code }
+    ensures { Ends (S.seen shelf.old) (S.seen shelf.new) result code (conclusion (S.seen shelf.old).content code None) }
+{
+    shelf.keep()?;
+    Ok(Verdict::Applied)
+}
+
+/// Ends a judgement by what was found.
+fn conclude<S: Shelf>(
+    shelf: &mut S,
+    code: Code,
+    found: Option<Fault>,
+) -> Result<Verdict, ShelfFault>
+    requires { (S.seen shelf.old).progress ≡ Open code }
+    ensures { Ends (S.seen shelf.old) (S.seen shelf.new) result code (conclusion (S.seen shelf.old).content code found) }
+{
+    match found {
+        Some(fault) => reject(shelf, code, fault),
+        None => apply(shelf, code),
+    }
+}
+
+/// Judges a good file as its custodian's next volume, which is to be at hand, where all its bases are reached.
+///
+/// The changes go into the working view, each asked the record rules (20 to 24) first; then the keys that they touched are asked the end
+/// rules (30 to 39), in file order. The answer is the verdict that the keeper then has. After a fault, `Memory` or `Store`, the keeper's
+/// board is as it was. Whatever is answered, no judgement is in progress any more.
+pub fn judge<S: Shelf>(
+    alloc: Global,
+    shelf: &mut S,
+    register: &Register,
+    code: Code,
+    file: &ChangeFile,
+) -> Result<Verdict, ShelfFault>
+    requires { IsNotOpen (S.seen shelf.old).progress }
+    ensures { Judges (S.seen shelf.old) (S.seen shelf.new) result code file.now.bases (judged_on (blocks_of register.now code) (S.seen shelf.old).content.board code (Good file.now)) }
+{
+    shelf.begin(code)?;
+    match phases(alloc, shelf, register, code, file) {
+        Ok(found) => conclude(shelf, code, found),
+        Err(fault) => {
+            give_up(shelf);
+            Err(fault)
+        }
+    }
+}

@@ -1,0 +1,144 @@
+//! What an item breaks by what it names: its BLPU, and an approved LPI's street.
+ghost use Rattle.std.specs.Prelude.{◌≡◌, not, true, Some};
+ghost use Rattle.std.specs.FinMap as map;
+ghost use Rattle.std.specs.List.{list_any};
+ghost use Rattle.gaz_records.specs.declared.item.Item.TheVariants as item;
+ghost use Rattle.gaz_records.specs.declared.key.Key.TheVariants as key;
+ghost use Rattle.gaz_shelf.specs.View.{holds};
+ghost use Rattle.gaz_shelf.specs.Words.{approved_of};
+ghost use Rattle.gaz_shelf.specs.Keeper.{Open, Reads};
+ghost use Rattle.gaz_rules.specs.Bases.{are_reached, basis_views};
+ghost use Rattle.gaz_rules.specs.Breaches.{blpu_fault, blpu_state, name_faults};
+ghost use Rattle.gaz_rules.specs.EndRules.{same_key};
+
+use crate::streets::street_faults;
+use gaz_changefile::Basis;
+use gaz_ids::{Code, Status, Uprn};
+use gaz_records::{Item, Key, Lpi};
+use gaz_shelf::{Shelf, ShelfFault};
+
+/// The end rules that an item breaks by what it names.
+#[derive(Clone, Copy)]
+pub(crate) struct NameFaults {
+    /// Rule 30: another approved LPI has its BLPU.
+    pub(crate) is_second: bool,
+    /// Rule 31: its BLPU isn't there.
+    pub(crate) lacks_blpu: bool,
+    /// Rule 32: its street is found nowhere.
+    pub(crate) lacks_street: bool,
+    /// Rule 33: its street is closed.
+    pub(crate) names_closed: bool,
+    /// The first half of rule 34: its street has no descriptor in its language.
+    pub(crate) lacks_descriptor: bool,
+    /// The first half of rule 37: its BLPU is historical.
+    pub(crate) names_past: bool,
+}
+
+impl NameFaults {
+    /// At most that the BLPU isn't there.
+    fn of_blpu(lacks_blpu: bool) -> NameFaults
+        ensures { result ≡ blpu_fault lacks_blpu }
+    {
+        NameFaults {
+            is_second: false,
+            lacks_blpu,
+            lacks_street: false,
+            names_closed: false,
+            lacks_descriptor: false,
+            names_past: false,
+        }
+    }
+}
+
+/// Whether a BLPU is there, and whether it is historical.
+#[derive(Clone, Copy)]
+struct BlpuState {
+    is_there: bool,
+    is_past: bool,
+}
+
+/// A BLPU in the view that is judged.
+fn blpu_state<S: Shelf>(shelf: &mut S, code: Code, uprn: Uprn) -> Result<BlpuState, ShelfFault>
+    requires { (S.seen shelf.old).progress ≡ Open code }
+    ensures { Reads (S.seen shelf.old) (S.seen shelf.new) result (λ s. s ≡ blpu_state (S.seen shelf.old).content.working uprn) }
+{
+    let stored = shelf.current(code, &Key::Blpu(uprn))?;
+    let is_past = match &stored {
+        Some(Item::Blpu(blpu)) => matches!(blpu.status, Status::Historical),
+        _ => false,
+    };
+    Ok(BlpuState {
+        is_there: stored.is_some(),
+        is_past,
+    })
+}
+
+/// Whether some key is another.
+fn any_other(keys: &[Key], key: &Key) -> bool
+    ensures { result ≡ list_any (λ m. not (same_key m key.now)) keys.now }
+{
+    keys.iter().any(|other| other.compare(key).is_ne())
+}
+
+/// Whether an approved LPI of a BLPU stands under another key.
+fn has_other<S: Shelf>(shelf: &mut S, code: Code, key: &Key, uprn: Uprn) -> Result<bool, ShelfFault>
+    requires { (S.seen shelf.old).progress ≡ Open code }
+    ensures { Reads (S.seen shelf.old) (S.seen shelf.new) result (λ b. b ≡ list_any (λ m. not (same_key m key.now)) (approved_of (S.seen shelf.old).content.working uprn)) }
+{
+    let keys = shelf.approved_of(code, uprn)?;
+    Ok(any_other(&keys, key))
+}
+
+/// What an LPI breaks. Its BLPU is looked up once.
+fn lpi_faults<S: Shelf>(
+    shelf: &mut S,
+    code: Code,
+    bases: &[Basis],
+    key: &Key,
+    lpi: &Lpi,
+) -> Result<NameFaults, ShelfFault>
+    requires { (S.seen shelf.old).progress ≡ Open code }
+    ensures { Reads (S.seen shelf.old) (S.seen shelf.new) result (λ f. map.get (S.seen shelf.old).content.working.items key.now ≡ Some (item.Lpi lpi.now) → are_reached (S.seen shelf.old).content.board bases.now ≡ true → f ≡ name_faults (S.seen shelf.old).content.working (basis_views (S.seen shelf.old).content.board bases.now) key.now) }
+{
+    let blpu = blpu_state(shelf, code, lpi.uprn)?;
+    let Status::Approved = lpi.status else {
+        return Ok(NameFaults::of_blpu(!blpu.is_there));
+    };
+    let is_second = has_other(shelf, code, key, lpi.uprn)?;
+    let street = street_faults(shelf, code, bases, lpi.usrn, lpi.lang)?;
+    Ok(NameFaults {
+        is_second,
+        lacks_blpu: !blpu.is_there,
+        lacks_street: street.is_nowhere,
+        names_closed: street.is_closed,
+        lacks_descriptor: street.is_unnamed,
+        names_past: blpu.is_past,
+    })
+}
+
+/// What a cross reference to a BLPU breaks.
+fn xref_faults<S: Shelf>(shelf: &mut S, code: Code, uprn: Uprn) -> Result<NameFaults, ShelfFault>
+    requires { (S.seen shelf.old).progress ≡ Open code }
+    ensures { Reads (S.seen shelf.old) (S.seen shelf.new) result (λ f. f ≡ blpu_fault (not (holds (S.seen shelf.old).content.working (key.Blpu uprn)))) }
+{
+    let blpu = blpu_state(shelf, code, uprn)?;
+    Ok(NameFaults::of_blpu(!blpu.is_there))
+}
+
+/// What the item breaks that stands under a key.
+pub(crate) fn name_faults<S: Shelf>(
+    shelf: &mut S,
+    code: Code,
+    bases: &[Basis],
+    key: &Key,
+    stored: &Option<Item>,
+) -> Result<NameFaults, ShelfFault>
+    requires { (S.seen shelf.old).progress ≡ Open code }
+    ensures { Reads (S.seen shelf.old) (S.seen shelf.new) result (λ f. stored.now ≡ map.get (S.seen shelf.old).content.working.items key.now → are_reached (S.seen shelf.old).content.board bases.now ≡ true → f ≡ name_faults (S.seen shelf.old).content.working (basis_views (S.seen shelf.old).content.board bases.now) key.now) }
+{
+    match stored {
+        Some(Item::Lpi(lpi)) => Ok(lpi_faults(shelf, code, bases, key, lpi)?),
+        Some(Item::Xref(xref)) => Ok(xref_faults(shelf, code, xref.uprn)?),
+        _ => Ok(NameFaults::of_blpu(false)),
+    }
+}
