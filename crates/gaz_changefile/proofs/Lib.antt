@@ -1,2 +1,6 @@
 pub mod Runs
 pub mod Least
+pub mod Orderly
+pub mod Written
+pub mod Texts
+pub mod Back

@@ -5,16 +5,17 @@ use Rattle.std.proofs.lemmas.List.{append-nil}
 use Rattle.std.proofs.lemmas.List.Elements.{filter_map-append}
 use Rattle.std.proofs.lemmas.List.Sums.{sum_by-append}
 use Rattle.std.proofs.lemmas.Str.{IsUtf8-from_is_utf8, is_utf8-from_IsUtf8}
-use Rattle.std.specs.List.{enumerate_from, filter_map, list_any, range_with_len}
+use Rattle.std.specs.List.{enumerate_from, filter_map, last_or, list_any, range_with_len}
+use Rattle.std.specs.Option.{option_and_then}
 use Rattle.std.specs.Str.{IsUtf8, is_utf8}
 use Rattle.gaz_rows.specs.Rows.{Fields, rows_of}
-use Rattle.gaz_changefile.specs.Contents.{Contents, change_at, changes_in, contents_of, date_in}
-use Rattle.gaz_changefile.specs.Lines.{is_change, is_trailer, line_of}
+use Rattle.gaz_changefile.specs.Contents.{Contents, bases_in, basis_at, change_at, changes_in, contents_of, date_in}
+use Rattle.gaz_changefile.specs.Lines.{is_basis, is_change, is_trailer, line_of}
 use Rattle.gaz_changefile.specs.Reading.{Bad, Good, by_faults, fault_at, faults, reading}
-use Rattle.gaz_changefile.specs.Rules.{first_broken, header_rules, later_rules, rules_at}
+use Rattle.gaz_changefile.specs.Rules.{before_of, custodian_at, first_broken, header_rules, later_rules, rules_at}
 use Rattle.gaz_changefile.specs.Fault.{IsFault}
-use Rattle.gaz_changefile.specs.Steps.{Adds, IsFirstOf, listed}
-use Rattle.gaz_changefile.specs.declared.change.Change.{Change}
+use Rattle.gaz_changefile.specs.Steps.{Adds, IsFirstOf, before_in, listed}
+use Rattle.gaz_changefile.specs.declared.change.Basis.{Basis}
 use Rattle.gaz_changefile.specs.declared.draft.Draft.{Draft}
 use Rattle.gaz_changefile.specs.declared.file.FileFault.{FileFault}
 use Rattle.gaz_changefile.specs.declared.file.FileFault.TheVariants as fault
@@ -38,14 +39,14 @@ take_all [] = refl
 take_all (x ∷ xs) = ap (λ l. x ∷ l) (take_all xs)
 
 -- the rules at a record behind others
-rules_next : (c v : ℕ) (before : List Fields) (row : Fields) (rest : List Fields) → 1 ≤ length before
-    → rules_at c v (before ++ (row ∷ rest)) (length before) ≡ later_rules (count_by is_change before) (list_any is_trailer before) (Some row)
+pub rules_next : (c v : ℕ) (before : List Fields) (row : Fields) (rest : List Fields) → 1 ≤ length before
+    → rules_at c v (before ++ (row ∷ rest)) (length before) ≡ later_rules c (before_of before) (Some row)
 unfolding rules_at
 rules_next c v [] row rest h = absurd (omega arith)
 rules_next c v (b ∷ bs) row rest h = rw (take_before bs (row ∷ rest), next_is bs row rest) refl
 
-rules_end : (c v : ℕ) (before : List Fields) → 1 ≤ length before
-    → rules_at c v before (length before) ≡ later_rules (count_by is_change before) (list_any is_trailer before) None
+pub rules_end : (c v : ℕ) (before : List Fields) → 1 ≤ length before
+    → rules_at c v before (length before) ≡ later_rules c (before_of before) None
 unfolding rules_at
 rules_end c v [] h = absurd (omega arith)
 rules_end c v (b ∷ bs) h = rw (take_all bs, none_next bs) refl
@@ -56,9 +57,13 @@ pub record Kept (c v : ℕ) (rows before left : List Fields) (place : ℕ) (draf
   pub some : 1 ≤ length before
   pub place_is : place ≡ length before + 1
   pub faults_left : faults c v rows ≡ filter_map (fault_at c v rows) (range_with_len (length before) (length left + 1))
+  pub own : draft.own ≡ c
   pub date : date_in rows ≡ draft.date
+  pub base_count : length draft.bases.items ≡ count_by is_basis before
   pub count : length draft.changes.items ≡ count_by is_change before
+  pub last : draft.last ≡ option_and_then custodian_at (last_or None before)
   pub ended : draft.ended ≡ list_any is_trailer before
+  pub bases : draft.bases.items ≡ bases_in before
   pub changes : draft.changes.items ≡ changes_in before
   pub few : length draft.changes.items ≤ 5000
 
@@ -66,14 +71,14 @@ pub record Kept (c v : ℕ) (rows before left : List Fields) (place : ℕ) (draf
 here : {A : Type 0} (f : ℕ → Option A) (i n : ℕ) (x : A) → f i ≡ Some x → (rest : List A) × (filter_map f (range_with_len i (n + 1)) ≡ x ∷ rest)
 here f i n x e = (filter_map f (range_with_len (i + 1) n), rw (add-one, e) refl)
 
-not_here : {A : Type 0} (f : ℕ → Option A) (i n : ℕ) → f i ≡ None → filter_map f (range_with_len i (n + 1)) ≡ filter_map f (range_with_len (i + 1) n)
+pub not_here : {A : Type 0} (f : ℕ → Option A) (i n : ℕ) → f i ≡ None → filter_map f (range_with_len i (n + 1)) ≡ filter_map f (range_with_len (i + 1) n)
 not_here f i n e = rw (add-one, e) refl
 
 fault_is : (c v : ℕ) (rows : List Fields) (i : ℕ) (rules : List (ℕ × Bool)) (rule : ℕ) → rules_at c v rows i ≡ rules → first_broken rules ≡ Some rule
     → fault_at c v rows i ≡ Some (record { place = i + 1; rule = rule })
 fault_is c v rows i rules rule e h = rw (e, h) refl
 
-no_fault : (c v : ℕ) (rows : List Fields) (i : ℕ) (rules : List (ℕ × Bool)) → rules_at c v rows i ≡ rules → first_broken rules ≡ None → fault_at c v rows i ≡ None
+pub no_fault : (c v : ℕ) (rows : List Fields) (i : ℕ) (rules : List (ℕ × Bool)) → rules_at c v rows i ≡ rules → first_broken rules ≡ None → fault_at c v rows i ≡ None
 no_fault c v rows i rules e h = rw (e, h) refl
 
 -- the first of the faults decides
@@ -85,10 +90,14 @@ bad_here c v rows contents i n rule rules all e h =
     ap (by_faults contents) (all ∙ found.1)
 
 -- one record more at the end
-count_push : (p : Fields → Bool) (xs : List Fields) (x : Fields) → count_by p (xs ++ (x ∷ [])) ≡ count_by p xs + cond (p x) 1 0
+pub last_push : {X : Type 0} (o : Option X) (xs : List X) (x : X) → last_or o (xs ++ (x ∷ [])) ≡ Some x
+last_push o [] x = refl
+last_push o (y ∷ ys) x = last_push (Some y) ys x
+
+pub count_push : (p : Fields → Bool) (xs : List Fields) (x : Fields) → count_by p (xs ++ (x ∷ [])) ≡ count_by p xs + cond (p x) 1 0
 count_push p xs x = sum_by-append (λ y. cond (p y) 1 0) xs (x ∷ []) ∙ omega arith
 
-any_push : (p : Fields → Bool) (xs : List Fields) (x : Fields) → list_any p xs ≡ false → list_any p (xs ++ (x ∷ [])) ≡ p x
+pub any_push : (p : Fields → Bool) (xs : List Fields) (x : Fields) → list_any p xs ≡ false → list_any p (xs ++ (x ∷ [])) ≡ p x
 any_push p [] x e = or_false (p x)
   where
     or_false : (a : Bool) → (a || false) ≡ a
@@ -104,28 +113,31 @@ any_push p (y ∷ ys) x e = rw (or_none (p y) (list_any p ys) e) (any_push p ys 
     or_rest false b h = h
     or_rest true b h = cc h
 
-one_change : (o : Option Change) → filter_map {X = ℕ} (λ _. o) (0 ∷ []) ≡ listed o
-one_change None = refl
-one_change (Some x) = refl
+one_listed : {A : Type 0} (o : Option A) → filter_map {X = ℕ} (λ _. o) (0 ∷ []) ≡ listed o
+one_listed None = refl
+one_listed (Some x) = refl
 
 cons_listed : (place : ℕ) (row : Fields) → filter_map change_at ((place, row) ∷ []) ≡ listed (change_at (place, row))
-cons_listed place row = one_change (change_at (place, row))
+cons_listed place row = one_listed (change_at (place, row))
 
-enumerate_push : {X : Type 0} (n : ℕ) (xs : List X) (x : X) → enumerate_from n (xs ++ (x ∷ [])) ≡ enumerate_from n xs ++ ((n + length xs, x) ∷ [])
+pub bases_push : (rows : List Fields) (row : Fields) → bases_in (rows ++ (row ∷ [])) ≡ bases_in rows ++ listed (basis_at row)
+bases_push rows row = rw (filter_map-append basis_at rows (row ∷ [])) (ap (λ (l : List Basis). bases_in rows ++ l) (one_listed (basis_at row)))
+
+pub enumerate_push : {X : Type 0} (n : ℕ) (xs : List X) (x : X) → enumerate_from n (xs ++ (x ∷ [])) ≡ enumerate_from n xs ++ ((n + length xs, x) ∷ [])
 enumerate_push n [] x = let e : n + 0 ≡ n = omega arith in rw e refl
 enumerate_push n (y ∷ ys) x = let e : n + suc (length ys) ≡ (n + 1) + length ys = omega arith in rw (e, enumerate_push (n + 1) ys x) refl
 
-changes_push : (rows : List Fields) (row : Fields) (place : ℕ) → place ≡ length rows + 1 → changes_in (rows ++ (row ∷ [])) ≡ changes_in rows ++ listed (change_at (place, row))
+pub changes_push : (rows : List Fields) (row : Fields) (place : ℕ) → place ≡ length rows + 1 → changes_in (rows ++ (row ∷ [])) ≡ changes_in rows ++ listed (change_at (place, row))
 changes_push rows row place e =
     let p : 1 + length rows ≡ place = omega arith in
     rw (enumerate_push 1 rows row, p, filter_map-append change_at (enumerate_from 1 rows) ((place, row) ∷ []), cons_listed place row) refl
 
 -- the header broke no rule
 pub kept_start : (c v : ℕ) (rows : List Fields) (row : Fields) (rest : List Fields) (draft : Draft) → rows ≡ row ∷ rest
-    → first_broken (header_rules c v row) ≡ None → line_of row ≡ line.Other → date_in (row ∷ []) ≡ draft.date → draft.changes.items ≡ [] → draft.ended ≡ false
-    → Kept c v rows (row ∷ []) rest 2 draft
+    → first_broken (header_rules c v row) ≡ None → line_of row ≡ line.Other → draft.own ≡ c → date_in (row ∷ []) ≡ draft.date → draft.bases.items ≡ []
+    → draft.changes.items ≡ [] → draft.last ≡ None → draft.ended ≡ false → Kept c v rows (row ∷ []) rest 2 draft
 unfolding rules_at
-kept_start c v rows row rest draft e fault other date changes ended =
+kept_start c v rows row rest draft e fault other own date bases changes last ended =
     let f = fault_at c v rows in
     let r : rules_at c v rows 0 ≡ header_rules c v row = rw e refl in
     let len : length rows ≡ length rest + 1 = rw e (omega arith) in
@@ -134,21 +146,31 @@ kept_start c v rows row rest draft e fault other date changes ended =
       some = omega arith;
       place_is = refl;
       faults_left = rw len (not_here f 0 (length rest + 1) (no_fault c v rows 0 (header_rules c v row) r fault));
+      own = own;
       date = rw e date;
+      base_count = rw (bases, other) refl;
       count = rw (changes, other) refl;
+      last = rw (last, other) refl;
       ended = rw (ended, other) refl;
+      bases = rw (bases, other) refl;
       changes = rw (changes, other) refl;
       few = rw changes (omega arith);
     }
 
+-- what stands before is told by the file as far as it was read
+before_is : (c v : ℕ) (rows before left : List Fields) (place : ℕ) (draft : Draft) → Kept c v rows before left place draft → before_in draft ≡ before_of before
+before_is c v rows before left place draft k = rw (k.base_count, k.count, k.last, k.ended) refl
+
 -- the rules of the next record, and of the end
 rules_here : (c v : ℕ) (rows before : List Fields) (row : Fields) (rest : List Fields) (place : ℕ) (draft : Draft) → Kept c v rows before (row ∷ rest) place draft
-    → rules_at c v rows (length before) ≡ later_rules (length draft.changes.items) draft.ended (Some row)
-rules_here c v rows before row rest place draft k = rw (k.split, rules_next c v before row rest k.some, k.count, k.ended) refl
+    → rules_at c v rows (length before) ≡ later_rules draft.own (before_in draft) (Some row)
+rules_here c v rows before row rest place draft k =
+    rw (k.split, rules_next c v before row rest k.some, k.own, before_is c v rows before (row ∷ rest) place draft k) refl
 
 rules_over : (c v : ℕ) (rows before : List Fields) (place : ℕ) (draft : Draft) → Kept c v rows before [] place draft
-    → rules_at c v rows (length before) ≡ later_rules (length draft.changes.items) draft.ended None
-rules_over c v rows before place draft k = rw (k.split, append-nil before, rules_end c v before k.some, k.count, k.ended) refl
+    → rules_at c v rows (length before) ≡ later_rules draft.own (before_in draft) None
+rules_over c v rows before place draft k =
+    rw (k.split, append-nil before, rules_end c v before k.some, k.own, before_is c v rows before [] place draft k) refl
 
 -- one more record broke no rule
 pub kept_more : (c v : ℕ) (rows before : List Fields) (row : Fields) (rest : List Fields) (place : ℕ) (old new : Draft)
@@ -163,37 +185,41 @@ kept_more c v rows before row rest place old new k a =
       some = omega (arith, len);
       place_is = omega (arith, len, k.place_is);
       faults_left = rw (len, ← not_here f (length before) (length rest + 1) none, ← n) k.faults_left;
+      own = a.own ∙ k.own;
       date = k.date ∙ sym a.date;
+      base_count = rw (a.base_count, k.base_count) (sym (count_push is_basis before row));
       count = rw (a.count, k.count) (sym (count_push is_change before row));
+      last = rw (a.last, last_push None before row) refl;
       ended = a.ended ∙ sym (any_push is_trailer before row (sym k.ended ∙ a.open_before));
+      bases = rw (a.bases, k.bases) (sym (bases_push before row));
       changes = rw (a.changes, k.changes) (sym (changes_push before row place k.place_is));
       few = a.few;
     }
 
 -- the next record breaks a rule
 pub bad_next : (c v : ℕ) (rows before : List Fields) (row : Fields) (rest : List Fields) (place : ℕ) (draft : Draft) (contents : Contents) (rule : ℕ)
-    → Kept c v rows before (row ∷ rest) place draft → first_broken (later_rules (length draft.changes.items) draft.ended (Some row)) ≡ Some rule
+    → Kept c v rows before (row ∷ rest) place draft → first_broken (later_rules draft.own (before_in draft) (Some row)) ≡ Some rule
     → by_faults contents (faults c v rows) ≡ Bad place rule
 bad_next c v rows before row rest place draft contents rule k h =
     rw k.place_is (bad_here c v rows contents (length before) (length (row ∷ rest)) rule _ k.faults_left (rules_here c v rows before row rest place draft k) h)
 
 -- the end breaks one
 pub bad_end : (c v : ℕ) (rows before : List Fields) (place : ℕ) (draft : Draft) (contents : Contents) (rule : ℕ)
-    → Kept c v rows before [] place draft → first_broken (later_rules (length draft.changes.items) draft.ended None) ≡ Some rule
+    → Kept c v rows before [] place draft → first_broken (later_rules draft.own (before_in draft) None) ≡ Some rule
     → by_faults contents (faults c v rows) ≡ Bad place rule
 bad_end c v rows before place draft contents rule k h =
     rw k.place_is (bad_here c v rows contents (length before) 0 rule _ k.faults_left (rules_over c v rows before place draft k) h)
 
 -- it breaks none
 pub good_end : (c v : ℕ) (rows before : List Fields) (place : ℕ) (draft : Draft)
-    → Kept c v rows before [] place draft → first_broken (later_rules (length draft.changes.items) draft.ended None) ≡ None
-    → by_faults (contents_of rows) (faults c v rows) ≡ Good (record { date = draft.date; bases = []; changes = draft.changes.items })
+    → Kept c v rows before [] place draft → first_broken (later_rules draft.own (before_in draft) None) ≡ None
+    → by_faults (contents_of rows) (faults c v rows) ≡ Good (record { date = draft.date; bases = draft.bases.items; changes = draft.changes.items })
 unfolding contents_of
 good_end c v rows before place draft k h =
     let none = no_fault c v rows (length before) _ (rules_over c v rows before place draft k) h in
     let all : faults c v rows ≡ [] = k.faults_left ∙ not_here (fault_at c v rows) (length before) 0 none in
     let whole : rows ≡ before = k.split ∙ append-nil before in
-    rw (all, ← k.date, k.changes, ← whole) refl
+    rw (all, ← k.date, k.bases, k.changes, ← whole) refl
 
 -- the header breaks a rule, or there is none
 pub bad_first : (c v : ℕ) (rows : List Fields) (contents : Contents) (rule : ℕ) (rules : List (ℕ × Bool)) → rules_at c v rows 0 ≡ rules

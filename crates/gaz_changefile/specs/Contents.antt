@@ -1,5 +1,5 @@
 -- What the records of a good file say.
-use Rattle.std.specs.Prelude.{ℕ, List, [], ◌∷◌, drop, Option, Some, None, Result, Ok, Err}
+use Rattle.std.specs.Prelude.{ℕ, ◌==◌, List, [], ◌∷◌, drop, length, Option, Some, None, Result, Ok, Err, if◌then◌else◌}
 use Rattle.std.specs.List.{enumerate_from, filter_map}
 use Rattle.gaz_rows.specs.Rows.{Fields}
 use Rattle.gaz_records.specs.Days.{CivilDay, date_of, no_day}
@@ -8,7 +8,7 @@ use Rattle.gaz_records.specs.Items.{read_item}
 use Rattle.gaz_records.specs.declared.fields.FieldFault.{FieldFault}
 use Rattle.gaz_records.specs.declared.item.Item.{Item}
 use Rattle.gaz_records.specs.declared.item.Kind.{Kind}
-use Rattle.gaz_changefile.specs.Lines.{action_of, field, line_of}
+use Rattle.gaz_changefile.specs.Lines.{action_of, field, line_of, read_code, read_volume}
 use Rattle.gaz_changefile.specs.declared.action.Action.{Action}
 use Rattle.gaz_changefile.specs.declared.change.Basis.{Basis}
 use Rattle.gaz_changefile.specs.declared.change.Change.{Change}
@@ -26,6 +26,30 @@ abbrev pub date_in : List Fields → CivilDay
 date_in [] = no_day
 date_in (row ∷ rows) = the no_day (date_of (field row 4))
 
+-- a basis, where its custodian and its volume were read
+abbrev pub rested : Option ℕ → Option ℕ → Option Basis
+rested None volume = None
+rested (Some d) None = None
+rested (Some d) (Some w) = Some (record { custodian = d; volume = w })
+
+-- the basis that three fields say: behind the first a custodian and a volume
+abbrev pub basis_in : Fields → Option Basis
+basis_in row = if length row == 3 then rested (read_code (field row 1)) (read_volume (field row 2)) else None
+
+abbrev pub basis_of : Fields → Line → Option Basis
+basis_of row (line.Change kind) = None
+basis_of row line.Basis = basis_in row
+basis_of row line.Trailer = None
+basis_of row line.Other = None
+
+-- the basis of a record, if it is a basis line
+abbrev pub basis_at : Fields → Option Basis
+basis_at row = basis_of row (line_of row)
+
+-- the bases of these records
+abbrev pub bases_in : List Fields → List Basis
+bases_in rows = filter_map basis_at rows
+
 -- a change, where its type and its item were read
 abbrev pub made : ℕ → Option Action → Result Item FieldFault → Option Change
 made place None item = None
@@ -38,6 +62,7 @@ change_in place kind row = made place (action_of (field row 1)) (read_item kind 
 
 abbrev pub change_of : ℕ → Fields → Line → Option Change
 change_of place row (line.Change kind) = change_in place kind row
+change_of place row line.Basis = None
 change_of place row line.Trailer = None
 change_of place row line.Other = None
 
@@ -51,4 +76,4 @@ changes_in rows = filter_map change_at (enumerate_from 1 rows)
 
 -- what a good file with these records contains
 unfoldable pub contents_of : List Fields → Contents
-contents_of rows = record { date = date_in rows; bases = []; changes = changes_in rows }
+contents_of rows = record { date = date_in rows; bases = bases_in rows; changes = changes_in rows }

@@ -3,8 +3,10 @@ use Rattle.std.specs.Prelude.{◌≡◌, ◌⊎◌, ◌≤◌, ◌<◌, ℕ, ◌
 use Rattle.std.specs.Str.{IsUtf8}
 use Rattle.gaz_rows.specs.Rows.{rows_of}
 use Rattle.gaz_changefile.specs.Contents.{Contents, contents_of}
+use Rattle.gaz_changefile.specs.Files.{AreBases, ArePlaced, IsTyped}
 use Rattle.gaz_changefile.specs.Reading.{Bad, Good, Reading, reading}
 use Rattle.gaz_changefile.specs.Rules.{rules_at}
+use Rattle.gaz_changefile.specs.Writing.{file_text}
 
 -- none of the rules is broken
 abbrev pub AreKept : List (ℕ × Bool) → Type 0
@@ -40,3 +42,16 @@ Tells bytes c v (Bad place rule) = ((IsUtf8 bytes → ⊥) × (place ≡ 1) × (
 
 abbrev pub LeastFault : Type 0
 LeastFault = (bytes : List ℕ) (c v : ℕ) → Tells bytes c v (reading bytes c v)
+
+-- the bases of a good file rise by custodian, and none is the own
+abbrev pub BasesRise : Type 0
+BasesRise = (bytes : List ℕ) (c v : ℕ) (contents : Contents) → reading bytes c v ≡ Good contents → AreBases c contents.bases
+
+-- the changes of a good file are placed by the numbers of their records
+abbrev pub ChangesArePlaced : Type 0
+ChangesArePlaced = (bytes : List ℕ) (c v : ℕ) (contents : Contents) → reading bytes c v ≡ Good contents → ArePlaced contents.bases contents.changes
+
+-- what is written of an orderly file of a custodian and volume says the same file
+abbrev pub FilesReadBack : Type 0
+FilesReadBack = (c v : ℕ) (f : Contents) → 1 ≤ c → c ≤ 9999 → 1 ≤ v → v ≤ 999_999 → IsTyped f → AreBases c f.bases → ArePlaced f.bases f.changes
+    → reading (file_text c v f) c v ≡ Good f

@@ -4,6 +4,8 @@ pub mod Profile
 pub mod Rules
 pub mod Reading
 pub mod Fault
+pub mod Files
 pub mod Steps
+pub mod Writing
 pub mod Laws
 pub mod Worked

@@ -48,18 +48,35 @@ action_of text =
 abbrev pub line_of : Fields → Line
 line_of row =
     if bytes_eq (field row 0) (codes "11") then line.Change kind.Street
+    else if bytes_eq (field row 0) (codes "15") then line.Change kind.Descriptor
+    else if bytes_eq (field row 0) (codes "21") then line.Change kind.Blpu
+    else if bytes_eq (field row 0) (codes "23") then line.Change kind.Xref
+    else if bytes_eq (field row 0) (codes "24") then line.Change kind.Lpi
+    else if bytes_eq (field row 0) (codes "90") then line.Basis
     else if bytes_eq (field row 0) (codes "99") then line.Trailer
     else line.Other
 
+abbrev pub is_basis_line : Line → Bool
+is_basis_line (line.Change k) = false
+is_basis_line line.Basis = true
+is_basis_line line.Trailer = false
+is_basis_line line.Other = false
+
 abbrev pub is_change_line : Line → Bool
 is_change_line (line.Change k) = true
+is_change_line line.Basis = false
 is_change_line line.Trailer = false
 is_change_line line.Other = false
 
 abbrev pub is_trailer_line : Line → Bool
 is_trailer_line (line.Change k) = false
+is_trailer_line line.Basis = false
 is_trailer_line line.Trailer = true
 is_trailer_line line.Other = false
+
+-- the record is a basis line
+abbrev pub is_basis : Fields → Bool
+is_basis row = is_basis_line (line_of row)
 
 -- the record is a change record
 abbrev pub is_change : Fields → Bool

@@ -1,6 +1,6 @@
 -- The rules that each record of a file has to keep, in the order in which they are looked at, each with whether it is broken.
-use Rattle.std.specs.Prelude.{ℕ, zero, suc, ◌+◌, ◌&&◌, not, ◌==◌, nat_le, List, [], ◌∷◌, length, take, drop, Option, Some, None, is_some, is_ok, slice_get, if◌then◌else◌, Bool, true, false, count_by, codes, Result, Ok, Err}
-use Rattle.std.specs.List.{list_any}
+use Rattle.std.specs.Prelude.{ℕ, zero, suc, ◌+◌, ◌&&◌, not, ◌==◌, nat_le, nat_lt, List, [], ◌∷◌, length, take, drop, Option, Some, None, is_some, is_ok, option_and_then, option_map, slice_get, if◌then◌else◌, Bool, true, false, count_by, codes, Result, Ok, Err}
+use Rattle.std.specs.List.{last_or, list_any}
 use Rattle.std.specs.Str.{bytes_eq}
 use Rattle.gaz_rows.specs.Rows.{Fields}
 use Rattle.gaz_records.specs.Days.{date_of}
@@ -9,7 +9,9 @@ use Rattle.gaz_records.specs.declared.fields.FieldFault.{FieldFault}
 use Rattle.gaz_records.specs.declared.fields.FieldFault.TheVariants as fieldfault
 use Rattle.gaz_records.specs.declared.item.Item.{Item}
 use Rattle.gaz_records.specs.declared.item.Kind.{Kind}
-use Rattle.gaz_changefile.specs.Lines.{action_of, field, is_change, is_trailer, is_value, line_of, read_code, read_count, read_order, read_profile, read_volume}
+use Rattle.gaz_changefile.specs.Contents.{basis_at, basis_in}
+use Rattle.gaz_changefile.specs.Lines.{action_of, field, is_basis, is_change, is_trailer, is_value, line_of, read_code, read_count, read_order, read_profile, read_volume}
+use Rattle.gaz_changefile.specs.declared.change.Basis.{Basis}
 use Rattle.gaz_changefile.specs.declared.line.Line.{Line}
 use Rattle.gaz_changefile.specs.declared.line.Line.TheVariants as line
 
@@ -32,6 +34,41 @@ header_rules c v row =
     ∷ (3, not (is_value c (read_code (field row 2)) && is_value v (read_volume (field row 3))))
     ∷ []
 
+-- the custodian that a record names, if it is a basis line
+abbrev pub custodian_at : Fields → Option ℕ
+custodian_at row = option_map (λ b. b.custodian) (basis_at row)
+
+-- what stands before a record: how many basis lines and change records, the custodian that the record just before it names, if
+-- that is a basis line, and whether there is a trailer
+pub record Before : Type 0 where
+  pub bases : ℕ
+  pub changes : ℕ
+  pub last : Option ℕ
+  pub ended : Bool
+
+abbrev pub before_of : List Fields → Before
+before_of rows = record {
+  bases = count_by is_basis rows;
+  changes = count_by is_change rows;
+  last = option_and_then custodian_at (last_or None rows);
+  ended = list_any is_trailer rows;
+}
+
+-- a custodian's code is greater than that of the basis line before
+abbrev pub is_above : Option ℕ → ℕ → Bool
+is_above None custodian = true
+is_above (Some before) custodian = nat_lt before custodian
+
+-- a basis of another custodian, at most the sixteenth, by rising code, and before all change records
+abbrev pub is_next_basis : ℕ → Before → Option Basis → Bool
+is_next_basis own before None = false
+is_next_basis own before (Some b) =
+    not (b.custodian == own) && is_above before.last b.custodian && nat_lt before.bases 16 && (before.changes == 0)
+
+-- a basis line in a file of the own custodian
+unfoldable pub basis_rules : ℕ → Before → Fields → List (ℕ × Bool)
+basis_rules own before row = (4, not (is_next_basis own before (basis_in row))) ∷ []
+
 -- the item has too few fields or too many
 abbrev pub is_miscounted : Result Item FieldFault → Bool
 is_miscounted (Ok x) = false
@@ -53,15 +90,16 @@ unfoldable pub trailer_rules : ℕ → Fields → List (ℕ × Bool)
 trailer_rules before row = (8, not ((length row == 2) && is_value before (read_count (field row 1)))) ∷ []
 
 -- a record that begins otherwise is none
-abbrev pub line_rules : ℕ → Fields → Line → List (ℕ × Bool)
-line_rules before row (line.Change kind) = change_rules before kind row
-line_rules before row line.Trailer = trailer_rules before row
-line_rules before row line.Other = (5, true) ∷ []
+abbrev pub line_rules : ℕ → Before → Fields → Line → List (ℕ × Bool)
+line_rules own before row (line.Change kind) = change_rules before.changes kind row
+line_rules own before row line.Basis = basis_rules own before row
+line_rules own before row line.Trailer = trailer_rules before.changes row
+line_rules own before row line.Other = (5, true) ∷ []
 
--- a record behind the header and so many change records, where a trailer may stand before it, or the end of the file
-unfoldable pub later_rules : ℕ → Bool → Option Fields → List (ℕ × Bool)
-later_rules before ended None = (8, not ended) ∷ []
-later_rules before ended (Some row) = (8, ended) ∷ line_rules before row (line_of row)
+-- a record behind the header, or the end of the file; behind a trailer there is none
+unfoldable pub later_rules : ℕ → Before → Option Fields → List (ℕ × Bool)
+later_rules own before None = (8, not before.ended) ∷ []
+later_rules own before (Some row) = (8, before.ended) ∷ line_rules own before row (line_of row)
 
 -- the first record, if there is one
 abbrev pub first_rules : ℕ → ℕ → Option Fields → List (ℕ × Bool)
@@ -71,5 +109,4 @@ first_rules c v (Some row) = header_rules c v row
 -- the rules of the record at an index, from 0, of these records; the index behind the last is the end of the file
 unfoldable pub rules_at : ℕ → ℕ → List Fields → ℕ → List (ℕ × Bool)
 rules_at c v rows zero = first_rules c v (slice_get rows 0)
-rules_at c v rows (suc i) =
-    later_rules (count_by is_change (take (suc i) rows)) (list_any is_trailer (take (suc i) rows)) (slice_get rows (suc i))
+rules_at c v rows (suc i) = later_rules c (before_of (take (suc i) rows)) (slice_get rows (suc i))

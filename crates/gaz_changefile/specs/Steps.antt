@@ -1,10 +1,9 @@
 -- How a file is read record by record.
 use Rattle.std.specs.Prelude.{◌≡◌, ◌≤◌, ℕ, ◌+◌, List, [], ◌∷◌, ◌++◌, length, Option, Some, None, Bool, false, cond}
 use Rattle.gaz_rows.specs.Rows.{Fields}
-use Rattle.gaz_changefile.specs.Contents.{change_at}
-use Rattle.gaz_changefile.specs.Lines.{is_change, is_trailer}
-use Rattle.gaz_changefile.specs.Rules.{first_broken, later_rules}
-use Rattle.gaz_changefile.specs.declared.change.Change.{Change}
+use Rattle.gaz_changefile.specs.Contents.{basis_at, change_at}
+use Rattle.gaz_changefile.specs.Lines.{is_basis, is_change, is_trailer}
+use Rattle.gaz_changefile.specs.Rules.{Before, custodian_at, first_broken, later_rules}
 use Rattle.gaz_changefile.specs.declared.draft.Draft.{Draft}
 use Rattle.gaz_changefile.specs.declared.file.FileFault.{FileFault}
 use Rattle.gaz_changefile.specs.declared.file.FileFault.TheVariants.{Bad, Memory}
@@ -14,16 +13,24 @@ abbrev pub IsFirstOf : ℕ → List (ℕ × Bool) → FileFault → Type 0
 IsFirstOf place rules (Bad p rule) = (p ≡ place) × (first_broken rules ≡ Some rule)
 IsFirstOf place rules Memory = Unit {0}
 
-abbrev pub listed : Option Change → List Change
+abbrev pub listed : {A : Type 0} → Option A → List A
 listed None = []
 listed (Some x) = x ∷ []
 
--- a record that breaks no rule was read: its change stands last, and the file ends where it is a trailer
+-- what stands before the next record of a file that was read so far
+abbrev pub before_in : Draft → Before
+before_in d = record { bases = length d.bases.items; changes = length d.changes.items; last = d.last; ended = d.ended }
+
+-- a record that breaks no rule was read: its basis or its change stands last, and the file ends where it is a trailer
 pub record Adds (old new : Draft) (place : ℕ) (row : Fields) : Type 0 where
-  pub kept : first_broken (later_rules (length old.changes.items) old.ended (Some row)) ≡ None
+  pub kept : first_broken (later_rules old.own (before_in old) (Some row)) ≡ None
   pub open_before : old.ended ≡ false
+  pub bases : new.bases.items ≡ old.bases.items ++ listed (basis_at row)
   pub changes : new.changes.items ≡ old.changes.items ++ listed (change_at (place, row))
+  pub base_count : length new.bases.items ≡ length old.bases.items + cond (is_basis row) 1 0
   pub count : length new.changes.items ≡ length old.changes.items + cond (is_change row) 1 0
   pub few : length new.changes.items ≤ 5000
+  pub last : new.last ≡ custodian_at row
   pub ended : new.ended ≡ is_trailer row
+  pub own : new.own ≡ old.own
   pub date : new.date ≡ old.date

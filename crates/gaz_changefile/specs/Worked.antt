@@ -1,5 +1,7 @@
 -- Worked files, whose readings and profiles were told beforehand.
 use Rattle.std.specs.Prelude.{◌≡◌, ℕ, List, [], ◌∷◌, ◌++◌, None, Some, codes}
+use Rattle.gaz_ids.specs.declared.lang.Lang.TheVariants.{Eng}
+use Rattle.gaz_ids.specs.declared.status.Status.TheVariants.{Approved}
 use Rattle.gaz_records.specs.declared.item.Item.TheVariants as item
 use Rattle.gaz_changefile.specs.Contents.{Contents}
 use Rattle.gaz_changefile.specs.Profile.{profile_of}
@@ -27,6 +29,57 @@ street_101 = record {
     item = item.Street (record { usrn = 101; sort = 1; start = record { year = 2001; month = 4; day = 1 }; end = None });
   } ∷ [];
 }
+
+-- a house of custodian 1002 on a street of custodian 1001
+abbrev house_header : List ℕ
+house_header = line (codes "10,1,1002,1,2024-01-10")
+
+abbrev house_changes : List ℕ
+house_changes =
+    line (codes "21,I,1,100001,1,455000,255000,,,2020-01-01,")
+    ++ line (codes "24,I,2,K1,100001,ENG,1,150,,,,,,7,,,,,2020-01-01,")
+
+-- the basis is record 2, the house record 3, its LPI record 4
+abbrev house_7 : Contents
+house_7 = record {
+  date = record { year = 2024; month = 1; day = 10 };
+  bases = record { custodian = 1001; volume = 1 } ∷ [];
+  changes = record {
+    place = 3;
+    action = Insert;
+    item = item.Blpu (record { uprn = 100001; status = Approved; easting = 455000; northing = 255000; parent = None; postcode = None; start = record { year = 2020; month = 1; day = 1 }; end = None });
+  } ∷ record {
+    place = 4;
+    action = Insert;
+    item = item.Lpi (record {
+      key = codes "K1";
+      uprn = 100001;
+      lang = Eng;
+      status = Approved;
+      usrn = 150;
+      secondary = None;
+      primary = record { range = Some (record { from = record { n = 7; suffix = None }; to = None }); text = None };
+      start = record { year = 2020; month = 1; day = 1 };
+      end = None;
+    });
+  } ∷ [];
+}
+
+-- a file of custodian 1002, volume 1, with these lines between header and trailer, and no change
+abbrev resting : List ℕ → List ℕ
+resting lines = house_header ++ (lines ++ line (codes "99,0"))
+
+-- basis lines: a good file, and which of them are none
+pub record WorkedBases : Type 0 where
+  pub good : reading (house_header ++ (line (codes "90,1001,1") ++ (house_changes ++ line (codes "99,2")))) 1002 1 ≡ Good house_7
+  pub own : reading (resting (line (codes "90,1002,1"))) 1002 1 ≡ Bad 2 4
+  pub no_volume : reading (resting (line (codes "90,1001,0"))) 1002 1 ≡ Bad 2 4
+  pub two_fields : reading (resting (line (codes "90,1001"))) 1002 1 ≡ Bad 2 4
+  pub twice : reading (resting (line (codes "90,1001,1") ++ line (codes "90,1001,2"))) 1002 1 ≡ Bad 3 4
+  pub falling : reading (resting (line (codes "90,1003,1") ++ line (codes "90,1001,1"))) 1002 1 ≡ Bad 3 4
+  pub after_change : reading (house_header ++ (house_changes ++ line (codes "90,1001,1"))) 1002 1 ≡ Bad 4 4
+  pub after_trailer : reading (resting [] ++ line (codes "90,1001,1")) 1002 1 ≡ Bad 3 8
+  pub second_header : reading (resting house_header) 1002 1 ≡ Bad 2 5
 
 -- files of custodian 1001, volume 1: a good one, and what is wrong with some others
 pub record WorkedFiles : Type 0 where

@@ -1,5 +1,6 @@
 ghost use Rattle.std.specs.Prelude.{◌≡◌};
 ghost use Rattle.gaz_changefile.specs.Lines.{action_of};
+ghost use Rattle.gaz_changefile.specs.Writing.{action_text};
 
 /// What a change does to its item.
 #[derive(Clone, Copy, Debug, PartialEq, Eq)]
@@ -22,6 +23,17 @@ impl Action {
             Some(Action::Delete)
         } else {
             None
+        }
+    }
+
+    /// `I`, `U` or `D`.
+    pub fn text(self) -> &'static [u8]
+        ensures { result.now ≡ action_text self }
+    {
+        match self {
+            Action::Insert => b"I",
+            Action::Update => b"U",
+            Action::Delete => b"D",
         }
     }
 }

@@ -12,7 +12,7 @@ pub struct Change {
     pub item: Item,
 }
 
-/// A basis line: the file rests on what another custodian's file of this volume left.
+/// A basis line: the file rests on what another custodian's file of this volume left (our profile).
 #[derive(Clone, Copy, Debug, PartialEq, Eq)]
 pub struct Basis {
     pub custodian: Code,

@@ -1,38 +1,83 @@
 ghost use Rattle.std.specs.Prelude.{◌≡◌, ◌≤◌, ◌<◌, ◌+◌, [], length, false, IfErr, IfOk, OnOk, Some, None};
 ghost use Rattle.csv.specs.Records.{fields_of};
-ghost use Rattle.gaz_changefile.specs.Rules.{first_broken, later_rules};
-ghost use Rattle.gaz_changefile.specs.Steps.{Adds, IsFirstOf};
+ghost use Rattle.gaz_changefile.specs.Contents.{basis_in};
+ghost use Rattle.gaz_changefile.specs.Rules.{basis_rules, first_broken, is_above, later_rules};
+ghost use Rattle.gaz_changefile.specs.Steps.{Adds, IsFirstOf, before_in};
 
-use crate::change::Change;
+use crate::change::{Basis, Change};
 use crate::file::{ChangeFile, FileFault};
 use crate::line::Line;
-use crate::record::{read_change, read_trailer};
+use crate::record::{basis_in, read_change, read_trailer};
 use crate::rule;
 use csv::ByteRecord;
+use gaz_ids::Code;
 use gaz_records::Day;
 use std::alloc::Global;
+
+const MOST_BASES: usize = 16;
 
 /// A file as far as it was read.
 #[derive(Drop)]
 pub(crate) struct Draft {
+    /// The custodian whose file it is.
+    own: Code,
     date: Day,
+    bases: Vec<Basis>,
     changes: Vec<Change>,
+    /// The custodian that the record just read names, where it is a basis line.
+    last: Option<Code>,
     /// Whether the trailer was read.
     ended: bool,
 }
 
+// Whether the code is greater than that of the basis line before.
+fn is_above(last: Option<Code>, custodian: Code) -> bool
+    ensures { result ≡ is_above last custodian }
+{
+    match last {
+        Some(before) => before.number() < custodian.number(),
+        None => true,
+    }
+}
+
 impl Draft {
     /// The file behind its header.
-    pub(crate) fn new(alloc: Global, date: Day) -> Draft
+    pub(crate) fn new(alloc: Global, own: Code, date: Day) -> Draft
+        ensures own { result.own ≡ own }
         ensures date { result.date ≡ date }
+        ensures bases { result.bases.items ≡ [] }
         ensures changes { result.changes.items ≡ [] }
+        ensures last { result.last ≡ None }
         ensures open { result.ended ≡ false }
     {
         Draft {
+            own,
             date,
+            bases: Vec::new(alloc),
             changes: Vec::new(alloc),
+            last: None,
             ended: false,
         }
+    }
+
+    #[tactic(auto, unfolding(crate::specs::Rules::basis_rules))]
+    // The basis of the basis line at `place`.
+    fn read_basis(&self, row: &ByteRecord, place: u64) -> Result<Basis, FileFault>
+        ensures bad { IfErr result (IsFirstOf place (basis_rules self.now.own (before_in self.now) (fields_of row.now))) }
+        ensures good { OnOk result (first_broken (basis_rules self.now.own (before_in self.now) (fields_of row.now)) ≡ None) }
+        ensures basis { IfOk result (λ basis. basis_in (fields_of row.now) ≡ Some basis) }
+    {
+        let Some(basis) = basis_in(row) else {
+            return Err(FileFault::at(place, rule::BASIS));
+        };
+        if basis.custodian.number() == self.own.number()
+            || !is_above(self.last, basis.custodian)
+            || self.bases.len() >= MOST_BASES
+            || !self.changes.is_empty()
+        {
+            return Err(FileFault::at(place, rule::BASIS));
+        }
+        Ok(basis)
     }
 
     #[tactic(auto, unfolding(crate::specs::Rules::later_rules))]
@@ -44,7 +89,7 @@ impl Draft {
         place: u64,
     ) -> Result<(), FileFault>
         requires { length self.old.changes.items ≤ 5000 }
-        ensures bad { IfErr result (IsFirstOf place (later_rules (length self.old.changes.items) self.old.ended (Some (fields_of row.now)))) }
+        ensures bad { IfErr result (IsFirstOf place (later_rules self.old.own (before_in self.old) (Some (fields_of row.now)))) }
         ensures good { OnOk result (Adds self.old self.new place (fields_of row.now)) }
     {
         if self.ended {
@@ -52,13 +97,22 @@ impl Draft {
         }
         let before = self.changes.len();
         match Line::of(row) {
+            Line::Basis => {
+                let basis = self.read_basis(row, place)?;
+                let custodian = basis.custodian;
+                self.bases.push(basis)?;
+                self.last = Some(custodian);
+                Ok(())
+            }
             Line::Change(kind) => {
                 let change = read_change(alloc, row, kind, place, before)?;
                 self.changes.push(change)?;
+                self.last = None;
                 Ok(())
             }
             Line::Trailer => {
                 read_trailer(row, place, before)?;
+                self.last = None;
                 self.ended = true;
                 Ok(())
             }
@@ -68,17 +122,17 @@ impl Draft {
 
     #[tactic(auto, unfolding(crate::specs::Rules::later_rules))]
     /// The file, where `place` is one past its last record.
-    pub(crate) fn finish(self, alloc: Global, place: u64) -> Result<ChangeFile, FileFault>
-        ensures bad { IfErr result (IsFirstOf place (later_rules (length self.changes.items) self.ended None)) }
-        ensures good { OnOk result (first_broken (later_rules (length self.changes.items) self.ended None) ≡ None) }
-        ensures file { IfOk result (λ f. f ≡ record { date = self.date; bases = []; changes = self.changes.items }) }
+    pub(crate) fn finish(self, place: u64) -> Result<ChangeFile, FileFault>
+        ensures bad { IfErr result (IsFirstOf place (later_rules self.own (before_in self) None)) }
+        ensures good { OnOk result (first_broken (later_rules self.own (before_in self) None) ≡ None) }
+        ensures file { IfOk result (λ f. f ≡ record { date = self.date; bases = self.bases.items; changes = self.changes.items }) }
     {
         if !self.ended {
             return Err(FileFault::at(place, rule::TRAILER));
         }
         Ok(ChangeFile {
             date: self.date,
-            bases: Vec::new(alloc),
+            bases: self.bases,
             changes: self.changes,
         })
     }

@@ -1,4 +1,7 @@
-ghost use Rattle.std.specs.Prelude.{◌≡◌};
+ghost use Rattle.std.specs.Prelude.{◌≡◌, true};
+ghost use Rattle.std.specs.List.{All};
+ghost use Rattle.gaz_records.specs.Items.{is_item};
+ghost use Rattle.gaz_changefile.specs.Files.{IsBasis, IsTyped};
 ghost use Rattle.gaz_changefile.specs.declared.file.FileFault.TheVariants.{Memory};
 
 use crate::change::{Basis, Change};
@@ -12,7 +15,7 @@ use thiserror::Error;
 pub struct ChangeFile {
     /// The date in the header.
     pub date: Day,
-    /// The basis lines in file order. None is read yet.
+    /// The basis lines in file order: at most 16, by rising custodian, none the own.
     pub bases: Vec<Basis>,
     /// The changes in file order.
     pub changes: Vec<Change>,
@@ -24,6 +27,36 @@ impl Model for ChangeFile {
     ghost Value = { Contents };
 
     ghost view = { λ f. record { date = f.date; bases = f.bases.items; changes = f.changes.items } };
+}
+
+impl ChangeFile {
+    /// What each file holds, for callers, who see its value alone.
+    pub(crate) fn known(&self)
+        ensures { IsTyped self.now }
+    {
+        self.date.known();
+        known_bases(&self.bases);
+        known_changes(&self.changes);
+    }
+}
+
+// What each basis holds.
+fn known_bases(bases: &[Basis])
+    ensures { All IsBasis bases.now }
+{
+    for basis in bases {
+        let _ = basis.custodian.number();
+        let _ = basis.volume.number();
+    }
+}
+
+// What each change holds.
+fn known_changes(changes: &[Change])
+    ensures { All (λ x. is_item x.item ≡ true) changes.now }
+{
+    for change in changes {
+        change.item.known();
+    }
 }
 
 /// Why bytes are no good change file, or want of memory.

@@ -1,15 +1,35 @@
 //! What a reader of the definitions may rely on.
-ghost use Rattle.gaz_changefile.specs.Laws.{LeastFault};
-ghost use Rattle.gaz_changefile.specs.Worked.{WorkedFiles, WorkedProfiles};
+ghost use Rattle.gaz_changefile.specs.Laws.{BasesRise, ChangesArePlaced, FilesReadBack, LeastFault};
+ghost use Rattle.gaz_changefile.specs.Worked.{WorkedBases, WorkedFiles, WorkedProfiles};
 
 /// A bad reading names the least place at which a rule is broken and, there, the first that is. A good one breaks none.
 pub fn least_fault()
     ensures { LeastFault }
 {}
 
+/// The basis lines of a good file are at most 16 and rise by custodian, and none names the custodian whose file it is.
+pub fn bases_rise()
+    ensures { BasesRise }
+{}
+
+/// The changes of a good file are at most 5,000, and each is placed by the number of its record.
+pub fn changes_are_placed()
+    ensures { ChangesArePlaced }
+{}
+
+/// What is written of a file reads back as the same file.
+pub fn files_read_back()
+    ensures { FilesReadBack }
+{}
+
 /// What some worked files say by the definition of a reading.
 pub fn worked_files()
     ensures { WorkedFiles }
+{}
+
+/// What some worked files with basis lines say by the definition of a reading.
+pub fn worked_bases()
+    ensures { WorkedBases }
 {}
 
 /// What profiles some first records name by the definition.

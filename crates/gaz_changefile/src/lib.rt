@@ -1,4 +1,4 @@
-//! The change files of custodians: what a file says, or its first fault.
+//! The change files of custodians: what a file says, or its first fault, and how it is written.
 #![tactic(auto)]
 
 mod action;
@@ -13,12 +13,14 @@ mod profile;
 mod read;
 mod record;
 pub mod rule;
+mod write;
 
 pub use action::Action;
 pub use change::{Basis, Change};
 pub use file::{ChangeFile, FileFault};
 pub use profile::profile_of;
 pub use read::read_file;
+pub use write::write_file;
 
 #[cfg(test)]
 mod tests;

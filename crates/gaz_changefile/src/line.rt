@@ -9,6 +9,7 @@ use gaz_records::Kind;
 #[derive(Clone, Copy, Debug, PartialEq, Eq)]
 pub(crate) enum Line {
     Change(Kind),
+    Basis,
     Trailer,
     Other,
 }
@@ -24,13 +25,23 @@ pub(crate) fn field(row: &ByteRecord, i: usize) -> &[u8]
 }
 
 impl Line {
-    /// Change records begin `11`, the trailer `99`.
+    /// Change records begin `11`, `15`, `21`, `23` or `24`, a basis line `90`, the trailer `99`.
     pub(crate) fn of(row: &ByteRecord) -> Line
         ensures { result ≡ line_of (fields_of row.now) }
     {
         let first = field(row, 0);
         if first == b"11".as_slice() {
             Line::Change(Kind::Street)
+        } else if first == b"15".as_slice() {
+            Line::Change(Kind::Descriptor)
+        } else if first == b"21".as_slice() {
+            Line::Change(Kind::Blpu)
+        } else if first == b"23".as_slice() {
+            Line::Change(Kind::Xref)
+        } else if first == b"24".as_slice() {
+            Line::Change(Kind::Lpi)
+        } else if first == b"90".as_slice() {
+            Line::Basis
         } else if first == b"99".as_slice() {
             Line::Trailer
         } else {

@@ -1,5 +1,6 @@
 ghost use Rattle.std.specs.Prelude.{◌≡◌, IfErr, IfOk};
 ghost use Rattle.gaz_changefile.specs.Fault.{IsFault};
+ghost use Rattle.gaz_changefile.specs.Files.{AreBases, ArePlaced};
 ghost use Rattle.gaz_changefile.specs.Reading.{Good, reading};
 
 use crate::draft::Draft;
@@ -15,7 +16,8 @@ use std::str;
 /// Reads the file of a custodian and volume: its contents, or its first fault (`FileFault`).
 ///
 /// The bytes are CSV in UTF-8, with or without a byte order mark; records are counted without empty lines.
-/// After a fault nothing is read on.
+/// After a fault nothing is read on. A file without a fault has at most 16 bases by rising custodian, none the own, and at
+/// most 5,000 changes, each placed by the number of its record.
 pub fn read_file(
     alloc: Global,
     bytes: &[u8],
@@ -24,6 +26,8 @@ pub fn read_file(
 ) -> Result<ChangeFile, FileFault>
     ensures good { IfOk result (λ f. reading bytes.now code volume ≡ Good f) }
     ensures bad { IfErr result (IsFault bytes.now code volume) }
+    ensures bases { IfOk result (λ f. AreBases code f.bases) }
+    ensures changes { IfOk result (λ f. ArePlaced f.bases f.changes) }
 {
     let none = FileFault::at(1, rule::TEXT);
     let Ok(_) = str::from_utf8(bytes) else {
@@ -35,10 +39,10 @@ pub fn read_file(
         return Err(none);
     }
     let date = read_header(&row, code, volume)?;
-    let mut draft = Draft::new(alloc, date);
+    let mut draft = Draft::new(alloc, code, date);
     for place in 2..u64::MAX {
         if !next_row(&mut rdr, &mut row)? {
-            return draft.finish(alloc, place);
+            return draft.finish(place);
         }
         draft.add(alloc, &row, place)?;
     }

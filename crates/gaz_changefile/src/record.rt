@@ -1,21 +1,37 @@
 ghost use Rattle.std.specs.Prelude.{◌≡◌, ◌≤◌, ◌<◌, ◌+◌, IfErr, IfOk, OnOk, Some, None};
 ghost use Rattle.csv.specs.Records.{fields_of};
 ghost use Rattle.gaz_changefile.specs.Rules.{change_rules, first_broken, trailer_rules};
-ghost use Rattle.gaz_changefile.specs.Contents.{change_in};
+ghost use Rattle.gaz_changefile.specs.Contents.{basis_in, change_in};
 ghost use Rattle.gaz_changefile.specs.Steps.{IsFirstOf};
 
 use crate::action::Action;
-use crate::change::Change;
+use crate::change::{Basis, Change};
 use crate::file::FileFault;
 use crate::line::field;
 use crate::numbers::{Count, is_value};
 use crate::rule;
 use csv::ByteRecord;
-use gaz_ids::Order;
+use gaz_ids::{Code, Order, Volume};
 use gaz_records::{FieldFault, Item, Kind, read_item};
 use std::alloc::Global;
 
 const MOST_CHANGES: usize = 5000;
+
+/// The basis that a record of three fields says.
+pub(crate) fn basis_in(row: &ByteRecord) -> Option<Basis>
+    ensures { result ≡ basis_in (fields_of row.now) }
+{
+    if row.len() != 3 {
+        return None;
+    }
+    let Ok(custodian) = Code::read(field(row, 1)) else {
+        return None;
+    };
+    let Ok(volume) = Volume::read(field(row, 2)) else {
+        return None;
+    };
+    Some(Basis { custodian, volume })
+}
 
 #[tactic(auto, unfolding(crate::specs::Rules::change_rules))]
 /// The change of the record at `place`, behind so many other change records.

@@ -8,11 +8,11 @@ use Rattle.gaz_records.specs.Forms.{says}
 use Rattle.gaz_records.specs.Streets.{read_street}
 use Rattle.gaz_changefile.specs.Contents.{contents_of}
 use Rattle.gaz_changefile.specs.Reading.{reading}
-use Rattle.gaz_changefile.specs.Rules.{change_rules, header_rules, later_rules, rules_at, trailer_rules}
+use Rattle.gaz_changefile.specs.Rules.{basis_rules, change_rules, header_rules, later_rules, rules_at, trailer_rules}
 use Rattle.gaz_changefile.proofs.laws.worked_files.Goals as goal
 
 pub returns : goal.returns
-unfolding reading is_utf8 chars csv_on_literals field_at read_id date_of says read_street contents_of change_rules header_rules later_rules rules_at trailer_rules lib.Utf8.encode
+unfolding reading is_utf8 chars csv_on_literals field_at read_id date_of says read_street contents_of basis_rules change_rules header_rules later_rules rules_at trailer_rules lib.Utf8.encode
 returns c = record {
   good = refl;
   other_count = refl;

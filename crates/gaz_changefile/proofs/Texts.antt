@@ -1,0 +1,287 @@
+-- What a file writes is UTF-8.
+use Rattle.std.proofs.Common.{◌≡◌, ℕ, suc, ◌^◌, ◌<◌, ◌≤◌, true, false, List, [], ◌∷◌, ◌++◌, length, get_or, refl, arith, Option, Some, None, inl, inr, sym, ◌∙◌, lit<}
+use Rattle.std.specs.Prelude.{IsUtf8, ◌==◌, ◌&&◌, nat_le, decimal}
+use Rattle.std.specs.Str.{IsAscii, chars, is_utf8}
+use Rattle.std.proofs.Math.Utf8.{encode, encodes, scalar, scalars}
+use Rattle.std.proofs.lemmas.Bool.{cases_Bool, cases_eq}
+use Rattle.std.proofs.lemmas.Bool.Decides.{nat_tests}
+use Rattle.std.proofs.lemmas.Fmt.{IsAscii-decimal}
+use Rattle.std.proofs.lemmas.List.{append-nil}
+use Rattle.std.proofs.lemmas.Str.{IsUtf8-append, IsUtf8-encode, IsUtf8-from_ascii, IsUtf8-from_is_utf8, IsUtf8-nil, encode_ascii, inside_one}
+use Rattle.std.proofs.lemmas.Str.Ascii.{IsAscii-cons, IsAscii-nil}
+use Rattle.csv.specs.Writing.{default_writer, escaped, field_text, fields_text, is_blank, needs_quotes}
+use Rattle.gaz_ids.specs.Codes.{lang_text, status_text}
+use Rattle.gaz_ids.specs.declared.lang.Lang.{Lang}
+use Rattle.gaz_ids.specs.declared.lang.Lang.TheVariants.{Cym, Eng}
+use Rattle.gaz_ids.specs.declared.status.Status.{Status}
+use Rattle.gaz_ids.specs.declared.status.Status.TheVariants.{Approved, Alternative, Provisional, Historical}
+use Rattle.gaz_rows.specs.Rows.{Fields, line_of, lines_of}
+use Rattle.gaz_addressable.specs.HouseNumbers.{HouseNumberValue, RangeValue, is_before_end, is_house_number, is_number_or_none, is_suffix}
+use Rattle.gaz_addressable.specs.Objects.{ObjectValue, digits_text, from_of, is_object, is_range_or_none, is_text_or_none, is_there, letter_text, texts_of, to_of}
+use Rattle.gaz_addressable.specs.Texts.{char_count, is_plain, is_text}
+use Rattle.gaz_addressable.proofs.Characters.{plain_utf8}
+use Rattle.gaz_records.specs.Blpus.{BlpuValue, blpu_texts, is_blpu, is_parent, parent_text}
+use Rattle.gaz_records.specs.Days.{CivilDay, are_days, date_text, end_text, is_day, two}
+use Rattle.gaz_records.specs.Descriptors.{DescriptorValue, descriptor_texts, is_descriptor}
+use Rattle.gaz_records.specs.Fields.{or_empty}
+use Rattle.gaz_records.specs.Items.{is_item, item_texts}
+use Rattle.gaz_records.specs.Labels.{are_label_bytes, is_label, is_label_byte}
+use Rattle.gaz_records.specs.Lpis.{LpiValue, is_lpi, is_secondary, lpi_texts, secondary_texts}
+use Rattle.gaz_records.specs.Streets.{StreetValue, is_street, street_texts}
+use Rattle.gaz_records.specs.Xrefs.{XrefValue, is_xref, xref_texts}
+use Rattle.gaz_records.specs.declared.item.Item.{Item}
+use Rattle.gaz_records.specs.declared.item.Item.TheVariants as item
+use Rattle.gaz_records.proofs.Both.{and-left, and-right}
+
+-- ---- a field, a row and all rows of texts
+
+-- a character that is no quote has no byte of one
+no_quote : (c : ℕ) → (c ≡ 34 → ⊥) → (k : ℕ) → k < length (encode c) → get_or (encode c) k 0 ≡ 34 → ⊥
+no_quote c n k h e = n (inside_one c [] (encode c) k (sym (append-nil (encode c))) h (rw e (lit< tt)) ∙ e)
+
+is_other : (a b : ℕ) → (a ≡ b → ⊥) → (a == b) ≡ false
+is_other a b n = grind (arith, nat_tests)
+
+escaped_plain : (a rest : List ℕ) → ((k : ℕ) → k < length a → get_or a k 0 ≡ 34 → ⊥) → escaped default_writer (a ++ rest) ≡ a ++ escaped default_writer rest
+unfolding escaped
+escaped_plain [] rest h = refl
+escaped_plain (b ∷ bs) rest h =
+    let no : (b == 34) ≡ false = is_other b 34 (h 0 (omega arith)) in
+    rw (no, escaped_plain bs rest (λ k l. h (suc k) (omega arith))) refl
+
+-- a quote mark, a comma and a line feed
+one_byte : (c : ℕ) → c < 128 → scalar c ≡ true → IsUtf8 (c ∷ [])
+one_byte c h e = rw (← encode_ascii c h) (IsUtf8-encode c e)
+
+escaped_utf8 : (cs : List ℕ) → scalars cs ≡ true → IsUtf8 (escaped default_writer (encodes cs))
+unfolding escaped
+escaped_utf8 [] h = IsUtf8-nil
+escaped_utf8 (c ∷ cs) h =
+    let here : scalar c ≡ true = and-left (scalar c) (scalars cs) h in
+    let more : scalars cs ≡ true = and-right (scalar c) (scalars cs) h in
+    elim (cases_eq c 34) [
+      | inl quote ↦
+          rw (quote, encode_ascii 34 (lit< tt))
+          (IsUtf8-append (34 ∷ 34 ∷ []) (escaped default_writer (encodes cs)) (IsUtf8-append (34 ∷ []) (34 ∷ []) (one_byte 34 (lit< tt) refl) (one_byte 34 (lit< tt) refl)) (escaped_utf8 cs more))
+      | inr other ↦
+          rw (escaped_plain (encode c) (encodes cs) (no_quote c other))
+          (IsUtf8-append (encode c) (escaped default_writer (encodes cs)) (IsUtf8-encode c here) (escaped_utf8 cs more))
+    ]
+
+quoted_utf8 : (x : List ℕ) → IsUtf8 x → IsUtf8 (34 ∷ (escaped default_writer x ++ (34 ∷ [])))
+quoted_utf8 x (cs, (are, spell)) =
+    IsUtf8-append (34 ∷ []) (escaped default_writer x ++ (34 ∷ [])) (one_byte 34 (lit< tt) refl)
+    (IsUtf8-append (escaped default_writer x) (34 ∷ []) (rw (← spell) (escaped_utf8 cs are)) (one_byte 34 (lit< tt) refl))
+
+field_utf8 : (x : List ℕ) → IsUtf8 x → IsUtf8 (field_text default_writer x)
+field_utf8 x u = elim (cases_Bool (needs_quotes default_writer x)) [
+  | inl needs ↦ rw needs (quoted_utf8 x u)
+  | inr plain ↦ rw plain u
+]
+
+-- each field is UTF-8
+abbrev pub AreTexts : Fields → Type 0
+AreTexts [] = Unit {0}
+AreTexts (x ∷ xs) = IsUtf8 x × AreTexts xs
+
+texts_append : (xs ys : Fields) → AreTexts xs → AreTexts ys → AreTexts (xs ++ ys)
+texts_append [] ys h k = k
+texts_append (x ∷ xs) ys h k = (h.0, texts_append xs ys h.1 k)
+
+fields_utf8 : (xs : Fields) → AreTexts xs → IsUtf8 (fields_text default_writer xs)
+unfolding fields_text
+fields_utf8 [] h = IsUtf8-nil
+fields_utf8 (x ∷ xs) h =
+    IsUtf8-append (44 ∷ []) (field_text default_writer x ++ fields_text default_writer xs) (one_byte 44 (lit< tt) refl)
+    (IsUtf8-append (field_text default_writer x) (fields_text default_writer xs) (field_utf8 x h.0) (fields_utf8 xs h.1))
+
+-- rows of two fields or more
+abbrev pub AreTextRows : List Fields → Type 0
+AreTextRows [] = Unit {0}
+AreTextRows (row ∷ rows) = (2 ≤ length row) × AreTexts row × AreTextRows rows
+
+pub rows_append : (xs ys : List Fields) → AreTextRows xs → AreTextRows ys → AreTextRows (xs ++ ys)
+rows_append [] ys h k = k
+rows_append (x ∷ xs) ys h k = (h.0, h.1, rows_append xs ys h.2 k)
+
+pub lines_utf8 : (rows : List Fields) → AreTextRows rows → IsUtf8 (lines_of rows)
+unfolding lines_of is_blank
+lines_utf8 [] h = IsUtf8-nil
+lines_utf8 ([] ∷ rows) h = absurd (omega (arith, h.0))
+lines_utf8 ((x ∷ []) ∷ rows) h = absurd (omega (arith, h.0))
+lines_utf8 ((x ∷ y ∷ ys) ∷ rows) h =
+    IsUtf8-append (line_of (x ∷ y ∷ ys) ++ (10 ∷ [])) (lines_of rows)
+    (IsUtf8-append (line_of (x ∷ y ∷ ys)) (10 ∷ [])
+    (IsUtf8-append (field_text default_writer x) (fields_text default_writer (y ∷ ys)) (field_utf8 x h.1.0) (fields_utf8 (y ∷ ys) h.1.1))
+    (one_byte 10 (lit< tt) refl))
+    (lines_utf8 rows h.2)
+
+-- ---- what stands in the fields
+
+pub number_utf8 : (n : ℕ) → n < 2 ^ 64 → IsUtf8 (decimal n)
+number_utf8 n h = IsUtf8-from_ascii (decimal n) (IsAscii-decimal n h)
+
+up_to : (low high n : ℕ) → high < 2 ^ 64 → (nat_le low n && nat_le n high) ≡ true → IsUtf8 (decimal n)
+up_to low high n h e = let k : n ≤ high = grind (arith, nat_tests, e) in number_utf8 n (omega arith)
+
+from_nought : (high n : ℕ) → high < 2 ^ 64 → nat_le n high ≡ true → IsUtf8 (decimal n)
+from_nought high n h e = let k : n ≤ high = grind (arith, nat_tests, e) in number_utf8 n (omega arith)
+
+-- each byte is ASCII
+abbrev AllLow : List ℕ → Type 0
+AllLow [] = Unit {0}
+AllLow (b ∷ bs) = (b < 128) × AllLow bs
+
+low_ascii : (bs : List ℕ) → AllLow bs → IsAscii bs
+low_ascii [] h = IsAscii-nil
+low_ascii (b ∷ bs) h = IsAscii-cons b bs h.0 (low_ascii bs h.1)
+
+pub date_utf8 : (d : CivilDay) → is_day d ≡ true → IsUtf8 (date_text d)
+date_utf8 d h =
+    let y : d.year < 10000 = grind (arith, nat_tests, h) in
+    let m : d.month < 100 = grind (arith, nat_tests, h) in
+    let a : d.day < 100 = grind (arith, nat_tests, h) in
+    let day : AllLow (two d.day) = (omega arith, (omega arith, tt)) in
+    let month : AllLow (two d.month ++ (45 ∷ two d.day)) = (omega arith, (omega arith, (lit< tt, day))) in
+    IsUtf8-from_ascii (date_text d) (low_ascii (date_text d) (omega arith, (omega arith, (omega arith, (omega arith, (lit< tt, month))))))
+
+end_utf8 : (d : Option CivilDay) → are_days d ≡ true → IsUtf8 (end_text d)
+end_utf8 None h = IsUtf8-nil
+end_utf8 (Some d) h = date_utf8 d h
+
+label_ascii : (t : List ℕ) → are_label_bytes t ≡ true → IsAscii t
+label_ascii [] h = IsAscii-nil
+label_ascii (b ∷ bs) h =
+    let here : is_label_byte b ≡ true = and-left (is_label_byte b) (are_label_bytes bs) h in
+    IsAscii-cons b bs (grind (arith, nat_tests, here)) (label_ascii bs (and-right (is_label_byte b) (are_label_bytes bs) h))
+
+label_utf8 : (most : ℕ) (t : List ℕ) → is_label most t ≡ true → IsUtf8 t
+label_utf8 most t h = IsUtf8-from_ascii t (label_ascii t (and-right (nat_le 1 (length t) && nat_le (length t) most) (are_label_bytes t) h))
+
+text_utf8 : (most : ℕ) (t : List ℕ) → is_text most t ≡ true → IsUtf8 t
+text_utf8 most t h = plain_utf8 t (and-left (is_plain t) (nat_le (char_count t) most) h)
+
+opt_text_utf8 : (most : ℕ) (t : Option (List ℕ)) → is_text_or_none most t ≡ true → IsUtf8 (or_empty t)
+opt_text_utf8 most None h = IsUtf8-nil
+opt_text_utf8 most (Some t) h = text_utf8 most t h
+
+lang_utf8 : (l : Lang) → IsUtf8 (lang_text l)
+unfolding is_utf8 chars encode
+lang_utf8 Cym = IsUtf8-from_is_utf8 (lang_text Cym) refl
+lang_utf8 Eng = IsUtf8-from_is_utf8 (lang_text Eng) refl
+
+status_utf8 : (s : Status) → IsUtf8 (status_text s)
+unfolding is_utf8 chars encode
+status_utf8 Approved = IsUtf8-from_is_utf8 (status_text Approved) refl
+status_utf8 Alternative = IsUtf8-from_is_utf8 (status_text Alternative) refl
+status_utf8 Provisional = IsUtf8-from_is_utf8 (status_text Provisional) refl
+status_utf8 Historical = IsUtf8-from_is_utf8 (status_text Historical) refl
+
+parent_utf8 : (n : Option ℕ) → is_parent n ≡ true → IsUtf8 (parent_text n)
+parent_utf8 None h = IsUtf8-nil
+parent_utf8 (Some n) h = up_to 1 999_999_999_999 n (lit< tt) h
+
+digits_utf8 : (x : Option HouseNumberValue) → is_number_or_none x ≡ true → IsUtf8 (digits_text x)
+digits_utf8 None h = IsUtf8-nil
+digits_utf8 (Some x) h = up_to 1 9999 x.n (lit< tt) (and-left (nat_le 1 x.n && nat_le x.n 9999) (is_suffix x.suffix) h)
+
+letter_utf8 : (n : ℕ) (s : Option ℕ) → is_suffix s ≡ true → IsUtf8 (letter_text (Some (record { n = n; suffix = s })))
+letter_utf8 n None h = IsUtf8-nil
+letter_utf8 n (Some c) h = let k : c < 128 = grind (arith, nat_tests, h) in IsUtf8-from_ascii (c ∷ []) (IsAscii-cons c [] k IsAscii-nil)
+
+suffix_utf8 : (x : Option HouseNumberValue) → is_number_or_none x ≡ true → IsUtf8 (letter_text x)
+suffix_utf8 None h = IsUtf8-nil
+suffix_utf8 (Some x) h = letter_utf8 x.n x.suffix (and-right (nat_le 1 x.n && nat_le x.n 9999) (is_suffix x.suffix) h)
+
+from_known : (r : Option RangeValue) → is_range_or_none r ≡ true → is_number_or_none (from_of r) ≡ true
+from_known None h = refl
+from_known (Some r) h =
+    and-left (is_house_number r.from) (is_number_or_none r.to) (and-left (is_house_number r.from && is_number_or_none r.to) (is_before_end r.from r.to) h)
+
+to_known : (r : Option RangeValue) → is_range_or_none r ≡ true → is_number_or_none (to_of r) ≡ true
+to_known None h = refl
+to_known (Some r) h =
+    and-right (is_house_number r.from) (is_number_or_none r.to) (and-left (is_house_number r.from && is_number_or_none r.to) (is_before_end r.from r.to) h)
+
+object_texts : (o : ObjectValue) → is_object o ≡ true → AreTexts (texts_of o)
+object_texts o h =
+    let numbers = and-left (is_there o.range o.text && is_range_or_none o.range) (is_text_or_none 90 o.text) h in
+    let range = and-right (is_there o.range o.text) (is_range_or_none o.range) numbers in
+    let text = and-right (is_there o.range o.text && is_range_or_none o.range) (is_text_or_none 90 o.text) h in
+    let from = from_known o.range range in
+    let to = to_known o.range range in
+    (digits_utf8 _ from, (suffix_utf8 _ from, (digits_utf8 _ to, (suffix_utf8 _ to, (opt_text_utf8 90 o.text text, tt)))))
+
+secondary_texts_are : (o : Option ObjectValue) → is_secondary o ≡ true → AreTexts (secondary_texts o)
+secondary_texts_are None h = (IsUtf8-nil, (IsUtf8-nil, (IsUtf8-nil, (IsUtf8-nil, (IsUtf8-nil, tt)))))
+secondary_texts_are (Some o) h = object_texts o h
+
+-- ---- items
+
+street_are : (x : StreetValue) → is_street x ≡ true → AreTexts (street_texts x)
+street_are x h =
+    let h1 = and-left _ _ h in
+    let h2 = and-left _ _ h1 in
+    let h3 = and-left _ _ h2 in (
+      up_to 1 99_999_999 x.usrn (lit< tt) (and-left _ _ h3),
+      (up_to 1 4 x.sort (lit< tt) (and-right _ _ h3), (date_utf8 x.start (and-right _ _ h2), (end_utf8 x.end (and-right _ _ h1), tt))),
+    )
+
+descriptor_are : (x : DescriptorValue) → is_descriptor x ≡ true → AreTexts (descriptor_texts x)
+descriptor_are x h =
+    let h1 = and-left _ _ h in
+    let h2 = and-left _ _ h1 in
+    let h3 = and-left _ _ h2 in (
+      up_to 1 99_999_999 x.usrn (lit< tt) (and-left _ _ h3),
+      (lang_utf8 x.lang, (text_utf8 100 x.description (and-right _ _ h3), (opt_text_utf8 35 x.locality (and-right _ _ h2), (opt_text_utf8 30 x.town (and-right _ _ h1), (text_utf8 30 x.area (and-right _ _ h), tt))))),
+    )
+
+blpu_are : (x : BlpuValue) → is_blpu x ≡ true → AreTexts (blpu_texts x)
+blpu_are x h =
+    let h1 = and-left _ _ h in
+    let h2 = and-left _ _ h1 in
+    let h3 = and-left _ _ h2 in
+    let h4 = and-left _ _ h3 in
+    let h5 = and-left _ _ h4 in
+    let h6 = and-left _ _ h5 in
+    let h7 = and-left _ _ h6 in
+    let dates : AreTexts (date_text x.start ∷ end_text x.end ∷ []) = (date_utf8 x.start (and-right _ _ h2), (end_utf8 x.end (and-right _ _ h1), tt)) in
+    let more : AreTexts (parent_text x.parent ∷ or_empty x.postcode ∷ date_text x.start ∷ end_text x.end ∷ []) = (parent_utf8 x.parent (and-right _ _ h4), (opt_text_utf8 8 x.postcode (and-right _ _ h3), dates)) in (
+      up_to 1 999_999_999_999 x.uprn (lit< tt) (and-left _ _ h7),
+      (status_utf8 x.status, (from_nought 700_000 x.easting (lit< tt) (and-right _ _ h6), (from_nought 1_300_000 x.northing (lit< tt) (and-right _ _ h5), more))),
+    )
+
+xref_are : (x : XrefValue) → is_xref x ≡ true → AreTexts (xref_texts x)
+xref_are x h =
+    let h1 = and-left _ _ h in
+    let h2 = and-left _ _ h1 in
+    let h3 = and-left _ _ h2 in
+    let h4 = and-left _ _ h3 in
+    let h5 = and-left _ _ h4 in
+    let dates : AreTexts (date_text x.start ∷ end_text x.end ∷ []) = (date_utf8 x.start (and-right _ _ h2), (end_utf8 x.end (and-right _ _ h1), tt)) in (
+      label_utf8 14 x.key (and-left _ _ h5),
+      (up_to 1 999_999_999_999 x.uprn (lit< tt) (and-right _ _ h5), (label_utf8 6 x.source (and-right _ _ h4), (text_utf8 50 x.reference (and-right _ _ h3), dates))),
+    )
+
+lpi_are : (x : LpiValue) → is_lpi x ≡ true → AreTexts (lpi_texts x)
+lpi_are x h =
+    let h1 = and-left _ _ h in
+    let h2 = and-left _ _ h1 in
+    let h3 = and-left _ _ h2 in
+    let h4 = and-left _ _ h3 in
+    let h5 = and-left _ _ h4 in
+    let h6 = and-left _ _ h5 in
+    let dates : AreTexts (date_text x.start ∷ end_text x.end ∷ []) = (date_utf8 x.start (and-right _ _ h2), (end_utf8 x.end (and-right _ _ h1), tt)) in
+    let objects =
+    texts_append (secondary_texts x.secondary) (texts_of x.primary ++ (date_text x.start ∷ end_text x.end ∷ [])) (secondary_texts_are x.secondary (and-right _ _ h4))
+    (texts_append (texts_of x.primary) (date_text x.start ∷ end_text x.end ∷ []) (object_texts x.primary (and-right _ _ h3)) dates) in (
+      label_utf8 14 x.key (and-left _ _ h6),
+      (up_to 1 999_999_999_999 x.uprn (lit< tt) (and-right _ _ h6), (lang_utf8 x.lang, (status_utf8 x.status, (up_to 1 99_999_999 x.usrn (lit< tt) (and-right _ _ h5), objects)))),
+    )
+
+pub item_are : (x : Item) → is_item x ≡ true → AreTexts (item_texts x)
+item_are (item.Street x) h = street_are x h
+item_are (item.Descriptor x) h = descriptor_are x h
+item_are (item.Blpu x) h = blpu_are x h
+item_are (item.Xref x) h = xref_are x h
+item_are (item.Lpi x) h = lpi_are x h

@@ -1,0 +1,57 @@
+-- How a change file is written.
+use Rattle.std.specs.Prelude.{ℕ, List, [], ◌∷◌, ◌++◌, length, map, decimal, codes}
+use Rattle.std.specs.List.{enumerate_from}
+use Rattle.gaz_rows.specs.Rows.{Fields, line_of, lines_of}
+use Rattle.gaz_records.specs.Days.{CivilDay, date_text}
+use Rattle.gaz_records.specs.Items.{item_texts, kind_of}
+use Rattle.gaz_records.specs.declared.item.Kind.{Kind}
+use Rattle.gaz_records.specs.declared.item.Kind.TheVariants as kind
+use Rattle.gaz_changefile.specs.Contents.{Contents}
+use Rattle.gaz_changefile.specs.declared.action.Action.{Action}
+use Rattle.gaz_changefile.specs.declared.action.Action.TheVariants.{Insert, Update, Delete}
+use Rattle.gaz_changefile.specs.declared.change.Basis.{Basis}
+use Rattle.gaz_changefile.specs.declared.change.Change.{Change}
+
+-- the record identifier of a kind
+abbrev pub identifier : Kind → List ℕ
+identifier kind.Street = codes "11"
+identifier kind.Descriptor = codes "15"
+identifier kind.Blpu = codes "21"
+identifier kind.Xref = codes "23"
+identifier kind.Lpi = codes "24"
+
+-- the change type
+abbrev pub action_text : Action → List ℕ
+action_text Insert = codes "I"
+action_text Update = codes "U"
+action_text Delete = codes "D"
+
+-- numbers without leading zeros
+abbrev pub header_row : ℕ → ℕ → CivilDay → Fields
+header_row c v date = codes "10" ∷ codes "1" ∷ decimal c ∷ decimal v ∷ date_text date ∷ []
+
+abbrev pub basis_row : Basis → Fields
+basis_row b = codes "90" ∷ decimal b.custodian ∷ decimal b.volume ∷ []
+
+-- a change with its order
+abbrev pub change_row : ℕ × Change → Fields
+change_row (n, x) = identifier (kind_of x.item) ∷ action_text x.action ∷ decimal n ∷ item_texts x.item
+
+abbrev pub trailer_row : ℕ → Fields
+trailer_row n = codes "99" ∷ decimal n ∷ []
+
+-- changes have the orders 1, 2, 3 and so on
+abbrev pub change_rows : ℕ → List Change → List Fields
+change_rows first changes = map change_row (enumerate_from first changes)
+
+-- the records of the file of a custodian and volume
+abbrev pub file_rows : ℕ → ℕ → Contents → List Fields
+file_rows c v f = header_row c v f.date ∷ (map basis_row f.bases ++ (change_rows 1 f.changes ++ (trailer_row (length f.changes) ∷ [])))
+
+-- its canonical bytes, each record as `csv` writes it, ended by LF
+abbrev pub file_text : ℕ → ℕ → Contents → List ℕ
+file_text c v f = lines_of (file_rows c v f)
+
+-- a record of two fields or more and its line end
+abbrev pub line_text : Fields → List ℕ
+line_text row = line_of row ++ (10 ∷ [])
