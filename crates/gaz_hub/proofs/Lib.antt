@@ -6,6 +6,8 @@ pub mod Runs
 pub mod Looks
 pub mod Bounds
 pub mod Advancing
+pub mod Telling
+pub mod AnswerSteps
 pub mod Examples
 pub mod WorkedBoards
 pub mod WorkedAnswers

@@ -128,11 +128,11 @@ pub record IsFile (F : Received) (B : Board) (c : ℕ) (r : Reading) : Type 0 wh
   pub in_range : reached B c + 1 ≤ 999999
   pub reads : next_reading F B c ≡ Some r
 
-ready_as : (F : Received) (B : Board) (c : ℕ) (r : Reading) → IsFile F B c r → ready F B c ≡ are_reached B (bases_of r)
+pub ready_as : (F : Received) (B : Board) (c : ℕ) (r : Reading) → IsFile F B c r → ready F B c ≡ are_reached B (bases_of r)
 ready_as F B c r is =
     λ i. le-leb (reached B c + 1) 999999 is.in_range i && option_map_or (λ x. are_reached B (bases_of x)) (is.reads i) false
 
-wants_as : (F : Received) (B : Board) (c : ℕ) (r : Reading) → IsFile F B c r → wants F B c ≡ option_map (λ d. (d.custodian, d.volume)) (first_unreached B (bases_of r))
+pub wants_as : (F : Received) (B : Board) (c : ℕ) (r : Reading) → IsFile F B c r → wants F B c ≡ option_map (λ d. (d.custodian, d.volume)) (first_unreached B (bases_of r))
 wants_as F B c r is =
     λ i. cond (le-leb (reached B c + 1) 999999 is.in_range i)
     (option_map_or (λ x. option_map (λ (d : Basis). (d.custodian, d.volume)) (first_unreached B (bases_of x))) (is.reads i) (Some (c, reached B c + 1))) None

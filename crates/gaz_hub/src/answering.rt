@@ -97,6 +97,8 @@ fn tell<K: Inbox>(
 ) -> Result<Outcome, ShelfFault>
     ensures { Looks (K.seen keeper.old) (K.seen keeper.new) result (IsOutcome (K.seen keeper.old).content.files (K.seen keeper.old).content.board code volume) }
 {
+    // From 1 to 999,999.
+    let _number = volume.number();
     match keeper.verdict(code, volume)? {
         Some(verdict) => Ok(outcome_of(verdict)),
         None => tell_held(alloc, keeper, code, volume),

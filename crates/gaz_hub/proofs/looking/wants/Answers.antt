@@ -4,4 +4,6 @@ use Rattle.gaz_hub.proofs.Looks.{looks_to, wanted_as}
 use Rattle.gaz_hub.proofs.looking.wants.Goals as goal
 
 pub returns : goal.returns
-returns g c = looks_to _ _ _ _ _ _ c.in_ok-next.ensures (λ h. c.wanted.ensures ∙ wanted_as _ _ _ _ h)
+returns g c =
+    let k = (g.K.Shelf.seen c.args.keeper.now).content in
+    looks_to _ _ _ _ _ _ c.in_ok-next.ensures (λ h. c.wanted.ensures ∙ wanted_as k.files k.board c.args.code c.in_ok-next.next h)

@@ -1,0 +1,196 @@
+-- Answers as steps.
+use Rattle.std.proofs.Common.{◌≡◌, ◌≢◌, ◌≤◌, ◌<◌, ℕ, Bool, true, false, cond, not, List, length, refl, sym, ap, ◌∙◌, subst, arith, true≢false}
+use Rattle.std.specs.Cmp.{eq_by_cmp_equiv}
+use Rattle.std.specs.Prelude.{Option, Some, None, IsSome, is_some, Ok, Err}
+use Rattle.std.specs.FinMap as map
+use Rattle.gaz_shelf.proofs.Pairs.{pairs_total}
+use Rattle.gaz_shelf.specs.Board.{Board}
+use Rattle.gaz_shelf.specs.Keeper.{Content, Enters, IsNew, IsNotOpen, Seen, with_received}
+use Rattle.gaz_shelf.specs.Received.{Received, with_file}
+use Rattle.gaz_shelf.specs.declared.fault.ShelfFault.{ShelfFault}
+use Rattle.gaz_shelf.specs.declared.fault.ShelfFault.TheVariants.{Store}
+use Rattle.gaz_hub.specs.Asked.{IsAgain, IsOutcome, TakesIn}
+use Rattle.gaz_hub.specs.Hubs.{AreKnown, StandsFor, Steps, cause_in, cause_in_answer, state_of}
+use Rattle.gaz_hub.specs.Settling.{Tells}
+use Rattle.gaz_hub.specs.Standing.{Follows, Leads, NothingReady}
+use Rattle.gaz_hub.specs.Step.{Door, HubState, NotReceived, Settles, Submit, Submits, Submitted, Unsettled, WasNew, door, or_foreign, turned_away}
+use Rattle.gaz_hub.specs.Runs.{same_pair}
+use Rattle.gaz_hub.specs.declared.answer.Answer.{Answer}
+use Rattle.gaz_hub.specs.declared.answer.Answer.TheVariants.{New, Repeat, Taken, Refused}
+use Rattle.gaz_hub.specs.declared.outcome.Outcome.{Outcome}
+use Rattle.gaz_hub.specs.declared.refusal.Refusal.{Refusal}
+use Rattle.gaz_hub.specs.declared.refusal.Refusal.TheVariants as refusal
+use Rattle.gaz_hub.proofs.Advancing.{known_in}
+use Rattle.gaz_hub.proofs.Leading.{follows_more, follows_on}
+use Rattle.gaz_hub.proofs.Steps.{has_all_with, pairs_same}
+
+-- ---- the door
+
+or_none : (foreign : Bool) (o : Option Refusal) → or_foreign foreign o ≡ None → o ≡ None
+or_none foreign None e = refl
+or_none foreign (Some r) e = cc
+
+-- a file that the door lets in passed its first steps
+pub early_let_in : (d : Door) (c volume : ℕ) (bytes : List ℕ) → door d c volume bytes ≡ None → turned_away d c volume (length bytes) ≡ None
+early_let_in d c volume bytes e = or_none (d.is_foreign bytes) (turned_away d c volume (length bytes)) e
+
+known_at : (b : Bool) (o : Option Refusal) → cond (not b) (Some refusal.UnknownCustodian) o ≡ None → b ≡ true
+known_at true o e = refl
+known_at false o e = cc
+
+pub is_known : (d : Door) (c volume : ℕ) (bytes : List ℕ) → door d c volume bytes ≡ None → d.knows c ≡ true
+is_known d c volume bytes e = known_at (d.knows c) _ (early_let_in d c volume bytes e)
+
+-- ---- what is there
+
+-- what was received now is there
+there_now : (F K : Received) (c volume : ℕ) (bytes : List ℕ) → K ≡ with_file F c volume bytes → map.get K (c, volume) ≡ Some bytes
+there_now F K c volume bytes e =
+    ap (λ X. map.get X (c, volume)) e ∙ map.get-insert pairs_total F (c, volume) bytes (c, volume)
+    ∙ ap (λ b. cond b (Some bytes) (map.get F (c, volume))) ((eq_by_cmp_equiv pairs_total).refl (c, volume))
+
+known_with : (d : Door) (F : Received) (c volume : ℕ) (bytes : List ℕ) → d.knows c ≡ true → AreKnown d F → AreKnown d (with_file F c volume bytes)
+known_with d F c volume bytes e known p h =
+    elim (same_pair p (c, volume)) as (λ b. same_pair p (c, volume) ≡ b → is_some (cond b (Some bytes) (map.get F p)) ≡ true → d.knows p.0 ≡ true) [
+      | true ↦ λ t _. ap (λ (q : ℕ × ℕ). d.knows q.0) (pairs_same p (c, volume) t) ∙ e
+      | false ↦ λ _ there. known p there
+    ] refl (ap is_some (sym (map.get-insert pairs_total F (c, volume) bytes p)) ∙ h)
+
+-- ---- a new file
+
+module _ (d : Door) (a b c : Seen) (code volume : ℕ) (bytes : List ℕ) (let_in : door d code volume bytes ≡ None)
+    (came : Enters {T = Unit {0}} a b (Ok tt) (IsNew a.content code volume) (with_received a.content code volume bytes)) where
+
+  stood_then : StandsFor d a → IsNew a.content code volume → b.unharmed → StandsFor d b
+  stood_then stood free fine = (
+    came.stands stood.0 free fine,
+    known_in d _ _ (sym (ap (λ (k : Content). k.files) (came.done stood.0 free fine))) (known_with d a.content.files code volume bytes (is_known d code volume bytes let_in) stood.1),
+  )
+
+  -- what was received at the end
+  files_then : {T : Type 0} (r : _) (P : T → Type 0) → Tells d b c r P → StandsFor d a → IsNew a.content code volume → c.unharmed → c.content.files ≡ with_file a.content.files code volume bytes
+  files_then r P l stood free fine =
+      let mid = l.advances.harm fine in
+      l.advances.files (stood_then stood free mid) fine ∙ ap (λ (k : Content). k.files) (came.done stood.0 free mid)
+
+  board_then : {T : Type 0} (r : _) (P : T → Type 0) → Tells d b c r P → StandsFor d a → IsNew a.content code volume → c.unharmed → Follows d.register c.content.files a.content.board c.content.board
+  board_then r P l stood free fine =
+      let mid = l.advances.harm fine in
+      let now = stood_then stood free mid in
+      let f = l.advances.board now fine in
+      let start = ap (λ (k : Content). k.board) (came.done stood.0 free mid) in
+      record { order = f.order; leads = subst (λ (x : Received × Board). Leads d.register x.0 x.1 f.order c.content.board) (λ i. (sym (l.advances.files now fine) i, start i)) f.leads }
+
+  pub taken_new : (told : Outcome) → Tells d b c (Ok told) (IsOutcome c.content.files c.content.board code volume) → TakesIn d a c code volume bytes (New told)
+  taken_new told l =
+      record {
+        harm = λ fine. came.harm (l.advances.harm fine);
+        stands = λ stood free fine. l.advances.stands (stood_then stood free (l.advances.harm fine)) fine;
+        step = λ stood free fine.
+            let now = stood_then stood free (l.advances.harm fine) in
+            let files = files_then _ _ l stood free fine in
+            let closed = l.settled now fine in
+            record {
+              let_in = let_in;
+              free = free;
+              received = files;
+              settled = record { follows = board_then _ _ l stood free fine; settled = closed };
+              answer = l.right now fine (ap is_some (there_now a.content.files c.content.files code volume bytes files)) closed;
+            };
+        idle = l.advances.idle;
+        kept = let x = came.counts.kept in let y = l.advances.kept in omega arith;
+        cause = λ stood free fine e. cc;
+      }
+
+  pub taken_unsettled : (e : ShelfFault) → Tells {T = Outcome} d b c (Err e) (IsOutcome c.content.files c.content.board code volume) → TakesIn d a c code volume bytes (Refused (refusal.ReceivedUnsettled e))
+  taken_unsettled e l =
+      record {
+        harm = λ fine. came.harm (l.advances.harm fine);
+        stands = λ stood free fine. l.advances.stands (stood_then stood free (l.advances.harm fine)) fine;
+        step = λ stood free fine.
+            record { let_in = let_in; free = free; received = files_then _ _ l stood free fine; board = board_then _ _ l stood free fine };
+        idle = l.advances.idle;
+        kept = let x = came.counts.kept in let y = l.advances.kept in omega arith;
+        cause = λ stood free fine is.
+            let store : e ≡ Store = cc in
+            let more = l.cause (stood_then stood free (l.advances.harm fine)) fine store in
+            let x = came.counts.kept in
+            omega arith;
+      }
+
+-- ---- after what was there is settled
+
+-- the same answer from the board before that was settled
+module _ (d : Door) (old mid new : HubState) (c volume : ℕ) (bytes : List ℕ) (same : mid.received ≡ old.received) (before : Follows d.register old.received old.board mid.board) where
+  on_from : (K : Received) → K ≡ with_file mid.received c volume bytes → map.get mid.received (c, volume) ≡ None → Follows d.register K mid.board new.board → Follows d.register K old.board new.board
+  on_from K e free f =
+      let more = subst (λ X. Follows d.register X old.board mid.board) (sym same) before in
+      follows_on d.register K old.board mid.board new.board
+      (follows_more d.register mid.received K (λ p there at. subst (λ X. map.get X p ≡ Some there) (sym e) (has_all_with mid.received c volume bytes free p there at)) old.board mid.board more) f
+
+  free_then : map.get mid.received (c, volume) ≡ None → map.get old.received (c, volume) ≡ None
+  free_then e = ap (λ X. map.get X (c, volume)) (sym same) ∙ e
+
+  with_then : (K : Received) → K ≡ with_file mid.received c volume bytes → K ≡ with_file old.received c volume bytes
+  with_then K e = e ∙ ap (λ X. with_file X c volume bytes) same
+
+  was_new : (told : Outcome) → WasNew d mid c volume bytes told new → WasNew d old c volume bytes told new
+  was_new told w =
+      record {
+        let_in = w.let_in;
+        free = free_then w.free;
+        received = with_then new.received w.received;
+        settled = record { follows = on_from new.received w.received w.free w.settled.follows; settled = w.settled.settled };
+        answer = w.answer;
+      }
+
+  was_unsettled : Unsettled d mid c volume bytes new → Unsettled d old c volume bytes new
+  was_unsettled w =
+      record {
+        let_in = w.let_in;
+        free = free_then w.free;
+        received = with_then new.received w.received;
+        board = on_from new.received w.received w.free w.board;
+      }
+
+  was_not_received : NotReceived d mid (Submit c volume bytes) new → NotReceived d old (Submit c volume bytes) new
+  was_not_received w =
+      record {
+        let_in = w.let_in;
+        received = w.received ∙ same;
+        board = follows_on d.register old.received old.board mid.board new.board before (subst (λ X. Follows d.register X mid.board new.board) same w.board);
+      }
+
+  pub submits_from : (answer : Answer) → door d c volume bytes ≡ None → map.get mid.received (c, volume) ≡ None → Submits d mid c volume bytes answer new → Submits d old c volume bytes answer new
+  submits_from (New told) let_in free w = was_new told w
+  submits_from (Repeat told) let_in free w = let no : Some bytes ≡ None = sym w.there ∙ free in cc
+  submits_from (Taken digest) let_in free w = let no : Some w.others ≡ None = sym w.there ∙ free in cc
+  submits_from (Refused (refusal.NotReceived cause)) let_in free w = was_not_received w
+  submits_from (Refused (refusal.ReceivedUnsettled cause)) let_in free w = was_unsettled w
+  submits_from (Refused refusal.UnknownCustodian) let_in free w = let no : Some refusal.UnknownCustodian ≡ None = sym w.refused ∙ let_in in cc
+  submits_from (Refused refusal.BadVolume) let_in free w = let no : Some refusal.BadVolume ≡ None = sym w.refused ∙ let_in in cc
+  submits_from (Refused refusal.TooLarge) let_in free w = let no : Some refusal.TooLarge ≡ None = sym w.refused ∙ let_in in cc
+  submits_from (Refused refusal.UnknownProfile) let_in free w = let no : Some refusal.UnknownProfile ≡ None = sym w.refused ∙ let_in in cc
+
+pub taken_in : (d : Door) (a b c : Seen) (code volume : ℕ) (bytes : List ℕ) (answer : Answer) → door d code volume bytes ≡ None
+    → Tells {T = Option Answer} d a b (Ok None) (IsAgain b.content.files b.content.board code volume bytes) → TakesIn d b c code volume bytes answer
+    → Steps d a c (Submit code volume bytes) (Submitted answer)
+taken_in d a b c code volume bytes answer let_in first second =
+    record {
+      harm = λ fine. first.advances.harm (second.harm fine);
+      stands = λ stood fine.
+          let mid = second.harm fine in
+          second.stands (first.advances.stands stood mid) (first.right stood mid) fine;
+      step = λ stood fine.
+          let mid = second.harm fine in
+          let free = first.right stood mid in
+          submits_from d (state_of a.content) (state_of b.content) (state_of c.content) code volume bytes (first.advances.files stood mid) (first.advances.board stood mid)
+          answer let_in free (second.step (first.advances.stands stood mid) free fine);
+      idle = second.idle;
+      failures = let x = first.advances.kept in let y = second.kept in omega arith;
+      cause = λ stood fine is.
+          let mid = second.harm fine in
+          let more = second.cause (first.advances.stands stood mid) (first.right stood mid) fine is in
+          let x = first.advances.kept in
+          omega arith;
+    }

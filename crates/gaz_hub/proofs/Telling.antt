@@ -1,0 +1,118 @@
+-- What is told of a file, read off a board.
+use Rattle.std.proofs.Common.{◌≡◌, ◌≢◌, ◌≤◌, ◌<◌, ◌+◌, ◌-◌, ℕ, zero, suc, Bool, true, false, cond, not, ◌&&◌, List, [], ◌∷◌, length, refl, sym, ap, ◌∙◌, subst, arith, le-leb, leb}
+use Rattle.std.specs.Prelude.{nat_le, slice_get, Option, Some, None, IsSome, Result, Ok, Err, IfOk, IfErr, OnOk}
+use Rattle.std.specs.Option.{option_map, option_map_or}
+use Rattle.std.specs.FinMap as map
+use Rattle.sha2.specs.Sha256.{sha256}
+use Rattle.gaz_changefile.specs.Reading.{Reading, reading}
+use Rattle.gaz_changefile.specs.declared.change.Basis.{Basis}
+use Rattle.gaz_shelf.specs.Board.{Board, Judgement, reached, verdict_on}
+use Rattle.gaz_shelf.specs.Keeper.{Content, IsNotOpen, Reads, Seen}
+use Rattle.gaz_shelf.specs.Received.{Received}
+use Rattle.gaz_shelf.specs.declared.fault.ShelfFault.{ShelfFault}
+use Rattle.gaz_shelf.specs.declared.fault.ShelfFault.TheVariants.{Store}
+use Rattle.gaz_shelf.specs.declared.verdict.Verdict.{Verdict}
+use Rattle.gaz_rules.specs.Bases.{are_reached}
+use Rattle.gaz_rules.specs.Judging.{bases_of}
+use Rattle.gaz_hub.specs.Asked.{IsHeld, IsOutcome}
+use Rattle.gaz_hub.specs.Outcomes.{outcome, outcome_of, wants}
+use Rattle.gaz_hub.specs.Settling.{Advances, Looks, Tells, first_unreached}
+use Rattle.gaz_hub.specs.Standing.{NothingReady, next_reading, ready}
+use Rattle.gaz_hub.specs.Step.{Door}
+use Rattle.gaz_hub.specs.declared.outcome.Outcome.{Outcome}
+use Rattle.gaz_hub.specs.declared.outcome.Outcome.TheVariants.{Held}
+use Rattle.gaz_hub.proofs.Advancing.{advances_less, advances_looking, advances_then}
+use Rattle.gaz_hub.proofs.Looks.{IsFile, if_ok, looks_then, ready_as, wants_as}
+
+-- ---- outcomes
+
+was_none : {X Y : Type 0} (f : X → Y) (o : Option X) → None ≡ option_map f o → o ≡ None
+was_none f None e = refl
+was_none f (Some x) e = cc
+
+was_some : {X Y : Type 0} (f : X → Y) (o : Option X) (y : Y) → Some y ≡ option_map f o → (x : X) × (o ≡ Some x) × (y ≡ f x)
+was_some f None y e = cc
+was_some f (Some x) y e = (x, refl, cc)
+
+at_most_there : {X : Type 0} (xs : List X) (n : ℕ) → slice_get xs n ≡ None → length xs ≤ n
+at_most_there [] n e = omega arith
+at_most_there (x ∷ xs) zero e = cc
+at_most_there (x ∷ xs) (suc n) e = let h = at_most_there xs n e in omega arith
+
+-- the judgement of a volume, from 1
+judged_at : (B : Board) (c volume : ℕ) → 1 ≤ volume → verdict_on B c volume ≡ option_map (λ (j : Judgement). j.verdict) (slice_get (B c) (volume - 1))
+judged_at B c zero h = absurd (omega arith)
+judged_at B c (suc n) h = let e : suc n - 1 ≡ n = omega arith in ap (λ k. option_map (λ (j : Judgement). j.verdict) (slice_get (B c) k)) (sym e)
+
+pub told_judged : (F : Received) (B : Board) (c volume : ℕ) (verdict : Verdict) → 1 ≤ volume → Some verdict ≡ verdict_on B c volume → outcome F B c volume ≡ Some (outcome_of verdict)
+told_judged F B c volume verdict one e =
+    let (j, there, same) = was_some (λ (j : Judgement). j.verdict) (slice_get (B c) (volume - 1)) verdict (e ∙ judged_at B c volume one) in
+    ap (λ o. option_map_or (λ (x : Judgement). Some (outcome_of x.verdict)) o (option_map (λ w. Held w.0 w.1) (wants F B c))) there ∙ ap (λ v. Some (outcome_of v)) (sym same)
+
+-- where nothing is ready, the next volume waits for something
+some_unreached : (B : Board) (bases : List Basis) → are_reached B bases ≡ false → (x : Basis) × (first_unreached B bases ≡ Some x)
+some_unreached B [] e = cc
+some_unreached B (d ∷ bases) e =
+    elim (nat_le d.volume (reached B d.custodian))
+    as (λ b. (b && are_reached B bases) ≡ false → (x : Basis) × (cond (not b) (Some d) (first_unreached B bases) ≡ Some x)) [
+      | true ↦ λ t. some_unreached B bases t
+      | false ↦ λ t. (d, refl)
+    ] e
+
+pub waits : (F : Received) (B : Board) (c : ℕ) → NothingReady F B → reached B c + 1 ≤ 999999 → (w : ℕ × ℕ) × (wants F B c ≡ Some w)
+waits F B c closed within =
+    elim (map.get F (c, reached B c + 1)) as (λ o. map.get F (c, reached B c + 1) ≡ o → (w : ℕ × ℕ) × (wants F B c ≡ Some w)) [
+      | None ↦ λ e. ((c, reached B c + 1), missing e)
+      | Some bytes ↦ λ e.
+          let file : IsFile F B c (reading bytes c (reached B c + 1)) = record { in_range = within; reads = ap (option_map (λ b. reading b c (reached B c + 1))) e } in
+          let un = some_unreached B _ (sym (ready_as F B c _ file) ∙ closed c) in
+          ((un.0.custodian, un.0.volume), wants_as F B c _ file ∙ ap (option_map (λ (x : Basis). (x.custodian, x.volume))) un.1)
+    ] refl
+  where
+    missing : map.get F (c, reached B c + 1) ≡ None → wants F B c ≡ Some (c, reached B c + 1)
+    missing e = λ i. cond (le-leb (reached B c + 1) 999999 within i)
+        (option_map_or (λ (x : Reading). option_map (λ (d : Basis). (d.custodian, d.volume)) (first_unreached B (bases_of x))) (option_map (λ b. reading b c (reached B c + 1)) (e i)) (Some (c, reached B c + 1))) None
+
+pub told_held : (F : Received) (B : Board) (c volume : ℕ) (told : Outcome) → 1 ≤ volume → volume ≤ 999999 → None ≡ verdict_on B c volume → IsHeld F B c told → IsOutcome F B c volume told
+told_held F B c volume told one most e held there closed =
+    let none = was_none (λ (j : Judgement). j.verdict) (slice_get (B c) (volume - 1)) (e ∙ judged_at B c volume one) in
+    let (w, is) = waits F B c closed (omega (arith, at_most_there (B c) (volume - 1) none, one, most)) in
+    ap (λ o. option_map_or (λ (x : Judgement). Some (outcome_of x.verdict)) o (option_map (λ v. Held v.0 v.1) (wants F B c))) none
+    ∙ ap (option_map (λ v. Held v.0 v.1)) is ∙ ap Some (sym (held w.0 w.1 is))
+
+-- ---- settling and then reading
+
+pub tells_looks : {T U : Type 0} (d : Door) (a b c : Seen) (x : U) (r : Result T ShelfFault) (P : U → Type 0) (Q : Content → T → Type 0)
+    → Tells d a b (Ok x) P → Looks b c r (Q b.content) → Tells d a c r (Q c.content)
+tells_looks d a b c x r P Q first second =
+    let looked = advances_looking d b c r (Q b.content) second first.advances.idle in
+    record {
+      advances = advances_then d 0 0 a b c first.advances looked;
+      settled = λ stood fine.
+          let mid = second.keeps.harm fine in
+          let now = first.advances.stands stood mid in
+          on_ok r (subst (λ (k : Content). NothingReady k.files k.board) (sym (second.keeps.content now.0 fine)) (first.settled stood mid));
+      right = λ stood fine.
+          let mid = second.keeps.harm fine in
+          let now = first.advances.stands stood mid in
+          if_ok r (Q b.content) (Q c.content) (λ y. subst (λ (k : Content). Q k y) (sym (second.keeps.content now.0 fine))) (second.right now.0 fine);
+      cause = λ stood fine. later r a.failures b.failures c.failures first.advances.kept second.counts.store;
+    }
+  where
+    on_ok : {V : Type 0} (r : Result V ShelfFault) → {S : Type 0} → S → OnOk r S
+    on_ok (Ok x) h = h
+    on_ok (Err e) h = tt
+    later : {V : Type 0} (r : Result V ShelfFault) (m n k : ℕ) → m ≤ n → IfErr r (λ e. e ≡ Store → n < k) → IfErr r (λ e. e ≡ Store → m < k)
+    later (Ok x) m n k h g = tt
+    later (Err e) m n k h g = λ is. let more = g is in omega arith
+
+pub tells_fault : {T U : Type 0} (d : Door) (a b : Seen) (e : ShelfFault) (P : U → Type 0) (Q : T → Type 0) → Tells d a b (Err e) P → Tells d a b (Err e) Q
+tells_fault d a b e P Q l = record { advances = l.advances; settled = λ stood fine. tt; right = λ stood fine. tt; cause = l.cause }
+
+-- what isn't judged is held
+pub looks_held : (a b c : Seen) (code volume : ℕ) (r : Result Outcome ShelfFault) → 1 ≤ volume → volume ≤ 999999
+    → Reads a b (Ok None) (λ v. v ≡ verdict_on a.content.board code volume) → Looks b c r (IsHeld b.content.files b.content.board code) → Looks a c r (IsOutcome a.content.files a.content.board code volume)
+looks_held a b c code volume r one most first second =
+    looks_then a b c None r (λ v. v ≡ verdict_on a.content.board code volume) (IsHeld b.content.files b.content.board code) (IsOutcome a.content.files a.content.board code volume)
+    (record { keeps = first.keeps; right = first.right; counts = first.counts }) second
+    (λ same none told held. told_held a.content.files a.content.board code volume told one most none (subst (λ (k : Content). IsHeld k.files k.board code told) same held))
