@@ -148,6 +148,9 @@ fn closed_after(requests: u64, most: u64) -> Served
 }
 
 /// Answers the requests of a stream in turn, at most `most` of them.
+///
+/// What is written and how the conversation ends is known whatever the hub's keeper does. The hub's answers are a run of its steps where the
+/// keeper stood for a content before, and nobody else wrote on it.
 pub fn converse<R: Read, W: Write, K: Inbox + Drop>(
     alloc: Global,
     r: &mut R,
