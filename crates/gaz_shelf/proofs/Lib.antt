@@ -5,6 +5,7 @@ pub mod Pages
 pub mod Marks
 pub mod Indexes
 pub mod Marked
+pub mod Ranges
 pub mod Pairs
 pub mod Ledgers
 pub mod Mem

@@ -32,7 +32,7 @@ use Rattle.gaz_shelf.specs.declared.index.Mark.{Mark}
 abbrev Row : Type 0
 Row = Key × Item
 
-abbrev Ascends : List Key → Type 0
+abbrev pub Ascends : List Key → Type 0
 Ascends ks = IsStrictlySortedBy cmp-value.it ks
 
 abbrev has : List Key → Key → Bool
@@ -74,7 +74,7 @@ all_kept : (P : Key → Type 0) (p : Row → Bool) (es : List Row) → AllByRecu
 all_kept P p [] h = tt
 all_kept P p (e ∷ es) h = elim (p e) as (λ b. AllByRecursion P (keys_of (cond b (e ∷ filter p es) (filter p es)))) [ true ↦ (h.0, all_kept P p es h.1) | false ↦ all_kept P p es h.1 ]
 
-rows_ascend : (p : Row → Bool) (es : List Row) → Ascends (keys_of es) → Ascends (keys_of (filter p es))
+pub rows_ascend : (p : Row → Bool) (es : List Row) → Ascends (keys_of es) → Ascends (keys_of (filter p es))
 unfolding IsStrictlySortedBy
 rows_ascend p [] h = tt
 rows_ascend p (e ∷ es) h = elim (p e) as (λ b. Ascends (keys_of (cond b (e ∷ filter p es) (filter p es)))) [ true ↦ (all_kept (λ y. cmp-value.it e.0 y ≡ Less) p es h.0, rows_ascend p es h.1) | false ↦ rows_ascend p es h.1 ]

@@ -38,7 +38,7 @@ take_at (suc m) [] n x e = cc
 take_at (suc m) (y ∷ ys) zero x e = e
 take_at (suc m) (y ∷ ys) (suc n) x e = take_at m ys n x e
 
-passes : {X : Type 0} (p q : X → Bool) (xs : List X) → filter q (filter p xs) ≡ filter (λ x. p x && q x) xs
+pub passes : {X : Type 0} (p q : X → Bool) (xs : List X) → filter q (filter p xs) ≡ filter (λ x. p x && q x) xs
 passes p q [] = refl
 passes p q (x ∷ xs) = elim (p x) as (λ b. filter q (cond b (x ∷ filter p xs) (filter p xs)) ≡ cond (b && q x) (x ∷ filter (λ y. p y && q y) xs) (filter (λ y. p y && q y) xs)) [
   | true ↦ ap (λ l. cond (q x) (x ∷ l) l) (passes p q xs)

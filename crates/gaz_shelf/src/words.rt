@@ -3,11 +3,13 @@ ghost use Rattle.std.specs.Prelude.{◌≡◌, ◌&&◌, map, filter, take, IfOk
 ghost use Rattle.std.specs.BTreeMap.{keys};
 ghost use Rattle.std.specs.List.Sorted.{IsStrictlySortedBy};
 ghost use Rattle.gaz_shelf.specs.Words.{comes_after, is_approved_of, is_approved_on, is_child_of, is_in, is_of};
+ghost use Rattle.gaz_shelf.specs.Reading.{is_past, number_of, start_after};
 
 use gaz_ids::{Lang, Status, Uprn, Usrn};
 use gaz_records::{Item, Key, Kind};
 use std::alloc::{AllocError, Global};
 use std::collections::BTreeMap;
+use std::ops::Bound;
 
 pub fn is_approved_of(uprn: Uprn, item: &Item) -> bool
     ensures { result ≡ is_approved_of uprn item.now }
@@ -61,20 +63,48 @@ fn is_of(kind: Kind, key: &Key) -> bool
     }
 }
 
-fn comes_after(after: &Option<Key>, key: &Key) -> bool
-    ensures { result ≡ comes_after after.now key.now }
-{
-    match after {
-        None => true,
-        Some(after) => after.compare(key).is_lt(),
-    }
-}
-
 /// The entries stand in the order of keys.
 pub fn in_order(items: &BTreeMap<Key, Item>)
     ensures { IsStrictlySortedBy ⟦<Key as Ord>⟧.cmp (keys items.now) }
 {
     let _count = items.len();
+}
+
+// The record identifier of a kind.
+fn number_of(kind: Kind) -> u8
+    ensures { result ≡ number_of kind }
+{
+    match kind {
+        Kind::Street => 11,
+        Kind::Descriptor => 15,
+        Kind::Blpu => 21,
+        Kind::Xref => 23,
+        Kind::Lpi => 24,
+    }
+}
+
+// Whether all keys from this one on are of later kinds.
+fn is_past(kind: Kind, key: &Key) -> bool
+    ensures { result ≡ is_past kind key.now }
+{
+    let number = match key {
+        Key::Street(_) => 11,
+        Key::Descriptor(_, _) => 15,
+        Key::Blpu(_) => 21,
+        Key::Xref(_) => 23,
+        Key::Lpi(_) => 24,
+    };
+    number_of(kind) < number
+}
+
+// Where a page begins.
+fn start_after(after: Option<Key>) -> Bound<Key>
+    ensures { result ≡ start_after after }
+{
+    match after {
+        Some(key) => Bound::Excluded(key),
+        None => Bound::Unbounded,
+    }
 }
 
 /// The first items of a kind after a key.
@@ -88,11 +118,11 @@ pub fn page_of(
     ensures { IfOk result (λ found. found.items ≡ take most (map (λ e. e.1) (filter (λ e. is_of kind e.0 && comes_after after e.0) items.now.entries))) }
 {
     let mut found = Vec::new(alloc);
-    for (key, item) in items {
-        if found.len() == most {
+    for (key, item) in items.range((start_after(after), Bound::Unbounded)) {
+        if found.len() == most || is_past(kind, key) {
             return Ok(found);
         }
-        if is_of(kind, key) && comes_after(&after, key) {
+        if is_of(kind, key) {
             found.push(item.copy()?)?;
         }
     }

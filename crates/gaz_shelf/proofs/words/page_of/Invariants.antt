@@ -2,9 +2,13 @@
 use Rattle.std.proofs.Common.{◌≡◌, ◌≤◌, ◌++◌, map, length}
 use Rattle.std.specs.Prelude.{◌&&◌, filter}
 use Rattle.gaz_shelf.specs.Words.{comes_after, is_of}
+use Rattle.gaz_shelf.proofs.Marked.{Ascends}
+use Rattle.std.specs.Map.{keys_of}
 use Rattle.gaz_shelf.proofs.words.page_of.Given as goal
 
 abbrev pub invariant-loop-key : goal.invariant-loop-key
-invariant-loop-key l =
-    (l.found.items ++ map (λ e. e.1) (filter (λ e. is_of l.kind e.0 && comes_after l.after e.0) l.key-iterator) ≡ map (λ e. e.1) (filter (λ e. is_of l.kind e.0 && comes_after l.after e.0) l.items.entries))
-    × (length l.found.items ≤ l.most)
+invariant-loop-key l = record {
+  told : l.found.items ++ map (λ e. e.1) (filter (λ e. is_of l.kind e.0) l.key-iterator) ≡ map (λ e. e.1) (filter (λ e. is_of l.kind e.0 && comes_after l.fn.after e.0) l.items.entries);
+  few : length l.found.items ≤ l.most;
+  ascend : Ascends (keys_of l.key-iterator);
+}

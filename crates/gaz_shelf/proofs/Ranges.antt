@@ -1,0 +1,124 @@
+-- Where a page begins and ends in entries whose keys ascend.
+use Rattle.std.proofs.Common.{◌≡◌, ◌≤◌, ◌<◌, ◌&&◌, ℕ, Bool, true, false, cond, List, [], ◌∷◌, ◌++◌, map, length, take, append_assoc, refl, sym, ap, subst, ◌∙◌, arith, inl, inr}
+use Rattle.std.specs.Prelude.{Option, Some, None, filter}
+use Rattle.std.proofs.lemmas.Bool.{cases_lt}
+use Rattle.std.proofs.lemmas.Bool.Decides.{nat_tests}
+use Rattle.std.proofs.Math.Seq.{take-append_seam}
+use Rattle.std.proofs.lemmas.List.{append-nil, take_all}
+use Rattle.std.proofs.lemmas.List.Elements.{filter_agree}
+use Rattle.std.specs.Cmp.{nat_cmp_is}
+use Rattle.std.specs.BTreeMap.Range.{entries_between, range_contains}
+use Rattle.std.specs.List.{AllByRecursion}
+use Rattle.std.specs.List.Sorted.{IsStrictlySortedBy}
+use Rattle.std.specs.Map.{keys_of}
+use Rattle.std.specs.Ordering.{is_lt, nat_cmp, ordering_then}
+use Rattle.std.specs.declared.cmp.Ordering.{Ordering}
+use Rattle.std.specs.declared.cmp.Ordering.TheVariants.{Less, Greater}
+use Rattle.std.specs.declared.ops.Bound.TheVariants.{Unbounded}
+use Rattle.gaz_records.proofs.KeyOrder.{keys_same}
+use Rattle.gaz_records.specs.Keys.{key_cmp, kind_number}
+use Rattle.gaz_records.specs.contracts.key.KeyOrd.TheImpl.{cmp-value}
+use Rattle.gaz_records.specs.declared.item.Item.{Item}
+use Rattle.gaz_records.specs.declared.item.Kind.{Kind}
+use Rattle.gaz_records.specs.declared.item.Kind.TheVariants as kind
+use Rattle.gaz_records.specs.declared.key.Key.{Key}
+use Rattle.gaz_records.specs.declared.key.Key.TheVariants as key
+use Rattle.gaz_shelf.proofs.Marked.{Ascends, rows_ascend}
+use Rattle.gaz_shelf.proofs.Pages.{passes}
+use Rattle.gaz_shelf.specs.Reading.{is_past, start_after}
+use Rattle.gaz_shelf.specs.Words.{comes_after, is_of}
+
+abbrev Row : Type 0
+Row = Key × Item
+
+-- ---- the start
+
+and_true : (b : Bool) → (b && true) ≡ b
+and_true true = refl
+and_true false = refl
+
+and_swap : (a b : Bool) → (a && b) ≡ (b && a)
+and_swap true b = sym (and_true b)
+and_swap false true = refl
+and_swap false false = refl
+
+in_range : (after : Option Key) (k : Key) → range_contains cmp-value.it (start_after after) Unbounded k ≡ comes_after after k
+in_range None k = refl
+in_range (Some a) k = and_true (is_lt (cmp-value.it a k)) ∙ ap is_lt (keys_same a k)
+
+pub from_start : (kind : Kind) (after : Option Key) (es fs : List Row) → fs ≡ entries_between cmp-value.it (start_after after) Unbounded es
+    → filter (λ e. is_of kind e.0) fs ≡ filter (λ e. is_of kind e.0 && comes_after after e.0) es
+from_start kind after es fs is =
+    ap (filter (λ e. is_of kind e.0)) is
+    ∙ passes (λ (e : Row). range_contains cmp-value.it (start_after after) Unbounded e.0) (λ e. is_of kind e.0) es
+    ∙ filter_agree _ _ (λ (e : Row). ap (λ b. b && is_of kind e.0) (in_range after e.0) ∙ and_swap (comes_after after e.0) (is_of kind e.0)) es
+
+pub part_ascends : (after : Option Key) (es fs : List Row) → fs ≡ entries_between cmp-value.it (start_after after) Unbounded es → Ascends (keys_of es) → Ascends (keys_of fs)
+part_ascends after es fs is h = subst (λ (l : List Row). Ascends (keys_of l)) (sym is) (rows_ascend (λ e. range_contains cmp-value.it (start_after after) Unbounded e.0) es h)
+
+-- ---- the end
+
+not_of : (kind : Kind) (k : Key) → is_past kind k ≡ true → is_of kind k ≡ false
+not_of kind.Street (key.Street n) h = cc
+not_of kind.Descriptor (key.Descriptor n l) h = cc
+not_of kind.Blpu (key.Blpu n) h = cc
+not_of kind.Xref (key.Xref t) h = cc
+not_of kind.Lpi (key.Lpi t) h = cc
+not_of a b h = refl
+
+not_above : (x y : ℕ) → y < x → nat_cmp x y ≡ Greater
+not_above x y h = sym (nat_cmp_is x y Greater h)
+
+later : (x y : ℕ) (o : Ordering) → ordering_then (nat_cmp x y) o ≡ Less → x ≤ y
+later x y o e = elim (cases_lt y x) [ inl h ↦ absurd (greater_first o (ap (λ r. ordering_then r o) (sym (not_above x y h)) ∙ e)) | inr h ↦ h ]
+  where
+    greater_first : (o : Ordering) → Greater ≡ Less → ⊥
+    greater_first o e = cc
+
+past_on : (kind : Kind) (a b : Key) → is_past kind a ≡ true → key_cmp a b ≡ Less → is_past kind b ≡ true
+past_on kind a b h e =
+    let more = later (kind_number a) (kind_number b) _ e in
+    grind (arith, nat_tests)
+
+pub nothing_past : (kind : Kind) (e : Row) (es : List Row) → Ascends (keys_of (e ∷ es)) → is_past kind e.0 ≡ true → filter (λ f. is_of kind f.0) (e ∷ es) ≡ []
+unfolding IsStrictlySortedBy
+nothing_past kind e es h past = ap (λ b. cond b (e ∷ filter (λ f. is_of kind f.0) es) (filter (λ f. is_of kind f.0) es)) (not_of kind e.0 past) ∙ rest es h.0
+  where
+    rest : (es : List Row) → AllByRecursion (λ y. cmp-value.it e.0 y ≡ Less) (keys_of es) → filter (λ f. is_of kind f.0) es ≡ []
+    rest [] h = refl
+    rest (f ∷ es) h =
+        ap (λ b. cond b (f ∷ filter (λ f. is_of kind f.0) es) (filter (λ f. is_of kind f.0) es)) (not_of kind f.0 (past_on kind e.0 f.0 past (sym (keys_same e.0 f.0) ∙ h.0))) ∙ rest es h.1
+
+-- the keys behind the first ascend too
+pub rest_ascends : (e : Row) (es : List Row) → Ascends (keys_of (e ∷ es)) → Ascends (keys_of es)
+unfolding IsStrictlySortedBy
+rest_ascends e es h = h.1
+
+-- ---- a page, row by row
+
+module _ (kind : Kind) (all : List Item) (found : List Item) where
+  abbrev left : List Row → List Item
+  left es = map (λ e. e.1) (filter (λ e. is_of kind e.0) es)
+
+  by_test : (b : Bool) (e : Row) (rest : List Row) → List Item
+  by_test b e rest = found ++ map (λ e. e.1) (cond b (e ∷ filter (λ e. is_of kind e.0) rest) (filter (λ e. is_of kind e.0) rest))
+
+  pub told_in : (e : Row) (fs rest : List Row) → fs ≡ e ∷ rest → is_of kind e.0 ≡ true → found ++ left fs ≡ all → (found ++ e.1 ∷ []) ++ left rest ≡ all
+  unfolding by_test
+  told_in e fs rest is wanted told = append_assoc found (e.1 ∷ []) (left rest) ∙ ap (λ b. by_test b e rest) (sym wanted) ∙ ap (λ l. found ++ left l) (sym is) ∙ told
+
+  pub told_out : (e : Row) (fs rest : List Row) → fs ≡ e ∷ rest → is_of kind e.0 ≡ false → found ++ left fs ≡ all → found ++ left rest ≡ all
+  unfolding by_test
+  told_out e fs rest is other told = ap (λ b. by_test b e rest) (sym other) ∙ ap (λ l. found ++ left l) (sym is) ∙ told
+
+  pub full : (most : ℕ) (fs : List Row) → found ++ left fs ≡ all → length found ≡ most → found ≡ take most all
+  full most fs told long = sym (take-append_seam found (left fs)) ∙ (λ i. take (long i) (told i))
+
+  pub past : (most : ℕ) (e : Row) (fs rest : List Row) → fs ≡ e ∷ rest → Ascends (keys_of fs) → is_past kind e.0 ≡ true → found ++ left fs ≡ all → length found ≤ most → found ≡ take most all
+  past most e fs rest is ascend over told few =
+      let whole : found ≡ all =
+      sym (append-nil found) ∙ ap (λ l. found ++ map (λ e. e.1) l) (sym (nothing_past kind e rest (subst (λ l. Ascends (keys_of l)) is ascend) over)) ∙ ap (λ l. found ++ left l) (sym is) ∙ told in
+      sym (take_all most found few) ∙ ap (take most) whole
+
+pub next_ascends : (e : Row) (fs rest : List Row) → fs ≡ e ∷ rest → Ascends (keys_of fs) → Ascends (keys_of rest)
+next_ascends e fs rest is h = rest_ascends e rest (subst (λ l. Ascends (keys_of l)) is h)
