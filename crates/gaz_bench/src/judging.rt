@@ -32,10 +32,22 @@ fn rows(alloc: Global, n: u64) -> Result<Vec<(Kind, String)>> {
     };
     Ok(vec![in alloc;
         (Kind::Street, format!(in alloc; "{n},1,2001-04-01,")?),
-        (Kind::Descriptor, format!(in alloc; "{n},ENG,High Street,,Arden,Arden")?),
-        (Kind::Blpu, format!(in alloc; "{n},1,450000,250000,{parent},AR1 2DN,2001-04-01,")?),
-        (Kind::Lpi, format!(in alloc; "L{n},{n},ENG,1,{n},,,,,Flat 2,12,A,14,,,2001-04-01,")?),
-        (Kind::Xref, format!(in alloc; "X{n},{n},TAX01,A/17,2010-05-01,")?),
+        (
+            Kind::Descriptor,
+            format!(in alloc; "{n},ENG,High Street,,Arden,Arden")?
+        ),
+        (
+            Kind::Blpu,
+            format!(in alloc; "{n},1,450000,250000,{parent},AR1 2DN,2001-04-01,")?
+        ),
+        (
+            Kind::Lpi,
+            format!(in alloc; "L{n},{n},ENG,1,{n},,,,,Flat 2,12,A,14,,,2001-04-01,")?
+        ),
+        (
+            Kind::Xref,
+            format!(in alloc; "X{n},{n},TAX01,A/17,2010-05-01,")?
+        ),
     ]?)
 }
 
@@ -93,7 +105,11 @@ fn mixed(alloc: Global, addresses: u64) -> Result<ChangeFile> {
     let stride = addresses / ADDED;
     for k in 0..ADDED {
         add_insertions(alloc, &mut changes, addresses.saturating_add(k + 1))?;
-        add_updates(alloc, &mut changes, stride.saturating_mul(k).saturating_add(1))?;
+        add_updates(
+            alloc,
+            &mut changes,
+            stride.saturating_mul(k).saturating_add(1),
+        )?;
     }
     file_of(changes, alloc)
 }

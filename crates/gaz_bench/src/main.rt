@@ -59,7 +59,7 @@ fn main(rt: HostRuntime) -> Result<()> {
     let (Some(word), Some(path)) = (words.next(), words.next()) else {
         return Ok(());
     };
-    if word == "judge" {
+    if word.as_str() == "judge" {
         let (with, without) = judging_micros(&rt, path.parse::<u64>()?)?;
         println!(rt; "{with} {without}")?;
         return Ok(());

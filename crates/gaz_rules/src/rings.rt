@@ -24,7 +24,7 @@ pub(crate) struct Walked {
 }
 
 impl Walked {
-    /// None so far, of any view.
+    /// None so far, which is right of any view.
     pub(crate) fn new(alloc: Global) -> Walked
         ensures knows { (v : View) → Knows v result }
     {
@@ -116,9 +116,7 @@ fn walk<S: Shelf>(
             walked.close_ring(visit);
             return Ok(());
         }
-        let Ok(()) = walked.visit(at) else {
-            return Err(ShelfFault::Memory);
-        };
+        walked.visit(at)?;
         let Some(parent) = parent_of(shelf, code, at)? else {
             return Ok(());
         };

@@ -30,62 +30,50 @@ uprn = [[200000, 299999]]
 usrn = [[300, 399]]
 ";
 
-const INSERT: Action = Action::Insert;
-
-const UPDATE: Action = Action::Update;
-
-const DELETE: Action = Action::Delete;
-
 /// A custodian's next file, and what it is to come to.
+#[derive(Drop)]
 struct Case {
     name: &'static str,
-    code: u64,
-    /// Custodians and volumes.
-    bases: &'static [(u64, u64)],
-    /// The rows behind the first three fields.
-    changes: &'static [(Action, Kind, &'static str)],
-    /// The record at fault and its rule, where it isn't applied.
-    fault: Option<(u64, u8)>,
-}
-
-fn verdict_of(case: &Case) -> Verdict {
-    match case.fault {
-        None => Verdict::Applied,
-        Some((place, rule)) => Verdict::Rejected { place, rule },
-    }
-}
-
-fn volume(number: u64) -> Result<Volume, Fail> {
-    Ok(Volume::of(number).ok_or("a volume")?)
+    code: Code,
+    file: ChangeFile,
+    verdict: Verdict,
 }
 
 fn custodian(number: u64) -> Result<Code, Fail> {
     Ok(Code::of(number).ok_or("a code")?)
 }
 
-fn basis(custodian_number: u64, volume_number: u64) -> Result<Basis, Fail> {
-    Ok(Basis {
-        custodian: custodian(custodian_number)?,
-        volume: volume(volume_number)?,
+fn volume(number: u64) -> Result<Volume, Fail> {
+    Ok(Volume::of(number).ok_or("a volume")?)
+}
+
+fn file_of(bases: Vec<Basis>, changes: Vec<Change>) -> Result<ChangeFile, Fail> {
+    let date = Day::of(2024, 1, 2).ok_or("a day")?;
+    Ok(ChangeFile {
+        date,
+        bases,
+        changes,
     })
 }
 
-fn bases_of(alloc: Global, pairs: &[(u64, u64)]) -> Result<Vec<Basis>, Fail> {
-    let mut bases = Vec::new(alloc);
-    for pair in pairs {
-        bases.push(basis(pair.0, pair.1)?)?;
+// ---- cases as text: `# ` and the custodian, basis lines, changes without their orders, `= ` and the verdict
+
+fn kind_of(text: &str) -> Result<Kind, Fail> {
+    match text {
+        "11" => Ok(Kind::Street),
+        "15" => Ok(Kind::Descriptor),
+        "21" => Ok(Kind::Blpu),
+        "23" => Ok(Kind::Xref),
+        "24" => Ok(Kind::Lpi),
+        _ => Err(Fail::from("a kind")),
     }
-    Ok(bases)
 }
 
-fn change(
-    alloc: Global,
-    place: u64,
-    action: Action,
-    kind: Kind,
-    row: &str,
-) -> Result<Change, Fail> {
-    let item = item_of_text(alloc, kind, row.as_bytes())?;
+fn change_of(alloc: Global, place: u64, line: &str) -> Result<Change, Fail> {
+    let (kind, line) = line.split_once(',').ok_or("a kind")?;
+    let (action, row) = line.split_once(',').ok_or("a change type")?;
+    let action = Action::read(action.as_bytes()).ok_or("a change type")?;
+    let item = item_of_text(alloc, kind_of(kind)?, row.as_bytes())?;
     Ok(Change {
         place,
         action,
@@ -93,19 +81,43 @@ fn change(
     })
 }
 
-fn file_of(alloc: Global, case: &Case) -> Result<ChangeFile, Fail> {
-    let bases = bases_of(alloc, case.bases)?;
+fn basis_of(pair: &str) -> Result<Basis, Fail> {
+    let (custodian, volume) = pair.split_once(',').ok_or("a basis")?;
+    Ok(Basis {
+        custodian: Code::read(custodian.as_bytes())?,
+        volume: Volume::read(volume.as_bytes())?,
+    })
+}
+
+fn verdict_of(text: &str) -> Result<Verdict, Fail> {
+    let Some((place, rule)) = text.split_once(' ') else {
+        return Ok(Verdict::Applied);
+    };
+    Ok(Verdict::Rejected {
+        place: place.parse::<u64>()?,
+        rule: rule.parse::<u8>()?,
+    })
+}
+
+fn case_of(alloc: Global, text: &'static str) -> Result<Case, Fail> {
+    let (title, text) = text.split_once('\n').ok_or("a title")?;
+    let (lines, verdict) = text.split_once("= ").ok_or("a verdict")?;
+    let (code, name) = title.split_once(' ').ok_or("a custodian")?;
+    let mut bases = Vec::new(alloc);
     let mut changes = Vec::new(alloc);
-    let mut place: u64 = 2 + case.bases.len() as u64;
-    for (action, kind, row) in case.changes {
-        changes.push(change(alloc, place, *action, *kind, row)?)?;
+    let mut place: u64 = 2;
+    for line in lines.lines() {
+        match line.strip_prefix("90,") {
+            Some(pair) => bases.push(basis_of(pair)?)?,
+            None => changes.push(change_of(alloc, place, line)?)?,
+        }
         place = place.saturating_add(1);
     }
-    let date = Day::of(2024, 1, 2).ok_or("a day")?;
-    Ok(ChangeFile {
-        date,
-        bases,
-        changes,
+    Ok(Case {
+        name,
+        code: Code::read(code.as_bytes())?,
+        file: file_of(bases, changes)?,
+        verdict: verdict_of(verdict.trim())?,
     })
 }
 
@@ -136,7 +148,7 @@ fn has_verdict<K: Inbox>(
 {
     let last = volume(shelf.reached(code)?)?;
     let verdict = shelf.verdict(code, last)?;
-    assert!(rt; verdict == Some(verdict_of(case)), "{}", case.name);
+    assert!(rt; verdict == Some(case.verdict), "{}", case.name);
     Ok(())
 }
 
@@ -149,523 +161,252 @@ fn is_judged<K: Inbox>(
     requires { IsNotOpen (K.seen shelf.old).progress }
     ensures { OnOk result (IsNotOpen (K.seen shelf.new).progress) }
 {
-    let file = file_of(rt.alloc(), case)?;
-    let code = custodian(case.code)?;
-    let verdict = judged(rt.alloc(), shelf, register, code, &file)?;
-    assert!(rt; verdict == verdict_of(case), "{}", case.name);
-    has_verdict(rt, shelf, code, case)
+    let verdict = judged(rt.alloc(), shelf, register, case.code, &case.file)?;
+    assert!(rt; verdict == case.verdict, "{}", case.name);
+    has_verdict(rt, shelf, case.code, case)
 }
 
-// The files one after another.
+// The files of these cases one after another.
 fn are_judged<K: Inbox>(
     rt: &(impl Abort + AllocGlobal),
     shelf: &mut K,
-    cases: &[Case],
+    cases: &'static str,
 ) -> Result<(), Fail>
     requires { IsNotOpen (K.seen shelf.old).progress }
     ensures { OnOk result (IsNotOpen (K.seen shelf.new).progress) }
 {
     let register = Register::read(rt.alloc(), REGISTER)?;
-    for case in cases {
-        is_judged(rt, shelf, &register, case)?;
+    for text in cases.split("# ").skip(1) {
+        let case = case_of(rt.alloc(), text)?;
+        is_judged(rt, shelf, &register, &case)?;
     }
     Ok(())
 }
 
-const PARENTS: &[Case] = &[
-    Case {
-        name: "two properties are each other's parents",
-        code: 1001,
-        bases: &[],
-        changes: &[
-            (INSERT, Kind::Blpu, "11,1,1,1,12,,2020-01-01,"),
-            (INSERT, Kind::Blpu, "12,1,1,1,11,,2020-01-01,"),
-        ],
-        fault: Some((2, 36)),
-    },
-    Case {
-        name: "a property is its own parent",
-        code: 1001,
-        bases: &[],
-        changes: &[(INSERT, Kind::Blpu, "13,1,1,1,13,,2020-01-01,")],
-        fault: Some((2, 36)),
-    },
-    Case {
-        name: "the first leads into a ring that it isn't on",
-        code: 1001,
-        bases: &[],
-        changes: &[
-            (INSERT, Kind::Blpu, "13,1,1,1,11,,2020-01-01,"),
-            (INSERT, Kind::Blpu, "11,1,1,1,12,,2020-01-01,"),
-            (INSERT, Kind::Blpu, "12,1,1,1,11,,2020-01-01,"),
-        ],
-        fault: Some((3, 36)),
-    },
-    Case {
-        name: "a parent is nowhere",
-        code: 1001,
-        bases: &[],
-        changes: &[
-            (INSERT, Kind::Blpu, "11,1,1,1,,,2020-01-01,"),
-            (INSERT, Kind::Blpu, "13,1,1,1,12,,2020-01-01,"),
-        ],
-        fault: Some((3, 35)),
-    },
-    Case {
-        name: "a parent comes after its part",
-        code: 1001,
-        bases: &[],
-        changes: &[
-            (INSERT, Kind::Blpu, "13,1,1,1,12,,2020-01-01,"),
-            (INSERT, Kind::Blpu, "12,1,1,1,11,,2020-01-01,"),
-            (INSERT, Kind::Blpu, "11,1,1,1,,,2020-01-01,"),
-        ],
-        fault: None,
-    },
-    Case {
-        name: "an update closes a ring of three",
-        code: 1001,
-        bases: &[],
-        changes: &[(UPDATE, Kind::Blpu, "11,1,1,1,13,,2020-01-01,")],
-        fault: Some((2, 36)),
-    },
-];
+const PARENTS: &str = "\
+# 1001 two properties are each other's parents
+21,I,11,1,1,1,12,,2020-01-01,
+21,I,12,1,1,1,11,,2020-01-01,
+= 2 36
+# 1001 a property is its own parent
+21,I,13,1,1,1,13,,2020-01-01,
+= 2 36
+# 1001 the first leads into a ring that it isn't on
+21,I,13,1,1,1,11,,2020-01-01,
+21,I,11,1,1,1,12,,2020-01-01,
+21,I,12,1,1,1,11,,2020-01-01,
+= 3 36
+# 1001 a parent is nowhere
+21,I,11,1,1,1,,,2020-01-01,
+21,I,13,1,1,1,12,,2020-01-01,
+= 3 35
+# 1001 a parent comes after its part
+21,I,13,1,1,1,12,,2020-01-01,
+21,I,12,1,1,1,11,,2020-01-01,
+21,I,11,1,1,1,,,2020-01-01,
+= applied
+# 1001 an update closes a ring of three
+21,U,11,1,1,1,13,,2020-01-01,
+= 2 36
+";
 
-const STREET: &str = "101,1,2001-04-01,";
+const NAMES: &str = "\
+# 1001 a street
+11,I,101,1,2001-04-01,
+= applied
+# 1001 a descriptor before its street, which is there
+15,I,101,ENG,High Street,,,Arden
+11,I,101,1,2001-04-01,
+= 3 21
+# 1001 a descriptor without its street
+15,I,102,ENG,Mill Lane,,,Arden
+= 2 38
+# 1001 a descriptor before its street, which wasn't there
+15,I,102,ENG,Mill Lane,,,Arden
+11,I,102,1,2001-04-01,
+= applied
+# 1001 a key used again in one file
+15,I,101,ENG,High Street,,,Arden
+15,D,101,ENG,High Street,,,Arden
+15,I,101,ENG,High Street,,,Arden
+= 4 21
+# 1001 a descriptor comes and goes
+15,I,101,ENG,High Street,,,Arden
+15,D,101,ENG,High Street,,,Arden
+= applied
+# 1001 its key used again in the next file
+15,I,101,ENG,High Street,,,Arden
+= 2 21
+# 1001 an update of what went
+15,U,101,ENG,High Street,,,Arden
+= 2 22
+# 1001 a deletion of what was never there
+23,D,X1,42,TAX01,7,2001-04-01,
+= 2 22
+";
 
-const NAME: &str = "101,ENG,High Street,,,Arden";
+const ADDRESSES: &str = "\
+# 1001 an address on a street
+11,I,101,1,2001-04-01,
+15,I,101,ENG,High Street,,,Arden
+21,I,42,1,450000,250000,,,2001-04-01,
+24,I,L1,42,ENG,1,101,,,,,Flat 2,12,A,14,,,2001-04-01,
+23,I,X1,42,TAX01,7,2001-04-01,
+= applied
+# 1001 a second approved address
+24,I,L2,42,ENG,1,101,,,,,,14,,,,,2024-04-01,
+= 2 30
+# 1001 two approved addresses in one file
+21,I,43,1,1,1,,,2001-04-01,
+24,I,M1,43,ENG,1,101,,,,,,1,,,,,2001-04-01,
+24,I,M2,43,ENG,1,101,,,,,,2,,,,,2001-04-01,
+= 3 30
+# 1001 an address of no property
+24,I,M1,44,ENG,1,101,,,,,,1,,,,,2001-04-01,
+= 2 31
+# 1001 a cross reference of no property
+23,I,X2,44,TAX01,8,2001-04-01,
+= 2 31
+# 1001 provisional, then a second approved one
+24,I,L3,42,ENG,6,101,,,,,,15,,,,,2024-04-01,
+24,U,L3,42,ENG,1,101,,,,,,15,,,,,2024-04-01,
+= 2 30
+# 1001 a second approved one, and no longer
+24,I,L3,42,ENG,1,101,,,,,,15,,,,,2024-04-01,
+24,U,L3,42,ENG,6,101,,,,,,15,,,,,2024-04-01,
+= applied
+# 1001 the first made historical in the same file
+24,I,L2,42,ENG,1,101,,,,,,14,,,,,2024-04-01,
+24,U,L1,42,ENG,8,101,,,,,Flat 2,12,A,14,,,2001-04-01,2024-04-01
+= applied
+# 1001 a street closed under an address
+11,U,101,1,2001-04-01,2024-04-30
+= 2 39
+# 1001 a street deleted
+11,D,101,1,2001-04-01,
+= 2 23
+# 1001 a property deleted
+21,D,42,1,450000,250000,,,2001-04-01,
+= 2 23
+# 1001 a property made historical under an address
+21,U,42,8,450000,250000,,,2001-04-01,2024-06-01
+= 2 37
+# 1001 an approved address of a historical property
+21,I,45,8,1,1,,,2001-04-01,
+24,I,M3,45,ENG,1,101,,,,,,3,,,,,2001-04-01,
+= 2 37
+# 1001 a descriptor deleted under an address
+15,D,101,ENG,High Street,,,Arden
+= 2 34
+# 1001 an address in a language without descriptor
+21,I,43,1,1,1,,,2001-04-01,
+24,I,M1,43,CYM,1,101,,,,,,1,,,,,2001-04-01,
+= 3 34
+# 1001 an address's language changed
+24,U,L2,42,CYM,1,101,,,,,,14,,,,,2024-04-01,
+= 2 24
+# 1001 an address's property changed
+21,I,43,1,1,1,,,2001-04-01,
+24,U,L2,43,ENG,1,101,,,,,,14,,,,,2024-04-01,
+= 3 24
+# 1001 a cross reference's property changed
+23,U,X1,43,TAX01,7,2001-04-01,
+= 2 24
+# 1001 none of a rejected file's records is kept
+21,U,43,1,1,1,,,2001-04-01,
+= 2 22
+";
 
-const NAMES: &[Case] = &[
-    Case {
-        name: "a street",
-        code: 1001,
-        bases: &[],
-        changes: &[(INSERT, Kind::Street, STREET)],
-        fault: None,
-    },
-    Case {
-        name: "a descriptor before its street, which is there",
-        code: 1001,
-        bases: &[],
-        changes: &[
-            (INSERT, Kind::Descriptor, NAME),
-            (INSERT, Kind::Street, STREET),
-        ],
-        fault: Some((3, 21)),
-    },
-    Case {
-        name: "a descriptor without its street",
-        code: 1001,
-        bases: &[],
-        changes: &[(INSERT, Kind::Descriptor, "102,ENG,Mill Lane,,,Arden")],
-        fault: Some((2, 38)),
-    },
-    Case {
-        name: "a descriptor before its street, which wasn't there",
-        code: 1001,
-        bases: &[],
-        changes: &[
-            (INSERT, Kind::Descriptor, "102,ENG,Mill Lane,,,Arden"),
-            (INSERT, Kind::Street, "102,1,2001-04-01,"),
-        ],
-        fault: None,
-    },
-    Case {
-        name: "a key used again in one file",
-        code: 1001,
-        bases: &[],
-        changes: &[
-            (INSERT, Kind::Descriptor, NAME),
-            (DELETE, Kind::Descriptor, NAME),
-            (INSERT, Kind::Descriptor, NAME),
-        ],
-        fault: Some((4, 21)),
-    },
-    Case {
-        name: "a descriptor comes and goes",
-        code: 1001,
-        bases: &[],
-        changes: &[
-            (INSERT, Kind::Descriptor, NAME),
-            (DELETE, Kind::Descriptor, NAME),
-        ],
-        fault: None,
-    },
-    Case {
-        name: "its key used again in the next file",
-        code: 1001,
-        bases: &[],
-        changes: &[(INSERT, Kind::Descriptor, NAME)],
-        fault: Some((2, 21)),
-    },
-    Case {
-        name: "an update of what went",
-        code: 1001,
-        bases: &[],
-        changes: &[(UPDATE, Kind::Descriptor, NAME)],
-        fault: Some((2, 22)),
-    },
-    Case {
-        name: "a deletion of what was never there",
-        code: 1001,
-        bases: &[],
-        changes: &[(DELETE, Kind::Xref, "X1,42,TAX01,7,2001-04-01,")],
-        fault: Some((2, 22)),
-    },
-];
+const NUMBERS: &str = "\
+# 1001 the ends of the own blocks
+11,I,100,1,2001-04-01,
+11,I,199,1,2001-04-01,
+21,I,1,1,1,1,,,2001-04-01,
+21,I,99999,1,1,1,,,2001-04-01,
+= applied
+# 1001 a street of a neighbour inserted
+11,I,200,1,2001-04-01,
+= 2 20
+# 1001 and updated
+11,U,200,1,2001-04-01,
+= 2 20
+# 1001 and deleted
+11,D,200,1,2001-04-01,
+= 2 20
+# 1001 a property of a neighbour
+21,I,100000,1,1,1,,,2001-04-01,
+= 2 20
+# 1001 the least rule of a record
+21,U,100000,1,1,1,,,2001-04-01,
+= 2 20
+# 1001 the records before the end rules
+15,I,102,ENG,Mill Lane,,,Arden
+11,D,100,1,2001-04-01,
+= 3 23
+";
 
-const HOUSE: &str = "42,1,450000,250000,,,2001-04-01,";
-
-const FLAT_2: &str = "L1,42,ENG,1,101,,,,,Flat 2,12,A,14,,,2001-04-01,";
-
-const FLAT_2_WAS: &str = "L1,42,ENG,8,101,,,,,Flat 2,12,A,14,,,2001-04-01,2024-04-01";
-
-const NUMBER_14: &str = "L2,42,ENG,1,101,,,,,,14,,,,,2024-04-01,";
-
-const PLANNED: &str = "L3,42,ENG,6,101,,,,,,15,,,,,2024-04-01,";
-
-const NUMBER_15: &str = "L3,42,ENG,1,101,,,,,,15,,,,,2024-04-01,";
-
-const TAXED: &str = "X1,42,TAX01,7,2001-04-01,";
-
-const ADDRESSES: &[Case] = &[
-    Case {
-        name: "an address on a street",
-        code: 1001,
-        bases: &[],
-        changes: &[
-            (INSERT, Kind::Street, STREET),
-            (INSERT, Kind::Descriptor, NAME),
-            (INSERT, Kind::Blpu, HOUSE),
-            (INSERT, Kind::Lpi, FLAT_2),
-            (INSERT, Kind::Xref, TAXED),
-        ],
-        fault: None,
-    },
-    Case {
-        name: "a second approved address",
-        code: 1001,
-        bases: &[],
-        changes: &[(INSERT, Kind::Lpi, NUMBER_14)],
-        fault: Some((2, 30)),
-    },
-    Case {
-        name: "two approved addresses in one file",
-        code: 1001,
-        bases: &[],
-        changes: &[
-            (INSERT, Kind::Blpu, "43,1,1,1,,,2001-04-01,"),
-            (INSERT, Kind::Lpi, "M1,43,ENG,1,101,,,,,,1,,,,,2001-04-01,"),
-            (INSERT, Kind::Lpi, "M2,43,ENG,1,101,,,,,,2,,,,,2001-04-01,"),
-        ],
-        fault: Some((3, 30)),
-    },
-    Case {
-        name: "an address of no property",
-        code: 1001,
-        bases: &[],
-        changes: &[(INSERT, Kind::Lpi, "M1,44,ENG,1,101,,,,,,1,,,,,2001-04-01,")],
-        fault: Some((2, 31)),
-    },
-    Case {
-        name: "a cross reference of no property",
-        code: 1001,
-        bases: &[],
-        changes: &[(INSERT, Kind::Xref, "X2,44,TAX01,8,2001-04-01,")],
-        fault: Some((2, 31)),
-    },
-    Case {
-        name: "provisional, then a second approved one",
-        code: 1001,
-        bases: &[],
-        changes: &[(INSERT, Kind::Lpi, PLANNED), (UPDATE, Kind::Lpi, NUMBER_15)],
-        fault: Some((2, 30)),
-    },
-    Case {
-        name: "a second approved one, and no longer",
-        code: 1001,
-        bases: &[],
-        changes: &[(INSERT, Kind::Lpi, NUMBER_15), (UPDATE, Kind::Lpi, PLANNED)],
-        fault: None,
-    },
-    Case {
-        name: "the first made historical in the same file",
-        code: 1001,
-        bases: &[],
-        changes: &[
-            (INSERT, Kind::Lpi, NUMBER_14),
-            (UPDATE, Kind::Lpi, FLAT_2_WAS),
-        ],
-        fault: None,
-    },
-    Case {
-        name: "a street closed under an address",
-        code: 1001,
-        bases: &[],
-        changes: &[(UPDATE, Kind::Street, "101,1,2001-04-01,2024-04-30")],
-        fault: Some((2, 39)),
-    },
-    Case {
-        name: "a street deleted",
-        code: 1001,
-        bases: &[],
-        changes: &[(DELETE, Kind::Street, STREET)],
-        fault: Some((2, 23)),
-    },
-    Case {
-        name: "a property deleted",
-        code: 1001,
-        bases: &[],
-        changes: &[(DELETE, Kind::Blpu, HOUSE)],
-        fault: Some((2, 23)),
-    },
-    Case {
-        name: "a property made historical under an address",
-        code: 1001,
-        bases: &[],
-        changes: &[(
-            UPDATE,
-            Kind::Blpu,
-            "42,8,450000,250000,,,2001-04-01,2024-06-01",
-        )],
-        fault: Some((2, 37)),
-    },
-    Case {
-        name: "an approved address of a historical property",
-        code: 1001,
-        bases: &[],
-        changes: &[
-            (INSERT, Kind::Blpu, "45,8,1,1,,,2001-04-01,"),
-            (INSERT, Kind::Lpi, "M3,45,ENG,1,101,,,,,,3,,,,,2001-04-01,"),
-        ],
-        fault: Some((2, 37)),
-    },
-    Case {
-        name: "a descriptor deleted under an address",
-        code: 1001,
-        bases: &[],
-        changes: &[(DELETE, Kind::Descriptor, NAME)],
-        fault: Some((2, 34)),
-    },
-    Case {
-        name: "an address in a language without descriptor",
-        code: 1001,
-        bases: &[],
-        changes: &[
-            (INSERT, Kind::Blpu, "43,1,1,1,,,2001-04-01,"),
-            (INSERT, Kind::Lpi, "M1,43,CYM,1,101,,,,,,1,,,,,2001-04-01,"),
-        ],
-        fault: Some((3, 34)),
-    },
-    Case {
-        name: "an address's language changed",
-        code: 1001,
-        bases: &[],
-        changes: &[(UPDATE, Kind::Lpi, "L2,42,CYM,1,101,,,,,,14,,,,,2024-04-01,")],
-        fault: Some((2, 24)),
-    },
-    Case {
-        name: "an address's property changed",
-        code: 1001,
-        bases: &[],
-        changes: &[
-            (INSERT, Kind::Blpu, "43,1,1,1,,,2001-04-01,"),
-            (UPDATE, Kind::Lpi, "L2,43,ENG,1,101,,,,,,14,,,,,2024-04-01,"),
-        ],
-        fault: Some((3, 24)),
-    },
-    Case {
-        name: "a cross reference's property changed",
-        code: 1001,
-        bases: &[],
-        changes: &[(UPDATE, Kind::Xref, "X1,43,TAX01,7,2001-04-01,")],
-        fault: Some((2, 24)),
-    },
-    Case {
-        name: "none of a rejected file's records is kept",
-        code: 1001,
-        bases: &[],
-        changes: &[(UPDATE, Kind::Blpu, "43,1,1,1,,,2001-04-01,")],
-        fault: Some((2, 22)),
-    },
-];
-
-const NUMBERS: &[Case] = &[
-    Case {
-        name: "the ends of the own blocks",
-        code: 1001,
-        bases: &[],
-        changes: &[
-            (INSERT, Kind::Street, "100,1,2001-04-01,"),
-            (INSERT, Kind::Street, "199,1,2001-04-01,"),
-            (INSERT, Kind::Blpu, "1,1,1,1,,,2001-04-01,"),
-            (INSERT, Kind::Blpu, "99999,1,1,1,,,2001-04-01,"),
-        ],
-        fault: None,
-    },
-    Case {
-        name: "a street of a neighbour inserted",
-        code: 1001,
-        bases: &[],
-        changes: &[(INSERT, Kind::Street, "200,1,2001-04-01,")],
-        fault: Some((2, 20)),
-    },
-    Case {
-        name: "and updated",
-        code: 1001,
-        bases: &[],
-        changes: &[(UPDATE, Kind::Street, "200,1,2001-04-01,")],
-        fault: Some((2, 20)),
-    },
-    Case {
-        name: "and deleted",
-        code: 1001,
-        bases: &[],
-        changes: &[(DELETE, Kind::Street, "200,1,2001-04-01,")],
-        fault: Some((2, 20)),
-    },
-    Case {
-        name: "a property of a neighbour",
-        code: 1001,
-        bases: &[],
-        changes: &[(INSERT, Kind::Blpu, "100000,1,1,1,,,2001-04-01,")],
-        fault: Some((2, 20)),
-    },
-    Case {
-        name: "the least rule of a record",
-        code: 1001,
-        bases: &[],
-        changes: &[(UPDATE, Kind::Blpu, "100000,1,1,1,,,2001-04-01,")],
-        fault: Some((2, 20)),
-    },
-    Case {
-        name: "the records before the end rules",
-        code: 1001,
-        bases: &[],
-        changes: &[
-            (INSERT, Kind::Descriptor, "102,ENG,Mill Lane,,,Arden"),
-            (DELETE, Kind::Street, "100,1,2001-04-01,"),
-        ],
-        fault: Some((3, 23)),
-    },
-];
-
-const NEIGHBOUR: &str = "100001,1,455000,255000,,,2020-01-01,";
-
-const ON_150: &str = "K1,100001,ENG,1,150,,,,,,7,,,,,2020-01-01,";
-
-const FOREIGN: &[Case] = &[
-    Case {
-        name: "a street and its descriptor",
-        code: 1001,
-        bases: &[],
-        changes: &[
-            (INSERT, Kind::Street, "150,1,1990-01-01,"),
-            (INSERT, Kind::Descriptor, "150,ENG,County Road,,Arden,Arden"),
-        ],
-        fault: None,
-    },
-    Case {
-        name: "it is closed",
-        code: 1001,
-        bases: &[],
-        changes: &[(UPDATE, Kind::Street, "150,1,1990-01-01,2024-04-30")],
-        fault: None,
-    },
-    Case {
-        name: "without a basis",
-        code: 1002,
-        bases: &[],
-        changes: &[(INSERT, Kind::Blpu, NEIGHBOUR), (INSERT, Kind::Lpi, ON_150)],
-        fault: Some((3, 32)),
-    },
-    Case {
-        name: "closed at the named volume",
-        code: 1002,
-        bases: &[(1001, 2)],
-        changes: &[(INSERT, Kind::Blpu, NEIGHBOUR), (INSERT, Kind::Lpi, ON_150)],
-        fault: Some((4, 33)),
-    },
-    Case {
-        name: "in a language without descriptor",
-        code: 1002,
-        bases: &[(1001, 1)],
-        changes: &[
-            (INSERT, Kind::Blpu, NEIGHBOUR),
-            (
-                INSERT,
-                Kind::Lpi,
-                "K1,100001,CYM,1,150,,,,,,7,,,,,2020-01-01,",
-            ),
-        ],
-        fault: Some((4, 34)),
-    },
-    Case {
-        name: "open at the named volume, and closed later",
-        code: 1002,
-        bases: &[(1001, 1)],
-        changes: &[(INSERT, Kind::Blpu, NEIGHBOUR), (INSERT, Kind::Lpi, ON_150)],
-        fault: None,
-    },
-];
+const FOREIGN: &str = "\
+# 1001 a street and its descriptor
+11,I,150,1,1990-01-01,
+15,I,150,ENG,County Road,,Arden,Arden
+= applied
+# 1001 it is closed
+11,U,150,1,1990-01-01,2024-04-30
+= applied
+# 1002 without a basis
+21,I,100001,1,455000,255000,,,2020-01-01,
+24,I,K1,100001,ENG,1,150,,,,,,7,,,,,2020-01-01,
+= 3 32
+# 1002 closed at the named volume
+90,1001,2
+21,I,100001,1,455000,255000,,,2020-01-01,
+24,I,K1,100001,ENG,1,150,,,,,,7,,,,,2020-01-01,
+= 4 33
+# 1002 in a language without descriptor
+90,1001,1
+21,I,100001,1,455000,255000,,,2020-01-01,
+24,I,K1,100001,CYM,1,150,,,,,,7,,,,,2020-01-01,
+= 4 34
+# 1002 open at the named volume, and closed later
+90,1001,1
+21,I,100001,1,455000,255000,,,2020-01-01,
+24,I,K1,100001,ENG,1,150,,,,,,7,,,,,2020-01-01,
+= applied
+";
 
 // Streets of 1001 in its views 1, 2 and 3: closed, with a descriptor, open again.
-const CLOSED_THEN_OPEN: &[Case] = &[
-    Case {
-        name: "a closed street",
-        code: 1001,
-        bases: &[],
-        changes: &[(INSERT, Kind::Street, "150,1,1990-01-01,2024-04-30")],
-        fault: None,
-    },
-    Case {
-        name: "its descriptor",
-        code: 1001,
-        bases: &[],
-        changes: &[(INSERT, Kind::Descriptor, "150,ENG,County Road,,Arden,Arden")],
-        fault: None,
-    },
-    Case {
-        name: "it is open again",
-        code: 1001,
-        bases: &[],
-        changes: &[(UPDATE, Kind::Street, "150,1,1990-01-01,")],
-        fault: None,
-    },
-];
-
-const SEA_VIEW: &str = "S1,200001,ENG,1,150,,,,,,9,,,,,2020-01-01,";
+const CLOSED_THEN_OPEN: &str = "\
+# 1001 a closed street
+11,I,150,1,1990-01-01,2024-04-30
+= applied
+# 1001 its descriptor
+15,I,150,ENG,County Road,,Arden,Arden
+= applied
+# 1001 it is open again
+11,U,150,1,1990-01-01,
+= applied
+";
 
 // Where 1002 has the street too, without a descriptor.
-const IN_TWO_VIEWS: &[Case] = &[
-    Case {
-        name: "the own view comes before a basis view",
-        code: 1002,
-        bases: &[(1001, 3)],
-        changes: &[(INSERT, Kind::Blpu, NEIGHBOUR), (INSERT, Kind::Lpi, ON_150)],
-        fault: Some((4, 34)),
-    },
-    Case {
-        name: "the first basis view, where it is closed",
-        code: 1003,
-        bases: &[(1001, 2), (1002, 1)],
-        changes: &[
-            (INSERT, Kind::Blpu, "200001,1,1,1,,,2001-04-01,"),
-            (INSERT, Kind::Lpi, SEA_VIEW),
-        ],
-        fault: Some((5, 33)),
-    },
-    Case {
-        name: "the first basis view, where it is open",
-        code: 1003,
-        bases: &[(1001, 3), (1002, 1)],
-        changes: &[
-            (INSERT, Kind::Blpu, "200001,1,1,1,,,2001-04-01,"),
-            (INSERT, Kind::Lpi, SEA_VIEW),
-        ],
-        fault: None,
-    },
-];
+const IN_TWO_VIEWS: &str = "\
+# 1002 the own view comes before a basis view
+90,1001,3
+21,I,100001,1,455000,255000,,,2020-01-01,
+24,I,K1,100001,ENG,1,150,,,,,,7,,,,,2020-01-01,
+= 4 34
+# 1003 the first basis view, where it is closed
+90,1001,2
+90,1002,1
+21,I,200001,1,1,1,,,2001-04-01,
+24,I,S1,200001,ENG,1,150,,,,,,9,,,,,2020-01-01,
+= 5 33
+# 1003 the first basis view, where it is open
+90,1001,3
+90,1002,1
+21,I,200001,1,1,1,,,2001-04-01,
+24,I,S1,200001,ENG,1,150,,,,,,9,,,,,2020-01-01,
+= applied
+";
 
 // The same street in the view of 1002, as no lawful file makes it.
 fn has_street_too<K: Inbox>(alloc: Global, shelf: &mut K) -> Result<(), Fail>
@@ -688,7 +429,12 @@ fn link(alloc: Global, place: u64, uprn: u64) -> Result<Change, Fail> {
     } else {
         format!(in alloc; "{uprn},1,1,1,{},,2020-01-01,", uprn - 1)?
     };
-    change(alloc, place, INSERT, Kind::Blpu, row.as_str())
+    let item = item_of_text(alloc, Kind::Blpu, row.as_bytes())?;
+    Ok(Change {
+        place,
+        action: Action::Insert,
+        item,
+    })
 }
 
 // 5,000 properties, each a part of the one with the number before it.
@@ -698,12 +444,7 @@ fn chain(alloc: Global, backwards: bool) -> Result<ChangeFile, Fail> {
         let uprn = if backwards { 5001 - n } else { n };
         changes.push(link(alloc, n + 1, uprn)?)?;
     }
-    let date = Day::of(2024, 1, 2).ok_or("a day")?;
-    Ok(ChangeFile {
-        date,
-        bases: Vec::new(alloc),
-        changes,
-    })
+    file_of(Vec::new(alloc), changes)
 }
 
 fn asks_little(rt: &(impl Abort + AllocGlobal), backwards: bool) -> Result<(), Fail> {

@@ -49,7 +49,7 @@ returns-in_default-2 g c =
     let was = g.S.Shelf.seen c.args.shelf.now in
     let now = g.S.Shelf.seen c.parent_of.new.shelf in
     let free : visit_of c.loop-step.walked c.loop-step.at ≡ None = sym c.visit_of.ensures ∙ c.in_default.is in
-    let visits = λ (stood : was.stands) (fine : now.unharmed). visited_as _ _ _ _ _ _ _ _ (visit_of c.visit.new.self) c.visit.new.self.on_ring.items (inv.visits stood (up.keeps.harm fine)) (inv.here stood (up.keeps.harm fine)) free c.in-Ok.ensures.visits c.in-Ok.ensures.on_ring in
+    let visits = λ (stood : was.stands) (fine : now.unharmed). visited_as _ _ _ _ _ _ _ _ (visit_of c.visit.new.self) c.visit.new.self.on_ring.items (inv.visits stood (up.keeps.harm fine)) (inv.here stood (up.keeps.harm fine)) free c.in_ok-visit.ensures.visits c.in_ok-visit.ensures.on_ring in
     record {
       keeps = keeps_then _ _ _ inv.keeps up.keeps;
       right = λ stood fine known.
@@ -77,5 +77,5 @@ loop-step-preserved g c =
           let mid = up.keeps.harm fine in
           let parent : c.in_ok-parent.field-0 ≡ parent_of was.content.working c.loop-step.at = up.right (inv.keeps.stands stood mid) fine ∙ ap (λ k. parent_of k.working c.loop-step.at) (inv.keeps.content stood mid) in
           one_more was.content.working _ _ _ (inv.here stood mid) ∙ sym parent ∙ c.in-Some-2.is;
-      visits = λ stood fine. visited_as _ _ _ _ _ _ _ _ (visit_of c.visit.new.self) c.visit.new.self.on_ring.items (inv.visits stood (up.keeps.harm fine)) (inv.here stood (up.keeps.harm fine)) free c.in-Ok.ensures.visits c.in-Ok.ensures.on_ring;
+      visits = λ stood fine. visited_as _ _ _ _ _ _ _ _ (visit_of c.visit.new.self) c.visit.new.self.on_ring.items (inv.visits stood (up.keeps.harm fine)) (inv.here stood (up.keeps.harm fine)) free c.in_ok-visit.ensures.visits c.in_ok-visit.ensures.on_ring;
     }
