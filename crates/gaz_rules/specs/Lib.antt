@@ -6,6 +6,7 @@ pub mod Judges
 pub mod Sound
 pub mod Laws
 pub mod Sentences
+pub mod Verdicts
 pub mod Examples
 pub mod EndExamples
 pub mod JudgedExamples
