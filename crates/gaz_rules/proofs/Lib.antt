@@ -6,6 +6,7 @@ pub mod Soundness
 pub mod Judged
 pub mod SoundBoards
 pub mod Sentences
+pub mod Verdicts
 pub mod Worked
 pub mod Examples
 pub mod Walks

@@ -110,7 +110,7 @@ pub record WorkedPast : Type 0 where
 
 -- ---- streets of other custodians
 
--- property 1001 with an address on street 201, and on whatever else
+-- property 1001, with an approved address on street 201, which is another custodian's
 abbrev pub away : List Item
 away = blpu 1001 None ∷ lpi (codes "L1") 1001 Eng Approved 201 ∷ []
 

@@ -24,13 +24,13 @@ FindsRings = (v : View) (uprn : ℕ) → (is_own_ancestor v (key.Blpu uprn) ≡ 
 
 -- ---- touched keys are enough
 
--- the empty view is sound; and after a file that rests on sound views of others, a sound view is still sound, though only the keys that the file touches were looked at
+-- the empty view is sound, and so is a sound view after a file that rests on sound views of others, though only touched keys were looked at
 pub record StaysSound : Type 0 where
   pub empty : (own : Blocks) → IsSound own empty_view
   pub after_file : (own : Owners) (c : ℕ) (v : View) (out : List (ℕ × View)) (r : Reading)
       → AreDisjoint own → IsSound (own c) v → AreSoundBases own c out → IsSound (own c) (judge (own c) v out r).view
 
--- the board without judgements is sound, and one more judgement leaves a sound board sound; the blocks of a register are disjoint
+-- the board without judgements is sound, and so is a sound board with one more judgement; the blocks of a register are disjoint
 pub record BoardsStaySound : Type 0 where
   pub empty : (own : Owners) → IsSoundBoard own empty_board
   pub after_file : (own : Owners) (B : Board) (c : ℕ) (r : Reading)

@@ -9,6 +9,7 @@ pub mod Streets
 pub mod Breaches
 pub mod Laws
 pub mod Sentences
+pub mod Verdicts
 pub mod Examples
 pub mod Phases
 pub mod EndExamples

@@ -2,10 +2,17 @@
 ghost use Rattle.gaz_rules.specs.JudgedExamples.{WorkedExamples};
 ghost use Rattle.gaz_rules.specs.Laws.{BoardsStaySound, FindsRings, StaysSound};
 ghost use Rattle.gaz_rules.specs.Sentences.{TestsSay};
+ghost use Rattle.gaz_rules.specs.Verdicts.{JudgesSay};
 
 /// What the definitions come to on worked examples.
 pub fn worked_examples()
     ensures { WorkedExamples }
+{}
+
+/// A file is rejected at its fault of form, else at its first change that doesn't fit, else at its first key that breaks a rule in the
+/// end, each with the least rule; else it is applied.
+pub fn judges_say()
+    ensures { JudgesSay }
 {}
 
 /// The tests of the end rules, and of where a street is found, are true just where their sentences hold.
