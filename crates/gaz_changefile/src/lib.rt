@@ -23,4 +23,6 @@ pub use read::read_file;
 pub use write::write_file;
 
 #[cfg(test)]
+mod fixtures;
+#[cfg(test)]
 mod tests;

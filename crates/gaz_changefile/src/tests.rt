@@ -1,12 +1,10 @@
 use super::*;
+use crate::fixtures::*;
 use gaz_ids::{Code, Volume};
-use gaz_records::Item;
+use gaz_records::{Item, item_text};
 use std::alloc::Global;
 use std::fmt::Write;
 use std::test::Fail;
-
-/// One street of custodian 1001, volume 1.
-const STREET_101: &[u8] = b"10,1,1001,1,2024-01-02\n11,I,1,101,1,2001-04-01,\n99,1\n";
 
 // The place and the rule of a bad file, 0 and 0 of a good one, and 99 where it could not be told.
 fn told(alloc: Global, bytes: &[u8], code: u64, volume: u64) -> (u64, u8) {
@@ -110,10 +108,26 @@ fn files_and_their_first_faults(rt: HostRuntime) {
             (0, 0),
         ),
         (b"10,1,1001,1,2024-01-02\n\"\"\n99,0\n".as_slice(), (2, 5)),
+        (b"10,1,1001,1,2024-01-02\r99,0\r".as_slice(), (0, 0)),
+        (b"10,1,1001,1,2024-01-02\r\n\n99,0\r\n\n".as_slice(), (0, 0)),
+        (b"10,1,1001,1,2024-01-02\n \n99,0\n".as_slice(), (2, 5)),
+        (b"10,1,1001,1,2024-01-02\n\"99,0\n".as_slice(), (2, 5)),
+        (
+            b"10,1,1001,1,2024-01-02\n11,\"I\",1,\"1\"01,1,2001-04-01,\n99,1\n".as_slice(),
+            (0, 0),
+        ),
+        (
+            b"10,1,1001,1,2024-01-02\n99,0\n90,1002,1\n".as_slice(),
+            (3, 8),
+        ),
+        (b"10,1,1001,1,2024-01-02\n99,0\nx\n".as_slice(), (3, 8)),
     ];
     for (i, (file, want)) in files.iter().enumerate() {
         assert_eq!(rt; told(rt.alloc(), file, 1001, 1), *want, "file {i}");
     }
+    assert_eq!(rt; told(rt.alloc(), ONE_TOO_FEW, 1002, 1), (3, 8));
+    assert_eq!(rt; told(rt.alloc(), NO_TRAILER, 1002, 2), (3, 8));
+    assert_eq!(rt; told(rt.alloc(), TWO_TRAILERS, 1002, 3), (4, 8));
     assert_eq!(rt; told(rt.alloc(), STREET_101, 1002, 1), (1, 3));
     assert_eq!(rt; told(rt.alloc(), STREET_101, 1001, 2), (1, 3));
 }
@@ -132,6 +146,23 @@ fn change_records_and_their_first_faults(rt: HostRuntime) -> Result<(), Fail> {
         ("11,D,1,101,1,2001-02-29,", (2, 6)),
         ("11,X,2,0,0,,,", (2, 5)),
         ("15,I,1,101,ENG,High Street,,Arden,Arden", (0, 0)),
+        ("15,I,1,101,ENG,High Street,,Arden", (2, 5)),
+        ("15,D,1,101,DEU,High Street,,Arden,Arden", (2, 6)),
+        ("21,I,1,1000000000000,1,0,0,,,2020-01-01,", (2, 6)),
+        ("21,I,1,0,1,0,0,,,2020-01-01,", (2, 6)),
+        ("21,I,1,1,1,700001,0,,,2020-01-01,", (2, 6)),
+        ("23,I,1,X1,200000,TAX01,A/17,2010-05-01,", (0, 0)),
+        ("23,I,2,X1,200000,TAX01,A/17,2010-05-01,2010-04-30", (2, 6)),
+        (
+            "24,I,1,L1,42,ENG,1,101,,,,,Flat 2,12,,12,A,,2001-04-01,",
+            (0, 0),
+        ),
+        (
+            "24,I,1,L1,42,ENG,1,101,,,,,Flat 2,14,,12,A,,2001-04-01,",
+            (2, 6),
+        ),
+        ("24,I,1,L1,42,ENG,1,101,,,,,Flat 2,,,,,,2001-04-01,", (2, 6)),
+        ("91,I,1,500,1002,1", (2, 5)),
     ];
     for (record, want) in &records {
         let file = format!(in rt.alloc(); "10,1,1001,1,2024-01-02\n{record}\n99,1\n")?;
@@ -141,6 +172,55 @@ fn change_records_and_their_first_faults(rt: HostRuntime) -> Result<(), Fail> {
             "{record}"
         );
     }
+    Ok(())
+}
+
+#[test]
+fn basis_lines_and_their_first_faults(rt: HostRuntime) -> Result<(), Fail> {
+    let lines = [
+        ("90,1003,1", (0, 0)),
+        ("90,9998,999999", (0, 0)),
+        ("90,0001,0001\n90,9999,1", (0, 0)),
+        ("90,1003,0", (2, 4)),
+        ("90,1003,1000000", (2, 4)),
+        ("90,1003", (2, 4)),
+        ("90,1003,1,", (2, 4)),
+        ("90,0,1", (2, 4)),
+        ("90,1002,1", (2, 4)),
+        ("90,1001,1\n90,1001,2", (3, 4)),
+        ("90,1003,1\n90,1001,1", (3, 4)),
+        ("11,I,1,201,1,2001-04-01,\n90,1003,1", (3, 4)),
+        ("90,1003,1\n15,I,1", (3, 5)),
+    ];
+    for (line, want) in &lines {
+        let file = format!(in rt.alloc(); "10,1,1002,1,2024-06-01\n{line}\n99,0\n")?;
+        assert_eq!(rt; told(rt.alloc(), file.as_bytes(), 1002, 1), *want, "{line}");
+    }
+    let mut most = String::from_str(rt.alloc(), "10,1,1002,1,2024-06-01\n")?;
+    for code in 1..=16 {
+        write!(most, "90,{code},1\n")?;
+    }
+    let more = format!(in rt.alloc(); "{most}90,17,1\n99,0\n")?;
+    write!(most, "99,0\n")?;
+    assert_eq!(rt; told(rt.alloc(), most.as_bytes(), 1002, 1), (0, 0));
+    assert_eq!(rt; told(rt.alloc(), more.as_bytes(), 1002, 1), (18, 4));
+    assert_eq!(rt; told(rt.alloc(), RESTS_ON_1003, 1002, 2), (1, 3));
+    Ok(())
+}
+
+#[test]
+fn number_7_county_road_is_read(rt: HostRuntime) -> Result<(), Fail> {
+    let code = Code::of(1002).ok_or("code")?;
+    let volume = Volume::of(1).ok_or("volume")?;
+    let file = read_file(rt.alloc(), NUMBER_7_COUNTY_ROAD, code, volume)?;
+    assert_eq!(rt; file.bases.len(), 1);
+    let basis = file.bases[0];
+    assert_eq!(rt;
+        (basis.custodian.number(), basis.volume.number()),
+        (1001, 1)
+    );
+    assert_eq!(rt; file.changes.len(), 2);
+    assert_eq!(rt; (file.changes[0].place, file.changes[1].place), (3, 4));
     Ok(())
 }
 
@@ -183,5 +263,48 @@ fn the_profile_that_a_file_names(rt: HostRuntime) -> Result<(), Fail> {
     for (i, (file, want)) in files.iter().enumerate() {
         assert_eq!(rt; profile_of(rt.alloc(), file)?, *want, "file {i}");
     }
+    Ok(())
+}
+
+// A file that was read, whose items were copied, and which was written: its bytes.
+fn rewritten(alloc: Global, bytes: &[u8], code: Code, volume: Volume) -> Result<Vec<u8>, Fail> {
+    let file = read_file(alloc, bytes, code, volume)?;
+    for change in &file.changes {
+        let copy = change.item.copy()?;
+        if item_text(alloc, &copy)? != item_text(alloc, &change.item)? {
+            return Err("another item".into());
+        }
+    }
+    Ok(write_file(alloc, &file, code, volume)?)
+}
+
+#[test]
+fn written_back(rt: HostRuntime) -> Result<(), Fail> {
+    let files = [
+        (STREET_101, 1001, 1),
+        (HIGH_STREET, 1001, 2),
+        (FLAT_2_HIGH_STREET, 1001, 3),
+        (NUMBER_14_HIGH_STREET, 1001, 4),
+        (HIGH_STREET_AND_STREET_101, 1001, 2),
+        (COUNTY_ROAD, 1001, 1),
+        (COUNTY_ROAD_CLOSED, 1001, 2),
+        (NUMBER_7_COUNTY_ROAD, 1002, 1),
+        (RESTS_ON_1003, 1002, 1),
+        (RESTS_ON_1002, 1003, 1),
+        (OLD_MILL, 1003, 1),
+        (RING_OF_PARENTS, 1001, 1),
+    ];
+    for (i, (bytes, code, volume)) in files.iter().enumerate() {
+        let code = Code::of(*code).ok_or("code")?;
+        let volume = Volume::of(*volume).ok_or("volume")?;
+        let once = rewritten(rt.alloc(), bytes, code, volume)?;
+        assert_eq!(rt; once.as_slice(), *bytes, "file {i}");
+    }
+    let code = Code::of(1001).ok_or("code")?;
+    let volume = Volume::of(1).ok_or("volume")?;
+    let once = rewritten(rt.alloc(), LEADING_ZEROS, code, volume)?;
+    let again = rewritten(rt.alloc(), &once, code, volume)?;
+    assert!(rt; once.len() + 10 == LEADING_ZEROS.len());
+    assert_eq!(rt; once.as_slice(), again.as_slice());
     Ok(())
 }
