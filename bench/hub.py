@@ -1,0 +1,385 @@
+"""A plain hub in Python's standard library: dictionaries and `csv`, all five kinds, every rule; it answers a stream of requests."""
+import csv
+import hashlib
+import io
+import sys
+
+from baseline import MOST, day, head_of, is_closing, length_of, number
+from items import KINDS, Fault
+
+REGISTER = {
+    1001: ([(1, 99_999), (999_999_999_000, 999_999_999_999)], [(100, 199), (99_999_999, 99_999_999)]),
+    1002: ([(100_000, 199_999)], [(200, 299)]),
+    1003: ([(200_000, 299_999)], [(300, 399)]),
+}
+READERS = {kind: read for kind, (read, _) in KINDS.items()}
+KEY_WIDTH = {"11": 1, "15": 2, "21": 1, "23": 1, "24": 1}
+
+
+# ---- reading
+
+
+def basis_fault(row, code, bases, changes):
+    """The basis that a record says, or None where it breaks rule 4."""
+    if len(row) != 3 or changes or len(bases) == 16:
+        return None
+    named, volume = number(row[1], 4, 1, 9999), number(row[2], 6, 1, 999_999)
+    if named is None or volume is None or named == code or (bases and named <= bases[-1][0]):
+        return None
+    return named, volume
+
+
+def change_of(row, place, count):
+    """A change, or the rule that its record breaks."""
+    if count >= 5000:
+        return 9
+    try:
+        item = READERS[row[0]](row[3:])
+    except Fault as fault:
+        return 6 if fault.args[0] else 5
+    if row[1] not in ("I", "U", "D"):
+        return 6
+    if number(row[2], 4, 1, 5000) != count + 1:
+        return 7
+    return place, row[1], (row[0], *item[: KEY_WIDTH[row[0]]]), item
+
+
+def is_header(row):
+    return len(row) == 5 and row[0] == "10" and number(row[1], 4, 1, 9999) == 1 and day(row[4]) is not None
+
+
+def header_fault(row, code, volume):
+    named = (number(row[2], 4, 1, 9999), number(row[3], 6, 1, 999_999)) if is_header(row) else (None, None)
+    if None in named:
+        return 2
+    return None if named == (code, volume) else 3
+
+
+def rows_of(data):
+    return (row for row in csv.reader(io.StringIO(data.removeprefix("\ufeff"), newline="")) if row)
+
+
+def read(data, code, volume):
+    """The basis lines and the changes, or the first record at fault with its rule."""
+    try:
+        rows = rows_of(data.decode("utf-8"))
+    except UnicodeDecodeError:
+        return 1, 1
+    header = next(rows, None)
+    rule = 1 if header is None else header_fault(header, code, volume)
+    if rule:
+        return 1, rule
+    bases, changes, ended, place = [], [], False, 1
+    for place, row in enumerate(rows, 2):
+        if ended:
+            return place, 8
+        if row[0] == "90":
+            basis = basis_fault(row, code, bases, changes)
+            if basis is None:
+                return place, 4
+            bases.append(basis)
+        elif row[0] in READERS:
+            change = change_of(row, place, len(changes))
+            if isinstance(change, int):
+                return place, change
+            changes.append(change)
+        elif row[0] == "99":
+            if len(row) != 2 or number(row[1], 4, 0, 5000) != len(changes):
+                return place, 8
+            ended = True
+        else:
+            return place, 5
+    return (bases, changes) if ended else (place + 1, 8)
+
+
+# ---- views
+
+
+class View:
+    def __init__(self, items=(), used=(), homes=(), streets=()):
+        self.items, self.used = dict(items), set(used)
+        # the approved LPIs of a BLPU, and on a street
+        self.homes = {uprn: set(keys) for uprn, keys in dict(homes).items()}
+        self.streets = {usrn: set(keys) for usrn, keys in dict(streets).items()}
+
+    def copy(self):
+        return View(self.items, self.used, self.homes, self.streets)
+
+    def drop(self, key):
+        item = self.items.pop(key, None)
+        if item and key[0] == "24" and item[3] == "1":
+            self.homes[item[1]].discard(key)
+            self.streets[item[4]].discard(key)
+
+    def put(self, key, item):
+        self.drop(key)
+        self.items[key] = item
+        self.used.add(key)
+        if key[0] == "24" and item[3] == "1":
+            self.homes.setdefault(item[1], set()).add(key)
+            self.streets.setdefault(item[4], set()).add(key)
+
+    def approved_on(self, usrn, lang=None):
+        return any(lang is None or self.items[key][2] == lang for key in self.streets.get(usrn, ()))
+
+
+def within(blocks, n):
+    return any(low <= n <= high for low, high in blocks)
+
+
+# ---- rules
+
+
+def record_rule(own, view, action, key, item):
+    if key[0] == "11" and not within(own[1], item[0]) or key[0] == "21" and not within(own[0], item[0]):
+        return 20
+    if action == "I":
+        return 21 if key in view.used else None
+    old = view.items.get(key)
+    if old is None:
+        return 22
+    if action == "D":
+        return 23 if key[0] in ("11", "21") else None
+    if key[0] == "24" and old[1:3] != item[1:3] or key[0] == "23" and old[1] != item[1]:
+        return 24
+    return None
+
+
+def found(view, out, usrn):
+    for w in (view, *out):
+        if ("11", usrn) in w.items:
+            return w
+    return None
+
+
+def lpi_rule(view, out, key, lpi):
+    if view.homes[lpi[1]] != {key}:
+        return 30
+    blpu = view.items.get(("21", lpi[1]))
+    if blpu is None:
+        return 31
+    w = found(view, out, lpi[4])
+    if w is None:
+        return 32
+    if w.items["11", lpi[4]][3] is not None:
+        return 33
+    if ("15", lpi[4], lpi[2]) not in w.items:
+        return 34
+    return 37 if blpu[1] == "8" else None
+
+
+def is_own_ancestor(view, uprn):
+    seen, at = set(), uprn
+    while at not in seen:
+        seen.add(at)
+        blpu = view.items.get(("21", at))
+        if blpu is None or blpu[4] == "":
+            return False
+        at = blpu[4]
+        if at == uprn:
+            return True
+    return False
+
+
+def blpu_rule(view, blpu):
+    if blpu[4] != "" and ("21", blpu[4]) not in view.items:
+        return 35
+    if is_own_ancestor(view, blpu[0]):
+        return 36
+    return 37 if blpu[1] == "8" and view.homes.get(blpu[0]) else None
+
+
+def descriptor_rule(view, key, item):
+    street = ("11", key[1]) in view.items
+    if item is not None:
+        return None if street else 38
+    return 34 if street and view.approved_on(key[1], key[2]) else None
+
+
+def end_rule(view, out, key):
+    item = view.items.get(key)
+    if key[0] == "15":
+        return descriptor_rule(view, key, item)
+    if item is None:
+        return None
+    if key[0] == "11":
+        return 39 if item[3] is not None and view.approved_on(key[1]) else None
+    if key[0] == "21":
+        return blpu_rule(view, item)
+    if key[0] == "24" and item[3] == "1":
+        return lpi_rule(view, out, key, item)
+    return None if ("21", item[1]) in view.items else 31
+
+
+def judge(own, view, out, changes):
+    """The verdict, and the view afterwards."""
+    after = view.copy()
+    for place, action, key, item in changes:
+        rule = record_rule(own, after, action, key, item)
+        if rule:
+            return (place, rule), view
+        after.drop(key) if action == "D" else after.put(key, item)
+    for place, _, key, _ in changes:
+        rule = end_rule(after, out, key)
+        if rule:
+            return (place, rule), view
+    return "applied", after
+
+
+# ---- the hub
+
+
+class Hub:
+    def __init__(self):
+        self.files = {}
+        self.read = {}
+        self.verdicts = {code: [] for code in REGISTER}
+        self.views = {code: [View()] for code in REGISTER}
+
+    def reached(self, code):
+        return len(self.verdicts.get(code, ()))
+
+    def wants(self, code):
+        volume = self.reached(code) + 1
+        if volume > 999_999:
+            return None
+        if (code, volume) not in self.files:
+            return code, volume
+        bases, _ = self.reading(code, volume)
+        return next(((d, w) for d, w in bases if self.reached(d) < w), None)
+
+    def reading(self, code, volume):
+        """The basis lines of a file, none where it is at fault, and its changes or its fault."""
+        if (code, volume) not in self.read:
+            bases, changes = read(self.files[code, volume], code, volume)
+            self.read[code, volume] = (bases, changes) if isinstance(bases, list) else ([], (bases, changes))
+        return self.read[code, volume]
+
+    def settle(self):
+        judged = True
+        while judged:
+            judged = False
+            for code in REGISTER:
+                volume = self.reached(code) + 1
+                if (code, volume) in self.files and self.wants(code) is None:
+                    self.judge_next(code, volume)
+                    judged = True
+
+    def judge_next(self, code, volume):
+        bases, changes = self.reading(code, volume)
+        view = self.views[code][-1]
+        if isinstance(changes, tuple):
+            verdict, after = changes, view
+        else:
+            verdict, after = judge(REGISTER[code], view, [self.views[d][w] for d, w in bases], changes)
+        del self.read[code, volume]
+        self.verdicts[code].append(verdict)
+        self.views[code].append(after)
+
+    def outcome(self, code, volume):
+        """The outcome of a received file as JSON, without the braces."""
+        if volume <= self.reached(code):
+            verdict = self.verdicts[code][volume - 1]
+            return '"outcome":"applied"' if verdict == "applied" else '"outcome":"rejected","record":%d,"rule":%d' % verdict
+        return '"outcome":"held","wants":{"custodian":%d,"volume":%d}' % self.wants(code)
+
+    def submit(self, code, volume, data):
+        fault = door(code, volume) or (names_unknown_profile(data) and (415, 16))
+        if fault:
+            return fault
+        self.settle()
+        there = self.files.get((code, volume))
+        if there is not None and there != data:
+            return 409, '{"digest":"%s","outcome":"taken"}' % hashlib.sha256(there).hexdigest()
+        self.files[code, volume] = data
+        self.settle()
+        return 201 if there is None else 200, "{%s}" % self.outcome(code, volume)
+
+    def ask(self, code, volume):
+        fault = door(code, volume)
+        if fault:
+            return fault
+        self.settle()
+        there = self.files.get((code, volume))
+        if there is None:
+            return 404, 17
+        return 200, '{"digest":"%s",%s}' % (hashlib.sha256(there).hexdigest(), self.outcome(code, volume))
+
+    def status(self, code):
+        if code not in REGISTER:
+            return 404, 11
+        self.settle()
+        held = sum(1 for d, v in self.files if d == code and v > self.reached(code))
+        wants = self.wants(code)
+        want = "null" if wants is None else '{"custodian":%d,"volume":%d}' % wants
+        return 200, '{"custodian":%d,"held":%d,"judged":%d,"wants":%s}' % (code, held, self.reached(code), want)
+
+
+def door(code, volume):
+    if code not in REGISTER:
+        return 404, 11
+    return (404, 12) if volume is None else None
+
+
+def names_unknown_profile(data):
+    row = next(rows_of(data.decode("utf-8", "surrogateescape")), [])
+    profile = number(row[1], 4, 1, 9999) if len(row) > 1 and row[0] == "10" else None
+    return profile is not None and profile != 1
+
+
+# ---- requests
+
+REASONS = {200: "OK", 201: "Created", 404: "Not Found", 405: "Method Not Allowed", 409: "Conflict", 415: "Unsupported Media Type"}
+
+
+def answer_to(hub, method, target, body):
+    """The status, the body and the allowed methods of a reply."""
+    segments = target.decode("latin-1").split("/")[1:]
+    if len(segments) == 4 and segments[0] == "custodians" and segments[2] == "volumes" and segments[1] and segments[3]:
+        if method not in (b"POST", b"GET"):
+            return 405, 42, "GET, POST"
+        code, volume = number(segments[1], 4, 1, 9999), number(segments[3], 6, 1, 999_999)
+        return *(hub.submit(code, volume, body) if method == b"POST" else hub.ask(code, volume)), None
+    if len(segments) == 2 and segments[0] == "custodians" and segments[1]:
+        if method != b"GET":
+            return 405, 42, "GET"
+        return *hub.status(number(segments[1], 4, 1, 9999)), None
+    return 404, 41, None
+
+
+def write_reply(sink, status, text, allow, closes):
+    body = ('{"refusal":%d}\n' % text if isinstance(text, int) else text + "\n").encode()
+    allow = "Allow: %s\r\n" % allow if allow else ""
+    close = "Connection: close\r\n" if closes else ""
+    head = "HTTP/1.1 %d %s\r\nContent-Type: application/json\r\nContent-Length: %d\r\n%s%s\r\n" % (status, REASONS[status], len(body), allow, close)
+    sink.write(head.encode() + body)
+
+
+def refuse(sink, status, refusal):
+    body = b'{"refusal":%d}\n' % refusal
+    sink.write(b"HTTP/1.1 %s\r\nContent-Type: application/json\r\nContent-Length: %d\r\nConnection: close\r\n\r\n%s" % (status, len(body), body))
+
+
+def answer(source, sink, most=MOST):
+    hub = Hub()
+    for count in range(1, most + 1):
+        head = head_of(source)
+        if head is None:
+            return
+        if not head:
+            return refuse(sink, b"400 Bad Request", 40)
+        method, target, minor, headers = head
+        size, refusal = length_of(method, headers)
+        if refusal:
+            return refuse(sink, *refusal)
+        body = source.read(size)
+        if len(body) < size:
+            return refuse(sink, b"400 Bad Request", 40)
+        closes = count == most or is_closing(minor, headers)
+        write_reply(sink, *answer_to(hub, method, target, body), closes)
+        if closes:
+            return
+
+
+if __name__ == "__main__":
+    answer(sys.stdin.buffer, sys.stdout.buffer)
