@@ -36,6 +36,7 @@ rested (Some d) (Some w) = Some (record { custodian = d; volume = w })
 abbrev pub basis_in : Fields → Option Basis
 basis_in row = if length row == 3 then rested (read_code (field row 1)) (read_volume (field row 2)) else None
 
+-- the basis of a record, by what the record is
 abbrev pub basis_of : Fields → Line → Option Basis
 basis_of row (line.Change kind) = None
 basis_of row line.Basis = basis_in row

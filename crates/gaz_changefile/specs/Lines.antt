@@ -56,6 +56,7 @@ line_of row =
     else if bytes_eq (field row 0) (codes "99") then line.Trailer
     else line.Other
 
+-- which of the records a line is
 abbrev pub is_basis_line : Line → Bool
 is_basis_line (line.Change k) = false
 is_basis_line line.Basis = true

@@ -46,6 +46,7 @@ pub record Before : Type 0 where
   pub last : Option ℕ
   pub ended : Bool
 
+-- what stands in these records, before the next
 abbrev pub before_of : List Fields → Before
 before_of rows = record {
   bases = count_by is_basis rows;

@@ -26,10 +26,11 @@ action_text Insert = codes "I"
 action_text Update = codes "U"
 action_text Delete = codes "D"
 
--- numbers without leading zeros
+-- the header of profile 1; numbers are written without leading zeros
 abbrev pub header_row : ℕ → ℕ → CivilDay → Fields
 header_row c v date = codes "10" ∷ codes "1" ∷ decimal c ∷ decimal v ∷ date_text date ∷ []
 
+-- a basis line
 abbrev pub basis_row : Basis → Fields
 basis_row b = codes "90" ∷ decimal b.custodian ∷ decimal b.volume ∷ []
 
@@ -37,6 +38,7 @@ basis_row b = codes "90" ∷ decimal b.custodian ∷ decimal b.volume ∷ []
 abbrev pub change_row : ℕ × Change → Fields
 change_row (n, x) = identifier (kind_of x.item) ∷ action_text x.action ∷ decimal n ∷ item_texts x.item
 
+-- the trailer behind so many changes
 abbrev pub trailer_row : ℕ → Fields
 trailer_row n = codes "99" ∷ decimal n ∷ []
 
