@@ -7,6 +7,7 @@ mod draft;
 mod extracts;
 mod find;
 mod found;
+pub mod laws;
 mod page;
 
 pub use address::{AddressLine, line};
