@@ -5,3 +5,5 @@ pub mod Lists
 pub mod Turns
 pub mod InOrder
 pub mod Ends
+pub mod Examples
+pub mod ReadBack

@@ -6,3 +6,5 @@ pub mod Readings
 pub mod Extracts
 pub mod Drafts
 pub mod Closing
+pub mod Examples
+pub mod Laws

@@ -37,7 +37,8 @@ impl AddressLine {
     pub fn into_string(self) -> String
         ensures { string_bytes result ≡ self }
     {
-        self.text
+        let AddressLine { text } = self;
+        text
     }
 }
 

@@ -7,9 +7,13 @@ mod draft;
 mod extracts;
 mod find;
 mod found;
+pub mod laws;
 mod page;
 
 pub use address::{AddressLine, line};
 pub use closed::{Closed, closed_streets};
 pub use extracts::extract;
 pub use found::{Found, lookup};
+
+#[cfg(test)]
+mod tests;

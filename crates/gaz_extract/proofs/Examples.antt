@@ -1,0 +1,99 @@
+-- What the definitions come to on worked examples.
+use Rattle.std.proofs.Common.{◌≡◌, ◌∙◌, ◌<◌, ◌^◌, ℕ, true, ap, refl, arith, lit<, List, [], ◌∷◌, length, get_or}
+use Rattle.std.specs.Prelude.{Some, fold, codes, decimal}
+use Rattle.std.proofs.lemmas.Fmt.{decimal-digits_value}
+use Rattle.std.specs.Str.{all_ascii_digits}
+use Rattle.std.specs.Str.Parse.{digits_value}
+use Rattle.gaz_ids.proofs.Numerals.{own}
+use Rattle.gaz_ids.specs.declared.status.Status.TheVariants.{Approved}
+use Rattle.std.specs.FinMap as map
+use Rattle.csv.specs.Writing.{fields_text, escaped, is_blank}
+use Rattle.gaz_rows.specs.Rows.{lines_of}
+use Rattle.gaz_records.proofs.KeyOrder.{keys_total}
+use Rattle.gaz_records.specs.Keys.{key_cmp, key_of}
+use Rattle.gaz_records.specs.declared.item.Item.{Item}
+use Rattle.gaz_records.specs.declared.key.Key.{Key}
+use Rattle.gaz_shelf.specs.View.{View, empty_view, with_item}
+use Rattle.gaz_shelf.specs.Words.{entries}
+use Rattle.gaz_shelf.proofs.Trees.{no_entries}
+use Rattle.gaz_extract.specs.Examples.{WorkedClosings, WorkedExamples, WorkedExtracts, WorkedLines, WorkedLookups}
+
+-- the entries that putting these items one after another leaves
+abbrev entries_put : List (Key × Item) → List Item → List (Key × Item)
+entries_put es [] = es
+entries_put es (i ∷ is) = entries_put (map.put key_cmp (key_of i) i es) is
+
+entries_after : (v : View) (es : List (Key × Item)) → entries v ≡ es → (is : List Item) → entries (fold with_item v is) ≡ entries_put es is
+entries_after v es e [] = e
+entries_after v es e (i ∷ is) = entries_after (with_item v i) (map.put key_cmp (key_of i) i es) (map.entries-insert keys_total v.items (key_of i) i ∙ ap (map.put key_cmp (key_of i) i) e) is
+
+no_entries_yet : entries empty_view ≡ []
+unfolding empty_view
+no_entries_yet = no_entries _ _
+
+these : (is : List Item) → entries (fold with_item empty_view is) ≡ entries_put [] is
+these = entries_after empty_view [] no_entries_yet
+
+found : (is : List Item) (k : Key) → map.get (fold with_item empty_view is).items k ≡ map.find key_cmp k (entries_put [] is)
+found is k = map.get-entries (fold with_item empty_view is).items k ∙ ap (map.find key_cmp k) (these is)
+
+-- what digits say is written as those digits
+written : (ds : List ℕ) → all_ascii_digits ds ≡ true → 0 < length ds → (get_or ds 0 0 ≡ 48 → length ds ≡ 1) → digits_value 10 ds < 2 ^ 64 → decimal (digits_value 10 ds) ≡ ds
+written = decimal-digits_value own
+
+zero_written : decimal 0 ≡ codes "0"
+zero_written = written (codes "0") refl (lit< tt) (λ e. refl) (lit< tt)
+
+one_written : decimal 1 ≡ codes "1"
+one_written = written (codes "1") refl (lit< tt) (λ e. refl) (lit< tt)
+
+two_written : decimal 2 ≡ codes "2"
+two_written = written (codes "2") refl (lit< tt) (λ e. refl) (lit< tt)
+
+seven_written : decimal 7 ≡ codes "7"
+seven_written = written (codes "7") refl (lit< tt) (λ e. refl) (lit< tt)
+
+twelve_written : decimal 12 ≡ codes "12"
+twelve_written = written (codes "12") refl (lit< tt) (λ e. absurd (omega arith)) (lit< tt)
+
+fourteen_written : decimal 14 ≡ codes "14"
+fourteen_written = written (codes "14") refl (lit< tt) (λ e. absurd (omega arith)) (lit< tt)
+
+street_written : decimal 150 ≡ codes "150"
+street_written = written (codes "150") refl (lit< tt) (λ e. absurd (omega arith)) (lit< tt)
+
+district_written : decimal 1002 ≡ codes "1002"
+district_written = written (codes "1002") refl (lit< tt) (λ e. absurd (omega arith)) (lit< tt)
+
+house_written : decimal 100001 ≡ codes "100001"
+house_written = written (codes "100001") refl (lit< tt) (λ e. absurd (omega arith)) (lit< tt)
+
+on_lines : WorkedLines
+on_lines = record {
+  a_flat = simp (twelve_written, fourteen_written);
+  a_house = simp fourteen_written;
+  no_postcode = simp seven_written;
+  no_numbers = refl;
+  no_town = simp seven_written;
+}
+
+on_lookups : WorkedLookups
+on_lookups = record {
+  own_street = simp (found, these) (ap (λ (t : List ℕ). Some (record { custodian = 1001; uprn = 42; status = Approved; line = Some t })) on_lines.a_flat);
+  street_of_another = simp (found, these) (ap (λ (t : List ℕ). Some (record { custodian = 1002; uprn = 100001; status = Approved; line = Some t })) on_lines.no_postcode);
+  nowhere = simp (found, these);
+}
+
+on_closings : WorkedClosings
+on_closings = record { one_address = simp (found, these) }
+
+on_extracts : WorkedExtracts
+unfolding fields_text escaped is_blank lines_of
+on_extracts = record {
+  of_the_district = simp (found, these, zero_written, one_written, two_written, seven_written, street_written, district_written, house_written);
+  not_reached = refl;
+  before_any = refl;
+}
+
+pub worked_examples_hold : WorkedExamples
+worked_examples_hold = record { on_lines = on_lines; on_lookups = on_lookups; on_closings = on_closings; on_extracts = on_extracts }
