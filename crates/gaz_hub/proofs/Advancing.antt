@@ -1,17 +1,17 @@
 -- How judging goes on over a keeper.
-use Rattle.std.proofs.Common.{◌≡◌, ◌≤◌, ◌<◌, ◌+◌, ◌*◌, ℕ, suc, Bool, true, false, cond, not, ◌&&◌, ◌||◌, eqb, eqb-true, List, [], ◌∷◌, ◌++◌, take, length, get_or, refl, sym, ap, ◌∙◌, subst, arith, length-append, true≢false, leb-true}
+use Rattle.std.proofs.Common.{◌≡◌, ◌≤◌, ◌<◌, ◌+◌, ◌*◌, ℕ, Bool, true, false, cond, not, ◌||◌, eqb, eqb-true, List, [], ◌∷◌, ◌++◌, take, length, get_or, refl, sym, ap, ◌∙◌, subst, arith, length-append, true≢false}
 use Rattle.std.proofs.Math.Path.{fun_ext}
 use Rattle.std.proofs.lemmas.List.{take_all}
 use Rattle.std.proofs.lemmas.List.Folds.{list_all_more}
-use Rattle.std.specs.Prelude.{⊤, Option, Some, None, IsSome, IsErrAnd, Result, Ok, Err, IfOk, IfErr, OnOk, OnErr, is_some}
+use Rattle.std.specs.Prelude.{⊤, Option, Some, None, IsSome, IsErrAnd, Result, Ok, Err, OnOk, OnErr, is_some}
 use Rattle.std.specs.Option.{option_map, option_map_or}
 use Rattle.std.specs.List.{find, list_all}
 use Rattle.std.specs.FinMap as map
 use Rattle.gaz_changefile.specs.Contents.{Contents}
 use Rattle.gaz_changefile.specs.Reading.{Good, Bad, Reading, reading}
 use Rattle.gaz_changefile.specs.declared.change.Basis.{Basis}
-use Rattle.gaz_register.specs.Registers.{Blocks, CustodianValue, RegisterValue, blocks_of, knows}
-use Rattle.gaz_shelf.specs.Board.{Board, Judgement, adds, last_view, reached}
+use Rattle.gaz_register.specs.Registers.{Blocks, CustodianValue, RegisterValue, knows}
+use Rattle.gaz_shelf.specs.Board.{Board, Judgement, adds, reached}
 use Rattle.gaz_shelf.specs.Keeper.{Content, Counts, Enters, IsAtHand, IsNotOpen, Seen, closed, skipped, with_judgement}
 use Rattle.gaz_shelf.specs.Received.{Received}
 use Rattle.gaz_shelf.specs.declared.fault.ShelfFault.{ShelfFault}

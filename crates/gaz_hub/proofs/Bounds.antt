@@ -1,5 +1,5 @@
 -- How many judgements there can be.
-use Rattle.std.proofs.Common.{◌≡◌, ◌≤◌, ◌<◌, ◌+◌, ◌*◌, ℕ, suc, Bool, true, false, cond, eqb, eqb-true, eq-eqb, inl, inr, List, [], ◌∷◌, length, refl, sym, ap, ◌∙◌, subst, arith, leb, leb-true, true≢false}
+use Rattle.std.proofs.Common.{◌≡◌, ◌≤◌, ◌+◌, ◌*◌, ℕ, true, false, cond, eqb, eqb-true, eq-eqb, inl, inr, List, [], ◌∷◌, length, refl, sym, ap, ◌∙◌, arith, leb, leb-true, true≢false}
 use Rattle.std.proofs.lemmas.Bool.Decides.{leb_tells}
 use Rattle.std.proofs.lemmas.List.{length_push}
 use Rattle.std.specs.Prelude.{is_some, Some}
@@ -9,7 +9,7 @@ use Rattle.gaz_shelf.specs.Board.{Board, reached}
 use Rattle.gaz_shelf.specs.Received.{Received}
 use Rattle.gaz_hub.specs.Hubs.{AreKnown, StandsFor, door_of}
 use Rattle.gaz_hub.specs.Settling.{Advances}
-use Rattle.gaz_hub.specs.Standing.{Leads, Register, judge_one, ready, with_next}
+use Rattle.gaz_hub.specs.Standing.{Leads, Register, judge_one, with_next}
 use Rattle.gaz_shelf.specs.Keeper.{Seen}
 use Rattle.gaz_hub.proofs.Orders.{judge_one_moved, moved_below, next, ready_gives, with_next_is}
 use Rattle.gaz_hub.proofs.Prefixes.{prefix_length}

@@ -1,7 +1,7 @@
 -- Calls of a hub over a keeper, one after another.
-use Rattle.std.proofs.Common.{◌≡◌, ◌≤◌, List, [], ◌∷◌, ◌++◌, refl, append-nil, arith}
+use Rattle.std.proofs.Common.{List, [], ◌∷◌, ◌++◌, refl, append-nil, arith}
 use Rattle.gaz_shelf.specs.Keeper.{Seen}
-use Rattle.gaz_hub.specs.Hubs.{Runs, Steps, StandsFor}
+use Rattle.gaz_hub.specs.Hubs.{Runs, Steps}
 use Rattle.gaz_hub.specs.Runs.{Run}
 use Rattle.gaz_hub.specs.Step.{Command, Door, HubState, Response}
 

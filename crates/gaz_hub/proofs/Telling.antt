@@ -1,13 +1,12 @@
 -- What is told of a file, read off a board.
-use Rattle.std.proofs.Common.{◌≡◌, ◌≢◌, ◌≤◌, ◌<◌, ◌+◌, ◌-◌, ℕ, zero, suc, Bool, true, false, cond, not, ◌&&◌, List, [], ◌∷◌, length, refl, sym, ap, ◌∙◌, subst, arith, le-leb, leb}
-use Rattle.std.specs.Prelude.{nat_le, slice_get, Option, Some, None, IsSome, Result, Ok, Err, IfOk, IfErr, OnOk}
+use Rattle.std.proofs.Common.{◌≡◌, ◌≤◌, ◌<◌, ◌+◌, ◌-◌, ℕ, zero, suc, true, false, cond, not, ◌&&◌, List, [], ◌∷◌, length, refl, sym, ap, ◌∙◌, subst, arith, le-leb}
+use Rattle.std.specs.Prelude.{nat_le, slice_get, Option, Some, None, Result, Ok, Err, IfErr, OnOk}
 use Rattle.std.specs.Option.{option_map, option_map_or}
 use Rattle.std.specs.FinMap as map
-use Rattle.sha2.specs.Sha256.{sha256}
 use Rattle.gaz_changefile.specs.Reading.{Reading, reading}
 use Rattle.gaz_changefile.specs.declared.change.Basis.{Basis}
 use Rattle.gaz_shelf.specs.Board.{Board, Judgement, reached, verdict_on}
-use Rattle.gaz_shelf.specs.Keeper.{Content, IsNotOpen, Reads, Seen}
+use Rattle.gaz_shelf.specs.Keeper.{Content, Reads, Seen}
 use Rattle.gaz_shelf.specs.Received.{Received}
 use Rattle.gaz_shelf.specs.declared.fault.ShelfFault.{ShelfFault}
 use Rattle.gaz_shelf.specs.declared.fault.ShelfFault.TheVariants.{Store}
@@ -16,12 +15,12 @@ use Rattle.gaz_rules.specs.Bases.{are_reached}
 use Rattle.gaz_rules.specs.Judging.{bases_of}
 use Rattle.gaz_hub.specs.Asked.{IsHeld, IsOutcome}
 use Rattle.gaz_hub.specs.Outcomes.{outcome, outcome_of, wants}
-use Rattle.gaz_hub.specs.Settling.{Advances, Looks, Tells, first_unreached}
-use Rattle.gaz_hub.specs.Standing.{NothingReady, next_reading, ready}
+use Rattle.gaz_hub.specs.Settling.{Looks, Tells, first_unreached}
+use Rattle.gaz_hub.specs.Standing.{NothingReady}
 use Rattle.gaz_hub.specs.Step.{Door}
 use Rattle.gaz_hub.specs.declared.outcome.Outcome.{Outcome}
 use Rattle.gaz_hub.specs.declared.outcome.Outcome.TheVariants.{Held}
-use Rattle.gaz_hub.proofs.Advancing.{advances_less, advances_looking, advances_then}
+use Rattle.gaz_hub.proofs.Advancing.{advances_looking, advances_then}
 use Rattle.gaz_hub.proofs.Looks.{IsFile, if_ok, looks_then, ready_as, wants_as}
 
 -- ---- outcomes

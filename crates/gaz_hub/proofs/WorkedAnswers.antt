@@ -1,17 +1,9 @@
 -- The worked examples on what is told of files, and on the sample register.
-use Rattle.std.proofs.Common.{◌≡◌, ℕ, List, [], ◌∷◌, refl, sym, ap, ◌∙◌, true≢false}
-use Rattle.std.specs.Option.{option_map}
-use Rattle.std.specs.Prelude.{Option, Some, None, slice_get}
+use Rattle.std.proofs.Common.{◌≡◌, refl}
+use Rattle.std.specs.Prelude.{Some}
 use Rattle.gaz_records.specs.declared.key.Key.TheVariants as key
-use Rattle.gaz_rules.specs.Examples.{again, insertion}
-use Rattle.gaz_rules.specs.Judging.{Fault, record_faults}
-use Rattle.gaz_shelf.proofs.Examples.{used_none, used_one}
-use Rattle.gaz_shelf.specs.Board.{Board, reached}
-use Rattle.gaz_shelf.specs.Examples.{one_street}
-use Rattle.gaz_shelf.specs.View.{View, empty_view, was_used}
 use Rattle.gaz_shelf.specs.declared.verdict.Verdict.TheVariants as verdict
 use Rattle.gaz_hub.specs.Outcomes.{outcome}
-use Rattle.gaz_hub.specs.Sample.{sample_register}
 use Rattle.gaz_hub.specs.Examples.{one_judged, sent}
 use Rattle.gaz_hub.specs.declared.outcome.Outcome.TheVariants.{Held}
 use Rattle.gaz_hub.specs.WorkedAnswers.{WorkedAnswers, WorkedOutcomes, WorkedSample}

@@ -2,7 +2,6 @@
 use Rattle.std.proofs.Common.{◌≡◌, ◌≤◌, ℕ, refl, sym, ap, ◌∙◌, arith, true≢false}
 use Rattle.std.specs.Option.{option_map_or}
 use Rattle.std.specs.Prelude.{Some, None}
-use Rattle.gaz_shelf.specs.Board.{empty_board}
 use Rattle.gaz_hub.specs.Examples.{one_judged, sent}
 use Rattle.gaz_hub.specs.Outcomes.{wants}
 use Rattle.gaz_hub.specs.WorkedHubs.{WorkedCauses, WorkedDoors, WorkedHubs, WorkedLooks}

@@ -1,6 +1,5 @@
 -- The standing is read off the settled board.
 use Rattle.std.proofs.Common.{◌≡◌}
-use Rattle.gaz_shelf.specs.Keeper.{Content}
 use Rattle.gaz_hub.specs.Hubs.{door_of}
 use Rattle.gaz_hub.specs.Outcomes.{status}
 use Rattle.gaz_hub.proofs.Telling.{tells_looks}

@@ -1,5 +1,5 @@
 -- A file that isn't judged is held.
-use Rattle.std.proofs.Common.{◌≤◌, arith, subst}
+use Rattle.std.proofs.Common.{◌≤◌, subst}
 use Rattle.gaz_hub.proofs.Telling.{looks_held}
 use Rattle.gaz_hub.proofs.answering.tell.Goals as goal
 

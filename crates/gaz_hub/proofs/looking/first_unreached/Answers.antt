@@ -1,8 +1,8 @@
 -- One basis line after another.
-use Rattle.std.proofs.Common.{◌≤◌, ℕ, sym, ap, ◌∙◌, subst, arith}
+use Rattle.std.proofs.Common.{◌≤◌, ap, ◌∙◌, arith}
 use Rattle.gaz_shelf.specs.Board.{reached}
 use Rattle.gaz_shelf.proofs.Keeping.{keeps_then}
-use Rattle.gaz_hub.proofs.Looks.{finds_here, finds_none, passes_over}
+use Rattle.gaz_hub.proofs.Looks.{finds_none, passes_over}
 use Rattle.gaz_hub.proofs.looking.first_unreached.Goals as goal
 
 pub loop-basis-preserved : goal.loop-basis-preserved

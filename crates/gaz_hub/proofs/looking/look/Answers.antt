@@ -1,5 +1,5 @@
 -- The bytes are there.
-use Rattle.std.proofs.Common.{◌≡◌, ℕ, List, sym, ap, ◌∙◌, subst}
+use Rattle.std.proofs.Common.{◌≡◌, ℕ, List, subst}
 use Rattle.gaz_shelf.specs.Board.{Board}
 use Rattle.gaz_shelf.specs.Keeper.{Content}
 use Rattle.gaz_hub.specs.Settling.{IsReadAs}
