@@ -1,6 +1,6 @@
 -- An extract reads back as the view that it was taken of.
-use Rattle.std.proofs.Common.{◌≡◌, ◌∙◌, ◌+◌, ◌<◌, ℕ, Bool, true, false, cond, ◌&&◌, List, [], ◌∷◌, ◌++◌, map, length, append_assoc, append-nil, refl, sym, ap, subst, arith, T}
-use Rattle.std.specs.Prelude.{Option, Some, None, fold}
+use Rattle.std.proofs.Common.{◌≡◌, ◌∙◌, ◌+◌, ℕ, Bool, true, false, cond, ◌&&◌, List, [], ◌∷◌, ◌++◌, map, length, append_assoc, append-nil, refl, sym, ap, subst, arith, T}
+use Rattle.std.specs.Prelude.{Some, None, fold}
 use Rattle.std.specs.List.{All}
 use Rattle.std.proofs.lemmas.List.Elements.{All-head, All-tail}
 use Rattle.std.specs.Ordering.{is_eq, is_lt, ordering_reverse}
@@ -15,10 +15,9 @@ use Rattle.gaz_records.proofs.KeyOrder.{keys_exact, keys_total}
 use Rattle.gaz_records.specs.Keys.{key_cmp, key_of}
 use Rattle.gaz_records.specs.declared.item.Item.{Item}
 use Rattle.gaz_records.specs.declared.key.Key.{Key}
-use Rattle.gaz_shelf.specs.Reading.{IsKeyed}
 use Rattle.gaz_shelf.specs.View.{View, empty_view, with_item}
 use Rattle.gaz_shelf.specs.Words.{entries}
-use Rattle.gaz_extract.specs.Extracts.{header, items_of, records_from, trailer}
+use Rattle.gaz_extract.specs.Extracts.{records_from, trailer}
 use Rattle.gaz_extract.specs.Laws.{ExtractsReadBack, ItemsGiveView, RecordsReadBack, RowsReadBack}
 
 -- ---- rows and records

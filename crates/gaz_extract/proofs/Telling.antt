@@ -1,6 +1,6 @@
 -- What reading calls one after another tell.
-use Rattle.std.proofs.Common.{◌≡◌, ◌∙◌, ◌≤◌, ℕ, refl, sym, ap, subst, arith}
-use Rattle.std.specs.Prelude.{Option, Some, None, option_map, Result, Ok, Err, IfOk, IfErr}
+use Rattle.std.proofs.Common.{◌≡◌, ◌∙◌, ◌≤◌, ℕ, ap}
+use Rattle.std.specs.Prelude.{Some, option_map, Result, Ok, Err, IfOk, IfErr}
 use Rattle.std.specs.Option.{option_and_then}
 use Rattle.gaz_records.specs.Blpus.{BlpuValue}
 use Rattle.gaz_records.specs.Descriptors.{DescriptorValue}
@@ -9,7 +9,7 @@ use Rattle.gaz_register.specs.Registers.{RegisterValue}
 use Rattle.gaz_shelf.specs.Board.{Board, last_view}
 use Rattle.gaz_shelf.specs.Keeper.{Counts, Seen}
 use Rattle.gaz_shelf.specs.declared.fault.ShelfFault.{ShelfFault}
-use Rattle.gaz_shelf.specs.declared.fault.ShelfFault.TheVariants.{Memory, Store}
+use Rattle.gaz_shelf.specs.declared.fault.ShelfFault.TheVariants.{Memory}
 use Rattle.gaz_extract.specs.Lines.{line_text}
 use Rattle.gaz_extract.specs.Lookups.{address_in, descriptor_now, line_now}
 

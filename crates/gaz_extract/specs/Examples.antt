@@ -3,7 +3,7 @@ use Rattle.std.specs.Prelude.{◌≡◌, ℕ, ◌==◌, List, [], ◌∷◌, ◌
 use Rattle.gaz_ids.specs.declared.lang.Lang.TheVariants.{Eng}
 use Rattle.gaz_ids.specs.declared.status.Status.{Status}
 use Rattle.gaz_ids.specs.declared.status.Status.TheVariants.{Approved, Historical, Provisional}
-use Rattle.gaz_addressable.specs.HouseNumbers.{HouseNumberValue, RangeValue}
+use Rattle.gaz_addressable.specs.HouseNumbers.{HouseNumberValue}
 use Rattle.gaz_addressable.specs.Objects.{ObjectValue}
 use Rattle.gaz_records.specs.Blpus.{BlpuValue}
 use Rattle.gaz_records.specs.Days.{CivilDay}

@@ -1,4 +1,4 @@
-use Rattle.std.proofs.Common.{◌≤◌, ◌∙◌, ap, ◌++◌, List, arith}
+use Rattle.std.proofs.Common.{◌∙◌, ap, ◌++◌, List, arith}
 use Rattle.std.specs.List.{filter_map}
 use Rattle.gaz_records.specs.declared.item.Item.{Item}
 use Rattle.gaz_records.specs.declared.item.Kind.TheVariants as kind

@@ -1,4 +1,4 @@
-use Rattle.std.proofs.Common.{◌∙◌, ap, ◌++◌, ◌∷◌, [], map, arith}
+use Rattle.std.proofs.Common.{◌∙◌, ap, ◌++◌, ◌∷◌, [], map}
 use Rattle.std.proofs.lemmas.List.{length-map}
 use Rattle.gaz_extract.proofs.Rows.{row_written}
 use Rattle.gaz_extract.proofs.draft.add_row.Goals as goal

@@ -1,4 +1,4 @@
-use Rattle.std.proofs.Common.{◌≤◌, ◌∙◌, sym, ap, not}
+use Rattle.std.proofs.Common.{◌∙◌, sym, ap, not}
 use Rattle.gaz_shelf.specs.Board.{view_after}
 use Rattle.gaz_extract.specs.Drafts.{with_items}
 use Rattle.gaz_extract.proofs.Rows.{with-none}

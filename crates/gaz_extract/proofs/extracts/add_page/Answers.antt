@@ -1,4 +1,4 @@
-use Rattle.std.proofs.Common.{◌≤◌, ◌∙◌, ap, List}
+use Rattle.std.proofs.Common.{◌∙◌, ap, List}
 use Rattle.gaz_records.specs.declared.item.Item.{Item}
 use Rattle.gaz_shelf.specs.Board.{view_after}
 use Rattle.gaz_shelf.specs.Reading.{left_after}

@@ -1,4 +1,4 @@
-use Rattle.std.proofs.Common.{◌≤◌, ◌++◌, None, arith}
+use Rattle.std.proofs.Common.{◌++◌, None, arith}
 use Rattle.gaz_records.specs.declared.item.Kind.TheVariants as kind
 use Rattle.gaz_shelf.specs.View.{View}
 use Rattle.gaz_shelf.specs.Words.{rest_of}
