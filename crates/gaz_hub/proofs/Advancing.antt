@@ -146,7 +146,7 @@ pub is_at_hand : (k : Content) (c : ℕ) (r : Reading) → next_reading k.files 
 is_at_hand k c r e = was_some (λ bytes. reading bytes c (reached k.board c + 1)) (map.get k.files (c, reached k.board c + 1)) r e
 
 -- it is the judgement that the board gets
-added_is : (G : Register) (F : Received) (B : Board) (c : ℕ) (r : Reading) → next_reading F B c ≡ Some r → adds B c (judged_on (G c) B c r) ≡ judge_one G F B c
+pub added_is : (G : Register) (F : Received) (B : Board) (c : ℕ) (r : Reading) → next_reading F B c ≡ Some r → adds B c (judged_on (G c) B c r) ≡ judge_one G F B c
 added_is G F B c r e =
     fun_ext (λ d. elim (eqb d c) as (λ b. eqb d c ≡ b → cond b (B d ++ judged_on (G c) B c r ∷ []) (B d) ≡ cond b (with_next G F B d) (B d)) [
       | true ↦ λ t.

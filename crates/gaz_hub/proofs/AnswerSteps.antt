@@ -60,7 +60,6 @@ known_with d F c volume bytes e known p h =
 
 module _ (d : Door) (a b c : Seen) (code volume : ℕ) (bytes : List ℕ) (let_in : door d code volume bytes ≡ None)
     (came : Enters {T = Unit {0}} a b (Ok tt) (IsNew a.content code volume) (with_received a.content code volume bytes)) where
-
   stood_then : StandsFor d a → IsNew a.content code volume → b.unharmed → StandsFor d b
   stood_then stood free fine = (
     came.stands stood.0 free fine,

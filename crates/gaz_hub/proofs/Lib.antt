@@ -8,9 +8,11 @@ pub mod Bounds
 pub mod Advancing
 pub mod Telling
 pub mod AnswerSteps
+pub mod HubRuns
+pub mod Headline
 pub mod Examples
 pub mod WorkedBoards
 pub mod WorkedAnswers
 pub mod WorkedSteps
 pub mod WorkedRuns
-pub mod HubRuns
+pub mod WorkedHubs

@@ -102,6 +102,7 @@ tells_looks d a b c x r P Q first second =
     on_ok : {V : Type 0} (r : Result V ShelfFault) → {S : Type 0} → S → OnOk r S
     on_ok (Ok x) h = h
     on_ok (Err e) h = tt
+
     later : {V : Type 0} (r : Result V ShelfFault) (m n k : ℕ) → m ≤ n → IfErr r (λ e. e ≡ Store → n < k) → IfErr r (λ e. e ≡ Store → m < k)
     later (Ok x) m n k h g = tt
     later (Err e) m n k h g = λ is. let more = g is in omega arith

@@ -3,9 +3,8 @@ use Rattle.std.proofs.Common.{◌≡◌, ◌≤◌, true, false, cond, [], ◌�
 use Rattle.std.specs.Option.{option_map}
 use Rattle.std.specs.Prelude.{Some, slice_get}
 use Rattle.std.specs.FinMap as map
-use Rattle.gaz_records.specs.declared.key.Key.TheVariants as key
 use Rattle.gaz_rules.specs.Judging.{judge}
-use Rattle.gaz_shelf.proofs.Examples.{used_none, used_one}
+use Rattle.gaz_rules.proofs.Worked.{views}
 use Rattle.gaz_shelf.specs.Board.{Judgement, Board, empty_board}
 use Rattle.gaz_shelf.specs.View.{empty_view}
 use Rattle.gaz_shelf.specs.declared.verdict.Verdict.TheVariants.{Applied, Rejected}
@@ -77,8 +76,8 @@ on_judging : WorkedJudging
 unfolding judge
 on_judging = record {
   bases_seen = refl;
-  judged_first = rw (used_none (key.Street 101)) refl;
-  judged_later = rw (used_one (key.Street 101)) refl;
+  judged_first = simp views;
+  judged_later = simp views;
   next_added = next_empty sent (get_sent (1003, 1));
   none_added = rw (get_sent (1003, 2)) refl;
   one_at_a_time = judge_first sent_by_two (get_by_two (1003, 1));

@@ -4,6 +4,7 @@ pub mod Step
 pub mod Runs
 pub mod Sample
 pub mod Hubs
+pub mod Laws
 pub mod Settling
 pub mod Asked
 pub mod Examples

@@ -1,4 +1,4 @@
--- Worked examples on judging, on what is told of files, and on the sample register.
+-- Worked examples on what is told of files, and on the sample register.
 use Rattle.std.specs.Prelude.{◌≡◌, true, false, [], ◌∷◌, Some, None}
 use Rattle.gaz_rules.specs.Examples.{again, insertion}
 use Rattle.gaz_register.specs.Registers.{within}

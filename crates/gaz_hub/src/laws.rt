@@ -1,4 +1,5 @@
 //! Laws over the definitions alone: whichever ready file is judged first, whatever commands come.
+ghost use Rattle.gaz_hub.specs.Laws.{AllSound, EveryRunOver, EverySettledRunOver};
 ghost use Rattle.gaz_hub.specs.Runs.{EqualReceived, EveryRepeat, EveryRun, EverySettledRun, JudgementsStay};
 ghost use Rattle.gaz_hub.specs.Standing.{AnyOrder, MoreFiles, StandingIsSettled};
 ghost use Rattle.gaz_hub.specs.WorkedAnswers.{WorkedAnswers};
@@ -6,6 +7,8 @@ ghost use Rattle.gaz_hub.specs.WorkedBoards.{WorkedBoards};
 ghost use Rattle.gaz_hub.specs.WorkedHubs.{WorkedHubs};
 ghost use Rattle.gaz_hub.specs.WorkedRuns.{WorkedRuns};
 ghost use Rattle.gaz_hub.specs.WorkedSteps.{WorkedSteps};
+
+use gaz_shelf::Inbox;
 
 /// Every partial board with nothing ready is the standing one, whichever ready file was judged first.
 pub fn any_order()
@@ -45,6 +48,21 @@ pub fn judgements_stay()
 /// Equal received sets leave equal boards, whatever came and in whatever order.
 pub fn equal_received()
     ensures { EqualReceived }
+{}
+
+/// Every view of a partial board is sound.
+pub fn all_sound()
+    ensures { AllSound }
+{}
+
+/// Whatever commands come, over any keeper that began with nothing, it stands for what came first and for a board that is partial over it.
+pub fn every_run_over<K: Inbox>()
+    ensures { EveryRunOver K.seen }
+{}
+
+/// After a response that settles, over any such keeper, the board is the standing one.
+pub fn every_settled_run_over<K: Inbox>()
+    ensures { EverySettledRunOver K.seen }
 {}
 
 /// What was received, who is ready, and which boards come next, on worked examples.

@@ -19,4 +19,6 @@ pub use refusal::Refusal;
 pub use standing::Standing;
 
 #[cfg(test)]
+mod failing;
+#[cfg(test)]
 mod tests;

@@ -1,6 +1,13 @@
+ghost use Rattle.std.specs.Prelude.{IfOk};
+ghost use Rattle.gaz_shelf.specs.Keeper.{IsNotOpen};
+ghost use Rattle.gaz_shelf.specs.Mem.{seen_in};
+
+use crate::failing::{Failing, Fails};
 use crate::{Answer, Digest, Hub, Outcome, Refusal, Standing};
 use gaz_ids::{Code, Volume};
-use gaz_register::Register;
+use gaz_register::{RegFault, Register};
+use gaz_shelf::{MemShelf, ShelfFault};
+use std::alloc::Global;
 use std::test::Fail;
 
 const REGISTER: &[u8] = b"[[custodian]]
@@ -34,10 +41,17 @@ const DIGEST: Digest = [
     0x16, 0xb3, 0xe9, 0xcc, 0x36, 0x1a, 0x34, 0x9f, 0x38, 0x14, 0xc5, 0xde, 0xc1, 0x96, 0x34, 0xde,
 ];
 
+/// A hub over a keeper of whole maps, that received nothing.
+fn mem_hub(alloc: Global) -> Result<Hub<MemShelf>, RegFault>
+    ensures { IfOk result (λ hub. IsNotOpen (seen_in hub.keeper).progress) }
+{
+    let register = Register::read(alloc, REGISTER)?;
+    Ok(Hub::new(alloc, register, MemShelf::new(alloc)))
+}
+
 #[test]
 fn files_are_judged_and_told(rt: HostRuntime) -> Result<(), Fail> {
-    let register = Register::read(rt.alloc(), REGISTER)?;
-    let mut hub = Hub::new(rt.alloc(), register);
+    let mut hub = mem_hub(rt.alloc())?;
     assert_eq!(rt;
         hub.submit(1001, 1, STREET_101),
         Answer::New(Outcome::Applied)
@@ -74,5 +88,99 @@ fn files_are_judged_and_told(rt: HostRuntime) -> Result<(), Fail> {
     assert_eq!(rt; hub.submit(1001, 2, b"10,7,\xff"), foreign);
     assert_eq!(rt; hub.outcome(1001, 2), Ok(None));
     assert_eq!(rt; hub.settle(), Ok(()));
+    Ok(())
+}
+
+/// Nothing but a basis line: it rests on volume 2 of custodian 1001.
+const ON_1001_2: &[u8] = b"10,1,1002,1,2024-01-02\n90,1001,2\n99,0\n";
+
+/// The same of custodian 1003, on volume 1 of custodian 1002.
+const ON_1002_1: &[u8] = b"10,1,1003,1,2024-01-02\n90,1002,1\n99,0\n";
+
+/// It rests on a volume of a custodian that the register lacks.
+const ON_1009_1: &[u8] = b"10,1,1003,2,2024-01-02\n90,1009,1\n99,0\n";
+
+/// Inserts street 102, as volume 2 of custodian 1001.
+const STREET_102: &[u8] = b"10,1,1001,2,2024-01-02\n11,I,1,102,1,2001-04-01,\n99,1\n";
+
+fn held(custodian: u64, volume: u64) -> Result<Outcome, Fail> {
+    let custodian = Code::of(custodian).ok_or("code")?;
+    let volume = Volume::of(volume).ok_or("volume")?;
+    Ok(Outcome::Held { custodian, volume })
+}
+
+#[test]
+fn a_judgement_frees_files_of_others(rt: HostRuntime) -> Result<(), Fail> {
+    let mut hub = mem_hub(rt.alloc())?;
+    assert_eq!(rt; hub.submit(1003, 1, ON_1002_1), Answer::New(held(1002, 1)?));
+    assert_eq!(rt; hub.submit(1002, 1, ON_1001_2), Answer::New(held(1001, 2)?));
+    assert_eq!(rt;
+        hub.submit(1001, 2, STREET_102),
+        Answer::New(held(1001, 1)?)
+    );
+    assert_eq!(rt;
+        hub.submit(1001, 1, STREET_101),
+        Answer::New(Outcome::Applied)
+    );
+    assert_eq!(rt;
+        hub.submit(1001, 2, STREET_102),
+        Answer::Repeat(Outcome::Applied)
+    );
+    assert_eq!(rt;
+        hub.submit(1002, 1, ON_1001_2),
+        Answer::Repeat(Outcome::Applied)
+    );
+    assert_eq!(rt;
+        hub.submit(1003, 1, ON_1002_1),
+        Answer::Repeat(Outcome::Applied)
+    );
+    assert_eq!(rt; hub.submit(1003, 2, ON_1009_1), Answer::New(held(1009, 1)?));
+    Ok(())
+}
+
+#[test]
+fn a_keeper_may_fail(rt: HostRuntime) -> Result<(), Fail> {
+    let none = ShelfFault::Memory;
+    let register = Register::read(rt.alloc(), REGISTER)?;
+    let mut hub = Hub::new(
+        rt.alloc(),
+        register,
+        Failing::new(rt.alloc(), Fails::Receive),
+    );
+    assert_eq!(rt;
+        hub.submit(1001, 1, STREET_101),
+        Answer::Refused(Refusal::NotReceived(none))
+    );
+    assert_eq!(rt; hub.outcome(1001, 1), Ok(None));
+    assert_eq!(rt;
+        hub.submit(1001, 1, STREET_101),
+        Answer::New(Outcome::Applied)
+    );
+    let register = Register::read(rt.alloc(), REGISTER)?;
+    let mut hub = Hub::new(rt.alloc(), register, Failing::new(rt.alloc(), Fails::Skip));
+    let rejected = Outcome::Rejected { place: 1, rule: 1 };
+    assert_eq!(rt;
+        hub.submit(1003, 1, b""),
+        Answer::Refused(Refusal::ReceivedUnsettled(none))
+    );
+    assert_eq!(rt; hub.submit(1003, 1, b""), Answer::Repeat(rejected));
+    Ok(())
+}
+
+#[test]
+fn a_hub_gives_its_parts_back(rt: HostRuntime) -> Result<(), Fail> {
+    let mut hub = mem_hub(rt.alloc())?;
+    assert_eq!(rt;
+        hub.submit(1001, 1, STREET_101),
+        Answer::New(Outcome::Applied)
+    );
+    assert!(rt; hub.register().holds(Code::of(1003).ok_or("code")?));
+    let _keeper = hub.shelf();
+    let (register, keeper) = hub.into_parts();
+    let mut again = Hub::new(rt.alloc(), register, keeper);
+    assert_eq!(rt;
+        again.submit(1001, 1, STREET_101),
+        Answer::Repeat(Outcome::Applied)
+    );
     Ok(())
 }

@@ -15,4 +15,4 @@ returns-in-Here g c =
     let a = g.K.Shelf.seen c.args.keeper.now in
     looks_then a (g.K.Shelf.seen c.next_file.new.keeper) _ _ _ _ _ _ (rw c.in-Here.is at c.in_ok-next_file.ensures) c.read_next.ensures
     (λ same here n h. next_here a.content.files a.content.board c.args.code c.in-Here.volume c.in-Here.bytes.items n here.0 here.1 here.2
-      (same_file _ a.content c.args.code c.in-Here.volume _ _ n same c.deref.ensures.value h))
+    (same_file _ a.content c.args.code c.in-Here.volume _ _ n same c.deref.ensures.value h))

@@ -42,4 +42,4 @@ returns-in-Bad g c =
     tries_judged (door_of c.args.register.now) a (g.K.Shelf.seen c.skip.new.self) c.args.code rd
     (λ stood fine. looked.right stood (c.in_ok-skip-in-Bad.ensures.harm fine)) _ _
     (adds_after a b _ _ _ c.args.code rd own _ _ looked (asks_bad b.content c.args.code c.in-Bad.place c.in-Bad.rule)
-      (adds_skipped b _ _ c.args.code own c.in-Bad.place c.in-Bad.rule (left_not_open a.progress b.progress looked.keeps.progress c.requires) c.in_ok-skip-in-Bad.ensures))
+    (adds_skipped b _ _ c.args.code own c.in-Bad.place c.in-Bad.rule (left_not_open a.progress b.progress looked.keeps.progress c.requires) c.in_ok-skip-in-Bad.ensures))

@@ -1,0 +1,65 @@
+-- Whole runs over any keeper, and the views on a board.
+use Rattle.std.proofs.Common.{◌≡◌, ◌+◌, ℕ, arith, true, true≢false, List, [], ◌∷◌, ◌++◌, refl, sym, ap, ◌∙◌, subst}
+use Rattle.std.specs.Option.{option_map}
+use Rattle.std.specs.Prelude.{None, is_some}
+use Rattle.std.specs.FinMap as map
+use Rattle.gaz_changefile.proofs.Orderly.{bases-rise}
+use Rattle.gaz_changefile.specs.Reading.{Reading, Good, Bad, reading}
+use Rattle.gaz_register.specs.Registers.{IsRegister, RegisterValue, blocks_of}
+use Rattle.gaz_rules.proofs.SoundBoards.{boards_stay_sound_holds}
+use Rattle.gaz_rules.specs.Sound.{AreDisjoint, IsSoundBoard, NamesOthers}
+use Rattle.gaz_shelf.specs.Board.{Board, empty_board, reached}
+use Rattle.gaz_shelf.specs.Keeper.{Content, Seen, empty_content}
+use Rattle.gaz_shelf.specs.Received.{Received, pair_cmp}
+use Rattle.gaz_hub.specs.Hubs.{AreKnown, Runs, StandsFor, state_of}
+use Rattle.gaz_hub.specs.Laws.{AllSound, EveryRunOver, EverySettledRunOver, StandsAfter}
+use Rattle.gaz_hub.specs.Runs.{Run}
+use Rattle.gaz_hub.specs.Standing.{Leads, Register, judge_one, ready}
+use Rattle.gaz_hub.specs.Step.{Command, Door, HubState, Response, new_hub}
+use Rattle.gaz_hub.proofs.Advancing.{added_is}
+use Rattle.gaz_hub.proofs.Orders.{ready_gives}
+use Rattle.gaz_hub.proofs.Runs.{every_run_holds, every_settled_run_holds}
+
+-- ---- over any keeper
+
+none_known : (d : Door) (k : Content) → k ≡ empty_content → AreKnown d k.files
+none_known d k e p h = absurd (true≢false (sym h ∙ ap (λ (m : Content). is_some (map.get m.files p)) e ∙ ap is_some (map.get-empty pair_cmp p)))
+
+from_empty : (d : Door) (old new : Seen) (commands : List Command) (responses : List Response) → old.stands → old.content ≡ empty_content → new.unharmed → Runs d old new commands responses
+    → Run d new_hub commands responses (state_of new.content)
+from_empty d old new commands responses stood empty fine r =
+    subst (λ (h : HubState). Run d h commands responses (state_of new.content)) (ap state_of empty) (r.run (stood, none_known d old.content empty) fine)
+
+pub every_run_over : {K : Type 0} (seen : K → Seen) → EveryRunOver seen
+every_run_over seen d old new commands responses stood empty fine r =
+    record {
+      stands = (r.stands (stood, none_known d (seen old).content empty) fine).0;
+      abides = every_run_holds d commands responses (state_of (seen new).content) (from_empty d (seen old) (seen new) commands responses stood empty fine r);
+    }
+
+pub every_settled_run_over : {K : Type 0} (seen : K → Seen) → EverySettledRunOver seen
+every_settled_run_over seen d old new commands responses command response stood empty fine r settled =
+    every_settled_run_holds d commands responses command response (state_of (seen new).content)
+    (from_empty d (seen old) (seen new) (commands ++ command ∷ []) (responses ++ response ∷ []) stood empty fine r) settled
+
+-- ---- the views on a board
+
+names_in : (bytes : List ℕ) (c v : ℕ) (r : Reading) → reading bytes c v ≡ r → NamesOthers c r
+names_in bytes c v (Good f) e = (bases-rise bytes c v f e).others
+names_in bytes c v (Bad place rule) e = λ k d l. absurd (omega arith)
+
+one_sound : (G : Register) (F : Received) (B : Board) (c : ℕ) → AreDisjoint G → IsSoundBoard G B → ready F B c ≡ true → IsSoundBoard G (judge_one G F B c)
+one_sound G F B c apart sound h =
+    let is = ready_gives F B c h in
+    let volume = reached B c + 1 in
+    let r = reading is.bytes c volume in
+    subst (IsSoundBoard G) (added_is G F B c r (ap (option_map (λ bytes. reading bytes c volume)) is.came))
+    (boards_stay_sound_holds.after_file G B c r apart (names_in is.bytes c volume r refl) sound)
+
+leads_sound : (G : Register) (F : Received) (B : Board) (order : List ℕ) (C : Board) → AreDisjoint G → IsSoundBoard G B → Leads G F B order C → IsSoundBoard G C
+leads_sound G F B [] C apart sound e = subst (IsSoundBoard G) (sym e) sound
+leads_sound G F B (c ∷ order) C apart sound l = leads_sound G F (judge_one G F B c) order C apart (one_sound G F B c apart sound l.0) l.1
+
+pub all_sound_holds : AllSound
+all_sound_holds register F B is partial =
+    leads_sound (blocks_of register) F empty_board partial.order B (boards_stay_sound_holds.of_register register is) (boards_stay_sound_holds.empty (blocks_of register)) partial.leads
