@@ -1,17 +1,17 @@
 -- How judging goes on over a keeper.
-use Rattle.std.proofs.Common.{◌≡◌, ◌≤◌, ◌<◌, ◌+◌, ◌*◌, ℕ, suc, Bool, true, false, cond, not, ◌&&◌, ◌||◌, eqb, eqb-true, List, [], ◌∷◌, ◌++◌, take, length, get_or, refl, sym, ap, ◌∙◌, subst, arith, length-append, true≢false, leb-true}
+use Rattle.std.proofs.Common.{◌≡◌, ◌≤◌, ◌<◌, ◌+◌, ◌*◌, ℕ, Bool, true, false, cond, not, ◌||◌, eqb, eqb-true, List, [], ◌∷◌, ◌++◌, take, length, get_or, refl, sym, ap, ◌∙◌, subst, arith, length-append, true≢false}
 use Rattle.std.proofs.Math.Path.{fun_ext}
 use Rattle.std.proofs.lemmas.List.{take_all}
 use Rattle.std.proofs.lemmas.List.Folds.{list_all_more}
-use Rattle.std.specs.Prelude.{⊤, Option, Some, None, IsSome, IsErrAnd, Result, Ok, Err, IfOk, IfErr, OnOk, OnErr, is_some}
+use Rattle.std.specs.Prelude.{⊤, Option, Some, None, IsSome, IsErrAnd, Result, Ok, Err, OnOk, OnErr, is_some}
 use Rattle.std.specs.Option.{option_map, option_map_or}
 use Rattle.std.specs.List.{find, list_all}
 use Rattle.std.specs.FinMap as map
 use Rattle.gaz_changefile.specs.Contents.{Contents}
 use Rattle.gaz_changefile.specs.Reading.{Good, Bad, Reading, reading}
 use Rattle.gaz_changefile.specs.declared.change.Basis.{Basis}
-use Rattle.gaz_register.specs.Registers.{Blocks, CustodianValue, RegisterValue, blocks_of, knows}
-use Rattle.gaz_shelf.specs.Board.{Board, Judgement, adds, last_view, reached}
+use Rattle.gaz_register.specs.Registers.{Blocks, CustodianValue, RegisterValue, knows}
+use Rattle.gaz_shelf.specs.Board.{Board, Judgement, adds, reached}
 use Rattle.gaz_shelf.specs.Keeper.{Content, Counts, Enters, IsAtHand, IsNotOpen, Seen, closed, skipped, with_judgement}
 use Rattle.gaz_shelf.specs.Received.{Received}
 use Rattle.gaz_shelf.specs.declared.fault.ShelfFault.{ShelfFault}
@@ -25,7 +25,6 @@ use Rattle.gaz_hub.specs.Settling.{Advances, IsNext, Looks, Tells, Tries, judged
 use Rattle.gaz_hub.specs.Standing.{Follows, Leads, NothingReady, Register, judge_one, judgement_after, next_reading, ready, with_next}
 use Rattle.gaz_hub.specs.Step.{Door}
 use Rattle.gaz_hub.specs.declared.looking.Next.{Next}
-use Rattle.gaz_hub.specs.declared.looking.Next.TheVariants as next
 use Rattle.gaz_hub.proofs.Bounds.{at_most}
 use Rattle.gaz_hub.proofs.Keyed.{follows_keyed}
 use Rattle.gaz_hub.proofs.Leading.{follows_itself, leads_on}
@@ -193,11 +192,11 @@ adds_after a b c x r code rd own asked P l asks g =
       counts = counts_then a b c r l.counts.kept g.counts;
     }
 
-module _ {T : Type 0} (d : Door) (a c : Seen) (code : ℕ) (rd : Reading) (met : a.stands → c.unharmed → IsNow a.content code rd) where
-  follows_judged : IsNow a.content code rd → c.content ≡ with_judgement a.content code (judged_on (d.register code) a.content.board code rd) → Follows d.register a.content.files a.content.board c.content.board
-  follows_judged now e =
-      record { order = code ∷ []; leads = (now.0, ap (λ (k : Content). k.board) e ∙ added_is d.register a.content.files a.content.board code rd now.1) }
+abbrev follows_judged : (d : Door) (k m : Content) (code : ℕ) (rd : Reading) → IsNow k code rd → m ≡ with_judgement k code (judged_on (d.register code) k.board code rd) → Follows d.register k.files k.board m.board
+follows_judged d k m code rd now e =
+    record { order = code ∷ []; leads = (now.0, ap (λ (x : Content). x.board) e ∙ added_is d.register k.files k.board code rd now.1) }
 
+module _ {T : Type 0} (d : Door) (a c : Seen) (code : ℕ) (rd : Reading) (met : a.stands → c.unharmed → IsNow a.content code rd) where
   -- the file was judged
   pub advances_judged : (x : T) → Adds a c (Ok x) code (IsNow a.content code rd) (judged_on (d.register code) a.content.board code rd) → Advances d 1 a c
   advances_judged x g =
@@ -207,10 +206,10 @@ module _ {T : Type 0} (d : Door) (a c : Seen) (code : ℕ) (rd : Reading) (met :
             let now = met stood.0 fine in (
               g.stands stood.0 now fine,
               known_in d _ _ (sym (ap (λ (k : Content). k.files) (g.done stood.0 now fine))) stood.1,
-              follows_keyed d.register a.content.files a.content.board c.content.board (follows_judged now (g.done stood.0 now fine)) stood.2,
+              follows_keyed d.register a.content.files a.content.board c.content.board (follows_judged d a.content c.content code rd now (g.done stood.0 now fine)) stood.2,
             );
         files = λ stood fine. ap (λ (k : Content). k.files) (g.done stood.0 (met stood.0 fine) fine);
-        board = λ stood fine. let now = met stood.0 fine in follows_judged now (g.done stood.0 now fine);
+        board = λ stood fine. let now = met stood.0 fine in follows_judged d a.content c.content code rd now (g.done stood.0 now fine);
         many = λ stood fine. omega arith;
         idle = g.idle;
         kept = g.counts.kept;

@@ -1,19 +1,19 @@
 -- Answers as steps.
-use Rattle.std.proofs.Common.{◌≡◌, ◌≢◌, ◌≤◌, ◌<◌, ℕ, Bool, true, false, cond, not, List, length, refl, sym, ap, ◌∙◌, subst, arith, true≢false}
+use Rattle.std.proofs.Common.{◌≡◌, ℕ, Bool, true, false, cond, not, List, length, refl, sym, ap, ◌∙◌, subst, arith}
 use Rattle.std.specs.Cmp.{eq_by_cmp_equiv}
-use Rattle.std.specs.Prelude.{Option, Some, None, IsSome, is_some, Ok, Err}
+use Rattle.std.specs.Prelude.{Option, Some, None, is_some, Ok, Err}
 use Rattle.std.specs.FinMap as map
 use Rattle.gaz_shelf.proofs.Pairs.{pairs_total}
 use Rattle.gaz_shelf.specs.Board.{Board}
-use Rattle.gaz_shelf.specs.Keeper.{Content, Enters, IsNew, IsNotOpen, Seen, with_received}
+use Rattle.gaz_shelf.specs.Keeper.{Content, Enters, IsNew, Seen, with_received}
 use Rattle.gaz_shelf.specs.Received.{Received, with_file}
 use Rattle.gaz_shelf.specs.declared.fault.ShelfFault.{ShelfFault}
 use Rattle.gaz_shelf.specs.declared.fault.ShelfFault.TheVariants.{Store}
 use Rattle.gaz_hub.specs.Asked.{IsAgain, IsOutcome, TakesIn}
-use Rattle.gaz_hub.specs.Hubs.{AreKeyed, AreKnown, StandsFor, Steps, cause_in, cause_in_answer, state_of}
+use Rattle.gaz_hub.specs.Hubs.{AreKeyed, AreKnown, StandsFor, Steps, state_of}
 use Rattle.gaz_hub.specs.Settling.{Tells}
-use Rattle.gaz_hub.specs.Standing.{Follows, Leads, NothingReady}
-use Rattle.gaz_hub.specs.Step.{Door, HubState, NotReceived, Settles, Submit, Submits, Submitted, Unsettled, WasNew, door, or_foreign, turned_away}
+use Rattle.gaz_hub.specs.Standing.{Follows, Leads}
+use Rattle.gaz_hub.specs.Step.{Door, HubState, NotReceived, Submit, Submits, Submitted, Unsettled, WasNew, door, or_foreign, turned_away}
 use Rattle.gaz_hub.specs.Runs.{same_pair}
 use Rattle.gaz_hub.specs.declared.answer.Answer.{Answer}
 use Rattle.gaz_hub.specs.declared.answer.Answer.TheVariants.{New, Repeat, Taken, Refused}

@@ -1,18 +1,18 @@
 -- Whole runs over any keeper, and the views on a board.
 use Rattle.std.proofs.Common.{◌≡◌, ◌+◌, ℕ, arith, true, true≢false, List, [], ◌∷◌, ◌++◌, refl, sym, ap, ◌∙◌, subst}
 use Rattle.std.specs.Option.{option_map}
-use Rattle.std.specs.Prelude.{None, is_some}
+use Rattle.std.specs.Prelude.{is_some}
 use Rattle.std.specs.FinMap as map
 use Rattle.gaz_changefile.proofs.Orderly.{bases-rise}
 use Rattle.gaz_changefile.specs.Reading.{Reading, Good, Bad, reading}
-use Rattle.gaz_register.specs.Registers.{IsRegister, RegisterValue, blocks_of}
+use Rattle.gaz_register.specs.Registers.{blocks_of}
 use Rattle.gaz_rules.proofs.SoundBoards.{boards_stay_sound_holds}
 use Rattle.gaz_rules.specs.Sound.{AreDisjoint, IsSoundBoard, NamesOthers}
 use Rattle.gaz_shelf.specs.Board.{Board, empty_board, reached}
 use Rattle.gaz_shelf.specs.Keeper.{Content, Seen, empty_content}
 use Rattle.gaz_shelf.specs.Received.{Received, pair_cmp}
 use Rattle.gaz_hub.specs.Hubs.{AreKeyed, AreKnown, Runs, StandsFor, state_of}
-use Rattle.gaz_hub.specs.Laws.{AllSound, EveryRunOver, EverySettledRunOver, StandsAfter}
+use Rattle.gaz_hub.specs.Laws.{AllSound, EveryRunOver, EverySettledRunOver}
 use Rattle.gaz_hub.specs.Runs.{Run}
 use Rattle.gaz_hub.specs.Standing.{Leads, Register, judge_one, ready}
 use Rattle.gaz_hub.specs.Step.{Command, Door, HubState, Response, new_hub}

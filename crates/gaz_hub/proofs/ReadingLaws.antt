@@ -7,9 +7,7 @@ use Rattle.sha2.specs.Sha256.{sha256}
 use Rattle.gaz_extract.specs.Closing.{closed_streets}
 use Rattle.gaz_extract.specs.Extracts.{extract, extract_rows, items_of}
 use Rattle.gaz_extract.specs.Lookups.{lookup}
-use Rattle.gaz_records.specs.declared.key.Key.TheVariants as key
 use Rattle.gaz_register.proofs.Ownership.{one-owner}
-use Rattle.gaz_register.specs.Registers.{RegisterValue}
 use Rattle.gaz_rows.specs.Rows.{lines_of}
 use Rattle.gaz_shelf.specs.Board.{Board, reached}
 use Rattle.gaz_hub.specs.Outcomes.{outcome, status}
@@ -30,7 +28,7 @@ abbrev told_of : HubState → ℕ → ℕ → Option (List ℕ × Outcome)
 told_of h c volume = option_and_then (λ bytes. option_map (λ o. (sha256 bytes, o)) (outcome h.received h.board c volume)) (map.get h.received (c, volume))
 
 -- what it tells to a question
-read_off : Door → HubState → Command → Option Response
+abbrev read_off : Door → HubState → Command → Option Response
 read_off d h (Submit c volume bytes) = None
 read_off d h (Ask c volume) = Some (Told (Ok (told_of h c volume)))
 read_off d h (Stand c) = Some (Stands (Ok (status h.received h.board c)))

@@ -1,5 +1,5 @@
 -- What gaz_extract reads off a settled board.
-use Rattle.std.specs.Prelude.{Result, Ok, Err, IfOk}
+use Rattle.std.specs.Prelude.{Result}
 use Rattle.gaz_extract.specs.Readings as extract
 use Rattle.gaz_shelf.specs.Keeper.{Seen}
 use Rattle.gaz_shelf.specs.declared.fault.ShelfFault.{ShelfFault}

@@ -1,32 +1,36 @@
 -- The worked examples on readings.
-use Rattle.std.proofs.Common.{◌≡◌, ℕ, refl, sym, ap, ◌∙◌, [], ◌∷◌, List, true≢false}
-use Rattle.std.specs.Prelude.{Some, None, Option}
+use Rattle.std.proofs.Common.{◌≡◌, refl, sym, ◌∙◌, [], ◌∷◌, true≢false}
+use Rattle.std.specs.Prelude.{Some, None}
 use Rattle.std.specs.FinMap as map
 use Rattle.gaz_extract.specs.Closing.{closed_streets}
 use Rattle.gaz_extract.specs.Extracts.{extract}
 use Rattle.gaz_extract.specs.Lookups.{lookup}
-use Rattle.gaz_rows.specs.Rows.{lines_of}
+use Rattle.gaz_records.specs.Keys.{key_cmp}
+use Rattle.gaz_records.specs.declared.key.Key.{Key}
+use Rattle.gaz_records.specs.declared.key.Key.TheVariants as key
+use Rattle.gaz_rules.proofs.Worked.{entries-none}
 use Rattle.gaz_shelf.specs.Board.{empty_board}
 use Rattle.gaz_shelf.specs.View.{empty_view}
 use Rattle.gaz_hub.specs.Examples.{one_judged, sent}
 use Rattle.gaz_hub.specs.Sample.{sample_custodians, sample_register}
 use Rattle.gaz_hub.specs.WorkedReadings.{WorkedReadings, of_nothing}
-use Rattle.gaz_hub.proofs.Examples.{closed_sent, first_ready, get_sent, partial_sent}
+use Rattle.gaz_hub.proofs.Examples.{first_ready, get_sent, partial_sent}
 use Rattle.gaz_hub.proofs.Keyed.{empty_keyed, follows_keyed}
 use Rattle.gaz_hub.proofs.Leading.{follows_itself}
 use Rattle.gaz_hub.proofs.WorkedSteps.{gap_settled, late_settled}
 
+none_at : (k : Key) → map.get empty_view.items k ≡ None
+unfolding empty_view
+none_at k = map.get-empty key_cmp k
+
 nothing_found : None ≡ lookup one_judged sample_custodians 42
-unfolding empty_view map.get map.empty
-nothing_found = refl
+nothing_found = rw (none_at (key.Blpu 42)) refl
 
 text_is : Some of_nothing ≡ extract one_judged 1003 1
-unfolding empty_view map.entries map.empty lines_of
-text_is = refl
+text_is = rw entries-none refl
 
 none_closed : [] ≡ closed_streets one_judged sample_custodians
-unfolding empty_view map.entries map.empty
-none_closed = refl
+none_closed = rw entries-none refl
 
 pub worked_readings_hold : WorkedReadings
 worked_readings_hold = record {

@@ -36,7 +36,7 @@ abbrev pub AreKnown : Door → Received → Type 0
 AreKnown d F = (p : ℕ × ℕ) → IsSome (map.get F p) → d.knows p.0 ≡ true
 
 -- in each view on the board each item stands under its own key
-abbrev pub AreKeyed : Board → Type 0
+unfoldable pub AreKeyed : Board → Type 0
 AreKeyed B = (c volume : ℕ) → IsKeyed (view_after B c volume)
 
 -- the keeper stands for a content that such a hub may have

@@ -1,5 +1,5 @@
 -- Settling over a keeper: what a look at a custodian's next volume finds, and what judging adds.
-use Rattle.std.specs.Prelude.{◌≡◌, ◌≢◌, ◌≤◌, ◌<◌, ◌+◌, ⊤, ℕ, Bool, true, false, length, not, nat_le, List, Option, Some, None, Result, Ok, Err, OnOk, IfOk, IfErr}
+use Rattle.std.specs.Prelude.{◌≡◌, ◌≤◌, ◌<◌, ◌+◌, ℕ, Bool, true, false, length, not, nat_le, List, Option, Some, None, Result, Ok, Err, OnOk, IfOk, IfErr}
 use Rattle.std.specs.List.{find}
 use Rattle.std.specs.FinMap as map
 use Rattle.gaz_changefile.specs.Contents.{Contents}

@@ -1,15 +1,12 @@
 -- Worked examples on what is told of files, and on the sample register.
-use Rattle.std.specs.Prelude.{◌≡◌, true, false, [], ◌∷◌, Some, None}
-use Rattle.gaz_rules.specs.Examples.{again, insertion}
+use Rattle.std.specs.Prelude.{◌≡◌, true, false, [], Some, None}
 use Rattle.gaz_register.specs.Registers.{within}
 use Rattle.gaz_shelf.specs.Board.{Board, empty_board, reached}
-use Rattle.gaz_shelf.specs.Examples.{one_street}
-use Rattle.gaz_shelf.specs.View.{empty_view}
 use Rattle.gaz_shelf.specs.declared.verdict.Verdict.TheVariants as verdict
 use Rattle.gaz_hub.specs.Outcomes.{held_count, outcome, outcome_of, status, wants}
 use Rattle.gaz_hub.specs.Sample.{is_sample_code, sample_door, sample_register, state_of}
 use Rattle.gaz_hub.specs.declared.outcome.Outcome.TheVariants.{Applied, Rejected, Held}
-use Rattle.gaz_hub.specs.Examples.{all_sent, gap_hub, no_text, no_text_judged, one_judged, sent, three_judged}
+use Rattle.gaz_hub.specs.Examples.{all_sent, gap_hub, no_text, one_judged, sent, three_judged}
 
 pub record WorkedOutcomes : Type 0 where
   pub of_applied : outcome_of verdict.Applied ≡ Applied

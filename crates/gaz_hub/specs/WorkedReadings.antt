@@ -1,7 +1,9 @@
 -- Worked examples on readings as steps of a hub.
-use Rattle.std.specs.Prelude.{◌≡◌, ℕ, List, true, false, [], ◌++◌, ◌∷◌, codes, Some, None, Ok, Err}
+use Rattle.std.specs.Prelude.{◌≡◌, ℕ, List, true, false, [], ◌∷◌, Some, None, Ok, Err}
+use Rattle.gaz_extract.specs.Extracts.{header, trailer}
 use Rattle.gaz_extract.specs.declared.closed.Closed.{Closed}
 use Rattle.gaz_extract.specs.declared.found.Found.{Found}
+use Rattle.gaz_rows.specs.Rows.{lines_of}
 use Rattle.gaz_shelf.specs.Board.{empty_board}
 use Rattle.gaz_shelf.specs.declared.fault.ShelfFault.TheVariants as fault
 use Rattle.gaz_hub.specs.Examples.{gap_hub, late_hub, one_judged}
@@ -16,9 +18,9 @@ use Rattle.gaz_hub.specs.declared.refusal.Refusal.TheVariants as refusal
 abbrev pub Reads : HubState → Command → Response → HubState → Type 0
 Reads old command response new = Step sample_door old command response new
 
--- the extract of an empty view of custodian 1003 after volume 1
+-- the extract of custodian 1003 after volume 1, on which nothing stands: header and trailer alone
 abbrev pub of_nothing : List ℕ
-of_nothing = codes "10,E,1003,1" ++ 10 ∷ codes "99,0" ++ 10 ∷ []
+of_nothing = lines_of (header 1003 1 ∷ trailer 0 ∷ [])
 
 -- volume 1 of custodian 1003 was rejected, and volume 2 is missing: nobody has a property
 pub record WorkedReadings : Type 0 where

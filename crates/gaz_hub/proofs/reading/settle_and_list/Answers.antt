@@ -6,6 +6,7 @@ use Rattle.gaz_extract.specs.declared.closed.Closed.{Closed}
 use Rattle.gaz_shelf.specs.Board.{reached}
 use Rattle.gaz_shelf.specs.Keeper.{Content}
 use Rattle.gaz_hub.specs.Hubs.{AreKeyed, door_of}
+use Rattle.gaz_hub.proofs.Keyed.{keyed_at}
 use Rattle.gaz_hub.proofs.Readings.{looks_read, tells_keyed}
 use Rattle.gaz_hub.proofs.Telling.{tells_looks}
 use Rattle.gaz_hub.proofs.reading.settle_and_list.Goals as goal
@@ -18,4 +19,4 @@ returns g c =
     let e = g.K.Shelf.seen c.closed_streets.new.shelf in
     tells_keyed d a e _ _
     (tells_looks d a b e _ _ _ (λ (k : Content) (closed : Vec Closed). AreKeyed k.board → closed.items ≡ closed_streets k.board c.args.register.now)
-    c.in_ok-settle.ensures (looks_read b e _ _ _ (λ x is keyed. is (λ n. keyed n (reached b.content.board n))) c.closed_streets.ensures))
+    c.in_ok-settle.ensures (looks_read b e _ _ _ (λ x is keyed. is (λ n. keyed_at b.content.board keyed n (reached b.content.board n))) c.closed_streets.ensures))

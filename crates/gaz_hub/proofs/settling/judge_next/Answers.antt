@@ -1,11 +1,10 @@
 -- The next file is judged where it is ready.
-use Rattle.std.proofs.Common.{◌≡◌, sym, ◌∙◌, subst}
-use Rattle.std.specs.Prelude.{Err}
+use Rattle.std.proofs.Common.{◌≡◌, sym, subst}
 use Rattle.gaz_changefile.specs.Reading.{Bad, Good}
 use Rattle.gaz_register.specs.Registers.{blocks_of}
 use Rattle.gaz_hub.specs.Hubs.{door_of}
 use Rattle.gaz_hub.specs.Settling.{Tries}
-use Rattle.gaz_hub.proofs.Advancing.{adds_after, adds_judged, adds_skipped, asks_bad, asks_good, is_at_hand, is_err, ready_rests, tries_broken, tries_judged}
+use Rattle.gaz_hub.proofs.Advancing.{adds_after, adds_judged, adds_skipped, asks_bad, asks_good, is_err, tries_broken, tries_judged}
 use Rattle.gaz_hub.proofs.Looks.{left_not_open}
 use Rattle.gaz_hub.proofs.settling.judge_next.Goals as goal
 

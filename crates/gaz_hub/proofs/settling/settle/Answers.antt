@@ -1,7 +1,7 @@
 -- Round after round.
-use Rattle.std.proofs.Common.{◌≡◌, ◌*◌, ℕ, sym, ap, ◌∙◌, subst, true, false, arith, length, Bool, List, refl}
-use Rattle.std.specs.Prelude.{⊤, Err, Ok}
-use Rattle.gaz_register.specs.Registers.{CustodianValue, knows}
+use Rattle.std.proofs.Common.{◌≡◌, sym, ap, subst, true, arith, length, Bool}
+use Rattle.std.specs.Prelude.{⊤, Ok}
+use Rattle.gaz_register.specs.Registers.{knows}
 use Rattle.gaz_hub.specs.Hubs.{door_of}
 use Rattle.gaz_hub.specs.Settling.{Tells, Tries}
 use Rattle.gaz_hub.proofs.Advancing.{advances_then, is_err, settled_now, settling_past, settling_stopped}

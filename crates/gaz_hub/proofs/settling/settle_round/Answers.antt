@@ -1,5 +1,5 @@
 -- One custodian after another.
-use Rattle.std.proofs.Common.{◌≡◌, ℕ, sym, ◌∙◌, subst, true}
+use Rattle.std.proofs.Common.{◌≡◌, ℕ, sym, subst, true}
 use Rattle.std.specs.Prelude.{Ok}
 use Rattle.gaz_register.specs.Registers.{RegisterValue, knows}
 use Rattle.gaz_hub.specs.Hubs.{door_of}
