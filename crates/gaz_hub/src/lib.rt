@@ -22,6 +22,4 @@ pub use standing::Standing;
 #[cfg(test)]
 mod failing;
 #[cfg(test)]
-mod reading_tests;
-#[cfg(test)]
 mod tests;
