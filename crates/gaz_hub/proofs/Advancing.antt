@@ -20,13 +20,13 @@ use Rattle.gaz_shelf.specs.declared.verdict.Verdict.{Verdict}
 use Rattle.gaz_rules.specs.Bases.{are_reached, judged_on}
 use Rattle.gaz_rules.specs.Judges.{IsReady, Judges}
 use Rattle.gaz_rules.specs.Judging.{bases_of, judge}
-use Rattle.gaz_hub.specs.Hubs.{AreKnown, StandsFor, door_of}
+use Rattle.gaz_hub.specs.Hubs.{AreKeyed, AreKnown, StandsFor, door_of}
 use Rattle.gaz_hub.specs.Settling.{Advances, IsNext, Looks, Tells, Tries, judged_in}
 use Rattle.gaz_hub.specs.Standing.{Follows, Leads, NothingReady, Register, judge_one, judgement_after, next_reading, ready, with_next}
 use Rattle.gaz_hub.specs.Step.{Door}
 use Rattle.gaz_hub.specs.declared.looking.Next.{Next}
-use Rattle.gaz_hub.specs.declared.looking.Next.TheVariants as next
 use Rattle.gaz_hub.proofs.Bounds.{at_most}
+use Rattle.gaz_hub.proofs.Keyed.{follows_keyed}
 use Rattle.gaz_hub.proofs.Leading.{follows_itself, leads_on}
 use Rattle.gaz_hub.proofs.Looks.{counts_then, left_not_open}
 use Rattle.gaz_hub.proofs.Prefixes.{both_parts, joined}
@@ -45,7 +45,9 @@ pub advances_looking : {T : Type 0} (d : Door) (a b : Seen) (r : Result T ShelfF
 advances_looking d a b r P l idle =
     record {
       harm = l.keeps.harm;
-      stands = λ stood fine. (l.keeps.stands stood.0 fine, known_in d _ _ (sym (ap (λ (k : Content). k.files) (l.keeps.content stood.0 fine))) stood.1);
+      stands = λ stood fine.
+          let same = l.keeps.content stood.0 fine in
+          (l.keeps.stands stood.0 fine, known_in d _ _ (sym (ap (λ (k : Content). k.files) same)) stood.1, subst AreKeyed (sym (ap (λ (k : Content). k.board) same)) stood.2);
       files = λ stood fine. ap (λ (k : Content). k.files) (l.keeps.content stood.0 fine);
       board = λ stood fine. follows_itself d.register _ _ _ (ap (λ (k : Content). k.board) (l.keeps.content stood.0 fine));
       many = λ stood fine. omega arith;
@@ -190,17 +192,24 @@ adds_after a b c x r code rd own asked P l asks g =
       counts = counts_then a b c r l.counts.kept g.counts;
     }
 
+abbrev follows_judged : (d : Door) (k m : Content) (code : ℕ) (rd : Reading) → IsNow k code rd → m ≡ with_judgement k code (judged_on (d.register code) k.board code rd) → Follows d.register k.files k.board m.board
+follows_judged d k m code rd now e =
+    record { order = code ∷ []; leads = (now.0, ap (λ (x : Content). x.board) e ∙ added_is d.register k.files k.board code rd now.1) }
+
 module _ {T : Type 0} (d : Door) (a c : Seen) (code : ℕ) (rd : Reading) (met : a.stands → c.unharmed → IsNow a.content code rd) where
   -- the file was judged
   pub advances_judged : (x : T) → Adds a c (Ok x) code (IsNow a.content code rd) (judged_on (d.register code) a.content.board code rd) → Advances d 1 a c
   advances_judged x g =
       record {
         harm = g.harm;
-        stands = λ stood fine. (g.stands stood.0 (met stood.0 fine) fine, known_in d _ _ (sym (ap (λ (k : Content). k.files) (g.done stood.0 (met stood.0 fine) fine))) stood.1);
+        stands = λ stood fine.
+            let now = met stood.0 fine in (
+              g.stands stood.0 now fine,
+              known_in d _ _ (sym (ap (λ (k : Content). k.files) (g.done stood.0 now fine))) stood.1,
+              follows_keyed d.register a.content.files a.content.board c.content.board (follows_judged d a.content c.content code rd now (g.done stood.0 now fine)) stood.2,
+            );
         files = λ stood fine. ap (λ (k : Content). k.files) (g.done stood.0 (met stood.0 fine) fine);
-        board = λ stood fine.
-            let now = met stood.0 fine in
-            record { order = code ∷ []; leads = (now.0, ap (λ (k : Content). k.board) (g.done stood.0 now fine) ∙ added_is d.register a.content.files a.content.board code rd now.1) };
+        board = λ stood fine. let now = met stood.0 fine in follows_judged d a.content c.content code rd now (g.done stood.0 now fine);
         many = λ stood fine. omega arith;
         idle = g.idle;
         kept = g.counts.kept;
@@ -211,7 +220,10 @@ module _ {T : Type 0} (d : Door) (a c : Seen) (code : ℕ) (rd : Reading) (met :
   advances_broken e g =
       record {
         harm = g.harm;
-        stands = λ stood fine. (g.stands stood.0 (met stood.0 fine) fine, known_in d _ _ (sym (ap (λ (k : Content). k.files) (g.undone stood.0 (met stood.0 fine) fine))) stood.1);
+        stands = λ stood fine.
+            let now = met stood.0 fine in
+            let same = g.undone stood.0 now fine in
+            (g.stands stood.0 now fine, known_in d _ _ (sym (ap (λ (k : Content). k.files) same)) stood.1, subst AreKeyed (sym (ap (λ (k : Content). k.board) same)) stood.2);
         files = λ stood fine. ap (λ (k : Content). k.files) (g.undone stood.0 (met stood.0 fine) fine);
         board = λ stood fine. follows_itself d.register _ _ _ (ap (λ (k : Content). k.board) (g.undone stood.0 (met stood.0 fine) fine));
         many = λ stood fine. omega arith;

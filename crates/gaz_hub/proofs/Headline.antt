@@ -11,12 +11,13 @@ use Rattle.gaz_rules.specs.Sound.{AreDisjoint, IsSoundBoard, NamesOthers}
 use Rattle.gaz_shelf.specs.Board.{Board, empty_board, reached}
 use Rattle.gaz_shelf.specs.Keeper.{Content, Seen, empty_content}
 use Rattle.gaz_shelf.specs.Received.{Received, pair_cmp}
-use Rattle.gaz_hub.specs.Hubs.{AreKnown, Runs, state_of}
+use Rattle.gaz_hub.specs.Hubs.{AreKnown, Runs, state_of, AreKeyed, StandsFor}
 use Rattle.gaz_hub.specs.Laws.{AllSound, EveryRunOver, EverySettledRunOver}
 use Rattle.gaz_hub.specs.Runs.{Run}
 use Rattle.gaz_hub.specs.Standing.{Leads, Register, judge_one, ready}
 use Rattle.gaz_hub.specs.Step.{Command, Door, HubState, Response, new_hub}
 use Rattle.gaz_hub.proofs.Advancing.{added_is}
+use Rattle.gaz_hub.proofs.Keyed.{empty_keyed}
 use Rattle.gaz_hub.proofs.Orders.{ready_gives}
 use Rattle.gaz_hub.proofs.Runs.{every_run_holds, every_settled_run_holds}
 
@@ -25,15 +26,18 @@ use Rattle.gaz_hub.proofs.Runs.{every_run_holds, every_settled_run_holds}
 none_known : (d : Door) (k : Content) → k ≡ empty_content → AreKnown d k.files
 none_known d k e p h = absurd (true≢false (sym h ∙ ap (λ (m : Content). is_some (map.get m.files p)) e ∙ ap is_some (map.get-empty pair_cmp p)))
 
+begins_so : (d : Door) (old : Seen) → old.stands → old.content ≡ empty_content → StandsFor d old
+begins_so d old stood e = (stood, none_known d old.content e, subst AreKeyed (sym (ap (λ (k : Content). k.board) e)) empty_keyed)
+
 from_empty : (d : Door) (old new : Seen) (commands : List Command) (responses : List Response) → old.stands → old.content ≡ empty_content → new.unharmed → Runs d old new commands responses
     → Run d new_hub commands responses (state_of new.content)
 from_empty d old new commands responses stood empty fine r =
-    subst (λ (h : HubState). Run d h commands responses (state_of new.content)) (ap state_of empty) (r.run (stood, none_known d old.content empty) fine)
+    subst (λ (h : HubState). Run d h commands responses (state_of new.content)) (ap state_of empty) (r.run (begins_so d old stood empty) fine)
 
 pub every_run_over : {K : Type 0} (seen : K → Seen) → EveryRunOver seen
 every_run_over seen d old new commands responses stood empty fine r =
     record {
-      stands = (r.stands (stood, none_known d (seen old).content empty) fine).0;
+      stands = (r.stands (begins_so d (seen old) stood empty) fine).0;
       abides = every_run_holds d commands responses (state_of (seen new).content) (from_empty d (seen old) (seen new) commands responses stood empty fine r);
     }
 

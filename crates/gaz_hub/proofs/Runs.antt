@@ -74,7 +74,7 @@ judgements_stay_holds d old new command response s c =
     let g = goes d old command response new s in
     follows_below d.register new.received old.board new.board g.board c
 
-same_state : (one other : HubState) → other.received ≡ one.received → other.board ≡ one.board → other ≡ one
+pub same_state : (one other : HubState) → other.received ≡ one.received → other.board ≡ one.board → other ≡ one
 same_state one other e f = λ i. record { received = e i; board = f i }
 
 pub equal_received_holds : EqualReceived

@@ -7,7 +7,7 @@ use Rattle.std.specs.FinMap as map
 use Rattle.gaz_shelf.specs.Board.{Board}
 use Rattle.gaz_shelf.specs.Received.{Received, pair_cmp, with_file}
 use Rattle.gaz_hub.specs.Standing.{HasAllOf, Follows, NothingReady}
-use Rattle.gaz_hub.specs.Step.{Door, HubState, Command, Submit, Ask, Stand, Settle, Response, Submitted, Told, Stands, Settled, Step, Submits, Refuses, TurnedAway, NotReceived, WasAsked, Settles, door}
+use Rattle.gaz_hub.specs.Step.{Door, HubState, Command, Submit, Ask, Stand, Settle, LookUp, Extract, ListClosed, Response, Submitted, Told, Stands, Settled, LookedUp, Extracted, Listed, Step, Submits, Refuses, TurnedAway, NotReceived, WasAsked, Settles, door}
 use Rattle.gaz_hub.specs.Runs.{accepted, is_settled, same_pair, is_answered_51}
 use Rattle.gaz_hub.specs.declared.answer.Answer.{Answer}
 use Rattle.gaz_hub.specs.declared.answer.Answer.TheVariants.{New, Repeat, Taken, Refused}
@@ -168,4 +168,10 @@ goes d old (Stand c) (Stands (Ok stands)) new s = from_asked d old new _ _ _ s (
 goes d old (Stand c) (Stands (Err r)) new s = refuses_goes d old _ r new _ s refl (λ p. refl)
 goes d old Settle (Settled (Ok done)) new s = from_asked d old new _ _ _ s (λ p. refl)
 goes d old Settle (Settled (Err fault)) new s = from_not_received d old new _ _ s refl (λ p. ap (λ X. map.get X p) s.received ∙ or_none _)
+goes d old (LookUp uprn) (LookedUp (Ok found)) new s = from_asked d old new _ _ _ s (λ p. refl)
+goes d old (LookUp uprn) (LookedUp (Err r)) new s = refuses_goes d old _ r new _ s refl (λ p. refl)
+goes d old (Extract c volume) (Extracted (Ok bytes)) new s = from_asked d old new _ _ _ s (λ p. refl)
+goes d old (Extract c volume) (Extracted (Err r)) new s = refuses_goes d old _ r new _ s refl (λ p. refl)
+goes d old ListClosed (Listed (Ok closed)) new s = from_asked d old new _ _ _ s (λ p. refl)
+goes d old ListClosed (Listed (Err r)) new s = refuses_goes d old _ r new _ s refl (λ p. refl)
 goes d old _ _ new s = absurd s

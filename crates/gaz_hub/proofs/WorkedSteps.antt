@@ -55,7 +55,7 @@ on_commands = record {
 from_first : Follows sample_register sent one_judged one_judged
 from_first = follows_itself sample_register sent one_judged one_judged refl
 
-gap_settled : Settles sample_door sent one_judged one_judged
+pub gap_settled : Settles sample_door sent one_judged one_judged
 gap_settled = record { follows = from_first; settled = closed_sent }
 
 gap_filled : Settles sample_door all_sent one_judged three_judged
@@ -66,7 +66,7 @@ gap_filled =
 whole_settled : Settles sample_door all_sent three_judged three_judged
 whole_settled = record { follows = follows_itself sample_register all_sent three_judged three_judged refl; settled = closed_all }
 
-late_settled : Settles sample_door sent empty_board one_judged
+pub late_settled : Settles sample_door sent empty_board one_judged
 late_settled = record { follows = partial_sent; settled = closed_sent }
 
 never_late : (before : Board) → Settles sample_door sent before empty_board → ⊥

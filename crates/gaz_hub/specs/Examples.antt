@@ -64,4 +64,4 @@ whole_hub = record { received = all_sent; board = three_judged }
 
 -- a door that takes every file for one of an unknown profile
 abbrev pub foreign_door : Door
-foreign_door = record { register = sample_register; knows = λ c. true; is_foreign = λ bytes. true }
+foreign_door = record { register = sample_register; knows = λ c. true; is_foreign = λ bytes. true; custodians = [] }

@@ -1,14 +1,18 @@
 -- A hub over a keeper: what each of its calls tells.
 use Rattle.std.specs.Prelude.{◌≡◌, ◌≤◌, ◌<◌, ℕ, ◌==◌, Bool, true, false, not, IsSome, List, Option, Some, None, Result, Ok, Err}
-use Rattle.std.specs.Option.{option_map_or}
+use Rattle.std.specs.Global.{Vec}
+use Rattle.std.specs.Option.{option_map, option_map_or}
 use Rattle.std.specs.FinMap as map
 use Rattle.gaz_changefile.specs.Profile.{profile_of}
 use Rattle.gaz_register.specs.Registers.{RegisterValue, blocks_of, knows}
+use Rattle.gaz_extract.specs.declared.closed.Closed.{Closed}
+use Rattle.gaz_shelf.specs.Board.{Board, view_after}
+use Rattle.gaz_shelf.specs.Reading.{IsKeyed}
 use Rattle.gaz_shelf.specs.Received.{Received}
 use Rattle.gaz_shelf.specs.Keeper.{Content, IsNotOpen, Seen}
 use Rattle.gaz_shelf.specs.declared.fault.ShelfFault.{ShelfFault}
 use Rattle.gaz_shelf.specs.declared.fault.ShelfFault.TheVariants.{Store}
-use Rattle.gaz_hub.specs.Step.{Command, Door, HubState, Response, Settled, Stands, Step, Submitted, Told}
+use Rattle.gaz_hub.specs.Step.{Command, Door, Extracted, HubState, Listed, LookedUp, Response, Settled, Stands, Step, Submitted, Told}
 use Rattle.gaz_hub.specs.Runs.{Run}
 use Rattle.gaz_hub.specs.declared.answer.Answer.{Answer}
 use Rattle.gaz_hub.specs.declared.answer.Answer.TheVariants.{New, Repeat, Taken, Refused}
@@ -21,7 +25,7 @@ is_foreign bytes = option_map_or (λ profile. not (profile == 1)) (profile_of by
 
 -- the door of a hub with this register
 abbrev pub door_of : RegisterValue → Door
-door_of r = record { register = blocks_of r; knows = knows r; is_foreign = is_foreign }
+door_of r = record { register = blocks_of r; knows = knows r; is_foreign = is_foreign; custodians = r }
 
 -- what was received, and how far it is judged, of what a keeper keeps
 abbrev pub state_of : Content → HubState
@@ -31,9 +35,13 @@ state_of k = record { received = k.files; board = k.board }
 abbrev pub AreKnown : Door → Received → Type 0
 AreKnown d F = (p : ℕ × ℕ) → IsSome (map.get F p) → d.knows p.0 ≡ true
 
+-- in each view on the board each item stands under its own key
+unfoldable pub AreKeyed : Board → Type 0
+AreKeyed B = (c volume : ℕ) → IsKeyed (view_after B c volume)
+
 -- the keeper stands for a content that such a hub may have
 abbrev pub StandsFor : Door → Seen → Type 0
-StandsFor d s = s.stands × AreKnown d s.content.files
+StandsFor d s = s.stands × AreKnown d s.content.files × AreKeyed s.content.board
 
 -- ---- what a call tells
 
@@ -60,6 +68,22 @@ cause_of (Stands (Ok standing)) = None
 cause_of (Stands (Err r)) = cause_in r
 cause_of (Settled (Ok done)) = None
 cause_of (Settled (Err fault)) = Some fault
+cause_of (LookedUp (Ok found)) = None
+cause_of (LookedUp (Err r)) = cause_in r
+cause_of (Extracted (Ok bytes)) = None
+cause_of (Extracted (Err r)) = cause_in r
+cause_of (Listed (Ok closed)) = None
+cause_of (Listed (Err r)) = cause_in r
+
+-- the bytes of an extract that was told
+abbrev pub told : Result (Option (Vec ℕ)) Refusal → Result (Option (List ℕ)) Refusal
+told (Ok text) = Ok (option_map (λ (t : Vec ℕ). t.items) text)
+told (Err r) = Err r
+
+-- the addresses that were told
+abbrev pub told_all : Result (Vec Closed) Refusal → Result (List Closed) Refusal
+told_all (Ok closed) = Ok closed.items
+told_all (Err r) = Err r
 
 -- one call: where the keeper stood for a content before and nobody else wrote on it, a step of the hub on that content
 pub record Steps (d : Door) (old new : Seen) (command : Command) (response : Response) : Type 0 where

@@ -5,6 +5,7 @@ pub mod Runs
 pub mod Sample
 pub mod Hubs
 pub mod Laws
+pub mod Readings
 pub mod Settling
 pub mod Asked
 pub mod Examples
@@ -12,4 +13,5 @@ pub mod WorkedBoards
 pub mod WorkedAnswers
 pub mod WorkedSteps
 pub mod WorkedRuns
+pub mod WorkedReadings
 pub mod WorkedHubs

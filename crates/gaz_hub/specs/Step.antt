@@ -2,6 +2,12 @@
 use Rattle.std.specs.Prelude.{◌≡◌, ◌≢◌, ℕ, nat_le, Bool, not, ◌&&◌, if◌then◌else◌, List, length, Option, Some, None, Result, Ok, Err}
 use Rattle.std.specs.FinMap as map
 use Rattle.sha2.specs.Sha256.{sha256}
+use Rattle.gaz_extract.specs.Closing.{closed_streets}
+use Rattle.gaz_extract.specs.Extracts.{extract}
+use Rattle.gaz_extract.specs.Lookups.{lookup}
+use Rattle.gaz_extract.specs.declared.closed.Closed.{Closed}
+use Rattle.gaz_extract.specs.declared.found.Found.{Found}
+use Rattle.gaz_register.specs.Registers.{RegisterValue}
 use Rattle.gaz_shelf.specs.Board.{Board, empty_board}
 use Rattle.gaz_shelf.specs.declared.fault.ShelfFault.{ShelfFault}
 use Rattle.gaz_shelf.specs.Received.{Received, with_file}
@@ -19,6 +25,8 @@ pub record Door : Type 0 where
   pub register : Register
   pub knows : ℕ → Bool
   pub is_foreign : List ℕ → Bool
+  -- the register itself, whose custodians' views are read
+  pub custodians : RegisterValue
 
 -- what was received, and how far it is judged
 pub record HubState : Type 0 where
@@ -29,12 +37,16 @@ pub record HubState : Type 0 where
 abbrev pub new_hub : HubState
 new_hub = record { received = map.empty; board = empty_board }
 
--- a file submitted as a custodian's volume; the outcome of a volume asked for; how far a custodian is judged; nothing but settling
+-- a file submitted as a custodian's volume; the outcome of a volume asked for; how far a custodian is judged; nothing but settling;
+-- a property looked up by its UPRN; a custodian's view after a volume; approved addresses on streets that others closed
 pub data Command : Type 0 where
   Submit : ℕ → ℕ → List ℕ → Command
   Ask : ℕ → ℕ → Command
   Stand : ℕ → Command
   Settle : Command
+  LookUp : ℕ → Command
+  Extract : ℕ → ℕ → Command
+  ListClosed : Command
 
 -- what the hub answers to each
 pub data Response : Type 0 where
@@ -42,6 +54,9 @@ pub data Response : Type 0 where
   Told : Result (Option (List ℕ × Outcome)) Refusal → Response
   Stands : Result Standing Refusal → Response
   Settled : Result (Unit {0}) ShelfFault → Response
+  LookedUp : Result (Option Found) Refusal → Response
+  Extracted : Result (Option (List ℕ)) Refusal → Response
+  Listed : Result (List Closed) Refusal → Response
 
 -- ---- the door
 
@@ -69,6 +84,9 @@ early_refusal d (Submit c volume bytes) = turned_away d c volume (length bytes)
 early_refusal d (Ask c volume) = turned_away d c volume 0
 early_refusal d (Stand c) = if not (d.knows c) then Some refusal.UnknownCustodian else None
 early_refusal d Settle = None
+early_refusal d (LookUp uprn) = None
+early_refusal d (Extract c volume) = turned_away d c volume 0
+early_refusal d ListClosed = None
 
 -- the refusal of a command at the door
 abbrev pub refusal_at_door : Door → Command → Option Refusal
@@ -176,10 +194,25 @@ abbrev pub SettlesAll : Door → HubState → Result (Unit {0}) ShelfFault → H
 SettlesAll d old (Ok done) new = WasAsked d old Settle new (Unit {0})
 SettlesAll d old (Err fault) new = NotReceived d old Settle new
 
+abbrev pub LooksUp : Door → HubState → ℕ → Result (Option Found) Refusal → HubState → Type 0
+LooksUp d old uprn (Ok found) new = WasAsked d old (LookUp uprn) new (found ≡ lookup new.board d.custodians uprn)
+LooksUp d old uprn (Err r) new = Refuses d old (LookUp uprn) r new
+
+abbrev pub Extracts : Door → HubState → ℕ → ℕ → Result (Option (List ℕ)) Refusal → HubState → Type 0
+Extracts d old c volume (Ok bytes) new = WasAsked d old (Extract c volume) new (bytes ≡ extract new.board c volume)
+Extracts d old c volume (Err r) new = Refuses d old (Extract c volume) r new
+
+abbrev pub ListsClosed : Door → HubState → Result (List Closed) Refusal → HubState → Type 0
+ListsClosed d old (Ok closed) new = WasAsked d old ListClosed new (closed ≡ closed_streets new.board d.custodians)
+ListsClosed d old (Err r) new = Refuses d old ListClosed r new
+
 -- from old the hub may give this response to the command and go on to new
 abbrev pub Step : Door → HubState → Command → Response → HubState → Type 0
 Step d old (Submit c volume bytes) (Submitted answer) new = Submits d old c volume bytes answer new
 Step d old (Ask c volume) (Told told) new = Asks d old c volume told new
 Step d old (Stand c) (Stands stands) new = TellsStanding d old c stands new
 Step d old Settle (Settled done) new = SettlesAll d old done new
+Step d old (LookUp uprn) (LookedUp found) new = LooksUp d old uprn found new
+Step d old (Extract c volume) (Extracted bytes) new = Extracts d old c volume bytes new
+Step d old ListClosed (Listed closed) new = ListsClosed d old closed new
 Step d old _ _ new = ⊥

@@ -37,8 +37,8 @@ fn known_code(register: &Register, code: u64) -> Result<Code, Refusal>
     }
 }
 
-// The pair under which a file of this size came, or the first refusal of the door.
-fn at_door(
+/// The pair under which a file of this size came, or the first refusal of the door.
+pub fn at_door(
     register: &Register,
     code: u64,
     volume: u64,

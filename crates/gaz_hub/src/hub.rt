@@ -1,14 +1,17 @@
 ghost use Rattle.std.specs.Prelude.{◌≡◌};
 ghost use Rattle.gaz_shelf.specs.Keeper.{IsNotOpen, Seen};
-ghost use Rattle.gaz_hub.specs.Hubs.{Steps, door_of};
-ghost use Rattle.gaz_hub.specs.Step.{Ask, Settle, Settled, Stand, Stands, Submit, Submitted, Told};
+ghost use Rattle.gaz_hub.specs.Hubs.{Steps, door_of, told, told_all};
+ghost use Rattle.gaz_hub.specs.Step.{Ask, Extract, Extracted, ListClosed, Listed, LookUp, LookedUp, Settle, Settled, Stand, Stands, Submit, Submitted, Told};
 
 use crate::answer::{Answer, Digest};
 use crate::answering::{ask, stand, submit_file};
 use crate::outcome::Outcome;
+use crate::reading::{extract_of, list_closed, look_up};
 use crate::refusal::Refusal;
 use crate::settling::settle;
 use crate::standing::Standing;
+use gaz_extract::{Closed, Found};
+use gaz_ids::Uprn;
 use gaz_register::Register;
 use gaz_shelf::{Inbox, ShelfFault};
 use std::alloc::Global;
@@ -103,5 +106,32 @@ impl<K: Inbox + Drop> Hub<K> {
         ensures register { self.new.register ≡ self.old.register }
     {
         settle(self.alloc, &self.register, &mut self.keeper)
+    }
+
+    /// Where a property stands now and how it is addressed; none where it stands with no custodian.
+    pub fn lookup(&mut self, uprn: Uprn) -> Result<Option<Found>, Refusal>
+        requires idle { IsNotOpen (K.seen self.old.keeper).progress }
+        ensures steps { Steps (door_of self.old.register) (K.seen self.old.keeper) (K.seen self.new.keeper) (LookUp uprn) (LookedUp result) }
+        ensures register { self.new.register ≡ self.old.register }
+    {
+        look_up(self.alloc, &self.register, &mut self.keeper, uprn)
+    }
+
+    /// A custodian's view after a volume, as the text of an extract; none where the volume isn't reached.
+    pub fn extract(&mut self, code: u64, volume: u64) -> Result<Option<Vec<u8>>, Refusal>
+        requires idle { IsNotOpen (K.seen self.old.keeper).progress }
+        ensures steps { Steps (door_of self.old.register) (K.seen self.old.keeper) (K.seen self.new.keeper) (Extract code volume) (Extracted (told result)) }
+        ensures register { self.new.register ≡ self.old.register }
+    {
+        extract_of(self.alloc, &self.register, &mut self.keeper, code, volume)
+    }
+
+    /// The approved addresses on streets that other custodians closed, by custodian and then by the LPI's key.
+    pub fn closed_streets(&mut self) -> Result<Vec<Closed>, Refusal>
+        requires idle { IsNotOpen (K.seen self.old.keeper).progress }
+        ensures steps { Steps (door_of self.old.register) (K.seen self.old.keeper) (K.seen self.new.keeper) ListClosed (Listed (told_all result)) }
+        ensures register { self.new.register ≡ self.old.register }
+    {
+        list_closed(self.alloc, &self.register, &mut self.keeper)
     }
 }

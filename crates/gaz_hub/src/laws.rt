@@ -1,10 +1,12 @@
 //! Laws over the definitions alone: whichever ready file is judged first, whatever commands come.
 ghost use Rattle.gaz_hub.specs.Laws.{AllSound, EveryRunOver, EverySettledRunOver};
+ghost use Rattle.gaz_hub.specs.Readings.{EqualAnswers, ExtractsStay, OneHolder};
 ghost use Rattle.gaz_hub.specs.Runs.{EqualReceived, EveryRepeat, EveryRun, EverySettledRun, JudgementsStay};
 ghost use Rattle.gaz_hub.specs.Standing.{AnyOrder, MoreFiles, StandingIsSettled};
 ghost use Rattle.gaz_hub.specs.WorkedAnswers.{WorkedAnswers};
 ghost use Rattle.gaz_hub.specs.WorkedBoards.{WorkedBoards};
 ghost use Rattle.gaz_hub.specs.WorkedHubs.{WorkedHubs};
+ghost use Rattle.gaz_hub.specs.WorkedReadings.{WorkedReadings};
 ghost use Rattle.gaz_hub.specs.WorkedRuns.{WorkedRuns};
 ghost use Rattle.gaz_hub.specs.WorkedSteps.{WorkedSteps};
 
@@ -55,6 +57,21 @@ pub fn all_sound()
     ensures { AllSound }
 {}
 
+/// Two hubs that received the same tell the same outcomes, standings, look-ups, extracts and closed streets, whatever came and in whatever order.
+pub fn equal_answers()
+    ensures { EqualAnswers }
+{}
+
+/// The extract of a volume that is reached stays, with more files and after every step.
+pub fn extracts_stay()
+    ensures { ExtractsStay }
+{}
+
+/// A property stands in the last view of one custodian at most, on every partial board.
+pub fn one_holder()
+    ensures { OneHolder }
+{}
+
 /// Whatever commands come, over any keeper that began with nothing, it stands for what came first and for a board that is partial over it.
 pub fn every_run_over<K: Inbox>()
     ensures { EveryRunOver K.seen }
@@ -83,6 +100,11 @@ pub fn worked_steps()
 /// Which runs a hub may go through, and what holds after them, on worked examples.
 pub fn worked_runs()
     ensures { WorkedRuns }
+{}
+
+/// What is looked up, extracted and listed, and what isn't, on worked examples.
+pub fn worked_readings()
+    ensures { WorkedReadings }
 {}
 
 /// The door and the blocks of a hub over a register, on worked examples.

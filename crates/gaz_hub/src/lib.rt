@@ -7,6 +7,7 @@ mod hub;
 pub mod laws;
 mod looking;
 mod outcome;
+mod reading;
 mod refusal;
 mod settling;
 mod standing;

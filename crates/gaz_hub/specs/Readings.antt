@@ -1,0 +1,39 @@
+-- What readings of a hub come to: over equal received sets, over more files, and of one property.
+use Rattle.std.specs.Prelude.{◌≡◌, ◌≤◌, ℕ, Bool, true, false, List, [], ◌∷◌, ◌++◌}
+use Rattle.gaz_extract.specs.Extracts.{extract}
+use Rattle.gaz_records.specs.declared.key.Key.TheVariants as key
+use Rattle.gaz_register.specs.Registers.{IsRegister, RegisterValue, blocks_of}
+use Rattle.gaz_shelf.specs.Board.{Board, last_view, reached}
+use Rattle.gaz_shelf.specs.Received.{Received}
+use Rattle.gaz_shelf.specs.View.{holds}
+use Rattle.gaz_hub.specs.Runs.{Run, is_settled}
+use Rattle.gaz_hub.specs.Standing.{HasAllOf, IsPartial, Register, standing}
+use Rattle.gaz_hub.specs.Step.{Ask, Command, Door, Extract, HubState, ListClosed, LookUp, Response, Settle, Stand, Step, Submit, new_hub}
+
+-- everything but a submission
+abbrev pub is_question : Command → Bool
+is_question (Submit c volume bytes) = false
+is_question (Ask c volume) = true
+is_question (Stand c) = true
+is_question Settle = true
+is_question (LookUp uprn) = true
+is_question (Extract c volume) = true
+is_question ListClosed = true
+
+-- whatever came before, and in whatever order: two hubs that received the same tell the same to a question, wherever both answer it
+abbrev pub EqualAnswers : Type 0
+EqualAnswers = (d : Door) (one other : HubState) (commands others : List Command) (responses replies : List Response) (question : Command) (told heard : Response)
+    → Run d new_hub (commands ++ question ∷ []) (responses ++ told ∷ []) one → Run d new_hub (others ++ question ∷ []) (replies ++ heard ∷ []) other
+    → is_question question ≡ true → is_settled told ≡ true → is_settled heard ≡ true → other.received ≡ one.received → heard ≡ told
+
+-- the extract of a volume that is reached stays: with more files, and whatever is asked next
+pub record ExtractsStay : Type 0 where
+  pub with_more_files : (G : Register) (F bigger : Received) → HasAllOf bigger F
+      → (c volume : ℕ) → volume ≤ reached (standing G F) c → extract (standing G bigger) c volume ≡ extract (standing G F) c volume
+  pub after_a_step : (d : Door) (old new : HubState) (command : Command) (response : Response) → Step d old command response new
+      → (c volume : ℕ) → volume ≤ reached old.board c → extract new.board c volume ≡ extract old.board c volume
+
+-- where blocks alone decide, a property stands in the last view of one custodian at most
+abbrev pub OneHolder : Type 0
+OneHolder = (register : RegisterValue) (F : Received) (B : Board) → IsRegister register → IsPartial (blocks_of register) F B
+    → (c d uprn : ℕ) → holds (last_view B c) (key.Blpu uprn) ≡ true → holds (last_view B d) (key.Blpu uprn) ≡ true → c ≡ d
