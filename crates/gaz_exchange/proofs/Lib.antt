@@ -9,3 +9,4 @@ pub mod ConversationFacts
 pub mod SeekFacts
 pub mod RouteFacts
 pub mod WalkFacts
+pub mod BodyFacts

@@ -1,5 +1,5 @@
 -- What a target names, as the router finds it.
-use Rattle.std.proofs.Common.{◌≡◌, ℕ, ◌<◌, Bool, true, false, cond, List, [], ◌∷◌, ◌++◌, length, Some, None, ◌⊎◌, inl, inr, refl, ap, sym, ◌∙◌, arith, codes}
+use Rattle.std.proofs.Common.{◌≡◌, ℕ, ◌<◌, Bool, true, false, cond, List, [], ◌∷◌, ◌++◌, length, Option, Some, None, ◌⊎◌, inl, inr, refl, ap, sym, ◌∙◌, arith, codes}
 use Rattle.std.specs.Prelude.{◌&&◌, ◌==◌, bytes_eq, if◌then◌else◌}
 use Rattle.std.specs.List.{join_with_byte, onto_first}
 use Rattle.std.proofs.lemmas.List.Splits.{join_with_byte-slice_split}
@@ -8,11 +8,11 @@ use Rattle.gaz_exchange.proofs.ExchangeFacts.{both}
 use Rattle.std.proofs.lemmas.Bool.Decides.{nat_tests}
 use Rattle.matchit.specs.Router.{RouteOf}
 use Rattle.matchit.specs.Rows.{RowsOf}
-use Rattle.matchit.specs.Seek.{first, has_slash}
-use Rattle.gaz_exchange.specs.Routing.{custodian_route, routes, volume_route}
-use Rattle.gaz_exchange.specs.Targets.{Custodian, Nowhere, Target, Volume, is_filled, of_segments, segments, target_of}
+use Rattle.matchit.specs.Seek.{first, has_slash, seek}
+use Rattle.gaz_exchange.specs.Routing.{closed_route, custodian_route, extract_route, routes, uprn_route, volume_route}
+use Rattle.gaz_exchange.specs.Targets.{Closed, Custodian, Extract, Nowhere, Property, Target, Volume, is_filled, of_segments, segments, target_of}
 use Rattle.gaz_exchange.specs.declared.route.Place.{Place}
-use Rattle.gaz_exchange.proofs.SeekFacts.{AllBytes, Forks, bytes_behind, bytes_found, fork_found, fork_last, fork_segment, last_found, seek_bytes, seek_last, slash_first}
+use Rattle.gaz_exchange.proofs.SeekFacts.{AllBytes, Forks, GoesThrough, Parts, bytes_behind, bytes_found, end_found, fork_found, fork_last, fork_segment, last_found, part_found, prefixed, seek_bytes, seek_last, seek_part, slash_first, through_found, through_segment}
 
 -- the target /custodians/{c}/volumes/{v}
 abbrev pub volume_target : List ℕ → List ℕ → List ℕ
@@ -32,6 +32,41 @@ pub record IsCustodian (target c : List ℕ) : Type 0 where
   pub some_code : 0 < length c
   pub code_segment : has_slash c ≡ false
 
+-- the target /extract/{c}/{v}
+abbrev pub extract_target : List ℕ → List ℕ → List ℕ
+extract_target c v = codes "/extract/" ++ (c ++ (codes "/" ++ v))
+
+-- the target is of that form, and both segments are filled and have no slash
+pub record IsExtract (target c v : List ℕ) : Type 0 where
+  pub made : target ≡ extract_target c v
+  pub some_code : 0 < length c
+  pub some_volume : 0 < length v
+  pub code_segment : has_slash c ≡ false
+  pub volume_segment : has_slash v ≡ false
+
+-- the target is /uprn/{n}, and the segment is filled and has no slash
+pub record IsProperty (target n : List ℕ) : Type 0 where
+  pub made : target ≡ codes "/uprn/" ++ n
+  pub some_number : 0 < length n
+  pub number_segment : has_slash n ≡ false
+
+-- the target is of the form of what it names
+abbrev pub IsAt : List ℕ → Target → Type 0
+IsAt target (Volume c v) = IsVolume target c v
+IsAt target (Custodian c) = IsCustodian target c
+IsAt target (Extract c v) = IsExtract target c v
+IsAt target (Property n) = IsProperty target n
+IsAt target Closed = target ≡ codes "/closed"
+IsAt target Nowhere = Unit {0}
+
+abbrev pub route_of : Target → Option (RouteOf Place)
+route_of (Volume c v) = Some volume_route
+route_of (Custodian c) = Some custodian_route
+route_of (Extract c v) = Some extract_route
+route_of (Property n) = Some uprn_route
+route_of Closed = Some closed_route
+route_of Nowhere = None
+
 -- ---- the router
 
 -- what follows the first parameter of a volume's route, but for the slash
@@ -42,12 +77,67 @@ tail = codes "volumes/" ++ 256 ∷ []
 abbrev routes_behind : RowsOf (RouteOf Place)
 routes_behind = (256 ∷ 47 ∷ tail, volume_route) ∷ (256 ∷ [], custodian_route) ∷ []
 
+abbrev closed_rows : RowsOf (RouteOf Place)
+closed_rows = ([], closed_route) ∷ []
+
+abbrev extract_rows : RowsOf (RouteOf Place)
+extract_rows = (256 ∷ 47 ∷ 256 ∷ [], extract_route) ∷ []
+
+abbrev uprn_rows : RowsOf (RouteOf Place)
+uprn_rows = (256 ∷ [], uprn_route) ∷ []
+
+abbrev on_u : RowsOf (RouteOf Place)
+on_u = prefixed (codes "ustodians/") routes_behind
+
+abbrev on_c : RowsOf (RouteOf Place)
+on_c = prefixed (codes "losed") closed_rows ++ on_u
+
+abbrev on_uprn : RowsOf (RouteOf Place)
+on_uprn = prefixed (codes "uprn/") uprn_rows
+
+abbrev not_c : RowsOf (RouteOf Place)
+not_c = prefixed (codes "extract/") extract_rows ++ on_uprn
+
+abbrev on_slash : RowsOf (RouteOf Place)
+on_slash = prefixed (codes "c") on_c ++ not_c
+
+to_slash : (p : List ℕ) → first routes (47 ∷ p) ≡ first on_slash p
+to_slash p = seek_bytes (codes "/") on_slash p refl
+
+to_custodians : (p : List ℕ) → first routes (codes "/custodians/" ++ p) ≡ first routes_behind p
+to_custodians p =
+    to_slash (codes "custodians/" ++ p)
+    ∙ seek_part 99 [] on_c not_c refl refl refl 99 (codes "ustodians/" ++ p)
+    ∙ seek_part 108 (codes "osed") closed_rows on_u refl refl refl 117 (codes "stodians/" ++ p)
+    ∙ seek_bytes (codes "ustodians/") routes_behind p refl
+
+to_extract : (p : List ℕ) → first routes (codes "/extract/" ++ p) ≡ first extract_rows p
+to_extract p =
+    to_slash (codes "extract/" ++ p)
+    ∙ seek_part 99 [] on_c not_c refl refl refl 101 (codes "xtract/" ++ p)
+    ∙ seek_part 101 (codes "xtract/") extract_rows on_uprn refl refl refl 101 (codes "xtract/" ++ p)
+    ∙ seek_bytes (codes "xtract/") extract_rows p refl
+
+to_uprn : (p : List ℕ) → first routes (codes "/uprn/" ++ p) ≡ first uprn_rows p
+to_uprn p =
+    to_slash (codes "uprn/" ++ p)
+    ∙ seek_part 99 [] on_c not_c refl refl refl 117 (codes "prn/" ++ p)
+    ∙ seek_part 101 (codes "xtract/") extract_rows on_uprn refl refl refl 117 (codes "prn/" ++ p)
+    ∙ seek_bytes (codes "uprn/") uprn_rows p refl
+
+to_closed : (p : List ℕ) → first routes (codes "/closed" ++ p) ≡ first closed_rows p
+to_closed p =
+    to_slash (codes "closed" ++ p)
+    ∙ seek_part 99 [] on_c not_c refl refl refl 99 (codes "losed" ++ p)
+    ∙ seek_part 108 (codes "osed") closed_rows on_u refl refl refl 108 (codes "osed" ++ p)
+    ∙ seek_bytes (codes "osed") closed_rows p refl
+
 found_filled : (x : ℕ) (c : List ℕ) (y : ℕ) (v : List ℕ) → has_slash (x ∷ c) ≡ false → has_slash (y ∷ v) ≡ false → AllBytes (volume_target (x ∷ c) (y ∷ v))
     → first routes (volume_target (x ∷ c) (y ∷ v)) ≡ Some volume_route
 found_filled x c y v sc sv bytes =
     let behind : List ℕ = x ∷ c ++ (codes "/volumes/" ++ y ∷ v) in
     let fits : y < 256 = bytes_behind (codes "/volumes/") (y ∷ v) (bytes_behind (x ∷ c) (codes "/volumes/" ++ y ∷ v) (bytes_behind (codes "/custodians/") behind bytes)) 0 in
-    seek_bytes (codes "/custodians/") routes_behind behind refl
+    to_custodians behind
     ∙ fork_segment volume_route custodian_route tail x c (codes "volumes/" ++ y ∷ v) (bytes 12) sc
     ∙ seek_bytes (codes "/volumes/") ((256 ∷ [], volume_route) ∷ []) (y ∷ v) refl
     ∙ seek_last volume_route y v fits sv
@@ -59,21 +149,46 @@ volume_found target (x ∷ c) (y ∷ v) bytes is = ap (first routes) is.made ∙
 
 custodian_filled : (x : ℕ) (c : List ℕ) → has_slash (x ∷ c) ≡ false → AllBytes (codes "/custodians/" ++ x ∷ c)
     → first routes (codes "/custodians/" ++ x ∷ c) ≡ Some custodian_route
-custodian_filled x c sc bytes =
-    seek_bytes (codes "/custodians/") routes_behind (x ∷ c) refl ∙ fork_last volume_route custodian_route tail x c (bytes 12) sc
+custodian_filled x c sc bytes = to_custodians (x ∷ c) ∙ fork_last volume_route custodian_route tail x c (bytes 12) sc
 
 pub custodian_found : (target c : List ℕ) → AllBytes target → IsCustodian target c → first routes target ≡ Some custodian_route
 custodian_found target [] bytes is = absurd (omega (arith, is.some_code))
 custodian_found target (x ∷ c) bytes is = ap (first routes) is.made ∙ custodian_filled x c is.code_segment (rw is.made at bytes)
 
--- what is found is of one of the two forms
+extract_filled : (x : ℕ) (c : List ℕ) (y : ℕ) (v : List ℕ) → has_slash (x ∷ c) ≡ false → has_slash (y ∷ v) ≡ false → AllBytes (extract_target (x ∷ c) (y ∷ v))
+    → first routes (extract_target (x ∷ c) (y ∷ v)) ≡ Some extract_route
+extract_filled x c y v sc sv bytes =
+    let behind : List ℕ = x ∷ c ++ (codes "/" ++ y ∷ v) in
+    let fits : y < 256 = bytes_behind (codes "/") (y ∷ v) (bytes_behind (x ∷ c) (codes "/" ++ y ∷ v) (bytes_behind (codes "/extract/") behind bytes)) 0 in
+    to_extract behind
+    ∙ through_segment extract_route (256 ∷ []) x c (y ∷ v) (bytes 9) sc
+    ∙ seek_bytes (codes "/") ((256 ∷ [], extract_route) ∷ []) (y ∷ v) refl
+    ∙ seek_last extract_route y v fits sv
+
+pub extract_found : (target c v : List ℕ) → AllBytes target → IsExtract target c v → first routes target ≡ Some extract_route
+extract_found target [] v bytes is = absurd (omega (arith, is.some_code))
+extract_found target (x ∷ c) [] bytes is = absurd (omega (arith, is.some_volume))
+extract_found target (x ∷ c) (y ∷ v) bytes is = ap (first routes) is.made ∙ extract_filled x c y v is.code_segment is.volume_segment (rw is.made at bytes)
+
+property_filled : (x : ℕ) (n : List ℕ) → has_slash (x ∷ n) ≡ false → AllBytes (codes "/uprn/" ++ x ∷ n) → first routes (codes "/uprn/" ++ x ∷ n) ≡ Some uprn_route
+property_filled x n sn bytes = to_uprn (x ∷ n) ∙ seek_last uprn_route x n (bytes 6) sn
+
+pub property_found : (target n : List ℕ) → AllBytes target → IsProperty target n → first routes target ≡ Some uprn_route
+property_found target [] bytes is = absurd (omega (arith, is.some_number))
+property_found target (x ∷ n) bytes is = ap (first routes) is.made ∙ property_filled x n is.number_segment (rw is.made at bytes)
+
+closed_found : (target : List ℕ) → target ≡ codes "/closed" → first routes target ≡ Some closed_route
+unfolding seek
+closed_found target is = ap (first routes) is ∙ to_closed []
+
+-- what is found is of the form of one that has this route
 abbrev pub IsFound : List ℕ → RouteOf Place → Type 0
-IsFound target r = ((c : List ℕ) × (v : List ℕ) × IsVolume target c v × (r ≡ volume_route)) ⊎ ((c : List ℕ) × IsCustodian target c × (r ≡ custodian_route))
+IsFound target r = (t : Target) × IsAt target t × (route_of t ≡ Some r)
 
 forms : (target rest : List ℕ) (r : RouteOf Place) → AllBytes target → target ≡ codes "/custodians/" ++ rest → first routes target ≡ Some r
     → Forks volume_route custodian_route tail rest r → IsFound target r
 forms target rest r bytes begins e (inl (x, c, same, sc, is)) =
-    inr (x ∷ c, record { made = begins ∙ ap (λ l. codes "/custodians/" ++ l) same; some_code = omega arith; code_segment = sc }, is)
+    (Custodian (x ∷ c), record { made = begins ∙ ap (λ l. codes "/custodians/" ++ l) same; some_code = omega arith; code_segment = sc }, ap Some (sym is))
 forms target rest r bytes begins e (inr (x, c, more, same, sc, found2)) =
     let rest_bytes : AllBytes rest = bytes_behind (codes "/custodians/") rest (rw begins at bytes) in
     let (last, begins2, found3) = bytes_found (codes "/volumes/") ((256 ∷ [], volume_route) ∷ []) (47 ∷ more) r refl found2 in
@@ -87,14 +202,75 @@ forms target rest r bytes begins e (inr (x, c, more, same, sc, found2)) =
       code_segment = sc;
       volume_segment = sv;
     } in
-    let one : Some r ≡ Some volume_route = sym e ∙ volume_found target (x ∷ c) (y ∷ v) bytes is in
-    let route : r ≡ volume_route = cc one in
-    inl (x ∷ c, y ∷ v, is, route)
+    (Volume (x ∷ c) (y ∷ v), is, sym (volume_found target (x ∷ c) (y ∷ v) bytes is) ∙ e)
 
-pub found_is : (target : List ℕ) (r : RouteOf Place) → AllBytes target → first routes target ≡ Some r → IsFound target r
-found_is target r bytes e =
-    let (rest, begins, found) = bytes_found (codes "/custodians/") routes_behind target r refl e in
-    forms target rest r bytes begins e (fork_found volume_route custodian_route tail rest r (bytes_behind (codes "/custodians/") rest (rw begins at bytes)) found)
+extract_forms : (target rest : List ℕ) (r : RouteOf Place) → AllBytes target → target ≡ codes "/extract/" ++ rest → first routes target ≡ Some r
+    → GoesThrough extract_route (256 ∷ []) rest r → IsFound target r
+extract_forms target rest r bytes begins e (x, c, more, same, sc, found2) =
+    let rest_bytes : AllBytes rest = bytes_behind (codes "/extract/") rest (rw begins at bytes) in
+    let (last, begins2, found3) = bytes_found (codes "/") ((256 ∷ [], extract_route) ∷ []) (47 ∷ more) r refl found2 in
+    let more_bytes : AllBytes (47 ∷ more) = bytes_behind (x ∷ c) (47 ∷ more) (rw same at rest_bytes) in
+    let last_bytes : AllBytes last = bytes_behind (codes "/") last (rw begins2 at more_bytes) in
+    let (y, v, same2, sv) = last_found extract_route last r last_bytes found3 in
+    let is : IsExtract target (x ∷ c) (y ∷ v) = record {
+      made = begins ∙ ap (λ l. codes "/extract/" ++ l) (same ∙ ap (λ l. x ∷ c ++ l) (begins2 ∙ ap (λ l. codes "/" ++ l) same2));
+      some_code = omega arith;
+      some_volume = omega arith;
+      code_segment = sc;
+      volume_segment = sv;
+    } in
+    (Extract (x ∷ c) (y ∷ v), is, sym (extract_found target (x ∷ c) (y ∷ v) bytes is) ∙ e)
+
+module _ (target : List ℕ) (r : RouteOf Place) (bytes : AllBytes target) (e : first routes target ≡ Some r) where
+  found_extract : (rest : List ℕ) → target ≡ codes "/e" ++ rest → first (prefixed (codes "xtract/") extract_rows) rest ≡ Some r → IsFound target r
+  found_extract rest begins f =
+      let (more, begins2, found2) = bytes_found (codes "xtract/") extract_rows rest r refl f in
+      let made : target ≡ codes "/extract/" ++ more = begins ∙ ap (λ l. codes "/e" ++ l) begins2 in
+      extract_forms target more r bytes made e (through_found extract_route (256 ∷ []) more r (bytes_behind (codes "/extract/") more (rw made at bytes)) found2)
+
+  found_uprn : (rest : List ℕ) → target ≡ codes "/" ++ rest → first on_uprn rest ≡ Some r → IsFound target r
+  found_uprn rest begins f =
+      let (more, begins2, found2) = bytes_found (codes "uprn/") uprn_rows rest r refl f in
+      let made : target ≡ codes "/uprn/" ++ more = begins ∙ ap (λ l. codes "/" ++ l) begins2 in
+      let (x, n, same, sn) = last_found uprn_route more r (bytes_behind (codes "/uprn/") more (rw made at bytes)) found2 in
+      let is : IsProperty target (x ∷ n) = record { made = made ∙ ap (λ l. codes "/uprn/" ++ l) same; some_number = omega arith; number_segment = sn } in
+      (Property (x ∷ n), is, sym (property_found target (x ∷ n) bytes is) ∙ e)
+
+  found_closed : (rest : List ℕ) → target ≡ codes "/cl" ++ rest → first (prefixed (codes "osed") closed_rows) rest ≡ Some r → IsFound target r
+  found_closed rest begins f =
+      let (more, begins2, found2) = bytes_found (codes "osed") closed_rows rest r refl f in
+      let (none, same) = end_found closed_route more r found2 in
+      let made : target ≡ codes "/closed" = begins ∙ ap (λ l. codes "/cl" ++ l) (begins2 ∙ ap (λ l. codes "osed" ++ l) none) in
+      (Closed, made, ap Some (sym same))
+
+  found_custodians : (rest : List ℕ) → target ≡ codes "/c" ++ rest → first on_u rest ≡ Some r → IsFound target r
+  found_custodians rest begins f =
+      let (more, begins2, found2) = bytes_found (codes "ustodians/") routes_behind rest r refl f in
+      let made : target ≡ codes "/custodians/" ++ more = begins ∙ ap (λ l. codes "/c" ++ l) begins2 in
+      forms target more r bytes made e (fork_found volume_route custodian_route tail more r (bytes_behind (codes "/custodians/") more (rw made at bytes)) found2)
+
+  found_on_c : (rest : List ℕ) → target ≡ codes "/c" ++ rest → first on_c rest ≡ Some r → IsFound target r
+  found_on_c rest begins f = elim (part_found 108 (codes "osed") closed_rows on_u refl refl refl rest r f) [
+    | inl g ↦ found_closed g.0 (begins ∙ ap (λ l. codes "/c" ++ l) g.1) g.2
+    | inr g ↦ found_custodians rest begins g
+  ]
+
+  found_not_c : (rest : List ℕ) → target ≡ codes "/" ++ rest → first not_c rest ≡ Some r → IsFound target r
+  found_not_c rest begins f = elim (part_found 101 (codes "xtract/") extract_rows on_uprn refl refl refl rest r f) [
+    | inl g ↦ found_extract g.0 (begins ∙ ap (λ l. codes "/" ++ l) g.1) g.2
+    | inr g ↦ found_uprn rest begins g
+  ]
+
+  found_on_slash : (rest : List ℕ) → target ≡ codes "/" ++ rest → first on_slash rest ≡ Some r → IsFound target r
+  found_on_slash rest begins f = elim (part_found 99 [] on_c not_c refl refl refl rest r f) [
+    | inl g ↦ found_on_c g.0 (begins ∙ ap (λ l. codes "/" ++ l) g.1) g.2
+    | inr g ↦ found_not_c rest begins g
+  ]
+
+  pub found_is : IsFound target r
+  found_is =
+      let (rest, begins, found) = bytes_found (codes "/") on_slash target r refl e in
+      found_on_slash rest begins found
 
 -- ---- the segments
 
@@ -130,6 +306,26 @@ custodian_named target c is =
     ap (λ l. [] ∷ l) (split_cut (codes "custodians") c refl ∙ ap (λ l. codes "custodians" ∷ l) (split_whole c is.code_segment)) in
     ap (λ l. of_segments (segments l)) is.made ∙ ap of_segments parts ∙ rw (filled c is.some_code) refl
 
+pub extract_named : (target c v : List ℕ) → IsExtract target c v → target_of target ≡ Extract c v
+unfolding target_of
+extract_named target c v is =
+    let parts : segments (extract_target c v) ≡ [] ∷ codes "extract" ∷ c ∷ v ∷ [] =
+    ap (λ l. [] ∷ l) (split_cut (codes "extract") (c ++ 47 ∷ v) refl
+    ∙ ap (λ l. codes "extract" ∷ l) (split_cut c v is.code_segment
+    ∙ ap (λ l. c ∷ l) (split_whole v is.volume_segment))) in
+    ap (λ l. of_segments (segments l)) is.made ∙ ap of_segments parts ∙ rw (filled c is.some_code, filled v is.some_volume) refl
+
+pub property_named : (target n : List ℕ) → IsProperty target n → target_of target ≡ Property n
+unfolding target_of
+property_named target n is =
+    let parts : segments (codes "/uprn/" ++ n) ≡ [] ∷ codes "uprn" ∷ n ∷ [] =
+    ap (λ l. [] ∷ l) (split_cut (codes "uprn") n refl ∙ ap (λ l. codes "uprn" ∷ l) (split_whole n is.number_segment)) in
+    ap (λ l. of_segments (segments l)) is.made ∙ ap of_segments parts ∙ rw (filled n is.some_number) refl
+
+pub closed_named : (target : List ℕ) → target ≡ codes "/closed" → target_of target ≡ Closed
+unfolding target_of
+closed_named target is = ap (λ l. of_segments (segments l)) is
+
 -- no segment has a slash
 abbrev AreClean : List (List ℕ) → Type 0
 AreClean [] = Unit {0}
@@ -147,101 +343,79 @@ are_clean : (p : List ℕ) → AreClean (segments p)
 are_clean [] = (refl, tt)
 are_clean (b ∷ p) = clean_cases (b == 47) b p refl (are_clean p)
 
--- the segments of a volume's target
-record IsShaped (parts : List (List ℕ)) (c v : List ℕ) : Type 0 where
-  shape : parts ≡ [] ∷ codes "custodians" ∷ c ∷ codes "volumes" ∷ v ∷ []
-  some_code : is_filled c ≡ true
-  some_volume : is_filled v ≡ true
+-- the target that these segments make
+module _ (target : List ℕ) where
+  at_one : (h : Bool) (first : List ℕ) → target ≡ 47 ∷ first → bytes_eq first (codes "closed") ≡ h → IsAt target (if h then Closed else Nowhere)
+  at_one false first made e = tt
+  at_one true first made e = made ∙ ap (λ l. 47 ∷ l) ((bytes_eq-Decides first (codes "closed")).0 e)
 
-shaped_if : (t : Bool) (first code second volume c v : List ℕ)
-    → (bytes_eq first (codes "custodians") && bytes_eq second (codes "volumes") && is_filled code && is_filled volume) ≡ t
-    → (if t then Volume code volume else Nowhere) ≡ Volume c v → IsShaped ([] ∷ first ∷ code ∷ second ∷ volume ∷ []) c v
-shaped_if false first code second volume c v h e = absurd (cc e)
-shaped_if true first code second volume c v h e =
-    let (three, some_volume) = both (bytes_eq first (codes "custodians") && bytes_eq second (codes "volumes") && is_filled code) (is_filled volume) h in
-    let (two, some_code) = both (bytes_eq first (codes "custodians") && bytes_eq second (codes "volumes")) (is_filled code) three in
-    let (one, other) = both (bytes_eq first (codes "custodians")) (bytes_eq second (codes "volumes")) two in
-    let is_first : first ≡ codes "custodians" = (bytes_eq-Decides first (codes "custodians")).0 one in
-    let is_second : second ≡ codes "volumes" = (bytes_eq-Decides second (codes "volumes")).0 other in
-    let is_code : code ≡ c = cc e in
-    let is_volume : volume ≡ v = cc e in
-    record { shape = cc (is_first, is_second, is_code, is_volume); some_code = rw is_code at some_code; some_volume = rw is_volume at some_volume }
+  at_property : (h : Bool) (first n : List ℕ) → target ≡ 47 ∷ first ++ 47 ∷ n → has_slash n ≡ false → (bytes_eq first (codes "uprn") && is_filled n) ≡ h → IsAt target (if h then Property n else Nowhere)
+  at_property false first n made clean e = tt
+  at_property true first n made clean e =
+      let (one, some) = both (bytes_eq first (codes "uprn")) (is_filled n) e in
+      record { made = made ∙ ap (λ l. 47 ∷ l ++ 47 ∷ n) ((bytes_eq-Decides first (codes "uprn")).0 one); some_number = not_empty n some; number_segment = clean }
 
-no_volume : (t : Bool) (code c v : List ℕ) → (if t then Custodian code else Nowhere) ≡ Volume c v → ⊥
-no_volume true code c v e = cc e
-no_volume false code c v e = cc e
+  at_two : (h : Bool) (first n : List ℕ) → target ≡ 47 ∷ first ++ 47 ∷ n → has_slash n ≡ false → (bytes_eq first (codes "custodians") && is_filled n) ≡ h
+      → IsAt target (if h then Custodian n else (if bytes_eq first (codes "uprn") && is_filled n then Property n else Nowhere))
+  at_two false first n made clean e = at_property (bytes_eq first (codes "uprn") && is_filled n) first n made clean refl
+  at_two true first n made clean e =
+      let (one, some) = both (bytes_eq first (codes "custodians")) (is_filled n) e in
+      record { made = made ∙ ap (λ l. 47 ∷ l ++ 47 ∷ n) ((bytes_eq-Decides first (codes "custodians")).0 one); some_code = not_empty n some; code_segment = clean }
 
-no_custodian : (t : Bool) (code volume c : List ℕ) → (if t then Volume code volume else Nowhere) ≡ Custodian c → ⊥
-no_custodian true code volume c e = cc e
-no_custodian false code volume c e = cc e
+  at_three : (h : Bool) (first c v : List ℕ) → target ≡ 47 ∷ (first ++ 47 ∷ (c ++ 47 ∷ v)) → has_slash c ≡ false → has_slash v ≡ false
+      → (bytes_eq first (codes "extract") && is_filled c && is_filled v) ≡ h → IsAt target (if h then Extract c v else Nowhere)
+  at_three false first c v made sc sv e = tt
+  at_three true first c v made sc sv e =
+      let (two, some_volume) = both (bytes_eq first (codes "extract") && is_filled c) (is_filled v) e in
+      let (one, some_code) = both (bytes_eq first (codes "extract")) (is_filled c) two in
+      record {
+        made = made ∙ ap (λ l. 47 ∷ (l ++ 47 ∷ (c ++ 47 ∷ v))) ((bytes_eq-Decides first (codes "extract")).0 one);
+        some_code = not_empty c some_code;
+        some_volume = not_empty v some_volume;
+        code_segment = sc;
+        volume_segment = sv;
+      }
 
-shaped : (parts : List (List ℕ)) (c v : List ℕ) → of_segments parts ≡ Volume c v → IsShaped parts c v
-shaped [] c v e = absurd (cc e)
-shaped ((x ∷ xs) ∷ rest) c v e = absurd (cc e)
-shaped ([] ∷ []) c v e = absurd (cc e)
-shaped ([] ∷ first ∷ []) c v e = absurd (cc e)
-shaped ([] ∷ first ∷ code ∷ []) c v e = absurd (no_volume _ code c v e)
-shaped ([] ∷ first ∷ code ∷ second ∷ []) c v e = absurd (cc e)
-shaped ([] ∷ first ∷ code ∷ second ∷ volume ∷ []) c v e = shaped_if _ first code second volume c v refl e
-shaped ([] ∷ first ∷ code ∷ second ∷ volume ∷ more ∷ rest) c v e = absurd (cc e)
+  at_four : (h : Bool) (first c second v : List ℕ) → target ≡ 47 ∷ (first ++ 47 ∷ (c ++ 47 ∷ (second ++ 47 ∷ v))) → has_slash c ≡ false → has_slash v ≡ false
+      → (bytes_eq first (codes "custodians") && bytes_eq second (codes "volumes") && is_filled c && is_filled v) ≡ h → IsAt target (if h then Volume c v else Nowhere)
+  at_four false first c second v made sc sv e = tt
+  at_four true first c second v made sc sv e =
+      let (three, some_volume) = both (bytes_eq first (codes "custodians") && bytes_eq second (codes "volumes") && is_filled c) (is_filled v) e in
+      let (two, some_code) = both (bytes_eq first (codes "custodians") && bytes_eq second (codes "volumes")) (is_filled c) three in
+      let (one, other) = both (bytes_eq first (codes "custodians")) (bytes_eq second (codes "volumes")) two in
+      record {
+        made = made ∙ ap (λ l. 47 ∷ (l ++ 47 ∷ (c ++ 47 ∷ (second ++ 47 ∷ v)))) ((bytes_eq-Decides first (codes "custodians")).0 one)
+            ∙ ap (λ l. codes "/custodians/" ++ (c ++ 47 ∷ (l ++ 47 ∷ v))) ((bytes_eq-Decides second (codes "volumes")).0 other);
+        some_code = not_empty c some_code;
+        some_volume = not_empty v some_volume;
+        code_segment = sc;
+        volume_segment = sv;
+      }
 
-pub named_is_volume : (target c v : List ℕ) → target_of target ≡ Volume c v → IsVolume target c v
-unfolding target_of
-named_is_volume target c v e =
-    let s = shaped (segments target) c v e in
-    let clean = rw s.shape at (are_clean target) in
-    record {
-      made = sym (join_with_byte-slice_split 47 target) ∙ ap (join_with_byte 47) s.shape;
-      some_code = not_empty c s.some_code;
-      some_volume = not_empty v s.some_volume;
-      code_segment = clean.1.1.0;
-      volume_segment = clean.1.1.1.1.0;
-    }
+  at_parts : (parts : List (List ℕ)) → target ≡ join_with_byte 47 parts → AreClean parts → IsAt target (of_segments parts)
+  at_parts [] made clean = tt
+  at_parts ((x ∷ xs) ∷ rest) made clean = tt
+  at_parts ([] ∷ []) made clean = tt
+  at_parts ([] ∷ first ∷ []) made clean = at_one (bytes_eq first (codes "closed")) first made refl
+  at_parts ([] ∷ first ∷ n ∷ []) made clean = at_two (bytes_eq first (codes "custodians") && is_filled n) first n made clean.1.1.0 refl
+  at_parts ([] ∷ first ∷ c ∷ v ∷ []) made clean = at_three (bytes_eq first (codes "extract") && is_filled c && is_filled v) first c v made clean.1.1.0 clean.1.1.1.0 refl
+  at_parts ([] ∷ first ∷ c ∷ second ∷ v ∷ []) made clean =
+      at_four (bytes_eq first (codes "custodians") && bytes_eq second (codes "volumes") && is_filled c && is_filled v) first c second v made clean.1.1.0 clean.1.1.1.1.0 refl
+  at_parts ([] ∷ first ∷ c ∷ second ∷ v ∷ more ∷ rest) made clean = tt
 
--- the segments of a custodian's target
-record IsBrief (parts : List (List ℕ)) (c : List ℕ) : Type 0 where
-  shape : parts ≡ [] ∷ codes "custodians" ∷ c ∷ []
-  some_code : is_filled c ≡ true
-
-brief_if : (t : Bool) (first code c : List ℕ) → (bytes_eq first (codes "custodians") && is_filled code) ≡ t
-    → (if t then Custodian code else Nowhere) ≡ Custodian c → IsBrief ([] ∷ first ∷ code ∷ []) c
-brief_if false first code c h e = absurd (cc e)
-brief_if true first code c h e =
-    let (one, some_code) = both (bytes_eq first (codes "custodians")) (is_filled code) h in
-    let is_first : first ≡ codes "custodians" = (bytes_eq-Decides first (codes "custodians")).0 one in
-    let is_code : code ≡ c = cc e in
-    record { shape = cc (is_first, is_code); some_code = rw is_code at some_code }
-
-brief : (parts : List (List ℕ)) (c : List ℕ) → of_segments parts ≡ Custodian c → IsBrief parts c
-brief [] c e = absurd (cc e)
-brief ((x ∷ xs) ∷ rest) c e = absurd (cc e)
-brief ([] ∷ []) c e = absurd (cc e)
-brief ([] ∷ first ∷ []) c e = absurd (cc e)
-brief ([] ∷ first ∷ code ∷ []) c e = brief_if _ first code c refl e
-brief ([] ∷ first ∷ code ∷ second ∷ []) c e = absurd (cc e)
-brief ([] ∷ first ∷ code ∷ second ∷ volume ∷ []) c e = absurd (no_custodian _ code volume c e)
-brief ([] ∷ first ∷ code ∷ second ∷ volume ∷ more ∷ rest) c e = absurd (cc e)
-
-pub named_is_custodian : (target c : List ℕ) → target_of target ≡ Custodian c → IsCustodian target c
-unfolding target_of
-named_is_custodian target c e =
-    let s = brief (segments target) c e in
-    let clean = rw s.shape at (are_clean target) in
-    record {
-      made = sym (join_with_byte-slice_split 47 target) ∙ ap (join_with_byte 47) s.shape;
-      some_code = not_empty c s.some_code;
-      code_segment = clean.1.1.0;
-    }
+  -- the target is of the form of what it names
+  pub named_at : IsAt target (target_of target)
+  unfolding target_of
+  named_at = at_parts (segments target) (sym (join_with_byte-slice_split 47 target)) (are_clean target)
 
 -- where the router finds nothing, nothing is named
-nothing_named : (target : List ℕ) (named : Target) → AllBytes target → first routes target ≡ None → target_of target ≡ named → named ≡ Nowhere
-nothing_named target (Volume c v) bytes none e =
-    let wrong : Some volume_route ≡ None = sym (volume_found target c v bytes (named_is_volume target c v e)) ∙ none in
-    absurd (cc wrong)
-nothing_named target (Custodian c) bytes none e =
-    let wrong : Some custodian_route ≡ None = sym (custodian_found target c bytes (named_is_custodian target c e)) ∙ none in
-    absurd (cc wrong)
-nothing_named target Nowhere bytes none e = refl
+nothing_named : (target : List ℕ) (named : Target) → AllBytes target → first routes target ≡ None → IsAt target named → named ≡ Nowhere
+nothing_named target (Volume c v) bytes none is = let wrong : Some volume_route ≡ None = sym (volume_found target c v bytes is) ∙ none in absurd (cc wrong)
+nothing_named target (Custodian c) bytes none is = let wrong : Some custodian_route ≡ None = sym (custodian_found target c bytes is) ∙ none in absurd (cc wrong)
+nothing_named target (Extract c v) bytes none is = let wrong : Some extract_route ≡ None = sym (extract_found target c v bytes is) ∙ none in absurd (cc wrong)
+nothing_named target (Property n) bytes none is = let wrong : Some uprn_route ≡ None = sym (property_found target n bytes is) ∙ none in absurd (cc wrong)
+nothing_named target Closed bytes none is = let wrong : Some closed_route ≡ None = sym (closed_found target is) ∙ none in absurd (cc wrong)
+nothing_named target Nowhere bytes none is = refl
 
 pub named_nowhere : (target : List ℕ) → AllBytes target → first routes target ≡ None → target_of target ≡ Nowhere
-named_nowhere target bytes none = nothing_named target (target_of target) bytes none refl
+named_nowhere target bytes none = nothing_named target (target_of target) bytes none (named_at target)

@@ -1,12 +1,12 @@
--- How a router with one route walks along a path.
-use Rattle.std.proofs.Common.{◌≡◌, ℕ, zero, suc, ◌+◌, ◌-◌, ◌<◌, Bool, true, false, cond, List, [], ◌∷◌, ◌++◌, length, get_or, drop, Option, Some, None, ◌⊎◌, inl, inr, refl, ap, sym, ◌∙◌, arith, length-append, append-nil}
-use Rattle.std.specs.Prelude.{◌&&◌, ◌==◌, nat_eq, nat_lt}
+-- How a router walks along a path.
+use Rattle.std.proofs.Common.{◌≡◌, ℕ, zero, suc, ◌+◌, ◌-◌, ◌<◌, ◌≤◌, Bool, true, false, cond, List, [], ◌∷◌, ◌++◌, length, get_or, drop, Option, Some, None, ◌⊎◌, inl, inr, refl, ap, sym, ◌∙◌, arith, length-append, append-nil}
+use Rattle.std.specs.Prelude.{◌&&◌, ◌==◌, not, nat_eq, nat_lt}
 use Rattle.std.specs.List.{list_all}
 use Rattle.std.specs.Cmp.Lexicographic.{pointwise}
 use Rattle.std.proofs.lemmas.Bool.Decides.{nat_tests}
 use Rattle.matchit.specs.Rows.{RowsOf}
 use Rattle.matchit.specs.Seek.{cuts, has_slash, or_else, own, param_step, seek, segment, step}
-use Rattle.gaz_exchange.proofs.ExchangeFacts.{both, both_are}
+use Rattle.gaz_exchange.proofs.ExchangeFacts.{both, both_are, not_true}
 
 -- ---- the first slash
 
@@ -130,6 +130,101 @@ module _ {K : Type 0} where
       let (rest, begins, found) = bytes_found lits rows p r (both (nat_lt b 256) (are_bytes lits) h).1 more in
       (rest, ap (λ y. y ∷ p) same ∙ ap (λ l. b ∷ l) begins, found)
 
+  -- ---- rows that part at a byte
+
+  -- no row begins with a parameter
+  abbrev pub all_bytes : RowsOf K → Bool
+  all_bytes [] = true
+  all_bytes (([], k) ∷ rows) = all_bytes rows
+  all_bytes ((b ∷ t, k) ∷ rows) = nat_lt b 256 && all_bytes rows
+
+  -- no row begins with this byte
+  abbrev pub lacks : ℕ → RowsOf K → Bool
+  lacks b [] = true
+  lacks b (([], k) ∷ rows) = lacks b rows
+  lacks b ((y ∷ t, k) ∷ rows) = not (y == b) && lacks b rows
+
+  no_step : (token : ℕ) (rows : RowsOf K) → 256 ≤ token → all_bytes rows ≡ true → step token rows ≡ []
+  no_step token [] h e = refl
+  no_step token (([], k) ∷ rows) h e = no_step token rows h e
+  no_step token ((b ∷ t, k) ∷ rows) h e =
+      let (first, more) = both (nat_lt b 256) (all_bytes rows) e in
+      let other : (b == token) ≡ false = grind (arith, nat_tests, first, h) in
+      rw other (no_step token rows h more)
+
+  lacks_step : (b x : ℕ) (rows : RowsOf K) → (b == x) ≡ true → lacks b rows ≡ true → step x rows ≡ []
+  lacks_step b x [] h e = refl
+  lacks_step b x (([], k) ∷ rows) h e = lacks_step b x rows h e
+  lacks_step b x ((y ∷ t, k) ∷ rows) h e =
+      let (first, more) = both (not (y == b)) (lacks b rows) e in
+      let no : (y == b) ≡ false = not_true (y == b) first in
+      let other : (y == x) ≡ false = grind (arith, nat_tests, no, h) in
+      rw other (lacks_step b x rows h more)
+
+  -- the walk goes on with the rows that begin with the byte
+  seek_heads : (rows : RowsOf K) (x : ℕ) (p : List ℕ) → all_bytes rows ≡ true → seek 0 rows (x ∷ p) ≡ seek 0 (step x rows) p
+  unfolding seek
+  seek_heads rows x p h =
+      let param = no_step 256 rows (omega arith) h in
+      let others = no_step 257 rows (omega arith) h in
+      let z = ap (λ (y : RowsOf K). or_else (seek ((param_step y (x ∷ p)).0 - 1) (param_step y (x ∷ p)).1 p) (own (step 257 rows))) param
+      ∙ ap (λ (y : RowsOf K). or_else (seek ((param_step {K = K} [] (x ∷ p)).0 - 1) (param_step {K = K} [] (x ∷ p)).1 p) (own y)) others
+      ∙ ap (λ (o : Option K). or_else o None) (none_param x p) in
+      ap (or_else (seek 0 (step x rows) p)) z ∙ or_none (seek 0 (step x rows) p)
+
+  push : (h : Bool) (r : List ℕ × K) (A B : RowsOf K) → cond h (r ∷ (A ++ B)) (A ++ B) ≡ cond h (r ∷ A) A ++ B
+  push true r A B = refl
+  push false r A B = refl
+
+  step_more : (x : ℕ) (A B : RowsOf K) → step x (A ++ B) ≡ step x A ++ step x B
+  step_more x [] B = refl
+  step_more x (([], k) ∷ A) B = step_more x A B
+  step_more x ((y ∷ t, k) ∷ A) B =
+      ap (λ (l : RowsOf K). cond (y == x) ((t, k) ∷ l) l) (step_more x A B) ∙ push (y == x) (t, k) (step x A) (step x B)
+
+  own_more : (b : ℕ) (lits : List ℕ) (A B : RowsOf K) → own (prefixed (b ∷ lits) A ++ B) ≡ own B
+  own_more b lits [] B = refl
+  own_more b lits ((t, k) ∷ A) B = own_more b lits A B
+
+  bytes_more : (b : ℕ) (lits : List ℕ) (A B : RowsOf K) → nat_lt b 256 ≡ true → all_bytes B ≡ true → all_bytes (prefixed (b ∷ lits) A ++ B) ≡ true
+  bytes_more b lits [] B h e = e
+  bytes_more b lits ((t, k) ∷ A) B h e = both_are (nat_lt b 256) (all_bytes (prefixed (b ∷ lits) A ++ B)) h (bytes_more b lits A B h e)
+
+  -- the rows that begin with this byte, and others that don't
+  module _ (b : ℕ) (lits : List ℕ) (A B : RowsOf K) (byte : nat_lt b 256 ≡ true) (bytes : all_bytes B ≡ true) (others : lacks b B ≡ true) where
+    part_cases : (h : Bool) (x : ℕ) (p : List ℕ) → (b == x) ≡ h → seek 0 (cond h (prefixed lits A) [] ++ step x B) p ≡ cond h (seek 0 (prefixed lits A) p) (seek 0 B (x ∷ p))
+    part_cases true x p e = ap (λ (l : RowsOf K). seek 0 (prefixed lits A ++ l) p) (lacks_step b x B e others) ∙ ap (λ (l : RowsOf K). seek 0 l p) (append-nil (prefixed lits A))
+    part_cases false x p e = sym (seek_heads B x p bytes)
+
+    pub seek_part : (x : ℕ) (p : List ℕ) → seek 0 (prefixed (b ∷ lits) A ++ B) (x ∷ p) ≡ cond (b == x) (seek 0 (prefixed lits A) p) (seek 0 B (x ∷ p))
+    seek_part x p =
+        seek_heads (prefixed (b ∷ lits) A ++ B) x p (bytes_more b lits A B byte bytes)
+        ∙ ap (λ (l : RowsOf K). seek 0 l p) (step_more x (prefixed (b ∷ lits) A) B ∙ ap (λ (l : RowsOf K). l ++ step x B) (step_prefixed (b == x) b x lits A refl))
+        ∙ part_cases (b == x) x p refl
+
+    -- what is found begins with the byte, or is found among the others
+    abbrev pub Parts : List ℕ → K → Type 0
+    Parts p r = ((rest : List ℕ) × (p ≡ b ∷ rest) × (seek 0 (prefixed lits A) rest ≡ Some r)) ⊎ (seek 0 B p ≡ Some r)
+
+    parts_by : (h : Bool) (x : ℕ) (p : List ℕ) (r : K) → (b == x) ≡ h → cond h (seek 0 (prefixed lits A) p) (seek 0 B (x ∷ p)) ≡ Some r → Parts (x ∷ p) r
+    parts_by true x p r same e = let is : x ≡ b = grind (arith, nat_tests, same) in inl (p, ap (λ y. y ∷ p) is, e)
+    parts_by false x p r same e = inr e
+
+    pub part_found : (p : List ℕ) (r : K) → seek 0 (prefixed (b ∷ lits) A ++ B) p ≡ Some r → Parts p r
+    unfolding seek
+    part_found [] r e = inr (sym (own_more b lits A B) ∙ e)
+    part_found (x ∷ p) r e = parts_by (b == x) x p r refl (sym (seek_part x p) ∙ e)
+
+  -- a row that ends here
+  pub end_found : (k : K) (p : List ℕ) (r : K) → seek 0 (([], k) ∷ []) p ≡ Some r → (p ≡ []) × (r ≡ k)
+  unfolding seek
+  end_found k [] r e = let same : Some k ≡ Some r = e in let is : r ≡ k = cc same in (refl, is)
+  end_found k (x ∷ p) r e =
+      let rows : RowsOf K = ([], k) ∷ [] in
+      let none : seek 0 rows (x ∷ p) ≡ None = seek_heads rows x p refl ∙ seek_none 0 p in
+      let wrong : Some r ≡ None = sym e ∙ none in
+      absurd (cc wrong)
+
   module _ (k : K) where
     -- ---- a parameter
 
@@ -235,6 +330,66 @@ module _ {K : Type 0} (k : K) where
   unfolding seek
   last_found [] r h e = absurd (cc e)
   last_found (x ∷ p) r h e = (x, p, refl, last_cases x p r h e (cut_of (x ∷ p)))
+
+-- ---- a row that goes on behind a segment
+
+module _ {K : Type 0} (k : K) where
+  abbrev through : List ℕ → RowsOf K
+  through u = (256 ∷ 47 ∷ u, k) ∷ []
+
+  abbrev past : List ℕ → RowsOf K
+  past u = (47 ∷ u, k) ∷ []
+
+  through_param : (u : List ℕ) (x : ℕ) (p : List ℕ) → x < 256 → seek 0 (through u) (x ∷ p) ≡ seek ((param_step (past u) (x ∷ p)).0 - 1) (param_step (past u) (x ∷ p)).1 p
+  through_param u x p h = seek_param k (47 ∷ u) x p h
+
+  through_slash : (c : Bool) (u p : List ℕ) → cuts (segment p) (47 ∷ []) ≡ c
+      → param_step (past u) p ≡ cond c (length (segment p) - 1, past u) (cond (has_slash p) (0, []) (length p, past u))
+  unfolding param_step
+  through_slash true u p e = rw e refl
+  through_slash false u p e = rw e refl
+
+  pub through_segment : (u : List ℕ) (x : ℕ) (front rest : List ℕ) → x < 256 → has_slash (x ∷ front) ≡ false
+      → seek 0 (through u) (x ∷ front ++ 47 ∷ rest) ≡ seek 0 (past u) (47 ∷ rest)
+  through_segment u x front rest h s =
+      let rows : RowsOf K = past u in
+      let q : List ℕ = front ++ 47 ∷ rest in
+      let part : segment (x ∷ q) ≡ x ∷ front ++ 47 ∷ [] = segment_cut (x ∷ front) rest s in
+      let taken = through_slash true u (x ∷ q) (ap (λ l. cuts l (47 ∷ [])) part ∙ is_cut x front) in
+      let len : length (segment (x ∷ q)) - 1 - 1 ≡ length front = omega (arith, ap length part, length-append (x ∷ front) (47 ∷ [])) in
+      through_param u x q h ∙ ap (λ y. seek (y.0 - 1) y.1 q) taken ∙ ap (λ n. seek n rows q) len ∙ seek_skip rows front (47 ∷ rest)
+
+  -- nothing is found in one segment
+  through_last : (u : List ℕ) (x : ℕ) (p : List ℕ) → x < 256 → has_slash (x ∷ p) ≡ false → seek 0 (through u) (x ∷ p) ≡ None
+  unfolding seek
+  through_last u x p h s =
+      let part = segment_whole (x ∷ p) s in
+      let taken = through_slash false u (x ∷ p) (ap (λ l. cuts l (47 ∷ [])) part ∙ no_cut (x ∷ p) s) ∙ ap (λ b. cond {A = ℕ × RowsOf K} b (0, []) (length (x ∷ p), past u)) s in
+      let len : length (x ∷ p) - 1 ≡ length p = omega arith in
+      through_param u x p h ∙ ap (λ y. seek (y.0 - 1) y.1 p) taken ∙ ap (λ n. seek n (past u) p) len
+      ∙ ap (λ l. seek (length p) (past u) l) (sym (append-nil p)) ∙ seek_skip (past u) p []
+
+  -- the path goes on behind its first segment
+  abbrev pub GoesThrough : List ℕ → List ℕ → K → Type 0
+  GoesThrough u p r = (x : ℕ) × (front : List ℕ) × (rest : List ℕ) × (p ≡ x ∷ front ++ 47 ∷ rest) × (has_slash (x ∷ front) ≡ false) × (seek 0 (past u) (47 ∷ rest) ≡ Some r)
+
+  through_cases : (u : List ℕ) (x : ℕ) (p : List ℕ) (r : K) → AllBytes (x ∷ p) → seek 0 (through u) (x ∷ p) ≡ Some r → Cut (x ∷ p) → GoesThrough u (x ∷ p) r
+  through_cases u x p r h e (inl s) =
+      let wrong : Some r ≡ None = sym e ∙ through_last u x p (h 0) s in
+      absurd (cc wrong)
+  through_cases u x p r h e (inr ([], rest, same, s)) =
+      let slashed : has_slash (x ∷ p) ≡ true = ap has_slash same in
+      let taken = through_slash false u (x ∷ p) (ap (λ l. cuts (segment l) (47 ∷ [])) same) ∙ ap (λ b. cond {A = ℕ × RowsOf K} b (0, []) (length (x ∷ p), past u)) slashed in
+      absurd (nowhere (through u) x p r (param_step (past u) (x ∷ p)) (through_param u x p (h 0)) taken e)
+  through_cases u x p r h e (inr (y ∷ front, rest, same, s)) =
+      let first : x ≡ y = cc same in
+      let fits : y < 256 = rw first at (h 0) in
+      (y, front, rest, same, s, sym (through_segment u y front rest fits s) ∙ (sym (ap (λ l. seek 0 (through u) l) same) ∙ e))
+
+  pub through_found : (u p : List ℕ) (r : K) → AllBytes p → seek 0 (through u) p ≡ Some r → GoesThrough u p r
+  unfolding seek
+  through_found u [] r h e = absurd (cc e)
+  through_found u (x ∷ p) r h e = through_cases u x p r h e (cut_of (x ∷ p))
 
 -- ---- a row that goes on behind a segment, and one that ends there
 

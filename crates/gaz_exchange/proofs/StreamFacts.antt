@@ -1,5 +1,5 @@
 -- Bytes that come and go.
-use Rattle.std.proofs.Common.{◌≡◌, ℕ, ◌+◌, false, Option, None, Some, List, [], ◌++◌, take, drop, ap, ◌∙◌, sym, append_assoc, take-append-drop}
+use Rattle.std.proofs.Common.{◌≡◌, ℕ, ◌+◌, Bool, false, true, refl, subst, append-nil, Option, None, Some, List, [], ◌++◌, take, drop, ap, ◌∙◌, sym, append_assoc, take-append-drop}
 use Rattle.std.proofs.Math.Seq.{take-add}
 use Rattle.std.proofs.KnownBytes.{Appends-nil, Appends-trans}
 use Rattle.std.specs.Io.KnownBytes.{Appends, Keeps}
@@ -31,3 +31,25 @@ kept_appends (Some x) (Some y) (Some z) bs kept more = rw (← kept) more
 -- it takes none
 pub kept_appends_none : (a b : Option (List ℕ)) → Keeps a b → Appends a b []
 kept_appends_none a b kept = kept_appends a b b [] kept (Appends-nil b)
+
+-- a text that was written whole, and more of it
+pub put_behind : (held mid holds : Option (List ℕ)) (text behind : List ℕ) (whole : Bool) → IsPut held mid text true → IsPut mid holds behind whole → IsPut held holds (text ++ behind) whole
+put_behind held mid holds text behind whole a b =
+    let none : text ≡ a.sent = a.cut ∙ ap (λ l. a.sent ++ l) (a.all refl) ∙ append-nil a.sent in
+    record {
+      sent = text ++ b.sent;
+      lost = b.lost;
+      cut = ap (λ l. text ++ l) b.cut ∙ sym (append_assoc text b.sent b.lost);
+      appended = Appends-trans held mid holds text b.sent (subst (λ l. Appends held mid l) (sym none) a.appended) b.appended;
+      all = b.all;
+    }
+
+-- a text that was cut, and nothing of what is behind it
+pub put_cut : (held mid : Option (List ℕ)) (text behind : List ℕ) → IsPut held mid text false → IsPut held mid (text ++ behind) false
+put_cut held mid text behind a = record {
+  sent = a.sent;
+  lost = a.lost ++ behind;
+  cut = ap (λ l. l ++ behind) a.cut ∙ append_assoc a.sent a.lost behind;
+  appended = a.appended;
+  all = λ e. cc;
+}

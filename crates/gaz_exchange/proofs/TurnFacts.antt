@@ -6,13 +6,13 @@ use Rattle.httparse.specs.Grammar.{RequestHead}
 use Rattle.gaz_shelf.specs.Keeper.{Seen}
 use Rattle.gaz_hub.specs.Step.{Door}
 use Rattle.gaz_hub.proofs.HubRuns.{runs_none, runs_one}
-use Rattle.gaz_exchange.specs.Asking.{asked, call_at, command_of, method_of, with_body}
+use Rattle.gaz_exchange.specs.Asking.{asked, call_at, command_of, look_up, method_of, with_body}
 use Rattle.gaz_exchange.specs.Exchanges.{BeginsWithRequest, Exchange, IsReplyTo}
 use Rattle.gaz_exchange.specs.Framing.{is_closing}
 use Rattle.gaz_exchange.specs.Incoming.{IsCall}
 use Rattle.gaz_exchange.specs.Refusals.{IsRefused, IsUnfinished}
 use Rattle.gaz_exchange.specs.Replies.{IsReplyText, is_received, memory_fault, reply_text}
-use Rattle.gaz_exchange.specs.Targets.{Target, Volume, Custodian, Nowhere, target_of}
+use Rattle.gaz_exchange.specs.Targets.{Target, Volume, Custodian, Extract, Property, Closed, Nowhere, target_of, uprn_in}
 use Rattle.gaz_exchange.specs.Turns.{Answers, Asks, Exchanges, IsTurn, Refuses, Rests, TurnsOut, Waits, turn_of}
 use Rattle.gaz_exchange.specs.declared.conversation.Turn.{Turn}
 use Rattle.gaz_exchange.specs.declared.conversation.Turn.TheVariants.{Stopped}
@@ -23,7 +23,7 @@ use Rattle.gaz_exchange.specs.declared.fault.Allowed.TheVariants.{GetAndPost}
 use Rattle.gaz_exchange.specs.declared.route.Method.{Method}
 use Rattle.gaz_exchange.specs.declared.route.Method.TheVariants.{Get, Post, Other}
 use Rattle.gaz_exchange.specs.declared.fault.Fault.{Fault}
-use Rattle.gaz_exchange.specs.declared.fault.Fault.TheVariants.{BadMethod, NoRoute, NotReceived}
+use Rattle.gaz_exchange.specs.declared.fault.Fault.TheVariants.{BadMethod, NoRoute, NotReceived, NotThere}
 use Rattle.gaz_exchange.specs.declared.reply.Reply.{Reply}
 use Rattle.gaz_exchange.specs.declared.reply.Reply.TheVariants.{Refused}
 use Rattle.gaz_exchange.specs.declared.request.Request.{Request}
@@ -31,13 +31,29 @@ use Rattle.gaz_exchange.specs.declared.route.Call.{Call}
 use Rattle.gaz_exchange.proofs.StreamFacts.{kept_appends, kept_appends_none}
 
 -- what isn't asked was received by nobody
+unread : (uprn : Option ℕ) (why : Fault) → look_up uprn ≡ Err why → is_received (Refused why) ≡ false
+unread (Some uprn) why e = cc e
+unread None why e = let same : why ≡ NotThere = cc e in rw same refl
+
+only_get : (why : Fault) → why ≡ BadMethod allowed.Get → is_received (Refused why) ≡ false
+only_get why same = rw same refl
+
 unasked : (target : Target) (method : Method) (why : Fault) → call_at target method ≡ Err why → is_received (Refused why) ≡ false
 unasked (Volume c v) Post why e = cc e
 unasked (Volume c v) Get why e = cc e
 unasked (Volume c v) Other why e = let same : why ≡ BadMethod GetAndPost = cc e in rw same refl
 unasked (Custodian c) Get why e = cc e
-unasked (Custodian c) Post why e = let same : why ≡ BadMethod allowed.Get = cc e in rw same refl
-unasked (Custodian c) Other why e = let same : why ≡ BadMethod allowed.Get = cc e in rw same refl
+unasked (Custodian c) Post why e = only_get why (cc e)
+unasked (Custodian c) Other why e = only_get why (cc e)
+unasked (Extract c v) Get why e = cc e
+unasked (Extract c v) Post why e = only_get why (cc e)
+unasked (Extract c v) Other why e = only_get why (cc e)
+unasked (Property n) Get why e = unread (uprn_in n) why e
+unasked (Property n) Post why e = only_get why (cc e)
+unasked (Property n) Other why e = only_get why (cc e)
+unasked Closed Get why e = cc e
+unasked Closed Post why e = only_get why (cc e)
+unasked Closed Other why e = only_get why (cc e)
 unasked Nowhere method why e = let same : why ≡ NoRoute = cc e in rw same refl
 
 -- the text that tells that there was no memory to find the route

@@ -10,12 +10,12 @@ use Rattle.matchit.specs.Params.{AllText, after_token, next_at, part_of, walk, w
 use Rattle.matchit.specs.Seek.{first, has_slash, segment}
 use Rattle.matchit.specs.Router.{RouteOf}
 use Rattle.matchit.specs.declared.params.Params.{Params}
-use Rattle.gaz_exchange.specs.Routing.{Took, custodian_route, parts_of, routes, volume_route}
-use Rattle.gaz_exchange.specs.Targets.{Custodian, Volume, target_of}
+use Rattle.gaz_exchange.specs.Routing.{Took, closed_route, custodian_route, extract_route, parts_of, routes, uprn_route, volume_route}
+use Rattle.gaz_exchange.specs.Targets.{Closed, Custodian, Extract, Nowhere, Property, Target, Volume, target_of}
 use Rattle.gaz_exchange.specs.declared.route.Place.{Place}
 use Rattle.gaz_exchange.specs.declared.route.Place.TheVariants as place
 use Rattle.gaz_exchange.proofs.ExchangeFacts.{both}
-use Rattle.gaz_exchange.proofs.RouteFacts.{IsCustodian, IsVolume, custodian_named, found_is, volume_named, volume_target}
+use Rattle.gaz_exchange.proofs.RouteFacts.{IsAt, IsCustodian, IsExtract, IsProperty, IsVolume, closed_named, custodian_named, extract_named, extract_target, found_is, property_named, route_of, volume_named, volume_target}
 use Rattle.gaz_exchange.proofs.SeekFacts.{AllBytes, are_bytes, segment_cut}
 
 next_at-below : (len at : ℕ) → at < len → next_at len at ≡ at + 1
@@ -116,6 +116,75 @@ module _ (c : List ℕ) where
       ap (λ a. (codes "c", part_of short_path a.1 (wild_stop pattern a.0 short_path a.1)) ∷ []) first_wild
       ∙ ap (λ p. (codes "c", p) ∷ []) short_part
 
+module _ (c v : List ℕ) (clean : has_slash c ≡ false) where
+  abbrev long_path : List ℕ
+  long_path = extract_target c v
+
+  abbrev after_code : List ℕ
+  after_code = c ++ (codes "/" ++ v)
+
+  length-long : length long_path ≡ 9 + length c + 1 + length v
+  length-long =
+      length-append (codes "/extract/") after_code ∙ ap (λ n. 9 + n) (length-append c (codes "/" ++ v) ∙ ap (λ n. length c + n) (length-append (codes "/") v))
+      ∙ omega arith
+
+  abbrev number_end : ℕ
+  number_end = 9 + length c
+
+  one_stop : wild_stop extract_route.pattern 9 long_path 9 ≡ number_end
+  one_stop =
+      let part : segment after_code ≡ c ++ 47 ∷ [] = segment_cut c v clean in
+      let len : length (segment after_code) ≡ length c + 1 = ap length part ∙ length-append c (47 ∷ []) in
+      let e : 9 + length (segment after_code) - 1 ≡ 9 + length c = omega (arith, len) in
+      e
+
+  one_part : part_of long_path 9 number_end ≡ c
+  one_part =
+      let fits : number_end ≤ length long_path = omega (arith, length-long) in
+      let n : number_end - 9 ≡ length c = omega arith in
+      part_is long_path 9 number_end (omega arith) fits ∙ ap (λ m. take m after_code) n ∙ take_front c (codes "/" ++ v)
+
+  two_wild : wild_from (codes "/" ++ 256 ∷ []) (length long_path) 10 number_end ≡ (11, number_end + 1)
+  two_wild = wild_bytes (codes "/") [] (length long_path) 10 number_end refl (omega (arith, length-long))
+
+  two_part : part_of long_path (number_end + 1) (length long_path) ≡ v
+  two_part =
+      let start : number_end + 1 ≡ 9 + (length c + 1) = omega arith in
+      let dropped : drop (number_end + 1) long_path ≡ v = ap (λ n. drop n long_path) start ∙ drop-append-add (codes "/extract/") after_code (length c + 1) ∙ drop-append-add c (codes "/" ++ v) 1 in
+      let n : length long_path - (number_end + 1) ≡ length v = omega (arith, length-long) in
+      part_is long_path (number_end + 1) (length long_path) (omega (arith, length-long)) (omega arith) ∙ ap (λ m. take m (drop (number_end + 1) long_path)) n ∙ ap (take (length v)) dropped ∙ take_all (length v) v (omega arith)
+
+  pub extract_walk : walk extract_route.pattern extract_route.text long_path extract_route.names 0 0 ≡ (codes "c", c) ∷ (codes "v", v) ∷ []
+  extract_walk =
+      let pattern = extract_route.pattern in
+      let text = extract_route.text in
+      let last : List (ℕ × ℕ) = (14, 15) ∷ [] in
+      let first_wild : wild_from pattern (length long_path) 0 0 ≡ (9, 9) = wild_bytes (codes "/extract/") (codes "/" ++ 256 ∷ []) (length long_path) 0 0 refl (omega (arith, length-long)) in
+      ap (λ a. (codes "c", part_of long_path a.1 (wild_stop pattern a.0 long_path a.1)) ∷ walk pattern text long_path last (after_token a.0) (wild_stop pattern a.0 long_path a.1)) first_wild
+      ∙ ap (λ s. (codes "c", part_of long_path 9 s) ∷ walk pattern text long_path last 10 s) one_stop
+      ∙ ap (λ p. (codes "c", p) ∷ walk pattern text long_path last 10 number_end) one_part
+      ∙ ap (λ a. (codes "c", c) ∷ (codes "v", part_of long_path a.1 (wild_stop pattern a.0 long_path a.1)) ∷ []) two_wild
+      ∙ ap (λ p. (codes "c", c) ∷ (codes "v", p) ∷ []) two_part
+
+module _ (n : List ℕ) where
+  abbrev brief_path : List ℕ
+  brief_path = codes "/uprn/" ++ n
+
+  length-brief_path : length brief_path ≡ 6 + length n
+  length-brief_path = length-append (codes "/uprn/") n
+
+  number_part : part_of brief_path 6 (length brief_path) ≡ n
+  number_part =
+      let size : length brief_path - 6 ≡ length n = omega (arith, length-brief_path) in
+      part_is brief_path 6 (length brief_path) (omega (arith, length-brief_path)) (omega arith) ∙ ap (λ m. take m n) size ∙ take_all (length n) n (omega arith)
+
+  pub uprn_walk : walk uprn_route.pattern uprn_route.text brief_path uprn_route.names 0 0 ≡ (codes "n", n) ∷ []
+  uprn_walk =
+      let pattern = uprn_route.pattern in
+      let first_wild : wild_from pattern (length brief_path) 0 0 ≡ (6, 6) = wild_bytes (codes "/uprn/") [] (length brief_path) 0 0 refl (omega (arith, length-brief_path)) in
+      ap (λ a. (codes "n", part_of brief_path a.1 (wild_stop pattern a.0 brief_path a.1)) ∷ []) first_wild
+      ∙ ap (λ p. (codes "n", p) ∷ []) number_part
+
 -- ---- text
 
 slash_text : IsUtf8 (47 ∷ [])
@@ -147,16 +216,30 @@ volume_texts c v u =
     let four = utf8_cut (codes "volumes") v three.1 in
     (three.0, four.1)
 
+extract_texts : (c v : List ℕ) → IsUtf8 (extract_target c v) → IsUtf8 c × IsUtf8 v
+extract_texts c v u =
+    let one = utf8_cut [] (codes "extract" ++ 47 ∷ (c ++ 47 ∷ v)) u in
+    let two = utf8_cut (codes "extract") (c ++ 47 ∷ v) one.1 in
+    utf8_cut c v two.1
+
 code_text : IsUtf8 (codes "c")
 code_text = IsUtf8-from_ascii (codes "c") (IsAscii-cons 99 [] (omega arith) IsAscii-nil)
 
 volume_text : IsUtf8 (codes "v")
 volume_text = IsUtf8-from_ascii (codes "v") (IsAscii-cons 118 [] (omega arith) IsAscii-nil)
 
+number_text : IsUtf8 (codes "n")
+number_text = IsUtf8-from_ascii (codes "n") (IsAscii-cons 110 [] (omega arith) IsAscii-nil)
+
 custodian_text : (c : List ℕ) → IsUtf8 (codes "/custodians/" ++ c) → IsUtf8 c
 custodian_text c u =
     let one = utf8_cut [] (codes "custodians" ++ 47 ∷ c) u in
     (utf8_cut (codes "custodians") c one.1).1
+
+property_text : (n : List ℕ) → IsUtf8 (codes "/uprn/" ++ n) → IsUtf8 n
+property_text n u =
+    let one = utf8_cut [] (codes "uprn" ++ 47 ∷ n) u in
+    (utf8_cut (codes "uprn") n one.1).1
 
 module _ (target : List ℕ) (p : Params) (value : Place) (bytes : AllBytes target) (text : IsUtf8 target)
     (found : first routes target ≡ Some (record { pattern = p.pattern.now; text = p.text.now; names = p.names.now; value = value })) (same : p.path.now ≡ target) where
@@ -179,16 +262,50 @@ module _ (target : List ℕ) (p : Params) (value : Place) (bytes : AllBytes targ
       let all : AllText ((codes "c", c) ∷ []) = (code_text, custodian_text c (rw is.made at text), tt) in
       record { parts = parts; texts = subst AllText (sym parts) all }
 
-  -- a volume that the router finds is named by the target, with both segments
-  pub found_volume : value ≡ place.Volume → (c : List ℕ) × (v : List ℕ) × (target_of target ≡ Volume c v) × Took p ((codes "c", c) ∷ (codes "v", v) ∷ [])
-  found_volume e = elim (found_is target here bytes found) [
-    | inl f ↦ (f.0, f.1, volume_named target f.0 f.1 f.2, took_volume f.0 f.1 f.2 f.3)
-    | inr f ↦ (let wrong : place.Volume ≡ place.Custodian = sym e ∙ ap (λ r. r.value) f.2 in absurd (cc wrong))
-  ]
+  took_extract : (c v : List ℕ) → IsExtract target c v → here ≡ extract_route → Took p ((codes "c", c) ∷ (codes "v", v) ∷ [])
+  took_extract c v is e =
+      let parts = parts_at extract_route (extract_target c v) e is.made ∙ extract_walk c v is.code_segment in
+      let texts = extract_texts c v (rw is.made at text) in
+      let all : AllText ((codes "c", c) ∷ (codes "v", v) ∷ []) = (code_text, texts.0, (volume_text, texts.1, tt)) in
+      record { parts = parts; texts = subst AllText (sym parts) all }
 
-  -- and so is a custodian
-  pub found_custodian : value ≡ place.Custodian → (c : List ℕ) × (target_of target ≡ Custodian c) × Took p ((codes "c", c) ∷ [])
-  found_custodian e = elim (found_is target here bytes found) [
-    | inl f ↦ (let wrong : place.Custodian ≡ place.Volume = sym e ∙ ap (λ r. r.value) f.3 in absurd (cc wrong))
-    | inr f ↦ (f.0, custodian_named target f.0 f.1, took_custodian f.0 f.1 f.2)
-  ]
+  took_property : (n : List ℕ) → IsProperty target n → here ≡ uprn_route → Took p ((codes "n", n) ∷ [])
+  took_property n is e =
+      let parts = parts_at uprn_route (codes "/uprn/" ++ n) e is.made ∙ uprn_walk n in
+      let all : AllText ((codes "n", n) ∷ []) = (number_text, property_text n (rw is.made at text), tt) in
+      record { parts = parts; texts = subst AllText (sym parts) all }
+
+  -- what is found at a place is named by the target, with its segments
+  abbrev pub Names : Place → Type 0
+  Names place.Volume = (c : List ℕ) × (v : List ℕ) × (target_of target ≡ Volume c v) × Took p ((codes "c", c) ∷ (codes "v", v) ∷ [])
+  Names place.Custodian = (c : List ℕ) × (target_of target ≡ Custodian c) × Took p ((codes "c", c) ∷ [])
+  Names place.Extract = (c : List ℕ) × (v : List ℕ) × (target_of target ≡ Extract c v) × Took p ((codes "c", c) ∷ (codes "v", v) ∷ [])
+  Names place.Uprn = (n : List ℕ) × (target_of target ≡ Property n) × Took p ((codes "n", n) ∷ [])
+  Names place.Closed = target_of target ≡ Closed
+
+  names_at : (t : Target) → IsAt target t → route_of t ≡ Some here → Names value
+  names_at (Volume c v) is e =
+      let same : volume_route ≡ here = cc e in
+      subst Names (ap (λ r. r.value) same) (c, v, volume_named target c v is, took_volume c v is (sym same))
+  names_at (Custodian c) is e =
+      let same : custodian_route ≡ here = cc e in
+      subst Names (ap (λ r. r.value) same) (c, custodian_named target c is, took_custodian c is (sym same))
+  names_at (Extract c v) is e =
+      let same : extract_route ≡ here = cc e in
+      subst Names (ap (λ r. r.value) same) (c, v, extract_named target c v is, took_extract c v is (sym same))
+  names_at (Property n) is e =
+      let same : uprn_route ≡ here = cc e in
+      subst Names (ap (λ r. r.value) same) (n, property_named target n is, took_property n is (sym same))
+  names_at Closed is e =
+      let same : closed_route ≡ here = cc e in
+      subst Names (ap (λ r. r.value) same) (closed_named target is)
+  names_at Nowhere is e = absurd (cc e)
+
+  pub named_by : Names value
+  named_by =
+      let (t, is, route) = found_is target here bytes found in
+      names_at t is route
+
+  -- the place by its name
+  pub named_as : (at : Place) → value ≡ at → Names at
+  named_as at e = subst Names e named_by

@@ -1,14 +1,15 @@
 -- What the hub is asked by a request.
-use Rattle.std.specs.Prelude.{ℕ, if◌then◌else◌, List, codes, bytes_eq, Result, Ok, Err}
+use Rattle.std.specs.Prelude.{ℕ, if◌then◌else◌, List, codes, bytes_eq, Option, Some, None, Result, Ok, Err}
 use Rattle.httparse.specs.Grammar.{RequestHead}
 use Rattle.gaz_hub.specs.Step.{Command}
 use Rattle.gaz_hub.specs.Step as hub
-use Rattle.gaz_exchange.specs.Targets.{Target, Volume, Custodian, Nowhere, target_of, code_in, volume_in}
+use Rattle.gaz_exchange.specs.Targets.{Target, Volume, Custodian, Extract, Property, Closed, Nowhere, target_of, code_in, volume_in, uprn_in}
 use Rattle.gaz_exchange.specs.declared.fault.Allowed.TheVariants as allowed
 use Rattle.gaz_exchange.specs.declared.fault.Fault.{Fault}
-use Rattle.gaz_exchange.specs.declared.fault.Fault.TheVariants.{NoRoute, BadMethod}
+use Rattle.gaz_exchange.specs.declared.fault.Fault.TheVariants.{NotThere, NoRoute, BadMethod}
 use Rattle.gaz_exchange.specs.declared.route.Call.{Call}
-use Rattle.gaz_exchange.specs.declared.route.Call.TheVariants.{Submit, Ask, Stand}
+use Rattle.gaz_exchange.specs.declared.route.Call.TheVariants.{Submit, Ask, Stand, LookUp, ListClosed}
+use Rattle.gaz_exchange.specs.declared.route.Call.TheVariants as call
 use Rattle.gaz_exchange.specs.declared.route.Method.{Method}
 use Rattle.gaz_exchange.specs.declared.route.Method.TheVariants.{Get, Post, Other}
 
@@ -16,7 +17,12 @@ use Rattle.gaz_exchange.specs.declared.route.Method.TheVariants.{Get, Post, Othe
 abbrev pub method_of : List ℕ → Method
 method_of text = if bytes_eq text (codes "POST") then Post else if bytes_eq text (codes "GET") then Get else Other
 
--- the target is looked at before the method
+-- a number that doesn't read is that of no property
+abbrev pub look_up : Option ℕ → Result Call Fault
+look_up (Some uprn) = Ok (LookUp uprn)
+look_up None = Err NotThere
+
+-- the target is looked at before the method, and the method before the numbers
 abbrev pub call_at : Target → Method → Result Call Fault
 call_at Nowhere m = Err NoRoute
 call_at (Volume c v) Post = Ok (Submit (code_in c) (volume_in v))
@@ -25,11 +31,23 @@ call_at (Volume c v) Other = Err (BadMethod allowed.GetAndPost)
 call_at (Custodian c) Get = Ok (Stand (code_in c))
 call_at (Custodian c) Post = Err (BadMethod allowed.Get)
 call_at (Custodian c) Other = Err (BadMethod allowed.Get)
+call_at (Extract c v) Get = Ok (call.Extract (code_in c) (volume_in v))
+call_at (Extract c v) Post = Err (BadMethod allowed.Get)
+call_at (Extract c v) Other = Err (BadMethod allowed.Get)
+call_at (Property n) Get = look_up (uprn_in n)
+call_at (Property n) Post = Err (BadMethod allowed.Get)
+call_at (Property n) Other = Err (BadMethod allowed.Get)
+call_at Closed Get = Ok ListClosed
+call_at Closed Post = Err (BadMethod allowed.Get)
+call_at Closed Other = Err (BadMethod allowed.Get)
 
 abbrev pub command_of : List ℕ → Call → Command
 command_of body (Submit code volume) = hub.Submit code volume body
 command_of body (Ask code volume) = hub.Ask code volume
 command_of body (Stand code) = hub.Stand code
+command_of body (LookUp uprn) = hub.LookUp uprn
+command_of body (call.Extract code volume) = hub.Extract code volume
+command_of body ListClosed = hub.ListClosed
 
 abbrev pub with_body : List ℕ → Result Call Fault → Result Command Fault
 with_body body (Ok call) = Ok (command_of body call)

@@ -1,8 +1,14 @@
 -- The text of a reply (RFC 9112, section 4; RFC 9110, section 15).
 use Rattle.std.specs.Prelude.{◌≡◌, ◌⊎◌, ℕ, Bool, true, false, if◌then◌else◌, List, [], ◌++◌, length, codes, Option, Some, None, Result, Ok, Err}
+use Rattle.std.specs.List.{join_by}
 use Rattle.std.specs.Fmt.{decimal}
 use Rattle.hex.specs.Hex.{encode_lower}
-use Rattle.gaz_hub.specs.Step.{Response, Submitted, Told, Stands, Settled}
+use Rattle.serde_json.specs.Data as json
+use Rattle.serde_json.specs.Written.{compact_text}
+use Rattle.gaz_ids.specs.Codes.{status_number}
+use Rattle.gaz_extract.specs.declared.closed.Closed.{Closed}
+use Rattle.gaz_extract.specs.declared.found.Found.{Found}
+use Rattle.gaz_hub.specs.Step.{Response, Submitted, Told, Stands, Settled, LookedUp, Extracted, Listed}
 use Rattle.gaz_hub.specs.declared.answer.Answer.{Answer}
 use Rattle.gaz_hub.specs.declared.answer.Answer.TheVariants as answer
 use Rattle.gaz_hub.specs.declared.outcome.Outcome.{Outcome}
@@ -33,11 +39,31 @@ abbrev pub reply_stands : Result Standing Refusal → Reply
 reply_stands (Ok standing) = reply.Stands standing
 reply_stands (Err refusal) = reply.Refused (fault_of refusal)
 
+-- what it says of where a property stands
+abbrev pub reply_found : Result (Option Found) Refusal → Reply
+reply_found (Ok None) = reply.Refused NotThere
+reply_found (Ok (Some found)) = reply.Found found
+reply_found (Err refusal) = reply.Refused (fault_of refusal)
+
+-- what it says of an extract, where the volume is reached
+abbrev pub reply_extracted : Result (Option (List ℕ)) Refusal → Reply
+reply_extracted (Ok None) = reply.Refused NotThere
+reply_extracted (Ok (Some bytes)) = reply.Extract bytes
+reply_extracted (Err refusal) = reply.Refused (fault_of refusal)
+
+-- what it says of addresses on closed streets
+abbrev pub reply_listed : Result (List Closed) Refusal → Reply
+reply_listed (Ok closed) = reply.Closed closed
+reply_listed (Err refusal) = reply.Refused (fault_of refusal)
+
 -- what a reply says of what the hub said; settling alone is asked by no request
 abbrev pub reply_to : Response → Reply
 reply_to (Submitted answer) = reply_of answer
 reply_to (Told told) = reply_told told
 reply_to (Stands stands) = reply_stands stands
+reply_to (LookedUp found) = reply_found found
+reply_to (Extracted bytes) = reply_extracted bytes
+reply_to (Listed closed) = reply_listed closed
 reply_to (Settled done) = reply.Refused NotReceived
 
 abbrev pub status_line : Reply → List ℕ
@@ -46,16 +72,20 @@ status_line (reply.Repeat outcome) = codes "200 OK"
 status_line (reply.Taken digest) = codes "409 Conflict"
 status_line (reply.Told digest outcome) = codes "200 OK"
 status_line (reply.Stands standing) = codes "200 OK"
+status_line (reply.Found found) = codes "200 OK"
+status_line (reply.Extract bytes) = codes "200 OK"
+status_line (reply.Closed closed) = codes "200 OK"
 status_line (reply.Refused fault) = status_of fault
+
+-- what the body is: an extract's rows of `csv`, else JSON
+abbrev pub content_type : Reply → List ℕ
+content_type (reply.Extract bytes) = codes "text/csv"
+content_type _ = codes "application/json"
 
 -- the header that names the allowed methods, where another was used
 abbrev pub allow_in : Reply → List ℕ
 allow_in (reply.Refused fault) = allow_of fault
-allow_in (reply.New outcome) = []
-allow_in (reply.Repeat outcome) = []
-allow_in (reply.Taken digest) = []
-allow_in (reply.Told digest outcome) = []
-allow_in (reply.Stands standing) = []
+allow_in _ = []
 
 -- a volume that is waited for
 abbrev pub want_text : ℕ → ℕ → List ℕ
@@ -71,7 +101,17 @@ outcome_text Applied = codes "\"outcome\":\"applied\""
 outcome_text (Rejected place rule) = codes "\"outcome\":\"rejected\",\"record\":" ++ (decimal place ++ (codes ",\"rule\":" ++ decimal rule))
 outcome_text (Held custodian volume) = codes "\"outcome\":\"held\",\"wants\":" ++ want_text custodian volume
 
--- compact JSON, its keys in byte order, and a line feed
+-- a line as a string of JSON, where there is one
+abbrev pub line_text : Option (List ℕ) → List ℕ
+line_text None = codes "null"
+line_text (Some line) = compact_text (json.string line)
+
+-- an address on a closed street
+abbrev pub closed_text : Closed → List ℕ
+closed_text closed =
+    codes "{\"custodian\":" ++ (decimal closed.custodian ++ (codes ",\"lpi\":\"" ++ (closed.lpi ++ (codes "\",\"usrn\":" ++ (decimal closed.usrn ++ codes "}")))))
+
+-- an extract as it is, else compact JSON, its keys in byte order, and a line feed
 abbrev pub body_of : Reply → List ℕ
 body_of (reply.New outcome) = codes "{" ++ (outcome_text outcome ++ codes "}\n")
 body_of (reply.Repeat outcome) = codes "{" ++ (outcome_text outcome ++ codes "}\n")
@@ -80,6 +120,11 @@ body_of (reply.Told digest outcome) = codes "{\"digest\":\"" ++ (encode_lower di
 body_of (reply.Stands s) =
     codes "{\"custodian\":" ++ (decimal s.custodian ++ (codes ",\"held\":" ++ (decimal s.held
     ++ (codes ",\"judged\":" ++ (decimal s.judged ++ (codes ",\"wants\":" ++ (wants_text s.wants ++ codes "}\n")))))))
+body_of (reply.Found f) =
+    codes "{\"custodian\":" ++ (decimal f.custodian ++ (codes ",\"line\":" ++ (line_text f.line
+    ++ (codes ",\"status\":" ++ (decimal (status_number f.status) ++ (codes ",\"uprn\":" ++ (decimal f.uprn ++ codes "}\n")))))))
+body_of (reply.Extract bytes) = bytes
+body_of (reply.Closed closed) = codes "{\"closed\":[" ++ (join_by closed_text (codes ",") closed ++ codes "]}\n")
 body_of (reply.Refused fault) = codes "{\"refusal\":" ++ (decimal (number_of fault) ++ codes "}\n")
 
 -- said where the conversation ends after the reply
@@ -87,14 +132,21 @@ abbrev pub close_of : Bool → List ℕ
 close_of is_last = if is_last then codes "Connection: close\r\n" else []
 
 -- status line, headers, an empty line, body
-unfoldable pub message : List ℕ → List ℕ → List ℕ → Bool → List ℕ
-message status headers body is_last =
+unfoldable pub message : List ℕ → List ℕ → ℕ → List ℕ → List ℕ → Bool → List ℕ
+message status content size headers body is_last =
     codes "HTTP/1.1 " ++ (status
-    ++ (codes "\r\nContent-Type: application/json\r\nContent-Length: " ++ (decimal (length body)
-    ++ (codes "\r\n" ++ (headers ++ (close_of is_last ++ (codes "\r\n" ++ body)))))))
+    ++ (codes "\r\nContent-Type: " ++ (content
+    ++ (codes "\r\nContent-Length: " ++ (decimal size
+    ++ (codes "\r\n" ++ (headers ++ (close_of is_last ++ (codes "\r\n" ++ body)))))))))
 
+-- the length counts bytes
 unfoldable pub reply_text : Reply → Bool → List ℕ
-reply_text reply is_last = message (status_line reply) (allow_in reply) (body_of reply) is_last
+reply_text reply is_last = message (status_line reply) (content_type reply) (length (body_of reply)) (allow_in reply) (body_of reply) is_last
+
+-- what is written behind the rest of a reply: an extract, which isn't copied
+abbrev pub behind_of : Reply → List ℕ
+behind_of (reply.Extract bytes) = bytes
+behind_of _ = []
 
 -- the request received its file
 abbrev pub is_received : Reply → Bool

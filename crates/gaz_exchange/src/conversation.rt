@@ -64,6 +64,9 @@ fn ask_call<K: Inbox + Drop>(hub: &mut Hub<K>, call: Call, body: &[u8]) -> Reply
         Call::Submit { code, volume } => hub.submit(code, volume, body).into(),
         Call::Ask { code, volume } => Reply::told(hub.outcome(code, volume)),
         Call::Stand { code } => Reply::stands(hub.status(code)),
+        Call::LookUp { uprn } => Reply::found(hub.lookup(uprn)),
+        Call::Extract { code, volume } => Reply::extracted(hub.extract(code, volume)),
+        Call::ListClosed => Reply::listed(hub.closed_streets()),
     }
 }
 
@@ -103,14 +106,14 @@ fn answer<W: Write, K: Inbox + Drop>(
 {
     let ends = request.closing || is_last;
     let reply = ask(hub, request);
-    turn_after(ends, send(alloc, w, reply, ends))
+    turn_after(ends, send(alloc, w, &reply, ends))
 }
 
 // Answers what is no request, or one whose body can't be read.
 fn refuse<W: Write>(alloc: Global, w: &mut W, fault: Fault) -> Turn
     ensures { Refuses (W.contents w.old) (W.contents w.new) fault result }
 {
-    turn_after(true, send(alloc, w, Reply::Refused(fault), true))
+    turn_after(true, send(alloc, w, &Reply::Refused(fault), true))
 }
 
 // Reads one request and answers it; `is_last` where no more may follow.

@@ -1,6 +1,7 @@
 //! Requests and replies of HTTP/1.x on a stream (RFC 9112), each answered by the hub.
 #![tactic(auto)]
 
+mod bodies;
 mod body;
 mod conversation;
 mod fault;

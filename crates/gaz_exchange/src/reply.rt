@@ -1,13 +1,61 @@
-ghost use Rattle.std.specs.Prelude.{◌≡◌, [], IfOk, string_bytes};
-ghost use Rattle.gaz_exchange.specs.Replies.{body_of, close_of, is_received, memory_fault, message, outcome_text, reply_of, reply_stands, reply_text, reply_told, want_text, wants_text};
+ghost use Rattle.std.specs.Prelude.{◌≡◌, ◌++◌, [], codes, length, IfOk, string_bytes};
+ghost use Rattle.gaz_hub.specs.Hubs.{told, told_all};
+ghost use Rattle.gaz_exchange.specs.Replies.{behind_of, close_of, is_received, memory_fault, message, reply_extracted, reply_found, reply_listed, reply_of, reply_stands, reply_text, reply_told};
 
+use crate::bodies::{closed_body, found_body, outcome_body, standing_body, taken_body, told_body};
 use crate::fault::Fault;
+use gaz_extract::{Closed, Found};
 use gaz_hub::{Answer, Digest, Outcome, Refusal, Standing};
-use gaz_ids::{Code, Volume};
 use std::alloc::{AllocError, Global};
+use std::marker::Model;
+
+/// The text of an extract.
+#[derive(Debug, Drop)]
+pub struct ExtractText {
+    bytes: Vec<u8>,
+}
+
+impl Model for ExtractText {
+    ghost use Rattle.std.specs.Prelude.{List, ℕ};
+
+    ghost Value = { List ℕ };
+
+    ghost view = { λ e. e.bytes.items };
+}
+
+impl ExtractText {
+    fn as_slice(&self) -> &[u8]
+        ensures { result.now ≡ self.now }
+    {
+        self.bytes.as_slice()
+    }
+}
+
+/// Addresses on closed streets.
+#[derive(Debug, Drop)]
+pub struct ClosedList {
+    closed: Vec<Closed>,
+}
+
+impl Model for ClosedList {
+    ghost use Rattle.std.specs.Prelude.{List};
+    ghost use Rattle.gaz_extract.specs.declared.closed.Closed.{Closed};
+
+    ghost Value = { List Closed };
+
+    ghost view = { λ l. l.closed.items };
+}
+
+impl ClosedList {
+    fn as_slice(&self) -> &[Closed]
+        ensures { result.now ≡ self.now }
+    {
+        self.closed.as_slice()
+    }
+}
 
 /// What a reply says.
-#[derive(Clone, Copy, Debug)]
+#[derive(Debug, Drop)]
 pub enum Reply {
     /// What became of a file that was received now.
     New(Outcome),
@@ -19,6 +67,12 @@ pub enum Reply {
     Told(Digest, Outcome),
     /// How far a custodian's files are judged.
     Stands(Standing),
+    /// Where a property stands and how it is addressed.
+    Found(Found),
+    /// A custodian's view after a volume.
+    Extract(ExtractText),
+    /// Addresses on closed streets.
+    Closed(ClosedList),
     Refused(Fault),
 }
 
@@ -35,88 +89,34 @@ impl From<Answer> for Reply {
     }
 }
 
-fn want_text(alloc: Global, custodian: Code, volume: Volume) -> Result<String, AllocError>
-    ensures { IfOk result (λ text. string_bytes text ≡ want_text custodian volume) }
-{
-    format!(in alloc; "{{\"custodian\":{custodian},\"volume\":{volume}}}")
-}
-
-fn wants_text(alloc: Global, wants: Option<(Code, Volume)>) -> Result<String, AllocError>
-    ensures { IfOk result (λ text. string_bytes text ≡ wants_text wants) }
-{
-    match wants {
-        None => String::from_str(alloc, "null"),
-        Some((custodian, volume)) => want_text(alloc, custodian, volume),
-    }
-}
-
-fn outcome_text(alloc: Global, outcome: Outcome) -> Result<String, AllocError>
-    ensures { IfOk result (λ text. string_bytes text ≡ outcome_text outcome) }
-{
-    match outcome {
-        Outcome::Applied => String::from_str(alloc, "\"outcome\":\"applied\""),
-        Outcome::Rejected { place, rule } => {
-            format!(in alloc; "\"outcome\":\"rejected\",\"record\":{place},\"rule\":{rule}")
-        }
-        Outcome::Held { custodian, volume } => {
-            let want = want_text(alloc, custodian, volume)?;
-            format!(in alloc; "\"outcome\":\"held\",\"wants\":{want}")
-        }
-    }
-}
-
-fn outcome_body(alloc: Global, outcome: Outcome) -> Result<String, AllocError>
-    ensures { IfOk result (λ text. string_bytes text ≡ body_of (Reply.New outcome)) }
-{
-    let outcome = outcome_text(alloc, outcome)?;
-    format!(in alloc; "{{{outcome}}}\n")
-}
-
-fn taken_body(alloc: Global, digest: Digest) -> Result<String, AllocError>
-    ensures { IfOk result (λ text. string_bytes text ≡ body_of (Reply.Taken digest)) }
-{
-    let digest = hex::encode(alloc, digest)?;
-    format!(in alloc; "{{\"digest\":\"{digest}\",\"outcome\":\"taken\"}}\n")
-}
-
-fn told_body(alloc: Global, digest: Digest, outcome: Outcome) -> Result<String, AllocError>
-    ensures { IfOk result (λ text. string_bytes text ≡ body_of (Reply.Told digest outcome)) }
-{
-    let digest = hex::encode(alloc, digest)?;
-    let outcome = outcome_text(alloc, outcome)?;
-    format!(in alloc; "{{\"digest\":\"{digest}\",{outcome}}}\n")
-}
-
-fn standing_body(alloc: Global, standing: Standing) -> Result<String, AllocError>
-    ensures { IfOk result (λ text. string_bytes text ≡ body_of (Reply.Stands standing)) }
-{
-    let wants = wants_text(alloc, standing.wants)?;
-    let Standing {
-        custodian,
-        held,
-        judged,
-        wants: _,
-    } = standing;
-    format!(in alloc;
-        "{{\"custodian\":{custodian},\"held\":{held},\"judged\":{judged},\"wants\":{wants}}}\n"
-    )
-}
-
 fn close_of(is_last: bool) -> &'static str
     ensures { result.now ≡ close_of is_last }
 {
     if is_last { "Connection: close\r\n" } else { "" }
 }
 
-// A message that says what came of a request, but for a refusal's.
-fn message_of(alloc: Global, status: &str, body: &str, is_last: bool) -> Result<String, AllocError>
-    ensures { IfOk result (λ text. string_bytes text ≡ message status.now [] body.now is_last) }
+// A message that says what came of a request, but for a refusal's; its body has so many bytes.
+fn message_of(
+    alloc: Global,
+    status: &str,
+    content: &str,
+    size: usize,
+    body: &str,
+    is_last: bool,
+) -> Result<String, AllocError>
+    ensures { IfOk result (λ text. string_bytes text ≡ message status.now content.now size [] body.now is_last) }
 {
     let close = close_of(is_last);
-    let size = body.len();
     format!(in alloc;
-        "HTTP/1.1 {status}\r\nContent-Type: application/json\r\nContent-Length: {size}\r\n{close}\r\n{body}"
+        "HTTP/1.1 {status}\r\nContent-Type: {content}\r\nContent-Length: {size}\r\n{close}\r\n{body}"
     )
+}
+
+// A message with a body of JSON.
+fn json_of(alloc: Global, status: &str, body: &str, is_last: bool) -> Result<String, AllocError>
+    ensures { IfOk result (λ text. string_bytes text ≡ message status.now (codes "application/json") (length body.now) [] body.now is_last) }
+{
+    message_of(alloc, status, "application/json", body.len(), body, is_last)
 }
 
 impl Reply {
@@ -144,6 +144,38 @@ impl Reply {
         }
     }
 
+    /// What a reply says of where a property stands.
+    pub fn found(found: Result<Option<Found>, Refusal>) -> Reply
+        ensures { result ≡ reply_found found }
+    {
+        match found {
+            Ok(None) => Reply::Refused(Fault::NotThere),
+            Ok(Some(found)) => Reply::Found(found),
+            Err(refusal) => Reply::Refused(refusal.into()),
+        }
+    }
+
+    /// What a reply says of an extract.
+    pub fn extracted(extract: Result<Option<Vec<u8>>, Refusal>) -> Reply
+        ensures { result ≡ reply_extracted (told extract) }
+    {
+        match extract {
+            Ok(None) => Reply::Refused(Fault::NotThere),
+            Ok(Some(bytes)) => Reply::Extract(ExtractText { bytes }),
+            Err(refusal) => Reply::Refused(refusal.into()),
+        }
+    }
+
+    /// What a reply says of addresses on closed streets.
+    pub fn listed(closed: Result<Vec<Closed>, Refusal>) -> Reply
+        ensures { result ≡ reply_listed (told_all closed) }
+    {
+        match closed {
+            Ok(closed) => Reply::Closed(ClosedList { closed }),
+            Err(refusal) => Reply::Refused(refusal.into()),
+        }
+    }
+
     /// Whether it tells that the file of the request was received.
     pub fn tells_received(&self) -> bool
         ensures { result ≡ is_received self.now }
@@ -156,37 +188,58 @@ impl Reply {
     }
 
     #[tactic(auto, unfolding(crate::specs::Replies::reply_text))]
-    /// The whole reply; `is_last` where the conversation ends after it.
+    /// The whole reply, but for an extract's bytes, which stand behind it; `is_last` where the conversation ends after it.
     pub fn text(&self, alloc: Global, is_last: bool) -> Result<String, AllocError>
-        ensures { IfOk result (λ text. string_bytes text ≡ reply_text self.now is_last) }
+        ensures { IfOk result (λ text. string_bytes text ++ behind_of self.now ≡ reply_text self.now is_last) }
     {
-        match *self {
-            Reply::New(outcome) => {
-                message_of(
-                    alloc,
-                    "201 Created",
-                    &outcome_body(alloc, outcome)?,
-                    is_last,
-                )
-            }
+        match self {
+            Reply::New(outcome) => json_of(
+                alloc,
+                "201 Created",
+                &outcome_body(alloc, *outcome)?,
+                is_last,
+            ),
             Reply::Repeat(outcome) => {
-                message_of(alloc, "200 OK", &outcome_body(alloc, outcome)?, is_last)
+                json_of(alloc, "200 OK", &outcome_body(alloc, *outcome)?, is_last)
             }
             Reply::Taken(digest) => {
-                message_of(alloc, "409 Conflict", &taken_body(alloc, digest)?, is_last)
+                json_of(alloc, "409 Conflict", &taken_body(alloc, *digest)?, is_last)
             }
-            Reply::Told(digest, outcome) => {
-                message_of(
-                    alloc,
-                    "200 OK",
-                    &told_body(alloc, digest, outcome)?,
-                    is_last,
-                )
-            }
+            Reply::Told(digest, outcome) => json_of(
+                alloc,
+                "200 OK",
+                &told_body(alloc, *digest, *outcome)?,
+                is_last,
+            ),
             Reply::Stands(standing) => {
-                message_of(alloc, "200 OK", &standing_body(alloc, standing)?, is_last)
+                json_of(alloc, "200 OK", &standing_body(alloc, *standing)?, is_last)
             }
+            Reply::Found(found) => json_of(alloc, "200 OK", &found_body(alloc, found)?, is_last),
+            Reply::Extract(extract) => message_of(
+                alloc,
+                "200 OK",
+                "text/csv",
+                extract.as_slice().len(),
+                "",
+                is_last,
+            ),
+            Reply::Closed(closed) => json_of(
+                alloc,
+                "200 OK",
+                &closed_body(alloc, closed.as_slice())?,
+                is_last,
+            ),
             Reply::Refused(fault) => String::from_str(alloc, fault.text(is_last)),
+        }
+    }
+
+    /// What is written behind the text: an extract's bytes.
+    pub fn behind(&self) -> &[u8]
+        ensures { result.now ≡ behind_of self.now }
+    {
+        match self {
+            Reply::Extract(extract) => extract.as_slice(),
+            _ => b"",
         }
     }
 }

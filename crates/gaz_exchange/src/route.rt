@@ -1,13 +1,13 @@
 ghost use Rattle.std.specs.Prelude.{◌≡◌, ◌∷◌, [], ℕ, List, codes, IfSome, IsUtf8};
 ghost use Rattle.std.specs.Option.{ForSome};
-ghost use Rattle.gaz_exchange.specs.Asking.{call_at, method_of};
+ghost use Rattle.gaz_exchange.specs.Asking.{call_at, look_up, method_of};
 ghost use Rattle.gaz_exchange.specs.Incoming.{IsCallAt};
 ghost use Rattle.gaz_exchange.specs.Routing.{Took, routes};
 ghost use Rattle.gaz_exchange.specs.Targets as seen;
-ghost use Rattle.gaz_exchange.specs.Targets.{code_in, target_of, volume_in};
+ghost use Rattle.gaz_exchange.specs.Targets.{code_in, target_of, uprn_in, volume_in};
 
 use crate::fault::{Allowed, Fault};
-use gaz_ids::{Code, Volume};
+use gaz_ids::{Code, Uprn, Volume};
 use matchit::{Params, ParamsIter, Router};
 use std::alloc::Global;
 
@@ -16,6 +16,9 @@ use std::alloc::Global;
 pub enum Place {
     Custodian,
     Volume,
+    Extract,
+    Uprn,
+    Closed,
 }
 
 /// The methods that some target takes, and all others.
@@ -47,6 +50,9 @@ pub enum Call {
     Submit { code: u64, volume: u64 },
     Ask { code: u64, volume: u64 },
     Stand { code: u64 },
+    LookUp { uprn: Uprn },
+    Extract { code: u64, volume: u64 },
+    ListClosed,
 }
 
 fn code_of(text: &str) -> u64
@@ -61,6 +67,12 @@ fn volume_of(text: &str) -> u64
     Volume::read(text.as_bytes()).map_or(0, Volume::number)
 }
 
+fn uprn_of(text: &str) -> Option<Uprn>
+    ensures { result ≡ uprn_in text.now }
+{
+    Uprn::read(text.as_bytes()).ok()
+}
+
 fn make_router(alloc: Global) -> Option<Router<Place>>
     ensures { IfSome result (λ router. router ≡ routes) }
 {
@@ -70,6 +82,18 @@ fn make_router(alloc: Global) -> Option<Router<Place>>
         Err(_) => return None,
     }
     match router.insert("/custodians/{c}", Place::Custodian) {
+        Ok(()) => {}
+        Err(_) => return None,
+    }
+    match router.insert("/extract/{c}/{v}", Place::Extract) {
+        Ok(()) => {}
+        Err(_) => return None,
+    }
+    match router.insert("/uprn/{n}", Place::Uprn) {
+        Ok(()) => {}
+        Err(_) => return None,
+    }
+    match router.insert("/closed", Place::Closed) {
         Ok(()) => Some(router),
         Err(_) => None,
     }
@@ -110,6 +134,50 @@ fn custodian_call(params: &Params<'_, '_>, method: Method) -> Result<Call, Fault
     }
 }
 
+// What a request asks of an extract.
+fn extract_call(params: &Params<'_, '_>, method: Method) -> Result<Call, Fault>
+    ensures { (c v : List ℕ) → Took params.now ((codes "c", c) ∷ (codes "v", v) ∷ []) → result ≡ call_at (seen.Extract c v) method }
+{
+    let mut segments = params.iter();
+    let code = code_of(next_part(&mut segments));
+    let volume = volume_of(next_part(&mut segments));
+    match method {
+        Method::Get => Ok(Call::Extract { code, volume }),
+        Method::Post | Method::Other => Err(Fault::BadMethod(Allowed::Get)),
+    }
+}
+
+// What a request asks of a property.
+fn property_call(params: &Params<'_, '_>, method: Method) -> Result<Call, Fault>
+    ensures { (n : List ℕ) → Took params.now ((codes "n", n) ∷ []) → result ≡ call_at (seen.Property n) method }
+{
+    let uprn = uprn_of(next_part(&mut params.iter()));
+    match method {
+        Method::Get => look_up(uprn),
+        Method::Post | Method::Other => Err(Fault::BadMethod(Allowed::Get)),
+    }
+}
+
+// A number that doesn't read is that of no property.
+fn look_up(uprn: Option<Uprn>) -> Result<Call, Fault>
+    ensures { result ≡ look_up uprn }
+{
+    match uprn {
+        Some(uprn) => Ok(Call::LookUp { uprn }),
+        None => Err(Fault::NotThere),
+    }
+}
+
+// What a request asks of the closed streets.
+fn closed_call(method: Method) -> Result<Call, Fault>
+    ensures { result ≡ call_at seen.Closed method }
+{
+    match method {
+        Method::Get => Ok(Call::ListClosed),
+        Method::Post | Method::Other => Err(Fault::BadMethod(Allowed::Get)),
+    }
+}
+
 // What a request asks of the hub.
 fn find_call(router: &Router<Place>, target: &str, method: Method) -> Result<Call, Fault>
     requires { router.now ≡ routes }
@@ -119,6 +187,9 @@ fn find_call(router: &Router<Place>, target: &str, method: Method) -> Result<Cal
         Ok(found) => match found.value {
             Place::Volume => volume_call(&found.params, method),
             Place::Custodian => custodian_call(&found.params, method),
+            Place::Extract => extract_call(&found.params, method),
+            Place::Uprn => property_call(&found.params, method),
+            Place::Closed => closed_call(method),
         },
         Err(_) => Err(Fault::NoRoute),
     }
