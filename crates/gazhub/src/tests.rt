@@ -65,8 +65,14 @@ fn request_of(alloc: Global, case: &Case<'_>) -> Result<Vec<u8>, AllocError> {
 
 fn reply_of(alloc: Global, status: &str, more: &str, body: &str) -> Result<String, AllocError> {
     let size = body.len().saturating_add(1);
+    // An extract begins with its header, and everything else with a brace.
+    let content = if body.starts_with("10,E,") {
+        "text/csv"
+    } else {
+        "application/json"
+    };
     format!(in alloc;
-        "HTTP/1.1 {status}\r\nContent-Type: application/json\r\nContent-Length: {size}\r\n{more}\r\n{body}\n"
+        "HTTP/1.1 {status}\r\nContent-Type: {content}\r\nContent-Length: {size}\r\n{more}\r\n{body}\n"
     )
 }
 
@@ -467,6 +473,210 @@ fn the_door_asks_for_the_profile(rt: HostRuntime) -> Result<(), Fail> {
             post("/custodians/1001/volumes/4", "10,10000", CREATED, header),
             post("/custodians/1001/volumes/5", "10", CREATED, header),
             post("/custodians/1001/volumes/6", "010,7", CREATED, header),
+        ],
+    )
+}
+
+const COUNTY_1: &str = "/custodians/1001/volumes/1";
+
+const COUNTY_2: &str = "/custodians/1001/volumes/2";
+
+const COUNTY_3: &str = "/custodians/1001/volumes/3";
+
+const COUNTY_4: &str = "/custodians/1001/volumes/4";
+
+const DISTRICT_1: &str = "/custodians/1002/volumes/1";
+
+const DISTRICT_2: &str = "/custodians/1002/volumes/2";
+
+const BAY_1: &str = "/custodians/1003/volumes/1";
+
+const NO_LINE_NOW: &str = "{\"refusal\":17}";
+
+#[test]
+fn an_address_is_looked_up_as_it_stands_now(rt: HostRuntime) -> Result<(), Fail> {
+    let held = "{\"outcome\":\"held\",\"wants\":{\"custodian\":1001,\"volume\":2}}";
+    holds(
+        &rt,
+        &[
+            post(COUNTY_1, STREET_101, CREATED, APPLIED),
+            get("/uprn/42", NOT_FOUND, NO_LINE_NOW),
+            get("/uprn/0", NOT_FOUND, NO_LINE_NOW),
+            get("/extract/1001/2", NOT_FOUND, NO_LINE_NOW),
+            get("/extract/1001/0", NOT_FOUND, "{\"refusal\":12}"),
+            get("/extract/9998/0", NOT_FOUND, "{\"refusal\":11}"),
+            get("/closed/", NOT_FOUND, "{\"refusal\":41}"),
+            post(COUNTY_3, FLAT_2_HIGH_STREET, CREATED, held),
+            post(COUNTY_2, HIGH_STREET, CREATED, APPLIED),
+            post(COUNTY_3, FLAT_2_HIGH_STREET, OK, APPLIED),
+            get(
+                "/uprn/42",
+                OK,
+                "{\"custodian\":1001,\"line\":\"Flat 2, 12A-14 High Street, Arden, AR1 2DN\",\"status\":1,\"uprn\":42}",
+            ),
+            post(COUNTY_4, FLAT_2_AS_NUMBER_14, CREATED, APPLIED),
+            get(
+                "/uprn/42",
+                OK,
+                "{\"custodian\":1001,\"line\":\"14 High Street, Arden, AR1 2DN\",\"status\":1,\"uprn\":42}",
+            ),
+        ],
+    )
+}
+
+#[test]
+fn rules_on_what_stands_in_the_end(rt: HostRuntime) -> Result<(), Fail> {
+    let missing = "{\"outcome\":\"held\",\"wants\":{\"custodian\":1001,\"volume\":2}}";
+    holds(
+        &rt,
+        &[
+            post(COUNTY_1, STREET_101, CREATED, APPLIED),
+            post(COUNTY_3, FLAT_2_HIGH_STREET, CREATED, missing),
+            post(
+                COUNTY_2,
+                HIGH_STREET_AND_101_AGAIN,
+                CREATED,
+                "{\"outcome\":\"rejected\",\"record\":3,\"rule\":21}",
+            ),
+            post(
+                COUNTY_3,
+                FLAT_2_HIGH_STREET,
+                OK,
+                "{\"outcome\":\"rejected\",\"record\":3,\"rule\":34}",
+            ),
+            get(
+                "/custodians/1001",
+                OK,
+                "{\"custodian\":1001,\"held\":0,\"judged\":3,\"wants\":{\"custodian\":1001,\"volume\":4}}",
+            ),
+        ],
+    )?;
+    holds(
+        &rt,
+        &[
+            post(COUNTY_1, STREET_101, CREATED, APPLIED),
+            post(COUNTY_2, HIGH_STREET, CREATED, APPLIED),
+            post(COUNTY_3, FLAT_2_HIGH_STREET, CREATED, APPLIED),
+            post(
+                COUNTY_4,
+                A_SECOND_ADDRESS,
+                CREATED,
+                "{\"outcome\":\"rejected\",\"record\":2,\"rule\":30}",
+            ),
+        ],
+    )
+}
+
+#[test]
+fn a_street_closes_under_a_neighbours_address(rt: HostRuntime) -> Result<(), Fail> {
+    let held = "{\"outcome\":\"held\",\"wants\":{\"custodian\":1001,\"volume\":1}}";
+    let closed = "{\"closed\":[{\"custodian\":1002,\"lpi\":\"K1\",\"usrn\":150}]}";
+    let line =
+        "{\"custodian\":1002,\"line\":\"7 County Road, Arden\",\"status\":1,\"uprn\":100001}";
+    let first =
+        "10,E,1001,1\n11,I,1,150,1,1990-01-01,\n15,I,2,150,ENG,County Road,,Arden,Arden\n99,2";
+    let second =
+        "10,E,1001,2\n11,I,1,150,1,1990-01-01,2024-04-30\n15,I,2,150,ENG,County Road,,Arden,Arden\n99,2";
+    holds(
+        &rt,
+        &[
+            post(COUNTY_1, COUNTY_ROAD, CREATED, APPLIED),
+            post(COUNTY_2, COUNTY_ROAD_CLOSED, CREATED, APPLIED),
+            post(DISTRICT_1, NUMBER_7_COUNTY_ROAD, CREATED, APPLIED),
+            get("/closed", OK, closed),
+            get("/uprn/100001", OK, line),
+            get("/extract/1001/1", OK, first),
+            get("/extract/1001/2", OK, second),
+        ],
+    )?;
+    holds(
+        &rt,
+        &[
+            post(DISTRICT_1, NUMBER_7_COUNTY_ROAD, CREATED, held),
+            post(COUNTY_2, COUNTY_ROAD_CLOSED, CREATED, held),
+            get("/closed", OK, "{\"closed\":[]}"),
+            post(COUNTY_1, COUNTY_ROAD, CREATED, APPLIED),
+            post(COUNTY_2, COUNTY_ROAD_CLOSED, OK, APPLIED),
+            post(DISTRICT_1, NUMBER_7_COUNTY_ROAD, OK, APPLIED),
+            get("/closed", OK, closed),
+            get("/uprn/100001", OK, line),
+            get("/extract/1001/1", OK, first),
+            get("/extract/1001/2", OK, second),
+        ],
+    )
+}
+
+#[test]
+fn a_file_rests_on_a_neighbours_volume(rt: HostRuntime) -> Result<(), Fail> {
+    let on_bay = "{\"outcome\":\"held\",\"wants\":{\"custodian\":1003,\"volume\":1}}";
+    let on_district = "{\"outcome\":\"held\",\"wants\":{\"custodian\":1002,\"volume\":1}}";
+    let on_nobody = "{\"outcome\":\"held\",\"wants\":{\"custodian\":9998,\"volume\":1}}";
+    for (file, told) in [
+        (
+            NUMBER_7_ON_A_CLOSED_ROAD,
+            "{\"outcome\":\"rejected\",\"record\":4,\"rule\":33}",
+        ),
+        (
+            NUMBER_7_ON_NO_ROAD,
+            "{\"outcome\":\"rejected\",\"record\":3,\"rule\":32}",
+        ),
+    ] {
+        holds(
+            &rt,
+            &[
+                post(COUNTY_1, COUNTY_ROAD, CREATED, APPLIED),
+                post(COUNTY_2, COUNTY_ROAD_CLOSED, CREATED, APPLIED),
+                post(DISTRICT_1, file, CREATED, told),
+            ],
+        )?;
+    }
+    holds(
+        &rt,
+        &[
+            post(DISTRICT_1, NOTHING_ON_1003, CREATED, on_bay),
+            post(BAY_1, NOTHING_ON_1002, CREATED, on_district),
+            post(DISTRICT_2, NOTHING, CREATED, on_bay),
+            get(
+                "/custodians/1002",
+                OK,
+                "{\"custodian\":1002,\"held\":2,\"judged\":0,\"wants\":{\"custodian\":1003,\"volume\":1}}",
+            ),
+        ],
+    )?;
+    for (file, told) in [
+        (
+            NOTHING_COUNTED_AS_ONE,
+            "{\"outcome\":\"rejected\",\"record\":3,\"rule\":8}",
+        ),
+        (
+            NOTHING_ON_VOLUME_0,
+            "{\"outcome\":\"rejected\",\"record\":2,\"rule\":4}",
+        ),
+        (NOTHING_ON_9998, on_nobody),
+    ] {
+        holds(&rt, &[post(DISTRICT_1, file, CREATED, told)])?;
+    }
+    Ok(())
+}
+
+#[test]
+fn extracts_are_in_the_order_of_keys(rt: HostRuntime) -> Result<(), Fail> {
+    holds(
+        &rt,
+        &[
+            post(COUNTY_1, PROPERTIES_AT_THE_LIMITS, CREATED, APPLIED),
+            get(
+                "/extract/1001/1",
+                OK,
+                "10,E,1001,1\n21,I,1,42,1,0,0,,,2020-01-01,\n21,I,2,999999999999,1,700000,1300000,,,2020-01-01,\n99,2",
+            ),
+            post(BAY_1, MILL_LANE, CREATED, APPLIED),
+            get(
+                "/uprn/200000",
+                OK,
+                "{\"custodian\":1003,\"line\":null,\"status\":6,\"uprn\":200000}",
+            ),
+            get("/extract/1003/1", OK, EXTRACT_OF_MILL_LANE),
         ],
     )
 }
