@@ -55,7 +55,7 @@ fn rows(alloc: Global, n: u64) -> Result<Vec<(Kind, String)>> {
 }
 
 /// Adds the items of an address.
-fn add_items(alloc: Global, items: &mut Vec<Item>, n: u64) -> Result<()> {
+pub fn add_items(alloc: Global, items: &mut Vec<Item>, n: u64) -> Result<()> {
     let rows = rows(alloc, n)?;
     for (kind, row) in &rows {
         items.push(item_of_text(alloc, *kind, row.as_bytes())?)?;
@@ -129,7 +129,7 @@ fn mixed(alloc: Global, addresses: u64) -> Result<ChangeFile> {
 }
 
 /// Receives the custodian's next volume.
-fn receive<K: Inbox>(shelf: &mut K, code: Code) -> Result<()>
+pub fn receive<K: Inbox>(shelf: &mut K, code: Code) -> Result<()>
     requires { IsNotOpen (K.seen shelf.old).progress }
     ensures { OnOk result (IsNotOpen (K.seen shelf.new).progress) }
 {

@@ -1,15 +1,18 @@
 //! Times reading, for `bench/run`: `gaz_bench file FILE ROUNDS` that of a change file, `gaz_bench register FILE ROUNDS` that of a
 //! register. It prints the least time in microseconds. `gaz_bench judge ITEMS` times the judgement of a file of 1,000 changes into a
-//! gazetteer of so many items, and beside it that of a file without changes.
+//! gazetteer of so many items, and beside it that of a file without changes. `gaz_bench keeping VOLUMES` times a keeper of whole maps that
+//! keeps so many volumes of 1,000 items.
 #![tactic(auto)]
 
 mod judging;
+mod keeping;
 
 use anyhow::{Context, Result, ensure};
 use gaz_changefile::read_file;
 use gaz_ids::{Code, Volume};
 use gaz_register::Register;
 use judging::judging_micros;
+use keeping::keeping_micros;
 use std::time::Instant;
 use std::{env, fs};
 
@@ -62,6 +65,10 @@ fn main(rt: HostRuntime) -> Result<()> {
     if word.as_str() == "judge" {
         let (with, without) = judging_micros(&rt, path.parse::<u64>()?)?;
         println!(rt; "{with} {without}")?;
+        return Ok(());
+    }
+    if word.as_str() == "keeping" {
+        println!(rt; "{}", keeping_micros(&rt, path.parse::<u64>()?)?)?;
         return Ok(());
     }
     let Some(rounds) = words.next() else {

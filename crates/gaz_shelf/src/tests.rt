@@ -1,7 +1,9 @@
-ghost use Rattle.std.specs.Prelude.{◌≡◌, OnOk};
+ghost use Rattle.std.specs.Prelude.{◌≡◌, ◌≤◌, OnOk};
 ghost use Rattle.gaz_shelf.specs.Keeper.{Idle};
 
-use crate::{Ending, Faulty, Inbox, MemShelf, Shelf, Verdict, WholeView, write_volume};
+use crate::{
+    Ending, Faulty, Inbox, MemShelf, Shelf, ShelfFault, Verdict, WholeView, read_kind, write_volume,
+};
 use gaz_ids::{Code, Lang, Uprn, Usrn, Volume};
 use gaz_records::{Day, Item, Key, Kind, RecordKey, Street, item_of_text, item_text};
 use std::alloc::Global;
@@ -67,6 +69,10 @@ fn street_key(number: u64) -> Result<Key, Fail> {
 
 fn lpi_key(text: &str) -> Result<Key, Fail> {
     Ok(Key::Lpi(RecordKey::read(text.as_bytes()).ok_or("a key")?))
+}
+
+fn xref_key(text: &str) -> Result<Key, Fail> {
+    Ok(Key::Xref(RecordKey::read(text.as_bytes()).ok_or("a key")?))
 }
 
 // The item is there, and this row is written of it, or none is where none is given.
@@ -282,6 +288,36 @@ fn has_page<K: Inbox>(
     Ok(())
 }
 
+// These items are these rows.
+fn are_rows(rt: &(impl Abort + AllocGlobal), items: &[Item], rows: &[&str]) -> Result<(), Fail> {
+    assert_eq!(rt; items.len(), rows.len());
+    for (item, row) in items.iter().zip(rows) {
+        assert_eq!(rt;
+            item_text(rt.alloc(), item)?.as_slice(),
+            row.as_bytes(),
+            "{row}"
+        );
+    }
+    Ok(())
+}
+
+// All items of a kind after a volume of 1001, read so many at a time, are these rows.
+fn has_all<K: Inbox>(
+    rt: &(impl Abort + AllocGlobal),
+    shelf: &mut K,
+    after: u64,
+    kind: Kind,
+    most: usize,
+    rows: &[&str],
+) -> Result<(), Fail>
+    requires idle { (K.seen shelf.old).progress ≡ Idle }
+    requires some { 1 ≤ most }
+    ensures { OnOk result ((K.seen shelf.new).progress ≡ Idle) }
+{
+    let items = read_kind(rt.alloc(), shelf, custodian(1001)?, after, kind, most)?;
+    are_rows(rt, items.as_slice(), rows)
+}
+
 // The second volume of 1001: a street is closed, a cross reference and an address go, another address comes.
 fn second_volume<K: Inbox>(shelf: &mut K, closed: Item, came: Item, gone: &Key) -> Result<(), Fail>
     requires { (K.seen shelf.old).progress ≡ Idle }
@@ -290,10 +326,19 @@ fn second_volume<K: Inbox>(shelf: &mut K, closed: Item, came: Item, gone: &Key) 
     shelf.begin(custodian(1001)?)?;
     shelf.put(closed)?;
     shelf.take(gone)?;
+    shelf.take(&xref_key("X1")?)?;
     shelf.put(came)?;
     shelf.keep()?;
     Ok(())
 }
+
+const MAIN: &str = "101,1,2001-04-01,";
+
+const NAME: &str = "101,ENG,High Street,,,Arden";
+
+const HOUSE: &str = "1001,1,1,1,,,2001-04-01,";
+
+const TAX: &str = "X1,1001,CTAX,7,2001-04-01,";
 
 const OPEN: &str = "102,1,2001-04-01,";
 
@@ -316,11 +361,11 @@ fn writes_all<K: Inbox>(alloc: Global, shelf: &mut K) -> Result<(), Fail>
         &[
             (Kind::Lpi, OTHER),
             (Kind::Street, OPEN),
-            (Kind::Street, "101,1,2001-04-01,"),
-            (Kind::Descriptor, "101,ENG,High Street,,,Arden"),
+            (Kind::Street, MAIN),
+            (Kind::Descriptor, NAME),
             (Kind::Blpu, FLAT),
-            (Kind::Blpu, "1001,1,1,1,,,2001-04-01,"),
-            (Kind::Xref, "X1,1001,CTAX,7,2001-04-01,"),
+            (Kind::Blpu, HOUSE),
+            (Kind::Xref, TAX),
             (Kind::Lpi, MILL),
         ],
     )?;
@@ -373,6 +418,8 @@ fn reads_items<K: Inbox>(rt: &(impl Abort + AllocGlobal), shelf: &mut K) -> Resu
     has_used(rt, shelf, 1001, &lpi_key("L2")?, true)?;
     has_item(rt, shelf, 1001, &blpu_key(1003)?, None)?;
     has_used(rt, shelf, 1001, &blpu_key(1003)?, false)?;
+    has_item(rt, shelf, 1001, &xref_key("X1")?, None)?;
+    has_used(rt, shelf, 1001, &xref_key("X1")?, true)?;
     has_item(rt, shelf, 1002, &street_key(102)?, None)
 }
 
@@ -409,8 +456,48 @@ fn reads_pages<K: Inbox>(rt: &(impl Abort + AllocGlobal), shelf: &mut K) -> Resu
         1,
         CLOSED,
     )?;
-    has_page(rt, shelf, 2, Kind::Street, None, 5, 2, "101,1,2001-04-01,")?;
+    has_page(rt, shelf, 2, Kind::Street, None, 5, 2, MAIN)?;
     has_page(rt, shelf, 2, Kind::Blpu, Some(blpu_key(1001)?), 5, 1, FLAT)
+}
+
+// Every past view, read to its end one, two and nine at a time.
+fn reads_views<K: Inbox>(
+    rt: &(impl Abort + AllocGlobal),
+    shelf: &mut K,
+    most: usize,
+) -> Result<(), Fail>
+    requires idle { (K.seen shelf.old).progress ≡ Idle }
+    requires some { 1 ≤ most }
+    ensures { OnOk result ((K.seen shelf.new).progress ≡ Idle) }
+{
+    has_all(rt, shelf, 0, Kind::Street, most, &[])?;
+    has_all(rt, shelf, 1, Kind::Street, most, &[MAIN, OPEN])?;
+    has_all(rt, shelf, 1, Kind::Descriptor, most, &[NAME])?;
+    has_all(rt, shelf, 1, Kind::Blpu, most, &[HOUSE, FLAT])?;
+    has_all(rt, shelf, 1, Kind::Xref, most, &[TAX])?;
+    has_all(rt, shelf, 2, Kind::Street, most, &[MAIN, CLOSED])?;
+    has_all(rt, shelf, 2, Kind::Xref, most, &[])?;
+    has_all(rt, shelf, 2, Kind::Lpi, most, &[MILL, FELIN])
+}
+
+// A judgement that breaks for want of memory, which only a run with failing allocations brings about, refuses and is cleared.
+fn begins_again<K: Inbox>(
+    rt: &(impl Abort + AllocGlobal),
+    shelf: &mut K,
+    first: Item,
+    second: Item,
+) -> Result<(), Fail>
+    requires { (K.seen shelf.old).progress ≡ Idle }
+{
+    let code = custodian(1001)?;
+    shelf.begin(code)?;
+    if shelf.put(first).is_err() {
+        assert!(rt; matches!(shelf.put(second), Err(ShelfFault::Store)));
+        assert_eq!(rt; shelf.reached(code)?, 2);
+        shelf.begin(code)?;
+    }
+    shelf.abandon()?;
+    Ok(())
 }
 
 fn shelf_pair<K: Inbox>(rt: &(impl Abort + AllocGlobal), shelf: &mut K) -> Result<(), Fail>
@@ -420,7 +507,17 @@ fn shelf_pair<K: Inbox>(rt: &(impl Abort + AllocGlobal), shelf: &mut K) -> Resul
     reads_counts(rt, shelf)?;
     reads_items(rt, shelf)?;
     reads_addresses(rt, shelf)?;
-    reads_pages(rt, shelf)
+    reads_pages(rt, shelf)?;
+    reads_views(rt, shelf, 1)?;
+    reads_views(rt, shelf, 2)?;
+    reads_views(rt, shelf, 9)?;
+    let alloc = rt.alloc();
+    begins_again(
+        rt,
+        shelf,
+        item(alloc, Kind::Lpi, OTHER)?,
+        item(alloc, Kind::Street, OPEN)?,
+    )
 }
 
 #[test]
@@ -434,7 +531,7 @@ fn a_keeper_around_another_answers_so(rt: HostRuntime) -> Result<(), Fail> {
     let mut shelf = Faulty::new(MemShelf::new(rt.alloc()), 0);
     shelf_pair(&rt, &mut shelf)?;
     let (looked, asked) = shelf.counted();
-    assert_eq!(rt; looked, 4);
+    assert_eq!(rt; looked, 5);
     assert_eq!(rt; asked, 5);
     Ok(())
 }
