@@ -2,6 +2,7 @@
 import csv
 import hashlib
 import io
+import json
 import sys
 
 from baseline import MOST, day, head_of, is_closing, length_of, number
@@ -13,6 +14,7 @@ REGISTER = {
     1003: ([(200_000, 299_999)], [(300, 399)]),
 }
 READERS = {kind: read for kind, (read, _) in KINDS.items()}
+ROWS = {kind: row for kind, (_, row) in KINDS.items()}
 KEY_WIDTH = {"11": 1, "15": 2, "21": 1, "23": 1, "24": 1}
 
 
@@ -226,6 +228,30 @@ def judge(own, view, out, changes):
     return "applied", after
 
 
+# ---- address lines
+
+
+def numbers_of(given):
+    """The house numbers of an object, as 12A-14; None where it has none."""
+    if given is None or given[0] is None:
+        return None
+    return "-".join(f"{n}{suffix}" for n, suffix in given[:2] if n) if given[1] else "%d%s" % given[0]
+
+
+def line_of(lpi, descriptor, blpu):
+    secondary, primary = lpi[5], lpi[6]
+    _, _, description, locality, town, area = descriptor
+    numbers = numbers_of(primary)
+    street = f"{numbers} {description}" if numbers else description
+    flat = [secondary[2] if secondary else "", numbers_of(secondary)]
+    parts = [*flat, primary[2], street, locality, town, "" if area == town else area, blpu[5]]
+    return ", ".join(part for part in parts if part)
+
+
+def owner_of_usrn(usrn):
+    return next((code for code, (_, blocks) in REGISTER.items() if within(blocks, usrn)), None)
+
+
 # ---- the hub
 
 
@@ -315,6 +341,58 @@ class Hub:
         return 200, '{"custodian":%d,"held":%d,"judged":%d,"wants":%s}' % (code, held, self.reached(code), want)
 
 
+    def last(self, code):
+        return self.views[code][-1] if code in self.views else View()
+
+    def line(self, code, uprn):
+        """The line of a custodian's property, or None without an approved address or its descriptor now."""
+        view = self.last(code)
+        keys = sorted(view.homes.get(uprn, ()))
+        if not keys:
+            return None
+        lpi = view.items[keys[0]]
+        at = view if ("11", lpi[4]) in view.items else self.last(owner_of_usrn(lpi[4]))
+        descriptor = at.items.get(("15", lpi[4], lpi[2]))
+        return line_of(lpi, descriptor, view.items["21", uprn]) if descriptor else None
+
+    def look_up(self, uprn):
+        self.settle()
+        code = next((c for c in REGISTER if ("21", uprn) in self.last(c).items), None)
+        if code is None:
+            return 404, 17
+        status = int(self.last(code).items["21", uprn][1])
+        line = json.dumps(self.line(code, uprn), ensure_ascii=False)
+        return 200, '{"custodian":%d,"line":%s,"status":%d,"uprn":%d}' % (code, line, status, uprn)
+
+    def extract(self, code, volume):
+        fault = door(code, volume)
+        if fault:
+            return fault
+        self.settle()
+        if volume > self.reached(code):
+            return 404, 17
+        items = sorted(self.views[code][volume].items.items())
+        sink = io.StringIO()
+        write = csv.writer(sink, lineterminator="\n").writerow
+        write(("10", "E", code, volume))
+        for order, (key, item) in enumerate(items, 1):
+            write((key[0], "I", order, *ROWS[key[0]](item)))
+        write(("99", len(items)))
+        return 200, sink.getvalue()[:-1]
+
+    def is_closed_elsewhere(self, code, usrn):
+        if ("11", usrn) in self.last(code).items:
+            return False
+        street = self.last(owner_of_usrn(usrn)).items.get(("11", usrn))
+        return street is not None and street[3] is not None
+
+    def closed(self):
+        self.settle()
+        lpis = ((code, item) for code in REGISTER for key, item in sorted(self.last(code).items.items()) if key[0] == "24" and item[3] == "1")
+        told = ('{"custodian":%d,"lpi":"%s","usrn":%d}' % (code, lpi[0], lpi[4]) for code, lpi in lpis if self.is_closed_elsewhere(code, lpi[4]))
+        return 200, '{"closed":[%s]}' % ",".join(told)
+
+
 def door(code, volume):
     if code not in REGISTER:
         return 404, 11
@@ -344,14 +422,30 @@ def answer_to(hub, method, target, body):
         if method != b"GET":
             return 405, 42, "GET"
         return *hub.status(number(segments[1], 4, 1, 9999)), None
-    return 404, 41, None
+    return reading_of(hub, method, segments)
+
+
+def reading_of(hub, method, segments):
+    """The reply of a route that only reads."""
+    lengths = {"uprn": 2, "extract": 3, "closed": 1}
+    if lengths.get(segments[0]) != len(segments) or "" in segments:
+        return 404, 41, None
+    if method != b"GET":
+        return 405, 42, "GET"
+    if segments[0] == "closed":
+        return *hub.closed(), None
+    if segments[0] == "extract":
+        return *hub.extract(number(segments[1], 4, 1, 9999), number(segments[2], 6, 1, 999_999)), None
+    uprn = number(segments[1], 12, 1, 999_999_999_999)
+    return *((404, 17) if uprn is None else hub.look_up(uprn)), None
 
 
 def write_reply(sink, status, text, allow, closes):
+    kind = "text/csv" if isinstance(text, str) and text.startswith("10,E,") else "application/json"
     body = ('{"refusal":%d}\n' % text if isinstance(text, int) else text + "\n").encode()
     allow = "Allow: %s\r\n" % allow if allow else ""
     close = "Connection: close\r\n" if closes else ""
-    head = "HTTP/1.1 %d %s\r\nContent-Type: application/json\r\nContent-Length: %d\r\n%s%s\r\n" % (status, REASONS[status], len(body), allow, close)
+    head = "HTTP/1.1 %d %s\r\nContent-Type: %s\r\nContent-Length: %d\r\n%s%s\r\n" % (status, REASONS[status], kind, len(body), allow, close)
     sink.write(head.encode() + body)
 
 

@@ -246,8 +246,8 @@ module _ (target : List ℕ) (p : Params) (value : Place) (bytes : AllBytes targ
   abbrev here : RouteOf Place
   here = record { pattern = p.pattern.now; text = p.text.now; names = p.names.now; value = value }
 
-  parts_at : (route : RouteOf Place) (path : List ℕ) → here ≡ route → target ≡ path → parts_of p ≡ walk route.pattern route.text path route.names 0 0
-  parts_at route path e made = ap (λ r. walk r.pattern r.text p.path.now r.names 0 0) e ∙ ap (λ l. walk route.pattern route.text l route.names 0 0) (same ∙ made)
+  parts_at : (route : RouteOf Place) (whole : List ℕ) → here ≡ route → target ≡ whole → parts_of p ≡ walk route.pattern route.text whole route.names 0 0
+  parts_at route whole e made = ap (λ r. walk r.pattern r.text p.path.now r.names 0 0) e ∙ ap (λ l. walk route.pattern route.text l route.names 0 0) (same ∙ made)
 
   took_volume : (c v : List ℕ) → IsVolume target c v → here ≡ volume_route → Took p ((codes "c", c) ∷ (codes "v", v) ∷ [])
   took_volume c v is e =
