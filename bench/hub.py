@@ -5,7 +5,7 @@ import io
 import json
 import sys
 
-from baseline import MOST, day, head_of, is_closing, length_of, number
+from baseline import MOST, head_of, header_fault, is_closing, length_of, number
 from items import KINDS, Fault
 
 REGISTER = {
@@ -44,17 +44,6 @@ def change_of(row, place, count):
     if number(row[2], 4, 1, 5000) != count + 1:
         return 7
     return place, row[1], (row[0], *item[: KEY_WIDTH[row[0]]]), item
-
-
-def is_header(row):
-    return len(row) == 5 and row[0] == "10" and number(row[1], 4, 1, 9999) == 1 and day(row[4]) is not None
-
-
-def header_fault(row, code, volume):
-    named = (number(row[2], 4, 1, 9999), number(row[3], 6, 1, 999_999)) if is_header(row) else (None, None)
-    if None in named:
-        return 2
-    return None if named == (code, volume) else 3
 
 
 def rows_of(data):
