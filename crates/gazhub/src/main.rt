@@ -11,6 +11,8 @@ ghost use Rattle.gazhub.specs.Playing.{Plays};
 
 #[cfg(test)]
 mod fixtures;
+#[cfg(test)]
+mod harness;
 mod sample;
 #[cfg(test)]
 mod tests;
