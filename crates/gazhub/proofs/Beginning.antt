@@ -1,6 +1,5 @@
 -- What holds after the calls of a hub that begins with nothing, over a keeper of whole maps.
-use Rattle.std.proofs.Common.{◌≡◌, List, ap, subst, ℕ, true, sym}
-use Rattle.std.specs.Prelude.{IsSome}
+use Rattle.std.proofs.Common.{◌≡◌, List, ap, subst, sym}
 use Rattle.std.specs.FinMap as map
 use Rattle.gaz_shelf.specs.Mem.{content_in, seen_in}
 use Rattle.gaz_shelf.specs.Received.{Received, pair_cmp}

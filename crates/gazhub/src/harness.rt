@@ -21,6 +21,29 @@ pub const CONFLICT: &str = "409 Conflict";
 
 pub const NOT_FOUND: &str = "404 Not Found";
 
+/// Where the county's volumes are sent, the district's and the bay's.
+pub const COUNTY_1: &str = "/custodians/1001/volumes/1";
+
+pub const COUNTY_2: &str = "/custodians/1001/volumes/2";
+
+pub const COUNTY_3: &str = "/custodians/1001/volumes/3";
+
+pub const COUNTY_4: &str = "/custodians/1001/volumes/4";
+
+pub const COUNTY_5: &str = "/custodians/1001/volumes/5";
+
+pub const COUNTY_6: &str = "/custodians/1001/volumes/6";
+
+pub const COUNTY_7: &str = "/custodians/1001/volumes/7";
+
+pub const COUNTY_8: &str = "/custodians/1001/volumes/8";
+
+pub const DISTRICT_1: &str = "/custodians/1002/volumes/1";
+
+pub const DISTRICT_2: &str = "/custodians/1002/volumes/2";
+
+pub const BAY_1: &str = "/custodians/1003/volumes/1";
+
 // More requests than a test sends.
 const MANY: u64 = 100_000;
 

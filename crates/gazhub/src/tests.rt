@@ -379,20 +379,6 @@ fn the_door_asks_for_the_profile(rt: HostRuntime) -> Result<(), Fail> {
     )
 }
 
-const COUNTY_1: &str = "/custodians/1001/volumes/1";
-
-const COUNTY_2: &str = "/custodians/1001/volumes/2";
-
-const COUNTY_3: &str = "/custodians/1001/volumes/3";
-
-const COUNTY_4: &str = "/custodians/1001/volumes/4";
-
-const DISTRICT_1: &str = "/custodians/1002/volumes/1";
-
-const DISTRICT_2: &str = "/custodians/1002/volumes/2";
-
-const BAY_1: &str = "/custodians/1003/volumes/1";
-
 const NO_LINE_NOW: &str = "{\"refusal\":17}";
 
 #[test]
