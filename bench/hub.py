@@ -89,29 +89,31 @@ def read(data, code, volume):
 class View:
     def __init__(self, items=(), used=(), homes=(), streets=()):
         self.items, self.used = dict(items), set(used)
-        # the approved LPIs of a BLPU, and on a street
-        self.homes = {uprn: set(keys) for uprn, keys in dict(homes).items()}
-        self.streets = {usrn: set(keys) for usrn, keys in dict(streets).items()}
+        # the approved LPIs of a BLPU, and how many are on a street in a language: nothing in them changes in place
+        self.homes, self.streets = dict(homes), dict(streets)
 
     def copy(self):
         return View(self.items, self.used, self.homes, self.streets)
 
+    def count(self, key, item, change):
+        homes, street = self.homes.get(item[1], frozenset()), (item[4], item[2])
+        self.homes[item[1]] = homes | {key} if change == 1 else homes - {key}
+        self.streets[street] = self.streets.get(street, 0) + change
+
     def drop(self, key):
         item = self.items.pop(key, None)
         if item and key[0] == "24" and item[3] == "1":
-            self.homes[item[1]].discard(key)
-            self.streets[item[4]].discard(key)
+            self.count(key, item, -1)
 
     def put(self, key, item):
         self.drop(key)
         self.items[key] = item
         self.used.add(key)
         if key[0] == "24" and item[3] == "1":
-            self.homes.setdefault(item[1], set()).add(key)
-            self.streets.setdefault(item[4], set()).add(key)
+            self.count(key, item, 1)
 
     def approved_on(self, usrn, lang=None):
-        return any(lang is None or self.items[key][2] == lang for key in self.streets.get(usrn, ()))
+        return any(self.streets.get((usrn, of)) for of in ("CYM", "ENG") if lang in (None, of))
 
 
 def within(blocks, n):
@@ -377,9 +379,9 @@ class Hub:
 
     def closed(self):
         self.settle()
-        lpis = ((code, item) for code in REGISTER for key, item in sorted(self.last(code).items.items()) if key[0] == "24" and item[3] == "1")
-        told = ('{"custodian":%d,"lpi":"%s","usrn":%d}' % (code, lpi[0], lpi[4]) for code, lpi in lpis if self.is_closed_elsewhere(code, lpi[4]))
-        return 200, '{"closed":[%s]}' % ",".join(told)
+        lpis = ((code, *item) for code in REGISTER for key, item in self.last(code).items.items() if key[0] == "24" and item[3] == "1")
+        found = sorted((code, lpi[0], lpi[4]) for code, *lpi in lpis if self.is_closed_elsewhere(code, lpi[4]))
+        return 200, '{"closed":[%s]}' % ",".join('{"custodian":%d,"lpi":"%s","usrn":%d}' % told for told in found)
 
 
 def door(code, volume):
@@ -443,8 +445,9 @@ def refuse(sink, status, refusal):
     sink.write(b"HTTP/1.1 %s\r\nContent-Type: application/json\r\nContent-Length: %d\r\nConnection: close\r\n\r\n%s" % (status, len(body), body))
 
 
-def answer(source, sink, most=MOST):
-    hub = Hub()
+def answer(source, sink, most=MOST, hub=None):
+    """Answers the requests of a stream at a hub, which is a new one where none is given."""
+    hub = hub or Hub()
     for count in range(1, most + 1):
         head = head_of(source)
         if head is None:

@@ -8,7 +8,7 @@ use gaz_ids::{Code, Volume};
 use gaz_records::{Day, Item, Kind, item_of_text};
 use gaz_register::Register;
 use gaz_rules::judge;
-use gaz_shelf::{Ending, Inbox, MemShelf, Shelf, Verdict, write_volume};
+use gaz_shelf::{Ending, Faulty, Inbox, MemShelf, Shelf, Verdict, write_volume};
 use std::alloc::Global;
 use std::time::Instant;
 
@@ -190,11 +190,17 @@ fn fill<K: Inbox>(alloc: Global, shelf: &mut K, code: Code, addresses: u64) -> R
     Ok(())
 }
 
+/// A register with one custodian, whose code is 1001.
+fn register_and_code(alloc: Global) -> Result<(Register, Code)> {
+    let register = Register::read(alloc, REGISTER)?;
+    let code = Code::of(1001).context("a code")?;
+    Ok((register, code))
+}
+
 /// The microseconds of judging a file of 1,000 mixed changes into a gazetteer of so many items, and of judging one without them.
 pub fn judging_micros(rt: &HostRuntime, items: u64) -> Result<(u128, u128)> {
     let alloc = rt.alloc();
-    let register = Register::read(alloc, REGISTER)?;
-    let code = Code::of(1001).context("a code")?;
+    let (register, code) = register_and_code(alloc)?;
     let addresses = items / 5;
     let file = mixed(alloc, addresses)?;
     let mut breach = Vec::new(alloc);
@@ -205,4 +211,25 @@ pub fn judging_micros(rt: &HostRuntime, items: u64) -> Result<(u128, u128)> {
     let without = least_micros(rt, &mut shelf, &register, code, &empty)?;
     let with = least_micros(rt, &mut shelf, &register, code, &file)?;
     Ok((with, without))
+}
+
+/// How often the keeper was called so far, as `kind=count` for each kind of call.
+fn counts_text<K: Inbox + Drop>(alloc: Global, shelf: &Faulty<K>) -> Result<String> {
+    let (looked, asked) = shelf.counted();
+    Ok(format!(in alloc; "current={looked} reached_or_received={asked}")?)
+}
+
+/// The counts of the keeper's calls before the judgement of a file of 1,000 mixed changes into a gazetteer of so many items, and after it.
+pub fn judging_calls(rt: &HostRuntime, items: u64) -> Result<(String, String)> {
+    let alloc = rt.alloc();
+    let (register, code) = register_and_code(alloc)?;
+    let addresses = items / 5;
+    let file = mixed(alloc, addresses)?;
+    let mut shelf = Faulty::new(MemShelf::new(alloc), 0);
+    fill(alloc, &mut shelf, code, addresses)?;
+    receive(&mut shelf, code)?;
+    let before = counts_text(alloc, &shelf)?;
+    judge(alloc, &mut shelf, &register, code, &file)?;
+    let after = counts_text(alloc, &shelf)?;
+    Ok((before, after))
 }

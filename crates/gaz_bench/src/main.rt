@@ -1,17 +1,18 @@
-//! Times reading, for `bench/run`: `gaz_bench file FILE ROUNDS` that of a change file, `gaz_bench register FILE ROUNDS` that of a
-//! register. It prints the least time in microseconds. `gaz_bench judge ITEMS` times the judgement of a file of 1,000 changes into a
-//! gazetteer of so many items, and beside it that of a file without changes. `gaz_bench keeping VOLUMES` times a keeper of whole maps that
-//! keeps so many volumes of 1,000 items.
+//! Times reading, for `bench/run`: `gaz_bench file FILE ROUNDS` that of a good change file, `gaz_bench any FILE ROUNDS` that of a change
+//! file whatever its outcome, `gaz_bench register FILE ROUNDS` that of a register. It prints the least time in microseconds.
+//! `gaz_bench judge ITEMS` times the judgement of a file of 1,000 changes into a gazetteer of so many items, and beside it that of a file
+//! without changes; `gaz_bench calls ITEMS` prints how often the keeper was called before that judgement and after it.
+//! `gaz_bench keeping VOLUMES` times a keeper of whole maps that keeps so many volumes of 1,000 items.
 #![tactic(auto)]
 
 mod judging;
 mod keeping;
 
 use anyhow::{Context, Result, ensure};
-use gaz_changefile::read_file;
+use gaz_changefile::{FileFault, read_file};
 use gaz_ids::{Code, Volume};
 use gaz_register::Register;
-use judging::judging_micros;
+use judging::{judging_calls, judging_micros};
 use keeping::keeping_micros;
 use std::time::Instant;
 use std::{env, fs};
@@ -19,64 +20,93 @@ use std::{env, fs};
 // What a file is read as.
 #[derive(Clone, Copy)]
 enum What {
-    ChangeFile,
+    GoodFile,
+    AnyFile,
     Register,
 }
 
 fn what_of(word: &str) -> Option<What> {
     match word {
-        "file" => Some(What::ChangeFile),
+        "file" => Some(What::GoodFile),
+        "any" => Some(What::AnyFile),
         "register" => Some(What::Register),
         _ => None,
     }
 }
 
-// Whether the bytes read without a fault.
-fn is_good(rt: &HostRuntime, what: What, bytes: &[u8]) -> bool {
+// Reads the bytes as the file of volume 1 of custodian 1001. Whether they are as expected: good, or any that memory sufficed for.
+fn reads_file(rt: &HostRuntime, bytes: &[u8], has_to_be_good: bool) -> bool {
+    let (Some(code), Some(volume)) = (Code::of(1001), Volume::of(1)) else {
+        return false;
+    };
+    match read_file(rt.alloc(), bytes, code, volume) {
+        Ok(_) => true,
+        Err(FileFault::Bad { .. }) => !has_to_be_good,
+        Err(FileFault::Memory) => false,
+    }
+}
+
+// Whether the bytes read as expected.
+fn reads(rt: &HostRuntime, what: What, bytes: &[u8]) -> bool {
     match what {
-        What::ChangeFile => {
-            let (Some(code), Some(volume)) = (Code::of(1001), Volume::of(1)) else {
-                return false;
-            };
-            read_file(rt.alloc(), bytes, code, volume).is_ok()
-        }
+        What::GoodFile => reads_file(rt, bytes, true),
+        What::AnyFile => reads_file(rt, bytes, false),
         What::Register => Register::read(rt.alloc(), bytes).is_ok(),
     }
 }
 
-// The least time of so many readings, in microseconds. Each has to be good.
+// The least time of so many readings, in microseconds. Each has to be as expected.
 fn best_micros(rt: &HostRuntime, what: What, bytes: &[u8], rounds: u32) -> Result<u128> {
     let mut best = u128::MAX;
     for _ in 0..rounds {
         let start = Instant::now(rt)?;
-        let is_good = is_good(rt, what, bytes);
+        let reads = reads(rt, what, bytes);
         let spent = start.elapsed(rt)?.as_micros();
-        ensure!(is_good, "the file has a fault");
+        ensure!(reads, "the file has a fault");
         best = best.min(spent);
     }
     Ok(best)
 }
 
-fn main(rt: HostRuntime) -> Result<()> {
-    let mut words = env::args(&rt)?.skip(1);
-    let (Some(word), Some(path)) = (words.next(), words.next()) else {
-        return Ok(());
-    };
-    if word.as_str() == "judge" {
-        let (with, without) = judging_micros(&rt, path.parse::<u64>()?)?;
-        println!(rt; "{with} {without}")?;
-        return Ok(());
-    }
-    if word.as_str() == "keeping" {
-        println!(rt; "{}", keeping_micros(&rt, path.parse::<u64>()?)?)?;
-        return Ok(());
-    }
-    let Some(rounds) = words.next() else {
-        return Ok(());
-    };
-    let what = what_of(&word).context("neither a change file nor a register")?;
-    let bytes = fs::read(&rt, path.as_str())?;
-    let best = best_micros(&rt, what, &bytes, rounds.parse::<u32>()?)?;
+// Prints the least time of so many readings of a file.
+fn print_reading(rt: &HostRuntime, word: &str, path: &str, rounds: &str) -> Result<()> {
+    let what = what_of(word).context("neither a change file nor a register")?;
+    let bytes = fs::read(rt, path)?;
+    let best = best_micros(rt, what, &bytes, rounds.parse::<u32>()?)?;
     println!(rt; "{best}")?;
     Ok(())
+}
+
+// Prints the times of judging into a gazetteer of so many items.
+fn print_judging(rt: &HostRuntime, items: &str) -> Result<()> {
+    let (with, without) = judging_micros(rt, items.parse::<u64>()?)?;
+    println!(rt; "{with} {without}")?;
+    Ok(())
+}
+
+// Prints the counts of calls before judging into a gazetteer of so many items, and after it.
+fn print_calls(rt: &HostRuntime, items: &str) -> Result<()> {
+    let (before, after) = judging_calls(rt, items.parse::<u64>()?)?;
+    println!(rt; "{before}")?;
+    println!(rt; "{after}")?;
+    Ok(())
+}
+
+fn main(rt: HostRuntime) -> Result<()> {
+    let mut words = env::args(&rt)?.skip(1);
+    let (Some(word), Some(given)) = (words.next(), words.next()) else {
+        return Ok(());
+    };
+    match word.as_str() {
+        "judge" => print_judging(&rt, &given),
+        "calls" => print_calls(&rt, &given),
+        "keeping" => {
+            println!(rt; "{}", keeping_micros(&rt, given.parse::<u64>()?)?)?;
+            Ok(())
+        }
+        _ => match words.next() {
+            Some(rounds) => print_reading(&rt, &word, &given, &rounds),
+            None => Ok(()),
+        },
+    }
 }

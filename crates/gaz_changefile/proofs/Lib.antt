@@ -4,3 +4,4 @@ pub mod Orderly
 pub mod Written
 pub mod Texts
 pub mod Back
+pub mod Quick

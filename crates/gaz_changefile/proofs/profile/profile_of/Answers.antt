@@ -1,7 +1,11 @@
 use Rattle.std.proofs.Common.{sym, ap, ◌∙◌}
 use Rattle.gaz_rows.specs.Rows.{rows_of}
 use Rattle.gaz_changefile.specs.Profile.{profile_first, profile_of}
+use Rattle.gaz_changefile.proofs.Quick.{names_known}
 use Rattle.gaz_changefile.proofs.profile.profile_of.Goals as goal
+
+pub returns-then-starts_with : goal.returns-then-starts_with
+returns-then-starts_with c = sym (names_known c.args.bytes.now (sym c.starts_with.ensures.value ∙ c.if-starts_with.true))
 
 pub returns-then-not-branch : goal.returns-then-not-branch
 unfolding profile_of

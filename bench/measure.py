@@ -1,0 +1,92 @@
+"""How a program of this repository is run and measured. They are those that `rt run` leaves in crates/*/out, built where missing."""
+import os
+import subprocess
+import tempfile
+import threading
+import time
+
+TOP = os.path.dirname(os.path.dirname(os.path.abspath(__file__)))
+
+
+def program(name):
+    path = f"{TOP}/crates/{name}/out/{name}"
+    if not os.path.exists(path):
+        subprocess.run(["rt", "run"], cwd=f"{TOP}/crates/{name}", check=True, stdout=subprocess.DEVNULL, stderr=subprocess.DEVNULL)
+    return path
+
+
+def output_of(name, *words):
+    """What a program prints."""
+    return subprocess.run([program(name), *map(str, words)], check=True, capture_output=True).stdout
+
+
+def in_file(folder, name, data):
+    path = os.path.join(folder, name)
+    with open(path, "wb") as f:
+        f.write(data)
+    return path
+
+
+def seconds(command, stdin_path, rounds=3):
+    """The least time of a command over a file as its input, and its output."""
+    best, output = None, None
+    for _ in range(rounds):
+        with open(stdin_path, "rb") as given, tempfile.TemporaryFile() as taken:
+            start = time.perf_counter()
+            subprocess.run(command, stdin=given, stdout=taken, check=True)
+            spent = time.perf_counter() - start
+            taken.seek(0)
+            output = taken.read()
+        best = spent if best is None else min(best, spent)
+    return best, output
+
+
+def least_seconds(action, rounds):
+    """The least time of an action, and what it answered last."""
+    best, answer = None, None
+    for _ in range(rounds):
+        start = time.perf_counter()
+        answer = action()
+        spent = time.perf_counter() - start
+        best = spent if best is None else min(best, spent)
+    return best, answer
+
+
+class Talk:
+    """A conversation with gazhub, some requests at a time. So what comes before them isn't in their time."""
+
+    def __enter__(self):
+        self.child = subprocess.Popen([program("gazhub")], stdin=subprocess.PIPE, stdout=subprocess.PIPE, bufsize=0)
+        return self
+
+    def __exit__(self, *_fault):
+        self.child.stdin.close()
+        self.child.stdout.read()
+        self.child.stdout.close()
+        assert self.child.wait() == 0
+
+    def send(self, requests):
+        view = memoryview(requests)
+        while view:
+            view = view[self.child.stdin.write(view) :]
+
+    def ask(self, requests, replies):
+        """The seconds from the first byte of these requests to the last of their replies, which are to be these bytes."""
+        sender = threading.Thread(target=self.send, args=(requests,))
+        left, pieces = len(replies), []
+        start = time.perf_counter()
+        sender.start()
+        while left:
+            piece = self.child.stdout.read(min(left, 1 << 20))
+            assert piece, "gazhub ended"
+            left -= len(piece)
+            pieces.append(piece)
+        spent = time.perf_counter() - start
+        sender.join()
+        assert b"".join(pieces) == replies, "gazhub replies otherwise"
+        return spent
+
+    def memory(self, word):
+        """The memory of the program in bytes: VmRSS what it has now, VmHWM the most that it had."""
+        with open(f"/proc/{self.child.pid}/status") as status:
+            return next(int(line.split()[1]) for line in status if line.startswith(word)) * 1024

@@ -1,0 +1,83 @@
+"""What reading costs: change files, registers, items; and what a hostile file costs."""
+import baseline
+import hub
+import items
+import registers
+import streams
+from measure import Talk, in_file, least_seconds, output_of
+
+KINDS = {
+    "11": ("streets", "{k},1,2001-04-01,", "{k},1,1990-01-01,2024-04-30"),
+    "15": ("descriptors", "{k},ENG,High Street,,Arden,Arden", '{k},ENG,"Mill Lane, rear of",,Bay,Bay Area'),
+    "21": ("BLPUs", "{k},1,450000,250000,,AR1 2DN,2001-04-01,", "{k},6,0,0,,,2010-05-01,"),
+    "23": ("cross references", "X{k},{k},TAX01,A/17,2010-05-01,", "X{k},{k},TAX01,A/17,2010-05-01,2024-04-30"),
+    "24": ("LPIs", "L{k},{k},ENG,1,101,,,,,Flat 2,12,A,14,,,2001-04-01,", "L{k},{k},ENG,1,101,,,,,,14,,,,,2024-04-01,"),
+}
+
+
+def reading_seconds(what, folder, data, rounds):
+    """The least time of so many readings of these bytes, as `gaz_bench` prints it."""
+    return int(output_of("gaz_bench", what, in_file(folder, "read", data), rounds)) / 1e6
+
+
+def file_row(folder, title, data, read):
+    ours = reading_seconds("file", folder, data, 100)
+    theirs, told = least_seconds(lambda: read(data, 1001, 1), 20)
+    assert not isinstance(told, tuple) or isinstance(told[0], list), f"the baseline finds a fault: {title}"
+    return f"reading a file of {title}", f"{theirs / ours:.1f} times the baseline", f"{len(data) / ours / 1e6:,.0f} MB/s"
+
+
+def peak_over(body):
+    """The most memory that gazhub has when it has answered a file of these bytes."""
+    with Talk() as talk:
+        talk.send(streams.post((1001, 1), body))
+        talk.child.stdout.read(1)
+        return talk.memory("VmHWM")
+
+
+def hostile_rows(folder):
+    """Files of 1 MiB that aren't good, beside a good one of 1 MiB; of each two the greater figure counts."""
+    good = streams.long_file()
+    assert len(good) == streams.MIB
+    measure = reading_seconds("file", folder, good, 100)
+    yield "a good file of 1 MiB", f"{len(good) / measure / 1e6:,.0f} MB/s", f"peak memory {peak_over(good) / 2**20:.1f} MiB"
+    for title, bodies in streams.hostile_files():
+        times = [reading_seconds("any", folder, body, 100) for body in bodies]
+        peak = max(map(peak_over, bodies))
+        yield f"a file of 1 MiB of {title}", f"{max(times) / measure:.2f} times the good file's time", f"peak memory {peak / 2**20:.1f} MiB"
+
+
+def memory_row():
+    body = b"," * streams.MIB
+    peak = peak_over(body)
+    return "a file of one record with a million fields", f"peak memory {peak / len(body):.1f} times the file", f"{peak / 2**20:.1f} MiB"
+
+
+def register_row(folder, count=400):
+    text = registers.register_of(count)
+    ours = reading_seconds("register", folder, text.encode(), 50)
+    theirs = registers.best_parsing(text, 20)
+    return f"reading a register of {count} custodians", f"{theirs / ours:.1f} times tomllib's parsing", f"{len(text) / ours / 1e6:,.0f} MB/s"
+
+
+def item_rows(folder, kind, count=5000):
+    """Items read from fields that are split already, and the rows of items written into one buffer."""
+    title, *forms = KINDS[kind]
+    text = "".join(forms[k % 2].format(k=k) + "\n" for k in range(1, count + 1))
+    path = in_file(folder, "rows.csv", text.encode())
+    times, rows = output_of("gaz_records_bench", kind, path, 300).split(b"\n", 1)
+    theirs = items.best_times(kind, text, 10)
+    assert rows.decode() == theirs[2] == text, f"rows differ: {title}"
+    for action, ours, their in zip((f"reading {title} from fields", f"writing rows of {title}"), times.split(), theirs):
+        spent = int(ours) / 1e9
+        yield action, f"{their / spent:.1f} times the baseline", f"{count / spent:,.0f} items/s"
+
+
+def rows(folder):
+    yield file_row(folder, "5,000 streets", streams.streets_file(5000), baseline.read)
+    yield file_row(folder, "5,000 mixed changes", streams.mixed_file(), hub.read)
+    yield from hostile_rows(folder)
+    yield memory_row()
+    yield register_row(folder)
+    for kind in KINDS:
+        yield from item_rows(folder, kind)
