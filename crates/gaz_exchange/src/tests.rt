@@ -8,15 +8,16 @@ use crate::{Cause, Ended, Served, Stopped, converse};
 use gaz_hub::Hub;
 use gaz_register::{RegFault, Register};
 use gaz_shelf::MemShelf;
-use std::alloc::Global;
+use std::alloc::{AllocError, Global};
 use std::cell::Cell;
 use std::io::{self, ErrorKind, Read, Write};
+use std::process::Abort;
 use std::test::Fail;
 
 const REGISTER: &[u8] = b"[[custodian]]
 code = 1001
 name = \"Upper County\"
-uprn = []
+uprn = [[1, 99999]]
 usrn = [[100, 199]]
 
 [[custodian]]
@@ -113,48 +114,63 @@ impl Write for Stuck {
     }
 }
 
-// Sends each request only when the reply to the one before it was flushed, and else fails.
+// Where a client waits: so many bytes it sent by then, and so many it waits for.
+#[derive(Clone, Copy)]
+struct Stop {
+    sent: usize,
+    told: usize,
+}
+
+// How many bytes a client has sent at most that was told so many.
+fn may_send(stops: &[Stop], told: usize) -> usize {
+    for stop in stops {
+        if told < stop.told {
+            return stop.sent;
+        }
+    }
+    usize::MAX
+}
+
+// Sends a request, so many bytes a read at most, only when the replies to all before it were flushed, and else fails.
 #[derive(Drop)]
 struct Patient<'a> {
-    request: &'a [u8],
+    left: &'a [u8],
     sent: usize,
-    most: usize,
+    stops: &'a [Stop],
+    step: usize,
     flushed: &'a Cell<usize>,
 }
 
 impl Read for Patient<'_> {
     fn read(&mut self, buf: &mut [u8]) -> io::Result<usize> {
-        if self.flushed.get() < self.sent {
+        let ahead = may_send(self.stops, self.flushed.get()).saturating_sub(self.sent);
+        if ahead == 0 {
             return Err(io::Error::from(ErrorKind::WouldBlock));
         }
-        let n = self.request.len().min(buf.len());
-        if self.sent >= self.most {
-            return Ok(0);
-        }
-        buf[..n].copy_from_slice(&self.request[..n]);
-        self.sent = self.sent.saturating_add(1);
+        let n = self.left.len().min(self.step).min(ahead).min(buf.len());
+        let (front, rest) = self.left.split_at(n);
+        buf[..n].copy_from_slice(front);
+        self.left = rest;
+        self.sent = self.sent.saturating_add(n);
         Ok(n)
     }
 }
 
-// Counts the flushes behind something written.
+// Tells how many of the bytes that it was given were flushed.
 #[derive(Drop)]
 struct Flushes<'a> {
-    held: bool,
+    taken: Vec<u8>,
     flushed: &'a Cell<usize>,
 }
 
 impl Write for Flushes<'_> {
     fn write(&mut self, buf: &[u8]) -> io::Result<usize> {
-        self.held = true;
+        self.taken.extend_from_slice(buf)?;
         Ok(buf.len())
     }
 
     fn flush(&mut self) -> io::Result<()> {
-        if self.held {
-            self.held = false;
-            self.flushed.set(self.flushed.get().saturating_add(1));
-        }
+        self.flushed.set(self.taken.len());
         Ok(())
     }
 }
@@ -361,28 +377,250 @@ fn a_writer_that_cant_flush(rt: HostRuntime) -> Result<(), Fail> {
     Ok(())
 }
 
-#[test]
-fn a_reply_never_waits(rt: HostRuntime) -> Result<(), Fail> {
+/// A request, and the reply that it gets: its status, its further header lines and its body.
+#[derive(Clone, Copy)]
+struct Case<'a> {
+    request: &'a str,
+    status: &'a str,
+    more: &'a str,
+    body: &'a str,
+}
+
+fn answered<'a>(request: &'a str, status: &'a str, body: &'a str) -> Case<'a> {
+    Case {
+        request,
+        status,
+        more: "",
+        body,
+    }
+}
+
+fn answered_last<'a>(request: &'a str, status: &'a str, body: &'a str) -> Case<'a> {
+    Case {
+        request,
+        status,
+        more: "Connection: close\r\n",
+        body,
+    }
+}
+
+fn reply_of(alloc: Global, case: &Case<'_>) -> Result<String, AllocError> {
+    let Case {
+        status,
+        more,
+        body,
+        ..
+    } = case;
+    let size = body.len().saturating_add(1);
+    let content = if body.starts_with("10,E,") {
+        "text/csv"
+    } else {
+        "application/json"
+    };
+    format!(in alloc;
+        "HTTP/1.1 {status}\r\nContent-Type: {content}\r\nContent-Length: {size}\r\n{more}\r\n{body}\n"
+    )
+}
+
+// A client that sends these requests, by so many bytes a write at most, and waits for each reply, gets them all.
+fn waits_for_each<R: Abort + AllocGlobal>(
+    rt: &R,
+    cases: &[Case<'_>],
+    step: usize,
+    ended: Ended,
+) -> Result<(), Fail> {
+    let mut requests = String::new(rt.alloc());
+    let mut replies = String::new(rt.alloc());
+    let mut stops = Vec::new(rt.alloc());
+    for case in cases {
+        requests.push_str(case.request)?;
+        replies.push_str(&reply_of(rt.alloc(), case)?)?;
+        stops.push(Stop {
+            sent: requests.len(),
+            told: replies.len(),
+        })?;
+    }
     let flushed = Cell::new(0);
     let mut r = Patient {
-        request: POST.as_bytes(),
+        left: requests.as_bytes(),
         sent: 0,
-        most: 3,
+        stops: &stops,
+        step,
         flushed: &flushed,
     };
     let mut w = Flushes {
-        held: false,
+        taken: Vec::new(rt.alloc()),
         flushed: &flushed,
     };
     let mut hub = new_hub(rt.alloc())?;
-    let ended = converse(rt.alloc(), &mut r, &mut w, &mut hub, 9);
-    assert_eq!(rt;
+    let told = converse(rt.alloc(), &mut r, &mut w, &mut hub, 99);
+    assert_eq!(rt; w.taken.as_slice(), replies.as_bytes(), "reads of {step}");
+    assert_eq!(rt; flushed.get(), replies.len(), "reads of {step}");
+    let served = Served {
+        requests: cases.len() as u64,
         ended,
-        Ok(Served {
-            requests: 3,
-            ended: Ended::InputEnd
-        })
-    );
-    assert_eq!(rt; flushed.get(), 3);
+    };
+    assert_eq!(rt; told, Ok(served), "reads of {step}");
+    Ok(())
+}
+
+/// 1001/2: street 101 is High Street, and property 42 is number 14 of it.
+const POST_NUMBER_14: &str =
+    "POST /custodians/1001/volumes/2 HTTP/1.1\r\nContent-Length: 155\r\n\r\n10,1,1001,2,2024-02-01\n15,I,1,101,ENG,High Street,,Arden,Arden\n21,I,2,42,1,450000,250000,,,2001-04-01,\n24,I,3,L1,42,ENG,1,101,,,,,,14,,,,,2001-04-01,\n99,3\n";
+
+#[test]
+fn a_reply_never_waits(rt: HostRuntime) -> Result<(), Fail> {
+    let applied = "{\"outcome\":\"applied\"}";
+    let digest = "c11cefb303dbb549c33d043a8e51255816b3e9cc361a349f3814c5dec19634de";
+    let taken = format!(in rt.alloc(); "{{\"digest\":\"{digest}\",\"outcome\":\"taken\"}}")?;
+    let told = format!(in rt.alloc(); "{{\"digest\":\"{digest}\",\"outcome\":\"applied\"}}")?;
+    let not_found = "404 Not Found";
+    for step in [1, 7, 100_000] {
+        let cases = [
+            answered(POST, "201 Created", applied),
+            answered(POST, "200 OK", applied),
+            answered(
+                "POST /custodians/1001/volumes/1 HTTP/1.1\r\nContent-Length: 3\r\n\r\nabc",
+                "409 Conflict",
+                &taken,
+            ),
+            answered(
+                "POST /custodians/1001/volumes/3 HTTP/1.1\r\nContent-Length: 3\r\n\r\nabc",
+                "201 Created",
+                "{\"outcome\":\"held\",\"wants\":{\"custodian\":1001,\"volume\":2}}",
+            ),
+            answered(
+                "GET /custodians/1001/volumes/1 HTTP/1.1\r\n\r\n",
+                "200 OK",
+                &told,
+            ),
+            answered(
+                "GET /custodians/1001/volumes/2 HTTP/1.1\r\n\r\n",
+                not_found,
+                "{\"refusal\":17}",
+            ),
+            answered(POST_NUMBER_14, "201 Created", applied),
+            answered(
+                "GET /custodians/1001 HTTP/1.1\r\n\r\n",
+                "200 OK",
+                "{\"custodian\":1001,\"held\":0,\"judged\":3,\"wants\":{\"custodian\":1001,\"volume\":4}}",
+            ),
+            answered(
+                "GET /uprn/42 HTTP/1.1\r\n\r\n",
+                "200 OK",
+                "{\"custodian\":1001,\"line\":\"14 High Street, Arden\",\"status\":1,\"uprn\":42}",
+            ),
+            answered(
+                "GET /extract/1001/1 HTTP/1.1\r\n\r\n",
+                "200 OK",
+                "10,E,1001,1\n11,I,1,101,1,2001-04-01,\n99,1",
+            ),
+            answered("GET /closed HTTP/1.1\r\n\r\n", "200 OK", "{\"closed\":[]}"),
+        ];
+        waits_for_each(&rt, &cases, step, Ended::InputEnd)?;
+    }
+    Ok(())
+}
+
+#[test]
+fn a_refusal_never_waits(rt: HostRuntime) -> Result<(), Fail> {
+    let not_found = "404 Not Found";
+    let no_method = "405 Method Not Allowed";
+    for step in [1, 7, 100_000] {
+        let cases = [
+            answered(
+                "GET /uprn/43 HTTP/1.1\r\n\r\n",
+                not_found,
+                "{\"refusal\":17}",
+            ),
+            answered(
+                "GET /uprn/x HTTP/1.1\r\n\r\n",
+                not_found,
+                "{\"refusal\":17}",
+            ),
+            answered(
+                "GET /extract/1001/1 HTTP/1.1\r\n\r\n",
+                not_found,
+                "{\"refusal\":17}",
+            ),
+            answered(
+                "GET /extract/1001/0 HTTP/1.1\r\n\r\n",
+                not_found,
+                "{\"refusal\":12}",
+            ),
+            answered(
+                "GET /custodians/9999 HTTP/1.1\r\n\r\n",
+                not_found,
+                "{\"refusal\":11}",
+            ),
+            answered(
+                "POST /custodians/9999/volumes/1 HTTP/1.1\r\nContent-Length: 3\r\n\r\nabc",
+                not_found,
+                "{\"refusal\":11}",
+            ),
+            answered(
+                "POST /custodians/1001/volumes/0 HTTP/1.1\r\nContent-Length: 3\r\n\r\nabc",
+                not_found,
+                "{\"refusal\":12}",
+            ),
+            answered(
+                "POST /custodians/1001/volumes/1 HTTP/1.1\r\nContent-Length: 6\r\n\r\n10,7,x",
+                "415 Unsupported Media Type",
+                "{\"refusal\":16}",
+            ),
+            answered(
+                "GET /nothing HTTP/1.1\r\n\r\n",
+                not_found,
+                "{\"refusal\":41}",
+            ),
+            Case {
+                request: "PUT /closed HTTP/1.1\r\n\r\n",
+                status: no_method,
+                more: "Allow: GET\r\n",
+                body: "{\"refusal\":42}",
+            },
+            Case {
+                request: "DELETE /custodians/1001/volumes/1 HTTP/1.1\r\n\r\n",
+                status: no_method,
+                more: "Allow: GET, POST\r\n",
+                body: "{\"refusal\":42}",
+            },
+        ];
+        waits_for_each(&rt, &cases, step, Ended::InputEnd)?;
+    }
+    Ok(())
+}
+
+#[test]
+fn a_last_reply_never_waits(rt: HostRuntime) -> Result<(), Fail> {
+    let none = "{\"closed\":[]}";
+    let first = answered("GET /closed HTTP/1.1\r\n\r\n", "200 OK", none);
+    for last in [
+        answered_last(
+            "GET /closed HTTP/1.1\r\nConnection: close\r\n\r\n",
+            "200 OK",
+            none,
+        ),
+        answered_last("GET /closed HTTP/1.0\r\n\r\n", "200 OK", none),
+        answered_last(
+            "GET  / HTTP/1.1\r\n\r\n",
+            "400 Bad Request",
+            "{\"refusal\":40}",
+        ),
+        answered_last(
+            "POST /closed HTTP/1.1\r\n\r\n",
+            "411 Length Required",
+            "{\"refusal\":43}",
+        ),
+        answered_last(
+            "POST /custodians/1001/volumes/1 HTTP/1.1\r\nContent-Length: 1048577\r\n\r\n",
+            "413 Content Too Large",
+            "{\"refusal\":13}",
+        ),
+    ] {
+        for step in [1, 7, 100_000] {
+            waits_for_each(&rt, &[first, last], step, Ended::Closed)?;
+        }
+    }
     Ok(())
 }

@@ -22,4 +22,6 @@ pub use standing::Standing;
 #[cfg(test)]
 mod failing;
 #[cfg(test)]
+mod reading_tests;
+#[cfg(test)]
 mod tests;

@@ -10,6 +10,10 @@ ghost use Rattle.gaz_register.specs.Reading.{register_of};
 ghost use Rattle.gazhub.specs.Playing.{Plays};
 
 #[cfg(test)]
+mod answers_fixtures;
+#[cfg(test)]
+mod answers_tests;
+#[cfg(test)]
 mod files_fixtures;
 #[cfg(test)]
 mod files_tests;
