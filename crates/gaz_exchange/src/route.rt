@@ -1,4 +1,4 @@
-ghost use Rattle.std.specs.Prelude.{◌≡◌, ◌∷◌, [], ℕ, List, codes, IfSome, IsUtf8};
+ghost use Rattle.std.specs.Prelude.{◌≡◌, ◌∷◌, [], ℕ, List, codes, IfSome, IsUtf8, None};
 ghost use Rattle.std.specs.Option.{ForSome};
 ghost use Rattle.gaz_exchange.specs.Asking.{call_at, look_up, method_of};
 ghost use Rattle.gaz_exchange.specs.Incoming.{IsCallAt};
@@ -203,7 +203,9 @@ pub struct Routes {
 }
 
 impl Routes {
-    pub fn new() -> Self {
+    pub fn new() -> Self
+        ensures { result.router ≡ None }
+    {
         Routes { router: None }
     }
 
