@@ -1,6 +1,7 @@
 //! Worked cases of what is told: rejections, repeats, addresses, extracts and closed streets. The expected texts are those of docs/exchange.md.
 
 use crate::answers_fixtures::*;
+use crate::files_fixtures::*;
 use crate::fixtures::*;
 use crate::harness::*;
 use crate::new_hub;
@@ -89,43 +90,6 @@ fn a_list_is_asked_for_until_the_end(rt: HostRuntime) -> Result<(), Fail> {
     Ok(())
 }
 
-#[test]
-fn a_file_after_a_rejected_one_is_another(rt: HostRuntime) -> Result<(), Fail> {
-    let taken = format!(in rt.alloc();
-        "{{\"digest\":\"{DIGEST_OF_HIGH_STREET_AND_101_AGAIN}\",\"outcome\":\"taken\"}}"
-    )?;
-    holds(
-        &rt,
-        &[
-            post(COUNTY_1, STREET_101, CREATED, APPLIED),
-            post(
-                COUNTY_3,
-                FLAT_2_HIGH_STREET,
-                CREATED,
-                "{\"outcome\":\"held\",\"wants\":{\"custodian\":1001,\"volume\":2}}",
-            ),
-            post(
-                COUNTY_2,
-                HIGH_STREET_AND_101_AGAIN,
-                CREATED,
-                "{\"outcome\":\"rejected\",\"record\":3,\"rule\":21}",
-            ),
-            post(
-                COUNTY_3,
-                FLAT_2_HIGH_STREET,
-                OK,
-                "{\"outcome\":\"rejected\",\"record\":3,\"rule\":34}",
-            ),
-            post(COUNTY_2, HIGH_STREET, CONFLICT, &taken),
-            get(
-                "/custodians/1001",
-                OK,
-                "{\"custodian\":1001,\"held\":0,\"judged\":3,\"wants\":{\"custodian\":1001,\"volume\":4}}",
-            ),
-        ],
-    )
-}
-
 // What the county and the district hold in the end, whichever came first.
 fn readings<'a>() -> [Case<'a>; 5] {
     [
@@ -175,47 +139,6 @@ fn files_in_any_order_are_told_alike(rt: HostRuntime) -> Result<(), Fail> {
 }
 
 #[test]
-fn files_that_wait_for_each_other_are_held(rt: HostRuntime) -> Result<(), Fail> {
-    let on_bay = "{\"outcome\":\"held\",\"wants\":{\"custodian\":1003,\"volume\":1}}";
-    let on_district = "{\"outcome\":\"held\",\"wants\":{\"custodian\":1002,\"volume\":1}}";
-    holds(
-        &rt,
-        &[
-            post(DISTRICT_1, NOTHING_ON_1003, CREATED, on_bay),
-            post(BAY_1, NOTHING_ON_1002, CREATED, on_district),
-            get(
-                "/custodians/1002",
-                OK,
-                "{\"custodian\":1002,\"held\":1,\"judged\":0,\"wants\":{\"custodian\":1003,\"volume\":1}}",
-            ),
-            post(DISTRICT_2, NOTHING, CREATED, on_bay),
-            get(
-                "/custodians/1002",
-                OK,
-                "{\"custodian\":1002,\"held\":2,\"judged\":0,\"wants\":{\"custodian\":1003,\"volume\":1}}",
-            ),
-        ],
-    )?;
-    holds(
-        &rt,
-        &[
-            post(
-                DISTRICT_1,
-                NOTHING_COUNTED_AS_ONE,
-                CREATED,
-                "{\"outcome\":\"rejected\",\"record\":3,\"rule\":8}",
-            ),
-            post(
-                DISTRICT_2,
-                NOTHING_ON_VOLUME_0,
-                CREATED,
-                "{\"outcome\":\"rejected\",\"record\":1,\"rule\":3}",
-            ),
-        ],
-    )
-}
-
-#[test]
 fn an_address_is_replaced(rt: HostRuntime) -> Result<(), Fail> {
     holds(
         &rt,
@@ -234,39 +157,7 @@ fn an_address_is_replaced(rt: HostRuntime) -> Result<(), Fail> {
 }
 
 #[test]
-fn numbers_beyond_the_limits_are_rejected(rt: HostRuntime) -> Result<(), Fail> {
-    let form = "{\"outcome\":\"rejected\",\"record\":2,\"rule\":6}";
-    holds(
-        &rt,
-        &[
-            post(COUNTY_1, PROPERTIES_AT_THE_LIMITS, CREATED, APPLIED),
-            post(COUNTY_2, NUMBER_TOO_LONG, CREATED, form),
-            post(COUNTY_3, NUMBER_0, CREATED, form),
-            post(
-                COUNTY_4,
-                NUMBER_OF_NOBODY,
-                CREATED,
-                "{\"outcome\":\"rejected\",\"record\":2,\"rule\":20}",
-            ),
-        ],
-    )
-}
-
-#[test]
-fn a_range_of_numbers_rises(rt: HostRuntime) -> Result<(), Fail> {
-    holds(
-        &rt,
-        &[
-            post(COUNTY_1, STREET_101, CREATED, APPLIED),
-            post(COUNTY_2, HIGH_STREET, CREATED, APPLIED),
-            post(
-                COUNTY_3,
-                FLAT_2_FROM_14_TO_12A,
-                CREATED,
-                "{\"outcome\":\"rejected\",\"record\":3,\"rule\":6}",
-            ),
-        ],
-    )?;
+fn a_range_of_numbers_is_in_the_line(rt: HostRuntime) -> Result<(), Fail> {
     holds(
         &rt,
         &[
@@ -277,30 +168,6 @@ fn a_range_of_numbers_rises(rt: HostRuntime) -> Result<(), Fail> {
                 "/uprn/42",
                 OK,
                 "{\"custodian\":1001,\"line\":\"Flat 2, 12-12A High Street, Arden, AR1 2DN\",\"status\":1,\"uprn\":42}",
-            ),
-        ],
-    )
-}
-
-#[test]
-fn a_key_is_used_once(rt: HostRuntime) -> Result<(), Fail> {
-    holds(
-        &rt,
-        &[
-            post(COUNTY_1, STREET_101, CREATED, APPLIED),
-            post(COUNTY_2, HIGH_STREET, CREATED, APPLIED),
-            post(COUNTY_3, FLAT_2_HIGH_STREET, CREATED, APPLIED),
-            post(COUNTY_4, ADDRESS_TAKEN, CREATED, APPLIED),
-            post(
-                COUNTY_5,
-                ADDRESS_PUT_BACK,
-                CREATED,
-                "{\"outcome\":\"rejected\",\"record\":2,\"rule\":21}",
-            ),
-            get(
-                "/uprn/42",
-                OK,
-                "{\"custodian\":1001,\"line\":null,\"status\":1,\"uprn\":42}",
             ),
         ],
     )
@@ -320,10 +187,10 @@ fn a_rejected_file_leaves_the_view(rt: HostRuntime) -> Result<(), Fail> {
             post(COUNTY_2, HIGH_STREET, CREATED, APPLIED),
             post(COUNTY_3, FLAT_2_HIGH_STREET, CREATED, APPLIED),
             post(COUNTY_4, STREET_101_CLOSED, CREATED, &on_closed),
-            post(COUNTY_5, STREET_101_TAKEN, CREATED, &taken),
+            post(COUNTY_5, STREET_101_DELETED, CREATED, &taken),
             post(COUNTY_6, PROPERTY_42_HISTORICAL, CREATED, &historical),
-            post(COUNTY_7, HIGH_STREET_TAKEN, CREATED, &unnamed),
-            post(COUNTY_8, ADDRESS_IN_WELSH, CREATED, &other_language),
+            post(COUNTY_7, HIGH_STREET_DELETED, CREATED, &unnamed),
+            post(COUNTY_8, FLAT_2_IN_WELSH, CREATED, &other_language),
             get("/extract/1001/3", OK, EXTRACT_OF_FLAT_2),
             get("/extract/1001/8", OK, EXTRACT_OF_FLAT_2_AT_8),
         ],

@@ -80,23 +80,6 @@ fn a_rejected_file_is_not_replaced(rt: HostRuntime) -> Result<(), Fail> {
 }
 
 #[test]
-fn one_file_releases_those_behind_it(rt: HostRuntime) -> Result<(), Fail> {
-    let waits = held(rt.alloc(), 1001, 1)?;
-    let road = applied_with(rt.alloc(), DIGEST_OF_COUNTY_ROAD_CLOSED)?;
-    let house = applied_with(rt.alloc(), DIGEST_OF_NUMBER_7_COUNTY_ROAD)?;
-    holds(
-        &rt,
-        &[
-            post(DISTRICT_1, NUMBER_7_COUNTY_ROAD, CREATED, &waits),
-            post(COUNTY_2, COUNTY_ROAD_CLOSED, CREATED, &waits),
-            post(COUNTY_1, COUNTY_ROAD, CREATED, APPLIED),
-            get(COUNTY_2, OK, &road),
-            get(DISTRICT_1, OK, &house),
-        ],
-    )
-}
-
-#[test]
 fn a_ring_of_bases_never_ends(rt: HostRuntime) -> Result<(), Fail> {
     let on_bay = held(rt.alloc(), 1003, 1)?;
     let on_district = held(rt.alloc(), 1002, 1)?;
@@ -150,28 +133,6 @@ fn a_deleted_key_stays_used(rt: HostRuntime) -> Result<(), Fail> {
                 OK,
                 "{\"custodian\":1001,\"line\":null,\"status\":1,\"uprn\":42}",
             ),
-        ],
-    )
-}
-
-#[test]
-fn what_an_address_rests_on_stays(rt: HostRuntime) -> Result<(), Fail> {
-    let closed = judged(rt.alloc(), Some((2, 39)))?;
-    let deleted = judged(rt.alloc(), Some((2, 23)))?;
-    let historical = judged(rt.alloc(), Some((2, 37)))?;
-    let nameless = judged(rt.alloc(), Some((2, 34)))?;
-    let moved = judged(rt.alloc(), Some((2, 24)))?;
-    holds(
-        &rt,
-        &[
-            post(COUNTY_1, STREET_101, CREATED, APPLIED),
-            post(COUNTY_2, HIGH_STREET, CREATED, APPLIED),
-            post(COUNTY_3, FLAT_2_HIGH_STREET, CREATED, APPLIED),
-            post(COUNTY_4, STREET_101_CLOSED, CREATED, &closed),
-            post(COUNTY_5, STREET_101_DELETED, CREATED, &deleted),
-            post(COUNTY_6, PROPERTY_42_HISTORICAL, CREATED, &historical),
-            post(COUNTY_7, HIGH_STREET_DELETED, CREATED, &nameless),
-            post(COUNTY_8, FLAT_2_IN_WELSH, CREATED, &moved),
         ],
     )
 }
