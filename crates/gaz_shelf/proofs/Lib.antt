@@ -2,6 +2,10 @@ pub mod Trees
 pub mod Examples
 pub mod Keeping
 pub mod Pages
+pub mod Versions
+pub mod Gazetteers
+pub mod Judgements
+pub mod Boards
 pub mod Marks
 pub mod Indexes
 pub mod Marked
