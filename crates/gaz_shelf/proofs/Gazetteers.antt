@@ -6,18 +6,22 @@ use Rattle.std.specs.FinMap as finite
 use Rattle.std.specs.FinMap.{find, get-entries, entries_sorted, is_sorted}
 use Rattle.std.specs.FinMap.Entries.{below_all}
 use Rattle.std.specs.FinSet as set
-use Rattle.std.specs.List.{All, cons_option, list_any}
+use Rattle.std.specs.List.{All, AllByRecursion, cons_option, list_any}
+use Rattle.std.specs.List.Sorted.{IsStrictlySortedBy}
+use Rattle.std.specs.Map.{keys_of}
 use Rattle.std.specs.Ordering.{eq_by_cmp, is_eq, is_lt}
 use Rattle.std.specs.declared.cmp.Ordering.{Ordering}
 use Rattle.std.specs.declared.cmp.Ordering.TheVariants.{Less, Equal, Greater}
 use Rattle.gaz_histories.specs.Histories.{Version, Versions, before, item_at, until, was_used_at}
-use Rattle.gaz_records.proofs.KeyOrder.{keys_exact, keys_total}
+use Rattle.gaz_records.proofs.KeyOrder.{keys_exact, keys_same, keys_total}
+use Rattle.gaz_records.specs.contracts.key.KeyOrd.TheImpl.{cmp-value}
 use Rattle.gaz_records.specs.Keys.{key_cmp, key_of}
 use Rattle.gaz_records.specs.declared.item.Item.{Item}
 use Rattle.gaz_records.specs.declared.key.Key.{Key}
 use Rattle.gaz_shelf.proofs.Versions.{before_next, item_set, last, none_at_first, no_version, settled, some_version, until_before, until_set, used_by, used_set, used_where_item}
 use Rattle.gaz_shelf.specs.Gazetteer.{ChangesAt, Gazetteer, rows_at, used_at, versions_at, view_at}
 use Rattle.gaz_shelf.specs.View.{View, empty_view, with_item, without_key}
+use Rattle.gaz_shelf.specs.Words.{entries}
 
 abbrev Rows : Type 0
 Rows = List (Key × Versions)
@@ -84,6 +88,19 @@ same_used (e ∷ es) h v q = by_test (same_used es (both_hold (below_all key_cmp
     by_test behind false is true at = behind ∙ ap (λ k. was_used_at (versions_in es k) v) (same_key q e.0 at) ∙ ap (λ o. was_used_at (unwrap_or o []) v) (below_none e.0 es two.0) ∙ sym is
     by_test behind false is false at = behind
 
+-- the keys of a view's rows ascend
+pub view_ascends : (v : View) → IsStrictlySortedBy cmp-value.it (keys_of (entries v))
+unfolding IsStrictlySortedBy
+view_ascends v = ascends (entries v) (entries_sorted v.items)
+  where
+    above : (k : Key) (es : List (Key × Item)) → T (below_all key_cmp k es) → AllByRecursion (λ y. cmp-value.it k y ≡ Less) (keys_of es)
+    above k [] h = tt
+    above k (e ∷ es) h = let two = both_hold (is_lt (key_cmp k e.0)) (below_all key_cmp k es) h in (keys_same k e.0 ∙ is_less _ two.0, above k es two.1)
+
+    ascends : (es : List (Key × Item)) → T (is_sorted key_cmp es) → IsStrictlySortedBy cmp-value.it (keys_of es)
+    ascends [] h = tt
+    ascends (e ∷ es) h = let two = both_hold (below_all key_cmp e.0 es) (is_sorted key_cmp es) h in (above e.0 es two.0, ascends es two.1)
+
 -- ---- what a view has at a key
 
 pub get_at : (g : Gazetteer) (v : ℕ) (k : Key) → finite.get (view_at g v).items k ≡ item_at (versions_at g k) v
@@ -96,9 +113,13 @@ unfolding view_at
 contains_at g v k =
     set.contains-from_list keys_total (used_at (finite.entries g) v) k ∙ same_used (finite.entries g) (entries_sorted g) v k ∙ ap (λ o. was_used_at (unwrap_or o []) v) (sym (get-entries g k))
 
+-- the row of a key in a view
+pub row_at : (g : Gazetteer) (v : ℕ) (k : Key) → item_at (versions_at g k) v ≡ find key_cmp k (entries (view_at g v))
+row_at g v k = sym (get_at g v k) ∙ get-entries (view_at g v).items k
+
 -- ---- views that are one
 
-same_views : (v w : View) → ((k : Key) → finite.get v.items k ≡ finite.get w.items k) → ((k : Key) → set.contains v.used k ≡ set.contains w.used k) → v ≡ w
+pub same_views : (v w : View) → ((k : Key) → finite.get v.items k ≡ finite.get w.items k) → ((k : Key) → set.contains v.used k ≡ set.contains w.used k) → v ≡ w
 same_views v w items used =
     let there = finite.same_map keys_total keys_exact v.items w.items items in
     let marked = set.same_set keys_total keys_exact v.used w.used used in

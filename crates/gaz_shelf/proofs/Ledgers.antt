@@ -1,29 +1,32 @@
 -- What goes on holding of a ledger where it changes.
-use Rattle.std.proofs.Common.{◌≡◌, ◌≤◌, ◌<◌, ◌+◌, ◌&&◌, ◌||◌, ℕ, Bool, true, false, not, cond, List, [], ◌∷◌, ◌++◌, length, refl, sym, ap, subst, ◌∙◌, arith, unwrap_or}
+use Rattle.std.proofs.Common.{◌≡◌, ◌≤◌, ◌<◌, ◌+◌, ◌&&◌, ◌||◌, ℕ, Bool, true, false, not, cond, List, [], ◌∷◌, ◌++◌, length, refl, sym, ap, subst, ◌∙◌, arith, unwrap_or, inl, inr}
 use Rattle.std.specs.Prelude.{Option, Some, None}
+use Rattle.std.proofs.lemmas.Bool.{cases_lt}
 use Rattle.std.proofs.lemmas.List.Elements.{All-nil, All-weaker}
 use Rattle.std.specs.Cmp.{eq_by_cmp_equiv}
 use Rattle.std.specs.FinMap as finite
-use Rattle.std.specs.FinMap.{find, get-entries}
+use Rattle.std.specs.FinMap.{get-entries}
+use Rattle.std.specs.FinSet as set
 use Rattle.std.specs.List.{All, list_any}
 use Rattle.std.specs.Option.{IfSome}
 use Rattle.std.specs.Ordering.{eq_by_cmp}
-use Rattle.gaz_histories.specs.Histories.{Version, Versions, before, item_at, until}
+use Rattle.gaz_histories.specs.Histories.{Version, Versions, before, item_at, until, was_used_at}
 use Rattle.gaz_records.proofs.KeyOrder.{keys_total}
 use Rattle.gaz_records.specs.Keys.{key_cmp}
 use Rattle.gaz_records.specs.declared.item.Item.{Item}
 use Rattle.gaz_records.specs.declared.key.Key.{Key}
-use Rattle.gaz_shelf.proofs.Gazetteers.{get_at, get_now, holds_at, past_view, same_key}
-use Rattle.gaz_shelf.proofs.Judgements.{IsWithin, later_view}
+use Rattle.gaz_shelf.proofs.Gazetteers.{contains_at, get_at, get_now, holds_at, past_view, same_key, same_views}
+use Rattle.gaz_shelf.proofs.Judgements.{IsWithin, count_judged, later_view, view_in_at}
 use Rattle.gaz_shelf.proofs.Marked.{finds_with_more, still_finds}
 use Rattle.gaz_shelf.proofs.Versions.{before_next, before_within, cut_within, item_set, last, set_within, until_before, until_set}
-use Rattle.gaz_shelf.specs.Gazetteer.{ChangesAt, Gazetteer, versions_at, view_at}
+use Rattle.gaz_shelf.specs.Gazetteer.{ChangesAt, Gazetteer, judgements, versions_at, view_at}
 use Rattle.gaz_shelf.specs.Indexes.{FindsAll, has_mark, is_under, mark_cmp, marked_at}
-use Rattle.gaz_shelf.specs.Ledgers.{Finds, IsLedger}
-use Rattle.gaz_shelf.specs.View.{View}
+use Rattle.gaz_shelf.specs.Ledgers.{Account, Finds, IsLedger, account_at, empty_account, view_in}
+use Rattle.gaz_shelf.specs.View.{View, empty_view}
 use Rattle.gaz_shelf.specs.Words.{entries}
 use Rattle.gaz_shelf.specs.declared.index.Index.{Index}
 use Rattle.gaz_shelf.specs.declared.index.Mark.{Mark}
+use Rattle.gaz_shelf.specs.declared.verdict.Verdict.{Verdict}
 
 -- ---- what is found
 
@@ -171,3 +174,30 @@ ledger_closed n g x y ks ls was finds is =
       within = λ k. All-weaker (λ (e : Version). (0 < e.0) × (e.0 ≤ n + 1)) (λ (e : Version). (0 < e.0) × (e.0 ≤ n + 1 + 1)) (λ e h. (h.0, (let le : e.0 ≤ n + 1 = h.1 in omega arith))) (versions_at g k) (was.within k);
       touched = λ k _. All-weaker (λ (e : Version). (0 < e.0) × (e.0 ≤ n + 1)) (λ (e : Version). e.0 ≤ n + 1) (λ e h. h.1) (versions_at g k) (was.within k);
     }
+
+-- ---- reading
+
+-- the last view and any later one are found
+pub finds_at : (n : ℕ) (g : Gazetteer) (x : Index) (ks : List Key) → IsLedger n g x ks → (v : ℕ) → n ≤ v → FindsAll x (entries (view_at g v))
+finds_at n g x ks is v le = elim (cases_lt n v) [
+  | inl h ↦ subst (λ (w : View). FindsAll x (entries w)) (later_view n g is.within (n + 1) v (omega arith) h) is.finds.working
+  | inr h ↦ let same : n ≡ v = omega arith in subst (λ (m : ℕ). FindsAll x (entries (view_at g m))) same is.finds.last
+]
+
+pub reached_of : (ds : List Verdict) (g : Gazetteer) (a : Account) → account_at ds g ≡ a → length ds ≡ length a.judged
+reached_of ds g a is = sym (count_judged ds g) ∙ ap (λ (b : Account). length b.judged) is
+
+pub finds_from : (ds : List Verdict) (g : Gazetteer) (x : Index) (ks : List Key) (a : Account) → IsLedger (length ds) g x ks → account_at ds g ≡ a → (v : ℕ) → length a.judged ≤ v → FindsAll x (entries (view_at g v))
+finds_from ds g x ks a ledger is v le = finds_at (length ds) g x ks ledger v (omega (arith, reached_of ds g a is))
+
+-- a view of an account is that of its gazetteer
+pub seen : (ds : List Verdict) (g : Gazetteer) (a : Account) → IsWithin (length ds) g → account_at ds g ≡ a → (v : ℕ) → view_at g v ≡ view_in a v
+seen ds g a within is v = sym (view_in_at ds g within v) ∙ ap (λ (b : Account). view_in b v) is
+
+pub account_new : account_at [] finite.empty ≡ empty_account
+unfolding judgements empty_view
+account_new =
+    let none : view_at finite.empty 1 ≡ empty_view = same_views (view_at finite.empty 1) empty_view
+    (λ k. get_at finite.empty 1 k ∙ ap (λ (vs : Versions). item_at vs 1) (nothing_there k) ∙ sym (finite.get-empty key_cmp k))
+    (λ k. contains_at finite.empty 1 k ∙ ap (λ (vs : Versions). was_used_at vs 1) (nothing_there k) ∙ sym (set.contains-empty key_cmp k)) in
+    λ i. record { judged = []; working = none i }

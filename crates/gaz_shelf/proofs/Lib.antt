@@ -4,6 +4,7 @@ pub mod Keeping
 pub mod Pages
 pub mod Versions
 pub mod Gazetteers
+pub mod Stored
 pub mod Judgements
 pub mod Boards
 pub mod Marks
@@ -12,4 +13,5 @@ pub mod Marked
 pub mod Ranges
 pub mod Pairs
 pub mod Ledgers
+pub mod Closings
 pub mod Mem

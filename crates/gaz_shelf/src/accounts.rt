@@ -4,7 +4,6 @@ ghost use Rattle.gaz_shelf.specs.Board.{adds, last_view};
 ghost use Rattle.gaz_shelf.specs.Ledgers.{account_of, board_of, empty_account};
 ghost use Rattle.gaz_shelf.specs.View.{with_item, without_key};
 
-use crate::fault::ShelfFault;
 use crate::ledger::Ledger;
 use crate::verdict::Verdict;
 use gaz_ids::Code;
@@ -58,12 +57,12 @@ pub fn put_in(
     ledgers: &mut BTreeMap<Code, Ledger>,
     code: Code,
     item: Item,
-) -> Result<(), ShelfFault>
+) -> Result<(), AllocError>
     ensures board { board_of ledgers.new.entries ≡ board_of ledgers.old.entries }
     ensures working { OnOk result ((account_of ledgers.new.entries code).working ≡ with_item (account_of ledgers.old.entries code).working item) }
 {
     let Some(ledger) = ledgers.get_mut(&code) else {
-        return Err(ShelfFault::Memory);
+        return Err(AllocError);
     };
     ledger.put(item)?;
     Ok(())
@@ -74,12 +73,12 @@ pub fn take_in(
     ledgers: &mut BTreeMap<Code, Ledger>,
     code: Code,
     key: &Key,
-) -> Result<(), ShelfFault>
+) -> Result<(), AllocError>
     ensures board { board_of ledgers.new.entries ≡ board_of ledgers.old.entries }
     ensures working { OnOk result ((account_of ledgers.new.entries code).working ≡ without_key (account_of ledgers.old.entries code).working key.now) }
 {
     let Some(ledger) = ledgers.get_mut(&code) else {
-        return Err(ShelfFault::Memory);
+        return Err(AllocError);
     };
     ledger.take(key)?;
     Ok(())
@@ -90,12 +89,12 @@ pub fn close_in(
     ledgers: &mut BTreeMap<Code, Ledger>,
     code: Code,
     verdict: Verdict,
-) -> Result<(), ShelfFault>
+) -> Result<(), AllocError>
     ensures ok { OnOk result (board_of ledgers.new.entries ≡ adds (board_of ledgers.old.entries) code (record { verdict = verdict; view = (account_of ledgers.old.entries code).working })) }
     ensures err { OnErr result (board_of ledgers.new.entries ≡ board_of ledgers.old.entries) }
 {
     let Some(ledger) = ledgers.get_mut(&code) else {
-        return Err(ShelfFault::Memory);
+        return Err(AllocError);
     };
     ledger.close(verdict)?;
     Ok(())

@@ -58,9 +58,7 @@ fn set_found(
     ensures err { OnErr result (histories.new ≡ histories.old) }
     ensures finds { Finds index.old histories.old reached → Finds index.new histories.new reached }
 {
-    if let Some(item) = &item {
-        index.add_marks(item, &key)?;
-    }
+    index.add_marks_of(&item, &key)?;
     histories.set(reached + 1, key, item)?;
     Ok(())
 }

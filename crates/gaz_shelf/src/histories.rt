@@ -103,9 +103,10 @@ impl Histories {
     fn cut_there(&mut self, volume: u64, key: &Key)
         ensures { ChangesAt self.old self.new key.now (before (versions_at self.old key.now) volume) }
     {
-        if let Some(history) = self.by_key.get_mut(key) {
-            history.cut(volume);
-        }
+        let Some(history) = self.by_key.get_mut(key) else {
+            return;
+        };
+        history.cut(volume);
     }
 
     // Keeps nothing of a key that was never used.

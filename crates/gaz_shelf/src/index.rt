@@ -1,5 +1,6 @@
 //! Where a view's items are found beside their keys.
 ghost use Rattle.std.specs.Prelude.{◌≡◌, ◌&&◌, ◌||◌, ◌⊎◌, ◌<◌, ◌^◌, ◌-◌, [], filter, not, true, IfOk, OnOk, OnErr, Some};
+ghost use Rattle.std.specs.Option.{IfSome};
 ghost use Rattle.std.specs.List.{list_any};
 ghost use Rattle.std.specs.List.Sorted.{IsStrictlySortedBy};
 ghost use Rattle.std.specs.Option.{option_map_or};
@@ -123,6 +124,17 @@ impl Index {
         self.add_some(first, key)?;
         self.add_some(second, key)?;
         Ok(())
+    }
+
+    /// The same, where there is an item.
+    pub fn add_marks_of(&mut self, item: &Option<Item>, key: &Key) -> Result<(), AllocError>
+        ensures ok { OnOk result (IfSome item.now (λ i. (m : Mark) → has_mark m i ≡ true → is_under self.new m key.now ≡ true)) }
+        ensures kept { (m : Mark) → (k : Key) → is_under self.old m k ≡ true → is_under self.new m k ≡ true }
+    {
+        match item {
+            Some(item) => self.add_marks(item, key),
+            None => Ok(()),
+        }
     }
 
     /// Takes a key from under a mark.

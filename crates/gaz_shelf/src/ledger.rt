@@ -70,7 +70,7 @@ impl Ledger {
         if volume == 0 {
             return None;
         }
-        self.verdicts.get((volume - 1) as usize).copied()
+        verdict_at(&self.verdicts, (volume - 1) as usize)
     }
 
     /// The item at a key after a volume, or in the working view for any later one.
@@ -171,7 +171,7 @@ impl Ledger {
     {
         let reached = self.verdicts.len() as u64;
         let key = Key::of(&item);
-        self.touched.push(key)?;
+        touch(&mut self.touched, &key)?;
         change(
             &mut self.histories,
             &mut self.index,
@@ -191,7 +191,7 @@ impl Ledger {
         if self.histories.item(reached + 1, key).is_none() {
             return Ok(());
         }
-        self.touched.push(*key)?;
+        touch(&mut self.touched, key)?;
         change(&mut self.histories, &mut self.index, reached, *key, None)?;
         Ok(())
     }
@@ -219,4 +219,22 @@ impl Ledger {
         forget_all(&self.histories, &mut self.index, reached, &mut self.touched);
         Ok(())
     }
+}
+
+fn verdict_at(verdicts: &[Verdict], place: usize) -> Option<Verdict>
+    ensures { result ≡ slice_get verdicts.now place }
+{
+    match verdicts.get(place) {
+        Some(verdict) => Some(*verdict),
+        None => None,
+    }
+}
+
+// Adds a key to those that the next volume has changed.
+fn touch(touched: &mut Vec<Key>, key: &Key) -> Result<(), AllocError>
+    ensures ok { OnOk result (touched.new.items ≡ touched.old.items ++ key.now ∷ []) }
+    ensures err { OnErr result (touched.new.items ≡ touched.old.items) }
+{
+    touched.push(*key)?;
+    Ok(())
 }
