@@ -1,7 +1,7 @@
 -- A ledger and its account after each of its calls.
-use Rattle.std.proofs.Common.{◌≡◌, ◌≤◌, ◌<◌, ◌+◌, ℕ, Bool, true, false, List, [], ◌∷◌, ◌++◌, length, refl, sym, ap, subst, ◌∙◌, arith, is_some, length-append, Bor}
+use Rattle.std.proofs.Common.{◌≡◌, ◌≤◌, ◌+◌, ℕ, true, false, List, [], ◌∷◌, ◌++◌, length, refl, sym, ap, subst, ◌∙◌, arith, is_some, length-append, Bor}
 use Rattle.std.specs.Prelude.{Option, Some, None, option_map}
-use Rattle.gaz_histories.specs.Histories.{Versions, before, item_at}
+use Rattle.gaz_histories.specs.Histories.{before, item_at}
 use Rattle.gaz_records.specs.Keys.{key_of}
 use Rattle.gaz_records.specs.declared.item.Item.{Item}
 use Rattle.gaz_records.specs.declared.key.Key.{Key}

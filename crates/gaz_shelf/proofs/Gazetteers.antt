@@ -1,5 +1,5 @@
 -- The views of a gazetteer through its volumes.
-use Rattle.std.proofs.Common.{◌≡◌, ◌≤◌, ◌<◌, ◌+◌, ◌&&◌, ◌||◌, ℕ, Bool, true, false, cond, T, List, [], ◌∷◌, ◌++◌, map, refl, sym, ap, subst, ◌∙◌, arith, unwrap_or}
+use Rattle.std.proofs.Common.{◌≡◌, ◌≤◌, ◌<◌, ◌&&◌, ◌||◌, ℕ, Bool, true, false, cond, T, List, [], ◌∷◌, map, refl, sym, ap, subst, ◌∙◌, unwrap_or}
 use Rattle.std.specs.Prelude.{Option, Some, None, filter, option_map}
 use Rattle.std.specs.Cmp.{eq_by_cmp_equiv}
 use Rattle.std.specs.FinMap as finite
@@ -12,13 +12,13 @@ use Rattle.std.specs.Map.{keys_of}
 use Rattle.std.specs.Ordering.{eq_by_cmp, is_eq, is_lt}
 use Rattle.std.specs.declared.cmp.Ordering.{Ordering}
 use Rattle.std.specs.declared.cmp.Ordering.TheVariants.{Less, Equal, Greater}
-use Rattle.gaz_histories.specs.Histories.{Version, Versions, before, item_at, until, was_used_at}
+use Rattle.gaz_histories.specs.Histories.{Version, Versions, item_at, until, was_used_at}
 use Rattle.gaz_records.proofs.KeyOrder.{keys_exact, keys_same, keys_total}
 use Rattle.gaz_records.specs.contracts.key.KeyOrd.TheImpl.{cmp-value}
 use Rattle.gaz_records.specs.Keys.{key_cmp, key_of}
 use Rattle.gaz_records.specs.declared.item.Item.{Item}
 use Rattle.gaz_records.specs.declared.key.Key.{Key}
-use Rattle.gaz_shelf.proofs.Versions.{before_next, item_set, last, none_at_first, no_version, settled, some_version, until_before, until_set, used_by, used_set, used_where_item}
+use Rattle.gaz_shelf.proofs.Versions.{last, none_at_first, no_version, settled, some_version, used_by, used_where_item}
 use Rattle.gaz_shelf.specs.Gazetteer.{ChangesAt, Gazetteer, rows_at, used_at, versions_at, view_at}
 use Rattle.gaz_shelf.specs.View.{View, empty_view, with_item, without_key}
 use Rattle.gaz_shelf.specs.Words.{entries}

@@ -1,14 +1,14 @@
 -- The judgements and views of a gazetteer's account.
-use Rattle.std.proofs.Common.{◌≡◌, ◌≤◌, ◌<◌, ◌+◌, ◌-◌, ℕ, zero, suc, Bool, true, false, cond, List, [], ◌∷◌, ◌++◌, map, length, refl, sym, ap, ◌∙◌, arith, slice_get, unwrap_or, length-append}
+use Rattle.std.proofs.Common.{◌≡◌, ◌≤◌, ◌<◌, ◌+◌, ℕ, zero, suc, Bool, true, false, cond, List, [], ◌∷◌, ◌++◌, map, length, refl, sym, ap, ◌∙◌, arith, slice_get, unwrap_or, length-append}
 use Rattle.std.proofs.lemmas.Bool.Decides.{nat_tests}
-use Rattle.std.specs.Prelude.{Some, None, ◌==◌, nat_le, option_map}
+use Rattle.std.specs.Prelude.{Some, nat_le, option_map}
 use Rattle.std.specs.List.{All, enumerate_from}
 use Rattle.gaz_histories.specs.Histories.{Version}
 use Rattle.gaz_records.specs.declared.key.Key.{Key}
 use Rattle.gaz_shelf.proofs.Gazetteers.{first_view, settled_view}
 use Rattle.gaz_shelf.specs.Board.{Judgement, views}
 use Rattle.gaz_shelf.specs.Gazetteer.{Gazetteer, judgements, versions_at, view_at}
-use Rattle.gaz_shelf.specs.Ledgers.{Account, account_at, last_of, view_in}
+use Rattle.gaz_shelf.specs.Ledgers.{account_at, last_of, view_in}
 use Rattle.gaz_shelf.specs.View.{View, empty_view}
 use Rattle.gaz_shelf.specs.declared.verdict.Verdict.{Verdict}
 

@@ -26,4 +26,6 @@ pub use verdict::Verdict;
 pub use writing::{Ending, put_all, write_volume};
 
 #[cfg(test)]
+mod ledger_tests;
+#[cfg(test)]
 mod tests;

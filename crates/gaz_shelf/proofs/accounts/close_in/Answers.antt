@@ -1,4 +1,4 @@
-use Rattle.std.proofs.Common.{rules, ◌≡◌, ◌∙◌, ◌++◌, ◌∷◌, [], ap, unwrap_or}
+use Rattle.std.proofs.Common.{rules, ◌∙◌, ◌++◌, ◌∷◌, [], ap, unwrap_or}
 use Rattle.gaz_shelf.proofs.Boards.{no_more, one_more}
 use Rattle.gaz_shelf.proofs.Keeping.{where_err}
 use Rattle.gaz_shelf.specs.Ledgers.{Account, empty_account}

@@ -1,4 +1,4 @@
-use Rattle.std.proofs.Common.{◌≡◌, ◌∙◌, ap, sym, true, false}
+use Rattle.std.proofs.Common.{◌≡◌, ◌∙◌, ap, true, false}
 use Rattle.std.specs.Option.{option_map_or}
 use Rattle.gaz_shelf.proofs.Gazetteers.{row_at}
 use Rattle.gaz_shelf.specs.Indexes.{has_mark}

@@ -1,4 +1,4 @@
-use Rattle.std.proofs.Common.{◌∙◌, ap, sym}
+use Rattle.std.proofs.Common.{◌∙◌}
 use Rattle.gaz_shelf.proofs.Stored.{page_stored}
 use Rattle.gaz_shelf.proofs.histories.Histories.page.Goals as goal
 

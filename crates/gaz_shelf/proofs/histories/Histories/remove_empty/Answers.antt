@@ -1,5 +1,4 @@
-use Rattle.std.proofs.Common.{◌≡◌, ◌∙◌, ap, sym, unwrap_or, []}
-use Rattle.gaz_records.specs.declared.key.Key.{Key}
+use Rattle.std.proofs.Common.{◌∙◌, ap, sym, unwrap_or, []}
 use Rattle.gaz_shelf.proofs.Stored.{nothing_in, stores_none, versions_stored}
 use Rattle.gaz_shelf.specs.Gazetteer.{Gazetteer, versions_at}
 use Rattle.gaz_shelf.proofs.histories.Histories.remove_empty.Goals as goal

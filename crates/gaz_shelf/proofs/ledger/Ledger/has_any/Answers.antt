@@ -1,4 +1,4 @@
-use Rattle.std.proofs.Common.{◌≡◌, ◌∙◌, ap, length}
+use Rattle.std.proofs.Common.{◌∙◌, ap}
 use Rattle.std.specs.List.{list_any}
 use Rattle.gaz_shelf.proofs.Gazetteers.{view_ascends}
 use Rattle.gaz_shelf.proofs.Ledgers.{finds_from, seen}

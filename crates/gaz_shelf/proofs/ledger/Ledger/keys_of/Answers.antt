@@ -1,4 +1,4 @@
-use Rattle.std.proofs.Common.{◌≡◌, ◌∙◌, ap, map}
+use Rattle.std.proofs.Common.{◌∙◌, ap, map}
 use Rattle.std.specs.Prelude.{filter}
 use Rattle.gaz_shelf.proofs.Gazetteers.{view_ascends}
 use Rattle.gaz_shelf.proofs.Ledgers.{finds_from, seen}
