@@ -2,10 +2,16 @@ pub mod Trees
 pub mod Examples
 pub mod Keeping
 pub mod Pages
+pub mod Versions
+pub mod Gazetteers
+pub mod Stored
+pub mod Judgements
+pub mod Boards
 pub mod Marks
 pub mod Indexes
 pub mod Marked
 pub mod Ranges
 pub mod Pairs
 pub mod Ledgers
+pub mod Closings
 pub mod Mem

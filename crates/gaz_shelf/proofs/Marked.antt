@@ -7,7 +7,7 @@ use Rattle.std.specs.FinMap as finite
 use Rattle.std.specs.FinMap.{find}
 use Rattle.std.specs.List.{AllByRecursion, list_any}
 use Rattle.std.specs.List.Sorted.{IsStrictlySortedBy}
-use Rattle.std.specs.Map.{keys_of, lookup}
+use Rattle.std.specs.Map.{keys_of}
 use Rattle.std.specs.Option.{IfSome, option_map_or}
 use Rattle.std.specs.Ordering.{eq_by_cmp, is_eq}
 use Rattle.std.specs.declared.cmp.Ordering.{Ordering}
@@ -20,10 +20,8 @@ use Rattle.gaz_records.specs.contracts.key.KeyOrd.TheImpl.{cmp-value}
 use Rattle.gaz_records.specs.declared.item.Item.{Item}
 use Rattle.gaz_records.specs.declared.item.Item.TheVariants as item
 use Rattle.gaz_records.specs.declared.key.Key.{Key}
-use Rattle.std.specs.BTreeMap.{is_at}
-use Rattle.std.specs.BTreeSet.{BTreeSet}
 use Rattle.gaz_shelf.proofs.Indexes.{same_mark}
-use Rattle.gaz_shelf.proofs.Trees.{entries_tree, find-is}
+use Rattle.gaz_shelf.proofs.Trees.{entries_tree}
 use Rattle.gaz_shelf.specs.Indexes.{FindsAll, has_mark, is_under, keys_under, mark_cmp, marked_at}
 use Rattle.gaz_shelf.specs.declared.index.Index.{Index}
 use Rattle.gaz_shelf.specs.Words.{is_approved, is_approved_on, is_in}
@@ -70,11 +68,11 @@ same_keys xs ys hx hy same =
 
 -- ---- the rows that pass a test
 
-all_kept : (P : Key → Type 0) (p : Row → Bool) (es : List Row) → AllByRecursion P (keys_of es) → AllByRecursion P (keys_of (filter p es))
+all_kept : {X : Type 0} (P : Key → Type 0) (p : Key × X → Bool) (es : List (Key × X)) → AllByRecursion P (keys_of es) → AllByRecursion P (keys_of (filter p es))
 all_kept P p [] h = tt
 all_kept P p (e ∷ es) h = elim (p e) as (λ b. AllByRecursion P (keys_of (cond b (e ∷ filter p es) (filter p es)))) [ true ↦ (h.0, all_kept P p es h.1) | false ↦ all_kept P p es h.1 ]
 
-pub rows_ascend : (p : Row → Bool) (es : List Row) → Ascends (keys_of es) → Ascends (keys_of (filter p es))
+pub rows_ascend : {X : Type 0} (p : Key × X → Bool) (es : List (Key × X)) → Ascends (keys_of es) → Ascends (keys_of (filter p es))
 unfolding IsStrictlySortedBy
 rows_ascend p [] h = tt
 rows_ascend p (e ∷ es) h = elim (p e) as (λ b. Ascends (keys_of (cond b (e ∷ filter p es) (filter p es)))) [ true ↦ (all_kept (λ y. cmp-value.it e.0 y ≡ Less) p es h.0, rows_ascend p es h.1) | false ↦ rows_ascend p es h.1 ]
@@ -186,38 +184,6 @@ module _ (x y : Index) (es : List Row) where
       by_item : (o : Option Item) → IfSome o (λ i. has_mark m i ≡ true → is_under x m k ≡ true) → IfSome o (λ i. has_mark m i ≡ true → is_under y m k ≡ true)
       by_item None h = tt
       by_item (Some i) h = λ is. more m k (h is)
-
-module _ (x : Index) (es fs : List Row) (key : Key) where
-  abbrev Becomes : Option Item → Type 0
-  Becomes o = (q : Key) → lookup (is_at (cmp-value.it q)) fs ≡ cond (is_at (cmp-value.it key) q) o (lookup (is_at (cmp-value.it q)) es)
-
-  now_at : (o : Option Item) → Becomes o → (k : Key) → find key_cmp k fs ≡ cond (eq_by_cmp key_cmp key k) o (find key_cmp k es)
-  now_at o h k = find-is keys_same fs k ∙ h k ∙ (λ j. cond (is_eq (keys_same key k j)) o (sym (find-is keys_same es k) j))
-
-  abbrev Found : Mark → Key → Option Item → Type 0
-  Found m k o = IfSome o (λ i. has_mark m i ≡ true → is_under x m k ≡ true)
-
-  -- an item is gone
-  pub finds_fewer : FindsAll x es → Becomes None → FindsAll x fs
-  finds_fewer finds gone m k = subst (Found m k) (sym (now_at None gone k)) (by_same (eq_by_cmp key_cmp key k))
-    where
-      by_same : (b : Bool) → Found m k (cond b None (find key_cmp k es))
-      by_same true = tt
-      by_same false = finds m k
-
-  -- an item came, which is found under its marks
-  pub finds_new : (i : Item) → FindsAll x es → ((m : Mark) → has_mark m i ≡ true → is_under x m key ≡ true) → Becomes (Some i) → FindsAll x fs
-  finds_new i finds under came m k = subst (Found m k) (sym (now_at (Some i) came k)) (by_same (eq_by_cmp key_cmp key k) refl)
-    where
-      by_same : (b : Bool) → eq_by_cmp key_cmp key k ≡ b → Found m k (cond b (Some i) (find key_cmp k es))
-      by_same true at = λ is. ap (is_under x m) (sym (same_key key k at)) ∙ under m is
-      by_same false at = finds m k
-
--- a copy finds the same
-pub finds_alike : (x y : Index) (es fs : List Row) → FindsAll x es → y.by_mark.entries ≡ x.by_mark.entries → fs ≡ es → FindsAll y fs
-finds_alike x y es fs finds same rows m k =
-    let P : List (Mark × BTreeSet Key) → List Row → Type 0 = λ sets rows. IfSome (find key_cmp k rows) (λ i. has_mark m i ≡ true → list_any (eq_by_cmp key_cmp k) (option_map_or (λ s. s.keys) (lookup (is_at (mark_cmp m)) sets) []) ≡ true) in
-    subst (λ sets. P sets fs) (sym same) (subst (P x.by_mark.entries) (sym rows) (finds m k))
 
 -- ---- what an index that finds all gives
 

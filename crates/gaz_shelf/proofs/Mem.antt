@@ -1,23 +1,19 @@
--- The views of a board, as a keeper of whole maps finds them.
-use Rattle.std.proofs.Common.{◌≡◌, ◌-◌, ℕ, zero, suc, false, cond, List, [], ◌∷◌, map, refl, ap, ◌∙◌, arith, slice_get}
-use Rattle.std.proofs.lemmas.Bool.Decides.{nat_tests}
-use Rattle.std.specs.Prelude.{◌==◌, None, unwrap_or, option_map}
+-- What a keeper in memory keeps while a judgement is in progress.
+use Rattle.std.proofs.Common.{◌≡◌, ℕ, List, sym, ap}
+use Rattle.gaz_shelf.specs.Board.{adds}
+use Rattle.gaz_shelf.specs.Keeper.{Content, Open, kept}
+use Rattle.gaz_shelf.specs.Ledgers.{Account, account_of, board_of}
+use Rattle.gaz_shelf.specs.Mem.{progress_of, working_of}
+use Rattle.gaz_shelf.specs.Received.{Received}
 use Rattle.gaz_shelf.specs.View.{empty_view}
-use Rattle.gaz_shelf.specs.Board.{Board, Judgement, judgement_on, view_after}
-use Rattle.gaz_shelf.specs.Ledgers.{or_empty}
+use Rattle.gaz_shelf.specs.declared.mem_shelf.Judging.{Judging}
+use Rattle.gaz_shelf.specs.declared.mem_shelf.Judging.TheVariants as judging
+use Rattle.gaz_shelf.specs.declared.verdict.Verdict.TheVariants.{Applied}
 
-pub on_volume : (B : Board) (c volume : ℕ) → cond (volume == 0) None (slice_get (B c) (volume - 1)) ≡ judgement_on B c volume
-on_volume B c zero = refl
-on_volume B c (suc n) =
-    let z : (suc n == 0) ≡ false = grind (arith, nat_tests) in
-    let e : suc n - 1 ≡ n = omega arith in
-    ap (λ b. cond b None (slice_get (B c) (suc n - 1))) z ∙ ap (slice_get (B c)) e
+abbrev judged : Received → List (ℕ × Account) → ℕ → Content
+judged files es c = record { files = files; board = adds (board_of es) c (record { verdict = Applied; view = (account_of es c).working }); working = empty_view }
 
-view_in : (js : List Judgement) (n : ℕ) → or_empty (option_map (λ j. j.view) (slice_get js n)) ≡ unwrap_or (slice_get (map (λ j. j.view) js) n) empty_view
-view_in [] n = refl
-view_in (j ∷ js) zero = refl
-view_in (j ∷ js) (suc n) = view_in js n
-
-pub view_on : (B : Board) (c volume : ℕ) → or_empty (option_map (λ j. j.view) (judgement_on B c volume)) ≡ view_after B c volume
-view_on B c zero = refl
-view_on B c (suc n) = view_in (B c) n
+pub kept_open : (j : Judging) (files : Received) (es : List (ℕ × Account)) (code : ℕ) → progress_of j ≡ Open code → judged files es code ≡ kept (progress_of j) (record { files = files; board = board_of es; working = working_of j es })
+kept_open judging.Idle files es code e = cc
+kept_open (judging.Open c) files es code e = let same : c ≡ code = cc in ap (judged files es) (sym same)
+kept_open judging.Broken files es code e = cc

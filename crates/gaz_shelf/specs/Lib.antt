@@ -4,6 +4,7 @@ pub mod Reading
 pub mod Indexes
 pub mod ViewCode
 pub mod Board
+pub mod Gazetteer
 pub mod Received
 pub mod Keeper
 pub mod Ledgers

@@ -1,7 +1,7 @@
--- What a keeper of whole maps keeps.
-use Rattle.std.specs.Prelude.{◌==◌, ◌^◌, ◌-◌, ⊤}
+-- What a keeper in memory keeps.
+use Rattle.std.specs.Prelude.{ℕ, ◌==◌, ◌^◌, ◌-◌, ⊤, List}
 use Rattle.gaz_shelf.specs.View.{View, empty_view}
-use Rattle.gaz_shelf.specs.Ledgers.{board_of}
+use Rattle.gaz_shelf.specs.Ledgers.{Account, account_of, board_of}
 use Rattle.gaz_shelf.specs.Keeper.{Broken, Content, Idle, Open, Progress, Seen}
 use Rattle.gaz_shelf.specs.declared.mem_shelf.Judging.{Judging}
 use Rattle.gaz_shelf.specs.declared.mem_shelf.Judging.TheVariants as judging
@@ -12,14 +12,14 @@ progress_of judging.Idle = Idle
 progress_of (judging.Open c) = Open c
 progress_of judging.Broken = Broken
 
--- the working view counts while a judgement is in progress
-abbrev pub working_of : Judging → View → View
-working_of judging.Idle w = empty_view
-working_of (judging.Open c) w = w
-working_of judging.Broken w = empty_view
+-- the working view of the custodian that is being judged
+abbrev pub working_of : Judging → List (ℕ × Account) → View
+working_of judging.Idle es = empty_view
+working_of (judging.Open c) es = (account_of es c).working
+working_of judging.Broken es = empty_view
 
 abbrev pub content_in : MemShelf → Content
-content_in s = record { files = s.files; board = board_of s.ledgers.entries; working = working_of s.judging s.working }
+content_in s = record { files = s.files; board = board_of s.ledgers.entries; working = working_of s.judging s.ledgers.entries }
 
 -- it always stands for its content, and nobody else can write on it
 abbrev pub seen_in : MemShelf → Seen

@@ -1,14 +1,19 @@
 //! Where a view's items are found beside their keys.
-ghost use Rattle.std.specs.Prelude.{◌≡◌, ◌&&◌, ◌||◌, ◌⊎◌, [], filter, not, true, IfOk, OnOk, OnErr, Some};
+ghost use Rattle.std.specs.Prelude.{◌≡◌, ◌&&◌, ◌||◌, ◌⊎◌, ◌<◌, ◌^◌, ◌-◌, [], filter, not, true, IfOk, OnOk, OnErr, Some};
+ghost use Rattle.std.specs.Option.{IfSome};
 ghost use Rattle.std.specs.List.{list_any};
 ghost use Rattle.std.specs.List.Sorted.{IsStrictlySortedBy};
 ghost use Rattle.std.specs.Option.{option_map_or};
 ghost use Rattle.std.specs.Ordering.{eq_by_cmp};
+ghost use Rattle.gaz_histories.specs.Histories.{item_at};
 ghost use Rattle.gaz_records.specs.Keys.{key_cmp};
 ghost use Rattle.gaz_records.specs.declared.key.Key.{Key};
+ghost use Rattle.gaz_shelf.specs.Gazetteer.{versions_at, view_at};
 ghost use Rattle.gaz_shelf.specs.Indexes.{has_mark, is_under, keys_under, mark_cmp, marked_at};
+ghost use Rattle.gaz_shelf.specs.Words.{entries};
 ghost use Rattle.gaz_shelf.specs.declared.index.Mark.{Mark};
 
+use crate::histories::Histories;
 use crate::words::{is_approved_of, is_approved_on, is_child_of};
 use gaz_ids::{Lang, Status, Uprn, Usrn};
 use gaz_records::{Item, Key};
@@ -121,6 +126,17 @@ impl Index {
         Ok(())
     }
 
+    /// The same, where there is an item.
+    pub fn add_marks_of(&mut self, item: &Option<Item>, key: &Key) -> Result<(), AllocError>
+        ensures ok { OnOk result (IfSome item.now (λ i. (m : Mark) → has_mark m i ≡ true → is_under self.new m key.now ≡ true)) }
+        ensures kept { (m : Mark) → (k : Key) → is_under self.old m k ≡ true → is_under self.new m k ≡ true }
+    {
+        match item {
+            Some(item) => self.add_marks(item, key),
+            None => Ok(()),
+        }
+    }
+
     /// Takes a key from under a mark.
     pub fn remove(&mut self, mark: Mark, key: &Key)
         ensures { (m : Mark) → (k : Key) → is_under self.new m k ≡ (not (eq_by_cmp mark_cmp mark m && eq_by_cmp key_cmp key.now k) && is_under self.old m k) }
@@ -131,25 +147,23 @@ impl Index {
     }
 }
 
-/// In a clone each mark has the same keys.
-impl Clone for Index {
-    ghost is_clone = { λ a b. b.by_mark.entries ≡ a.by_mark.entries };
-
-    fn clone(&self) -> Result<Index, AllocError> {
-        Ok(Index {
-            alloc: self.alloc,
-            by_mark: self.by_mark.clone()?,
-        })
+/// Whether an item with the mark stands under the key after a volume.
+pub fn is_marked(histories: &Histories, volume: u64, mark: &Mark, key: &Key) -> bool
+    ensures { result ≡ marked_at (entries (view_at histories.now volume)) mark.now key.now }
+{
+    match histories.item(volume, key) {
+        Some(item) => mark.is_on(item),
+        None => false,
     }
 }
 
-/// Whether an item with the mark stands under the key.
-pub fn is_marked(items: &BTreeMap<Key, Item>, mark: &Mark, key: &Key) -> bool
-    ensures { result ≡ marked_at items.now.entries mark.now key.now }
+/// The marks of the item under the key after a volume.
+pub fn marks_at(histories: &Histories, volume: u64, key: &Key) -> (Option<Mark>, Option<Mark>)
+    ensures { (m : Mark) → marked_at (entries (view_at histories.now volume)) m key.now ≡ true → (result.0 ≡ Some m) ⊎ (result.1 ≡ Some m) }
 {
-    match items.get(key) {
-        Some(item) => mark.is_on(item),
-        None => false,
+    match histories.item(volume, key) {
+        Some(item) => marks_of(item),
+        None => (None, None),
     }
 }
 
@@ -160,30 +174,31 @@ pub fn keys_in_order(keys: &BTreeSet<Key>)
     let _count = keys.len();
 }
 
-/// Those of these keys under which an item with the mark stands.
+/// Those of these keys under which an item with the mark stands after a volume.
 pub fn keys_marked(
     alloc: Global,
-    items: &BTreeMap<Key, Item>,
+    histories: &Histories,
+    volume: u64,
     mark: &Mark,
     keys: &BTreeSet<Key>,
 ) -> Result<Vec<Key>, AllocError>
-    ensures { IfOk result (λ ks. ks.items ≡ filter (marked_at items.now.entries mark.now) keys.now.keys) }
+    ensures { IfOk result (λ ks. ks.items ≡ filter (marked_at (entries (view_at histories.now volume)) mark.now) keys.now.keys) }
 {
     let mut found = Vec::new(alloc);
     for key in keys {
-        if is_marked(items, mark, key) {
+        if is_marked(histories, volume, mark, key) {
             found.push(*key)?;
         }
     }
     Ok(found)
 }
 
-/// Whether an item with the mark stands under one of these keys.
-pub fn any_marked(items: &BTreeMap<Key, Item>, mark: &Mark, keys: &BTreeSet<Key>) -> bool
-    ensures { result ≡ list_any (marked_at items.now.entries mark.now) keys.now.keys }
+/// Whether an item with the mark stands under one of these keys after a volume.
+pub fn any_marked(histories: &Histories, volume: u64, mark: &Mark, keys: &BTreeSet<Key>) -> bool
+    ensures { result ≡ list_any (marked_at (entries (view_at histories.now volume)) mark.now) keys.now.keys }
 {
     for key in keys {
-        if is_marked(items, mark, key) {
+        if is_marked(histories, volume, mark, key) {
             return true;
         }
     }

@@ -1,96 +1,240 @@
-ghost use Rattle.std.specs.Prelude.{◌≡◌, ◌++◌, ◌∷◌, [], ◌==◌, ◌-◌, if◌then◌else◌, length, slice_get, OnOk, OnErr, None, option_map};
-ghost use Rattle.gaz_shelf.specs.Board.{adds, last_view, reached, verdict_on, view_after};
-ghost use Rattle.gaz_shelf.specs.Ledgers.{board_of, judgement_of, judgements, or_empty};
+//! One custodian's gazetteer through its volumes.
+ghost use Rattle.std.specs.Prelude.{◌≡◌, ◌≤◌, ◌<◌, ◌+◌, ◌-◌, ◌^◌, ◌==◌, ◌++◌, ◌∷◌, [], if◌then◌else◌, length, map, filter, slice_get, IfOk, OnOk, OnErr, None, option_map};
+ghost use Rattle.std.specs.FinMap as finite;
+ghost use Rattle.std.specs.List.{list_any};
+ghost use Rattle.gaz_shelf.specs.Indexes.{has_mark};
+ghost use Rattle.gaz_shelf.specs.Ledgers.{empty_account, last_of, view_in};
+ghost use Rattle.gaz_shelf.specs.View.{was_used, with_item, without_key};
+ghost use Rattle.gaz_shelf.specs.Words.{approved_of, approved_on, entries, has_children, page};
 
+use crate::changes::{change, forget_all, undo_all};
+use crate::histories::Histories;
+use crate::index::{Index, Mark, any_marked, keys_in_order, keys_marked};
 use crate::verdict::Verdict;
-use crate::whole_view::WholeView;
-use gaz_ids::Code;
+use gaz_ids::{Lang, Uprn, Usrn};
+use gaz_records::{Item, Key, Kind};
 use std::alloc::{AllocError, Global};
-use std::collections::BTreeMap;
-use std::rc::Rc;
+use std::marker::Model;
 
-/// What became of a volume, and its custodian's view afterwards, which rejected volumes after it share.
-#[derive(Drop)]
-pub struct Judged {
-    pub verdict: Verdict,
-    pub view: Rc<WholeView>,
-}
-
-/// A custodian's judgements, those of the volumes 1, 2, 3, ..
+/// A custodian's judgements, those of the volumes 1, 2, 3, .., and the view that the next volume has made so far.
 #[derive(Drop)]
 pub struct Ledger {
-    judged: Vec<Judged>,
+    alloc: Global,
+    verdicts: Vec<Verdict>,
+    histories: Histories,
+    index: Index,
+    // The keys that the next volume has changed, in no order.
+    touched: Vec<Key>,
+}
+
+impl Model for Ledger {
+    ghost use Rattle.std.specs.Prelude.{length};
+    ghost use Rattle.gaz_shelf.specs.Ledgers.{Account, IsLedger, account_at};
+    ghost use Rattle.gaz_shelf.specs.ViewCode.{account_code};
+
+    ghost Value = { Account };
+
+    ghost coded = { account_code };
+
+    ghost view = { λ l. account_at l.verdicts.items l.histories };
+
+    ghost invariant = { λ l. IsLedger (length l.verdicts.items) l.histories l.index l.touched.items };
 }
 
 impl Ledger {
-    fn new(alloc: Global) -> Ledger
-        ensures { judgements result ≡ [] }
+    /// No judgements.
+    pub fn new(alloc: Global) -> Ledger
+        ensures { result ≡ empty_account }
     {
         Ledger {
-            judged: Vec::new(alloc),
+            alloc,
+            verdicts: Vec::new(alloc),
+            histories: Histories::new(alloc),
+            index: Index::new(alloc),
+            touched: Vec::new(alloc),
         }
     }
 
-    fn push(&mut self, judged: Judged) -> Result<(), AllocError>
-        ensures ok { OnOk result (judgements self.new ≡ judgements self.old ++ judgement_of judged ∷ []) }
-        ensures err { OnErr result (judgements self.new ≡ judgements self.old) }
+    /// How many volumes are judged.
+    pub fn reached(&self) -> u64
+        ensures reached { result ≡ length self.now.judged }
+        ensures bound { result < 2 ^ 64 - 1 }
     {
-        self.judged.push(judged)?;
-        Ok(())
+        self.verdicts.len() as u64
     }
 
-    fn reached(&self) -> u64
-        ensures { result ≡ length (judgements self.now) }
-    {
-        self.judged.len() as u64
-    }
-
-    /// The judgement of a volume, from 1.
-    fn get(&self, volume: u64) -> Option<&Judged>
-        ensures { option_map (λ j. judgement_of j.now) result ≡ (if volume == 0 then None else slice_get (judgements self.now) (volume - 1)) }
+    /// The verdict on a volume, from 1.
+    pub fn verdict(&self, volume: u64) -> Option<Verdict>
+        ensures { result ≡ (if volume == 0 then None else option_map (λ j. j.verdict) (slice_get self.now.judged (volume - 1))) }
     {
         if volume == 0 {
             return None;
         }
-        self.judged.get((volume - 1) as usize)
+        verdict_at(&self.verdicts, (volume - 1) as usize)
+    }
+
+    /// The item at a key after a volume, or in the working view for any later one.
+    pub fn item(&self, volume: u64, key: &Key) -> Option<&Item>
+        ensures { option_map (λ i. i.now) result ≡ finite.get (view_in self.now volume).items key.now }
+    {
+        self.histories.item(volume, key)
+    }
+
+    /// Whether the key was ever used until then.
+    pub fn was_used(&self, volume: u64, key: &Key) -> bool
+        ensures { result ≡ was_used (view_in self.now volume) key.now }
+    {
+        self.histories.was_used(volume, key)
+    }
+
+    /// The first `most` items of a kind after a key, or from the start, in key order.
+    pub fn page(
+        &self,
+        alloc: Global,
+        volume: u64,
+        kind: Kind,
+        after: Option<Key>,
+        most: usize,
+    ) -> Result<Vec<Item>, AllocError>
+        ensures { IfOk result (λ items. items.items ≡ page (view_in self.now volume) kind after most) }
+    {
+        Ok(self.histories.page(alloc, volume, kind, after, most)?)
+    }
+
+    // The keys of the items with a mark, in key order, in the last view or the working one.
+    fn keys_of(&self, alloc: Global, volume: u64, mark: Mark) -> Result<Vec<Key>, AllocError>
+        requires { length self.now.judged ≤ volume }
+        ensures { IfOk result (λ keys. keys.items ≡ map (λ e. e.0) (filter (λ e. has_mark mark e.1) (entries (view_in self.now volume)))) }
+    {
+        match self.index.get(mark) {
+            Some(keys) => {
+                keys_in_order(keys);
+                Ok(keys_marked(alloc, &self.histories, volume, &mark, keys)?)
+            }
+            None => Ok(Vec::new(alloc)),
+        }
+    }
+
+    // Whether there are such items.
+    fn has_any(&self, volume: u64, mark: Mark) -> bool
+        requires { length self.now.judged ≤ volume }
+        ensures { result ≡ list_any (λ e. has_mark mark e.1) (entries (view_in self.now volume)) }
+    {
+        match self.index.get(mark) {
+            Some(keys) => {
+                keys_in_order(keys);
+                any_marked(&self.histories, volume, &mark, keys)
+            }
+            None => false,
+        }
+    }
+
+    /// The keys of a BLPU's approved LPIs, in key order, in the last view or the working one.
+    pub fn approved_of(
+        &self,
+        alloc: Global,
+        volume: u64,
+        uprn: Uprn,
+    ) -> Result<Vec<Key>, AllocError>
+        requires { length self.now.judged ≤ volume }
+        ensures { IfOk result (λ keys. keys.items ≡ approved_of (view_in self.now volume) uprn) }
+    {
+        self.keys_of(alloc, volume, Mark::AddressOf(uprn))
+    }
+
+    /// Whether an approved LPI is on a street, and in this language where one is given.
+    pub fn approved_on(&self, volume: u64, usrn: Usrn, lang: Option<Lang>) -> bool
+        requires { length self.now.judged ≤ volume }
+        ensures { result ≡ approved_on (view_in self.now volume) usrn lang }
+    {
+        match lang {
+            Some(lang) => self.has_any(volume, Mark::AddressOn(usrn, lang)),
+            None => {
+                let welsh = self.has_any(volume, Mark::AddressOn(usrn, Lang::Cym));
+                welsh || self.has_any(volume, Mark::AddressOn(usrn, Lang::Eng))
+            }
+        }
+    }
+
+    /// Whether a BLPU is a part of this one.
+    pub fn has_children(&self, volume: u64, uprn: Uprn) -> bool
+        requires { length self.now.judged ≤ volume }
+        ensures { result ≡ has_children (view_in self.now volume) uprn }
+    {
+        self.has_any(volume, Mark::PartOf(uprn))
+    }
+
+    /// Sets an item in the working view. Where memory runs out, nothing changes.
+    pub fn put(&mut self, item: Item) -> Result<(), AllocError>
+        ensures ok { OnOk result (self.new ≡ record { judged = self.old.judged; working = with_item self.old.working item }) }
+        ensures err { OnErr result (self.new ≡ self.old) }
+    {
+        let reached = self.verdicts.len() as u64;
+        let key = Key::of(&item);
+        touch(&mut self.touched, &key)?;
+        change(
+            &mut self.histories,
+            &mut self.index,
+            reached,
+            key,
+            Some(item),
+        )?;
+        Ok(())
+    }
+
+    /// Takes a key's item from the working view. Where memory runs out, nothing changes.
+    pub fn take(&mut self, key: &Key) -> Result<(), AllocError>
+        ensures ok { OnOk result (self.new ≡ record { judged = self.old.judged; working = without_key self.old.working key.now }) }
+        ensures err { OnErr result (self.new ≡ self.old) }
+    {
+        let reached = self.verdicts.len() as u64;
+        if self.histories.item(reached + 1, key).is_none() {
+            return Ok(());
+        }
+        touch(&mut self.touched, key)?;
+        change(&mut self.histories, &mut self.index, reached, *key, None)?;
+        Ok(())
+    }
+
+    /// The working view is the last one again.
+    pub fn undo(&mut self)
+        ensures { self.new ≡ record { judged = self.old.judged; working = last_of self.old } }
+    {
+        let reached = self.verdicts.len() as u64;
+        undo_all(
+            &mut self.histories,
+            &mut self.index,
+            reached,
+            &mut self.touched,
+        );
+    }
+
+    /// Judges the next volume: the working view is the view after it. Where memory runs out, nothing changes.
+    pub fn close(&mut self, verdict: Verdict) -> Result<(), AllocError>
+        ensures ok { OnOk result (self.new ≡ record { judged = self.old.judged ++ record { verdict = verdict; view = self.old.working } ∷ []; working = self.old.working }) }
+        ensures err { OnErr result (self.new ≡ self.old) }
+    {
+        self.verdicts.push(verdict)?;
+        let reached = self.verdicts.len() as u64;
+        forget_all(&self.histories, &mut self.index, reached, &mut self.touched);
+        Ok(())
     }
 }
 
-/// Adds a judgement to those of its custodian.
-pub fn push_judged(
-    alloc: Global,
-    ledgers: &mut BTreeMap<Code, Ledger>,
-    code: Code,
-    judged: Judged,
-) -> Result<(), AllocError>
-    ensures ok { OnOk result (board_of ledgers.new.entries ≡ adds (board_of ledgers.old.entries) code (judgement_of judged)) }
-    ensures err { OnErr result (board_of ledgers.new.entries ≡ board_of ledgers.old.entries) }
+fn verdict_at(verdicts: &[Verdict], place: usize) -> Option<Verdict>
+    ensures { result ≡ slice_get verdicts.now place }
 {
-    if let Some(ledger) = ledgers.get_mut(&code) {
-        return ledger.push(judged);
-    }
-    let mut ledger = Ledger::new(alloc);
-    ledger.push(judged)?;
-    ledgers.insert(code, ledger)?;
-    Ok(())
-}
-
-/// How many volumes of a custodian are judged.
-pub fn reached_in(ledgers: &BTreeMap<Code, Ledger>, code: Code) -> u64
-    ensures { result ≡ reached (board_of ledgers.now.entries) code }
-{
-    match ledgers.get(&code) {
-        Some(ledger) => ledger.reached(),
-        None => 0,
-    }
-}
-
-/// The judgement of a custodian's volume, from 1.
-pub fn judged_in(ledgers: &BTreeMap<Code, Ledger>, code: Code, volume: u64) -> Option<&Judged>
-    ensures { option_map (λ j. judgement_of j.now) result ≡ (if volume == 0 then None else slice_get (board_of ledgers.now.entries code) (volume - 1)) }
-{
-    match ledgers.get(&code) {
-        Some(ledger) => ledger.get(volume),
+    match verdicts.get(place) {
+        Some(verdict) => Some(*verdict),
         None => None,
     }
+}
+
+// Adds a key to those that the next volume has changed.
+fn touch(touched: &mut Vec<Key>, key: &Key) -> Result<(), AllocError>
+    ensures ok { OnOk result (touched.new.items ≡ touched.old.items ++ key.now ∷ []) }
+    ensures err { OnErr result (touched.new.items ≡ touched.old.items) }
+{
+    touched.push(*key)?;
+    Ok(())
 }

@@ -1,9 +1,12 @@
 //! What a hub keeps of each custodian: views and verdicts.
 #![tactic(auto)]
 
+mod accounts;
+mod changes;
 mod fault;
 mod faulty;
 mod files;
+mod histories;
 mod index;
 pub mod laws;
 mod ledger;
@@ -11,7 +14,6 @@ mod mem_shelf;
 mod reading;
 mod shelf;
 mod verdict;
-mod whole_view;
 mod words;
 mod writing;
 
@@ -21,8 +23,9 @@ pub use mem_shelf::MemShelf;
 pub use reading::read_kind;
 pub use shelf::{Inbox, Shelf};
 pub use verdict::Verdict;
-pub use whole_view::WholeView;
 pub use writing::{Ending, put_all, write_volume};
 
+#[cfg(test)]
+mod ledger_tests;
 #[cfg(test)]
 mod tests;

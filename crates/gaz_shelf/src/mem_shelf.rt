@@ -1,25 +1,24 @@
-//! A keeper of whole maps.
-ghost use Rattle.std.specs.Prelude.{◌≡◌, ◌≢◌, ◌≤◌, ◌<◌, ◌==◌, ◌^◌, ◌-◌, ℕ, if◌then◌else◌, ⊤, IfOk, IsOk, MatchOption, OnOk, OnErr, option_map};
+//! A keeper in memory.
+ghost use Rattle.std.specs.Prelude.{◌≡◌, ◌≢◌, ◌≤◌, ◌<◌, ◌==◌, ◌^◌, ◌-◌, ℕ, if◌then◌else◌, ⊤, length, IfOk, IsOk, MatchOption, option_map};
 ghost use Rattle.std.specs.FinMap as map;
-ghost use Rattle.gaz_shelf.specs.View.{empty_view, was_used};
+ghost use Rattle.gaz_shelf.specs.View.{was_used, with_item, without_key};
 ghost use Rattle.gaz_shelf.specs.Words.{approved_of, approved_on, has_children, page};
 ghost use Rattle.gaz_shelf.specs.Board.{adds, last_view, reached, verdict_on, view_after};
-ghost use Rattle.gaz_shelf.specs.Ledgers.{board_of, judgement_of, or_empty};
+ghost use Rattle.gaz_shelf.specs.Ledgers.{board_of, empty_account, view_in};
 ghost use Rattle.gaz_shelf.specs.Received.{count_above};
 ghost use Rattle.gaz_shelf.specs.Keeper.{Broken, Content, Enters, Goes, Idle, IsAtHand, IsNew, IsNotOpen, Keeps, Open, Reads, Refuses, Seen, Sets, begun, closed, empty_content, kept, skipped, view_of, with_received};
 ghost use Rattle.gaz_shelf.specs.Mem.{content_in, progress_of, seen_in, working_of};
 
+use crate::accounts::{close_in, ledger_of, open_in, put_in, take_in, undo_in};
 use crate::fault::ShelfFault;
 use crate::files::Files;
-use crate::ledger::{Judged, Ledger, judged_in, push_judged, reached_in};
+use crate::ledger::Ledger;
 use crate::shelf::{Inbox, Shelf};
 use crate::verdict::Verdict;
-use crate::whole_view::WholeView;
 use gaz_ids::{Code, Lang, Uprn, Usrn, Volume};
 use gaz_records::{Item, Key, Kind};
 use std::alloc::{AllocError, Global};
 use std::collections::BTreeMap;
-use std::rc::Rc;
 
 /// Whether a judgement is in progress, and whose.
 #[derive(Clone, Copy, Debug, PartialEq, Eq)]
@@ -29,7 +28,7 @@ pub enum Judging {
     Broken,
 }
 
-/// Keeps received files and boards as whole maps in memory.
+/// Keeps received files and boards in memory: each custodian's items once, with the volumes at which they changed.
 ///
 /// It is the plain keeper, with which others are compared.
 #[derive(Drop)]
@@ -38,8 +37,6 @@ pub struct MemShelf {
     files: Files,
     ledgers: BTreeMap<Code, Ledger>,
     judging: Judging,
-    // As it was left where no judgement is in progress.
-    working: WholeView,
     failures: u64,
 }
 
@@ -55,7 +52,6 @@ impl MemShelf {
             files: Files::new(alloc),
             ledgers: BTreeMap::new(alloc),
             judging: Judging::Idle,
-            working: WholeView::new(alloc),
             failures: 0,
         }
     }
@@ -85,92 +81,80 @@ impl MemShelf {
         }
     }
 
-    /// The view after a volume, where it is reached and isn't the first, empty one.
-    fn view_after(&self, code: Code, volume: u64) -> Option<&WholeView>
-        ensures { or_empty (option_map (λ v. v.now) result) ≡ view_after (board_of self.now.ledgers.entries) code volume }
+    /// A custodian's ledger, or the empty one that is given, and the volume at which it is seen.
+    fn seen<'a>(&'a self, code: Code, empty: &'a Ledger) -> (&'a Ledger, u64)
+        requires { empty.now ≡ empty_account }
+        ensures view { view_in result.0.now result.1 ≡ view_of (seen_in self.now) code }
+        ensures reached { length result.0.now.judged ≤ result.1 }
     {
-        match judged_in(&self.ledgers, code, volume) {
-            Some(judged) => Some(judged.view.as_ref()),
-            None => None,
-        }
-    }
-
-    /// A custodian's view, where it isn't the first, empty one.
-    fn view_of(&self, code: Code) -> Option<&WholeView>
-        ensures { or_empty (option_map (λ v. v.now) result) ≡ view_of (seen_in self.now) code }
-    {
+        let ledger = ledger_of(&self.ledgers, code, empty);
+        let reached = ledger.reached();
         match self.judging {
-            Judging::Open(judged) if judged == code => Some(&self.working),
-            _ => self.view_after(code, reached_in(&self.ledgers, code)),
+            Judging::Open(judged) if judged == code => (ledger, reached + 1),
+            _ => (ledger, reached),
         }
     }
 
-    /// The same, whichever it is.
-    fn copy_last(&self, code: Code) -> Result<WholeView, AllocError>
-        ensures { IfOk result (λ v. v ≡ last_view (board_of self.now.ledgers.entries) code) }
+    fn count_reached(&self, code: Code) -> u64
+        ensures { result ≡ reached (board_of self.now.ledgers.entries) code }
     {
-        match self.view_after(code, reached_in(&self.ledgers, code)) {
-            Some(view) => Ok(view.clone()?),
-            None => Ok(WholeView::new(self.alloc)),
-        }
+        let empty = Ledger::new(self.alloc);
+        ledger_of(&self.ledgers, code, &empty).reached()
     }
 
-    /// A custodian's last view, shared with the judgement that has it.
-    fn share_last(&self, code: Code) -> Result<Rc<WholeView>, AllocError>
-        ensures { IfOk result (λ v. v.value ≡ last_view (board_of self.now.ledgers.entries) code) }
+    fn find_verdict(&self, code: Code, volume: Volume) -> Option<Verdict>
+        ensures { result ≡ verdict_on (board_of self.now.ledgers.entries) code volume }
     {
-        match judged_in(&self.ledgers, code, reached_in(&self.ledgers, code)) {
-            Some(judged) => Ok(judged.view.clone()?),
-            None => Ok(Rc::new(self.alloc, WholeView::new(self.alloc))?),
-        }
+        let empty = Ledger::new(self.alloc);
+        ledger_of(&self.ledgers, code, &empty).verdict(volume.number())
     }
 
     fn find_current(&self, code: Code, key: &Key) -> Result<Option<Item>, AllocError>
         ensures { IfOk result (λ i. i ≡ map.get (view_of (seen_in self.now) code).items key.now) }
     {
-        let empty = WholeView::new(self.alloc);
-        let view = or_first(self.view_of(code), &empty);
-        Ok(copy_found(view.get(key))?)
+        let empty = Ledger::new(self.alloc);
+        let (ledger, volume) = self.seen(code, &empty);
+        Ok(copy_found(ledger.item(volume, key))?)
     }
 
     fn find_at(&self, code: Code, volume: u64, key: &Key) -> Result<Option<Item>, AllocError>
-        ensures { IfOk result (λ i. i ≡ map.get (view_after (board_of self.now.ledgers.entries) code volume).items key.now) }
+        ensures { IfOk result (λ i. volume ≤ reached (board_of self.now.ledgers.entries) code → i ≡ map.get (view_after (board_of self.now.ledgers.entries) code volume).items key.now) }
     {
-        let empty = WholeView::new(self.alloc);
-        let view = or_first(self.view_after(code, volume), &empty);
-        Ok(copy_found(view.get(key))?)
+        let empty = Ledger::new(self.alloc);
+        let ledger = ledger_of(&self.ledgers, code, &empty);
+        Ok(copy_found(ledger.item(volume, key))?)
     }
 
     fn find_ever(&self, code: Code, key: &Key) -> bool
         ensures { result ≡ was_used (view_of (seen_in self.now) code) key.now }
     {
-        let empty = WholeView::new(self.alloc);
-        let view = or_first(self.view_of(code), &empty);
-        view.was_used(key)
+        let empty = Ledger::new(self.alloc);
+        let (ledger, volume) = self.seen(code, &empty);
+        ledger.was_used(volume, key)
     }
 
     fn find_approved(&self, code: Code, uprn: Uprn) -> Result<Vec<Key>, AllocError>
         ensures { IfOk result (λ keys. keys.items ≡ approved_of (view_of (seen_in self.now) code) uprn) }
     {
-        let empty = WholeView::new(self.alloc);
-        let view = or_first(self.view_of(code), &empty);
-        Ok(view.approved_of(self.alloc, uprn)?)
+        let empty = Ledger::new(self.alloc);
+        let (ledger, volume) = self.seen(code, &empty);
+        Ok(ledger.approved_of(self.alloc, volume, uprn)?)
     }
 
     fn find_approved_on(&self, code: Code, usrn: Usrn, lang: Option<Lang>) -> bool
         ensures { result ≡ approved_on (view_of (seen_in self.now) code) usrn lang }
     {
-        let empty = WholeView::new(self.alloc);
-        let view = or_first(self.view_of(code), &empty);
-        view.approved_on(usrn, lang)
+        let empty = Ledger::new(self.alloc);
+        let (ledger, volume) = self.seen(code, &empty);
+        ledger.approved_on(volume, usrn, lang)
     }
 
     fn find_children(&self, code: Code, uprn: Uprn) -> bool
         ensures { result ≡ has_children (view_of (seen_in self.now) code) uprn }
     {
-        let empty = WholeView::new(self.alloc);
-        let view = or_first(self.view_of(code), &empty);
-        view.has_children(uprn)
+        let empty = Ledger::new(self.alloc);
+        let (ledger, volume) = self.seen(code, &empty);
+        ledger.has_children(volume, uprn)
     }
 
     fn find_page(
@@ -181,20 +165,11 @@ impl MemShelf {
         after: Option<Key>,
         most: usize,
     ) -> Result<Vec<Item>, AllocError>
-        ensures { IfOk result (λ items. items.items ≡ page (view_after (board_of self.now.ledgers.entries) code volume) kind after most) }
+        ensures { IfOk result (λ items. volume ≤ reached (board_of self.now.ledgers.entries) code → items.items ≡ page (view_after (board_of self.now.ledgers.entries) code volume) kind after most) }
     {
-        let empty = WholeView::new(self.alloc);
-        let view = or_first(self.view_after(code, volume), &empty);
-        Ok(view.page(self.alloc, kind, after, most)?)
-    }
-
-    fn find_verdict(&self, code: Code, volume: Volume) -> Option<Verdict>
-        ensures { result ≡ verdict_on (board_of self.now.ledgers.entries) code volume }
-    {
-        match judged_in(&self.ledgers, code, volume.number()) {
-            Some(judged) => Some(judged.verdict),
-            None => None,
-        }
+        let empty = Ledger::new(self.alloc);
+        let ledger = ledger_of(&self.ledgers, code, &empty);
+        Ok(ledger.page(self.alloc, volume, kind, after, most)?)
     }
 
     fn find_file(&self, code: Code, volume: Volume) -> Result<Option<Vec<u8>>, AllocError>
@@ -211,7 +186,7 @@ impl MemShelf {
         ensures fault { result ≡ (if self.old.failures == 2 ^ 64 - 1 then ShelfFault.Memory else ShelfFault.Store) }
         ensures kept { self.old.failures ≤ self.new.failures }
         ensures store { result ≡ ShelfFault.Store → self.old.failures < self.new.failures }
-        ensures others { self.new ≡ record { alloc = self.old.alloc; files = self.old.files; ledgers = self.old.ledgers; judging = self.old.judging; working = self.old.working; failures = self.new.failures } }
+        ensures others { self.new ≡ record { alloc = self.old.alloc; files = self.old.files; ledgers = self.old.ledgers; judging = self.old.judging; failures = self.new.failures } }
     {
         if self.failures == u64::MAX {
             return ShelfFault::Memory;
@@ -220,22 +195,40 @@ impl MemShelf {
         ShelfFault::Store
     }
 
-    /// Takes the working view, and leaves the empty one.
-    fn take_working(&mut self) -> WholeView
-        ensures view { result ≡ self.old.working }
-        ensures others { self.new ≡ record { alloc = self.old.alloc; files = self.old.files; ledgers = self.old.ledgers; judging = self.old.judging; working = self.new.working; failures = self.old.failures } }
+    /// Sets an item in the working view of the custodian that is being judged.
+    fn put_open(&mut self, code: Code, item: Item) -> Result<(), ShelfFault>
+        requires { progress_of self.old.judging ≡ Open code }
+        ensures { Sets (seen_in self.old) (seen_in self.new) result (with_item (content_in self.old).working item) }
     {
-        let empty = WholeView::new(self.alloc);
-        std::mem::replace(&mut self.working, empty)
+        match put_in(&mut self.ledgers, code, item) {
+            Ok(()) => Ok(()),
+            Err(_) => {
+                self.judging = Judging::Broken;
+                Err(ShelfFault::Memory)
+            }
+        }
+    }
+
+    /// Takes a key's item from it.
+    fn take_open(&mut self, code: Code, key: &Key) -> Result<(), ShelfFault>
+        requires { progress_of self.old.judging ≡ Open code }
+        ensures { Sets (seen_in self.old) (seen_in self.new) result (without_key (content_in self.old).working key.now) }
+    {
+        match take_in(&mut self.ledgers, code, key) {
+            Ok(()) => Ok(()),
+            Err(_) => {
+                self.judging = Judging::Broken;
+                Err(ShelfFault::Memory)
+            }
+        }
     }
 
     /// Ends a custodian's judgement as applied.
     fn finish(&mut self, code: Code) -> Result<(), ShelfFault>
         requires { progress_of self.old.judging ≡ Open code }
-        ensures keeps { Goes (seen_in self.old) (seen_in self.new) result ⊤ (kept (progress_of self.old.judging) (content_in self.old)) Idle }
+        ensures { Goes (seen_in self.old) (seen_in self.new) result ⊤ (kept (progress_of self.old.judging) (content_in self.old)) Idle }
     {
-        let view = self.take_working();
-        match self.add(code, Verdict::Applied, view) {
+        match close_in(&mut self.ledgers, code, Verdict::Applied) {
             Ok(()) => {
                 self.judging = Judging::Idle;
                 Ok(())
@@ -245,32 +238,6 @@ impl MemShelf {
                 Err(ShelfFault::Memory)
             }
         }
-    }
-
-    /// Adds a judgement.
-    fn add(&mut self, code: Code, verdict: Verdict, view: WholeView) -> Result<(), AllocError>
-        ensures ok { OnOk result (board_of self.new.ledgers.entries ≡ adds (board_of self.old.ledgers.entries) code (record { verdict = verdict; view = view })) }
-        ensures err { OnErr result (board_of self.new.ledgers.entries ≡ board_of self.old.ledgers.entries) }
-        ensures others { self.new ≡ record { alloc = self.old.alloc; files = self.old.files; ledgers = self.new.ledgers; judging = self.old.judging; working = self.old.working; failures = self.old.failures } }
-    {
-        let view = Rc::new(self.alloc, view)?;
-        push_judged(
-            self.alloc,
-            &mut self.ledgers,
-            code,
-            Judged { verdict, view },
-        )
-    }
-}
-
-/// The view, or the empty one that is given.
-fn or_first<'a>(view: Option<&'a WholeView>, empty: &'a WholeView) -> &'a WholeView
-    requires { empty.now ≡ empty_view }
-    ensures { result.now ≡ or_empty (option_map (λ v. v.now) view.entry) }
-{
-    match view {
-        Some(view) => view,
-        None => empty,
     }
 }
 
@@ -293,7 +260,7 @@ impl Shelf for MemShelf {
         ensures answers { IsOk result }
     {
         self.clear();
-        Ok(reached_in(&self.ledgers, code))
+        Ok(self.count_reached(code))
     }
 
     fn verdict(&mut self, code: Code, volume: Volume) -> Result<Option<Verdict>, ShelfFault>
@@ -355,9 +322,8 @@ impl Shelf for MemShelf {
     }
 
     fn begin(&mut self, code: Code) -> Result<(), ShelfFault> {
-        match self.copy_last(code) {
-            Ok(view) => {
-                self.working = view;
+        match open_in(self.alloc, &mut self.ledgers, code) {
+            Ok(()) => {
                 self.judging = Judging::Open(code);
                 Ok(())
             }
@@ -369,30 +335,20 @@ impl Shelf for MemShelf {
     }
 
     fn put(&mut self, item: Item) -> Result<(), ShelfFault> {
-        if matches!(self.judging, Judging::Broken) {
-            return Err(self.fail());
-        }
-        match self.working.put(item) {
-            Ok(()) => Ok(()),
-            Err(_) => {
-                self.judging = Judging::Broken;
-                Err(ShelfFault::Memory)
-            }
+        match self.open_code() {
+            Some(code) => self.put_open(code, item),
+            None => Err(self.fail()),
         }
     }
 
     fn take(&mut self, key: &Key) -> Result<(), ShelfFault> {
-        if matches!(self.judging, Judging::Broken) {
-            return Err(self.fail());
+        match self.open_code() {
+            Some(code) => self.take_open(code, key),
+            None => Err(self.fail()),
         }
-        self.working.take(key);
-        Ok(())
     }
 
     fn keep(&mut self) -> Result<(), ShelfFault> {
-        if matches!(self.judging, Judging::Broken) {
-            return Err(self.fail());
-        }
         match self.open_code() {
             Some(code) => self.finish(code),
             None => Err(self.fail()),
@@ -400,21 +356,17 @@ impl Shelf for MemShelf {
     }
 
     fn abandon(&mut self) -> Result<(), ShelfFault> {
-        self.working = WholeView::new(self.alloc);
+        if let Some(code) = self.open_code() {
+            undo_in(&mut self.ledgers, code);
+        }
         self.judging = Judging::Idle;
         Ok(())
     }
 
     fn skip(&mut self, code: Code, place: u64, rule: u8) -> Result<(), ShelfFault> {
         self.clear();
-        let view = self.share_last(code)?;
-        let verdict = Verdict::Rejected { place, rule };
-        push_judged(
-            self.alloc,
-            &mut self.ledgers,
-            code,
-            Judged { verdict, view },
-        )?;
+        open_in(self.alloc, &mut self.ledgers, code)?;
+        close_in(&mut self.ledgers, code, Verdict::Rejected { place, rule })?;
         Ok(())
     }
 }
@@ -436,9 +388,6 @@ impl Inbox for MemShelf {
         ensures answers { IsOk result }
     {
         self.clear();
-        Ok(
-            self.files
-                .count_above(code, reached_in(&self.ledgers, code)),
-        )
+        Ok(self.files.count_above(code, self.count_reached(code)))
     }
 }

@@ -1,41 +1,12 @@
 ghost use Rattle.std.specs.Prelude.{◌≡◌, ◌≤◌, OnOk};
 ghost use Rattle.gaz_shelf.specs.Keeper.{Idle};
 
-use crate::{
-    Ending, Faulty, Inbox, MemShelf, Shelf, ShelfFault, Verdict, WholeView, read_kind, write_volume,
-};
+use crate::{Ending, Faulty, Inbox, MemShelf, Shelf, ShelfFault, Verdict, read_kind, write_volume};
 use gaz_ids::{Code, Lang, Uprn, Usrn, Volume};
-use gaz_records::{Day, Item, Key, Kind, RecordKey, Street, item_of_text, item_text};
+use gaz_records::{Item, Key, Kind, RecordKey, item_of_text, item_text};
 use std::alloc::Global;
 use std::process::Abort;
 use std::test::Fail;
-
-// An open street of 2001.
-fn street(usrn: u64) -> Result<Item, Fail> {
-    Ok(Item::Street(Street {
-        usrn: Usrn::of(usrn).ok_or("usrn")?,
-        sort: 1,
-        start: Day::of(2001, 4, 1).ok_or("day")?,
-        end: None,
-    }))
-}
-
-#[test]
-fn a_taken_street_stays_used(rt: HostRuntime) -> Result<(), Fail> {
-    let mut view = WholeView::new(rt.alloc());
-    let (first, second) = (Key::of(&street(101)?), Key::of(&street(102)?));
-    view.put(street(101)?)?;
-    let before = view.clone()?;
-    view.put(street(102)?)?;
-    view.take(&first);
-    assert!(rt; view.get(&first).is_none() && !view.holds(&first) && view.was_used(&first));
-    assert!(rt;
-        view.get(&second)
-            .is_some_and(|item| Key::of(item) == second)
-    );
-    assert!(rt; before.holds(&first) && !before.was_used(&second));
-    Ok(())
-}
 
 // ---- one list of calls over two keepers, between which no judgement is in progress
 

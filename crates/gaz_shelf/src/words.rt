@@ -1,10 +1,13 @@
 //! What is asked of a view, over its entries as they stand.
-ghost use Rattle.std.specs.Prelude.{◌≡◌, ◌&&◌, map, filter, take, IfOk};
+ghost use Rattle.std.specs.Prelude.{◌≡◌, ◌&&◌, map, filter, take, if◌then◌else◌, IfOk, None, option_map};
 ghost use Rattle.std.specs.BTreeMap.{keys};
 ghost use Rattle.std.specs.List.Sorted.{IsStrictlySortedBy};
+ghost use Rattle.gaz_histories.specs.Histories.{item_at};
+ghost use Rattle.gaz_shelf.specs.Gazetteer.{rows_at};
 ghost use Rattle.gaz_shelf.specs.Words.{comes_after, is_approved_of, is_approved_on, is_child_of, is_in, is_of};
 ghost use Rattle.gaz_shelf.specs.Reading.{is_past, number_of, start_after};
 
+use gaz_histories::History;
 use gaz_ids::{Lang, Status, Uprn, Usrn};
 use gaz_records::{Item, Key, Kind};
 use std::alloc::{AllocError, Global};
@@ -64,10 +67,10 @@ fn is_of(kind: Kind, key: &Key) -> bool
 }
 
 /// The entries stand in the order of keys.
-pub fn in_order(items: &BTreeMap<Key, Item>)
-    ensures { IsStrictlySortedBy ⟦<Key as Ord>⟧.cmp (keys items.now) }
+pub fn in_order(histories: &BTreeMap<Key, History>)
+    ensures { IsStrictlySortedBy ⟦<Key as Ord>⟧.cmp (keys histories.now) }
 {
-    let _count = items.len();
+    let _count = histories.len();
 }
 
 // The record identifier of a kind.
@@ -107,22 +110,33 @@ fn start_after(after: Option<Key>) -> Bound<Key>
     }
 }
 
-/// The first items of a kind after a key.
+// The item that stands at a key of the kind after a volume.
+fn wanted<'a>(kind: Kind, volume: u64, key: &Key, history: &'a History) -> Option<&'a Item>
+    ensures { option_map (λ i. i.now) result ≡ (if is_of kind key.now then item_at history.now volume else None) }
+{
+    if !is_of(kind, key) {
+        return None;
+    }
+    history.item_at(volume)
+}
+
+/// The first items of a kind after a key, as they stand after a volume.
 pub fn page_of(
     alloc: Global,
-    items: &BTreeMap<Key, Item>,
+    histories: &BTreeMap<Key, History>,
+    volume: u64,
     kind: Kind,
     after: Option<Key>,
     most: usize,
 ) -> Result<Vec<Item>, AllocError>
-    ensures { IfOk result (λ found. found.items ≡ take most (map (λ e. e.1) (filter (λ e. is_of kind e.0 && comes_after after e.0) items.now.entries))) }
+    ensures { IfOk result (λ found. found.items ≡ take most (map (λ e. e.1) (filter (λ e. is_of kind e.0 && comes_after after e.0) (rows_at histories.now.entries volume)))) }
 {
     let mut found = Vec::new(alloc);
-    for (key, item) in items.range((start_after(after), Bound::Unbounded)) {
+    for (key, history) in histories.range((start_after(after), Bound::Unbounded)) {
         if found.len() == most || is_past(kind, key) {
             return Ok(found);
         }
-        if is_of(kind, key) {
+        if let Some(item) = wanted(kind, volume, key, history) {
             found.push(item.copy()?)?;
         }
     }

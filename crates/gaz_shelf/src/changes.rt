@@ -1,0 +1,125 @@
+//! Changes of what stands at keys and of what is found under marks, at the volume after those reached.
+ghost use Rattle.std.specs.Prelude.{◌≡◌, ◌≤◌, ◌<◌, ◌+◌, ◌-◌, ◌^◌, ◌++◌, ◌∷◌, [], ℕ, OnOk, OnErr};
+ghost use Rattle.gaz_histories.specs.Histories.{before};
+ghost use Rattle.gaz_shelf.specs.Gazetteer.{ChangesAt, versions_at, view_at};
+ghost use Rattle.gaz_shelf.specs.Ledgers.{Finds, IsLedger};
+
+use crate::histories::Histories;
+use crate::index::{Index, Mark, is_marked, marks_at, marks_of};
+use gaz_records::{Item, Key};
+use std::alloc::AllocError;
+
+// Forgets a mark of a key where its item has it neither in the last view nor in the working one.
+fn forget_mark(
+    histories: &Histories,
+    index: &mut Index,
+    reached: u64,
+    key: &Key,
+    mark: Option<Mark>,
+)
+    requires { reached < 2 ^ 64 - 1 }
+    ensures { Finds index.old histories.now reached → Finds index.new histories.now reached }
+{
+    if let Some(mark) = mark {
+        if !is_marked(histories, reached, &mark, key)
+            && !is_marked(histories, reached + 1, &mark, key)
+        {
+            index.remove(mark, key);
+        }
+    }
+}
+
+// The same of two marks.
+fn forget(
+    histories: &Histories,
+    index: &mut Index,
+    reached: u64,
+    key: &Key,
+    marks: (Option<Mark>, Option<Mark>),
+)
+    requires { reached < 2 ^ 64 - 1 }
+    ensures { Finds index.old histories.now reached → Finds index.new histories.now reached }
+{
+    let (first, second) = marks;
+    forget_mark(histories, index, reached, key, first);
+    forget_mark(histories, index, reached, key, second);
+}
+
+// Sets an item at a key, under its marks, or takes the one that stands there.
+fn set_found(
+    histories: &mut Histories,
+    index: &mut Index,
+    reached: u64,
+    key: Key,
+    item: Option<Item>,
+) -> Result<(), AllocError>
+    requires { reached < 2 ^ 64 - 1 }
+    ensures ok { OnOk result (ChangesAt histories.old histories.new key (before (versions_at histories.old key) (reached + 1) ++ (reached + 1, item) ∷ [])) }
+    ensures err { OnErr result (histories.new ≡ histories.old) }
+    ensures finds { Finds index.old histories.old reached → Finds index.new histories.new reached }
+{
+    index.add_marks_of(&item, &key)?;
+    histories.set(reached + 1, key, item)?;
+    Ok(())
+}
+
+/// The same, and forgets the marks that are left without an item.
+pub fn change(
+    histories: &mut Histories,
+    index: &mut Index,
+    reached: u64,
+    key: Key,
+    item: Option<Item>,
+) -> Result<(), AllocError>
+    requires { reached < 2 ^ 64 - 1 }
+    ensures ok { OnOk result (ChangesAt histories.old histories.new key (before (versions_at histories.old key) (reached + 1) ++ (reached + 1, item) ∷ [])) }
+    ensures err { OnErr result (histories.new ≡ histories.old) }
+    ensures finds { Finds index.old histories.old reached → Finds index.new histories.new reached }
+{
+    let was = marks_at(histories, reached + 1, &key);
+    let comes = match &item {
+        Some(item) => marks_of(item),
+        None => (None, None),
+    };
+    let changed = set_found(histories, index, reached, key, item);
+    forget(histories, index, reached, &key, was);
+    forget(histories, index, reached, &key, comes);
+    changed
+}
+
+// A key is again as the last view has it.
+fn undo_key(histories: &mut Histories, index: &mut Index, reached: u64, key: &Key)
+    requires { reached < 2 ^ 64 - 1 }
+    ensures change { ChangesAt histories.old histories.new key.now (before (versions_at histories.old key.now) (reached + 1)) }
+    ensures finds { Finds index.old histories.old reached → Finds index.new histories.new reached }
+{
+    let was = marks_at(histories, reached + 1, key);
+    histories.cut(reached + 1, key);
+    forget(histories, index, reached, key, was);
+}
+
+/// All keys that were touched are as the last view has them. The views so far stay.
+pub fn undo_all(histories: &mut Histories, index: &mut Index, reached: u64, touched: &mut Vec<Key>)
+    requires bound { reached < 2 ^ 64 - 1 }
+    requires ledger { IsLedger reached histories.old index.old touched.old.items }
+    ensures ledger { IsLedger reached histories.new index.new touched.new.items }
+    ensures undone { touched.new.items ≡ [] }
+    ensures past { (volume : ℕ) → volume ≤ reached → view_at histories.new volume ≡ view_at histories.old volume }
+{
+    while let Some(key) = touched.pop() {
+        undo_key(histories, index, reached, &key);
+    }
+}
+
+/// Forgets what the keys that were touched were found by before the volume that is reached now.
+pub fn forget_all(histories: &Histories, index: &mut Index, reached: u64, touched: &mut Vec<Key>)
+    requires some { 0 < reached }
+    requires bound { reached < 2 ^ 64 - 1 }
+    ensures finds { Finds index.old histories.now reached → Finds index.new histories.now reached }
+    ensures none { touched.new.items ≡ [] }
+{
+    while let Some(key) = touched.pop() {
+        let was = marks_at(histories, reached - 1, &key);
+        forget(histories, index, reached, &key, was);
+    }
+}

@@ -1,0 +1,122 @@
+//! What stood at each key through the volumes of a gazetteer.
+ghost use Rattle.std.specs.Prelude.{◌≡◌, ◌++◌, ◌∷◌, [], IfOk, OnOk, OnErr, option_map};
+ghost use Rattle.std.specs.FinMap as finite;
+ghost use Rattle.gaz_histories.specs.Histories.{before, item_at, was_used_at};
+ghost use Rattle.gaz_records.specs.declared.key.Key.{Key};
+ghost use Rattle.gaz_shelf.specs.Gazetteer.{ChangesAt, versions_at, view_at};
+ghost use Rattle.gaz_shelf.specs.Words.{page};
+
+use crate::words::{in_order, page_of};
+use gaz_histories::History;
+use gaz_records::{Item, Key, Kind};
+use std::alloc::{AllocError, Global};
+use std::collections::BTreeMap;
+use std::marker::Model;
+
+/// The history of each key that was ever used.
+#[derive(Drop)]
+pub struct Histories {
+    alloc: Global,
+    by_key: BTreeMap<Key, History>,
+}
+
+impl Model for Histories {
+    ghost use Rattle.std.specs.FinMap as finite;
+    ghost use Rattle.gaz_shelf.specs.Gazetteer.{Gazetteer};
+    ghost use Rattle.gaz_shelf.specs.ViewCode.{gazetteer_code};
+
+    ghost Value = { Gazetteer };
+
+    ghost coded = { gazetteer_code };
+
+    ghost view = { λ h. finite.from_entries h.by_key.entries };
+}
+
+impl Histories {
+    /// No key was used.
+    pub fn new(alloc: Global) -> Histories
+        ensures { result ≡ finite.empty }
+    {
+        Histories {
+            alloc,
+            by_key: BTreeMap::new(alloc),
+        }
+    }
+
+    /// The item at a key after a volume.
+    pub fn item(&self, volume: u64, key: &Key) -> Option<&Item>
+        ensures { option_map (λ i. i.now) result ≡ item_at (versions_at self.now key.now) volume }
+    {
+        match self.by_key.get(key) {
+            Some(history) => history.item_at(volume),
+            None => None,
+        }
+    }
+
+    /// Whether the key was used at a volume or before it.
+    pub fn was_used(&self, volume: u64, key: &Key) -> bool
+        ensures { result ≡ was_used_at (versions_at self.now key.now) volume }
+    {
+        match self.by_key.get(key) {
+            Some(history) => history.was_used(volume),
+            None => false,
+        }
+    }
+
+    /// The first `most` items of a kind after a key, or from the start, in key order, after a volume.
+    pub fn page(
+        &self,
+        alloc: Global,
+        volume: u64,
+        kind: Kind,
+        after: Option<Key>,
+        most: usize,
+    ) -> Result<Vec<Item>, AllocError>
+        ensures { IfOk result (λ items. items.items ≡ page (view_at self.now volume) kind after most) }
+    {
+        in_order(&self.by_key);
+        Ok(page_of(alloc, &self.by_key, volume, kind, after, most)?)
+    }
+
+    /// From a volume on this item stands at a key, or none any more. What began there at the volume or after it is forgotten.
+    pub fn set(&mut self, volume: u64, key: Key, item: Option<Item>) -> Result<(), AllocError>
+        ensures ok { OnOk result (ChangesAt self.old self.new key (before (versions_at self.old key) volume ++ (volume, item) ∷ [])) }
+        ensures err { OnErr result (self.new ≡ self.old) }
+    {
+        if let Some(history) = self.by_key.get_mut(&key) {
+            return history.set(self.alloc, volume, item);
+        }
+        let mut history = History::new(self.alloc);
+        history.set(self.alloc, volume, item)?;
+        self.by_key.insert(key, history)?;
+        Ok(())
+    }
+
+    /// Forgets what began at a key at a volume or after it.
+    pub fn cut(&mut self, volume: u64, key: &Key)
+        ensures { ChangesAt self.old self.new key.now (before (versions_at self.old key.now) volume) }
+    {
+        self.cut_there(volume, key);
+        self.remove_empty(key);
+    }
+
+    fn cut_there(&mut self, volume: u64, key: &Key)
+        ensures { ChangesAt self.old self.new key.now (before (versions_at self.old key.now) volume) }
+    {
+        let Some(history) = self.by_key.get_mut(key) else {
+            return;
+        };
+        history.cut(volume);
+    }
+
+    // Keeps nothing of a key that was never used.
+    fn remove_empty(&mut self, key: &Key)
+        ensures { (k : Key) → versions_at self.new k ≡ versions_at self.old k }
+    {
+        if let Some(history) = self.by_key.get(key) {
+            if history.is_empty() {
+                self.by_key.remove(key);
+            }
+        }
+    }
+}

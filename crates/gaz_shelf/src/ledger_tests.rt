@@ -1,0 +1,139 @@
+//! A ledger through its volumes, and what its index holds then.
+use crate::Verdict;
+use crate::changes::{change, forget_all};
+use crate::histories::Histories;
+use crate::index::{Index, Mark};
+use crate::ledger::Ledger;
+use gaz_ids::{Uprn, Usrn};
+use gaz_records::{Item, Key, Kind, item_of_text, item_text};
+use std::alloc::Global;
+use std::process::Abort;
+use std::test::Fail;
+
+const OPEN: &str = "101,1,2001-04-01,";
+
+const CLOSED: &str = "101,1,2001-04-01,2023-05-01";
+
+fn item(alloc: Global, kind: Kind, row: &str) -> Result<Item, Fail> {
+    Ok(item_of_text(alloc, kind, row.as_bytes())?)
+}
+
+fn street(alloc: Global, row: &str) -> Result<Item, Fail> {
+    item(alloc, Kind::Street, row)
+}
+
+fn street_key(number: u64) -> Result<Key, Fail> {
+    Ok(Key::Street(Usrn::of(number).ok_or("a USRN")?))
+}
+
+// This row is written of the item at a key after a volume, or none stands there where none is given.
+fn is_row(
+    rt: &(impl Abort + AllocGlobal),
+    ledger: &Ledger,
+    volume: u64,
+    key: &Key,
+    row: Option<&str>,
+) -> Result<(), Fail> {
+    match (ledger.item(volume, key), row) {
+        (Some(item), Some(row)) => {
+            assert!(rt; item_text(rt.alloc(), item)?.as_slice() == row.as_bytes());
+        }
+        (found, row) => assert!(rt; found.is_none() && row.is_none()),
+    }
+    Ok(())
+}
+
+// Volume 1 inserts street 101, volume 2 is rejected, volume 3 closes the street and inserts 102, volume 4 takes 101.
+fn four_volumes(alloc: Global) -> Result<Ledger, Fail> {
+    let mut ledger = Ledger::new(alloc);
+    let (first, second) = (street_key(101)?, street_key(102)?);
+    ledger.put(street(alloc, OPEN)?)?;
+    ledger.close(Verdict::Applied)?;
+    ledger.take(&first)?;
+    ledger.undo();
+    ledger.close(Verdict::Rejected { place: 2, rule: 21 })?;
+    ledger.put(street(alloc, OPEN)?)?;
+    ledger.put(street(alloc, "102,1,2001-04-01,")?)?;
+    ledger.put(street(alloc, CLOSED)?)?;
+    ledger.close(Verdict::Applied)?;
+    ledger.take(&second)?;
+    ledger.take(&first)?;
+    ledger.put(street(alloc, "102,1,2001-04-01,")?)?;
+    ledger.close(Verdict::Applied)?;
+    Ok(ledger)
+}
+
+#[test]
+fn each_volume_keeps_its_view(rt: HostRuntime) -> Result<(), Fail> {
+    let ledger = four_volumes(rt.alloc())?;
+    let (first, second) = (street_key(101)?, street_key(102)?);
+    assert_eq!(rt; ledger.reached(), 4);
+    assert!(rt; ledger.verdict(2) == Some(Verdict::Rejected { place: 2, rule: 21 }));
+    assert!(rt; ledger.verdict(0).is_none() && ledger.verdict(5).is_none());
+    is_row(&rt, &ledger, 0, &first, None)?;
+    is_row(&rt, &ledger, 1, &first, Some(OPEN))?;
+    is_row(&rt, &ledger, 2, &first, Some(OPEN))?;
+    is_row(&rt, &ledger, 3, &first, Some(CLOSED))?;
+    is_row(&rt, &ledger, 4, &first, None)?;
+    is_row(&rt, &ledger, 5, &first, None)?;
+    is_row(&rt, &ledger, 2, &second, None)?;
+    is_row(&rt, &ledger, 4, &second, Some("102,1,2001-04-01,"))?;
+    assert!(rt; !ledger.was_used(0, &first) && ledger.was_used(4, &first));
+    assert!(rt; !ledger.was_used(2, &second) && ledger.was_used(3, &second));
+    Ok(())
+}
+
+#[test]
+fn what_is_undone_was_never_there(rt: HostRuntime) -> Result<(), Fail> {
+    let mut ledger = four_volumes(rt.alloc())?;
+    let (first, second, third) = (street_key(101)?, street_key(102)?, street_key(103)?);
+    ledger.put(street(rt.alloc(), OPEN)?)?;
+    ledger.take(&second)?;
+    ledger.take(&third)?;
+    ledger.put(street(rt.alloc(), "103,1,2001-04-01,")?)?;
+    is_row(&rt, &ledger, 5, &first, Some(OPEN))?;
+    is_row(&rt, &ledger, 5, &second, None)?;
+    assert!(rt; ledger.was_used(5, &third) && !ledger.was_used(4, &third));
+    ledger.undo();
+    is_row(&rt, &ledger, 5, &first, None)?;
+    is_row(&rt, &ledger, 5, &second, Some("102,1,2001-04-01,"))?;
+    assert!(rt; !ledger.was_used(5, &third));
+    Ok(())
+}
+
+// How many keys are under the mark of the parts of a property.
+fn count_parts(index: &Index, uprn: u64) -> Result<usize, Fail> {
+    let mark = Mark::PartOf(Uprn::of(uprn).ok_or("a UPRN")?);
+    Ok(match index.get(mark) {
+        Some(keys) => keys.len(),
+        None => 0,
+    })
+}
+
+// Property 1002, a part of another.
+fn part_of(alloc: Global, parent: &str) -> Result<Option<Item>, Fail> {
+    let row = format!(in alloc; "1002,1,1,1,{parent},,2001-04-01,")?;
+    Ok(Some(item(alloc, Kind::Blpu, row.as_str())?))
+}
+
+#[test]
+fn marks_without_an_item_are_forgotten(rt: HostRuntime) -> Result<(), Fail> {
+    let alloc = rt.alloc();
+    let (mut histories, mut index) = (Histories::new(alloc), Index::new(alloc));
+    let key = Key::Blpu(Uprn::of(1002).ok_or("a UPRN")?);
+    let mut touched = Vec::new(alloc);
+    touched.push(key)?;
+    change(&mut histories, &mut index, 0, key, part_of(alloc, "1001")?)?;
+    change(&mut histories, &mut index, 0, key, part_of(alloc, "1003")?)?;
+    assert_eq!(rt; count_parts(&index, 1001)?, 0);
+    assert_eq!(rt; count_parts(&index, 1003)?, 1);
+    forget_all(&histories, &mut index, 1, &mut touched);
+    change(&mut histories, &mut index, 1, key, part_of(alloc, "1001")?)?;
+    assert_eq!(rt; count_parts(&index, 1003)?, 1);
+    touched.push(key)?;
+    forget_all(&histories, &mut index, 2, &mut touched);
+    assert_eq!(rt; count_parts(&index, 1003)?, 0);
+    change(&mut histories, &mut index, 2, key, None)?;
+    assert_eq!(rt; count_parts(&index, 1001)?, 1);
+    Ok(())
+}
