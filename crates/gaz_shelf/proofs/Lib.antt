@@ -9,3 +9,4 @@ pub mod Ranges
 pub mod Pairs
 pub mod Ledgers
 pub mod Mem
+pub mod Faulting

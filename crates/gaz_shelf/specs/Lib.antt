@@ -6,6 +6,8 @@ pub mod ViewCode
 pub mod Board
 pub mod Received
 pub mod Keeper
+pub mod Calls
+pub mod Faulting
 pub mod Ledgers
 pub mod Mem
 pub mod Examples

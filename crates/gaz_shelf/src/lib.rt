@@ -1,6 +1,7 @@
 //! What a hub keeps of each custodian: views and verdicts.
 #![tactic(auto)]
 
+mod calls;
 mod fault;
 mod faulty;
 mod files;
@@ -15,6 +16,7 @@ mod whole_view;
 mod words;
 mod writing;
 
+pub use calls::{Call, Calls};
 pub use fault::ShelfFault;
 pub use faulty::Faulty;
 pub use mem_shelf::MemShelf;
@@ -24,5 +26,7 @@ pub use verdict::Verdict;
 pub use whole_view::WholeView;
 pub use writing::{Ending, put_all, write_volume};
 
+#[cfg(test)]
+mod faulty_tests;
 #[cfg(test)]
 mod tests;
