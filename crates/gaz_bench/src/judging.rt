@@ -215,8 +215,13 @@ pub fn judging_micros(rt: &HostRuntime, items: u64) -> Result<(u128, u128)> {
 
 /// How often the keeper was called so far, as `kind=count` for each kind of call.
 fn counts_text<K: Inbox + Drop>(alloc: Global, shelf: &Faulty<K>) -> Result<String> {
-    let (looked, asked) = shelf.counted();
-    Ok(format!(in alloc; "current={looked} reached_or_received={asked}")?)
+    let calls = shelf.counted();
+    let (current, ever, put, take) = (calls.current, calls.ever, calls.put, calls.take);
+    let (approved_of, approved_on) = (calls.approved_of, calls.approved_on);
+    let (begin, keep) = (calls.begin, calls.keep);
+    Ok(format!(in alloc;
+        "current={current} ever={ever} put={put} take={take} approved_of={approved_of} approved_on={approved_on} begin={begin} keep={keep}"
+    )?)
 }
 
 /// The counts of the keeper's calls before the judgement of a file of 1,000 mixed changes into a gazetteer of so many items, and after it.

@@ -1,137 +1,151 @@
-//! A keeper for tests, that fails once.
-ghost use Rattle.gaz_shelf.specs.Mem.{progress_of};
-ghost use Rattle.gaz_shelf.specs.Keeper.{Idle};
-ghost use Rattle.std.specs.Prelude.{◌≡◌};
+//! A hub over a keeper of which one call fails, each in turn.
+ghost use Rattle.std.specs.Prelude.{OnOk};
+ghost use Rattle.gaz_shelf.specs.Keeper.{IsNotOpen, Seen};
 
-use gaz_ids::{Code, Lang, Uprn, Usrn, Volume};
-use gaz_records::{Item, Key, Kind};
-use gaz_shelf::{Inbox, MemShelf, Shelf, ShelfFault, Verdict};
-use std::alloc::Global;
+use crate::tests::{REGISTER, STREET_101, held};
+use crate::{Answer, Hub, Outcome, Refusal};
+use gaz_register::Register;
+use gaz_shelf::{Call, Faulty, Inbox, MemShelf, ShelfFault};
+use std::process::Abort;
+use std::test::Fail;
 
-/// The call whose first time is to fail, for want of memory.
-#[derive(Clone, Copy, Debug, PartialEq, Eq)]
-pub enum Fails {
-    Receive,
-    Skip,
-    /// It failed already.
-    No,
+/// Nothing but a basis line: it rests on volume 1 of custodian 1001.
+const ON_1001_1: &[u8] = b"10,1,1002,1,2024-01-02\n90,1001,1\n99,0\n";
+
+const NOT_RECEIVED: Refusal = Refusal::NotReceived(ShelfFault::Store);
+
+const UNSETTLED: Refusal = Refusal::ReceivedUnsettled(ShelfFault::Store);
+
+/// A file that is submitted as volume 1, for the first time or not, and its outcome.
+#[derive(Clone, Copy)]
+struct Sent {
+    code: u64,
+    file: &'static [u8],
+    is_new: bool,
+    outcome: Outcome,
 }
 
-/// Passes every other call on to a keeper of whole maps.
-#[derive(Drop)]
-pub struct Failing {
-    inner: MemShelf,
-    fails: Fails,
-}
-
-impl Failing {
-    /// A keeper without files and judgements.
-    pub fn new(alloc: Global, fails: Fails) -> Failing
-        ensures idle { progress_of result.inner.judging ≡ Idle }
-    {
-        Failing {
-            inner: MemShelf::new(alloc),
-            fails,
+impl Sent {
+    /// The answer where nothing fails, and the file was received before or wasn't.
+    fn answer(&self, is_there: bool) -> Answer {
+        if is_there {
+            Answer::Repeat(self.outcome)
+        } else {
+            Answer::New(self.outcome)
         }
     }
 }
 
-impl Shelf for Failing {
-    ghost use Rattle.gaz_shelf.specs.Mem.{seen_in};
-
-    ghost seen = { λ s. seen_in s.inner };
-
-    fn reached(&mut self, code: Code) -> Result<u64, ShelfFault> {
-        self.inner.reached(code)
+// What is told of the volume: its outcome, where it is there.
+fn is_told<K: Inbox + Drop>(
+    rt: &impl Abort,
+    hub: &mut Hub<K>,
+    sent: &Sent,
+    is_there: bool,
+) -> Result<(), Fail>
+    requires { IsNotOpen (K.seen hub.old.keeper).progress }
+    ensures { OnOk result (IsNotOpen (K.seen hub.new.keeper).progress) }
+{
+    match hub.outcome(sent.code, 1) {
+        Ok(Some((_, outcome))) => assert!(rt; is_there && outcome == sent.outcome),
+        Ok(None) => assert!(rt; !is_there),
+        Err(_) => assert!(rt; false, "it failed twice"),
     }
+    Ok(())
+}
 
-    fn verdict(&mut self, code: Code, volume: Volume) -> Result<Option<Verdict>, ShelfFault> {
-        self.inner.verdict(code, volume)
-    }
+// Submits a file, and again where that is refused: what it is told then doesn't depend on the fault.
+fn sends<K: Inbox + Drop>(
+    rt: &impl Abort,
+    hub: &mut Hub<K>,
+    sent: &Sent,
+) -> Result<Option<Refusal>, Fail>
+    requires { IsNotOpen (K.seen hub.old.keeper).progress }
+    ensures { OnOk result (IsNotOpen (K.seen hub.new.keeper).progress) }
+{
+    let answer = hub.submit(sent.code, 1, sent.file);
+    let Answer::Refused(refusal) = answer else {
+        assert_eq!(rt; answer, sent.answer(!sent.is_new));
+        return Ok(None);
+    };
+    assert!(rt; refusal == NOT_RECEIVED || refusal == UNSETTLED);
+    let is_there = refusal == UNSETTLED || !sent.is_new;
+    is_told(rt, hub, sent, is_there)?;
+    assert_eq!(rt; hub.submit(sent.code, 1, sent.file), sent.answer(is_there));
+    Ok(Some(refusal))
+}
 
-    fn current(&mut self, code: Code, key: &Key) -> Result<Option<Item>, ShelfFault> {
-        self.inner.current(code, key)
-    }
-
-    fn at(&mut self, code: Code, volume: u64, key: &Key) -> Result<Option<Item>, ShelfFault> {
-        self.inner.at(code, volume, key)
-    }
-
-    fn ever(&mut self, code: Code, key: &Key) -> Result<bool, ShelfFault> {
-        self.inner.ever(code, key)
-    }
-
-    fn approved_of(&mut self, code: Code, uprn: Uprn) -> Result<Vec<Key>, ShelfFault> {
-        self.inner.approved_of(code, uprn)
-    }
-
-    fn approved_on(
-        &mut self,
-        code: Code,
-        usrn: Usrn,
-        lang: Option<Lang>,
-    ) -> Result<bool, ShelfFault> {
-        self.inner.approved_on(code, usrn, lang)
-    }
-
-    fn children(&mut self, code: Code, uprn: Uprn) -> Result<bool, ShelfFault> {
-        self.inner.children(code, uprn)
-    }
-
-    fn page(
-        &mut self,
-        code: Code,
-        volume: u64,
-        kind: Kind,
-        after: Option<Key>,
-        most: usize,
-    ) -> Result<Vec<Item>, ShelfFault> {
-        self.inner.page(code, volume, kind, after, most)
-    }
-
-    fn begin(&mut self, code: Code) -> Result<(), ShelfFault> {
-        self.inner.begin(code)
-    }
-
-    fn put(&mut self, item: Item) -> Result<(), ShelfFault> {
-        self.inner.put(item)
-    }
-
-    fn take(&mut self, key: &Key) -> Result<(), ShelfFault> {
-        self.inner.take(key)
-    }
-
-    fn keep(&mut self) -> Result<(), ShelfFault> {
-        self.inner.keep()
-    }
-
-    fn abandon(&mut self) -> Result<(), ShelfFault> {
-        self.inner.abandon()
-    }
-
-    fn skip(&mut self, code: Code, place: u64, rule: u8) -> Result<(), ShelfFault> {
-        if self.fails == Fails::Skip {
-            self.fails = Fails::No;
-            return Err(ShelfFault::Memory);
-        }
-        self.inner.skip(code, place, rule)
+fn file(code: u64, file: &'static [u8], is_new: bool, outcome: Outcome) -> Sent {
+    Sent {
+        code,
+        file,
+        is_new,
+        outcome,
     }
 }
 
-impl Inbox for Failing {
-    fn received(&mut self, code: Code, volume: Volume) -> Result<Option<Vec<u8>>, ShelfFault> {
-        self.inner.received(code, volume)
-    }
+// A file without a record, one that waits, one that frees it, and the one that waited again; the refusal, if there was one.
+fn sends_all<K: Inbox + Drop>(rt: &impl Abort, hub: &mut Hub<K>) -> Result<Option<Refusal>, Fail>
+    requires { IsNotOpen (K.seen hub.old.keeper).progress }
+{
+    let rejected = Outcome::Rejected { place: 1, rule: 1 };
+    let bad = sends(rt, hub, &file(1003, b"", true, rejected))?;
+    let waits = sends(rt, hub, &file(1002, ON_1001_1, true, held(1001, 1)?))?;
+    let frees = sends(rt, hub, &file(1001, STREET_101, true, Outcome::Applied))?;
+    let freed = sends(rt, hub, &file(1002, ON_1001_1, false, Outcome::Applied))?;
+    Ok(bad.or(waits).or(frees).or(freed))
+}
 
-    fn receive(&mut self, code: Code, volume: Volume, bytes: &[u8]) -> Result<(), ShelfFault> {
-        if self.fails == Fails::Receive {
-            self.fails = Fails::No;
-            return Err(ShelfFault::Memory);
+// Submits all while the call of this number fails; that call and the refusal, where it came to it.
+fn fails_at(rt: &(impl Abort + AllocGlobal), number: u64) -> Result<Option<(Call, Refusal)>, Fail> {
+    let register = Register::read(rt.alloc(), REGISTER)?;
+    let keeper = Faulty::new(MemShelf::new(rt.alloc()), number);
+    let mut hub = Hub::new(rt.alloc(), register, keeper);
+    let refusal = sends_all(rt, &mut hub)?;
+    match (hub.shelf().failed(), refusal) {
+        (None, None) => Ok(None),
+        (Some(call), Some(refusal)) => Ok(Some((call, refusal))),
+        _ => Err(Fail::from("a fault and no refusal, or a refusal and no fault")),
+    }
+}
+
+// Up to `receive` nothing is received; what judges comes after it.
+fn is_refused_as(rt: &impl Abort, call: Call, refusal: Refusal) {
+    match call {
+        Call::Receive => assert_eq!(rt; refusal, NOT_RECEIVED),
+        Call::Begin | Call::Put | Call::Keep | Call::Skip => assert_eq!(rt; refusal, UNSETTLED),
+        _ => {}
+    }
+}
+
+fn has_each(rt: &impl Abort, failed: &[Call]) -> Result<(), Fail> {
+    let among = [
+        Call::Receive,
+        Call::Begin,
+        Call::Put,
+        Call::Keep,
+        Call::Skip,
+        Call::Received,
+        Call::Reached,
+        Call::Verdict,
+    ];
+    for call in among {
+        assert!(rt; failed.contains(&call), "{call:?} never failed");
+    }
+    Ok(())
+}
+
+#[test]
+fn a_fault_at_any_call(rt: HostRuntime) -> Result<(), Fail> {
+    let mut failed = Vec::new(rt.alloc());
+    for number in 1..1000 {
+        match fails_at(&rt, number)? {
+            Some((call, refusal)) => {
+                is_refused_as(&rt, call, refusal);
+                failed.push(call)?;
+            }
+            None => return has_each(&rt, &failed),
         }
-        self.inner.receive(code, volume, bytes)
     }
-
-    fn held(&mut self, code: Code) -> Result<u64, ShelfFault> {
-        self.inner.held(code)
-    }
+    Err(Fail::from("too many calls"))
 }

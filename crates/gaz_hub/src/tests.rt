@@ -2,15 +2,14 @@ ghost use Rattle.std.specs.Prelude.{IfOk};
 ghost use Rattle.gaz_shelf.specs.Keeper.{IsNotOpen};
 ghost use Rattle.gaz_shelf.specs.Mem.{seen_in};
 
-use crate::failing::{Failing, Fails};
 use crate::{Answer, Digest, Hub, Outcome, Refusal, Standing};
 use gaz_ids::{Code, Volume};
 use gaz_register::{RegFault, Register};
-use gaz_shelf::{MemShelf, ShelfFault};
+use gaz_shelf::MemShelf;
 use std::alloc::Global;
 use std::test::Fail;
 
-const REGISTER: &[u8] = b"[[custodian]]
+pub(crate) const REGISTER: &[u8] = b"[[custodian]]
 code = 1001
 name = \"Upper County\"
 uprn = [[1, 99999]]
@@ -30,7 +29,7 @@ usrn = [[300, 399]]
 ";
 
 /// Inserts street 101, as volume 1 of custodian 1001.
-const STREET_101: &[u8] = b"10,1,1001,1,2024-01-02\n11,I,1,101,1,2001-04-01,\n99,1\n";
+pub(crate) const STREET_101: &[u8] = b"10,1,1001,1,2024-01-02\n11,I,1,101,1,2001-04-01,\n99,1\n";
 
 /// The same on another day.
 const A_DAY_LATER: &[u8] = b"10,1,1001,1,2024-01-03\n11,I,1,101,1,2001-04-01,\n99,1\n";
@@ -103,7 +102,7 @@ const ON_1009_1: &[u8] = b"10,1,1003,2,2024-01-02\n90,1009,1\n99,0\n";
 /// Inserts street 102, as volume 2 of custodian 1001.
 const STREET_102: &[u8] = b"10,1,1001,2,2024-01-02\n11,I,1,102,1,2001-04-01,\n99,1\n";
 
-fn held(custodian: u64, volume: u64) -> Result<Outcome, Fail> {
+pub(crate) fn held(custodian: u64, volume: u64) -> Result<Outcome, Fail> {
     let custodian = Code::of(custodian).ok_or("code")?;
     let volume = Volume::of(volume).ok_or("volume")?;
     Ok(Outcome::Held { custodian, volume })
@@ -135,35 +134,6 @@ fn a_judgement_frees_files_of_others(rt: HostRuntime) -> Result<(), Fail> {
         Answer::Repeat(Outcome::Applied)
     );
     assert_eq!(rt; hub.submit(1003, 2, ON_1009_1), Answer::New(held(1009, 1)?));
-    Ok(())
-}
-
-#[test]
-fn a_keeper_may_fail(rt: HostRuntime) -> Result<(), Fail> {
-    let none = ShelfFault::Memory;
-    let register = Register::read(rt.alloc(), REGISTER)?;
-    let mut hub = Hub::new(
-        rt.alloc(),
-        register,
-        Failing::new(rt.alloc(), Fails::Receive),
-    );
-    assert_eq!(rt;
-        hub.submit(1001, 1, STREET_101),
-        Answer::Refused(Refusal::NotReceived(none))
-    );
-    assert_eq!(rt; hub.outcome(1001, 1), Ok(None));
-    assert_eq!(rt;
-        hub.submit(1001, 1, STREET_101),
-        Answer::New(Outcome::Applied)
-    );
-    let register = Register::read(rt.alloc(), REGISTER)?;
-    let mut hub = Hub::new(rt.alloc(), register, Failing::new(rt.alloc(), Fails::Skip));
-    let rejected = Outcome::Rejected { place: 1, rule: 1 };
-    assert_eq!(rt;
-        hub.submit(1003, 1, b""),
-        Answer::Refused(Refusal::ReceivedUnsettled(none))
-    );
-    assert_eq!(rt; hub.submit(1003, 1, b""), Answer::Repeat(rejected));
     Ok(())
 }
 

@@ -68,8 +68,7 @@ fn asked(alloc: Global, rows: &[Row], row: Row) -> Result<(u64, Option<u8>), Fai
     put_all(&mut shelf, items(alloc, rows)?)?;
     let item = item_of_text(alloc, row.0, row.1.as_bytes())?;
     let rule = breach(&mut shelf, code, &[], &mut Walked::new(alloc), &item)?;
-    let (looked, _) = shelf.counted();
-    Ok((looked, rule))
+    Ok((shelf.counted().current, rule))
 }
 
 #[test]

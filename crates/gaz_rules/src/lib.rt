@@ -4,6 +4,8 @@
 mod end_rules;
 #[cfg(test)]
 mod end_tests;
+#[cfg(test)]
+mod fault_tests;
 mod judging;
 mod key_faults;
 pub mod laws;

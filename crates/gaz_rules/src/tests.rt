@@ -11,7 +11,7 @@ use std::alloc::Global;
 use std::process::Abort;
 use std::test::Fail;
 
-const REGISTER: &[u8] = b"[[custodian]]
+pub(crate) const REGISTER: &[u8] = b"[[custodian]]
 code = 1001
 name = \"Upper County\"
 uprn = [[1, 99999]]
@@ -32,18 +32,18 @@ usrn = [[300, 399]]
 
 /// A custodian's next file, and what it is to come to.
 #[derive(Drop)]
-struct Case {
-    name: &'static str,
-    code: Code,
-    file: ChangeFile,
-    verdict: Verdict,
+pub(crate) struct Case {
+    pub(crate) name: &'static str,
+    pub(crate) code: Code,
+    pub(crate) file: ChangeFile,
+    pub(crate) verdict: Verdict,
 }
 
-fn custodian(number: u64) -> Result<Code, Fail> {
+pub(crate) fn custodian(number: u64) -> Result<Code, Fail> {
     Ok(Code::of(number).ok_or("a code")?)
 }
 
-fn volume(number: u64) -> Result<Volume, Fail> {
+pub(crate) fn volume(number: u64) -> Result<Volume, Fail> {
     Ok(Volume::of(number).ok_or("a volume")?)
 }
 
@@ -99,7 +99,7 @@ fn verdict_of(text: &str) -> Result<Verdict, Fail> {
     })
 }
 
-fn case_of(alloc: Global, text: &'static str) -> Result<Case, Fail> {
+pub(crate) fn case_of(alloc: Global, text: &'static str) -> Result<Case, Fail> {
     let (title, text) = text.split_once('\n').ok_or("a title")?;
     let (lines, verdict) = text.split_once("= ").ok_or("a verdict")?;
     let (code, name) = title.split_once(' ').ok_or("a custodian")?;
@@ -167,7 +167,7 @@ fn is_judged<K: Inbox>(
 }
 
 // The files of these cases one after another.
-fn are_judged<K: Inbox>(
+pub(crate) fn are_judged<K: Inbox>(
     rt: &(impl Abort + AllocGlobal),
     shelf: &mut K,
     cases: &'static str,
@@ -454,7 +454,7 @@ fn asks_little(rt: &(impl Abort + AllocGlobal), backwards: bool) -> Result<(), F
     let mut shelf = Faulty::new(MemShelf::new(alloc), 0);
     let verdict = judged(alloc, &mut shelf, &register, custodian(1001)?, &file)?;
     assert!(rt; verdict == Verdict::Applied);
-    let (looked, _) = shelf.counted();
+    let looked = shelf.counted().current;
     assert!(rt; looked <= 50_000, "{looked}");
     Ok(())
 }

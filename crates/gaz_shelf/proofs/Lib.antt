@@ -15,3 +15,4 @@ pub mod Pairs
 pub mod Ledgers
 pub mod Closings
 pub mod Mem
+pub mod Faulting

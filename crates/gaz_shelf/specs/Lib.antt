@@ -7,6 +7,8 @@ pub mod Board
 pub mod Gazetteer
 pub mod Received
 pub mod Keeper
+pub mod Calls
+pub mod Faulting
 pub mod Ledgers
 pub mod Mem
 pub mod Examples

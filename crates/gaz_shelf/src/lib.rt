@@ -2,6 +2,7 @@
 #![tactic(auto)]
 
 mod accounts;
+mod calls;
 mod changes;
 mod fault;
 mod faulty;
@@ -17,6 +18,7 @@ mod verdict;
 mod words;
 mod writing;
 
+pub use calls::{Call, Calls};
 pub use fault::ShelfFault;
 pub use faulty::Faulty;
 pub use mem_shelf::MemShelf;
@@ -25,6 +27,8 @@ pub use shelf::{Inbox, Shelf};
 pub use verdict::Verdict;
 pub use writing::{Ending, put_all, write_volume};
 
+#[cfg(test)]
+mod faulty_tests;
 #[cfg(test)]
 mod ledger_tests;
 #[cfg(test)]

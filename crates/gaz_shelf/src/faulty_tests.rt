@@ -1,0 +1,168 @@
+//! One call that fails, and what follows.
+ghost use Rattle.std.specs.Prelude.{IfOk};
+ghost use Rattle.gaz_shelf.specs.Keeper.{IsNotOpen};
+ghost use Rattle.gaz_shelf.specs.Mem.{progress_of};
+
+use crate::{Call, Calls, Faulty, Inbox, MemShelf, Shelf, ShelfFault};
+use gaz_ids::{Code, Volume};
+use gaz_records::{Item, Key, Kind, item_of_text};
+use std::alloc::Global;
+use std::process::Abort;
+use std::test::Fail;
+
+const FIRST: &str = "101,1,2001-04-01,";
+
+const SECOND: &str = "102,1,2001-04-01,";
+
+fn street(alloc: Global, row: &str) -> Result<Item, Fail> {
+    Ok(item_of_text(alloc, Kind::Street, row.as_bytes())?)
+}
+
+fn custodian() -> Result<Code, Fail> {
+    Ok(Code::of(1001).ok_or("a code")?)
+}
+
+// A keeper that received one file.
+fn received(alloc: Global) -> Result<MemShelf, Fail>
+    ensures { IfOk result (λ s. IsNotOpen (progress_of s.judging)) }
+{
+    let mut shelf = MemShelf::new(alloc);
+    let volume = Volume::of(1).ok_or("a volume")?;
+    shelf.receive(custodian()?, volume, b"a file")?;
+    Ok(shelf)
+}
+
+// A volume in which a street comes and goes, and another comes.
+fn writes<K: Inbox>(shelf: &mut K, code: Code, first: Item, second: Item) -> Result<(), ShelfFault>
+    requires { IsNotOpen (K.seen shelf.old).progress }
+    ensures { IsNotOpen (K.seen shelf.new).progress }
+{
+    let key = Key::of(&first);
+    shelf.begin(code)?;
+    shelf.put(first)?;
+    shelf.take(&key)?;
+    shelf.put(second)?;
+    shelf.keep()
+}
+
+// The volume is kept wholly, or not at all.
+fn has_written<K: Inbox>(
+    rt: &(impl Abort + AllocGlobal),
+    shelf: &mut K,
+    has: bool,
+) -> Result<(), Fail> {
+    let code = custodian()?;
+    let first = Key::of(&street(rt.alloc(), FIRST)?);
+    let second = Key::of(&street(rt.alloc(), SECOND)?);
+    assert_eq!(rt; shelf.reached(code)?, u64::from(has));
+    assert_eq!(rt; shelf.held(code)?, u64::from(!has));
+    assert_eq!(rt; shelf.ever(code, &first)?, has);
+    assert_eq!(rt; shelf.current(code, &second)?.is_some(), has);
+    Ok(())
+}
+
+// Where the call of this number fails, which is this one, nothing is kept.
+fn fails_at(rt: &(impl Abort + AllocGlobal), number: u64, call: Call) -> Result<(), Fail> {
+    let alloc = rt.alloc();
+    let (first, second) = (street(alloc, FIRST)?, street(alloc, SECOND)?);
+    let mut shelf = Faulty::new(received(alloc)?, number);
+    let fails = writes(&mut shelf, custodian()?, first, second);
+    assert!(rt; matches!(fails, Err(ShelfFault::Store)), "{call:?}");
+    assert_eq!(rt; shelf.failed(), Some(call));
+    has_written(rt, &mut shelf, false)
+}
+
+// Afterwards the volume can be written.
+fn goes_on_after(rt: &(impl Abort + AllocGlobal), number: u64) -> Result<(), Fail> {
+    let alloc = rt.alloc();
+    let (first, second) = (street(alloc, FIRST)?, street(alloc, SECOND)?);
+    let mut shelf = Faulty::new(received(alloc)?, number);
+    let fails = writes(&mut shelf, custodian()?, first, second);
+    assert!(rt; fails.is_err());
+    let (first, second) = (street(alloc, FIRST)?, street(alloc, SECOND)?);
+    writes(&mut shelf, custodian()?, first, second)?;
+    has_written(rt, &mut shelf, true)
+}
+
+#[test]
+fn each_failing_call_undoes_a_judgement(rt: HostRuntime) -> Result<(), Fail> {
+    fails_at(&rt, 1, Call::Begin)?;
+    fails_at(&rt, 2, Call::Put)?;
+    fails_at(&rt, 3, Call::Take)?;
+    fails_at(&rt, 4, Call::Put)?;
+    fails_at(&rt, 5, Call::Keep)
+}
+
+#[test]
+fn after_each_failing_call_the_volume_is_written(rt: HostRuntime) -> Result<(), Fail> {
+    for number in 1..6 {
+        goes_on_after(&rt, number)?;
+    }
+    Ok(())
+}
+
+#[test]
+fn a_broken_judgement_refuses_and_is_cleared(rt: HostRuntime) -> Result<(), Fail> {
+    let alloc = rt.alloc();
+    let code = custodian()?;
+    let key = Key::of(&street(alloc, FIRST)?);
+    let mut shelf = Faulty::new(received(alloc)?, 2);
+    shelf.begin(code)?;
+    assert!(rt; matches!(shelf.put(street(alloc, FIRST)?), Err(ShelfFault::Store)));
+    assert!(rt; matches!(shelf.put(street(alloc, FIRST)?), Err(ShelfFault::Store)));
+    assert!(rt; matches!(shelf.take(&key), Err(ShelfFault::Store)));
+    assert!(rt; matches!(shelf.keep(), Err(ShelfFault::Store)));
+    shelf.abandon()?;
+    shelf.begin(code)?;
+    assert!(rt; shelf.current(code, &key)?.is_none());
+    shelf.keep()?;
+    let calls = Calls {
+        begin: 2,
+        put: 2,
+        take: 1,
+        keep: 2,
+        abandon: 1,
+        current: 1,
+        ..Calls::none()
+    };
+    assert_eq!(rt; shelf.counted(), calls);
+    Ok(())
+}
+
+// A judgement that can't be given up is broken; one that can't be begun is none, and refuses too.
+#[test]
+fn failing_to_begin_or_to_abandon_breaks_a_judgement(rt: HostRuntime) -> Result<(), Fail> {
+    let alloc = rt.alloc();
+    let code = custodian()?;
+    let mut shelf = Faulty::new(received(alloc)?, 2);
+    shelf.begin(code)?;
+    assert!(rt; matches!(shelf.abandon(), Err(ShelfFault::Store)));
+    assert!(rt; matches!(shelf.keep(), Err(ShelfFault::Store)));
+    has_written(&rt, &mut shelf, false)?;
+    let mut shelf = Faulty::new(received(alloc)?, 1);
+    assert!(rt; matches!(shelf.begin(code), Err(ShelfFault::Store)));
+    assert!(rt; matches!(shelf.keep(), Err(ShelfFault::Store)));
+    has_written(&rt, &mut shelf, false)
+}
+
+// A reading call that fails within a judgement leaves it as it was, and so do `skip` and `receive` outside one.
+#[test]
+fn other_failing_calls_change_nothing(rt: HostRuntime) -> Result<(), Fail> {
+    let alloc = rt.alloc();
+    let code = custodian()?;
+    let mut shelf = Faulty::new(received(alloc)?, 3);
+    shelf.begin(code)?;
+    shelf.put(street(alloc, SECOND)?)?;
+    assert!(rt; matches!(shelf.reached(code), Err(ShelfFault::Store)));
+    shelf.keep()?;
+    let second = Key::of(&street(alloc, SECOND)?);
+    assert!(rt; shelf.current(code, &second)?.is_some());
+    let mut shelf = Faulty::new(received(alloc)?, 1);
+    assert!(rt; matches!(shelf.skip(code, 1, 1), Err(ShelfFault::Store)));
+    has_written(&rt, &mut shelf, false)?;
+    let next = Volume::of(2).ok_or("a volume")?;
+    let mut shelf = Faulty::new(received(alloc)?, 1);
+    assert!(rt; matches!(shelf.receive(code, next, b"two"), Err(ShelfFault::Store)));
+    assert!(rt; shelf.received(code, next)?.is_none());
+    has_written(&rt, &mut shelf, false)
+}
