@@ -1,4 +1,4 @@
-//! Times the judgement of a file over a keeper of whole maps.
+//! Times the judgement of a file over the keeper in memory.
 ghost use Rattle.std.specs.Prelude.{OnOk};
 ghost use Rattle.gaz_shelf.specs.Keeper.{IsNotOpen, Seen};
 

@@ -1,4 +1,4 @@
-//! Times a keeper of whole maps that keeps volume after volume.
+//! Times how the keeper in memory keeps volume after volume.
 ghost use Rattle.std.specs.Prelude.{OnOk};
 ghost use Rattle.gaz_shelf.specs.Keeper.{IsNotOpen, Seen};
 

@@ -2,7 +2,7 @@
 //! file whatever its outcome, `gaz_bench register FILE ROUNDS` that of a register. It prints the least time in microseconds.
 //! `gaz_bench judge ITEMS` times the judgement of a file of 1,000 changes into a gazetteer of so many items, and beside it that of a file
 //! without changes; `gaz_bench calls ITEMS` prints how often the keeper was called before that judgement and after it.
-//! `gaz_bench keeping VOLUMES` times a keeper of whole maps that keeps so many volumes of 1,000 items.
+//! `gaz_bench keeping VOLUMES` times how the keeper in memory keeps so many volumes of 1,000 items.
 #![tactic(auto)]
 
 mod judging;

@@ -12,7 +12,7 @@ use Rattle.gaz_exchange.specs.Exchanges.{commands_of, responses_of}
 use Rattle.gaz_exchange.specs.declared.conversation.Served.{Served}
 use Rattle.gaz_exchange.specs.declared.conversation.Stopped.{Stopped}
 
--- a hub of the register that a text describes, over a keeper of whole maps that begins with nothing, answers at most so many requests;
+-- a hub of the register that a text describes, over a keeper in memory that begins with nothing, answers at most so many requests;
 -- from the bytes that the reader had and has left, and what the writer held and holds
 pub record Plays (text : List ℕ) (most : ℕ) (had left held holds : Option (List ℕ)) (result : Result Served Stopped) : Type 0 where
   pub register : RegisterValue
