@@ -45,7 +45,8 @@ pub fn open_in(
 
 /// Undoes what a custodian's working view has changed.
 pub fn undo_in(ledgers: &mut BTreeMap<Code, Ledger>, code: Code)
-    ensures { board_of ledgers.new.entries ≡ board_of ledgers.old.entries }
+    ensures board { board_of ledgers.new.entries ≡ board_of ledgers.old.entries }
+    ensures working { (account_of ledgers.new.entries code).working ≡ last_view (board_of ledgers.old.entries) code }
 {
     if let Some(ledger) = ledgers.get_mut(&code) {
         ledger.undo();

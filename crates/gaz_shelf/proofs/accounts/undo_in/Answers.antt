@@ -3,8 +3,8 @@ use Rattle.gaz_shelf.proofs.Boards.{no_more}
 use Rattle.gaz_shelf.specs.Ledgers.{Account, empty_account}
 use Rattle.gaz_shelf.proofs.accounts.undo_in.Goals as goal
 
-pub returns-in-Some : goal.returns-in-Some
-returns-in-Some c =
+pub returns-in-Some-clause-board : goal.returns-in-Some-clause-board
+returns-in-Some-clause-board c =
     let writes = (c.get_mut.follows.holds c.undo.new.self).3 (search rules) in
     let was = ap (λ o. (unwrap_or o empty_account).judged) c.in-Some.ensures.value in
     no_more c.args.ledgers.now.entries _ c.args.code c.undo.new.self writes.0 (ap (λ (a : Account). a.judged) c.undo.ensures ∙ was)
