@@ -2,6 +2,7 @@ pub mod Both
 pub mod Dates
 pub mod Places
 pub mod LabelBytes
+pub mod LabelOrder
 pub mod Written
 pub mod Says
 pub mod FieldsBack

@@ -1,5 +1,5 @@
 -- Labels of letters and digits, as the keys of records.
-use Rattle.std.specs.Prelude.{◌≡◌, ℕ, ◌-◌, ◌&&◌, ◌||◌, nat_le, Bool, true, List, [], ◌∷◌, ◌++◌, length, take, replicate, Option, Some, None, if◌then◌else◌}
+use Rattle.std.specs.Prelude.{◌≡◌, ℕ, zero, suc, ◌+◌, ◌*◌, ◌-◌, ◌<◌, ◌&&◌, ◌||◌, nat_le, Bool, true, List, [], ◌∷◌, ◌++◌, length, take, replicate, slice_index, Option, Some, None, if◌then◌else◌}
 use Rattle.std.specs.declared.cmp.Ordering.{Ordering}
 use Rattle.std.specs.Ordering.{nat_cmp, eq_by_cmp}
 use Rattle.std.specs.Cmp.Lexicographic.{slice_cmp}
@@ -35,3 +35,12 @@ pub record IsPadded (most len : ℕ) (bytes : List ℕ) : Type 0 where
   pub taken : length (take len bytes) ≡ len
   pub label : is_label most (take len bytes) ≡ true
   pub rest : padded most (take len bytes) ≡ bytes
+
+-- the first so many bytes as one number, the first byte foremost, with 0 for each byte that is not there
+unfoldable pub word : ℕ → List ℕ → ℕ
+word zero bytes = 0
+word (suc n) bytes = word n bytes * 256 + slice_index bytes n
+
+-- each is below 256
+abbrev pub AreBytes : List ℕ → Type 0
+AreBytes bytes = (i : ℕ) → slice_index bytes i < 256

@@ -1,9 +1,11 @@
-ghost use Rattle.std.specs.Prelude.{◌≡◌, ◌≤◌, length, true};
+ghost use Rattle.std.specs.Prelude.{◌≡◌, ◌≤◌, ◌<◌, drop, length, true};
 ghost use Rattle.std.proofs.Common.{rules};
 ghost use Rattle.std.specs.Cmp.{partial_order_from_own_ties};
 ghost use Rattle.std.specs.Cmp.Rules.{comparing};
 ghost use Rattle.std.specs.Ordering.{as_partial_cmp};
-ghost use Rattle.gaz_records.specs.Labels.{are_label_bytes, is_label, label_cmp, label_eq, label_of};
+ghost use Rattle.gaz_records.specs.Labels.{AreBytes, are_label_bytes, is_label, label_cmp, label_eq, label_of, word};
+ghost use Rattle.std.specs.Ordering.{nat_cmp};
+ghost use Rattle.std.specs.Cmp.Lexicographic.{slice_cmp};
 
 use std::cmp::Ordering;
 use std::marker::Model;
@@ -48,6 +50,39 @@ fn has_label_bytes(bytes: &[u8]) -> bool
     true
 }
 
+// The four bytes from `start` on as one number, the first byte foremost, with 0 for each byte that is not there.
+fn word_at<const MOST: usize>(bytes: &[u8; MOST], start: usize) -> u32
+    requires within { start < MOST }
+    requires bytes { AreBytes bytes.now }
+    ensures { result ≡ word 4 (drop start bytes.now) }
+{
+    let mut word: u32 = 0;
+    for offset in 0..4 {
+        let byte = if offset < MOST - start {
+            bytes[start + offset]
+        } else {
+            0
+        };
+        word = word * 256 + u32::from(byte);
+    }
+    word
+}
+
+// How the bytes compare. LLVM reads a number of four bytes by one load, and one of eight byte by byte.
+fn compare_by_words<const MOST: usize>(one: &[u8; MOST], other: &[u8; MOST]) -> Ordering
+    requires one { AreBytes one.now }
+    requires other { AreBytes other.now }
+    ensures { result ≡ slice_cmp nat_cmp one.now other.now }
+{
+    for index in 0..MOST.div_ceil(4) {
+        let order = word_at(one, 4 * index).cmp(&word_at(other, 4 * index));
+        if order.is_ne() {
+            return order;
+        }
+    }
+    Ordering::Equal
+}
+
 impl<const MOST: usize> Label<MOST> {
     #[tactic(auto, using(std::proofs::lemmas::Bool::Decides::nat_tests))]
     /// The label that these bytes are.
@@ -86,7 +121,7 @@ impl<const MOST: usize> Ord for Label<MOST> {
     ghost matches_eq = { Prim.search (comparing, rules) };
 
     fn cmp(&self, other: &Self) -> Ordering {
-        self.as_bytes().cmp(other.as_bytes())
+        compare_by_words(&self.bytes, &other.bytes)
     }
 }
 
