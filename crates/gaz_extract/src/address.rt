@@ -10,6 +10,9 @@ use std::alloc::{AllocError, Global};
 use std::fmt::Write;
 use std::marker::Model;
 
+/// The bytes that most lines fit in; a longer one grows.
+const LINE_ROOM: usize = 128;
+
 /// The address line of a property.
 #[derive(Debug, Drop)]
 pub struct AddressLine {
@@ -149,7 +152,7 @@ pub fn line(
 ) -> Result<AddressLine, AllocError>
     ensures { IfOk result (λ l. l ≡ line_text lpi.now descriptor.now blpu.now) }
 {
-    let mut out = String::new(alloc);
+    let mut out = String::with_capacity(alloc, LINE_ROOM)?;
     add_secondary(&mut out, &lpi.secondary)?;
     add_before(&mut out, &lpi.primary.text)?;
     add_street(
