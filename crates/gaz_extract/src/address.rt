@@ -6,8 +6,8 @@ ghost use Rattle.gaz_extract.specs.Pieces.{after, before};
 
 use gaz_addressable::{HouseNumber, Object, Range, Text};
 use gaz_records::{Blpu, Descriptor, Lpi};
+use itoa::Buffer;
 use std::alloc::{AllocError, Global};
-use std::fmt::Write;
 use std::marker::Model;
 
 /// The bytes that most lines fit in; a longer one grows.
@@ -49,7 +49,8 @@ impl AddressLine {
 fn add_number(out: &mut String, number: &HouseNumber) -> Result<(), AllocError>
     ensures { OnOk result (string_bytes out.new ≡ string_bytes out.old ++ number_text number.now) }
 {
-    write!(out, "{}", number.n)?;
+    let mut digits = Buffer::new();
+    out.push_str(digits.format(number.n.number()))?;
     if let Some(letter) = number.suffix {
         out.push(char::from(letter))?;
     }
