@@ -12,6 +12,9 @@ use serde_json::Value;
 use std::alloc::{AllocError, Global};
 use std::fmt::Write;
 
+/// The bytes that the members about a property fit in, but for its line.
+const FOUND_ROOM: usize = 64;
+
 fn want_text(alloc: Global, custodian: Code, volume: Volume) -> Result<String, AllocError>
     ensures { IfOk result (λ text. string_bytes text ≡ want_text custodian volume) }
 {
@@ -101,9 +104,12 @@ pub fn found_body(alloc: Global, found: &Found) -> Result<String, AllocError>
     let custodian = found.custodian;
     let status = found.status.number();
     let uprn = found.uprn;
-    format!(in alloc;
+    let mut out = String::with_capacity(alloc, FOUND_ROOM + line.len())?;
+    write!(
+        out,
         "{{\"custodian\":{custodian},\"line\":{line},\"status\":{status},\"uprn\":{uprn}}}\n"
-    )
+    )?;
+    Ok(out)
 }
 
 // The letters and digits of a key.

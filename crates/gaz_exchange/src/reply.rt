@@ -7,6 +7,7 @@ use crate::fault::Fault;
 use gaz_extract::{Closed, Found};
 use gaz_hub::{Answer, Digest, Outcome, Refusal, Standing};
 use std::alloc::{AllocError, Global};
+use std::fmt::Write;
 use std::marker::Model;
 
 /// The text of an extract.
@@ -89,6 +90,9 @@ impl From<Answer> for Reply {
     }
 }
 
+/// The bytes that the lines before a body fit in.
+const HEAD_ROOM: usize = 128;
+
 fn close_of(is_last: bool) -> &'static str
     ensures { result.now ≡ close_of is_last }
 {
@@ -107,9 +111,12 @@ fn message_of(
     ensures { IfOk result (λ text. string_bytes text ≡ message status.now content.now size [] body.now is_last) }
 {
     let close = close_of(is_last);
-    format!(in alloc;
+    let mut text = String::with_capacity(alloc, HEAD_ROOM + body.len())?;
+    write!(
+        text,
         "HTTP/1.1 {status}\r\nContent-Type: {content}\r\nContent-Length: {size}\r\n{close}\r\n{body}"
-    )
+    )?;
+    Ok(text)
 }
 
 // A message with a body of JSON.

@@ -6,9 +6,12 @@ ghost use Rattle.gaz_extract.specs.Pieces.{after, before};
 
 use gaz_addressable::{HouseNumber, Object, Range, Text};
 use gaz_records::{Blpu, Descriptor, Lpi};
+use itoa::Buffer;
 use std::alloc::{AllocError, Global};
-use std::fmt::Write;
 use std::marker::Model;
+
+/// The bytes that most lines fit in; a longer one grows.
+const LINE_ROOM: usize = 128;
 
 /// The address line of a property.
 #[derive(Debug, Drop)]
@@ -46,7 +49,8 @@ impl AddressLine {
 fn add_number(out: &mut String, number: &HouseNumber) -> Result<(), AllocError>
     ensures { OnOk result (string_bytes out.new ≡ string_bytes out.old ++ number_text number.now) }
 {
-    write!(out, "{}", number.n)?;
+    let mut digits = Buffer::new();
+    out.push_str(digits.format(number.n.number()))?;
     if let Some(letter) = number.suffix {
         out.push(char::from(letter))?;
     }
@@ -149,7 +153,7 @@ pub fn line(
 ) -> Result<AddressLine, AllocError>
     ensures { IfOk result (λ l. l ≡ line_text lpi.now descriptor.now blpu.now) }
 {
-    let mut out = String::new(alloc);
+    let mut out = String::with_capacity(alloc, LINE_ROOM)?;
     add_secondary(&mut out, &lpi.secondary)?;
     add_before(&mut out, &lpi.primary.text)?;
     add_street(

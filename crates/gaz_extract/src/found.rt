@@ -35,10 +35,12 @@ fn keeper_of_street<S: Shelf>(
     ensures tells { Tells (S.seen shelf.old) (S.seen shelf.new) result (λ d. d ≡ keeper_of_street (S.seen shelf.old).content.board register.now code usrn) }
     ensures not_open { IsNotOpen (S.seen shelf.new).progress }
 {
-    if has_street(shelf, code, usrn)? {
+    let owner = register.owner_usrn(usrn);
+    // Within its own block it is the custodian either way, and the keeper isn't asked.
+    if owner == Some(code) || has_street(shelf, code, usrn)? {
         return Ok(Some(code));
     }
-    Ok(register.owner_usrn(usrn))
+    Ok(owner)
 }
 
 // The approved address of a property in a custodian's last view.

@@ -58,6 +58,8 @@ pub fn at_door(
 }
 
 // Whether the file names a profile that isn't known. There is one, 1.
+// A reader of CSV takes 32 KiB of the stack, which no other request should touch.
+#[inline(never)]
 fn names_unknown_profile(alloc: Global, file: &[u8]) -> Result<bool, AllocError>
     ensures { IfOk result (λ foreign. foreign ≡ is_foreign file.now) }
 {

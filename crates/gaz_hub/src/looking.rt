@@ -87,6 +87,8 @@ fn weigh<S: Shelf>(shelf: &mut S, file: ChangeFile) -> Result<Next, ShelfFault>
 }
 
 /// What is to become of a file of these bytes.
+// A reader of CSV takes 32 KiB of the stack, which no look without a file should touch.
+#[inline(never)]
 fn read_next<S: Shelf>(
     alloc: Global,
     shelf: &mut S,
