@@ -1,13 +1,13 @@
 //! Readings of a hub whose keeper has files that nobody judged yet.
 ghost use Rattle.std.specs.Prelude.{OnOk, IfOk};
 ghost use Rattle.gaz_shelf.specs.Keeper.{IsNotOpen, Seen};
+ghost use Rattle.gaz_shelf.specs.Faulting.{progress_around};
 ghost use Rattle.gaz_shelf.specs.Mem.{seen_in};
 
-use crate::failing::{Failing, Fails};
 use crate::{Hub, Refusal};
 use gaz_ids::{Code, Status, Uprn, Volume};
 use gaz_register::Register;
-use gaz_shelf::{Inbox, MemShelf, Shelf, ShelfFault};
+use gaz_shelf::{Faulty, Inbox, MemShelf, Shelf, ShelfFault};
 use std::alloc::Global;
 use std::test::Fail;
 
@@ -129,19 +129,19 @@ fn readings_of_a_new_hub_find_nothing(rt: HostRuntime) -> Result<(), Fail> {
     Ok(())
 }
 
-/// A hub whose one file is to be rejected, over a keeper that fails to the first time.
-fn failing_hub(alloc: Global) -> Result<Hub<Failing>, Fail>
-    ensures { IfOk result (λ hub. IsNotOpen (seen_in hub.keeper.inner).progress) }
+/// A hub whose one file is to be rejected, over a keeper whose second call fails: the first of settling.
+fn failing_hub(alloc: Global) -> Result<Hub<Faulty<MemShelf>>, Fail>
+    ensures { IfOk result (λ hub. IsNotOpen (progress_around hub.keeper.broken (seen_in hub.keeper.inner).progress)) }
 {
     let register = Register::read(alloc, REGISTER)?;
-    let mut keeper = Failing::new(alloc, Fails::Skip);
+    let mut keeper = Faulty::new(MemShelf::new(alloc), 2);
     receive(&mut keeper, 1001, 1, b"")?;
     Ok(Hub::new(alloc, register, keeper))
 }
 
 #[test]
 fn readings_that_cant_settle_say_why(rt: HostRuntime) -> Result<(), Fail> {
-    let fault = Refusal::NotReceived(ShelfFault::Memory);
+    let fault = Refusal::NotReceived(ShelfFault::Store);
     let uprn = Uprn::of(100_001).ok_or("uprn")?;
     let mut hub = failing_hub(rt.alloc())?;
     assert!(rt; hub.lookup(uprn).is_err_and(|told| told == fault));
