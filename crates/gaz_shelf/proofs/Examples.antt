@@ -1,5 +1,5 @@
 -- What the definitions come to on worked examples.
-use Rattle.std.proofs.Common.{◌≡◌, ◌∙◌, ◌||◌, cond, ap, refl, false, List, [], ◌∷◌}
+use Rattle.std.proofs.Common.{◌≡◌, ◌∙◌, ◌||◌, ℕ, cond, ap, refl, false, List, [], ◌∷◌, unwrap_or}
 use Rattle.std.specs.Prelude.{Some, None, fold, codes}
 use Rattle.std.specs.Ordering.{eq_by_cmp}
 use Rattle.std.specs.FinMap as map
@@ -13,8 +13,11 @@ use Rattle.gaz_records.specs.declared.key.Key.{Key}
 use Rattle.gaz_records.specs.declared.key.Key.TheVariants as key
 use Rattle.gaz_shelf.specs.View.{View, empty_view, was_used, with_item}
 use Rattle.gaz_shelf.specs.Words.{entries}
-use Rattle.gaz_shelf.specs.Examples.{WorkedBoards, WorkedExamples, WorkedPages, WorkedViews, WorkedWords, all_kinds, lpi, no_more, one_street, put_in_turn, street}
+use Rattle.gaz_shelf.specs.Examples.{WorkedBoards, WorkedExamples, WorkedGazetteers, WorkedPages, WorkedViews, WorkedWords, all_kinds, lpi, no_more, one_street, put_in_turn, street, three_volumes}
+use Rattle.gaz_shelf.proofs.Gazetteers.{contains_at, get_at}
 use Rattle.gaz_shelf.proofs.Trees.{no_entries}
+use Rattle.gaz_shelf.specs.Gazetteer.{judgements, view_at}
+use Rattle.gaz_histories.specs.Histories.{item_at, was_used_at}
 
 pub get_none : (k : Key) → map.get empty_view.items k ≡ None
 unfolding empty_view
@@ -49,8 +52,35 @@ no_entries_yet = no_entries _ _
 these : (is : List Item) → entries (fold with_item empty_view is) ≡ entries_put [] is
 these = entries_after empty_view [] no_entries_yet
 
+versions_in_three : (k : Key) → map.get three_volumes k ≡ cond (eq_by_cmp key_cmp k (key.Street 102)) (Some ((2, Some (street 102)) ∷ [])) (cond (eq_by_cmp key_cmp k (key.Street 101)) (Some ((1, Some (street 101)) ∷ (3, None) ∷ [])) None)
+versions_in_three k =
+    map.get-insert keys_total (map.insert map.empty (key.Street 101) ((1, Some (street 101)) ∷ (3, None) ∷ [])) (key.Street 102) ((2, Some (street 102)) ∷ []) k
+    ∙ ap (cond (eq_by_cmp key_cmp k (key.Street 102)) (Some ((2, Some (street 102)) ∷ [])))
+    (map.get-insert keys_total map.empty (key.Street 101) ((1, Some (street 101)) ∷ (3, None) ∷ []) k ∙ ap (cond (eq_by_cmp key_cmp k (key.Street 101)) (Some ((1, Some (street 101)) ∷ (3, None) ∷ []))) (map.get-empty key_cmp k))
+
+item_in_three : (volume : ℕ) (k : Key) → map.get (view_at three_volumes volume).items k ≡ item_at (unwrap_or (cond (eq_by_cmp key_cmp k (key.Street 102)) (Some ((2, Some (street 102)) ∷ [])) (cond (eq_by_cmp key_cmp k (key.Street 101)) (Some ((1, Some (street 101)) ∷ (3, None) ∷ [])) None)) []) volume
+item_in_three volume k = get_at three_volumes volume k ∙ ap (λ o. item_at (unwrap_or o []) volume) (versions_in_three k)
+
+used_in_three : (volume : ℕ) (k : Key) → was_used (view_at three_volumes volume) k ≡ was_used_at (unwrap_or (cond (eq_by_cmp key_cmp k (key.Street 102)) (Some ((2, Some (street 102)) ∷ [])) (cond (eq_by_cmp key_cmp k (key.Street 101)) (Some ((1, Some (street 101)) ∷ (3, None) ∷ [])) None)) []) volume
+used_in_three volume k = contains_at three_volumes volume k ∙ ap (λ o. was_used_at (unwrap_or o []) volume) (versions_in_three k)
+
+gazetteers_hold : WorkedGazetteers
+unfolding judgements
+gazetteers_hold = record {
+  not_yet = item_in_three 0 (key.Street 101);
+  came = item_in_three 1 (key.Street 101);
+  stays = item_in_three 2 (key.Street 101);
+  went = item_in_three 3 (key.Street 101);
+  other_comes_later = item_in_three 1 (key.Street 102);
+  other_came = item_in_three 2 (key.Street 102);
+  not_used_yet = used_in_three 1 (key.Street 102);
+  stays_used = used_in_three 3 (key.Street 101);
+  second_judged = refl;
+  third_not_judged = refl;
+}
+
 pub worked_examples_hold : WorkedExamples
-worked_examples_hold = record { on_views = on_views; on_words = on_words; on_pages = on_pages; on_boards = on_boards }
+worked_examples_hold = record { on_views = on_views; on_words = on_words; on_pages = on_pages; on_boards = on_boards; on_gazetteers = gazetteers_hold }
   where
     on_views : WorkedViews
     on_views = record {

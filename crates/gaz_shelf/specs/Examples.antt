@@ -1,5 +1,5 @@
 -- Worked examples, computed from the definitions.
-use Rattle.std.specs.Prelude.{◌≡◌, ℕ, ◌==◌, true, false, List, [], ◌∷◌, fold, Option, Some, None, if◌then◌else◌, codes}
+use Rattle.std.specs.Prelude.{◌≡◌, ℕ, ◌==◌, true, false, List, [], ◌∷◌, fold, slice_get, Option, Some, None, if◌then◌else◌, codes}
 use Rattle.std.specs.FinMap as map
 use Rattle.gaz_ids.specs.declared.lang.Lang.{Lang}
 use Rattle.gaz_ids.specs.declared.lang.Lang.TheVariants.{Cym, Eng}
@@ -11,6 +11,7 @@ use Rattle.gaz_records.specs.declared.item.Item.TheVariants as item
 use Rattle.gaz_records.specs.declared.item.Kind.TheVariants as kind
 use Rattle.gaz_records.specs.declared.key.Key.TheVariants as key
 use Rattle.gaz_shelf.specs.View.{View, empty_view, holds, was_used, with_item, without_key}
+use Rattle.gaz_shelf.specs.Gazetteer.{Gazetteer, judgements, view_at}
 use Rattle.gaz_shelf.specs.Words.{approved_of, approved_on, has_children, page}
 use Rattle.gaz_shelf.specs.Board.{Board, empty_board, reached, view_after}
 use Rattle.gaz_shelf.specs.declared.verdict.Verdict.TheVariants.{Applied, Rejected}
@@ -119,8 +120,27 @@ pub record WorkedBoards : Type 0 where
   pub after_2 : view_after two_judged 1001 2 ≡ one_street
   pub of_another : view_after two_judged 1002 0 ≡ empty_view
 
+-- ---- a gazetteer through its volumes
+
+-- street 101 came with volume 1 and went with volume 3, street 102 came with volume 2
+abbrev pub three_volumes : Gazetteer
+three_volumes = map.insert (map.insert map.empty (key.Street 101) ((1, Some (street 101)) ∷ (3, None) ∷ [])) (key.Street 102) ((2, Some (street 102)) ∷ [])
+
+pub record WorkedGazetteers : Type 0 where
+  pub not_yet : map.get (view_at three_volumes 0).items (key.Street 101) ≡ None
+  pub came : map.get (view_at three_volumes 1).items (key.Street 101) ≡ Some (street 101)
+  pub stays : map.get (view_at three_volumes 2).items (key.Street 101) ≡ Some (street 101)
+  pub went : map.get (view_at three_volumes 3).items (key.Street 101) ≡ None
+  pub other_comes_later : map.get (view_at three_volumes 1).items (key.Street 102) ≡ None
+  pub other_came : map.get (view_at three_volumes 2).items (key.Street 102) ≡ Some (street 102)
+  pub not_used_yet : was_used (view_at three_volumes 1) (key.Street 102) ≡ false
+  pub stays_used : was_used (view_at three_volumes 3) (key.Street 101) ≡ true
+  pub second_judged : slice_get (judgements (Applied ∷ Rejected 2 21 ∷ []) three_volumes) 1 ≡ Some (record { verdict = Rejected 2 21; view = view_at three_volumes 2 })
+  pub third_not_judged : slice_get (judgements (Applied ∷ Rejected 2 21 ∷ []) three_volumes) 2 ≡ None
+
 pub record WorkedExamples : Type 0 where
   pub on_views : WorkedViews
   pub on_words : WorkedWords
   pub on_pages : WorkedPages
   pub on_boards : WorkedBoards
+  pub on_gazetteers : WorkedGazetteers
