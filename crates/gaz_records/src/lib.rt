@@ -13,6 +13,7 @@ pub mod laws;
 mod lpi;
 mod reading;
 mod row;
+mod shared;
 mod street;
 mod xref;
 
@@ -24,6 +25,7 @@ pub use item::{Item, Kind, item_of_text, item_text, read_item, write_item};
 pub use key::{Key, key_of};
 pub use label::{Label, RecordKey, Source};
 pub use lpi::Lpi;
+pub use shared::SharedItem;
 pub use street::Street;
 pub use xref::Xref;
 
