@@ -1,6 +1,6 @@
 -- What a history's vector of versions is in its value.
 use Rattle.std.proofs.Common.{◌≡◌, ◌≢◌, ◌≤◌, ◌<◌, ◌-◌, ℕ, zero, suc, List, [], ◌∷◌, ◌++◌, length, take, refl, sym, ap, subst, ◌∙◌, arith, slice_index_or}
-use Rattle.std.specs.Prelude.{None, Some, option_map, fold, nat_le, slice_get}
+use Rattle.std.specs.Prelude.{None, Some, fold, nat_le, slice_get}
 use Rattle.std.proofs.lemmas.List.{get_or-map, length-map, map-append, take-map}
 use Rattle.gaz_histories.specs.Histories.{Ascends, Versions, before, item_at, until, was_used_at}
 use Rattle.gaz_histories.specs.Kept.{version_in, versions_of}
@@ -8,7 +8,7 @@ use Rattle.gaz_histories.specs.declared.history.Version as declared
 use Rattle.gaz_histories.proofs.Searches.{first_tells, last_of}
 
 pub found : (vs : List declared.Version) (now : Versions) (count volume : ℕ) (v : declared.Version) → versions_of vs ≡ now → until now volume ≡ take count now → count ≢ 0 → count ≤ length now
-    → v ≡ slice_index_or vs (count - 1) v → option_map (λ b. b.value) v.item ≡ item_at now volume
+    → v ≡ slice_index_or vs (count - 1) v → v.item ≡ item_at now volume
 found vs now zero volume v is first some within at = absurd (some refl)
 found vs now (suc n) volume v is first some within at =
     let e : suc n - 1 ≡ n = omega arith in

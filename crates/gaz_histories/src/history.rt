@@ -3,7 +3,7 @@ ghost use Rattle.std.specs.Prelude.{◌≡◌, ◌++◌, ◌∷◌, [], ◌≤�
 ghost use Rattle.gaz_histories.specs.Histories.{before, is_empty, item_at, until, was_used_at};
 ghost use Rattle.gaz_histories.specs.Kept.{version_in};
 
-use gaz_records::Item;
+use gaz_records::SharedItem;
 use std::alloc::{AllocError, Global};
 use std::marker::Model;
 
@@ -11,7 +11,7 @@ use std::marker::Model;
 #[derive(Drop)]
 struct Version {
     since: u64,
-    item: Option<Box<Item>>,
+    item: Option<SharedItem>,
 }
 
 /// What stood at a key through the volumes of a gazetteer, in their order.
@@ -65,7 +65,7 @@ impl History {
     }
 
     /// The item that stands at the key after a volume.
-    pub fn item_at(&self, volume: u64) -> Option<&Item>
+    pub fn item_at(&self, volume: u64) -> Option<&SharedItem>
         ensures { option_map (λ i. i.now) result ≡ item_at self.now volume }
     {
         let count = self.count_until(volume);
@@ -73,7 +73,7 @@ impl History {
             return None;
         }
         match &self.versions[count - 1].item {
-            Some(item) => Some(item.as_ref()),
+            Some(item) => Some(item),
             None => None,
         }
     }
@@ -89,11 +89,14 @@ impl History {
     }
 
     /// From a volume on this item stands at the key, or none. What began at the volume or after it is forgotten.
-    pub fn set(&mut self, alloc: Global, volume: u64, item: Option<Item>) -> Result<(), AllocError>
+    pub fn set(&mut self, volume: u64, item: Option<SharedItem>) -> Result<(), AllocError>
         ensures ok { OnOk result (self.new ≡ before self.old volume ++ (volume, item) ∷ []) }
         ensures err { OnErr result (self.new ≡ self.old) }
     {
-        let version = version_of(alloc, volume, item)?;
+        let version = Version {
+            since: volume,
+            item,
+        };
         let count = self.count_before(volume);
         if count == self.versions.len() {
             self.versions.push(version)?;
@@ -111,14 +114,4 @@ impl History {
         let count = self.count_before(volume);
         self.versions.truncate(count);
     }
-}
-
-fn version_of(alloc: Global, since: u64, item: Option<Item>) -> Result<Version, AllocError>
-    ensures { IfOk result (λ v. version_in v ≡ (since, item)) }
-{
-    let item = match item {
-        Some(item) => Some(Box::new(alloc, item)?),
-        None => None,
-    };
-    Ok(Version { since, item })
 }
