@@ -7,7 +7,7 @@ ghost use Rattle.gaz_shelf.specs.View.{with_item, without_key};
 use crate::ledger::Ledger;
 use crate::verdict::Verdict;
 use gaz_ids::Code;
-use gaz_records::{Item, Key};
+use gaz_records::{Key, SharedItem};
 use std::alloc::{AllocError, Global};
 use std::collections::BTreeMap;
 
@@ -57,7 +57,7 @@ pub fn undo_in(ledgers: &mut BTreeMap<Code, Ledger>, code: Code)
 pub fn put_in(
     ledgers: &mut BTreeMap<Code, Ledger>,
     code: Code,
-    item: Item,
+    item: SharedItem,
 ) -> Result<(), AllocError>
     ensures board { board_of ledgers.new.entries ≡ board_of ledgers.old.entries }
     ensures working { OnOk result ((account_of ledgers.new.entries code).working ≡ with_item (account_of ledgers.old.entries code).working item) }

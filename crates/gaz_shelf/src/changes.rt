@@ -6,7 +6,7 @@ ghost use Rattle.gaz_shelf.specs.Ledgers.{Finds, IsLedger};
 
 use crate::histories::Histories;
 use crate::index::{Index, Mark, is_marked, marks_at, marks_of};
-use gaz_records::{Item, Key};
+use gaz_records::{Key, SharedItem};
 use std::alloc::AllocError;
 
 // Forgets a mark of a key where its item has it neither in the last view nor in the working one.
@@ -51,7 +51,7 @@ fn set_found(
     index: &mut Index,
     reached: u64,
     key: Key,
-    item: Option<Item>,
+    item: Option<SharedItem>,
 ) -> Result<(), AllocError>
     requires { reached < 2 ^ 64 - 1 }
     ensures ok { OnOk result (ChangesAt histories.old histories.new key (before (versions_at histories.old key) (reached + 1) ++ (reached + 1, item) ∷ [])) }
@@ -69,7 +69,7 @@ pub fn change(
     index: &mut Index,
     reached: u64,
     key: Key,
-    item: Option<Item>,
+    item: Option<SharedItem>,
 ) -> Result<(), AllocError>
     requires { reached < 2 ^ 64 - 1 }
     ensures ok { OnOk result (ChangesAt histories.old histories.new key (before (versions_at histories.old key) (reached + 1) ++ (reached + 1, item) ∷ [])) }

@@ -8,7 +8,7 @@ use crate::fault::ShelfFault;
 use crate::shelf::{Inbox, Shelf};
 use crate::verdict::Verdict;
 use gaz_ids::{Code, Lang, Uprn, Usrn, Volume};
-use gaz_records::{Item, Key, Kind};
+use gaz_records::{Key, Kind, SharedItem};
 
 /// Passes every call on to another keeper and counts it; one call, chosen by its number, fails as if the store did.
 ///
@@ -122,12 +122,12 @@ impl<K: Inbox + Drop> Shelf for Faulty<K> {
         self.inner.verdict(code, volume)
     }
 
-    fn current(&mut self, code: Code, key: &Key) -> Result<Option<Item>, ShelfFault> {
+    fn current(&mut self, code: Code, key: &Key) -> Result<Option<SharedItem>, ShelfFault> {
         self.admit(Call::Current)?;
         self.inner.current(code, key)
     }
 
-    fn at(&mut self, code: Code, volume: u64, key: &Key) -> Result<Option<Item>, ShelfFault> {
+    fn at(&mut self, code: Code, volume: u64, key: &Key) -> Result<Option<SharedItem>, ShelfFault> {
         self.admit(Call::At)?;
         self.inner.at(code, volume, key)
     }
@@ -164,7 +164,7 @@ impl<K: Inbox + Drop> Shelf for Faulty<K> {
         kind: Kind,
         after: Option<Key>,
         most: usize,
-    ) -> Result<Vec<Item>, ShelfFault> {
+    ) -> Result<Vec<SharedItem>, ShelfFault> {
         self.admit(Call::Page)?;
         self.inner.page(code, volume, kind, after, most)
     }
@@ -180,7 +180,7 @@ impl<K: Inbox + Drop> Shelf for Faulty<K> {
         begun
     }
 
-    fn put(&mut self, item: Item) -> Result<(), ShelfFault> {
+    fn put(&mut self, item: SharedItem) -> Result<(), ShelfFault> {
         if self.is_stopped(Call::Put) {
             return Err(self.break_off());
         }

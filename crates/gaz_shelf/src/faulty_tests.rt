@@ -5,7 +5,7 @@ ghost use Rattle.gaz_shelf.specs.Mem.{progress_of};
 
 use crate::{Call, Calls, Faulty, Inbox, MemShelf, Shelf, ShelfFault};
 use gaz_ids::{Code, Volume};
-use gaz_records::{Item, Key, Kind, item_of_text};
+use gaz_records::{Key, Kind, SharedItem, item_of_text};
 use std::alloc::Global;
 use std::process::Abort;
 use std::test::Fail;
@@ -14,8 +14,8 @@ const FIRST: &str = "101,1,2001-04-01,";
 
 const SECOND: &str = "102,1,2001-04-01,";
 
-fn street(alloc: Global, row: &str) -> Result<Item, Fail> {
-    Ok(item_of_text(alloc, Kind::Street, row.as_bytes())?)
+fn street(alloc: Global, row: &str) -> Result<SharedItem, Fail> {
+    Ok(SharedItem::new(alloc, item_of_text(alloc, Kind::Street, row.as_bytes())?)?)
 }
 
 fn custodian() -> Result<Code, Fail> {
@@ -33,7 +33,12 @@ fn received(alloc: Global) -> Result<MemShelf, Fail>
 }
 
 // A volume in which a street comes and goes, and another comes.
-fn writes<K: Inbox>(shelf: &mut K, code: Code, first: Item, second: Item) -> Result<(), ShelfFault>
+fn writes<K: Inbox>(
+    shelf: &mut K,
+    code: Code,
+    first: SharedItem,
+    second: SharedItem,
+) -> Result<(), ShelfFault>
     requires { IsNotOpen (K.seen shelf.old).progress }
     ensures { IsNotOpen (K.seen shelf.new).progress }
 {

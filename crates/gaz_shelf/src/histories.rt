@@ -8,7 +8,7 @@ ghost use Rattle.gaz_shelf.specs.Words.{page};
 
 use crate::words::{in_order, page_of};
 use gaz_histories::History;
-use gaz_records::{Item, Key, Kind};
+use gaz_records::{Key, Kind, SharedItem};
 use std::alloc::{AllocError, Global};
 use std::collections::BTreeMap;
 use std::marker::Model;
@@ -44,7 +44,7 @@ impl Histories {
     }
 
     /// The item at a key after a volume.
-    pub fn item(&self, volume: u64, key: &Key) -> Option<&Item>
+    pub fn item(&self, volume: u64, key: &Key) -> Option<&SharedItem>
         ensures { option_map (λ i. i.now) result ≡ item_at (versions_at self.now key.now) volume }
     {
         match self.by_key.get(key) {
@@ -71,7 +71,7 @@ impl Histories {
         kind: Kind,
         after: Option<Key>,
         most: usize,
-    ) -> Result<Vec<Item>, AllocError>
+    ) -> Result<Vec<SharedItem>, AllocError>
         ensures { IfOk result (λ items. items.items ≡ page (view_at self.now volume) kind after most) }
     {
         in_order(&self.by_key);
@@ -79,15 +79,15 @@ impl Histories {
     }
 
     /// From a volume on this item stands at a key, or none any more. What began there at the volume or after it is forgotten.
-    pub fn set(&mut self, volume: u64, key: Key, item: Option<Item>) -> Result<(), AllocError>
+    pub fn set(&mut self, volume: u64, key: Key, item: Option<SharedItem>) -> Result<(), AllocError>
         ensures ok { OnOk result (ChangesAt self.old self.new key (before (versions_at self.old key) volume ++ (volume, item) ∷ [])) }
         ensures err { OnErr result (self.new ≡ self.old) }
     {
         if let Some(history) = self.by_key.get_mut(&key) {
-            return history.set(self.alloc, volume, item);
+            return history.set(volume, item);
         }
         let mut history = History::new(self.alloc);
-        history.set(self.alloc, volume, item)?;
+        history.set(volume, item)?;
         self.by_key.insert(key, history)?;
         Ok(())
     }

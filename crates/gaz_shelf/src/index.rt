@@ -16,7 +16,7 @@ ghost use Rattle.gaz_shelf.specs.declared.index.Mark.{Mark};
 use crate::histories::Histories;
 use crate::words::{is_approved_of, is_approved_on, is_child_of};
 use gaz_ids::{Lang, Status, Uprn, Usrn};
-use gaz_records::{Item, Key};
+use gaz_records::{Item, Key, SharedItem};
 use std::alloc::{AllocError, Global};
 use std::collections::{BTreeMap, BTreeSet};
 
@@ -127,7 +127,7 @@ impl Index {
     }
 
     /// The same, where there is an item.
-    pub fn add_marks_of(&mut self, item: &Option<Item>, key: &Key) -> Result<(), AllocError>
+    pub fn add_marks_of(&mut self, item: &Option<SharedItem>, key: &Key) -> Result<(), AllocError>
         ensures ok { OnOk result (IfSome item.now (λ i. (m : Mark) → has_mark m i ≡ true → is_under self.new m key.now ≡ true)) }
         ensures kept { (m : Mark) → (k : Key) → is_under self.old m k ≡ true → is_under self.new m k ≡ true }
     {

@@ -12,7 +12,7 @@ use crate::histories::Histories;
 use crate::index::{Index, Mark, any_marked, keys_in_order, keys_marked};
 use crate::verdict::Verdict;
 use gaz_ids::{Lang, Uprn, Usrn};
-use gaz_records::{Item, Key, Kind};
+use gaz_records::{Key, Kind, SharedItem};
 use std::alloc::{AllocError, Global};
 use std::marker::Model;
 
@@ -74,7 +74,7 @@ impl Ledger {
     }
 
     /// The item at a key after a volume, or in the working view for any later one.
-    pub fn item(&self, volume: u64, key: &Key) -> Option<&Item>
+    pub fn item(&self, volume: u64, key: &Key) -> Option<&SharedItem>
         ensures { option_map (λ i. i.now) result ≡ finite.get (view_in self.now volume).items key.now }
     {
         self.histories.item(volume, key)
@@ -95,7 +95,7 @@ impl Ledger {
         kind: Kind,
         after: Option<Key>,
         most: usize,
-    ) -> Result<Vec<Item>, AllocError>
+    ) -> Result<Vec<SharedItem>, AllocError>
         ensures { IfOk result (λ items. items.items ≡ page (view_in self.now volume) kind after most) }
     {
         Ok(self.histories.page(alloc, volume, kind, after, most)?)
@@ -165,7 +165,7 @@ impl Ledger {
     }
 
     /// Sets an item in the working view. Where memory runs out, nothing changes.
-    pub fn put(&mut self, item: Item) -> Result<(), AllocError>
+    pub fn put(&mut self, item: SharedItem) -> Result<(), AllocError>
         ensures ok { OnOk result (self.new ≡ record { judged = self.old.judged; working = with_item self.old.working item }) }
         ensures err { OnErr result (self.new ≡ self.old) }
     {

@@ -5,7 +5,7 @@ use crate::histories::Histories;
 use crate::index::{Index, Mark};
 use crate::ledger::Ledger;
 use gaz_ids::{Uprn, Usrn};
-use gaz_records::{Item, Key, Kind, item_of_text, item_text};
+use gaz_records::{Key, Kind, SharedItem, item_of_text, item_text};
 use std::alloc::Global;
 use std::process::Abort;
 use std::test::Fail;
@@ -14,11 +14,11 @@ const OPEN: &str = "101,1,2001-04-01,";
 
 const CLOSED: &str = "101,1,2001-04-01,2023-05-01";
 
-fn item(alloc: Global, kind: Kind, row: &str) -> Result<Item, Fail> {
-    Ok(item_of_text(alloc, kind, row.as_bytes())?)
+fn item(alloc: Global, kind: Kind, row: &str) -> Result<SharedItem, Fail> {
+    Ok(SharedItem::new(alloc, item_of_text(alloc, kind, row.as_bytes())?)?)
 }
 
-fn street(alloc: Global, row: &str) -> Result<Item, Fail> {
+fn street(alloc: Global, row: &str) -> Result<SharedItem, Fail> {
     item(alloc, Kind::Street, row)
 }
 
@@ -111,7 +111,7 @@ fn count_parts(index: &Index, uprn: u64) -> Result<usize, Fail> {
 }
 
 // Property 1002, a part of another.
-fn part_of(alloc: Global, parent: &str) -> Result<Option<Item>, Fail> {
+fn part_of(alloc: Global, parent: &str) -> Result<Option<SharedItem>, Fail> {
     let row = format!(in alloc; "1002,1,1,1,{parent},,2001-04-01,")?;
     Ok(Some(item(alloc, Kind::Blpu, row.as_str())?))
 }

@@ -16,7 +16,7 @@ use crate::ledger::Ledger;
 use crate::shelf::{Inbox, Shelf};
 use crate::verdict::Verdict;
 use gaz_ids::{Code, Lang, Uprn, Usrn, Volume};
-use gaz_records::{Item, Key, Kind};
+use gaz_records::{Key, Kind, SharedItem};
 use std::alloc::{AllocError, Global};
 use std::collections::BTreeMap;
 
@@ -109,20 +109,20 @@ impl MemShelf {
         ledger_of(&self.ledgers, code, &empty).verdict(volume.number())
     }
 
-    fn find_current(&self, code: Code, key: &Key) -> Result<Option<Item>, AllocError>
+    fn find_current(&self, code: Code, key: &Key) -> Result<Option<SharedItem>, AllocError>
         ensures { IfOk result (λ i. i ≡ map.get (view_of (seen_in self.now) code).items key.now) }
     {
         let empty = Ledger::new(self.alloc);
         let (ledger, volume) = self.seen(code, &empty);
-        Ok(copy_found(ledger.item(volume, key))?)
+        Ok(share_found(ledger.item(volume, key))?)
     }
 
-    fn find_at(&self, code: Code, volume: u64, key: &Key) -> Result<Option<Item>, AllocError>
+    fn find_at(&self, code: Code, volume: u64, key: &Key) -> Result<Option<SharedItem>, AllocError>
         ensures { IfOk result (λ i. volume ≤ reached (board_of self.now.ledgers.entries) code → i ≡ map.get (view_after (board_of self.now.ledgers.entries) code volume).items key.now) }
     {
         let empty = Ledger::new(self.alloc);
         let ledger = ledger_of(&self.ledgers, code, &empty);
-        Ok(copy_found(ledger.item(volume, key))?)
+        Ok(share_found(ledger.item(volume, key))?)
     }
 
     fn find_ever(&self, code: Code, key: &Key) -> bool
@@ -164,7 +164,7 @@ impl MemShelf {
         kind: Kind,
         after: Option<Key>,
         most: usize,
-    ) -> Result<Vec<Item>, AllocError>
+    ) -> Result<Vec<SharedItem>, AllocError>
         ensures { IfOk result (λ items. volume ≤ reached (board_of self.now.ledgers.entries) code → items.items ≡ page (view_after (board_of self.now.ledgers.entries) code volume) kind after most) }
     {
         let empty = Ledger::new(self.alloc);
@@ -196,7 +196,7 @@ impl MemShelf {
     }
 
     /// Sets an item in the working view of the custodian that is being judged.
-    fn put_open(&mut self, code: Code, item: Item) -> Result<(), ShelfFault>
+    fn put_open(&mut self, code: Code, item: SharedItem) -> Result<(), ShelfFault>
         requires { progress_of self.old.judging ≡ Open code }
         ensures { Sets (seen_in self.old) (seen_in self.new) result (with_item (content_in self.old).working item) }
     {
@@ -241,11 +241,11 @@ impl MemShelf {
     }
 }
 
-fn copy_found(found: Option<&Item>) -> Result<Option<Item>, AllocError>
+fn share_found(found: Option<&SharedItem>) -> Result<Option<SharedItem>, AllocError>
     ensures { IfOk result (λ i. i ≡ option_map (λ x. x.now) found.entry) }
 {
     match found {
-        Some(item) => Ok(Some(item.copy()?)),
+        Some(item) => Ok(Some(item.share()?)),
         None => Ok(None),
     }
 }
@@ -271,12 +271,12 @@ impl Shelf for MemShelf {
         Ok(self.find_verdict(code, volume))
     }
 
-    fn current(&mut self, code: Code, key: &Key) -> Result<Option<Item>, ShelfFault> {
+    fn current(&mut self, code: Code, key: &Key) -> Result<Option<SharedItem>, ShelfFault> {
         self.clear();
         Ok(self.find_current(code, key)?)
     }
 
-    fn at(&mut self, code: Code, volume: u64, key: &Key) -> Result<Option<Item>, ShelfFault> {
+    fn at(&mut self, code: Code, volume: u64, key: &Key) -> Result<Option<SharedItem>, ShelfFault> {
         self.clear();
         Ok(self.find_at(code, volume, key)?)
     }
@@ -316,7 +316,7 @@ impl Shelf for MemShelf {
         kind: Kind,
         after: Option<Key>,
         most: usize,
-    ) -> Result<Vec<Item>, ShelfFault> {
+    ) -> Result<Vec<SharedItem>, ShelfFault> {
         self.clear();
         Ok(self.find_page(code, volume, kind, after, most)?)
     }
@@ -334,7 +334,7 @@ impl Shelf for MemShelf {
         }
     }
 
-    fn put(&mut self, item: Item) -> Result<(), ShelfFault> {
+    fn put(&mut self, item: SharedItem) -> Result<(), ShelfFault> {
         match self.open_code() {
             Some(code) => self.put_open(code, item),
             None => Err(self.fail()),

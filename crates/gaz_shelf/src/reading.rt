@@ -8,7 +8,7 @@ ghost use Rattle.gaz_shelf.specs.Words.{rest_of};
 use crate::fault::ShelfFault;
 use crate::shelf::Shelf;
 use gaz_ids::Code;
-use gaz_records::{Item, Key, Kind};
+use gaz_records::{Key, Kind, SharedItem};
 use std::alloc::Global;
 
 /// All items of a kind after a volume, which is to be reached, in key order, read `most` at a time, which is at least 1.
@@ -22,7 +22,7 @@ pub fn read_kind<S: Shelf>(
     volume: u64,
     kind: Kind,
     most: usize,
-) -> Result<Vec<Item>, ShelfFault>
+) -> Result<Vec<SharedItem>, ShelfFault>
     requires { 1 ≤ most }
     ensures { Reads (S.seen shelf.old) (S.seen shelf.new) result (λ items. volume ≤ reached (S.seen shelf.old).content.board code → IsKeyed (view_after (S.seen shelf.old).content.board code volume) → items.items ≡ rest_of (view_after (S.seen shelf.old).content.board code volume) kind None) }
 {
@@ -42,7 +42,7 @@ fn add_page<S: Shelf>(
     kind: Kind,
     after: Option<Key>,
     most: usize,
-    items: &mut Vec<Item>,
+    items: &mut Vec<SharedItem>,
 ) -> Result<Option<Key>, ShelfFault>
     requires { 1 ≤ most }
     ensures reads { Reads (S.seen shelf.old) (S.seen shelf.new) result (λ next. volume ≤ reached (S.seen shelf.old).content.board code → IsKeyed (view_after (S.seen shelf.old).content.board code volume) → items.new.items ++ left_after (view_after (S.seen shelf.old).content.board code volume) kind next ≡ items.old.items ++ rest_of (view_after (S.seen shelf.old).content.board code volume) kind after) }
@@ -57,7 +57,7 @@ fn add_page<S: Shelf>(
 }
 
 // The key of a full page's last item, and none after a page that isn't full.
-fn next_after(page: &[Item], most: usize) -> Option<Key>
+fn next_after(page: &[SharedItem], most: usize) -> Option<Key>
     ensures { result ≡ next_after most page.now }
 {
     if page.len() < most {

@@ -10,7 +10,7 @@ ghost use Rattle.gaz_shelf.specs.Keeper.{Enters, Goes, Idle, IsAtHand, IsNew, Is
 use crate::fault::ShelfFault;
 use crate::verdict::Verdict;
 use gaz_ids::{Code, Lang, Uprn, Usrn, Volume};
-use gaz_records::{Item, Key, Kind};
+use gaz_records::{Key, Kind, SharedItem};
 
 /// Keeps each custodian's views and verdicts, and at most one judgement in progress.
 ///
@@ -29,11 +29,11 @@ pub trait Shelf {
         ensures { Reads (seen self.old) (seen self.new) result (λ v. v ≡ verdict_on (seen self.old).content.board code volume) };
 
     /// The item at a key, in the working view of a custodian that is being judged, else in its last.
-    fn current(&mut self, code: Code, key: &Key) -> Result<Option<Item>, ShelfFault>
+    fn current(&mut self, code: Code, key: &Key) -> Result<Option<SharedItem>, ShelfFault>
         ensures { Reads (seen self.old) (seen self.new) result (λ i. i ≡ map.get (view_of (seen self.old) code).items key.now) };
 
     /// The item at a key after a volume, which is to be reached; after volume 0 there is none.
-    fn at(&mut self, code: Code, volume: u64, key: &Key) -> Result<Option<Item>, ShelfFault>
+    fn at(&mut self, code: Code, volume: u64, key: &Key) -> Result<Option<SharedItem>, ShelfFault>
         ensures { Reads (seen self.old) (seen self.new) result (λ i. volume ≤ reached (seen self.old).content.board code → i ≡ map.get (view_after (seen self.old).content.board code volume).items key.now) };
 
     /// Whether the key was ever used, in the view of `current` or before it.
@@ -65,7 +65,7 @@ pub trait Shelf {
         kind: Kind,
         after: Option<Key>,
         most: usize,
-    ) -> Result<Vec<Item>, ShelfFault>
+    ) -> Result<Vec<SharedItem>, ShelfFault>
         ensures { Reads (seen self.old) (seen self.new) result (λ items. volume ≤ reached (seen self.old).content.board code → items.items ≡ page (view_after (seen self.old).content.board code volume) kind after most) };
 
     /// Begins the judgement of a custodian's next volume, which is to be at hand, on its last view.
@@ -74,7 +74,7 @@ pub trait Shelf {
         ensures { Goes (seen self.old) (seen self.new) result (IsAtHand (seen self.old).content code) (begun (seen self.old).content code) (Open code) };
 
     /// Sets an item in the working view.
-    fn put(&mut self, item: Item) -> Result<(), ShelfFault>
+    fn put(&mut self, item: SharedItem) -> Result<(), ShelfFault>
         requires { (seen self.old).progress ≢ Idle }
         ensures sets { Sets (seen self.old) (seen self.new) result (with_item (seen self.old).content.working item) }
         ensures refuses { Refuses (seen self.old) result };

@@ -3,18 +3,18 @@ ghost use Rattle.gaz_shelf.specs.Keeper.{Idle};
 
 use crate::{Ending, Faulty, Inbox, MemShelf, Shelf, ShelfFault, Verdict, read_kind, write_volume};
 use gaz_ids::{Code, Lang, Uprn, Usrn, Volume};
-use gaz_records::{Item, Key, Kind, RecordKey, item_of_text, item_text};
+use gaz_records::{Key, Kind, RecordKey, SharedItem, item_of_text, item_text};
 use std::alloc::Global;
 use std::process::Abort;
 use std::test::Fail;
 
 // ---- one list of calls over two keepers, between which no judgement is in progress
 
-fn item(alloc: Global, kind: Kind, row: &str) -> Result<Item, Fail> {
-    Ok(item_of_text(alloc, kind, row.as_bytes())?)
+fn item(alloc: Global, kind: Kind, row: &str) -> Result<SharedItem, Fail> {
+    Ok(SharedItem::new(alloc, item_of_text(alloc, kind, row.as_bytes())?)?)
 }
 
-fn items(alloc: Global, rows: &[(Kind, &str)]) -> Result<Vec<Item>, Fail> {
+fn items(alloc: Global, rows: &[(Kind, &str)]) -> Result<Vec<SharedItem>, Fail> {
     let mut items = Vec::new(alloc);
     for (kind, row) in rows {
         items.push(item(alloc, *kind, row)?)?;
@@ -49,7 +49,7 @@ fn xref_key(text: &str) -> Result<Key, Fail> {
 // The item is there, and this row is written of it, or none is where none is given.
 fn is_row(
     rt: &(impl Abort + AllocGlobal),
-    found: &Option<Item>,
+    found: &Option<SharedItem>,
     row: Option<&str>,
 ) -> Result<(), Fail> {
     match (found, row) {
@@ -75,7 +75,12 @@ fn receives<K: Inbox>(shelf: &mut K, code: u64, number: u64) -> Result<(), Fail>
     Ok(())
 }
 
-fn writes<K: Inbox>(shelf: &mut K, code: u64, items: Vec<Item>, ending: Ending) -> Result<(), Fail>
+fn writes<K: Inbox>(
+    shelf: &mut K,
+    code: u64,
+    items: Vec<SharedItem>,
+    ending: Ending,
+) -> Result<(), Fail>
     requires { (K.seen shelf.old).progress ≡ Idle }
     ensures { OnOk result ((K.seen shelf.new).progress ≡ Idle) }
 {
@@ -260,7 +265,11 @@ fn has_page<K: Inbox>(
 }
 
 // These items are these rows.
-fn are_rows(rt: &(impl Abort + AllocGlobal), items: &[Item], rows: &[&str]) -> Result<(), Fail> {
+fn are_rows(
+    rt: &(impl Abort + AllocGlobal),
+    items: &[SharedItem],
+    rows: &[&str],
+) -> Result<(), Fail> {
     assert_eq!(rt; items.len(), rows.len());
     for (item, row) in items.iter().zip(rows) {
         assert_eq!(rt;
@@ -290,7 +299,12 @@ fn has_all<K: Inbox>(
 }
 
 // The second volume of 1001: a street is closed, a cross reference and an address go, another address comes.
-fn second_volume<K: Inbox>(shelf: &mut K, closed: Item, came: Item, gone: &Key) -> Result<(), Fail>
+fn second_volume<K: Inbox>(
+    shelf: &mut K,
+    closed: SharedItem,
+    came: SharedItem,
+    gone: &Key,
+) -> Result<(), Fail>
     requires { (K.seen shelf.old).progress ≡ Idle }
     ensures { OnOk result ((K.seen shelf.new).progress ≡ Idle) }
 {
@@ -455,8 +469,8 @@ fn reads_views<K: Inbox>(
 fn begins_again<K: Inbox>(
     rt: &(impl Abort + AllocGlobal),
     shelf: &mut K,
-    first: Item,
-    second: Item,
+    first: SharedItem,
+    second: SharedItem,
 ) -> Result<(), Fail>
     requires { (K.seen shelf.old).progress ≡ Idle }
 {

@@ -9,7 +9,7 @@ ghost use Rattle.gaz_shelf.specs.Reading.{is_past, number_of, start_after};
 
 use gaz_histories::History;
 use gaz_ids::{Lang, Status, Uprn, Usrn};
-use gaz_records::{Item, Key, Kind};
+use gaz_records::{Item, Key, Kind, SharedItem};
 use std::alloc::{AllocError, Global};
 use std::collections::BTreeMap;
 use std::ops::Bound;
@@ -111,7 +111,7 @@ fn start_after(after: Option<Key>) -> Bound<Key>
 }
 
 // The item that stands at a key of the kind after a volume.
-fn wanted<'a>(kind: Kind, volume: u64, key: &Key, history: &'a History) -> Option<&'a Item>
+fn wanted<'a>(kind: Kind, volume: u64, key: &Key, history: &'a History) -> Option<&'a SharedItem>
     ensures { option_map (λ i. i.now) result ≡ (if is_of kind key.now then item_at history.now volume else None) }
 {
     if !is_of(kind, key) {
@@ -128,7 +128,7 @@ pub fn page_of(
     kind: Kind,
     after: Option<Key>,
     most: usize,
-) -> Result<Vec<Item>, AllocError>
+) -> Result<Vec<SharedItem>, AllocError>
     ensures { IfOk result (λ found. found.items ≡ take most (map (λ e. e.1) (filter (λ e. is_of kind e.0 && comes_after after e.0) (rows_at histories.now.entries volume)))) }
 {
     let mut found = Vec::new(alloc);
@@ -137,7 +137,7 @@ pub fn page_of(
             return Ok(found);
         }
         if let Some(item) = wanted(kind, volume, key, history) {
-            found.push(item.copy()?)?;
+            found.push(item.share()?)?;
         }
     }
     Ok(found)

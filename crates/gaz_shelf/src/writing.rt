@@ -6,7 +6,7 @@ ghost use Rattle.gaz_shelf.specs.Keeper.{Goes, Idle, IsAtHand, IsNotOpen, Seen, 
 use crate::fault::ShelfFault;
 use crate::shelf::Shelf;
 use gaz_ids::Code;
-use gaz_records::Item;
+use gaz_records::SharedItem;
 
 /// How a judgement is to end.
 #[derive(Clone, Copy, Debug, PartialEq, Eq)]
@@ -18,7 +18,7 @@ pub enum Ending {
 }
 
 /// Sets these items in the working view, one after another, up to a fault.
-pub fn put_all<S: Shelf>(shelf: &mut S, items: Vec<Item>) -> Result<(), ShelfFault>
+pub fn put_all<S: Shelf>(shelf: &mut S, items: Vec<SharedItem>) -> Result<(), ShelfFault>
     requires { (S.seen shelf.old).progress ≢ Idle }
     ensures { Sets (S.seen shelf.old) (S.seen shelf.new) result (fold with_item (S.seen shelf.old).content.working items.items) }
 {
@@ -32,7 +32,7 @@ pub fn put_all<S: Shelf>(shelf: &mut S, items: Vec<Item>) -> Result<(), ShelfFau
 pub fn write_volume<S: Shelf>(
     shelf: &mut S,
     code: Code,
-    items: Vec<Item>,
+    items: Vec<SharedItem>,
     ending: Ending,
 ) -> Result<(), ShelfFault>
     requires { IsNotOpen (S.seen shelf.old).progress }

@@ -5,7 +5,7 @@ use Rattle.gaz_shelf.specs.Indexes.{has_mark}
 use Rattle.gaz_shelf.proofs.index.is_marked.Goals as goal
 
 pub returns-in-Some : goal.returns-in-Some
-returns-in-Some c = c.is_on.ensures ∙ ap (λ o. option_map_or (has_mark c.args.mark.now) o false) (c.in-Some.ensures ∙ row_at c.args.histories.now c.args.volume c.args.key.now)
+returns-in-Some c = c.is_on.ensures ∙ ap (has_mark c.args.mark.now) c.deref.ensures ∙ ap (λ o. option_map_or (has_mark c.args.mark.now) o false) (c.in-Some.ensures ∙ row_at c.args.histories.now c.args.volume c.args.key.now)
 
 pub returns-in-None : goal.returns-in-None
 returns-in-None c = ap (λ o. option_map_or (has_mark c.args.mark.now) o false) (c.in-None.ensures ∙ row_at c.args.histories.now c.args.volume c.args.key.now)

@@ -6,7 +6,7 @@ use Rattle.gaz_shelf.proofs.index.marks_at.Goals as goal
 
 pub returns-in-Some : goal.returns-in-Some
 returns-in-Some c m is =
-    c.marks_of.ensures m (ap (λ o. option_map_or (has_mark m) o false) (c.in-Some.ensures ∙ row_at c.args.histories.now c.args.volume c.args.key.now) ∙ is)
+    c.marks_of.ensures m (ap (has_mark m) c.deref.ensures ∙ ap (λ o. option_map_or (has_mark m) o false) (c.in-Some.ensures ∙ row_at c.args.histories.now c.args.volume c.args.key.now) ∙ is)
 
 pub returns-in-None : goal.returns-in-None
 returns-in-None c m is =

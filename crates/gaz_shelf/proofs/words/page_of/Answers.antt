@@ -37,10 +37,10 @@ pub loop-key-preserved-in_ok-push : goal.loop-key-preserved-in_ok-push
 loop-key-preserved-in_ok-push c =
     let all = map (λ e. e.1) (filter (λ e. is_of c.args.kind e.0 && comes_after c.args.after e.0) (rows_at c.args.histories.now.entries c.args.volume)) in
     let told = told_in c.args.kind c.args.volume all c.loop-key.found.items (c.in-Some.key.now, c.in-Some.history.now) c.in-Some-wanted.item.now c.loop-key.key-iterator c.next.new.self c.in-Some.ensures.steps c.in-Some-wanted.ensures c.loop-key.invariant.told in
-    let pushed = c.in_ok-push.ensures.items ∙ ap (λ (i : Item). c.loop-key.found.items ++ i ∷ []) c.in_ok-copy.ensures in
+    let pushed = c.in_ok-push.ensures.items ∙ ap (λ (i : Item). c.loop-key.found.items ++ i ∷ []) c.in_ok-share.ensures in
     record {
       told = ap (λ (l : List Item). l ++ map (λ e. e.1) (filter (λ e. is_of c.args.kind e.0) (rows_at c.next.new.self c.args.volume))) pushed ∙ told;
-      few = omega (arith, ap length c.in_ok-push.ensures.items, length-append c.loop-key.found.items (c.in_ok-copy.field-0 ∷ []));
+      few = omega (arith, ap length c.in_ok-push.ensures.items, length-append c.loop-key.found.items (c.in_ok-share.field-0 ∷ []));
       ascend = next_ascends (c.in-Some.key.now, c.in-Some.history.now) c.loop-key.key-iterator c.next.new.self c.in-Some.ensures.steps c.loop-key.invariant.ascend;
     }
 

@@ -1,4 +1,5 @@
-use Rattle.std.proofs.Common.{rules, ◌≡◌, length}
+use Rattle.std.proofs.Common.{rules, ◌≡◌, ◌∙◌, ap, length}
+use Rattle.gaz_records.specs.Keys.{key_of}
 use Rattle.gaz_shelf.proofs.Closings.{account_put, ledger_changed}
 use Rattle.std.specs.Prelude.{Some}
 use Rattle.gaz_shelf.proofs.ledger.Ledger.put.Goals as goal
@@ -12,4 +13,4 @@ invariant_of-self-2 c =
 pub returns-clause-ok : goal.returns-clause-ok
 returns-clause-ok c =
     let reach : c.len-reached.result ≡ length c.self.inside.verdicts.items = search rules in
-    account_put c.self.inside.verdicts.items c.self.inside.histories c.change.new.histories c.args.self.now c.of-key.result c.args.item c.len-reached.result reach c.self.view_is c.of-key.ensures c.in_ok-change.ensures.ok
+    account_put c.self.inside.verdicts.items c.self.inside.histories c.change.new.histories c.args.self.now c.of-key.result c.args.item c.len-reached.result reach c.self.view_is (c.of-key.ensures ∙ ap key_of c.deref.ensures) c.in_ok-change.ensures.ok
