@@ -57,8 +57,8 @@ fn has_written<K: Inbox>(
     has: bool,
 ) -> Result<(), Fail> {
     let code = custodian()?;
-    let first = Key::of(&street(rt.alloc(), FIRST)?);
-    let second = Key::of(&street(rt.alloc(), SECOND)?);
+    let first = Key::of(street(rt.alloc(), FIRST)?.as_item());
+    let second = Key::of(street(rt.alloc(), SECOND)?.as_item());
     assert_eq!(rt; shelf.reached(code)?, u64::from(has));
     assert_eq!(rt; shelf.held(code)?, u64::from(!has));
     assert_eq!(rt; shelf.ever(code, &first)?, has);
@@ -110,7 +110,7 @@ fn after_each_failing_call_the_volume_is_written(rt: HostRuntime) -> Result<(), 
 fn a_broken_judgement_refuses_and_is_cleared(rt: HostRuntime) -> Result<(), Fail> {
     let alloc = rt.alloc();
     let code = custodian()?;
-    let key = Key::of(&street(alloc, FIRST)?);
+    let key = Key::of(street(alloc, FIRST)?.as_item());
     let mut shelf = Faulty::new(received(alloc)?, 2);
     shelf.begin(code)?;
     assert!(rt; matches!(shelf.put(street(alloc, FIRST)?), Err(ShelfFault::Store)));
@@ -160,7 +160,7 @@ fn other_failing_calls_change_nothing(rt: HostRuntime) -> Result<(), Fail> {
     shelf.put(street(alloc, SECOND)?)?;
     assert!(rt; matches!(shelf.reached(code), Err(ShelfFault::Store)));
     shelf.keep()?;
-    let second = Key::of(&street(alloc, SECOND)?);
+    let second = Key::of(street(alloc, SECOND)?.as_item());
     assert!(rt; shelf.current(code, &second)?.is_some());
     let mut shelf = Faulty::new(received(alloc)?, 1);
     assert!(rt; matches!(shelf.skip(code, 1, 1), Err(ShelfFault::Store)));
