@@ -1,6 +1,6 @@
 use crate::action::Action;
 use gaz_ids::{Code, Volume};
-use gaz_records::Item;
+use gaz_records::SharedItem;
 
 /// A change of an item.
 #[derive(Debug, Drop)]
@@ -9,7 +9,7 @@ pub struct Change {
     pub place: u64,
     pub action: Action,
     /// For a deletion its key alone counts.
-    pub item: Item,
+    pub item: SharedItem,
 }
 
 /// A basis line: the file rests on what another custodian's file of this volume left (our profile).

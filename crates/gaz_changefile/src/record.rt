@@ -12,7 +12,7 @@ use crate::numbers::{Count, is_value};
 use crate::rule;
 use csv::ByteRecord;
 use gaz_ids::{Code, Order, Volume};
-use gaz_records::{FieldFault, Item, Kind, read_item};
+use gaz_records::{FieldFault, Kind, SharedItem, read_item};
 use std::alloc::Global;
 
 const MOST_CHANGES: usize = 5000;
@@ -66,7 +66,7 @@ pub(crate) fn read_change(
     Ok(Change {
         place,
         action,
-        item,
+        item: SharedItem::new(alloc, item)?,
     })
 }
 

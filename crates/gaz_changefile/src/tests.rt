@@ -28,7 +28,7 @@ fn street_101_is_read(rt: HostRuntime) -> Result<(), Fail> {
     assert_eq!(rt; file.changes.len(), 1);
     let change = &file.changes[0];
     assert_eq!(rt; (change.place, change.action), (2, Action::Insert));
-    let Item::Street(street) = &change.item else {
+    let Item::Street(street) = change.item.as_item() else {
         return Err("not a street".into());
     };
     assert_eq!(rt; (street.usrn.number(), street.sort), (101, 1));
@@ -224,6 +224,20 @@ fn number_7_county_road_is_read(rt: HostRuntime) -> Result<(), Fail> {
     Ok(())
 }
 
+#[test]
+fn an_item_outlives_its_file(rt: HostRuntime) -> Result<(), Fail> {
+    let code = Code::of(1001).ok_or("code")?;
+    let volume = Volume::of(2).ok_or("volume")?;
+    let file = read_file(rt.alloc(), HIGH_STREET, code, volume)?;
+    let name = file.changes.first().ok_or("no change")?.item.share()?;
+    drop(file);
+    assert_eq!(rt;
+        item_text(rt.alloc(), &name)?.as_slice(),
+        b"101,ENG,High Street,,Arden,Arden".as_slice()
+    );
+    Ok(())
+}
+
 // A file of so many changes.
 fn file_of(alloc: Global, changes: u64) -> Result<String, Fail> {
     let mut file = String::from_str(alloc, "10,1,1001,1,2024-01-02\n")?;
@@ -266,12 +280,12 @@ fn the_profile_that_a_file_names(rt: HostRuntime) -> Result<(), Fail> {
     Ok(())
 }
 
-// A file that was read, whose items were copied, and which was written: its bytes.
+// A file that was read, whose items were shared, and which was written: its bytes.
 fn rewritten(alloc: Global, bytes: &[u8], code: Code, volume: Volume) -> Result<Vec<u8>, Fail> {
     let file = read_file(alloc, bytes, code, volume)?;
     for change in &file.changes {
-        let copy = change.item.copy()?;
-        if item_text(alloc, &copy)? != item_text(alloc, &change.item)? {
+        let shared = change.item.share()?;
+        if item_text(alloc, &shared)? != item_text(alloc, &change.item)? {
             return Err("another item".into());
         }
     }
