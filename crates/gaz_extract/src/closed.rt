@@ -11,7 +11,7 @@ ghost use Rattle.gaz_extract.specs.Readings.{Tells};
 use crate::find::{has_closed_street, has_street};
 use crate::page::{PAGES, read_page};
 use gaz_ids::{Code, Status, Usrn};
-use gaz_records::{Item, Key, Kind, Lpi, RecordKey};
+use gaz_records::{Item, Key, Kind, Lpi, RecordKey, SharedItem};
 use gaz_register::Register;
 use gaz_shelf::{Shelf, ShelfFault};
 use std::alloc::{AllocError, Global};
@@ -116,7 +116,7 @@ fn add_items<S: Shelf>(
     shelf: &mut S,
     register: &Register,
     code: Code,
-    items: &[Item],
+    items: &[SharedItem],
     closed: &mut Vec<Closed>,
 ) -> Result<(), ShelfFault>
     requires { IsNotOpen (S.seen shelf.old).progress }

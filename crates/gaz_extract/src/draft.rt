@@ -4,7 +4,7 @@ ghost use Rattle.gaz_extract.specs.Drafts.{with_items};
 ghost use Rattle.gaz_extract.specs.Extracts.{header, identifier, record_of, trailer};
 
 use gaz_ids::{Code, Volume};
-use gaz_records::{Item, Kind, write_item};
+use gaz_records::{Item, Kind, SharedItem, write_item};
 use gaz_rows::write_row;
 use itoa::Buffer;
 use std::alloc::{AllocError, Global};
@@ -100,7 +100,7 @@ impl Draft {
     }
 
     /// The draft with the records of these items.
-    pub fn append(self, items: &[Item]) -> Result<Draft, AllocError>
+    pub fn append(self, items: &[SharedItem]) -> Result<Draft, AllocError>
         ensures { IfOk result (λ d. d ≡ with_items self items.now) }
     {
         let mut draft = self;

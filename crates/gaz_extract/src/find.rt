@@ -1,17 +1,23 @@
 //! Single items of a custodian's last view.
 ghost use Rattle.std.specs.Prelude.{◌≡◌, is_some};
 ghost use Rattle.std.specs.FinMap as map;
+ghost use Rattle.std.specs.Option.{option_and_then};
 ghost use Rattle.gaz_shelf.specs.Keeper.{IsNotOpen};
 ghost use Rattle.gaz_shelf.specs.Board.{last_view};
-ghost use Rattle.gaz_extract.specs.Finding.{blpu_at, descriptor_at, has_closed_street, lpi_at, street_at};
+ghost use Rattle.gaz_extract.specs.Finding.{as_blpu, as_descriptor, as_lpi, blpu_at, descriptor_at, has_closed_street, lpi_at, street_at};
 ghost use Rattle.gaz_extract.specs.Readings.{Tells};
 
+use crate::lend::street_in;
 use gaz_ids::{Code, Lang, Uprn, Usrn};
-use gaz_records::{Blpu, Descriptor, Item, Key, Lpi};
+use gaz_records::{Key, SharedItem};
 use gaz_shelf::{Shelf, ShelfFault};
 
 // The item at a key.
-fn item_now<S: Shelf>(shelf: &mut S, code: Code, key: &Key) -> Result<Option<Item>, ShelfFault>
+fn item_now<S: Shelf>(
+    shelf: &mut S,
+    code: Code,
+    key: &Key,
+) -> Result<Option<SharedItem>, ShelfFault>
     requires { IsNotOpen (S.seen shelf.old).progress }
     ensures tells { Tells (S.seen shelf.old) (S.seen shelf.new) result (λ i. i ≡ map.get (last_view (S.seen shelf.old).content.board code).items key.now) }
     ensures not_open { IsNotOpen (S.seen shelf.new).progress }
@@ -26,7 +32,7 @@ pub fn has_street<S: Shelf>(shelf: &mut S, code: Code, usrn: Usrn) -> Result<boo
     ensures not_open { IsNotOpen (S.seen shelf.new).progress }
 {
     let item = item_now(shelf, code, &Key::Street(usrn))?;
-    Ok(matches!(&item, Some(Item::Street(_))))
+    Ok(street_in(&item).is_some())
 }
 
 /// Whether the street of this number is there and closed, in a custodian's last view.
@@ -40,49 +46,48 @@ pub fn has_closed_street<S: Shelf>(
     ensures not_open { IsNotOpen (S.seen shelf.new).progress }
 {
     let item = item_now(shelf, code, &Key::Street(usrn))?;
-    match &item {
-        Some(Item::Street(street)) => Ok(street.end.is_some()),
-        _ => Ok(false),
+    match street_in(&item) {
+        Some(street) => Ok(street.end.is_some()),
+        None => Ok(false),
     }
 }
 
-/// The descriptor of a street in a language, in a custodian's last view.
-pub fn descriptor_in<S: Shelf>(
+/// The item that is the descriptor of a street in a language, in a custodian's last view.
+pub fn descriptor_item<S: Shelf>(
     shelf: &mut S,
     code: Code,
     usrn: Usrn,
     lang: Lang,
-) -> Result<Option<Descriptor>, ShelfFault>
+) -> Result<Option<SharedItem>, ShelfFault>
     requires { IsNotOpen (S.seen shelf.old).progress }
-    ensures tells { Tells (S.seen shelf.old) (S.seen shelf.new) result (λ d. d ≡ descriptor_at (last_view (S.seen shelf.old).content.board code) usrn lang) }
+    ensures tells { Tells (S.seen shelf.old) (S.seen shelf.new) result (λ i. option_and_then as_descriptor i ≡ descriptor_at (last_view (S.seen shelf.old).content.board code) usrn lang) }
     ensures not_open { IsNotOpen (S.seen shelf.new).progress }
 {
-    match item_now(shelf, code, &Key::Descriptor(usrn, lang))? {
-        Some(Item::Descriptor(descriptor)) => Ok(Some(descriptor)),
-        _ => Ok(None),
-    }
+    item_now(shelf, code, &Key::Descriptor(usrn, lang))
 }
 
-/// The BLPU of this number, in a custodian's last view.
-pub fn blpu_now<S: Shelf>(shelf: &mut S, code: Code, uprn: Uprn) -> Result<Option<Blpu>, ShelfFault>
+/// The item that is the BLPU of this number, in a custodian's last view.
+pub fn blpu_item<S: Shelf>(
+    shelf: &mut S,
+    code: Code,
+    uprn: Uprn,
+) -> Result<Option<SharedItem>, ShelfFault>
     requires { IsNotOpen (S.seen shelf.old).progress }
-    ensures tells { Tells (S.seen shelf.old) (S.seen shelf.new) result (λ b. b ≡ blpu_at (last_view (S.seen shelf.old).content.board code) uprn) }
+    ensures tells { Tells (S.seen shelf.old) (S.seen shelf.new) result (λ i. option_and_then as_blpu i ≡ blpu_at (last_view (S.seen shelf.old).content.board code) uprn) }
     ensures not_open { IsNotOpen (S.seen shelf.new).progress }
 {
-    match item_now(shelf, code, &Key::Blpu(uprn))? {
-        Some(Item::Blpu(blpu)) => Ok(Some(blpu)),
-        _ => Ok(None),
-    }
+    item_now(shelf, code, &Key::Blpu(uprn))
 }
 
-/// The LPI under a key, in a custodian's last view.
-pub fn lpi_now<S: Shelf>(shelf: &mut S, code: Code, key: &Key) -> Result<Option<Lpi>, ShelfFault>
+/// The item that is the LPI under a key, in a custodian's last view.
+pub fn lpi_item<S: Shelf>(
+    shelf: &mut S,
+    code: Code,
+    key: &Key,
+) -> Result<Option<SharedItem>, ShelfFault>
     requires { IsNotOpen (S.seen shelf.old).progress }
-    ensures tells { Tells (S.seen shelf.old) (S.seen shelf.new) result (λ l. l ≡ lpi_at (last_view (S.seen shelf.old).content.board code) key.now) }
+    ensures tells { Tells (S.seen shelf.old) (S.seen shelf.new) result (λ i. option_and_then as_lpi i ≡ lpi_at (last_view (S.seen shelf.old).content.board code) key.now) }
     ensures not_open { IsNotOpen (S.seen shelf.new).progress }
 {
-    match item_now(shelf, code, key)? {
-        Some(Item::Lpi(lpi)) => Ok(Some(lpi)),
-        _ => Ok(None),
-    }
+    item_now(shelf, code, key)
 }

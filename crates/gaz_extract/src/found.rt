@@ -1,15 +1,18 @@
 ghost use Rattle.std.specs.Prelude.{◌≡◌, IfErr, IfOk, Some};
+ghost use Rattle.std.specs.Option.{option_and_then};
 ghost use Rattle.gaz_shelf.specs.Keeper.{IsNotOpen};
 ghost use Rattle.gaz_shelf.specs.Board.{last_view};
 ghost use Rattle.gaz_shelf.specs.declared.fault.ShelfFault.TheVariants.{Memory};
+ghost use Rattle.gaz_extract.specs.Finding.{as_descriptor, as_lpi};
 ghost use Rattle.gaz_extract.specs.Lines.{line_text};
 ghost use Rattle.gaz_extract.specs.Readings.{Tells};
 ghost use Rattle.gaz_extract.specs.Lookups.{address_in, descriptor_now, keeper_of_street, line_now, lookup, said_by};
 
 use crate::address::{AddressLine, line};
-use crate::find::{blpu_now, descriptor_in, has_street, lpi_now};
+use crate::find::{blpu_item, descriptor_item, has_street, lpi_item};
+use crate::lend::{blpu_in, descriptor_in, lpi_in};
 use gaz_ids::{Code, Status, Uprn, Usrn};
-use gaz_records::{Blpu, Descriptor, Lpi};
+use gaz_records::{Blpu, Descriptor, Lpi, SharedItem};
 use gaz_register::Register;
 use gaz_shelf::{Shelf, ShelfFault};
 use std::alloc::Global;
@@ -43,32 +46,36 @@ fn keeper_of_street<S: Shelf>(
     Ok(owner)
 }
 
-// The approved address of a property in a custodian's last view.
-fn address_now<S: Shelf>(shelf: &mut S, code: Code, uprn: Uprn) -> Result<Option<Lpi>, ShelfFault>
+// The item that is the approved address of a property, in a custodian's last view.
+fn address_item<S: Shelf>(
+    shelf: &mut S,
+    code: Code,
+    uprn: Uprn,
+) -> Result<Option<SharedItem>, ShelfFault>
     requires { IsNotOpen (S.seen shelf.old).progress }
-    ensures tells { Tells (S.seen shelf.old) (S.seen shelf.new) result (λ l. l ≡ address_in (last_view (S.seen shelf.old).content.board code) uprn) }
+    ensures tells { Tells (S.seen shelf.old) (S.seen shelf.new) result (λ i. option_and_then as_lpi i ≡ address_in (last_view (S.seen shelf.old).content.board code) uprn) }
     ensures not_open { IsNotOpen (S.seen shelf.new).progress }
 {
     let keys = shelf.approved_of(code, uprn)?;
     match keys.first() {
-        Some(key) => lpi_now(shelf, code, key),
+        Some(key) => lpi_item(shelf, code, key),
         None => Ok(None),
     }
 }
 
-// The descriptor of an address's street in its language.
-fn descriptor_now<S: Shelf>(
+// The item that is the descriptor of an address's street in its language.
+fn descriptor_for<S: Shelf>(
     shelf: &mut S,
     register: &Register,
     code: Code,
     lpi: &Lpi,
-) -> Result<Option<Descriptor>, ShelfFault>
+) -> Result<Option<SharedItem>, ShelfFault>
     requires { IsNotOpen (S.seen shelf.old).progress }
-    ensures tells { Tells (S.seen shelf.old) (S.seen shelf.new) result (λ d. d ≡ descriptor_now (S.seen shelf.old).content.board register.now code lpi.now) }
+    ensures tells { Tells (S.seen shelf.old) (S.seen shelf.new) result (λ i. option_and_then as_descriptor i ≡ descriptor_now (S.seen shelf.old).content.board register.now code lpi.now) }
     ensures not_open { IsNotOpen (S.seen shelf.new).progress }
 {
     match keeper_of_street(shelf, register, code, lpi.usrn)? {
-        Some(keeper) => descriptor_in(shelf, keeper, lpi.usrn, lpi.lang),
+        Some(keeper) => descriptor_item(shelf, keeper, lpi.usrn, lpi.lang),
         None => Ok(None),
     }
 }
@@ -99,13 +106,15 @@ fn line_now<S: Shelf>(
     ensures tells { Tells (S.seen shelf.old) (S.seen shelf.new) result (λ l. l ≡ line_now (S.seen shelf.old).content.board register.now code uprn blpu.now) }
     ensures not_open { IsNotOpen (S.seen shelf.new).progress }
 {
-    let Some(lpi) = address_now(shelf, code, uprn)? else {
+    let address = address_item(shelf, code, uprn)?;
+    let Some(lpi) = lpi_in(&address) else {
         return Ok(None);
     };
-    let Some(descriptor) = descriptor_now(shelf, register, code, &lpi)? else {
+    let described = descriptor_for(shelf, register, code, lpi)?;
+    let Some(descriptor) = descriptor_in(&described) else {
         return Ok(None);
     };
-    line_for(alloc, &lpi, &descriptor, blpu)
+    line_for(alloc, lpi, descriptor, blpu)
 }
 
 // What a custodian's last view says of a property.
@@ -120,10 +129,11 @@ fn said_by<S: Shelf>(
     ensures tells { Tells (S.seen shelf.old) (S.seen shelf.new) result (λ f. f ≡ said_by (S.seen shelf.old).content.board register.now uprn code) }
     ensures not_open { IsNotOpen (S.seen shelf.new).progress }
 {
-    let Some(blpu) = blpu_now(shelf, code, uprn)? else {
+    let item = blpu_item(shelf, code, uprn)?;
+    let Some(blpu) = blpu_in(&item) else {
         return Ok(None);
     };
-    let line = line_now(alloc, shelf, register, code, uprn, &blpu)?;
+    let line = line_now(alloc, shelf, register, code, uprn, blpu)?;
     Ok(Some(Found {
         custodian: code,
         uprn,

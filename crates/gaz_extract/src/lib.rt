@@ -8,6 +8,7 @@ mod extracts;
 mod find;
 mod found;
 pub mod laws;
+mod lend;
 mod page;
 
 pub use address::{AddressLine, line};

@@ -7,7 +7,7 @@ ghost use Rattle.gaz_shelf.specs.Words.{rest_of};
 ghost use Rattle.gaz_extract.specs.Readings.{Tells};
 
 use gaz_ids::Code;
-use gaz_records::{Item, Key, Kind};
+use gaz_records::{Key, Kind, SharedItem};
 use gaz_shelf::{Shelf, ShelfFault};
 
 /// How many items are read at a time.
@@ -19,12 +19,12 @@ pub const PAGES: u32 = 10_000_000;
 /// Some items of a kind, and the key after which the next page begins, if there is one.
 #[derive(Drop)]
 pub struct Page {
-    pub items: Vec<Item>,
+    pub items: Vec<SharedItem>,
     pub next: Option<Key>,
 }
 
 // The key after which the next page begins, where this one is full.
-fn next_after(items: &[Item]) -> Option<Key>
+fn next_after(items: &[SharedItem]) -> Option<Key>
     ensures { result ≡ next_after 512 items.now }
 {
     if items.len() < MOST {

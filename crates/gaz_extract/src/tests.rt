@@ -3,7 +3,7 @@ ghost use Rattle.gaz_shelf.specs.Keeper.{Idle};
 
 use crate::{closed_streets, extract, line, lookup};
 use gaz_ids::{Code, Status, Uprn, Volume};
-use gaz_records::{Item, Kind, item_of_text};
+use gaz_records::{Kind, SharedItem, item_of_text};
 use gaz_register::Register;
 use gaz_shelf::{Ending, Inbox, MemShelf, write_volume};
 use std::alloc::Global;
@@ -39,8 +39,9 @@ fn volume(number: u64) -> Result<Volume, Fail> {
     Ok(Volume::of(number).ok_or("a volume")?)
 }
 
-fn item(alloc: Global, kind: Kind, row: &str) -> Result<Item, Fail> {
-    Ok(item_of_text(alloc, kind, row.as_bytes())?)
+fn item(alloc: Global, kind: Kind, row: &str) -> Result<SharedItem, Fail> {
+    let item = item_of_text(alloc, kind, row.as_bytes())?;
+    Ok(SharedItem::new(alloc, item)?)
 }
 
 // A volume that puts these rows.

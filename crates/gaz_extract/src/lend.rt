@@ -1,0 +1,56 @@
+//! What an item that a keeper gave is.
+ghost use Rattle.std.specs.Prelude.{◌≡◌, option_map};
+ghost use Rattle.std.specs.Option.{option_and_then};
+ghost use Rattle.gaz_extract.specs.Finding.{as_blpu, as_descriptor, as_lpi, as_street};
+
+use gaz_records::{Blpu, Descriptor, Item, Lpi, SharedItem, Street};
+
+// The item that is there.
+fn item_in(item: &Option<SharedItem>) -> Option<&Item>
+    ensures { option_map (λ i. i.now) result ≡ item.now }
+{
+    match item {
+        Some(item) => Some(item.as_item()),
+        None => None,
+    }
+}
+
+/// The street, where it is one.
+pub fn street_in(item: &Option<SharedItem>) -> Option<&Street>
+    ensures { option_map (λ s. s.now) result ≡ option_and_then as_street item.now }
+{
+    match item_in(item) {
+        Some(Item::Street(street)) => Some(street),
+        _ => None,
+    }
+}
+
+/// The descriptor, where it is one.
+pub fn descriptor_in(item: &Option<SharedItem>) -> Option<&Descriptor>
+    ensures { option_map (λ d. d.now) result ≡ option_and_then as_descriptor item.now }
+{
+    match item_in(item) {
+        Some(Item::Descriptor(descriptor)) => Some(descriptor),
+        _ => None,
+    }
+}
+
+/// The BLPU, where it is one.
+pub fn blpu_in(item: &Option<SharedItem>) -> Option<&Blpu>
+    ensures { option_map (λ b. b.now) result ≡ option_and_then as_blpu item.now }
+{
+    match item_in(item) {
+        Some(Item::Blpu(blpu)) => Some(blpu),
+        _ => None,
+    }
+}
+
+/// The LPI, where it is one.
+pub fn lpi_in(item: &Option<SharedItem>) -> Option<&Lpi>
+    ensures { option_map (λ l. l.now) result ≡ option_and_then as_lpi item.now }
+{
+    match item_in(item) {
+        Some(Item::Lpi(lpi)) => Some(lpi),
+        _ => None,
+    }
+}
