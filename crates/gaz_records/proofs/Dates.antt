@@ -1,12 +1,11 @@
 -- Dates read back.
-use Rattle.std.proofs.Common.{◌≡◌, ℕ, zero, suc, ◌+◌, ◌-◌, ◌*◌, ◌/◌, ◌%◌, ◌<◌, ◌≤◌, Bool, true, false, List, [], ◌∷◌, length, drop, refl, arith, Some, None, Ok, sym, ◌∙◌}
-use Rattle.std.specs.Prelude.{slice_range, slice_index, ◌==◌, pos, nat_le, ◌&&◌}
+use Rattle.std.proofs.Common.{◌≡◌, ℕ, ◌+◌, ◌/◌, ◌%◌, ◌<◌, ◌≤◌, true, List, refl, arith, Some, Ok}
 use Rattle.std.proofs.lemmas.Bool.Decides.{nat_tests}
 use Rattle.std.specs.Char.{is_ascii_digit, digit_value}
 use Rattle.std.specs.Str.{all_ascii_digits}
 use Rattle.std.specs.Str.Parse.{digits_value}
 use Rattle.gaz_ids.specs.Numbers.{read_id}
-use Rattle.gaz_records.specs.Days.{CivilDay, date_of, date_text, day_of, four, is_day, two}
+use Rattle.gaz_records.specs.Days.{CivilDay, date_of, date_text, four, is_day, two}
 
 pub read_range : (w l h : ℕ) (s : List ℕ) (n : ℕ) → read_id w l h s ≡ Ok n → (l ≤ n) × (n ≤ h)
 unfolding read_id

@@ -1,11 +1,10 @@
 -- The fields that are written of an item read back as the same item.
-use Rattle.std.proofs.Common.{◌≡◌, ℕ, Bool, true, List, [], ◌∷◌, refl, arith, Some, None, Ok, lit<}
+use Rattle.std.proofs.Common.{◌≡◌, ℕ, true, List, refl, arith, Some, None, Ok, lit<}
 use Rattle.std.specs.Prelude.{◌&&◌, decimal, nat_le, Option, is_some}
 use Rattle.std.proofs.lemmas.Bool.Decides.{nat_tests}
 use Rattle.csv.specs.Records.{field_at}
 use Rattle.gaz_ids.specs.declared.lang.Lang.{Lang}
 use Rattle.gaz_ids.specs.declared.status.Status.{Status}
-use Rattle.gaz_ids.specs.declared.status.Status.TheVariants.{Approved, Alternative, Provisional, Historical}
 use Rattle.gaz_addressable.specs.Texts.{is_text}
 use Rattle.gaz_addressable.specs.Objects.{ObjectValue, is_object, is_text_or_none}
 use Rattle.gaz_records.specs.Days.{CivilDay, are_days, ends_by, is_day}

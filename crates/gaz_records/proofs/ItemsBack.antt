@@ -1,12 +1,12 @@
 -- An item reads back from its fields and from its row.
-use Rattle.std.proofs.Common.{◌≡◌, ℕ, ◌^◌, ◌<◌, ◌≤◌, Bool, true, false, List, [], ◌∷◌, ◌++◌, length, get_or, refl, arith, Some, Ok}
+use Rattle.std.proofs.Common.{◌≡◌, ℕ, ◌^◌, ◌<◌, ◌≤◌, true, false, List, [], ◌∷◌, length, get_or, refl, arith, Some, Ok}
 use Rattle.std.specs.Prelude.{◌==◌, ◌&&◌, decimal, nat_le}
 use Rattle.std.proofs.lemmas.Bool.Decides.{nat_tests}
 use Rattle.std.proofs.lemmas.Fmt.{decimal_nonempty, digits_decimal}
 use Rattle.gaz_ids.proofs.Numerals.{digit_at, own}
 use Rattle.gaz_rows.specs.Rows.{line_of, one_row}
 use Rattle.gaz_rows.proofs.Back.{line-only, no-mark}
-use Rattle.gaz_records.specs.Items.{is_item, item_of_row, item_of_text, item_text, item_texts, kind_of, read_item}
+use Rattle.gaz_records.specs.Items.{is_item, item_of_text, item_text, item_texts, kind_of, read_item}
 use Rattle.gaz_records.specs.Labels.{are_label_bytes, is_label, is_label_byte}
 use Rattle.gaz_records.specs.Streets.{is_usrn}
 use Rattle.gaz_records.specs.Blpus.{is_uprn}

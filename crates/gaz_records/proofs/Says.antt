@@ -1,5 +1,5 @@
 -- What a field says that was written of a value.
-use Rattle.std.proofs.Common.{◌≡◌, ℕ, ◌+◌, ◌-◌, ◌^◌, ◌<◌, ◌≤◌, Bool, true, false, List, [], ◌∷◌, length, refl, arith, Some, None, Ok, inl, inr}
+use Rattle.std.proofs.Common.{◌≡◌, ℕ, ◌+◌, ◌-◌, ◌^◌, ◌<◌, ◌≤◌, true, false, List, length, refl, arith, Some, None, Ok, inl, inr}
 use Rattle.std.specs.Prelude.{◌==◌, ◌&&◌, nat_le, decimal, is_some, Option}
 use Rattle.std.proofs.lemmas.Bool.{cases_Bool}
 use Rattle.std.proofs.lemmas.Bool.Decides.{nat_tests}
@@ -14,8 +14,8 @@ use Rattle.gaz_addressable.specs.Texts.{char_count, is_plain, is_text, text_of}
 use Rattle.gaz_addressable.specs.Objects.{ObjectValue, digits_text, from_of, is_object, is_text_or_none, letter_text, object_of, object_of_fields, texts_of, to_of}
 use Rattle.gaz_addressable.proofs.Characters.{plain_some}
 use Rattle.gaz_addressable.proofs.Rounds.{object_back}
-use Rattle.gaz_records.specs.Days.{CivilDay, are_days, date_of, date_text, end_text, ends_by, is_day}
-use Rattle.gaz_records.specs.Fields.{field, ok_of, or_empty}
+use Rattle.gaz_records.specs.Days.{CivilDay, are_days, date_text, end_text, ends_by, is_day}
+use Rattle.gaz_records.specs.Fields.{field, or_empty}
 use Rattle.gaz_records.specs.Forms.{AddressableObject, BlpuStatus, Date, Digits, EndDate, LabelTo, Language, LpiStatus, Opt, TextTo, is_blank, object_at, of_blpu, says}
 use Rattle.gaz_records.specs.Labels.{is_label}
 use Rattle.gaz_records.specs.Blpus.{is_parent, parent_text}

@@ -1,5 +1,5 @@
 -- The forms that fields have, and what a field of a form says.
-use Rattle.std.specs.Prelude.{ℕ, ◌+◌, ◌-◌, ◌==◌, ◌&&◌, List, [], ◌∷◌, length, Option, Some, None, is_some, option_map, option_and_then, Result, Ok, Err, if◌then◌else◌, Bool, true, false}
+use Rattle.std.specs.Prelude.{ℕ, ◌+◌, ◌-◌, ◌==◌, ◌&&◌, List, [], ◌∷◌, length, Option, Some, None, is_some, option_map, option_and_then, Result, Ok, Err, if◌then◌else◌, Bool}
 use Rattle.gaz_ids.specs.Numbers.{read_id}
 use Rattle.gaz_ids.specs.Codes.{lang_of, status_of}
 use Rattle.gaz_ids.specs.declared.lang.Lang.{Lang}

@@ -1,5 +1,6 @@
 -- Labels of letters and digits, as the keys of records.
-use Rattle.std.specs.Prelude.{◌≡◌, ℕ, zero, suc, ◌+◌, ◌*◌, ◌-◌, ◌<◌, ◌&&◌, ◌||◌, nat_le, Bool, true, List, [], ◌∷◌, ◌++◌, length, take, replicate, slice_index, Option, Some, None, if◌then◌else◌}
+use Rattle.std.specs.Prelude.{◌≡◌, ℕ, zero, suc, ◌+◌, ◌*◌, ◌-◌, ◌<◌, ◌==◌, not, ◌&&◌, ◌||◌, nat_le, Bool, true, List, [], ◌∷◌, ◌++◌, length, take, replicate, slice_index, Option, Some, None, if◌then◌else◌}
+use Rattle.std.specs.List.{prefix_len}
 use Rattle.std.specs.declared.cmp.Ordering.{Ordering}
 use Rattle.std.specs.Ordering.{nat_cmp, eq_by_cmp}
 use Rattle.std.specs.Cmp.Lexicographic.{slice_cmp}
@@ -29,6 +30,10 @@ label_eq = eq_by_cmp label_cmp
 -- the bytes with 0 behind them, so many in all
 abbrev pub padded : ℕ → List ℕ → List ℕ
 padded most t = t ++ replicate (most - length t) 0
+
+-- how many bytes stand before the first 0
+abbrev pub before_zero : List ℕ → ℕ
+before_zero = prefix_len (λ b. not (b == 0))
 
 -- the first of these bytes are a label, and the others are 0
 pub record IsPadded (most len : ℕ) (bytes : List ℕ) : Type 0 where

@@ -1,5 +1,5 @@
 -- Streets: what their fields say, and how they are written.
-use Rattle.std.specs.Prelude.{ℕ, ◌&&◌, nat_le, List, [], ◌∷◌, Option, Some, None, Result, Bool, decimal}
+use Rattle.std.specs.Prelude.{ℕ, ◌&&◌, nat_le, List, [], ◌∷◌, Option, None, Result, Bool, decimal}
 use Rattle.gaz_records.specs.Days.{CivilDay, are_days, date_text, end_text, ends_by, is_day, no_day}
 use Rattle.gaz_records.specs.Fields.{the}
 use Rattle.gaz_records.specs.Forms.{Date, Digits, EndDate, Opt, in_form, says}

@@ -1,5 +1,5 @@
 -- Cross references: what their fields say, and how they are written.
-use Rattle.std.specs.Prelude.{ℕ, ◌&&◌, List, [], ◌∷◌, Option, Some, None, Result, Bool, decimal}
+use Rattle.std.specs.Prelude.{ℕ, ◌&&◌, List, [], ◌∷◌, Option, None, Result, Bool, decimal}
 use Rattle.gaz_addressable.specs.Texts.{is_text}
 use Rattle.gaz_records.specs.Days.{CivilDay, are_days, date_text, end_text, ends_by, is_day, no_day}
 use Rattle.gaz_records.specs.Fields.{the}

@@ -3,7 +3,7 @@ ghost use Rattle.std.proofs.Common.{rules};
 ghost use Rattle.std.specs.Cmp.{partial_order_from_own_ties};
 ghost use Rattle.std.specs.Cmp.Rules.{comparing};
 ghost use Rattle.std.specs.Ordering.{as_partial_cmp};
-ghost use Rattle.gaz_records.specs.Labels.{AreBytes, are_label_bytes, is_label, label_cmp, label_eq, label_of, word};
+ghost use Rattle.gaz_records.specs.Labels.{AreBytes, are_label_bytes, before_zero, is_label, label_cmp, label_eq, label_of, word};
 ghost use Rattle.std.specs.Ordering.{nat_cmp};
 ghost use Rattle.std.specs.Cmp.Lexicographic.{slice_cmp};
 
@@ -14,7 +14,6 @@ use std::marker::Model;
 #[derive(Clone, Copy, Debug)]
 pub struct Label<const MOST: usize> {
     bytes: [u8; MOST],
-    len: usize,
 }
 
 /// The key of a cross reference or an LPI.
@@ -24,19 +23,19 @@ pub type RecordKey = Label<14>;
 pub type Source = Label<6>;
 
 impl<const MOST: usize> Model for Label<MOST> {
-    ghost use Rattle.std.specs.Prelude.{ℕ, List, length, take};
-    ghost use Rattle.gaz_records.specs.Labels.{IsPadded, padded};
+    ghost use Rattle.std.specs.Prelude.{ℕ, List, take};
+    ghost use Rattle.gaz_records.specs.Labels.{IsPadded, before_zero, padded};
 
     ghost Value = { List ℕ };
 
     // The bytes behind the label are 0, so that equal labels are equal in all bytes.
-    ghost view = { λ a. take a.len a.bytes };
+    ghost view = { λ a. take (before_zero a.bytes) a.bytes };
 
-    ghost invariant = { λ a. IsPadded MOST a.len a.bytes };
+    ghost invariant = { λ a. IsPadded MOST (before_zero a.bytes) a.bytes };
 
-    ghost inverse = { λ t. record { bytes = padded MOST t; len = length t } };
+    ghost inverse = { λ t. record { bytes = padded MOST t } };
 
-    ghost inverse_ok = { λ a h i. record { bytes = h.rest i; len = h.taken i } };
+    ghost inverse_ok = { λ a h i. record { bytes = h.rest i } };
 }
 
 fn has_label_bytes(bytes: &[u8]) -> bool
@@ -48,6 +47,18 @@ fn has_label_bytes(bytes: &[u8]) -> bool
         }
     }
     true
+}
+
+// How many bytes stand before the first 0.
+fn count_before_zero(bytes: &[u8]) -> usize
+    ensures { result ≡ before_zero bytes.now }
+{
+    for (index, byte) in bytes.iter().enumerate() {
+        if *byte == 0 {
+            return index;
+        }
+    }
+    bytes.len()
 }
 
 // The four bytes from `start` on as one number, the first byte foremost, with 0 for each byte that is not there.
@@ -96,10 +107,7 @@ impl<const MOST: usize> Label<MOST> {
         for (i, byte) in text.iter().enumerate() {
             bytes[i] = *byte;
         }
-        Some(Label {
-            bytes,
-            len: text.len(),
-        })
+        Some(Label { bytes })
     }
 
     /// The letters and digits.
@@ -107,7 +115,7 @@ impl<const MOST: usize> Label<MOST> {
         ensures value { result.now ≡ self.now }
         ensures form { is_label MOST self.now ≡ true }
     {
-        &self.bytes[..self.len]
+        &self.bytes[..count_before_zero(&self.bytes)]
     }
 }
 
