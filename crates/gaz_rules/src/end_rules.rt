@@ -14,7 +14,7 @@ use crate::name_faults::{NameFaults, name_faults};
 use crate::rings::Walked;
 use gaz_changefile::Basis;
 use gaz_ids::Code;
-use gaz_records::{Item, Key};
+use gaz_records::{Item, Key, SharedItem};
 use gaz_shelf::{Shelf, ShelfFault};
 
 /// The least rule that is broken.
@@ -43,7 +43,7 @@ fn breach_at<S: Shelf>(
     bases: &[Basis],
     walked: &mut Walked,
     key: &Key,
-    stored: &Option<Item>,
+    stored: &Option<SharedItem>,
 ) -> Result<Option<u8>, ShelfFault>
     requires { (S.seen shelf.old).progress ≡ Open code }
     ensures { Reads (S.seen shelf.old) (S.seen shelf.new) result (λ r. stored.now ≡ map.get (S.seen shelf.old).content.working.items key.now → are_reached (S.seen shelf.old).content.board bases.now ≡ true → Knows (S.seen shelf.old).content.working walked.old →

@@ -2,7 +2,7 @@
 use crate::end_rules::breach;
 use crate::rings::Walked;
 use gaz_ids::Code;
-use gaz_records::{Item, Kind, item_of_text};
+use gaz_records::{Kind, SharedItem, item_of_text};
 use gaz_shelf::{Faulty, MemShelf, Shelf, put_all};
 use std::alloc::Global;
 use std::test::Fail;
@@ -53,10 +53,11 @@ const CASES: &[Case] = &[
     (&[], ADDRESS, 1, None),
 ];
 
-fn items(alloc: Global, rows: &[Row]) -> Result<Vec<Item>, Fail> {
+fn items(alloc: Global, rows: &[Row]) -> Result<Vec<SharedItem>, Fail> {
     let mut items = Vec::new(alloc);
     for (kind, row) in rows {
-        items.push(item_of_text(alloc, *kind, row.as_bytes())?)?;
+        let item = item_of_text(alloc, *kind, row.as_bytes())?;
+        items.push(SharedItem::new(alloc, item)?)?;
     }
     Ok(items)
 }

@@ -16,7 +16,7 @@ use crate::rings::Walked;
 use crate::{end_rules, record_rules};
 use gaz_changefile::{Action, Basis, Change, ChangeFile};
 use gaz_ids::Code;
-use gaz_records::{Item, Key};
+use gaz_records::{Key, SharedItem};
 use gaz_register::Register;
 use gaz_shelf::{Shelf, ShelfFault, Verdict};
 use std::alloc::Global;
@@ -29,13 +29,13 @@ pub(crate) struct Fault {
     pub rule: u8,
 }
 
-/// Sets a copy of an item in the working view.
-fn put_copy<S: Shelf>(shelf: &mut S, code: Code, item: &Item) -> Result<(), ShelfFault>
+/// Sets an item in the working view, which shares it with the file.
+fn put_shared<S: Shelf>(shelf: &mut S, code: Code, item: &SharedItem) -> Result<(), ShelfFault>
     requires { (S.seen shelf.old).progress ≡ Open code }
     ensures { Works (S.seen shelf.old) (S.seen shelf.new) result (λ _. (S.seen shelf.new).content ≡ with_working (S.seen shelf.old).content (with_item (S.seen shelf.old).content.working item.now)) }
 {
-    let copy = item.copy()?;
-    shelf.put(copy)
+    let shared = item.share()?;
+    shelf.put(shared)
 }
 
 /// Does a change on the working view.
@@ -44,7 +44,7 @@ fn perform<S: Shelf>(shelf: &mut S, code: Code, change: &Change) -> Result<(), S
     ensures { Works (S.seen shelf.old) (S.seen shelf.new) result (λ _. (S.seen shelf.new).content ≡ with_working (S.seen shelf.old).content (effect (S.seen shelf.old).content.working change.now)) }
 {
     match change.action {
-        Action::Insert | Action::Update => put_copy(shelf, code, &change.item),
+        Action::Insert | Action::Update => put_shared(shelf, code, &change.item),
         Action::Delete => shelf.take(&Key::of(&change.item)),
     }
 }

@@ -11,9 +11,10 @@ ghost use Rattle.gaz_rules.specs.EndRules.{as_blpu, blpu_at, closed_under_lpi, i
 ghost use Rattle.gaz_rules.specs.Rings.{Knows};
 
 use crate::rings::{Walked, is_on_ring};
+use crate::stored::item_in;
 use crate::streets::StreetState;
 use gaz_ids::{Code, Lang, Status, Uprn, Usrn};
-use gaz_records::{Blpu, Item, Key};
+use gaz_records::{Blpu, Item, Key, SharedItem};
 use gaz_shelf::{Shelf, ShelfFault};
 
 /// The end rules that a key breaks by itself.
@@ -74,7 +75,7 @@ fn closed_under_lpi<S: Shelf>(
     shelf: &mut S,
     code: Code,
     usrn: Usrn,
-    stored: &Option<Item>,
+    stored: &Option<SharedItem>,
 ) -> Result<bool, ShelfFault>
     requires { (S.seen shelf.old).progress ≡ Open code }
     ensures { Reads (S.seen shelf.old) (S.seen shelf.new) result (λ b. stored.now ≡ map.get (S.seen shelf.old).content.working.items (key.Street usrn) → b ≡ closed_under_lpi (S.seen shelf.old).content.working (key.Street usrn)) }
@@ -90,7 +91,7 @@ fn street_faults<S: Shelf>(
     shelf: &mut S,
     code: Code,
     usrn: Usrn,
-    stored: &Option<Item>,
+    stored: &Option<SharedItem>,
 ) -> Result<KeyFaults, ShelfFault>
     requires { (S.seen shelf.old).progress ≡ Open code }
     ensures { Reads (S.seen shelf.old) (S.seen shelf.new) result (λ f. stored.now ≡ map.get (S.seen shelf.old).content.working.items (key.Street usrn) → f ≡ key_faults (S.seen shelf.old).content.working (key.Street usrn)) }
@@ -106,7 +107,7 @@ fn descriptor_faults<S: Shelf>(
     code: Code,
     usrn: Usrn,
     lang: Lang,
-    stored: &Option<Item>,
+    stored: &Option<SharedItem>,
 ) -> Result<KeyFaults, ShelfFault>
     requires { (S.seen shelf.old).progress ≡ Open code }
     ensures { Reads (S.seen shelf.old) (S.seen shelf.new) result (λ f. stored.now ≡ map.get (S.seen shelf.old).content.working.items (key.Descriptor usrn lang) → f ≡ key_faults (S.seen shelf.old).content.working (key.Descriptor usrn lang)) }
@@ -175,10 +176,10 @@ fn past_under_lpi<S: Shelf>(
 }
 
 /// The BLPU that stands there.
-fn blpu_in(stored: &Option<Item>) -> Option<&Blpu>
+fn blpu_in(stored: &Option<SharedItem>) -> Option<&Blpu>
     ensures { option_map (λ b. b.now) result ≡ option_and_then as_blpu stored.now }
 {
-    let Some(Item::Blpu(blpu)) = stored else {
+    let Some(Item::Blpu(blpu)) = item_in(stored) else {
         return None;
     };
     Some(blpu)
@@ -208,7 +209,7 @@ pub(crate) fn key_faults<S: Shelf>(
     code: Code,
     walked: &mut Walked,
     key: &Key,
-    stored: &Option<Item>,
+    stored: &Option<SharedItem>,
 ) -> Result<KeyFaults, ShelfFault>
     requires { (S.seen shelf.old).progress ≡ Open code }
     ensures { Reads (S.seen shelf.old) (S.seen shelf.new) result (λ f. stored.now ≡ map.get (S.seen shelf.old).content.working.items key.now → Knows (S.seen shelf.old).content.working walked.old → Knows (S.seen shelf.old).content.working walked.new × (f ≡ key_faults (S.seen shelf.old).content.working key.now)) }

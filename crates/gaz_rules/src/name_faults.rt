@@ -11,10 +11,11 @@ ghost use Rattle.gaz_rules.specs.Bases.{are_reached, basis_views};
 ghost use Rattle.gaz_rules.specs.Breaches.{blpu_fault, blpu_state, name_faults};
 ghost use Rattle.gaz_rules.specs.EndRules.{same_key};
 
+use crate::stored::item_in;
 use crate::streets::street_faults;
 use gaz_changefile::Basis;
 use gaz_ids::{Code, Status, Uprn};
-use gaz_records::{Item, Key, Lpi};
+use gaz_records::{Item, Key, Lpi, SharedItem};
 use gaz_shelf::{Shelf, ShelfFault};
 
 /// The end rules that an item breaks by what it names.
@@ -63,7 +64,7 @@ fn blpu_state<S: Shelf>(shelf: &mut S, code: Code, uprn: Uprn) -> Result<BlpuSta
     ensures { Reads (S.seen shelf.old) (S.seen shelf.new) result (λ s. s ≡ blpu_state (S.seen shelf.old).content.working uprn) }
 {
     let stored = shelf.current(code, &Key::Blpu(uprn))?;
-    let is_past = match &stored {
+    let is_past = match item_in(&stored) {
         Some(Item::Blpu(blpu)) => matches!(blpu.status, Status::Historical),
         _ => false,
     };
@@ -131,12 +132,12 @@ pub(crate) fn name_faults<S: Shelf>(
     code: Code,
     bases: &[Basis],
     key: &Key,
-    stored: &Option<Item>,
+    stored: &Option<SharedItem>,
 ) -> Result<NameFaults, ShelfFault>
     requires { (S.seen shelf.old).progress ≡ Open code }
     ensures { Reads (S.seen shelf.old) (S.seen shelf.new) result (λ f. stored.now ≡ map.get (S.seen shelf.old).content.working.items key.now → are_reached (S.seen shelf.old).content.board bases.now ≡ true → f ≡ name_faults (S.seen shelf.old).content.working (basis_views (S.seen shelf.old).content.board bases.now) key.now) }
 {
-    match stored {
+    match item_in(stored) {
         Some(Item::Lpi(lpi)) => Ok(lpi_faults(shelf, code, bases, key, lpi)?),
         Some(Item::Xref(xref)) => Ok(xref_faults(shelf, code, xref.uprn)?),
         _ => Ok(NameFaults::of_blpu(false)),

@@ -8,6 +8,7 @@ ghost use Rattle.gaz_shelf.specs.Keeper.{Open, Reads};
 ghost use Rattle.gaz_rules.specs.EndRules.{is_own_ancestor, parent_of};
 ghost use Rattle.gaz_rules.specs.Rings.{Knows, visit_of};
 
+use crate::stored::item_in;
 use gaz_ids::{Code, Uprn};
 use gaz_records::{Item, Key};
 use gaz_shelf::{Shelf, ShelfFault};
@@ -89,7 +90,8 @@ fn parent_of<S: Shelf>(shelf: &mut S, code: Code, uprn: Uprn) -> Result<Option<U
     requires { (S.seen shelf.old).progress ≡ Open code }
     ensures { Reads (S.seen shelf.old) (S.seen shelf.new) result (λ p. p ≡ parent_of (S.seen shelf.old).content.working uprn) }
 {
-    let Some(Item::Blpu(blpu)) = shelf.current(code, &Key::Blpu(uprn))? else {
+    let stored = shelf.current(code, &Key::Blpu(uprn))?;
+    let Some(Item::Blpu(blpu)) = item_in(&stored) else {
         return Ok(None);
     };
     Ok(blpu.parent)

@@ -8,9 +8,10 @@ ghost use Rattle.gaz_rules.specs.Bases.{are_reached, basis_views};
 ghost use Rattle.gaz_rules.specs.EndRules.{found_in, is_closed};
 ghost use Rattle.gaz_rules.specs.Streets.{IsReached, state_of, street_faults, street_state, view_in};
 
+use crate::stored::item_in;
 use gaz_changefile::Basis;
 use gaz_ids::{Code, Lang, Usrn};
-use gaz_records::{Item, Key};
+use gaz_records::{Item, Key, SharedItem};
 use gaz_shelf::{Shelf, ShelfFault};
 
 /// Whether a street is there, and whether it is closed.
@@ -21,11 +22,11 @@ pub(crate) struct StreetState {
 }
 
 impl StreetState {
-    pub(crate) fn of(stored: &Option<Item>) -> StreetState
+    pub(crate) fn of(stored: &Option<SharedItem>) -> StreetState
         ensures { result ≡ state_of stored.now }
     {
         let is_there = stored.is_some();
-        let Some(Item::Street(street)) = stored else {
+        let Some(Item::Street(street)) = item_in(stored) else {
             return StreetState {
                 is_there,
                 is_closed: false,

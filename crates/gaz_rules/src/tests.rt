@@ -4,7 +4,7 @@ ghost use Rattle.gaz_shelf.specs.Keeper.{IsNotOpen, Seen};
 use crate::judge;
 use gaz_changefile::{Action, Basis, Change, ChangeFile};
 use gaz_ids::{Code, Volume};
-use gaz_records::{Day, Item, Kind, item_of_text};
+use gaz_records::{Day, Kind, SharedItem, item_of_text};
 use gaz_register::Register;
 use gaz_shelf::{Ending, Faulty, Inbox, MemShelf, Shelf, Verdict, write_volume};
 use std::alloc::Global;
@@ -77,7 +77,7 @@ fn change_of(alloc: Global, place: u64, line: &str) -> Result<Change, Fail> {
     Ok(Change {
         place,
         action,
-        item,
+        item: SharedItem::new(alloc, item)?,
     })
 }
 
@@ -415,7 +415,7 @@ fn has_street_too<K: Inbox>(alloc: Global, shelf: &mut K) -> Result<(), Fail>
 {
     let item = item_of_text(alloc, Kind::Street, b"150,1,1990-01-01,")?;
     let mut items = Vec::new(alloc);
-    items.push(item)?;
+    items.push(SharedItem::new(alloc, item)?)?;
     shelf.receive(custodian(1002)?, volume(1)?, b"a file")?;
     write_volume(shelf, custodian(1002)?, items, Ending::Keep)?;
     Ok(())
@@ -433,7 +433,7 @@ fn link(alloc: Global, place: u64, uprn: u64) -> Result<Change, Fail> {
     Ok(Change {
         place,
         action: Action::Insert,
-        item,
+        item: SharedItem::new(alloc, item)?,
     })
 }
 
