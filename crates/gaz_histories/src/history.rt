@@ -1,7 +1,8 @@
 //! The versions of one key.
-ghost use Rattle.std.specs.Prelude.{◌≡◌, ◌++◌, ◌∷◌, [], ◌≤◌, take, length, nat_le, nat_lt, OnOk, OnErr, IfOk, option_map};
-ghost use Rattle.gaz_histories.specs.Histories.{before, is_empty, item_at, until, was_used_at};
-ghost use Rattle.gaz_histories.specs.Kept.{version_in};
+ghost use Rattle.std.specs.Prelude.{◌≡◌, ◌++◌, ◌∷◌, [], ◌≤◌, take, length, nat_le, nat_lt, false, OnOk, OnErr, IfOk, option_map};
+ghost use Rattle.std.specs.Option.{option_map_or};
+ghost use Rattle.gaz_histories.specs.Histories.{Ascends, before, is_empty, item_at, until, was_used_at};
+ghost use Rattle.gaz_histories.specs.Kept.{kept, version_in, versions_of};
 
 use gaz_records::SharedItem;
 use std::alloc::{AllocError, Global};
@@ -17,18 +18,20 @@ struct Version {
 /// What stood at a key through the volumes of a gazetteer, in their order.
 #[derive(Drop)]
 pub struct History {
-    versions: Vec<Version>,
+    earlier: Vec<Version>,
+    // Nearly every key has one version, which needs no vector.
+    latest: Option<Version>,
 }
 
 impl Model for History {
     ghost use Rattle.gaz_histories.specs.Histories.{Ascends, Versions};
-    ghost use Rattle.gaz_histories.specs.Kept.{versions_of};
+    ghost use Rattle.gaz_histories.specs.Kept.{kept};
 
     ghost Value = { Versions };
 
-    ghost view = { λ h. versions_of h.versions.items };
+    ghost view = { λ h. kept h.earlier.items h.latest };
 
-    ghost invariant = { λ h. Ascends (versions_of h.versions.items) };
+    ghost invariant = { λ h. Ascends (kept h.earlier.items h.latest) };
 }
 
 impl History {
@@ -37,7 +40,8 @@ impl History {
         ensures { result ≡ [] }
     {
         History {
-            versions: Vec::new(alloc),
+            earlier: Vec::new(alloc),
+            latest: None,
         }
     }
 
@@ -45,36 +49,16 @@ impl History {
     pub fn is_empty(&self) -> bool
         ensures { result ≡ is_empty self.now }
     {
-        self.versions.is_empty()
-    }
-
-    // How many versions begin at a volume or before it.
-    fn count_until(&self, volume: u64) -> usize
-        ensures until { until self.now volume ≡ take result self.now }
-        ensures bound { result ≤ length self.now }
-    {
-        self.versions.partition_point(|v| v.since <= volume)
-    }
-
-    // How many versions begin before a volume.
-    fn count_before(&self, volume: u64) -> usize
-        ensures before { before self.now volume ≡ take result self.now }
-        ensures bound { result ≤ length self.now }
-    {
-        self.versions.partition_point(|v| v.since < volume)
+        self.latest.is_none() && self.earlier.is_empty()
     }
 
     /// The item that stands at the key after a volume.
     pub fn item_at(&self, volume: u64) -> Option<&SharedItem>
         ensures { option_map (λ i. i.now) result ≡ item_at self.now volume }
     {
-        let count = self.count_until(volume);
-        if count == 0 {
-            return None;
-        }
-        match &self.versions[count - 1].item {
-            Some(item) => Some(item),
-            None => None,
+        match &self.latest {
+            Some(latest) if latest.since <= volume => item_of(latest),
+            _ => last_item(&self.earlier, volume),
         }
     }
 
@@ -82,9 +66,10 @@ impl History {
     pub fn was_used(&self, volume: u64) -> bool
         ensures { result ≡ was_used_at self.now volume }
     {
-        match self.versions.first() {
-            Some(version) => version.since <= volume,
-            None => false,
+        match (self.earlier.first(), &self.latest) {
+            (Some(version), _) => version.since <= volume,
+            (None, Some(version)) => version.since <= volume,
+            (None, None) => false,
         }
     }
 
@@ -97,13 +82,12 @@ impl History {
             since: volume,
             item,
         };
-        let count = self.count_before(volume);
-        if count == self.versions.len() {
-            self.versions.push(version)?;
-        } else {
-            self.versions[count] = version;
-            self.versions.truncate(count + 1);
+        if begins_before(&self.latest, volume) {
+            return Ok(put_latest(&mut self.earlier, &mut self.latest, version)?);
         }
+        let count = count_before(&self.earlier, volume);
+        self.earlier.truncate(count);
+        self.latest = Some(version);
         Ok(())
     }
 
@@ -111,7 +95,77 @@ impl History {
     pub fn cut(&mut self, volume: u64)
         ensures { self.new ≡ before self.old volume }
     {
-        let count = self.count_before(volume);
-        self.versions.truncate(count);
+        if begins_before(&self.latest, volume) {
+            return;
+        }
+        let count = count_before(&self.earlier, volume);
+        self.earlier.truncate(count);
+        self.latest = self.earlier.pop();
     }
+}
+
+fn begins_before(version: &Option<Version>, volume: u64) -> bool
+    ensures { result ≡ option_map_or (λ v. nat_lt v.since volume) version.now false }
+{
+    match version {
+        Some(version) => version.since < volume,
+        None => false,
+    }
+}
+
+// Puts a version in the place of the latest, which is one of the earlier then. Where memory runs out, nothing changes.
+fn put_latest(
+    earlier: &mut Vec<Version>,
+    latest: &mut Option<Version>,
+    version: Version,
+) -> Result<(), AllocError>
+    ensures ok { OnOk result (kept earlier.new.items latest.new ≡ kept earlier.old.items latest.old ++ version_in version ∷ []) }
+    ensures err { OnErr result (kept earlier.new.items latest.new ≡ kept earlier.old.items latest.old) }
+{
+    if let Some(last) = latest.replace(version) {
+        if let Err(failed) = earlier.push(last) {
+            *latest = Some(failed.value);
+            return Err(AllocError);
+        }
+    }
+    Ok(())
+}
+
+fn item_of(version: &Version) -> Option<&SharedItem>
+    ensures { option_map (λ i. i.now) result ≡ version.now.item }
+{
+    match &version.item {
+        Some(item) => Some(item),
+        None => None,
+    }
+}
+
+// The item of the last of these versions that begins at a volume or before it.
+fn last_item(versions: &[Version], volume: u64) -> Option<&SharedItem>
+    requires { Ascends (versions_of versions.now) }
+    ensures { option_map (λ i. i.now) result ≡ item_at (versions_of versions.now) volume }
+{
+    let count = count_until(versions, volume);
+    if count == 0 {
+        return None;
+    }
+    item_of(&versions[count - 1])
+}
+
+// How many of these versions begin at a volume or before it.
+fn count_until(versions: &[Version], volume: u64) -> usize
+    requires { Ascends (versions_of versions.now) }
+    ensures until { until (versions_of versions.now) volume ≡ take result (versions_of versions.now) }
+    ensures bound { result ≤ length versions.now }
+{
+    versions.partition_point(|v| v.since <= volume)
+}
+
+// How many of these versions begin before a volume.
+fn count_before(versions: &[Version], volume: u64) -> usize
+    requires { Ascends (versions_of versions.now) }
+    ensures before { before (versions_of versions.now) volume ≡ take result (versions_of versions.now) }
+    ensures bound { result ≤ length versions.now }
+{
+    versions.partition_point(|v| v.since < volume)
 }

@@ -1,13 +1,8 @@
-use Rattle.std.proofs.Common.{◌∙◌, sym}
-use Rattle.gaz_histories.proofs.Kept.{found}
+use Rattle.std.proofs.Common.{subst, sym}
+use Rattle.gaz_histories.specs.Histories.{Ascends}
+use Rattle.gaz_histories.specs.Kept.{versions_of}
+use Rattle.gaz_histories.proofs.Kept.{earlier_ascend}
 use Rattle.gaz_histories.proofs.history.History.item_at.Goals as goal
 
-pub returns-in-Some : goal.returns-in-Some
-returns-in-Some c =
-    sym c.in-Some.is
-    ∙ found c.self.inside.versions.items _ c.count_until-count.result _ _ c.self.view_is c.count_until-count.ensures.until c.if-count-eq0.false c.count_until-count.ensures.bound c.index.ensures
-
-pub returns-in-None : goal.returns-in-None
-returns-in-None c =
-    sym c.in-None.is
-    ∙ found c.self.inside.versions.items _ c.count_until-count.result _ _ c.self.view_is c.count_until-count.ensures.until c.if-count-eq0.false c.count_until-count.ensures.bound c.index.ensures
+pub last_item-requires : goal.last_item-requires
+last_item-requires c = subst (λ vs. Ascends (versions_of vs)) (sym c.deref.ensures.value) (earlier_ascend c.self.inside.earlier.items c.self.inside.latest c.self.invariant)
