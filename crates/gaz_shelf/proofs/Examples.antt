@@ -14,18 +14,11 @@ use Rattle.gaz_records.specs.declared.key.Key.TheVariants as key
 use Rattle.gaz_shelf.specs.View.{View, empty_view, was_used, with_item}
 use Rattle.gaz_shelf.specs.Words.{entries}
 use Rattle.gaz_shelf.specs.Examples.{WorkedBoards, WorkedExamples, WorkedGazetteers, WorkedPages, WorkedViews, WorkedWords, all_kinds, lpi, no_more, one_street, put_in_turn, street, three_volumes}
+pub use Rattle.gaz_shelf.proofs.Emptiness.{get_none, used_none}
+use Rattle.gaz_shelf.proofs.Emptiness.{no_entries_yet}
 use Rattle.gaz_shelf.proofs.Gazetteers.{contains_at, get_at}
-use Rattle.gaz_shelf.proofs.Trees.{no_entries}
 use Rattle.gaz_shelf.specs.Gazetteer.{judgements, view_at}
 use Rattle.gaz_histories.specs.Histories.{item_at, was_used_at}
-
-pub get_none : (k : Key) → map.get empty_view.items k ≡ None
-unfolding empty_view
-get_none k = map.get-empty key_cmp k
-
-pub used_none : (k : Key) → was_used empty_view k ≡ false
-unfolding empty_view
-used_none k = set.contains-empty key_cmp k
 
 pub get_one : (k : Key) → map.get one_street.items k ≡ cond (eq_by_cmp key_cmp k (key.Street 101)) (Some (street 101)) None
 get_one k = map.get-insert keys_total empty_view.items (key.Street 101) (street 101) k ∙ ap (cond (eq_by_cmp key_cmp k (key.Street 101)) (Some (street 101))) (get_none k)
@@ -44,10 +37,6 @@ entries_put es (i ∷ is) = entries_put (map.put key_cmp (key_of i) i es) is
 entries_after : (v : View) (es : List (Key × Item)) → entries v ≡ es → (is : List Item) → entries (fold with_item v is) ≡ entries_put es is
 entries_after v es e [] = e
 entries_after v es e (i ∷ is) = entries_after (with_item v i) (map.put key_cmp (key_of i) i es) (map.entries-insert keys_total v.items (key_of i) i ∙ ap (map.put key_cmp (key_of i) i) e) is
-
-no_entries_yet : entries empty_view ≡ []
-unfolding empty_view
-no_entries_yet = no_entries _ _
 
 these : (is : List Item) → entries (fold with_item empty_view is) ≡ entries_put [] is
 these = entries_after empty_view [] no_entries_yet

@@ -1,4 +1,5 @@
 pub mod Trees
+pub mod Emptiness
 pub mod Examples
 pub mod Keeping
 pub mod Pages

@@ -1,5 +1,5 @@
 //! The ledgers of all custodians.
-ghost use Rattle.std.specs.Prelude.{◌≡◌, OnOk, OnErr};
+ghost use Rattle.std.specs.Prelude.{◌≡◌, MatchOption, OnOk, OnErr};
 ghost use Rattle.gaz_shelf.specs.Board.{adds, last_view};
 ghost use Rattle.gaz_shelf.specs.Ledgers.{account_of, board_of, empty_account};
 ghost use Rattle.gaz_shelf.specs.View.{with_item, without_key};
@@ -11,19 +11,11 @@ use gaz_records::{Key, SharedItem};
 use std::alloc::{AllocError, Global};
 use std::collections::BTreeMap;
 
-/// A custodian's ledger, or the empty one that is given.
-pub fn ledger_of<'a>(
-    ledgers: &'a BTreeMap<Code, Ledger>,
-    code: Code,
-    empty: &'a Ledger,
-) -> &'a Ledger
-    requires { empty.now ≡ empty_account }
-    ensures { result.now ≡ account_of ledgers.now.entries code }
+/// A custodian's ledger, where it has one.
+pub fn ledger_of(ledgers: &BTreeMap<Code, Ledger>, code: Code) -> Option<&Ledger>
+    ensures { MatchOption result (account_of ledgers.now.entries code ≡ empty_account) (λ l. l.now ≡ account_of ledgers.now.entries code) }
 {
-    match ledgers.get(&code) {
-        Some(ledger) => ledger,
-        None => empty,
-    }
+    ledgers.get(&code)
 }
 
 /// A custodian's working view is its last one. Where it has no ledger yet, it has one then.

@@ -1,10 +1,10 @@
 //! A keeper in memory.
-ghost use Rattle.std.specs.Prelude.{◌≡◌, ◌≢◌, ◌≤◌, ◌<◌, ◌==◌, ◌^◌, ◌-◌, ℕ, if◌then◌else◌, ⊤, length, IfOk, IsOk, MatchOption, option_map};
+ghost use Rattle.std.specs.Prelude.{◌≡◌, ◌≢◌, ◌≤◌, ◌<◌, ◌==◌, ◌^◌, ◌-◌, ℕ, if◌then◌else◌, ⊤, length, IfOk, IfNone, IfSome, IsOk, MatchOption, option_map};
 ghost use Rattle.std.specs.FinMap as map;
-ghost use Rattle.gaz_shelf.specs.View.{was_used, with_item, without_key};
+ghost use Rattle.gaz_shelf.specs.View.{empty_view, was_used, with_item, without_key};
 ghost use Rattle.gaz_shelf.specs.Words.{approved_of, approved_on, has_children, page};
 ghost use Rattle.gaz_shelf.specs.Board.{adds, last_view, reached, verdict_on, view_after};
-ghost use Rattle.gaz_shelf.specs.Ledgers.{board_of, empty_account, view_in};
+ghost use Rattle.gaz_shelf.specs.Ledgers.{board_of, view_in};
 ghost use Rattle.gaz_shelf.specs.Received.{count_above};
 ghost use Rattle.gaz_shelf.specs.Keeper.{Broken, Content, Enters, Goes, Idle, IsAtHand, IsNew, IsNotOpen, Keeps, Open, Reads, Refuses, Seen, Sets, begun, closed, empty_content, kept, skipped, view_of, with_received};
 ghost use Rattle.gaz_shelf.specs.Mem.{content_in, progress_of, seen_in, working_of};
@@ -81,80 +81,92 @@ impl MemShelf {
         }
     }
 
-    /// A custodian's ledger, or the empty one that is given, and the volume at which it is seen.
-    fn seen<'a>(&'a self, code: Code, empty: &'a Ledger) -> (&'a Ledger, u64)
-        requires { empty.now ≡ empty_account }
-        ensures view { view_in result.0.now result.1 ≡ view_of (seen_in self.now) code }
-        ensures reached { length result.0.now.judged ≤ result.1 }
+    /// A custodian's ledger and the volume at which it is seen, where it has a ledger.
+    fn seen(&self, code: Code) -> Option<(&Ledger, u64)>
+        ensures none { IfNone result (view_of (seen_in self.now) code ≡ empty_view) }
+        ensures view { IfSome result (λ s. view_in s.0.now s.1 ≡ view_of (seen_in self.now) code) }
+        ensures reached { IfSome result (λ s. length s.0.now.judged ≤ s.1) }
     {
-        let ledger = ledger_of(&self.ledgers, code, empty);
+        let Some(ledger) = ledger_of(&self.ledgers, code) else {
+            return None;
+        };
         let reached = ledger.reached();
         match self.judging {
-            Judging::Open(judged) if judged == code => (ledger, reached + 1),
-            _ => (ledger, reached),
+            Judging::Open(judged) if judged == code => Some((ledger, reached + 1)),
+            _ => Some((ledger, reached)),
         }
     }
 
     fn count_reached(&self, code: Code) -> u64
         ensures { result ≡ reached (board_of self.now.ledgers.entries) code }
     {
-        let empty = Ledger::new(self.alloc);
-        ledger_of(&self.ledgers, code, &empty).reached()
+        match ledger_of(&self.ledgers, code) {
+            Some(ledger) => ledger.reached(),
+            None => 0,
+        }
     }
 
     fn find_verdict(&self, code: Code, volume: Volume) -> Option<Verdict>
         ensures { result ≡ verdict_on (board_of self.now.ledgers.entries) code volume }
     {
-        let empty = Ledger::new(self.alloc);
-        ledger_of(&self.ledgers, code, &empty).verdict(volume.number())
+        match ledger_of(&self.ledgers, code) {
+            Some(ledger) => ledger.verdict(volume.number()),
+            None => None,
+        }
     }
 
     fn find_current(&self, code: Code, key: &Key) -> Result<Option<SharedItem>, AllocError>
         ensures { IfOk result (λ i. i ≡ map.get (view_of (seen_in self.now) code).items key.now) }
     {
-        let empty = Ledger::new(self.alloc);
-        let (ledger, volume) = self.seen(code, &empty);
-        Ok(share_found(ledger.item(volume, key))?)
+        match self.seen(code) {
+            Some((ledger, volume)) => Ok(share_found(ledger.item(volume, key))?),
+            None => Ok(None),
+        }
     }
 
     fn find_at(&self, code: Code, volume: u64, key: &Key) -> Result<Option<SharedItem>, AllocError>
         ensures { IfOk result (λ i. volume ≤ reached (board_of self.now.ledgers.entries) code → i ≡ map.get (view_after (board_of self.now.ledgers.entries) code volume).items key.now) }
     {
-        let empty = Ledger::new(self.alloc);
-        let ledger = ledger_of(&self.ledgers, code, &empty);
-        Ok(share_found(ledger.item(volume, key))?)
+        match ledger_of(&self.ledgers, code) {
+            Some(ledger) => Ok(share_found(ledger.item(volume, key))?),
+            None => Ok(None),
+        }
     }
 
     fn find_ever(&self, code: Code, key: &Key) -> bool
         ensures { result ≡ was_used (view_of (seen_in self.now) code) key.now }
     {
-        let empty = Ledger::new(self.alloc);
-        let (ledger, volume) = self.seen(code, &empty);
-        ledger.was_used(volume, key)
+        match self.seen(code) {
+            Some((ledger, volume)) => ledger.was_used(volume, key),
+            None => false,
+        }
     }
 
     fn find_approved(&self, code: Code, uprn: Uprn) -> Result<Vec<Key>, AllocError>
         ensures { IfOk result (λ keys. keys.items ≡ approved_of (view_of (seen_in self.now) code) uprn) }
     {
-        let empty = Ledger::new(self.alloc);
-        let (ledger, volume) = self.seen(code, &empty);
-        Ok(ledger.approved_of(self.alloc, volume, uprn)?)
+        match self.seen(code) {
+            Some((ledger, volume)) => Ok(ledger.approved_of(self.alloc, volume, uprn)?),
+            None => Ok(Vec::new(self.alloc)),
+        }
     }
 
     fn find_approved_on(&self, code: Code, usrn: Usrn, lang: Option<Lang>) -> bool
         ensures { result ≡ approved_on (view_of (seen_in self.now) code) usrn lang }
     {
-        let empty = Ledger::new(self.alloc);
-        let (ledger, volume) = self.seen(code, &empty);
-        ledger.approved_on(volume, usrn, lang)
+        match self.seen(code) {
+            Some((ledger, volume)) => ledger.approved_on(volume, usrn, lang),
+            None => false,
+        }
     }
 
     fn find_children(&self, code: Code, uprn: Uprn) -> bool
         ensures { result ≡ has_children (view_of (seen_in self.now) code) uprn }
     {
-        let empty = Ledger::new(self.alloc);
-        let (ledger, volume) = self.seen(code, &empty);
-        ledger.has_children(volume, uprn)
+        match self.seen(code) {
+            Some((ledger, volume)) => ledger.has_children(volume, uprn),
+            None => false,
+        }
     }
 
     fn find_page(
@@ -167,9 +179,10 @@ impl MemShelf {
     ) -> Result<Vec<SharedItem>, AllocError>
         ensures { IfOk result (λ items. volume ≤ reached (board_of self.now.ledgers.entries) code → items.items ≡ page (view_after (board_of self.now.ledgers.entries) code volume) kind after most) }
     {
-        let empty = Ledger::new(self.alloc);
-        let ledger = ledger_of(&self.ledgers, code, &empty);
-        Ok(ledger.page(self.alloc, volume, kind, after, most)?)
+        match ledger_of(&self.ledgers, code) {
+            Some(ledger) => Ok(ledger.page(self.alloc, volume, kind, after, most)?),
+            None => Ok(Vec::new(self.alloc)),
+        }
     }
 
     fn find_file(&self, code: Code, volume: Volume) -> Result<Option<Vec<u8>>, AllocError>
