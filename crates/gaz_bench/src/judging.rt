@@ -5,7 +5,7 @@ ghost use Rattle.gaz_shelf.specs.Keeper.{IsNotOpen, Seen};
 use anyhow::{Context, Result, ensure};
 use gaz_changefile::{Action, Change, ChangeFile};
 use gaz_ids::{Code, Volume};
-use gaz_records::{Day, Item, Kind, item_of_text};
+use gaz_records::{Day, Kind, SharedItem, item_of_text};
 use gaz_register::Register;
 use gaz_rules::judge;
 use gaz_shelf::{Ending, Faulty, Inbox, MemShelf, Shelf, Verdict, write_volume};
@@ -54,11 +54,17 @@ fn rows(alloc: Global, n: u64) -> Result<Vec<(Kind, String)>> {
     ]?)
 }
 
+/// The item of a row.
+fn item(alloc: Global, kind: Kind, row: &str) -> Result<SharedItem> {
+    let item = item_of_text(alloc, kind, row.as_bytes())?;
+    Ok(SharedItem::new(alloc, item)?)
+}
+
 /// Adds the items of an address.
-pub fn add_items(alloc: Global, items: &mut Vec<Item>, n: u64) -> Result<()> {
+pub fn add_items(alloc: Global, items: &mut Vec<SharedItem>, n: u64) -> Result<()> {
     let rows = rows(alloc, n)?;
     for (kind, row) in &rows {
-        items.push(item_of_text(alloc, *kind, row.as_bytes())?)?;
+        items.push(item(alloc, *kind, row)?)?;
     }
     Ok(())
 }
@@ -70,7 +76,7 @@ fn add_insertions(alloc: Global, changes: &mut Vec<Change>, n: u64) -> Result<()
         changes.push(Change {
             place: 2,
             action: Action::Insert,
-            item: item_of_text(alloc, *kind, row.as_bytes())?,
+            item: item(alloc, *kind, row)?,
         })?;
     }
     Ok(())
@@ -87,7 +93,7 @@ fn add_updates(alloc: Global, changes: &mut Vec<Change>, n: u64) -> Result<()> {
         changes.push(Change {
             place: 2,
             action,
-            item: item_of_text(alloc, *kind, row.as_bytes())?,
+            item: item(alloc, *kind, row)?,
         })?;
     }
     Ok(())
@@ -107,7 +113,7 @@ fn add_breach(alloc: Global, changes: &mut Vec<Change>) -> Result<()> {
     changes.push(Change {
         place: 2,
         action: Action::Insert,
-        item: item_of_text(alloc, Kind::Xref, b"Z1,99999,TAX01,A/17,2010-05-01,")?,
+        item: item(alloc, Kind::Xref, "Z1,99999,TAX01,A/17,2010-05-01,")?,
     })?;
     Ok(())
 }

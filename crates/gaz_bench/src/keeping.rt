@@ -5,7 +5,7 @@ ghost use Rattle.gaz_shelf.specs.Keeper.{IsNotOpen, Seen};
 use crate::judging::{add_items, receive};
 use anyhow::{Context, Result};
 use gaz_ids::Code;
-use gaz_records::Item;
+use gaz_records::SharedItem;
 use gaz_shelf::{Ending, Inbox, MemShelf, Shelf, write_volume};
 use std::alloc::Global;
 use std::time::Instant;
@@ -14,7 +14,7 @@ use std::time::Instant;
 const ADDRESSES: u64 = 200;
 
 /// The items of the volume with this many before it, half of which the one before has too.
-fn items_after(alloc: Global, volumes: u64) -> Result<Vec<Item>> {
+fn items_after(alloc: Global, volumes: u64) -> Result<Vec<SharedItem>> {
     let mut items = Vec::new(alloc);
     let first = volumes.saturating_mul(ADDRESSES / 2).saturating_add(1);
     for k in 0..ADDRESSES {
@@ -28,7 +28,7 @@ fn micros_of_next<K: Inbox>(
     rt: &HostRuntime,
     shelf: &mut K,
     code: Code,
-    items: Vec<Item>,
+    items: Vec<SharedItem>,
 ) -> Result<u128>
     requires { IsNotOpen (K.seen shelf.old).progress }
     ensures { OnOk result (IsNotOpen (K.seen shelf.new).progress) }
