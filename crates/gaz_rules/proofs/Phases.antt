@@ -21,33 +21,45 @@ use Rattle.gaz_rules.specs.Bases.{are_reached, basis_views, judged_on}
 use Rattle.gaz_rules.specs.EndRules.{end_rules}
 use Rattle.gaz_rules.specs.Judges.{IsReady, Judges}
 use Rattle.gaz_rules.specs.Judging.{Fault, end_faults, fault_at, judge, judged_by_faults, record_faults}
+use Rattle.gaz_rules.specs.Knowing.{IsRight}
 use Rattle.gaz_rules.specs.Phases.{Ends, Finds, IsFirst, Works, conclusion, faults_in, first_of}
-use Rattle.gaz_rules.specs.Rings.{Knows}
 use Rattle.gaz_rules.specs.Rules.{effect, first_broken}
 use Rattle.gaz_rules.specs.declared.judging.Fault as found
-use Rattle.gaz_rules.specs.declared.rings.Walked.{Walked}
+use Rattle.gaz_rules.specs.declared.known.Known.{Known}
+use Rattle.gaz_rules.proofs.Progress.{keeps_itself}
 
 -- ---- the end rules, key by key
 
 -- what was asked of the end rules so far: the faults of what is left are those of all
-pub record AskedSoFar (old now : Seen) (c : ℕ) (bases : List Basis) (all left : List Change) (walked : Walked) : Type 0 where
+pub record AskedSoFar (old now : Seen) (c : ℕ) (bases : List Basis) (all left : List Change) (known : Known) : Type 0 where
   pub keeps : Keeps old now
   pub open_for : now.progress ≡ Open c
   pub counted : old.failures ≤ now.failures
-  pub knows : old.stands → now.unharmed → are_reached old.content.board bases ≡ true → Knows old.content.working walked
+  pub knows : old.stands → now.unharmed → are_reached old.content.board bases ≡ true → IsRight old.content.working (basis_views old.content.board bases) known
   pub faults : old.stands → now.unharmed → are_reached old.content.board bases ≡ true →
       end_faults old.content.working (basis_views old.content.board bases) left ≡ end_faults old.content.working (basis_views old.content.board bases) all
 
 -- what the end rules' code tells of a content
-abbrev pub Told : List Basis → Item → Option ℕ → Walked → Walked → Content → Type 0
-Told bases item r before after k = are_reached k.board bases ≡ true → Knows k.working before → Knows k.working after × (r ≡ first_broken (end_rules k.working (basis_views k.board bases) (key_of item)))
+abbrev pub Told : List Basis → Item → Option ℕ → Known → Known → Content → Type 0
+Told bases item r before after k = are_reached k.board bases ≡ true → IsRight k.working (basis_views k.board bases) before → IsRight k.working (basis_views k.board bases) after × (r ≡ first_broken (end_rules k.working (basis_views k.board bases) (key_of item)))
+
+-- nothing was asked so far
+pub asked_none : (s : Seen) (c : ℕ) (bases : List Basis) (all : List Change) (known : Known) → s.progress ≡ Open c → ((v : View) (out : List (ℕ × View)) → IsRight v out known) → AskedSoFar s s c bases all all known
+asked_none s c bases all known is_open right =
+    record {
+      keeps = keeps_itself s c is_open;
+      open_for = is_open;
+      counted = omega arith;
+      knows = λ _ _ _. right s.content.working (basis_views s.content.board bases);
+      faults = λ _ _ _. refl;
+    }
 
 -- the next change's key is asked
-pub asked_next : (old now next : Seen) (c : ℕ) (bases : List Basis) (all : List Change) (i : ℕ) (ch : Change) (before after : Walked) (r : Option ℕ) →
+pub asked_next : (old now next : Seen) (c : ℕ) (bases : List Basis) (all : List Change) (i : ℕ) (ch : Change) (before after : Known) (r : Option ℕ) →
     i < length all → ch ≡ get_or all i ch → AskedSoFar old now c bases all (drop i all) before →
     Reads {T = Option ℕ} now next (Ok r) (λ r. Told bases ch.item r before after now.content) →
     old.stands → next.unharmed → are_reached old.content.board bases ≡ true →
-    Knows old.content.working after
+    IsRight old.content.working (basis_views old.content.board bases) after
     × (end_faults old.content.working (basis_views old.content.board bases) all ≡ cons_option (fault_at ch.place r) (end_faults old.content.working (basis_views old.content.board bases) (drop (i + 1) all)))
 asked_next old now next c bases all i ch before after r h e so_far asked stood fine ready =
     let mid = asked.keeps.harm fine in
@@ -58,7 +70,7 @@ asked_next old now next c bases all i ch before after r h e so_far asked stood f
     (told.0, sym (so_far.faults stood mid ready) ∙ step ∙ ap (λ q. cons_option (fault_at ch.place q) (faults rest)) (sym told.1))
 
 -- it breaks none
-pub asked_on : (old now next : Seen) (c : ℕ) (bases : List Basis) (all : List Change) (i : ℕ) (ch : Change) (before after : Walked) →
+pub asked_on : (old now next : Seen) (c : ℕ) (bases : List Basis) (all : List Change) (i : ℕ) (ch : Change) (before after : Known) →
     i < length all → ch ≡ get_or all i ch → AskedSoFar old now c bases all (drop i all) before →
     Reads {T = Option ℕ} now next (Ok None) (λ r. Told bases ch.item r before after now.content) →
     AskedSoFar old next c bases all (drop (i + 1) all) after
@@ -73,7 +85,7 @@ asked_on old now next c bases all i ch before after h e so_far asked =
     }
 
 -- it breaks this rule
-pub asked_last : (old now next : Seen) (c : ℕ) (bases : List Basis) (all : List Change) (i : ℕ) (ch : Change) (before after : Walked) (rule : ℕ) (f : found.Fault) →
+pub asked_last : (old now next : Seen) (c : ℕ) (bases : List Basis) (all : List Change) (i : ℕ) (ch : Change) (before after : Known) (rule : ℕ) (f : found.Fault) →
     i < length all → ch ≡ get_or all i ch → AskedSoFar old now c bases all (drop i all) before →
     Reads {T = Option ℕ} now next (Ok (Some rule)) (λ r. Told bases ch.item r before after now.content) →
     f ≡ record { place = ch.place; rule = rule } →

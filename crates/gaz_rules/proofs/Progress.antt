@@ -7,7 +7,7 @@ use Rattle.gaz_shelf.proofs.Keeping.{keeps_then}
 pub not_broken : (p : Progress) (c : ℕ) → p ≡ Open c → p ≢ Broken
 not_broken p c e = λ b. let no : Open c ≡ Broken = sym e ∙ b in cc
 
-keeps_itself : (a : Seen) (c : ℕ) → a.progress ≡ Open c → Keeps a a
+pub keeps_itself : (a : Seen) (c : ℕ) → a.progress ≡ Open c → Keeps a a
 keeps_itself a c e =
     record {
       harm = λ fine. fine;

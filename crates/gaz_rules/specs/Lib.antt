@@ -6,6 +6,7 @@ pub mod Judges
 pub mod Sound
 pub mod Rings
 pub mod Streets
+pub mod Knowing
 pub mod Breaches
 pub mod Laws
 pub mod Sentences

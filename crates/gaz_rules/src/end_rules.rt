@@ -6,12 +6,12 @@ ghost use Rattle.gaz_shelf.specs.Keeper.{Open, Reads};
 ghost use Rattle.gaz_rules.specs.Bases.{are_reached, basis_views};
 ghost use Rattle.gaz_rules.specs.Breaches.{numbered};
 ghost use Rattle.gaz_rules.specs.EndRules.{end_rules};
-ghost use Rattle.gaz_rules.specs.Rings.{Knows};
+ghost use Rattle.gaz_rules.specs.Knowing.{IsRight};
 ghost use Rattle.gaz_rules.specs.Rules.{first_broken};
 
 use crate::key_faults::{KeyFaults, key_faults};
+use crate::known::Known;
 use crate::name_faults::{NameFaults, name_faults};
-use crate::rings::Walked;
 use gaz_changefile::Basis;
 use gaz_ids::Code;
 use gaz_records::{Item, Key, SharedItem};
@@ -41,16 +41,16 @@ fn breach_at<S: Shelf>(
     shelf: &mut S,
     code: Code,
     bases: &[Basis],
-    walked: &mut Walked,
+    known: &mut Known,
     key: &Key,
     stored: &Option<SharedItem>,
 ) -> Result<Option<u8>, ShelfFault>
     requires { (S.seen shelf.old).progress ≡ Open code }
-    ensures { Reads (S.seen shelf.old) (S.seen shelf.new) result (λ r. stored.now ≡ map.get (S.seen shelf.old).content.working.items key.now → are_reached (S.seen shelf.old).content.board bases.now ≡ true → Knows (S.seen shelf.old).content.working walked.old →
-        Knows (S.seen shelf.old).content.working walked.new × (r ≡ first_broken (end_rules (S.seen shelf.old).content.working (basis_views (S.seen shelf.old).content.board bases.now) key.now))) }
+    ensures { Reads (S.seen shelf.old) (S.seen shelf.new) result (λ r. stored.now ≡ map.get (S.seen shelf.old).content.working.items key.now → are_reached (S.seen shelf.old).content.board bases.now ≡ true → IsRight (S.seen shelf.old).content.working (basis_views (S.seen shelf.old).content.board bases.now) known.old →
+        IsRight (S.seen shelf.old).content.working (basis_views (S.seen shelf.old).content.board bases.now) known.new × (r ≡ first_broken (end_rules (S.seen shelf.old).content.working (basis_views (S.seen shelf.old).content.board bases.now) key.now))) }
 {
-    let names = name_faults(shelf, code, bases, key, stored)?;
-    let keys = key_faults(shelf, code, walked, key, stored)?;
+    let names = name_faults(shelf, code, bases, &mut known.street, key, stored)?;
+    let keys = key_faults(shelf, code, &mut known.walked, key, stored)?;
     Ok(least(names, keys))
 }
 
@@ -59,14 +59,14 @@ pub(crate) fn breach<S: Shelf>(
     shelf: &mut S,
     code: Code,
     bases: &[Basis],
-    walked: &mut Walked,
+    known: &mut Known,
     item: &Item,
 ) -> Result<Option<u8>, ShelfFault>
     requires { (S.seen shelf.old).progress ≡ Open code }
-    ensures { Reads (S.seen shelf.old) (S.seen shelf.new) result (λ r. are_reached (S.seen shelf.old).content.board bases.now ≡ true → Knows (S.seen shelf.old).content.working walked.old →
-        Knows (S.seen shelf.old).content.working walked.new × (r ≡ first_broken (end_rules (S.seen shelf.old).content.working (basis_views (S.seen shelf.old).content.board bases.now) (key_of item.now)))) }
+    ensures { Reads (S.seen shelf.old) (S.seen shelf.new) result (λ r. are_reached (S.seen shelf.old).content.board bases.now ≡ true → IsRight (S.seen shelf.old).content.working (basis_views (S.seen shelf.old).content.board bases.now) known.old →
+        IsRight (S.seen shelf.old).content.working (basis_views (S.seen shelf.old).content.board bases.now) known.new × (r ≡ first_broken (end_rules (S.seen shelf.old).content.working (basis_views (S.seen shelf.old).content.board bases.now) (key_of item.now)))) }
 {
     let key = Key::of(item);
     let stored = shelf.current(code, &key)?;
-    Ok(breach_at(shelf, code, bases, walked, &key, &stored)?)
+    Ok(breach_at(shelf, code, bases, known, &key, &stored)?)
 }

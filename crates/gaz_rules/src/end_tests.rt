@@ -1,6 +1,6 @@
 //! What one key's end rules cost, over a keeper in memory. Whole files are judged in `tests`.
 use crate::end_rules::breach;
-use crate::rings::Walked;
+use crate::known::Known;
 use gaz_ids::Code;
 use gaz_records::{Kind, SharedItem, item_of_text};
 use gaz_shelf::{Faulty, MemShelf, Shelf, put_all};
@@ -26,6 +26,10 @@ const PLANNED: Row = (Kind::Lpi, "L1,11,ENG,6,101,,,,,,1,,,,,2001-04-01,");
 const ADDRESS: Row = (Kind::Lpi, "L2,11,ENG,1,101,,,,,,2,,,,,2001-04-01,");
 
 const SECOND: Row = (Kind::Lpi, "L3,11,ENG,1,101,,,,,,3,,,,,2001-04-01,");
+
+const NEXT: Row = (Kind::Lpi, "L4,12,ENG,1,101,,,,,,4,,,,,2001-04-01,");
+
+const WELSH: Row = (Kind::Lpi, "L5,12,CYM,1,101,,,,,,4,,,,,2001-04-01,");
 
 /// What stands in the view, the row whose key is asked for, how often an item is looked up, and the least rule broken.
 type Case = (&'static [Row], Row, u64, Option<u8>);
@@ -68,7 +72,7 @@ fn asked(alloc: Global, rows: &[Row], row: Row) -> Result<(u64, Option<u8>), Fai
     shelf.begin(code)?;
     put_all(&mut shelf, items(alloc, rows)?)?;
     let item = item_of_text(alloc, row.0, row.1.as_bytes())?;
-    let rule = breach(&mut shelf, code, &[], &mut Walked::new(alloc), &item)?;
+    let rule = breach(&mut shelf, code, &[], &mut Known::new(alloc), &item)?;
     Ok((shelf.counted().current, rule))
 }
 
@@ -82,5 +86,27 @@ fn each_key_is_asked_with_few_look_ups(rt: HostRuntime) -> Result<(), Fail> {
             row.1
         );
     }
+    Ok(())
+}
+
+/// How often an item is looked up for two rows that are asked one after the other, and the least rule that the second breaks.
+fn asked_in_turn(alloc: Global, first: Row, second: Row) -> Result<(u64, Option<u8>), Fail> {
+    let code = Code::of(1001).ok_or("a code")?;
+    let mut shelf = Faulty::new(MemShelf::new(alloc), 0);
+    shelf.begin(code)?;
+    let rows = [STREET, NAME, BLOCK, FLAT, first, second];
+    put_all(&mut shelf, items(alloc, &rows)?)?;
+    let mut known = Known::new(alloc);
+    let first = item_of_text(alloc, first.0, first.1.as_bytes())?;
+    breach(&mut shelf, code, &[], &mut known, &first)?;
+    let second = item_of_text(alloc, second.0, second.1.as_bytes())?;
+    let rule = breach(&mut shelf, code, &[], &mut known, &second)?;
+    Ok((shelf.counted().current, rule))
+}
+
+#[test]
+fn a_street_is_asked_for_once_in_a_language(rt: HostRuntime) -> Result<(), Fail> {
+    assert_eq!(rt; asked_in_turn(rt.alloc(), ADDRESS, NEXT)?, (6, None));
+    assert_eq!(rt; asked_in_turn(rt.alloc(), ADDRESS, WELSH)?, (8, Some(34)));
     Ok(())
 }

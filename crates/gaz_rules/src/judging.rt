@@ -12,7 +12,7 @@ ghost use Rattle.gaz_rules.specs.Judging.{end_faults, record_faults};
 ghost use Rattle.gaz_rules.specs.Phases.{Ends, Finds, GivesUp, IsFirst, Works, conclusion, faults_in};
 ghost use Rattle.gaz_rules.specs.Rules.{effect};
 
-use crate::rings::Walked;
+use crate::known::Known;
 use crate::{end_rules, record_rules};
 use gaz_changefile::{Action, Basis, Change, ChangeFile};
 use gaz_ids::Code;
@@ -80,10 +80,10 @@ fn end_phase<S: Shelf>(
     requires { (S.seen shelf.old).progress ≡ Open code }
     ensures { Reads (S.seen shelf.old) (S.seen shelf.new) result (λ r. are_reached (S.seen shelf.old).content.board bases.now ≡ true → IsFirst (end_faults (S.seen shelf.old).content.working (basis_views (S.seen shelf.old).content.board bases.now) changes.now) r) }
 {
-    let mut walked = Walked::new(alloc);
+    let mut known = Known::new(alloc);
     for change in changes {
         let place = change.place;
-        if let Some(rule) = end_rules::breach(shelf, code, bases, &mut walked, &change.item)? {
+        if let Some(rule) = end_rules::breach(shelf, code, bases, &mut known, &change.item)? {
             return Ok(Some(Fault { place, rule }));
         }
     }

@@ -8,6 +8,8 @@ mod end_tests;
 mod fault_tests;
 mod judging;
 mod key_faults;
+mod known;
+mod last_street;
 pub mod laws;
 mod name_faults;
 mod record_rules;

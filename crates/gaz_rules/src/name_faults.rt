@@ -10,9 +10,10 @@ ghost use Rattle.gaz_shelf.specs.Keeper.{Open, Reads};
 ghost use Rattle.gaz_rules.specs.Bases.{are_reached, basis_views};
 ghost use Rattle.gaz_rules.specs.Breaches.{blpu_fault, blpu_state, name_faults};
 ghost use Rattle.gaz_rules.specs.EndRules.{same_key};
+ghost use Rattle.gaz_rules.specs.Knowing.{Recalls};
 
+use crate::last_street::{LastStreet, faults_on};
 use crate::stored::item_in;
-use crate::streets::street_faults;
 use gaz_changefile::Basis;
 use gaz_ids::{Code, Status, Uprn};
 use gaz_records::{Item, Key, Lpi, SharedItem};
@@ -95,18 +96,19 @@ fn lpi_faults<S: Shelf>(
     shelf: &mut S,
     code: Code,
     bases: &[Basis],
+    last: &mut LastStreet,
     key: &Key,
     lpi: &Lpi,
 ) -> Result<NameFaults, ShelfFault>
     requires { (S.seen shelf.old).progress ≡ Open code }
-    ensures { Reads (S.seen shelf.old) (S.seen shelf.new) result (λ f. map.get (S.seen shelf.old).content.working.items key.now ≡ Some (item.Lpi lpi.now) → are_reached (S.seen shelf.old).content.board bases.now ≡ true → f ≡ name_faults (S.seen shelf.old).content.working (basis_views (S.seen shelf.old).content.board bases.now) key.now) }
+    ensures { Reads (S.seen shelf.old) (S.seen shelf.new) result (λ f. map.get (S.seen shelf.old).content.working.items key.now ≡ Some (item.Lpi lpi.now) → are_reached (S.seen shelf.old).content.board bases.now ≡ true → Recalls (S.seen shelf.old).content.working (basis_views (S.seen shelf.old).content.board bases.now) last.old → Recalls (S.seen shelf.old).content.working (basis_views (S.seen shelf.old).content.board bases.now) last.new × (f ≡ name_faults (S.seen shelf.old).content.working (basis_views (S.seen shelf.old).content.board bases.now) key.now)) }
 {
     let blpu = blpu_state(shelf, code, lpi.uprn)?;
     let Status::Approved = lpi.status else {
         return Ok(NameFaults::of_blpu(!blpu.is_there));
     };
     let is_second = has_other(shelf, code, key, lpi.uprn)?;
-    let street = street_faults(shelf, code, bases, lpi.usrn, lpi.lang)?;
+    let street = faults_on(shelf, code, bases, last, lpi.usrn, lpi.lang)?;
     Ok(NameFaults {
         is_second,
         lacks_blpu: !blpu.is_there,
@@ -131,14 +133,15 @@ pub(crate) fn name_faults<S: Shelf>(
     shelf: &mut S,
     code: Code,
     bases: &[Basis],
+    last: &mut LastStreet,
     key: &Key,
     stored: &Option<SharedItem>,
 ) -> Result<NameFaults, ShelfFault>
     requires { (S.seen shelf.old).progress ≡ Open code }
-    ensures { Reads (S.seen shelf.old) (S.seen shelf.new) result (λ f. stored.now ≡ map.get (S.seen shelf.old).content.working.items key.now → are_reached (S.seen shelf.old).content.board bases.now ≡ true → f ≡ name_faults (S.seen shelf.old).content.working (basis_views (S.seen shelf.old).content.board bases.now) key.now) }
+    ensures { Reads (S.seen shelf.old) (S.seen shelf.new) result (λ f. stored.now ≡ map.get (S.seen shelf.old).content.working.items key.now → are_reached (S.seen shelf.old).content.board bases.now ≡ true → Recalls (S.seen shelf.old).content.working (basis_views (S.seen shelf.old).content.board bases.now) last.old → Recalls (S.seen shelf.old).content.working (basis_views (S.seen shelf.old).content.board bases.now) last.new × (f ≡ name_faults (S.seen shelf.old).content.working (basis_views (S.seen shelf.old).content.board bases.now) key.now)) }
 {
     match item_in(stored) {
-        Some(Item::Lpi(lpi)) => Ok(lpi_faults(shelf, code, bases, key, lpi)?),
+        Some(Item::Lpi(lpi)) => Ok(lpi_faults(shelf, code, bases, last, key, lpi)?),
         Some(Item::Xref(xref)) => Ok(xref_faults(shelf, code, xref.uprn)?),
         _ => Ok(NameFaults::of_blpu(false)),
     }

@@ -7,6 +7,7 @@ use Rattle.gaz_shelf.specs.Words.{approved_of}
 use Rattle.gaz_rules.specs.Bases.{are_reached, basis_views}
 use Rattle.gaz_rules.specs.Breaches.{blpu_state}
 use Rattle.gaz_rules.specs.EndRules.{same_key}
+use Rattle.gaz_rules.specs.Knowing.{Recalls}
 use Rattle.gaz_rules.specs.Streets.{street_faults}
 use Rattle.gaz_rules.specs.declared.name_faults.BlpuState.{BlpuState}
 use Rattle.gaz_rules.proofs.Breaching.{approved_breaks}
@@ -22,11 +23,14 @@ returns g c =
     let street = c.in_ok-street.street in
     reads_both {T = BlpuState × Bool} _ _ _ (blpu, second) street _
     (λ p. (p.0 ≡ blpu_state was.content.working lpi.uprn) × (p.1 ≡ list_any (λ m. not (same_key m c.args.key.now)) (approved_of was.content.working lpi.uprn)))
-    (λ k f. are_reached k.board c.args.bases.now ≡ true → f ≡ street_faults k.working (basis_views k.board c.args.bases.now) lpi.usrn lpi.lang) _
+    (λ k f. are_reached k.board c.args.bases.now ≡ true → Recalls k.working (basis_views k.board c.args.bases.now) c.args.last.now → Recalls k.working (basis_views k.board c.args.bases.now) c.faults_on.new.last × (f ≡ street_faults k.working (basis_views k.board c.args.bases.now) lpi.usrn lpi.lang)) _
     (reads_both {V = BlpuState × Bool} _ _ _ blpu second (blpu, second) (λ b. b ≡ blpu_state was.content.working lpi.uprn)
     (λ k s. s ≡ list_any (λ m. not (same_key m c.args.key.now)) (approved_of k.working lpi.uprn)) _
     c.in_ok-blpu.ensures c.in_ok-is_second.ensures (λ a b. (a, b)))
     c.in_ok-street.ensures
-    (λ told streets here reached.
-    approved_breaks was.content.working (basis_views was.content.board c.args.bases.now) c.args.key.now _ second blpu street
-    (here ∙ ap (λ l. Some (item.Lpi l)) (sym c.lpi.view_is)) c.in-Approved.is told.1 told.0 (streets reached))
+    (λ told streets here reached right.
+    let did = streets reached right in (
+      did.0,
+      approved_breaks was.content.working (basis_views was.content.board c.args.bases.now) c.args.key.now _ second blpu street
+          (here ∙ ap (λ l. Some (item.Lpi l)) (sym c.lpi.view_is)) c.in-Approved.is told.1 told.0 did.1,
+    ))

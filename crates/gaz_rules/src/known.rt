@@ -1,0 +1,27 @@
+//! What is known already while the end rules are asked.
+ghost use Rattle.std.specs.Prelude.{ℕ, List};
+ghost use Rattle.gaz_shelf.specs.View.{View};
+ghost use Rattle.gaz_rules.specs.Knowing.{IsRight};
+
+use crate::last_street::LastStreet;
+use crate::rings::Walked;
+use std::alloc::Global;
+
+/// What was found so far in one view and its basis views.
+#[derive(Drop)]
+pub(crate) struct Known {
+    pub(crate) walked: Walked,
+    pub(crate) street: LastStreet,
+}
+
+impl Known {
+    /// Nothing so far, which is right of any views.
+    pub(crate) fn new(alloc: Global) -> Known
+        ensures { (v : View) (out : List (ℕ × View)) → IsRight v out result }
+    {
+        Known {
+            walked: Walked::new(alloc),
+            street: LastStreet::new(),
+        }
+    }
+}

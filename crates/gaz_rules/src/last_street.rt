@@ -1,0 +1,76 @@
+//! The street that an approved LPI named last. Over a whole file most LPIs name the same one.
+ghost use Rattle.std.specs.Prelude.{◌≡◌, ℕ, true, IfSome, List};
+ghost use Rattle.gaz_shelf.specs.View.{View};
+ghost use Rattle.gaz_shelf.specs.Keeper.{Open, Reads};
+ghost use Rattle.gaz_rules.specs.Bases.{are_reached, basis_views};
+ghost use Rattle.gaz_rules.specs.Knowing.{Recalls};
+ghost use Rattle.gaz_rules.specs.Streets.{street_faults};
+
+use crate::streets::{StreetFaults, street_faults};
+use gaz_changefile::Basis;
+use gaz_ids::{Code, Lang, Usrn};
+use gaz_shelf::{Shelf, ShelfFault};
+
+/// What an approved LPI breaks that names this street in this language.
+#[derive(Clone, Copy)]
+struct Answer {
+    usrn: Usrn,
+    lang: Lang,
+    faults: StreetFaults,
+}
+
+/// The last answer about a street in one view and its basis views.
+#[derive(Clone, Copy)]
+pub(crate) struct LastStreet {
+    answer: Option<Answer>,
+}
+
+impl LastStreet {
+    /// None so far, which is right of any views.
+    pub(crate) fn new() -> LastStreet
+        ensures recalls { (v : View) (out : List (ℕ × View)) → Recalls v out result }
+    {
+        LastStreet { answer: None }
+    }
+
+    /// The answer, where it is about this street in this language.
+    fn about(&self, usrn: Usrn, lang: Lang) -> Option<StreetFaults>
+        ensures { (v : View) (out : List (ℕ × View)) → Recalls v out self.now → IfSome result (λ f. f ≡ street_faults v out usrn lang) }
+    {
+        let Some(answer) = self.answer else {
+            return None;
+        };
+        if answer.usrn == usrn && answer.lang == lang {
+            return Some(answer.faults);
+        }
+        None
+    }
+
+    /// An answer about this street in this language is the last.
+    fn set(&mut self, usrn: Usrn, lang: Lang, faults: StreetFaults)
+        ensures { (v : View) (out : List (ℕ × View)) → faults ≡ street_faults v out usrn lang → Recalls v out self.new }
+    {
+        self.answer = Some(Answer { usrn, lang, faults });
+    }
+}
+
+/// What an approved LPI breaks that names this street in this language. The keeper is asked only where the last answer is about another.
+pub(crate) fn faults_on<S: Shelf>(
+    shelf: &mut S,
+    code: Code,
+    bases: &[Basis],
+    last: &mut LastStreet,
+    usrn: Usrn,
+    lang: Lang,
+) -> Result<StreetFaults, ShelfFault>
+    requires { (S.seen shelf.old).progress ≡ Open code }
+    ensures { Reads (S.seen shelf.old) (S.seen shelf.new) result (λ f. are_reached (S.seen shelf.old).content.board bases.now ≡ true → Recalls (S.seen shelf.old).content.working (basis_views (S.seen shelf.old).content.board bases.now) last.old →
+        Recalls (S.seen shelf.old).content.working (basis_views (S.seen shelf.old).content.board bases.now) last.new × (f ≡ street_faults (S.seen shelf.old).content.working (basis_views (S.seen shelf.old).content.board bases.now) usrn lang)) }
+{
+    if let Some(faults) = last.about(usrn, lang) {
+        return Ok(faults);
+    }
+    let faults = street_faults(shelf, code, bases, usrn, lang)?;
+    last.set(usrn, lang, faults);
+    Ok(faults)
+}
