@@ -1,5 +1,5 @@
 -- Where a view's items are found beside their keys.
-use Rattle.std.specs.Prelude.{◌≡◌, ℕ, Bool, true, false, List, [], Some}
+use Rattle.std.specs.Prelude.{◌≡◌, ℕ, Bool, true, false, List, [], ◌∷◌, Some}
 use Rattle.std.specs.BTreeMap.{is_at}
 use Rattle.std.specs.FinMap.{find}
 use Rattle.std.specs.List.{list_any}
@@ -15,6 +15,8 @@ use Rattle.gaz_shelf.specs.Words.{is_approved_of, is_approved_on, is_child_of}
 use Rattle.gaz_shelf.specs.declared.index.Index.{Index}
 use Rattle.gaz_shelf.specs.declared.index.Mark.{Mark}
 use Rattle.gaz_shelf.specs.declared.index.Mark.TheVariants.{AddressOf, AddressOn, PartOf}
+use Rattle.gaz_shelf.specs.declared.keys.Keys.{Keys}
+use Rattle.gaz_shelf.specs.declared.keys.Keys.TheVariants.{One, Many}
 
 -- whether an item has a mark
 abbrev pub has_mark : Mark → Item → Bool
@@ -45,11 +47,19 @@ mark_cmp a b = ordering_then (nat_cmp (rank a) (rank b)) (ordering_then (nat_cmp
 
 -- ---- what is under a mark
 
+-- keys in their order
+abbrev pub listed : Keys → List Key
+listed (One k) = k ∷ []
+listed (Many s) = s.keys
+
 abbrev pub keys_under : Index → Mark → List Key
-keys_under x m = option_map_or (λ s. s.keys) (lookup (is_at (mark_cmp m)) x.by_mark.entries) []
+keys_under x m = option_map_or listed (lookup (is_at (mark_cmp m)) x.by_mark.entries) []
+
+abbrev pub has_key : List Key → Key → Bool
+has_key ks k = list_any (eq_by_cmp key_cmp k) ks
 
 abbrev pub is_under : Index → Mark → Key → Bool
-is_under x m k = list_any (eq_by_cmp key_cmp k) (keys_under x m)
+is_under x m k = has_key (keys_under x m) k
 
 -- each item that has a mark is found under it; what else is there is passed over
 abbrev pub FindsAll : Index → List (Key × Item) → Type 0
