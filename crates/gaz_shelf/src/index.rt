@@ -25,11 +25,16 @@ use std::collections::BTreeMap;
 pub enum Mark {
     /// An approved LPI of this BLPU.
     AddressOf(Uprn),
-    /// An approved LPI on this street, in this language.
-    AddressOn(Usrn, Lang),
+    /// An approved LPI on this street, in Welsh.
+    WelshOn(Usrn),
+    /// An approved LPI on this street, in English.
+    EnglishOn(Usrn),
     /// A BLPU that is a part of this one.
     PartOf(Uprn),
 }
+
+// A search in the index goes by many marks, so each is small.
+const _: () = prove!(size_of::<Mark>() == 16);
 
 impl Mark {
     /// Whether an item has the mark.
@@ -38,7 +43,8 @@ impl Mark {
     {
         match self {
             Mark::AddressOf(uprn) => is_approved_of(*uprn, item),
-            Mark::AddressOn(usrn, lang) => is_approved_on(*usrn, Some(*lang), item),
+            Mark::WelshOn(usrn) => is_approved_on(*usrn, Some(Lang::Cym), item),
+            Mark::EnglishOn(usrn) => is_approved_on(*usrn, Some(Lang::Eng), item),
             Mark::PartOf(uprn) => is_child_of(*uprn, item),
         }
     }
@@ -49,10 +55,14 @@ pub fn marks_of(item: &Item) -> (Option<Mark>, Option<Mark>)
     ensures { (m : Mark) → has_mark m item.now ≡ true → (result.0 ≡ Some m) ⊎ (result.1 ≡ Some m) }
 {
     match item {
-        Item::Lpi(lpi) => match lpi.status {
-            Status::Approved => (
+        Item::Lpi(lpi) => match (lpi.status, lpi.lang) {
+            (Status::Approved, Lang::Cym) => (
                 Some(Mark::AddressOf(lpi.uprn)),
-                Some(Mark::AddressOn(lpi.usrn, lpi.lang)),
+                Some(Mark::WelshOn(lpi.usrn)),
+            ),
+            (Status::Approved, Lang::Eng) => (
+                Some(Mark::AddressOf(lpi.uprn)),
+                Some(Mark::EnglishOn(lpi.usrn)),
             ),
             _ => (None, None),
         },

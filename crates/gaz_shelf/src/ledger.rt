@@ -148,10 +148,11 @@ impl Ledger {
         ensures { result ≡ approved_on (view_in self.now volume) usrn lang }
     {
         match lang {
-            Some(lang) => self.has_any(volume, Mark::AddressOn(usrn, lang)),
+            Some(Lang::Cym) => self.has_any(volume, Mark::WelshOn(usrn)),
+            Some(Lang::Eng) => self.has_any(volume, Mark::EnglishOn(usrn)),
             None => {
-                let welsh = self.has_any(volume, Mark::AddressOn(usrn, Lang::Cym));
-                welsh || self.has_any(volume, Mark::AddressOn(usrn, Lang::Eng))
+                let welsh = self.has_any(volume, Mark::WelshOn(usrn));
+                welsh || self.has_any(volume, Mark::EnglishOn(usrn))
             }
         }
     }
