@@ -1,61 +1,62 @@
--- Keys under marks, in a tree map of tree sets in which the set of one mark changes.
-use Rattle.std.proofs.Common.{◌≡◌, ◌&&◌, ◌||◌, Bool, true, false, not, cond, List, [], refl, sym, ap, ◌∙◌, Bor}
-use Rattle.std.specs.Prelude.{Option, Some, None, Result, Ok, Err, OnOk, OnErr}
+-- Keys under marks, in a tree map in which the keys of one mark change.
+use Rattle.std.proofs.Common.{◌≡◌, ◌&&◌, ◌||◌, Bool, true, false, not, cond, List, [], ◌∷◌, refl, sym, ap, ◌∙◌, Bor}
+use Rattle.std.specs.Prelude.{Option, Some, None, Result, Ok, Err, OnOk, OnErr, unwrap_or}
 use Rattle.std.specs.Cmp.{tied_itself}
 use Rattle.std.specs.declared.alloc.AllocError.{AllocError}
 use Rattle.std.proofs.Math.Path.{fun_ext}
 use Rattle.std.specs.BTreeMap.{is_at}
-use Rattle.std.specs.BTreeSet.{BTreeSet}
 use Rattle.std.specs.List.{list_any}
 use Rattle.std.specs.Map.{lookup}
 use Rattle.std.specs.Option.{option_copied, option_map_or}
 use Rattle.std.specs.Ordering.{eq_by_cmp, is_eq}
 use Rattle.std.specs.declared.cmp.Ordering.{Ordering}
 use Rattle.std.specs.declared.cmp.Ordering.TheVariants.{Less, Equal, Greater}
-use Rattle.gaz_records.proofs.KeyOrder.{keys_same, keys_total}
+use Rattle.gaz_records.proofs.KeyOrder.{keys_total}
 use Rattle.gaz_records.specs.Keys.{key_cmp}
-use Rattle.gaz_records.specs.contracts.key.KeyOrd.TheImpl.{cmp-value as key-value}
 use Rattle.gaz_records.specs.declared.key.Key.{Key}
 use Rattle.gaz_shelf.proofs.Marks.{marks_exact, marks_same, marks_total}
-use Rattle.gaz_shelf.proofs.Trees.{any-is}
-use Rattle.gaz_shelf.specs.Indexes.{is_under, mark_cmp}
+use Rattle.gaz_shelf.proofs.KeySets.{besides, kept_keys, not_besides}
+use Rattle.gaz_shelf.specs.Indexes.{has_key, is_under, listed, mark_cmp}
 use Rattle.gaz_shelf.specs.declared.index.Index.{Index}
 use Rattle.gaz_shelf.specs.contracts.index.MarkOrd.TheImpl.{cmp-value as mark-value}
 use Rattle.gaz_shelf.specs.declared.index.Mark.{Mark}
+use Rattle.gaz_shelf.specs.declared.keys.Keys.{Keys}
 
 abbrev Sets : Type 0
-Sets = List (Mark × BTreeSet Key)
+Sets = List (Mark × Keys)
 
-abbrev found : Sets → Mark → Option (BTreeSet Key)
+abbrev found : Sets → Mark → Option Keys
 found es m = lookup (is_at (mark-value.it m)) es
 
 abbrev pub keys_in : Sets → Mark → List Key
-keys_in es m = option_map_or (λ s. s.keys) (lookup (is_at (mark_cmp m)) es) []
+keys_in es m = option_map_or listed (lookup (is_at (mark_cmp m)) es) []
 
 abbrev pub under : Sets → Mark → Key → Bool
-under es m k = list_any (eq_by_cmp key_cmp k) (keys_in es m)
-
-abbrev is_in : List Key → Key → Bool
-is_in ks k = list_any (is_at (key-value.it k)) ks
+under es m k = has_key (keys_in es m) k
 
 -- by the derived order or by that of the definitions
-pub found_in : (es : Sets) (m : Mark) → option_map_or (λ s. s.keys) (found es m) [] ≡ keys_in es m
-found_in es m = ap (λ (f : Mark → Ordering). option_map_or (λ s. s.keys) (lookup (is_at f) es) []) (fun_ext (λ q. marks_same m q))
+pub found_in : (es : Sets) (m : Mark) → kept_keys (found es m) ≡ keys_in es m
+found_in es m = ap (λ (f : Mark → Ordering). option_map_or listed (lookup (is_at f) es) []) (fun_ext (λ q. marks_same m q))
 
-in_order : (ks : List Key) (k : Key) → list_any (eq_by_cmp key_cmp k) ks ≡ is_in ks k
-in_order ks k = any-is keys_same ks k
+-- what is kept at one mark is another
+abbrev pub Changes : Sets → Sets → Mark → Option Keys → Type 0
+Changes es fs m o = (q : Mark) → found fs q ≡ cond (is_at (mark-value.it m) q) o (found es q)
 
-abbrev Changes : Sets → Sets → Mark → BTreeSet Key → Type 0
-Changes es fs m s = (q : Mark) → found fs q ≡ cond (is_at (mark-value.it m) q) (Some s) (found es q)
+-- first it changes, and then it goes
+pub goes : (es mid fs : Sets) (m : Mark) (s : Keys) → Changes es mid m (Some s) → Changes mid fs m None → Changes es fs m None
+goes es mid fs m s first second q = second q ∙ ap (cond (is_at (mark-value.it m) q) None) (first q) ∙ twice (is_at (mark-value.it m) q)
+  where
+    twice : (b : Bool) → cond b None (cond b (Some s) (found es q)) ≡ cond b None (found es q)
+    twice true = refl
+    twice false = refl
 
-keys_of_cond : (b : Bool) (s : BTreeSet Key) (o : Option (BTreeSet Key)) → option_map_or (λ s. s.keys) (cond b (Some s) o) [] ≡ cond b s.keys (option_map_or (λ s. s.keys) o [])
-keys_of_cond true s o = refl
-keys_of_cond false s o = refl
+kept_cond : (b : Bool) (o p : Option Keys) → kept_keys (cond b o p) ≡ cond b (kept_keys o) (kept_keys p)
+kept_cond true o p = refl
+kept_cond false o p = refl
 
-changed : (es fs : Sets) (m : Mark) (s : BTreeSet Key) → Changes es fs m s → (q : Mark) → keys_in fs q ≡ cond (eq_by_cmp mark_cmp m q) s.keys (keys_in es q)
-changed es fs m s h q =
-    sym (found_in fs q) ∙ ap (λ (o : Option (BTreeSet Key)). option_map_or (λ s. s.keys) o []) (h q) ∙ keys_of_cond (is_at (mark-value.it m) q) s (found es q)
-    ∙ (λ i. cond (is_eq (marks_same m q i)) s.keys (found_in es q i))
+changed : (es fs : Sets) (m : Mark) (o : Option Keys) → Changes es fs m o → (q : Mark) → keys_in fs q ≡ cond (eq_by_cmp mark_cmp m q) (kept_keys o) (keys_in es q)
+changed es fs m o h q =
+    sym (found_in fs q) ∙ ap kept_keys (h q) ∙ kept_cond (is_at (mark-value.it m) q) o (found es q) ∙ (λ i. cond (is_eq (marks_same m q i)) (kept_keys o) (found_in es q i))
 
 is_equal : (o : Ordering) → is_eq o ≡ true → o ≡ Equal
 is_equal Less e = cc
@@ -65,43 +66,52 @@ is_equal Greater e = cc
 pub same_mark : (m q : Mark) → eq_by_cmp mark_cmp m q ≡ true → m ≡ q
 same_mark m q e = marks_exact m q (is_equal _ e)
 
-or_cond : (a b : Bool) → cond a true b ≡ (a || b)
-or_cond true b = refl
-or_cond false b = refl
-
-and_cond : (a b : Bool) → cond a false b ≡ (not a && b)
-and_cond true b = refl
-and_cond false b = refl
-
 -- one more key under a mark
-pub one_more : (es fs : Sets) (m : Mark) (s : BTreeSet Key) (key : Key) → Changes es fs m s → ((k : Key) → is_in s.keys k ≡ cond (is_at (key-value.it key) k) true (is_in (keys_in es m) k))
+pub one_more : (es fs : Sets) (m : Mark) (o : Option Keys) (key : Key) → Changes es fs m o → ((k : Key) → has_key (kept_keys o) k ≡ (eq_by_cmp key_cmp key k || under es m k))
     → (q : Mark) (k : Key) → under fs q k ≡ ((eq_by_cmp mark_cmp m q && eq_by_cmp key_cmp key k) || under es q k)
-one_more es fs m s key h more q k = ap (list_any (eq_by_cmp key_cmp k)) (changed es fs m s h q) ∙ at_mark (eq_by_cmp mark_cmp m q) refl
+one_more es fs m o key h more q k = ap (λ (ks : List Key). has_key ks k) (changed es fs m o h q) ∙ at_mark (eq_by_cmp mark_cmp m q) refl
   where
-    at_mark : (b : Bool) → eq_by_cmp mark_cmp m q ≡ b → list_any (eq_by_cmp key_cmp k) (cond b s.keys (keys_in es q)) ≡ ((b && eq_by_cmp key_cmp key k) || under es q k)
-    at_mark true is =
-        in_order s.keys k ∙ more k ∙ (λ i. cond (is_eq (keys_same key k i)) true (sym (in_order (keys_in es m) k) i)) ∙ or_cond (eq_by_cmp key_cmp key k) (under es m k)
-        ∙ ap (λ (p : Mark). eq_by_cmp key_cmp key k || under es p k) (same_mark m q is)
+    at_mark : (b : Bool) → eq_by_cmp mark_cmp m q ≡ b → has_key (cond b (kept_keys o) (keys_in es q)) k ≡ ((b && eq_by_cmp key_cmp key k) || under es q k)
+    at_mark true is = more k ∙ ap (λ (p : Mark). eq_by_cmp key_cmp key k || under es p k) (same_mark m q is)
     at_mark false is = refl
 
 -- one key less
-pub one_less : (es fs : Sets) (m : Mark) (s : BTreeSet Key) (key : Key) → Changes es fs m s → ((k : Key) → is_in s.keys k ≡ cond (is_at (key-value.it key) k) false (is_in (keys_in es m) k))
+pub one_less : (es fs : Sets) (m : Mark) (o : Option Keys) (key : Key) → Changes es fs m o → ((k : Key) → has_key (kept_keys o) k ≡ (not (eq_by_cmp key_cmp key k) && under es m k))
     → (q : Mark) (k : Key) → under fs q k ≡ (not (eq_by_cmp mark_cmp m q && eq_by_cmp key_cmp key k) && under es q k)
-one_less es fs m s key h less q k = ap (list_any (eq_by_cmp key_cmp k)) (changed es fs m s h q) ∙ at_mark (eq_by_cmp mark_cmp m q) refl
+one_less es fs m o key h less q k = ap (λ (ks : List Key). has_key ks k) (changed es fs m o h q) ∙ at_mark (eq_by_cmp mark_cmp m q) refl
   where
-    at_mark : (b : Bool) → eq_by_cmp mark_cmp m q ≡ b → list_any (eq_by_cmp key_cmp k) (cond b s.keys (keys_in es q)) ≡ (not (b && eq_by_cmp key_cmp key k) && under es q k)
-    at_mark true is =
-        in_order s.keys k ∙ less k ∙ (λ i. cond (is_eq (keys_same key k i)) false (sym (in_order (keys_in es m) k) i)) ∙ and_cond (eq_by_cmp key_cmp key k) (under es m k)
-        ∙ ap (λ (p : Mark). not (eq_by_cmp key_cmp key k) && under es p k) (same_mark m q is)
+    at_mark : (b : Bool) → eq_by_cmp mark_cmp m q ≡ b → has_key (cond b (kept_keys o) (keys_in es q)) k ≡ (not (b && eq_by_cmp key_cmp key k) && under es q k)
+    at_mark true is = less k ∙ ap (λ (p : Mark). not (eq_by_cmp key_cmp key k) && under es p k) (same_mark m q is)
     at_mark false is = refl
 
 -- the same keys
-pub none_more : (es fs : Sets) (m : Mark) (s : BTreeSet Key) → Changes es fs m s → s.keys ≡ keys_in es m → (q : Mark) (k : Key) → under fs q k ≡ under es q k
-none_more es fs m s h same q k = ap (list_any (eq_by_cmp key_cmp k)) (changed es fs m s h q ∙ at_mark (eq_by_cmp mark_cmp m q) refl)
+pub none_more : (es fs : Sets) (m : Mark) (o : Option Keys) → Changes es fs m o → kept_keys o ≡ keys_in es m → (q : Mark) (k : Key) → under fs q k ≡ under es q k
+none_more es fs m o h same q k = ap (λ (ks : List Key). has_key ks k) (changed es fs m o h q ∙ at_mark (eq_by_cmp mark_cmp m q) refl)
   where
-    at_mark : (b : Bool) → eq_by_cmp mark_cmp m q ≡ b → cond b s.keys (keys_in es q) ≡ keys_in es q
+    at_mark : (b : Bool) → eq_by_cmp mark_cmp m q ≡ b → cond b (kept_keys o) (keys_in es q) ≡ keys_in es q
     at_mark true is = same ∙ ap (keys_in es) (same_mark m q is)
     at_mark false is = refl
+
+-- ---- a key added to what is kept at its mark, or where nothing is, to itself alone
+
+module _ (es : Sets) (mark : Mark) (o : Option Keys) (was alone now : Keys) (key : Key) (there : o ≡ found es mark) (begun : was ≡ unwrap_or o alone) (itself : listed alone ≡ key ∷ []) where
+  pub more_there : ((k : Key) → has_key (listed now) k ≡ (eq_by_cmp key_cmp key k || has_key (listed was) k)) → (k : Key) → has_key (listed now) k ≡ (eq_by_cmp key_cmp key k || under es mark k)
+  more_there more k =
+      more k ∙ ap (λ (ks : Keys). eq_by_cmp key_cmp key k || has_key (listed ks) k) begun ∙ besides o alone key itself k
+      ∙ ap (λ (ks : List Key). eq_by_cmp key_cmp key k || has_key ks k) (ap kept_keys there ∙ found_in es mark)
+
+  pub same_there : has_key (listed was) key ≡ false → listed now ≡ listed was → listed now ≡ keys_in es mark
+  same_there none same =
+      same ∙ ap listed begun ∙ not_besides o alone key itself (ap (λ (ks : Keys). has_key (listed ks) key) (sym begun) ∙ none) ∙ ap kept_keys there ∙ found_in es mark
+
+pub in_end : (es fs : Sets) → es ≡ fs → (q : Mark) (k : Key) → under fs q k ≡ under es q k
+in_end es fs is q k = ap (λ (xs : Sets). under xs q k) (sym is)
+
+pub on_errs : {T E P Q R : Type 0} (r : Result T E) → (P → Q → R) → OnErr r P → OnErr r Q → OnErr r R
+on_errs (Ok x) f h g = tt
+on_errs (Err e) f h g = f h g
+
+-- ---- a key taken
 
 nothing_there : (b c : Bool) → c ≡ false → c ≡ (not b && c)
 nothing_there true c e = e
@@ -115,7 +125,7 @@ none_less es m key none q k = at_mark (eq_by_cmp mark_cmp m q) refl
     at_mark true is = nothing_there (eq_by_cmp key_cmp key k) (under es q k) (ap (list_any (eq_by_cmp key_cmp k)) (ap (keys_in es) (sym (same_mark m q is)) ∙ none))
     at_mark false is = refl
 
-pub copied : (o : Option (Bor (BTreeSet Key))) → option_map_or (λ s. s.now.keys) o [] ≡ option_map_or (λ s. s.keys) (option_copied o) []
+pub copied : (o : Option (Bor Keys)) → option_map_or (λ s. listed s.now) o [] ≡ option_map_or listed (option_copied o) []
 copied None = refl
 copied (Some s) = refl
 

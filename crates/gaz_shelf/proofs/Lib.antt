@@ -9,6 +9,7 @@ pub mod Stored
 pub mod Judgements
 pub mod Boards
 pub mod Marks
+pub mod KeySets
 pub mod Indexes
 pub mod Marked
 pub mod Ranges

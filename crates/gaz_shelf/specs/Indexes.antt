@@ -1,5 +1,5 @@
 -- Where a view's items are found beside their keys.
-use Rattle.std.specs.Prelude.{◌≡◌, ℕ, Bool, true, false, List, [], Some}
+use Rattle.std.specs.Prelude.{◌≡◌, ℕ, Bool, true, false, List, [], ◌∷◌, Some}
 use Rattle.std.specs.BTreeMap.{is_at}
 use Rattle.std.specs.FinMap.{find}
 use Rattle.std.specs.List.{list_any}
@@ -14,42 +14,49 @@ use Rattle.gaz_records.specs.declared.key.Key.{Key}
 use Rattle.gaz_shelf.specs.Words.{is_approved_of, is_approved_on, is_child_of}
 use Rattle.gaz_shelf.specs.declared.index.Index.{Index}
 use Rattle.gaz_shelf.specs.declared.index.Mark.{Mark}
-use Rattle.gaz_shelf.specs.declared.index.Mark.TheVariants.{AddressOf, AddressOn, PartOf}
+use Rattle.gaz_shelf.specs.declared.index.Mark.TheVariants.{AddressOf, EnglishOn, PartOf, WelshOn}
+use Rattle.gaz_shelf.specs.declared.keys.Keys.{Keys}
+use Rattle.gaz_shelf.specs.declared.keys.Keys.TheVariants.{One, Many}
 
 -- whether an item has a mark
 abbrev pub has_mark : Mark → Item → Bool
 has_mark (AddressOf uprn) i = is_approved_of uprn i
-has_mark (AddressOn usrn lang) i = is_approved_on usrn (Some lang) i
+has_mark (WelshOn usrn) i = is_approved_on usrn (Some Cym) i
+has_mark (EnglishOn usrn) i = is_approved_on usrn (Some Eng) i
 has_mark (PartOf uprn) i = is_child_of uprn i
 
--- ---- the order of marks: by what they say, then by number, then CYM before ENG
+-- ---- the order of marks: by what they say, then by number
 
 abbrev pub rank : Mark → ℕ
 rank (AddressOf n) = 0
-rank (AddressOn n l) = 1
-rank (PartOf n) = 2
+rank (WelshOn n) = 1
+rank (EnglishOn n) = 2
+rank (PartOf n) = 3
 
 abbrev pub number_in : Mark → ℕ
 number_in (AddressOf n) = n
-number_in (AddressOn n l) = n
+number_in (WelshOn n) = n
+number_in (EnglishOn n) = n
 number_in (PartOf n) = n
 
-abbrev pub lang_in : Mark → ℕ
-lang_in (AddressOf n) = 0
-lang_in (AddressOn n Cym) = 0
-lang_in (AddressOn n Eng) = 1
-lang_in (PartOf n) = 0
-
 abbrev pub mark_cmp : Mark → Mark → Ordering
-mark_cmp a b = ordering_then (nat_cmp (rank a) (rank b)) (ordering_then (nat_cmp (number_in a) (number_in b)) (nat_cmp (lang_in a) (lang_in b)))
+mark_cmp a b = ordering_then (nat_cmp (rank a) (rank b)) (nat_cmp (number_in a) (number_in b))
 
 -- ---- what is under a mark
 
+-- keys in their order
+abbrev pub listed : Keys → List Key
+listed (One k) = k ∷ []
+listed (Many s) = s.keys
+
 abbrev pub keys_under : Index → Mark → List Key
-keys_under x m = option_map_or (λ s. s.keys) (lookup (is_at (mark_cmp m)) x.by_mark.entries) []
+keys_under x m = option_map_or listed (lookup (is_at (mark_cmp m)) x.by_mark.entries) []
+
+abbrev pub has_key : List Key → Key → Bool
+has_key ks k = list_any (eq_by_cmp key_cmp k) ks
 
 abbrev pub is_under : Index → Mark → Key → Bool
-is_under x m k = list_any (eq_by_cmp key_cmp k) (keys_under x m)
+is_under x m k = has_key (keys_under x m) k
 
 -- each item that has a mark is found under it; what else is there is passed over
 abbrev pub FindsAll : Index → List (Key × Item) → Type 0

@@ -2,34 +2,39 @@
 ghost use Rattle.std.specs.Prelude.{◌≡◌, ◌&&◌, ◌||◌, ◌⊎◌, ◌<◌, ◌^◌, ◌-◌, [], filter, not, true, IfOk, OnOk, OnErr, Some};
 ghost use Rattle.std.specs.Option.{IfSome};
 ghost use Rattle.std.specs.List.{list_any};
-ghost use Rattle.std.specs.List.Sorted.{IsStrictlySortedBy};
 ghost use Rattle.std.specs.Option.{option_map_or};
 ghost use Rattle.std.specs.Ordering.{eq_by_cmp};
 ghost use Rattle.gaz_histories.specs.Histories.{item_at};
 ghost use Rattle.gaz_records.specs.Keys.{key_cmp};
 ghost use Rattle.gaz_records.specs.declared.key.Key.{Key};
 ghost use Rattle.gaz_shelf.specs.Gazetteer.{versions_at, view_at};
-ghost use Rattle.gaz_shelf.specs.Indexes.{has_mark, is_under, keys_under, mark_cmp, marked_at};
+ghost use Rattle.gaz_shelf.specs.Indexes.{has_mark, is_under, keys_under, listed, mark_cmp, marked_at};
 ghost use Rattle.gaz_shelf.specs.Words.{entries};
 ghost use Rattle.gaz_shelf.specs.declared.index.Mark.{Mark};
 
 use crate::histories::Histories;
+use crate::keys::Keys;
 use crate::words::{is_approved_of, is_approved_on, is_child_of};
 use gaz_ids::{Lang, Status, Uprn, Usrn};
 use gaz_records::{Item, Key, SharedItem};
 use std::alloc::{AllocError, Global};
-use std::collections::{BTreeMap, BTreeSet};
+use std::collections::BTreeMap;
 
 /// What items are looked up by beside their keys.
 #[derive(Clone, Copy, Debug, PartialEq, Eq, PartialOrd, Ord)]
 pub enum Mark {
     /// An approved LPI of this BLPU.
     AddressOf(Uprn),
-    /// An approved LPI on this street, in this language.
-    AddressOn(Usrn, Lang),
+    /// An approved LPI on this street, in Welsh.
+    WelshOn(Usrn),
+    /// An approved LPI on this street, in English.
+    EnglishOn(Usrn),
     /// A BLPU that is a part of this one.
     PartOf(Uprn),
 }
+
+// A search in the index goes by many marks, so each is small.
+const _: () = prove!(size_of::<Mark>() == 16);
 
 impl Mark {
     /// Whether an item has the mark.
@@ -38,7 +43,8 @@ impl Mark {
     {
         match self {
             Mark::AddressOf(uprn) => is_approved_of(*uprn, item),
-            Mark::AddressOn(usrn, lang) => is_approved_on(*usrn, Some(*lang), item),
+            Mark::WelshOn(usrn) => is_approved_on(*usrn, Some(Lang::Cym), item),
+            Mark::EnglishOn(usrn) => is_approved_on(*usrn, Some(Lang::Eng), item),
             Mark::PartOf(uprn) => is_child_of(*uprn, item),
         }
     }
@@ -49,10 +55,14 @@ pub fn marks_of(item: &Item) -> (Option<Mark>, Option<Mark>)
     ensures { (m : Mark) → has_mark m item.now ≡ true → (result.0 ≡ Some m) ⊎ (result.1 ≡ Some m) }
 {
     match item {
-        Item::Lpi(lpi) => match lpi.status {
-            Status::Approved => (
+        Item::Lpi(lpi) => match (lpi.status, lpi.lang) {
+            (Status::Approved, Lang::Cym) => (
                 Some(Mark::AddressOf(lpi.uprn)),
-                Some(Mark::AddressOn(lpi.usrn, lpi.lang)),
+                Some(Mark::WelshOn(lpi.usrn)),
+            ),
+            (Status::Approved, Lang::Eng) => (
+                Some(Mark::AddressOf(lpi.uprn)),
+                Some(Mark::EnglishOn(lpi.usrn)),
             ),
             _ => (None, None),
         },
@@ -68,7 +78,7 @@ pub fn marks_of(item: &Item) -> (Option<Mark>, Option<Mark>)
 #[derive(Drop)]
 pub struct Index {
     alloc: Global,
-    by_mark: BTreeMap<Mark, BTreeSet<Key>>,
+    by_mark: BTreeMap<Mark, Keys>,
 }
 
 impl Index {
@@ -83,8 +93,8 @@ impl Index {
     }
 
     /// The keys under a mark, in key order.
-    pub fn get(&self, mark: Mark) -> Option<&BTreeSet<Key>>
-        ensures { option_map_or (λ s. s.now.keys) result [] ≡ keys_under self.now mark }
+    pub fn get(&self, mark: Mark) -> Option<&Keys>
+        ensures { option_map_or (λ s. listed s.now) result [] ≡ keys_under self.now mark }
     {
         self.by_mark.get(&mark)
     }
@@ -94,14 +104,8 @@ impl Index {
         ensures ok { OnOk result ((m : Mark) → (k : Key) → is_under self.new m k ≡ ((eq_by_cmp mark_cmp mark m && eq_by_cmp key_cmp key k) || is_under self.old m k)) }
         ensures err { OnErr result ((m : Mark) → (k : Key) → is_under self.new m k ≡ is_under self.old m k) }
     {
-        if let Some(keys) = self.by_mark.get_mut(&mark) {
-            keys.insert(key)?;
-            return Ok(());
-        }
-        let mut keys = BTreeSet::new(self.alloc);
-        keys.insert(key)?;
-        self.by_mark.insert(mark, keys)?;
-        Ok(())
+        let keys = self.by_mark.entry(mark)?.or_insert(Keys::one(key));
+        keys.insert(self.alloc, key)
     }
 
     // The same, where a mark is given.
@@ -141,8 +145,12 @@ impl Index {
     pub fn remove(&mut self, mark: Mark, key: &Key)
         ensures { (m : Mark) → (k : Key) → is_under self.new m k ≡ (not (eq_by_cmp mark_cmp mark m && eq_by_cmp key_cmp key.now k) && is_under self.old m k) }
     {
-        if let Some(keys) = self.by_mark.get_mut(&mark) {
-            keys.remove(key);
+        let Some(keys) = self.by_mark.get_mut(&mark) else {
+            return;
+        };
+        keys.remove(self.alloc, key);
+        if keys.is_empty() {
+            self.by_mark.remove(&mark);
         }
     }
 }
@@ -167,40 +175,47 @@ pub fn marks_at(histories: &Histories, volume: u64, key: &Key) -> (Option<Mark>,
     }
 }
 
-/// The keys stand in their order.
-pub fn keys_in_order(keys: &BTreeSet<Key>)
-    ensures { IsStrictlySortedBy ⟦<Key as Ord>⟧.cmp keys.now.keys }
-{
-    let _count = keys.len();
-}
-
 /// Those of these keys under which an item with the mark stands after a volume.
 pub fn keys_marked(
     alloc: Global,
     histories: &Histories,
     volume: u64,
     mark: &Mark,
-    keys: &BTreeSet<Key>,
+    keys: &Keys,
 ) -> Result<Vec<Key>, AllocError>
-    ensures { IfOk result (λ ks. ks.items ≡ filter (marked_at (entries (view_at histories.now volume)) mark.now) keys.now.keys) }
+    ensures { IfOk result (λ ks. ks.items ≡ filter (marked_at (entries (view_at histories.now volume)) mark.now) (listed keys.now)) }
 {
     let mut found = Vec::new(alloc);
-    for key in keys {
-        if is_marked(histories, volume, mark, key) {
-            found.push(*key)?;
+    match keys {
+        Keys::One(key) => {
+            if is_marked(histories, volume, mark, key) {
+                found.push(*key)?;
+            }
+        }
+        Keys::Many(keys) => {
+            for key in keys {
+                if is_marked(histories, volume, mark, key) {
+                    found.push(*key)?;
+                }
+            }
         }
     }
     Ok(found)
 }
 
 /// Whether an item with the mark stands under one of these keys after a volume.
-pub fn any_marked(histories: &Histories, volume: u64, mark: &Mark, keys: &BTreeSet<Key>) -> bool
-    ensures { result ≡ list_any (marked_at (entries (view_at histories.now volume)) mark.now) keys.now.keys }
+pub fn any_marked(histories: &Histories, volume: u64, mark: &Mark, keys: &Keys) -> bool
+    ensures { result ≡ list_any (marked_at (entries (view_at histories.now volume)) mark.now) (listed keys.now) }
 {
-    for key in keys {
-        if is_marked(histories, volume, mark, key) {
-            return true;
+    match keys {
+        Keys::One(key) => is_marked(histories, volume, mark, key),
+        Keys::Many(keys) => {
+            for key in keys {
+                if is_marked(histories, volume, mark, key) {
+                    return true;
+                }
+            }
+            false
         }
     }
-    false
 }

@@ -9,7 +9,7 @@ ghost use Rattle.gaz_shelf.specs.Words.{approved_of, approved_on, entries, has_c
 
 use crate::changes::{change, forget_all, undo_all};
 use crate::histories::Histories;
-use crate::index::{Index, Mark, any_marked, keys_in_order, keys_marked};
+use crate::index::{Index, Mark, any_marked, keys_marked};
 use crate::verdict::Verdict;
 use gaz_ids::{Lang, Uprn, Usrn};
 use gaz_records::{Key, Kind, SharedItem};
@@ -108,7 +108,7 @@ impl Ledger {
     {
         match self.index.get(mark) {
             Some(keys) => {
-                keys_in_order(keys);
+                keys.in_order();
                 Ok(keys_marked(alloc, &self.histories, volume, &mark, keys)?)
             }
             None => Ok(Vec::new(alloc)),
@@ -122,7 +122,7 @@ impl Ledger {
     {
         match self.index.get(mark) {
             Some(keys) => {
-                keys_in_order(keys);
+                keys.in_order();
                 any_marked(&self.histories, volume, &mark, keys)
             }
             None => false,
@@ -148,10 +148,11 @@ impl Ledger {
         ensures { result ≡ approved_on (view_in self.now volume) usrn lang }
     {
         match lang {
-            Some(lang) => self.has_any(volume, Mark::AddressOn(usrn, lang)),
+            Some(Lang::Cym) => self.has_any(volume, Mark::WelshOn(usrn)),
+            Some(Lang::Eng) => self.has_any(volume, Mark::EnglishOn(usrn)),
             None => {
-                let welsh = self.has_any(volume, Mark::AddressOn(usrn, Lang::Cym));
-                welsh || self.has_any(volume, Mark::AddressOn(usrn, Lang::Eng))
+                let welsh = self.has_any(volume, Mark::WelshOn(usrn));
+                welsh || self.has_any(volume, Mark::EnglishOn(usrn))
             }
         }
     }

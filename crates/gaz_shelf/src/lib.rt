@@ -9,6 +9,7 @@ mod faulty;
 mod files;
 mod histories;
 mod index;
+mod keys;
 pub mod laws;
 mod ledger;
 mod mem_shelf;

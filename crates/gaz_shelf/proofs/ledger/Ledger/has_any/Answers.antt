@@ -4,7 +4,7 @@ use Rattle.gaz_shelf.proofs.Gazetteers.{view_ascends}
 use Rattle.gaz_shelf.proofs.Ledgers.{finds_from, seen}
 use Rattle.gaz_shelf.proofs.Marked.{any_under, none_under}
 use Rattle.gaz_shelf.specs.Gazetteer.{view_at}
-use Rattle.gaz_shelf.specs.Indexes.{has_mark}
+use Rattle.gaz_shelf.specs.Indexes.{has_mark, listed}
 use Rattle.gaz_shelf.specs.View.{View}
 use Rattle.gaz_shelf.specs.Words.{entries}
 use Rattle.gaz_shelf.proofs.ledger.Ledger.has_any.Goals as goal
@@ -15,7 +15,7 @@ returns-in-Some c =
     let g = c.self.inside.histories in
     let v = view_at g c.args.volume in
     let finds = finds_from ds g c.self.inside.index c.self.inside.touched.items c.args.self.now c.self.invariant c.self.view_is c.args.volume c.requires in
-    c.any_marked.ensures ∙ any_under c.self.inside.index (entries v) c.args.mark (view_ascends v) finds c.in-Some.keys.now.keys c.keys_in_order.ensures c.in-Some.ensures
+    c.any_marked.ensures ∙ any_under c.self.inside.index (entries v) c.args.mark (view_ascends v) finds (listed c.in-Some.keys.now) c.in_order.ensures c.in-Some.ensures
     ∙ ap (λ (w : View). list_any (λ e. has_mark c.args.mark e.1) (entries w)) (seen ds g c.args.self.now c.self.invariant.within c.self.view_is c.args.volume)
 
 pub returns-in-None : goal.returns-in-None
