@@ -1,5 +1,5 @@
 //! The versions of one key.
-ghost use Rattle.std.specs.Prelude.{◌≡◌, ◌++◌, ◌∷◌, [], ◌≤◌, take, length, nat_le, nat_lt, false, OnOk, OnErr, IfOk, option_map};
+ghost use Rattle.std.specs.Prelude.{◌≡◌, ◌++◌, ◌∷◌, [], ◌≤◌, take, length, nat_le, nat_lt, false, OnOk, OnErr, IfOk, IsOk, option_map};
 ghost use Rattle.std.specs.Option.{option_map_or};
 ghost use Rattle.gaz_histories.specs.Histories.{Ascends, before, is_empty, item_at, until, was_used_at};
 ghost use Rattle.gaz_histories.specs.Kept.{kept, version_in, versions_of};
@@ -73,10 +73,12 @@ impl History {
         }
     }
 
-    /// From a volume on this item stands at the key, or none. What began at the volume or after it is forgotten.
+    /// From a volume on this item stands at the key, or none. What began at the volume or after it is forgotten. The
+    /// first version of all needs no memory.
     pub fn set(&mut self, volume: u64, item: Option<SharedItem>) -> Result<(), AllocError>
         ensures ok { OnOk result (self.new ≡ before self.old volume ++ (volume, item) ∷ []) }
         ensures err { OnErr result (self.new ≡ self.old) }
+        ensures first { self.old ≡ [] → IsOk result }
     {
         let version = Version {
             since: volume,

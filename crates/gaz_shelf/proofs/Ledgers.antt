@@ -175,6 +175,10 @@ ledger_closed n g x y ks ls was finds is =
       touched = λ k _. All-weaker (λ (e : Version). (0 < e.0) × (e.0 ≤ n + 1)) (λ (e : Version). e.0 ≤ n + 1) (λ e h. h.1) (versions_at g k) (was.within k);
     }
 
+-- what was found is found
+pub ledger_found : (n : ℕ) (g : Gazetteer) (x y : Index) (ks : List Key) → IsLedger n g x ks → (Finds x g n → Finds y g n) → IsLedger n g y ks
+ledger_found n g x y ks was finds = record { finds = finds was.finds; within = was.within; touched = was.touched }
+
 -- ---- reading
 
 -- the last view and any later one are found

@@ -2,6 +2,8 @@
 use Rattle.std.proofs.Common.{◌≡◌, ◌&&◌, ℕ, Bool, true, false, cond, List, [], ◌∷◌, map, take, refl, sym, ap, ◌∙◌, unwrap_or}
 use Rattle.std.specs.Prelude.{Option, Some, None, filter, option_map}
 use Rattle.std.specs.BTreeMap.{is_at}
+use Rattle.std.specs.Bool.{OnTrue}
+use Rattle.std.specs.Cmp.{eq_by_cmp_equiv}
 use Rattle.std.specs.FinMap as finite
 use Rattle.std.specs.List.{AllByRecursion, cons_option}
 use Rattle.std.specs.List.Sorted.{IsStrictlySortedBy}
@@ -63,9 +65,28 @@ stores_same g es fs key vs is h same =
     by_same q true at = same ∙ ap (stored es) (same_key key q (ap is_eq (sym (keys_same key q)) ∙ at))
     by_same q false at = refl
 
+module _ (g : Gazetteer) (es : Rows) (key : Key) (is : finite.from_entries es ≡ g) where
+  -- the versions of a history that is there, or of an empty one
+  pub was_there : (vs d : Versions) (o : Option Versions) → vs ≡ unwrap_or o d → o ≡ stored es key → d ≡ [] → vs ≡ versions_at g key
+  was_there vs d o taken there none = taken ∙ (λ i. unwrap_or (there i) (none i)) ∙ sym (versions_stored g es key is)
+
+  pub stores_now : (fs hs : Rows) (vs ws : Versions) → fs ≡ hs → Writes es hs key (Some vs) → vs ≡ ws → ChangesAt g (finite.from_entries fs) key ws
+  stores_now fs hs vs ws new h same k = ap (λ (l : Rows). versions_at (finite.from_entries l) k) new ∙ stores g es hs key vs ws is h same k
+
+  -- the same history again, which was not empty and so was there
+  pub stores_again : (fs hs : Rows) (vs ws d : Versions) (o : Option Versions) → fs ≡ hs → Writes es hs key (Some vs) → vs ≡ ws → ws ≡ unwrap_or o d → o ≡ stored es key → d ≡ [] → (ws ≡ [] → ⊥)
+      → finite.from_entries fs ≡ g
+  stores_again fs hs vs ws d None new h same taken there none some = absurd (some (taken ∙ none))
+  stores_again fs hs vs ws d (Some us) new h same taken there none some = ap (λ (l : Rows). finite.from_entries l) new ∙ stores_same g es hs key vs is h (ap Some (same ∙ taken) ∙ there)
+
 pub nothing_in : (vs : Versions) → true ≡ is_empty vs → vs ≡ []
 nothing_in [] e = refl
 nothing_in (v ∷ vs) e = cc
+
+-- whether a change leaves no versions
+pub emptied : (g h : Gazetteer) (key : Key) (vs ws : Versions) (b : Bool) → ChangesAt g h key vs → ws ≡ vs → b ≡ is_empty ws → OnTrue b (versions_at h key ≡ [])
+emptied g h key vs ws true change same none = change key ∙ ap (λ b. cond b vs (versions_at g key)) ((eq_by_cmp_equiv keys_total).refl key) ∙ sym same ∙ nothing_in ws none
+emptied g h key vs ws false change same none = tt
 
 -- nothing is cut where there are no versions
 pub cut_none : (g : Gazetteer) (key : Key) (v : ℕ) → versions_at g key ≡ [] → ChangesAt g g key (before (versions_at g key) v)

@@ -1,5 +1,5 @@
 //! Changes of what stands at keys and of what is found under marks, at the volume after those reached.
-ghost use Rattle.std.specs.Prelude.{◌≡◌, ◌≤◌, ◌<◌, ◌+◌, ◌-◌, ◌^◌, ◌++◌, ◌∷◌, [], ℕ, OnOk, OnErr};
+ghost use Rattle.std.specs.Prelude.{◌≡◌, ◌⊎◌, ◌≤◌, ◌<◌, ◌+◌, ◌-◌, ◌^◌, ◌++◌, ◌∷◌, [], ℕ, OnOk, OnErr};
 ghost use Rattle.gaz_histories.specs.Histories.{before};
 ghost use Rattle.gaz_shelf.specs.Gazetteer.{ChangesAt, versions_at, view_at};
 ghost use Rattle.gaz_shelf.specs.Ledgers.{Finds, IsLedger};
@@ -8,6 +8,13 @@ use crate::histories::Histories;
 use crate::index::{Index, Mark, is_marked, marks_at, marks_of};
 use gaz_records::{Key, SharedItem};
 use std::alloc::AllocError;
+
+/// A key whose item had a mark and has it no more.
+#[derive(Clone, Copy)]
+pub struct Leaving {
+    mark: Mark,
+    key: Key,
+}
 
 // Forgets a mark of a key where its item has it neither in the last view nor in the working one.
 fn forget_mark(
@@ -45,46 +52,83 @@ fn forget(
     forget_mark(histories, index, reached, key, second);
 }
 
-// Sets an item at a key, under its marks, or takes the one that stands there.
+// Sets an item at a key, under its marks, or takes the one that stands there. Answers the marks of that one.
 fn set_found(
     histories: &mut Histories,
     index: &mut Index,
     reached: u64,
     key: Key,
     item: Option<SharedItem>,
-) -> Result<(), AllocError>
+) -> Result<(Option<Mark>, Option<Mark>), AllocError>
     requires { reached < 2 ^ 64 - 1 }
     ensures ok { OnOk result (ChangesAt histories.old histories.new key (before (versions_at histories.old key) (reached + 1) ++ (reached + 1, item) ∷ [])) }
     ensures err { OnErr result (histories.new ≡ histories.old) }
     ensures finds { Finds index.old histories.old reached → Finds index.new histories.new reached }
 {
     index.add_marks_of(&item, &key)?;
-    histories.set(reached + 1, key, item)?;
-    Ok(())
+    Ok(histories.set(reached + 1, key, item)?)
 }
 
-/// The same, and forgets the marks that are left without an item.
+// Notes that a key leaves a mark, if it is not among those that its item has now.
+fn note_mark(
+    leaving: &mut Vec<Leaving>,
+    key: &Key,
+    mark: Option<Mark>,
+    stays: &(Option<Mark>, Option<Mark>),
+)
+    ensures { (mark ≡ stays.now.0) ⊎ (mark ≡ stays.now.1) → leaving.new.items ≡ leaving.old.items }
+{
+    if mark == stays.0 || mark == stays.1 {
+        return;
+    }
+    if let Some(mark) = mark {
+        // Where memory runs out, the key stays under the mark and is passed over there.
+        let _ = leaving.push(Leaving { mark, key: *key });
+    }
+}
+
+// The same of two marks.
+fn note(
+    leaving: &mut Vec<Leaving>,
+    key: &Key,
+    marks: (Option<Mark>, Option<Mark>),
+    stays: (Option<Mark>, Option<Mark>),
+)
+    ensures { marks ≡ stays → leaving.new.items ≡ leaving.old.items }
+{
+    let (first, second) = marks;
+    note_mark(leaving, key, first, &stays);
+    note_mark(leaving, key, second, &stays);
+}
+
+/// The same, and notes the marks that are left without an item.
 pub fn change(
     histories: &mut Histories,
     index: &mut Index,
+    leaving: &mut Vec<Leaving>,
     reached: u64,
-    key: Key,
+    key: &Key,
     item: Option<SharedItem>,
 ) -> Result<(), AllocError>
     requires { reached < 2 ^ 64 - 1 }
-    ensures ok { OnOk result (ChangesAt histories.old histories.new key (before (versions_at histories.old key) (reached + 1) ++ (reached + 1, item) ∷ [])) }
+    ensures ok { OnOk result (ChangesAt histories.old histories.new key.now (before (versions_at histories.old key.now) (reached + 1) ++ (reached + 1, item) ∷ [])) }
     ensures err { OnErr result (histories.new ≡ histories.old) }
     ensures finds { Finds index.old histories.old reached → Finds index.new histories.new reached }
 {
-    let was = marks_at(histories, reached + 1, &key);
     let comes = match &item {
         Some(item) => marks_of(item),
         None => (None, None),
     };
-    let changed = set_found(histories, index, reached, key, item);
-    forget(histories, index, reached, &key, was);
-    forget(histories, index, reached, &key, comes);
-    changed
+    match set_found(histories, index, reached, *key, item) {
+        Ok(was) => {
+            note(leaving, key, was, comes);
+            Ok(())
+        }
+        Err(error) => {
+            forget(histories, index, reached, key, comes);
+            Err(error)
+        }
+    }
 }
 
 // A key is again as the last view has it.
@@ -111,15 +155,18 @@ pub fn undo_all(histories: &mut Histories, index: &mut Index, reached: u64, touc
     }
 }
 
-/// Forgets what the keys that were touched were found by before the volume that is reached now.
-pub fn forget_all(histories: &Histories, index: &mut Index, reached: u64, touched: &mut Vec<Key>)
-    requires some { 0 < reached }
-    requires bound { reached < 2 ^ 64 - 1 }
+/// Forgets the marks that keys left, and that their items have neither in the last view nor in the working one.
+pub fn forget_all(
+    histories: &Histories,
+    index: &mut Index,
+    reached: u64,
+    leaving: &mut Vec<Leaving>,
+)
+    requires { reached < 2 ^ 64 - 1 }
     ensures finds { Finds index.old histories.now reached → Finds index.new histories.now reached }
-    ensures none { touched.new.items ≡ [] }
+    ensures none { leaving.new.items ≡ [] }
 {
-    while let Some(key) = touched.pop() {
-        let was = marks_at(histories, reached - 1, &key);
-        forget(histories, index, reached, &key, was);
+    while let Some(Leaving { mark, key }) = leaving.pop() {
+        forget_mark(histories, index, reached, &key, Some(mark));
     }
 }

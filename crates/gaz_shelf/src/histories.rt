@@ -1,11 +1,16 @@
 //! What stood at each key through the volumes of a gazetteer.
-ghost use Rattle.std.specs.Prelude.{◌≡◌, ◌++◌, ◌∷◌, [], IfOk, OnOk, OnErr, option_map};
+ghost use Rattle.std.specs.Prelude.{◌≡◌, ◌⊎◌, ◌++◌, ◌∷◌, [], true, false, IfOk, OnOk, OnErr, Some, option_map};
+ghost use Rattle.std.specs.Bool.{OnTrue};
+ghost use Rattle.std.specs.Option.{option_map_or};
 ghost use Rattle.std.specs.FinMap as finite;
 ghost use Rattle.gaz_histories.specs.Histories.{before, item_at, was_used_at};
 ghost use Rattle.gaz_records.specs.declared.key.Key.{Key};
 ghost use Rattle.gaz_shelf.specs.Gazetteer.{ChangesAt, versions_at, view_at};
-ghost use Rattle.gaz_shelf.specs.Words.{page};
+ghost use Rattle.gaz_shelf.specs.Indexes.{has_mark, marked_at};
+ghost use Rattle.gaz_shelf.specs.Words.{entries, page};
+ghost use Rattle.gaz_shelf.specs.declared.index.Mark.{Mark};
 
+use crate::index::{Mark, marks_of};
 use crate::words::{in_order, page_of};
 use gaz_histories::History;
 use gaz_records::{Key, Kind, SharedItem};
@@ -78,45 +83,53 @@ impl Histories {
         Ok(page_of(alloc, &self.by_key, volume, kind, after, most)?)
     }
 
-    /// From a volume on this item stands at a key, or none any more. What began there at the volume or after it is forgotten.
-    pub fn set(&mut self, volume: u64, key: Key, item: Option<SharedItem>) -> Result<(), AllocError>
+    /// From a volume on this item stands at a key, or none any more. What began there at the volume or after it is
+    /// forgotten. Answers the marks of the item that stood there.
+    pub fn set(
+        &mut self,
+        volume: u64,
+        key: Key,
+        item: Option<SharedItem>,
+    ) -> Result<(Option<Mark>, Option<Mark>), AllocError>
         ensures ok { OnOk result (ChangesAt self.old self.new key (before (versions_at self.old key) volume ++ (volume, item) ∷ [])) }
         ensures err { OnErr result (self.new ≡ self.old) }
+        ensures marks { IfOk result (λ was. (m : Mark) → marked_at (entries (view_at self.old volume)) m key ≡ true → (was.0 ≡ Some m) ⊎ (was.1 ≡ Some m)) }
     {
-        if let Some(history) = self.by_key.get_mut(&key) {
-            return history.set(volume, item);
-        }
-        let mut history = History::new(self.alloc);
+        let history = self.by_key.entry(key)?.or_insert(History::new(self.alloc));
+        let was = marks_in(history, volume);
         history.set(volume, item)?;
-        self.by_key.insert(key, history)?;
-        Ok(())
+        Ok(was)
     }
 
     /// Forgets what began at a key at a volume or after it.
     pub fn cut(&mut self, volume: u64, key: &Key)
         ensures { ChangesAt self.old self.new key.now (before (versions_at self.old key.now) volume) }
     {
-        self.cut_there(volume, key);
-        self.remove_empty(key);
+        if self.cut_there(volume, key) {
+            // Keeps nothing of a key that was never used.
+            self.by_key.remove(key);
+        }
     }
 
-    fn cut_there(&mut self, volume: u64, key: &Key)
-        ensures { ChangesAt self.old self.new key.now (before (versions_at self.old key.now) volume) }
+    // The same, and answers whether a history without versions is left.
+    fn cut_there(&mut self, volume: u64, key: &Key) -> bool
+        ensures changes { ChangesAt self.old self.new key.now (before (versions_at self.old key.now) volume) }
+        ensures empty { OnTrue result (versions_at self.new key.now ≡ []) }
     {
         let Some(history) = self.by_key.get_mut(key) else {
-            return;
+            return false;
         };
         history.cut(volume);
+        history.is_empty()
     }
+}
 
-    // Keeps nothing of a key that was never used.
-    fn remove_empty(&mut self, key: &Key)
-        ensures { (k : Key) → versions_at self.new k ≡ versions_at self.old k }
-    {
-        if let Some(history) = self.by_key.get(key) {
-            if history.is_empty() {
-                self.by_key.remove(key);
-            }
-        }
+// The marks of the item that a history has after a volume.
+fn marks_in(history: &History, volume: u64) -> (Option<Mark>, Option<Mark>)
+    ensures { (m : Mark) → option_map_or (has_mark m) (item_at history.now volume) false ≡ true → (result.0 ≡ Some m) ⊎ (result.1 ≡ Some m) }
+{
+    match history.item_at(volume) {
+        Some(item) => marks_of(item),
+        None => (None, None),
     }
 }

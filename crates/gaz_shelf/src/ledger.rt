@@ -7,7 +7,7 @@ ghost use Rattle.gaz_shelf.specs.Ledgers.{empty_account, last_of, view_in};
 ghost use Rattle.gaz_shelf.specs.View.{was_used, with_item, without_key};
 ghost use Rattle.gaz_shelf.specs.Words.{approved_of, approved_on, entries, has_children, page};
 
-use crate::changes::{change, forget_all, undo_all};
+use crate::changes::{Leaving, change, forget_all, undo_all};
 use crate::histories::Histories;
 use crate::index::{Index, Mark, any_marked, keys_marked};
 use crate::verdict::Verdict;
@@ -25,6 +25,8 @@ pub struct Ledger {
     index: Index,
     // The keys that the next volume has changed, in no order.
     touched: Vec<Key>,
+    // The marks that it took from them. They are forgotten when it is judged or undone.
+    leaving: Vec<Leaving>,
 }
 
 impl Model for Ledger {
@@ -52,6 +54,7 @@ impl Ledger {
             histories: Histories::new(alloc),
             index: Index::new(alloc),
             touched: Vec::new(alloc),
+            leaving: Vec::new(alloc),
         }
     }
 
@@ -176,8 +179,9 @@ impl Ledger {
         change(
             &mut self.histories,
             &mut self.index,
+            &mut self.leaving,
             reached,
-            key,
+            &key,
             Some(item),
         )?;
         Ok(())
@@ -193,7 +197,14 @@ impl Ledger {
             return Ok(());
         }
         touch(&mut self.touched, key)?;
-        change(&mut self.histories, &mut self.index, reached, *key, None)?;
+        change(
+            &mut self.histories,
+            &mut self.index,
+            &mut self.leaving,
+            reached,
+            key,
+            None,
+        )?;
         Ok(())
     }
 
@@ -208,6 +219,7 @@ impl Ledger {
             reached,
             &mut self.touched,
         );
+        forget_all(&self.histories, &mut self.index, reached, &mut self.leaving);
     }
 
     /// Judges the next volume: the working view is the view after it. Where memory runs out, nothing changes.
@@ -217,7 +229,8 @@ impl Ledger {
     {
         self.verdicts.push(verdict)?;
         let reached = self.verdicts.len() as u64;
-        forget_all(&self.histories, &mut self.index, reached, &mut self.touched);
+        self.touched.clear();
+        forget_all(&self.histories, &mut self.index, reached, &mut self.leaving);
         Ok(())
     }
 }

@@ -1,6 +1,6 @@
 //! A ledger through its volumes, and what its index holds then.
 use crate::Verdict;
-use crate::changes::{change, forget_all};
+use crate::changes::{change, forget_all, undo_all};
 use crate::histories::Histories;
 use crate::index::{Index, Mark};
 use crate::ledger::Ledger;
@@ -120,20 +120,51 @@ fn part_of(alloc: Global, parent: &str) -> Result<Option<SharedItem>, Fail> {
 fn marks_without_an_item_are_forgotten(rt: HostRuntime) -> Result<(), Fail> {
     let alloc = rt.alloc();
     let (mut histories, mut index) = (Histories::new(alloc), Index::new(alloc));
+    let mut leaving = Vec::new(alloc);
     let key = Key::Blpu(Uprn::of(1002).ok_or("a UPRN")?);
-    let mut touched = Vec::new(alloc);
-    touched.push(key)?;
-    change(&mut histories, &mut index, 0, key, part_of(alloc, "1001")?)?;
-    change(&mut histories, &mut index, 0, key, part_of(alloc, "1003")?)?;
+    for parent in ["1001", "1001", "1003"] {
+        let part = part_of(alloc, parent)?;
+        change(&mut histories, &mut index, &mut leaving, 0, &key, part)?;
+    }
+    assert_eq!(rt; leaving.len(), 1);
+    forget_all(&histories, &mut index, 1, &mut leaving);
     assert_eq!(rt; count_parts(&index, 1001)?, 0);
     assert_eq!(rt; count_parts(&index, 1003)?, 1);
-    forget_all(&histories, &mut index, 1, &mut touched);
-    change(&mut histories, &mut index, 1, key, part_of(alloc, "1001")?)?;
+    let part = part_of(alloc, "1001")?;
+    change(&mut histories, &mut index, &mut leaving, 1, &key, part)?;
+    forget_all(&histories, &mut index, 1, &mut leaving);
     assert_eq!(rt; count_parts(&index, 1003)?, 1);
-    touched.push(key)?;
-    forget_all(&histories, &mut index, 2, &mut touched);
+    let part = part_of(alloc, "1003")?;
+    change(&mut histories, &mut index, &mut leaving, 1, &key, part)?;
+    let part = part_of(alloc, "1001")?;
+    change(&mut histories, &mut index, &mut leaving, 1, &key, part)?;
+    forget_all(&histories, &mut index, 2, &mut leaving);
     assert_eq!(rt; count_parts(&index, 1003)?, 0);
-    change(&mut histories, &mut index, 2, key, None)?;
     assert_eq!(rt; count_parts(&index, 1001)?, 1);
+    change(&mut histories, &mut index, &mut leaving, 2, &key, None)?;
+    assert_eq!(rt; count_parts(&index, 1001)?, 1);
+    forget_all(&histories, &mut index, 3, &mut leaving);
+    assert_eq!(rt; count_parts(&index, 1001)?, 0);
+    Ok(())
+}
+
+#[test]
+fn marks_that_are_undone_are_forgotten(rt: HostRuntime) -> Result<(), Fail> {
+    let alloc = rt.alloc();
+    let (mut histories, mut index) = (Histories::new(alloc), Index::new(alloc));
+    let (mut leaving, mut touched) = (Vec::new(alloc), Vec::new(alloc));
+    let key = Key::Blpu(Uprn::of(1002).ok_or("a UPRN")?);
+    let part = part_of(alloc, "1001")?;
+    change(&mut histories, &mut index, &mut leaving, 0, &key, part)?;
+    for parent in ["1003", "1004"] {
+        touched.push(key)?;
+        let part = part_of(alloc, parent)?;
+        change(&mut histories, &mut index, &mut leaving, 1, &key, part)?;
+    }
+    undo_all(&mut histories, &mut index, 1, &mut touched);
+    forget_all(&histories, &mut index, 1, &mut leaving);
+    assert_eq!(rt; count_parts(&index, 1001)?, 1);
+    assert_eq!(rt; count_parts(&index, 1003)?, 0);
+    assert_eq!(rt; count_parts(&index, 1004)?, 0);
     Ok(())
 }

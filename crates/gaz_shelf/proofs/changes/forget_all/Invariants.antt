@@ -3,8 +3,8 @@ use Rattle.std.proofs.Common.{vec_len}
 use Rattle.gaz_shelf.specs.Ledgers.{Finds}
 use Rattle.gaz_shelf.proofs.changes.forget_all.Given as goal
 
-abbrev pub invariant-loop-key : goal.invariant-loop-key
-invariant-loop-key l = Finds l.initial.index l.histories l.reached → Finds l.index l.histories l.reached
+abbrev pub invariant-loop-mark : goal.invariant-loop-mark
+invariant-loop-mark l = Finds l.initial.index l.histories l.reached → Finds l.index l.histories l.reached
 
-abbrev pub decreases-loop-key : goal.decreases-loop-key
-decreases-loop-key l = vec_len l.touched
+abbrev pub decreases-loop-mark : goal.decreases-loop-mark
+decreases-loop-mark l = vec_len l.leaving

@@ -3,21 +3,28 @@ use Rattle.std.specs.FinMap as finite
 use Rattle.std.specs.BTreeMap.{BTreeMap}
 use Rattle.gaz_histories.specs.Histories.{Versions, before}
 use Rattle.gaz_records.specs.declared.key.Key.{Key}
-use Rattle.gaz_shelf.proofs.Stored.{cut_none, stores, versions_stored}
+use Rattle.gaz_shelf.proofs.Stored.{cut_none, emptied, stores, versions_stored}
 use Rattle.gaz_shelf.specs.Gazetteer.{Gazetteer, versions_at}
 use Rattle.gaz_shelf.proofs.histories.Histories.cut_there.Goals as goal
 
-pub returns-in_default : goal.returns-in_default
-returns-in_default c =
+pub returns-in_default-clause-changes : goal.returns-in_default-clause-changes
+returns-in_default-clause-changes c =
     let m = c.get_mut.follows.lender-at-none in
     let same : m ≡ c.self.inside.by_key = c.get_mut.follows.holds-at-none in
     let is = ap (λ (n : BTreeMap Key Versions). finite.from_entries n.entries) same ∙ c.self.view_is in
     let none = versions_stored c.args.self.now c.self.inside.by_key.entries c.args.key.now c.self.view_is ∙ sym (ap (λ o. unwrap_or o []) c.in_default.ensures.value) in
     λ k. ap (λ (g : Gazetteer). versions_at g k) is ∙ cut_none c.args.self.now c.args.key.now c.args.volume none k
 
-pub returns : goal.returns
-returns c =
+pub returns-clause-changes : goal.returns-clause-changes
+returns-clause-changes c =
     let writes = (c.get_mut.follows.holds c.cut.new.self).3 (search rules) in
     let es = c.self.inside.by_key.entries in
     let was = ap (λ o. unwrap_or o []) c.in-Some.ensures.value ∙ sym (versions_stored c.args.self.now es c.args.key.now c.self.view_is) in
     stores c.args.self.now es _ c.args.key.now c.cut.new.self _ c.self.view_is writes.0 (c.cut.ensures ∙ ap (λ (vs : Versions). before vs c.args.volume) was)
+
+pub returns-clause-empty : goal.returns-clause-empty
+returns-clause-empty c =
+    let es = c.self.inside.by_key.entries in
+    let was = ap (λ o. unwrap_or o []) c.in-Some.ensures.value ∙ sym (versions_stored c.args.self.now es c.args.key.now c.self.view_is) in
+    emptied c.args.self.now _ c.args.key.now (before (versions_at c.args.self.now c.args.key.now) c.args.volume) c.cut.new.self c.is_empty.result (returns-clause-changes c)
+    (c.cut.ensures ∙ ap (λ (vs : Versions). before vs c.args.volume) was) c.is_empty.ensures

@@ -1,29 +1,30 @@
-use Rattle.std.proofs.Common.{rules, ◌≡◌, ◌∙◌, ◌++◌, ◌∷◌, [], ap, sym, unwrap_or, Some}
-use Rattle.std.specs.FinMap as finite
-use Rattle.std.specs.BTreeMap.{BTreeMap}
-use Rattle.gaz_histories.specs.Histories.{Versions, before}
-use Rattle.gaz_records.specs.declared.key.Key.{Key}
-use Rattle.gaz_shelf.proofs.Keeping.{on_err, on_ok}
-use Rattle.gaz_shelf.proofs.Stored.{stores, stores_same, versions_stored}
+use Rattle.std.proofs.Common.{rules, ◌∙◌, ◌++◌, ◌∷◌, [], ap, false}
+use Rattle.std.specs.BTreeMap.Entry.{entry_value, map_with_value}
+use Rattle.std.specs.Option.{option_map_or}
+use Rattle.gaz_histories.specs.Histories.{Versions, before, item_at}
+use Rattle.gaz_shelf.proofs.Gazetteers.{row_at}
+use Rattle.gaz_shelf.proofs.Keeping.{where_err}
+use Rattle.gaz_shelf.proofs.Stored.{stores_again, stores_now, was_there}
+use Rattle.gaz_shelf.specs.Indexes.{has_mark}
 use Rattle.gaz_shelf.proofs.histories.Histories.set.Goals as goal
 
-pub returns-in-Some-clause-ok : goal.returns-in-Some-clause-ok
-returns-in-Some-clause-ok c =
-    let writes = (c.get_mut.follows.holds c.set.new.self).3 (search rules) in
-    let es = c.self.inside.by_key.entries in
-    let was = ap (λ o. unwrap_or o []) c.in-Some.ensures.value ∙ sym (versions_stored c.args.self.now es c.args.key c.self.view_is) in
-    on_ok c.set.result (λ is. stores c.args.self.now es _ c.args.key c.set.new.self _ c.self.view_is writes.0 (is ∙ ap (λ (vs : Versions). before vs c.args.volume ++ (c.args.volume, c.args.item) ∷ []) was)) c.set.ensures.ok
-
-pub returns-in-Some-clause-err : goal.returns-in-Some-clause-err
-returns-in-Some-clause-err c =
-    let writes = (c.get_mut.follows.holds c.set.new.self).3 (search rules) in
-    on_err c.set.result (λ is. stores_same c.args.self.now c.self.inside.by_key.entries _ c.args.key c.set.new.self c.self.view_is writes.0 (ap Some is ∙ c.in-Some.ensures.value)) c.set.ensures.err
+pub returns-in_err-set-clause-err : goal.returns-in_err-set-clause-err
+returns-in_err-set-clause-err c =
+    let entry = c.in_ok-self-inside.field-0 in
+    where_err c.from_residual-in_err-set.result
+    (stores_again c.args.self.now c.self.inside.by_key.entries c.args.key c.self.view_is _ (map_with_value entry c.set.new.self).entries c.set.new.self c.or_insert-history.result.now c.new.result (entry_value entry)
+    (search rules) (c.in_ok-self-inside.ensures.update.0 c.set.new.self).0 c.in_err-set.ensures.err c.or_insert-history.ensures.value c.in_ok-self-inside.ensures.value c.new.ensures (λ none. let no = c.in_err-set.ensures.first none in cc))
 
 pub returns-clause-ok : goal.returns-clause-ok
 returns-clause-ok c =
-    let m = c.get_mut.follows.lender-at-none in
-    let same : m ≡ c.self.inside.by_key = c.get_mut.follows.holds-at-none in
-    let is = ap (λ (n : BTreeMap Key Versions). finite.from_entries n.entries) same ∙ c.self.view_is in
-    let was = ap (λ o. unwrap_or o []) c.in_default.ensures.value ∙ sym (versions_stored c.args.self.now c.self.inside.by_key.entries c.args.key c.self.view_is) in
-    stores c.args.self.now m.entries c.insert.new.self.entries c.args.key c.set-2.new.self _ is c.in_ok-insert.ensures.updates.0
-    (c.in_ok-set.ensures.ok ∙ ap (λ (vs : Versions). before vs c.args.volume ++ (c.args.volume, c.args.item) ∷ []) (c.new-history.ensures ∙ was))
+    let es = c.self.inside.by_key.entries in
+    let entry = c.in_ok-self-inside.field-0 in
+    let was = was_there c.args.self.now es c.args.key c.self.view_is c.or_insert-history.result.now c.new.result (entry_value entry) c.or_insert-history.ensures.value c.in_ok-self-inside.ensures.value c.new.ensures in
+    stores_now c.args.self.now es c.args.key c.self.view_is _ (map_with_value entry c.set.new.self).entries c.set.new.self _ (search rules) (c.in_ok-self-inside.ensures.update.0 c.set.new.self).0
+    (c.in_ok-set.ensures.ok ∙ ap (λ (vs : Versions). before vs c.args.volume ++ (c.args.volume, c.args.item) ∷ []) was)
+
+pub returns-clause-marks : goal.returns-clause-marks
+returns-clause-marks c m is =
+    let entry = c.in_ok-self-inside.field-0 in
+    let was = was_there c.args.self.now c.self.inside.by_key.entries c.args.key c.self.view_is c.or_insert-history.result.now c.new.result (entry_value entry) c.or_insert-history.ensures.value c.in_ok-self-inside.ensures.value c.new.ensures in
+    c.marks_in-was.ensures m (ap (λ o. option_map_or (has_mark m) o false) (ap (λ (vs : Versions). item_at vs c.args.volume) was ∙ row_at c.args.self.now c.args.volume c.args.key) ∙ is)

@@ -5,8 +5,8 @@ use Rattle.gaz_shelf.proofs.ledger.Ledger.close.Goals as goal
 pub invariant_of-self-2 : goal.invariant_of-self-2
 invariant_of-self-2 c =
     let reach : c.len-reached.result ≡ length c.push.new.self.items = search rules in
-    ledger_judged c.self.inside.verdicts.items c.push.new.self.items c.args.verdict c.self.inside.histories c.self.inside.index c.forget_all.new.index c.self.inside.touched.items c.forget_all.new.touched.items c.len-reached.result reach
-    c.in_ok-push.ensures.items c.self.invariant c.forget_all.ensures.finds c.forget_all.ensures.none
+    ledger_judged c.self.inside.verdicts.items c.push.new.self.items c.args.verdict c.self.inside.histories c.self.inside.index c.forget_all.new.index c.self.inside.touched.items c.clear.new.self.items c.len-reached.result reach
+    c.in_ok-push.ensures.items c.self.invariant c.forget_all.ensures.finds c.clear.ensures.items
 
 pub returns-clause-ok : goal.returns-clause-ok
 returns-clause-ok c =
