@@ -1,6 +1,6 @@
 //! A ledger through its volumes, and what its index holds then.
 use crate::Verdict;
-use crate::changes::{change, forget_all, undo_all};
+use crate::changes::{change, forget_all};
 use crate::histories::Histories;
 use crate::index::{Index, Mark};
 use crate::ledger::Ledger;
@@ -145,26 +145,5 @@ fn marks_without_an_item_are_forgotten(rt: HostRuntime) -> Result<(), Fail> {
     assert_eq!(rt; count_parts(&index, 1001)?, 1);
     forget_all(&histories, &mut index, 3, &mut leaving);
     assert_eq!(rt; count_parts(&index, 1001)?, 0);
-    Ok(())
-}
-
-#[test]
-fn marks_that_are_undone_are_forgotten(rt: HostRuntime) -> Result<(), Fail> {
-    let alloc = rt.alloc();
-    let (mut histories, mut index) = (Histories::new(alloc), Index::new(alloc));
-    let (mut leaving, mut touched) = (Vec::new(alloc), Vec::new(alloc));
-    let key = Key::Blpu(Uprn::of(1002).ok_or("a UPRN")?);
-    let part = part_of(alloc, "1001")?;
-    change(&mut histories, &mut index, &mut leaving, 0, &key, part)?;
-    for parent in ["1003", "1004"] {
-        touched.push(key)?;
-        let part = part_of(alloc, parent)?;
-        change(&mut histories, &mut index, &mut leaving, 1, &key, part)?;
-    }
-    undo_all(&mut histories, &mut index, 1, &mut touched);
-    forget_all(&histories, &mut index, 1, &mut leaving);
-    assert_eq!(rt; count_parts(&index, 1001)?, 1);
-    assert_eq!(rt; count_parts(&index, 1003)?, 0);
-    assert_eq!(rt; count_parts(&index, 1004)?, 0);
     Ok(())
 }
