@@ -3,6 +3,7 @@ use crate::Verdict;
 use crate::changes::{change, forget_all};
 use crate::histories::Histories;
 use crate::index::{Index, Mark};
+use crate::keys::Keys;
 use crate::ledger::Ledger;
 use gaz_ids::{Uprn, Usrn};
 use gaz_records::{Key, Kind, SharedItem, item_of_text, item_text};
@@ -101,12 +102,13 @@ fn what_is_undone_was_never_there(rt: HostRuntime) -> Result<(), Fail> {
     Ok(())
 }
 
-// How many keys are under the mark of the parts of a property.
-fn count_parts(index: &Index, uprn: u64) -> Result<usize, Fail> {
+// How many keys are under the mark of the parts of a property, where the index has that mark.
+fn count_parts(index: &Index, uprn: u64) -> Result<Option<usize>, Fail> {
     let mark = Mark::PartOf(Uprn::of(uprn).ok_or("a UPRN")?);
     Ok(match index.get(mark) {
-        Some(keys) => keys.len(),
-        None => 0,
+        Some(Keys::One(_)) => Some(1),
+        Some(Keys::Many(keys)) => Some(keys.len()),
+        None => None,
     })
 }
 
@@ -128,22 +130,37 @@ fn marks_without_an_item_are_forgotten(rt: HostRuntime) -> Result<(), Fail> {
     }
     assert_eq!(rt; leaving.len(), 1);
     forget_all(&histories, &mut index, 1, &mut leaving);
-    assert_eq!(rt; count_parts(&index, 1001)?, 0);
-    assert_eq!(rt; count_parts(&index, 1003)?, 1);
+    assert_eq!(rt; count_parts(&index, 1001)?, None);
+    assert_eq!(rt; count_parts(&index, 1003)?, Some(1));
     let part = part_of(alloc, "1001")?;
     change(&mut histories, &mut index, &mut leaving, 1, &key, part)?;
     forget_all(&histories, &mut index, 1, &mut leaving);
-    assert_eq!(rt; count_parts(&index, 1003)?, 1);
+    assert_eq!(rt; count_parts(&index, 1003)?, Some(1));
     let part = part_of(alloc, "1003")?;
     change(&mut histories, &mut index, &mut leaving, 1, &key, part)?;
     let part = part_of(alloc, "1001")?;
     change(&mut histories, &mut index, &mut leaving, 1, &key, part)?;
     forget_all(&histories, &mut index, 2, &mut leaving);
-    assert_eq!(rt; count_parts(&index, 1003)?, 0);
-    assert_eq!(rt; count_parts(&index, 1001)?, 1);
+    assert_eq!(rt; count_parts(&index, 1003)?, None);
+    assert_eq!(rt; count_parts(&index, 1001)?, Some(1));
     change(&mut histories, &mut index, &mut leaving, 2, &key, None)?;
-    assert_eq!(rt; count_parts(&index, 1001)?, 1);
+    assert_eq!(rt; count_parts(&index, 1001)?, Some(1));
     forget_all(&histories, &mut index, 3, &mut leaving);
-    assert_eq!(rt; count_parts(&index, 1001)?, 0);
+    assert_eq!(rt; count_parts(&index, 1001)?, None);
+    Ok(())
+}
+
+#[test]
+fn keys_come_and_go(rt: HostRuntime) -> Result<(), Fail> {
+    let alloc = rt.alloc();
+    let (first, second) = (street_key(101)?, street_key(102)?);
+    let mut keys = Keys::one(first);
+    keys.insert(alloc, first)?;
+    assert!(rt; matches!(&keys, Keys::One(_)));
+    keys.insert(alloc, second)?;
+    keys.remove(alloc, &first);
+    assert!(rt; !keys.is_empty());
+    keys.remove(alloc, &second);
+    assert!(rt; keys.is_empty());
     Ok(())
 }
