@@ -1,20 +1,16 @@
 -- The order of keys is total, and keys that tie are one.
 use Rattle.std.proofs.Common.{◌≡◌, ℕ, List, [], ◌∷◌, refl, sym, ◌∙◌, cond, eqb}
-use Rattle.std.proofs.lemmas.Cmp.{on_total, then_total, nat_list_cmp_total}
 use Rattle.std.proofs.lemmas.Map.Lookups.{exact_bytes, exact_unsigned}
 use Rattle.std.specs.Ordering.{nat_cmp, ordering_then}
-use Rattle.std.specs.Cmp.{IsTotalOrder, nat_cmp_total}
 use Rattle.std.specs.declared.cmp.Ordering.{Ordering}
 use Rattle.std.specs.declared.cmp.Ordering.TheVariants.{Less, Equal, Greater}
 use Rattle.gaz_ids.specs.declared.lang.Lang.{Lang}
 use Rattle.gaz_ids.specs.declared.lang.Lang.TheVariants.{Cym, Eng}
 use Rattle.gaz_records.specs.Keys.{key_cmp, kind_number, number_in, text_in}
+pub use Rattle.gaz_records.specs.SortKeys.{keys_total}
 use Rattle.gaz_records.specs.declared.key.Key.{Key}
 use Rattle.gaz_records.specs.contracts.key.KeyOrd.TheImpl.{cmp-value}
 use Rattle.gaz_records.specs.declared.key.Key.TheVariants as key
-
-pub keys_total : IsTotalOrder key_cmp
-keys_total = then_total (on_total kind_number nat_cmp_total) (then_total (on_total number_in nat_cmp_total) (on_total text_in nat_list_cmp_total))
 
 -- a key from its three parts
 lang_in : List ℕ → Lang

@@ -25,7 +25,7 @@ fill_more most i t h k =
     rw (zeros _ _ 0 rest) ((rw size at seam) ∙ sym (rw (more t i h, append_assoc (take i t) (get_or t i 0 ∷ []) (replicate (most - (i + 1)) 0)) refl))
 
 -- no byte of a label is 0
-label_before_zero : (t : List ℕ) (n : ℕ) → are_label_bytes t ≡ true → before_zero (t ++ replicate n 0) ≡ length t
+pub label_before_zero : (t : List ℕ) (n : ℕ) → are_label_bytes t ≡ true → before_zero (t ++ replicate n 0) ≡ length t
 label_before_zero [] zero h = refl
 label_before_zero [] (suc n) h = refl
 label_before_zero (b ∷ t) n h =

@@ -13,13 +13,13 @@ use Rattle.std.specs.declared.cmp.Ordering.{Ordering}
 use Rattle.std.specs.declared.cmp.Ordering.TheVariants.{Less, Equal, Greater}
 use Rattle.gaz_records.specs.Labels.{AreBytes, IsPadded, are_label_bytes, is_label, word}
 
-less : (x y : ℕ) → x < y → nat_cmp x y ≡ Less
+pub less : (x y : ℕ) → x < y → nat_cmp x y ≡ Less
 less x y h = sym (nat_cmp_is x y Less h)
 
-same : (x : ℕ) → nat_cmp x x ≡ Equal
+pub same : (x : ℕ) → nat_cmp x x ≡ Equal
 same x = sym (nat_cmp_is x x Equal refl)
 
-greater : (x y : ℕ) → y < x → nat_cmp x y ≡ Greater
+pub greater : (x y : ℕ) → y < x → nat_cmp x y ≡ Greater
 greater x y h = sym (nat_cmp_is x y Greater h)
 
 rest_bytes : (b : ℕ) (bs : List ℕ) → AreBytes (b ∷ bs) → AreBytes bs
@@ -58,14 +58,18 @@ word_more n bs = simp unary_clauses refl
 pub small_word : (n w : ℕ) → n < 4 → w < 256 ^ n → w < 256 ^ 3
 small_word n w h k = omega (arith, pow-le-pow_right {n = 256} (omega arith) {i = n} {j = 3} (omega arith))
 
+-- a number of less than seven bytes
+pub below_seven : (n w : ℕ) → n < 7 → w < 256 ^ n → w < 256 ^ 6
+below_seven n w h k = omega (arith, pow-le-pow_right {n = 256} (omega arith) {i = n} {j = 6} (omega arith))
+
 pub rest_of_bytes : (n : ℕ) (bs : List ℕ) → AreBytes bs → AreBytes (drop n bs)
 rest_of_bytes n bs h i = rw (get_or-drop n bs i 0) (h (n + i))
 
 -- the foremost byte decides, and then the others
-ahead : (x y p v w : ℕ) → v < p → x < y → x * p + v < y * p + w
+pub ahead : (x y p v w : ℕ) → v < p → x < y → x * p + v < y * p + w
 ahead x y p v w h k = omega (arith, mul-le-mul_right p k)
 
-behind : (c a b : ℕ) → nat_cmp (c + a) (c + b) ≡ nat_cmp a b
+pub behind : (c a b : ℕ) → nat_cmp (c + a) (c + b) ≡ nat_cmp a b
 behind c a b =
     by_ranked _ _ _ (nat_cmp a b) (ranked a b _ refl)
     (λ o h. rw o (less (c + a) (c + b) (omega arith)))
@@ -134,7 +138,7 @@ zero_bytes (suc n) (suc i) = zero_bytes n i
 below : (b : ℕ) (bs : List ℕ) → are_label_bytes (b ∷ bs) ≡ true → b < 256
 below b bs h = grind (arith, nat_tests)
 
-label_bytes : (bs : List ℕ) (n : ℕ) → are_label_bytes bs ≡ true → AreBytes (bs ++ replicate n 0)
+pub label_bytes : (bs : List ℕ) (n : ℕ) → are_label_bytes bs ≡ true → AreBytes (bs ++ replicate n 0)
 label_bytes [] n h i = zero_bytes n i
 label_bytes (b ∷ bs) n h zero = below b bs h
 label_bytes (b ∷ bs) n h (suc i) = label_bytes bs n (others b bs h) i

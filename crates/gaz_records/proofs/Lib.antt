@@ -8,3 +8,4 @@ pub mod Says
 pub mod FieldsBack
 pub mod ItemsBack
 pub mod KeyOrder
+pub mod SortOrder

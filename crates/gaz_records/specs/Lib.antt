@@ -10,3 +10,4 @@ pub mod Xrefs
 pub mod Lpis
 pub mod Items
 pub mod Keys
+pub mod SortKeys

@@ -1,9 +1,10 @@
-ghost use Rattle.std.specs.Prelude.{◌≡◌, ◌≤◌, ◌<◌, drop, length, true};
+ghost use Rattle.std.specs.Prelude.{◌≡◌, ◌≤◌, ◌<◌, ◌+◌, drop, length, true};
 ghost use Rattle.std.proofs.Common.{rules};
 ghost use Rattle.std.specs.Cmp.{partial_order_from_own_ties};
 ghost use Rattle.std.specs.Cmp.Rules.{comparing};
 ghost use Rattle.std.specs.Ordering.{as_partial_cmp};
 ghost use Rattle.gaz_records.specs.Labels.{AreBytes, are_label_bytes, before_zero, is_label, label_cmp, label_eq, label_of, word};
+ghost use Rattle.gaz_records.specs.SortKeys.{first_half, second_half, seven_bytes};
 ghost use Rattle.std.specs.Ordering.{nat_cmp};
 ghost use Rattle.std.specs.Cmp.Lexicographic.{slice_cmp};
 
@@ -116,6 +117,32 @@ impl<const MOST: usize> Label<MOST> {
         ensures form { is_label MOST self.now ≡ true }
     {
         &self.bytes[..count_before_zero(&self.bytes)]
+    }
+}
+
+// The seven bytes from `start` on as one number, the first byte foremost.
+fn seven_at(bytes: &[u8; 14], start: usize) -> u64
+    requires within { start + 7 ≤ 14 }
+    requires bytes { AreBytes bytes.now }
+    ensures { result ≡ word 7 (drop start bytes.now) }
+{
+    let mut word: u64 = 0;
+    for offset in 0..7 {
+        word = word * 256 + u64::from(bytes[start + offset]);
+    }
+    word
+}
+
+impl RecordKey {
+    /// The first seven bytes as one number and the other seven as another, each with its first byte foremost and 0 for each byte
+    /// that is not there.
+    pub fn halves(&self) -> (u64, u64)
+        ensures first { result.0 ≡ first_half self.now }
+        ensures second { result.1 ≡ second_half self.now }
+        ensures below { result.0 < seven_bytes }
+        ensures form { is_label 14 self.now ≡ true }
+    {
+        (seven_at(&self.bytes, 0), seven_at(&self.bytes, 7))
     }
 }
 

@@ -14,6 +14,7 @@ mod lpi;
 mod reading;
 mod row;
 mod shared;
+mod sort_key;
 mod street;
 mod xref;
 
@@ -26,6 +27,7 @@ pub use key::{Key, key_of};
 pub use label::{Label, RecordKey, Source};
 pub use lpi::Lpi;
 pub use shared::SharedItem;
+pub use sort_key::SortKey;
 pub use street::Street;
 pub use xref::Xref;
 

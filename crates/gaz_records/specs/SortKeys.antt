@@ -1,0 +1,86 @@
+-- Keys as two numbers that compare as keys do.
+use Rattle.std.specs.Prelude.{◌≡◌, ℕ, zero, suc, ◌+◌, ◌*◌, ◌/◌, ◌%◌, ◌<◌, ◌==◌, if◌then◌else◌, Bool, true, List, [], ◌∷◌, ◌++◌, take, drop}
+use Rattle.gaz_ids.specs.declared.lang.Lang.{Lang}
+use Rattle.gaz_ids.specs.declared.lang.Lang.TheVariants.{Cym, Eng}
+use Rattle.std.proofs.lemmas.Cmp.{on_total, then_total, nat_list_cmp_total}
+use Rattle.std.specs.Cmp.{IsTotalOrder, nat_cmp_total}
+use Rattle.gaz_records.specs.Keys.{key_cmp, kind_number, number_in, text_in}
+use Rattle.gaz_records.specs.Labels.{before_zero, is_label, padded, word}
+use Rattle.gaz_records.specs.declared.key.Key.{Key}
+use Rattle.gaz_records.specs.declared.key.Key.TheVariants as key
+
+-- the order of keys is total
+pub keys_total : IsTotalOrder key_cmp
+keys_total = then_total (on_total kind_number nat_cmp_total) (then_total (on_total number_in nat_cmp_total) (on_total text_in nat_list_cmp_total))
+
+-- numbers of 7 bytes
+abbrev pub seven_bytes : ℕ
+seven_bytes = 72057594037927936
+
+-- the first seven bytes of a label as one number, and the other seven
+abbrev pub first_half : List ℕ → ℕ
+first_half t = word 7 (padded 14 t)
+
+abbrev pub second_half : List ℕ → ℕ
+second_half t = word 7 (drop 7 (padded 14 t))
+
+-- what stands behind the kind in the first number
+abbrev pub behind_kind : Key → ℕ
+behind_kind (key.Street n) = n
+behind_kind (key.Descriptor n l) = n
+behind_kind (key.Blpu n) = n
+behind_kind (key.Xref t) = first_half t
+behind_kind (key.Lpi t) = first_half t
+
+abbrev pub high_of : Key → ℕ
+high_of k = kind_number k * seven_bytes + behind_kind k
+
+-- languages in their order
+abbrev pub lang_rank : Lang → ℕ
+lang_rank Cym = 0
+lang_rank Eng = 1
+
+abbrev pub low_of : Key → ℕ
+low_of (key.Street n) = 0
+low_of (key.Descriptor n l) = lang_rank l
+low_of (key.Blpu n) = 0
+low_of (key.Xref t) = second_half t
+low_of (key.Lpi t) = second_half t
+
+-- a text in a key is a label
+abbrev pub has_label : Key → Bool
+has_label (key.Street n) = true
+has_label (key.Descriptor n l) = true
+has_label (key.Blpu n) = true
+has_label (key.Xref t) = is_label 14 t
+has_label (key.Lpi t) = is_label 14 t
+
+-- ---- the key that two numbers are
+
+-- so many bytes of a number, the foremost first
+unfoldable pub bytes_of : ℕ → ℕ → List ℕ
+bytes_of zero w = []
+bytes_of (suc n) w = bytes_of n (w / 256) ++ w % 256 ∷ []
+
+abbrev pub text_of : List ℕ → List ℕ
+text_of bytes = take (before_zero bytes) bytes
+
+abbrev pub label_in : ℕ → ℕ → List ℕ
+label_in first second = text_of (bytes_of 7 first ++ bytes_of 7 second)
+
+abbrev pub key_from : ℕ → ℕ → ℕ → Key
+key_from kind rest low =
+    if kind == 11 then key.Street rest else
+    if kind == 15 then key.Descriptor rest (if low == 0 then Cym else Eng) else
+    if kind == 21 then key.Blpu rest else
+    if kind == 23 then key.Xref (label_in rest low) else key.Lpi (label_in rest low)
+
+abbrev pub key_at : ℕ → ℕ → Key
+key_at high low = key_from (high / seven_bytes) (high % seven_bytes) low
+
+-- two numbers that are those of a key
+pub record IsSortKey (high low : ℕ) : Type 0 where
+  pub first : high_of (key_at high low) ≡ high
+  pub second : low_of (key_at high low) ≡ low
+  pub number : number_in (key_at high low) < seven_bytes
+  pub label : has_label (key_at high low) ≡ true

@@ -1,0 +1,128 @@
+//! Keys as two numbers.
+ghost use Rattle.std.specs.Prelude.{◌≡◌, ◌<◌, true};
+ghost use Rattle.std.proofs.Common.{rules};
+ghost use Rattle.std.specs.Cmp.{partial_order_from_own_ties};
+ghost use Rattle.std.specs.Cmp.Rules.{comparing};
+ghost use Rattle.std.specs.Ordering.{as_partial_cmp, eq_by_cmp};
+ghost use Rattle.gaz_records.specs.Keys.{key_cmp, kind_number, number_in};
+ghost use Rattle.gaz_records.specs.SortKeys.{has_label, high_of, keys_total, lang_rank, low_of, seven_bytes};
+
+use crate::key::Key;
+use gaz_ids::Lang;
+use std::cmp::Ordering;
+use std::marker::Model;
+
+// The first number has the kind above so many others.
+const SEVEN_BYTES: u64 = 1 << 56;
+
+/// A key as two numbers, which compare as keys do. It takes 16 bytes, and a search goes by it without asking for the kind.
+///
+/// The first number is the record identifier of the kind with the number or the first seven letters and digits behind it; the second is the
+/// language, `CYM` before `ENG`, or the other seven.
+#[derive(Clone, Copy, Debug)]
+pub struct SortKey {
+    high: u64,
+    low: u64,
+}
+
+impl Model for SortKey {
+    ghost use Rattle.gaz_records.specs.SortKeys.{IsSortKey, high_of, key_at, low_of};
+    ghost use Rattle.gaz_records.specs.declared.key.Key.{Key};
+
+    ghost Value = { Key };
+
+    ghost view = { λ s. key_at s.high s.low };
+
+    ghost invariant = { λ s. IsSortKey s.high s.low };
+
+    ghost inverse = { λ k. record { high = high_of k; low = low_of k } };
+
+    ghost inverse_ok = { λ a h i. record { high = h.first i; low = h.second i } };
+}
+
+// The language of a descriptor, in the order of languages.
+fn rank(lang: Lang) -> u64
+    ensures { result ≡ lang_rank lang }
+{
+    match lang {
+        Lang::Cym => 0,
+        Lang::Eng => 1,
+    }
+}
+
+// The two numbers of a key.
+fn numbers_of(key: &Key) -> (u64, u64)
+    ensures high { result.0 ≡ high_of key.now }
+    ensures low { result.1 ≡ low_of key.now }
+    ensures number { number_in key.now < seven_bytes }
+    ensures label { has_label key.now ≡ true }
+{
+    match key {
+        Key::Street(usrn) => (11 * SEVEN_BYTES + usrn.number(), 0),
+        Key::Descriptor(usrn, lang) => (15 * SEVEN_BYTES + usrn.number(), rank(*lang)),
+        Key::Blpu(uprn) => (21 * SEVEN_BYTES + uprn.number(), 0),
+        Key::Xref(label) => {
+            let (first, second) = label.halves();
+            (23 * SEVEN_BYTES + first, second)
+        }
+        Key::Lpi(label) => {
+            let (first, second) = label.halves();
+            (24 * SEVEN_BYTES + first, second)
+        }
+    }
+}
+
+impl SortKey {
+    /// The numbers of a key.
+    pub fn of(key: &Key) -> SortKey
+        ensures { result ≡ key.now }
+    {
+        let (high, low) = numbers_of(key);
+        SortKey { high, low }
+    }
+
+    /// The record identifier of the key's kind.
+    pub fn kind_number(&self) -> u64
+        ensures { result ≡ kind_number self.now }
+    {
+        self.high / SEVEN_BYTES
+    }
+}
+
+impl Ord for SortKey {
+    ghost cmp = { key_cmp };
+
+    ghost total = { Prim.search (comparing, rules, keys_total) };
+
+    ghost matches_partial_cmp = { Prim.search (comparing, rules, keys_total) };
+
+    ghost matches_eq = { Prim.search (comparing, rules, keys_total) };
+
+    fn cmp(&self, other: &Self) -> Ordering {
+        self.high.cmp(&other.high).then(self.low.cmp(&other.low))
+    }
+}
+
+impl PartialOrd for SortKey {
+    ghost partial_cmp = { as_partial_cmp key_cmp };
+
+    ghost laws = { partial_order_from_own_ties (Prim.search (comparing, rules, keys_total)) (Prim.search (comparing, rules, keys_total)) };
+
+    fn partial_cmp(&self, other: &Self) -> Option<Ordering> {
+        Some(self.cmp(other))
+    }
+}
+
+impl PartialEq for SortKey {
+    ghost eq = { eq_by_cmp key_cmp };
+
+    ghost laws = { Prim.search (comparing, rules, keys_total) };
+
+    fn eq(&self, other: &Self) -> bool {
+        self.cmp(other).is_eq()
+    }
+}
+
+impl Eq for SortKey {
+    ghost laws = { Prim.search (comparing, rules, keys_total) };
+}
