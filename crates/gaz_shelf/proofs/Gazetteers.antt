@@ -13,8 +13,7 @@ use Rattle.std.specs.Ordering.{eq_by_cmp, is_eq, is_lt}
 use Rattle.std.specs.declared.cmp.Ordering.{Ordering}
 use Rattle.std.specs.declared.cmp.Ordering.TheVariants.{Less, Equal, Greater}
 use Rattle.gaz_histories.specs.Histories.{Version, Versions, item_at, until, was_used_at}
-use Rattle.gaz_records.proofs.KeyOrder.{keys_exact, keys_same, keys_total}
-use Rattle.gaz_records.specs.contracts.key.KeyOrd.TheImpl.{cmp-value}
+use Rattle.gaz_records.proofs.KeyOrder.{keys_exact, keys_total}
 use Rattle.gaz_records.specs.Keys.{key_cmp, key_of}
 use Rattle.gaz_records.specs.declared.item.Item.{Item}
 use Rattle.gaz_records.specs.declared.key.Key.{Key}
@@ -89,15 +88,15 @@ same_used (e ∷ es) h v q = by_test (same_used es (both_hold (below_all key_cmp
     by_test behind false is false at = behind
 
 -- the keys of a view's rows ascend
-pub view_ascends : (v : View) → IsStrictlySortedBy cmp-value.it (keys_of (entries v))
+pub view_ascends : (v : View) → IsStrictlySortedBy key_cmp (keys_of (entries v))
 unfolding IsStrictlySortedBy
 view_ascends v = ascends (entries v) (entries_sorted v.items)
   where
-    above : (k : Key) (es : List (Key × Item)) → T (below_all key_cmp k es) → AllByRecursion (λ y. cmp-value.it k y ≡ Less) (keys_of es)
+    above : (k : Key) (es : List (Key × Item)) → T (below_all key_cmp k es) → AllByRecursion (λ y. key_cmp k y ≡ Less) (keys_of es)
     above k [] h = tt
-    above k (e ∷ es) h = let two = both_hold (is_lt (key_cmp k e.0)) (below_all key_cmp k es) h in (keys_same k e.0 ∙ is_less _ two.0, above k es two.1)
+    above k (e ∷ es) h = let two = both_hold (is_lt (key_cmp k e.0)) (below_all key_cmp k es) h in (is_less _ two.0, above k es two.1)
 
-    ascends : (es : List (Key × Item)) → T (is_sorted key_cmp es) → IsStrictlySortedBy cmp-value.it (keys_of es)
+    ascends : (es : List (Key × Item)) → T (is_sorted key_cmp es) → IsStrictlySortedBy key_cmp (keys_of es)
     ascends [] h = tt
     ascends (e ∷ es) h = let two = both_hold (below_all key_cmp e.0 es) (is_sorted key_cmp es) h in (above e.0 es two.0, ascends es two.1)
 

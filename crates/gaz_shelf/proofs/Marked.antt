@@ -31,7 +31,17 @@ abbrev Row : Type 0
 Row = Key × Item
 
 abbrev pub Ascends : List Key → Type 0
-Ascends ks = IsStrictlySortedBy cmp-value.it ks
+Ascends ks = IsStrictlySortedBy key_cmp ks
+
+-- the derived order of keys is theirs
+pub in_key_order : (ks : List Key) → IsStrictlySortedBy cmp-value.it ks → Ascends ks
+unfolding IsStrictlySortedBy
+in_key_order [] h = tt
+in_key_order (k ∷ ks) h = (above ks h.0, in_key_order ks h.1)
+  where
+    above : (ks : List Key) → AllByRecursion (λ y. cmp-value.it k y ≡ Less) ks → AllByRecursion (λ y. key_cmp k y ≡ Less) ks
+    above [] h = tt
+    above (q ∷ ks) h = (sym (keys_same k q) ∙ h.0, above ks h.1)
 
 abbrev has : List Key → Key → Bool
 has ks q = list_any (eq_by_cmp key_cmp q) ks
@@ -58,7 +68,7 @@ find_alone q [] = refl
 find_alone q (k ∷ ks) = elim (eq_by_cmp key_cmp q k) as (λ b. cond b (Some tt) (find key_cmp q (alone ks)) ≡ cond (b || has ks q) (Some tt) None) [ true ↦ refl | false ↦ find_alone q ks ]
 
 alone_back : (ks : List Key) → Ascends ks → finite.entries (finite.from_entries {R = key_cmp} (alone ks)) ≡ alone ks
-alone_back ks h = entries_tree keys_same keys_total (alone ks) (subst Ascends (sym (keys_alone ks)) h)
+alone_back ks h = entries_tree (λ a b. refl) keys_total (alone ks) (subst Ascends (sym (keys_alone ks)) h)
 
 same_keys : (xs ys : List Key) → Ascends xs → Ascends ys → ((q : Key) → has xs q ≡ has ys q) → xs ≡ ys
 same_keys xs ys hx hy same =
@@ -75,11 +85,11 @@ all_kept P p (e ∷ es) h = elim (p e) as (λ b. AllByRecursion P (keys_of (cond
 pub rows_ascend : {X : Type 0} (p : Key × X → Bool) (es : List (Key × X)) → Ascends (keys_of es) → Ascends (keys_of (filter p es))
 unfolding IsStrictlySortedBy
 rows_ascend p [] h = tt
-rows_ascend p (e ∷ es) h = elim (p e) as (λ b. Ascends (keys_of (cond b (e ∷ filter p es) (filter p es)))) [ true ↦ (all_kept (λ y. cmp-value.it e.0 y ≡ Less) p es h.0, rows_ascend p es h.1) | false ↦ rows_ascend p es h.1 ]
+rows_ascend p (e ∷ es) h = elim (p e) as (λ b. Ascends (keys_of (cond b (e ∷ filter p es) (filter p es)))) [ true ↦ (all_kept (λ y. key_cmp e.0 y ≡ Less) p es h.0, rows_ascend p es h.1) | false ↦ rows_ascend p es h.1 ]
 
-missing : (k : Key) (es : List Row) → AllByRecursion (λ y. cmp-value.it k y ≡ Less) (keys_of es) → find key_cmp k es ≡ None
+missing : (k : Key) (es : List Row) → AllByRecursion (λ y. key_cmp k y ≡ Less) (keys_of es) → find key_cmp k es ≡ None
 missing k [] h = refl
-missing k (e ∷ es) h = ap (λ r. cond (is_eq r) (Some e.1) (find key_cmp k es)) (sym (keys_same k e.0) ∙ h.0) ∙ missing k es h.1
+missing k (e ∷ es) h = ap (λ r. cond (is_eq r) (Some e.1) (find key_cmp k es)) h.0 ∙ missing k es h.1
 
 is_cons : {X : Type 0} → List X → Bool
 is_cons [] = false
@@ -122,7 +132,7 @@ module _ (m : Mark) where
         by_mark false is = refl
 
     pub marked_keys : filter (marked_at es m) ks ≡ keys_of (filter passes es)
-    marked_keys = same_keys _ _ (IsStrictlySortedBy-filter cmp-value.it (marked_at es m) ks in_order) (rows_ascend passes es ascend) (λ q.
+    marked_keys = same_keys _ _ (IsStrictlySortedBy-filter key_cmp (marked_at es m) ks in_order) (rows_ascend passes es ascend) (λ q.
         any-filter_same (eq_by_cmp key_cmp q) (marked_at es m) (marked_at es m q) (λ k is. ap (marked_at es m) (sym (same_key q k is))) ks
         ∙ found q (find key_cmp q es) (finds q) ∙ sym (held es ascend q))
 

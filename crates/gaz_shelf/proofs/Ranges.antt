@@ -16,9 +16,7 @@ use Rattle.std.specs.declared.cmp.Ordering.{Ordering}
 use Rattle.std.specs.declared.cmp.Ordering.TheVariants.{Less, Greater}
 use Rattle.std.specs.declared.ops.Bound.TheVariants.{Unbounded}
 use Rattle.gaz_histories.specs.Histories.{Versions, item_at}
-use Rattle.gaz_records.proofs.KeyOrder.{keys_same}
 use Rattle.gaz_records.specs.Keys.{key_cmp, kind_number}
-use Rattle.gaz_records.specs.contracts.key.KeyOrd.TheImpl.{cmp-value}
 use Rattle.gaz_records.specs.declared.item.Item.{Item}
 use Rattle.gaz_records.specs.declared.item.Kind.{Kind}
 use Rattle.gaz_records.specs.declared.item.Kind.TheVariants as kind
@@ -72,20 +70,20 @@ and_swap true b = sym (and_true b)
 and_swap false true = refl
 and_swap false false = refl
 
-in_range : (after : Option Key) (k : Key) → range_contains cmp-value.it (start_after after) Unbounded k ≡ comes_after after k
+in_range : (after : Option Key) (k : Key) → range_contains key_cmp (start_after after) Unbounded k ≡ comes_after after k
 in_range None k = refl
-in_range (Some a) k = and_true (is_lt (cmp-value.it a k)) ∙ ap is_lt (keys_same a k)
+in_range (Some a) k = and_true (is_lt (key_cmp a k))
 
-pub from_start : (kind : Kind) (after : Option Key) (volume : ℕ) (es fs : List Past) → fs ≡ entries_between cmp-value.it (start_after after) Unbounded es
+pub from_start : (kind : Kind) (after : Option Key) (volume : ℕ) (es fs : List Past) → fs ≡ entries_between key_cmp (start_after after) Unbounded es
     → filter (λ e. is_of kind e.0) (rows_at fs volume) ≡ filter (λ e. is_of kind e.0 && comes_after after e.0) (rows_at es volume)
 from_start kind after volume es fs is =
     ap (λ (l : List Past). filter (λ e. is_of kind e.0) (rows_at l volume)) is
-    ∙ ap (filter (λ e. is_of kind e.0)) (rows_kept (range_contains cmp-value.it (start_after after) Unbounded) volume es)
-    ∙ passes (λ (e : Row). range_contains cmp-value.it (start_after after) Unbounded e.0) (λ e. is_of kind e.0) (rows_at es volume)
+    ∙ ap (filter (λ e. is_of kind e.0)) (rows_kept (range_contains key_cmp (start_after after) Unbounded) volume es)
+    ∙ passes (λ (e : Row). range_contains key_cmp (start_after after) Unbounded e.0) (λ e. is_of kind e.0) (rows_at es volume)
     ∙ filter_agree _ _ (λ (e : Row). ap (λ b. b && is_of kind e.0) (in_range after e.0) ∙ and_swap (comes_after after e.0) (is_of kind e.0)) (rows_at es volume)
 
-pub part_ascends : (after : Option Key) (es fs : List Past) → fs ≡ entries_between cmp-value.it (start_after after) Unbounded es → Ascends (keys_of es) → Ascends (keys_of fs)
-part_ascends after es fs is h = subst (λ (l : List Past). Ascends (keys_of l)) (sym is) (rows_ascend (λ e. range_contains cmp-value.it (start_after after) Unbounded e.0) es h)
+pub part_ascends : (after : Option Key) (es fs : List Past) → fs ≡ entries_between key_cmp (start_after after) Unbounded es → Ascends (keys_of es) → Ascends (keys_of fs)
+part_ascends after es fs is h = subst (λ (l : List Past). Ascends (keys_of l)) (sym is) (rows_ascend (λ e. range_contains key_cmp (start_after after) Unbounded e.0) es h)
 
 -- ---- the end
 
@@ -115,10 +113,10 @@ none_past : (kind : Kind) (e : Past) (es : List Past) → Ascends (keys_of (e �
 unfolding IsStrictlySortedBy
 none_past kind e es h past = ap (λ b. cond b (e ∷ filter (λ f. is_of kind f.0) es) (filter (λ f. is_of kind f.0) es)) (not_of kind e.0 past) ∙ rest es h.0
   where
-    rest : (es : List Past) → AllByRecursion (λ y. cmp-value.it e.0 y ≡ Less) (keys_of es) → filter (λ f. is_of kind f.0) es ≡ []
+    rest : (es : List Past) → AllByRecursion (λ y. key_cmp e.0 y ≡ Less) (keys_of es) → filter (λ f. is_of kind f.0) es ≡ []
     rest [] h = refl
     rest (f ∷ es) h =
-        ap (λ b. cond b (f ∷ filter (λ f. is_of kind f.0) es) (filter (λ f. is_of kind f.0) es)) (not_of kind f.0 (past_on kind e.0 f.0 past (sym (keys_same e.0 f.0) ∙ h.0))) ∙ rest es h.1
+        ap (λ b. cond b (f ∷ filter (λ f. is_of kind f.0) es) (filter (λ f. is_of kind f.0) es)) (not_of kind f.0 (past_on kind e.0 f.0 past h.0)) ∙ rest es h.1
 
 pub nothing_past : (kind : Kind) (volume : ℕ) (e : Past) (es : List Past) → Ascends (keys_of (e ∷ es)) → is_past kind e.0 ≡ true → filter (λ f. is_of kind f.0) (rows_at (e ∷ es) volume) ≡ []
 nothing_past kind volume e es h past = sym (rows_kept (is_of kind) volume (e ∷ es)) ∙ ap (λ (l : List Past). rows_at l volume) (none_past kind e es h past)

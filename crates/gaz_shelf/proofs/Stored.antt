@@ -8,12 +8,11 @@ use Rattle.std.specs.FinMap as finite
 use Rattle.std.specs.List.{AllByRecursion, cons_option}
 use Rattle.std.specs.List.Sorted.{IsStrictlySortedBy}
 use Rattle.std.specs.Map.{keys_of, lookup}
-use Rattle.std.specs.Ordering.{eq_by_cmp, is_eq}
+use Rattle.std.specs.Ordering.{eq_by_cmp}
 use Rattle.std.specs.declared.cmp.Ordering.TheVariants.{Less}
 use Rattle.gaz_histories.specs.Histories.{Versions, before, is_empty, item_at}
-use Rattle.gaz_records.proofs.KeyOrder.{keys_exact, keys_same, keys_total}
+use Rattle.gaz_records.proofs.KeyOrder.{keys_exact, keys_total}
 use Rattle.gaz_records.specs.Keys.{key_cmp}
-use Rattle.gaz_records.specs.contracts.key.KeyOrd.TheImpl.{cmp-value}
 use Rattle.gaz_records.specs.declared.item.Item.{Item}
 use Rattle.gaz_records.specs.declared.item.Kind.{Kind}
 use Rattle.gaz_records.specs.declared.key.Key.{Key}
@@ -26,17 +25,17 @@ abbrev Rows : Type 0
 Rows = List (Key × Versions)
 
 abbrev stored : Rows → Key → Option Versions
-stored es k = lookup (is_at (cmp-value.it k)) es
+stored es k = lookup (is_at (key_cmp k)) es
 
 -- the versions at a key are those of its history
 pub versions_stored : (g : Gazetteer) (es : Rows) (k : Key) → finite.from_entries es ≡ g → versions_at g k ≡ unwrap_or (stored es k) []
-versions_stored g es k is = ap (λ (h : Gazetteer). versions_at h k) (sym is) ∙ ap (λ o. unwrap_or o []) (get_tree keys_same keys_total es k)
+versions_stored g es k is = ap (λ (h : Gazetteer). versions_at h k) (sym is) ∙ ap (λ o. unwrap_or o []) (get_tree (λ a b. refl) keys_total es k)
 
 abbrev Writes : Rows → Rows → Key → Option Versions → Type 0
-Writes es fs key o = (q : Key) → stored fs q ≡ cond (is_at (cmp-value.it key) q) o (stored es q)
+Writes es fs key o = (q : Key) → stored fs q ≡ cond (is_at (key_cmp key) q) o (stored es q)
 
 written : (es fs : Rows) (key : Key) (o : Option Versions) → Writes es fs key o → (k : Key) → unwrap_or (stored fs k) [] ≡ cond (eq_by_cmp key_cmp key k) (unwrap_or o []) (unwrap_or (stored es k) [])
-written es fs key o h k = ap (λ p. unwrap_or p []) (h k) ∙ ap (λ r. unwrap_or (cond (is_eq r) o (stored es k)) []) (keys_same key k) ∙ of_cond (eq_by_cmp key_cmp key k)
+written es fs key o h k = ap (λ p. unwrap_or p []) (h k) ∙ of_cond (eq_by_cmp key_cmp key k)
   where
     of_cond : (b : Bool) → unwrap_or (cond b o (stored es k)) [] ≡ cond b (unwrap_or o []) (unwrap_or (stored es k) [])
     of_cond true = refl
@@ -59,10 +58,10 @@ stores_none g es fs key is h none k =
 -- the same history again
 pub stores_same : (g : Gazetteer) (es fs : Rows) (key : Key) (vs : Versions) → finite.from_entries es ≡ g → Writes es fs key (Some vs) → Some vs ≡ stored es key → finite.from_entries fs ≡ g
 stores_same g es fs key vs is h same =
-    finite.same_map keys_total keys_exact (finite.from_entries {R = key_cmp} fs) (finite.from_entries {R = key_cmp} es) (λ q. get_tree keys_same keys_total fs q ∙ h q ∙ by_same q (is_at (cmp-value.it key) q) refl ∙ sym (get_tree keys_same keys_total es q)) ∙ is
+    finite.same_map keys_total keys_exact (finite.from_entries {R = key_cmp} fs) (finite.from_entries {R = key_cmp} es) (λ q. get_tree (λ a b. refl) keys_total fs q ∙ h q ∙ by_same q (is_at (key_cmp key) q) refl ∙ sym (get_tree (λ a b. refl) keys_total es q)) ∙ is
   where
-    by_same : (q : Key) (b : Bool) → is_at (cmp-value.it key) q ≡ b → cond b (Some vs) (stored es q) ≡ stored es q
-    by_same q true at = same ∙ ap (stored es) (same_key key q (ap is_eq (sym (keys_same key q)) ∙ at))
+    by_same : (q : Key) (b : Bool) → is_at (key_cmp key) q ≡ b → cond b (Some vs) (stored es q) ≡ stored es q
+    by_same q true at = same ∙ ap (stored es) (same_key key q at)
     by_same q false at = refl
 
 module _ (g : Gazetteer) (es : Rows) (key : Key) (is : finite.from_entries es ≡ g) where
@@ -99,31 +98,31 @@ cut_none g key v none k = by_same (eq_by_cmp key_cmp key k) refl
 -- ---- pages
 
 -- the rows of keys that ascend ascend
-rows_ascend : (v : ℕ) (es : Rows) → IsStrictlySortedBy cmp-value.it (keys_of es) → IsStrictlySortedBy cmp-value.it (keys_of (rows_at es v))
+rows_ascend : (v : ℕ) (es : Rows) → IsStrictlySortedBy key_cmp (keys_of es) → IsStrictlySortedBy key_cmp (keys_of (rows_at es v))
 unfolding IsStrictlySortedBy
 rows_ascend v [] h = tt
 rows_ascend v (e ∷ es) h = by_item (item_at e.1 v) (rows_ascend v es h.1) (above es h.0)
   where
-    above : (es : Rows) → AllByRecursion (λ y. cmp-value.it e.0 y ≡ Less) (keys_of es) → AllByRecursion (λ y. cmp-value.it e.0 y ≡ Less) (keys_of (rows_at es v))
+    above : (es : Rows) → AllByRecursion (λ y. key_cmp e.0 y ≡ Less) (keys_of es) → AllByRecursion (λ y. key_cmp e.0 y ≡ Less) (keys_of (rows_at es v))
     above [] h = tt
     above (f ∷ es) h = either (item_at f.1 v) h.0 (above es h.1)
       where
-        either : (o : Option Item) → cmp-value.it e.0 f.0 ≡ Less → AllByRecursion (λ y. cmp-value.it e.0 y ≡ Less) (keys_of (rows_at es v)) → AllByRecursion (λ y. cmp-value.it e.0 y ≡ Less) (keys_of (cons_option (option_map (λ i. (f.0, i)) o) (rows_at es v)))
+        either : (o : Option Item) → key_cmp e.0 f.0 ≡ Less → AllByRecursion (λ y. key_cmp e.0 y ≡ Less) (keys_of (rows_at es v)) → AllByRecursion (λ y. key_cmp e.0 y ≡ Less) (keys_of (cons_option (option_map (λ i. (f.0, i)) o) (rows_at es v)))
         either None here rest = rest
         either (Some i) here rest = (here, rest)
 
-    by_item : (o : Option Item) → IsStrictlySortedBy cmp-value.it (keys_of (rows_at es v)) → AllByRecursion (λ y. cmp-value.it e.0 y ≡ Less) (keys_of (rows_at es v)) → IsStrictlySortedBy cmp-value.it (keys_of (cons_option (option_map (λ i. (e.0, i)) o) (rows_at es v)))
+    by_item : (o : Option Item) → IsStrictlySortedBy key_cmp (keys_of (rows_at es v)) → AllByRecursion (λ y. key_cmp e.0 y ≡ Less) (keys_of (rows_at es v)) → IsStrictlySortedBy key_cmp (keys_of (cons_option (option_map (λ i. (e.0, i)) o) (rows_at es v)))
     by_item None rest first = rest
     by_item (Some i) rest first = (first, rest)
 
 -- a view's rows are those of the tree map
-rows_stored : (g : Gazetteer) (es : Rows) (v : ℕ) → finite.from_entries es ≡ g → IsStrictlySortedBy cmp-value.it (keys_of es) → rows_at es v ≡ entries (view_at g v)
+rows_stored : (g : Gazetteer) (es : Rows) (v : ℕ) → finite.from_entries es ≡ g → IsStrictlySortedBy key_cmp (keys_of es) → rows_at es v ≡ entries (view_at g v)
 unfolding view_at
 rows_stored g es v is h =
-    sym (entries_tree keys_same keys_total (rows_at es v) (rows_ascend v es h))
-    ∙ ap (λ (l : Rows). finite.entries (finite.from_entries {R = key_cmp} (rows_at l v))) (sym (entries_tree keys_same keys_total es h))
+    sym (entries_tree (λ a b. refl) keys_total (rows_at es v) (rows_ascend v es h))
+    ∙ ap (λ (l : Rows). finite.entries (finite.from_entries {R = key_cmp} (rows_at l v))) (sym (entries_tree (λ a b. refl) keys_total es h))
     ∙ ap (λ (h : Gazetteer). finite.entries (finite.from_entries {R = key_cmp} (rows_at (finite.entries h) v))) is
 
-pub page_stored : (g : Gazetteer) (es : Rows) (v : ℕ) (kind : Kind) (after : Option Key) (most : ℕ) → finite.from_entries es ≡ g → IsStrictlySortedBy cmp-value.it (keys_of es)
+pub page_stored : (g : Gazetteer) (es : Rows) (v : ℕ) (kind : Kind) (after : Option Key) (most : ℕ) → finite.from_entries es ≡ g → IsStrictlySortedBy key_cmp (keys_of es)
     → take most (map (λ (e : Key × Item). e.1) (filter (λ (e : Key × Item). is_of kind e.0 && comes_after after e.0) (rows_at es v))) ≡ page (view_at g v) kind after most
 page_stored g es v kind after most is h = ap (λ (l : List (Key × Item)). take most (map (λ e. e.1) (filter (λ e. is_of kind e.0 && comes_after after e.0) l))) (rows_stored g es v is h)

@@ -13,7 +13,7 @@ ghost use Rattle.gaz_shelf.specs.declared.index.Mark.{Mark};
 use crate::index::{Mark, marks_of};
 use crate::words::{in_order, page_of};
 use gaz_histories::History;
-use gaz_records::{Key, Kind, SharedItem};
+use gaz_records::{Key, Kind, SharedItem, SortKey};
 use std::alloc::{AllocError, Global};
 use std::collections::BTreeMap;
 use std::marker::Model;
@@ -22,7 +22,7 @@ use std::marker::Model;
 #[derive(Drop)]
 pub struct Histories {
     alloc: Global,
-    by_key: BTreeMap<Key, History>,
+    by_key: BTreeMap<SortKey, History>,
 }
 
 impl Model for Histories {
@@ -52,7 +52,7 @@ impl Histories {
     pub fn item(&self, volume: u64, key: &Key) -> Option<&SharedItem>
         ensures { option_map (λ i. i.now) result ≡ item_at (versions_at self.now key.now) volume }
     {
-        match self.by_key.get(key) {
+        match self.by_key.get(&SortKey::of(key)) {
             Some(history) => history.item_at(volume),
             None => None,
         }
@@ -62,7 +62,7 @@ impl Histories {
     pub fn was_used(&self, volume: u64, key: &Key) -> bool
         ensures { result ≡ was_used_at (versions_at self.now key.now) volume }
     {
-        match self.by_key.get(key) {
+        match self.by_key.get(&SortKey::of(key)) {
             Some(history) => history.was_used(volume),
             None => false,
         }
@@ -95,7 +95,10 @@ impl Histories {
         ensures err { OnErr result (self.new ≡ self.old) }
         ensures marks { IfOk result (λ was. (m : Mark) → marked_at (entries (view_at self.old volume)) m key ≡ true → (was.0 ≡ Some m) ⊎ (was.1 ≡ Some m)) }
     {
-        let history = self.by_key.entry(key)?.or_insert(History::new(self.alloc));
+        let history = self
+            .by_key
+            .entry(SortKey::of(&key))?
+            .or_insert(History::new(self.alloc));
         let was = marks_in(history, volume);
         history.set(volume, item)?;
         Ok(was)
@@ -107,7 +110,7 @@ impl Histories {
     {
         if self.cut_there(volume, key) {
             // Keeps nothing of a key that was never used.
-            self.by_key.remove(key);
+            self.by_key.remove(&SortKey::of(key));
         }
     }
 
@@ -116,7 +119,7 @@ impl Histories {
         ensures changes { ChangesAt self.old self.new key.now (before (versions_at self.old key.now) volume) }
         ensures empty { OnTrue result (versions_at self.new key.now ≡ []) }
     {
-        let Some(history) = self.by_key.get_mut(key) else {
+        let Some(history) = self.by_key.get_mut(&SortKey::of(key)) else {
             return false;
         };
         history.cut(volume);

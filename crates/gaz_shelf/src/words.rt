@@ -9,7 +9,7 @@ ghost use Rattle.gaz_shelf.specs.Reading.{is_past, number_of, start_after};
 
 use gaz_histories::History;
 use gaz_ids::{Lang, Status, Uprn, Usrn};
-use gaz_records::{Item, Key, Kind, SharedItem};
+use gaz_records::{Item, Key, Kind, SharedItem, SortKey};
 use std::alloc::{AllocError, Global};
 use std::collections::BTreeMap;
 use std::ops::Bound;
@@ -53,28 +53,21 @@ pub fn is_child_of(uprn: Uprn, item: &Item) -> bool
     }
 }
 
-fn is_of(kind: Kind, key: &Key) -> bool
+fn is_of(kind: Kind, key: &SortKey) -> bool
     ensures { result ≡ is_of kind key.now }
 {
-    match (kind, key) {
-        (Kind::Street, Key::Street(_)) => true,
-        (Kind::Descriptor, Key::Descriptor(_, _)) => true,
-        (Kind::Blpu, Key::Blpu(_)) => true,
-        (Kind::Xref, Key::Xref(_)) => true,
-        (Kind::Lpi, Key::Lpi(_)) => true,
-        _ => false,
-    }
+    key.kind_number() == number_of(kind)
 }
 
 /// The entries stand in the order of keys.
-pub fn in_order(histories: &BTreeMap<Key, History>)
-    ensures { IsStrictlySortedBy ⟦<Key as Ord>⟧.cmp (keys histories.now) }
+pub fn in_order(histories: &BTreeMap<SortKey, History>)
+    ensures { IsStrictlySortedBy ⟦<SortKey as Ord>⟧.cmp (keys histories.now) }
 {
     let _count = histories.len();
 }
 
 // The record identifier of a kind.
-fn number_of(kind: Kind) -> u8
+fn number_of(kind: Kind) -> u64
     ensures { result ≡ number_of kind }
 {
     match kind {
@@ -87,31 +80,29 @@ fn number_of(kind: Kind) -> u8
 }
 
 // Whether all keys from this one on are of later kinds.
-fn is_past(kind: Kind, key: &Key) -> bool
+fn is_past(kind: Kind, key: &SortKey) -> bool
     ensures { result ≡ is_past kind key.now }
 {
-    let number = match key {
-        Key::Street(_) => 11,
-        Key::Descriptor(_, _) => 15,
-        Key::Blpu(_) => 21,
-        Key::Xref(_) => 23,
-        Key::Lpi(_) => 24,
-    };
-    number_of(kind) < number
+    number_of(kind) < key.kind_number()
 }
 
 // Where a page begins.
-fn start_after(after: Option<Key>) -> Bound<Key>
+fn start_after(after: Option<Key>) -> Bound<SortKey>
     ensures { result ≡ start_after after }
 {
     match after {
-        Some(key) => Bound::Excluded(key),
+        Some(key) => Bound::Excluded(SortKey::of(&key)),
         None => Bound::Unbounded,
     }
 }
 
 // The item that stands at a key of the kind after a volume.
-fn wanted<'a>(kind: Kind, volume: u64, key: &Key, history: &'a History) -> Option<&'a SharedItem>
+fn wanted<'a>(
+    kind: Kind,
+    volume: u64,
+    key: &SortKey,
+    history: &'a History,
+) -> Option<&'a SharedItem>
     ensures { option_map (λ i. i.now) result ≡ (if is_of kind key.now then item_at history.now volume else None) }
 {
     if !is_of(kind, key) {
@@ -123,7 +114,7 @@ fn wanted<'a>(kind: Kind, volume: u64, key: &Key, history: &'a History) -> Optio
 /// The first items of a kind after a key, as they stand after a volume.
 pub fn page_of(
     alloc: Global,
-    histories: &BTreeMap<Key, History>,
+    histories: &BTreeMap<SortKey, History>,
     volume: u64,
     kind: Kind,
     after: Option<Key>,

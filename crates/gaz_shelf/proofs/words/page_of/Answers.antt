@@ -3,7 +3,7 @@ use Rattle.std.specs.Prelude.{filter}
 use Rattle.std.specs.BTreeMap.Range.{entries_between}
 use Rattle.std.specs.declared.ops.Bound.{Bound}
 use Rattle.std.specs.declared.ops.Bound.TheVariants.{Unbounded}
-use Rattle.gaz_records.specs.contracts.key.KeyOrd.TheImpl.{cmp-value}
+use Rattle.gaz_records.specs.Keys.{key_cmp}
 use Rattle.gaz_records.specs.declared.item.Item.{Item}
 use Rattle.gaz_records.specs.declared.key.Key.{Key}
 use Rattle.gaz_shelf.proofs.Ranges.{from_start, full, next_ascends, part_ascends, past, told_in, told_out}
@@ -16,8 +16,8 @@ use Rattle.gaz_shelf.proofs.words.page_of.Goals.{then-len-most-via-then-len-most
 pub loop-key-init : goal.loop-key-init
 loop-key-init c =
     let es = c.args.histories.now.entries in
-    let is : c.into_iter-key-iterator.result ≡ entries_between cmp-value.it (start_after c.args.after) Unbounded es =
-    c.into_iter-key-iterator.ensures.into_iter_gives ∙ c.range-key-items.ensures.between tt ∙ ap (λ (b : Bound Key). entries_between cmp-value.it b Unbounded es) c.start_after.ensures in
+    let is : c.into_iter-key-iterator.result ≡ entries_between key_cmp (start_after c.args.after) Unbounded es =
+    c.into_iter-key-iterator.ensures.into_iter_gives ∙ c.range-key-items.ensures.between tt ∙ ap (λ (b : Bound Key). entries_between key_cmp b Unbounded es) c.start_after.ensures in
     record {
       told = ap (λ (l : List Item). l ++ map (λ e. e.1) (filter (λ e. is_of c.args.kind e.0) (rows_at c.into_iter-key-iterator.result c.args.volume))) c.new-found.ensures.items ∙ ap (map (λ e. e.1)) (from_start c.args.kind c.args.after c.args.volume es c.into_iter-key-iterator.result is);
       few = omega (arith, ap length c.new-found.ensures.items);

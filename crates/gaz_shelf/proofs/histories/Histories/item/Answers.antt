@@ -5,8 +5,8 @@ use Rattle.gaz_shelf.proofs.histories.Histories.item.Goals as goal
 
 pub returns-in-Some : goal.returns-in-Some
 returns-in-Some c =
-    c.item_at.ensures ∙ ap (λ (vs : Versions). item_at vs c.args.volume) (ap (λ o. unwrap_or o []) c.in-Some.ensures.value ∙ sym (versions_stored c.args.self.now c.self.inside.by_key.entries c.args.key.now c.self.view_is))
+    rw (← c.of.ensures) (c.item_at.ensures ∙ ap (λ (vs : Versions). item_at vs c.args.volume) (ap (λ o. unwrap_or o []) c.in-Some.ensures.value ∙ sym (versions_stored c.args.self.now c.self.inside.by_key.entries c.of.result c.self.view_is)))
 
 pub returns-in-None : goal.returns-in-None
 returns-in-None c =
-    ap (λ (vs : Versions). item_at vs c.args.volume) (ap (λ o. unwrap_or o []) c.in-None.ensures.value ∙ sym (versions_stored c.args.self.now c.self.inside.by_key.entries c.args.key.now c.self.view_is))
+    rw (← c.of.ensures) (ap (λ (vs : Versions). item_at vs c.args.volume) (ap (λ o. unwrap_or o []) c.in-None.ensures.value ∙ sym (versions_stored c.args.self.now c.self.inside.by_key.entries c.of.result c.self.view_is)))

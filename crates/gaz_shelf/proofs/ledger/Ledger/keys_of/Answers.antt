@@ -1,6 +1,7 @@
 use Rattle.std.proofs.Common.{◌∙◌, ap, map}
 use Rattle.std.specs.Prelude.{filter}
 use Rattle.gaz_shelf.proofs.Gazetteers.{view_ascends}
+use Rattle.gaz_shelf.proofs.Marked.{in_key_order}
 use Rattle.gaz_shelf.proofs.Ledgers.{finds_from, seen}
 use Rattle.gaz_shelf.proofs.Marked.{marked_under, nothing_under}
 use Rattle.gaz_shelf.specs.Gazetteer.{view_at}
@@ -15,7 +16,7 @@ returns-in_ok-keys_marked-in-Some c =
     let g = c.self.inside.histories in
     let v = view_at g c.args.volume in
     let finds = finds_from ds g c.self.inside.index c.self.inside.touched.items c.args.self.now c.self.invariant c.self.view_is c.args.volume c.requires in
-    c.in_ok-keys_marked-in-Some.ensures ∙ marked_under c.self.inside.index (entries v) c.args.mark (view_ascends v) finds (listed c.in-Some.keys.now) c.in_order.ensures c.in-Some.ensures
+    c.in_ok-keys_marked-in-Some.ensures ∙ marked_under c.self.inside.index (entries v) c.args.mark (view_ascends v) finds (listed c.in-Some.keys.now) (in_key_order _ c.in_order.ensures) c.in-Some.ensures
     ∙ ap (λ (w : View). map (λ e. e.0) (filter (λ e. has_mark c.args.mark e.1) (entries w))) (seen ds g c.args.self.now c.self.invariant.within c.self.view_is c.args.volume)
 
 pub returns-in-None : goal.returns-in-None
