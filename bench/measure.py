@@ -55,8 +55,12 @@ def least_seconds(action, rounds):
 class Talk:
     """A conversation with gazhub, some requests at a time. So what comes before them isn't in their time."""
 
+    def __init__(self, huge_pages=False):
+        # glibc asks the kernel for huge pages where this is set.
+        self.environment = os.environ | ({"GLIBC_TUNABLES": "glibc.malloc.hugetlb=1"} if huge_pages else {})
+
     def __enter__(self):
-        self.child = subprocess.Popen([program("gazhub")], stdin=subprocess.PIPE, stdout=subprocess.PIPE, bufsize=0)
+        self.child = subprocess.Popen([program("gazhub")], stdin=subprocess.PIPE, stdout=subprocess.PIPE, bufsize=0, env=self.environment)
         return self
 
     def __exit__(self, *_fault):
