@@ -3,7 +3,7 @@ ghost use Rattle.gaz_shelf.specs.Keeper.{Idle};
 
 use crate::{closed_streets, extract, line, lookup};
 use gaz_ids::{Code, Status, Uprn, Volume};
-use gaz_records::{Kind, SharedItem, item_of_text};
+use gaz_records::{Item, Kind, SharedItem, item_of_text};
 use gaz_register::Register;
 use gaz_shelf::{Ending, Inbox, MemShelf, write_volume};
 use std::alloc::Global;
@@ -157,7 +157,7 @@ fn has_line(
     let lpi = item(rt.alloc(), Kind::Lpi, rows.0)?;
     let descriptor = item(rt.alloc(), Kind::Descriptor, rows.1)?;
     let blpu = item(rt.alloc(), Kind::Blpu, rows.2)?;
-    match (&lpi, &descriptor, &blpu) {
+    match (lpi.as_item(), descriptor.as_item(), blpu.as_item()) {
         (Item::Lpi(lpi), Item::Descriptor(descriptor), Item::Blpu(blpu)) => {
             let line = line(rt.alloc(), lpi, descriptor, blpu)?;
             assert_eq!(rt; line.into_string().as_str(), text);
