@@ -27,13 +27,13 @@ def in_file(folder, name, data):
     return path
 
 
-def seconds(command, stdin_path, rounds=3):
-    """The least time of a command over a file as its input, and its output."""
+def seconds(command, stdin_path, rounds=3, environment=None):
+    """The least time of a command over a file as its input, and its output. It finds these words in its environment too."""
     best, output = None, None
     for _ in range(rounds):
         with open(stdin_path, "rb") as given, tempfile.TemporaryFile() as taken:
             start = time.perf_counter()
-            subprocess.run(command, stdin=given, stdout=taken, check=True)
+            subprocess.run(command, stdin=given, stdout=taken, check=True, env=os.environ | (environment or {}))
             spent = time.perf_counter() - start
             taken.seek(0)
             output = taken.read()
@@ -55,12 +55,8 @@ def least_seconds(action, rounds):
 class Talk:
     """A conversation with gazhub, some requests at a time. So what comes before them isn't in their time."""
 
-    def __init__(self, huge_pages=False):
-        # glibc asks the kernel for huge pages where this is set.
-        self.environment = os.environ | ({"GLIBC_TUNABLES": "glibc.malloc.hugetlb=1"} if huge_pages else {})
-
     def __enter__(self):
-        self.child = subprocess.Popen([program("gazhub")], stdin=subprocess.PIPE, stdout=subprocess.PIPE, bufsize=0, env=self.environment)
+        self.child = subprocess.Popen([program("gazhub")], stdin=subprocess.PIPE, stdout=subprocess.PIPE, bufsize=0)
         return self
 
     def __exit__(self, *_fault):
@@ -75,20 +71,17 @@ class Talk:
             view = view[self.child.stdin.write(view) :]
 
     def ask(self, requests, replies):
-        """The seconds from the first byte of these requests to the last of their replies, which are to be these bytes."""
+        """Sends these requests and awaits their replies, which are to be these bytes."""
         sender = threading.Thread(target=self.send, args=(requests,))
         left, pieces = len(replies), []
-        start = time.perf_counter()
         sender.start()
         while left:
             piece = self.child.stdout.read(min(left, 1 << 20))
             assert piece, "gazhub ended"
             left -= len(piece)
             pieces.append(piece)
-        spent = time.perf_counter() - start
         sender.join()
         assert b"".join(pieces) == replies, "gazhub replies otherwise"
-        return spent
 
     def memory(self, word):
         """The memory of the program in bytes: VmRSS what it has now, VmHWM the most that it had."""

@@ -4,7 +4,7 @@ import sys
 
 import hub
 import streams
-from measure import TOP, Talk, in_file, least_seconds, program, seconds
+from measure import TOP, Talk, in_file, program, seconds
 
 
 def stream_row(folder, title, pair, body, count):
@@ -37,58 +37,49 @@ def plain_answers(plain, requests):
     return sink.getvalue()
 
 
-class Asked:
-    """Some requests, what the plain hub replies to them, and the least time that it takes."""
-
-    def __init__(self, plain, requests, count, rounds=7):
-        self.requests, self.count = requests, count
-        self.plain_seconds, self.replies = least_seconds(lambda: plain_answers(plain, requests), rounds)
-
-    def seconds(self, talk, rounds=3):
-        return min(talk.ask(self.requests, self.replies) for _ in range(rounds))
-
-
-def least_of_talks(load, loaded, all_asked, talks=6, huge_pages=False):
-    """The least time that gazhub takes for each of these, over some conversations that begin with a loading."""
-    times = []
-    for _ in range(talks):
-        with Talk(huge_pages) as talk:
-            talk.ask(load, loaded)
-            times.append([asked.seconds(talk) for asked in all_asked])
-    return [min(of_one) for of_one in zip(*times)]
+def beside_loading(command, loading, paths, rounds, environment=None):
+    """The least times of a program over streams that begin with a loading, less that over the loading alone, and what it replies to each."""
+    best, replies = [float("inf")] * (len(paths) + 1), [b""] * (len(paths) + 1)
+    for _ in range(rounds):
+        for k, path in enumerate((loading, *paths)):
+            spent, replies[k] = seconds(command, path, rounds=1, environment=environment)
+            best[k] = min(best[k], spent)
+    return [spent - best[0] for spent in best[1:]], replies
 
 
-def reading_rows():
-    """A district of 50,000 addresses, whose loading isn't timed: its look-ups, extracts and closed streets. The least times on both sides."""
+HUGE_PAGES = {"GLIBC_TUNABLES": "glibc.malloc.hugetlb=1"}  # asks the kernel for huge pages
+LOOK_UPS, EXTRACTS, LISTS = 99_000, 20, 20
+
+
+def reading_rows(folder):
+    """Look-ups, extracts and lists of closed streets of a district of 50,000 addresses, whose loading isn't in their time."""
     load = b"".join(streams.gazetteer())
-    plain = hub.Hub()
-    loaded = plain_answers(plain, load)
-    assert loaded.count(b'"applied"') == loaded.count(b"HTTP/1.1 201"), "the district isn't loaded"
-    look_ups = Asked(plain, streams.look_ups(33_000), 33_000)
-    extracts = Asked(plain, streams.get("/extract/1002/11") * 5, 5)
-    closed = Asked(plain, streams.get("/closed") * 5, 5)
-    times = least_of_talks(load, loaded, (look_ups, extracts, closed))
-    huge = least_of_talks(load, loaded, (look_ups,), huge_pages=True)
-    ratios = [f"{asked.plain_seconds / spent:.1f} times the plain hub" for asked, spent in zip((look_ups, extracts, closed, look_ups), times + huge)]
-    yield "99,000 look-ups over 50,000 BLPUs with LPIs", ratios[0], f"{look_ups.count / times[0]:,.0f} look-ups/s"
-    yield "the same with huge pages for our side", ratios[3], f"{look_ups.count / huge[0]:,.0f} look-ups/s"
-    yield "extracts of 50,000 items", ratios[1], f"{len(extracts.replies) / times[1] / 1e6:,.0f} MB/s"
-    listed = closed.replies.count(b'"lpi"') // closed.count
-    yield f"/closed over 50,000 LPIs, {listed:,} listed", ratios[2], f"{50_000 * closed.count / times[2]:,.0f} LPIs/s"
+    asked = (streams.look_ups(LOOK_UPS), streams.get("/extract/1002/11") * EXTRACTS, streams.get("/closed") * LISTS)
+    loading, *paths = (in_file(folder, f"stream{k}", load + requests) for k, requests in enumerate((b"", *asked)))
+    plain, same = beside_loading([sys.executable, f"{TOP}/bench/hub.py"], loading, paths, rounds=5)
+    ours, replies = beside_loading([program("gazhub")], loading, paths, rounds=15)
+    huge, _ = beside_loading([program("gazhub")], loading, paths[:1], rounds=15, environment=HUGE_PAGES)
+    assert replies == same, "the plain hub replies otherwise"
+    assert same[0].count(b'"applied"') == same[0].count(b"HTTP/1.1 201"), "the district isn't loaded"
+    look_ups, extracts, lists = (f"{theirs / spent:.1f} times the plain hub" for theirs, spent in zip(plain, ours))
+    size, listed = len(same[2]) - len(same[0]), same[3].count(b'"lpi"') // LISTS
+    yield f"{LOOK_UPS:,} look-ups over 50,000 BLPUs with LPIs", look_ups, f"{LOOK_UPS / ours[0]:,.0f} look-ups/s"
+    yield "the same with huge pages for our side", f"{plain[0] / huge[0]:.1f} times the plain hub", f"{LOOK_UPS / huge[0]:,.0f} look-ups/s"
+    yield "extracts of 50,000 items", extracts, f"{size / ours[1] / 1e6:,.0f} MB/s"
+    yield f"/closed over 50,000 LPIs, {listed:,} listed", lists, f"{50_000 * LISTS / ours[2]:,.0f} LPIs/s"
 
 
 def extract_memory_row():
     """What an extract of 50,000 items takes at its peak above what the program had before it."""
-    load = b"".join(streams.gazetteer(homes=25_000, each=500))
+    load, asked = b"".join(streams.gazetteer(homes=25_000, each=500)), streams.get("/extract/1002/51")
     plain = hub.Hub()
-    loaded = plain_answers(plain, load)
-    asked = Asked(plain, streams.get("/extract/1002/51"), 1, rounds=1)
+    loaded, extract = plain_answers(plain, load), plain_answers(plain, asked)
     with Talk() as talk:
         talk.ask(load, loaded)
         held, before = talk.memory("VmRSS"), talk.memory("VmHWM")
-        asked.seconds(talk, rounds=1)
+        talk.ask(asked, extract)
         after = talk.memory("VmHWM")
-    size = len(asked.replies)
+    size = len(extract)
     return "an extract of 50,000 items", f"peak memory {(after - held) / size:.2f} times the extract", f"{(after - before) / size:.2f} times above the peak before"
 
 
@@ -97,5 +88,5 @@ def rows(folder):
     yield stream_row(folder, "100,000 repeats of a file of 1 change", (1001, 1), streams.STREET, 100_000)
     yield stream_row(folder, "10,000 repeats of a file of 100 changes", (1001, 1), streams.streets_file(100), 10_000)
     yield from file_rows(folder)
-    yield from reading_rows()
+    yield from reading_rows(folder)
     yield extract_memory_row()

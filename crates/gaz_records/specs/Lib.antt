@@ -11,3 +11,4 @@ pub mod Lpis
 pub mod Items
 pub mod Keys
 pub mod SortKeys
+pub mod KeyTies

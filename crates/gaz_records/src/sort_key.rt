@@ -5,11 +5,13 @@ ghost use Rattle.std.specs.Cmp.{partial_order_from_own_ties};
 ghost use Rattle.std.specs.Cmp.Rules.{comparing};
 ghost use Rattle.std.specs.Ordering.{as_partial_cmp, eq_by_cmp};
 ghost use Rattle.gaz_records.specs.Keys.{key_cmp, kind_number, number_in};
+ghost use Rattle.gaz_records.specs.KeyTies.{keys_alike, written};
 ghost use Rattle.gaz_records.specs.SortKeys.{has_label, high_of, keys_total, lang_rank, low_of, seven_bytes};
 
 use crate::key::Key;
 use gaz_ids::Lang;
 use std::cmp::Ordering;
+use std::hash::{Hash, Hasher};
 use std::marker::Model;
 
 // The first number has the kind above so many others.
@@ -125,4 +127,15 @@ impl PartialEq for SortKey {
 
 impl Eq for SortKey {
     ghost laws = { Prim.search (comparing, rules, keys_total) };
+}
+
+impl Hash for SortKey {
+    ghost hash_input = { written };
+
+    ghost respects_eq = { keys_alike.fed };
+
+    fn hash<H: Hasher>(&self, state: &mut H) {
+        state.write_u64(self.high);
+        state.write_u64(self.low);
+    }
 }

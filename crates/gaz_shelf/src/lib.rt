@@ -14,6 +14,7 @@ pub mod laws;
 mod ledger;
 mod mem_shelf;
 mod reading;
+mod seed;
 mod shelf;
 mod verdict;
 mod words;

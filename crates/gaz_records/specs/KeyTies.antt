@@ -1,0 +1,57 @@
+-- Keys that tie are one, and so are hashed alike.
+use Rattle.std.proofs.Common.{◌≡◌, ℕ, Bool, true, List, [], ◌∷◌, ◌++◌, refl, sym, ap, ◌∙◌, cond, eqb}
+use Rattle.std.proofs.lemmas.Map.Lookups.{exact_bytes, exact_unsigned}
+use Rattle.std.specs.Hash as fed
+use Rattle.std.specs.Hash.{Alike, HashWrites}
+use Rattle.std.specs.Ordering.{eq_by_cmp, is_eq, nat_cmp, ordering_then}
+use Rattle.std.specs.declared.cmp.Ordering.{Ordering}
+use Rattle.std.specs.declared.cmp.Ordering.TheVariants.{Less, Equal, Greater}
+use Rattle.gaz_ids.specs.declared.lang.Lang.{Lang}
+use Rattle.gaz_ids.specs.declared.lang.Lang.TheVariants.{Cym, Eng}
+use Rattle.gaz_records.specs.Keys.{key_cmp, kind_number, number_in, text_in}
+use Rattle.gaz_records.specs.SortKeys.{high_of, low_of}
+use Rattle.gaz_records.specs.declared.key.Key.{Key}
+use Rattle.gaz_records.specs.declared.key.Key.TheVariants as key
+
+-- a key from its three parts
+lang_in : List ℕ → Lang
+lang_in [] = Cym
+lang_in (b ∷ bs) = cond (eqb b 67) Cym Eng
+
+made : ℕ → ℕ → List ℕ → Key
+made kind n t = cond (eqb kind 11) (key.Street n) (cond (eqb kind 15) (key.Descriptor n (lang_in t)) (cond (eqb kind 21) (key.Blpu n) (cond (eqb kind 23) (key.Xref t) (key.Lpi t))))
+
+made-parts : (k : Key) → made (kind_number k) (number_in k) (text_in k) ≡ k
+unfolding made lang_in
+made-parts (key.Street n) = refl
+made-parts (key.Descriptor n Cym) = refl
+made-parts (key.Descriptor n Eng) = refl
+made-parts (key.Blpu n) = refl
+made-parts (key.Xref t) = refl
+made-parts (key.Lpi t) = refl
+
+both_equal : (a b : Ordering) → ordering_then a b ≡ Equal → (a ≡ Equal) × (b ≡ Equal)
+both_equal Less b e = cc
+both_equal Equal b e = (refl, e)
+both_equal Greater b e = cc
+
+pub keys_exact : (a b : Key) → key_cmp a b ≡ Equal → a ≡ b
+keys_exact a b e =
+    let first = both_equal (nat_cmp (kind_number a) (kind_number b)) _ e in
+    let second = both_equal (nat_cmp (number_in a) (number_in b)) _ first.1 in
+    let kinds = exact_unsigned _ _ first.0 in
+    let numbers = exact_unsigned _ _ second.0 in
+    let texts = exact_bytes _ _ second.1 in
+    sym (made-parts a) ∙ (λ i. made (kinds i) (numbers i) (texts i)) ∙ made-parts b
+
+tied : (o : Ordering) → is_eq o ≡ true → o ≡ Equal
+tied Less e = cc
+tied Equal e = refl
+tied Greater e = cc
+
+-- what a hasher of a key takes: its two numbers
+abbrev pub written : Key → HashWrites
+written k = fed.u64 (high_of k) ++ fed.u64 (low_of k)
+
+pub keys_alike : Alike (eq_by_cmp key_cmp) written
+keys_alike = record { fed = λ a b h. ap written (keys_exact a b (tied (key_cmp a b) h)) }
