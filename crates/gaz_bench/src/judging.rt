@@ -8,7 +8,7 @@ use gaz_ids::{Code, Volume};
 use gaz_records::{Day, Kind, SharedItem, item_of_text};
 use gaz_register::Register;
 use gaz_rules::judge;
-use gaz_shelf::{Ending, Faulty, Inbox, MemShelf, Shelf, Verdict, write_volume};
+use gaz_shelf::{Ending, Faulty, Inbox, MemShelf, Seed, Shelf, Verdict, write_volume};
 use std::alloc::Global;
 use std::time::Instant;
 
@@ -212,7 +212,7 @@ pub fn judging_micros(rt: &HostRuntime, items: u64) -> Result<(u128, u128)> {
     let mut breach = Vec::new(alloc);
     add_breach(alloc, &mut breach)?;
     let empty = file_of(breach, alloc)?;
-    let mut shelf = MemShelf::new(alloc);
+    let mut shelf = MemShelf::new(alloc, Seed::of(1));
     fill(alloc, &mut shelf, code, addresses)?;
     let without = least_micros(rt, &mut shelf, &register, code, &empty)?;
     let with = least_micros(rt, &mut shelf, &register, code, &file)?;
@@ -236,7 +236,7 @@ pub fn judging_calls(rt: &HostRuntime, items: u64) -> Result<(String, String)> {
     let (register, code) = register_and_code(alloc)?;
     let addresses = items / 5;
     let file = mixed(alloc, addresses)?;
-    let mut shelf = Faulty::new(MemShelf::new(alloc), 0);
+    let mut shelf = Faulty::new(MemShelf::new(alloc, Seed::of(1)), 0);
     fill(alloc, &mut shelf, code, addresses)?;
     receive(&mut shelf, code)?;
     let before = counts_text(alloc, &shelf)?;

@@ -6,7 +6,7 @@ use crate::judging::{add_items, receive};
 use anyhow::{Context, Result};
 use gaz_ids::Code;
 use gaz_records::SharedItem;
-use gaz_shelf::{Ending, Inbox, MemShelf, Shelf, write_volume};
+use gaz_shelf::{Ending, Inbox, MemShelf, Seed, Shelf, write_volume};
 use std::alloc::Global;
 use std::time::Instant;
 
@@ -54,6 +54,6 @@ fn micros_of<K: Inbox>(rt: &HostRuntime, shelf: &mut K, code: Code, volumes: u64
 /// The microseconds of keeping so many volumes of 1,000 items, each on the view of the one before.
 pub fn keeping_micros(rt: &HostRuntime, volumes: u64) -> Result<u128> {
     let code = Code::of(1001).context("a code")?;
-    let mut shelf = MemShelf::new(rt.alloc());
+    let mut shelf = MemShelf::new(rt.alloc(), Seed::of(1));
     micros_of(rt, &mut shelf, code, volumes)
 }

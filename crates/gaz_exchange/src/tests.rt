@@ -7,7 +7,7 @@ ghost use Rattle.gaz_shelf.specs.Mem.{seen_in};
 use crate::{Cause, Ended, Served, Stopped, converse};
 use gaz_hub::Hub;
 use gaz_register::{RegFault, Register};
-use gaz_shelf::MemShelf;
+use gaz_shelf::{MemShelf, Seed};
 use std::alloc::{AllocError, Global};
 use std::cell::Cell;
 use std::io::{self, ErrorKind, Read, Write};
@@ -179,7 +179,7 @@ fn new_hub(alloc: Global) -> Result<Hub<MemShelf>, RegFault>
     ensures { IfOk result (λ hub. IsNotOpen (seen_in hub.keeper).progress) }
 {
     let register = Register::read(alloc, REGISTER)?;
-    Ok(Hub::new(alloc, register, MemShelf::new(alloc)))
+    Ok(Hub::new(alloc, register, MemShelf::new(alloc, Seed::of(1))))
 }
 
 type Held = (Result<Served, Stopped>, Vec<u8>);

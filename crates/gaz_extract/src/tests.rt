@@ -1,7 +1,7 @@
 ghost use Rattle.std.specs.Prelude.{◌≡◌, OnOk};
 ghost use Rattle.gaz_shelf.specs.Keeper.{Idle};
 
-use crate::{closed_streets, extract, line, lookup};
+use crate::{Seed, closed_streets, extract, line, lookup};
 use gaz_ids::{Code, Status, Uprn, Volume};
 use gaz_records::{Item, Kind, SharedItem, item_of_text};
 use gaz_register::Register;
@@ -197,7 +197,7 @@ fn lines_join_the_parts_that_are_there(rt: HostRuntime) -> Result<(), Fail> {
 fn look_ups_follow_the_volumes(rt: HostRuntime) -> Result<(), Fail> {
     let alloc = rt.alloc();
     let register = Register::read(alloc, SAMPLE.as_bytes())?;
-    let mut shelf = MemShelf::new(alloc);
+    let mut shelf = MemShelf::new(alloc, Seed::of(1));
     is_nowhere(&rt, &mut shelf, &register, 42)?;
     let street = (Kind::Street, "101,1,2001-04-01,");
     let name = (Kind::Descriptor, HIGH_STREET);
@@ -284,7 +284,7 @@ fn look_ups_follow_the_volumes(rt: HostRuntime) -> Result<(), Fail> {
 fn a_street_closes(rt: HostRuntime) -> Result<(), Fail> {
     let alloc = rt.alloc();
     let register = Register::read(alloc, SAMPLE.as_bytes())?;
-    let mut shelf = MemShelf::new(alloc);
+    let mut shelf = MemShelf::new(alloc, Seed::of(1));
     let road = [
         (Kind::Street, "150,1,1990-01-01,"),
         (Kind::Descriptor, "150,ENG,County Road,,Arden,Arden"),

@@ -3,7 +3,7 @@ ghost use Rattle.std.specs.Prelude.{OnOk};
 ghost use Rattle.gaz_shelf.specs.Keeper.{IsNotOpen, Seen};
 
 use crate::tests::{REGISTER, STREET_101, held};
-use crate::{Answer, Hub, Outcome, Refusal};
+use crate::{Answer, Hub, Outcome, Refusal, Seed};
 use gaz_register::Register;
 use gaz_shelf::{Call, Faulty, Inbox, MemShelf, ShelfFault};
 use std::process::Abort;
@@ -99,7 +99,7 @@ fn sends_all<K: Inbox + Drop>(rt: &impl Abort, hub: &mut Hub<K>) -> Result<Optio
 // Submits all while the call of this number fails; that call and the refusal, where it came to it.
 fn fails_at(rt: &(impl Abort + AllocGlobal), number: u64) -> Result<Option<(Call, Refusal)>, Fail> {
     let register = Register::read(rt.alloc(), REGISTER)?;
-    let keeper = Faulty::new(MemShelf::new(rt.alloc()), number);
+    let keeper = Faulty::new(MemShelf::new(rt.alloc(), Seed::of(1)), number);
     let mut hub = Hub::new(rt.alloc(), register, keeper);
     let refusal = sends_all(rt, &mut hub)?;
     match (hub.shelf().failed(), refusal) {

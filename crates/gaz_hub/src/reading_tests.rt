@@ -4,7 +4,7 @@ ghost use Rattle.gaz_shelf.specs.Keeper.{IsNotOpen, Seen};
 ghost use Rattle.gaz_shelf.specs.Faulting.{progress_around};
 ghost use Rattle.gaz_shelf.specs.Mem.{seen_in};
 
-use crate::{Hub, Refusal};
+use crate::{Hub, Refusal, Seed};
 use gaz_ids::{Code, Status, Uprn, Volume};
 use gaz_register::Register;
 use gaz_shelf::{Faulty, Inbox, MemShelf, Shelf, ShelfFault};
@@ -55,7 +55,7 @@ fn unjudged_hub(alloc: Global) -> Result<Hub<MemShelf>, Fail>
     ensures { IfOk result (λ hub. IsNotOpen (seen_in hub.keeper).progress) }
 {
     let register = Register::read(alloc, REGISTER)?;
-    let mut keeper = MemShelf::new(alloc);
+    let mut keeper = MemShelf::new(alloc, Seed::of(1));
     receive(&mut keeper, 1001, 1, COUNTY_ROAD)?;
     receive(&mut keeper, 1001, 2, COUNTY_ROAD_CLOSED)?;
     receive(&mut keeper, 1002, 1, NUMBER_7_COUNTY_ROAD)?;
@@ -122,7 +122,7 @@ fn the_door_of_an_extract_settles_nothing(rt: HostRuntime) -> Result<(), Fail> {
 #[test]
 fn readings_of_a_new_hub_find_nothing(rt: HostRuntime) -> Result<(), Fail> {
     let register = Register::read(rt.alloc(), REGISTER)?;
-    let mut hub = Hub::new(rt.alloc(), register, MemShelf::new(rt.alloc()));
+    let mut hub = Hub::new(rt.alloc(), register, MemShelf::new(rt.alloc(), Seed::of(1)));
     assert!(rt; hub.lookup(Uprn::of(100_001).ok_or("uprn")?)?.is_none());
     assert!(rt; hub.extract(1001, 1)?.is_none());
     assert!(rt; hub.closed_streets()?.is_empty());
@@ -134,7 +134,7 @@ fn failing_hub(alloc: Global) -> Result<Hub<Faulty<MemShelf>>, Fail>
     ensures { IfOk result (λ hub. IsNotOpen (progress_around hub.keeper.broken (seen_in hub.keeper.inner).progress)) }
 {
     let register = Register::read(alloc, REGISTER)?;
-    let mut keeper = Faulty::new(MemShelf::new(alloc), 2);
+    let mut keeper = Faulty::new(MemShelf::new(alloc, Seed::of(1)), 2);
     receive(&mut keeper, 1001, 1, b"")?;
     Ok(Hub::new(alloc, register, keeper))
 }

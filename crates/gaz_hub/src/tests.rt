@@ -5,7 +5,7 @@ ghost use Rattle.gaz_shelf.specs.Mem.{seen_in};
 use crate::{Answer, Digest, Hub, Outcome, Refusal, Standing};
 use gaz_ids::{Code, Volume};
 use gaz_register::{RegFault, Register};
-use gaz_shelf::MemShelf;
+use gaz_shelf::{MemShelf, Seed};
 use std::alloc::Global;
 use std::test::Fail;
 
@@ -45,7 +45,7 @@ fn mem_hub(alloc: Global) -> Result<Hub<MemShelf>, RegFault>
     ensures { IfOk result (λ hub. IsNotOpen (seen_in hub.keeper).progress) }
 {
     let register = Register::read(alloc, REGISTER)?;
-    Ok(Hub::new(alloc, register, MemShelf::new(alloc)))
+    Ok(Hub::new(alloc, register, MemShelf::new(alloc, Seed::of(1))))
 }
 
 #[test]

@@ -3,7 +3,7 @@ use crate::end_rules::breach;
 use crate::known::Known;
 use gaz_ids::Code;
 use gaz_records::{Kind, SharedItem, item_of_text};
-use gaz_shelf::{Faulty, MemShelf, Shelf, put_all};
+use gaz_shelf::{Faulty, MemShelf, Seed, Shelf, put_all};
 use std::alloc::Global;
 use std::test::Fail;
 
@@ -68,7 +68,7 @@ fn items(alloc: Global, rows: &[Row]) -> Result<Vec<SharedItem>, Fail> {
 
 fn asked(alloc: Global, rows: &[Row], row: Row) -> Result<(u64, Option<u8>), Fail> {
     let code = Code::of(1001).ok_or("a code")?;
-    let mut shelf = Faulty::new(MemShelf::new(alloc), 0);
+    let mut shelf = Faulty::new(MemShelf::new(alloc, Seed::of(1)), 0);
     shelf.begin(code)?;
     put_all(&mut shelf, items(alloc, rows)?)?;
     let item = item_of_text(alloc, row.0, row.1.as_bytes())?;
@@ -92,7 +92,7 @@ fn each_key_is_asked_with_few_look_ups(rt: HostRuntime) -> Result<(), Fail> {
 /// How often an item is looked up for two rows that are asked one after the other, and the least rule that the second breaks.
 fn asked_in_turn(alloc: Global, first: Row, second: Row) -> Result<(u64, Option<u8>), Fail> {
     let code = Code::of(1001).ok_or("a code")?;
-    let mut shelf = Faulty::new(MemShelf::new(alloc), 0);
+    let mut shelf = Faulty::new(MemShelf::new(alloc, Seed::of(1)), 0);
     shelf.begin(code)?;
     let rows = [STREET, NAME, BLOCK, FLAT, first, second];
     put_all(&mut shelf, items(alloc, &rows)?)?;

@@ -8,7 +8,7 @@ use crate::tests::{Case, REGISTER, are_judged, case_of, custodian, volume};
 use gaz_ids::Code;
 use gaz_records::{Kind, item_text};
 use gaz_register::Register;
-use gaz_shelf::{Call, Faulty, Inbox, MemShelf, Shelf, ShelfFault, Verdict, read_kind};
+use gaz_shelf::{Call, Faulty, Inbox, MemShelf, Seed, Shelf, ShelfFault, Verdict, read_kind};
 use std::alloc::Global;
 use std::process::Abort;
 use std::test::Fail;
@@ -57,7 +57,7 @@ const REJECTED: &str = "1002 an address of a property that isn't there
 fn shelf_before(rt: &(impl Abort + AllocGlobal)) -> Result<MemShelf, Fail>
     ensures { IfOk result (λ s. IsNotOpen (progress_of s.judging)) }
 {
-    let mut shelf = MemShelf::new(rt.alloc());
+    let mut shelf = MemShelf::new(rt.alloc(), Seed::of(1));
     are_judged(rt, &mut shelf, BEFORE)?;
     shelf.receive(custodian(1002)?, volume(2)?, b"a file")?;
     Ok(shelf)

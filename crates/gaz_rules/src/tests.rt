@@ -6,7 +6,7 @@ use gaz_changefile::{Action, Basis, Change, ChangeFile};
 use gaz_ids::{Code, Volume};
 use gaz_records::{Day, Kind, SharedItem, item_of_text};
 use gaz_register::Register;
-use gaz_shelf::{Ending, Faulty, Inbox, MemShelf, Shelf, Verdict, write_volume};
+use gaz_shelf::{Ending, Faulty, Inbox, MemShelf, Seed, Shelf, Verdict, write_volume};
 use std::alloc::Global;
 use std::process::Abort;
 use std::test::Fail;
@@ -451,7 +451,7 @@ fn asks_little(rt: &(impl Abort + AllocGlobal), backwards: bool) -> Result<(), F
     let alloc = rt.alloc();
     let register = Register::read(alloc, REGISTER)?;
     let file = chain(alloc, backwards)?;
-    let mut shelf = Faulty::new(MemShelf::new(alloc), 0);
+    let mut shelf = Faulty::new(MemShelf::new(alloc, Seed::of(1)), 0);
     let verdict = judged(alloc, &mut shelf, &register, custodian(1001)?, &file)?;
     assert!(rt; verdict == Verdict::Applied);
     let looked = shelf.counted().current;
@@ -461,32 +461,32 @@ fn asks_little(rt: &(impl Abort + AllocGlobal), backwards: bool) -> Result<(), F
 
 #[test]
 fn chains_of_parents(rt: HostRuntime) -> Result<(), Fail> {
-    are_judged(&rt, &mut MemShelf::new(rt.alloc()), PARENTS)
+    are_judged(&rt, &mut MemShelf::new(rt.alloc(), Seed::of(1)), PARENTS)
 }
 
 #[test]
 fn descriptors_and_used_keys(rt: HostRuntime) -> Result<(), Fail> {
-    are_judged(&rt, &mut MemShelf::new(rt.alloc()), NAMES)
+    are_judged(&rt, &mut MemShelf::new(rt.alloc(), Seed::of(1)), NAMES)
 }
 
 #[test]
 fn addresses(rt: HostRuntime) -> Result<(), Fail> {
-    are_judged(&rt, &mut MemShelf::new(rt.alloc()), ADDRESSES)
+    are_judged(&rt, &mut MemShelf::new(rt.alloc(), Seed::of(1)), ADDRESSES)
 }
 
 #[test]
 fn numbers_of_the_own_blocks(rt: HostRuntime) -> Result<(), Fail> {
-    are_judged(&rt, &mut MemShelf::new(rt.alloc()), NUMBERS)
+    are_judged(&rt, &mut MemShelf::new(rt.alloc(), Seed::of(1)), NUMBERS)
 }
 
 #[test]
 fn streets_of_others(rt: HostRuntime) -> Result<(), Fail> {
-    are_judged(&rt, &mut MemShelf::new(rt.alloc()), FOREIGN)
+    are_judged(&rt, &mut MemShelf::new(rt.alloc(), Seed::of(1)), FOREIGN)
 }
 
 #[test]
 fn streets_in_several_views(rt: HostRuntime) -> Result<(), Fail> {
-    let mut shelf = MemShelf::new(rt.alloc());
+    let mut shelf = MemShelf::new(rt.alloc(), Seed::of(1));
     are_judged(&rt, &mut shelf, CLOSED_THEN_OPEN)?;
     has_street_too(rt.alloc(), &mut shelf)?;
     are_judged(&rt, &mut shelf, IN_TWO_VIEWS)

@@ -5,6 +5,7 @@ ghost use Rattle.gaz_shelf.specs.Ledgers.{account_of, board_of, empty_account};
 ghost use Rattle.gaz_shelf.specs.View.{with_item, without_key};
 
 use crate::ledger::Ledger;
+use crate::seed::Seed;
 use crate::verdict::Verdict;
 use gaz_ids::Code;
 use gaz_records::{Key, SharedItem};
@@ -21,6 +22,7 @@ pub fn ledger_of(ledgers: &BTreeMap<Code, Ledger>, code: Code) -> Option<&Ledger
 /// A custodian's working view is its last one. Where it has no ledger yet, it has one then.
 pub fn open_in(
     alloc: Global,
+    seed: Seed,
     ledgers: &mut BTreeMap<Code, Ledger>,
     code: Code,
 ) -> Result<(), AllocError>
@@ -31,7 +33,7 @@ pub fn open_in(
         ledger.undo();
         return Ok(());
     }
-    ledgers.insert(code, Ledger::new(alloc))?;
+    ledgers.insert(code, Ledger::new(alloc, seed))?;
     Ok(())
 }
 

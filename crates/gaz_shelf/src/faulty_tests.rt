@@ -3,7 +3,7 @@ ghost use Rattle.std.specs.Prelude.{IfOk};
 ghost use Rattle.gaz_shelf.specs.Keeper.{IsNotOpen};
 ghost use Rattle.gaz_shelf.specs.Mem.{progress_of};
 
-use crate::{Call, Calls, Faulty, Inbox, MemShelf, Shelf, ShelfFault};
+use crate::{Call, Calls, Faulty, Inbox, MemShelf, Seed, Shelf, ShelfFault};
 use gaz_ids::{Code, Volume};
 use gaz_records::{Key, Kind, SharedItem, item_of_text};
 use std::alloc::Global;
@@ -26,7 +26,7 @@ fn custodian() -> Result<Code, Fail> {
 fn received(alloc: Global) -> Result<MemShelf, Fail>
     ensures { IfOk result (λ s. IsNotOpen (progress_of s.judging)) }
 {
-    let mut shelf = MemShelf::new(alloc);
+    let mut shelf = MemShelf::new(alloc, Seed::of(1));
     let volume = Volume::of(1).ok_or("a volume")?;
     shelf.receive(custodian()?, volume, b"a file")?;
     Ok(shelf)

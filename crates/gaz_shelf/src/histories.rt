@@ -11,6 +11,7 @@ ghost use Rattle.gaz_shelf.specs.Words.{entries, page};
 ghost use Rattle.gaz_shelf.specs.declared.index.Mark.{Mark};
 
 use crate::index::{Mark, marks_of};
+use crate::seed::Seed;
 use crate::words::{in_order, page_of};
 use gaz_histories::History;
 use gaz_records::{Key, Kind, SharedItem, SortKey};
@@ -39,7 +40,7 @@ impl Model for Histories {
 
 impl Histories {
     /// No key was used.
-    pub fn new(alloc: Global) -> Histories
+    pub fn new(alloc: Global, _seed: Seed) -> Histories
         ensures { result ≡ finite.empty }
     {
         Histories {

@@ -14,6 +14,7 @@ ghost use Rattle.gaz_shelf.specs.declared.index.Mark.{Mark};
 
 use crate::histories::Histories;
 use crate::keys::Keys;
+use crate::seed::Seed;
 use crate::words::{is_approved_of, is_approved_on, is_child_of};
 use gaz_ids::{Lang, Status, Uprn, Usrn};
 use gaz_records::{Item, Key, SharedItem};
@@ -83,7 +84,7 @@ pub struct Index {
 
 impl Index {
     /// No keys.
-    pub fn new(alloc: Global) -> Index
+    pub fn new(alloc: Global, _seed: Seed) -> Index
         ensures { (m : Mark) → keys_under result m ≡ [] }
     {
         Index {

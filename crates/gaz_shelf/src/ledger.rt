@@ -10,6 +10,7 @@ ghost use Rattle.gaz_shelf.specs.Words.{approved_of, approved_on, entries, has_c
 use crate::changes::{Leaving, change, forget_all, undo_all};
 use crate::histories::Histories;
 use crate::index::{Index, Mark, any_marked, keys_marked};
+use crate::seed::Seed;
 use crate::verdict::Verdict;
 use gaz_ids::{Lang, Uprn, Usrn};
 use gaz_records::{Key, Kind, SharedItem};
@@ -45,14 +46,14 @@ impl Model for Ledger {
 
 impl Ledger {
     /// No judgements.
-    pub fn new(alloc: Global) -> Ledger
+    pub fn new(alloc: Global, seed: Seed) -> Ledger
         ensures { result ≡ empty_account }
     {
         Ledger {
             alloc,
             verdicts: Vec::new(alloc),
-            histories: Histories::new(alloc),
-            index: Index::new(alloc),
+            histories: Histories::new(alloc, seed),
+            index: Index::new(alloc, seed),
             touched: Vec::new(alloc),
             leaving: Vec::new(alloc),
         }

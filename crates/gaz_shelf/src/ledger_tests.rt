@@ -1,5 +1,5 @@
 //! A ledger through its volumes, and what its index holds then.
-use crate::Verdict;
+use crate::{Seed, Verdict};
 use crate::changes::{change, forget_all};
 use crate::histories::Histories;
 use crate::index::{Index, Mark};
@@ -46,7 +46,7 @@ fn is_row(
 
 // Volume 1 inserts street 101, volume 2 is rejected, volume 3 closes the street and inserts 102, volume 4 takes 101.
 fn four_volumes(alloc: Global) -> Result<Ledger, Fail> {
-    let mut ledger = Ledger::new(alloc);
+    let mut ledger = Ledger::new(alloc, Seed::of(7));
     let (first, second) = (street_key(101)?, street_key(102)?);
     ledger.put(street(alloc, OPEN)?)?;
     ledger.close(Verdict::Applied)?;
@@ -121,7 +121,10 @@ fn part_of(alloc: Global, parent: &str) -> Result<Option<SharedItem>, Fail> {
 #[test]
 fn marks_without_an_item_are_forgotten(rt: HostRuntime) -> Result<(), Fail> {
     let alloc = rt.alloc();
-    let (mut histories, mut index) = (Histories::new(alloc), Index::new(alloc));
+    let (mut histories, mut index) = (
+        Histories::new(alloc, Seed::of(7)),
+        Index::new(alloc, Seed::of(7)),
+    );
     let mut leaving = Vec::new(alloc);
     let key = Key::Blpu(Uprn::of(1002).ok_or("a UPRN")?);
     for parent in ["1001", "1001", "1003"] {

@@ -25,6 +25,7 @@ pub use fault::ShelfFault;
 pub use faulty::Faulty;
 pub use mem_shelf::MemShelf;
 pub use reading::read_kind;
+pub use seed::Seed;
 pub use shelf::{Inbox, Shelf};
 pub use verdict::Verdict;
 pub use writing::{Ending, put_all, write_volume};

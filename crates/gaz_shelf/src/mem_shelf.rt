@@ -13,6 +13,7 @@ use crate::accounts::{close_in, ledger_of, open_in, put_in, take_in, undo_in};
 use crate::fault::ShelfFault;
 use crate::files::Files;
 use crate::ledger::Ledger;
+use crate::seed::Seed;
 use crate::shelf::{Inbox, Shelf};
 use crate::verdict::Verdict;
 use gaz_ids::{Code, Lang, Uprn, Usrn, Volume};
@@ -34,6 +35,7 @@ pub enum Judging {
 #[derive(Drop)]
 pub struct MemShelf {
     alloc: Global,
+    seed: Seed,
     files: Files,
     ledgers: BTreeMap<Code, Ledger>,
     judging: Judging,
@@ -41,14 +43,15 @@ pub struct MemShelf {
 }
 
 impl MemShelf {
-    /// A keeper without files and judgements.
-    pub fn new(alloc: Global) -> MemShelf
+    /// A keeper without files and judgements. Who picks keys is not to foresee the seed.
+    pub fn new(alloc: Global, seed: Seed) -> MemShelf
         ensures empty { content_in result ≡ empty_content }
         ensures idle { progress_of result.judging ≡ Idle }
         ensures count { result.failures ≡ 0 }
     {
         MemShelf {
             alloc,
+            seed,
             files: Files::new(alloc),
             ledgers: BTreeMap::new(alloc),
             judging: Judging::Idle,
@@ -199,7 +202,7 @@ impl MemShelf {
         ensures fault { result ≡ (if self.old.failures == 2 ^ 64 - 1 then ShelfFault.Memory else ShelfFault.Store) }
         ensures kept { self.old.failures ≤ self.new.failures }
         ensures store { result ≡ ShelfFault.Store → self.old.failures < self.new.failures }
-        ensures others { self.new ≡ record { alloc = self.old.alloc; files = self.old.files; ledgers = self.old.ledgers; judging = self.old.judging; failures = self.new.failures } }
+        ensures others { self.new ≡ record { alloc = self.old.alloc; seed = self.old.seed; files = self.old.files; ledgers = self.old.ledgers; judging = self.old.judging; failures = self.new.failures } }
     {
         if self.failures == u64::MAX {
             return ShelfFault::Memory;
@@ -335,7 +338,7 @@ impl Shelf for MemShelf {
     }
 
     fn begin(&mut self, code: Code) -> Result<(), ShelfFault> {
-        match open_in(self.alloc, &mut self.ledgers, code) {
+        match open_in(self.alloc, self.seed, &mut self.ledgers, code) {
             Ok(()) => {
                 self.judging = Judging::Open(code);
                 Ok(())
@@ -378,7 +381,7 @@ impl Shelf for MemShelf {
 
     fn skip(&mut self, code: Code, place: u64, rule: u8) -> Result<(), ShelfFault> {
         self.clear();
-        open_in(self.alloc, &mut self.ledgers, code)?;
+        open_in(self.alloc, self.seed, &mut self.ledgers, code)?;
         close_in(&mut self.ledgers, code, Verdict::Rejected { place, rule })?;
         Ok(())
     }

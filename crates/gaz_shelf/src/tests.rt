@@ -1,7 +1,7 @@
 ghost use Rattle.std.specs.Prelude.{◌≡◌, ◌≤◌, OnOk};
 ghost use Rattle.gaz_shelf.specs.Keeper.{Idle};
 
-use crate::{Ending, Faulty, Inbox, MemShelf, Shelf, ShelfFault, Verdict, read_kind, write_volume};
+use crate::{Ending, Faulty, Inbox, MemShelf, Seed, Shelf, ShelfFault, Verdict, read_kind, write_volume};
 use gaz_ids::{Code, Lang, Uprn, Usrn, Volume};
 use gaz_records::{Key, Kind, RecordKey, SharedItem, item_of_text, item_text};
 use std::alloc::Global;
@@ -507,13 +507,13 @@ fn shelf_pair<K: Inbox>(rt: &(impl Abort + AllocGlobal), shelf: &mut K) -> Resul
 
 #[test]
 fn whole_maps_answer_so(rt: HostRuntime) -> Result<(), Fail> {
-    let mut shelf = MemShelf::new(rt.alloc());
+    let mut shelf = MemShelf::new(rt.alloc(), Seed::of(1));
     shelf_pair(&rt, &mut shelf)
 }
 
 #[test]
 fn a_keeper_around_another_answers_so(rt: HostRuntime) -> Result<(), Fail> {
-    let mut shelf = Faulty::new(MemShelf::new(rt.alloc()), 0);
+    let mut shelf = Faulty::new(MemShelf::new(rt.alloc(), Seed::of(1)), 0);
     shelf_pair(&rt, &mut shelf)?;
     let calls = shelf.counted();
     assert_eq!(rt; (calls.current, calls.reached, calls.received), (5, 3, 2));

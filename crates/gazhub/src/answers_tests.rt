@@ -6,6 +6,7 @@ use crate::fixtures::*;
 use crate::harness::*;
 use crate::new_hub;
 use gaz_exchange::{Ended, Served, converse};
+use gaz_shelf::Seed;
 use std::process::Abort;
 use std::test::Fail;
 
@@ -33,7 +34,7 @@ fn what_is_not_there_is_named(rt: HostRuntime) -> Result<(), Fail> {
 
 #[test]
 fn a_method_and_a_length_are_asked_for(rt: HostRuntime) -> Result<(), Fail> {
-    let mut hub = new_hub(rt.alloc())?;
+    let mut hub = new_hub(rt.alloc(), Seed::of(1))?;
     let case = post(COUNTY_1, STREET_101, CREATED, APPLIED);
     let request = request_of(rt.alloc(), &case)?;
     let got = written(rt.alloc(), &mut hub, &request, 2);
@@ -65,7 +66,7 @@ fn a_list_is_asked_for_until_the_end(rt: HostRuntime) -> Result<(), Fail> {
     let none = "{\"closed\":[]}";
     let plain = reply_of(rt.alloc(), OK, "", none)?;
     let last = reply_of(rt.alloc(), OK, "Connection: close\r\n", none)?;
-    let mut hub = new_hub(rt.alloc())?;
+    let mut hub = new_hub(rt.alloc(), Seed::of(1))?;
     let three =
         b"GET /closed HTTP/1.1\r\n\r\nGET /closed HTTP/1.1\r\n\r\nGET /closed HTTP/1.1\r\n\r\n";
     let mut out = Vec::new(rt.alloc());

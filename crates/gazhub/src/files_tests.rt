@@ -4,6 +4,7 @@ use crate::files_fixtures::*;
 use crate::fixtures::*;
 use crate::harness::*;
 use crate::new_hub;
+use gaz_shelf::Seed;
 use std::alloc::{AllocError, Global};
 use std::fmt::Write;
 use std::process::Abort;
@@ -46,7 +47,7 @@ fn holds_first<R: Abort + AllocGlobal>(
         status: CREATED,
         reply: &told,
     };
-    let mut hub = new_hub(rt.alloc())?;
+    let mut hub = new_hub(rt.alloc(), Seed::of(1))?;
     let request = request_of(rt.alloc(), &case)?;
     let got = written(rt.alloc(), &mut hub, &request, 2);
     let wanted = reply_of(rt.alloc(), CREATED, "", &told)?;

@@ -6,7 +6,7 @@ ghost use Rattle.gaz_shelf.specs.Mem.{seen_in};
 use crate::new_hub;
 use gaz_exchange::converse;
 use gaz_hub::Hub;
-use gaz_shelf::MemShelf;
+use gaz_shelf::{MemShelf, Seed};
 use std::alloc::{AllocError, Global};
 use std::process::Abort;
 use std::test::Fail;
@@ -123,7 +123,7 @@ pub fn holds<R: Abort + AllocGlobal>(rt: &R, cases: &[Case<'_>]) -> Result<(), F
 }
 
 fn hold_alone<R: Abort + AllocGlobal>(rt: &R, cases: &[Case<'_>]) -> Result<(), Fail> {
-    let mut hub = new_hub(rt.alloc())?;
+    let mut hub = new_hub(rt.alloc(), Seed::of(1))?;
     for case in cases {
         let request = request_of(rt.alloc(), case)?;
         let got = written(rt.alloc(), &mut hub, &request, 2);
@@ -140,7 +140,7 @@ fn hold_alone<R: Abort + AllocGlobal>(rt: &R, cases: &[Case<'_>]) -> Result<(), 
 }
 
 fn hold_together<R: Abort + AllocGlobal>(rt: &R, cases: &[Case<'_>]) -> Result<(), Fail> {
-    let mut hub = new_hub(rt.alloc())?;
+    let mut hub = new_hub(rt.alloc(), Seed::of(1))?;
     let mut stream = Vec::new(rt.alloc());
     let mut wanted = String::new(rt.alloc());
     for case in cases {

@@ -28,11 +28,12 @@ mod tests;
 use gaz_exchange::{Cause, Served, Stopped, converse};
 use gaz_hub::Hub;
 use gaz_register::{RegFault, Register};
-use gaz_shelf::MemShelf;
+use gaz_shelf::{MemShelf, Seed};
 use sample::SAMPLE;
 use std::alloc::Global;
 use std::io::{BufWriter, Read, Write};
 use std::process::ExitCode;
+use std::random::RandomSource;
 use std::{env, io};
 
 /// The most requests of one run.
@@ -43,36 +44,48 @@ const FAULT: u8 = 3;
 const USAGE: u8 = 2;
 
 // A hub of the custodians of the sample register, that received nothing.
-fn new_hub(alloc: Global) -> Result<Hub<MemShelf>, RegFault>
+fn new_hub(alloc: Global, seed: Seed) -> Result<Hub<MemShelf>, RegFault>
     ensures register { IfOk result (λ hub. register_of SAMPLE.now ≡ Ok hub.register) }
     ensures idle { IfOk result (λ hub. IsNotOpen (seen_in hub.keeper).progress) }
     ensures empty { IfOk result (λ hub. state_of (seen_in hub.keeper).content ≡ step.new_hub) }
 {
     let register = Register::read(alloc, SAMPLE.as_bytes())?;
-    Ok(Hub::new(alloc, register, MemShelf::new(alloc)))
+    Ok(Hub::new(alloc, register, MemShelf::new(alloc, seed)))
 }
 
 // Answers the requests of a stream, at a hub that begins with nothing.
 fn answer_all<R: Read, W: Write>(
     alloc: Global,
+    seed: Seed,
     r: &mut R,
     w: &mut W,
 ) -> Result<Result<Served, Stopped>, RegFault>
     ensures { IfOk result (Plays SAMPLE.now MOST (R.remaining r.old) (R.remaining r.new) (W.contents w.old) (W.contents w.new)) }
 {
-    let mut hub = new_hub(alloc)?;
+    let mut hub = new_hub(alloc, seed)?;
     Ok(converse(alloc, r, w, &mut hub, MOST))
 }
 
+// A seed that nobody foresees.
+fn random_seed(rt: &impl RandomSource) -> io::Result<Seed> {
+    let mut bytes = [0; 8];
+    rt.fill_bytes(&mut bytes)?;
+    Ok(Seed::of(u64::from_le_bytes(bytes)))
+}
+
 // Holds a conversation on standard input and output. The exit status.
-fn play<R: Input + Print + Eprint + AllocGlobal>(rt: &R) -> u8
+fn play<R: Input + Print + Eprint + AllocGlobal + RandomSource>(rt: &R) -> u8
     ensures { (result ≡ 0) ⊎ (result ≡ 3) }
 {
+    let Ok(seed) = random_seed(rt) else {
+        let _ = eprintln!(rt; "gazhub: ReadFault");
+        return FAULT;
+    };
     let Ok(mut w) = BufWriter::new(rt.alloc(), io::writer(rt)) else {
         let _ = eprintln!(rt; "gazhub: Memory");
         return FAULT;
     };
-    let Ok(ended) = answer_all(rt.alloc(), &mut rt.reader(), &mut w) else {
+    let Ok(ended) = answer_all(rt.alloc(), seed, &mut rt.reader(), &mut w) else {
         let _ = eprintln!(rt; "gazhub: Memory");
         return FAULT;
     };

@@ -4,6 +4,7 @@ use crate::fixtures::*;
 use crate::harness::*;
 use crate::new_hub;
 use gaz_exchange::{Ended, converse};
+use gaz_shelf::Seed;
 use std::process::Abort;
 use std::test::Fail;
 
@@ -153,7 +154,7 @@ fn faulty_files_are_received(rt: HostRuntime) -> Result<(), Fail> {
 
 #[test]
 fn sizes_and_volumes_have_limits(rt: HostRuntime) -> Result<(), Fail> {
-    let mut hub = new_hub(rt.alloc())?;
+    let mut hub = new_hub(rt.alloc(), Seed::of(1))?;
     let wide = vec![in rt.alloc(); b'a'; 1_048_576]?;
     let case = Case {
         method: "POST",
@@ -277,7 +278,7 @@ fn what_breaks_the_framing_is_refused(rt: HostRuntime) -> Result<(), Fail> {
         ),
         ("POST", "Bad Header: x\r\n", "", "400 Bad Request", 40),
     ] {
-        let mut hub = new_hub(rt.alloc())?;
+        let mut hub = new_hub(rt.alloc(), Seed::of(1))?;
         let request = format!(in rt.alloc(); "{method} {path} HTTP/1.1\r\n{headers}\r\n{body}")?;
         let got = written(rt.alloc(), &mut hub, request.as_bytes(), 2);
         let refusal = format!(in rt.alloc(); "{{\"refusal\":{number}}}")?;
@@ -292,7 +293,7 @@ fn what_breaks_the_framing_is_refused(rt: HostRuntime) -> Result<(), Fail> {
         let wanted = reply_of(rt.alloc(), NOT_FOUND, "", "{\"refusal\":17}")?;
         assert_eq!(rt; after.as_slice(), wanted.as_bytes(), "{headers}");
     }
-    let mut hub = new_hub(rt.alloc())?;
+    let mut hub = new_hub(rt.alloc(), Seed::of(1))?;
     let got = written(
         rt.alloc(),
         &mut hub,
@@ -319,7 +320,7 @@ fn a_conversation_ends_as_it_is_told(rt: HostRuntime) -> Result<(), Fail> {
         "Connection: close\r\n",
         "{\"refusal\":41}",
     )?;
-    let mut hub = new_hub(rt.alloc())?;
+    let mut hub = new_hub(rt.alloc(), Seed::of(1))?;
     let mut reader = three.as_slice();
     let mut out = Vec::new(rt.alloc());
     let served = converse(rt.alloc(), &mut reader, &mut out, &mut hub, 2).map_err(|_| "stopped")?;
