@@ -1,5 +1,5 @@
 -- Keys as two numbers that compare as keys do.
-use Rattle.std.specs.Prelude.{◌≡◌, ℕ, zero, suc, ◌+◌, ◌*◌, ◌/◌, ◌%◌, ◌<◌, ◌==◌, if◌then◌else◌, Bool, true, List, [], ◌∷◌, ◌++◌, take, drop}
+use Rattle.std.specs.Prelude.{◌≡◌, codes, ℕ, zero, suc, ◌+◌, ◌*◌, ◌/◌, ◌%◌, ◌<◌, ◌==◌, if◌then◌else◌, Bool, true, List, [], ◌∷◌, ◌++◌, take, drop}
 use Rattle.gaz_ids.specs.declared.lang.Lang.{Lang}
 use Rattle.gaz_ids.specs.declared.lang.Lang.TheVariants.{Cym, Eng}
 use Rattle.std.proofs.lemmas.Cmp.{on_total, then_total, nat_list_cmp_total}
@@ -84,3 +84,12 @@ pub record IsSortKey (high low : ℕ) : Type 0 where
   pub second : low_of (key_at high low) ≡ low
   pub number : number_in (key_at high low) < seven_bytes
   pub label : has_label (key_at high low) ≡ true
+
+-- ---- property 42, the English name of street 101, and LPI K1
+
+abbrev pub WorkedSortKeys : Type 0
+WorkedSortKeys =
+    (high_of (key.Blpu 42) ≡ 1513209474796486698) × (low_of (key.Blpu 42) ≡ 0)
+    × (high_of (key.Descriptor 101 Eng) ≡ 1080863910568919141) × (low_of (key.Descriptor 101 Eng) ≡ 1)
+    × (high_of (key.Lpi (codes "K1")) ≡ 1750546756233330688) × (low_of (key.Lpi (codes "K1")) ≡ 0)
+    × (key_at 1513209474796486698 0 ≡ key.Blpu 42) × (key_at 1080863910568919141 1 ≡ key.Descriptor 101 Eng) × (key_at 1750546756233330688 0 ≡ key.Lpi (codes "K1"))

@@ -1,5 +1,6 @@
 ghost use Rattle.gaz_records.specs.Items.{ItemsReadBack};
 ghost use Rattle.gaz_records.specs.Keys.{KeysAreOrdered};
+ghost use Rattle.gaz_records.specs.SortKeys.{WorkedSortKeys};
 
 /// An item reads back as the same item, from the texts of its fields and from its row.
 pub fn items_read_back()
@@ -9,4 +10,9 @@ pub fn items_read_back()
 /// The order of keys is total, and keys that tie are one.
 pub fn keys_are_ordered()
     ensures { KeysAreOrdered }
+{}
+
+/// Some keys as two numbers.
+pub fn worked_sort_keys()
+    ensures { WorkedSortKeys }
 {}

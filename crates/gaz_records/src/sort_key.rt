@@ -96,9 +96,9 @@ impl Ord for SortKey {
 
     ghost total = { Prim.search (comparing, rules, keys_total) };
 
-    ghost matches_partial_cmp = { Prim.search (comparing, rules, keys_total) };
+    ghost matches_partial_cmp = { Prim.search (comparing, rules) };
 
-    ghost matches_eq = { Prim.search (comparing, rules, keys_total) };
+    ghost matches_eq = { Prim.search (comparing, rules) };
 
     fn cmp(&self, other: &Self) -> Ordering {
         self.high.cmp(&other.high).then(self.low.cmp(&other.low))
@@ -108,7 +108,7 @@ impl Ord for SortKey {
 impl PartialOrd for SortKey {
     ghost partial_cmp = { as_partial_cmp key_cmp };
 
-    ghost laws = { partial_order_from_own_ties (Prim.search (comparing, rules, keys_total)) (Prim.search (comparing, rules, keys_total)) };
+    ghost laws = { partial_order_from_own_ties (Prim.search (comparing, rules, keys_total)) (Prim.search (comparing, rules)) };
 
     fn partial_cmp(&self, other: &Self) -> Option<Ordering> {
         Some(self.cmp(other))
