@@ -3,17 +3,7 @@ ghost use Rattle.std.specs.Prelude.{◌≡◌, option_map};
 ghost use Rattle.std.specs.Option.{option_and_then};
 ghost use Rattle.gaz_extract.specs.Finding.{as_blpu, as_descriptor, as_lpi, as_street};
 
-use gaz_records::{Blpu, Descriptor, Item, Lpi, SharedItem, Street};
-
-// The item that is there.
-fn item_in(item: &Option<SharedItem>) -> Option<&Item>
-    ensures { option_map (λ i. i.now) result ≡ item.now }
-{
-    match item {
-        Some(item) => Some(item.as_item()),
-        None => None,
-    }
-}
+use gaz_records::{Blpu, Descriptor, Item, Lpi, SharedItem, Street, item_in};
 
 /// The street, where it is one.
 pub fn street_in(item: &Option<SharedItem>) -> Option<&Street>

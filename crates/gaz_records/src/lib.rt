@@ -26,7 +26,7 @@ pub use item::{Item, Kind, item_of_text, item_text, read_item, write_item};
 pub use key::{Key, key_of};
 pub use label::{Label, RecordKey, Source};
 pub use lpi::Lpi;
-pub use shared::SharedItem;
+pub use shared::{SharedItem, item_in};
 pub use sort_key::SortKey;
 pub use street::Street;
 pub use xref::Xref;

@@ -1,5 +1,5 @@
 //! An item that several hold.
-ghost use Rattle.std.specs.Prelude.{◌≡◌, IfOk};
+ghost use Rattle.std.specs.Prelude.{◌≡◌, IfOk, option_map};
 
 use crate::item::Item;
 use std::alloc::{AllocError, Global};
@@ -43,6 +43,16 @@ impl SharedItem {
         ensures { result.now ≡ self.now }
     {
         self.item.as_ref()
+    }
+}
+
+/// The item that is there.
+pub fn item_in(shared: &Option<SharedItem>) -> Option<&Item>
+    ensures { option_map (λ i. i.now) result ≡ shared.now }
+{
+    match shared {
+        Some(item) => Some(item.as_item()),
+        None => None,
     }
 }
 

@@ -11,10 +11,9 @@ ghost use Rattle.gaz_rules.specs.EndRules.{as_blpu, blpu_at, closed_under_lpi, i
 ghost use Rattle.gaz_rules.specs.Rings.{Knows};
 
 use crate::rings::{Walked, is_on_ring};
-use crate::stored::item_in;
 use crate::streets::StreetState;
 use gaz_ids::{Code, Lang, Status, Uprn, Usrn};
-use gaz_records::{Blpu, Item, Key, SharedItem};
+use gaz_records::{Blpu, Item, Key, SharedItem, item_in};
 use gaz_shelf::{Shelf, ShelfFault};
 
 /// The end rules that a key breaks by itself.

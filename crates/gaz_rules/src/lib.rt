@@ -14,7 +14,6 @@ pub mod laws;
 mod name_faults;
 mod record_rules;
 mod rings;
-mod stored;
 mod streets;
 #[cfg(test)]
 mod tests;

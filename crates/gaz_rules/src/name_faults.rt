@@ -13,10 +13,9 @@ ghost use Rattle.gaz_rules.specs.EndRules.{same_key};
 ghost use Rattle.gaz_rules.specs.Knowing.{Recalls};
 
 use crate::last_street::{LastStreet, faults_on};
-use crate::stored::item_in;
 use gaz_changefile::Basis;
 use gaz_ids::{Code, Status, Uprn};
-use gaz_records::{Item, Key, Lpi, SharedItem};
+use gaz_records::{Item, Key, Lpi, SharedItem, item_in};
 use gaz_shelf::{Shelf, ShelfFault};
 
 /// The end rules that an item breaks by what it names.

@@ -8,9 +8,8 @@ ghost use Rattle.gaz_shelf.specs.Keeper.{Open, Reads};
 ghost use Rattle.gaz_rules.specs.EndRules.{is_own_ancestor, parent_of};
 ghost use Rattle.gaz_rules.specs.Rings.{Knows, visit_of};
 
-use crate::stored::item_in;
 use gaz_ids::{Code, Uprn};
-use gaz_records::{Item, Key};
+use gaz_records::{Item, Key, item_in};
 use gaz_shelf::{Shelf, ShelfFault};
 use std::alloc::{AllocError, Global};
 use std::collections::BTreeMap;

@@ -8,10 +8,9 @@ ghost use Rattle.gaz_rules.specs.Bases.{are_reached, basis_views};
 ghost use Rattle.gaz_rules.specs.EndRules.{found_in, is_closed};
 ghost use Rattle.gaz_rules.specs.Streets.{IsReached, state_of, street_faults, street_state, view_in};
 
-use crate::stored::item_in;
 use gaz_changefile::Basis;
 use gaz_ids::{Code, Lang, Usrn};
-use gaz_records::{Item, Key, SharedItem};
+use gaz_records::{Item, Key, SharedItem, item_in};
 use gaz_shelf::{Shelf, ShelfFault};
 
 /// Whether a street is there, and whether it is closed.
