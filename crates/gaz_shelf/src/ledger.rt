@@ -52,7 +52,7 @@ impl Ledger {
             alloc,
             verdicts: Vec::new(alloc),
             histories: Histories::new(alloc),
-            index: Index::new(alloc),
+            index: Index::new(alloc, crate::seed::Seed::of(0)),
             touched: Vec::new(alloc),
             leaving: Vec::new(alloc),
         }
