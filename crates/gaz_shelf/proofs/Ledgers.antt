@@ -20,7 +20,7 @@ use Rattle.gaz_shelf.proofs.Judgements.{IsWithin, count_judged, later_view, view
 use Rattle.gaz_shelf.proofs.Marked.{finds_with_more, still_finds}
 use Rattle.gaz_shelf.proofs.Versions.{before_next, before_within, cut_within, item_set, last, set_within, until_before, until_set}
 use Rattle.gaz_shelf.specs.Gazetteer.{ChangesAt, Gazetteer, judgements, versions_at, view_at}
-use Rattle.gaz_shelf.specs.Indexes.{FindsAll, has_mark, is_under, mark_cmp, marked_at}
+use Rattle.gaz_shelf.specs.Indexes.{FindsAll, has_mark, is_under, marked_at, same_mark}
 use Rattle.gaz_shelf.specs.Ledgers.{Account, Finds, IsLedger, account_at, empty_account, view_in}
 use Rattle.gaz_shelf.specs.View.{View, empty_view}
 use Rattle.gaz_shelf.specs.Words.{entries}
@@ -49,7 +49,7 @@ finds_more x y g n more finds =
 
 -- a key is taken from under a mark that its item has neither in the last view nor in the working one
 pub finds_less : (x y : Index) (g : Gazetteer) (n : ℕ) (mark : Mark) (key : Key) → marked_at (entries (view_at g n)) mark key ≡ false → marked_at (entries (view_at g (n + 1))) mark key ≡ false
-    → ((m : Mark) (k : Key) → is_under y m k ≡ (not (eq_by_cmp mark_cmp mark m && eq_by_cmp key_cmp key k) && is_under x m k)) → Finds x g n → Finds y g n
+    → ((m : Mark) (k : Key) → is_under y m k ≡ (not (same_mark mark m && eq_by_cmp key_cmp key k) && is_under x m k)) → Finds x g n → Finds y g n
 finds_less x y g n mark key before_that now less finds =
     record { last = still_finds x y (entries (view_at g n)) mark key finds.last before_that less; working = still_finds x y (entries (view_at g (n + 1))) mark key finds.working now less }
 

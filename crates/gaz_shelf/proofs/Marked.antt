@@ -20,9 +20,9 @@ use Rattle.gaz_records.specs.contracts.key.KeyOrd.TheImpl.{cmp-value}
 use Rattle.gaz_records.specs.declared.item.Item.{Item}
 use Rattle.gaz_records.specs.declared.item.Item.TheVariants as item
 use Rattle.gaz_records.specs.declared.key.Key.{Key}
-use Rattle.gaz_shelf.proofs.Indexes.{same_mark}
+use Rattle.gaz_shelf.proofs.Marks.{marks_exact}
 use Rattle.gaz_shelf.proofs.Trees.{entries_tree}
-use Rattle.gaz_shelf.specs.Indexes.{FindsAll, has_mark, is_under, keys_under, mark_cmp, marked_at}
+use Rattle.gaz_shelf.specs.Indexes.{FindsAll, has_mark, is_under, keys_under, marked_at, same_mark}
 use Rattle.gaz_shelf.specs.declared.index.Index.{Index}
 use Rattle.gaz_shelf.specs.Words.{is_approved, is_approved_on, is_in}
 use Rattle.gaz_shelf.specs.declared.index.Mark.{Mark}
@@ -172,20 +172,20 @@ any_lang usrn es = either_row _ _ _ (λ e. either_lang usrn e.1) es
 module _ (x y : Index) (es : List Row) where
   -- a key is taken from under a mark that its item hasn't
   pub still_finds : (mark : Mark) (key : Key) → FindsAll x es → marked_at es mark key ≡ false
-      → ((m : Mark) (k : Key) → is_under y m k ≡ (not (eq_by_cmp mark_cmp mark m && eq_by_cmp key_cmp key k) && is_under x m k)) → FindsAll y es
+      → ((m : Mark) (k : Key) → is_under y m k ≡ (not (same_mark mark m && eq_by_cmp key_cmp key k) && is_under x m k)) → FindsAll y es
   still_finds mark key finds without less m k = by_item (find key_cmp k es) refl (finds m k)
     where
-      by_same : (i : Item) → find key_cmp k es ≡ Some i → has_mark m i ≡ true → (a : Bool) → eq_by_cmp mark_cmp mark m ≡ a → (b : Bool) → eq_by_cmp key_cmp key k ≡ b → is_under x m k ≡ true → (not (a && b) && is_under x m k) ≡ true
+      by_same : (i : Item) → find key_cmp k es ≡ Some i → has_mark m i ≡ true → (a : Bool) → same_mark mark m ≡ a → (b : Bool) → eq_by_cmp key_cmp key k ≡ b → is_under x m k ≡ true → (not (a && b) && is_under x m k) ≡ true
       by_same i there is true at true at' under =
           let other : marked_at es mark key ≡ true =
-          (λ j. marked_at es (same_mark mark m at j) (same_key key k at' j)) ∙ ap (λ (o : Option Item). option_map_or (has_mark m) o false) there ∙ is in
+          (λ j. marked_at es (marks_exact mark m at j) (same_key key k at' j)) ∙ ap (λ (o : Option Item). option_map_or (has_mark m) o false) there ∙ is in
           cc
       by_same i there is true at false at' under = under
       by_same i there is false at b at' under = under
 
       by_item : (o : Option Item) → find key_cmp k es ≡ o → IfSome o (λ i. has_mark m i ≡ true → is_under x m k ≡ true) → IfSome o (λ i. has_mark m i ≡ true → is_under y m k ≡ true)
       by_item None there h = tt
-      by_item (Some i) there h = λ is. less m k ∙ by_same i there is (eq_by_cmp mark_cmp mark m) refl (eq_by_cmp key_cmp key k) refl (h is)
+      by_item (Some i) there h = λ is. less m k ∙ by_same i there is (same_mark mark m) refl (eq_by_cmp key_cmp key k) refl (h is)
 
   -- more is under marks
   pub finds_with_more : FindsAll x es → ((m : Mark) (k : Key) → is_under x m k ≡ true → is_under y m k ≡ true) → FindsAll y es

@@ -1,12 +1,10 @@
 -- Where a view's items are found beside their keys.
-use Rattle.std.specs.Prelude.{◌≡◌, ℕ, Bool, true, false, List, [], ◌∷◌, Some}
-use Rattle.std.specs.BTreeMap.{is_at}
+use Rattle.std.specs.Prelude.{◌≡◌, ◌==◌, Bool, true, false, List, [], ◌∷◌, Some}
 use Rattle.std.specs.FinMap.{find}
 use Rattle.std.specs.List.{list_any}
 use Rattle.std.specs.Map.{lookup}
 use Rattle.std.specs.Option.{IfSome, option_map_or}
-use Rattle.std.specs.Ordering.{eq_by_cmp, nat_cmp, ordering_then}
-use Rattle.std.specs.declared.cmp.Ordering.{Ordering}
+use Rattle.std.specs.Ordering.{eq_by_cmp}
 use Rattle.gaz_ids.specs.declared.lang.Lang.TheVariants.{Cym, Eng}
 use Rattle.gaz_records.specs.Keys.{key_cmp}
 use Rattle.gaz_records.specs.declared.item.Item.{Item}
@@ -25,22 +23,13 @@ has_mark (WelshOn usrn) i = is_approved_on usrn (Some Cym) i
 has_mark (EnglishOn usrn) i = is_approved_on usrn (Some Eng) i
 has_mark (PartOf uprn) i = is_child_of uprn i
 
--- ---- the order of marks: by what they say, then by number
-
-abbrev pub rank : Mark → ℕ
-rank (AddressOf n) = 0
-rank (WelshOn n) = 1
-rank (EnglishOn n) = 2
-rank (PartOf n) = 3
-
-abbrev pub number_in : Mark → ℕ
-number_in (AddressOf n) = n
-number_in (WelshOn n) = n
-number_in (EnglishOn n) = n
-number_in (PartOf n) = n
-
-abbrev pub mark_cmp : Mark → Mark → Ordering
-mark_cmp a b = ordering_then (nat_cmp (rank a) (rank b)) (nat_cmp (number_in a) (number_in b))
+-- whether two marks are one
+abbrev pub same_mark : Mark → Mark → Bool
+same_mark (AddressOf a) (AddressOf b) = a == b
+same_mark (WelshOn a) (WelshOn b) = a == b
+same_mark (EnglishOn a) (EnglishOn b) = a == b
+same_mark (PartOf a) (PartOf b) = a == b
+same_mark _ _ = false
 
 -- ---- what is under a mark
 
@@ -50,7 +39,7 @@ listed (One k) = k ∷ []
 listed (Many s) = s.keys
 
 abbrev pub keys_under : Index → Mark → List Key
-keys_under x m = option_map_or listed (lookup (is_at (mark_cmp m)) x.by_mark.entries) []
+keys_under x m = option_map_or listed (lookup (same_mark m) x.by_mark.entries) []
 
 abbrev pub has_key : List Key → Key → Bool
 has_key ks k = list_any (eq_by_cmp key_cmp k) ks

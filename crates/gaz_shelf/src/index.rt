@@ -8,7 +8,7 @@ ghost use Rattle.gaz_histories.specs.Histories.{item_at};
 ghost use Rattle.gaz_records.specs.Keys.{key_cmp};
 ghost use Rattle.gaz_records.specs.declared.key.Key.{Key};
 ghost use Rattle.gaz_shelf.specs.Gazetteer.{versions_at, view_at};
-ghost use Rattle.gaz_shelf.specs.Indexes.{has_mark, is_under, keys_under, listed, mark_cmp, marked_at};
+ghost use Rattle.gaz_shelf.specs.Indexes.{has_mark, is_under, keys_under, listed, marked_at, same_mark};
 ghost use Rattle.gaz_shelf.specs.Words.{entries};
 ghost use Rattle.gaz_shelf.specs.declared.index.Mark.{Mark};
 
@@ -19,10 +19,10 @@ use crate::words::{is_approved_of, is_approved_on, is_child_of};
 use gaz_ids::{Lang, Status, Uprn, Usrn};
 use gaz_records::{Item, Key, SharedItem};
 use std::alloc::{AllocError, Global};
-use std::collections::BTreeMap;
+use std::collections::HashMap;
 
 /// What items are looked up by beside their keys.
-#[derive(Clone, Copy, Debug, PartialEq, Eq, PartialOrd, Ord)]
+#[derive(Clone, Copy, Debug, PartialEq, Eq, Hash)]
 pub enum Mark {
     /// An approved LPI of this BLPU.
     AddressOf(Uprn),
@@ -34,7 +34,7 @@ pub enum Mark {
     PartOf(Uprn),
 }
 
-// A search in the index goes by many marks, so each is small.
+// An index holds a mark for nearly every property, so each is small.
 const _: () = prove!(size_of::<Mark>() == 16);
 
 impl Mark {
@@ -79,17 +79,17 @@ pub fn marks_of(item: &Item) -> (Option<Mark>, Option<Mark>)
 #[derive(Drop)]
 pub struct Index {
     alloc: Global,
-    by_mark: BTreeMap<Mark, Keys>,
+    by_mark: HashMap<Mark, Keys, Seed>,
 }
 
 impl Index {
     /// No keys.
-    pub fn new(alloc: Global, _seed: Seed) -> Index
+    pub fn new(alloc: Global, seed: Seed) -> Index
         ensures { (m : Mark) → keys_under result m ≡ [] }
     {
         Index {
             alloc,
-            by_mark: BTreeMap::new(alloc),
+            by_mark: HashMap::with_hasher(alloc, seed),
         }
     }
 
@@ -102,7 +102,7 @@ impl Index {
 
     /// Adds a key under a mark. Where memory runs out, nothing is added.
     pub fn add(&mut self, mark: Mark, key: Key) -> Result<(), AllocError>
-        ensures ok { OnOk result ((m : Mark) → (k : Key) → is_under self.new m k ≡ ((eq_by_cmp mark_cmp mark m && eq_by_cmp key_cmp key k) || is_under self.old m k)) }
+        ensures ok { OnOk result ((m : Mark) → (k : Key) → is_under self.new m k ≡ ((same_mark mark m && eq_by_cmp key_cmp key k) || is_under self.old m k)) }
         ensures err { OnErr result ((m : Mark) → (k : Key) → is_under self.new m k ≡ is_under self.old m k) }
     {
         let keys = self.by_mark.entry(mark)?.or_insert(Keys::one(key));
@@ -144,7 +144,7 @@ impl Index {
 
     /// Takes a key from under a mark.
     pub fn remove(&mut self, mark: Mark, key: &Key)
-        ensures { (m : Mark) → (k : Key) → is_under self.new m k ≡ (not (eq_by_cmp mark_cmp mark m && eq_by_cmp key_cmp key.now k) && is_under self.old m k) }
+        ensures { (m : Mark) → (k : Key) → is_under self.new m k ≡ (not (same_mark mark m && eq_by_cmp key_cmp key.now k) && is_under self.old m k) }
     {
         let Some(keys) = self.by_mark.get_mut(&mark) else {
             return;

@@ -1,10 +1,10 @@
 //! A ledger through its volumes, and what its index holds then.
-use crate::{Seed, Verdict};
 use crate::changes::{change, forget_all};
 use crate::histories::Histories;
 use crate::index::{Index, Mark};
 use crate::keys::Keys;
 use crate::ledger::Ledger;
+use crate::{Seed, Verdict};
 use gaz_ids::{Uprn, Usrn};
 use gaz_records::{Key, Kind, SharedItem, item_of_text, item_text};
 use std::alloc::Global;

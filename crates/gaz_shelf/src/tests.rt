@@ -1,7 +1,9 @@
 ghost use Rattle.std.specs.Prelude.{◌≡◌, ◌≤◌, OnOk};
 ghost use Rattle.gaz_shelf.specs.Keeper.{Idle};
 
-use crate::{Ending, Faulty, Inbox, MemShelf, Seed, Shelf, ShelfFault, Verdict, read_kind, write_volume};
+use crate::{
+    Ending, Faulty, Inbox, MemShelf, Seed, Shelf, ShelfFault, Verdict, read_kind, write_volume,
+};
 use gaz_ids::{Code, Lang, Uprn, Usrn, Volume};
 use gaz_records::{Key, Kind, RecordKey, SharedItem, item_of_text, item_text};
 use std::alloc::Global;

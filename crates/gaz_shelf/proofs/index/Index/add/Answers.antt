@@ -1,6 +1,6 @@
 use Rattle.std.proofs.Common.{rules, ◌∙◌}
 use Rattle.std.specs.Prelude.{Some}
-use Rattle.std.specs.BTreeMap.Entry.{entry_value, map_with_value}
+use Rattle.std.specs.HashMap.Entry.{entry_value, map_with_value}
 use Rattle.gaz_shelf.proofs.Indexes.{in_end, more_there, none_more, on_errs, one_more, same_there}
 use Rattle.gaz_shelf.proofs.Keeping.{on_ok}
 use Rattle.gaz_shelf.proofs.index.Index.add.Goals as goal

@@ -1,6 +1,6 @@
 use Rattle.std.proofs.Common.{rules, ◌≡◌, ◌∙◌, ◌&&◌, ap, sym, not, [], List}
 use Rattle.std.specs.Prelude.{None, Some}
-use Rattle.std.specs.BTreeMap.{BTreeMap}
+use Rattle.std.specs.HashMap.{HashMap}
 use Rattle.std.specs.Ordering.{eq_by_cmp}
 use Rattle.gaz_records.specs.Keys.{key_cmp}
 use Rattle.gaz_records.specs.declared.key.Key.{Key}
@@ -9,6 +9,7 @@ use Rattle.gaz_shelf.proofs.KeySets.{kept_keys}
 use Rattle.gaz_shelf.specs.Indexes.{has_key, listed}
 use Rattle.gaz_shelf.specs.declared.index.Mark.{Mark}
 use Rattle.gaz_shelf.specs.declared.keys.Keys.{Keys}
+use Rattle.gaz_shelf.specs.declared.seed.Seed.{Seed}
 use Rattle.gaz_shelf.proofs.index.Index.remove.Goals as goal
 
 pub returns-then-is_empty : goal.returns-then-is_empty
@@ -32,4 +33,4 @@ pub returns-in_default : goal.returns-in_default
 returns-in_default c =
     let same : c.get_mut.follows.lender-at-none ≡ c.args.self.now.by_mark = c.get_mut.follows.holds-at-none in
     let none : [] ≡ keys_in c.args.self.now.by_mark.entries c.args.mark = ap kept_keys c.in_default.ensures.value ∙ found_in c.args.self.now.by_mark.entries c.args.mark in
-    λ q k. ap (λ (n : BTreeMap Mark Keys). under n.entries q k) same ∙ none_less c.args.self.now.by_mark.entries c.args.mark c.args.key.now (sym none) q k
+    λ q k. ap (λ (n : HashMap Mark Keys Seed). under n.entries q k) same ∙ none_less c.args.self.now.by_mark.entries c.args.mark c.args.key.now (sym none) q k
