@@ -9,7 +9,6 @@ use Rattle.gaz_records.specs.Lpis.{LpiValue}
 use Rattle.gaz_records.specs.Streets.{StreetValue}
 use Rattle.gaz_records.specs.declared.item.Item.{Item}
 use Rattle.gaz_records.specs.declared.item.Item.TheVariants as item
-use Rattle.gaz_records.specs.declared.key.Key.{Key}
 use Rattle.gaz_records.specs.declared.key.Key.TheVariants as key
 use Rattle.gaz_shelf.specs.View.{View}
 
@@ -44,7 +43,3 @@ descriptor_at v usrn lang = option_and_then as_descriptor (map.get v.items (key.
 -- the BLPU of this number
 abbrev pub blpu_at : View → ℕ → Option BlpuValue
 blpu_at v uprn = option_and_then as_blpu (map.get v.items (key.Blpu uprn))
-
--- the LPI under this key
-abbrev pub lpi_at : View → Key → Option LpiValue
-lpi_at v k = option_and_then as_lpi (map.get v.items k)

@@ -1,5 +1,5 @@
 -- Where a property stands, and how it is addressed now.
-use Rattle.std.specs.Prelude.{ℕ, List, [], ◌∷◌, Option, Some, None, option_map, is_some, if◌then◌else◌}
+use Rattle.std.specs.Prelude.{ℕ, List, Option, Some, option_map, is_some, if◌then◌else◌}
 use Rattle.std.specs.List.{filter_map}
 use Rattle.std.specs.Option.{option_and_then}
 use Rattle.gaz_records.specs.Blpus.{BlpuValue}
@@ -8,18 +8,14 @@ use Rattle.gaz_records.specs.Lpis.{LpiValue}
 use Rattle.gaz_register.specs.Registers.{RegisterValue, owner_of_usrn}
 use Rattle.gaz_shelf.specs.Board.{Board, last_view}
 use Rattle.gaz_shelf.specs.View.{View}
-use Rattle.gaz_shelf.specs.Words.{approved_of}
-use Rattle.gaz_extract.specs.Finding.{blpu_at, descriptor_at, lpi_at, street_at}
+use Rattle.gaz_shelf.specs.Words.{address_of, first_of}
+use Rattle.gaz_extract.specs.Finding.{as_lpi, blpu_at, descriptor_at, street_at}
 use Rattle.gaz_extract.specs.Lines.{line_text}
 use Rattle.gaz_extract.specs.declared.found.Found.{Found}
 
-abbrev pub first_of : {A : Type 0} → List A → Option A
-first_of [] = None
-first_of (x ∷ xs) = Some x
-
 -- the approved address of a property in a view: that of the least key
 abbrev pub address_in : View → ℕ → Option LpiValue
-address_in v uprn = option_and_then (lpi_at v) (first_of (approved_of v uprn))
+address_in v uprn = option_and_then as_lpi (address_of v uprn)
 
 -- whose last view tells of a street now: the custodian itself, where the street is in its last view, else the one whose block holds it
 abbrev pub keeper_of_street : Board → RegisterValue → ℕ → ℕ → Option ℕ

@@ -4,7 +4,7 @@ ghost use Rattle.std.specs.FinMap as map;
 ghost use Rattle.std.specs.Option.{option_and_then};
 ghost use Rattle.gaz_shelf.specs.Keeper.{IsNotOpen};
 ghost use Rattle.gaz_shelf.specs.Board.{last_view};
-ghost use Rattle.gaz_extract.specs.Finding.{as_blpu, as_descriptor, as_lpi, blpu_at, descriptor_at, has_closed_street, lpi_at, street_at};
+ghost use Rattle.gaz_extract.specs.Finding.{as_blpu, as_descriptor, blpu_at, descriptor_at, has_closed_street, street_at};
 ghost use Rattle.gaz_extract.specs.Readings.{Tells};
 
 use crate::lend::street_in;
@@ -77,17 +77,4 @@ pub fn blpu_item<S: Shelf>(
     ensures not_open { IsNotOpen (S.seen shelf.new).progress }
 {
     item_now(shelf, code, &Key::Blpu(uprn))
-}
-
-/// The item that is the LPI under a key, in a custodian's last view.
-pub fn lpi_item<S: Shelf>(
-    shelf: &mut S,
-    code: Code,
-    key: &Key,
-) -> Result<Option<SharedItem>, ShelfFault>
-    requires { IsNotOpen (S.seen shelf.old).progress }
-    ensures tells { Tells (S.seen shelf.old) (S.seen shelf.new) result (λ i. option_and_then as_lpi i ≡ lpi_at (last_view (S.seen shelf.old).content.board code) key.now) }
-    ensures not_open { IsNotOpen (S.seen shelf.new).progress }
-{
-    item_now(shelf, code, key)
 }

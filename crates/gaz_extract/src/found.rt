@@ -9,7 +9,7 @@ ghost use Rattle.gaz_extract.specs.Readings.{Tells};
 ghost use Rattle.gaz_extract.specs.Lookups.{address_in, descriptor_now, keeper_of_street, line_now, lookup, said_by};
 
 use crate::address::{AddressLine, line};
-use crate::find::{blpu_item, descriptor_item, has_street, lpi_item};
+use crate::find::{blpu_item, descriptor_item, has_street};
 use crate::lend::{blpu_in, descriptor_in, lpi_in};
 use gaz_ids::{Code, Status, Uprn, Usrn};
 use gaz_records::{Blpu, Descriptor, Lpi, SharedItem};
@@ -56,11 +56,7 @@ fn address_item<S: Shelf>(
     ensures tells { Tells (S.seen shelf.old) (S.seen shelf.new) result (λ i. option_and_then as_lpi i ≡ address_in (last_view (S.seen shelf.old).content.board code) uprn) }
     ensures not_open { IsNotOpen (S.seen shelf.new).progress }
 {
-    let keys = shelf.approved_of(code, uprn)?;
-    match keys.first() {
-        Some(key) => lpi_item(shelf, code, key),
-        None => Ok(None),
-    }
+    shelf.address_of(code, uprn)
 }
 
 // The item that is the descriptor of an address's street in its language.

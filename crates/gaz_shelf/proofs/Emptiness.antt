@@ -1,6 +1,6 @@
 -- What is read of a custodian of which nothing is kept.
 use Rattle.std.proofs.Common.{◌≡◌, ◌∙◌, ◌&&◌, ℕ, zero, suc, false, List, [], ◌∷◌, map, take, refl, sym, ap, slice_get, unwrap_or}
-use Rattle.std.specs.Prelude.{Option, None, filter}
+use Rattle.std.specs.Prelude.{Option, None, filter, option_map}
 use Rattle.std.specs.FinMap as finite
 use Rattle.std.specs.FinSet as set
 use Rattle.std.specs.List.{list_any}
@@ -13,7 +13,7 @@ use Rattle.gaz_shelf.proofs.Trees.{no_entries}
 use Rattle.gaz_shelf.specs.Board.{view_after}
 use Rattle.gaz_shelf.specs.Ledgers.{Account, account_of, board_of, empty_account}
 use Rattle.gaz_shelf.specs.View.{View, empty_view, was_used}
-use Rattle.gaz_shelf.specs.Words.{approved_of, approved_on, comes_after, entries, has_children, is_approved_of, is_approved_on, is_child_of, is_of, page}
+use Rattle.gaz_shelf.specs.Words.{address_of, approved_of, approved_on, comes_after, entries, first_of, has_children, is_approved_of, is_approved_on, is_child_of, is_of, page}
 
 -- ---- the empty view
 
@@ -43,6 +43,9 @@ module _ (v : View) (empty : v ≡ empty_view) where
 
   pub none_approved : (uprn : ℕ) → [] ≡ approved_of v uprn
   none_approved uprn = ap (λ (es : List (Key × Item)). map (λ e. e.0) (filter (λ e. is_approved_of uprn e.1) es)) nothing_held
+
+  pub no_address : (uprn : ℕ) → None ≡ address_of v uprn
+  no_address uprn = ap (λ (es : List (Key × Item)). option_map (λ e. e.1) (first_of (filter (λ e. is_approved_of uprn e.1) es))) nothing_held
 
   pub none_approved_on : (usrn : ℕ) (lang : Option Lang) → false ≡ approved_on v usrn lang
   none_approved_on usrn lang = ap (list_any (λ (e : Key × Item). is_approved_on usrn lang e.1)) nothing_held

@@ -96,6 +96,8 @@ worked_examples_hold = record { on_views = on_views; on_words = on_words; on_pag
       of_a_part = rw in_turn refl;
       of_none = rw in_turn refl;
       of_nothing = rw no_entries_yet refl;
+      the_address = rw in_turn refl;
+      no_address = rw in_turn refl;
       on_street = rw in_turn refl;
       on_street_in_welsh = rw in_turn refl;
       another_name_alone = rw in_turn refl;

@@ -1,14 +1,15 @@
 -- The keys under a mark whose items have it are those of all items that have it.
 use Rattle.std.proofs.Common.{◌≡◌, ◌&&◌, ◌||◌, Bool, true, false, not, cond, List, [], ◌∷◌, map, refl, sym, ap, subst, ◌∙◌, ℕ}
-use Rattle.std.specs.Prelude.{Option, Some, None, filter, ◌==◌}
+use Rattle.std.specs.Prelude.{Option, Some, None, filter, option_map, ◌==◌}
 use Rattle.std.proofs.lemmas.List.Kept.{IsStrictlySortedBy-filter}
 use Rattle.std.proofs.lemmas.Map.Views.{any-filter_same}
+use Rattle.std.specs.Cmp.{tied_itself}
 use Rattle.std.specs.FinMap as finite
 use Rattle.std.specs.FinMap.{find}
-use Rattle.std.specs.List.{AllByRecursion, list_any}
+use Rattle.std.specs.List.{AllByRecursion, cons_option, filter_map, list_any}
 use Rattle.std.specs.List.Sorted.{IsStrictlySortedBy}
 use Rattle.std.specs.Map.{keys_of}
-use Rattle.std.specs.Option.{IfSome, option_map_or}
+use Rattle.std.specs.Option.{IfSome, option_and_then, option_map_or}
 use Rattle.std.specs.Ordering.{eq_by_cmp, is_eq}
 use Rattle.std.specs.declared.cmp.Ordering.{Ordering}
 use Rattle.std.specs.declared.cmp.Ordering.TheVariants.{Less, Equal, Greater}
@@ -22,9 +23,9 @@ use Rattle.gaz_records.specs.declared.item.Item.TheVariants as item
 use Rattle.gaz_records.specs.declared.key.Key.{Key}
 use Rattle.gaz_shelf.proofs.Marks.{marks_exact}
 use Rattle.gaz_shelf.proofs.Trees.{entries_tree}
-use Rattle.gaz_shelf.specs.Indexes.{FindsAll, has_mark, is_under, keys_under, marked_at, same_mark}
+use Rattle.gaz_shelf.specs.Indexes.{FindsAll, has_mark, is_under, keys_under, marked_at, marked_item, same_mark}
 use Rattle.gaz_shelf.specs.declared.index.Index.{Index}
-use Rattle.gaz_shelf.specs.Words.{is_approved, is_approved_on, is_in}
+use Rattle.gaz_shelf.specs.Words.{first_of, is_approved, is_approved_on, is_in}
 use Rattle.gaz_shelf.specs.declared.index.Mark.{Mark}
 
 abbrev Row : Type 0
@@ -91,6 +92,18 @@ missing : (k : Key) (es : List Row) → AllByRecursion (λ y. key_cmp k y ≡ Le
 missing k [] h = refl
 missing k (e ∷ es) h = ap (λ r. cond (is_eq r) (Some e.1) (find key_cmp k es)) h.0 ∙ missing k es h.1
 
+-- the first of keys that come later isn't found at an earlier one
+passed_over : (e : Row) (es : List Row) (ks : List Key) → AllByRecursion (λ y. key_cmp e.0 y ≡ Less) ks → option_and_then (λ k. find key_cmp k (e ∷ es)) (first_of ks) ≡ option_and_then (λ k. find key_cmp k es) (first_of ks)
+passed_over e es [] h = refl
+passed_over e es (k ∷ ks) h = by_test (eq_by_cmp key_cmp k e.0) refl
+  where
+    by_test : (b : Bool) → eq_by_cmp key_cmp k e.0 ≡ b → cond b (Some e.1) (find key_cmp k es) ≡ find key_cmp k es
+    by_test true at =
+        let later : is_eq (key_cmp k k) ≡ false = ap (λ (q : Key). is_eq (key_cmp q k)) (same_key k e.0 at) ∙ ap is_eq h.0 in
+        let tied : true ≡ false = sym (ap is_eq (tied_itself keys_total k)) ∙ later in
+        cc
+    by_test false at = refl
+
 is_cons : {X : Type 0} → List X → Bool
 is_cons [] = false
 is_cons (x ∷ xs) = true
@@ -122,6 +135,39 @@ module _ (m : Mark) where
       by_test rest false is true at = rest ∙ ap (λ (k : Key). marked_at es m k) (same_key q e.0 at) ∙ ap (λ (o : Option Item). option_map_or (has_mark m) o false) (missing e.0 es h.0) ∙ sym is
       by_test rest false is false at = rest
 
+  -- the first marked item is the one under the first key that has one
+  first_item : (es : List Row) (ks : List Key) → first_of (filter_map (marked_item es m) ks) ≡ option_and_then (λ k. find key_cmp k es) (first_of (filter (marked_at es m) ks))
+  first_item es [] = refl
+  first_item es (k ∷ ks) = by_item (first_item es ks) (find key_cmp k es) refl
+    where
+      more : List Item
+      more = filter_map (marked_item es m) ks
+
+      others : List Key
+      others = filter (marked_at es m) ks
+
+      Rest : Type 0
+      Rest = first_of more ≡ option_and_then (λ q. find key_cmp q es) (first_of others)
+
+      by_mark : Rest → (i : Item) → find key_cmp k es ≡ Some i → (b : Bool) → first_of (cons_option (cond b (Some i) None) more) ≡ option_and_then (λ q. find key_cmp q es) (first_of (cond b (k ∷ others) others))
+      by_mark rest i there true = sym there
+      by_mark rest i there false = rest
+
+      by_item : Rest → (o : Option Item) → find key_cmp k es ≡ o → first_of (cons_option (option_and_then (λ i. cond (has_mark m i) (Some i) None) o) more) ≡ option_and_then (λ q. find key_cmp q es) (first_of (cond (option_map_or (has_mark m) o false) (k ∷ others) others))
+      by_item rest None there = rest
+      by_item rest (Some i) there = by_mark rest i there (has_mark m i)
+
+  -- the first of the keys that ascend leads to the first of the rows
+  first_row : (es : List Row) → Ascends (keys_of es) → option_and_then (λ k. find key_cmp k es) (first_of (keys_of (filter passes es))) ≡ option_map (λ (e : Row). e.1) (first_of (filter passes es))
+  unfolding IsStrictlySortedBy
+  first_row [] h = refl
+  first_row (e ∷ es) h = by_test (first_row es h.1) (has_mark m e.1)
+    where
+      by_test : option_and_then (λ k. find key_cmp k es) (first_of (keys_of (filter passes es))) ≡ option_map (λ (r : Row). r.1) (first_of (filter passes es))
+          → (b : Bool) → option_and_then (λ k. find key_cmp k (e ∷ es)) (first_of (keys_of (cond b (e ∷ filter passes es) (filter passes es)))) ≡ option_map (λ (r : Row). r.1) (first_of (cond b (e ∷ filter passes es) (filter passes es)))
+      by_test rest true = ap (λ o. cond (is_eq o) (Some e.1) (find key_cmp e.0 es)) (tied_itself keys_total e.0)
+      by_test rest false = passed_over e es (keys_of (filter passes es)) (all_kept (λ y. key_cmp e.0 y ≡ Less) passes es h.0) ∙ rest
+
   module _ (es : List Row) (ks : List Key) (ascend : Ascends (keys_of es)) (in_order : Ascends ks) (finds : (k : Key) → IfSome (find key_cmp k es) (λ i. has_mark m i ≡ true → has ks k ≡ true)) where
     found : (q : Key) (o : Option Item) → IfSome o (λ i. has_mark m i ≡ true → has ks q ≡ true) → (option_map_or (has_mark m) o false && has ks q) ≡ option_map_or (has_mark m) o false
     found q None h = refl
@@ -138,6 +184,9 @@ module _ (m : Mark) where
 
     pub any_marked : list_any (marked_at es m) ks ≡ list_any passes es
     any_marked = some_kept (marked_at es m) ks ∙ ap is_cons marked_keys ∙ some_keys (filter passes es) ∙ sym (some_kept passes es)
+
+    pub first_marked : first_of (filter_map (marked_item es m) ks) ≡ option_map (λ (e : Row). e.1) (first_of (filter passes es))
+    first_marked = first_item es ks ∙ ap (λ l. option_and_then (λ k. find key_cmp k es) (first_of l)) marked_keys ∙ first_row es ascend
 
 -- ---- whichever language
 
@@ -210,6 +259,12 @@ module _ (x : Index) (es : List Row) (m : Mark) (ascend : Ascends (keys_of es)) 
 
   pub none_under : [] ≡ keys_under x m → false ≡ list_any (λ e. has_mark m e.1) es
   none_under is = any_under [] nothing_ascends is
+
+  pub first_under : (ks : List Key) → Ascends ks → ks ≡ keys_under x m → first_of (filter_map (marked_item es m) ks) ≡ option_map (λ (e : Row). e.1) (first_of (filter (λ e. has_mark m e.1) es))
+  first_under ks in_order is = first_marked m es ks ascend in_order (under_these ks is)
+
+  pub no_first : [] ≡ keys_under x m → None ≡ option_map (λ (e : Row). e.1) (first_of (filter (λ e. has_mark m e.1) es))
+  no_first is = first_under [] nothing_ascends is
 
   pub marked_under : (ks : List Key) → Ascends ks → ks ≡ keys_under x m → filter (marked_at es m) ks ≡ keys_of (filter (λ e. has_mark m e.1) es)
   marked_under ks in_order is = marked_keys m es ks ascend in_order (under_these ks is)

@@ -10,6 +10,7 @@ no_calls = record {
   at = 0;
   ever = 0;
   approved_of = 0;
+  address_of = 0;
   approved_on = 0;
   children = 0;
   page = 0;

@@ -12,7 +12,7 @@ use Rattle.gaz_records.specs.declared.item.Kind.TheVariants as kind
 use Rattle.gaz_records.specs.declared.key.Key.TheVariants as key
 use Rattle.gaz_shelf.specs.View.{View, empty_view, holds, was_used, with_item, without_key}
 use Rattle.gaz_shelf.specs.Gazetteer.{Gazetteer, judgements, view_at}
-use Rattle.gaz_shelf.specs.Words.{approved_of, approved_on, has_children, page}
+use Rattle.gaz_shelf.specs.Words.{address_of, approved_of, approved_on, has_children, page}
 use Rattle.gaz_shelf.specs.Board.{Board, empty_board, reached, view_after}
 use Rattle.gaz_shelf.specs.declared.verdict.Verdict.TheVariants.{Applied, Rejected}
 
@@ -84,6 +84,8 @@ pub record WorkedWords : Type 0 where
   pub of_a_part : approved_of all_kinds 1002 ≡ key.Lpi (codes "L4") ∷ []
   pub of_none : approved_of all_kinds 1003 ≡ []
   pub of_nothing : approved_of empty_view 1001 ≡ []
+  pub the_address : address_of all_kinds 1001 ≡ Some (lpi (codes "L1") 1001 Cym Approved 101)
+  pub no_address : address_of all_kinds 1003 ≡ None
   pub on_street : approved_on all_kinds 101 None ≡ true
   pub on_street_in_welsh : approved_on all_kinds 101 (Some Cym) ≡ true
   pub another_name_alone : approved_on all_kinds 102 None ≡ false

@@ -1,9 +1,9 @@
 -- Where a view's items are found beside their keys.
-use Rattle.std.specs.Prelude.{◌≡◌, ◌==◌, Bool, true, false, List, [], ◌∷◌, Some}
+use Rattle.std.specs.Prelude.{◌≡◌, ◌==◌, Bool, true, false, List, [], ◌∷◌, Option, Some, None, if◌then◌else◌}
 use Rattle.std.specs.FinMap.{find}
 use Rattle.std.specs.List.{list_any}
 use Rattle.std.specs.Map.{lookup}
-use Rattle.std.specs.Option.{IfSome, option_map_or}
+use Rattle.std.specs.Option.{IfSome, option_and_then, option_map_or}
 use Rattle.std.specs.Ordering.{eq_by_cmp}
 use Rattle.gaz_ids.specs.declared.lang.Lang.TheVariants.{Cym, Eng}
 use Rattle.gaz_records.specs.Keys.{key_cmp}
@@ -50,6 +50,10 @@ is_under x m k = has_key (keys_under x m) k
 -- each item that has a mark is found under it; what else is there is passed over
 abbrev pub FindsAll : Index → List (Key × Item) → Type 0
 FindsAll x es = (m : Mark) → (k : Key) → IfSome (find key_cmp k es) (λ i. has_mark m i ≡ true → is_under x m k ≡ true)
+
+-- the item under the key, where it has the mark
+abbrev pub marked_item : List (Key × Item) → Mark → Key → Option Item
+marked_item es m k = option_and_then (λ i. if has_mark m i then Some i else None) (find key_cmp k es)
 
 -- whether an item with the mark stands under the key
 abbrev pub marked_at : List (Key × Item) → Mark → Key → Bool

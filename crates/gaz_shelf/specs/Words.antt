@@ -1,5 +1,5 @@
 -- What rules and readings ask of a view.
-use Rattle.std.specs.Prelude.{ℕ, ◌==◌, ◌&&◌, Bool, true, false, List, map, filter, take, Option}
+use Rattle.std.specs.Prelude.{ℕ, ◌==◌, ◌&&◌, Bool, true, false, List, [], ◌∷◌, map, filter, take, Option, Some, None, option_map}
 use Rattle.std.specs.Option.{option_map_or}
 use Rattle.std.specs.List.{list_any}
 use Rattle.std.specs.Ordering.{is_lt}
@@ -20,6 +20,11 @@ use Rattle.gaz_shelf.specs.View.{View}
 -- what a view holds, in the order of keys
 abbrev pub entries : View → List (Key × Item)
 entries v = map.entries v.items
+
+-- the first of a list, where there is one
+abbrev pub first_of : {A : Type 0} → List A → Option A
+first_of [] = None
+first_of (x ∷ xs) = Some x
 
 abbrev pub is_approved : Status → Bool
 is_approved Approved = true
@@ -54,6 +59,10 @@ is_child_of uprn _ = false
 -- the keys of the BLPU's approved LPIs, in the order of keys
 abbrev pub approved_of : View → ℕ → List Key
 approved_of v uprn = map (λ e. e.0) (filter (λ e. is_approved_of uprn e.1) (entries v))
+
+-- the BLPU's approved LPI of the least key
+abbrev pub address_of : View → ℕ → Option Item
+address_of v uprn = option_map (λ e. e.1) (first_of (filter (λ e. is_approved_of uprn e.1) (entries v)))
 
 -- an approved LPI stands on the street, in this language where one is given
 abbrev pub approved_on : View → ℕ → Option Lang → Bool

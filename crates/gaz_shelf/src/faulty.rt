@@ -142,6 +142,11 @@ impl<K: Inbox + Drop> Shelf for Faulty<K> {
         self.inner.approved_of(code, uprn)
     }
 
+    fn address_of(&mut self, code: Code, uprn: Uprn) -> Result<Option<SharedItem>, ShelfFault> {
+        self.admit(Call::AddressOf)?;
+        self.inner.address_of(code, uprn)
+    }
+
     fn approved_on(
         &mut self,
         code: Code,

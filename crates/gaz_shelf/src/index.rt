@@ -1,15 +1,15 @@
 //! Where a view's items are found beside their keys.
-ghost use Rattle.std.specs.Prelude.{◌≡◌, ◌&&◌, ◌||◌, ◌⊎◌, ◌<◌, ◌^◌, ◌-◌, [], filter, not, true, IfOk, OnOk, OnErr, Some};
+ghost use Rattle.std.specs.Prelude.{◌≡◌, ◌&&◌, ◌||◌, ◌⊎◌, ◌<◌, ◌^◌, ◌-◌, [], filter, not, true, IfOk, OnOk, OnErr, Some, option_map};
 ghost use Rattle.std.specs.Option.{IfSome};
-ghost use Rattle.std.specs.List.{list_any};
+ghost use Rattle.std.specs.List.{filter_map, list_any};
 ghost use Rattle.std.specs.Option.{option_map_or};
 ghost use Rattle.std.specs.Ordering.{eq_by_cmp};
 ghost use Rattle.gaz_histories.specs.Histories.{item_at};
 ghost use Rattle.gaz_records.specs.Keys.{key_cmp};
 ghost use Rattle.gaz_records.specs.declared.key.Key.{Key};
 ghost use Rattle.gaz_shelf.specs.Gazetteer.{versions_at, view_at};
-ghost use Rattle.gaz_shelf.specs.Indexes.{has_mark, is_under, keys_under, listed, marked_at, same_mark};
-ghost use Rattle.gaz_shelf.specs.Words.{entries};
+ghost use Rattle.gaz_shelf.specs.Indexes.{has_mark, is_under, keys_under, listed, marked_at, marked_item, same_mark};
+ghost use Rattle.gaz_shelf.specs.Words.{entries, first_of};
 ghost use Rattle.gaz_shelf.specs.declared.index.Mark.{Mark};
 
 use crate::histories::Histories;
@@ -217,6 +217,42 @@ pub fn any_marked(histories: &Histories, volume: u64, mark: &Mark, keys: &Keys) 
                 }
             }
             false
+        }
+    }
+}
+
+// The item under the key after a volume, where it has the mark.
+fn item_marked<'a>(
+    histories: &'a Histories,
+    volume: u64,
+    mark: &Mark,
+    key: &Key,
+) -> Option<&'a SharedItem>
+    ensures { option_map (λ i. i.now) result ≡ marked_item (entries (view_at histories.now volume)) mark.now key.now }
+{
+    let item = histories.item(volume, key)?;
+    if mark.is_on(item) { Some(item) } else { None }
+}
+
+/// The first item with the mark under these keys after a volume.
+pub fn first_marked<'a>(
+    histories: &'a Histories,
+    volume: u64,
+    mark: &Mark,
+    keys: &Keys,
+) -> Option<&'a SharedItem>
+    ensures { option_map (λ i. i.now) result ≡ first_of (filter_map (marked_item (entries (view_at histories.now volume)) mark.now) (listed keys.now)) }
+{
+    match keys {
+        Keys::One(key) => item_marked(histories, volume, mark, key),
+        Keys::Many(keys) => {
+            for key in keys {
+                let found = item_marked(histories, volume, mark, key);
+                if found.is_some() {
+                    return found;
+                }
+            }
+            None
         }
     }
 }

@@ -5,11 +5,11 @@ ghost use Rattle.std.specs.List.{list_any};
 ghost use Rattle.gaz_shelf.specs.Indexes.{has_mark};
 ghost use Rattle.gaz_shelf.specs.Ledgers.{empty_account, last_of, view_in};
 ghost use Rattle.gaz_shelf.specs.View.{was_used, with_item, without_key};
-ghost use Rattle.gaz_shelf.specs.Words.{approved_of, approved_on, entries, has_children, page};
+ghost use Rattle.gaz_shelf.specs.Words.{address_of, approved_of, approved_on, entries, first_of, has_children, page};
 
 use crate::changes::{Leaving, change, forget_all, undo_all};
 use crate::histories::Histories;
-use crate::index::{Index, Mark, any_marked, keys_marked};
+use crate::index::{Index, Mark, any_marked, first_marked, keys_marked};
 use crate::seed::Seed;
 use crate::verdict::Verdict;
 use gaz_ids::{Lang, Uprn, Usrn};
@@ -133,6 +133,20 @@ impl Ledger {
         }
     }
 
+    // The item of the least key of such items.
+    fn least_of(&self, volume: u64, mark: Mark) -> Option<&SharedItem>
+        requires { length self.now.judged ≤ volume }
+        ensures { option_map (λ i. i.now) result ≡ option_map (λ e. e.1) (first_of (filter (λ e. has_mark mark e.1) (entries (view_in self.now volume)))) }
+    {
+        match self.index.get(mark) {
+            Some(keys) => {
+                keys.in_order();
+                first_marked(&self.histories, volume, &mark, keys)
+            }
+            None => None,
+        }
+    }
+
     /// The keys of a BLPU's approved LPIs, in key order, in the last view or the working one.
     pub fn approved_of(
         &self,
@@ -144,6 +158,14 @@ impl Ledger {
         ensures { IfOk result (λ keys. keys.items ≡ approved_of (view_in self.now volume) uprn) }
     {
         self.keys_of(alloc, volume, Mark::AddressOf(uprn))
+    }
+
+    /// A BLPU's approved LPI, that of the least key where there are several.
+    pub fn address_of(&self, volume: u64, uprn: Uprn) -> Option<&SharedItem>
+        requires { length self.now.judged ≤ volume }
+        ensures { option_map (λ i. i.now) result ≡ address_of (view_in self.now volume) uprn }
+    {
+        self.least_of(volume, Mark::AddressOf(uprn))
     }
 
     /// Whether an approved LPI is on a street, and in this language where one is given.

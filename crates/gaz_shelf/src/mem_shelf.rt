@@ -2,7 +2,7 @@
 ghost use Rattle.std.specs.Prelude.{◌≡◌, ◌≢◌, ◌≤◌, ◌<◌, ◌==◌, ◌^◌, ◌-◌, ℕ, if◌then◌else◌, ⊤, length, IfOk, IfNone, IfSome, IsOk, MatchOption, option_map};
 ghost use Rattle.std.specs.FinMap as map;
 ghost use Rattle.gaz_shelf.specs.View.{empty_view, was_used, with_item, without_key};
-ghost use Rattle.gaz_shelf.specs.Words.{approved_of, approved_on, has_children, page};
+ghost use Rattle.gaz_shelf.specs.Words.{address_of, approved_of, approved_on, has_children, page};
 ghost use Rattle.gaz_shelf.specs.Board.{adds, last_view, reached, verdict_on, view_after};
 ghost use Rattle.gaz_shelf.specs.Ledgers.{board_of, view_in};
 ghost use Rattle.gaz_shelf.specs.Received.{count_above};
@@ -151,6 +151,15 @@ impl MemShelf {
         match self.seen(code) {
             Some((ledger, volume)) => Ok(ledger.approved_of(self.alloc, volume, uprn)?),
             None => Ok(Vec::new(self.alloc)),
+        }
+    }
+
+    fn find_address(&self, code: Code, uprn: Uprn) -> Result<Option<SharedItem>, AllocError>
+        ensures { IfOk result (λ i. i ≡ address_of (view_of (seen_in self.now) code) uprn) }
+    {
+        match self.seen(code) {
+            Some((ledger, volume)) => Ok(share_found(ledger.address_of(volume, uprn))?),
+            None => Ok(None),
         }
     }
 
@@ -308,6 +317,11 @@ impl Shelf for MemShelf {
     fn approved_of(&mut self, code: Code, uprn: Uprn) -> Result<Vec<Key>, ShelfFault> {
         self.clear();
         Ok(self.find_approved(code, uprn)?)
+    }
+
+    fn address_of(&mut self, code: Code, uprn: Uprn) -> Result<Option<SharedItem>, ShelfFault> {
+        self.clear();
+        Ok(self.find_address(code, uprn)?)
     }
 
     fn approved_on(

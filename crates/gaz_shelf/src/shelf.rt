@@ -2,7 +2,7 @@
 ghost use Rattle.std.specs.Prelude.{◌≡◌, ◌≢◌, ◌≤◌, ⊤, option_map};
 ghost use Rattle.std.specs.FinMap as map;
 ghost use Rattle.gaz_shelf.specs.View.{was_used, with_item, without_key};
-ghost use Rattle.gaz_shelf.specs.Words.{approved_of, approved_on, has_children, page};
+ghost use Rattle.gaz_shelf.specs.Words.{address_of, approved_of, approved_on, has_children, page};
 ghost use Rattle.gaz_shelf.specs.Board.{reached, verdict_on, view_after};
 ghost use Rattle.gaz_shelf.specs.Received.{count_above};
 ghost use Rattle.gaz_shelf.specs.Keeper.{Enters, Goes, Idle, IsAtHand, IsNew, IsNotOpen, Open, Reads, Refuses, Seen, Sets, begun, closed, kept, skipped, view_of, with_received};
@@ -43,6 +43,10 @@ pub trait Shelf {
     /// The keys of a BLPU's approved LPIs in the view of `current`, in key order.
     fn approved_of(&mut self, code: Code, uprn: Uprn) -> Result<Vec<Key>, ShelfFault>
         ensures { Reads (seen self.old) (seen self.new) result (λ keys. keys.items ≡ approved_of (view_of (seen self.old) code) uprn) };
+
+    /// The approved LPI of a BLPU in the view of `current`: that of the least key, where there are several.
+    fn address_of(&mut self, code: Code, uprn: Uprn) -> Result<Option<SharedItem>, ShelfFault>
+        ensures { Reads (seen self.old) (seen self.new) result (λ i. i ≡ address_of (view_of (seen self.old) code) uprn) };
 
     /// Whether an approved LPI in the view of `current` is on a street, and in this language where one is given.
     fn approved_on(

@@ -191,6 +191,21 @@ fn has_addresses<K: Inbox>(
     Ok(())
 }
 
+fn has_address<K: Inbox>(
+    rt: &(impl Abort + AllocGlobal),
+    shelf: &mut K,
+    code: u64,
+    uprn: u64,
+    row: Option<&str>,
+) -> Result<(), Fail>
+    requires { (K.seen shelf.old).progress ≡ Idle }
+    ensures { OnOk result ((K.seen shelf.new).progress ≡ Idle) }
+{
+    let uprn = Uprn::of(uprn).ok_or("a UPRN")?;
+    let found = shelf.address_of(custodian(code)?, uprn)?;
+    is_row(rt, &found, row)
+}
+
 fn has_address_on<K: Inbox>(
     rt: &(impl Abort + AllocGlobal),
     shelf: &mut K,
@@ -416,6 +431,10 @@ fn reads_addresses<K: Inbox>(rt: &(impl Abort + AllocGlobal), shelf: &mut K) -> 
 {
     has_addresses(rt, shelf, 1001, 1001, &[lpi_key("L1")?])?;
     has_addresses(rt, shelf, 1001, 1002, &[lpi_key("L3")?])?;
+    has_address(rt, shelf, 1001, 1001, Some(MILL))?;
+    has_address(rt, shelf, 1001, 1002, Some(FELIN))?;
+    has_address(rt, shelf, 1001, 1003, None)?;
+    has_address(rt, shelf, 1002, 1001, None)?;
     has_address_on(rt, shelf, 1001, 101, None, true)?;
     has_address_on(rt, shelf, 1001, 101, Some(Lang::Cym), true)?;
     has_address_on(rt, shelf, 1001, 102, None, false)?;
@@ -519,5 +538,6 @@ fn a_keeper_around_another_answers_so(rt: HostRuntime) -> Result<(), Fail> {
     shelf_pair(&rt, &mut shelf)?;
     let calls = shelf.counted();
     assert_eq!(rt; (calls.current, calls.reached, calls.received), (5, 3, 2));
+    assert_eq!(rt; (calls.approved_of, calls.address_of), (2, 4));
     Ok(())
 }
