@@ -10,6 +10,7 @@ ghost use Rattle.gaz_shelf.specs.Words.{approved_of, approved_on, entries, has_c
 use crate::changes::{Leaving, change, forget_all, undo_all};
 use crate::histories::Histories;
 use crate::index::{Index, Mark, any_marked, keys_marked};
+use crate::seed::Seed;
 use crate::verdict::Verdict;
 use gaz_ids::{Lang, Uprn, Usrn};
 use gaz_records::{Key, Kind, SharedItem};
@@ -51,7 +52,7 @@ impl Ledger {
         Ledger {
             alloc,
             verdicts: Vec::new(alloc),
-            histories: Histories::new(alloc),
+            histories: Histories::new(alloc, Seed::of(0)),
             index: Index::new(alloc),
             touched: Vec::new(alloc),
             leaving: Vec::new(alloc),

@@ -5,6 +5,7 @@ use crate::histories::Histories;
 use crate::index::{Index, Mark};
 use crate::keys::Keys;
 use crate::ledger::Ledger;
+use crate::seed::Seed;
 use gaz_ids::{Uprn, Usrn};
 use gaz_records::{Key, Kind, SharedItem, item_of_text, item_text};
 use std::alloc::Global;
@@ -121,7 +122,7 @@ fn part_of(alloc: Global, parent: &str) -> Result<Option<SharedItem>, Fail> {
 #[test]
 fn marks_without_an_item_are_forgotten(rt: HostRuntime) -> Result<(), Fail> {
     let alloc = rt.alloc();
-    let (mut histories, mut index) = (Histories::new(alloc), Index::new(alloc));
+    let (mut histories, mut index) = (Histories::new(alloc, Seed::of(0)), Index::new(alloc));
     let mut leaving = Vec::new(alloc);
     let key = Key::Blpu(Uprn::of(1002).ok_or("a UPRN")?);
     for parent in ["1001", "1001", "1003"] {
