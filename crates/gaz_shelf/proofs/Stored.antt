@@ -1,11 +1,11 @@
--- Gazetteers as tree maps of histories.
-use Rattle.std.proofs.Common.{◌≡◌, ◌&&◌, ℕ, Bool, true, false, cond, List, [], ◌∷◌, map, take, refl, sym, ap, ◌∙◌, unwrap_or}
-use Rattle.std.specs.Prelude.{Option, Some, None, filter, option_map}
+-- Gazetteers as histories in any order, and their keys in order beside them.
+use Rattle.std.proofs.Common.{◌≡◌, ◌&&◌, ◌||◌, ℕ, Bool, true, false, cond, List, [], ◌∷◌, map, take, refl, sym, ap, subst, ◌∙◌, unwrap_or}
+use Rattle.std.specs.Prelude.{Option, Some, None, filter, is_some, option_map}
 use Rattle.std.specs.BTreeMap.{is_at}
 use Rattle.std.specs.Bool.{OnTrue}
 use Rattle.std.specs.Cmp.{eq_by_cmp_equiv}
 use Rattle.std.specs.FinMap as finite
-use Rattle.std.specs.List.{AllByRecursion, cons_option}
+use Rattle.std.specs.List.{AllByRecursion, cons_option, list_any}
 use Rattle.std.specs.List.Sorted.{IsStrictlySortedBy}
 use Rattle.std.specs.Map.{keys_of, lookup}
 use Rattle.std.specs.Ordering.{eq_by_cmp}
@@ -18,18 +18,21 @@ use Rattle.gaz_records.specs.declared.item.Kind.{Kind}
 use Rattle.gaz_records.specs.declared.key.Key.{Key}
 use Rattle.gaz_shelf.proofs.Gazetteers.{same_key}
 use Rattle.gaz_shelf.proofs.Trees.{entries_tree, get_tree}
-use Rattle.gaz_shelf.specs.Gazetteer.{ChangesAt, Gazetteer, rows_at, versions_at, view_at}
+use Rattle.gaz_shelf.specs.Gazetteer.{ChangesAt, Gazetteer, HasJustTheKeysOf, rows_at, versions_among, versions_at, view_at, with_versions}
 use Rattle.gaz_shelf.specs.Words.{comes_after, entries, is_of, page}
 
 abbrev Rows : Type 0
 Rows = List (Key × Versions)
 
-abbrev stored : Rows → Key → Option Versions
+abbrev pub stored : Rows → Key → Option Versions
 stored es k = lookup (is_at (key_cmp k)) es
 
 -- the versions at a key are those of its history
 pub versions_stored : (g : Gazetteer) (es : Rows) (k : Key) → finite.from_entries es ≡ g → versions_at g k ≡ unwrap_or (stored es k) []
 versions_stored g es k is = ap (λ (h : Gazetteer). versions_at h k) (sym is) ∙ ap (λ o. unwrap_or o []) (get_tree (λ a b. refl) keys_total es k)
+
+abbrev has : List Key → Key → Bool
+has ks k = list_any (eq_by_cmp key_cmp k) ks
 
 abbrev Writes : Rows → Rows → Key → Option Versions → Type 0
 Writes es fs key o = (q : Key) → stored fs q ≡ cond (is_at (key_cmp key) q) o (stored es q)
@@ -65,18 +68,20 @@ stores_same g es fs key vs is h same =
     by_same q false at = refl
 
 module _ (g : Gazetteer) (es : Rows) (key : Key) (is : finite.from_entries es ≡ g) where
-  -- the versions of a history that is there, or of an empty one
-  pub was_there : (vs d : Versions) (o : Option Versions) → vs ≡ unwrap_or o d → o ≡ stored es key → d ≡ [] → vs ≡ versions_at g key
-  was_there vs d o taken there none = taken ∙ (λ i. unwrap_or (there i) (none i)) ∙ sym (versions_stored g es key is)
+  -- the versions of a history that is there
+  pub was_there : (vs : Versions) → stored es key ≡ Some vs → vs ≡ versions_at g key
+  was_there vs there = ap (λ o. unwrap_or o []) (sym there) ∙ sym (versions_stored g es key is)
+
+  -- there are none where there is no history
+  pub was_nowhere : stored es key ≡ None → [] ≡ versions_at g key
+  was_nowhere none = ap (λ o. unwrap_or o []) (sym none) ∙ sym (versions_stored g es key is)
 
   pub stores_now : (fs hs : Rows) (vs ws : Versions) → fs ≡ hs → Writes es hs key (Some vs) → vs ≡ ws → ChangesAt g (finite.from_entries fs) key ws
   stores_now fs hs vs ws new h same k = ap (λ (l : Rows). versions_at (finite.from_entries l) k) new ∙ stores g es hs key vs ws is h same k
 
-  -- the same history again, which was not empty and so was there
-  pub stores_again : (fs hs : Rows) (vs ws d : Versions) (o : Option Versions) → fs ≡ hs → Writes es hs key (Some vs) → vs ≡ ws → ws ≡ unwrap_or o d → o ≡ stored es key → d ≡ [] → (ws ≡ [] → ⊥)
-      → finite.from_entries fs ≡ g
-  stores_again fs hs vs ws d None new h same taken there none some = absurd (some (taken ∙ none))
-  stores_again fs hs vs ws d (Some us) new h same taken there none some = ap (λ (l : Rows). finite.from_entries l) new ∙ stores_same g es hs key vs is h (ap Some (same ∙ taken) ∙ there)
+  -- the same history again
+  pub stores_again : (fs hs : Rows) (vs ws : Versions) → fs ≡ hs → Writes es hs key (Some vs) → vs ≡ ws → stored es key ≡ Some ws → finite.from_entries fs ≡ g
+  stores_again fs hs vs ws new h same there = ap (λ (l : Rows). finite.from_entries l) new ∙ stores_same g es hs key vs is h (ap Some same ∙ sym there)
 
 pub nothing_in : (vs : Versions) → true ≡ is_empty vs → vs ≡ []
 nothing_in [] e = refl
@@ -94,6 +99,33 @@ cut_none g key v none k = by_same (eq_by_cmp key_cmp key k) refl
     by_same : (b : Bool) → eq_by_cmp key_cmp key k ≡ b → versions_at g k ≡ cond b (before (versions_at g key) v) (versions_at g k)
     by_same true at = ap (versions_at g) (sym (same_key key k at)) ∙ none ∙ ap (λ (vs : Versions). before vs v) (sym none)
     by_same false at = refl
+
+-- ---- the keys in order
+
+-- another history at a key that has one
+pub keys_stay : (ks : List Key) (es fs hs : Rows) (key : Key) (vs ws : Versions) → HasJustTheKeysOf ks es → stored es key ≡ Some ws → fs ≡ hs → Writes es hs key (Some vs) → HasJustTheKeysOf ks fs
+keys_stay ks es fs hs key vs ws just there new h k = just k ∙ by_same (eq_by_cmp key_cmp key k) refl ∙ ap is_some (sym (h k)) ∙ ap (λ (l : Rows). is_some (stored l k)) (sym new)
+  where
+    by_same : (b : Bool) → eq_by_cmp key_cmp key k ≡ b → is_some (stored es k) ≡ is_some (cond b (Some vs) (stored es k))
+    by_same true at = ap (λ (q : Key). is_some (stored es q)) (sym (same_key key k at)) ∙ ap is_some there
+    by_same false at = refl
+
+-- a history at a key that is put in the order
+pub keys_put : (ks ls : List Key) (es fs hs : Rows) (key : Key) (vs : Versions) → HasJustTheKeysOf ks es → ((k : Key) → has ls k ≡ cond (eq_by_cmp key_cmp key k) true (has ks k))
+    → fs ≡ hs → Writes es hs key (Some vs) → HasJustTheKeysOf ls fs
+keys_put ks ls es fs hs key vs just put new h k = put k ∙ by_same (eq_by_cmp key_cmp key k) ∙ ap is_some (sym (h k)) ∙ ap (λ (l : Rows). is_some (stored l k)) (sym new)
+  where
+    by_same : (b : Bool) → cond b true (has ks k) ≡ is_some (cond b (Some vs) (stored es k))
+    by_same true = refl
+    by_same false = just k
+
+-- no history at a key that is taken from the order
+pub keys_taken : (ks ls : List Key) (es fs : Rows) (key : Key) → HasJustTheKeysOf ks es → ((k : Key) → has ls k ≡ cond (eq_by_cmp key_cmp key k) false (has ks k)) → Writes es fs key None → HasJustTheKeysOf ls fs
+keys_taken ks ls es fs key just taken h k = taken k ∙ by_same (eq_by_cmp key_cmp key k) ∙ ap is_some (sym (h k))
+  where
+    by_same : (c : Bool) → cond c false (has ks k) ≡ is_some (cond c None (stored es k))
+    by_same true = refl
+    by_same false = just k
 
 -- ---- pages
 
@@ -115,7 +147,7 @@ rows_ascend v (e ∷ es) h = by_item (item_at e.1 v) (rows_ascend v es h.1) (abo
     by_item None rest first = rest
     by_item (Some i) rest first = (first, rest)
 
--- a view's rows are those of the tree map
+-- a view's rows are those of entries in order
 rows_stored : (g : Gazetteer) (es : Rows) (v : ℕ) → finite.from_entries es ≡ g → IsStrictlySortedBy key_cmp (keys_of es) → rows_at es v ≡ entries (view_at g v)
 unfolding view_at
 rows_stored g es v is h =
@@ -123,6 +155,31 @@ rows_stored g es v is h =
     ∙ ap (λ (l : Rows). finite.entries (finite.from_entries {R = key_cmp} (rows_at l v))) (sym (entries_tree (λ a b. refl) keys_total es h))
     ∙ ap (λ (h : Gazetteer). finite.entries (finite.from_entries {R = key_cmp} (rows_at (finite.entries h) v))) is
 
-pub page_stored : (g : Gazetteer) (es : Rows) (v : ℕ) (kind : Kind) (after : Option Key) (most : ℕ) → finite.from_entries es ≡ g → IsStrictlySortedBy key_cmp (keys_of es)
-    → take most (map (λ (e : Key × Item). e.1) (filter (λ (e : Key × Item). is_of kind e.0 && comes_after after e.0) (rows_at es v))) ≡ page (view_at g v) kind after most
-page_stored g es v kind after most is h = ap (λ (l : List (Key × Item)). take most (map (λ e. e.1) (filter (λ e. is_of kind e.0 && comes_after after e.0) l))) (rows_stored g es v is h)
+-- the keys are those that are given versions
+pub keys_with : (ks : List Key) (es : Rows) → keys_of (with_versions ks es) ≡ ks
+keys_with [] es = refl
+keys_with (k ∷ ks) es = ap (λ l. k ∷ l) (keys_with ks es)
+
+found_with : (ks : List Key) (es : Rows) (q : Key) → stored (with_versions ks es) q ≡ cond (has ks q) (Some (versions_among es q)) None
+found_with [] es q = refl
+found_with (k ∷ ks) es q = by_same (found_with ks es q) (eq_by_cmp key_cmp q k) refl
+  where
+    by_same : stored (with_versions ks es) q ≡ cond (has ks q) (Some (versions_among es q)) None → (b : Bool) → eq_by_cmp key_cmp q k ≡ b → cond b (Some (versions_among es k)) (stored (with_versions ks es) q) ≡ cond (b || has ks q) (Some (versions_among es q)) None
+    by_same rest true at = ap (λ (x : Key). Some (versions_among es x)) (sym (same_key q k at))
+    by_same rest false at = rest
+
+-- entries in the order of their keys are the same finite map
+in_their_order : (ks : List Key) (es : Rows) → HasJustTheKeysOf ks es → finite.from_entries {R = key_cmp} (with_versions ks es) ≡ finite.from_entries es
+in_their_order ks es just =
+    finite.same_map keys_total keys_exact _ _ (λ q.
+    get_tree (λ a b. refl) keys_total (with_versions ks es) q ∙ found_with ks es q ∙ ap (λ b. cond b (Some (versions_among es q)) None) (just q) ∙ either (stored es q) ∙ sym (get_tree (λ a b. refl) keys_total es q))
+  where
+    either : (o : Option Versions) → cond (is_some o) (Some (unwrap_or o [])) None ≡ o
+    either None = refl
+    either (Some vs) = refl
+
+pub page_stored : (g : Gazetteer) (ks : List Key) (es : Rows) (v : ℕ) (kind : Kind) (after : Option Key) (most : ℕ) → finite.from_entries es ≡ g → HasJustTheKeysOf ks es → IsStrictlySortedBy key_cmp ks
+    → take most (map (λ (e : Key × Item). e.1) (filter (λ (e : Key × Item). is_of kind e.0 && comes_after after e.0) (rows_at (with_versions ks es) v))) ≡ page (view_at g v) kind after most
+page_stored g ks es v kind after most is just h =
+    ap (λ (l : List (Key × Item)). take most (map (λ e. e.1) (filter (λ e. is_of kind e.0 && comes_after after e.0) l)))
+    (rows_stored g (with_versions ks es) v (in_their_order ks es just ∙ is) (subst (λ (l : List Key). IsStrictlySortedBy key_cmp l) (sym (keys_with ks es)) h))

@@ -1,8 +1,9 @@
 -- A gazetteer through its volumes.
-use Rattle.std.specs.Prelude.{◌≡◌, ℕ, if◌then◌else◌, List, [], map, filter, unwrap_or, option_map}
+use Rattle.std.specs.Prelude.{◌≡◌, ℕ, if◌then◌else◌, List, [], map, filter, unwrap_or, option_map, is_some}
 use Rattle.std.specs.FinMap as finite
 use Rattle.std.specs.FinSet as set
-use Rattle.std.specs.List.{enumerate_from, filter_map}
+use Rattle.std.specs.List.{enumerate_from, filter_map, list_any}
+use Rattle.std.specs.Map.{lookup}
 use Rattle.std.specs.Ordering.{eq_by_cmp}
 use Rattle.gaz_histories.specs.Histories.{Versions, item_at, was_used_at}
 use Rattle.gaz_records.specs.Keys.{key_cmp}
@@ -23,6 +24,20 @@ versions_at g k = unwrap_or (finite.get g k) []
 -- these are the versions of a key now, and all others are as they were
 abbrev pub ChangesAt : Gazetteer → Gazetteer → Key → Versions → Type 0
 ChangesAt old new key vs = (k : Key) → versions_at new k ≡ (if eq_by_cmp key_cmp key k then vs else versions_at old k)
+
+-- ---- as it is kept: entries in any order, and their keys in order beside them
+
+-- what an entry has at a key; nothing where there is none
+abbrev pub versions_among : List (Key × Versions) → Key → Versions
+versions_among es k = unwrap_or (lookup (eq_by_cmp key_cmp k) es) []
+
+-- these keys, each with what an entry has there
+abbrev pub with_versions : List Key → List (Key × Versions) → List (Key × Versions)
+with_versions ks es = map (λ k. (k, versions_among es k)) ks
+
+-- a key is among these just where there is an entry of it
+abbrev pub HasJustTheKeysOf : List Key → List (Key × Versions) → Type 0
+HasJustTheKeysOf ks es = (k : Key) → list_any (eq_by_cmp key_cmp k) ks ≡ is_some (lookup (eq_by_cmp key_cmp k) es)
 
 -- ---- the view after a volume
 

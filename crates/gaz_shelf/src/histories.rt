@@ -1,5 +1,5 @@
 //! What stood at each key through the volumes of a gazetteer.
-ghost use Rattle.std.specs.Prelude.{◌≡◌, ◌⊎◌, ◌++◌, ◌∷◌, [], true, false, IfOk, OnOk, OnErr, Some, option_map};
+ghost use Rattle.std.specs.Prelude.{◌≡◌, ◌⊎◌, ◌++◌, ◌∷◌, [], true, false, IfOk, IsOk, OnOk, OnErr, Some, option_map};
 ghost use Rattle.std.specs.Bool.{OnTrue};
 ghost use Rattle.std.specs.Option.{option_map_or};
 ghost use Rattle.std.specs.FinMap as finite;
@@ -16,19 +16,22 @@ use crate::words::{in_order, page_of};
 use gaz_histories::History;
 use gaz_records::{Key, Kind, SharedItem, SortKey};
 use std::alloc::{AllocError, Global};
-use std::collections::BTreeMap;
+use std::collections::hash_map::Entry;
+use std::collections::{BTreeSet, HashMap};
 use std::marker::Model;
 
 /// The history of each key that was ever used.
 #[derive(Drop)]
 pub struct Histories {
     alloc: Global,
-    by_key: BTreeMap<SortKey, History>,
+    by_key: HashMap<SortKey, History, Seed>,
+    // The same keys, in their order: pages go by it, and all else by the hashes.
+    order: BTreeSet<SortKey>,
 }
 
 impl Model for Histories {
     ghost use Rattle.std.specs.FinMap as finite;
-    ghost use Rattle.gaz_shelf.specs.Gazetteer.{Gazetteer};
+    ghost use Rattle.gaz_shelf.specs.Gazetteer.{Gazetteer, HasJustTheKeysOf};
     ghost use Rattle.gaz_shelf.specs.ViewCode.{gazetteer_code};
 
     ghost Value = { Gazetteer };
@@ -36,16 +39,19 @@ impl Model for Histories {
     ghost coded = { gazetteer_code };
 
     ghost view = { λ h. finite.from_entries h.by_key.entries };
+
+    ghost invariant = { λ h. HasJustTheKeysOf h.order.keys h.by_key.entries };
 }
 
 impl Histories {
     /// No key was used.
-    pub fn new(alloc: Global, _seed: Seed) -> Histories
+    pub fn new(alloc: Global, seed: Seed) -> Histories
         ensures { result ≡ finite.empty }
     {
         Histories {
             alloc,
-            by_key: BTreeMap::new(alloc),
+            by_key: HashMap::with_hasher(alloc, seed),
+            order: BTreeSet::new(alloc),
         }
     }
 
@@ -80,8 +86,8 @@ impl Histories {
     ) -> Result<Vec<SharedItem>, AllocError>
         ensures { IfOk result (λ items. items.items ≡ page (view_at self.now volume) kind after most) }
     {
-        in_order(&self.by_key);
-        Ok(page_of(alloc, &self.by_key, volume, kind, after, most)?)
+        in_order(&self.order);
+        Ok(page_of(alloc, &self.order, &self.by_key, volume, kind, after, most)?)
     }
 
     /// From a volume on this item stands at a key, or none any more. What began there at the volume or after it is
@@ -96,13 +102,18 @@ impl Histories {
         ensures err { OnErr result (self.new ≡ self.old) }
         ensures marks { IfOk result (λ was. (m : Mark) → marked_at (entries (view_at self.old volume)) m key ≡ true → (was.0 ≡ Some m) ⊎ (was.1 ≡ Some m)) }
     {
-        let history = self
-            .by_key
-            .entry(SortKey::of(&key))?
-            .or_insert(History::new(self.alloc));
-        let was = marks_in(history, volume);
-        history.set(volume, item)?;
-        Ok(was)
+        let key = SortKey::of(&key);
+        match self.by_key.entry(key)? {
+            Entry::Occupied(entry) => Ok(set_in(entry.into_mut(), volume, item)?),
+            Entry::Vacant(entry) => {
+                let Ok(_) = self.order.insert(key) else {
+                    // The map is given back as it was.
+                    entry.into_key();
+                    return Err(AllocError);
+                };
+                Ok(set_in(entry.insert(History::new(self.alloc)), volume, item)?)
+            }
+        }
     }
 
     /// Forgets what began at a key at a volume or after it.
@@ -111,7 +122,9 @@ impl Histories {
     {
         if self.cut_there(volume, key) {
             // Keeps nothing of a key that was never used.
-            self.by_key.remove(&SortKey::of(key));
+            let key = SortKey::of(key);
+            self.by_key.remove(&key);
+            self.order.remove(&key);
         }
     }
 
@@ -126,6 +139,23 @@ impl Histories {
         history.cut(volume);
         history.is_empty()
     }
+}
+
+// From a volume on this item stands in a history, or none any more. Answers the marks of the item that stood there. The
+// first version of all needs no memory.
+fn set_in(
+    history: &mut History,
+    volume: u64,
+    item: Option<SharedItem>,
+) -> Result<(Option<Mark>, Option<Mark>), AllocError>
+    ensures ok { OnOk result (history.new ≡ before history.old volume ++ (volume, item) ∷ []) }
+    ensures err { OnErr result (history.new ≡ history.old) }
+    ensures first { history.old ≡ [] → IsOk result }
+    ensures marks { IfOk result (λ was. (m : Mark) → option_map_or (has_mark m) (item_at history.old volume) false ≡ true → (was.0 ≡ Some m) ⊎ (was.1 ≡ Some m)) }
+{
+    let was = marks_in(history, volume);
+    history.set(volume, item)?;
+    Ok(was)
 }
 
 // The marks of the item that a history has after a volume.

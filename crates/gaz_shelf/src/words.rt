@@ -1,17 +1,17 @@
 //! What is asked of a view, over its entries as they stand.
 ghost use Rattle.std.specs.Prelude.{◌≡◌, ◌&&◌, map, filter, take, if◌then◌else◌, IfOk, None, option_map};
-ghost use Rattle.std.specs.BTreeMap.{keys};
 ghost use Rattle.std.specs.List.Sorted.{IsStrictlySortedBy};
 ghost use Rattle.gaz_histories.specs.Histories.{item_at};
-ghost use Rattle.gaz_shelf.specs.Gazetteer.{rows_at};
+ghost use Rattle.gaz_shelf.specs.Gazetteer.{rows_at, versions_among, with_versions};
 ghost use Rattle.gaz_shelf.specs.Words.{comes_after, is_approved_of, is_approved_on, is_child_of, is_in, is_of};
 ghost use Rattle.gaz_shelf.specs.Reading.{is_past, number_of, start_after};
 
+use crate::seed::Seed;
 use gaz_histories::History;
 use gaz_ids::{Lang, Status, Uprn, Usrn};
 use gaz_records::{Item, Key, Kind, SharedItem, SortKey};
 use std::alloc::{AllocError, Global};
-use std::collections::BTreeMap;
+use std::collections::{BTreeSet, HashMap};
 use std::ops::Bound;
 
 pub fn is_approved_of(uprn: Uprn, item: &Item) -> bool
@@ -59,11 +59,11 @@ fn is_of(kind: Kind, key: &SortKey) -> bool
     key.kind_number() == number_of(kind)
 }
 
-/// The entries stand in the order of keys.
-pub fn in_order(histories: &BTreeMap<SortKey, History>)
-    ensures { IsStrictlySortedBy ⟦<SortKey as Ord>⟧.cmp (keys histories.now) }
+/// These keys stand in their order.
+pub fn in_order(order: &BTreeSet<SortKey>)
+    ensures { IsStrictlySortedBy ⟦<SortKey as Ord>⟧.cmp order.now.keys }
 {
-    let _count = histories.len();
+    let _count = order.len();
 }
 
 // The record identifier of a kind.
@@ -101,33 +101,37 @@ fn wanted<'a>(
     kind: Kind,
     volume: u64,
     key: &SortKey,
-    history: &'a History,
+    histories: &'a HashMap<SortKey, History, Seed>,
 ) -> Option<&'a SharedItem>
-    ensures { option_map (λ i. i.now) result ≡ (if is_of kind key.now then item_at history.now volume else None) }
+    ensures { option_map (λ i. i.now) result ≡ (if is_of kind key.now then item_at (versions_among histories.now.entries key.now) volume else None) }
 {
     if !is_of(kind, key) {
         return None;
     }
-    history.item_at(volume)
+    match histories.get(key) {
+        Some(history) => history.item_at(volume),
+        None => None,
+    }
 }
 
-/// The first items of a kind after a key, as they stand after a volume.
+/// The first items of a kind after a key, as they stand after a volume at keys in this order.
 pub fn page_of(
     alloc: Global,
-    histories: &BTreeMap<SortKey, History>,
+    order: &BTreeSet<SortKey>,
+    histories: &HashMap<SortKey, History, Seed>,
     volume: u64,
     kind: Kind,
     after: Option<Key>,
     most: usize,
 ) -> Result<Vec<SharedItem>, AllocError>
-    ensures { IfOk result (λ found. found.items ≡ take most (map (λ e. e.1) (filter (λ e. is_of kind e.0 && comes_after after e.0) (rows_at histories.now.entries volume)))) }
+    ensures { IfOk result (λ found. found.items ≡ take most (map (λ e. e.1) (filter (λ e. is_of kind e.0 && comes_after after e.0) (rows_at (with_versions order.now.keys histories.now.entries) volume)))) }
 {
     let mut found = Vec::new(alloc);
-    for (key, history) in histories.range((start_after(after), Bound::Unbounded)) {
+    for key in order.range((start_after(after), Bound::Unbounded)) {
         if found.len() == most || is_past(kind, key) {
             return Ok(found);
         }
-        if let Some(item) = wanted(kind, volume, key, history) {
+        if let Some(item) = wanted(kind, volume, key, histories) {
             found.push(item.share()?)?;
         }
     }

@@ -1,15 +1,14 @@
 -- The items so far and those of what is left are those of all.
 use Rattle.std.proofs.Common.{◌≡◌, ◌≤◌, ◌++◌, map, length}
 use Rattle.std.specs.Prelude.{◌&&◌, filter}
-use Rattle.gaz_shelf.specs.Gazetteer.{rows_at}
+use Rattle.gaz_shelf.specs.Gazetteer.{rows_at, with_versions}
 use Rattle.gaz_shelf.specs.Words.{comes_after, is_of}
 use Rattle.gaz_shelf.proofs.Marked.{Ascends}
-use Rattle.std.specs.Map.{keys_of}
 use Rattle.gaz_shelf.proofs.words.page_of.Given as goal
 
 abbrev pub invariant-loop-key : goal.invariant-loop-key
 invariant-loop-key l = record {
-  told : l.found.items ++ map (λ e. e.1) (filter (λ e. is_of l.kind e.0) (rows_at l.key-iterator l.volume)) ≡ map (λ e. e.1) (filter (λ e. is_of l.kind e.0 && comes_after l.fn.after e.0) (rows_at l.histories.entries l.volume));
+  told : l.found.items ++ map (λ e. e.1) (filter (λ e. is_of l.kind e.0) (rows_at (with_versions l.key-iterator l.histories.entries) l.volume)) ≡ map (λ e. e.1) (filter (λ e. is_of l.kind e.0 && comes_after l.fn.after e.0) (rows_at (with_versions l.order.keys l.histories.entries) l.volume));
   few : length l.found.items ≤ l.most;
-  ascend : Ascends (keys_of l.key-iterator);
+  ascend : Ascends l.key-iterator;
 }

@@ -1,9 +1,9 @@
-use Rattle.std.proofs.Common.{rules, ◌≡◌, ◌∙◌, [], ap, sym, unwrap_or}
+use Rattle.std.proofs.Common.{rules, ◌≡◌, ◌∙◌, [], ap, refl, sym, unwrap_or}
 use Rattle.std.specs.FinMap as finite
-use Rattle.std.specs.BTreeMap.{BTreeMap}
+use Rattle.std.specs.HashMap.{HashMap}
 use Rattle.gaz_histories.specs.Histories.{Versions, before}
 use Rattle.gaz_records.specs.declared.key.Key.{Key}
-use Rattle.gaz_shelf.proofs.Stored.{cut_none, emptied, stores, versions_stored}
+use Rattle.gaz_shelf.proofs.Stored.{cut_none, emptied, keys_stay, stores, versions_stored}
 use Rattle.gaz_shelf.specs.Gazetteer.{Gazetteer, versions_at}
 use Rattle.gaz_shelf.proofs.histories.Histories.cut_there.Goals as goal
 
@@ -11,9 +11,14 @@ pub returns-in_default-clause-changes : goal.returns-in_default-clause-changes
 returns-in_default-clause-changes c =
     let m = c.get_mut.follows.lender-at-none in
     let same : m ≡ c.self.inside.by_key = c.get_mut.follows.holds-at-none in
-    let is = ap (λ (n : BTreeMap Key Versions). finite.from_entries n.entries) same ∙ c.self.view_is in
+    let is = ap (λ (n : HashMap Key Versions _). finite.from_entries n.entries) same ∙ c.self.view_is in
     let none = versions_stored c.args.self.now c.self.inside.by_key.entries c.of.result c.self.view_is ∙ sym (ap (λ o. unwrap_or o []) c.in_default.ensures.value) in
     rw (← c.of.ensures) (λ k. ap (λ (g : Gazetteer). versions_at g k) is ∙ cut_none c.args.self.now c.of.result c.args.volume none k)
+
+pub invariant_of-self-2 : goal.invariant_of-self-2
+invariant_of-self-2 c =
+    let writes = (c.get_mut.follows.holds c.cut.new.self).3 (search rules) in
+    keys_stay c.self.inside.order.keys c.self.inside.by_key.entries _ _ c.of.result c.cut.new.self c.in-Some.history.now c.self.invariant (sym c.in-Some.ensures.value) refl writes.0
 
 pub returns-clause-changes : goal.returns-clause-changes
 returns-clause-changes c =
