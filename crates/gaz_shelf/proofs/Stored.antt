@@ -1,7 +1,6 @@
 -- Gazetteers as histories in any order, and their keys in order beside them.
 use Rattle.std.proofs.Common.{◌≡◌, ◌&&◌, ◌||◌, ℕ, Bool, true, false, cond, List, [], ◌∷◌, map, take, refl, sym, ap, subst, ◌∙◌, unwrap_or}
 use Rattle.std.specs.Prelude.{Option, Some, None, filter, is_some, option_map}
-use Rattle.std.specs.BTreeMap.{is_at}
 use Rattle.std.specs.Bool.{OnTrue}
 use Rattle.std.specs.Cmp.{eq_by_cmp_equiv}
 use Rattle.std.specs.FinMap as finite
@@ -25,7 +24,7 @@ abbrev Rows : Type 0
 Rows = List (Key × Versions)
 
 abbrev pub stored : Rows → Key → Option Versions
-stored es k = lookup (is_at (key_cmp k)) es
+stored es k = lookup (eq_by_cmp key_cmp k) es
 
 -- the versions at a key are those of its history
 pub versions_stored : (g : Gazetteer) (es : Rows) (k : Key) → finite.from_entries es ≡ g → versions_at g k ≡ unwrap_or (stored es k) []
@@ -35,7 +34,7 @@ abbrev has : List Key → Key → Bool
 has ks k = list_any (eq_by_cmp key_cmp k) ks
 
 abbrev Writes : Rows → Rows → Key → Option Versions → Type 0
-Writes es fs key o = (q : Key) → stored fs q ≡ cond (is_at (key_cmp key) q) o (stored es q)
+Writes es fs key o = (q : Key) → stored fs q ≡ cond (eq_by_cmp key_cmp key q) o (stored es q)
 
 written : (es fs : Rows) (key : Key) (o : Option Versions) → Writes es fs key o → (k : Key) → unwrap_or (stored fs k) [] ≡ cond (eq_by_cmp key_cmp key k) (unwrap_or o []) (unwrap_or (stored es k) [])
 written es fs key o h k = ap (λ p. unwrap_or p []) (h k) ∙ of_cond (eq_by_cmp key_cmp key k)
@@ -59,11 +58,11 @@ stores_none g es fs key is h none k =
     by_same false at = refl
 
 -- the same history again
-pub stores_same : (g : Gazetteer) (es fs : Rows) (key : Key) (vs : Versions) → finite.from_entries es ≡ g → Writes es fs key (Some vs) → Some vs ≡ stored es key → finite.from_entries fs ≡ g
+stores_same : (g : Gazetteer) (es fs : Rows) (key : Key) (vs : Versions) → finite.from_entries es ≡ g → Writes es fs key (Some vs) → Some vs ≡ stored es key → finite.from_entries fs ≡ g
 stores_same g es fs key vs is h same =
-    finite.same_map keys_total keys_exact (finite.from_entries {R = key_cmp} fs) (finite.from_entries {R = key_cmp} es) (λ q. get_tree (λ a b. refl) keys_total fs q ∙ h q ∙ by_same q (is_at (key_cmp key) q) refl ∙ sym (get_tree (λ a b. refl) keys_total es q)) ∙ is
+    finite.same_map keys_total keys_exact (finite.from_entries {R = key_cmp} fs) (finite.from_entries {R = key_cmp} es) (λ q. get_tree (λ a b. refl) keys_total fs q ∙ h q ∙ by_same q (eq_by_cmp key_cmp key q) refl ∙ sym (get_tree (λ a b. refl) keys_total es q)) ∙ is
   where
-    by_same : (q : Key) (b : Bool) → is_at (key_cmp key) q ≡ b → cond b (Some vs) (stored es q) ≡ stored es q
+    by_same : (q : Key) (b : Bool) → eq_by_cmp key_cmp key q ≡ b → cond b (Some vs) (stored es q) ≡ stored es q
     by_same q true at = same ∙ ap (stored es) (same_key key q at)
     by_same q false at = refl
 
@@ -156,7 +155,7 @@ rows_stored g es v is h =
     ∙ ap (λ (h : Gazetteer). finite.entries (finite.from_entries {R = key_cmp} (rows_at (finite.entries h) v))) is
 
 -- the keys are those that are given versions
-pub keys_with : (ks : List Key) (es : Rows) → keys_of (with_versions ks es) ≡ ks
+keys_with : (ks : List Key) (es : Rows) → keys_of (with_versions ks es) ≡ ks
 keys_with [] es = refl
 keys_with (k ∷ ks) es = ap (λ l. k ∷ l) (keys_with ks es)
 
