@@ -1,11 +1,11 @@
 ghost use Rattle.std.specs.Prelude.{◌≡◌, OnOk};
 ghost use Rattle.gaz_shelf.specs.Keeper.{Idle};
 
-use crate::{Seed, closed_streets, extract, line, lookup};
+use crate::{closed_streets, extract, line, lookup};
 use gaz_ids::{Code, Status, Uprn, Volume};
 use gaz_records::{Item, Kind, SharedItem, item_of_text};
 use gaz_register::Register;
-use gaz_shelf::{Ending, Inbox, MemShelf, write_volume};
+use gaz_shelf::{Ending, Inbox, MemShelf, Seed, write_volume};
 use std::alloc::Global;
 use std::process::Abort;
 use std::test::Fail;

@@ -3,9 +3,9 @@ ghost use Rattle.std.specs.Prelude.{OnOk};
 ghost use Rattle.gaz_shelf.specs.Keeper.{IsNotOpen, Seen};
 
 use crate::tests::{REGISTER, STREET_101, held};
-use crate::{Answer, Hub, Outcome, Refusal, Seed};
+use crate::{Answer, Hub, Outcome, Refusal};
 use gaz_register::Register;
-use gaz_shelf::{Call, Faulty, Inbox, MemShelf, ShelfFault};
+use gaz_shelf::{Call, Faulty, Inbox, MemShelf, Seed, ShelfFault};
 use std::process::Abort;
 use std::test::Fail;
 

@@ -4,10 +4,10 @@ ghost use Rattle.gaz_shelf.specs.Keeper.{IsNotOpen, Seen};
 ghost use Rattle.gaz_shelf.specs.Faulting.{progress_around};
 ghost use Rattle.gaz_shelf.specs.Mem.{seen_in};
 
-use crate::{Hub, Refusal, Seed};
+use crate::{Hub, Refusal};
 use gaz_ids::{Code, Status, Uprn, Volume};
 use gaz_register::Register;
-use gaz_shelf::{Faulty, Inbox, MemShelf, Shelf, ShelfFault};
+use gaz_shelf::{Faulty, Inbox, MemShelf, Seed, Shelf, ShelfFault};
 use std::alloc::Global;
 use std::test::Fail;
 
