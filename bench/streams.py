@@ -105,6 +105,6 @@ def gazetteer(homes=HOMES, each=2500):
     yield post((1001, 2), file_with(1001, 2, ["11,U,150,1,1990-01-01,2024-04-30"]))
 
 
-def look_ups(count):
-    """Look-ups all over that district."""
-    return b"".join(get(f"/uprn/{FIRST + k * 7919 % HOMES}") for k in range(count))
+def look_ups(count, step):
+    """Look-ups of that district's properties, each so many behind the one before, from the start again behind the last."""
+    return b"".join(get(f"/uprn/{FIRST + k * step % HOMES}") for k in range(count))
