@@ -1,6 +1,6 @@
 -- What the definitions come to on worked examples.
-use Rattle.std.proofs.Common.{◌≡◌, ◌∙◌, ◌||◌, ℕ, cond, ap, refl, false, List, [], ◌∷◌, unwrap_or}
-use Rattle.std.specs.Prelude.{Some, None, fold, codes}
+use Rattle.std.proofs.Common.{◌≡◌, ◌∙◌, ◌||◌, ℕ, Bool, cond, ap, refl, true, false, List, [], ◌∷◌, unwrap_or}
+use Rattle.std.specs.Prelude.{Some, None, fold, codes, is_some}
 use Rattle.std.specs.Ordering.{eq_by_cmp}
 use Rattle.std.specs.FinMap as map
 use Rattle.std.specs.FinSet as set
@@ -13,7 +13,7 @@ use Rattle.gaz_records.specs.declared.key.Key.{Key}
 use Rattle.gaz_records.specs.declared.key.Key.TheVariants as key
 use Rattle.gaz_shelf.specs.View.{View, empty_view, was_used, with_item}
 use Rattle.gaz_shelf.specs.Words.{entries}
-use Rattle.gaz_shelf.specs.Examples.{WorkedBoards, WorkedExamples, WorkedGazetteers, WorkedPages, WorkedViews, WorkedWords, all_kinds, lpi, no_more, one_street, put_in_turn, street, three_volumes}
+use Rattle.gaz_shelf.specs.Examples.{WorkedBoards, WorkedExamples, WorkedGazetteers, WorkedKeeping, WorkedPages, WorkedViews, WorkedWords, all_kinds, lpi, no_more, one_street, put_in_turn, street, three_volumes}
 pub use Rattle.gaz_shelf.proofs.Emptiness.{get_none, used_none}
 use Rattle.gaz_shelf.proofs.Emptiness.{no_entries_yet}
 use Rattle.gaz_shelf.proofs.Gazetteers.{contains_at, get_at}
@@ -68,8 +68,27 @@ gazetteers_hold = record {
   third_not_judged = refl;
 }
 
+either_key : {X : Type 0} (v w : X) (first second : Bool) → (first || (second || false)) ≡ is_some (cond second (Some v) (cond first (Some w) None))
+either_key v w true true = refl
+either_key v w true false = refl
+either_key v w false true = refl
+either_key v w false false = refl
+
+keeping_holds : WorkedKeeping
+keeping_holds = record {
+  its_keys = λ k. either_key _ _ (eq_by_cmp key_cmp k (key.Street 101)) (eq_by_cmp key_cmp k (key.Street 102));
+  in_order = refl;
+  never_used = refl;
+  one_mark = refl;
+  of_another = refl;
+  another_mark = refl;
+  marked = refl;
+  not_marked = refl;
+  not_there = refl;
+}
+
 pub worked_examples_hold : WorkedExamples
-worked_examples_hold = record { on_views = on_views; on_words = on_words; on_pages = on_pages; on_boards = on_boards; on_gazetteers = gazetteers_hold }
+worked_examples_hold = record { on_views = on_views; on_words = on_words; on_pages = on_pages; on_boards = on_boards; on_gazetteers = gazetteers_hold; on_keeping = keeping_holds }
   where
     on_views : WorkedViews
     on_views = record {

@@ -9,9 +9,13 @@ use Rattle.gaz_records.specs.Days.{CivilDay}
 use Rattle.gaz_records.specs.declared.item.Item.{Item}
 use Rattle.gaz_records.specs.declared.item.Item.TheVariants as item
 use Rattle.gaz_records.specs.declared.item.Kind.TheVariants as kind
+use Rattle.gaz_records.specs.declared.key.Key.{Key}
 use Rattle.gaz_records.specs.declared.key.Key.TheVariants as key
+use Rattle.gaz_histories.specs.Histories.{Versions}
 use Rattle.gaz_shelf.specs.View.{View, empty_view, holds, was_used, with_item, without_key}
-use Rattle.gaz_shelf.specs.Gazetteer.{Gazetteer, judgements, view_at}
+use Rattle.gaz_shelf.specs.Gazetteer.{Gazetteer, HasJustTheKeysOf, judgements, view_at, with_versions}
+use Rattle.gaz_shelf.specs.Indexes.{marked_item, same_mark}
+use Rattle.gaz_shelf.specs.declared.index.Mark.TheVariants.{AddressOf, PartOf}
 use Rattle.gaz_shelf.specs.Words.{address_of, approved_of, approved_on, has_children, page}
 use Rattle.gaz_shelf.specs.Board.{Board, empty_board, reached, view_after}
 use Rattle.gaz_shelf.specs.declared.verdict.Verdict.TheVariants.{Applied, Rejected}
@@ -140,9 +144,31 @@ pub record WorkedGazetteers : Type 0 where
   pub second_judged : slice_get (judgements (Applied ∷ Rejected 2 21 ∷ []) three_volumes) 1 ≡ Some (record { verdict = Rejected 2 21; view = view_at three_volumes 2 })
   pub third_not_judged : slice_get (judgements (Applied ∷ Rejected 2 21 ∷ []) three_volumes) 2 ≡ None
 
+-- ---- as it is kept
+
+-- streets 101 and 102 in no order of keys
+abbrev pub second_first : List (Key × Versions)
+second_first = (key.Street 102, (2, Some (street 102)) ∷ []) ∷ (key.Street 101, (1, Some (street 101)) ∷ []) ∷ []
+
+-- property 1002, which is a part of 1001, and its address
+abbrev pub part_and_address : List (Key × Item)
+part_and_address = (key.Blpu 1002, blpu 1002 (Some 1001)) ∷ (key.Lpi (codes "L4"), lpi (codes "L4") 1002 Eng Approved 101) ∷ []
+
+pub record WorkedKeeping : Type 0 where
+  pub its_keys : HasJustTheKeysOf (key.Street 101 ∷ key.Street 102 ∷ []) second_first
+  pub in_order : with_versions (key.Street 101 ∷ key.Street 102 ∷ []) second_first ≡ (key.Street 101, (1, Some (street 101)) ∷ []) ∷ (key.Street 102, (2, Some (street 102)) ∷ []) ∷ []
+  pub never_used : with_versions (key.Street 103 ∷ []) second_first ≡ (key.Street 103, []) ∷ []
+  pub one_mark : same_mark (AddressOf 1001) (AddressOf 1001) ≡ true
+  pub of_another : same_mark (AddressOf 1001) (AddressOf 1002) ≡ false
+  pub another_mark : same_mark (AddressOf 1001) (PartOf 1001) ≡ false
+  pub marked : marked_item part_and_address (AddressOf 1002) (key.Lpi (codes "L4")) ≡ Some (lpi (codes "L4") 1002 Eng Approved 101)
+  pub not_marked : marked_item part_and_address (AddressOf 1001) (key.Lpi (codes "L4")) ≡ None
+  pub not_there : marked_item part_and_address (AddressOf 1002) (key.Lpi (codes "L5")) ≡ None
+
 pub record WorkedExamples : Type 0 where
   pub on_views : WorkedViews
   pub on_words : WorkedWords
   pub on_pages : WorkedPages
   pub on_boards : WorkedBoards
   pub on_gazetteers : WorkedGazetteers
+  pub on_keeping : WorkedKeeping
