@@ -1,5 +1,6 @@
 """What the whole hub costs, beside Python: posts and repeats, many files, look-ups, extracts and closed streets."""
 import io
+import statistics
 import sys
 
 import hub
@@ -38,13 +39,17 @@ def plain_answers(plain, requests):
 
 
 def beside_loading(command, loading, paths, rounds, environment=None):
-    """The least times of a program over streams that begin with a loading, less that over the loading alone, and what it replies to each."""
-    best, replies = [float("inf")] * (len(paths) + 1), [b""] * (len(paths) + 1)
+    """What a program takes over streams that begin with a loading, beyond the loading alone, and what it replies to each.
+
+    Each time is the median over the rounds of the difference to a run of the loading right before it: both see the same machine.
+    """
+    spent, replies = [[] for _ in paths], [b""] * (len(paths) + 1)
     for _ in range(rounds):
-        for k, path in enumerate((loading, *paths)):
-            spent, replies[k] = seconds(command, path, rounds=1, environment=environment)
-            best[k] = min(best[k], spent)
-    return [spent - best[0] for spent in best[1:]], replies
+        for k, path in enumerate(paths):
+            alone, replies[0] = seconds(command, loading, rounds=1, environment=environment)
+            whole, replies[k + 1] = seconds(command, path, rounds=1, environment=environment)
+            spent[k].append(whole - alone)
+    return [statistics.median(times) for times in spent], replies
 
 
 HUGE_PAGES = {"GLIBC_TUNABLES": "glibc.malloc.hugetlb=1"}  # asks the kernel for huge pages
@@ -62,8 +67,8 @@ def reading_rows(folder):
     )
     loading, *paths = (in_file(folder, f"stream{k}", load + requests) for k, requests in enumerate((b"", *asked)))
     plain, same = beside_loading([sys.executable, f"{TOP}/bench/hub.py"], loading, paths, rounds=5)
-    ours, replies = beside_loading([program("gazhub")], loading, paths, rounds=15)
-    huge, _ = beside_loading([program("gazhub")], loading, paths[:2], rounds=15, environment=HUGE_PAGES)
+    ours, replies = beside_loading([program("gazhub")], loading, paths, rounds=25)
+    huge, _ = beside_loading([program("gazhub")], loading, paths[:2], rounds=25, environment=HUGE_PAGES)
     assert replies == same, "the plain hub replies otherwise"
     assert same[0].count(b'"applied"') == same[0].count(b"HTTP/1.1 201"), "the district isn't loaded"
 

@@ -1,6 +1,6 @@
 -- The texts in a reply.
-use Rattle.std.proofs.Common.{◌≡◌, ℕ, ◌+◌, ◌<◌, true, take, get_or, append_assoc, List, [], ◌∷◌, ◌++◌, Ok, Err, ◌∙◌, ap, sym, arith, append-nil}
-use Rattle.std.specs.Prelude.{◌&&◌, Bool, nat_le, length, IfOk, IsUtf8, Result}
+use Rattle.std.proofs.Common.{◌≡◌, ℕ, ◌+◌, ◌<◌, true, take, get_or, append_assoc, List, [], ◌∷◌, ◌++◌, Ok, Err, ◌∙◌, ap, arith, append-nil}
+use Rattle.std.specs.Prelude.{◌&&◌, codes, Bool, nat_le, length, IfOk, IsUtf8, Result}
 use Rattle.std.proofs.lemmas.Bool.Decides.{nat_tests}
 use Rattle.std.specs.List.{flat_map}
 use Rattle.std.proofs.lemmas.Grind.{flat_map-append}
@@ -10,12 +10,11 @@ use Rattle.std.proofs.lemmas.Str.Ascii.{IsAscii-cons, IsAscii-nil}
 use Rattle.std.specs.Str.{IsAscii}
 use Rattle.gaz_records.specs.Labels.{are_label_bytes, is_label, is_label_byte}
 use Rattle.gaz_exchange.specs.Replies.{message}
+use Rattle.gaz_exchange.specs.Sending.{head_of}
+use Rattle.json.specs.Print.{print, print_from, token_text}
+use Rattle.json.specs.Token.{Token}
+use Rattle.json.specs.Written.{Writes, Written}
 use Rattle.gaz_exchange.proofs.ExchangeFacts.{both}
-
--- nothing stands behind the text
-pub with_none : {A E : Type 0} (f : A → List ℕ) (r : Result A E) (t : List ℕ) → IfOk r (λ s. f s ≡ t) → IfOk r (λ s. f s ++ [] ≡ t)
-with_none f (Ok s) t e = append-nil (f s) ∙ e
-with_none f (Err x) t e = tt
 
 label_ascii : (t : List ℕ) → are_label_bytes t ≡ true → IsAscii t
 label_ascii [] h = IsAscii-nil
@@ -37,9 +36,27 @@ texts_more f xs i d h =
 pub behind : (o a b c x sign y : List ℕ) → a ≡ o ++ x → b ≡ a ++ sign → c ≡ b ++ y → c ≡ o ++ (x ++ (sign ++ y))
 behind o a b c x sign y h k m = rw (m, k, h) (append_assoc (o ++ x) sign y ∙ append_assoc o x (sign ++ y))
 
--- a body behind the head
-pub with_behind : {A E : Type 0} (f : A → List ℕ) (r : Result A E) (status content : List ℕ) (size : ℕ) (body : List ℕ) (is_last : Bool)
-    → IfOk r (λ s. f s ≡ message status content size [] [] is_last) → IfOk r (λ s. f s ++ body ≡ message status content size [] body is_last)
+-- the lines before a length
+abbrev front_of : List ℕ → List ℕ → List ℕ
+front_of status content = codes "HTTP/1.1 " ++ (status ++ (codes "\r\nContent-Type: " ++ (content ++ codes "\r\nContent-Length: ")))
+
+-- a body behind the lines before it
+pub behind_head : (status content body : List ℕ) (is_last : Bool)
+    → head_of (front_of status content) (length body) is_last ++ body ≡ message status content (length body) [] body is_last
 unfolding message
-with_behind f (Ok s) status content size body is_last e = rw e (simp (append_assoc, append-nil))
-with_behind f (Err x) status content size body is_last e = tt
+behind_head status content body is_last = simp append_assoc
+
+-- a body that was made, behind the lines before it
+pub made_behind_head : {A E : Type 0} (r : Result A E) (f : A → List ℕ) (status content body : List ℕ) (is_last : Bool) → IfOk r (λ b. f b ≡ body)
+    → IfOk r (λ b. head_of (front_of status content) (length (f b)) is_last ++ f b ≡ message status content (length body) [] body is_last)
+made_behind_head (Ok b) f status content body is_last e = rw e (behind_head status content body is_last)
+made_behind_head (Err x) f status content body is_last e = tt
+
+-- what a writer of JSON gives back after one token
+pub one_token : {E : Type 0} (out items : List ℕ) (old new done : Written) (t : Token) → old.before ≡ out → old.tokens ≡ [] → Writes {E = E} (Ok tt) old new t → done ≡ new
+    → items ≡ done.before ++ print done.tokens → items ≡ out ++ token_text t
+unfolding print_from
+one_token out items old new done t b n w d e =
+    let all : new.tokens ≡ t ∷ [] = w.ok ∙ ap (λ l. l ++ t ∷ []) n in
+    let begun : new.before ≡ out = w.room.0 ∙ b in
+    e ∙ rw (d, all, begun) (ap (λ l. out ++ l) (append-nil (token_text t)))

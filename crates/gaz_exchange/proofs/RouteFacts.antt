@@ -1,5 +1,5 @@
 -- What a target names, as the router finds it.
-use Rattle.std.proofs.Common.{◌≡◌, ℕ, ◌<◌, Bool, true, false, cond, List, [], ◌∷◌, ◌++◌, length, Option, Some, None, ◌⊎◌, inl, inr, refl, ap, sym, ◌∙◌, arith, codes}
+use Rattle.std.proofs.Common.{◌≡◌, ℕ, ◌<◌, Bool, true, false, cond, List, [], ◌∷◌, ◌++◌, length, Option, Some, None, inl, inr, refl, ap, sym, ◌∙◌, arith, codes}
 use Rattle.std.specs.Prelude.{◌&&◌, ◌==◌, bytes_eq, if◌then◌else◌}
 use Rattle.std.specs.List.{join_with_byte, onto_first}
 use Rattle.std.proofs.lemmas.List.Splits.{join_with_byte-slice_split}
@@ -12,7 +12,7 @@ use Rattle.matchit.specs.Seek.{first, has_slash, seek}
 use Rattle.gaz_exchange.specs.Routing.{closed_route, custodian_route, extract_route, routes, uprn_route, volume_route}
 use Rattle.gaz_exchange.specs.Targets.{Closed, Custodian, Extract, Nowhere, Property, Target, Volume, is_filled, of_segments, segments, target_of}
 use Rattle.gaz_exchange.specs.declared.route.Place.{Place}
-use Rattle.gaz_exchange.proofs.SeekFacts.{AllBytes, Forks, GoesThrough, Parts, bytes_behind, bytes_found, end_found, fork_found, fork_last, fork_segment, last_found, part_found, prefixed, seek_bytes, seek_last, seek_part, slash_first, through_found, through_segment}
+use Rattle.gaz_exchange.proofs.SeekFacts.{AllBytes, Forks, GoesThrough, bytes_behind, bytes_found, end_found, fork_found, fork_last, fork_segment, last_found, part_found, prefixed, seek_bytes, seek_last, seek_part, slash_first, through_found, through_segment}
 
 -- the target /custodians/{c}/volumes/{v}
 abbrev pub volume_target : List ℕ → List ℕ → List ℕ

@@ -1,5 +1,5 @@
 -- What the parameters of a route took of the path.
-use Rattle.std.proofs.Common.{◌≡◌, ℕ, suc, ◌+◌, ◌-◌, ◌<◌, ◌≤◌, true, false, cond, List, [], ◌∷◌, ◌++◌, length, get_or, drop, take, Some, inl, inr, refl, ap, subst, sym, ◌∙◌, arith, length-append, codes}
+use Rattle.std.proofs.Common.{◌≡◌, ℕ, suc, ◌+◌, ◌-◌, ◌<◌, ◌≤◌, true, false, cond, List, [], ◌∷◌, ◌++◌, length, get_or, drop, take, Some, refl, ap, subst, sym, ◌∙◌, arith, length-append, codes}
 use Rattle.std.specs.Prelude.{IsUtf8, nat_lt, nat_le}
 use Rattle.std.proofs.lemmas.Bool.Decides.{nat_tests}
 use Rattle.std.proofs.lemmas.List.{take_all}

@@ -131,6 +131,10 @@ body_of (reply.Refused fault) = codes "{\"refusal\":" ++ (decimal (number_of fau
 abbrev pub close_of : Bool → List ℕ
 close_of is_last = if is_last then codes "Connection: close\r\n" else []
 
+-- the end of the headers, and an empty line
+abbrev pub end_of : Bool → List ℕ
+end_of is_last = codes "\r\n" ++ (close_of is_last ++ codes "\r\n")
+
 -- status line, headers, an empty line, body
 unfoldable pub message : List ℕ → List ℕ → ℕ → List ℕ → List ℕ → Bool → List ℕ
 message status content size headers body is_last =
@@ -142,11 +146,6 @@ message status content size headers body is_last =
 -- the length counts bytes
 unfoldable pub reply_text : Reply → Bool → List ℕ
 reply_text reply is_last = message (status_line reply) (content_type reply) (length (body_of reply)) (allow_in reply) (body_of reply) is_last
-
--- what is written behind the rest of a reply: an extract, which isn't copied
-abbrev pub behind_of : Reply → List ℕ
-behind_of (reply.Extract bytes) = bytes
-behind_of _ = []
 
 -- the request received its file
 abbrev pub is_received : Reply → Bool

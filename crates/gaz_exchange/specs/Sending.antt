@@ -1,7 +1,8 @@
 -- A reply as it is written.
 use Rattle.std.specs.Prelude.{◌≡◌, ℕ, Bool, true, List, [], ◌++◌, Option}
+use Rattle.std.specs.Fmt.{decimal}
 use Rattle.std.specs.Io.KnownBytes.{Appends}
-use Rattle.gaz_exchange.specs.Replies.{IsReplyText}
+use Rattle.gaz_exchange.specs.Replies.{IsReplyText, end_of}
 use Rattle.gaz_exchange.specs.declared.reply.Reply.{Reply}
 
 -- the text, or only a front of it, was written behind what the writer held
@@ -16,3 +17,7 @@ pub record IsSent (held holds : Option (List ℕ)) (reply : Reply) (is_last whol
   pub text : List ℕ
   pub told : IsReplyText reply is_last text
   pub put : IsPut held holds text whole
+
+-- the lines before a body of so many bytes; the front are those up to the length
+abbrev pub head_of : List ℕ → ℕ → Bool → List ℕ
+head_of front size is_last = (front ++ decimal size) ++ end_of is_last

@@ -1,5 +1,5 @@
 //! The bodies of replies: compact JSON with its keys in byte order, and one line feed.
-ghost use Rattle.std.specs.Prelude.{◌≡◌, ◌++◌, codes, flat_map, IfOk, OnOk, string_bytes};
+ghost use Rattle.std.specs.Prelude.{◌≡◌, ◌++◌, codes, decimal, flat_map, IfOk, OnOk, string_bytes};
 ghost use Rattle.std.specs.List.{join_by};
 ghost use Rattle.gaz_exchange.specs.Replies.{body_of, closed_text, line_text, outcome_text, want_text, wants_text};
 ghost use Rattle.gaz_exchange.specs.declared.reply.Reply.TheVariants as Reply;
@@ -8,7 +8,8 @@ use gaz_extract::{AddressLine, Closed, Found};
 use gaz_hub::{Digest, Outcome, Standing};
 use gaz_ids::{Code, Volume};
 use gaz_records::RecordKey;
-use serde_json::Value;
+use itoa::Buffer;
+use json::Writer;
 use std::alloc::{AllocError, Global};
 use std::fmt::Write;
 
@@ -46,33 +47,36 @@ fn outcome_text(alloc: Global, outcome: Outcome) -> Result<String, AllocError>
 }
 
 /// What became of a file.
-pub fn outcome_body(alloc: Global, outcome: Outcome) -> Result<String, AllocError>
-    ensures { IfOk result (λ text. string_bytes text ≡ body_of (Reply.New outcome)) }
+pub fn outcome_body(alloc: Global, outcome: Outcome) -> Result<Vec<u8>, AllocError>
+    ensures { IfOk result (λ body. body.items ≡ body_of (Reply.New outcome)) }
 {
     let outcome = outcome_text(alloc, outcome)?;
-    format!(in alloc; "{{{outcome}}}\n")
+    let body = format!(in alloc; "{{{outcome}}}\n")?;
+    Ok(body.into_bytes())
 }
 
 /// The digest of the file that was received before.
-pub fn taken_body(alloc: Global, digest: Digest) -> Result<String, AllocError>
-    ensures { IfOk result (λ text. string_bytes text ≡ body_of (Reply.Taken digest)) }
+pub fn taken_body(alloc: Global, digest: Digest) -> Result<Vec<u8>, AllocError>
+    ensures { IfOk result (λ body. body.items ≡ body_of (Reply.Taken digest)) }
 {
     let digest = hex::encode(alloc, digest)?;
-    format!(in alloc; "{{\"digest\":\"{digest}\",\"outcome\":\"taken\"}}\n")
+    let body = format!(in alloc; "{{\"digest\":\"{digest}\",\"outcome\":\"taken\"}}\n")?;
+    Ok(body.into_bytes())
 }
 
 /// A file's digest and what became of it.
-pub fn told_body(alloc: Global, digest: Digest, outcome: Outcome) -> Result<String, AllocError>
-    ensures { IfOk result (λ text. string_bytes text ≡ body_of (Reply.Told digest outcome)) }
+pub fn told_body(alloc: Global, digest: Digest, outcome: Outcome) -> Result<Vec<u8>, AllocError>
+    ensures { IfOk result (λ body. body.items ≡ body_of (Reply.Told digest outcome)) }
 {
     let digest = hex::encode(alloc, digest)?;
     let outcome = outcome_text(alloc, outcome)?;
-    format!(in alloc; "{{\"digest\":\"{digest}\",{outcome}}}\n")
+    let body = format!(in alloc; "{{\"digest\":\"{digest}\",{outcome}}}\n")?;
+    Ok(body.into_bytes())
 }
 
 /// How far a custodian's files are judged.
-pub fn standing_body(alloc: Global, standing: Standing) -> Result<String, AllocError>
-    ensures { IfOk result (λ text. string_bytes text ≡ body_of (Reply.Stands standing)) }
+pub fn standing_body(alloc: Global, standing: Standing) -> Result<Vec<u8>, AllocError>
+    ensures { IfOk result (λ body. body.items ≡ body_of (Reply.Stands standing)) }
 {
     let wants = wants_text(alloc, standing.wants)?;
     let Standing {
@@ -81,34 +85,52 @@ pub fn standing_body(alloc: Global, standing: Standing) -> Result<String, AllocE
         judged,
         wants: _,
     } = standing;
-    format!(in alloc;
+    let body = format!(in alloc;
         "{{\"custodian\":{custodian},\"held\":{held},\"judged\":{judged},\"wants\":{wants}}}\n"
-    )
+    )?;
+    Ok(body.into_bytes())
 }
 
-// A line as JSON writes it.
-fn line_text(alloc: Global, line: &Option<AddressLine>) -> Result<String, AllocError>
-    ensures { IfOk result (λ text. string_bytes text ≡ line_text line.now) }
+// Adds a piece, and a number behind it.
+fn add_number(out: &mut Vec<u8>, piece: &[u8], number: u64) -> Result<(), AllocError>
+    ensures { OnOk result (out.new.items ≡ out.old.items ++ (piece.now ++ decimal number)) }
 {
+    let mut digits = Buffer::new();
+    out.extend_from_slice(piece)?;
+    out.extend_from_slice(digits.format(number).as_bytes())
+}
+
+// Adds a line as JSON writes it.
+fn with_line(out: Vec<u8>, line: &Option<AddressLine>) -> Result<Vec<u8>, AllocError>
+    ensures { IfOk result (λ whole. whole.items ≡ out.items ++ line_text line.now) }
+{
+    let mut writer = Writer::new(out);
     match line {
-        None => String::from_str(alloc, "null"),
-        Some(line) => Value::try_from_str(alloc, line.as_str())?.to_string(alloc),
+        None => writer.null()?,
+        Some(line) => writer.string(line.as_str())?,
+    }
+    Ok(writer.into_inner())
+}
+
+// The bytes that a body fits in where its line needs no escapes.
+fn room_for(found: &Found) -> usize {
+    match &found.line {
+        None => FOUND_ROOM,
+        Some(line) => FOUND_ROOM + line.as_str().len(),
     }
 }
 
 /// Where a property stands and how it is addressed.
-pub fn found_body(alloc: Global, found: &Found) -> Result<String, AllocError>
-    ensures { IfOk result (λ text. string_bytes text ≡ body_of (Reply.Found found.now)) }
+pub fn found_body(alloc: Global, found: &Found) -> Result<Vec<u8>, AllocError>
+    ensures { IfOk result (λ body. body.items ≡ body_of (Reply.Found found.now)) }
 {
-    let line = line_text(alloc, &found.line)?;
-    let custodian = found.custodian;
-    let status = found.status.number();
-    let uprn = found.uprn;
-    let mut out = String::with_capacity(alloc, FOUND_ROOM + line.len())?;
-    write!(
-        out,
-        "{{\"custodian\":{custodian},\"line\":{line},\"status\":{status},\"uprn\":{uprn}}}\n"
-    )?;
+    let mut out = Vec::with_capacity(alloc, room_for(found))?;
+    add_number(&mut out, b"{\"custodian\":", found.custodian.number())?;
+    out.extend_from_slice(b",\"line\":")?;
+    let mut out = with_line(out, &found.line)?;
+    add_number(&mut out, b",\"status\":", u64::from(found.status.number()))?;
+    add_number(&mut out, b",\"uprn\":", found.uprn.number())?;
+    out.extend_from_slice(b"}\n")?;
     Ok(out)
 }
 
@@ -161,11 +183,11 @@ fn add_all(out: &mut String, closed: &[Closed]) -> Result<(), AllocError>
 }
 
 /// Addresses on closed streets.
-pub fn closed_body(alloc: Global, closed: &[Closed]) -> Result<String, AllocError>
-    ensures { IfOk result (λ text. string_bytes text ≡ body_of (Reply.Closed closed.now)) }
+pub fn closed_body(alloc: Global, closed: &[Closed]) -> Result<Vec<u8>, AllocError>
+    ensures { IfOk result (λ body. body.items ≡ body_of (Reply.Closed closed.now)) }
 {
     let mut out = String::from_str(alloc, "{\"closed\":[")?;
     add_all(&mut out, closed)?;
     out.push_str("]}\n")?;
-    Ok(out)
+    Ok(out.into_bytes())
 }

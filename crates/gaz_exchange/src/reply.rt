@@ -1,13 +1,10 @@
-ghost use Rattle.std.specs.Prelude.{◌≡◌, ◌++◌, [], codes, length, IfOk, string_bytes};
+ghost use Rattle.std.specs.Prelude.{◌≡◌};
 ghost use Rattle.gaz_hub.specs.Hubs.{told, told_all};
-ghost use Rattle.gaz_exchange.specs.Replies.{behind_of, close_of, is_received, memory_fault, message, reply_extracted, reply_found, reply_listed, reply_of, reply_stands, reply_text, reply_told};
+ghost use Rattle.gaz_exchange.specs.Replies.{is_received, memory_fault, reply_extracted, reply_found, reply_listed, reply_of, reply_stands, reply_text, reply_told};
 
-use crate::bodies::{closed_body, found_body, outcome_body, standing_body, taken_body, told_body};
 use crate::fault::Fault;
 use gaz_extract::{Closed, Found};
 use gaz_hub::{Answer, Digest, Outcome, Refusal, Standing};
-use std::alloc::{AllocError, Global};
-use std::fmt::Write;
 use std::marker::Model;
 
 /// The text of an extract.
@@ -25,7 +22,8 @@ impl Model for ExtractText {
 }
 
 impl ExtractText {
-    fn as_slice(&self) -> &[u8]
+    /// The bytes.
+    pub fn as_slice(&self) -> &[u8]
         ensures { result.now ≡ self.now }
     {
         self.bytes.as_slice()
@@ -48,7 +46,8 @@ impl Model for ClosedList {
 }
 
 impl ClosedList {
-    fn as_slice(&self) -> &[Closed]
+    /// The addresses, in order.
+    pub fn as_slice(&self) -> &[Closed]
         ensures { result.now ≡ self.now }
     {
         self.closed.as_slice()
@@ -88,42 +87,6 @@ impl From<Answer> for Reply {
             Answer::Refused(refusal) => Reply::Refused(refusal.into()),
         }
     }
-}
-
-/// The bytes that the lines before a body fit in.
-const HEAD_ROOM: usize = 128;
-
-fn close_of(is_last: bool) -> &'static str
-    ensures { result.now ≡ close_of is_last }
-{
-    if is_last { "Connection: close\r\n" } else { "" }
-}
-
-// A message that says what came of a request, but for a refusal's; its body has so many bytes.
-fn message_of(
-    alloc: Global,
-    status: &str,
-    content: &str,
-    size: usize,
-    body: &str,
-    is_last: bool,
-) -> Result<String, AllocError>
-    ensures { IfOk result (λ text. string_bytes text ≡ message status.now content.now size [] body.now is_last) }
-{
-    let close = close_of(is_last);
-    let mut text = String::with_capacity(alloc, HEAD_ROOM + body.len())?;
-    write!(
-        text,
-        "HTTP/1.1 {status}\r\nContent-Type: {content}\r\nContent-Length: {size}\r\n{close}\r\n{body}"
-    )?;
-    Ok(text)
-}
-
-// A message with a body of JSON.
-fn json_of(alloc: Global, status: &str, body: &str, is_last: bool) -> Result<String, AllocError>
-    ensures { IfOk result (λ text. string_bytes text ≡ message status.now (codes "application/json") (length body.now) [] body.now is_last) }
-{
-    message_of(alloc, status, "application/json", body.len(), body, is_last)
 }
 
 impl Reply {
@@ -191,62 +154,6 @@ impl Reply {
             Reply::New(_) => true,
             Reply::Refused(fault) => *fault == Fault::Unsettled,
             _ => false,
-        }
-    }
-
-    #[tactic(auto, unfolding(crate::specs::Replies::reply_text))]
-    /// The whole reply, but for an extract's bytes, which stand behind it; `is_last` where the conversation ends after it.
-    pub fn text(&self, alloc: Global, is_last: bool) -> Result<String, AllocError>
-        ensures { IfOk result (λ text. string_bytes text ++ behind_of self.now ≡ reply_text self.now is_last) }
-    {
-        match self {
-            Reply::New(outcome) => json_of(
-                alloc,
-                "201 Created",
-                &outcome_body(alloc, *outcome)?,
-                is_last,
-            ),
-            Reply::Repeat(outcome) => {
-                json_of(alloc, "200 OK", &outcome_body(alloc, *outcome)?, is_last)
-            }
-            Reply::Taken(digest) => {
-                json_of(alloc, "409 Conflict", &taken_body(alloc, *digest)?, is_last)
-            }
-            Reply::Told(digest, outcome) => json_of(
-                alloc,
-                "200 OK",
-                &told_body(alloc, *digest, *outcome)?,
-                is_last,
-            ),
-            Reply::Stands(standing) => {
-                json_of(alloc, "200 OK", &standing_body(alloc, *standing)?, is_last)
-            }
-            Reply::Found(found) => json_of(alloc, "200 OK", &found_body(alloc, found)?, is_last),
-            Reply::Extract(extract) => message_of(
-                alloc,
-                "200 OK",
-                "text/csv",
-                extract.as_slice().len(),
-                "",
-                is_last,
-            ),
-            Reply::Closed(closed) => json_of(
-                alloc,
-                "200 OK",
-                &closed_body(alloc, closed.as_slice())?,
-                is_last,
-            ),
-            Reply::Refused(fault) => String::from_str(alloc, fault.text(is_last)),
-        }
-    }
-
-    /// What is written behind the text: an extract's bytes.
-    pub fn behind(&self) -> &[u8]
-        ensures { result.now ≡ behind_of self.now }
-    {
-        match self {
-            Reply::Extract(extract) => extract.as_slice(),
-            _ => b"",
         }
     }
 }

@@ -1,9 +1,13 @@
-ghost use Rattle.std.specs.Prelude.{◌++◌, ℕ, List};
-ghost use Rattle.gaz_exchange.specs.Replies.{IsReplyText};
-ghost use Rattle.gaz_exchange.specs.Sending.{IsPut, IsSent};
+ghost use Rattle.std.specs.Prelude.{◌≡◌, ◌++◌, ℕ, List, length, IfOk};
+ghost use Rattle.gaz_exchange.specs.Replies.{IsReplyText, end_of, reply_text};
+ghost use Rattle.gaz_exchange.specs.Sending.{IsPut, IsSent, head_of};
+ghost use Rattle.gaz_exchange.specs.declared.fault.Fault.{Fault};
+ghost use Rattle.gaz_exchange.specs.declared.reply.Reply.TheVariants as Reply;
 
+use crate::bodies::{closed_body, found_body, outcome_body, standing_body, taken_body, told_body};
 use crate::reply::{Reply, memory_text};
-use std::alloc::Global;
+use itoa::Buffer;
+use std::alloc::{AllocError, Global};
 use std::io::Write;
 
 // Writes the text. At `false` the writer failed, or took nothing.
@@ -30,26 +34,119 @@ fn put<W: Write>(w: &mut W, text: &[u8], is_last: bool) -> bool
     write_all(w, text) && (!is_last || w.flush().is_ok())
 }
 
-// Writes a reply's text and what stands behind it.
-fn put_both<W: Write>(w: &mut W, text: &[u8], behind: &[u8], is_last: bool) -> bool
+// What stands before the length of a body.
+macro_rules! front {
+    ($status:literal, $content:literal) => {
+        concat!(
+            "HTTP/1.1 ",
+            $status,
+            "\r\nContent-Type: ",
+            $content,
+            "\r\nContent-Length: "
+        )
+    };
+}
+
+const CREATED: &str = front!("201 Created", "application/json");
+
+const OK: &str = front!("200 OK", "application/json");
+
+const CONFLICT: &str = front!("409 Conflict", "application/json");
+
+const EXTRACT: &str = front!("200 OK", "text/csv");
+
+// What stands between the length and the body.
+fn end_of(is_last: bool) -> &'static str
+    ensures { result.now ≡ end_of is_last }
+{
+    if is_last {
+        "\r\nConnection: close\r\n\r\n"
+    } else {
+        "\r\n\r\n"
+    }
+}
+
+// Writes a text and another behind it.
+fn write_both<W: Write>(w: &mut W, text: &[u8], behind: &[u8]) -> bool
     ensures { IsPut (W.contents w.old) (W.contents w.new) (text.now ++ behind.now) result }
 {
-    write_all(w, text) && put(w, behind, is_last)
+    write_all(w, text) && write_all(w, behind)
+}
+
+// Writes the lines before a body of so many bytes.
+fn write_head<W: Write>(w: &mut W, front: &str, size: usize, is_last: bool) -> bool
+    ensures { IsPut (W.contents w.old) (W.contents w.new) (head_of front.now size is_last) result }
+{
+    let mut digits = Buffer::new();
+    let size = digits.format(size);
+    write_both(w, front.as_bytes(), size.as_bytes()) && write_all(w, end_of(is_last).as_bytes())
+}
+
+// Writes a body behind the lines before it.
+fn put_message<W: Write>(w: &mut W, front: &str, body: &[u8], is_last: bool) -> bool
+    ensures { IsPut (W.contents w.old) (W.contents w.new) (head_of front.now (length body.now) is_last ++ body.now) result }
+{
+    write_head(w, front, body.len(), is_last) && put(w, body, is_last)
+}
+
+// Writes a reply whose body was made, or where that found no memory the one that tells so.
+fn put_made<W: Write>(
+    w: &mut W,
+    reply: &Reply,
+    front: &str,
+    body: Result<Vec<u8>, AllocError>,
+    is_last: bool,
+) -> bool
+    requires whole { IfOk body (λ b. head_of front.now (length b.items) is_last ++ b.items ≡ reply_text reply.now is_last) }
+    ensures { IsSent (W.contents w.old) (W.contents w.new) reply.now is_last result }
+{
+    match body {
+        Ok(body) => put_message(w, front, &body, is_last),
+        Err(_) => put(
+            w,
+            memory_text(reply.tells_received(), is_last).as_bytes(),
+            is_last,
+        ),
+    }
+}
+
+// Writes a reply that is no refusal.
+fn send_told<W: Write>(alloc: Global, w: &mut W, reply: &Reply, is_last: bool) -> bool
+    requires told { (fault : Fault) → reply.now ≡ Reply.Refused fault → ⊥ }
+    ensures { IsSent (W.contents w.old) (W.contents w.new) reply.now is_last result }
+{
+    match reply {
+        Reply::New(outcome) => put_made(w, reply, CREATED, outcome_body(alloc, *outcome), is_last),
+        Reply::Repeat(outcome) => put_made(w, reply, OK, outcome_body(alloc, *outcome), is_last),
+        Reply::Taken(digest) => put_made(w, reply, CONFLICT, taken_body(alloc, *digest), is_last),
+        Reply::Told(digest, outcome) => put_made(
+            w,
+            reply,
+            OK,
+            told_body(alloc, *digest, *outcome),
+            is_last,
+        ),
+        Reply::Stands(standing) => put_made(w, reply, OK, standing_body(alloc, *standing), is_last),
+        Reply::Found(found) => put_made(w, reply, OK, found_body(alloc, found), is_last),
+        Reply::Extract(extract) => put_message(w, EXTRACT, extract.as_slice(), is_last),
+        Reply::Closed(closed) => put_made(
+            w,
+            reply,
+            OK,
+            closed_body(alloc, closed.as_slice()),
+            is_last,
+        ),
+        Reply::Refused(_) => unreachable!(),
+    }
 }
 
 /// Writes a reply, or where it finds no memory the one that tells so. At `false` the writer failed.
 pub fn send<W: Write>(alloc: Global, w: &mut W, reply: &Reply, is_last: bool) -> bool
     ensures { IsSent (W.contents w.old) (W.contents w.new) reply.now is_last result }
 {
-    if let Reply::Refused(fault) = reply {
-        return put(w, fault.text(is_last).as_bytes(), is_last);
-    }
-    match reply.text(alloc, is_last) {
-        Ok(text) => put_both(w, text.as_bytes(), reply.behind(), is_last),
-        Err(_) => put(
-            w,
-            memory_text(reply.tells_received(), is_last).as_bytes(),
-            is_last,
-        ),
+    // Apart from the others, since a function pays at entry for the room of all its locals.
+    match reply {
+        Reply::Refused(fault) => put(w, fault.text(is_last).as_bytes(), is_last),
+        _ => send_told(alloc, w, reply, is_last),
     }
 }

@@ -26,11 +26,13 @@ keeper_of_street B register c usrn =
 abbrev pub descriptor_now : Board → RegisterValue → ℕ → LpiValue → Option DescriptorValue
 descriptor_now B register c lpi = option_and_then (λ d. descriptor_at (last_view B d) lpi.usrn lpi.lang) (keeper_of_street B register c lpi.usrn)
 
--- the line of a custodian's property; none without an approved address or its descriptor
+-- the line of a custodian's property at this address; none without an address or its descriptor
+abbrev pub line_at : Board → RegisterValue → ℕ → Option LpiValue → BlpuValue → Option (List ℕ)
+line_at B register c address blpu = option_and_then (λ lpi. option_map (λ d. line_text lpi d blpu) (descriptor_now B register c lpi)) address
+
+-- the line of a custodian's property at its approved address
 abbrev pub line_now : Board → RegisterValue → ℕ → ℕ → BlpuValue → Option (List ℕ)
-line_now B register c uprn blpu = option_and_then
-    (λ lpi. option_map (λ d. line_text lpi d blpu) (descriptor_now B register c lpi))
-    (address_in (last_view B c) uprn)
+line_now B register c uprn blpu = line_at B register c (address_in (last_view B c) uprn) blpu
 
 -- what a custodian's last view says of a property, where the property stands in it
 abbrev pub said_by : Board → RegisterValue → ℕ → ℕ → Option Found

@@ -1,16 +1,17 @@
-//! Single items of a custodian's last view.
+//! Single items and properties of a custodian's last view.
 ghost use Rattle.std.specs.Prelude.{◌≡◌, is_some};
 ghost use Rattle.std.specs.FinMap as map;
 ghost use Rattle.std.specs.Option.{option_and_then};
 ghost use Rattle.gaz_shelf.specs.Keeper.{IsNotOpen};
 ghost use Rattle.gaz_shelf.specs.Board.{last_view};
-ghost use Rattle.gaz_extract.specs.Finding.{as_blpu, as_descriptor, blpu_at, descriptor_at, has_closed_street, street_at};
+ghost use Rattle.gaz_shelf.specs.Words.{property_of};
+ghost use Rattle.gaz_extract.specs.Finding.{as_descriptor, descriptor_at, has_closed_street, street_at};
 ghost use Rattle.gaz_extract.specs.Readings.{Tells};
 
 use crate::lend::street_in;
 use gaz_ids::{Code, Lang, Uprn, Usrn};
 use gaz_records::{Key, SharedItem};
-use gaz_shelf::{Shelf, ShelfFault};
+use gaz_shelf::{Property, Shelf, ShelfFault};
 
 // The item at a key.
 fn item_now<S: Shelf>(
@@ -66,15 +67,15 @@ pub fn descriptor_item<S: Shelf>(
     item_now(shelf, code, &Key::Descriptor(usrn, lang))
 }
 
-/// The item that is the BLPU of this number, in a custodian's last view.
-pub fn blpu_item<S: Shelf>(
+/// The property of this number with its address, in a custodian's last view.
+pub fn property_now<S: Shelf>(
     shelf: &mut S,
     code: Code,
     uprn: Uprn,
-) -> Result<Option<SharedItem>, ShelfFault>
+) -> Result<Option<Property>, ShelfFault>
     requires { IsNotOpen (S.seen shelf.old).progress }
-    ensures tells { Tells (S.seen shelf.old) (S.seen shelf.new) result (λ i. option_and_then as_blpu i ≡ blpu_at (last_view (S.seen shelf.old).content.board code) uprn) }
+    ensures tells { Tells (S.seen shelf.old) (S.seen shelf.new) result (λ p. p ≡ property_of (last_view (S.seen shelf.old).content.board code) uprn) }
     ensures not_open { IsNotOpen (S.seen shelf.new).progress }
 {
-    item_now(shelf, code, &Key::Blpu(uprn))
+    shelf.property_of(code, uprn)
 }

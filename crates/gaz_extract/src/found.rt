@@ -1,18 +1,15 @@
-ghost use Rattle.std.specs.Prelude.{◌≡◌, IfErr, IfOk, Some};
+ghost use Rattle.std.specs.Prelude.{◌≡◌, option_map};
 ghost use Rattle.std.specs.Option.{option_and_then};
 ghost use Rattle.gaz_shelf.specs.Keeper.{IsNotOpen};
-ghost use Rattle.gaz_shelf.specs.Board.{last_view};
-ghost use Rattle.gaz_shelf.specs.declared.fault.ShelfFault.TheVariants.{Memory};
-ghost use Rattle.gaz_extract.specs.Finding.{as_descriptor, as_lpi};
-ghost use Rattle.gaz_extract.specs.Lines.{line_text};
+ghost use Rattle.gaz_extract.specs.Finding.{as_descriptor};
 ghost use Rattle.gaz_extract.specs.Readings.{Tells};
-ghost use Rattle.gaz_extract.specs.Lookups.{address_in, descriptor_now, keeper_of_street, line_now, lookup, said_by};
+ghost use Rattle.gaz_extract.specs.Lookups.{descriptor_now, keeper_of_street, line_at, lookup, said_by};
 
 use crate::address::{AddressLine, line};
-use crate::find::{blpu_item, descriptor_item, has_street};
-use crate::lend::{blpu_in, descriptor_in, lpi_in};
+use crate::find::{descriptor_item, has_street, property_now};
+use crate::lend::{descriptor_in, lpi_in};
 use gaz_ids::{Code, Status, Uprn, Usrn};
-use gaz_records::{Blpu, Descriptor, Lpi, SharedItem};
+use gaz_records::{Blpu, Item, Lpi, SharedItem};
 use gaz_register::Register;
 use gaz_shelf::{Shelf, ShelfFault};
 use std::alloc::Global;
@@ -46,19 +43,6 @@ fn keeper_of_street<S: Shelf>(
     Ok(owner)
 }
 
-// The item that is the approved address of a property, in a custodian's last view.
-fn address_item<S: Shelf>(
-    shelf: &mut S,
-    code: Code,
-    uprn: Uprn,
-) -> Result<Option<SharedItem>, ShelfFault>
-    requires { IsNotOpen (S.seen shelf.old).progress }
-    ensures tells { Tells (S.seen shelf.old) (S.seen shelf.new) result (λ i. option_and_then as_lpi i ≡ address_in (last_view (S.seen shelf.old).content.board code) uprn) }
-    ensures not_open { IsNotOpen (S.seen shelf.new).progress }
-{
-    shelf.address_of(code, uprn)
-}
-
 // The item that is the descriptor of an address's street in its language.
 fn descriptor_for<S: Shelf>(
     shelf: &mut S,
@@ -76,41 +60,27 @@ fn descriptor_for<S: Shelf>(
     }
 }
 
-// The line of a property whose address and descriptor are there.
-fn line_for(
-    alloc: Global,
-    lpi: &Lpi,
-    descriptor: &Descriptor,
-    blpu: &Blpu,
-) -> Result<Option<AddressLine>, ShelfFault>
-    ensures text { IfOk result (λ l. l ≡ Some (line_text lpi.now descriptor.now blpu.now)) }
-    ensures memory { IfErr result (λ e. e ≡ Memory) }
-{
-    Ok(Some(line(alloc, lpi, descriptor, blpu)?))
-}
-
-// The line of a custodian's property.
-fn line_now<S: Shelf>(
+// The line of a property at the address that it has.
+fn line_at<S: Shelf>(
     alloc: Global,
     shelf: &mut S,
     register: &Register,
     code: Code,
-    uprn: Uprn,
+    address: Option<&Lpi>,
     blpu: &Blpu,
 ) -> Result<Option<AddressLine>, ShelfFault>
     requires { IsNotOpen (S.seen shelf.old).progress }
-    ensures tells { Tells (S.seen shelf.old) (S.seen shelf.new) result (λ l. l ≡ line_now (S.seen shelf.old).content.board register.now code uprn blpu.now) }
+    ensures tells { Tells (S.seen shelf.old) (S.seen shelf.new) result (λ l. l ≡ line_at (S.seen shelf.old).content.board register.now code (option_map (λ a. a.now) address.entry) blpu.now) }
     ensures not_open { IsNotOpen (S.seen shelf.new).progress }
 {
-    let address = address_item(shelf, code, uprn)?;
-    let Some(lpi) = lpi_in(&address) else {
+    let Some(lpi) = address else {
         return Ok(None);
     };
-    let described = descriptor_for(shelf, register, code, lpi)?;
-    let Some(descriptor) = descriptor_in(&described) else {
+    let item = descriptor_for(shelf, register, code, lpi)?;
+    let Some(descriptor) = descriptor_in(&item) else {
         return Ok(None);
     };
-    line_for(alloc, lpi, descriptor, blpu)
+    Ok(Some(line(alloc, lpi, descriptor, blpu)?))
 }
 
 // What a custodian's last view says of a property.
@@ -125,11 +95,14 @@ fn said_by<S: Shelf>(
     ensures tells { Tells (S.seen shelf.old) (S.seen shelf.new) result (λ f. f ≡ said_by (S.seen shelf.old).content.board register.now uprn code) }
     ensures not_open { IsNotOpen (S.seen shelf.new).progress }
 {
-    let item = blpu_item(shelf, code, uprn)?;
-    let Some(blpu) = blpu_in(&item) else {
+    let Some(property) = property_now(shelf, code, uprn)? else {
         return Ok(None);
     };
-    let line = line_now(alloc, shelf, register, code, uprn, blpu)?;
+    let Item::Blpu(blpu) = property.blpu.as_item() else {
+        return Ok(None);
+    };
+    let address = lpi_in(&property.address);
+    let line = line_at(alloc, shelf, register, code, address, blpu)?;
     Ok(Some(Found {
         custodian: code,
         uprn,

@@ -1,9 +1,9 @@
 //! What an item that a keeper gave is.
 ghost use Rattle.std.specs.Prelude.{◌≡◌, option_map};
 ghost use Rattle.std.specs.Option.{option_and_then};
-ghost use Rattle.gaz_extract.specs.Finding.{as_blpu, as_descriptor, as_lpi, as_street};
+ghost use Rattle.gaz_extract.specs.Finding.{as_descriptor, as_lpi, as_street};
 
-use gaz_records::{Blpu, Descriptor, Item, Lpi, SharedItem, Street, item_in};
+use gaz_records::{Descriptor, Item, Lpi, SharedItem, Street, item_in};
 
 /// The street, where it is one.
 pub fn street_in(item: &Option<SharedItem>) -> Option<&Street>
@@ -21,16 +21,6 @@ pub fn descriptor_in(item: &Option<SharedItem>) -> Option<&Descriptor>
 {
     match item_in(item) {
         Some(Item::Descriptor(descriptor)) => Some(descriptor),
-        _ => None,
-    }
-}
-
-/// The BLPU, where it is one.
-pub fn blpu_in(item: &Option<SharedItem>) -> Option<&Blpu>
-    ensures { option_map (λ b. b.now) result ≡ option_and_then as_blpu item.now }
-{
-    match item_in(item) {
-        Some(Item::Blpu(blpu)) => Some(blpu),
         _ => None,
     }
 }

@@ -1,18 +1,22 @@
 -- A ledger and its account after each of its calls.
 use Rattle.std.proofs.Common.{◌≡◌, ◌≤◌, ◌+◌, ℕ, true, false, List, [], ◌∷◌, ◌++◌, length, refl, sym, ap, subst, ◌∙◌, arith, is_some, length-append, Bor}
 use Rattle.std.specs.Prelude.{Option, Some, None, option_map}
+use Rattle.std.specs.Option.{option_map_or}
 use Rattle.gaz_histories.specs.Histories.{before, item_at}
 use Rattle.gaz_records.specs.Keys.{key_of}
 use Rattle.gaz_records.specs.declared.item.Item.{Item}
 use Rattle.gaz_records.specs.declared.key.Key.{Key}
-use Rattle.gaz_shelf.proofs.Gazetteers.{none_taken, past_view, put_view, settled_view, taken_view}
+use Rattle.gaz_shelf.proofs.Gazetteers.{none_taken, past_view, put_view, row_at, settled_view, taken_view}
 use Rattle.gaz_shelf.proofs.Judgements.{IsWithin, judged_now, last_at, working_now}
 use Rattle.gaz_shelf.proofs.Ledgers.{finds_next, ledger_closed, ledger_set}
 use Rattle.gaz_shelf.proofs.Versions.{item_set, until_set, used_set}
 use Rattle.gaz_shelf.specs.Gazetteer.{ChangesAt, Gazetteer, versions_at, view_at}
+use Rattle.gaz_shelf.specs.Indexes.{has_mark, marked_at}
 use Rattle.gaz_shelf.specs.Ledgers.{Account, Finds, IsLedger, account_at, last_of}
 use Rattle.gaz_shelf.specs.View.{View, with_item, without_key}
+use Rattle.gaz_shelf.specs.Words.{entries}
 use Rattle.gaz_shelf.specs.declared.index.Index.{Index}
+use Rattle.gaz_shelf.specs.declared.index.Mark.{Mark}
 use Rattle.gaz_shelf.specs.declared.verdict.Verdict.{Verdict}
 
 -- an item stands at a key from a volume on, or none any more
@@ -64,6 +68,13 @@ account_untaken ds g a key r m reach is read none =
     let gone : item_at (versions_at g key) (length ds + 1) ≡ None = ap (λ n. item_at (versions_at g key) (n + 1)) (sym reach) ∙ missing (item_at (versions_at g key) (m + 1)) (behind r _ read ∙ none) in
     let same = none_taken g (length ds + 1) key gone in
     sym is ∙ (λ i. record { judged = (account_at ds g).judged; working = same i }) ∙ ap (λ (b : Account). record { judged = b.judged; working = without_key b.working key }) is
+
+-- a key without an item has no mark
+pub account_unmarked : (ds : List Verdict) (g : Gazetteer) (a : Account) (key : Key) (r : Option (Bor Item)) (m : ℕ) → m ≡ length ds → account_at ds g ≡ a → option_map (λ i. i.now) r ≡ item_at (versions_at g key) (m + 1) → is_some r ≡ false
+    → (mark : Mark) → marked_at (entries a.working) mark key ≡ false
+account_unmarked ds g a key r m reach is read none mark =
+    let gone : item_at (versions_at g key) (length ds + 1) ≡ None = ap (λ n. item_at (versions_at g key) (n + 1)) (sym reach) ∙ missing (item_at (versions_at g key) (m + 1)) (behind r _ read ∙ none) in
+    ap (λ (b : Account). marked_at (entries b.working) mark key) (sym is) ∙ ap (λ o. option_map_or (has_mark mark) o false) (sym (row_at g (length ds + 1) key) ∙ gone)
 
 pub account_undone : (ds : List Verdict) (g h : Gazetteer) (y : Index) (ls : List Key) (a : Account) (m : ℕ) → m ≡ length ds → account_at ds g ≡ a → IsWithin (length ds) g → IsLedger m h y ls → ls ≡ [] → ((v : ℕ) → v ≤ m → view_at h v ≡ view_at g v)
     → account_at ds h ≡ record { judged = a.judged; working = last_of a }

@@ -9,11 +9,12 @@ use Rattle.gaz_records.specs.Keys.{key_cmp}
 use Rattle.gaz_records.specs.declared.item.Item.{Item}
 use Rattle.gaz_records.specs.declared.item.Kind.{Kind}
 use Rattle.gaz_records.specs.declared.key.Key.{Key}
+use Rattle.gaz_records.specs.declared.key.Key.TheVariants as key
 use Rattle.gaz_shelf.proofs.Trees.{no_entries}
 use Rattle.gaz_shelf.specs.Board.{view_after}
 use Rattle.gaz_shelf.specs.Ledgers.{Account, account_of, board_of, empty_account}
 use Rattle.gaz_shelf.specs.View.{View, empty_view, was_used}
-use Rattle.gaz_shelf.specs.Words.{address_of, approved_of, approved_on, comes_after, entries, first_of, has_children, is_approved_of, is_approved_on, is_child_of, is_of, page}
+use Rattle.gaz_shelf.specs.Words.{address_of, approved_of, approved_on, comes_after, entries, has_children, is_approved_of, is_approved_on, is_child_of, is_of, page, property_of}
 
 -- ---- the empty view
 
@@ -44,8 +45,8 @@ module _ (v : View) (empty : v ≡ empty_view) where
   pub none_approved : (uprn : ℕ) → [] ≡ approved_of v uprn
   none_approved uprn = ap (λ (es : List (Key × Item)). map (λ e. e.0) (filter (λ e. is_approved_of uprn e.1) es)) nothing_held
 
-  pub no_address : (uprn : ℕ) → None ≡ address_of v uprn
-  no_address uprn = ap (λ (es : List (Key × Item)). option_map (λ e. e.1) (first_of (filter (λ e. is_approved_of uprn e.1) es))) nothing_held
+  pub no_property : (uprn : ℕ) → None ≡ property_of v uprn
+  no_property uprn = ap (λ (o : Option Item). option_map (λ b. record { blpu = b; address = address_of v uprn }) o) (no_item (key.Blpu uprn))
 
   pub none_approved_on : (usrn : ℕ) (lang : Option Lang) → false ≡ approved_on v usrn lang
   none_approved_on usrn lang = ap (list_any (λ (e : Key × Item). is_approved_on usrn lang e.1)) nothing_held

@@ -3,6 +3,7 @@ use Rattle.std.proofs.Common.{◌≡◌, ◌∙◌, ◌||◌, ℕ, Bool, cond, a
 use Rattle.std.specs.Prelude.{Some, None, fold, codes, is_some}
 use Rattle.std.specs.Ordering.{eq_by_cmp}
 use Rattle.std.specs.FinMap as map
+use Rattle.std.specs.FinMap.{get-entries}
 use Rattle.std.specs.FinSet as set
 use Rattle.gaz_records.proofs.KeyOrder.{keys_total}
 use Rattle.gaz_ids.specs.declared.lang.Lang.TheVariants.{Eng}
@@ -85,6 +86,15 @@ keeping_holds = record {
   marked = refl;
   not_marked = refl;
   not_there = refl;
+  its_address = refl;
+  not_its_part = refl;
+  of_no_mark = refl;
+  its_blpu = refl;
+  another_blpu = refl;
+  a_street = refl;
+  at_the_highest = refl;
+  above_the_highest = refl;
+  of_nobody = refl;
 }
 
 pub worked_examples_hold : WorkedExamples
@@ -117,6 +127,8 @@ worked_examples_hold = record { on_views = on_views; on_words = on_words; on_pag
       of_nothing = rw no_entries_yet refl;
       the_address = rw in_turn refl;
       no_address = rw in_turn refl;
+      the_property = rw (get-entries all_kinds.items (key.Blpu 1002), in_turn) refl;
+      no_property = rw (get-entries all_kinds.items (key.Blpu 1003), in_turn) refl;
       on_street = rw in_turn refl;
       on_street_in_welsh = rw in_turn refl;
       another_name_alone = rw in_turn refl;

@@ -12,8 +12,10 @@ pub mod Marks
 pub mod KeySets
 pub mod Indexes
 pub mod Marked
+pub mod Known
 pub mod Ranges
 pub mod Pairs
+pub mod Highest
 pub mod Ledgers
 pub mod Closings
 pub mod Mem

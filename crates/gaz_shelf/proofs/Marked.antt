@@ -28,7 +28,7 @@ use Rattle.gaz_shelf.specs.declared.index.Index.{Index}
 use Rattle.gaz_shelf.specs.Words.{first_of, is_approved, is_approved_on, is_in}
 use Rattle.gaz_shelf.specs.declared.index.Mark.{Mark}
 
-abbrev Row : Type 0
+abbrev pub Row : Type 0
 Row = Key × Item
 
 abbrev pub Ascends : List Key → Type 0
@@ -44,7 +44,7 @@ in_key_order (k ∷ ks) h = (above ks h.0, in_key_order ks h.1)
     above [] h = tt
     above (q ∷ ks) h = (sym (keys_same k q) ∙ h.0, above ks h.1)
 
-abbrev has : List Key → Key → Bool
+abbrev pub has : List Key → Key → Bool
 has ks q = list_any (eq_by_cmp key_cmp q) ks
 
 is_equal : (o : Ordering) → is_eq o ≡ true → o ≡ Equal
@@ -119,11 +119,11 @@ some_keys [] = refl
 some_keys (e ∷ es) = refl
 
 module _ (m : Mark) where
-  abbrev passes : Row → Bool
+  abbrev pub passes : Row → Bool
   passes e = has_mark m e.1
 
   -- a key has a marked item where one of the marked rows has that key
-  held : (es : List Row) → Ascends (keys_of es) → (q : Key) → has (keys_of (filter passes es)) q ≡ marked_at es m q
+  pub held : (es : List Row) → Ascends (keys_of es) → (q : Key) → has (keys_of (filter passes es)) q ≡ marked_at es m q
   unfolding IsStrictlySortedBy
   held [] h q = refl
   held (e ∷ es) h q = by_test (held es h.1 q) (has_mark m e.1) refl (eq_by_cmp key_cmp q e.0) refl

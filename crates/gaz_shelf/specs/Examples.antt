@@ -15,8 +15,10 @@ use Rattle.gaz_histories.specs.Histories.{Versions}
 use Rattle.gaz_shelf.specs.View.{View, empty_view, holds, was_used, with_item, without_key}
 use Rattle.gaz_shelf.specs.Gazetteer.{Gazetteer, HasJustTheKeysOf, judgements, view_at, with_versions}
 use Rattle.gaz_shelf.specs.Indexes.{marked_item, same_mark}
+use Rattle.gaz_shelf.specs.Properties.{is_address_of, is_blpu}
+use Rattle.gaz_shelf.specs.Received.{is_below}
 use Rattle.gaz_shelf.specs.declared.index.Mark.TheVariants.{AddressOf, PartOf}
-use Rattle.gaz_shelf.specs.Words.{address_of, approved_of, approved_on, has_children, page}
+use Rattle.gaz_shelf.specs.Words.{address_of, approved_of, approved_on, has_children, page, property_of}
 use Rattle.gaz_shelf.specs.Board.{Board, empty_board, reached, view_after}
 use Rattle.gaz_shelf.specs.declared.verdict.Verdict.TheVariants.{Applied, Rejected}
 
@@ -90,6 +92,8 @@ pub record WorkedWords : Type 0 where
   pub of_nothing : approved_of empty_view 1001 ≡ []
   pub the_address : address_of all_kinds 1001 ≡ Some (lpi (codes "L1") 1001 Cym Approved 101)
   pub no_address : address_of all_kinds 1003 ≡ None
+  pub the_property : property_of all_kinds 1002 ≡ Some (record { blpu = blpu 1002 (Some 1001); address = Some (lpi (codes "L4") 1002 Eng Approved 101) })
+  pub no_property : property_of all_kinds 1003 ≡ None
   pub on_street : approved_on all_kinds 101 None ≡ true
   pub on_street_in_welsh : approved_on all_kinds 101 (Some Cym) ≡ true
   pub another_name_alone : approved_on all_kinds 102 None ≡ false
@@ -164,6 +168,15 @@ pub record WorkedKeeping : Type 0 where
   pub marked : marked_item part_and_address (AddressOf 1002) (key.Lpi (codes "L4")) ≡ Some (lpi (codes "L4") 1002 Eng Approved 101)
   pub not_marked : marked_item part_and_address (AddressOf 1001) (key.Lpi (codes "L4")) ≡ None
   pub not_there : marked_item part_and_address (AddressOf 1002) (key.Lpi (codes "L5")) ≡ None
+  pub its_address : is_address_of 1001 (Some (AddressOf 1001)) ≡ true
+  pub not_its_part : is_address_of 1001 (Some (PartOf 1001)) ≡ false
+  pub of_no_mark : is_address_of 1001 None ≡ false
+  pub its_blpu : is_blpu 1001 (key.Blpu 1001) ≡ true
+  pub another_blpu : is_blpu 1001 (key.Blpu 1002) ≡ false
+  pub a_street : is_blpu 101 (key.Street 101) ≡ false
+  pub at_the_highest : is_below ((1001, 3) ∷ (1002, 1) ∷ []) 1001 3 ≡ true
+  pub above_the_highest : is_below ((1001, 3) ∷ (1002, 1) ∷ []) 1002 2 ≡ false
+  pub of_nobody : is_below ((1001, 3) ∷ (1002, 1) ∷ []) 1003 1 ≡ false
 
 pub record WorkedExamples : Type 0 where
   pub on_views : WorkedViews

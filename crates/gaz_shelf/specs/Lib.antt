@@ -10,5 +10,6 @@ pub mod Keeper
 pub mod Calls
 pub mod Faulting
 pub mod Ledgers
+pub mod Properties
 pub mod Mem
 pub mod Examples

@@ -19,7 +19,7 @@ working_of (judging.Open c) es = (account_of es c).working
 working_of judging.Broken es = empty_view
 
 abbrev pub content_in : MemShelf → Content
-content_in s = record { files = s.files; board = board_of s.ledgers.entries; working = working_of s.judging s.ledgers.entries }
+content_in s = record { files = s.files; board = board_of s.books.entries; working = working_of s.judging s.books.entries }
 
 -- it always stands for its content, and nobody else can write on it
 abbrev pub seen_in : MemShelf → Seen

@@ -1,8 +1,11 @@
 -- What was received.
-use Rattle.std.specs.Prelude.{ℕ, ◌==◌, nat_le, not, ◌&&◌, List, count_by}
+use Rattle.std.specs.Prelude.{◌≡◌, ℕ, ◌==◌, nat_le, not, ◌&&◌, Bool, false, true, List, count_by, is_some}
+use Rattle.std.specs.BTreeMap.{is_at}
 use Rattle.std.specs.declared.cmp.Ordering.{Ordering}
 use Rattle.std.specs.Ordering.{nat_cmp, ordering_then}
 use Rattle.std.specs.FinMap as map
+use Rattle.std.specs.Map.{lookup}
+use Rattle.std.specs.Option.{option_map_or}
 
 -- by custodian, then by volume
 abbrev pub pair_cmp : ℕ × ℕ → ℕ × ℕ → Ordering
@@ -12,8 +15,16 @@ pair_cmp p q = ordering_then (nat_cmp p.0 q.0) (nat_cmp p.1 q.1)
 abbrev pub Received : Type 0
 Received = map.FinMap pair_cmp (List ℕ)
 
+-- a volume is at or below the highest of a custodian
+abbrev pub is_below : List (ℕ × ℕ) → ℕ → ℕ → Bool
+is_below highest c volume = option_map_or (nat_le volume) (lookup (is_at (nat_cmp c)) highest) false
+
 abbrev pub with_file : Received → ℕ → ℕ → List ℕ → Received
 with_file F c volume bytes = map.insert F (c, volume) bytes
+
+-- each file of a custodian that was received is at or below the highest of its volumes
+abbrev pub AreBelow : List (ℕ × ℕ) → Received → Type 0
+AreBelow highest F = (c volume : ℕ) → is_some (map.get F (c, volume)) ≡ true → is_below highest c volume ≡ true
 
 -- how many of a custodian's files are above a volume
 abbrev pub count_above : Received → ℕ → ℕ → ℕ

@@ -16,6 +16,7 @@ use Rattle.gaz_records.specs.declared.item.Kind.TheVariants as kind
 use Rattle.gaz_records.specs.declared.key.Key.{Key}
 use Rattle.gaz_records.specs.declared.key.Key.TheVariants as key
 use Rattle.gaz_shelf.specs.View.{View}
+use Rattle.gaz_shelf.specs.declared.property.Property.{Property}
 
 -- what a view holds, in the order of keys
 abbrev pub entries : View → List (Key × Item)
@@ -63,6 +64,10 @@ approved_of v uprn = map (λ e. e.0) (filter (λ e. is_approved_of uprn e.1) (en
 -- the BLPU's approved LPI of the least key
 abbrev pub address_of : View → ℕ → Option Item
 address_of v uprn = option_map (λ e. e.1) (first_of (filter (λ e. is_approved_of uprn e.1) (entries v)))
+
+-- the BLPU with its address
+abbrev pub property_of : View → ℕ → Option Property
+property_of v uprn = option_map (λ blpu. record { blpu = blpu; address = address_of v uprn }) (map.get v.items (key.Blpu uprn))
 
 -- an approved LPI stands on the street, in this language where one is given
 abbrev pub approved_on : View → ℕ → Option Lang → Bool

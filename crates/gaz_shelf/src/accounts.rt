@@ -1,10 +1,10 @@
-//! The ledgers of all custodians.
+//! The books of all custodians.
 ghost use Rattle.std.specs.Prelude.{◌≡◌, MatchOption, OnOk, OnErr};
 ghost use Rattle.gaz_shelf.specs.Board.{adds, last_view};
 ghost use Rattle.gaz_shelf.specs.Ledgers.{account_of, board_of, empty_account};
 ghost use Rattle.gaz_shelf.specs.View.{with_item, without_key};
 
-use crate::ledger::Ledger;
+use crate::book::Book;
 use crate::seed::Seed;
 use crate::verdict::Verdict;
 use gaz_ids::Code;
@@ -12,85 +12,81 @@ use gaz_records::{Key, SharedItem};
 use std::alloc::{AllocError, Global};
 use std::collections::BTreeMap;
 
-/// A custodian's ledger, where it has one.
-pub fn ledger_of(ledgers: &BTreeMap<Code, Ledger>, code: Code) -> Option<&Ledger>
-    ensures { MatchOption result (account_of ledgers.now.entries code ≡ empty_account) (λ l. l.now ≡ account_of ledgers.now.entries code) }
+/// A custodian's book, where it has one.
+pub fn book_of(books: &BTreeMap<Code, Book>, code: Code) -> Option<&Book>
+    ensures { MatchOption result (account_of books.now.entries code ≡ empty_account) (λ l. l.now ≡ account_of books.now.entries code) }
 {
-    ledgers.get(&code)
+    books.get(&code)
 }
 
-/// A custodian's working view is its last one. Where it has no ledger yet, it has one then.
+/// A custodian's working view is its last one. Where it has no book yet, it has one then.
 pub fn open_in(
     alloc: Global,
     seed: Seed,
-    ledgers: &mut BTreeMap<Code, Ledger>,
+    books: &mut BTreeMap<Code, Book>,
     code: Code,
 ) -> Result<(), AllocError>
-    ensures board { board_of ledgers.new.entries ≡ board_of ledgers.old.entries }
-    ensures working { OnOk result ((account_of ledgers.new.entries code).working ≡ last_view (board_of ledgers.old.entries) code) }
+    ensures board { board_of books.new.entries ≡ board_of books.old.entries }
+    ensures working { OnOk result ((account_of books.new.entries code).working ≡ last_view (board_of books.old.entries) code) }
 {
-    if let Some(ledger) = ledgers.get_mut(&code) {
-        ledger.undo();
+    if let Some(book) = books.get_mut(&code) {
+        book.undo();
         return Ok(());
     }
-    ledgers.insert(code, Ledger::new(alloc, seed))?;
+    books.insert(code, Book::new(alloc, seed))?;
     Ok(())
 }
 
 /// Undoes what a custodian's working view has changed.
-pub fn undo_in(ledgers: &mut BTreeMap<Code, Ledger>, code: Code)
-    ensures board { board_of ledgers.new.entries ≡ board_of ledgers.old.entries }
-    ensures working { (account_of ledgers.new.entries code).working ≡ last_view (board_of ledgers.old.entries) code }
+pub fn undo_in(books: &mut BTreeMap<Code, Book>, code: Code)
+    ensures board { board_of books.new.entries ≡ board_of books.old.entries }
+    ensures working { (account_of books.new.entries code).working ≡ last_view (board_of books.old.entries) code }
 {
-    if let Some(ledger) = ledgers.get_mut(&code) {
-        ledger.undo();
+    if let Some(book) = books.get_mut(&code) {
+        book.undo();
     }
 }
 
-/// Sets an item in the working view of a custodian that has a ledger.
+/// Sets an item in the working view of a custodian that has a book.
 pub fn put_in(
-    ledgers: &mut BTreeMap<Code, Ledger>,
+    books: &mut BTreeMap<Code, Book>,
     code: Code,
     item: SharedItem,
 ) -> Result<(), AllocError>
-    ensures board { board_of ledgers.new.entries ≡ board_of ledgers.old.entries }
-    ensures working { OnOk result ((account_of ledgers.new.entries code).working ≡ with_item (account_of ledgers.old.entries code).working item) }
+    ensures board { board_of books.new.entries ≡ board_of books.old.entries }
+    ensures working { OnOk result ((account_of books.new.entries code).working ≡ with_item (account_of books.old.entries code).working item) }
 {
-    let Some(ledger) = ledgers.get_mut(&code) else {
+    let Some(book) = books.get_mut(&code) else {
         return Err(AllocError);
     };
-    ledger.put(item)?;
+    book.put(item)?;
     Ok(())
 }
 
-/// Takes a key's item from the working view of a custodian that has a ledger.
-pub fn take_in(
-    ledgers: &mut BTreeMap<Code, Ledger>,
-    code: Code,
-    key: &Key,
-) -> Result<(), AllocError>
-    ensures board { board_of ledgers.new.entries ≡ board_of ledgers.old.entries }
-    ensures working { OnOk result ((account_of ledgers.new.entries code).working ≡ without_key (account_of ledgers.old.entries code).working key.now) }
+/// Takes a key's item from the working view of a custodian that has a book.
+pub fn take_in(books: &mut BTreeMap<Code, Book>, code: Code, key: &Key) -> Result<(), AllocError>
+    ensures board { board_of books.new.entries ≡ board_of books.old.entries }
+    ensures working { OnOk result ((account_of books.new.entries code).working ≡ without_key (account_of books.old.entries code).working key.now) }
 {
-    let Some(ledger) = ledgers.get_mut(&code) else {
+    let Some(book) = books.get_mut(&code) else {
         return Err(AllocError);
     };
-    ledger.take(key)?;
+    book.take(key)?;
     Ok(())
 }
 
-/// Judges the next volume of a custodian that has a ledger: its working view is the view after it.
+/// Judges the next volume of a custodian that has a book: its working view is the view after it.
 pub fn close_in(
-    ledgers: &mut BTreeMap<Code, Ledger>,
+    books: &mut BTreeMap<Code, Book>,
     code: Code,
     verdict: Verdict,
 ) -> Result<(), AllocError>
-    ensures ok { OnOk result (board_of ledgers.new.entries ≡ adds (board_of ledgers.old.entries) code (record { verdict = verdict; view = (account_of ledgers.old.entries code).working })) }
-    ensures err { OnErr result (board_of ledgers.new.entries ≡ board_of ledgers.old.entries) }
+    ensures ok { OnOk result (board_of books.new.entries ≡ adds (board_of books.old.entries) code (record { verdict = verdict; view = (account_of books.old.entries code).working })) }
+    ensures err { OnErr result (board_of books.new.entries ≡ board_of books.old.entries) }
 {
-    let Some(ledger) = ledgers.get_mut(&code) else {
+    let Some(book) = books.get_mut(&code) else {
         return Err(AllocError);
     };
-    ledger.close(verdict)?;
+    book.close(verdict)?;
     Ok(())
 }

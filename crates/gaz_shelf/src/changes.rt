@@ -1,11 +1,14 @@
 //! Changes of what stands at keys and of what is found under marks, at the volume after those reached.
-ghost use Rattle.std.specs.Prelude.{◌≡◌, ◌⊎◌, ◌≤◌, ◌<◌, ◌+◌, ◌-◌, ◌^◌, ◌++◌, ◌∷◌, [], ℕ, OnOk, OnErr};
+ghost use Rattle.std.specs.Prelude.{◌≡◌, ◌⊎◌, ◌≤◌, ◌<◌, ◌+◌, ◌-◌, ◌^◌, ◌++◌, ◌∷◌, [], ℕ, IfOk, OnOk, OnErr, Some, true};
 ghost use Rattle.gaz_histories.specs.Histories.{before};
 ghost use Rattle.gaz_shelf.specs.Gazetteer.{ChangesAt, versions_at, view_at};
+ghost use Rattle.gaz_shelf.specs.Indexes.{marked_at};
 ghost use Rattle.gaz_shelf.specs.Ledgers.{Finds, IsLedger};
+ghost use Rattle.gaz_shelf.specs.Words.{entries};
+ghost use Rattle.gaz_shelf.specs.declared.index.Mark.{Mark};
 
 use crate::histories::Histories;
-use crate::index::{Index, Mark, is_marked, marks_at, marks_of};
+use crate::index::{Index, Mark, Marks, is_marked, marks_at, marks_of};
 use gaz_records::{Key, SharedItem};
 use std::alloc::AllocError;
 
@@ -37,13 +40,7 @@ fn forget_mark(
 }
 
 // The same of two marks.
-fn forget(
-    histories: &Histories,
-    index: &mut Index,
-    reached: u64,
-    key: &Key,
-    marks: (Option<Mark>, Option<Mark>),
-)
+fn forget(histories: &Histories, index: &mut Index, reached: u64, key: &Key, marks: Marks)
     requires { reached < 2 ^ 64 - 1 }
     ensures { Finds index.old histories.now reached → Finds index.new histories.now reached }
 {
@@ -59,23 +56,19 @@ fn set_found(
     reached: u64,
     key: Key,
     item: Option<SharedItem>,
-) -> Result<(Option<Mark>, Option<Mark>), AllocError>
+) -> Result<Marks, AllocError>
     requires { reached < 2 ^ 64 - 1 }
     ensures ok { OnOk result (ChangesAt histories.old histories.new key (before (versions_at histories.old key) (reached + 1) ++ (reached + 1, item) ∷ [])) }
     ensures err { OnErr result (histories.new ≡ histories.old) }
     ensures finds { Finds index.old histories.old reached → Finds index.new histories.new reached }
+    ensures marks { IfOk result (λ was. (m : Mark) → marked_at (entries (view_at histories.old (reached + 1))) m key ≡ true → (was.0 ≡ Some m) ⊎ (was.1 ≡ Some m)) }
 {
     index.add_marks_of(&item, &key)?;
     Ok(histories.set(reached + 1, key, item)?)
 }
 
 // Notes that a key leaves a mark, if it is not among those that its item has now.
-fn note_mark(
-    leaving: &mut Vec<Leaving>,
-    key: &Key,
-    mark: Option<Mark>,
-    stays: &(Option<Mark>, Option<Mark>),
-)
+fn note_mark(leaving: &mut Vec<Leaving>, key: &Key, mark: Option<Mark>, stays: &Marks)
     ensures { (mark ≡ stays.now.0) ⊎ (mark ≡ stays.now.1) → leaving.new.items ≡ leaving.old.items }
 {
     if mark == stays.0 || mark == stays.1 {
@@ -88,20 +81,14 @@ fn note_mark(
 }
 
 // The same of two marks.
-fn note(
-    leaving: &mut Vec<Leaving>,
-    key: &Key,
-    marks: (Option<Mark>, Option<Mark>),
-    stays: (Option<Mark>, Option<Mark>),
-)
-    ensures { marks ≡ stays → leaving.new.items ≡ leaving.old.items }
+fn note(leaving: &mut Vec<Leaving>, key: &Key, marks: &Marks, stays: &Marks)
+    ensures { marks.now ≡ stays.now → leaving.new.items ≡ leaving.old.items }
 {
-    let (first, second) = marks;
-    note_mark(leaving, key, first, &stays);
-    note_mark(leaving, key, second, &stays);
+    note_mark(leaving, key, marks.0, stays);
+    note_mark(leaving, key, marks.1, stays);
 }
 
-/// The same, and notes the marks that are left without an item.
+/// The same, and notes the marks that are left without an item. Answers the marks of the item that stood there.
 pub fn change(
     histories: &mut Histories,
     index: &mut Index,
@@ -109,11 +96,12 @@ pub fn change(
     reached: u64,
     key: &Key,
     item: Option<SharedItem>,
-) -> Result<(), AllocError>
+) -> Result<Marks, AllocError>
     requires { reached < 2 ^ 64 - 1 }
     ensures ok { OnOk result (ChangesAt histories.old histories.new key.now (before (versions_at histories.old key.now) (reached + 1) ++ (reached + 1, item) ∷ [])) }
     ensures err { OnErr result (histories.new ≡ histories.old) }
     ensures finds { Finds index.old histories.old reached → Finds index.new histories.new reached }
+    ensures marks { IfOk result (λ was. (m : Mark) → marked_at (entries (view_at histories.old (reached + 1))) m key.now ≡ true → (was.0 ≡ Some m) ⊎ (was.1 ≡ Some m)) }
 {
     let comes = match &item {
         Some(item) => marks_of(item),
@@ -121,8 +109,8 @@ pub fn change(
     };
     match set_found(histories, index, reached, *key, item) {
         Ok(was) => {
-            note(leaving, key, was, comes);
-            Ok(())
+            note(leaving, key, &was, &comes);
+            Ok(was)
         }
         Err(error) => {
             forget(histories, index, reached, key, comes);

@@ -5,6 +5,7 @@ ghost use Rattle.gaz_shelf.specs.Faulting.{around, progress_around};
 
 use crate::calls::{Call, Calls, Plan};
 use crate::fault::ShelfFault;
+use crate::property::Property;
 use crate::shelf::{Inbox, Shelf};
 use crate::verdict::Verdict;
 use gaz_ids::{Code, Lang, Uprn, Usrn, Volume};
@@ -142,9 +143,9 @@ impl<K: Inbox + Drop> Shelf for Faulty<K> {
         self.inner.approved_of(code, uprn)
     }
 
-    fn address_of(&mut self, code: Code, uprn: Uprn) -> Result<Option<SharedItem>, ShelfFault> {
-        self.admit(Call::AddressOf)?;
-        self.inner.address_of(code, uprn)
+    fn property_of(&mut self, code: Code, uprn: Uprn) -> Result<Option<Property>, ShelfFault> {
+        self.admit(Call::PropertyOf)?;
+        self.inner.property_of(code, uprn)
     }
 
     fn approved_on(

@@ -1,8 +1,8 @@
-ghost use Rattle.std.specs.Prelude.{◌≡◌, ◌&&◌, ◌==◌, nat_le, not, OnOk, OnErr, option_map, count_by};
+ghost use Rattle.std.specs.Prelude.{◌≡◌, ◌&&◌, ◌==◌, ℕ, nat_le, not, true, OnOk, OnErr, option_map, count_by};
 ghost use Rattle.std.specs.FinMap as map;
 ghost use Rattle.std.specs.BTreeMap.{keys};
 ghost use Rattle.std.specs.List.Sorted.{IsStrictlySortedBy};
-ghost use Rattle.gaz_shelf.specs.Received.{count_above, pair_cmp, with_file};
+ghost use Rattle.gaz_shelf.specs.Received.{count_above, is_below, pair_cmp, with_file};
 
 use gaz_ids::{Code, Volume};
 use std::alloc::{AllocError, Global};
@@ -36,6 +36,8 @@ impl FileBytes {
 pub struct Files {
     alloc: Global,
     by_pair: BTreeMap<(Code, Volume), FileBytes>,
+    // No file of a custodian is above this volume. Most questions are about files that aren't there yet, and end here.
+    highest: BTreeMap<Code, Volume>,
 }
 
 impl Model for Files {
@@ -48,6 +50,10 @@ impl Model for Files {
     ghost coded = { map.code (coded× coded_ℕ coded_ℕ) (coded_list coded_ℕ) };
 
     ghost view = { λ f. map.from_entries f.by_pair.entries };
+
+    ghost use Rattle.gaz_shelf.specs.Received.{AreBelow};
+
+    ghost invariant = { λ f. AreBelow f.highest.entries (map.from_entries f.by_pair.entries) };
 }
 
 impl Files {
@@ -58,6 +64,7 @@ impl Files {
         Files {
             alloc,
             by_pair: BTreeMap::new(alloc),
+            highest: BTreeMap::new(alloc),
         }
     }
 
@@ -65,6 +72,9 @@ impl Files {
     pub fn get(&self, code: Code, volume: Volume) -> Option<&[u8]>
         ensures { option_map (λ b. b.now) result ≡ map.get self.now (code, volume) }
     {
+        if !is_below(&self.highest, code, volume) {
+            return None;
+        }
         match self.by_pair.get(&(code, volume)) {
             Some(file) => Some(file.as_slice()),
             None => None,
@@ -77,6 +87,7 @@ impl Files {
         ensures err { OnErr result (self.new ≡ self.old) }
     {
         let bytes = Vec::from_slice(self.alloc, bytes)?;
+        raise(&mut self.highest, code, volume)?;
         self.by_pair.insert((code, volume), FileBytes { bytes })?;
         Ok(())
     }
@@ -87,6 +98,28 @@ impl Files {
     {
         count_keys_above(&self.by_pair, code, reached)
     }
+}
+
+// Whether a volume is at or below the highest of a custodian.
+fn is_below(highest: &BTreeMap<Code, Volume>, code: Code, volume: Volume) -> bool
+    ensures { result ≡ is_below highest.now.entries code volume }
+{
+    match highest.get(&code) {
+        Some(highest) => volume.number() <= highest.number(),
+        None => false,
+    }
+}
+
+// Lets the highest volume of a custodian be this one, if it isn't higher.
+fn raise(highest: &mut BTreeMap<Code, Volume>, code: Code, volume: Volume) -> Result<(), AllocError>
+    ensures ok { OnOk result (is_below highest.new.entries code volume ≡ true) }
+    ensures kept { (c v : ℕ) → is_below highest.old.entries c v ≡ true → is_below highest.new.entries c v ≡ true }
+{
+    if is_below(highest, code, volume) {
+        return Ok(());
+    }
+    highest.insert(code, volume)?;
+    Ok(())
 }
 
 // Over the pairs as they stand.

@@ -10,7 +10,7 @@ ghost use Rattle.gaz_shelf.specs.Indexes.{has_mark, marked_at};
 ghost use Rattle.gaz_shelf.specs.Words.{entries, page};
 ghost use Rattle.gaz_shelf.specs.declared.index.Mark.{Mark};
 
-use crate::index::{Mark, marks_of};
+use crate::index::{Marks, marks_of};
 use crate::seed::Seed;
 use crate::words::{in_order, page_of};
 use gaz_histories::History;
@@ -97,7 +97,7 @@ impl Histories {
         volume: u64,
         key: Key,
         item: Option<SharedItem>,
-    ) -> Result<(Option<Mark>, Option<Mark>), AllocError>
+    ) -> Result<Marks, AllocError>
         ensures ok { OnOk result (ChangesAt self.old self.new key (before (versions_at self.old key) volume ++ (volume, item) ∷ [])) }
         ensures err { OnErr result (self.new ≡ self.old) }
         ensures marks { IfOk result (λ was. (m : Mark) → marked_at (entries (view_at self.old volume)) m key ≡ true → (was.0 ≡ Some m) ⊎ (was.1 ≡ Some m)) }
@@ -143,11 +143,7 @@ impl Histories {
 
 // From a volume on this item stands in a history, or none any more. Answers the marks of the item that stood there. The
 // first version of all needs no memory.
-fn set_in(
-    history: &mut History,
-    volume: u64,
-    item: Option<SharedItem>,
-) -> Result<(Option<Mark>, Option<Mark>), AllocError>
+fn set_in(history: &mut History, volume: u64, item: Option<SharedItem>) -> Result<Marks, AllocError>
     ensures ok { OnOk result (history.new ≡ before history.old volume ++ (volume, item) ∷ []) }
     ensures err { OnErr result (history.new ≡ history.old) }
     ensures first { history.old ≡ [] → IsOk result }
@@ -159,7 +155,7 @@ fn set_in(
 }
 
 // The marks of the item that a history has after a volume.
-fn marks_in(history: &History, volume: u64) -> (Option<Mark>, Option<Mark>)
+fn marks_in(history: &History, volume: u64) -> Marks
     ensures { (m : Mark) → option_map_or (has_mark m) (item_at history.now volume) false ≡ true → (result.0 ≡ Some m) ⊎ (result.1 ≡ Some m) }
 {
     match history.item_at(volume) {

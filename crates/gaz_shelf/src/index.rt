@@ -34,6 +34,9 @@ pub enum Mark {
     PartOf(Uprn),
 }
 
+/// The marks of an item, of which there are at most two.
+pub type Marks = (Option<Mark>, Option<Mark>);
+
 // An index holds a mark for nearly every property, so each is small.
 const _: () = prove!(size_of::<Mark>() == 16);
 
@@ -51,8 +54,8 @@ impl Mark {
     }
 }
 
-/// The marks of an item, of which there are at most two.
-pub fn marks_of(item: &Item) -> (Option<Mark>, Option<Mark>)
+/// The marks of an item.
+pub fn marks_of(item: &Item) -> Marks
     ensures { (m : Mark) → has_mark m item.now ≡ true → (result.0 ≡ Some m) ⊎ (result.1 ≡ Some m) }
 {
     match item {
@@ -167,7 +170,7 @@ pub fn is_marked(histories: &Histories, volume: u64, mark: &Mark, key: &Key) -> 
 }
 
 /// The marks of the item under the key after a volume.
-pub fn marks_at(histories: &Histories, volume: u64, key: &Key) -> (Option<Mark>, Option<Mark>)
+pub fn marks_at(histories: &Histories, volume: u64, key: &Key) -> Marks
     ensures { (m : Mark) → marked_at (entries (view_at histories.now volume)) m key.now ≡ true → (result.0 ≡ Some m) ⊎ (result.1 ≡ Some m) }
 {
     match histories.item(volume, key) {

@@ -1,15 +1,18 @@
 //! One custodian's gazetteer through its volumes.
-ghost use Rattle.std.specs.Prelude.{◌≡◌, ◌≤◌, ◌<◌, ◌+◌, ◌-◌, ◌^◌, ◌==◌, ◌++◌, ◌∷◌, [], if◌then◌else◌, length, map, filter, slice_get, IfOk, OnOk, OnErr, None, option_map};
+ghost use Rattle.std.specs.Prelude.{◌≡◌, ◌⊎◌, ◌≤◌, ◌<◌, ◌+◌, ◌-◌, ◌^◌, ◌==◌, ◌++◌, ◌∷◌, [], if◌then◌else◌, length, map, filter, slice_get, true, IfOk, OnOk, OnErr, None, Some, option_map};
 ghost use Rattle.std.specs.FinMap as finite;
 ghost use Rattle.std.specs.List.{list_any};
-ghost use Rattle.gaz_shelf.specs.Indexes.{has_mark};
+ghost use Rattle.gaz_records.specs.Keys.{key_of};
+ghost use Rattle.gaz_shelf.specs.Indexes.{has_mark, marked_at};
 ghost use Rattle.gaz_shelf.specs.Ledgers.{empty_account, last_of, view_in};
+ghost use Rattle.gaz_shelf.specs.declared.index.Mark.{Mark};
 ghost use Rattle.gaz_shelf.specs.View.{was_used, with_item, without_key};
-ghost use Rattle.gaz_shelf.specs.Words.{address_of, approved_of, approved_on, entries, first_of, has_children, page};
+ghost use Rattle.gaz_shelf.specs.Words.{address_of, approved_of, approved_on, entries, first_of, has_children, page, property_of};
 
 use crate::changes::{Leaving, change, forget_all, undo_all};
 use crate::histories::Histories;
-use crate::index::{Index, Mark, any_marked, first_marked, keys_marked};
+use crate::index::{Index, Mark, Marks, any_marked, first_marked, keys_marked};
+use crate::property::{Property, share_found};
 use crate::seed::Seed;
 use crate::verdict::Verdict;
 use gaz_ids::{Lang, Uprn, Usrn};
@@ -160,12 +163,27 @@ impl Ledger {
         self.keys_of(alloc, volume, Mark::AddressOf(uprn))
     }
 
-    /// A BLPU's approved LPI, that of the least key where there are several.
-    pub fn address_of(&self, volume: u64, uprn: Uprn) -> Option<&SharedItem>
+    // A BLPU's approved LPI, that of the least key where there are several.
+    fn address_of(&self, volume: u64, uprn: Uprn) -> Option<&SharedItem>
         requires { length self.now.judged ≤ volume }
         ensures { option_map (λ i. i.now) result ≡ address_of (view_in self.now volume) uprn }
     {
         self.least_of(volume, Mark::AddressOf(uprn))
+    }
+
+    /// A BLPU with its address, in the last view or the working one.
+    pub fn property_of(&self, volume: u64, uprn: Uprn) -> Result<Option<Property>, AllocError>
+        requires { length self.now.judged ≤ volume }
+        ensures { IfOk result (λ p. p ≡ property_of (view_in self.now volume) uprn) }
+    {
+        let Some(blpu) = self.item(volume, &Key::Blpu(uprn)) else {
+            return Ok(None);
+        };
+        let address = share_found(self.address_of(volume, uprn))?;
+        Ok(Some(Property {
+            blpu: blpu.share()?,
+            address,
+        }))
     }
 
     /// Whether an approved LPI is on a street, and in this language where one is given.
@@ -191,44 +209,44 @@ impl Ledger {
         self.has_any(volume, Mark::PartOf(uprn))
     }
 
-    /// Sets an item in the working view. Where memory runs out, nothing changes.
-    pub fn put(&mut self, item: SharedItem) -> Result<(), AllocError>
+    /// Sets an item in the working view. Where memory runs out, nothing changes. Answers the marks of the item that stood at its key.
+    pub fn put(&mut self, item: SharedItem) -> Result<Marks, AllocError>
         ensures ok { OnOk result (self.new ≡ record { judged = self.old.judged; working = with_item self.old.working item }) }
         ensures err { OnErr result (self.new ≡ self.old) }
+        ensures marks { IfOk result (λ was. (m : Mark) → marked_at (entries self.old.working) m (key_of item) ≡ true → (was.0 ≡ Some m) ⊎ (was.1 ≡ Some m)) }
     {
         let reached = self.verdicts.len() as u64;
         let key = Key::of(&item);
         touch(&mut self.touched, &key)?;
-        change(
+        Ok(change(
             &mut self.histories,
             &mut self.index,
             &mut self.leaving,
             reached,
             &key,
             Some(item),
-        )?;
-        Ok(())
+        )?)
     }
 
-    /// Takes a key's item from the working view. Where memory runs out, nothing changes.
-    pub fn take(&mut self, key: &Key) -> Result<(), AllocError>
+    /// Takes a key's item from the working view. Where memory runs out, nothing changes. Answers the marks of the item that stood there.
+    pub fn take(&mut self, key: &Key) -> Result<Marks, AllocError>
         ensures ok { OnOk result (self.new ≡ record { judged = self.old.judged; working = without_key self.old.working key.now }) }
         ensures err { OnErr result (self.new ≡ self.old) }
+        ensures marks { IfOk result (λ was. (m : Mark) → marked_at (entries self.old.working) m key.now ≡ true → (was.0 ≡ Some m) ⊎ (was.1 ≡ Some m)) }
     {
         let reached = self.verdicts.len() as u64;
         if self.histories.item(reached + 1, key).is_none() {
-            return Ok(());
+            return Ok((None, None));
         }
         touch(&mut self.touched, key)?;
-        change(
+        Ok(change(
             &mut self.histories,
             &mut self.index,
             &mut self.leaving,
             reached,
             key,
             None,
-        )?;
-        Ok(())
+        )?)
     }
 
     /// The working view is the last one again.

@@ -2,17 +2,18 @@
 ghost use Rattle.std.specs.Prelude.{◌≡◌, ◌≢◌, ◌≤◌, ◌<◌, ◌==◌, ◌^◌, ◌-◌, ℕ, if◌then◌else◌, ⊤, length, IfOk, IfNone, IfSome, IsOk, MatchOption, option_map};
 ghost use Rattle.std.specs.FinMap as map;
 ghost use Rattle.gaz_shelf.specs.View.{empty_view, was_used, with_item, without_key};
-ghost use Rattle.gaz_shelf.specs.Words.{address_of, approved_of, approved_on, has_children, page};
+ghost use Rattle.gaz_shelf.specs.Words.{approved_of, approved_on, has_children, page, property_of};
 ghost use Rattle.gaz_shelf.specs.Board.{adds, last_view, reached, verdict_on, view_after};
 ghost use Rattle.gaz_shelf.specs.Ledgers.{board_of, view_in};
 ghost use Rattle.gaz_shelf.specs.Received.{count_above};
 ghost use Rattle.gaz_shelf.specs.Keeper.{Broken, Content, Enters, Goes, Idle, IsAtHand, IsNew, IsNotOpen, Keeps, Open, Reads, Refuses, Seen, Sets, begun, closed, empty_content, kept, skipped, view_of, with_received};
 ghost use Rattle.gaz_shelf.specs.Mem.{content_in, progress_of, seen_in, working_of};
 
-use crate::accounts::{close_in, ledger_of, open_in, put_in, take_in, undo_in};
+use crate::accounts::{book_of, close_in, open_in, put_in, take_in, undo_in};
+use crate::book::Book;
 use crate::fault::ShelfFault;
 use crate::files::Files;
-use crate::ledger::Ledger;
+use crate::property::{Property, share_found};
 use crate::seed::Seed;
 use crate::shelf::{Inbox, Shelf};
 use crate::verdict::Verdict;
@@ -37,7 +38,7 @@ pub struct MemShelf {
     alloc: Global,
     seed: Seed,
     files: Files,
-    ledgers: BTreeMap<Code, Ledger>,
+    books: BTreeMap<Code, Book>,
     judging: Judging,
     failures: u64,
 }
@@ -53,7 +54,7 @@ impl MemShelf {
             alloc,
             seed,
             files: Files::new(alloc),
-            ledgers: BTreeMap::new(alloc),
+            books: BTreeMap::new(alloc),
             judging: Judging::Idle,
             failures: 0,
         }
@@ -63,7 +64,7 @@ impl MemShelf {
     fn clear(&mut self)
         ensures keeps { Keeps (seen_in self.old) (seen_in self.new) }
         ensures view { (c : ℕ) → view_of (seen_in self.new) c ≡ view_of (seen_in self.old) c }
-        ensures board { self.new.ledgers ≡ self.old.ledgers }
+        ensures board { self.new.books ≡ self.old.books }
         ensures files { self.new.files ≡ self.old.files }
         ensures cleared { progress_of self.new.judging ≢ Broken }
         ensures idle { IsNotOpen (progress_of self.old.judging) → progress_of self.new.judging ≡ Idle }
@@ -84,36 +85,36 @@ impl MemShelf {
         }
     }
 
-    /// A custodian's ledger and the volume at which it is seen, where it has a ledger.
-    fn seen(&self, code: Code) -> Option<(&Ledger, u64)>
+    /// A custodian's book and the volume at which it is seen, where it has a book.
+    fn seen(&self, code: Code) -> Option<(&Book, u64)>
         ensures none { IfNone result (view_of (seen_in self.now) code ≡ empty_view) }
         ensures view { IfSome result (λ s. view_in s.0.now s.1 ≡ view_of (seen_in self.now) code) }
         ensures reached { IfSome result (λ s. length s.0.now.judged ≤ s.1) }
     {
-        let Some(ledger) = ledger_of(&self.ledgers, code) else {
+        let Some(book) = book_of(&self.books, code) else {
             return None;
         };
-        let reached = ledger.reached();
+        let reached = book.ledger().reached();
         match self.judging {
-            Judging::Open(judged) if judged == code => Some((ledger, reached + 1)),
-            _ => Some((ledger, reached)),
+            Judging::Open(judged) if judged == code => Some((book, reached + 1)),
+            _ => Some((book, reached)),
         }
     }
 
     fn count_reached(&self, code: Code) -> u64
-        ensures { result ≡ reached (board_of self.now.ledgers.entries) code }
+        ensures { result ≡ reached (board_of self.now.books.entries) code }
     {
-        match ledger_of(&self.ledgers, code) {
-            Some(ledger) => ledger.reached(),
+        match book_of(&self.books, code) {
+            Some(book) => book.ledger().reached(),
             None => 0,
         }
     }
 
     fn find_verdict(&self, code: Code, volume: Volume) -> Option<Verdict>
-        ensures { result ≡ verdict_on (board_of self.now.ledgers.entries) code volume }
+        ensures { result ≡ verdict_on (board_of self.now.books.entries) code volume }
     {
-        match ledger_of(&self.ledgers, code) {
-            Some(ledger) => ledger.verdict(volume.number()),
+        match book_of(&self.books, code) {
+            Some(book) => book.ledger().verdict(volume.number()),
             None => None,
         }
     }
@@ -122,16 +123,16 @@ impl MemShelf {
         ensures { IfOk result (λ i. i ≡ map.get (view_of (seen_in self.now) code).items key.now) }
     {
         match self.seen(code) {
-            Some((ledger, volume)) => Ok(share_found(ledger.item(volume, key))?),
+            Some((book, volume)) => Ok(share_found(book.ledger().item(volume, key))?),
             None => Ok(None),
         }
     }
 
     fn find_at(&self, code: Code, volume: u64, key: &Key) -> Result<Option<SharedItem>, AllocError>
-        ensures { IfOk result (λ i. volume ≤ reached (board_of self.now.ledgers.entries) code → i ≡ map.get (view_after (board_of self.now.ledgers.entries) code volume).items key.now) }
+        ensures { IfOk result (λ i. volume ≤ reached (board_of self.now.books.entries) code → i ≡ map.get (view_after (board_of self.now.books.entries) code volume).items key.now) }
     {
-        match ledger_of(&self.ledgers, code) {
-            Some(ledger) => Ok(share_found(ledger.item(volume, key))?),
+        match book_of(&self.books, code) {
+            Some(book) => Ok(share_found(book.ledger().item(volume, key))?),
             None => Ok(None),
         }
     }
@@ -140,7 +141,7 @@ impl MemShelf {
         ensures { result ≡ was_used (view_of (seen_in self.now) code) key.now }
     {
         match self.seen(code) {
-            Some((ledger, volume)) => ledger.was_used(volume, key),
+            Some((book, volume)) => book.ledger().was_used(volume, key),
             None => false,
         }
     }
@@ -149,16 +150,16 @@ impl MemShelf {
         ensures { IfOk result (λ keys. keys.items ≡ approved_of (view_of (seen_in self.now) code) uprn) }
     {
         match self.seen(code) {
-            Some((ledger, volume)) => Ok(ledger.approved_of(self.alloc, volume, uprn)?),
+            Some((book, volume)) => Ok(book.ledger().approved_of(self.alloc, volume, uprn)?),
             None => Ok(Vec::new(self.alloc)),
         }
     }
 
-    fn find_address(&self, code: Code, uprn: Uprn) -> Result<Option<SharedItem>, AllocError>
-        ensures { IfOk result (λ i. i ≡ address_of (view_of (seen_in self.now) code) uprn) }
+    fn find_property(&self, code: Code, uprn: Uprn) -> Result<Option<Property>, AllocError>
+        ensures { IfOk result (λ p. p ≡ property_of (view_of (seen_in self.now) code) uprn) }
     {
         match self.seen(code) {
-            Some((ledger, volume)) => Ok(share_found(ledger.address_of(volume, uprn))?),
+            Some((book, volume)) => Ok(book.property_of(volume, uprn)?),
             None => Ok(None),
         }
     }
@@ -167,7 +168,7 @@ impl MemShelf {
         ensures { result ≡ approved_on (view_of (seen_in self.now) code) usrn lang }
     {
         match self.seen(code) {
-            Some((ledger, volume)) => ledger.approved_on(volume, usrn, lang),
+            Some((book, volume)) => book.ledger().approved_on(volume, usrn, lang),
             None => false,
         }
     }
@@ -176,7 +177,7 @@ impl MemShelf {
         ensures { result ≡ has_children (view_of (seen_in self.now) code) uprn }
     {
         match self.seen(code) {
-            Some((ledger, volume)) => ledger.has_children(volume, uprn),
+            Some((book, volume)) => book.ledger().has_children(volume, uprn),
             None => false,
         }
     }
@@ -189,10 +190,10 @@ impl MemShelf {
         after: Option<Key>,
         most: usize,
     ) -> Result<Vec<SharedItem>, AllocError>
-        ensures { IfOk result (λ items. volume ≤ reached (board_of self.now.ledgers.entries) code → items.items ≡ page (view_after (board_of self.now.ledgers.entries) code volume) kind after most) }
+        ensures { IfOk result (λ items. volume ≤ reached (board_of self.now.books.entries) code → items.items ≡ page (view_after (board_of self.now.books.entries) code volume) kind after most) }
     {
-        match ledger_of(&self.ledgers, code) {
-            Some(ledger) => Ok(ledger.page(self.alloc, volume, kind, after, most)?),
+        match book_of(&self.books, code) {
+            Some(book) => Ok(book.ledger().page(self.alloc, volume, kind, after, most)?),
             None => Ok(Vec::new(self.alloc)),
         }
     }
@@ -211,7 +212,7 @@ impl MemShelf {
         ensures fault { result ≡ (if self.old.failures == 2 ^ 64 - 1 then ShelfFault.Memory else ShelfFault.Store) }
         ensures kept { self.old.failures ≤ self.new.failures }
         ensures store { result ≡ ShelfFault.Store → self.old.failures < self.new.failures }
-        ensures others { self.new ≡ record { alloc = self.old.alloc; seed = self.old.seed; files = self.old.files; ledgers = self.old.ledgers; judging = self.old.judging; failures = self.new.failures } }
+        ensures others { self.new ≡ record { alloc = self.old.alloc; seed = self.old.seed; files = self.old.files; books = self.old.books; judging = self.old.judging; failures = self.new.failures } }
     {
         if self.failures == u64::MAX {
             return ShelfFault::Memory;
@@ -225,7 +226,7 @@ impl MemShelf {
         requires { progress_of self.old.judging ≡ Open code }
         ensures { Sets (seen_in self.old) (seen_in self.new) result (with_item (content_in self.old).working item) }
     {
-        match put_in(&mut self.ledgers, code, item) {
+        match put_in(&mut self.books, code, item) {
             Ok(()) => Ok(()),
             Err(_) => {
                 self.judging = Judging::Broken;
@@ -239,7 +240,7 @@ impl MemShelf {
         requires { progress_of self.old.judging ≡ Open code }
         ensures { Sets (seen_in self.old) (seen_in self.new) result (without_key (content_in self.old).working key.now) }
     {
-        match take_in(&mut self.ledgers, code, key) {
+        match take_in(&mut self.books, code, key) {
             Ok(()) => Ok(()),
             Err(_) => {
                 self.judging = Judging::Broken;
@@ -253,7 +254,7 @@ impl MemShelf {
         requires { progress_of self.old.judging ≡ Open code }
         ensures { Goes (seen_in self.old) (seen_in self.new) result ⊤ (kept (progress_of self.old.judging) (content_in self.old)) Idle }
     {
-        match close_in(&mut self.ledgers, code, Verdict::Applied) {
+        match close_in(&mut self.books, code, Verdict::Applied) {
             Ok(()) => {
                 self.judging = Judging::Idle;
                 Ok(())
@@ -263,15 +264,6 @@ impl MemShelf {
                 Err(ShelfFault::Memory)
             }
         }
-    }
-}
-
-fn share_found(found: Option<&SharedItem>) -> Result<Option<SharedItem>, AllocError>
-    ensures { IfOk result (λ i. i ≡ option_map (λ x. x.now) found.entry) }
-{
-    match found {
-        Some(item) => Ok(Some(item.share()?)),
-        None => Ok(None),
     }
 }
 
@@ -319,9 +311,9 @@ impl Shelf for MemShelf {
         Ok(self.find_approved(code, uprn)?)
     }
 
-    fn address_of(&mut self, code: Code, uprn: Uprn) -> Result<Option<SharedItem>, ShelfFault> {
+    fn property_of(&mut self, code: Code, uprn: Uprn) -> Result<Option<Property>, ShelfFault> {
         self.clear();
-        Ok(self.find_address(code, uprn)?)
+        Ok(self.find_property(code, uprn)?)
     }
 
     fn approved_on(
@@ -352,7 +344,7 @@ impl Shelf for MemShelf {
     }
 
     fn begin(&mut self, code: Code) -> Result<(), ShelfFault> {
-        match open_in(self.alloc, self.seed, &mut self.ledgers, code) {
+        match open_in(self.alloc, self.seed, &mut self.books, code) {
             Ok(()) => {
                 self.judging = Judging::Open(code);
                 Ok(())
@@ -387,7 +379,7 @@ impl Shelf for MemShelf {
 
     fn abandon(&mut self) -> Result<(), ShelfFault> {
         if let Some(code) = self.open_code() {
-            undo_in(&mut self.ledgers, code);
+            undo_in(&mut self.books, code);
         }
         self.judging = Judging::Idle;
         Ok(())
@@ -395,8 +387,8 @@ impl Shelf for MemShelf {
 
     fn skip(&mut self, code: Code, place: u64, rule: u8) -> Result<(), ShelfFault> {
         self.clear();
-        open_in(self.alloc, self.seed, &mut self.ledgers, code)?;
-        close_in(&mut self.ledgers, code, Verdict::Rejected { place, rule })?;
+        open_in(self.alloc, self.seed, &mut self.books, code)?;
+        close_in(&mut self.books, code, Verdict::Rejected { place, rule })?;
         Ok(())
     }
 }

@@ -2,12 +2,13 @@
 ghost use Rattle.std.specs.Prelude.{◌≡◌, ◌≢◌, ◌≤◌, ⊤, option_map};
 ghost use Rattle.std.specs.FinMap as map;
 ghost use Rattle.gaz_shelf.specs.View.{was_used, with_item, without_key};
-ghost use Rattle.gaz_shelf.specs.Words.{address_of, approved_of, approved_on, has_children, page};
+ghost use Rattle.gaz_shelf.specs.Words.{approved_of, approved_on, has_children, page, property_of};
 ghost use Rattle.gaz_shelf.specs.Board.{reached, verdict_on, view_after};
 ghost use Rattle.gaz_shelf.specs.Received.{count_above};
 ghost use Rattle.gaz_shelf.specs.Keeper.{Enters, Goes, Idle, IsAtHand, IsNew, IsNotOpen, Open, Reads, Refuses, Seen, Sets, begun, closed, kept, skipped, view_of, with_received};
 
 use crate::fault::ShelfFault;
+use crate::property::Property;
 use crate::verdict::Verdict;
 use gaz_ids::{Code, Lang, Uprn, Usrn, Volume};
 use gaz_records::{Key, Kind, SharedItem};
@@ -44,9 +45,9 @@ pub trait Shelf {
     fn approved_of(&mut self, code: Code, uprn: Uprn) -> Result<Vec<Key>, ShelfFault>
         ensures { Reads (seen self.old) (seen self.new) result (λ keys. keys.items ≡ approved_of (view_of (seen self.old) code) uprn) };
 
-    /// The approved LPI of a BLPU in the view of `current`: that of the least key, where there are several.
-    fn address_of(&mut self, code: Code, uprn: Uprn) -> Result<Option<SharedItem>, ShelfFault>
-        ensures { Reads (seen self.old) (seen self.new) result (λ i. i ≡ address_of (view_of (seen self.old) code) uprn) };
+    /// A BLPU in the view of `current` with its approved LPI: that of the least key, where there are several.
+    fn property_of(&mut self, code: Code, uprn: Uprn) -> Result<Option<Property>, ShelfFault>
+        ensures { Reads (seen self.old) (seen self.new) result (λ p. p ≡ property_of (view_of (seen self.old) code) uprn) };
 
     /// Whether an approved LPI in the view of `current` is on a street, and in this language where one is given.
     fn approved_on(

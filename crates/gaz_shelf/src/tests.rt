@@ -2,7 +2,8 @@ ghost use Rattle.std.specs.Prelude.{◌≡◌, ◌≤◌, OnOk};
 ghost use Rattle.gaz_shelf.specs.Keeper.{Idle};
 
 use crate::{
-    Ending, Faulty, Inbox, MemShelf, Seed, Shelf, ShelfFault, Verdict, read_kind, write_volume,
+    Ending, Faulty, Inbox, MemShelf, Property, Seed, Shelf, ShelfFault, Verdict, read_kind,
+    write_volume,
 };
 use gaz_ids::{Code, Lang, Uprn, Usrn, Volume};
 use gaz_records::{Key, Kind, RecordKey, SharedItem, item_of_text, item_text};
@@ -191,19 +192,36 @@ fn has_addresses<K: Inbox>(
     Ok(())
 }
 
-fn has_address<K: Inbox>(
+fn is_property(
+    rt: &(impl Abort + AllocGlobal),
+    found: Option<Property>,
+    rows: Option<(&str, &str)>,
+) -> Result<(), Fail> {
+    match (found, rows) {
+        (None, None) => {}
+        (Some(found), Some((blpu, address))) => {
+            is_row(rt, &Some(found.blpu), Some(blpu))?;
+            is_row(rt, &found.address, Some(address))?;
+        }
+        _ => assert!(rt; false, "another property"),
+    }
+    Ok(())
+}
+
+// The rows of a BLPU and of its address.
+fn has_property<K: Inbox>(
     rt: &(impl Abort + AllocGlobal),
     shelf: &mut K,
     code: u64,
     uprn: u64,
-    row: Option<&str>,
+    rows: Option<(&str, &str)>,
 ) -> Result<(), Fail>
     requires { (K.seen shelf.old).progress ≡ Idle }
     ensures { OnOk result ((K.seen shelf.new).progress ≡ Idle) }
 {
     let uprn = Uprn::of(uprn).ok_or("a UPRN")?;
-    let found = shelf.address_of(custodian(code)?, uprn)?;
-    is_row(rt, &found, row)
+    let found = shelf.property_of(custodian(code)?, uprn)?;
+    is_property(rt, found, rows)
 }
 
 fn has_address_on<K: Inbox>(
@@ -431,10 +449,10 @@ fn reads_addresses<K: Inbox>(rt: &(impl Abort + AllocGlobal), shelf: &mut K) -> 
 {
     has_addresses(rt, shelf, 1001, 1001, &[lpi_key("L1")?])?;
     has_addresses(rt, shelf, 1001, 1002, &[lpi_key("L3")?])?;
-    has_address(rt, shelf, 1001, 1001, Some(MILL))?;
-    has_address(rt, shelf, 1001, 1002, Some(FELIN))?;
-    has_address(rt, shelf, 1001, 1003, None)?;
-    has_address(rt, shelf, 1002, 1001, None)?;
+    has_property(rt, shelf, 1001, 1001, Some((HOUSE, MILL)))?;
+    has_property(rt, shelf, 1001, 1002, Some((FLAT, FELIN)))?;
+    has_property(rt, shelf, 1001, 1003, None)?;
+    has_property(rt, shelf, 1002, 1001, None)?;
     has_address_on(rt, shelf, 1001, 101, None, true)?;
     has_address_on(rt, shelf, 1001, 101, Some(Lang::Cym), true)?;
     has_address_on(rt, shelf, 1001, 102, None, false)?;
@@ -538,6 +556,6 @@ fn a_keeper_around_another_answers_so(rt: HostRuntime) -> Result<(), Fail> {
     shelf_pair(&rt, &mut shelf)?;
     let calls = shelf.counted();
     assert_eq!(rt; (calls.current, calls.reached, calls.received), (5, 3, 2));
-    assert_eq!(rt; (calls.approved_of, calls.address_of), (2, 4));
+    assert_eq!(rt; (calls.approved_of, calls.property_of), (2, 4));
     Ok(())
 }

@@ -32,6 +32,7 @@ use gaz_shelf::{MemShelf, Seed};
 use sample::SAMPLE;
 use std::alloc::Global;
 use std::io::{BufWriter, Read, Write};
+use std::mem::forget;
 use std::process::ExitCode;
 use std::random::RandomSource;
 use std::{env, io};
@@ -63,7 +64,10 @@ fn answer_all<R: Read, W: Write>(
     ensures { IfOk result (Plays SAMPLE.now MOST (R.remaining r.old) (R.remaining r.new) (W.contents w.old) (W.contents w.new)) }
 {
     let mut hub = new_hub(alloc, seed)?;
-    Ok(converse(alloc, r, w, &mut hub, MOST))
+    let ended = converse(alloc, r, w, &mut hub, MOST);
+    // The program ends, and the system takes back at once what would take longer to free piece by piece.
+    forget(hub);
+    Ok(ended)
 }
 
 // A seed that nobody foresees.

@@ -6,8 +6,8 @@ returns g c = record {
   register = c.in_ok-hub.hub.register;
   described = c.in_ok-hub.ensures.register;
   first = c.in_ok-hub.hub.keeper;
-  last = c.converse.new.hub.keeper;
+  last = c.converse-ended.new.hub.keeper;
   begins = c.in_ok-hub.ensures.empty;
-  conversation = c.converse.ensures.conversation;
-  abides = first_files_count _ c.in_ok-hub.hub.keeper c.converse.new.hub.keeper _ _ c.in_ok-hub.ensures.empty c.converse.ensures.conversation.runs;
+  conversation = c.converse-ended.ensures.conversation;
+  abides = first_files_count _ c.in_ok-hub.hub.keeper c.converse-ended.new.hub.keeper _ _ c.in_ok-hub.ensures.empty c.converse-ended.ensures.conversation.runs;
 }

@@ -7,4 +7,4 @@ pub returns-in-Some-clause-board : goal.returns-in-Some-clause-board
 returns-in-Some-clause-board c =
     let writes = (c.get_mut.follows.holds c.undo.new.self).3 (search rules) in
     let was = ap (λ o. (unwrap_or o empty_account).judged) c.in-Some.ensures.value in
-    no_more c.args.ledgers.now.entries _ c.args.code c.undo.new.self writes.0 (ap (λ (a : Account). a.judged) c.undo.ensures ∙ was)
+    no_more c.args.books.now.entries _ c.args.code c.undo.new.self writes.0 (ap (λ (a : Account). a.judged) c.undo.ensures ∙ was)

@@ -1,5 +1,5 @@
-use Rattle.std.proofs.Common.{rules, ◌≡◌, length}
-use Rattle.gaz_shelf.proofs.Closings.{account_taken, account_untaken, ledger_changed}
+use Rattle.std.proofs.Common.{rules, ◌≡◌, ◌∙◌, false, length, sym, true}
+use Rattle.gaz_shelf.proofs.Closings.{account_taken, account_unmarked, account_untaken, ledger_changed}
 use Rattle.std.specs.Prelude.{None}
 use Rattle.gaz_shelf.proofs.ledger.Ledger.take.Goals as goal
 
@@ -7,6 +7,11 @@ pub returns-then-is_none-clause-ok : goal.returns-then-is_none-clause-ok
 returns-then-is_none-clause-ok c =
     let reach : c.len-reached.result ≡ length c.self.inside.verdicts.items = search rules in
     account_untaken c.self.inside.verdicts.items c.self.inside.histories c.args.self.now c.args.key.now c.item.result c.len-reached.result reach c.self.view_is c.item.ensures c.if-is_none.ensures
+
+pub returns-then-is_none-clause-marks : goal.returns-then-is_none-clause-marks
+returns-then-is_none-clause-marks c =
+    let reach : c.len-reached.result ≡ length c.self.inside.verdicts.items = search rules in
+    λ m at. let none : false ≡ true = sym (account_unmarked c.self.inside.verdicts.items c.self.inside.histories c.args.self.now c.args.key.now c.item.result c.len-reached.result reach c.self.view_is c.item.ensures c.if-is_none.ensures m) ∙ at in cc
 
 pub invariant_of-self-2 : goal.invariant_of-self-2
 invariant_of-self-2 c =

@@ -1,5 +1,0 @@
-use Rattle.gaz_exchange.proofs.StreamFacts.{put_behind}
-use Rattle.gaz_exchange.proofs.send.put_both.Goals as goal
-
-pub returns-then-write_all : goal.returns-then-write_all
-returns-then-write_all g c = put_behind _ _ _ c.args.text.now c.args.behind.now c.put.result (rw c.if-write_all.true at c.write_all.ensures) c.put.ensures

@@ -1,0 +1,5 @@
+use Rattle.gaz_exchange.proofs.StreamFacts.{put_behind}
+use Rattle.gaz_exchange.proofs.send.write_both.Goals as goal
+
+pub returns-then-write_all : goal.returns-then-write_all
+returns-then-write_all g c = put_behind _ _ _ c.args.text.now c.args.behind.now c.write_all-then-write_all.result (rw c.if-write_all.true at c.write_all.ensures) c.write_all-then-write_all.ensures
