@@ -15,8 +15,8 @@ use Rattle.gaz_records.proofs.KeyOrder.{keys_exact, keys_total}
 use Rattle.gaz_records.specs.Keys.{key_cmp, key_of}
 use Rattle.gaz_records.specs.declared.item.Item.{Item}
 use Rattle.gaz_records.specs.declared.key.Key.{Key}
-use Rattle.gaz_shelf.specs.View.{View, empty_view, with_item}
-use Rattle.gaz_shelf.specs.Words.{entries}
+use Rattle.gaz_ledger.specs.View.{View, empty_view, with_item}
+use Rattle.gaz_ledger.specs.Words.{entries}
 use Rattle.gaz_extract.specs.Extracts.{records_from, trailer}
 use Rattle.gaz_extract.specs.Laws.{ExtractsReadBack, ItemsGiveView, RecordsReadBack, RowsReadBack}
 

@@ -6,8 +6,8 @@ use Rattle.gaz_records.specs.declared.item.Kind.{Kind}
 use Rattle.gaz_records.specs.declared.item.Kind.TheVariants as kind
 use Rattle.gaz_rows.specs.Rows.{Fields, lines_of}
 use Rattle.gaz_shelf.specs.Board.{Board, reached, view_after}
-use Rattle.gaz_shelf.specs.View.{View}
-use Rattle.gaz_shelf.specs.Words.{entries}
+use Rattle.gaz_ledger.specs.View.{View}
+use Rattle.gaz_ledger.specs.Words.{entries}
 
 -- the record identifier of a kind
 abbrev pub identifier : Kind → List ℕ

@@ -4,8 +4,8 @@ use Rattle.csv.specs.Reading.{default_config, records}
 use Rattle.gaz_records.specs.Items.{is_item, kind_of, read_item}
 use Rattle.gaz_records.specs.declared.item.Item.{Item}
 use Rattle.gaz_rows.specs.Rows.{lines_of}
-use Rattle.gaz_shelf.specs.Reading.{IsKeyed}
-use Rattle.gaz_shelf.specs.View.{View, empty_view, with_item}
+use Rattle.gaz_ledger.specs.Reading.{IsKeyed}
+use Rattle.gaz_ledger.specs.View.{View, empty_view, with_item}
 use Rattle.gaz_extract.specs.Extracts.{extract_rows, items_of, record_of}
 
 -- the text of an extract reads back as its rows

@@ -3,8 +3,8 @@ ghost use Rattle.std.specs.List.{cons_option, filter_map};
 ghost use Rattle.gaz_records.specs.declared.item.Kind.TheVariants as kind;
 ghost use Rattle.gaz_shelf.specs.Board.{last_view, reached, view_after};
 ghost use Rattle.gaz_shelf.specs.Keeper.{IsNotOpen};
-ghost use Rattle.gaz_shelf.specs.Reading.{IsKeyed, left_after};
-ghost use Rattle.gaz_shelf.specs.Words.{rest_of};
+ghost use Rattle.gaz_ledger.specs.Reading.{IsKeyed, left_after};
+ghost use Rattle.gaz_ledger.specs.Words.{rest_of};
 ghost use Rattle.gaz_extract.specs.Closing.{closed_at_owner, closed_by, closed_of, closed_streets, is_on_closed};
 ghost use Rattle.gaz_extract.specs.Readings.{Tells};
 

@@ -2,8 +2,8 @@
 ghost use Rattle.std.specs.Prelude.{◌≡◌, ◌≤◌, ◌++◌, option_map};
 ghost use Rattle.gaz_shelf.specs.Board.{reached, view_after};
 ghost use Rattle.gaz_shelf.specs.Keeper.{IsNotOpen};
-ghost use Rattle.gaz_shelf.specs.Reading.{IsKeyed, left_after, next_after};
-ghost use Rattle.gaz_shelf.specs.Words.{rest_of};
+ghost use Rattle.gaz_ledger.specs.Reading.{IsKeyed, left_after, next_after};
+ghost use Rattle.gaz_ledger.specs.Words.{rest_of};
 ghost use Rattle.gaz_extract.specs.Readings.{Tells};
 
 use gaz_ids::Code;

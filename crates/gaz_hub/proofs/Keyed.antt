@@ -21,9 +21,9 @@ use Rattle.gaz_rules.proofs.Worked.{entries-none}
 use Rattle.gaz_rules.specs.Judging.{Fault, judge, judged_by_faults}
 use Rattle.gaz_rules.specs.Rules.{done, effect}
 use Rattle.gaz_shelf.specs.Board.{Board, Judgement, empty_board, reached, view_after}
-use Rattle.gaz_shelf.specs.Reading.{IsKeyed}
+use Rattle.gaz_ledger.specs.Reading.{IsKeyed}
 use Rattle.gaz_shelf.specs.Received.{Received}
-use Rattle.gaz_shelf.specs.View.{View, empty_view, with_item, without_key}
+use Rattle.gaz_ledger.specs.View.{View, empty_view, with_item, without_key}
 use Rattle.gaz_hub.specs.Hubs.{AreKeyed}
 use Rattle.gaz_hub.specs.Standing.{Follows, Leads, Register, judge_one, judgement_after, next_reading}
 

@@ -7,7 +7,7 @@ use Rattle.gaz_changefile.specs.Profile.{profile_of}
 use Rattle.gaz_register.specs.Registers.{RegisterValue, blocks_of, knows}
 use Rattle.gaz_extract.specs.declared.closed.Closed.{Closed}
 use Rattle.gaz_shelf.specs.Board.{Board, view_after}
-use Rattle.gaz_shelf.specs.Reading.{IsKeyed}
+use Rattle.gaz_ledger.specs.Reading.{IsKeyed}
 use Rattle.gaz_shelf.specs.Received.{Received}
 use Rattle.gaz_shelf.specs.Keeper.{Content, IsNotOpen, Seen}
 use Rattle.gaz_shelf.specs.declared.fault.ShelfFault.{ShelfFault}

@@ -4,8 +4,8 @@ use Rattle.std.specs.Option.{option_map, option_map_or}
 use Rattle.std.specs.List.{find, count_by}
 use Rattle.std.specs.FinMap as map
 use Rattle.gaz_shelf.specs.Board.{Board, reached}
-use Rattle.gaz_shelf.specs.declared.verdict.Verdict.{Verdict}
-use Rattle.gaz_shelf.specs.declared.verdict.Verdict.TheVariants as verdict
+use Rattle.gaz_ledger.specs.declared.verdict.Verdict.{Verdict}
+use Rattle.gaz_ledger.specs.declared.verdict.Verdict.TheVariants as verdict
 use Rattle.gaz_rules.specs.Judging.{bases_of}
 use Rattle.gaz_shelf.specs.Received.{Received}
 use Rattle.gaz_hub.specs.Standing.{next_reading}

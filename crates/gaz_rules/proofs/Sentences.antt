@@ -15,8 +15,8 @@ use Rattle.gaz_records.specs.declared.item.Item.{Item}
 use Rattle.gaz_records.specs.declared.item.Item.TheVariants as item
 use Rattle.gaz_records.specs.declared.key.Key.{Key}
 use Rattle.gaz_records.specs.declared.key.Key.TheVariants as key
-use Rattle.gaz_shelf.specs.View.{View, holds}
-use Rattle.gaz_shelf.specs.Words.{is_approved, same_lang}
+use Rattle.gaz_ledger.specs.View.{View, holds}
+use Rattle.gaz_ledger.specs.Words.{is_approved, same_lang}
 use Rattle.gaz_rules.specs.EndRules.{approved_at, as_approved, as_blpu, as_street, blpu_at, blpu_named, closed_under_lpi, found_in, if_some, is_closed, is_historical, is_past, is_second, lacks_blpu, lacks_descriptor, lacks_own_street, lacks_parent, lacks_street, leaves_lpi, names_closed, names_past, parent_of, past_under_lpi, same_key, street_at}
 use Rattle.gaz_rules.specs.Sentences.{ClosedUnderLpi, HasSecond, HaveNone, IsApprovedLpi, IsClosedStreet, IsFirstWith, IsPastBlpu, LacksBlpu, LacksOwnStreet, LacksParent, LeavesLpi, NamesClosed, NamesNowhere, NamesPast, NamesUnnamed, PastUnderLpi, TestsSay, views_in_turn}
 use Rattle.gaz_rules.proofs.Approved.{an_lpi, of_from, of_gives, on_from, on_gives, same_lang_is, same_lang_itself, some_from, some_gives}

@@ -9,7 +9,7 @@ use Rattle.gaz_records.specs.declared.key.Key.{Key}
 use Rattle.gaz_records.specs.declared.key.Key.TheVariants as key
 use Rattle.gaz_changefile.specs.Reading.{Reading}
 use Rattle.gaz_register.specs.Registers.{Blocks, within}
-use Rattle.gaz_shelf.specs.View.{View, holds, was_used}
+use Rattle.gaz_ledger.specs.View.{View, holds, was_used}
 use Rattle.gaz_shelf.specs.Board.{Board, view_after}
 use Rattle.gaz_rules.specs.Judging.{bases_of}
 use Rattle.gaz_rules.specs.EndRules.{ancestor, approved_at, closed_under_lpi, is_out_of_date, is_second, is_unnamed, lacks_blpu, lacks_own_street, lacks_parent, names_closed}

@@ -1,13 +1,15 @@
 -- The board of a tree map in which one custodian's account changes.
-use Rattle.std.proofs.Common.{◌≡◌, ℕ, Bool, true, false, cond, List, [], ◌∷◌, ◌++◌, refl, sym, ap, ◌∙◌, arith, unwrap_or}
+use Rattle.std.proofs.Common.{◌≡◌, ℕ, zero, suc, Bool, true, false, cond, List, [], ◌∷◌, ◌++◌, refl, sym, ap, ◌∙◌, arith, slice_get, unwrap_or}
 use Rattle.std.proofs.Math.Path.{fun_ext}
 use Rattle.std.proofs.lemmas.Bool.Decides.{nat_tests}
 use Rattle.std.specs.Prelude.{◌==◌, Some}
 use Rattle.std.specs.BTreeMap.{is_at}
 use Rattle.std.specs.Map.{lookup}
 use Rattle.std.specs.Ordering.{is_eq, nat_cmp}
-use Rattle.gaz_shelf.specs.Board.{Judgement, adds}
-use Rattle.gaz_shelf.specs.Ledgers.{Account, account_of, board_of, empty_account}
+use Rattle.gaz_ledger.specs.View.{empty_view}
+use Rattle.gaz_shelf.specs.Board.{Judgement, adds, view_after}
+use Rattle.gaz_ledger.specs.Ledgers.{Account, empty_account}
+use Rattle.gaz_shelf.specs.Accounts.{account_of, board_of}
 
 tie : (c q : ℕ) → is_eq (nat_cmp c q) ≡ (q == c)
 tie c q = grind (arith, nat_tests)
@@ -53,3 +55,13 @@ either_way false x = refl
 pub no_more : (es fs : List (ℕ × Account)) (c : ℕ) (a : Account) → Changes es fs c a → a.judged ≡ board_of es c → board_of fs ≡ board_of es
 no_more es fs c a h e = fun_ext (λ q.
     ap (λ (d : Account). d.judged) (changed es fs c a h q) ∙ judged_cond (q == c) a (account_of es q) ∙ at_one (board_of es) c a.judged (λ js. js) e q (q == c) refl ∙ either_way (q == c) (board_of es q))
+
+-- ---- without an account
+
+-- no volume has changed its view
+pub never_changed : (es : List (ℕ × Account)) (c : ℕ) → account_of es c ≡ empty_account → (volume : ℕ) → view_after (board_of es) c volume ≡ empty_view
+never_changed es c none volume = ap (λ (a : Account). view_after (λ _. a.judged) c volume) none ∙ first volume
+  where
+    first : (n : ℕ) → unwrap_or (slice_get (empty_view ∷ []) n) empty_view ≡ empty_view
+    first zero = refl
+    first (suc n) = refl

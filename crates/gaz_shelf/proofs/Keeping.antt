@@ -1,18 +1,11 @@
 -- What two calls after each other tell.
 use Rattle.std.proofs.Common.{◌≡◌, ◌≤◌, ◌<◌, ℕ, refl, ap, ◌∙◌, subst, arith, cond, eq-eqb}
 use Rattle.std.specs.Prelude.{⊤, Result, Ok, Err, OnOk, OnErr, IfErr}
+use Rattle.gaz_ledger.proofs.Outcomes.{on_err, on_ok}
 use Rattle.gaz_shelf.specs.Board.{last_view}
 use Rattle.gaz_shelf.specs.Keeper.{Content, Counts, Goes, Idle, IsLeft, Keeps, Open, Broken, Progress, Seen, closed, view_of, viewed}
 use Rattle.gaz_shelf.specs.declared.fault.ShelfFault.{ShelfFault}
 use Rattle.gaz_shelf.specs.declared.fault.ShelfFault.TheVariants.{Store}
-
-pub on_ok : {T E P Q : Type 0} (r : Result T E) → (P → Q) → OnOk r P → OnOk r Q
-on_ok (Ok x) f h = f h
-on_ok (Err e) f h = tt
-
-pub on_err : {T E P Q : Type 0} (r : Result T E) → (P → Q) → OnErr r P → OnErr r Q
-on_err (Ok x) f h = tt
-on_err (Err e) f h = f h
 
 left_then : (p q r : Progress) → IsLeft p q → IsLeft q r → IsLeft p r
 left_then Idle q r a b = subst (λ x. IsLeft x r) a b
@@ -61,7 +54,3 @@ goes_then a b c x r asked k n m p q first same becomes second =
 
 pub still_idle : (a b : Seen) → Keeps a b → a.progress ≡ Idle → b.progress ≡ Idle
 still_idle a b k e = subst (λ p. IsLeft p b.progress) e k.progress
-
-pub where_err : {T E P : Type 0} (r : Result T E) → P → OnErr r P
-where_err (Ok x) h = tt
-where_err (Err e) h = h

@@ -1,12 +1,8 @@
 -- The judgements of all custodians.
-use Rattle.std.specs.Prelude.{ℕ, zero, suc, ◌==◌, if◌then◌else◌, List, [], ◌∷◌, ◌++◌, map, length, slice_get, unwrap_or, Option, None, option_map}
-use Rattle.gaz_shelf.specs.View.{View, empty_view}
-use Rattle.gaz_shelf.specs.declared.verdict.Verdict.{Verdict}
-
--- a volume's verdict, and its custodian's view afterwards
-pub record Judgement : Type 0 where
-  pub verdict : Verdict
-  pub view : View
+use Rattle.std.specs.Prelude.{ℕ, zero, suc, ◌==◌, if◌then◌else◌, List, [], ◌∷◌, ◌++◌, length, slice_get, unwrap_or, Option, None, option_map}
+pub use Rattle.gaz_ledger.specs.Judgements.{Judgement, views}
+use Rattle.gaz_ledger.specs.View.{View, empty_view}
+use Rattle.gaz_ledger.specs.declared.verdict.Verdict.{Verdict}
 
 -- each custodian's judgements, those of the volumes 1, 2, 3, ..
 abbrev pub Board : Type 0
@@ -18,10 +14,6 @@ empty_board = λ c. []
 -- how many volumes of a custodian are judged
 abbrev pub reached : Board → ℕ → ℕ
 reached B c = length (B c)
-
--- a custodian's views: the empty one, and the one after each volume
-abbrev pub views : List Judgement → List View
-views js = empty_view ∷ map (λ j. j.view) js
 
 -- the view of a custodian after a volume that it has reached
 abbrev pub view_after : Board → ℕ → ℕ → View

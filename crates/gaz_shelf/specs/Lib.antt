@@ -1,15 +1,8 @@
-pub mod View
-pub mod Words
-pub mod Reading
-pub mod Indexes
-pub mod ViewCode
 pub mod Board
-pub mod Gazetteer
 pub mod Received
 pub mod Keeper
 pub mod Calls
 pub mod Faulting
-pub mod Ledgers
-pub mod Properties
+pub mod Accounts
 pub mod Mem
 pub mod Examples

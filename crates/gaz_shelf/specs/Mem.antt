@@ -1,7 +1,8 @@
 -- What a keeper in memory keeps.
 use Rattle.std.specs.Prelude.{ℕ, ◌==◌, ◌^◌, ◌-◌, ⊤, List}
-use Rattle.gaz_shelf.specs.View.{View, empty_view}
-use Rattle.gaz_shelf.specs.Ledgers.{Account, account_of, board_of}
+use Rattle.gaz_ledger.specs.View.{View, empty_view}
+use Rattle.gaz_ledger.specs.Ledgers.{Account}
+use Rattle.gaz_shelf.specs.Accounts.{account_of, board_of}
 use Rattle.gaz_shelf.specs.Keeper.{Broken, Content, Idle, Open, Progress, Seen}
 use Rattle.gaz_shelf.specs.declared.mem_shelf.Judging.{Judging}
 use Rattle.gaz_shelf.specs.declared.mem_shelf.Judging.TheVariants as judging

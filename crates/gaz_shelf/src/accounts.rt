@@ -1,13 +1,12 @@
 //! The books of all custodians.
 ghost use Rattle.std.specs.Prelude.{◌≡◌, MatchOption, OnOk, OnErr};
 ghost use Rattle.gaz_shelf.specs.Board.{adds, last_view};
-ghost use Rattle.gaz_shelf.specs.Ledgers.{account_of, board_of, empty_account};
-ghost use Rattle.gaz_shelf.specs.View.{with_item, without_key};
+ghost use Rattle.gaz_ledger.specs.Ledgers.{empty_account};
+ghost use Rattle.gaz_shelf.specs.Accounts.{account_of, board_of};
+ghost use Rattle.gaz_ledger.specs.View.{with_item, without_key};
 
-use crate::book::Book;
-use crate::seed::Seed;
-use crate::verdict::Verdict;
 use gaz_ids::Code;
+use gaz_ledger::{Book, Seed, Verdict};
 use gaz_records::{Key, SharedItem};
 use std::alloc::{AllocError, Global};
 use std::collections::BTreeMap;

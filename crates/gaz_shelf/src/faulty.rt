@@ -5,10 +5,9 @@ ghost use Rattle.gaz_shelf.specs.Faulting.{around, progress_around};
 
 use crate::calls::{Call, Calls, Plan};
 use crate::fault::ShelfFault;
-use crate::property::Property;
 use crate::shelf::{Inbox, Shelf};
-use crate::verdict::Verdict;
 use gaz_ids::{Code, Lang, Uprn, Usrn, Volume};
+use gaz_ledger::{Property, Verdict};
 use gaz_records::{Key, Kind, SharedItem};
 
 /// Passes every call on to another keeper and counts it; one call, chosen by its number, fails as if the store did.

@@ -1,7 +1,7 @@
 use Rattle.std.proofs.Common.{◌≡◌, ◌≤◌, ℕ, subst, arith}
 use Rattle.gaz_shelf.specs.Board.{reached, view_after}
 use Rattle.gaz_shelf.specs.Keeper.{Content}
-use Rattle.gaz_shelf.specs.Reading.{IsKeyed}
+use Rattle.gaz_ledger.specs.Reading.{IsKeyed}
 use Rattle.gaz_shelf.proofs.Keeping.{keeps_then}
 use Rattle.gaz_extract.specs.Drafts.{by_kind, with_items}
 use Rattle.gaz_extract.proofs.Ends.{extract_is}

@@ -1,7 +1,7 @@
 use Rattle.std.proofs.Common.{◌∙◌, ap, refl, [], arith}
-use Rattle.gaz_shelf.proofs.Pages.{page_added}
+use Rattle.gaz_ledger.proofs.Pages.{page_added}
 use Rattle.gaz_shelf.specs.Board.{view_after}
-use Rattle.gaz_shelf.specs.Reading.{next_after}
+use Rattle.gaz_ledger.specs.Reading.{next_after}
 use Rattle.gaz_extract.proofs.page.read_page.Goals as goal
 
 pub returns-clause-tells : goal.returns-clause-tells

@@ -1,7 +1,7 @@
 use Rattle.std.proofs.Common.{rules, ◌∙◌, ◌++◌, ◌∷◌, [], ap, unwrap_or}
 use Rattle.gaz_shelf.proofs.Boards.{no_more, one_more}
-use Rattle.gaz_shelf.proofs.Keeping.{where_err}
-use Rattle.gaz_shelf.specs.Ledgers.{Account, empty_account}
+use Rattle.gaz_ledger.proofs.Outcomes.{where_err}
+use Rattle.gaz_ledger.specs.Ledgers.{Account, empty_account}
 use Rattle.gaz_shelf.proofs.accounts.close_in.Goals as goal
 
 pub returns-in_err-close-clause-err : goal.returns-in_err-close-clause-err

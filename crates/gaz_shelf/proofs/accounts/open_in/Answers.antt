@@ -2,7 +2,8 @@ use Rattle.std.proofs.Common.{rules, ◌≡◌, ◌∙◌, ℕ, ap, sym, unwrap_
 use Rattle.std.specs.BTreeMap.{BTreeMap}
 use Rattle.gaz_shelf.proofs.Boards.{no_more}
 use Rattle.gaz_shelf.specs.Board.{Board}
-use Rattle.gaz_shelf.specs.Ledgers.{Account, board_of, empty_account}
+use Rattle.gaz_ledger.specs.Ledgers.{Account, empty_account}
+use Rattle.gaz_shelf.specs.Accounts.{board_of}
 use Rattle.gaz_shelf.proofs.accounts.open_in.Goals as goal
 
 pub returns-in-Some-clause-board : goal.returns-in-Some-clause-board

@@ -1,6 +1,6 @@
 use Rattle.std.proofs.Common.{rules, ◌∙◌, ap, unwrap_or}
 use Rattle.gaz_shelf.proofs.Boards.{no_more}
-use Rattle.gaz_shelf.specs.Ledgers.{Account, empty_account}
+use Rattle.gaz_ledger.specs.Ledgers.{Account, empty_account}
 use Rattle.gaz_shelf.proofs.accounts.take_in.Goals as goal
 
 pub returns-in_err-take-clause-board : goal.returns-in_err-take-clause-board

@@ -1,6 +1,6 @@
 use Rattle.std.proofs.Common.{rules, ◌∙◌, ap, unwrap_or}
 use Rattle.gaz_shelf.proofs.Boards.{no_more}
-use Rattle.gaz_shelf.specs.Ledgers.{Account, empty_account}
+use Rattle.gaz_ledger.specs.Ledgers.{Account, empty_account}
 use Rattle.gaz_shelf.proofs.accounts.undo_in.Goals as goal
 
 pub returns-in-Some-clause-board : goal.returns-in-Some-clause-board

@@ -1,5 +1,6 @@
 use Rattle.std.proofs.Common.{◌∙◌}
-use Rattle.gaz_shelf.proofs.Emptiness.{empty_page, never_changed}
+use Rattle.gaz_ledger.proofs.Emptiness.{empty_page}
+use Rattle.gaz_shelf.proofs.Boards.{never_changed}
 use Rattle.gaz_shelf.proofs.mem_shelf.MemShelf.find_page.Goals as goal
 
 pub returns-in-None : goal.returns-in-None

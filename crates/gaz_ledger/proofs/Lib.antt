@@ -1,0 +1,17 @@
+pub mod Outcomes
+pub mod Trees
+pub mod Emptiness
+pub mod Examples
+pub mod Pages
+pub mod Versions
+pub mod Gazetteers
+pub mod Stored
+pub mod Judgements
+pub mod Marks
+pub mod KeySets
+pub mod Indexes
+pub mod Marked
+pub mod Known
+pub mod Ranges
+pub mod Ledgers
+pub mod Closings

@@ -1,0 +1,184 @@
+-- Gazetteers as histories in any order, and their keys in order beside them.
+use Rattle.std.proofs.Common.{◌≡◌, ◌&&◌, ◌||◌, ℕ, Bool, true, false, cond, List, [], ◌∷◌, map, take, refl, sym, ap, subst, ◌∙◌, unwrap_or}
+use Rattle.std.specs.Prelude.{Option, Some, None, filter, is_some, option_map}
+use Rattle.std.specs.Bool.{OnTrue}
+use Rattle.std.specs.Cmp.{eq_by_cmp_equiv}
+use Rattle.std.specs.FinMap as finite
+use Rattle.std.specs.List.{AllByRecursion, cons_option, list_any}
+use Rattle.std.specs.List.Sorted.{IsStrictlySortedBy}
+use Rattle.std.specs.Map.{keys_of, lookup}
+use Rattle.std.specs.Ordering.{eq_by_cmp}
+use Rattle.std.specs.declared.cmp.Ordering.TheVariants.{Less}
+use Rattle.gaz_histories.specs.Histories.{Versions, before, is_empty, item_at}
+use Rattle.gaz_records.proofs.KeyOrder.{keys_exact, keys_total}
+use Rattle.gaz_records.specs.Keys.{key_cmp}
+use Rattle.gaz_records.specs.declared.item.Item.{Item}
+use Rattle.gaz_records.specs.declared.item.Kind.{Kind}
+use Rattle.gaz_records.specs.declared.key.Key.{Key}
+use Rattle.gaz_ledger.proofs.Gazetteers.{same_key}
+use Rattle.gaz_ledger.proofs.Trees.{entries_tree, get_tree}
+use Rattle.gaz_ledger.specs.Gazetteer.{ChangesAt, Gazetteer, HasJustTheKeysOf, rows_at, versions_among, versions_at, view_at, with_versions}
+use Rattle.gaz_ledger.specs.Words.{comes_after, entries, is_of, page}
+
+abbrev Rows : Type 0
+Rows = List (Key × Versions)
+
+abbrev pub stored : Rows → Key → Option Versions
+stored es k = lookup (eq_by_cmp key_cmp k) es
+
+-- the versions at a key are those of its history
+pub versions_stored : (g : Gazetteer) (es : Rows) (k : Key) → finite.from_entries es ≡ g → versions_at g k ≡ unwrap_or (stored es k) []
+versions_stored g es k is = ap (λ (h : Gazetteer). versions_at h k) (sym is) ∙ ap (λ o. unwrap_or o []) (get_tree (λ a b. refl) keys_total es k)
+
+abbrev has : List Key → Key → Bool
+has ks k = list_any (eq_by_cmp key_cmp k) ks
+
+abbrev Writes : Rows → Rows → Key → Option Versions → Type 0
+Writes es fs key o = (q : Key) → stored fs q ≡ cond (eq_by_cmp key_cmp key q) o (stored es q)
+
+written : (es fs : Rows) (key : Key) (o : Option Versions) → Writes es fs key o → (k : Key) → unwrap_or (stored fs k) [] ≡ cond (eq_by_cmp key_cmp key k) (unwrap_or o []) (unwrap_or (stored es k) [])
+written es fs key o h k = ap (λ p. unwrap_or p []) (h k) ∙ of_cond (eq_by_cmp key_cmp key k)
+  where
+    of_cond : (b : Bool) → unwrap_or (cond b o (stored es k)) [] ≡ cond b (unwrap_or o []) (unwrap_or (stored es k) [])
+    of_cond true = refl
+    of_cond false = refl
+
+-- another history at a key
+pub stores : (g : Gazetteer) (es fs : Rows) (key : Key) (vs ws : Versions) → finite.from_entries es ≡ g → Writes es fs key (Some vs) → vs ≡ ws → ChangesAt g (finite.from_entries fs) key ws
+stores g es fs key vs ws is h same k =
+    versions_stored (finite.from_entries fs) fs k refl ∙ written es fs key (Some vs) h k ∙ (λ i. cond (eq_by_cmp key_cmp key k) (same i) (sym (versions_stored g es k is) i))
+
+-- no history at a key that had no versions
+pub stores_none : (g : Gazetteer) (es fs : Rows) (key : Key) → finite.from_entries es ≡ g → Writes es fs key None → versions_at g key ≡ [] → (k : Key) → versions_at (finite.from_entries fs) k ≡ versions_at g k
+stores_none g es fs key is h none k =
+    versions_stored (finite.from_entries fs) fs k refl ∙ written es fs key None h k ∙ ap (cond (eq_by_cmp key_cmp key k) []) (sym (versions_stored g es k is)) ∙ by_same (eq_by_cmp key_cmp key k) refl
+  where
+    by_same : (b : Bool) → eq_by_cmp key_cmp key k ≡ b → cond b [] (versions_at g k) ≡ versions_at g k
+    by_same true at = sym none ∙ ap (versions_at g) (same_key key k at)
+    by_same false at = refl
+
+-- the same history again
+stores_same : (g : Gazetteer) (es fs : Rows) (key : Key) (vs : Versions) → finite.from_entries es ≡ g → Writes es fs key (Some vs) → Some vs ≡ stored es key → finite.from_entries fs ≡ g
+stores_same g es fs key vs is h same =
+    finite.same_map keys_total keys_exact (finite.from_entries {R = key_cmp} fs) (finite.from_entries {R = key_cmp} es) (λ q. get_tree (λ a b. refl) keys_total fs q ∙ h q ∙ by_same q (eq_by_cmp key_cmp key q) refl ∙ sym (get_tree (λ a b. refl) keys_total es q)) ∙ is
+  where
+    by_same : (q : Key) (b : Bool) → eq_by_cmp key_cmp key q ≡ b → cond b (Some vs) (stored es q) ≡ stored es q
+    by_same q true at = same ∙ ap (stored es) (same_key key q at)
+    by_same q false at = refl
+
+module _ (g : Gazetteer) (es : Rows) (key : Key) (is : finite.from_entries es ≡ g) where
+  -- the versions of a history that is there
+  pub was_there : (vs : Versions) → stored es key ≡ Some vs → vs ≡ versions_at g key
+  was_there vs there = ap (λ o. unwrap_or o []) (sym there) ∙ sym (versions_stored g es key is)
+
+  -- there are none where there is no history
+  pub was_nowhere : stored es key ≡ None → [] ≡ versions_at g key
+  was_nowhere none = ap (λ o. unwrap_or o []) (sym none) ∙ sym (versions_stored g es key is)
+
+  pub stores_now : (fs hs : Rows) (vs ws : Versions) → fs ≡ hs → Writes es hs key (Some vs) → vs ≡ ws → ChangesAt g (finite.from_entries fs) key ws
+  stores_now fs hs vs ws new h same k = ap (λ (l : Rows). versions_at (finite.from_entries l) k) new ∙ stores g es hs key vs ws is h same k
+
+  -- the same history again
+  pub stores_again : (fs hs : Rows) (vs ws : Versions) → fs ≡ hs → Writes es hs key (Some vs) → vs ≡ ws → stored es key ≡ Some ws → finite.from_entries fs ≡ g
+  stores_again fs hs vs ws new h same there = ap (λ (l : Rows). finite.from_entries l) new ∙ stores_same g es hs key vs is h (ap Some same ∙ sym there)
+
+pub nothing_in : (vs : Versions) → true ≡ is_empty vs → vs ≡ []
+nothing_in [] e = refl
+nothing_in (v ∷ vs) e = cc
+
+-- whether a change leaves no versions
+pub emptied : (g h : Gazetteer) (key : Key) (vs ws : Versions) (b : Bool) → ChangesAt g h key vs → ws ≡ vs → b ≡ is_empty ws → OnTrue b (versions_at h key ≡ [])
+emptied g h key vs ws true change same none = change key ∙ ap (λ b. cond b vs (versions_at g key)) ((eq_by_cmp_equiv keys_total).refl key) ∙ sym same ∙ nothing_in ws none
+emptied g h key vs ws false change same none = tt
+
+-- nothing is cut where there are no versions
+pub cut_none : (g : Gazetteer) (key : Key) (v : ℕ) → versions_at g key ≡ [] → ChangesAt g g key (before (versions_at g key) v)
+cut_none g key v none k = by_same (eq_by_cmp key_cmp key k) refl
+  where
+    by_same : (b : Bool) → eq_by_cmp key_cmp key k ≡ b → versions_at g k ≡ cond b (before (versions_at g key) v) (versions_at g k)
+    by_same true at = ap (versions_at g) (sym (same_key key k at)) ∙ none ∙ ap (λ (vs : Versions). before vs v) (sym none)
+    by_same false at = refl
+
+-- ---- the keys in order
+
+-- another history at a key that has one
+pub keys_stay : (ks : List Key) (es fs hs : Rows) (key : Key) (vs ws : Versions) → HasJustTheKeysOf ks es → stored es key ≡ Some ws → fs ≡ hs → Writes es hs key (Some vs) → HasJustTheKeysOf ks fs
+keys_stay ks es fs hs key vs ws just there new h k = just k ∙ by_same (eq_by_cmp key_cmp key k) refl ∙ ap is_some (sym (h k)) ∙ ap (λ (l : Rows). is_some (stored l k)) (sym new)
+  where
+    by_same : (b : Bool) → eq_by_cmp key_cmp key k ≡ b → is_some (stored es k) ≡ is_some (cond b (Some vs) (stored es k))
+    by_same true at = ap (λ (q : Key). is_some (stored es q)) (sym (same_key key k at)) ∙ ap is_some there
+    by_same false at = refl
+
+-- a history at a key that is put in the order
+pub keys_put : (ks ls : List Key) (es fs hs : Rows) (key : Key) (vs : Versions) → HasJustTheKeysOf ks es → ((k : Key) → has ls k ≡ cond (eq_by_cmp key_cmp key k) true (has ks k))
+    → fs ≡ hs → Writes es hs key (Some vs) → HasJustTheKeysOf ls fs
+keys_put ks ls es fs hs key vs just put new h k = put k ∙ by_same (eq_by_cmp key_cmp key k) ∙ ap is_some (sym (h k)) ∙ ap (λ (l : Rows). is_some (stored l k)) (sym new)
+  where
+    by_same : (b : Bool) → cond b true (has ks k) ≡ is_some (cond b (Some vs) (stored es k))
+    by_same true = refl
+    by_same false = just k
+
+-- no history at a key that is taken from the order
+pub keys_taken : (ks ls : List Key) (es fs : Rows) (key : Key) → HasJustTheKeysOf ks es → ((k : Key) → has ls k ≡ cond (eq_by_cmp key_cmp key k) false (has ks k)) → Writes es fs key None → HasJustTheKeysOf ls fs
+keys_taken ks ls es fs key just taken h k = taken k ∙ by_same (eq_by_cmp key_cmp key k) ∙ ap is_some (sym (h k))
+  where
+    by_same : (c : Bool) → cond c false (has ks k) ≡ is_some (cond c None (stored es k))
+    by_same true = refl
+    by_same false = just k
+
+-- ---- pages
+
+-- the rows of keys that ascend ascend
+rows_ascend : (v : ℕ) (es : Rows) → IsStrictlySortedBy key_cmp (keys_of es) → IsStrictlySortedBy key_cmp (keys_of (rows_at es v))
+unfolding IsStrictlySortedBy
+rows_ascend v [] h = tt
+rows_ascend v (e ∷ es) h = by_item (item_at e.1 v) (rows_ascend v es h.1) (above es h.0)
+  where
+    above : (es : Rows) → AllByRecursion (λ y. key_cmp e.0 y ≡ Less) (keys_of es) → AllByRecursion (λ y. key_cmp e.0 y ≡ Less) (keys_of (rows_at es v))
+    above [] h = tt
+    above (f ∷ es) h = either (item_at f.1 v) h.0 (above es h.1)
+      where
+        either : (o : Option Item) → key_cmp e.0 f.0 ≡ Less → AllByRecursion (λ y. key_cmp e.0 y ≡ Less) (keys_of (rows_at es v)) → AllByRecursion (λ y. key_cmp e.0 y ≡ Less) (keys_of (cons_option (option_map (λ i. (f.0, i)) o) (rows_at es v)))
+        either None here rest = rest
+        either (Some i) here rest = (here, rest)
+
+    by_item : (o : Option Item) → IsStrictlySortedBy key_cmp (keys_of (rows_at es v)) → AllByRecursion (λ y. key_cmp e.0 y ≡ Less) (keys_of (rows_at es v)) → IsStrictlySortedBy key_cmp (keys_of (cons_option (option_map (λ i. (e.0, i)) o) (rows_at es v)))
+    by_item None rest first = rest
+    by_item (Some i) rest first = (first, rest)
+
+-- a view's rows are those of entries in order
+rows_stored : (g : Gazetteer) (es : Rows) (v : ℕ) → finite.from_entries es ≡ g → IsStrictlySortedBy key_cmp (keys_of es) → rows_at es v ≡ entries (view_at g v)
+unfolding view_at
+rows_stored g es v is h =
+    sym (entries_tree (λ a b. refl) keys_total (rows_at es v) (rows_ascend v es h))
+    ∙ ap (λ (l : Rows). finite.entries (finite.from_entries {R = key_cmp} (rows_at l v))) (sym (entries_tree (λ a b. refl) keys_total es h))
+    ∙ ap (λ (h : Gazetteer). finite.entries (finite.from_entries {R = key_cmp} (rows_at (finite.entries h) v))) is
+
+-- the keys are those that are given versions
+keys_with : (ks : List Key) (es : Rows) → keys_of (with_versions ks es) ≡ ks
+keys_with [] es = refl
+keys_with (k ∷ ks) es = ap (λ l. k ∷ l) (keys_with ks es)
+
+found_with : (ks : List Key) (es : Rows) (q : Key) → stored (with_versions ks es) q ≡ cond (has ks q) (Some (versions_among es q)) None
+found_with [] es q = refl
+found_with (k ∷ ks) es q = by_same (found_with ks es q) (eq_by_cmp key_cmp q k) refl
+  where
+    by_same : stored (with_versions ks es) q ≡ cond (has ks q) (Some (versions_among es q)) None → (b : Bool) → eq_by_cmp key_cmp q k ≡ b → cond b (Some (versions_among es k)) (stored (with_versions ks es) q) ≡ cond (b || has ks q) (Some (versions_among es q)) None
+    by_same rest true at = ap (λ (x : Key). Some (versions_among es x)) (sym (same_key q k at))
+    by_same rest false at = rest
+
+-- entries in the order of their keys are the same finite map
+in_their_order : (ks : List Key) (es : Rows) → HasJustTheKeysOf ks es → finite.from_entries {R = key_cmp} (with_versions ks es) ≡ finite.from_entries es
+in_their_order ks es just =
+    finite.same_map keys_total keys_exact _ _ (λ q.
+    get_tree (λ a b. refl) keys_total (with_versions ks es) q ∙ found_with ks es q ∙ ap (λ b. cond b (Some (versions_among es q)) None) (just q) ∙ either (stored es q) ∙ sym (get_tree (λ a b. refl) keys_total es q))
+  where
+    either : (o : Option Versions) → cond (is_some o) (Some (unwrap_or o [])) None ≡ o
+    either None = refl
+    either (Some vs) = refl
+
+pub page_stored : (g : Gazetteer) (ks : List Key) (es : Rows) (v : ℕ) (kind : Kind) (after : Option Key) (most : ℕ) → finite.from_entries es ≡ g → HasJustTheKeysOf ks es → IsStrictlySortedBy key_cmp ks
+    → take most (map (λ (e : Key × Item). e.1) (filter (λ (e : Key × Item). is_of kind e.0 && comes_after after e.0) (rows_at (with_versions ks es) v))) ≡ page (view_at g v) kind after most
+page_stored g ks es v kind after most is just h =
+    ap (λ (l : List (Key × Item)). take most (map (λ e. e.1) (filter (λ e. is_of kind e.0 && comes_after after e.0) l)))
+    (rows_stored g (with_versions ks es) v (in_their_order ks es just ∙ is) (subst (λ (l : List Key). IsStrictlySortedBy key_cmp l) (sym (keys_with ks es)) h))

@@ -1,0 +1,11 @@
+use Rattle.std.proofs.Common.{◌∙◌, ap, sym}
+use Rattle.std.specs.FinMap as finite
+use Rattle.gaz_ledger.proofs.Gazetteers.{get_at}
+use Rattle.gaz_ledger.proofs.Ledgers.{seen}
+use Rattle.gaz_ledger.specs.View.{View}
+use Rattle.gaz_ledger.proofs.ledger.Ledger.item.Goals as goal
+
+pub returns : goal.returns
+returns c =
+    c.item.ensures ∙ sym (get_at c.self.inside.histories c.args.volume c.args.key.now)
+    ∙ ap (λ (w : View). finite.get w.items c.args.key.now) (seen c.self.inside.verdicts.items c.self.inside.histories c.args.self.now c.self.invariant.within c.self.view_is c.args.volume)

@@ -1,0 +1,29 @@
+use Rattle.std.proofs.Common.{◌∙◌, ap, map}
+use Rattle.std.specs.Prelude.{filter}
+use Rattle.gaz_ledger.proofs.Gazetteers.{view_ascends}
+use Rattle.gaz_ledger.proofs.Marked.{in_key_order}
+use Rattle.gaz_ledger.proofs.Ledgers.{finds_from, seen}
+use Rattle.gaz_ledger.proofs.Marked.{marked_under, nothing_under}
+use Rattle.gaz_ledger.specs.Gazetteer.{view_at}
+use Rattle.gaz_ledger.specs.Indexes.{has_mark, listed}
+use Rattle.gaz_ledger.specs.View.{View}
+use Rattle.gaz_ledger.specs.Words.{entries}
+use Rattle.gaz_ledger.proofs.ledger.Ledger.keys_of.Goals as goal
+
+pub returns-in_ok-keys_marked-in-Some : goal.returns-in_ok-keys_marked-in-Some
+returns-in_ok-keys_marked-in-Some c =
+    let ds = c.self.inside.verdicts.items in
+    let g = c.self.inside.histories in
+    let v = view_at g c.args.volume in
+    let finds = finds_from ds g c.self.inside.index c.self.inside.touched.items c.args.self.now c.self.invariant c.self.view_is c.args.volume c.requires in
+    c.in_ok-keys_marked-in-Some.ensures ∙ marked_under c.self.inside.index (entries v) c.args.mark (view_ascends v) finds (listed c.in-Some.keys.now) (in_key_order _ c.in_order.ensures) c.in-Some.ensures
+    ∙ ap (λ (w : View). map (λ e. e.0) (filter (λ e. has_mark c.args.mark e.1) (entries w))) (seen ds g c.args.self.now c.self.invariant.within c.self.view_is c.args.volume)
+
+pub returns-in-None : goal.returns-in-None
+returns-in-None c =
+    let ds = c.self.inside.verdicts.items in
+    let g = c.self.inside.histories in
+    let v = view_at g c.args.volume in
+    let finds = finds_from ds g c.self.inside.index c.self.inside.touched.items c.args.self.now c.self.invariant c.self.view_is c.args.volume c.requires in
+    c.new.ensures.items ∙ nothing_under c.self.inside.index (entries v) c.args.mark (view_ascends v) finds c.in-None.ensures
+    ∙ ap (λ (w : View). map (λ e. e.0) (filter (λ e. has_mark c.args.mark e.1) (entries w))) (seen ds g c.args.self.now c.self.invariant.within c.self.view_is c.args.volume)

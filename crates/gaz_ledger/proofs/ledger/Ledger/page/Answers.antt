@@ -1,0 +1,9 @@
+use Rattle.std.proofs.Common.{◌∙◌, ap}
+use Rattle.gaz_ledger.proofs.Ledgers.{seen}
+use Rattle.gaz_ledger.specs.View.{View}
+use Rattle.gaz_ledger.specs.Words.{page}
+use Rattle.gaz_ledger.proofs.ledger.Ledger.page.Goals as goal
+
+pub returns : goal.returns
+returns c =
+    c.in_ok-page.ensures ∙ ap (λ (w : View). page w c.args.kind c.args.after c.args.most) (seen c.self.inside.verdicts.items c.self.inside.histories c.args.self.now c.self.invariant.within c.self.view_is c.args.volume)

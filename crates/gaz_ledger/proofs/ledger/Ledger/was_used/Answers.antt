@@ -1,0 +1,10 @@
+use Rattle.std.proofs.Common.{◌∙◌, ap, sym}
+use Rattle.gaz_ledger.proofs.Gazetteers.{contains_at}
+use Rattle.gaz_ledger.proofs.Ledgers.{seen}
+use Rattle.gaz_ledger.specs.View.{View, was_used}
+use Rattle.gaz_ledger.proofs.ledger.Ledger.was_used.Goals as goal
+
+pub returns : goal.returns
+returns c =
+    c.was_used.ensures ∙ sym (contains_at c.self.inside.histories c.args.volume c.args.key.now)
+    ∙ ap (λ (w : View). was_used w c.args.key.now) (seen c.self.inside.verdicts.items c.self.inside.histories c.args.self.now c.self.invariant.within c.self.view_is c.args.volume)

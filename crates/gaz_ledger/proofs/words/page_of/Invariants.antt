@@ -1,0 +1,14 @@
+-- The items so far and those of what is left are those of all.
+use Rattle.std.proofs.Common.{◌≡◌, ◌≤◌, ◌++◌, map, length}
+use Rattle.std.specs.Prelude.{◌&&◌, filter}
+use Rattle.gaz_ledger.specs.Gazetteer.{rows_at, with_versions}
+use Rattle.gaz_ledger.specs.Words.{comes_after, is_of}
+use Rattle.gaz_ledger.proofs.Marked.{Ascends}
+use Rattle.gaz_ledger.proofs.words.page_of.Given as goal
+
+abbrev pub invariant-loop-key : goal.invariant-loop-key
+invariant-loop-key l = record {
+  told : l.found.items ++ map (λ e. e.1) (filter (λ e. is_of l.kind e.0) (rows_at (with_versions l.key-iterator l.histories.entries) l.volume)) ≡ map (λ e. e.1) (filter (λ e. is_of l.kind e.0 && comes_after l.fn.after e.0) (rows_at (with_versions l.order.keys l.histories.entries) l.volume));
+  few : length l.found.items ≤ l.most;
+  ascend : Ascends l.key-iterator;
+}

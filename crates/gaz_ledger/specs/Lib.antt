@@ -1,0 +1,10 @@
+pub mod View
+pub mod Words
+pub mod Reading
+pub mod Indexes
+pub mod ViewCode
+pub mod Judgements
+pub mod Gazetteer
+pub mod Ledgers
+pub mod Properties
+pub mod Examples

@@ -1,0 +1,165 @@
+//! What stood at each key through the volumes of a gazetteer.
+ghost use Rattle.std.specs.Prelude.{◌≡◌, ◌⊎◌, ◌++◌, ◌∷◌, [], true, false, IfOk, IsOk, OnOk, OnErr, Some, option_map};
+ghost use Rattle.std.specs.Bool.{OnTrue};
+ghost use Rattle.std.specs.Option.{option_map_or};
+ghost use Rattle.std.specs.FinMap as finite;
+ghost use Rattle.gaz_histories.specs.Histories.{before, item_at, was_used_at};
+ghost use Rattle.gaz_records.specs.declared.key.Key.{Key};
+ghost use Rattle.gaz_ledger.specs.Gazetteer.{ChangesAt, versions_at, view_at};
+ghost use Rattle.gaz_ledger.specs.Indexes.{has_mark, marked_at};
+ghost use Rattle.gaz_ledger.specs.Words.{entries, page};
+ghost use Rattle.gaz_ledger.specs.declared.index.Mark.{Mark};
+
+use crate::index::{Marks, marks_of};
+use crate::seed::Seed;
+use crate::words::{in_order, page_of};
+use gaz_histories::History;
+use gaz_records::{Key, Kind, SharedItem, SortKey};
+use std::alloc::{AllocError, Global};
+use std::collections::hash_map::Entry;
+use std::collections::{BTreeSet, HashMap};
+use std::marker::Model;
+
+/// The history of each key that was ever used.
+#[derive(Drop)]
+pub struct Histories {
+    alloc: Global,
+    by_key: HashMap<SortKey, History, Seed>,
+    // The same keys, in their order: pages go by it, and all else by the hashes.
+    order: BTreeSet<SortKey>,
+}
+
+impl Model for Histories {
+    ghost use Rattle.std.specs.FinMap as finite;
+    ghost use Rattle.gaz_ledger.specs.Gazetteer.{Gazetteer, HasJustTheKeysOf};
+    ghost use Rattle.gaz_ledger.specs.ViewCode.{gazetteer_code};
+
+    ghost Value = { Gazetteer };
+
+    ghost coded = { gazetteer_code };
+
+    ghost view = { λ h. finite.from_entries h.by_key.entries };
+
+    ghost invariant = { λ h. HasJustTheKeysOf h.order.keys h.by_key.entries };
+}
+
+impl Histories {
+    /// No key was used.
+    pub fn new(alloc: Global, seed: Seed) -> Histories
+        ensures { result ≡ finite.empty }
+    {
+        Histories {
+            alloc,
+            by_key: HashMap::with_hasher(alloc, seed),
+            order: BTreeSet::new(alloc),
+        }
+    }
+
+    /// The item at a key after a volume.
+    pub fn item(&self, volume: u64, key: &Key) -> Option<&SharedItem>
+        ensures { option_map (λ i. i.now) result ≡ item_at (versions_at self.now key.now) volume }
+    {
+        match self.by_key.get(&SortKey::of(key)) {
+            Some(history) => history.item_at(volume),
+            None => None,
+        }
+    }
+
+    /// Whether the key was used at a volume or before it.
+    pub fn was_used(&self, volume: u64, key: &Key) -> bool
+        ensures { result ≡ was_used_at (versions_at self.now key.now) volume }
+    {
+        match self.by_key.get(&SortKey::of(key)) {
+            Some(history) => history.was_used(volume),
+            None => false,
+        }
+    }
+
+    /// The first `most` items of a kind after a key, or from the start, in key order, after a volume.
+    pub fn page(
+        &self,
+        alloc: Global,
+        volume: u64,
+        kind: Kind,
+        after: Option<Key>,
+        most: usize,
+    ) -> Result<Vec<SharedItem>, AllocError>
+        ensures { IfOk result (λ items. items.items ≡ page (view_at self.now volume) kind after most) }
+    {
+        in_order(&self.order);
+        Ok(page_of(alloc, &self.order, &self.by_key, volume, kind, after, most)?)
+    }
+
+    /// From a volume on this item stands at a key, or none any more. What began there at the volume or after it is
+    /// forgotten. Answers the marks of the item that stood there.
+    pub fn set(
+        &mut self,
+        volume: u64,
+        key: Key,
+        item: Option<SharedItem>,
+    ) -> Result<Marks, AllocError>
+        ensures ok { OnOk result (ChangesAt self.old self.new key (before (versions_at self.old key) volume ++ (volume, item) ∷ [])) }
+        ensures err { OnErr result (self.new ≡ self.old) }
+        ensures marks { IfOk result (λ was. (m : Mark) → marked_at (entries (view_at self.old volume)) m key ≡ true → (was.0 ≡ Some m) ⊎ (was.1 ≡ Some m)) }
+    {
+        let key = SortKey::of(&key);
+        match self.by_key.entry(key)? {
+            Entry::Occupied(entry) => Ok(set_in(entry.into_mut(), volume, item)?),
+            Entry::Vacant(entry) => {
+                let Ok(_) = self.order.insert(key) else {
+                    // The map is given back as it was.
+                    entry.into_key();
+                    return Err(AllocError);
+                };
+                Ok(set_in(entry.insert(History::new(self.alloc)), volume, item)?)
+            }
+        }
+    }
+
+    /// Forgets what began at a key at a volume or after it.
+    pub fn cut(&mut self, volume: u64, key: &Key)
+        ensures { ChangesAt self.old self.new key.now (before (versions_at self.old key.now) volume) }
+    {
+        if self.cut_there(volume, key) {
+            // Keeps nothing of a key that was never used.
+            let key = SortKey::of(key);
+            self.by_key.remove(&key);
+            self.order.remove(&key);
+        }
+    }
+
+    // The same, and answers whether a history without versions is left.
+    fn cut_there(&mut self, volume: u64, key: &Key) -> bool
+        ensures changes { ChangesAt self.old self.new key.now (before (versions_at self.old key.now) volume) }
+        ensures empty { OnTrue result (versions_at self.new key.now ≡ []) }
+    {
+        let Some(history) = self.by_key.get_mut(&SortKey::of(key)) else {
+            return false;
+        };
+        history.cut(volume);
+        history.is_empty()
+    }
+}
+
+// From a volume on this item stands in a history, or none any more. Answers the marks of the item that stood there. The
+// first version of all needs no memory.
+fn set_in(history: &mut History, volume: u64, item: Option<SharedItem>) -> Result<Marks, AllocError>
+    ensures ok { OnOk result (history.new ≡ before history.old volume ++ (volume, item) ∷ []) }
+    ensures err { OnErr result (history.new ≡ history.old) }
+    ensures first { history.old ≡ [] → IsOk result }
+    ensures marks { IfOk result (λ was. (m : Mark) → option_map_or (has_mark m) (item_at history.old volume) false ≡ true → (was.0 ≡ Some m) ⊎ (was.1 ≡ Some m)) }
+{
+    let was = marks_in(history, volume);
+    history.set(volume, item)?;
+    Ok(was)
+}
+
+// The marks of the item that a history has after a volume.
+fn marks_in(history: &History, volume: u64) -> Marks
+    ensures { (m : Mark) → option_map_or (has_mark m) (item_at history.now volume) false ≡ true → (result.0 ≡ Some m) ⊎ (result.1 ≡ Some m) }
+{
+    match history.item_at(volume) {
+        Some(item) => marks_of(item),
+        None => (None, None),
+    }
+}

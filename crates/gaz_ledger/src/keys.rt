@@ -1,0 +1,98 @@
+//! The keys that are found under one mark.
+ghost use Rattle.std.specs.Prelude.{◌≡◌, ◌&&◌, ◌||◌, ◌∷◌, [], false, not, OnOk, OnErr, IfOk, IsTrue, ◌↔◌};
+ghost use Rattle.std.specs.List.Sorted.{IsStrictlySortedBy};
+ghost use Rattle.std.specs.Ordering.{eq_by_cmp};
+ghost use Rattle.gaz_records.specs.Keys.{key_cmp};
+ghost use Rattle.gaz_records.specs.declared.key.Key.{Key};
+ghost use Rattle.gaz_ledger.specs.Indexes.{has_key, listed};
+
+use gaz_records::Key;
+use std::alloc::{AllocError, Global};
+use std::collections::BTreeSet;
+
+/// The keys under a mark. Mostly there is one, which then takes no memory of its own.
+#[derive(Drop)]
+pub enum Keys {
+    /// This key alone.
+    One(Key),
+    /// None, one or more.
+    Many(BTreeSet<Key>),
+}
+
+impl Keys {
+    /// This key alone.
+    pub fn one(key: Key) -> Keys
+        ensures { listed result ≡ key ∷ [] }
+    {
+        Keys::One(key)
+    }
+
+    /// Adds a key. Where memory runs out, the keys are as they were, and only for a key that is new.
+    pub fn insert(&mut self, alloc: Global, key: Key) -> Result<(), AllocError>
+        ensures ok { OnOk result ((k : Key) → has_key (listed self.new) k ≡ (eq_by_cmp key_cmp key k || has_key (listed self.old) k)) }
+        ensures err { OnErr result (listed self.new ≡ listed self.old) }
+        ensures absent { OnErr result (has_key (listed self.old) key ≡ false) }
+    {
+        match self {
+            Keys::One(one) => {
+                if one.compare(&key).is_eq() {
+                    return Ok(());
+                }
+                let both = both_of(alloc, *one, key)?;
+                *self = Keys::Many(both);
+            }
+            Keys::Many(keys) => {
+                keys.insert(key)?;
+            }
+        }
+        Ok(())
+    }
+
+    /// Takes a key out, where it is there.
+    pub fn remove(&mut self, alloc: Global, key: &Key)
+        ensures { (k : Key) → has_key (listed self.new) k ≡ (not (eq_by_cmp key_cmp key.now k) && has_key (listed self.old) k) }
+    {
+        match self {
+            Keys::One(one) => {
+                if one.compare(key).is_eq() {
+                    *self = Keys::Many(BTreeSet::new(alloc));
+                }
+            }
+            Keys::Many(keys) => {
+                keys.remove(key);
+            }
+        }
+    }
+
+    /// Whether there are none.
+    pub fn is_empty(&self) -> bool
+        ensures { IsTrue result ↔ (listed self.now ≡ []) }
+    {
+        match self {
+            Keys::One(_) => false,
+            Keys::Many(keys) => keys.is_empty(),
+        }
+    }
+
+    /// The keys stand in their order.
+    pub fn in_order(&self)
+        ensures { IsStrictlySortedBy ⟦<Key as Ord>⟧.cmp (listed self.now) }
+    {
+        match self {
+            Keys::One(_) => {}
+            Keys::Many(keys) => {
+                let _count = keys.len();
+            }
+        }
+    }
+}
+
+// Two keys.
+fn both_of(alloc: Global, one: Key, other: Key) -> Result<BTreeSet<Key>, AllocError>
+    ensures { IfOk result (λ keys. (k : Key) → has_key keys.keys k ≡ (eq_by_cmp key_cmp other k || has_key (one ∷ []) k)) }
+{
+    let mut both = BTreeSet::new(alloc);
+    both.insert(one)?;
+    both.insert(other)?;
+    Ok(both)
+}
