@@ -1,5 +1,5 @@
 -- What is read of a custodian of which nothing is kept.
-use Rattle.std.proofs.Common.{◌≡◌, ◌∙◌, ◌&&◌, ℕ, zero, suc, false, List, [], ◌∷◌, map, take, refl, sym, ap}
+use Rattle.std.proofs.Common.{◌≡◌, ◌∙◌, ◌&&◌, ℕ, zero, suc, false, List, [], map, take, refl, sym, ap}
 use Rattle.std.specs.Prelude.{Option, None, filter, option_map}
 use Rattle.std.specs.FinMap as finite
 use Rattle.std.specs.FinSet as set

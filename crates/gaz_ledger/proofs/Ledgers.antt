@@ -130,14 +130,6 @@ ledger_new x =
     finds_none : (v : ℕ) → FindsAll x (entries (view_at finite.empty v))
     finds_none v = finds_by x (view_at finite.empty v) (λ m k. subst (Found x m k) (sym (get_at finite.empty v k ∙ ap (λ vs. item_at vs v) (nothing_there k))) tt)
 
-pub ledger_pushed : (n : ℕ) (g : Gazetteer) (x y : Index) (ks ls : List Key) (key : Key) → IsLedger n g x ks → Finds y g n → ls ≡ ks ++ key ∷ [] → IsLedger n g y ls
-ledger_pushed n g x y ks ls key was finds is =
-    record {
-      finds = finds;
-      within = was.within;
-      touched = λ k none. was.touched k (none_of (eq_by_cmp key_cmp k) ks key (ap (list_any (eq_by_cmp key_cmp k)) (sym is) ∙ none)).0;
-    }
-
 pub ledger_set : (n : ℕ) (g h : Gazetteer) (x y : Index) (ks ls : List Key) (key : Key) (o : Option Item) → IsLedger n g x ks → Finds y h n → ls ≡ ks ++ key ∷ []
     → ChangesAt g h key (before (versions_at g key) (n + 1) ++ (n + 1, o) ∷ []) → IsLedger n h y ls
 ledger_set n g h x y ks ls key o was finds is change =

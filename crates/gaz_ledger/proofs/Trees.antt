@@ -1,13 +1,12 @@
 -- Tree maps and tree sets, kept in an order S that is R at all keys, as finite maps and sets.
-use Rattle.std.proofs.Common.{◌≡◌, Bool, true, false, cond, ◌||◌, List, [], ◌∷◌, length, refl, sym, ap, ◌∙◌, arith}
-use Rattle.std.specs.Prelude.{Some, None}
+use Rattle.std.proofs.Common.{◌≡◌, cond, ◌||◌, List, [], ◌∷◌, length, refl, sym, ap, ◌∙◌, arith}
+use Rattle.std.specs.Prelude.{Some}
 use Rattle.std.specs.List.{list_any}
 use Rattle.std.specs.declared.cmp.Ordering.{Ordering}
 use Rattle.std.specs.declared.cmp.Ordering.TheVariants.{Equal}
 use Rattle.std.specs.Ordering.{eq_by_cmp, is_eq}
 use Rattle.std.specs.Cmp.{IsTotalOrder, eq_by_cmp_equiv}
 use Rattle.std.specs.FinMap as map
-use Rattle.std.specs.FinSet as set
 use Rattle.std.specs.BTreeMap.{is_at}
 use Rattle.std.specs.Map.{lookup, keys_of}
 use Rattle.std.specs.List.Sorted.{IsStrictlySortedBy}
@@ -29,35 +28,10 @@ module _ {K X : Type 0} {R S : K → K → Ordering} (same : (a b : K) → S a b
       get_tree o fs q ∙ h q ∙ ap (λ r. cond (is_eq r) (Some v) (lookup (is_at (S q)) es)) (same k q) ∙ ap (λ b. cond b (Some v) (lookup (is_at (S q)) es)) ((eq_by_cmp_equiv o).symm k q)
       ∙ sym (map.get-insert o (map.from_entries es) k v q ∙ ap (cond (eq_by_cmp R q k) (Some v)) (get_tree o es q)))
 
-  -- a tree map that has nothing at one key
-  pub removed : IsTotalOrder R → ((a b : K) → R a b ≡ Equal → a ≡ b) → (es fs : List (K × X)) (k : K)
-      → ((q : K) → lookup (is_at (S q)) fs ≡ cond (is_at (S k) q) None (lookup (is_at (S q)) es))
-      → map.from_entries {R = R} fs ≡ map.remove (map.from_entries es) k
-  removed o exact es fs k h = map.same_map o exact _ _ (λ q.
-      get_tree o fs q ∙ h q ∙ ap (λ r. cond (is_eq r) None (lookup (is_at (S q)) es)) (same k q) ∙ ap (λ b. cond b None (lookup (is_at (S q)) es)) ((eq_by_cmp_equiv o).symm k q)
-      ∙ sym (map.get-remove o (map.from_entries es) k q ∙ ap (cond (eq_by_cmp R q k) None) (get_tree o es q)))
-
-or_cond : (a b : Bool) → cond a true b ≡ (a || b)
-or_cond true b = refl
-or_cond false b = refl
-
 module _ {K : Type 0} {R S : K → K → Ordering} (same : (a b : K) → S a b ≡ R a b) where
   pub any-is : (ks : List K) (q : K) → list_any (eq_by_cmp R q) ks ≡ list_any (is_at (S q)) ks
   any-is [] q = refl
   any-is (k ∷ ks) q = ap (λ r. is_eq r || list_any (eq_by_cmp R q) ks) (sym (same q k)) ∙ ap (λ b. is_at (S q) k || b) (any-is ks q)
-
-  -- what the finite set of a tree set has
-  pub contains_tree : IsTotalOrder R → (ks : List K) (q : K) → set.contains (set.from_list {R = R} ks) q ≡ list_any (is_at (S q)) ks
-  contains_tree o ks q = set.contains-from_list o ks q ∙ any-is ks q
-
-  -- a tree set that has one key more
-  pub marked : IsTotalOrder R → ((a b : K) → R a b ≡ Equal → a ≡ b) → (ks ls : List K) (k : K)
-      → ((q : K) → list_any (is_at (S q)) ls ≡ cond (is_at (S k) q) true (list_any (is_at (S q)) ks))
-      → set.from_list {R = R} ls ≡ set.insert (set.from_list ks) k
-  marked o exact ks ls k h = set.same_set o exact _ _ (λ q.
-      contains_tree o ls q ∙ h q ∙ or_cond (is_at (S k) q) (list_any (is_at (S q)) ks) ∙ ap (λ r. is_eq r || list_any (is_at (S q)) ks) (same k q)
-      ∙ ap (λ b. b || list_any (is_at (S q)) ks) ((eq_by_cmp_equiv o).symm k q)
-      ∙ sym (set.contains-insert o (set.from_list ks) k q ∙ ap (λ b. eq_by_cmp R q k || b) (contains_tree o ks q)))
 
 -- ---- the entries of a tree map whose keys ascend
 

@@ -17,9 +17,6 @@ tie c q = grind (arith, nat_tests)
 same_code : (q c : ℕ) → (q == c) ≡ true → q ≡ c
 same_code q c e = grind (arith, nat_tests)
 
-itself : (c : ℕ) → (c == c) ≡ true
-itself c = grind (arith, nat_tests)
-
 abbrev Changes : List (ℕ × Account) → List (ℕ × Account) → ℕ → Account → Type 0
 Changes es fs c a = (q : ℕ) → lookup (is_at (nat_cmp q)) fs ≡ cond (is_at (nat_cmp c) q) (Some a) (lookup (is_at (nat_cmp q)) es)
 
@@ -29,10 +26,6 @@ changed es fs c a h q = ap (λ o. unwrap_or o empty_account) (h q ∙ ap (λ b. 
     of_cond : (b : Bool) → unwrap_or (cond b (Some a) (lookup (is_at (nat_cmp q)) es)) empty_account ≡ cond b a (account_of es q)
     of_cond true = refl
     of_cond false = refl
-
--- the custodian's account
-pub account_now : (es fs : List (ℕ × Account)) (c : ℕ) (a : Account) → Changes es fs c a → account_of fs c ≡ a
-account_now es fs c a h = changed es fs c a h c ∙ ap (λ b. cond b a (account_of es c)) (itself c)
 
 judged_cond : (b : Bool) (a d : Account) → (cond b a d).judged ≡ cond b a.judged d.judged
 judged_cond true a d = refl
