@@ -17,6 +17,3 @@ mod supply;
 
 pub use conversation::{Ended, Served, Stopped, converse};
 pub use supply::Cause;
-
-#[cfg(test)]
-mod tests;

@@ -15,6 +15,3 @@ pub use address::{AddressLine, line};
 pub use closed::{Closed, closed_streets};
 pub use extracts::extract;
 pub use found::{Found, lookup};
-
-#[cfg(test)]
-mod tests;

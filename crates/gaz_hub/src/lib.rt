@@ -18,10 +18,3 @@ pub use hub::Hub;
 pub use outcome::Outcome;
 pub use refusal::Refusal;
 pub use standing::Standing;
-
-#[cfg(test)]
-mod failing;
-#[cfg(test)]
-mod reading_tests;
-#[cfg(test)]
-mod tests;

@@ -20,8 +20,3 @@ pub use mem_shelf::MemShelf;
 pub use reading::read_kind;
 pub use shelf::{Inbox, Shelf};
 pub use writing::{Ending, put_all, write_volume};
-
-#[cfg(test)]
-mod faulty_tests;
-#[cfg(test)]
-mod tests;

@@ -1,7 +1,7 @@
 ghost use Rattle.std.specs.Prelude.{◌≡◌, OnOk};
 ghost use Rattle.gaz_shelf.specs.Keeper.{Idle};
 
-use crate::{closed_streets, extract, line, lookup};
+use gaz_extract::{closed_streets, extract, line, lookup};
 use gaz_ids::{Code, Status, Uprn, Volume};
 use gaz_records::{Item, Kind, SharedItem, item_of_text};
 use gaz_register::Register;

@@ -1,12 +1,12 @@
 ghost use Rattle.std.specs.Prelude.{◌≡◌, ◌≤◌, OnOk};
 ghost use Rattle.gaz_shelf.specs.Keeper.{Idle};
 
-use crate::{
+use gaz_ids::{Code, Lang, Uprn, Usrn, Volume};
+use gaz_records::{Key, Kind, RecordKey, SharedItem, item_of_text, item_text};
+use gaz_shelf::{
     Ending, Faulty, Inbox, MemShelf, Property, Seed, Shelf, ShelfFault, Verdict, read_kind,
     write_volume,
 };
-use gaz_ids::{Code, Lang, Uprn, Usrn, Volume};
-use gaz_records::{Key, Kind, RecordKey, SharedItem, item_of_text, item_text};
 use std::alloc::Global;
 use std::process::Abort;
 use std::test::Fail;

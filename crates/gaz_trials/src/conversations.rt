@@ -4,7 +4,7 @@ ghost use Rattle.std.specs.Prelude.{IfOk};
 ghost use Rattle.gaz_shelf.specs.Keeper.{IsNotOpen};
 ghost use Rattle.gaz_shelf.specs.Mem.{seen_in};
 
-use crate::{Cause, Ended, Served, Stopped, converse};
+use gaz_exchange::{Cause, Ended, Served, Stopped, converse};
 use gaz_hub::Hub;
 use gaz_register::{RegFault, Register};
 use gaz_shelf::{MemShelf, Seed};

@@ -4,7 +4,7 @@ ghost use Rattle.gaz_shelf.specs.Keeper.{IsNotOpen, Seen};
 ghost use Rattle.gaz_shelf.specs.Faulting.{progress_around};
 ghost use Rattle.gaz_shelf.specs.Mem.{seen_in};
 
-use crate::{Hub, Refusal};
+use gaz_hub::{Hub, Refusal};
 use gaz_ids::{Code, Status, Uprn, Volume};
 use gaz_register::Register;
 use gaz_shelf::{Faulty, Inbox, MemShelf, Seed, Shelf, ShelfFault};

@@ -2,7 +2,7 @@ ghost use Rattle.std.specs.Prelude.{IfOk};
 ghost use Rattle.gaz_shelf.specs.Keeper.{IsNotOpen};
 ghost use Rattle.gaz_shelf.specs.Mem.{seen_in};
 
-use crate::{Answer, Digest, Hub, Outcome, Refusal, Standing};
+use gaz_hub::{Answer, Digest, Hub, Outcome, Refusal, Standing};
 use gaz_ids::{Code, Volume};
 use gaz_register::{RegFault, Register};
 use gaz_shelf::{MemShelf, Seed};

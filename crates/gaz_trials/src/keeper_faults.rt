@@ -3,9 +3,9 @@ ghost use Rattle.std.specs.Prelude.{IfOk};
 ghost use Rattle.gaz_shelf.specs.Keeper.{IsNotOpen};
 ghost use Rattle.gaz_shelf.specs.Mem.{progress_of};
 
-use crate::{Call, Calls, Faulty, Inbox, MemShelf, Seed, Shelf, ShelfFault};
 use gaz_ids::{Code, Volume};
 use gaz_records::{Key, Kind, SharedItem, item_of_text};
+use gaz_shelf::{Call, Calls, Faulty, Inbox, MemShelf, Seed, Shelf, ShelfFault};
 use std::alloc::Global;
 use std::process::Abort;
 use std::test::Fail;

@@ -2,8 +2,8 @@
 ghost use Rattle.std.specs.Prelude.{OnOk};
 ghost use Rattle.gaz_shelf.specs.Keeper.{IsNotOpen, Seen};
 
-use crate::tests::{REGISTER, STREET_101, held};
-use crate::{Answer, Hub, Outcome, Refusal};
+use crate::hubs::{REGISTER, STREET_101, held};
+use gaz_hub::{Answer, Hub, Outcome, Refusal};
 use gaz_register::Register;
 use gaz_shelf::{Call, Faulty, Inbox, MemShelf, Seed, ShelfFault};
 use std::process::Abort;
