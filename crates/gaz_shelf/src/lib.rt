@@ -1,4 +1,4 @@
-//! What a hub keeps of each custodian: views and verdicts.
+//! What a hub keeps: received files and boards, and the keepers of them.
 #![tactic(auto)]
 
 mod accounts;
