@@ -11,6 +11,3 @@ mod write;
 pub use number::{HouseDigits, HouseNumber, Range};
 pub use object::{ObjFault, Object};
 pub use text::{Text, TextFault};
-
-#[cfg(test)]
-mod tests;

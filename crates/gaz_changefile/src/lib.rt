@@ -21,8 +21,3 @@ pub use file::{ChangeFile, FileFault};
 pub use profile::profile_of;
 pub use read::read_file;
 pub use write::write_file;
-
-#[cfg(test)]
-mod fixtures;
-#[cfg(test)]
-mod tests;

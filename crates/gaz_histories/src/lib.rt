@@ -5,6 +5,3 @@ mod history;
 pub mod laws;
 
 pub use history::History;
-
-#[cfg(test)]
-mod tests;

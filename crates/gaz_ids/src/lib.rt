@@ -12,6 +12,3 @@ pub use fault::IdFault;
 pub use lang::Lang;
 pub use number::{Code, Number, Order, Uprn, Usrn, Volume};
 pub use status::Status;
-
-#[cfg(test)]
-mod tests;

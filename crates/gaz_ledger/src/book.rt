@@ -113,14 +113,6 @@ impl Book {
     }
 }
 
-#[cfg(test)]
-impl Book {
-    /// Whether a property is at hand.
-    pub fn knows(&self, uprn: Uprn) -> bool {
-        self.known.get(uprn).is_some()
-    }
-}
-
 // Forgets the BLPU of a key.
 fn forget_blpu(known: &mut Properties, changed: &mut Vec<Key>, key: &Key)
     ensures { (n : ℕ) → known_in known.new n ≡ (if is_blpu n key.now then None else known_in known.old n) }

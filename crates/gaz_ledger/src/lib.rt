@@ -19,8 +19,3 @@ pub use ledger::Ledger;
 pub use property::{Property, share_found};
 pub use seed::Seed;
 pub use verdict::Verdict;
-
-#[cfg(test)]
-mod book_tests;
-#[cfg(test)]
-mod ledger_tests;

@@ -30,6 +30,3 @@ pub use shared::{SharedItem, item_in};
 pub use sort_key::SortKey;
 pub use street::Street;
 pub use xref::Xref;
-
-#[cfg(test)]
-mod tests;

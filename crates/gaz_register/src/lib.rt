@@ -16,6 +16,3 @@ pub use block::Block;
 pub use custodian::Custodian;
 pub use fault::RegFault;
 pub use register::Register;
-
-#[cfg(test)]
-mod tests;

@@ -2,10 +2,6 @@
 #![tactic(auto)]
 
 mod end_rules;
-#[cfg(test)]
-mod end_tests;
-#[cfg(test)]
-mod fault_tests;
 mod judging;
 mod key_faults;
 mod known;
@@ -15,7 +11,5 @@ mod name_faults;
 mod record_rules;
 mod rings;
 mod streets;
-#[cfg(test)]
-mod tests;
 
 pub use judging::judge;

@@ -1,6 +1,7 @@
 ghost use Rattle.std.specs.Prelude.{◌≡◌, OnOk};
 ghost use Rattle.gaz_shelf.specs.Keeper.{Idle};
 
+use crate::sample::REGISTER;
 use gaz_extract::{closed_streets, extract, line, lookup};
 use gaz_ids::{Code, Status, Uprn, Volume};
 use gaz_records::{Item, Kind, SharedItem, item_of_text};
@@ -9,25 +10,6 @@ use gaz_shelf::{Ending, Inbox, MemShelf, Seed, write_volume};
 use std::alloc::Global;
 use std::process::Abort;
 use std::test::Fail;
-
-const SAMPLE: &str = r#"[[custodian]]
-code = 1001
-name = "Upper County"
-uprn = [[1, 99999], [999999999000, 999999999999]]
-usrn = [[100, 199], [99999999, 99999999]]
-
-[[custodian]]
-code = 1002
-name = "Lower District"
-uprn = [[100000, 199999]]
-usrn = [[200, 299]]
-
-[[custodian]]
-code = 1003
-name = "Bay District"
-uprn = [[200000, 299999]]
-usrn = [[300, 399]]
-"#;
 
 const FLAT: &str = "L1,42,ENG,1,101,,,,,Flat 2,12,A,14,,,2001-04-01,";
 
@@ -196,7 +178,7 @@ fn lines_join_the_parts_that_are_there(rt: HostRuntime) -> Result<(), Fail> {
 #[test]
 fn look_ups_follow_the_volumes(rt: HostRuntime) -> Result<(), Fail> {
     let alloc = rt.alloc();
-    let register = Register::read(alloc, SAMPLE.as_bytes())?;
+    let register = Register::read(alloc, REGISTER)?;
     let mut shelf = MemShelf::new(alloc, Seed::of(1));
     is_nowhere(&rt, &mut shelf, &register, 42)?;
     let street = (Kind::Street, "101,1,2001-04-01,");
@@ -283,7 +265,7 @@ fn look_ups_follow_the_volumes(rt: HostRuntime) -> Result<(), Fail> {
 #[test]
 fn a_street_closes(rt: HostRuntime) -> Result<(), Fail> {
     let alloc = rt.alloc();
-    let register = Register::read(alloc, SAMPLE.as_bytes())?;
+    let register = Register::read(alloc, REGISTER)?;
     let mut shelf = MemShelf::new(alloc, Seed::of(1));
     let road = [
         (Kind::Street, "150,1,1990-01-01,"),

@@ -2,7 +2,8 @@
 ghost use Rattle.std.specs.Prelude.{OnOk};
 ghost use Rattle.gaz_shelf.specs.Keeper.{IsNotOpen, Seen};
 
-use crate::hubs::{REGISTER, STREET_101, held};
+use crate::hubs::{STREET_101, held};
+use crate::sample::REGISTER;
 use gaz_hub::{Answer, Hub, Outcome, Refusal};
 use gaz_register::Register;
 use gaz_shelf::{Call, Faulty, Inbox, MemShelf, Seed, ShelfFault};

@@ -2,31 +2,13 @@ ghost use Rattle.std.specs.Prelude.{IfOk};
 ghost use Rattle.gaz_shelf.specs.Keeper.{IsNotOpen};
 ghost use Rattle.gaz_shelf.specs.Mem.{seen_in};
 
+use crate::sample::REGISTER;
 use gaz_hub::{Answer, Digest, Hub, Outcome, Refusal, Standing};
 use gaz_ids::{Code, Volume};
 use gaz_register::{RegFault, Register};
 use gaz_shelf::{MemShelf, Seed};
 use std::alloc::Global;
 use std::test::Fail;
-
-pub(crate) const REGISTER: &[u8] = b"[[custodian]]
-code = 1001
-name = \"Upper County\"
-uprn = [[1, 99999]]
-usrn = [[100, 199]]
-
-[[custodian]]
-code = 1002
-name = \"Lower District\"
-uprn = []
-usrn = [[200, 299]]
-
-[[custodian]]
-code = 1003
-name = \"Bay District\"
-uprn = []
-usrn = [[300, 399]]
-";
 
 /// Inserts street 101, as volume 1 of custodian 1001.
 pub(crate) const STREET_101: &[u8] = b"10,1,1001,1,2024-01-02\n11,I,1,101,1,2001-04-01,\n99,1\n";
@@ -41,7 +23,7 @@ const DIGEST: Digest = [
 ];
 
 /// A hub over a keeper of whole maps, that received nothing.
-fn mem_hub(alloc: Global) -> Result<Hub<MemShelf>, RegFault>
+pub(crate) fn mem_hub(alloc: Global) -> Result<Hub<MemShelf>, RegFault>
     ensures { IfOk result (λ hub. IsNotOpen (seen_in hub.keeper).progress) }
 {
     let register = Register::read(alloc, REGISTER)?;

@@ -4,25 +4,13 @@ ghost use Rattle.gaz_shelf.specs.Keeper.{IsNotOpen, Seen};
 ghost use Rattle.gaz_shelf.specs.Faulting.{progress_around};
 ghost use Rattle.gaz_shelf.specs.Mem.{seen_in};
 
+use crate::sample::REGISTER;
 use gaz_hub::{Hub, Refusal};
 use gaz_ids::{Code, Status, Uprn, Volume};
 use gaz_register::Register;
 use gaz_shelf::{Faulty, Inbox, MemShelf, Seed, Shelf, ShelfFault};
 use std::alloc::Global;
 use std::test::Fail;
-
-const REGISTER: &[u8] = b"[[custodian]]
-code = 1001
-name = \"Upper County\"
-uprn = []
-usrn = [[100, 199]]
-
-[[custodian]]
-code = 1002
-name = \"Lower District\"
-uprn = [[100000, 199999]]
-usrn = [[200, 299]]
-";
 
 /// 1001/1: street 150, County Road.
 const COUNTY_ROAD: &[u8] =

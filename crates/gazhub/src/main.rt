@@ -9,21 +9,7 @@ ghost use Rattle.gaz_hub.specs.Step as step;
 ghost use Rattle.gaz_register.specs.Reading.{register_of};
 ghost use Rattle.gazhub.specs.Playing.{Plays};
 
-#[cfg(test)]
-mod answers_fixtures;
-#[cfg(test)]
-mod answers_tests;
-#[cfg(test)]
-mod files_fixtures;
-#[cfg(test)]
-mod files_tests;
-#[cfg(test)]
-mod fixtures;
-#[cfg(test)]
-mod harness;
 mod sample;
-#[cfg(test)]
-mod tests;
 
 use gaz_exchange::{Cause, Served, Stopped, converse};
 use gaz_hub::Hub;

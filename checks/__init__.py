@@ -1,0 +1,1 @@
+"""The repository's gate, behind `./check`."""

@@ -1,0 +1,206 @@
+"""The steps of the gate: proofs, tests and programs; conversations; edits that must fail; and what all of it cost."""
+
+import os
+import re
+import shutil
+import subprocess
+import sys
+import tempfile
+import threading
+from dataclasses import dataclass, field
+from pathlib import Path
+
+from checks import conversations, kit, measure, trying
+
+SAYING = threading.Lock()
+
+
+def say(text: str) -> None:
+    with SAYING:
+        print(text, flush=True)
+
+
+class Usage(Exception):
+    """The gate can't begin: what is wrong, in a line."""
+
+
+@dataclass
+class Account:
+    """What each crate cost, in seconds of a processor, and what passed."""
+
+    proof: dict[str, float] = field(default_factory=dict)
+    tests: dict[str, float] = field(default_factory=dict)
+    edits: dict[str, float] = field(default_factory=dict)
+    rest: float = 0.0
+    peak: int = 0
+    passed: int = 0
+    failed: list[str] = field(default_factory=list)
+
+    def count(self, name: str, is_well: bool) -> None:
+        self.passed += is_well
+        self.failed += [] if is_well else [name]
+
+    def total(self) -> float:
+        return sum(self.proof.values()) + sum(self.tests.values()) + sum(self.edits.values()) + self.rest
+
+    def rows(self, names: list[str]) -> list[str]:
+        """A row a crate, in minutes, and the sums."""
+        columns = (self.proof, self.tests, self.edits)
+        rows = [f"{'processor minutes':22}{'proof':>8}{'tests':>8}{'edits':>8}{'sum':>8}"]
+        for name in names:
+            cost = [it.get(name, 0.0) / 60 for it in columns]
+            rows.append(f"{name:22}" + "".join(f"{it:8.1f}" for it in (*cost, sum(cost))))
+        sums = [sum(it.values()) / 60 for it in columns]
+        rows.append(f"{'all crates':22}" + "".join(f"{it:8.1f}" for it in (*sums, sum(sums))))
+        rows.append(f"{'builds, runs, the rest':46}{self.rest / 60:8.1f}")
+        return [*rows, f"{'all':46}{self.total() / 60:8.1f}"]
+
+
+def copy_of(root: Path, room: Path) -> None:
+    """Copies the files that the repository keeps, or would keep, but no must-fail edits."""
+    words = ["git", "ls-files", "-z", "--cached", "--others", "--exclude-standard"]
+    listed = subprocess.run(words, cwd=root, capture_output=True, check=True).stdout.decode().split("\0")
+    for name in listed:
+        if name and "/must-fail/" not in name and (root / name).is_file():
+            (room / name).parent.mkdir(parents=True, exist_ok=True)
+            shutil.copy2(root / name, room / name)
+
+
+def own_tests(root: Path, account: Account) -> None:
+    """Tests of the gate itself, since a gate that can't fail is worth nothing."""
+    ran, _ = measure.watch([sys.executable, "-m", "unittest", "discover", "-s", "checks", "-t", "."], root, say)
+    account.rest += ran.seconds
+    account.count("the gate's own tests", ran.status == 0)
+
+
+def prove(room: Path, account: Account) -> set[str]:
+    """Everything from nothing, by the kit's own gate: HANDLES, layout, proofs, tests, and the programs by two compilers. The names
+    of the crates that are proved."""
+    ran, costs = measure.watch(["rt", "ci"], room, say)
+    for (name, tests), seconds in costs.seconds.items():
+        column = account.tests if tests else account.proof
+        column[name] = column.get(name, 0.0) + seconds
+    account.rest += max(ran.seconds - sum(costs.seconds.values()), 0.0)
+    account.peak = max(account.peak, costs.peak)
+    passed, _, failed = ran.text.rstrip("\n").rpartition("\n")[2].partition(" passed, ")
+    account.passed += int(passed) if passed.isdigit() else 0
+    account.count("rt ci", ran.status == 0 and failed == "0 failed")
+    return set(re.findall(r"(?m)^rt: (\w+) proved$", ran.text))
+
+
+def converse(program: Path, root: Path, account: Account) -> None:
+    """The conversations, each as one stream and request by request."""
+    for name, how, fault in conversations.run_all(program, root):
+        account.count(f"{name} ({how})", fault is None)
+        if fault:
+            say(f"conversation {name} ({how}): {fault}")
+
+
+def try_edits(crates: list, begin, account: Account) -> None:
+    """Tries the edits of these crates side by side. `begin` fills a crate's folder of kept work, or leaves it empty."""
+    rt = kit.load()
+
+    def work(crate) -> None:
+        with tempfile.TemporaryDirectory(prefix="check-kept-") as kept:
+            begin(crate, Path(kept))
+            outcome = trying.try_crate(crate, Path(kept), say)
+        with SAYING:
+            account.edits[crate.name] = outcome.seconds
+            account.peak = max(account.peak, outcome.peak)
+        for it in outcome.tried:
+            say(f"must-fail {crate.name}/{it.name}: {'refused' if it.is_refused else 'FAILED'}: {it.why}")
+            account.count(f"{crate.name}/{it.name}", it.is_refused)
+
+    having = [it for it in crates if (Path(it.folder) / "must-fail").is_dir()]
+    lines = {it.name: it.count(rb"\n") for it in having}
+    tasks = {it.name: ([], lines[it.name], rt.need(it), lambda given, jobs, it=it: work(it)) for it in having}
+    rt.in_lanes(tasks)
+
+
+def close(names: list[str], account: Account, clock: measure.Clock) -> int:
+    """The last account, and the closing line."""
+    for row in account.rows(names):
+        say(row)
+    cores = len(os.sched_getaffinity(0))
+    say(f"{clock.minutes():.0f} minutes by the clock on {cores} processors; a check took {account.peak / 1e9:.1f} GB at most; {kit.version()}")
+    for it in account.failed:
+        say(f"FAILED: {it}")
+    say(f"{account.passed} passed, {len(account.failed)} failed")
+    return 1 if account.failed else 0
+
+
+def with_edits_of(root: Path, crates: list) -> list:
+    """The crates of the room, each with the edits that its folder in the repository has."""
+    for crate in crates:
+        edits = root / "crates" / crate.name / "must-fail"
+        if edits.is_dir():
+            shutil.copytree(edits, Path(crate.folder) / "must-fail", dirs_exist_ok=True)
+    return crates
+
+
+def whole(root: Path) -> int:
+    """The gate: everything from nothing, in a copy of the tree."""
+    clock, account = measure.Clock(), Account()
+    own_tests(root, account)
+    with tempfile.TemporaryDirectory(prefix="check-tree-") as made:
+        room = Path(made)
+        copy_of(root, room)
+        proved = prove(room, account)
+        crates = kit.crates(room)
+        program = room / "crates" / "gazhub" / "out" / "gazhub"
+        if program.is_file():
+            converse(program, root, account)
+        try_edits(with_edits_of(root, [it for it in crates if it.name in proved]), lambda crate, kept: None, account)
+    return close([it.name for it in crates], account, clock)
+
+
+def chosen(root: Path, names: list[str]) -> list:
+    """The crates of these names. Raises Usage where there is no such crate."""
+    crates = kit.crates(root)
+    unknown = sorted(set(names) - {it.name for it in crates})
+    if unknown:
+        raise Usage(f"crates.txt names no crate {unknown[0]}")
+    return [it for it in crates if it.name in names]
+
+
+def kept_of(crate, kept: Path) -> None:
+    """Begins over a copy of what the crate's own checks kept."""
+    own = Path(crate.folder) / "out" / "incremental"
+    if own.is_dir():
+        shutil.copytree(own, kept, dirs_exist_ok=True)
+
+
+def build_below(crates: list) -> None:
+    """Builds the libraries that these crates stand on, where they have changed."""
+    for crate in crates:
+        for below in crate.below():
+            if below.build_rlib(["--jobs", "2"], anew=False):
+                raise Usage(f"{below.name}, below {crate.name}, isn't proved")
+
+
+def prove_one(crate, account: Account) -> None:
+    """Checks a crate and its tests over what its out/ keeps, and runs what it runs."""
+    steps = [(account.proof, ["rt", "check"])]
+    steps += [(account.tests, ["rt", "test"])] if crate.has_tests() else []
+    for column, words in steps:
+        ran, _ = measure.watch(words, Path(crate.folder), say)
+        column[crate.name] = column.get(crate.name, 0.0) + ran.seconds
+        account.peak = max(account.peak, ran.peak)
+        account.count(f"{crate.name}: {' '.join(words)}", ran.status == 0)
+
+
+def some(root: Path, names: list[str], edits_alone: bool) -> int:
+    """The same for some crates, over what their out/ keeps."""
+    clock, account = measure.Clock(), Account()
+    crates = chosen(root, names)
+    if not edits_alone:
+        for crate in crates:
+            prove_one(crate, account)
+    program = root / "crates" / "gazhub" / "out" / "gazhub"
+    if not edits_alone and "gazhub" in names:
+        ran, _ = measure.watch(["rt", "run"], program.parent.parent, lambda line: None)
+        account.count("gazhub: rt run", ran.status == 0)
+        converse(program, root, account)
+    build_below(crates)
+    try_edits(crates, kept_of, account)
+    return close(names, account, clock)

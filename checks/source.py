@@ -1,0 +1,111 @@
+"""The functions of a formatted source file, as lines: where each stands, and under which path its proof does."""
+
+import re
+from dataclasses import dataclass
+
+HEAD = re.compile(r"(\s*)(?:pub(?:\([a-z ]+\))? )?(?:const )?(?:unsafe )?fn (\w+)")
+IMPL = re.compile(r"impl\b(?:<.*?>(?= ))? (?:!?([\w:]+)(?:<.*>)? for )?([\w:]+)")
+ABOVE = re.compile(r"\s*(#\[|///|//|\)\])")
+CONSTANT = re.compile(r"\s*(?:pub(?:\([a-z ]+\))? )?const (\w+)\b")
+
+
+@dataclass(frozen=True)
+class Function:
+    """A function with its attributes and the comment above it: lines `first` to `last`, from 1."""
+
+    file: str
+    name: str
+    owner: str  # the type of its impl, with the trait behind it where there is one; none for a free function
+    first: int
+    last: int
+
+    def holds(self, line: int) -> bool:
+        return self.first <= line <= self.last
+
+    def proof_folders(self) -> list[str]:
+        """How the folder of its proofs ends, or begins where it is a free function's."""
+        if self.owner:
+            return [f"/{self.owner}/{self.name}/"]
+        return [f"proofs/{folder}{self.name}/" for folder in [module_folder(self.file)]]
+
+    def owns(self, path: str) -> bool:
+        """Whether a file of proofs belongs to it."""
+        wanted = self.proof_folders()[0]
+        return path.startswith("proofs/") and (wanted in path if self.owner else path.startswith(wanted))
+
+
+def module_of(file: str) -> str:
+    """The path of the module that a file of src/ holds, none for the crate's root."""
+    inside = file.removeprefix("src/").removesuffix(".rt").removesuffix("/mod")
+    return "" if inside in ("lib", "main") else inside.replace("/", "::")
+
+
+def module_folder(file: str) -> str:
+    module = module_of(file)
+    return module.replace("::", "/") + "/" if module else ""
+
+
+def is_end(line: str, indent: str, is_open: bool) -> bool:
+    """Whether a function that begins at this indent ends at this line."""
+    if line == indent + "}" or line.endswith("{}") and re.match(indent + r"\S", line):
+        return True
+    return not is_open and line.endswith(";")
+
+
+def opens(line: str, indent: str) -> bool:
+    """Whether the body of a function that begins at this indent begins at this line."""
+    return line == indent + "{" or line.startswith((indent + ")", indent + "fn", indent + "pub")) and line.endswith(" {")
+
+
+def last_line(lines: list[str], start: int, indent: str) -> int:
+    """The index of the line that ends the function that starts at this index."""
+    is_open = False
+    for at in range(start, len(lines)):
+        is_open = is_open or opens(lines[at], indent)
+        if is_end(lines[at], indent, is_open):
+            return at
+    return len(lines) - 1
+
+
+def first_line(lines: list[str], start: int) -> int:
+    """The index of the first of the attributes and comments above the line at this index."""
+    while start and ABOVE.match(lines[start - 1]):
+        start -= 1
+    return start
+
+
+def owner_in(line: str) -> str:
+    """The name under which an impl's functions are proved: the type's, then the trait's."""
+    found = IMPL.match(line)
+    if not found:
+        return ""
+    return found[2].rpartition("::")[2] + (found[1] or "").rpartition("::")[2]
+
+
+def functions(file: str, text: str) -> list[Function]:
+    """The functions of a file, in its order."""
+    lines, found, owner, at = text.split("\n"), [], "", 0
+    while at < len(lines):
+        if lines[at].startswith("impl"):
+            owner = owner_in(lines[at])
+        elif lines[at] == "}":
+            owner = ""
+        head = HEAD.match(lines[at])
+        if head:
+            last = last_line(lines, at, head[1])
+            found.append(Function(file, head[2], owner, first_line(lines, at) + 1, last + 1))
+            at = last
+        at += 1
+    return found
+
+
+def constant_at(text: str, line: int) -> str:
+    """The name of the constant whose definition begins at this line, if one does."""
+    found = CONSTANT.match(text.split("\n")[line - 1])
+    return found[1] if found else ""
+
+
+def names(text: str, function: Function, word: str) -> bool:
+    """Whether a function names a word."""
+    own = "\n".join(text.split("\n")[function.first - 1 : function.last])
+    return bool(re.search(rf"\b{re.escape(word)}\b", own))

@@ -1,0 +1,103 @@
+"""What the gate says of itself: bad input, an interrupt, and its account."""
+
+import os
+import signal
+import subprocess
+import sys
+import tempfile
+import time
+import unittest
+from pathlib import Path
+
+from checks import gate, measure
+from checks.test_trying import RIGHT, small_crate
+
+CHECK = Path(__file__).resolve().parent.parent / "check"
+
+
+def small_tree(root: Path, edits: dict[str, tuple[str, str]] | None = None) -> None:
+    """A repository of one crate with these edits, and no more."""
+    small_crate(root, edits or {})
+    (root / "HANDLES").write_text("Handles allowed: none.\n")
+    subprocess.run(["git", "init", "--quiet"], cwd=root, check=True)
+
+
+def said(words: list[str], root: Path, path: str | None = None) -> tuple[int, str]:
+    env = {**os.environ, **({} if path is None else {"PATH": path})}
+    ran = subprocess.run([sys.executable, CHECK, *words], cwd=root, env=env, capture_output=True, text=True, timeout=60)
+    return ran.returncode, ran.stderr
+
+
+class BadInput(unittest.TestCase):
+    def test_outside_a_repository(self):
+        with tempfile.TemporaryDirectory() as made:
+            status, text = said([], Path(made))
+        self.assertEqual((2, "check: it runs at the top of the repository, where crates.txt stands\n"), (status, text))
+
+    def test_an_unknown_crate(self):
+        with tempfile.TemporaryDirectory() as made:
+            small_tree(Path(made))
+            for words in (["--crate", "large"], ["--edits", "small", "large"]):
+                self.assertEqual((2, "check: crates.txt names no crate large\n"), said(words, Path(made)))
+
+    def test_without_the_kit(self):
+        with tempfile.TemporaryDirectory() as made:
+            small_tree(Path(made))
+            status, text = said([], Path(made), path="/nowhere")
+        self.assertEqual((2, 1), (status, text.count("\n")))
+        self.assertIn("no rt on the path", text)
+
+    def test_words_that_say_nothing(self):
+        with tempfile.TemporaryDirectory() as made:
+            small_tree(Path(made))
+            self.assertEqual(2, said(["--quickly"], Path(made))[0])
+
+
+def wait_for(happened, seconds: float) -> bool:
+    """Whether something happens in so many seconds."""
+    last = time.monotonic() + seconds
+    while not happened() and time.monotonic() < last:
+        time.sleep(0.01)
+    return happened()
+
+
+class Interrupted(unittest.TestCase):
+    def test_an_interrupt_leaves_the_tree_as_it_was(self):
+        with tempfile.TemporaryDirectory() as made, tempfile.TemporaryDirectory() as rooms:
+            small_tree(Path(made), RIGHT)
+            before = sorted(str(it) for it in Path(made).rglob("*") if ".git" not in it.parts)
+            words = [sys.executable, CHECK, "--edits", "small"]
+            env = {**os.environ, "TMPDIR": rooms}
+            running = subprocess.Popen(words, cwd=made, env=env, stdout=subprocess.DEVNULL, stderr=subprocess.PIPE)
+            # (its first check has begun once it has a room, and there are three)
+            began = wait_for(lambda: any(it.startswith("check-edit-") for it in os.listdir(rooms)), 50)
+            running.send_signal(signal.SIGINT)
+            _, text = running.communicate(timeout=60)
+            after = sorted(str(it) for it in Path(made).rglob("*") if ".git" not in it.parts)
+            left = os.listdir(rooms)
+        self.assertTrue(began, text)
+        self.assertEqual(130, running.returncode, text)
+        self.assertEqual((before, []), (after, left))
+
+
+class TheAccount(unittest.TestCase):
+    def test_rows_and_sums(self):
+        account = gate.Account(proof={"a": 60.0, "b": 30.0}, tests={"b": 90.0}, edits={"a": 6.0}, rest=12.0)
+        rows = [row.split() for row in account.rows(["a", "b"])]
+        self.assertEqual(["a", "1.0", "0.0", "0.1", "1.1"], rows[1])
+        self.assertEqual(["b", "0.5", "1.5", "0.0", "2.0"], rows[2])
+        self.assertEqual(["all", "crates", "1.5", "1.5", "0.1", "3.1"], rows[3])
+        self.assertEqual(["all", "3.3"], rows[-1])
+
+    def test_a_command_costs_what_it_uses(self):
+        ran = measure.run([sys.executable, "-c", "sum(range(10**7)); print('done')"], Path("/"))
+        self.assertEqual((0, "done\n"), (ran.status, ran.text))
+        self.assertTrue(0.05 < ran.seconds < 60 and ran.peak > 1_000_000, ran)
+
+    def test_what_has_ended_is_no_longer_running(self):
+        measure.run(["true"], Path("/"))
+        self.assertEqual(set(), measure.RUNNING.groups)
+
+
+if __name__ == "__main__":
+    unittest.main()

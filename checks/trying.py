@@ -1,0 +1,184 @@
+"""Tries must-fail edits, those of different functions in one check. Each must be refused by a fault inside what it changes."""
+
+import re
+import shutil
+import tempfile
+from dataclasses import dataclass, field
+from pathlib import Path
+from typing import Callable
+
+from checks import kit, measure
+from checks.edits import Edit, groups, merged, modules, moved, read_edits, sources_of
+from checks.source import Function
+
+PARTS = ("src", "specs", "proofs")
+PLACE = re.compile(r"(?:note: )?(?:\./)?(\S+?):(\d+):\d+: (.*)")
+# (a proof that names what an edit took away, and what cites that proof, says little of a contract)
+GONE = re.compile(r"has no field|is not in scope|has no `|was not admitted")
+IS_FAULT = re.compile(r"error\b|it is not proved that")
+
+
+@dataclass(frozen=True)
+class Fault:
+    """A place that the prover named, and what it said of it."""
+
+    file: str
+    line: int
+    said: str
+    is_unreadable: bool
+
+    def text(self) -> str:
+        return f"{self.file}:{self.line}: {self.said}"[:160]
+
+
+@dataclass(frozen=True)
+class Tried:
+    """What came of an edit."""
+
+    name: str
+    is_refused: bool
+    why: str
+
+
+@dataclass
+class Bench:
+    """A crate whose edits are tried, over work that is kept between its checks."""
+
+    crate: object
+    sources: dict[str, str]
+    kept: Path
+    began_over: bool = False  # the first check had something to begin with
+    is_odd: bool = False  # a check named a place that no edit changed
+    seconds: float = 0.0
+    peak: int = 0
+    checks: int = 0
+
+    def check(self, texts: dict[str, str], only: list[str]) -> measure.Ran:
+        """Checks a copy of the crate with these texts in place of its own."""
+        with tempfile.TemporaryDirectory(prefix="check-edit-") as made:
+            room = Path(made)
+            for part in PARTS:
+                if (Path(self.crate.folder) / part).is_dir():
+                    shutil.copytree(Path(self.crate.folder) / part, room / part)
+            for path, text in texts.items():
+                (room / path).write_text(text, encoding="utf-8")
+            ran = measure.run(kit.check_words(self.crate, self.kept, only), room)
+        self.seconds, self.peak, self.checks = self.seconds + ran.seconds, max(self.peak, ran.peak), self.checks + 1
+        return ran
+
+
+def faults_in(text: str, changed: list[str]) -> list[Fault]:
+    """The places that the prover named as faulty."""
+    found = []
+    for line in text.split("\n"):
+        at = PLACE.match(line)
+        if at and IS_FAULT.match(at[3]):
+            # (an error with its name in brackets comes before any proof)
+            is_unreadable = at[3].startswith("error[") or kit.is_unreadable(line, changed)
+            found.append(Fault(at[1], int(at[2]), at[3], is_unreadable))
+    return found
+
+
+def is_inside(fault: Fault, places: list[Function]) -> bool:
+    """Whether a fault is inside one of these functions, or in a file of its proofs."""
+    return any(it.owns(fault.file) or it.file == fault.file and it.holds(fault.line) for it in places)
+
+
+def is_answer(ran: measure.Ran) -> bool:
+    """Whether the prover came to an end and refused something."""
+    return ran.status == 1 and ran.text.rstrip("\n").split("\n")[-1].startswith(("logic=not-proved", "only="))
+
+
+def places_in(edit: Edit, together: list[Edit]) -> list[Function]:
+    """Where the functions that an edit changes stand once these edits are applied."""
+    hunks = [it for other in together for it in other.hunks]
+    return [moved(it, hunks) for it in edit.places]
+
+
+def judged(edit: Edit, together: list[Edit], faults: list[Fault]) -> Fault | None:
+    """The fault that refuses an edit: the first inside what it changes that isn't only of a name that is gone."""
+    places = places_in(edit, together)
+    inside = [it for it in faults if not it.is_unreadable and not GONE.search(it.said) and is_inside(it, places)]
+    return inside[0] if inside else None
+
+
+def unreadable(edits: list[Edit], faults: list[Fault]) -> list[tuple[Edit, Fault]]:
+    """The edits inside whose functions a text can't be read."""
+    bad = [it for it in faults if it.is_unreadable]
+    found = []
+    for edit in edits:
+        places = places_in(edit, edits)
+        first = next((it for it in bad if is_inside(it, places)), None)
+        if first:
+            found.append((edit, first))
+    return found
+
+
+def try_alone(bench: Bench, edit: Edit) -> Tried:
+    """Tries an edit by itself, on the whole crate."""
+    texts = merged([edit], bench.sources)
+    ran = bench.check(texts, [])
+    faults = faults_in(ran.text, list(texts))
+    bad = next((it for it in faults if it.is_unreadable), None)
+    if bad:
+        return Tried(edit.name, False, f"the edited text can't be read, so no contract was tried: {bad.text()}")
+    if ran.status == 0:
+        return Tried(edit.name, False, "NOT REFUSED: the crate is still proved with this edit")
+    if not is_answer(ran):
+        return Tried(edit.name, False, f"it did not reach the prover: {ran.text.strip()[-300:]}")
+    first = next((it for it in faults if not GONE.search(it.said)), None)
+    how = first.text() if first else "only by proofs that name what the edit took away, which says little of the contract"
+    return Tried(edit.name, True, f"alone: {how}")
+
+
+def try_together(bench: Bench, edits: list[Edit]) -> list[Tried]:
+    """Tries edits of different functions in one check, and alone those that it doesn't refuse in their place."""
+    if not edits[0].places:
+        return [try_alone(bench, edits[0])]
+    texts = merged(edits, bench.sources)
+    ran = bench.check(texts, modules(edits))
+    faults = faults_in(ran.text, list(texts))
+    bad = unreadable(edits, faults)
+    if bad and len(bad) < len(edits):
+        left = [it for it in edits if all(it is not edit for edit, _ in bad)]
+        return [try_alone(bench, edit) for edit, _ in bad] + try_together(bench, left)
+    places = [place for edit in edits for place in places_in(edit, edits)]
+    bench.is_odd = bench.is_odd or not all(is_inside(it, places) for it in faults)
+    found = [(edit, judged(edit, edits, faults) if is_answer(ran) else None) for edit in edits]
+    return [Tried(edit.name, True, fault.text()) if fault else try_alone(bench, edit) for edit, fault in found]
+
+
+@dataclass
+class Outcome:
+    """What came of all edits of a crate, and what it cost."""
+
+    name: str
+    tried: list[Tried] = field(default_factory=list)
+    seconds: float = 0.0
+    peak: int = 0
+    checks: int = 0
+
+
+def plain_fault(bench: Bench, edits: list[Edit]) -> str:
+    """What keeps the crate from being proved over what is kept once no edit is applied, if anything does. Where one check was all,
+    from nothing, and named no place but those that were edited, it has shown that there is nothing."""
+    if bench.checks == 1 and not bench.is_odd and not bench.began_over:
+        return ""
+    ran = bench.check({}, modules(edits))
+    return "" if ran.status == 0 else ran.text.strip()[-300:]
+
+
+def try_crate(crate, kept: Path, say: Callable[[str], None]) -> Outcome:
+    """Tries the edits of a crate whose libraries are built. Where the crate isn't proved without them, none counts as refused."""
+    sources = sources_of(Path(crate.folder))
+    good, bad = read_edits(Path(crate.folder), sources)
+    outcome = Outcome(crate.name, [Tried(name, False, f"BAD EDIT: {why}") for name, why in bad])
+    bench = Bench(crate, sources, kept, began_over=any(kept.iterdir()))
+    tried = [it for group in groups(good) for it in try_together(bench, group)]
+    fault = plain_fault(bench, good) if good else ""
+    if fault:
+        tried = [Tried(it.name, False, f"the crate isn't proved without any edit, so this shows nothing: {fault}") for it in good]
+    outcome.tried += tried
+    outcome.seconds, outcome.peak, outcome.checks = bench.seconds, bench.peak, bench.checks
+    say(f"{crate.name}: {len(outcome.tried)} edits in {bench.checks} checks, {bench.seconds:.0f} s of a processor")
+    return outcome

@@ -1,0 +1,95 @@
+//! Change files that are read, written and read again.
+use crate::file_fixtures::*;
+use gaz_changefile::{Change, read_file, write_file};
+use gaz_ids::{Code, Volume};
+use gaz_records::{Item, Key, item_of_text, item_text};
+use std::alloc::Global;
+use std::process::Abort;
+use std::test::Fail;
+
+/// A file, its custodian and its volume.
+type File = (&'static [u8], u64, u64);
+
+const FILES: &[File] = &[
+    (STREET_101, 1001, 1),
+    (HIGH_STREET, 1001, 2),
+    (FLAT_2_HIGH_STREET, 1001, 3),
+    (NUMBER_14_HIGH_STREET, 1001, 4),
+    (HIGH_STREET_AND_STREET_101, 1001, 2),
+    (COUNTY_ROAD, 1001, 1),
+    (COUNTY_ROAD_CLOSED, 1001, 2),
+    (NUMBER_7_COUNTY_ROAD, 1002, 1),
+    (RESTS_ON_1003, 1002, 1),
+    (RESTS_ON_1002, 1003, 1),
+    (OLD_MILL, 1003, 1),
+    (RING_OF_PARENTS, 1001, 1),
+    (OWN_PARENT, 1001, 2),
+    (STREET_101_CLOSED, 1001, 4),
+    (STREET_101_DELETED, 1001, 5),
+    (PROPERTY_42_HISTORICAL, 1001, 6),
+    (HIGH_STREET_DELETED, 1001, 7),
+    (FLAT_2_IN_WELSH, 1001, 8),
+    (NOTHING, 1001, 1),
+];
+
+// Another who holds the item, and the item that its row says, have its key and row.
+fn comes_back(alloc: Global, change: &Change) -> Result<bool, Fail> {
+    let item: &Item = &change.item;
+    let shared = change.item.share()?;
+    let text = item_text(alloc, item)?;
+    let again = item_of_text(alloc, item.kind(), &text)?;
+    Ok(
+        item_text(alloc, &shared)? == text
+            && Key::of(&shared) == Key::of(item)
+            && item_text(alloc, &again)? == text
+            && Key::of(&again) == Key::of(item),
+    )
+}
+
+// What is written of a file that was read, and whose items come back.
+fn rewritten(rt: &(impl Abort + AllocGlobal), file: File) -> Result<Vec<u8>, Fail> {
+    let (bytes, code, volume) = file;
+    let code = Code::of(code).ok_or("code")?;
+    let volume = Volume::of(volume).ok_or("volume")?;
+    let read = read_file(rt.alloc(), bytes, code, volume)?;
+    for change in &read.changes {
+        assert!(rt; comes_back(rt.alloc(), change)?, "{}", change.place);
+    }
+    Ok(write_file(rt.alloc(), &read, code, volume)?)
+}
+
+#[test]
+fn written_back(rt: HostRuntime) -> Result<(), Fail> {
+    for (i, file) in FILES.iter().enumerate() {
+        let once = rewritten(&rt, *file)?;
+        assert!(rt; once.as_slice() == file.0, "file {i}");
+    }
+    Ok(())
+}
+
+// Leading zeros aren't written: ten of a UPRN.
+#[test]
+fn written_without_leading_zeros(rt: HostRuntime) -> Result<(), Fail> {
+    let once = rewritten(&rt, (LEADING_ZEROS, 1001, 1))?;
+    let text =
+        b"10,1,1001,1,2024-01-02\n21,I,1,42,1,0,0,,,2020-01-01,\n21,I,2,999999999999,1,700000,1300000,,,2020-01-01,\n99,2\n";
+    assert!(rt; once.as_slice() == text.as_slice());
+    let code = Code::of(1001).ok_or("code")?;
+    let volume = Volume::of(1).ok_or("volume")?;
+    let again = read_file(rt.alloc(), &once, code, volume)?;
+    assert!(rt; write_file(rt.alloc(), &again, code, volume)? == once);
+    Ok(())
+}
+
+// The item that the first change of a file is about.
+#[test]
+fn an_item_outlives_its_file(rt: HostRuntime) -> Result<(), Fail> {
+    let code = Code::of(1001).ok_or("code")?;
+    let volume = Volume::of(2).ok_or("volume")?;
+    let file = read_file(rt.alloc(), HIGH_STREET, code, volume)?;
+    let name = file.changes.first().ok_or("no change")?.item.share()?;
+    drop(file);
+    let text = item_text(rt.alloc(), &name)?;
+    assert!(rt; text.as_slice() == b"101,ENG,High Street,,Arden,Arden".as_slice());
+    Ok(())
+}

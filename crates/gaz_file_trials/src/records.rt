@@ -1,0 +1,129 @@
+//! What is no item, and how dates and keys read and compare.
+use gaz_ids::{Lang, Uprn, Usrn};
+use gaz_records::{Day, FieldFault, Key, Kind, RecordKey, item_of_text};
+use std::alloc::Global;
+use std::process::Abort;
+use std::test::Fail;
+
+/// Rows, each with its first field of a wrong form.
+const FAULTS: &[(Kind, &str, u8)] = &[
+    (Kind::Street, "0,1,2001-04-01,", 1),
+    (Kind::Street, "100000000,1,2001-04-01,", 1),
+    (Kind::Street, "101,5,2001-02-30,", 2),
+    (Kind::Street, "101,1,2001-02-30,", 3),
+    (Kind::Street, "101,1,2001-04-01,2001-03-31", 4),
+    (Kind::Descriptor, "101,eng,High Street,,Arden,Arden", 2),
+    (Kind::Descriptor, "101,ENG,High\tStreet,,Arden,Arden", 3),
+    (
+        Kind::Descriptor,
+        "101,ENG,High Street,\u{7f},Arden,Arden",
+        4,
+    ),
+    (Kind::Descriptor, "101,ENG,High Street,,Arden,", 6),
+    (Kind::Blpu, "1000000000000,1,0,0,,,2020-01-01,", 1),
+    (Kind::Blpu, "0,1,0,0,,,2020-01-01,", 1),
+    (Kind::Blpu, "42,3,0,0,,,2020-01-01,", 2),
+    (Kind::Blpu, "42,1,700001,1300001,,,2020-01-01,", 3),
+    (Kind::Blpu, "42,1,700000,1300001,,,2020-01-01,", 4),
+    (Kind::Blpu, "42,1,0,0,0,,2020-01-01,", 5),
+    (Kind::Blpu, "42,1,0,0,,AR1 2DN X,2020-01-01,", 6),
+    (Kind::Xref, "x1,200000,TAX01,A/17,2010-05-01,", 1),
+    (Kind::Xref, "X1,200000,TAX0100,A/17,2010-05-01,", 3),
+    (Kind::Xref, "X1,200000,TAX01,,2010-05-01,", 4),
+    (Kind::Lpi, "L1,42,ENG,2,101,,,,,,14,,,,,2024-04-01,", 4),
+    (
+        Kind::Lpi,
+        "L1,42,ENG,1,101,,,,,Flat 2 ,14,,,,,2024-04-01,",
+        6,
+    ),
+    (Kind::Lpi, "L1,42,ENG,1,101,,,,,,14,,12,A,,2001-04-01,", 11),
+    (Kind::Lpi, "L1,42,ENG,1,101,,,,,,,,,,,2001-04-01,", 11),
+    (Kind::Lpi, "L1,42,ENG,1,101,,,,,,14,,,,,2024-4-1,", 16),
+    (
+        Kind::Lpi,
+        "L1,42,ENG,1,101,,,,,,14,,,,,2024-04-01,2024-03-31",
+        17,
+    ),
+];
+
+/// Texts that aren't one row of four fields.
+const COUNTS: &[&str] = &[
+    "",
+    "101,1,2001-04-01",
+    "101,1,2001-04-01,,",
+    "101,1,2001-04-01,\n101,1,2001-04-01,",
+];
+
+fn has_fault(rt: &(impl Abort + AllocGlobal), kind: Kind, row: &str, fault: FieldFault) {
+    let told = item_of_text(rt.alloc(), kind, row.as_bytes());
+    assert!(rt; told.is_err_and(|e| e == fault), "{row}");
+}
+
+#[test]
+fn the_first_faulty_field_is_named(rt: HostRuntime) {
+    for (kind, row, field) in FAULTS {
+        has_fault(&rt, *kind, row, FieldFault::Form { field: *field });
+    }
+    for row in COUNTS {
+        has_fault(&rt, Kind::Street, row, FieldFault::Count);
+    }
+}
+
+const DATES: &[(&str, bool)] = &[
+    ("2024-02-29", true),
+    ("2023-02-29", false),
+    ("1900-02-29", false),
+    ("2000-02-29", true),
+    ("2024-02-30", false),
+    ("2024-04-31", false),
+    ("0001-01-01", true),
+    ("0000-01-01", false),
+    ("9999-12-31", true),
+    ("2024-13-01", false),
+    ("2024-2-01", false),
+    ("2024-02-1x", false),
+    ("02024-02-01", false),
+];
+
+#[test]
+fn dates_are_real(rt: HostRuntime) {
+    for (text, good) in DATES {
+        let read = match Day::read(text.as_bytes()) {
+            Some(day) => day.digits().as_slice() == text.as_bytes(),
+            None => false,
+        };
+        assert!(rt; read == *good, "{text}");
+    }
+}
+
+fn usrn(number: u64) -> Result<Usrn, Fail> {
+    Ok(Usrn::of(number).ok_or("a USRN")?)
+}
+
+fn label(text: &str) -> Result<RecordKey, Fail> {
+    Ok(RecordKey::read(text.as_bytes()).ok_or("a key")?)
+}
+
+// Keys of all kinds, from the first to the last.
+fn keys_in_order(alloc: Global) -> Result<Vec<Key>, Fail> {
+    let keys = vec![in alloc;
+        Key::Street(usrn(101)?),
+        Key::Descriptor(usrn(9)?, Lang::Eng),
+        Key::Descriptor(usrn(101)?, Lang::Cym),
+        Key::Descriptor(usrn(101)?, Lang::Eng),
+        Key::Blpu(Uprn::of(1).ok_or("a UPRN")?),
+        Key::Xref(label("L9")?),
+        Key::Lpi(label("L10")?),
+        Key::Lpi(label("L2")?),
+    ]?;
+    Ok(keys)
+}
+
+#[test]
+fn keys_are_in_order(rt: HostRuntime) -> Result<(), Fail> {
+    let keys = keys_in_order(rt.alloc())?;
+    for pair in keys.windows(2) {
+        assert!(rt; pair[0] < pair[1] && pair[0].compare(&pair[1]).is_lt());
+    }
+    Ok(())
+}

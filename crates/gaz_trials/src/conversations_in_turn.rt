@@ -1,0 +1,64 @@
+//! One conversation after another over one hub, and what is too large for a file of conversations. The expected texts are those of docs/exchange.md.
+
+use crate::hubs::mem_hub;
+use gaz_exchange::{Ended, Served, Stopped, converse};
+use gaz_register::RegFault;
+use std::alloc::Global;
+use std::process::Abort;
+use std::test::Fail;
+
+const NOT_RECEIVED: &str =
+    "HTTP/1.1 404 Not Found\r\nContent-Type: application/json\r\nContent-Length: 15\r\n\r\n{\"refusal\":17}\n";
+
+/// How the first of two conversations ended, and what the second wrote.
+type Ending = (Result<Served, Stopped>, Vec<u8>);
+
+// Sends a text to a new hub, and asks for volume 1 in the next conversation.
+fn asked_after(alloc: Global, text: &str) -> Result<Ending, RegFault> {
+    let mut hub = mem_hub(alloc)?;
+    let mut refusal = Vec::new(alloc);
+    let ended = converse(alloc, &mut text.as_bytes(), &mut refusal, &mut hub, 9);
+    let asked = b"GET /custodians/1001/volumes/1 HTTP/1.1\r\n\r\n";
+    let mut out = Vec::new(alloc);
+    let _ = converse(alloc, &mut asked.as_slice(), &mut out, &mut hub, 9);
+    Ok((ended, out))
+}
+
+#[test]
+fn what_breaks_the_framing_is_not_received(rt: HostRuntime) -> Result<(), Fail> {
+    let closed = Ok(Served {
+        requests: 1,
+        ended: Ended::Closed,
+    });
+    for headers in [
+        "Content-Length: 53\r\n\r\n10,1,1001,",
+        "\r\n",
+        "Transfer-Encoding: chunked\r\nContent-Length: 1\r\n\r\na",
+        "Content-Length: 1\r\ncontent-length: 1\r\n\r\na",
+        "Content-Length: +1\r\n\r\na",
+        "Content-Length: 1048577\r\n\r\n",
+        "Bad Header: x\r\n\r\n",
+        "Host",
+    ] {
+        let text = format!(in rt.alloc(); "POST /custodians/1001/volumes/1 HTTP/1.1\r\n{headers}")?;
+        let (ended, out) = asked_after(rt.alloc(), &text)?;
+        assert_eq!(rt; ended, closed, "{headers}");
+        assert_eq!(rt; out.as_slice(), NOT_RECEIVED.as_bytes(), "{headers}");
+    }
+    Ok(())
+}
+
+#[test]
+fn a_body_of_1_mib_is_read(rt: HostRuntime) -> Result<(), Fail> {
+    let head = b"POST /custodians/1001/volumes/1 HTTP/1.1\r\nContent-Length: 1048576\r\n\r\n";
+    let mut request = Vec::from_slice(rt.alloc(), head)?;
+    request.extend_from_slice(&vec![in rt.alloc(); b'a'; 1_048_576]?)?;
+    let mut hub = mem_hub(rt.alloc())?;
+    let mut out = Vec::new(rt.alloc());
+    let ended = converse(rt.alloc(), &mut request.as_slice(), &mut out, &mut hub, 9);
+    let told =
+        "HTTP/1.1 201 Created\r\nContent-Type: application/json\r\nContent-Length: 43\r\n\r\n{\"outcome\":\"rejected\",\"record\":1,\"rule\":2}\n";
+    assert_eq!(rt; out.as_slice(), told.as_bytes());
+    assert!(rt; ended.is_ok_and(|served| served.requests == 1));
+    Ok(())
+}
