@@ -82,6 +82,15 @@ class Costs:
         self.seconds[name, tests] = self.seconds.get((name, tests), 0.0) + seconds
 
 
+def words_of(pid: int) -> list[str]:
+    """The words of a process's command line."""
+    return Path(f"/proc/{pid}/cmdline").read_bytes().decode("utf-8", "replace").split("\0")
+
+
+def is_check(words: list[str]) -> bool:
+    return os.path.basename(words[0]) == "rattle" and "--crate-name" in words
+
+
 class Watch(threading.Thread):
     """Reads twice a second what each check in a session of processes has used."""
 
@@ -89,7 +98,7 @@ class Watch(threading.Thread):
         super().__init__(daemon=True)
         self.session = session
         self.is_over = threading.Event()
-        self.last: dict[int, tuple[str, bool, float]] = {}
+        self.last: dict[tuple[int, int], tuple[str, bool, float]] = {}  # by number and start (numbers come again)
         self.costs = Costs()
 
     def run(self) -> None:
@@ -106,16 +115,17 @@ class Watch(threading.Thread):
             stat = Path(f"/proc/{pid}/stat").read_text().rpartition(")")[2].split()
             if int(stat[3]) != self.session:
                 return
-            words = Path(f"/proc/{pid}/cmdline").read_bytes().decode("utf-8", "replace").split("\0")
+            words = words_of(pid)
+            is_fork = is_check(words) and is_check(words_of(int(stat[1])))
             status = Path(f"/proc/{pid}/status").read_text()
         except (OSError, ValueError):
             return
         peak = re.search(r"VmHWM:\s+(\d+) kB", status)
         self.costs.peak = max(self.costs.peak, int(peak[1]) * 1024 if peak else 0)
-        if "--crate-name" in words and os.path.basename(words[0]) == "rattle" and int(stat[1]) not in self.last:
+        if is_check(words) and not is_fork:
             name = words[words.index("--crate-name") + 1]
             used = sum(int(it) for it in stat[11:15]) / TICK
-            self.last[pid] = name, "--test" in words, used
+            self.last[pid, int(stat[19])] = name, "--test" in words, used
 
     def end(self) -> Costs:
         self.is_over.set()

@@ -94,6 +94,13 @@ class TheAccount(unittest.TestCase):
         self.assertEqual((0, "done\n"), (ran.status, ran.text))
         self.assertTrue(0.05 < ran.seconds < 60 and ran.peak > 1_000_000, ran)
 
+    def test_a_check_and_its_forks_are_counted_once(self):
+        work = "import os, time; here = os.fork(); sum(range(3 * 10**7)); here and os.wait(); time.sleep(2 if here else 0)"
+        check = f"bash -c 'exec -a rattle {sys.executable} -c \"{work}\" --crate-name low'"
+        ran, costs = measure.watch(["bash", "-c", f"{check}; {check}; true"], Path("/"), lambda line: None)
+        self.assertEqual([("low", False)], list(costs.seconds))
+        self.assertAlmostEqual(1, costs.seconds["low", False] / ran.seconds, delta=0.2)
+
     def test_what_has_ended_is_no_longer_running(self):
         measure.run(["true"], Path("/"))
         self.assertEqual(set(), measure.RUNNING.groups)
