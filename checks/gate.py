@@ -10,7 +10,7 @@ import threading
 from dataclasses import dataclass, field
 from pathlib import Path
 
-from checks import conversations, kit, measure, trying
+from checks import conversations, kit, measure, runs, trying
 
 SAYING = threading.Lock()
 
@@ -89,11 +89,15 @@ def prove(room: Path, account: Account) -> set[str]:
 
 
 def converse(program: Path, root: Path, account: Account) -> None:
-    """The conversations, each as one stream and request by request."""
+    """The conversations, each as one stream and request by request, and how the program ends."""
     for name, how, fault in conversations.run_all(program, root):
         account.count(f"{name} ({how})", fault is None)
         if fault:
             say(f"conversation {name} ({how}): {fault}")
+    for name, fault in runs.run_all(program):
+        account.count(f"gazhub on {name}", fault is None)
+        if fault:
+            say(f"gazhub on {name}: {fault}")
 
 
 def try_edits(crates: list, begin, account: Account) -> None:

@@ -118,9 +118,6 @@ pub char_count-le : (bs : List ℕ) → IsUtf8 bs → char_count bs ≤ length b
 unfolding char_count
 char_count-le bs u = omega (arith, length-le-encodes (chars bs), ap length (encodes-chars bs u))
 
-pub count_plain : (bs : List ℕ) → is_plain bs ≡ true → char_count bs ≤ length bs
-count_plain bs e = char_count-le bs (plain_utf8 bs e)
-
 pub ruleset plain_tests = (plain_by_bytes, plain_no_text, plain_not)
 
-pub ruleset counts = (count_plain)
+pub ruleset counts = (char_count-le)

@@ -1,3 +1,4 @@
 pub mod Characters
 pub mod Reading
 pub mod Rounds
+pub mod HouseOrder

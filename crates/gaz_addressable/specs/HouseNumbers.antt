@@ -1,5 +1,8 @@
 -- House numbers, their order, and how they are read and written.
-use Rattle.std.specs.Prelude.{ℕ, ◌==◌, ◌&&◌, ◌||◌, nat_lt, nat_le, List, [], ◌∷◌, ◌++◌, length, slice_index, Option, Some, None, option_map, Result, Ok, Err, if◌then◌else◌, Bool, true, decimal}
+use Rattle.std.specs.Prelude.{◌≡◌, ℕ, ◌==◌, ◌&&◌, nat_le, List, [], ◌∷◌, ◌++◌, length, slice_index, Option, Some, None, option_map, Result, Ok, Err, if◌then◌else◌, Bool, true, decimal}
+use Rattle.std.specs.Ordering.{is_lt, nat_cmp, ordering_then}
+use Rattle.std.specs.declared.cmp.Ordering.{Ordering}
+use Rattle.std.specs.declared.cmp.Ordering.TheVariants.{Less, Equal, Greater}
 use Rattle.gaz_ids.specs.Numbers.{read_id}
 
 -- a letter from A to Z
@@ -19,14 +22,19 @@ pub record HouseNumberValue : Type 0 where
 abbrev pub is_house_number : HouseNumberValue → Bool
 is_house_number x = nat_le 1 x.n && nat_le x.n 9999 && is_suffix x.suffix
 
--- no suffix comes before A
-abbrev pub rank : Option ℕ → ℕ
-rank None = 0
-rank (Some c) = c
+-- no suffix comes before A, and A before B
+abbrev pub suffix_cmp : Option ℕ → Option ℕ → Ordering
+suffix_cmp None None = Equal
+suffix_cmp None (Some d) = Less
+suffix_cmp (Some c) None = Greater
+suffix_cmp (Some c) (Some d) = nat_cmp c d
 
--- by the number, then by the suffix
+-- the order of house numbers: by the number, then by the suffix
+abbrev pub house_cmp : HouseNumberValue → HouseNumberValue → Ordering
+house_cmp a b = ordering_then (nat_cmp a.n b.n) (suffix_cmp a.suffix b.suffix)
+
 abbrev pub is_before : HouseNumberValue → HouseNumberValue → Bool
-is_before a b = nat_lt a.n b.n || ((a.n == b.n) && nat_lt (rank a.suffix) (rank b.suffix))
+is_before a b = is_lt (house_cmp a b)
 
 -- one house number, or those up to a later one
 pub record RangeValue : Type 0 where
@@ -91,3 +99,19 @@ range_text r = number_text r.from ++ to_text r.to
 abbrev pub numbers_text : Option RangeValue → List ℕ
 numbers_text None = []
 numbers_text (Some r) = range_text r
+
+-- ---- 12 before 12A before 12B before 13
+
+-- a number with no suffix, and one with a letter
+abbrev pub plain : ℕ → HouseNumberValue
+plain n = record { n = n; suffix = None }
+
+abbrev pub lettered : ℕ → ℕ → HouseNumberValue
+lettered n letter = record { n = n; suffix = Some letter }
+
+pub record WorkedOrder : Type 0 where
+  pub letter_after_none : house_cmp (plain 12) (lettered 12 65) ≡ Less
+  pub letters_in_turn : house_cmp (lettered 12 65) (lettered 12 66) ≡ Less
+  pub number_foremost : house_cmp (lettered 12 90) (plain 13) ≡ Less
+  pub none_after_letter : house_cmp (plain 13) (lettered 12 65) ≡ Greater
+  pub same : house_cmp (lettered 12 65) (lettered 12 65) ≡ Equal

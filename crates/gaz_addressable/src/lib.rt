@@ -10,4 +10,4 @@ mod write;
 
 pub use number::{HouseDigits, HouseNumber, Range};
 pub use object::{ObjFault, Object};
-pub use text::{Text, TextFault};
+pub use text::{Text, TextFault, is_text};

@@ -1,15 +1,18 @@
 ghost use Rattle.std.specs.Prelude.{◌≡◌, ◌++◌, OnOk, true};
-ghost use Rattle.gaz_addressable.specs.HouseNumbers.{is_before, is_house_number, is_range, number_text, range_text, suffix_text};
+ghost use Rattle.gaz_addressable.specs.HouseNumbers.{house_cmp, is_before, is_house_number, is_range, number_text, range_text, suffix_text};
 
 use gaz_ids::Number;
 use itoa::Buffer;
 use std::alloc::AllocError;
+use std::cmp::Ordering;
 use std::marker::Model;
 
 /// The number of a house, 1 to 9999 (our profile).
 pub type HouseDigits = Number<10, 4, 1, 9999>;
 
-/// A house number with its suffix, `A` to `Z`, if it has one. In order a number without a suffix comes before those with one.
+/// A house number with its suffix, `A` to `Z`, if it has one.
+///
+/// Its order is by the number, then by the suffix; a number without a suffix comes before those with one.
 #[derive(Clone, Copy, Debug, PartialEq, Eq, PartialOrd, Ord)]
 pub struct HouseNumber {
     pub n: HouseDigits,
@@ -50,13 +53,19 @@ impl Model for Range {
 }
 
 impl HouseNumber {
+    #[tactic(auto, using(crate::proofs::HouseOrder::orders))]
+    /// How this number compares with another, as `cmp` does.
+    pub fn compare(&self, other: &HouseNumber) -> Ordering
+        ensures { result ≡ house_cmp self.now other.now }
+    {
+        self.cmp(other)
+    }
+
     /// Whether this number comes before another.
     pub fn is_before(&self, other: &HouseNumber) -> bool
         ensures { result ≡ is_before self.now other.now }
     {
-        let number = self.n.number();
-        let after = other.n.number();
-        number < after || number == after && self.suffix < other.suffix
+        self.compare(other).is_lt()
     }
 
     /// Adds the suffix, if there is one.

@@ -1,9 +1,5 @@
-ghost use Rattle.std.specs.Prelude.{◌≡◌, IfOk, true};
-ghost use Rattle.gaz_addressable.specs.Objects.{is_object};
-
 use crate::number::Range;
 use crate::text::Text;
-use std::alloc::AllocError;
 use std::marker::Model;
 use thiserror::Error;
 
@@ -44,20 +40,4 @@ impl Model for Object {
     ghost view = { λ x. record { range = x.range; text = x.text } };
 
     ghost invariant = { λ x. is_there x.range x.text ≡ true };
-}
-
-impl Object {
-    /// The same object.
-    pub fn copy(&self) -> Result<Object, AllocError>
-        ensures { IfOk result (λ o. o ≡ self.now) }
-    {
-        let text = match &self.text {
-            Some(text) => Some(text.copy()?),
-            None => None,
-        };
-        Ok(Object {
-            range: self.range,
-            text,
-        })
-    }
 }

@@ -1,8 +1,8 @@
-ghost use Rattle.std.specs.Prelude.{◌≡◌, ◌≤◌, ◌<◌, ℕ, length, not, true, IfOk, IfSome, is_some, IsUtf8};
+ghost use Rattle.std.specs.Prelude.{◌≡◌, nat_le, not, true, IfSome, is_some};
 ghost use Rattle.std.specs.List.{list_any};
 ghost use Rattle.gaz_addressable.specs.Texts.{OrMemory, char_count, is_control, is_plain, is_text, text_of};
 
-use std::alloc::{AllocError, Global};
+use std::alloc::Global;
 use std::marker::Model;
 use std::str;
 use thiserror::Error;
@@ -71,8 +71,27 @@ fn count_chars(text: &str) -> usize
     text.chars().count()
 }
 
+#[tactic(auto, using(std::proofs::lemmas::Bool::Decides::nat_tests, crate::proofs::Characters::counts))]
+// Whether a text has at most so many characters. It has no more of them than bytes.
+fn fits(text: &str, most: u64) -> bool
+    ensures { result ≡ nat_le (char_count text.now) most }
+{
+    text.len() as u64 <= most || count_chars(text) as u64 <= most
+}
+
+#[tactic(auto, using(std::proofs::lemmas::Bool::Decides::nat_tests))]
+/// Whether the bytes are a text of 1 to `most` characters, as `Text` holds.
+pub fn is_text(bytes: &[u8], most: u64) -> bool
+    ensures { result ≡ is_text most bytes.now }
+{
+    match plain_text(bytes) {
+        Some(text) => fits(text, most),
+        None => false,
+    }
+}
+
 impl<const MOST: u64> Text<MOST> {
-    #[tactic(auto, using(std::proofs::lemmas::Bool::Decides::nat_tests, crate::proofs::Characters::counts))]
+    #[tactic(auto, using(std::proofs::lemmas::Bool::Decides::nat_tests))]
     /// The text of these bytes.
     pub fn read(alloc: Global, bytes: &[u8]) -> Result<Self, TextFault>
         ensures { OrMemory result (text_of MOST bytes.now) }
@@ -80,7 +99,7 @@ impl<const MOST: u64> Text<MOST> {
         let Some(text) = plain_text(bytes) else {
             return Err(TextFault::BadForm);
         };
-        if bytes.len() as u64 > MOST && count_chars(text) as u64 > MOST {
+        if !fits(text, MOST) {
             return Err(TextFault::TooLong);
         }
         match String::from_str(alloc, text) {
@@ -103,14 +122,5 @@ impl<const MOST: u64> Text<MOST> {
         ensures form { is_text MOST self.now ≡ true }
     {
         self.inner.as_bytes()
-    }
-
-    /// The same text.
-    pub fn copy(&self) -> Result<Self, AllocError>
-        ensures { IfOk result (λ t. t ≡ self.now) }
-    {
-        Ok(Text {
-            inner: self.inner.clone()?,
-        })
     }
 }

@@ -12,6 +12,7 @@ use Rattle.std.proofs.lemmas.Str.{IsUtf8-from_is_utf8}
 use Rattle.csv.specs.Reading.{default_config, records, strip_bom}
 use Rattle.csv.specs.Records.{field_at}
 use Rattle.csv.specs.Writing.{fields_text, is_blank}
+use Rattle.gaz_ids.specs.Limits.{last_volume}
 use Rattle.gaz_ids.specs.Numbers.{read_id}
 use Rattle.gaz_ids.proofs.Numerals.{read_decimal}
 use Rattle.gaz_rows.specs.Rows.{AllFilled, Fields, lines_of, rows_of}
@@ -23,13 +24,14 @@ use Rattle.gaz_records.specs.declared.item.Kind.{Kind}
 use Rattle.gaz_records.specs.declared.item.Kind.TheVariants as kind
 use Rattle.gaz_records.proofs.Dates.{date-back}
 use Rattle.gaz_records.proofs.ItemsBack.{fields-back}
+use Rattle.gaz_records.specs.Kinds.{identifier}
 use Rattle.gaz_changefile.specs.Contents.{Contents, bases_in, basis_at, basis_in, change_at, change_of, changes_in, contents_of, date_in}
 use Rattle.gaz_changefile.specs.Files.{AreBases, ArePlaced, IsBasis, IsTyped}
 use Rattle.gaz_changefile.specs.Laws.{FilesReadBack}
-use Rattle.gaz_changefile.specs.Lines.{action_of, is_basis, is_change, is_trailer, line_of, read_code, read_count, read_order, read_volume}
+use Rattle.gaz_changefile.specs.Lines.{action_of, is_basis, is_change, is_trailer, known_profile, line_of, read_code, read_count, read_order, read_profile, read_volume}
 use Rattle.gaz_changefile.specs.Reading.{Good, by_faults, fault_at, faults}
 use Rattle.gaz_changefile.specs.Rules.{Before, basis_rules, before_of, change_rules, custodian_at, first_broken, header_rules, is_above, is_next_basis, later_rules, line_rules, rules_at, trailer_rules}
-use Rattle.gaz_changefile.specs.Writing.{action_text, basis_row, change_row, change_rows, file_rows, file_text, header_row, identifier, trailer_row}
+use Rattle.gaz_changefile.specs.Writing.{action_text, basis_row, change_row, change_rows, file_rows, file_text, header_row, trailer_row}
 use Rattle.gaz_changefile.specs.declared.action.Action.{Action}
 use Rattle.gaz_changefile.specs.declared.action.Action.TheVariants.{Insert, Update, Delete}
 use Rattle.gaz_changefile.specs.declared.change.Basis.{Basis}
@@ -45,8 +47,11 @@ use Rattle.gaz_changefile.proofs.Texts.{AreTextRows, AreTexts, date_utf8, item_a
 code_back : (n : ℕ) → 1 ≤ n → n ≤ 9999 → read_code (decimal n) ≡ Some n
 code_back n a b = rw (read_decimal 4 1 9999 n (lit< tt) (omega arith) (omega arith) a b) refl
 
-volume_back : (n : ℕ) → 1 ≤ n → n ≤ 999_999 → read_volume (decimal n) ≡ Some n
-volume_back n a b = rw (read_decimal 6 1 999_999 n (lit< tt) (omega arith) (omega arith) a b) refl
+profile_back : read_profile (decimal known_profile) ≡ Some known_profile
+profile_back = rw (read_decimal 4 1 9999 known_profile (lit< tt) (omega arith) (omega arith) (omega arith) (omega arith)) refl
+
+volume_back : (n : ℕ) → 1 ≤ n → n ≤ last_volume → read_volume (decimal n) ≡ Some n
+volume_back n a b = rw (read_decimal 6 1 last_volume n (lit< tt) (omega arith) (omega arith) a b) refl
 
 order_back : (n : ℕ) → 1 ≤ n → n ≤ 5000 → read_order (decimal n) ≡ Some n
 order_back n a b = rw (read_decimal 4 1 5000 n (lit< tt) (omega arith) (omega arith) a b) refl
@@ -112,9 +117,9 @@ line_kept : (c : ℕ) (p : Before) (row : Fields) (l : Line) → line_of row ≡
 unfolding later_rules
 line_kept c p row l e fresh h = rw (fresh, e) h
 
-header_kept : (c v : ℕ) (d : CivilDay) → 1 ≤ c → c ≤ 9999 → 1 ≤ v → v ≤ 999_999 → is_day d ≡ true → first_broken (header_rules c v (header_row c v d)) ≡ None
+header_kept : (c v : ℕ) (d : CivilDay) → 1 ≤ c → c ≤ 9999 → 1 ≤ v → v ≤ last_volume → is_day d ≡ true → first_broken (header_rules c v (header_row c v d)) ≡ None
 unfolding header_rules read_id field_at
-header_kept c v d a b e f h = rw (code_back c a b, volume_back v e f, date-back d h, same c, same v) refl
+header_kept c v d a b e f h = rw (profile_back, code_back c a b, volume_back v e f, date-back d h, same c, same v) refl
 
 next_is : (c : ℕ) (p : Before) (b : Basis) → b.custodian ≢ c → is_above p.last b.custodian ≡ true → p.bases < 16 → p.changes ≡ 0 → is_next_basis c p (Some b) ≡ true
 next_is c p b other above room none =
@@ -247,7 +252,7 @@ file_runs c v f t b p =
     changes_run c before 0 f.changes trailer none fresh (omega (arith, p.few)) t.items (λ after count still.
     trailer_run c after (length f.changes) (count ∙ omega arith) still p.few))
 
-file_faults : (c v : ℕ) (f : Contents) → 1 ≤ c → c ≤ 9999 → 1 ≤ v → v ≤ 999_999 → IsTyped f → AreBases c f.bases → ArePlaced f.bases f.changes → faults c v (file_rows c v f) ≡ []
+file_faults : (c v : ℕ) (f : Contents) → 1 ≤ c → c ≤ 9999 → 1 ≤ v → v ≤ last_volume → IsTyped f → AreBases c f.bases → ArePlaced f.bases f.changes → faults c v (file_rows c v f) ≡ []
 unfolding rules_at
 file_faults c v f c1 c2 v1 v2 t b p =
     let header = header_row c v f.date in
@@ -354,11 +359,11 @@ changes_are n (x ∷ xs) few t = (
   changes_are (n + 1) xs (omega arith) (tail_all (λ x. is_item x.item ≡ true) x xs t),
 )
 
-file_utf8 : (c v : ℕ) (f : Contents) → c ≤ 9999 → v ≤ 999_999 → IsTyped f → ArePlaced f.bases f.changes → IsUtf8 (file_text c v f)
+file_utf8 : (c v : ℕ) (f : Contents) → c ≤ 9999 → v ≤ last_volume → IsTyped f → ArePlaced f.bases f.changes → IsUtf8 (file_text c v f)
 unfolding is_utf8 chars lib.Utf8.encode
 file_utf8 c v f c2 v2 t p =
     let few : length f.changes ≤ 5000 = p.few in
-    let header : AreTexts (header_row c v f.date) = (IsUtf8-from_is_utf8 (codes "10") refl, (IsUtf8-from_is_utf8 (codes "1") refl, (number_utf8 c (omega arith), (number_utf8 v (omega arith), (date_utf8 f.date t.date, tt))))) in
+    let header : AreTexts (header_row c v f.date) = (IsUtf8-from_is_utf8 (codes "10") refl, (number_utf8 known_profile (omega arith), (number_utf8 c (omega arith), (number_utf8 v (omega arith), (date_utf8 f.date t.date, tt))))) in
     let trailer : AreTextRows (trailer_row (length f.changes) ∷ []) = (omega arith, (IsUtf8-from_is_utf8 (codes "99") refl, (number_utf8 (length f.changes) (omega arith), tt)), tt) in
     lines_utf8 (file_rows c v f)
     (omega arith, header, rows_append (map basis_row f.bases) _ (bases_are f.bases t.bases) (rows_append (change_rows 1 f.changes) _ (changes_are 1 f.changes (omega arith) t.items) trailer))

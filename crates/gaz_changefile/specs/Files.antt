@@ -2,6 +2,7 @@
 use Rattle.std.specs.Prelude.{◌≡◌, ◌≢◌, ◌≤◌, ℕ, ◌+◌, List, length, map, true}
 use Rattle.std.specs.List.{All, range_with_len}
 use Rattle.std.specs.List.Sorted.{IsStrictlyIncreasing}
+use Rattle.gaz_ids.specs.Limits.{last_volume}
 use Rattle.gaz_records.specs.Days.{is_day}
 use Rattle.gaz_records.specs.Items.{is_item}
 use Rattle.gaz_changefile.specs.Contents.{Contents}
@@ -24,7 +25,7 @@ pub record IsBasis (b : Basis) : Type 0 where
   pub code_from : 1 ≤ b.custodian
   pub code_to : b.custodian ≤ 9999
   pub volume_from : 1 ≤ b.volume
-  pub volume_to : b.volume ≤ 999_999
+  pub volume_to : b.volume ≤ last_volume
 
 -- what the types of a file's parts hold: a date that the calendar has, codes and volumes, items that the field table allows
 pub record IsTyped (f : Contents) : Type 0 where

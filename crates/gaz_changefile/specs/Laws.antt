@@ -1,6 +1,7 @@
 -- What a reading means, as a relation.
 use Rattle.std.specs.Prelude.{◌≡◌, ◌⊎◌, ◌≤◌, ◌<◌, ℕ, ◌+◌, List, [], ◌∷◌, ◌++◌, length, Bool, true, false}
 use Rattle.std.specs.Str.{IsUtf8}
+use Rattle.gaz_ids.specs.Limits.{last_volume}
 use Rattle.gaz_rows.specs.Rows.{rows_of}
 use Rattle.gaz_changefile.specs.Contents.{Contents, contents_of}
 use Rattle.gaz_changefile.specs.Files.{AreBases, ArePlaced, IsTyped}
@@ -53,5 +54,5 @@ ChangesArePlaced = (bytes : List ℕ) (c v : ℕ) (contents : Contents) → read
 
 -- what is written of an orderly file of a custodian and volume says the same file
 abbrev pub FilesReadBack : Type 0
-FilesReadBack = (c v : ℕ) (f : Contents) → 1 ≤ c → c ≤ 9999 → 1 ≤ v → v ≤ 999_999 → IsTyped f → AreBases c f.bases → ArePlaced f.bases f.changes
+FilesReadBack = (c v : ℕ) (f : Contents) → 1 ≤ c → c ≤ 9999 → 1 ≤ v → v ≤ last_volume → IsTyped f → AreBases c f.bases → ArePlaced f.bases f.changes
     → reading (file_text c v f) c v ≡ Good f

@@ -1,11 +1,13 @@
 -- What the fields of one record say.
 use Rattle.std.specs.Prelude.{ℕ, ◌==◌, List, Option, Some, None, if◌then◌else◌, Bool, true, false, codes}
 use Rattle.std.specs.Str.{bytes_eq}
+use Rattle.gaz_ids.specs.Limits.{last_volume}
 use Rattle.gaz_ids.specs.Numbers.{read_id}
 use Rattle.gaz_rows.specs.Rows.{Fields}
 use Rattle.gaz_records.specs.Fields as Records
 use Rattle.gaz_records.specs.Fields.{ok_of}
-use Rattle.gaz_records.specs.declared.item.Kind.TheVariants as kind
+use Rattle.gaz_records.specs.Kinds.{identified}
+use Rattle.gaz_records.specs.declared.item.Kind.{Kind}
 use Rattle.gaz_changefile.specs.declared.action.Action.{Action}
 use Rattle.gaz_changefile.specs.declared.action.Action.TheVariants.{Insert, Update, Delete}
 use Rattle.gaz_changefile.specs.declared.line.Line.{Line}
@@ -15,6 +17,10 @@ use Rattle.gaz_changefile.specs.declared.line.Line.TheVariants as line
 abbrev pub field : Fields → ℕ → List ℕ
 field row i = Records.field row i
 
+-- the profile that this reads and writes
+abbrev pub known_profile : ℕ
+known_profile = 1
+
 -- the numbers of a file: digits up to a width, in a range
 abbrev pub read_profile : List ℕ → Option ℕ
 read_profile text = ok_of (read_id 4 1 9999 text)
@@ -23,7 +29,7 @@ abbrev pub read_code : List ℕ → Option ℕ
 read_code text = ok_of (read_id 4 1 9999 text)
 
 abbrev pub read_volume : List ℕ → Option ℕ
-read_volume text = ok_of (read_id 6 1 999_999 text)
+read_volume text = ok_of (read_id 6 1 last_volume text)
 
 abbrev pub read_order : List ℕ → Option ℕ
 read_order text = ok_of (read_id 4 1 5000 text)
@@ -44,17 +50,15 @@ action_of text =
     else if bytes_eq text (codes "D") then Some Delete
     else None
 
+-- a record that begins with this text, which no kind of item has or one
+abbrev pub line_from : List ℕ → Option Kind → Line
+line_from text (Some k) = line.Change k
+line_from text None =
+    if bytes_eq text (codes "90") then line.Basis else if bytes_eq text (codes "99") then line.Trailer else line.Other
+
 -- what a record behind the header is, by its first field
 abbrev pub line_of : Fields → Line
-line_of row =
-    if bytes_eq (field row 0) (codes "11") then line.Change kind.Street
-    else if bytes_eq (field row 0) (codes "15") then line.Change kind.Descriptor
-    else if bytes_eq (field row 0) (codes "21") then line.Change kind.Blpu
-    else if bytes_eq (field row 0) (codes "23") then line.Change kind.Xref
-    else if bytes_eq (field row 0) (codes "24") then line.Change kind.Lpi
-    else if bytes_eq (field row 0) (codes "90") then line.Basis
-    else if bytes_eq (field row 0) (codes "99") then line.Trailer
-    else line.Other
+line_of row = line_from (field row 0) (identified (field row 0))
 
 -- which of the records a line is
 abbrev pub is_basis_line : Line → Bool

@@ -10,7 +10,7 @@ use Rattle.gaz_records.specs.declared.fields.FieldFault.TheVariants as fieldfaul
 use Rattle.gaz_records.specs.declared.item.Item.{Item}
 use Rattle.gaz_records.specs.declared.item.Kind.{Kind}
 use Rattle.gaz_changefile.specs.Contents.{basis_at, basis_in}
-use Rattle.gaz_changefile.specs.Lines.{action_of, field, is_basis, is_change, is_trailer, is_value, line_of, read_code, read_count, read_order, read_profile, read_volume}
+use Rattle.gaz_changefile.specs.Lines.{action_of, field, is_basis, is_change, is_trailer, is_value, known_profile, line_of, read_code, read_count, read_order, read_profile, read_volume}
 use Rattle.gaz_changefile.specs.declared.change.Basis.{Basis}
 use Rattle.gaz_changefile.specs.declared.line.Line.{Line}
 use Rattle.gaz_changefile.specs.declared.line.Line.TheVariants as line
@@ -24,7 +24,7 @@ first_broken ((rule, broken) ∷ rules) = if broken then Some rule else first_br
 abbrev pub is_header : Fields → Bool
 is_header row =
     bytes_eq (field row 0) (codes "10") && (length row == 5)
-    && is_value 1 (read_profile (field row 1)) && is_some (read_code (field row 2))
+    && is_value known_profile (read_profile (field row 1)) && is_some (read_code (field row 2))
     && is_some (read_volume (field row 3)) && is_some (date_of (field row 4))
 
 -- the header: it reads as one, and names the custodian and the volume under which the file came

@@ -4,21 +4,13 @@ use Rattle.std.specs.List.{enumerate_from}
 use Rattle.gaz_rows.specs.Rows.{Fields, line_of, lines_of}
 use Rattle.gaz_records.specs.Days.{CivilDay, date_text}
 use Rattle.gaz_records.specs.Items.{item_texts, kind_of}
-use Rattle.gaz_records.specs.declared.item.Kind.{Kind}
-use Rattle.gaz_records.specs.declared.item.Kind.TheVariants as kind
+use Rattle.gaz_records.specs.Kinds.{identifier}
 use Rattle.gaz_changefile.specs.Contents.{Contents}
+use Rattle.gaz_changefile.specs.Lines.{known_profile}
 use Rattle.gaz_changefile.specs.declared.action.Action.{Action}
 use Rattle.gaz_changefile.specs.declared.action.Action.TheVariants.{Insert, Update, Delete}
 use Rattle.gaz_changefile.specs.declared.change.Basis.{Basis}
 use Rattle.gaz_changefile.specs.declared.change.Change.{Change}
-
--- the record identifier of a kind
-abbrev pub identifier : Kind → List ℕ
-identifier kind.Street = codes "11"
-identifier kind.Descriptor = codes "15"
-identifier kind.Blpu = codes "21"
-identifier kind.Xref = codes "23"
-identifier kind.Lpi = codes "24"
 
 -- the change type
 abbrev pub action_text : Action → List ℕ
@@ -26,9 +18,9 @@ action_text Insert = codes "I"
 action_text Update = codes "U"
 action_text Delete = codes "D"
 
--- the header of profile 1; numbers are written without leading zeros
+-- the header of the known profile; numbers are written without leading zeros
 abbrev pub header_row : ℕ → ℕ → CivilDay → Fields
-header_row c v date = codes "10" ∷ codes "1" ∷ decimal c ∷ decimal v ∷ date_text date ∷ []
+header_row c v date = codes "10" ∷ decimal known_profile ∷ decimal c ∷ decimal v ∷ date_text date ∷ []
 
 -- a basis line
 abbrev pub basis_row : Basis → Fields

@@ -8,13 +8,11 @@ ghost use Rattle.gaz_changefile.specs.declared.line.Line.TheVariants.{Other};
 
 use crate::file::FileFault;
 use crate::line::field;
-use crate::numbers::{Profile, is_value};
+use crate::numbers::{KNOWN_PROFILE, Profile, is_value};
 use crate::rule;
 use csv::ByteRecord;
 use gaz_ids::{Code, Volume};
 use gaz_records::Day;
-
-const KNOWN_PROFILE: u64 = 1;
 
 #[tactic(auto, unfolding(crate::specs::Rules::header_rules))]
 /// The date of the header of this custodian's file of this volume, or the first rule that it breaks.

@@ -18,6 +18,7 @@ mod write;
 pub use action::Action;
 pub use change::{Basis, Change};
 pub use file::{ChangeFile, FileFault};
+pub use numbers::KNOWN_PROFILE;
 pub use profile::profile_of;
 pub use read::read_file;
 pub use write::write_file;

@@ -25,22 +25,15 @@ pub(crate) fn field(row: &ByteRecord, i: usize) -> &[u8]
 }
 
 impl Line {
-    /// Change records begin `11`, `15`, `21`, `23` or `24`, a basis line `90`, the trailer `99`.
+    /// Change records begin with the record identifier of their kind, a basis line with `90`, the trailer with `99`.
     pub(crate) fn of(row: &ByteRecord) -> Line
         ensures { result ≡ line_of (fields_of row.now) }
     {
         let first = field(row, 0);
-        if first == b"11".as_slice() {
-            Line::Change(Kind::Street)
-        } else if first == b"15".as_slice() {
-            Line::Change(Kind::Descriptor)
-        } else if first == b"21".as_slice() {
-            Line::Change(Kind::Blpu)
-        } else if first == b"23".as_slice() {
-            Line::Change(Kind::Xref)
-        } else if first == b"24".as_slice() {
-            Line::Change(Kind::Lpi)
-        } else if first == b"90".as_slice() {
+        if let Some(kind) = Kind::read(first) {
+            return Line::Change(kind);
+        }
+        if first == b"90".as_slice() {
             Line::Basis
         } else if first == b"99".as_slice() {
             Line::Trailer

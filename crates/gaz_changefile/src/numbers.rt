@@ -4,6 +4,9 @@ ghost use Rattle.gaz_changefile.specs.Lines.{is_value};
 
 use gaz_ids::{IdFault, Number};
 
+/// The profile that this crate reads and writes (our profile).
+pub const KNOWN_PROFILE: u64 = 1;
+
 /// The number of a profile, 1 to 9999.
 pub(crate) type Profile = Number<7, 4, 1, 9999>;
 

@@ -3,7 +3,7 @@ ghost use Rattle.csv.specs.Records.{fields_of};
 ghost use Rattle.gaz_changefile.specs.Profile.{profile_in, profile_of};
 
 use crate::line::field;
-use crate::numbers::Profile;
+use crate::numbers::{KNOWN_PROFILE, Profile};
 use csv::ByteRecord;
 use gaz_rows::{next_row, open_rows};
 use std::alloc::{AllocError, Global};
@@ -26,9 +26,9 @@ fn profile_in(row: &ByteRecord) -> Option<u64>
 pub fn profile_of(alloc: Global, bytes: &[u8]) -> Result<Option<u64>, AllocError>
     ensures { IfOk result (λ profile. profile ≡ profile_of bytes.now) }
 {
-    // A reader costs more than all else that is done with a small file, and most files begin so.
+    // A reader costs more than all else that is done with a small file, and most files begin so, with the known profile.
     if bytes.starts_with(b"10,1,") {
-        return Ok(Some(1));
+        return Ok(Some(KNOWN_PROFILE));
     }
     let mut rdr = open_rows(alloc, bytes);
     let mut row = ByteRecord::new(alloc);

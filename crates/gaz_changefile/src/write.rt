@@ -2,28 +2,16 @@ ghost use Rattle.std.specs.Prelude.{◌≡◌, ◌≤◌, ◌++◌, length, map,
 ghost use Rattle.gaz_rows.specs.Rows.{lines_of};
 ghost use Rattle.gaz_changefile.specs.Files.{AreBases, ArePlaced};
 ghost use Rattle.gaz_changefile.specs.Reading.{Good, reading};
-ghost use Rattle.gaz_changefile.specs.Writing.{basis_row, change_row, change_rows, file_text, header_row, identifier, line_text, trailer_row};
+ghost use Rattle.gaz_changefile.specs.Writing.{basis_row, change_row, change_rows, file_text, header_row, line_text, trailer_row};
 
 use crate::change::{Basis, Change};
 use crate::file::ChangeFile;
+use crate::numbers::KNOWN_PROFILE;
 use gaz_ids::{Code, Volume};
-use gaz_records::{Day, Kind, write_item};
+use gaz_records::{Day, write_item};
 use gaz_rows::write_row;
 use itoa::Buffer;
 use std::alloc::{AllocError, Global};
-
-// The record identifier of a kind.
-fn identifier(kind: Kind) -> &'static [u8]
-    ensures { result.now ≡ identifier kind }
-{
-    match kind {
-        Kind::Street => b"11",
-        Kind::Descriptor => b"15",
-        Kind::Blpu => b"21",
-        Kind::Xref => b"23",
-        Kind::Lpi => b"24",
-    }
-}
 
 // Adds a record of two fields or more and its line end.
 fn add_row(alloc: Global, out: &mut Vec<u8>, fields: &[&[u8]]) -> Result<(), AllocError>
@@ -45,11 +33,12 @@ fn add_header(
 ) -> Result<(), AllocError>
     ensures { OnOk result (out.new.items ≡ out.old.items ++ line_text (header_row custodian volume date.now)) }
 {
+    let mut profile_digits = Buffer::new();
     let mut code_digits = Buffer::new();
     let mut volume_digits = Buffer::new();
     let fields: [&[u8]; 5] = [
         b"10",
-        b"1",
+        profile_digits.format(KNOWN_PROFILE).as_bytes(),
         code_digits.format(custodian).as_bytes(),
         volume_digits.format(volume).as_bytes(),
         &date.digits(),
@@ -81,7 +70,7 @@ fn add_change(
 {
     let mut digits = Buffer::new();
     let fields: [&[u8]; 3] = [
-        identifier(change.item.kind()),
+        change.item.kind().text(),
         change.action.text(),
         digits.format(order).as_bytes(),
     ];

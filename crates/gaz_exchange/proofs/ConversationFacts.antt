@@ -6,8 +6,11 @@ use Rattle.std.proofs.KnownBytes.{Appends-nil, Appends-trans, Consumes-nil, Cons
 use Rattle.std.proofs.lemmas.Bool.Decides.{nat_tests}
 use Rattle.std.proofs.lemmas.List.Elements.{filter_map-append}
 use Rattle.gaz_shelf.specs.Keeper.{Seen}
-use Rattle.gaz_hub.specs.Hubs.{Runs}
-use Rattle.gaz_hub.specs.Step.{Door}
+use Rattle.gaz_hub.specs.Answers.{AllAnswered}
+use Rattle.gaz_hub.specs.Hubs.{Runs, state_of}
+use Rattle.gaz_hub.specs.Laws.{StandsForRun}
+use Rattle.gaz_hub.specs.Step.{Command, Door, Response}
+use Rattle.gaz_hub.proofs.Answers.{every_answer_holds}
 use Rattle.gaz_hub.proofs.HubRuns.{runs_none, runs_still, runs_then}
 use Rattle.gaz_exchange.specs.Conversing.{Conversation, EndsAnswered, EndsAs, EndsRefused, StopsAs, StopsWaiting, ended_after}
 use Rattle.gaz_exchange.specs.Exchanges.{Comes, Exchange, all_open, command_in, commands_of, ends_after, goes_on, replies, responses_of}
@@ -19,6 +22,7 @@ use Rattle.gaz_exchange.specs.declared.supply.Cause.TheVariants.{ReadFault, Writ
 use Rattle.gaz_exchange.specs.declared.conversation.Ended.{Ended}
 use Rattle.gaz_exchange.specs.declared.conversation.Ended.TheVariants as ended
 use Rattle.gaz_exchange.specs.declared.conversation.Turn.TheVariants.{Answered, Closed, Over, Stopped}
+use Rattle.gaz_exchange.proofs.RoutesKept.{AreFoundBy, found_by_more, found_by_none}
 use Rattle.gaz_exchange.proofs.ExchangeFacts.{both, both_are, comes_more, comes_none, comes_read, goes_on-more, replies-more}
 
 no_input_end : (b : Bool) → (if b then ended.Most else ended.Closed) ≡ ended.InputEnd → ⊥
@@ -31,32 +35,40 @@ ends_by most es rest left n written ended.Most e w = (e, w)
 ends_by most es rest left n written ended.Closed e w = (e, w)
 ends_by most es rest left n written ended.InputEnd e w = absurd (no_input_end (n == most) e)
 
+-- what the answers of a run are read off
+answers_off : (d : Door) (old new : Seen) (commands : List Command) (responses : List Response) → Runs d old new commands responses
+    → StandsForRun d old → new.unharmed → AllAnswered d old.content.files commands responses new.content.files
+answers_off d old new commands responses r was fine =
+    every_answer_holds d (state_of old.content) (state_of new.content) commands responses was.partial (r.run was.stands fine)
+
 module _ (d : Door) where
   -- n requests were answered, and none of them ends the conversation
-  pub record IsSoFar (most n : ℕ) (had left held holds : Option (List ℕ)) (old new : Seen) (inlet : List ℕ) : Type 0 where
+  pub record IsSoFar (most n : ℕ) (routed : Bool) (had left held holds : Option (List ℕ)) (old new : Seen) (inlet : List ℕ) : Type 0 where
     pub read : List ℕ
     pub exchanges : List Exchange
     pub consumed : Consumes had left read
     pub appended : Appends held holds (replies exchanges)
     pub comes : Comes most read exchanges inlet
+    pub routes : AreFoundBy routed exchanges
     pub runs : Runs d old new (commands_of exchanges) (responses_of exchanges)
     pub count : length exchanges ≡ n
     pub opens : all_open exchanges ≡ true
 
-  pub so_far_none : (most : ℕ) (had held : Option (List ℕ)) (old : Seen) (inlet : List ℕ) → inlet ≡ [] → IsSoFar most 0 had had held held old old inlet
-  so_far_none most had held old inlet e = record {
+  pub so_far_none : (most : ℕ) (routed : Bool) (had held : Option (List ℕ)) (old : Seen) (inlet : List ℕ) → inlet ≡ [] → IsSoFar most 0 routed had had held held old old inlet
+  so_far_none most routed had held old inlet e = record {
     read = [];
     exchanges = [];
     consumed = Consumes-nil had;
     appended = Appends-nil held;
     comes = rw e (comes_none most []);
+    routes = found_by_none routed;
     runs = runs_none d old;
     count = refl;
     opens = refl;
   }
 
-  module _ (most n : ℕ) (had left later held holds after : Option (List ℕ)) (old mid new : Seen) (inlet rest : List ℕ)
-      (s : IsSoFar most n had left held holds old mid inlet) (below : n < most) where
+  module _ (most n : ℕ) (was routed : Bool) (had left later held holds after : Option (List ℕ)) (old mid new : Seen) (inlet rest : List ℕ)
+      (s : IsSoFar most n was had left held holds old mid inlet) (below : n < most) where
     open_yet : goes_on most s.exchanges ≡ true
     open_yet =
         let count = s.count in
@@ -70,7 +82,7 @@ module _ (d : Door) where
         ap (λ b. is_closing e.head || b) same
 
     -- the exchanges with one more
-    module _ (read : List ℕ) (e : Exchange) (consumed : Consumes left later read) (x : Exchanges d ((n + 1) == most) (inlet ++ read) e rest mid new) where
+    module _ (read : List ℕ) (e : Exchange) (consumed : Consumes left later read) (x : Exchanges d ((n + 1) == most) routed (inlet ++ read) e rest mid new) (stay : was ≡ true → routed ≡ true) where
       all_consumed : Consumes had later (s.read ++ read)
       all_consumed = Consumes-trans had left later s.read read s.consumed consumed
 
@@ -78,6 +90,9 @@ module _ (d : Door) where
       all_come =
           comes_more most (s.read ++ read) s.exchanges (inlet ++ read) e rest x.ends open_yet
           (comes_read most s.read s.exchanges inlet read s.comes) x.exchanged (x.ends_is ∙ last_is e)
+
+      all_routes : AreFoundBy routed (s.exchanges ++ e ∷ [])
+      all_routes = found_by_more was routed s.exchanges e stay x.routed_is s.routes
 
       all_runs : Runs d old new (commands_of (s.exchanges ++ e ∷ [])) (responses_of (s.exchanges ++ e ∷ []))
       all_runs =
@@ -109,22 +124,23 @@ module _ (d : Door) where
         let all = Appends-trans held holds after (replies s.exchanges) written s.appended a in
         rw (e, append-nil (replies s.exchanges)) at all
 
-    pub so_far_more : IsTurn d ((n + 1) == most) inlet rest left later holds after mid new Answered → IsSoFar most (n + 1) had later held after old new rest
+    pub so_far_more : IsTurn d ((n + 1) == most) was routed inlet rest left later holds after mid new Answered → IsSoFar most (n + 1) routed had later held after old new rest
     so_far_more t =
         let (e, x, told, goes) = t.out in
-        let others : goes_on most (s.exchanges ++ e ∷ []) ≡ true = ends_or_not t.read e t.consumed x ∙ ap not goes in
+        let others : goes_on most (s.exchanges ++ e ∷ []) ≡ true = ends_or_not t.read e t.consumed x t.stay ∙ ap not goes in
         record {
           read = s.read ++ t.read;
           exchanges = s.exchanges ++ e ∷ [];
-          consumed = all_consumed t.read e t.consumed x;
-          appended = all_written t.read e t.consumed x t.written t.appended told;
-          comes = all_come t.read e t.consumed x;
-          runs = all_runs t.read e t.consumed x;
-          count = one_more t.read e t.consumed x;
+          consumed = all_consumed t.read e t.consumed x t.stay;
+          appended = all_written t.read e t.consumed x t.stay t.written t.appended told;
+          comes = all_come t.read e t.consumed x t.stay;
+          routes = all_routes t.read e t.consumed x t.stay;
+          runs = all_runs t.read e t.consumed x t.stay;
+          count = one_more t.read e t.consumed x t.stay;
           opens = (both (nat_lt (length (s.exchanges ++ e ∷ [])) most) (all_open (s.exchanges ++ e ∷ [])) others).1;
         }
 
-    closed_by_reply : (t : IsTurn d ((n + 1) == most) inlet rest left later holds after mid new Closed) (e : Exchange) → Exchanges d ((n + 1) == most) (inlet ++ t.read) e rest mid new
+    closed_by_reply : (t : IsTurn d ((n + 1) == most) was routed inlet rest left later holds after mid new Closed) (e : Exchange) → Exchanges d ((n + 1) == most) routed (inlet ++ t.read) e rest mid new
         → t.written ≡ e.reply → (is_closing e.head || ((n + 1) == most)) ≡ true
         → Conversation d most had later held after old new (Ok (record { requests = n + 1; ended = ended_after (n + 1) most }))
     closed_by_reply t e x told ends = record {
@@ -132,18 +148,20 @@ module _ (d : Door) where
       written = replies (s.exchanges ++ e ∷ []);
       exchanges = s.exchanges ++ e ∷ [];
       rest = rest;
-      consumed = all_consumed t.read e t.consumed x;
-      appended = all_written t.read e t.consumed x t.written t.appended told;
-      comes = all_come t.read e t.consumed x;
-      runs = all_runs t.read e t.consumed x;
+      consumed = all_consumed t.read e t.consumed x t.stay;
+      appended = all_written t.read e t.consumed x t.stay t.written t.appended told;
+      comes = all_come t.read e t.consumed x t.stay;
+      routes = (all_routes t.read e t.consumed x t.stay).stay;
+      runs = all_runs t.read e t.consumed x t.stay;
+      answers = answers_off d old new _ _ (all_runs t.read e t.consumed x t.stay);
       comes_to = ends_by most (s.exchanges ++ e ∷ []) rest later (n + 1) (replies (s.exchanges ++ e ∷ [])) (ended_after (n + 1) most) refl (inl (record {
-        done = ends_or_not t.read e t.consumed x ∙ ap not ends;
-        counted = sym (one_more t.read e t.consumed x);
+        done = ends_or_not t.read e t.consumed x t.stay ∙ ap not ends;
+        counted = sym (one_more t.read e t.consumed x t.stay);
         told = refl;
       }));
     }
 
-    closed_by_refusal : (t : IsTurn d ((n + 1) == most) inlet rest left later holds after mid new Closed) → IsTurnedAway (inlet ++ t.read) later t.written → Rests d mid new
+    closed_by_refusal : (t : IsTurn d ((n + 1) == most) was routed inlet rest left later holds after mid new Closed) → IsTurnedAway (inlet ++ t.read) later t.written → Rests d mid new
         → Conversation d most had later held after old new (Ok (record { requests = n + 1; ended = ended_after (n + 1) most }))
     closed_by_refusal t away rests = record {
       read = s.read ++ t.read;
@@ -153,7 +171,9 @@ module _ (d : Door) where
       consumed = still_consumed t.read t.consumed rests;
       appended = Appends-trans held holds after (replies s.exchanges) t.written s.appended t.appended;
       comes = still_come t.read t.consumed rests;
+      routes = s.routes.stay;
       runs = still_runs t.read t.consumed rests;
+      answers = answers_off d old new _ _ (still_runs t.read t.consumed rests);
       comes_to = ends_by most s.exchanges (inlet ++ t.read) later (n + 1) (replies s.exchanges ++ t.written) (ended_after (n + 1) most) refl (inr (record {
         open_yet = open_yet;
         text = t.written;
@@ -163,11 +183,11 @@ module _ (d : Door) where
       }));
     }
 
-    pub ends_closed : IsTurn d ((n + 1) == most) inlet rest left later holds after mid new Closed
+    pub ends_closed : IsTurn d ((n + 1) == most) was routed inlet rest left later holds after mid new Closed
         → Conversation d most had later held after old new (Ok (record { requests = n + 1; ended = ended_after (n + 1) most }))
     ends_closed t = elim t.out [ inl w ↦ closed_by_reply t w.0 w.1 w.2 w.3 | inr w ↦ closed_by_refusal t w.0 w.1 ]
 
-    pub ends_over : IsTurn d ((n + 1) == most) inlet rest left later holds after mid new Over
+    pub ends_over : IsTurn d ((n + 1) == most) was routed inlet rest left later holds after mid new Over
         → Conversation d most had later held after old new (Ok (record { requests = n; ended = ended.InputEnd }))
     ends_over t =
         let (over, at_end, rests, none) = t.out in
@@ -179,26 +199,30 @@ module _ (d : Door) where
           consumed = still_consumed t.read t.consumed rests;
           appended = quiet t.written t.appended none;
           comes = still_come t.read t.consumed rests;
+          routes = s.routes.stay;
           runs = still_runs t.read t.consumed rests;
+          answers = answers_off d old new _ _ (still_runs t.read t.consumed rests);
           comes_to = record { open_yet = open_yet; over = over; at_end = at_end; counted = sym s.count; told = refl };
         }
 
-    stops_answering : (t : IsTurn d ((n + 1) == most) inlet rest left later holds after mid new (Stopped WriteFault)) (lost : List ℕ) (e : Exchange)
-        → Exchanges d ((n + 1) == most) (inlet ++ t.read) e rest mid new → e.reply ≡ t.written ++ lost
+    stops_answering : (t : IsTurn d ((n + 1) == most) was routed inlet rest left later holds after mid new (Stopped WriteFault)) (lost : List ℕ) (e : Exchange)
+        → Exchanges d ((n + 1) == most) routed (inlet ++ t.read) e rest mid new → e.reply ≡ t.written ++ lost
         → Conversation d most had later held after old new (Err (record { requests = n; cause = WriteFault }))
     stops_answering t lost e x cut = record {
       read = s.read ++ t.read;
       written = replies s.exchanges ++ t.written;
       exchanges = s.exchanges ++ e ∷ [];
       rest = rest;
-      consumed = all_consumed t.read e t.consumed x;
+      consumed = all_consumed t.read e t.consumed x t.stay;
       appended = Appends-trans held holds after (replies s.exchanges) t.written s.appended t.appended;
-      comes = all_come t.read e t.consumed x;
-      runs = all_runs t.read e t.consumed x;
+      comes = all_come t.read e t.consumed x t.stay;
+      routes = (all_routes t.read e t.consumed x t.stay).stay;
+      runs = all_runs t.read e t.consumed x t.stay;
+      answers = answers_off d old new _ _ (all_runs t.read e t.consumed x t.stay);
       comes_to = inr (inl (record { earlier = s.exchanges; in_hand = e; sent = t.written; lost = lost; split = refl; cut = cut; counted = sym s.count; told = refl }));
     }
 
-    stops_refusing : (t : IsTurn d ((n + 1) == most) inlet rest left later holds after mid new (Stopped WriteFault)) (lost : List ℕ)
+    stops_refusing : (t : IsTurn d ((n + 1) == most) was routed inlet rest left later holds after mid new (Stopped WriteFault)) (lost : List ℕ)
         → IsTurnedAway (inlet ++ t.read) later (t.written ++ lost) → Rests d mid new
         → Conversation d most had later held after old new (Err (record { requests = n; cause = WriteFault }))
     stops_refusing t lost away rests = record {
@@ -209,7 +233,9 @@ module _ (d : Door) where
       consumed = still_consumed t.read t.consumed rests;
       appended = Appends-trans held holds after (replies s.exchanges) t.written s.appended t.appended;
       comes = still_come t.read t.consumed rests;
+      routes = s.routes.stay;
       runs = still_runs t.read t.consumed rests;
+      answers = answers_off d old new _ _ (still_runs t.read t.consumed rests);
       comes_to = inr (inr (record { open_yet = open_yet; sent = t.written; lost = lost; turned_away = away; counted = sym s.count; told = refl }));
     }
 
@@ -228,11 +254,13 @@ module _ (d : Door) where
         consumed = still_consumed read consumed w.1;
         appended = quiet written appended w.2;
         comes = still_come read consumed w.1;
+        routes = s.routes.stay;
         runs = still_runs read consumed w.1;
+        answers = answers_off d old new _ _ (still_runs read consumed w.1);
         comes_to = how;
       }
 
-    pub stops : (cause : Cause) → IsTurn d ((n + 1) == most) inlet rest left later holds after mid new (Stopped cause)
+    pub stops : (cause : Cause) → IsTurn d ((n + 1) == most) was routed inlet rest left later holds after mid new (Stopped cause)
         → Conversation d most had later held after old new (Err (record { requests = n; cause = cause }))
     stops ReadFault t = stops_waiting t.read t.written t.consumed t.appended t.out ReadFault (waiting t.read t.written t.consumed t.appended t.out)
     stops WriteFault t =
@@ -242,10 +270,10 @@ module _ (d : Door) where
         ]
 
   -- so many were answered as were allowed
-  pub ends_most : (most n : ℕ) (had left held holds : Option (List ℕ)) (old new : Seen) (inlet : List ℕ)
-      → IsSoFar most n had left held holds old new inlet → most ≤ n → n ≤ most
+  pub ends_most : (most n : ℕ) (routed : Bool) (had left held holds : Option (List ℕ)) (old new : Seen) (inlet : List ℕ)
+      → IsSoFar most n routed had left held holds old new inlet → most ≤ n → n ≤ most
       → Conversation d most had left held holds old new (Ok (record { requests = most; ended = ended.Most }))
-  ends_most most n had left held holds old new inlet s above below =
+  ends_most most n routed had left held holds old new inlet s above below =
       let same : n ≡ most = omega arith in
       let full : length s.exchanges ≡ most = s.count ∙ same in
       let none : nat_lt (length s.exchanges) most ≡ false = grind (arith, nat_tests, full) in
@@ -259,7 +287,9 @@ module _ (d : Door) where
         consumed = s.consumed;
         appended = s.appended;
         comes = s.comes;
+        routes = s.routes.stay;
         runs = s.runs;
+        answers = answers_off d old new _ _ s.runs;
         comes_to = ends_by most s.exchanges inlet left most (replies s.exchanges) ended.Most ends (inl (record {
           done = ap (λ b. b && all_open s.exchanges) none;
           counted = sym full;

@@ -1,5 +1,5 @@
 -- A request as it is read.
-use Rattle.std.proofs.Common.{◌≡◌, ℕ, true, false, List, ◌++◌, Option, ◌⊎◌, inl, inr, arith, ◌∙◌, sym, ap}
+use Rattle.std.proofs.Common.{◌≡◌, ℕ, Bool, true, false, List, ◌++◌, Option, ◌⊎◌, inl, inr, arith, ◌∙◌, sym, ap}
 use Rattle.std.specs.Io.KnownBytes.{IsAtEnd}
 use Rattle.httparse.specs.Grammar.{RequestHead}
 use Rattle.httparse.proofs.GrammarLemmas.{ReadsRequest-append}
@@ -38,9 +38,10 @@ module _ (bytes : List ℕ) (h : RequestHead) (after : List ℕ) (begins : Begin
   cant_read (Refused why) fault e c = bad_length fault (record { head = h; after = after; begins = begins; framed = sym e ∙ ap Refused c })
 
   -- what stands behind a head makes it a request, or tells why there is none
-  pub head_then : (rest : List ℕ) (needed : Needed) (came : Incoming) → IsNeeded h needed → IsBehind after needed rest left came → IsIncoming bytes rest left came
-  head_then rest needed (incoming.Request q) n b =
+  pub head_then : (routed : Bool) (rest : List ℕ) (needed : Needed) (came : Incoming) → IsNeeded routed h needed → IsBehind after needed rest left came
+      → IsIncoming routed bytes rest left came
+  head_then routed rest needed (incoming.Request q) n b =
       (h, record { after = after; head = begins; framed = sym n.framing_is ∙ b.0; whole = b.1 }, rw b.2 n.call_is, b.3 ∙ n.closing_is)
-  head_then rest needed (incoming.Refused fault) n b = cant_read needed.framing fault n.framing_is b
-  head_then rest needed incoming.Over n b = absurd b
-  head_then rest needed (incoming.Failed cause) n b = inr (b.0, after, has_head b.0 (sym n.framing_is ∙ b.1), b.2)
+  head_then routed rest needed (incoming.Refused fault) n b = cant_read needed.framing fault n.framing_is b
+  head_then routed rest needed incoming.Over n b = absurd b
+  head_then routed rest needed (incoming.Failed cause) n b = inr (b.0, after, has_head b.0 (sym n.framing_is ∙ b.1), b.2)

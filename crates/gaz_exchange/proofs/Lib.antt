@@ -4,9 +4,12 @@ pub mod StreamFacts
 pub mod HeaderFacts
 pub mod IncomingFacts
 pub mod ExchangeFacts
+pub mod RoutesKept
 pub mod TurnFacts
 pub mod ConversationFacts
 pub mod SeekFacts
 pub mod RouteFacts
 pub mod WalkFacts
 pub mod BodyFacts
+pub mod StreamLaws
+pub mod WorkedStreams

@@ -2,10 +2,12 @@
 use Rattle.std.specs.Prelude.{◌≡◌, ℕ, ◌+◌, ◌⊎◌, ◌==◌, true, false, if◌then◌else◌, List, [], ◌∷◌, ◌++◌, length, Option, Result, Ok, Err}
 use Rattle.std.specs.Io.KnownBytes.{Appends, Consumes, IsAtEnd}
 use Rattle.gaz_shelf.specs.Keeper.{Seen}
+use Rattle.gaz_hub.specs.Answers.{AllAnswered}
 use Rattle.gaz_hub.specs.Hubs.{Runs}
+use Rattle.gaz_hub.specs.Laws.{StandsForRun}
 use Rattle.gaz_hub.specs.Step.{Door}
 use Rattle.gaz_exchange.specs.Heads.{IsOver}
-use Rattle.gaz_exchange.specs.Exchanges.{Exchange, Comes, goes_on, replies, commands_of, responses_of}
+use Rattle.gaz_exchange.specs.Exchanges.{Exchange, Comes, RoutesStay, goes_on, replies, commands_of, responses_of}
 use Rattle.gaz_exchange.specs.Refusals.{IsTurnedAway, IsUnfinished}
 use Rattle.gaz_exchange.specs.declared.conversation.Ended.{Ended}
 use Rattle.gaz_exchange.specs.declared.conversation.Ended.TheVariants.{Most, Closed, InputEnd}
@@ -92,5 +94,10 @@ pub record Conversation (d : Door) (most : ℕ) (had left held holds : Option (L
   pub consumed : Consumes had left read
   pub appended : Appends held holds written
   pub comes : Comes most read exchanges rest
+  pub routes : RoutesStay exchanges
   pub runs : Runs d old new (commands_of exchanges) (responses_of exchanges)
+  -- where the keeper stood for a partial run before and nobody else wrote on it: what is received is what was there and
+  -- what came first, and each answer is read off the standing board of the files that were received by then
+  pub answers : StandsForRun d old → new.unharmed
+      → AllAnswered d old.content.files (commands_of exchanges) (responses_of exchanges) new.content.files
   pub comes_to : ComesTo most exchanges rest left result written

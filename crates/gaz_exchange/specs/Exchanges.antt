@@ -1,5 +1,5 @@
 -- Requests and their replies in turn.
-use Rattle.std.specs.Prelude.{◌≡◌, ℕ, ◌<◌, ◌-◌, ◌==◌, ◌&&◌, ◌||◌, not, nat_lt, Bool, List, [], ◌∷◌, ◌++◌, length, IsTrue, Option, Some, None, Result, Ok, Err}
+use Rattle.std.specs.Prelude.{◌≡◌, ℕ, ◌<◌, ◌-◌, ◌==◌, ◌&&◌, ◌||◌, not, nat_lt, Bool, true, false, List, [], ◌∷◌, ◌++◌, length, IsTrue, Option, Some, None, Result, Ok, Err}
 use Rattle.std.specs.Option.{option_and_then}
 use Rattle.std.specs.List.{flat_map, filter_map, list_all}
 use Rattle.std.specs.Result.{result_ok}
@@ -14,10 +14,11 @@ use Rattle.gaz_exchange.specs.declared.fault.Fault.TheVariants.{NotReceived}
 use Rattle.gaz_exchange.specs.declared.framing.Framing.TheVariants.{Length}
 use Rattle.gaz_exchange.specs.declared.reply.Reply.TheVariants.{Refused}
 
--- a request, what the hub said to it (none where it wasn't asked), and the reply's text
+-- a request, whether there was memory to find the routes, what the hub said (none where it wasn't asked), and the reply's text
 pub record Exchange : Type 0 where
   pub head : RequestHead
   pub body : List ℕ
+  pub routed : Bool
   pub response : Option Response
   pub reply : List ℕ
 
@@ -28,17 +29,26 @@ pub record BeginsWithRequest (bytes : List ℕ) (h : RequestHead) (body rest : L
   pub framed : length_of h ≡ Length (length body)
   pub whole : after ≡ body ++ rest
 
--- the text tells what the hub said, or why it wasn't asked; where there was no memory to find the route it tells 51
+-- what asks anything is asked, and the text tells what the hub said; else it tells why nothing was asked
 abbrev pub IsReplyTo : Result Command Fault → Option Response → Bool → List ℕ → Type 0
 IsReplyTo (Ok command) (Some response) is_last text = IsReplyText (reply_to response) is_last text
-IsReplyTo (Ok command) None is_last text = text ≡ reply_text (Refused NotReceived) is_last
-IsReplyTo (Err fault) None is_last text = IsReplyText (Refused fault) is_last text
+IsReplyTo (Ok command) None is_last text = ⊥
+IsReplyTo (Err fault) None is_last text = text ≡ reply_text (Refused fault) is_last
 IsReplyTo (Err fault) (Some response) is_last text = ⊥
+
+-- there was no memory to find the routes: nothing is asked, and the text tells 51
+pub record FoundNoRoutes (e : Exchange) (is_last : Bool) : Type 0 where
+  pub unasked : e.response ≡ None
+  pub told : e.reply ≡ reply_text (Refused NotReceived) is_last
+
+abbrev pub IsAnswered : Bool → Exchange → Bool → Type 0
+IsAnswered true e is_last = IsReplyTo (asked e.head e.body) e.response is_last e.reply
+IsAnswered false e is_last = FoundNoRoutes e is_last
 
 -- the bytes begin with the request of this exchange, which is answered so, and rest follows
 pub record IsExchanged (bytes : List ℕ) (e : Exchange) (rest : List ℕ) (is_last : Bool) : Type 0 where
   pub request : BeginsWithRequest bytes e.head e.body rest
-  pub answered : IsReplyTo (asked e.head e.body) e.response is_last e.reply
+  pub answered : IsAnswered e.routed e is_last
 
 -- the conversation ends after this exchange, the first of at most so many
 abbrev pub ends_after : ℕ → Exchange → Bool
@@ -50,6 +60,14 @@ Comes most bytes [] rest = bytes ≡ rest
 Comes most bytes (e ∷ es) rest =
     (0 < most) × (after : List ℕ) × IsExchanged bytes e after (ends_after most e)
     × (IsTrue (ends_after most e) → es ≡ []) × Comes (most - 1) after es rest
+
+-- once the routes are found they stay: from some exchange on each has them, and none before
+pub record RoutesStay (es : List Exchange) : Type 0 where
+  pub without : List Exchange
+  pub having : List Exchange
+  pub split : es ≡ without ++ having
+  pub missed : list_all (λ e. not e.routed) without ≡ true
+  pub found : list_all (λ e. e.routed) having ≡ true
 
 -- none of the requests ends the conversation by its own word
 abbrev pub all_open : List Exchange → Bool

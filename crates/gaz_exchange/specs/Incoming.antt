@@ -1,5 +1,5 @@
 -- A request as it is read.
-use Rattle.std.specs.Prelude.{◌≡◌, ◌⊎◌, ◌<◌, ◌++◌, ℕ, List, length, Option, Result, Err}
+use Rattle.std.specs.Prelude.{◌≡◌, ◌⊎◌, ◌<◌, ◌++◌, ℕ, Bool, true, false, List, length, Option, Result, Err}
 use Rattle.std.specs.Io.KnownBytes.{IsAtEnd}
 use Rattle.httparse.specs.Grammar.{RequestHead}
 use Rattle.gaz_exchange.specs.Asking.{call_at, method_of}
@@ -18,17 +18,18 @@ use Rattle.gaz_exchange.specs.declared.request.Incoming.{Incoming}
 use Rattle.gaz_exchange.specs.declared.request.Incoming.TheVariants as incoming
 use Rattle.gaz_exchange.specs.declared.request.Needed.{Needed}
 
--- what the hub is asked at a target, unless there was no memory to find the route
-abbrev pub IsCallAt : List ℕ → Method → Result Call Fault → Type 0
-IsCallAt target method call = (call ≡ call_at (target_of target) method) ⊎ (call ≡ Err NotReceived)
+-- what the hub is asked at a target, where the routes were found, and else 51
+abbrev pub IsCallAt : Bool → List ℕ → Method → Result Call Fault → Type 0
+IsCallAt true target method call = call ≡ call_at (target_of target) method
+IsCallAt false target method call = call ≡ Err NotReceived
 
-abbrev pub IsCall : RequestHead → Result Call Fault → Type 0
-IsCall h call = IsCallAt h.target (method_of h.method) call
+abbrev pub IsCall : Bool → RequestHead → Result Call Fault → Type 0
+IsCall routed h call = IsCallAt routed h.target (method_of h.method) call
 
 -- what the head says
-pub record IsNeeded (h : RequestHead) (needed : Needed) : Type 0 where
+pub record IsNeeded (routed : Bool) (h : RequestHead) (needed : Needed) : Type 0 where
   pub framing_is : needed.framing ≡ length_of h
-  pub call_is : IsCall h needed.call
+  pub call_is : IsCall routed h needed.call
   pub closing_is : needed.closing ≡ is_closing h
 
 -- why a body can't be read
@@ -37,13 +38,13 @@ CantRead after (Length size) left fault =
     ((fault ≡ BadRequest) × (length after < size) × IsAtEnd left) ⊎ ((fault ≡ NotReceived) × (0 < size))
 CantRead after (Refused why) left fault = why ≡ fault
 
--- of the bytes that were pending or read, those that aren't used, and those that the reader has left
-abbrev pub IsIncoming : List ℕ → List ℕ → Option (List ℕ) → Incoming → Type 0
-IsIncoming bytes rest left (incoming.Request q) =
-    (h : RequestHead) × BeginsWithRequest bytes h q.body.items rest × IsCall h q.call × (q.closing ≡ is_closing h)
-IsIncoming bytes rest left (incoming.Refused fault) = IsRefused bytes left fault
-IsIncoming bytes rest left incoming.Over = IsOver bytes × IsAtEnd left
-IsIncoming bytes rest left (incoming.Failed cause) = IsUnfinished bytes
+-- whether the routes were found; of the bytes that were pending or read, those that aren't used, and those that the reader has left
+abbrev pub IsIncoming : Bool → List ℕ → List ℕ → Option (List ℕ) → Incoming → Type 0
+IsIncoming routed bytes rest left (incoming.Request q) =
+    (h : RequestHead) × BeginsWithRequest bytes h q.body.items rest × IsCall routed h q.call × (q.closing ≡ is_closing h)
+IsIncoming routed bytes rest left (incoming.Refused fault) = IsRefused bytes left fault
+IsIncoming routed bytes rest left incoming.Over = IsOver bytes × IsAtEnd left
+IsIncoming routed bytes rest left (incoming.Failed cause) = IsUnfinished bytes
 
 -- of the bytes behind a head that were pending or read
 abbrev pub IsBehind : List ℕ → Needed → List ℕ → Option (List ℕ) → Incoming → Type 0

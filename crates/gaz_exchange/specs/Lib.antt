@@ -8,6 +8,8 @@ pub mod Replies
 pub mod Exchanges
 pub mod Refusals
 pub mod Conversing
+pub mod Streams
+pub mod WorkedStreams
 pub mod Next
 pub mod Supplies
 pub mod Bodies

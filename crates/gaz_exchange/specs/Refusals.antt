@@ -4,7 +4,7 @@ use Rattle.std.specs.Io.KnownBytes.{IsAtEnd}
 use Rattle.httparse.specs.Grammar.{RequestHead}
 use Rattle.gaz_exchange.specs.Framing.{length_of}
 use Rattle.gaz_exchange.specs.Heads.{BeginsWith, IsOver, NeverHead, NoHead}
-use Rattle.gaz_exchange.specs.Replies.{IsReplyText}
+use Rattle.gaz_exchange.specs.Replies.{reply_text}
 use Rattle.gaz_exchange.specs.declared.fault.Fault.{Fault}
 use Rattle.gaz_exchange.specs.declared.fault.Fault.TheVariants.{BadRequest, NotReceived}
 use Rattle.gaz_exchange.specs.declared.framing.Framing.TheVariants.{Length, Refused}
@@ -44,4 +44,4 @@ pub data IsRefused (bytes : List ℕ) (left : Option (List ℕ)) : Fault → Typ
 pub record IsTurnedAway (bytes : List ℕ) (left : Option (List ℕ)) (text : List ℕ) : Type 0 where
   pub fault : Fault
   pub why : IsRefused bytes left fault
-  pub told : IsReplyText (reply.Refused fault) true text
+  pub told : text ≡ reply_text (reply.Refused fault) true

@@ -157,6 +157,17 @@ is_received _ = false
 abbrev pub memory_fault : Bool → Fault
 memory_fault received = if received then Unsettled else NotReceived
 
--- the reply's text, or where it found no memory that of 52 or 51
+-- the text is made with memory: a refusal's is a constant, and the bytes of an extract are there already
+abbrev pub takes_memory : Reply → Bool
+takes_memory (reply.Refused fault) = false
+takes_memory (reply.Extract bytes) = false
+takes_memory _ = true
+
+-- there was no memory for the reply's text, and that of 52 or 51 stands in its place
+pub record FoundNoMemory (r : Reply) (is_last : Bool) (text : List ℕ) : Type 0 where
+  pub took : takes_memory r ≡ true
+  pub told : text ≡ reply_text (reply.Refused (memory_fault (is_received r))) is_last
+
+-- the reply's text, unless there was no memory for it
 abbrev pub IsReplyText : Reply → Bool → List ℕ → Type 0
-IsReplyText r is_last text = (text ≡ reply_text r is_last) ⊎ (text ≡ reply_text (reply.Refused (memory_fault (is_received r))) is_last)
+IsReplyText r is_last text = (text ≡ reply_text r is_last) ⊎ FoundNoMemory r is_last text

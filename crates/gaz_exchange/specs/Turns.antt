@@ -53,8 +53,9 @@ pub record Refuses (held holds : Option (List ℕ)) (fault : Fault) (turn : Turn
   pub sent : IsSent held holds (Refused fault) true whole
   pub turn_is : turn ≡ turn_of true whole
 
--- the request at the front of the bytes is answered
-pub record Exchanges (d : Door) (is_last : Bool) (bytes : List ℕ) (e : Exchange) (rest : List ℕ) (old new : Seen) : Type 0 where
+-- the request at the front of the bytes is answered; routed where the routes were found
+pub record Exchanges (d : Door) (is_last routed : Bool) (bytes : List ℕ) (e : Exchange) (rest : List ℕ) (old new : Seen) : Type 0 where
+  pub routed_is : e.routed ≡ routed
   pub ends : Bool
   pub ends_is : ends ≡ (is_closing e.head || is_last)
   pub exchanged : IsExchanged bytes e rest ends
@@ -64,22 +65,23 @@ pub record Exchanges (d : Door) (is_last : Bool) (bytes : List ℕ) (e : Exchang
 abbrev pub Waits : Door → List ℕ → Seen → Seen → List ℕ → Type 0
 Waits d bytes old new written = IsUnfinished bytes × Rests d old new × (written ≡ [])
 
-abbrev pub TurnsOut : Door → Bool → List ℕ → List ℕ → Option (List ℕ) → Seen → Seen → List ℕ → Turn → Type 0
-TurnsOut d is_last bytes rest left old new written Answered =
-    (e : Exchange) × Exchanges d is_last bytes e rest old new × (written ≡ e.reply) × ((is_closing e.head || is_last) ≡ false)
-TurnsOut d is_last bytes rest left old new written Closed =
-    ((e : Exchange) × Exchanges d is_last bytes e rest old new × (written ≡ e.reply) × ((is_closing e.head || is_last) ≡ true))
+abbrev pub TurnsOut : Door → Bool → Bool → List ℕ → List ℕ → Option (List ℕ) → Seen → Seen → List ℕ → Turn → Type 0
+TurnsOut d is_last routed bytes rest left old new written Answered =
+    (e : Exchange) × Exchanges d is_last routed bytes e rest old new × (written ≡ e.reply) × ((is_closing e.head || is_last) ≡ false)
+TurnsOut d is_last routed bytes rest left old new written Closed =
+    ((e : Exchange) × Exchanges d is_last routed bytes e rest old new × (written ≡ e.reply) × ((is_closing e.head || is_last) ≡ true))
     ⊎ (IsTurnedAway bytes left written × Rests d old new)
-TurnsOut d is_last bytes rest left old new written Over = IsOver bytes × IsAtEnd left × Rests d old new × (written ≡ [])
-TurnsOut d is_last bytes rest left old new written (Stopped ReadFault) = Waits d bytes old new written
-TurnsOut d is_last bytes rest left old new written (Stopped WriteFault) = Waits d bytes old new written
-    ⊎ ((lost : List ℕ) × (((e : Exchange) × Exchanges d is_last bytes e rest old new × (e.reply ≡ written ++ lost))
+TurnsOut d is_last routed bytes rest left old new written Over = IsOver bytes × IsAtEnd left × Rests d old new × (written ≡ [])
+TurnsOut d is_last routed bytes rest left old new written (Stopped ReadFault) = Waits d bytes old new written
+TurnsOut d is_last routed bytes rest left old new written (Stopped WriteFault) = Waits d bytes old new written
+    ⊎ ((lost : List ℕ) × (((e : Exchange) × Exchanges d is_last routed bytes e rest old new × (e.reply ≡ written ++ lost))
     ⊎ (IsTurnedAway bytes left (written ++ lost) × Rests d old new)))
 
--- at a hub with this door: from the bytes that were pending and are, the reader's, the writer's, and the hub's keeper before and after
-pub record IsTurn (d : Door) (is_last : Bool) (pending rest : List ℕ) (had left held holds : Option (List ℕ)) (old new : Seen) (turn : Turn) : Type 0 where
+-- at a hub with this door: whether the routes were found and are, the bytes that were pending and are, the reader's, the writer's, and the hub's keeper before and after
+pub record IsTurn (d : Door) (is_last was routed : Bool) (pending rest : List ℕ) (had left held holds : Option (List ℕ)) (old new : Seen) (turn : Turn) : Type 0 where
   pub read : List ℕ
   pub written : List ℕ
   pub consumed : Consumes had left read
   pub appended : Appends held holds written
-  pub out : TurnsOut d is_last (pending ++ read) rest left old new written turn
+  pub stay : was ≡ true → routed ≡ true
+  pub out : TurnsOut d is_last routed (pending ++ read) rest left old new written turn

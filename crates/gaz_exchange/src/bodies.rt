@@ -1,6 +1,7 @@
 //! The bodies of replies: compact JSON with its keys in byte order, and one line feed.
-ghost use Rattle.std.specs.Prelude.{◌≡◌, ◌++◌, codes, decimal, flat_map, IfOk, OnOk, string_bytes};
+ghost use Rattle.std.specs.Prelude.{◌≡◌, ◌≤◌, ◌+◌, ◌++◌, [], codes, decimal, flat_map, length, IfOk, OnOk, string_bytes};
 ghost use Rattle.std.specs.List.{join_by};
+ghost use Rattle.std.specs.Option.{unwrap_or};
 ghost use Rattle.gaz_exchange.specs.Replies.{body_of, closed_text, line_text, outcome_text, want_text, wants_text};
 ghost use Rattle.gaz_exchange.specs.declared.reply.Reply.TheVariants as Reply;
 
@@ -113,7 +114,9 @@ fn with_line(out: Vec<u8>, line: &Option<AddressLine>) -> Result<Vec<u8>, AllocE
 }
 
 // The bytes that a body fits in where its line needs no escapes.
-fn room_for(found: &Found) -> usize {
+fn room_for(found: &Found) -> usize
+    ensures { result ≤ 64 + length (unwrap_or found.now.line []) }
+{
     match &found.line {
         None => FOUND_ROOM,
         Some(line) => FOUND_ROOM + line.as_str().len(),

@@ -31,7 +31,7 @@ fn refill<R: Read, W: Write>(r: &mut R, w: &mut W, inlet: &mut Inlet) -> Supply
     read_more(r, w, inlet)
 }
 
-/// Reads a body of `size` bytes. An empty one takes no memory.
+/// Reads a body of `size` bytes. An empty one takes no memory; that a body of 1,048,576 bytes finds it is tested, since no clause can say so.
 pub fn read_body<R: Read, W: Write>(
     alloc: Global,
     r: &mut R,

@@ -126,8 +126,8 @@ fn take_turn<R: Read, W: Write, K: Inbox + Drop>(
     is_last: bool,
 ) -> Turn
     requires idle { IsNotOpen (K.seen hub.old.keeper).progress }
-    ensures turn { IsTurn (door_of hub.old.register) is_last intake.old.inlet intake.new.inlet (R.remaining r.old) (R.remaining r.new)
-        (W.contents w.old) (W.contents w.new) (K.seen hub.old.keeper) (K.seen hub.new.keeper) result }
+    ensures turn { IsTurn (door_of hub.old.register) is_last intake.old.routes intake.new.routes intake.old.inlet intake.new.inlet
+        (R.remaining r.old) (R.remaining r.new) (W.contents w.old) (W.contents w.new) (K.seen hub.old.keeper) (K.seen hub.new.keeper) result }
     ensures register { hub.new.register ≡ hub.old.register }
 {
     match next_request(alloc, r, w, intake) {

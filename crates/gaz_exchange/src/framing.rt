@@ -6,11 +6,9 @@ ghost use Rattle.gaz_exchange.specs.Framing.{is_post_method, length_in, size_in}
 
 use crate::fault::Fault;
 use crate::headers::{find_value, how_many};
+use gaz_ids::MOST_BYTES;
 use gaz_ids::digits::are_digits;
 use httparse::spans::HeaderSpan;
-
-/// The bytes that a body may have.
-pub const BODY_LIMIT: usize = 1_048_576;
 
 /// How long the body of a request is.
 #[derive(Clone, Copy, Debug, PartialEq, Eq)]
@@ -31,7 +29,7 @@ fn limited_value(digits: &[u8]) -> Option<usize>
     let mut value = 0;
     for byte in digits {
         value = value * 10 + usize::from(*byte - b'0');
-        if value > BODY_LIMIT {
+        if value as u64 > MOST_BYTES {
             return None;
         }
     }

@@ -9,6 +9,7 @@ mod framing;
 mod headers;
 mod heads;
 mod inlet;
+pub mod laws;
 mod reply;
 mod request;
 mod route;
@@ -16,4 +17,5 @@ mod send;
 mod supply;
 
 pub use conversation::{Ended, Served, Stopped, converse};
+pub use send::write_all;
 pub use supply::Cause;

@@ -1,4 +1,4 @@
-ghost use Rattle.std.specs.Prelude.{◌≡◌, ◌++◌, [], ℕ, List};
+ghost use Rattle.std.specs.Prelude.{◌≡◌, ◌++◌, [], ℕ, List, false, true};
 ghost use Rattle.std.specs.Io.KnownBytes.{Consumes, Keeps};
 ghost use Rattle.httparse.specs.Grammar.{RequestHead};
 ghost use Rattle.httparse.specs.Spans.{IsRequestAt};
@@ -57,7 +57,8 @@ pub struct Intake {
 
 impl Intake {
     pub fn new() -> Self
-        ensures { result.inlet ≡ [] }
+        ensures unread { result.inlet ≡ [] }
+        ensures unrouted { result.routes ≡ false }
     {
         Intake {
             inlet: Inlet::new(),
@@ -75,7 +76,8 @@ fn needed_of(
     routes: &mut Routes,
 ) -> Needed
     requires { IsHeadAt bytes.now headers.now spans }
-    ensures { (h : RequestHead) → IsRequestAt bytes.now headers.now spans h → IsNeeded h result }
+    ensures needed { (h : RequestHead) → IsRequestAt bytes.now headers.now spans h → IsNeeded routes.new h result }
+    ensures stay { routes.old ≡ true → routes.new ≡ true }
 {
     let headers = &headers[..spans.headers];
     let method = spans.method.of(bytes);
@@ -122,7 +124,8 @@ pub fn next_request<R: Read, W: Write>(
     intake: &mut Intake,
 ) -> Incoming
     ensures read { (bs : List ℕ) × Consumes (R.remaining r.old) (R.remaining r.new) bs
-        × IsIncoming (intake.old.inlet ++ bs) intake.new.inlet (R.remaining r.new) result }
+        × IsIncoming intake.new.routes (intake.old.inlet ++ bs) intake.new.inlet (R.remaining r.new) result }
+    ensures stay { intake.old.routes ≡ true → intake.new.routes ≡ true }
     ensures written { Keeps (W.contents w.old) (W.contents w.new) }
 {
     match next_head(r, w, &mut intake.inlet, &mut intake.headers) {

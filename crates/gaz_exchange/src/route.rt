@@ -1,5 +1,4 @@
-ghost use Rattle.std.specs.Prelude.{◌≡◌, ◌∷◌, [], ℕ, List, codes, IfSome, IsUtf8, None};
-ghost use Rattle.std.specs.Option.{ForSome};
+ghost use Rattle.std.specs.Prelude.{◌≡◌, ◌∷◌, [], ℕ, List, codes, false, true, IfSome, IsUtf8};
 ghost use Rattle.gaz_exchange.specs.Asking.{call_at, look_up, method_of};
 ghost use Rattle.gaz_exchange.specs.Incoming.{IsCallAt};
 ghost use Rattle.gaz_exchange.specs.Routing.{Took, routes};
@@ -10,6 +9,7 @@ use crate::fault::{Allowed, Fault};
 use gaz_ids::{Code, Uprn, Volume};
 use matchit::{Params, ParamsIter, Router};
 use std::alloc::Global;
+use std::marker::Model;
 
 /// What is at a target.
 #[derive(Clone, Copy, Debug, PartialEq, Eq)]
@@ -195,24 +195,36 @@ fn find_call(router: &Router<Place>, target: &str, method: Method) -> Result<Cal
     }
 }
 
-/// The routes, which are made when they are first asked for.
+/// The routes, which are made when they are first asked for, and then kept. A contract sees whether they are there.
 #[derive(Drop)]
 pub struct Routes {
     router: Option<Router<Place>>,
-    ghost made: { ForSome router (λ r. r ≡ routes) },
+}
+
+impl Model for Routes {
+    ghost use Rattle.std.specs.Prelude.{◌≡◌, Bool, is_some};
+    ghost use Rattle.std.specs.Option.{ForSome};
+    ghost use Rattle.gaz_exchange.specs.Routing.{routes};
+
+    ghost Value = { Bool };
+
+    ghost view = { λ r. is_some r.router };
+
+    ghost invariant = { λ r. ForSome r.router (λ made. made ≡ routes) };
 }
 
 impl Routes {
     pub fn new() -> Self
-        ensures { result.router ≡ None }
+        ensures { result ≡ false }
     {
         Routes { router: None }
     }
 
-    /// What a request asks of the hub. Where there is no memory for the routes it is refusal 51.
+    /// What a request asks of the hub. Where there is no memory for the routes it is refusal 51; once they are there, they stay.
     pub fn call(&mut self, alloc: Global, target: &[u8], method: Method) -> Result<Call, Fault>
         requires { IsUtf8 target.now }
-        ensures { IsCallAt target.now method result }
+        ensures call { IsCallAt self.new target.now method result }
+        ensures stay { self.old ≡ true → self.new ≡ true }
     {
         let Ok(target) = std::str::from_utf8(target) else {
             unreachable!();

@@ -1,5 +1,5 @@
-ghost use Rattle.std.specs.Prelude.{◌≡◌, ◌++◌, ℕ, List, length, IfOk};
-ghost use Rattle.gaz_exchange.specs.Replies.{IsReplyText, end_of, reply_text};
+ghost use Rattle.std.specs.Prelude.{◌≡◌, ◌++◌, true, ℕ, List, length, IfOk};
+ghost use Rattle.gaz_exchange.specs.Replies.{IsReplyText, end_of, reply_text, takes_memory};
 ghost use Rattle.gaz_exchange.specs.Sending.{IsPut, IsSent, head_of};
 ghost use Rattle.gaz_exchange.specs.declared.fault.Fault.{Fault};
 ghost use Rattle.gaz_exchange.specs.declared.reply.Reply.TheVariants as Reply;
@@ -10,8 +10,8 @@ use itoa::Buffer;
 use std::alloc::{AllocError, Global};
 use std::io::Write;
 
-// Writes the text. At `false` the writer failed, or took nothing.
-fn write_all<W: Write>(w: &mut W, text: &[u8]) -> bool
+/// Writes the text. At `false` the writer failed, or took nothing, and perhaps a front of the text is written.
+pub fn write_all<W: Write>(w: &mut W, text: &[u8]) -> bool
     ensures { IsPut (W.contents w.old) (W.contents w.new) text.now result }
 {
     let mut at = 0;
@@ -97,6 +97,7 @@ fn put_made<W: Write>(
     body: Result<Vec<u8>, AllocError>,
     is_last: bool,
 ) -> bool
+    requires takes { takes_memory reply.now ≡ true }
     requires whole { IfOk body (λ b. head_of front.now (length b.items) is_last ++ b.items ≡ reply_text reply.now is_last) }
     ensures { IsSent (W.contents w.old) (W.contents w.new) reply.now is_last result }
 {

@@ -3,6 +3,8 @@ pub mod Telling
 pub mod Rows
 pub mod Lists
 pub mod Turns
+pub mod Ranks
+pub mod Rising
 pub mod InOrder
 pub mod Ends
 pub mod Examples

@@ -15,7 +15,8 @@ use Rattle.gaz_records.specs.declared.item.Kind.{Kind}
 use Rattle.gaz_records.specs.declared.item.Kind.TheVariants as kind
 use Rattle.gaz_rows.specs.Rows.{Fields, line_of, lines_of}
 use Rattle.gaz_extract.specs.Drafts.{DraftValue, with_items}
-use Rattle.gaz_extract.specs.Extracts.{identifier, record_of, records_from}
+use Rattle.gaz_records.specs.Kinds.{identifier}
+use Rattle.gaz_extract.specs.Extracts.{record_of, records_from}
 
 and-left : (a b : Bool) → (a && b) ≡ true → a ≡ true
 and-left true b e = refl

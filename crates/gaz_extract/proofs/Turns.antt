@@ -6,7 +6,7 @@ use Rattle.gaz_records.specs.declared.item.Kind.{Kind}
 use Rattle.gaz_records.specs.declared.key.Key.{Key}
 use Rattle.gaz_shelf.specs.Board.{reached, view_after}
 use Rattle.gaz_shelf.specs.Keeper.{Content, Keeps, Seen}
-use Rattle.gaz_ledger.specs.Reading.{IsKeyed, left_after}
+use Rattle.gaz_ledger.specs.Reading.{left_after}
 use Rattle.gaz_ledger.specs.View.{View}
 use Rattle.gaz_ledger.specs.Words.{rest_of}
 use Rattle.gaz_extract.specs.Drafts.{DraftValue, with_items}
@@ -23,14 +23,14 @@ none_left v kind (Some k) e = cc
 -- a draft with the items of a view after a volume that these calls read
 abbrev pub IsAdded : Seen → Seen → ℕ → ℕ → DraftValue → DraftValue → (View → List Item) → Type 0
 IsAdded old new code volume d e items =
-    old.stands → new.unharmed → volume ≤ reached old.content.board code → IsKeyed (view_after old.content.board code volume) → e ≡ with_items d (items (view_after old.content.board code volume))
+    old.stands → new.unharmed → volume ≤ reached old.content.board code → e ≡ with_items d (items (view_after old.content.board code volume))
 
 -- and with more of it
 pub then_added : (a b c : Seen) (code volume : ℕ) (d e f : DraftValue) (xs ys : View → List Item) → Keeps a b → Keeps b c
     → IsAdded a b code volume d e xs → IsAdded b c code volume e f ys → IsAdded a c code volume d f (λ v. xs v ++ ys v)
-then_added a b c code volume d e f xs ys first second one two = λ stood fine within keyed.
+then_added a b c code volume d e f xs ys first second one two = λ stood fine within.
     let mid = second.harm fine in
     let v = view_after a.content.board code volume in
-    let later = subst (λ (k : Content). volume ≤ reached k.board code → IsKeyed (view_after k.board code volume) → f ≡ with_items e (ys (view_after k.board code volume)))
-    (first.content stood mid) (two (first.stands stood mid) fine) within keyed in
-    later ∙ ap (λ (x : DraftValue). with_items x (ys v)) (one stood mid within keyed) ∙ with-append d (xs v) (ys v)
+    let later = subst (λ (k : Content). volume ≤ reached k.board code → f ≡ with_items e (ys (view_after k.board code volume)))
+    (first.content stood mid) (two (first.stands stood mid) fine) within in
+    later ∙ ap (λ (x : DraftValue). with_items x (ys v)) (one stood mid within) ∙ with-append d (xs v) (ys v)

@@ -1,21 +1,12 @@
 -- The whole view of a custodian after a volume, as a file of insertions.
 use Rattle.std.specs.Prelude.{ℕ, ◌+◌, nat_le, List, [], ◌∷◌, ◌++◌, length, map, codes, decimal, Option, Some, None, if◌then◌else◌}
 use Rattle.gaz_records.specs.Items.{item_texts, kind_of}
+use Rattle.gaz_records.specs.Kinds.{identifier}
 use Rattle.gaz_records.specs.declared.item.Item.{Item}
-use Rattle.gaz_records.specs.declared.item.Kind.{Kind}
-use Rattle.gaz_records.specs.declared.item.Kind.TheVariants as kind
 use Rattle.gaz_rows.specs.Rows.{Fields, lines_of}
 use Rattle.gaz_shelf.specs.Board.{Board, reached, view_after}
 use Rattle.gaz_ledger.specs.View.{View}
 use Rattle.gaz_ledger.specs.Words.{entries}
-
--- the record identifier of a kind
-abbrev pub identifier : Kind → List ℕ
-identifier kind.Street = codes "11"
-identifier kind.Descriptor = codes "15"
-identifier kind.Blpu = codes "21"
-identifier kind.Xref = codes "23"
-identifier kind.Lpi = codes "24"
 
 -- the record that inserts an item, at its place in the order
 abbrev pub record_of : ℕ → Item → Fields

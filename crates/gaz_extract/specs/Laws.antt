@@ -1,27 +1,41 @@
 -- What holds of every extract.
-use Rattle.std.specs.Prelude.{◌≡◌, ℕ, List, drop, fold, Ok, true}
-use Rattle.csv.specs.Reading.{default_config, records}
-use Rattle.gaz_records.specs.Items.{is_item, kind_of, read_item}
+use Rattle.std.specs.Prelude.{◌≡◌, ◌∷◌, ℕ, List, [], codes, fold, Option, Some, None, true, if◌then◌else◌}
+use Rattle.std.specs.List.{All, filter_map}
+use Rattle.std.specs.Option.{option_and_then}
+use Rattle.std.specs.Str.{bytes_eq}
+use Rattle.gaz_records.specs.Fields.{ok_of}
+use Rattle.gaz_records.specs.Items.{is_item, read_item}
+use Rattle.gaz_records.specs.Kinds.{identified}
 use Rattle.gaz_records.specs.declared.item.Item.{Item}
-use Rattle.gaz_rows.specs.Rows.{lines_of}
+use Rattle.gaz_rows.specs.Rows.{Fields, rows_of}
+use Rattle.gaz_shelf.specs.Board.{Board, view_after}
 use Rattle.gaz_ledger.specs.Reading.{IsKeyed}
 use Rattle.gaz_ledger.specs.View.{View, empty_view, with_item}
-use Rattle.gaz_extract.specs.Extracts.{extract_rows, items_of, record_of}
+use Rattle.gaz_extract.specs.Extracts.{extract, items_of}
 
--- the text of an extract reads back as its rows
-abbrev pub RowsReadBack : Type 0
-RowsReadBack = (c volume : ℕ) (items : List Item) → records default_config (lines_of (extract_rows c volume items)) ≡ extract_rows c volume items
+-- ---- an extract as it is read
 
--- a record's fields behind its order read back as its item
-abbrev pub RecordsReadBack : Type 0
-RecordsReadBack = (order : ℕ) (i : Item) → is_item i ≡ true → read_item (kind_of i) (drop 3 (record_of order i)) ≡ Ok i
+-- the item that a row inserts, of the kind that its identifier names; none where it is no record that inserts one, as a header or a trailer
+abbrev pub inserted : Fields → Option Item
+inserted (id ∷ (change ∷ (order ∷ fields))) = if bytes_eq change (codes "I") then option_and_then (λ k. ok_of (read_item k fields)) (identified id) else None
+inserted _ = None
 
--- a view's items put on the empty view, one after another in the order of the extract, give what the view holds
-abbrev pub ItemsGiveView : Type 0
-ItemsGiveView = (v : View) → IsKeyed v → (fold with_item empty_view (items_of v)).items ≡ v.items
+-- the items that the rows of a text insert, one after another
+abbrev pub items_read : List ℕ → List Item
+items_read text = filter_map inserted (rows_of text)
 
--- so an extract's records put on the empty view give the view that it was taken of
-pub record ExtractsReadBack : Type 0 where
-  pub rows : RowsReadBack
-  pub records : RecordsReadBack
-  pub view : ItemsGiveView
+-- ---- and what it gives
+
+-- each item of a view is one that the tables of records allow
+abbrev pub HasItems : View → Type 0
+HasItems v = All (λ i. is_item i ≡ true) (items_of v)
+
+-- the rows of a text insert just the items of a view, in the order of keys; put on the empty view they give what it holds
+pub record GivesBack (text : List ℕ) (v : View) : Type 0 where
+  pub items : items_read text ≡ items_of v
+  pub holds : (fold with_item empty_view (items_read text)).items ≡ v.items
+
+-- the extract of a view gives it back
+abbrev pub ExtractsReadBack : Type 0
+ExtractsReadBack = (B : Board) (c volume : ℕ) (text : List ℕ) → extract B c volume ≡ Some text
+    → IsKeyed (view_after B c volume) → HasItems (view_after B c volume) → GivesBack text (view_after B c volume)

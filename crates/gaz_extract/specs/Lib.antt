@@ -5,6 +5,7 @@ pub mod Lookups
 pub mod Readings
 pub mod Extracts
 pub mod Drafts
+pub mod Paging
 pub mod Closing
 pub mod Examples
 pub mod Laws

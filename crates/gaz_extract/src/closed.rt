@@ -1,15 +1,16 @@
-ghost use Rattle.std.specs.Prelude.{◌≡◌, ◌≤◌, ◌++◌, ◌∷◌, [], ℕ, OnOk};
+ghost use Rattle.std.specs.Prelude.{◌≡◌, ◌≤◌, ◌<◌, ◌++◌, ◌∷◌, [], ℕ, true, is_some, IfOk, OnOk};
 ghost use Rattle.std.specs.List.{cons_option, filter_map};
 ghost use Rattle.gaz_records.specs.declared.item.Kind.TheVariants as kind;
 ghost use Rattle.gaz_shelf.specs.Board.{last_view, reached, view_after};
 ghost use Rattle.gaz_shelf.specs.Keeper.{IsNotOpen};
-ghost use Rattle.gaz_ledger.specs.Reading.{IsKeyed, left_after};
+ghost use Rattle.gaz_ledger.specs.Reading.{left_after};
 ghost use Rattle.gaz_ledger.specs.Words.{rest_of};
 ghost use Rattle.gaz_extract.specs.Closing.{closed_at_owner, closed_by, closed_of, closed_streets, is_on_closed};
+ghost use Rattle.gaz_extract.specs.Paging.{pages_left};
 ghost use Rattle.gaz_extract.specs.Readings.{Tells};
 
 use crate::find::{has_closed_street, has_street};
-use crate::page::{PAGES, read_page};
+use crate::page::read_page;
 use gaz_ids::{Code, Status, Usrn};
 use gaz_records::{Item, Key, Kind, Lpi, RecordKey, SharedItem};
 use gaz_register::Register;
@@ -139,7 +140,8 @@ fn add_page<S: Shelf>(
     closed: &mut Vec<Closed>,
 ) -> Result<Option<Key>, ShelfFault>
     requires { IsNotOpen (S.seen shelf.old).progress }
-    ensures tells { Tells (S.seen shelf.old) (S.seen shelf.new) result (λ next. volume ≤ reached (S.seen shelf.old).content.board code → IsKeyed (view_after (S.seen shelf.old).content.board code volume) → closed.new.items ++ filter_map (closed_by (S.seen shelf.old).content.board register.now code) (left_after (view_after (S.seen shelf.old).content.board code volume) kind.Lpi next) ≡ closed.old.items ++ filter_map (closed_by (S.seen shelf.old).content.board register.now code) (rest_of (view_after (S.seen shelf.old).content.board code volume) kind.Lpi after)) }
+    ensures tells { Tells (S.seen shelf.old) (S.seen shelf.new) result (λ next. volume ≤ reached (S.seen shelf.old).content.board code → closed.new.items ++ filter_map (closed_by (S.seen shelf.old).content.board register.now code) (left_after (view_after (S.seen shelf.old).content.board code volume) kind.Lpi next) ≡ closed.old.items ++ filter_map (closed_by (S.seen shelf.old).content.board register.now code) (rest_of (view_after (S.seen shelf.old).content.board code volume) kind.Lpi after)) }
+    ensures fewer { is_some after ≡ true → IfOk result (λ next. pages_left next < pages_left after) }
     ensures not_open { IsNotOpen (S.seen shelf.new).progress }
 {
     let page = read_page(shelf, code, volume, Kind::Lpi, after)?;
@@ -155,31 +157,28 @@ fn add_custodian<S: Shelf>(
     closed: &mut Vec<Closed>,
 ) -> Result<(), ShelfFault>
     requires { IsNotOpen (S.seen shelf.old).progress }
-    ensures tells { Tells (S.seen shelf.old) (S.seen shelf.new) result (λ _. IsKeyed (last_view (S.seen shelf.old).content.board code) → closed.new.items ≡ closed.old.items ++ closed_of (S.seen shelf.old).content.board register.now code) }
+    ensures tells { Tells (S.seen shelf.old) (S.seen shelf.new) result (λ _. closed.new.items ≡ closed.old.items ++ closed_of (S.seen shelf.old).content.board register.now code) }
     ensures not_open { IsNotOpen (S.seen shelf.new).progress }
 {
     let volume = shelf.reached(code)?;
     let mut next = add_page(shelf, register, code, volume, None, closed)?;
-    for _turn in 0..PAGES {
+    'pages: loop {
         if next.is_none() {
             return Ok(());
         }
         next = add_page(shelf, register, code, volume, next, closed)?;
     }
-    Err(ShelfFault::Memory)
 }
 
 /// The approved addresses on streets that closed: each approved LPI in a custodian's last view whose street isn't in that view and has
 /// an end date in the last view of the custodian whose block holds it (our profile, docs/extracts.md); by custodian, then by the LPI's key.
-///
-/// Each item of the last views is to stand under its own key. `Memory` too where a keeper answers more pages than all volumes fill.
 pub fn closed_streets<S: Shelf>(
     alloc: Global,
     shelf: &mut S,
     register: &Register,
 ) -> Result<Vec<Closed>, ShelfFault>
     requires { IsNotOpen (S.seen shelf.old).progress }
-    ensures { Tells (S.seen shelf.old) (S.seen shelf.new) result (λ closed. ((c : ℕ) → IsKeyed (last_view (S.seen shelf.old).content.board c)) → closed.items ≡ closed_streets (S.seen shelf.old).content.board register.now) }
+    ensures { Tells (S.seen shelf.old) (S.seen shelf.new) result (λ closed. closed.items ≡ closed_streets (S.seen shelf.old).content.board register.now) }
 {
     let mut closed = Vec::new(alloc);
     for custodian in register.custodians() {

@@ -1,10 +1,10 @@
 ghost use Rattle.std.specs.Prelude.{◌≡◌, ◌≤◌, ◌++◌, ◌-◌, ◌∷◌, [], length, map, decimal, IfOk, OnOk};
 ghost use Rattle.csv.specs.Writing.{default_writer, row_text};
 ghost use Rattle.gaz_extract.specs.Drafts.{with_items};
-ghost use Rattle.gaz_extract.specs.Extracts.{header, identifier, record_of, trailer};
+ghost use Rattle.gaz_extract.specs.Extracts.{header, record_of, trailer};
 
 use gaz_ids::{Code, Volume};
-use gaz_records::{Item, Kind, SharedItem, write_item};
+use gaz_records::{Item, SharedItem, write_item};
 use gaz_rows::write_row;
 use itoa::Buffer;
 use std::alloc::{AllocError, Global};
@@ -29,19 +29,6 @@ impl Model for Draft {
     ghost invariant = { λ d. (1 ≤ d.next) × (d.next + d.next ≤ length d.text.items) };
 }
 
-// The record identifier of a kind.
-fn identifier(kind: Kind) -> &'static [u8]
-    ensures { result.now ≡ identifier kind }
-{
-    match kind {
-        Kind::Street => b"11",
-        Kind::Descriptor => b"15",
-        Kind::Blpu => b"21",
-        Kind::Xref => b"23",
-        Kind::Lpi => b"24",
-    }
-}
-
 // Adds the digits of a number.
 fn add_number(out: &mut Vec<u8>, number: u64) -> Result<(), AllocError>
     ensures { OnOk result (out.new.items ≡ out.old.items ++ decimal number) }
@@ -54,7 +41,7 @@ fn add_number(out: &mut Vec<u8>, number: u64) -> Result<(), AllocError>
 fn add_record(out: &mut Vec<u8>, order: u64, item: &Item) -> Result<(), AllocError>
     ensures { OnOk result (out.new.items ≡ out.old.items ++ row_text default_writer (record_of order item.now)) }
 {
-    out.extend_from_slice(identifier(item.kind()))?;
+    out.extend_from_slice(item.kind().text())?;
     out.extend_from_slice(b",I,")?;
     add_number(out, order)?;
     out.push(b',')?;

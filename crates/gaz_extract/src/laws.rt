@@ -7,7 +7,7 @@ pub fn worked_examples()
     ensures { WorkedExamples }
 {}
 
-/// An extract's records put on the empty view give what the view holds that it was taken of.
+/// The text of an extract, read as rows, inserts just the items of the view that it was taken of, and they give what that view holds.
 pub fn extracts_read_back()
     ensures { ExtractsReadBack }
 {}

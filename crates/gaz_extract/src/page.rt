@@ -1,20 +1,20 @@
 //! Views page by page.
-ghost use Rattle.std.specs.Prelude.{◌≡◌, ◌≤◌, ◌++◌, option_map};
+ghost use Rattle.std.specs.Prelude.{◌≡◌, ◌≤◌, ◌<◌, ◌++◌, true, is_some, IfOk, Some};
+ghost use Rattle.gaz_records.specs.Keys.{number_in};
+ghost use Rattle.gaz_records.specs.SortKeys.{has_label, seven_bytes};
 ghost use Rattle.gaz_shelf.specs.Board.{reached, view_after};
 ghost use Rattle.gaz_shelf.specs.Keeper.{IsNotOpen};
-ghost use Rattle.gaz_ledger.specs.Reading.{IsKeyed, left_after, next_after};
-ghost use Rattle.gaz_ledger.specs.Words.{rest_of};
+ghost use Rattle.gaz_ledger.specs.Reading.{left_after, next_after};
+ghost use Rattle.gaz_ledger.specs.Words.{comes_after, rest_of};
+ghost use Rattle.gaz_extract.specs.Paging.{pages_left, rising};
 ghost use Rattle.gaz_extract.specs.Readings.{Tells};
 
 use gaz_ids::Code;
-use gaz_records::{Key, Kind, SharedItem};
+use gaz_records::{Key, Kind, SharedItem, key_of};
 use gaz_shelf::{Shelf, ShelfFault};
 
 /// How many items are read at a time.
 pub const MOST: usize = 512;
-
-/// More pages than the records of 999,999 volumes fill: after so many a keeper's answers are given up.
-pub const PAGES: u32 = 10_000_000;
 
 /// Some items of a kind, and the key after which the next page begins, if there is one.
 #[derive(Drop)]
@@ -23,21 +23,71 @@ pub struct Page {
     pub next: Option<Key>,
 }
 
-// The key after which the next page begins, where this one is full.
-fn next_after(items: &[SharedItem]) -> Option<Key>
+// Does nothing: it promises of a key what its parts promise, a number of at most 12 digits, a text that is a label.
+fn read_ranges(key: &Key)
+    ensures number { number_in key.now < seven_bytes }
+    ensures label { has_label key.now ≡ true }
+{
+    match key {
+        Key::Street(usrn) => {
+            usrn.number();
+        }
+        Key::Descriptor(usrn, _) => {
+            usrn.number();
+        }
+        Key::Blpu(uprn) => {
+            uprn.number();
+        }
+        Key::Xref(label) => {
+            label.as_bytes();
+        }
+        Key::Lpi(label) => {
+            label.as_bytes();
+        }
+    }
+}
+
+// Whether a key comes after another. There are only so many keys, so each time less is left.
+fn is_later(before: &Key, key: &Key) -> bool
+    ensures later { result ≡ comes_after (Some before.now) key.now }
+    ensures fewer { result ≡ true → pages_left (Some key.now) < pages_left (Some before.now) }
+{
+    read_ranges(before);
+    read_ranges(key);
+    before.compare(key).is_lt()
+}
+
+// The key of a page's last item, where the page is full.
+fn last_key(items: &[SharedItem]) -> Option<Key>
     ensures { result ≡ next_after 512 items.now }
 {
     if items.len() < MOST {
         return None;
     }
     match items.last() {
-        Some(item) => Some(Key::of(item)),
+        Some(item) => Some(key_of(item)),
         None => None,
     }
 }
 
+// The key after which the next page begins, where this one is full and its last key comes after the one after which it began.
+fn next_after(items: &[SharedItem], after: &Option<Key>) -> Option<Key>
+    ensures next { result ≡ rising after.now (next_after 512 items.now) }
+    ensures fewer { is_some after.now ≡ true → pages_left result < pages_left after.now }
+{
+    let key = last_key(items)?;
+    let Some(before) = after else {
+        return Some(key);
+    };
+    if is_later(before, &key) {
+        return Some(key);
+    }
+    None
+}
+
 /// The page of a kind after a key, or from the start, after a volume, which is to be reached. With what comes after it, it is what
-/// there is after that key.
+/// there is after that key. Whatever the keeper answers, less is left for the pages that follow: a page whose last key doesn't come after
+/// the one before is taken as the last, and no keeper that stands for a content answers such a one.
 pub fn read_page<S: Shelf>(
     shelf: &mut S,
     code: Code,
@@ -46,10 +96,11 @@ pub fn read_page<S: Shelf>(
     after: Option<Key>,
 ) -> Result<Page, ShelfFault>
     requires { IsNotOpen (S.seen shelf.old).progress }
-    ensures tells { Tells (S.seen shelf.old) (S.seen shelf.new) result (λ p. volume ≤ reached (S.seen shelf.old).content.board code → IsKeyed (view_after (S.seen shelf.old).content.board code volume) → p.items.items ++ left_after (view_after (S.seen shelf.old).content.board code volume) kind p.next ≡ rest_of (view_after (S.seen shelf.old).content.board code volume) kind after) }
+    ensures tells { Tells (S.seen shelf.old) (S.seen shelf.new) result (λ p. volume ≤ reached (S.seen shelf.old).content.board code → p.items.items ++ left_after (view_after (S.seen shelf.old).content.board code volume) kind p.next ≡ rest_of (view_after (S.seen shelf.old).content.board code volume) kind after) }
+    ensures fewer { is_some after ≡ true → IfOk result (λ p. pages_left p.next < pages_left after) }
     ensures not_open { IsNotOpen (S.seen shelf.new).progress }
 {
     let items = shelf.page(code, volume, kind, after, MOST)?;
-    let next = next_after(items.as_slice());
+    let next = next_after(items.as_slice(), &after);
     Ok(Page { items, next })
 }

@@ -15,6 +15,10 @@ pub(crate) const FLAT_2_HIGH_STREET: &[u8] =
 pub(crate) const NUMBER_14_HIGH_STREET: &[u8] =
     b"10,1,1001,4,2024-04-01\n24,I,1,L2,42,ENG,1,101,,,,,,14,,,,,2024-04-01,\n24,U,2,L1,42,ENG,8,101,,,,,Flat 2,12,A,14,,,2001-04-01,2024-04-01\n99,2\n";
 
+/// The same, both at number 7.
+pub(crate) const NUMBER_7_HIGH_STREET: &[u8] =
+    b"10,1,1001,4,2024-04-01\n24,I,1,L2,42,ENG,1,101,,,,,,7,,,,,2024-04-01,\n24,U,2,L1,42,ENG,8,101,,,,,Flat 2,7,,,,,2001-04-01,2024-04-01\n99,2\n";
+
 /// Street 101's name, and street 101 once more.
 pub(crate) const HIGH_STREET_AND_STREET_101: &[u8] =
     b"10,1,1001,2,2024-02-01\n15,I,1,101,ENG,High Street,,Arden,Arden\n11,I,2,101,1,2001-04-01,\n99,2\n";

@@ -2,7 +2,7 @@
 use crate::file_fixtures::*;
 use gaz_changefile::{Change, read_file, write_file};
 use gaz_ids::{Code, Volume};
-use gaz_records::{Item, Key, item_of_text, item_text};
+use gaz_records::{Item, item_of_text, item_text, key_of};
 use std::alloc::Global;
 use std::process::Abort;
 use std::test::Fail;
@@ -15,6 +15,7 @@ const FILES: &[File] = &[
     (HIGH_STREET, 1001, 2),
     (FLAT_2_HIGH_STREET, 1001, 3),
     (NUMBER_14_HIGH_STREET, 1001, 4),
+    (NUMBER_7_HIGH_STREET, 1001, 4),
     (HIGH_STREET_AND_STREET_101, 1001, 2),
     (COUNTY_ROAD, 1001, 1),
     (COUNTY_ROAD_CLOSED, 1001, 2),
@@ -40,9 +41,9 @@ fn comes_back(alloc: Global, change: &Change) -> Result<bool, Fail> {
     let again = item_of_text(alloc, item.kind(), &text)?;
     Ok(
         item_text(alloc, &shared)? == text
-            && Key::of(&shared) == Key::of(item)
+            && key_of(&shared) == key_of(item)
             && item_text(alloc, &again)? == text
-            && Key::of(&again) == Key::of(item),
+            && key_of(&again) == key_of(item),
     )
 }
 

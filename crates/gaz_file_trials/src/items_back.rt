@@ -2,7 +2,7 @@
 use gaz_addressable::Object;
 use gaz_ids::{Lang, Uprn, Usrn};
 use gaz_records::{
-    Item, Key, Kind, RecordKey, SharedItem, item_of_text, item_text, read_item, write_item,
+    Item, Key, Kind, RecordKey, SharedItem, item_of_text, item_text, key_of, read_item, write_item,
 };
 use gaz_rows::read_row;
 use std::alloc::Global;
@@ -140,11 +140,17 @@ const ADDRESSES: &[Record] = &[
         "L1,42,ENG,1,101,,,,,Flat 2,7,,,,,2001-04-01,",
     ),
     (Kind::Lpi, "L2", "24,I,1,", NUMBER_14),
+    (
+        Kind::Lpi,
+        "L2",
+        "24,I,1,",
+        "L2,42,ENG,1,101,,,,,,7,,,,,2024-04-01,",
+    ),
     (Kind::Lpi, "K1", "24,I,2,", NUMBER_7),
     (Kind::Lpi, "Q1", "24,I,4,", THE_OLD_MILL),
 ];
 
-fn key_of(kind: Kind, text: &str) -> Result<Key, Fail> {
+fn read_key(kind: Kind, text: &str) -> Result<Key, Fail> {
     let label = RecordKey::read(text.as_bytes()).ok_or("a key");
     match kind {
         Kind::Street => Ok(Key::Street(Usrn::read(text.as_bytes())?)),
@@ -174,7 +180,7 @@ fn is_written(
     row: &str,
 ) -> Result<(), Fail> {
     let alloc = rt.alloc();
-    assert!(rt; Key::of(item) == key, "{row}");
+    assert!(rt; key_of(item) == key, "{row}");
     assert!(rt;
         item_text(alloc, item)?.as_slice() == row.as_bytes(),
         "{row}"
@@ -188,7 +194,7 @@ fn is_written(
 // The item of a change record has its key and row, and so have the item as another holds it and the item that its row says.
 fn comes_back(rt: &(impl Abort + AllocGlobal), record: &Record) -> Result<(), Fail> {
     let (kind, key, head, row) = *record;
-    let key = key_of(kind, key)?;
+    let key = read_key(kind, key)?;
     let item = SharedItem::new(rt.alloc(), change(rt.alloc(), kind, head, row)?)?;
     let shared = item.share()?;
     is_written(rt, &item, key, row)?;

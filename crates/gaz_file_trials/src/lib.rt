@@ -8,6 +8,8 @@ mod field_limits;
 #[cfg(test)]
 mod file_fixtures;
 #[cfg(test)]
+mod file_headers;
+#[cfg(test)]
 mod file_limits;
 #[cfg(test)]
 mod files_back;

@@ -1,5 +1,6 @@
 //! Numbers and codes.
-use gaz_ids::{Code, IdFault, Lang, Order, Status, Uprn, Usrn, Volume};
+use gaz_ids::{Code, IdFault, LAST_VOLUME, Lang, Order, Status, Uprn, Usrn, Volume};
+use gaz_records::Kind;
 use std::process::Abort;
 
 #[test]
@@ -11,6 +12,8 @@ fn a_number_reads(rt: HostRuntime) {
     assert_eq!(rt; Volume::read(b"+1"), Err(IdFault::NotDigits));
     assert_eq!(rt; Order::read(b"5001"), Err(IdFault::OutOfRange));
     assert!(rt; Code::of(10_000).is_none());
+    assert!(rt; Volume::of(999_999).is_some() && Volume::of(1_000_000).is_none());
+    assert_eq!(rt; LAST_VOLUME, 999_999);
 }
 
 #[test]
@@ -42,4 +45,27 @@ fn codes_read_and_print(rt: HostRuntime) {
     is_status(&rt, Status::Historical, "8", 8);
     assert!(rt; Lang::read(b"eng").is_none() && Status::read(b"2").is_none());
     assert!(rt; Lang::Cym < Lang::Eng && Lang::Cym.compare(Lang::Eng).is_lt());
+}
+
+/// The kinds and their record identifiers.
+const KINDS: &[(Kind, &str, u64)] = &[
+    (Kind::Street, "11", 11),
+    (Kind::Descriptor, "15", 15),
+    (Kind::Blpu, "21", 21),
+    (Kind::Xref, "23", 23),
+    (Kind::Lpi, "24", 24),
+];
+
+#[test]
+fn a_kind_has_a_record_identifier(rt: HostRuntime) {
+    for (kind, text, number) in KINDS {
+        assert!(rt; Kind::read(text.as_bytes()) == Some(*kind), "{text}");
+        assert!(rt;
+            kind.text() == text.as_bytes() && kind.number() == *number,
+            "{text}"
+        );
+    }
+    for text in ["", "1", "011", "11 ", "12", "90", "99"] {
+        assert!(rt; Kind::read(text.as_bytes()).is_none(), "{text}");
+    }
 }

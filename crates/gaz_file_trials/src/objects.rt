@@ -1,5 +1,5 @@
 //! Addressable objects, their texts and house numbers.
-use gaz_addressable::{HouseNumber, ObjFault, Object, Text, TextFault};
+use gaz_addressable::{HouseNumber, ObjFault, Object, Text, TextFault, is_text};
 use std::alloc::Global;
 use std::process::Abort;
 use std::test::Fail;
@@ -120,6 +120,8 @@ fn characters_count(rt: HostRuntime) -> Result<(), Fail> {
     assert!(rt; fault.is_err_and(|e| e == ObjFault::TextTooLong));
     assert!(rt; Text::<90>::read(alloc, more.as_bytes()).is_err_and(|e| e == TextFault::TooLong));
     assert!(rt; Text::<90>::read(alloc, b"\xff").is_err_and(|e| e == TextFault::BadForm));
+    assert!(rt; is_text(most.as_bytes(), 90) && !is_text(more.as_bytes(), 90));
+    assert!(rt; is_text(b"a", 1) && !is_text(b"", 1) && !is_text(b" a", 2) && !is_text(b"\xff", 1));
     Ok(())
 }
 
@@ -141,6 +143,8 @@ fn house_numbers_are_in_order(rt: HostRuntime) -> Result<(), Fail> {
     ];
     for pair in houses.windows(2) {
         assert!(rt; pair[0] < pair[1] && pair[0].is_before(&pair[1]));
+        assert!(rt; pair[0].compare(&pair[1]).is_lt() && pair[1].compare(&pair[0]).is_gt());
+        assert!(rt; pair[0].compare(&pair[0]).is_eq());
         assert!(rt; !pair[1].is_before(&pair[0]) && !pair[1].is_before(&pair[1]));
     }
     Ok(())

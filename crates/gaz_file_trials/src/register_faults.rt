@@ -72,6 +72,13 @@ const EIGHT: &str = "[[1, 1], [2, 2], [3, 3], [4, 4], [5, 5], [6, 6], [7, 7], [8
 
 const NINE: &str = "[[1, 1], [2, 2], [3, 3], [4, 4], [5, 5], [6, 6], [7, 7], [8, 8], [9, 9]]";
 
+/// As many blocks of UPRNs.
+const EIGHT_OF_UPRNS: &str =
+    "[[300001, 300001], [300002, 300002], [300003, 300003], [300004, 300004], [300005, 300005], [300006, 300006], [300007, 300007], [300008, 300009]]";
+
+const NINE_OF_UPRNS: &str =
+    "[[300001, 300001], [300002, 300002], [300003, 300003], [300004, 300004], [300005, 300005], [300006, 300006], [300007, 300007], [300008, 300008], [300009, 300009]]";
+
 /// Sixty characters, and one more.
 const SIXTY: &str = "\"a name of sixty characters, with é as one of them, is a name\"";
 
@@ -113,6 +120,12 @@ const BLOCKS: &[(&str, &str, Option<RegFault>)] = &[
     ("[[300, 399]]", "[[300, 299]]", Some(RegFault::BadBlock)),
     ("[[300, 399]]", EIGHT, None),
     ("[[300, 399]]", NINE, Some(RegFault::BadBlock)),
+    ("[[200000, 299999]]", EIGHT_OF_UPRNS, None),
+    (
+        "[[200000, 299999]]",
+        NINE_OF_UPRNS,
+        Some(RegFault::BadBlock),
+    ),
     ("[[300, 399]]", "[[0, 99]]", Some(RegFault::BadBlock)),
     ("[[300, 399]]", "[[300, 99999998]]", None),
     (

@@ -118,18 +118,6 @@ pub front_before : (vs : Versions) (v : Version) (volume : ℕ) → nat_lt v.0 v
 front_before vs v volume is =
     filter-append (λ w. nat_lt w.0 volume) vs (v ∷ []) ∙ ap (λ b. before vs volume ++ cond b (v ∷ []) []) is ∙ append-nil (before vs volume)
 
-pub item_at_end : (vs : Versions) (v : Version) (volume : ℕ) → nat_le v.0 volume ≡ true → v.1 ≡ item_at (vs ++ v ∷ []) volume
-item_at_end vs v volume is =
-    sym (ap (fold (λ i w. w.1) None) (filter-append (λ w. nat_le w.0 volume) vs (v ∷ []) ∙ ap (λ b. until vs volume ++ cond b (v ∷ []) []) is) ∙ behind None (until vs volume))
-  where
-    behind : (o : Option Item) (ws : Versions) → fold (λ i w. w.1) o (ws ++ v ∷ []) ≡ v.1
-    behind o [] = refl
-    behind o (w ∷ ws) = behind w.1 ws
-
-pub item_at_front : (vs : Versions) (v : Version) (volume : ℕ) → nat_le v.0 volume ≡ false → item_at vs volume ≡ item_at (vs ++ v ∷ []) volume
-item_at_front vs v volume is =
-    sym (ap (fold (λ i w. w.1) None) (filter-append (λ w. nat_le w.0 volume) vs (v ∷ []) ∙ ap (λ b. until vs volume ++ cond b (v ∷ []) []) is ∙ append-nil (until vs volume)))
-
 -- ---- the first version
 
 -- what begins after a version that begins too late begins too late

@@ -1,5 +1,5 @@
 -- How judging goes on over a keeper.
-use Rattle.std.proofs.Common.{◌≡◌, ◌≤◌, ◌<◌, ◌+◌, ◌*◌, ℕ, Bool, true, false, cond, not, ◌||◌, eqb, eqb-true, List, [], ◌∷◌, ◌++◌, take, length, get_or, refl, sym, ap, ◌∙◌, subst, arith, length-append, true≢false}
+use Rattle.std.proofs.Common.{◌≡◌, ◌≤◌, ◌<◌, ◌+◌, ◌-◌, ◌*◌, ℕ, Bool, true, false, cond, not, eqb, eqb-true, List, [], ◌∷◌, ◌++◌, take, length, get_or, refl, sym, ap, ◌∙◌, subst, arith, length-append, true≢false}
 use Rattle.std.proofs.Math.Path.{fun_ext}
 use Rattle.std.proofs.lemmas.List.{take_all}
 use Rattle.std.proofs.lemmas.List.Folds.{list_all_more}
@@ -15,27 +15,22 @@ use Rattle.gaz_shelf.specs.Board.{Board, Judgement, adds, reached}
 use Rattle.gaz_shelf.specs.Keeper.{Content, Counts, Enters, IsAtHand, IsNotOpen, Seen, closed, skipped, with_judgement}
 use Rattle.gaz_shelf.specs.Received.{Received}
 use Rattle.gaz_shelf.specs.declared.fault.ShelfFault.{ShelfFault}
-use Rattle.gaz_shelf.specs.declared.fault.ShelfFault.TheVariants.{Store}
 use Rattle.gaz_ledger.specs.declared.verdict.Verdict.{Verdict}
 use Rattle.gaz_rules.specs.Bases.{are_reached, judged_on}
 use Rattle.gaz_rules.specs.Judges.{IsReady, Judges}
 use Rattle.gaz_rules.specs.Judging.{bases_of, judge}
-use Rattle.gaz_hub.specs.Hubs.{AreKeyed, AreKnown, StandsFor, door_of}
-use Rattle.gaz_hub.specs.Settling.{Advances, IsNext, Looks, Tells, Tries, judged_in}
+use Rattle.gaz_hub.specs.Hubs.{AreKnown, StandsFor, door_of}
+use Rattle.gaz_hub.specs.Settling.{Advances, IsAll, IsNext, Looks, Tells, Tries}
 use Rattle.gaz_hub.specs.Standing.{Follows, Leads, NothingReady, Register, judge_one, judgement_after, next_reading, ready, with_next}
 use Rattle.gaz_hub.specs.Step.{Door}
 use Rattle.gaz_hub.specs.declared.looking.Next.{Next}
-use Rattle.gaz_hub.proofs.Bounds.{at_most}
-use Rattle.gaz_hub.proofs.Keyed.{follows_keyed}
+use Rattle.gaz_hub.proofs.Bounds.{all_then, not_all}
 use Rattle.gaz_hub.proofs.Leading.{follows_itself, leads_on}
 use Rattle.gaz_hub.proofs.Looks.{counts_then, left_not_open}
 use Rattle.gaz_hub.proofs.Prefixes.{both_parts, joined}
 use Rattle.gaz_hub.proofs.Orders.{ready_gives}
 
 -- ---- one after another
-
-abbrev pub follows_in : (G : Register) (F K : Received) (B C : Board) → F ≡ K → Follows G F B C → Follows G K B C
-follows_in G F K B C e f = record { order = f.order; leads = subst (λ X. Leads G X B f.order C) e f.leads }
 
 pub known_in : (d : Door) (F K : Received) → F ≡ K → AreKnown d F → AreKnown d K
 known_in d F K e h = subst (AreKnown d) e h
@@ -47,7 +42,7 @@ advances_looking d a b r P l idle =
       harm = l.keeps.harm;
       stands = λ stood fine.
           let same = l.keeps.content stood.0 fine in
-          (l.keeps.stands stood.0 fine, known_in d _ _ (sym (ap (λ (k : Content). k.files) same)) stood.1, subst AreKeyed (sym (ap (λ (k : Content). k.board) same)) stood.2);
+          (l.keeps.stands stood.0 fine, known_in d _ _ (sym (ap (λ (k : Content). k.files) same)) stood.1);
       files = λ stood fine. ap (λ (k : Content). k.files) (l.keeps.content stood.0 fine);
       board = λ stood fine. follows_itself d.register _ _ _ (ap (λ (k : Content). k.board) (l.keeps.content stood.0 fine));
       many = λ stood fine. omega arith;
@@ -203,11 +198,8 @@ module _ {T : Type 0} (d : Door) (a c : Seen) (code : ℕ) (rd : Reading) (met :
       record {
         harm = g.harm;
         stands = λ stood fine.
-            let now = met stood.0 fine in (
-              g.stands stood.0 now fine,
-              known_in d _ _ (sym (ap (λ (k : Content). k.files) (g.done stood.0 now fine))) stood.1,
-              follows_keyed d.register a.content.files a.content.board c.content.board (follows_judged d a.content c.content code rd now (g.done stood.0 now fine)) stood.2,
-            );
+            let now = met stood.0 fine in
+            (g.stands stood.0 now fine, known_in d _ _ (sym (ap (λ (k : Content). k.files) (g.done stood.0 now fine))) stood.1);
         files = λ stood fine. ap (λ (k : Content). k.files) (g.done stood.0 (met stood.0 fine) fine);
         board = λ stood fine. let now = met stood.0 fine in follows_judged d a.content c.content code rd now (g.done stood.0 now fine);
         many = λ stood fine. omega arith;
@@ -223,7 +215,7 @@ module _ {T : Type 0} (d : Door) (a c : Seen) (code : ℕ) (rd : Reading) (met :
         stands = λ stood fine.
             let now = met stood.0 fine in
             let same = g.undone stood.0 now fine in
-            (g.stands stood.0 now fine, known_in d _ _ (sym (ap (λ (k : Content). k.files) same)) stood.1, subst AreKeyed (sym (ap (λ (k : Content). k.board) same)) stood.2);
+            (g.stands stood.0 now fine, known_in d _ _ (sym (ap (λ (k : Content). k.files) same)) stood.1);
         files = λ stood fine. ap (λ (k : Content). k.files) (g.undone stood.0 (met stood.0 fine) fine);
         board = λ stood fine. follows_itself d.register _ _ _ (ap (λ (k : Content). k.board) (g.undone stood.0 (met stood.0 fine) fine));
         many = λ stood fine. omega arith;
@@ -231,56 +223,44 @@ module _ {T : Type 0} (d : Door) (a c : Seen) (code : ℕ) (rd : Reading) (met :
         kept = g.counts.kept;
       }
 
-  pub tries_judged : (x : T) (IsAmong : ℕ → Type 0) → Adds a c (Ok x) code (IsNow a.content code rd) (judged_on (d.register code) a.content.board code rd) → Tries d a c (Ok true) IsAmong
-  tries_judged x IsAmong g =
+  pub tries_judged : (x : T) (left : ℕ) (IsAmong : ℕ → Type 0) → 1 ≤ left → Adds a c (Ok x) code (IsNow a.content code rd) (judged_on (d.register code) a.content.board code rd) → Tries d left a c (Ok 1) IsAmong
+  tries_judged x left IsAmong room g =
       record {
         advances = advances_judged x g;
-        same = λ stood fine e. absurd (true≢false e);
-        rests = λ stood fine e. absurd (true≢false e);
-        counts = record { kept = g.counts.kept; store = tt };
+        within = room;
+        same = λ stood fine e. absurd (omega arith);
+        rests = λ stood fine e. absurd (omega arith);
+        cause = λ stood fine all. tt;
       }
 
-  pub tries_broken : (e : ShelfFault) (IsAmong : ℕ → Type 0) → Adds {T = T} a c (Err e) code (IsNow a.content code rd) (judged_on (d.register code) a.content.board code rd) → Tries d a c (Err e) IsAmong
-  tries_broken e IsAmong g =
+  pub tries_broken : (e : ShelfFault) (left : ℕ) (IsAmong : ℕ → Type 0) → Adds {T = T} a c (Err e) code (IsNow a.content code rd) (judged_on (d.register code) a.content.board code rd) → Tries d left a c (Err e) IsAmong
+  tries_broken e left IsAmong g =
       record {
         advances = advances_broken e g;
+        within = tt;
         same = λ stood fine. tt;
         rests = λ stood fine. tt;
-        counts = record { kept = g.counts.kept; store = g.counts.store };
+        cause = λ stood fine all. g.counts.store;
       }
 
--- a custodian whose next file isn't ready
-pub tries_nothing : (d : Door) (a b : Seen) (code : ℕ) (n : Next) → Looks a b (Ok n) (IsNext a.content.files a.content.board code) → IsNotOpen a.progress
-    → (IsNext a.content.files a.content.board code n → ready a.content.files a.content.board code ≡ false) → Tries d a b (Ok false) (λ c. c ≡ code)
-tries_nothing d a b code n l idle is =
+-- a file that is ready, though as many are judged as a lawful content has
+pub tries_past : (reg : RegisterValue) (a b : Seen) (code left : ℕ) (e : ShelfFault) (n : Next) (rd : Reading) (IsAmong : ℕ → Type 0) → left ≡ 0
+    → Looks a b (Ok n) (IsNext a.content.files a.content.board code) → IsNotOpen a.progress → (IsNext a.content.files a.content.board code n → IsNow a.content code rd)
+    → Tries (door_of reg) left a b (Err e) IsAmong
+tries_past reg a b code left e n rd IsAmong none l idle now =
     record {
-      advances = advances_looking d a b (Ok n) _ l idle;
-      same = λ stood fine e. ap (λ (k : Content). k.board) (l.keeps.content stood.0 fine);
-      rests = λ stood fine e c among. subst (λ x. ready a.content.files a.content.board x ≡ false) (sym among) (is (l.right stood.0 fine));
-      counts = record { kept = l.counts.kept; store = tt };
-    }
-
--- a look that failed
-pub tries_blind : {T : Type 0} (d : Door) (a b : Seen) (e : ShelfFault) (P : T → Type 0) (IsAmong : ℕ → Type 0) → Looks a b (Err e) P → IsNotOpen a.progress → Tries d a b (Err e) IsAmong
-tries_blind d a b e P IsAmong l idle =
-    record {
-      advances = advances_looking d a b (Err e) P l idle;
+      advances = advances_looking (door_of reg) a b (Ok n) _ l idle;
+      within = tt;
       same = λ stood fine. tt;
       rests = λ stood fine. tt;
-      counts = record { kept = l.counts.kept; store = l.counts.store };
+      cause = λ stood fine all is.
+          absurd (not_all reg a.content.files a.content.board code stood.1 (now (l.right stood.0 fine)).0 (subst (IsAll (door_of reg) a.content.board) none all));
     }
 
 -- ---- a round
 
-round_step : (d : Door) (more r : Bool) (a b c : Seen) → Advances d (judged_in (Ok more)) a b → Advances d (judged_in (Ok r)) b c → Advances d (judged_in (Ok (more || r))) a c
-round_step d true true a b c first second = advances_less d 2 1 a c (omega arith) (advances_then d 1 1 a b c first second)
-round_step d true false a b c first second = advances_then d 1 0 a b c first second
-round_step d false true a b c first second = advances_then d 0 1 a b c first second
-round_step d false false a b c first second = advances_then d 0 0 a b c first second
-
-neither : (x y : Bool) → (x || y) ≡ false → (x ≡ false) × (y ≡ false)
-neither true y e = absurd (true≢false e)
-neither false y e = (refl, e)
+neither : (m n : ℕ) → m + n ≡ 0 → (m ≡ 0) × (n ≡ 0)
+neither m n e = (omega arith, omega arith)
 
 -- each of the custodians is known, and each known one is among them
 pub all_rest : (reg : RegisterValue) (p : ℕ → Bool) → list_all (λ k. not (p k.code)) reg ≡ true → (c : ℕ) → knows reg c ≡ true → p c ≡ false
@@ -295,48 +275,58 @@ all_rest (k ∷ reg) p h c e =
     un_not true e = cc
     un_not false e = refl
 
--- so many custodians were looked at: all is as before and none of them is ready, or a file was judged
-pub record Looked (d : Door) (reg : RegisterValue) (i : ℕ) (more : Bool) (a b : Seen) : Type 0 where
-  pub advances : Advances d (judged_in (Ok more)) a b
-  pub same : StandsFor d a → b.unharmed → more ≡ false → b.content.board ≡ a.content.board
-  pub rests : StandsFor d a → b.unharmed → more ≡ false → list_all (λ k. not (ready a.content.files a.content.board k.code)) (take i reg) ≡ true
+-- so many custodians were looked at: all is as before and none of them is ready, or so many files were judged
+pub record Looked (d : Door) (reg : RegisterValue) (i judged left : ℕ) (a b : Seen) : Type 0 where
+  pub within : judged ≤ left
+  pub advances : Advances d judged a b
+  pub same : StandsFor d a → b.unharmed → judged ≡ 0 → b.content.board ≡ a.content.board
+  pub rests : StandsFor d a → b.unharmed → judged ≡ 0 → list_all (λ k. not (ready a.content.files a.content.board k.code)) (take i reg) ≡ true
 
-pub looked_on : (d : Door) (reg : RegisterValue) (i : ℕ) (more r : Bool) (a b c : Seen) (k : CustodianValue) → i < length reg → k ≡ get_or reg i k
-    → Looked d reg i more a b → Tries d b c (Ok r) (λ x. x ≡ k.code) → Looked d reg (i + 1) (more || r) a c
-looked_on d reg i more r a b c k below is first second =
+pub looked_on : (d : Door) (reg : RegisterValue) (i m n left : ℕ) (a b c : Seen) (k : CustodianValue) → i < length reg → k ≡ get_or reg i k
+    → Looked d reg i m left a b → Tries d (left - m) b c (Ok n) (λ x. x ≡ k.code) → Looked d reg (i + 1) (m + n) left a c
+looked_on d reg i m n left a b c k below is first second =
     record {
-      advances = round_step d more r a b c first.advances second.advances;
+      within = let few = first.within in let fewer : n ≤ left - m = second.within in omega arith;
+      advances = advances_then d m n a b c first.advances second.advances;
       same = λ stood fine e.
           let mid = second.advances.harm fine in
-          let no = neither more r e in
+          let no = neither m n e in
           second.same (first.advances.stands stood mid) fine no.1 ∙ first.same stood mid no.0;
       rests = λ stood fine e.
           let mid = second.advances.harm fine in
-          let no = neither more r e in
+          let no = neither m n e in
           let stays = ap (λ (x : Received × Board). ready x.0 x.1 k.code) (λ j. (first.advances.files stood mid j, first.same stood mid no.0 j)) in
           let rest = sym stays ∙ second.rests (first.advances.stands stood mid) fine no.1 k.code refl in
           list_all_more (λ (x : CustodianValue). not (ready a.content.files a.content.board x.code)) reg i k below
           ∙ joined _ _ (first.rests stood mid no.0) (ap (λ (x : CustodianValue). not (ready a.content.files a.content.board x.code)) (sym is) ∙ ap not rest);
     }
 
-pub looked_all : (d : Door) (reg : RegisterValue) (i : ℕ) (more : Bool) (a b : Seen) → length reg ≤ i → Looked d reg i more a b → Tries d a b (Ok more) (λ c. knows reg c ≡ true)
-looked_all d reg i more a b past l =
+pub looked_all : (d : Door) (reg : RegisterValue) (i m left : ℕ) (a b : Seen) → length reg ≤ i → Looked d reg i m left a b → Tries d left a b (Ok m) (λ c. knows reg c ≡ true)
+looked_all d reg i m left a b past l =
     record {
       advances = l.advances;
+      within = l.within;
       same = l.same;
       rests = λ stood fine e c known.
           all_rest reg (ready a.content.files a.content.board)
           (ap (list_all (λ (k : CustodianValue). not (ready a.content.files a.content.board k.code))) (sym (take_all i reg past)) ∙ l.rests stood fine e) c known;
-      counts = record { kept = l.advances.kept; store = tt };
+      cause = λ stood fine all. tt;
     }
 
-pub looked_stopped : (d : Door) (reg : RegisterValue) (i : ℕ) (more : Bool) (a b c : Seen) (e : ShelfFault) (P Q : ℕ → Type 0) → Looked d reg i more a b → Tries d b c (Err e) P → Tries d a c (Err e) Q
-looked_stopped d reg i more a b c e P Q first second =
+pub looked_stopped : (reg some : RegisterValue) (i m left : ℕ) (a b c : Seen) (e : ShelfFault) (P Q : ℕ → Type 0) → Looked (door_of reg) some i m left a b
+    → Tries (door_of reg) (left - m) b c (Err e) P → Tries (door_of reg) left a c (Err e) Q
+looked_stopped reg some i m left a b c e P Q first second =
     record {
-      advances = advances_less d _ 0 a c (omega arith) (advances_then d _ 0 a b c first.advances second.advances);
+      advances = advances_less (door_of reg) _ 0 a c (omega arith) (advances_then (door_of reg) m 0 a b c first.advances second.advances);
+      within = tt;
       same = λ stood fine. tt;
       rests = λ stood fine. tt;
-      counts = counts_then a b c (Err e) first.advances.kept second.counts;
+      cause = λ stood fine all is.
+          let mid = second.advances.harm fine in
+          let left_then = all_then reg m left (left - m) a b (omega (arith, first.within)) first.advances stood mid all in
+          let more = second.cause (first.advances.stands stood mid) fine left_then is in
+          let kept = first.advances.kept in
+          omega arith;
     }
 
 -- ---- settling
@@ -350,8 +340,8 @@ nothing_ready d F B known rest c =
     ] refl
 
 -- a round that judged nothing ends it
-pub settled_now : (d : Door) (m : ℕ) (a b c : Seen) → Advances d m a b → Tries d b c (Ok false) (λ x. d.knows x ≡ true) → Tells {T = Unit {0}} d a c (Ok tt) (λ _. ⊤)
-settled_now d m a b c first second =
+pub settled_now : (d : Door) (m left : ℕ) (a b c : Seen) → Advances d m a b → Tries d left b c (Ok 0) (λ x. d.knows x ≡ true) → Tells {T = Unit {0}} d a c (Ok tt) (λ _. ⊤)
+settled_now d m left a b c first second =
     record {
       advances = advances_less d _ 0 a c (omega arith) (advances_then d m 0 a b c first second.advances);
       settled = λ stood fine.
@@ -362,23 +352,20 @@ settled_now d m a b c first second =
       cause = λ stood fine. tt;
     }
 
-pub settling_stopped : {T : Type 0} (d : Door) (m : ℕ) (a b c : Seen) (e : ShelfFault) (P : ℕ → Type 0) (Q : T → Type 0) → Advances d m a b → Tries d b c (Err e) P → Tells d a c (Err e) Q
-settling_stopped d m a b c e P Q first second =
+-- of as many judgements as a lawful content has, some were made and the others are left
+pub settling_stopped : {T : Type 0} (reg : RegisterValue) (m left : ℕ) (a b c : Seen) (e : ShelfFault) (P : ℕ → Type 0) (Q : T → Type 0) → m + left ≡ 999999 * length reg
+    → Advances (door_of reg) m a b → Tries (door_of reg) left b c (Err e) P → Tells (door_of reg) a c (Err e) Q
+settling_stopped reg m left a b c e P Q sum first second =
     record {
-      advances = advances_less d _ 0 a c (omega arith) (advances_then d m 0 a b c first second.advances);
+      advances = advances_less (door_of reg) _ 0 a c (omega arith) (advances_then (door_of reg) m 0 a b c first second.advances);
       settled = λ stood fine. tt;
       right = λ stood fine. tt;
-      cause = λ stood fine is. let more = second.counts.store is in let kept = first.kept in omega arith;
-    }
-
--- more rounds than there can be
-pub settling_past : (reg : RegisterValue) (n : ℕ) (a b : Seen) → 999999 * length reg < n → Advances (door_of reg) n a b → Tells {T = Unit {0}} (door_of reg) a b (Err Store) (λ _. ⊤)
-settling_past reg n a b past l =
-    record {
-      advances = advances_less (door_of reg) n 0 a b (omega arith) l;
-      settled = λ stood fine. tt;
-      right = λ stood fine. tt;
-      cause = λ stood fine is. absurd (omega (arith, past, at_most reg n a b l stood fine));
+      cause = λ stood fine is.
+          let mid = second.advances.harm fine in
+          let left_then = all_then reg m (m + left) left a b refl first stood mid (omega (arith, sum)) in
+          let more = second.cause (first.stands stood mid) fine left_then is in
+          let kept = first.kept in
+          omega arith;
     }
 
 -- ---- faults passed on

@@ -10,7 +10,7 @@ use Rattle.gaz_shelf.specs.Received.{Received, with_file}
 use Rattle.gaz_shelf.specs.declared.fault.ShelfFault.{ShelfFault}
 use Rattle.gaz_shelf.specs.declared.fault.ShelfFault.TheVariants.{Store}
 use Rattle.gaz_hub.specs.Asked.{IsAgain, IsOutcome, TakesIn}
-use Rattle.gaz_hub.specs.Hubs.{AreKnown, StandsFor, Steps, state_of, AreKeyed}
+use Rattle.gaz_hub.specs.Hubs.{AreKnown, StandsFor, Steps, state_of}
 use Rattle.gaz_hub.specs.Settling.{Tells}
 use Rattle.gaz_hub.specs.Standing.{Follows, Leads}
 use Rattle.gaz_hub.specs.Step.{Door, HubState, NotReceived, Submit, Submits, Submitted, Unsettled, WasNew, door, or_foreign, turned_away}
@@ -64,7 +64,6 @@ module _ (d : Door) (a b c : Seen) (code volume : ℕ) (bytes : List ℕ) (let_i
   stood_then stood free fine = (
     came.stands stood.0 free fine,
     known_in d _ _ (sym (ap (λ (k : Content). k.files) (came.done stood.0 free fine))) (known_with d a.content.files code volume bytes (is_known d code volume bytes let_in) stood.1),
-    subst AreKeyed (sym (ap (λ (k : Content). k.board) (came.done stood.0 free fine))) stood.2,
   )
 
   -- what was received at the end

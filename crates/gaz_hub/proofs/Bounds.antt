@@ -8,59 +8,50 @@ use Rattle.gaz_register.specs.Registers.{CustodianValue, RegisterValue, knows}
 use Rattle.gaz_shelf.specs.Board.{Board, reached}
 use Rattle.gaz_shelf.specs.Received.{Received}
 use Rattle.gaz_hub.specs.Hubs.{AreKnown, StandsFor, door_of}
-use Rattle.gaz_hub.specs.Settling.{Advances}
-use Rattle.gaz_hub.specs.Standing.{Leads, Register, judge_one, with_next}
+use Rattle.gaz_hub.specs.Settling.{Advances, IsAll, capped, judged_by}
+use Rattle.gaz_hub.specs.Standing.{Leads, Register, judge_one, ready, with_next}
 use Rattle.gaz_shelf.specs.Keeper.{Seen}
 use Rattle.gaz_hub.proofs.Orders.{judge_one_moved, moved_below, next, ready_gives, with_next_is}
 use Rattle.gaz_hub.proofs.Prefixes.{prefix_length}
 
--- at most so many volumes count
-abbrev cap : ℕ → ℕ
-cap n = cond (leb n 999999) n 999999
-
-cap_most : (n : ℕ) → cap n ≤ 999999
+cap_most : (n : ℕ) → capped n ≤ 999999
 cap_most n = elim (leb n 999999) as (λ b. leb n 999999 ≡ b → cond b n 999999 ≤ 999999) [ true ↦ λ e. leb-true n 999999 e | false ↦ λ e. omega arith ] refl
 
-cap_within : (n : ℕ) → n ≤ 999999 → cap n ≡ n
+cap_within : (n : ℕ) → n ≤ 999999 → capped n ≡ n
 cap_within n h = elim (leb_tells n 999999) [ inl t ↦ ap (λ b. cond b n 999999) t.0 | inr t ↦ absurd (omega (arith, t.1)) ]
 
-cap_grows : (m n : ℕ) → m ≤ n → cap m ≤ cap n
+cap_grows : (m n : ℕ) → m ≤ n → capped m ≤ capped n
 cap_grows m n h =
     elim (leb_tells n 999999) [
       | inl t ↦ let a = cap_within n t.1 in let b = cap_within m (omega (arith, t.1)) in omega arith
-      | inr t ↦ let a : cap n ≡ 999999 = ap (λ b. cond b n 999999) t.0 in omega (arith, cap_most m)
+      | inr t ↦ let a : capped n ≡ 999999 = ap (λ b. cond b n 999999) t.0 in omega (arith, cap_most m)
     ]
 
--- how many volumes of the custodians are judged
-abbrev total : RegisterValue → Board → ℕ
-total [] B = 0
-total (k ∷ reg) B = cap (reached B k.code) + total reg B
-
-total_most : (reg : RegisterValue) (B : Board) → total reg B ≤ 999999 * length reg
+total_most : (reg : RegisterValue) (B : Board) → judged_by reg B ≤ 999999 * length reg
 total_most [] B = omega arith
 total_most (k ∷ reg) B = omega (arith, cap_most (reached B k.code), total_most reg B)
 
-total_grows : (reg : RegisterValue) (B C : Board) → ((c : ℕ) → reached B c ≤ reached C c) → total reg B ≤ total reg C
+total_grows : (reg : RegisterValue) (B C : Board) → ((c : ℕ) → reached B c ≤ reached C c) → judged_by reg B ≤ judged_by reg C
 total_grows [] B C up = omega arith
 total_grows (k ∷ reg) B C up = omega (arith, cap_grows _ _ (up k.code), total_grows reg B C up)
 
 total_one : (reg : RegisterValue) (B C : Board) (c : ℕ) → ((d : ℕ) → reached B d ≤ reached C d) → reached C c ≡ reached B c + 1 → reached B c + 1 ≤ 999999
-    → knows reg c ≡ true → total reg B + 1 ≤ total reg C
+    → knows reg c ≡ true → judged_by reg B + 1 ≤ judged_by reg C
 total_one [] B C c up more within e = absurd (true≢false (sym e))
 total_one (k ∷ reg) B C c up more within e =
-    elim (eqb k.code c) as (λ b. eqb k.code c ≡ b → is_some (cond b (Some k) (find (λ (x : CustodianValue). eqb x.code c) reg)) ≡ true → total (k ∷ reg) B + 1 ≤ total (k ∷ reg) C) [
+    elim (eqb k.code c) as (λ b. eqb k.code c ≡ b → is_some (cond b (Some k) (find (λ (x : CustodianValue). eqb x.code c) reg)) ≡ true → judged_by (k ∷ reg) B + 1 ≤ judged_by (k ∷ reg) C) [
       | true ↦ λ t _.
           let is : k.code ≡ c = eqb-true k.code c t in
-          let b : cap (reached B k.code) ≡ reached B c = ap (λ x. cap (reached B x)) is ∙ cap_within (reached B c) (omega arith) in
-          let d : cap (reached C k.code) ≡ reached B c + 1 = ap (λ x. cap (reached C x)) is ∙ ap cap more ∙ cap_within (reached B c + 1) within in
+          let b : capped (reached B k.code) ≡ reached B c = ap (λ x. capped (reached B x)) is ∙ cap_within (reached B c) (omega arith) in
+          let d : capped (reached C k.code) ≡ reached B c + 1 = ap (λ x. capped (reached C x)) is ∙ ap capped more ∙ cap_within (reached B c + 1) within in
           omega (arith, total_grows reg B C up)
       | false ↦ λ _ rest. omega (arith, cap_grows _ _ (up k.code), total_one reg B C c up more within rest)
     ] refl e
 
 -- each judgement of a ready file is one more
 leads_total : (reg : RegisterValue) (G : Register) (F : Received) → AreKnown (door_of reg) F → (B : Board) (order : List ℕ) (C : Board) → Leads G F B order C
-    → total reg B + length order ≤ total reg C
-leads_total reg G F known B [] C e = let same : total reg C ≡ total reg B = ap (total reg) e in omega arith
+    → judged_by reg B + length order ≤ judged_by reg C
+leads_total reg G F known B [] C e = let same : judged_by reg C ≡ judged_by reg B = ap (judged_by reg) e in omega arith
 leads_total reg G F known B (c ∷ order) C l =
     let is = ready_gives F B c l.0 in
     let D = judge_one G F B c in
@@ -69,8 +60,17 @@ leads_total reg G F known B (c ∷ order) C l =
     let one = total_one reg B D c (λ d. prefix_length (B d) (D d) (below d)) after is.in_range (known (c, reached B c + 1) (ap is_some is.came)) in
     omega (arith, one, leads_total reg G F known D order C l.1)
 
-pub at_most : (reg : RegisterValue) (n : ℕ) (a b : Seen) → Advances (door_of reg) n a b → StandsFor (door_of reg) a → b.unharmed → n ≤ 999999 * length reg
-at_most reg n a b l stood fine =
+-- where one more is ready, not all volumes are judged
+pub not_all : (reg : RegisterValue) (F : Received) (B : Board) (c : ℕ) → AreKnown (door_of reg) F → ready F B c ≡ true → IsAll (door_of reg) B 0 → ⊥
+not_all reg F B c known h all =
+    let G = (door_of reg).register in
+    let one = leads_total reg G F known B (c ∷ []) (judge_one G F B c) (h, refl) in
+    omega (arith, one, total_most reg (judge_one G F B c), all)
+
+-- after some judgements as many less are left
+pub all_then : (reg : RegisterValue) (n left rest : ℕ) (a b : Seen) → n + rest ≡ left → Advances (door_of reg) n a b → StandsFor (door_of reg) a → b.unharmed
+    → IsAll (door_of reg) a.content.board left → IsAll (door_of reg) b.content.board rest
+all_then reg n left rest a b sum l stood fine all =
     let f = l.board stood fine in
     let up = leads_total reg _ a.content.files stood.1 a.content.board f.order b.content.board f.leads in
-    omega (arith, up, l.many stood fine, total_most reg b.content.board)
+    omega (arith, sum, up, l.many stood fine, all)

@@ -1,5 +1,5 @@
 -- What was sent in the worked examples, and the boards that stand then.
-use Rattle.std.proofs.Common.{◌≡◌, ℕ, true, false, cond, List, [], ◌∷◌, length, refl, sym, ap, ◌∙◌, subst, arith, true≢false, eqb, eqb-true}
+use Rattle.std.proofs.Common.{◌≡◌, ℕ, true, false, cond, List, [], ◌∷◌, length, refl, sym, ap, ◌∙◌, subst, arith, true≢false, eqb, eqb-true, eq-eqb}
 use Rattle.std.proofs.Math.Path.{fun_ext}
 use Rattle.std.specs.Prelude.{Option, Some, None}
 use Rattle.std.specs.Ordering.{eq_by_cmp}
@@ -26,10 +26,11 @@ empty_entries : {X : Type 0} (es : List X) → length es ≡ 0 → es ≡ []
 empty_entries [] e = refl
 empty_entries (x ∷ es) e = absurd (omega arith)
 
+pub no_files : map.entries (map.empty {X = List ℕ} {R = pair_cmp}) ≡ []
+no_files = empty_entries _ (sym (map.len-entries map.empty) ∙ map.len-empty pair_cmp (List ℕ))
+
 entries_first : map.entries first_sent ≡ ((1003, 1), no_text) ∷ []
-entries_first =
-    let none : map.entries (map.empty {X = List ℕ} {R = pair_cmp}) ≡ [] = empty_entries _ (sym (map.len-entries map.empty) ∙ map.len-empty pair_cmp (List ℕ)) in
-    map.entries-insert pairs_total map.empty (1003, 1) no_text ∙ rw none refl
+entries_first = map.entries-insert pairs_total map.empty (1003, 1) no_text ∙ rw no_files refl
 
 pub entries_sent : map.entries sent ≡ ((1003, 1), no_text) ∷ ((1003, 3), no_text) ∷ []
 entries_sent = map.entries-insert pairs_total _ (1003, 3) no_text ∙ rw entries_first refl
@@ -61,18 +62,18 @@ reads c v = refl
 abbrev pub AreOf1003 : Received → Type 0
 AreOf1003 F = (c v : ℕ) → eqb c 1003 ≡ false → map.get F (c, v) ≡ None
 
-not_1003 : (c v w : ℕ) → eqb c 1003 ≡ false → eq_by_cmp pair_cmp (c, v) (1003, w) ≡ false
-not_1003 c v w other =
-    elim (eq_by_cmp pair_cmp (c, v) (1003, w)) as (λ b. eq_by_cmp pair_cmp (c, v) (1003, w) ≡ b → b ≡ false) [
+pub not_of : (c v d w : ℕ) → eqb c d ≡ false → eq_by_cmp pair_cmp (c, v) (d, w) ≡ false
+not_of c v d w other =
+    elim (eq_by_cmp pair_cmp (c, v) (d, w)) as (λ b. eq_by_cmp pair_cmp (c, v) (d, w) ≡ b → b ≡ false) [
       | true ↦ λ e.
-          let same : c ≡ 1003 = ap (λ (p : ℕ × ℕ). p.0) (pairs_same (c, v) (1003, w) e) in
-          absurd (true≢false (sym (ap (λ k. eqb k 1003) same) ∙ other))
+          let same : d ≡ c = sym (ap (λ (p : ℕ × ℕ). p.0) (pairs_same (c, v) (d, w) e)) in
+          absurd (true≢false (sym (ap (eqb c) same ∙ eq-eqb c c refl) ∙ other))
       | false ↦ λ _. refl
     ] refl
 
 with_1003 : (F : Received) (w : ℕ) (bytes : List ℕ) → AreOf1003 F → AreOf1003 (with_file F 1003 w bytes)
 with_1003 F w bytes none c v other =
-    map.get-insert pairs_total F (1003, w) bytes (c, v) ∙ ap (λ b. cond b (Some bytes) (map.get F (c, v))) (not_1003 c v w other) ∙ none c v other
+    map.get-insert pairs_total F (1003, w) bytes (c, v) ∙ ap (λ b. cond b (Some bytes) (map.get F (c, v))) (not_of c v 1003 w other) ∙ none c v other
 
 first_of_1003 : AreOf1003 first_sent
 first_of_1003 = with_1003 map.empty 1 no_text (λ c v _. map.get-empty pair_cmp (c, v))
@@ -186,9 +187,6 @@ partial_sent = partial_1 sent (get_sent (1003, 1))
 
 pub partial_all : IsPartial sample_register all_sent three_judged
 partial_all = partial_3 all_sent (get_all (1003, 1)) (get_all (1003, 2)) (get_all (1003, 3))
-
-pub stands_first : standing sample_register first_sent ≡ one_judged
-stands_first = sym (any_order_holds sample_register first_sent one_judged partial_first closed_first)
 
 pub stands_sent : standing sample_register sent ≡ one_judged
 stands_sent = sym (any_order_holds sample_register sent one_judged partial_sent closed_sent)

@@ -1,5 +1,5 @@
 -- Whole runs over any keeper, and the views on a board.
-use Rattle.std.proofs.Common.{◌≡◌, ◌+◌, ℕ, arith, true, true≢false, List, [], ◌∷◌, ◌++◌, refl, sym, ap, ◌∙◌, subst}
+use Rattle.std.proofs.Common.{◌≡◌, ◌+◌, ℕ, arith, true, true≢false, List, [], ◌∷◌, refl, sym, ap, ◌∙◌, subst}
 use Rattle.std.specs.Option.{option_map}
 use Rattle.std.specs.Prelude.{is_some}
 use Rattle.std.specs.FinMap as map
@@ -11,15 +11,15 @@ use Rattle.gaz_rules.specs.Sound.{AreDisjoint, IsSoundBoard, NamesOthers}
 use Rattle.gaz_shelf.specs.Board.{Board, empty_board, reached}
 use Rattle.gaz_shelf.specs.Keeper.{Content, Seen, empty_content}
 use Rattle.gaz_shelf.specs.Received.{Received, pair_cmp}
-use Rattle.gaz_hub.specs.Hubs.{AreKnown, Runs, state_of, AreKeyed, StandsFor}
-use Rattle.gaz_hub.specs.Laws.{AllSound, EveryRunOver, EverySettledRunOver}
-use Rattle.gaz_hub.specs.Runs.{Run}
+use Rattle.gaz_hub.specs.Hubs.{AreKnown, StandsFor, state_of}
+use Rattle.gaz_hub.specs.Laws.{AllSound, EveryAnswerOver, EveryRunFromOver, EveryRunOver, EverySettledRunFromOver, EverySettledRunOver, StandsForRun}
 use Rattle.gaz_hub.specs.Standing.{Leads, Register, judge_one, ready}
-use Rattle.gaz_hub.specs.Step.{Command, Door, HubState, Response, new_hub}
+use Rattle.gaz_hub.specs.Step.{Door}
 use Rattle.gaz_hub.proofs.Advancing.{added_is}
-use Rattle.gaz_hub.proofs.Keyed.{empty_keyed}
+use Rattle.gaz_hub.proofs.Answers.{every_answer_holds}
+use Rattle.gaz_hub.proofs.Leading.{follows_itself}
 use Rattle.gaz_hub.proofs.Orders.{ready_gives}
-use Rattle.gaz_hub.proofs.Runs.{every_run_holds, every_settled_run_holds}
+use Rattle.gaz_hub.proofs.Runs.{abides_after, every_run_from_holds, every_settled_run_from_holds}
 
 -- ---- over any keeper
 
@@ -27,24 +27,45 @@ none_known : (d : Door) (k : Content) → k ≡ empty_content → AreKnown d k.f
 none_known d k e p h = absurd (true≢false (sym h ∙ ap (λ (m : Content). is_some (map.get m.files p)) e ∙ ap is_some (map.get-empty pair_cmp p)))
 
 begins_so : (d : Door) (old : Seen) → old.stands → old.content ≡ empty_content → StandsFor d old
-begins_so d old stood e = (stood, none_known d old.content e, subst AreKeyed (sym (ap (λ (k : Content). k.board) e)) empty_keyed)
+begins_so d old stood e = (stood, none_known d old.content e)
 
-from_empty : (d : Door) (old new : Seen) (commands : List Command) (responses : List Response) → old.stands → old.content ≡ empty_content → new.unharmed → Runs d old new commands responses
-    → Run d new_hub commands responses (state_of new.content)
-from_empty d old new commands responses stood empty fine r =
-    subst (λ (h : HubState). Run d h commands responses (state_of new.content)) (ap state_of empty) (r.run (begins_so d old stood empty) fine)
+begins_run : (d : Door) (old : Seen) → old.stands → old.content ≡ empty_content → StandsForRun d old
+begins_run d old stood e =
+    record { stands = begins_so d old stood e; partial = follows_itself d.register old.content.files empty_board old.content.board (ap (λ (k : Content). k.board) e) }
+
+pub every_run_from_over : {K : Type 0} (seen : K → Seen) → EveryRunFromOver seen
+every_run_from_over seen d old new commands responses was fine r =
+    record {
+      stands = r.stands was.stands fine;
+      abides = every_run_from_holds d (state_of (seen old).content) (state_of (seen new).content) commands responses was.partial (r.run was.stands fine);
+    }
+
+pub every_settled_run_from_over : {K : Type 0} (seen : K → Seen) → EverySettledRunFromOver seen
+every_settled_run_from_over seen d old new commands responses command response was fine r settles =
+    every_settled_run_from_holds d (state_of (seen new).content)
+    (record {
+      old = state_of (seen old).content;
+      partial = was.partial;
+      commands = commands;
+      responses = responses;
+      command = command;
+      response = response;
+      run = r.run was.stands fine;
+      settles = settles;
+    })
+
+pub every_answer_over : {K : Type 0} (seen : K → Seen) → EveryAnswerOver seen
+every_answer_over seen d old new commands responses was fine r =
+    every_answer_holds d (state_of (seen old).content) (state_of (seen new).content) commands responses was.partial (r.run was.stands fine)
 
 pub every_run_over : {K : Type 0} (seen : K → Seen) → EveryRunOver seen
 every_run_over seen d old new commands responses stood empty fine r =
-    record {
-      stands = (r.stands (begins_so d (seen old) stood empty) fine).0;
-      abides = every_run_holds d commands responses (state_of (seen new).content) (from_empty d (seen old) (seen new) commands responses stood empty fine r);
-    }
+    let k = every_run_from_over seen d old new commands responses (begins_run d (seen old) stood empty) fine r in
+    record { stands = k.stands.0; abides = abides_after d _ commands responses _ (ap state_of empty) k.abides }
 
 pub every_settled_run_over : {K : Type 0} (seen : K → Seen) → EverySettledRunOver seen
 every_settled_run_over seen d old new commands responses command response stood empty fine r settled =
-    every_settled_run_holds d commands responses command response (state_of (seen new).content)
-    (from_empty d (seen old) (seen new) (commands ++ command ∷ []) (responses ++ response ∷ []) stood empty fine r) settled
+    every_settled_run_from_over seen d old new commands responses command response (begins_run d (seen old) stood empty) fine r settled
 
 -- ---- the views on a board
 

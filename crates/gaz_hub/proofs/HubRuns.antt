@@ -2,6 +2,7 @@
 use Rattle.std.proofs.Common.{List, [], ◌∷◌, ◌++◌, refl, append-nil, arith}
 use Rattle.gaz_shelf.specs.Keeper.{Seen}
 use Rattle.gaz_hub.specs.Hubs.{Runs, Steps}
+use Rattle.gaz_hub.specs.Laws.{CallsMakeRuns}
 use Rattle.gaz_hub.specs.Runs.{Run}
 use Rattle.gaz_hub.specs.Step.{Command, Door, HubState, Response}
 
@@ -51,3 +52,11 @@ runs_then d old mid new cs ds rs ss x y =
 pub runs_still : (d : Door) (old mid new : Seen) (cs : List Command) (rs : List Response) → Runs d old mid cs rs → Runs d mid new [] []
     → Runs d old new cs rs
 runs_still d old mid new cs rs x y = rw (append-nil cs, append-nil rs) at (runs_then d old mid new cs [] rs [] x y)
+
+pub calls_make_runs : {K : Type 0} (seen : K → Seen) → CallsMakeRuns seen
+calls_make_runs seen =
+    record {
+      none = λ d a. runs_none d (seen a);
+      one = λ d a b command response s. runs_one d (seen a) (seen b) command response s;
+      joined = λ d a b c commands others responses replies x y. runs_then d (seen a) (seen b) (seen c) commands others responses replies x y;
+    }

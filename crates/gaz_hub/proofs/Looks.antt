@@ -1,8 +1,7 @@
 -- What two looks after each other tell.
-use Rattle.std.proofs.Common.{◌≡◌, ◌≤◌, ◌<◌, ◌+◌, ℕ, suc, Bool, true, false, cond, not, ◌&&◌, inl, inr, List, [], ◌∷◌, drop, length, get_or, refl, sym, ap, ◌∙◌, subst, arith, leb, leb-true, le-leb}
+use Rattle.std.proofs.Common.{◌≡◌, ◌≤◌, ◌<◌, ◌+◌, ℕ, suc, Bool, true, false, cond, not, ◌&&◌, List, [], ◌∷◌, drop, length, get_or, refl, sym, ap, ◌∙◌, subst, arith, leb-true, le-leb}
 use Rattle.std.proofs.Math.Seq.{drop-cons}
 use Rattle.std.proofs.lemmas.List.{drop_all}
-use Rattle.std.proofs.lemmas.Bool.Decides.{leb_tells}
 use Rattle.std.specs.Prelude.{nat_le, Some, None, Result, Ok, Err, IfOk, IfErr}
 use Rattle.std.specs.Option.{option_map, option_map_or}
 use Rattle.std.specs.FinMap as map
@@ -17,8 +16,8 @@ use Rattle.gaz_shelf.specs.declared.fault.ShelfFault.TheVariants.{Store}
 use Rattle.gaz_shelf.proofs.Keeping.{keeps_then}
 use Rattle.gaz_rules.specs.Bases.{are_reached}
 use Rattle.gaz_rules.specs.Judging.{bases_of}
-use Rattle.gaz_hub.specs.Outcomes.{wants}
-use Rattle.gaz_hub.specs.Settling.{IsNext, IsReadAs, Looks, first_unreached, wanted_by}
+use Rattle.gaz_hub.specs.Outcomes.{first_unreached, wants, wants_as}
+use Rattle.gaz_hub.specs.Settling.{IsNext, IsReadAs, Looks, wanted_by}
 use Rattle.gaz_hub.specs.Standing.{next_reading, ready}
 use Rattle.gaz_hub.specs.declared.looking.Next.{Next}
 use Rattle.gaz_hub.specs.declared.looking.Next.TheVariants as next
@@ -82,16 +81,6 @@ passes_over B bases i d below is h =
     sym (ap (first_unreached B) (left_at bases i d below is)
     ∙ ap (λ b. cond (not b) (Some d) (first_unreached B (drop (i + 1) bases))) (le-leb d.volume (reached B d.custodian) h))
 
--- one that isn't is found
-pub finds_here : (B : Board) (bases : List Basis) (i : ℕ) (d : Basis) → i < length bases → d ≡ get_or bases i d → reached B d.custodian < d.volume
-    → Some d ≡ first_unreached B (drop i bases)
-finds_here B bases i d below is h =
-    sym (ap (first_unreached B) (left_at bases i d below is)
-    ∙ ap (λ b. cond (not b) (Some d) (first_unreached B (drop (i + 1) bases))) (above d.volume (reached B d.custodian) h))
-  where
-    above : (n m : ℕ) → m < n → leb n m ≡ false
-    above n m h = elim (leb_tells n m) [ inl t ↦ absurd (omega (arith, t.1)) | inr t ↦ t.0 ]
-
 -- after the last there is none
 pub finds_none : (B : Board) (bases : List Basis) (i : ℕ) → length bases ≤ i → None ≡ first_unreached B (drop i bases)
 finds_none B bases i h = sym (ap (first_unreached B) (drop_all i bases h))
@@ -131,10 +120,9 @@ pub ready_as : (F : Received) (B : Board) (c : ℕ) (r : Reading) → IsFile F B
 ready_as F B c r is =
     λ i. le-leb (reached B c + 1) 999999 is.in_range i && option_map_or (λ x. are_reached B (bases_of x)) (is.reads i) false
 
-pub wants_as : (F : Received) (B : Board) (c : ℕ) (r : Reading) → IsFile F B c r → wants F B c ≡ option_map (λ d. (d.custodian, d.volume)) (first_unreached B (bases_of r))
-wants_as F B c r is =
-    λ i. cond (le-leb (reached B c + 1) 999999 is.in_range i)
-    (option_map_or (λ x. option_map (λ (d : Basis). (d.custodian, d.volume)) (first_unreached B (bases_of x))) (is.reads i) (Some (c, reached B c + 1))) None
+pub wants_for : (F : Received) (B : Board) (c : ℕ) (r : Reading) → IsFile F B c r → wants F B c ≡ option_map (λ d. (d.custodian, d.volume)) (first_unreached B (bases_of r))
+wants_for F B c r is =
+    λ i. cond (le-leb (reached B c + 1) 999999 is.in_range i) (wants_as B c (is.reads i)) None
 
 file_as : (F : Received) (B : Board) (c volume : ℕ) (bytes : List ℕ) (r : Reading) → volume ≡ reached B c + 1 → volume ≤ 999999 → map.get F (c, volume) ≡ Some bytes → reading bytes c volume ≡ r → IsFile F B c r
 file_as F B c volume bytes r is within came reads =
@@ -153,14 +141,14 @@ next_here F B c volume bytes (next.Bad place rule) is within came h =
     (ready_as F B c _ file, file.reads)
 next_here F B c volume bytes (next.Waits d w) is within came h =
     let file = file_as F B c volume bytes (Good h.0) is within came h.1 in
-    (ready_as F B c _ file ∙ not_all_reached B h.0.bases _ h.2, wants_as F B c _ file ∙ ap (option_map (λ (x : Basis). (x.custodian, x.volume))) h.2)
+    (ready_as F B c _ file ∙ not_all_reached B h.0.bases _ h.2, wants_for F B c _ file ∙ ap (option_map (λ (x : Basis). (x.custodian, x.volume))) h.2)
 next_here F B c volume bytes next.Done is within came h = absurd h.2
 
 -- where it is ready it waits for nothing
 pub ready_wants : (F : Received) (B : Board) (c : ℕ) (r : Reading) → ready F B c ≡ true → next_reading F B c ≡ Some r → wants F B c ≡ None
 ready_wants F B c r h e =
     let file : IsFile F B c r = record { in_range = leb-true _ _ (first_part (nat_le (reached B c + 1) 999999) _ h); reads = e } in
-    wants_as F B c r file ∙ ap (option_map (λ (x : Basis). (x.custodian, x.volume))) (none_unreached B (bases_of r) (sym (ready_as F B c r file) ∙ h))
+    wants_for F B c r file ∙ ap (option_map (λ (x : Basis). (x.custodian, x.volume))) (none_unreached B (bases_of r) (sym (ready_as F B c r file) ∙ h))
   where
     first_part : (a b : Bool) → (a && b) ≡ true → a ≡ true
     first_part true b e = refl

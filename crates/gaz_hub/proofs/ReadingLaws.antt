@@ -7,16 +7,16 @@ use Rattle.sha2.specs.Sha256.{sha256}
 use Rattle.gaz_extract.specs.Closing.{closed_streets}
 use Rattle.gaz_extract.specs.Extracts.{extract, extract_rows, items_of}
 use Rattle.gaz_extract.specs.Lookups.{lookup}
-use Rattle.gaz_register.proofs.Ownership.{one-owner}
 use Rattle.gaz_rows.specs.Rows.{lines_of}
-use Rattle.gaz_shelf.specs.Board.{Board, reached}
+use Rattle.gaz_shelf.specs.Board.{Board, last_view, reached}
 use Rattle.gaz_hub.specs.Outcomes.{outcome, status}
 use Rattle.gaz_hub.specs.Readings.{EqualAnswers, ExtractsStay, OneHolder, is_question}
 use Rattle.gaz_hub.specs.Runs.{Run, is_settled}
 use Rattle.gaz_hub.specs.Standing.{standing}
 use Rattle.gaz_hub.specs.Step.{Ask, Command, Door, Extract, Extracted, HubState, IsTold, ListClosed, Listed, LookUp, LookedUp, Response, Settle, Settled, Stand, Stands, Step, Submit, Submitted, Told}
 use Rattle.gaz_hub.specs.declared.outcome.Outcome.{Outcome}
-use Rattle.gaz_hub.proofs.Headline.{all_sound_holds}
+use Rattle.gaz_hub.proofs.OwnNumbers.{all_own_holds}
+use Rattle.gaz_rules.proofs.OwnNumbers.{own_numbers_stay_holds}
 use Rattle.gaz_hub.proofs.Orders.{Below, more_files_hold, view_stays}
 use Rattle.gaz_hub.proofs.Prefixes.{prefix_length}
 use Rattle.gaz_hub.proofs.Runs.{every_settled_run_holds, judgements_stay_holds, same_state}
@@ -100,7 +100,5 @@ extracts_stay_hold =
 
 pub one_holder_holds : OneHolder
 one_holder_holds register F B is partial c d uprn here there =
-    let sound = all_sound_holds register F B is partial in
-    let mine : Some c ≡ Some d =
-    sym ((one-owner register is c uprn).0.0 ((sound c (reached B c)).own_blpus uprn here)) ∙ (one-owner register is d uprn).0.0 ((sound d (reached B d)).own_blpus uprn there) in
-    same_some c d mine
+    let own = all_own_holds register F B partial in
+    own_numbers_stay_holds.one_custodian register (last_view B c) (last_view B d) c d uprn is (own c (reached B c) uprn here) (own d (reached B d) uprn there)

@@ -7,8 +7,8 @@ use Rattle.gaz_shelf.specs.Board.{Board, empty_board}
 use Rattle.gaz_shelf.specs.Received.{Received, pair_cmp}
 use Rattle.gaz_hub.specs.Standing.{Follows, IsPartial, NothingReady, standing, Leads, IsPrefixOf, judge_one, Register}
 use Rattle.gaz_hub.specs.Outcomes.{outcome}
-use Rattle.gaz_hub.specs.Step.{Door, HubState, Command, Response, new_hub}
-use Rattle.gaz_hub.specs.Runs.{Run, is_settled, first_received, EveryRun, EverySettledRun, EveryRepeat, JudgementsStay, EqualReceived}
+use Rattle.gaz_hub.specs.Step.{Door, HubState, Command, Response, Step, new_hub}
+use Rattle.gaz_hub.specs.Runs.{Run, is_settled, first_received, Abides, AbidesFrom, EveryRun, EveryRunFrom, EverySettledRun, EverySettledRunFrom, EveryRepeat, JudgementsStay, EqualReceived}
 use Rattle.gaz_hub.proofs.Orders.{any_order_holds, judge_one_moved, moved_below}
 use Rattle.gaz_hub.proofs.Prefixes.{prefix_refl, prefix_trans}
 use Rattle.gaz_hub.proofs.Leading.{follows_itself, follows_more, follows_on}
@@ -20,11 +20,14 @@ or_assoc : {T : Type 0} (a b c : Option T) → option_or (option_or a b) c ≡ o
 or_assoc None b c = refl
 or_assoc (Some x) b c = refl
 
-record RunKept (d : Door) (old : HubState) (commands : List Command) (responses : List Response) (new : HubState) : Type 0 where
-  first : (p : ℕ × ℕ) → map.get new.received p ≡ option_or (map.get old.received p) (first_received d p commands responses)
-  partial : IsPartial d.register new.received new.board
+-- a step leaves a partial board partial
+pub partial_next : (d : Door) (old : HubState) (command : Command) (response : Response) (new : HubState) → IsPartial d.register old.received old.board → Step d old command response new
+    → IsPartial d.register new.received new.board
+partial_next d old command response new partial s =
+    let g = goes d old command response new s in
+    follows_on d.register new.received empty_board old.board new.board (follows_more d.register old.received new.received g.all empty_board old.board partial) g.board
 
-run_kept : (d : Door) (old : HubState) (commands : List Command) (responses : List Response) (new : HubState) → IsPartial d.register old.received old.board → Run d old commands responses new → RunKept d old commands responses new
+run_kept : (d : Door) (old : HubState) (commands : List Command) (responses : List Response) (new : HubState) → IsPartial d.register old.received old.board → Run d old commands responses new → AbidesFrom d old commands responses new
 run_kept d old [] [] new partial e =
     record {
       first = λ p. ap (λ h. map.get h.received p) e ∙ or_none _;
@@ -32,8 +35,7 @@ run_kept d old [] [] new partial e =
     }
 run_kept d old (command ∷ commands) (response ∷ responses) new partial r =
     let g = goes d old command response r.0 r.1 in
-    let mid : IsPartial d.register r.0.received r.0.board = follows_on d.register r.0.received empty_board old.board r.0.board (follows_more d.register old.received r.0.received g.all empty_board old.board partial) g.board in
-    let rest = run_kept d r.0 commands responses new mid r.2 in
+    let rest = run_kept d r.0 commands responses new (partial_next d old command response r.0 partial r.1) r.2 in
     record {
       first = λ p. rest.first p ∙ ap (λ o. option_or o (first_received d p commands responses)) (g.first p) ∙ or_assoc (map.get old.received p) _ _;
       partial = rest.partial;
@@ -41,10 +43,24 @@ run_kept d old (command ∷ commands) (response ∷ responses) new partial r =
 run_kept d old [] (response ∷ responses) new partial r = absurd r
 run_kept d old (command ∷ commands) [] new partial r = absurd r
 
+pub every_run_from_holds : EveryRunFrom
+every_run_from_holds d old hub commands responses partial r = run_kept d old commands responses hub partial r
+
+-- what began with nothing
+pub nothing_partial : (d : Door) → IsPartial d.register new_hub.received new_hub.board
+nothing_partial d = follows_itself d.register map.empty empty_board empty_board refl
+
+pub abides_after : (d : Door) (old : HubState) (commands : List Command) (responses : List Response) (hub : HubState) → old ≡ new_hub → AbidesFrom d old commands responses hub
+    → Abides d commands responses hub
+abides_after d old commands responses hub e k =
+    record {
+      first = λ p. k.first p ∙ ap (λ o. option_or o (first_received d p commands responses)) (ap (λ (h : HubState). map.get h.received p) e ∙ map.get-empty pair_cmp p);
+      partial = k.partial;
+    }
+
 pub every_run_holds : EveryRun
 every_run_holds d commands responses hub r =
-    let k = run_kept d new_hub commands responses hub (follows_itself d.register map.empty empty_board empty_board refl) r in
-    record { first = λ p. k.first p ∙ ap (λ o. option_or o (first_received d p commands responses)) (map.get-empty pair_cmp p); partial = k.partial }
+    abides_after d new_hub commands responses hub refl (run_kept d new_hub commands responses hub (nothing_partial d) r)
 
 last_settled : (d : Door) (old : HubState) (commands : List Command) (responses : List Response) (command : Command) (response : Response) (hub : HubState) → Run d old (commands ++ command ∷ []) (responses ++ response ∷ []) hub → is_settled response ≡ true → NothingReady hub.received hub.board
 last_settled d old [] [] command response hub r y =
@@ -55,9 +71,15 @@ last_settled d old [] (a ∷ (b ∷ responses)) command response hub r y = absur
 last_settled d old (c ∷ []) [] command response hub r y = absurd r.2
 last_settled d old (c ∷ (b ∷ commands)) [] command response hub r y = absurd r.2
 
+pub every_settled_run_from_holds : EverySettledRunFrom
+every_settled_run_from_holds d hub s =
+    any_order_holds d.register hub.received hub.board (run_kept d s.old _ _ hub s.partial s.run).partial
+    (last_settled d s.old s.commands s.responses s.command s.response hub s.run s.settles)
+
 pub every_settled_run_holds : EverySettledRun
 every_settled_run_holds d commands responses command response hub r y =
-    any_order_holds d.register hub.received hub.board (every_run_holds d _ _ hub r).partial (last_settled d new_hub commands responses command response hub r y)
+    every_settled_run_from_holds d hub
+    (record { old = new_hub; partial = nothing_partial d; commands = commands; responses = responses; command = command; response = response; run = r; settles = y })
 
 -- ---- one step more
 
@@ -78,9 +100,8 @@ pub same_state : (one other : HubState) → other.received ≡ one.received → 
 same_state one other e f = λ i. record { received = e i; board = f i }
 
 pub equal_received_holds : EqualReceived
-equal_received_holds d one other p n q m e =
-    same_state one other e
-    (any_order_holds d.register other.received other.board q m ∙ ap (standing d.register) e ∙ sym (any_order_holds d.register one.received one.board p n))
+equal_received_holds d one other x y e =
+    same_state one other e (every_settled_run_from_holds d other y ∙ ap (standing d.register) e ∙ sym (every_settled_run_from_holds d one x))
 
 pub every_repeat_holds : EveryRepeat
 every_repeat_holds d old new c volume bytes told partial closed s =

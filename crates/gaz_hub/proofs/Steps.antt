@@ -41,7 +41,7 @@ pub or_none : {T : Type 0} (o : Option T) → o ≡ option_or o None
 or_none None = refl
 or_none (Some x) = refl
 
-and_false : (a : Bool) → (a && false) ≡ false
+pub and_false : (a : Bool) → (a && false) ≡ false
 and_false true = refl
 and_false false = refl
 
@@ -72,7 +72,7 @@ refused_first F K p false ok bytes out same = ap (λ X. map.get X p) same ∙ or
 let_in_once : (o : Option Refusal) (b : Bool) → o ≡ None → b ≡ true → (is_none o && b) ≡ true
 let_in_once o b e h = ap (λ x. is_none x && b) e ∙ h
 
-closed_door : (o : Option Refusal) (r : Refusal) (b : Bool) → o ≡ Some r → (is_none o && b) ≡ false
+pub closed_door : (o : Option Refusal) (r : Refusal) (b : Bool) → o ≡ Some r → (is_none o && b) ≡ false
 closed_door o r b e = ap (λ x. is_none x && b) e
 
 settles_in : (d : Door) (F K : Received) (old new : Board) → K ≡ F → Settles d F old new → Follows d.register K old new × NothingReady K new

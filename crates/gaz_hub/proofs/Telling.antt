@@ -1,27 +1,25 @@
 -- What is told of a file, read off a board.
-use Rattle.std.proofs.Common.{◌≡◌, ◌≤◌, ◌<◌, ◌+◌, ◌-◌, ℕ, zero, suc, true, false, cond, not, ◌&&◌, List, [], ◌∷◌, length, refl, sym, ap, ◌∙◌, subst, arith, le-leb}
+use Rattle.std.proofs.Common.{◌≡◌, ◌≤◌, ◌<◌, ◌+◌, ℕ, zero, suc, true, false, cond, not, ◌&&◌, List, [], ◌∷◌, length, refl, sym, ap, ◌∙◌, subst, arith, le-leb}
 use Rattle.std.specs.Prelude.{nat_le, slice_get, Option, Some, None, Result, Ok, Err, IfErr, OnOk}
 use Rattle.std.specs.Option.{option_map, option_map_or}
 use Rattle.std.specs.FinMap as map
-use Rattle.gaz_changefile.specs.Reading.{Reading, reading}
+use Rattle.gaz_changefile.specs.Reading.{reading}
 use Rattle.gaz_changefile.specs.declared.change.Basis.{Basis}
 use Rattle.gaz_shelf.specs.Board.{Board, Judgement, reached, verdict_on}
 use Rattle.gaz_shelf.specs.Keeper.{Content, Reads, Seen}
 use Rattle.gaz_shelf.specs.Received.{Received}
 use Rattle.gaz_shelf.specs.declared.fault.ShelfFault.{ShelfFault}
 use Rattle.gaz_shelf.specs.declared.fault.ShelfFault.TheVariants.{Store}
-use Rattle.gaz_ledger.specs.declared.verdict.Verdict.{Verdict}
 use Rattle.gaz_rules.specs.Bases.{are_reached}
-use Rattle.gaz_rules.specs.Judging.{bases_of}
 use Rattle.gaz_hub.specs.Asked.{IsHeld, IsOutcome}
-use Rattle.gaz_hub.specs.Outcomes.{outcome, outcome_of, wants}
-use Rattle.gaz_hub.specs.Settling.{Looks, Tells, first_unreached}
+use Rattle.gaz_hub.specs.Outcomes.{first_unreached, outcome_of, wants, wants_as}
+use Rattle.gaz_hub.specs.Settling.{Looks, Tells}
 use Rattle.gaz_hub.specs.Standing.{NothingReady}
 use Rattle.gaz_hub.specs.Step.{Door}
 use Rattle.gaz_hub.specs.declared.outcome.Outcome.{Outcome}
 use Rattle.gaz_hub.specs.declared.outcome.Outcome.TheVariants.{Held}
 use Rattle.gaz_hub.proofs.Advancing.{advances_looking, advances_then}
-use Rattle.gaz_hub.proofs.Looks.{IsFile, if_ok, looks_then, ready_as, wants_as}
+use Rattle.gaz_hub.proofs.Looks.{IsFile, if_ok, looks_then, ready_as, wants_for}
 
 -- ---- outcomes
 
@@ -29,24 +27,15 @@ was_none : {X Y : Type 0} (f : X → Y) (o : Option X) → None ≡ option_map f
 was_none f None e = refl
 was_none f (Some x) e = cc
 
-was_some : {X Y : Type 0} (f : X → Y) (o : Option X) (y : Y) → Some y ≡ option_map f o → (x : X) × (o ≡ Some x) × (y ≡ f x)
-was_some f None y e = cc
-was_some f (Some x) y e = (x, refl, cc)
-
 at_most_there : {X : Type 0} (xs : List X) (n : ℕ) → slice_get xs n ≡ None → length xs ≤ n
 at_most_there [] n e = omega arith
 at_most_there (x ∷ xs) zero e = cc
 at_most_there (x ∷ xs) (suc n) e = let h = at_most_there xs n e in omega arith
 
--- the judgement of a volume, from 1
-judged_at : (B : Board) (c volume : ℕ) → 1 ≤ volume → verdict_on B c volume ≡ option_map (λ (j : Judgement). j.verdict) (slice_get (B c) (volume - 1))
-judged_at B c zero h = absurd (omega arith)
-judged_at B c (suc n) h = let e : suc n - 1 ≡ n = omega arith in ap (λ k. option_map (λ (j : Judgement). j.verdict) (slice_get (B c) k)) (sym e)
-
-pub told_judged : (F : Received) (B : Board) (c volume : ℕ) (verdict : Verdict) → 1 ≤ volume → Some verdict ≡ verdict_on B c volume → outcome F B c volume ≡ Some (outcome_of verdict)
-told_judged F B c volume verdict one e =
-    let (j, there, same) = was_some (λ (j : Judgement). j.verdict) (slice_get (B c) (volume - 1)) verdict (e ∙ judged_at B c volume one) in
-    ap (λ o. option_map_or (λ (x : Judgement). Some (outcome_of x.verdict)) o (option_map (λ w. Held w.0 w.1) (wants F B c))) there ∙ ap (λ v. Some (outcome_of v)) (sym same)
+-- a volume without a verdict isn't reached
+not_reached : (B : Board) (c volume : ℕ) → 1 ≤ volume → None ≡ verdict_on B c volume → reached B c + 1 ≤ volume
+not_reached B c zero one e = absurd (omega arith)
+not_reached B c (suc n) one e = let h = at_most_there (B c) n (was_none (λ (j : Judgement). j.verdict) (slice_get (B c) n) e) in omega arith
 
 -- where nothing is ready, the next volume waits for something
 some_unreached : (B : Board) (bases : List Basis) → are_reached B bases ≡ false → (x : Basis) × (first_unreached B bases ≡ Some x)
@@ -65,18 +54,17 @@ waits F B c closed within =
       | Some bytes ↦ λ e.
           let file : IsFile F B c (reading bytes c (reached B c + 1)) = record { in_range = within; reads = ap (option_map (λ b. reading b c (reached B c + 1))) e } in
           let un = some_unreached B _ (sym (ready_as F B c _ file) ∙ closed c) in
-          ((un.0.custodian, un.0.volume), wants_as F B c _ file ∙ ap (option_map (λ (x : Basis). (x.custodian, x.volume))) un.1)
+          ((un.0.custodian, un.0.volume), wants_for F B c _ file ∙ ap (option_map (λ (x : Basis). (x.custodian, x.volume))) un.1)
     ] refl
   where
     missing : map.get F (c, reached B c + 1) ≡ None → wants F B c ≡ Some (c, reached B c + 1)
     missing e = λ i. cond (le-leb (reached B c + 1) 999999 within i)
-        (option_map_or (λ (x : Reading). option_map (λ (d : Basis). (d.custodian, d.volume)) (first_unreached B (bases_of x))) (option_map (λ b. reading b c (reached B c + 1)) (e i)) (Some (c, reached B c + 1))) None
+        (wants_as B c (option_map (λ b. reading b c (reached B c + 1)) (e i))) None
 
 pub told_held : (F : Received) (B : Board) (c volume : ℕ) (told : Outcome) → 1 ≤ volume → volume ≤ 999999 → None ≡ verdict_on B c volume → IsHeld F B c told → IsOutcome F B c volume told
 told_held F B c volume told one most e held there closed =
-    let none = was_none (λ (j : Judgement). j.verdict) (slice_get (B c) (volume - 1)) (e ∙ judged_at B c volume one) in
-    let (w, is) = waits F B c closed (omega (arith, at_most_there (B c) (volume - 1) none, one, most)) in
-    ap (λ o. option_map_or (λ (x : Judgement). Some (outcome_of x.verdict)) o (option_map (λ v. Held v.0 v.1) (wants F B c))) none
+    let (w, is) = waits F B c closed (omega (arith, not_reached B c volume one e, most)) in
+    ap (λ o. option_map_or (λ v. Some (outcome_of v)) o (option_map (λ v. Held v.0 v.1) (wants F B c))) (sym e)
     ∙ ap (option_map (λ v. Held v.0 v.1)) is ∙ ap Some (sym (held w.0 w.1 is))
 
 -- ---- settling and then reading
@@ -105,9 +93,6 @@ tells_looks d a b c x r P Q first second =
     later : {V : Type 0} (r : Result V ShelfFault) (m n k : ℕ) → m ≤ n → IfErr r (λ e. e ≡ Store → n < k) → IfErr r (λ e. e ≡ Store → m < k)
     later (Ok x) m n k h g = tt
     later (Err e) m n k h g = λ is. let more = g is in omega arith
-
-pub tells_fault : {T U : Type 0} (d : Door) (a b : Seen) (e : ShelfFault) (P : U → Type 0) (Q : T → Type 0) → Tells d a b (Err e) P → Tells d a b (Err e) Q
-tells_fault d a b e P Q l = record { advances = l.advances; settled = λ stood fine. tt; right = λ stood fine. tt; cause = l.cause }
 
 -- what isn't judged is held
 pub looks_held : (a b c : Seen) (code volume : ℕ) (r : Result Outcome ShelfFault) → 1 ≤ volume → volume ≤ 999999

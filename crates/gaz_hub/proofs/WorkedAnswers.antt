@@ -1,8 +1,6 @@
 -- The worked examples on what is told of files, and on the sample register.
 use Rattle.std.proofs.Common.{◌≡◌, refl}
 use Rattle.std.specs.Prelude.{Some}
-use Rattle.gaz_records.specs.declared.key.Key.TheVariants as key
-use Rattle.gaz_ledger.specs.declared.verdict.Verdict.TheVariants as verdict
 use Rattle.gaz_hub.specs.Outcomes.{outcome}
 use Rattle.gaz_hub.specs.Examples.{one_judged, sent}
 use Rattle.gaz_hub.specs.declared.outcome.Outcome.TheVariants.{Held}

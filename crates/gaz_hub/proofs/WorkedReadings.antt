@@ -14,8 +14,7 @@ use Rattle.gaz_ledger.specs.View.{empty_view}
 use Rattle.gaz_hub.specs.Examples.{one_judged, sent}
 use Rattle.gaz_hub.specs.Sample.{sample_custodians, sample_register}
 use Rattle.gaz_hub.specs.WorkedReadings.{WorkedReadings, of_nothing}
-use Rattle.gaz_hub.proofs.Examples.{first_ready, get_sent, partial_sent}
-use Rattle.gaz_hub.proofs.Keyed.{empty_keyed, follows_keyed}
+use Rattle.gaz_hub.proofs.Examples.{first_ready, get_sent}
 use Rattle.gaz_hub.proofs.Leading.{follows_itself}
 use Rattle.gaz_hub.proofs.WorkedSteps.{gap_settled, late_settled}
 
@@ -60,6 +59,4 @@ worked_readings_hold = record {
   submitting_asks_not = refl;
   nothing_told = refl;
   refusal_told = refl;
-  keyed_at_first = empty_keyed;
-  keyed_after = follows_keyed sample_register sent empty_board one_judged partial_sent empty_keyed;
 }

@@ -1,18 +1,21 @@
 -- The worked examples on runs of a hub.
-use Rattle.std.proofs.Common.{◌≡◌, refl, sym, ap, ◌∙◌}
+use Rattle.std.proofs.Common.{◌≡◌, [], ◌∷◌, refl, sym, ap, ◌∙◌}
 use Rattle.std.specs.Prelude.{Some}
 use Rattle.std.specs.FinMap as map
+use Rattle.gaz_shelf.specs.Received.{pair_cmp, with_file}
+use Rattle.gaz_hub.specs.Answers.{AllAnswered, IsReadOff, received_by}
 use Rattle.gaz_hub.specs.Outcomes.{outcome}
-use Rattle.gaz_shelf.specs.Received.{with_file}
 use Rattle.gaz_hub.specs.Runs.{Run}
 use Rattle.gaz_hub.specs.Sample.{sample_door, sample_register}
 use Rattle.gaz_hub.specs.Standing.{standing}
-use Rattle.gaz_hub.specs.Step.{HubState, new_hub}
+use Rattle.gaz_hub.specs.Step.{HubState, Submit, Submitted, new_hub}
+use Rattle.gaz_hub.specs.declared.answer.Answer.TheVariants.{New}
 use Rattle.gaz_hub.specs.declared.outcome.Outcome.TheVariants.{Rejected, Held}
-use Rattle.gaz_hub.specs.Examples.{first_hub, gap_hub, no_text, sent}
-use Rattle.gaz_hub.specs.WorkedRuns.{WorkedFirsts, WorkedResponses, WorkedRuns, WorkedWholes, answers, sending, wrong_answers}
-use Rattle.gaz_hub.proofs.Examples.{get_all, get_first, get_sent, no_none, stands_sent}
-use Rattle.gaz_hub.proofs.Runs.{every_run_holds}
+use Rattle.gaz_hub.specs.Examples.{all_sent, first_hub, gap_hub, no_text, sent}
+use Rattle.gaz_hub.specs.WorkedRuns.{WorkedFirsts, WorkedReadOff, WorkedResponses, WorkedRuns, WorkedWholes, answers, sending, wrong_answers}
+use Rattle.gaz_hub.proofs.Examples.{get_all, get_first, get_sent, no_none, stands_all, stands_sent}
+use Rattle.gaz_hub.proofs.Answers.{every_answer_holds}
+use Rattle.gaz_hub.proofs.Runs.{every_run_holds, nothing_partial}
 use Rattle.gaz_hub.proofs.WorkedSteps.{on_repeats, on_submissions}
 
 on_responses : WorkedResponses
@@ -50,6 +53,36 @@ on_firsts = record {
 runs : Run sample_door new_hub sending answers gap_hub
 runs = (first_hub, on_submissions.new, (gap_hub, on_submissions.new_and_held, (gap_hub, on_repeats.repeated, refl)))
 
+answered : AllAnswered sample_door map.empty sending answers sent
+answered = every_answer_holds sample_door new_hub gap_hub sending answers (nothing_partial sample_door) runs
+
+held_for_good : IsReadOff sample_door sent (Submit 1003 2 no_text) (Submitted (New (Held 1003 2))) → ⊥
+held_for_good h =
+    let e : Some (Held 1003 2) ≡ Some (Rejected 1 1) = sym h.1 ∙ ap (λ B. outcome all_sent B 1003 2) stands_all in
+    cc
+
+-- after the first two
+sent_then : sent ≡ received_by sample_door map.empty (Submit 1003 1 no_text ∷ Submit 1003 3 no_text ∷ []) (Submitted (New (Rejected 1 1)) ∷ Submitted (New (Held 1003 2)) ∷ [])
+sent_then =
+    (every_answer_holds sample_door new_hub gap_hub
+    (Submit 1003 1 no_text ∷ Submit 1003 3 no_text ∷ [])
+    (Submitted (New (Rejected 1 1)) ∷ Submitted (New (Held 1003 2)) ∷ [])
+    (nothing_partial sample_door)
+    (first_hub, on_submissions.new, (gap_hub, on_submissions.new_and_held, refl))).received
+
+on_read_off : WorkedReadOff
+on_read_off = record {
+  received = rw (map.get-empty pair_cmp (1003, 1)) refl;
+  not_after_51 = rw (get_first (1003, 3)) refl;
+  never_replaced = rw (get_first (1003, 1)) refl;
+  one_by_one = sym answered.received;
+  read_off = answered.read_off;
+  never_new_twice = λ all. no_none _ _ (get_sent (1003, 1)) (ap (λ F. map.get F (1003, 1)) sent_then ∙ all.1.1.0.0);
+  never_held_for_good = held_for_good;
+  never_nothing = λ h. no_none _ _ (get_sent (1003, 1)) h;
+  never_answered_otherwise = λ h. h;
+}
+
 new_twice : (hub : HubState) → Run sample_door new_hub sending wrong_answers hub → ⊥
 new_twice hub r =
     let second : r.2.0.received ≡ sent = r.2.1.received ∙ ap (λ F. with_file F 1003 3 no_text) r.1.received in
@@ -74,4 +107,4 @@ on_wholes = record {
 }
 
 pub worked_runs_hold : WorkedRuns
-worked_runs_hold = record { on_responses = on_responses; on_firsts = on_firsts; on_wholes = on_wholes }
+worked_runs_hold = record { on_responses = on_responses; on_firsts = on_firsts; on_read_off = on_read_off; on_wholes = on_wholes }

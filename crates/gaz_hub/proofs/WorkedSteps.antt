@@ -63,9 +63,6 @@ gap_filled =
     let on : Follows sample_register all_sent (standing sample_register sent) (standing sample_register all_sent) = standing_follows sample_register sent all_sent (has_all_with sent 1003 2 no_text (get_sent (1003, 2))) in
     record { follows = subst (λ B. Follows sample_register all_sent B three_judged) stands_sent (subst (Follows sample_register all_sent (standing sample_register sent)) stands_all on); settled = closed_all }
 
-whole_settled : Settles sample_door all_sent three_judged three_judged
-whole_settled = record { follows = follows_itself sample_register all_sent three_judged three_judged refl; settled = closed_all }
-
 pub late_settled : Settles sample_door sent empty_board one_judged
 late_settled = record { follows = partial_sent; settled = closed_sent }
 

@@ -1,12 +1,12 @@
 -- What a hub over a keeper reads off a settled board, and how it takes a file in.
-use Rattle.std.specs.Prelude.{◌≡◌, ◌≢◌, ◌≤◌, ◌<◌, ℕ, List, Option, Some, None, IsSome}
+use Rattle.std.specs.Prelude.{◌≡◌, ◌≢◌, ◌≤◌, ◌<◌, ⊤, ℕ, List, Option, Some, None, IsSome}
 use Rattle.std.specs.FinMap as map
 use Rattle.sha2.specs.Sha256.{sha256}
 use Rattle.gaz_shelf.specs.Board.{Board}
 use Rattle.gaz_shelf.specs.Keeper.{IsNew, IsNotOpen, Seen}
 use Rattle.gaz_shelf.specs.Received.{Received}
 use Rattle.gaz_shelf.specs.declared.fault.ShelfFault.TheVariants.{Store}
-use Rattle.gaz_hub.specs.Hubs.{StandsFor, cause_in_answer, state_of}
+use Rattle.gaz_hub.specs.Hubs.{StandsFor, cause_in, cause_in_answer, state_of}
 use Rattle.gaz_hub.specs.Outcomes.{outcome, wants}
 use Rattle.gaz_hub.specs.Standing.{NothingReady}
 use Rattle.gaz_hub.specs.Step.{Door, Submits}
@@ -48,6 +48,17 @@ IsAgain F B c volume bytes (Some (Repeat told)) = (map.get F (c, volume) ≡ Som
 IsAgain F B c volume bytes (Some (Taken digest)) = IsTaken F c volume bytes digest
 IsAgain F B c volume bytes (Some (New told)) = ⊥
 IsAgain F B c volume bytes (Some (Refused r)) = ⊥
+
+-- it is no refusal of the door
+abbrev pub IsPastDoor : Answer → Type 0
+IsPastDoor (New told) = ⊤
+IsPastDoor (Repeat told) = ⊤
+IsPastDoor (Taken digest) = ⊤
+IsPastDoor (Refused r) = IsSome (cause_in r)
+
+abbrev pub AnyIsPastDoor : Option Answer → Type 0
+AnyIsPastDoor None = ⊤
+AnyIsPastDoor (Some answer) = IsPastDoor answer
 
 -- a file that is new is received, and all is settled
 pub record TakesIn (d : Door) (old new : Seen) (c volume : ℕ) (bytes : List ℕ) (answer : Answer) : Type 0 where

@@ -1,18 +1,16 @@
 -- A hub over a keeper: what each of its calls tells.
-use Rattle.std.specs.Prelude.{◌≡◌, ◌≤◌, ◌<◌, ℕ, ◌==◌, Bool, true, false, not, IsSome, List, Option, Some, None, Result, Ok, Err}
+use Rattle.std.specs.Prelude.{◌≡◌, ◌≤◌, ◌<◌, ◌⊎◌, ℕ, ◌==◌, Bool, true, false, not, IsSome, List, Option, Some, None, Result, Ok, Err}
 use Rattle.std.specs.Global.{Vec}
-use Rattle.std.specs.Option.{option_map, option_map_or}
+use Rattle.std.specs.Option.{option_and_then, option_map, option_map_or}
 use Rattle.std.specs.FinMap as map
 use Rattle.gaz_changefile.specs.Profile.{profile_of}
 use Rattle.gaz_register.specs.Registers.{RegisterValue, blocks_of, knows}
 use Rattle.gaz_extract.specs.declared.closed.Closed.{Closed}
-use Rattle.gaz_shelf.specs.Board.{Board, view_after}
-use Rattle.gaz_ledger.specs.Reading.{IsKeyed}
 use Rattle.gaz_shelf.specs.Received.{Received}
 use Rattle.gaz_shelf.specs.Keeper.{Content, IsNotOpen, Seen}
 use Rattle.gaz_shelf.specs.declared.fault.ShelfFault.{ShelfFault}
-use Rattle.gaz_shelf.specs.declared.fault.ShelfFault.TheVariants.{Store}
-use Rattle.gaz_hub.specs.Step.{Command, Door, Extracted, HubState, Listed, LookedUp, Response, Settled, Stands, Step, Submitted, Told}
+use Rattle.gaz_shelf.specs.declared.fault.ShelfFault.TheVariants.{Memory, Store}
+use Rattle.gaz_hub.specs.Step.{Command, Door, Extracted, HubState, Listed, LookedUp, Response, Settled, Stands, Step, Submitted, Told, early_refusal, refusal_at_door}
 use Rattle.gaz_hub.specs.Runs.{Run}
 use Rattle.gaz_hub.specs.declared.answer.Answer.{Answer}
 use Rattle.gaz_hub.specs.declared.answer.Answer.TheVariants.{New, Repeat, Taken, Refused}
@@ -35,13 +33,9 @@ state_of k = record { received = k.files; board = k.board }
 abbrev pub AreKnown : Door → Received → Type 0
 AreKnown d F = (p : ℕ × ℕ) → IsSome (map.get F p) → d.knows p.0 ≡ true
 
--- in each view on the board each item stands under its own key
-unfoldable pub AreKeyed : Board → Type 0
-AreKeyed B = (c volume : ℕ) → IsKeyed (view_after B c volume)
-
 -- the keeper stands for a content that such a hub may have
 abbrev pub StandsFor : Door → Seen → Type 0
-StandsFor d s = s.stands × AreKnown d s.content.files × AreKeyed s.content.board
+StandsFor d s = s.stands × AreKnown d s.content.files
 
 -- ---- what a call tells
 
@@ -54,26 +48,32 @@ cause_in refusal.BadVolume = None
 cause_in refusal.TooLarge = None
 cause_in refusal.UnknownProfile = None
 
+abbrev pub refusal_in_answer : Answer → Option Refusal
+refusal_in_answer (New told) = None
+refusal_in_answer (Repeat told) = None
+refusal_in_answer (Taken digest) = None
+refusal_in_answer (Refused r) = Some r
+
+-- what is told in place of what was asked
+abbrev pub refusal_in : {T : Type 0} → Result T Refusal → Option Refusal
+refusal_in (Ok told) = None
+refusal_in (Err r) = Some r
+
+abbrev pub refusal_of : Response → Option Refusal
+refusal_of (Submitted answer) = refusal_in_answer answer
+refusal_of (Told told) = refusal_in told
+refusal_of (Stands stands) = refusal_in stands
+refusal_of (Settled (Ok done)) = None
+refusal_of (Settled (Err fault)) = Some (refusal.NotReceived fault)
+refusal_of (LookedUp found) = refusal_in found
+refusal_of (Extracted bytes) = refusal_in bytes
+refusal_of (Listed closed) = refusal_in closed
+
 abbrev pub cause_in_answer : Answer → Option ShelfFault
-cause_in_answer (New told) = None
-cause_in_answer (Repeat told) = None
-cause_in_answer (Taken digest) = None
-cause_in_answer (Refused r) = cause_in r
+cause_in_answer answer = option_and_then cause_in (refusal_in_answer answer)
 
 abbrev pub cause_of : Response → Option ShelfFault
-cause_of (Submitted answer) = cause_in_answer answer
-cause_of (Told (Ok told)) = None
-cause_of (Told (Err r)) = cause_in r
-cause_of (Stands (Ok standing)) = None
-cause_of (Stands (Err r)) = cause_in r
-cause_of (Settled (Ok done)) = None
-cause_of (Settled (Err fault)) = Some fault
-cause_of (LookedUp (Ok found)) = None
-cause_of (LookedUp (Err r)) = cause_in r
-cause_of (Extracted (Ok bytes)) = None
-cause_of (Extracted (Err r)) = cause_in r
-cause_of (Listed (Ok closed)) = None
-cause_of (Listed (Err r)) = cause_in r
+cause_of response = option_and_then cause_in (refusal_of response)
 
 -- the bytes of an extract that was told
 abbrev pub told : Result (Option (Vec ℕ)) Refusal → Result (Option (List ℕ)) Refusal
@@ -84,6 +84,18 @@ told (Err r) = Err r
 abbrev pub told_all : Result (Vec Closed) Refusal → Result (List Closed) Refusal
 told_all (Ok closed) = Ok closed.items
 told_all (Err r) = Err r
+
+-- a call at the door, of a keeper that was so before and is so after, whatever it stands for
+pub record MeetsDoor {K : Type 0} (d : Door) (old new : K) (command : Command) (response : Response) : Type 0 where
+  -- a refusal that takes no memory is told
+  pub early : (r : Refusal) → early_refusal d command ≡ Some r → refusal_of response ≡ Some r
+  -- one that takes memory (that of a profile) is told, or that there was none
+  pub late : (r : Refusal) → refusal_at_door d command ≡ Some r
+      → (refusal_of response ≡ Some r) ⊎ (refusal_of response ≡ Some (refusal.NotReceived Memory))
+  -- no other is told
+  pub only : (r : Refusal) → refusal_of response ≡ Some r → cause_in r ≡ None → refusal_at_door d command ≡ Some r
+  -- nor is the keeper called where the door refuses
+  pub unasked : IsSome (refusal_at_door d command) → new ≡ old
 
 -- one call: where the keeper stood for a content before and nobody else wrote on it, a step of the hub on that content
 pub record Steps (d : Door) (old new : Seen) (command : Command) (response : Response) : Type 0 where

@@ -5,8 +5,9 @@ use Rattle.gaz_shelf.specs.Board.{Board}
 use Rattle.gaz_shelf.specs.Keeper.{Seen, empty_content}
 use Rattle.gaz_shelf.specs.Received.{Received}
 use Rattle.gaz_rules.specs.Sound.{IsSoundBoard}
-use Rattle.gaz_hub.specs.Hubs.{Runs, state_of}
-use Rattle.gaz_hub.specs.Runs.{Abides, is_settled}
+use Rattle.gaz_hub.specs.Answers.{AllAnswered}
+use Rattle.gaz_hub.specs.Hubs.{Runs, StandsFor, Steps, state_of}
+use Rattle.gaz_hub.specs.Runs.{Abides, AbidesFrom, is_settled}
 use Rattle.gaz_hub.specs.Standing.{IsPartial, standing}
 use Rattle.gaz_hub.specs.Step.{Command, Door, Response}
 
@@ -14,12 +15,57 @@ use Rattle.gaz_hub.specs.Step.{Command, Door, Response}
 abbrev pub AllSound : Type 0
 AllSound = (register : RegisterValue) (F : Received) (B : Board) → IsRegister register → IsPartial (blocks_of register) F B → IsSoundBoard (blocks_of register) B
 
+-- ---- calls one after another
+
+-- no call, one, and some after others are runs
+pub record CallsMakeRuns {K : Type 0} (seen : K → Seen) : Type 0 where
+  pub none : (d : Door) (a : K) → Runs d (seen a) (seen a) [] []
+  pub one : (d : Door) (a b : K) (command : Command) (response : Response)
+      → Steps d (seen a) (seen b) command response → Runs d (seen a) (seen b) (command ∷ []) (response ∷ [])
+  pub joined : (d : Door) (a b c : K) (commands others : List Command) (responses replies : List Response)
+      → Runs d (seen a) (seen b) commands responses → Runs d (seen b) (seen c) others replies
+      → Runs d (seen a) (seen c) (commands ++ others) (responses ++ replies)
+
+-- ---- over a keeper that stands for a partial run
+
+-- the keeper stands for a partial run of files of custodians that the door knows
+pub record StandsForRun (d : Door) (s : Seen) : Type 0 where
+  pub stands : StandsFor d s
+  pub partial : IsPartial d.register s.content.files s.content.board
+
+-- the keeper still does: of what was there before and then of what came first
+pub record StandsFrom (d : Door) (old : Seen) (commands : List Command) (responses : List Response) (new : Seen) : Type 0 where
+  pub stands : StandsFor d new
+  pub abides : AbidesFrom d (state_of old.content) commands responses (state_of new.content)
+
+-- whatever commands come, where nobody else wrote on what the keeper keeps
+abbrev pub EveryRunFromOver : {K : Type 0} → (K → Seen) → Type 0
+EveryRunFromOver {K} seen = (d : Door) (old new : K) (commands : List Command) (responses : List Response)
+    → StandsForRun d (seen old) → (seen new).unharmed → Runs d (seen old) (seen new) commands responses
+    → StandsFrom d (seen old) commands responses (seen new)
+
+-- after a response that settles, the board is the standing one
+abbrev pub EverySettledRunFromOver : {K : Type 0} → (K → Seen) → Type 0
+EverySettledRunFromOver {K} seen =
+    (d : Door) (old new : K) (commands : List Command) (responses : List Response) (command : Command) (response : Response)
+    → StandsForRun d (seen old) → (seen new).unharmed
+    → Runs d (seen old) (seen new) (commands ++ command ∷ []) (responses ++ response ∷ []) → is_settled response ≡ true
+    → (seen new).content.board ≡ standing d.register (seen new).content.files
+
+-- each answer is read off the standing board of the files that are received by then
+abbrev pub EveryAnswerOver : {K : Type 0} → (K → Seen) → Type 0
+EveryAnswerOver {K} seen = (d : Door) (old new : K) (commands : List Command) (responses : List Response)
+    → StandsForRun d (seen old) → (seen new).unharmed → Runs d (seen old) (seen new) commands responses
+    → AllAnswered d (seen old).content.files commands responses (seen new).content.files
+
+-- ---- over a keeper that begins with nothing
+
 -- the keeper stands for what came first, and for a board that is partial over it
 pub record StandsAfter (d : Door) (commands : List Command) (responses : List Response) (new : Seen) : Type 0 where
   pub stands : new.stands
   pub abides : Abides d commands responses (state_of new.content)
 
--- whatever commands come, over any keeper that stood for nothing received and nothing judged, and on which nobody else wrote
+-- whatever commands come, where nobody else wrote on what the keeper keeps
 abbrev pub EveryRunOver : {K : Type 0} → (K → Seen) → Type 0
 EveryRunOver {K} seen = (d : Door) (old new : K) (commands : List Command) (responses : List Response) → (seen old).stands → (seen old).content ≡ empty_content → (seen new).unharmed
     → Runs d (seen old) (seen new) commands responses → StandsAfter d commands responses (seen new)

@@ -4,12 +4,14 @@ pub mod Step
 pub mod Runs
 pub mod Sample
 pub mod Hubs
+pub mod Answers
 pub mod Laws
 pub mod Readings
 pub mod Settling
 pub mod Asked
 pub mod Examples
 pub mod WorkedBoards
+pub mod WorkedBases
 pub mod WorkedAnswers
 pub mod WorkedSteps
 pub mod WorkedRuns

@@ -1,9 +1,11 @@
 -- What a custodian is told of its files.
-use Rattle.std.specs.Prelude.{ℕ, ◌+◌, ◌-◌, ◌==◌, nat_le, not, ◌&&◌, if◌then◌else◌, slice_get, Option, Some, None}
+use Rattle.std.specs.Prelude.{ℕ, ◌+◌, ◌==◌, nat_le, not, ◌&&◌, if◌then◌else◌, List, Option, Some, None}
 use Rattle.std.specs.Option.{option_map, option_map_or}
 use Rattle.std.specs.List.{find, count_by}
 use Rattle.std.specs.FinMap as map
-use Rattle.gaz_shelf.specs.Board.{Board, reached}
+use Rattle.gaz_changefile.specs.Reading.{Reading}
+use Rattle.gaz_changefile.specs.declared.change.Basis.{Basis}
+use Rattle.gaz_shelf.specs.Board.{Board, reached, verdict_on}
 use Rattle.gaz_ledger.specs.declared.verdict.Verdict.{Verdict}
 use Rattle.gaz_ledger.specs.declared.verdict.Verdict.TheVariants as verdict
 use Rattle.gaz_rules.specs.Judging.{bases_of}
@@ -13,16 +15,18 @@ use Rattle.gaz_hub.specs.declared.standing.Standing.{Standing}
 use Rattle.gaz_hub.specs.declared.outcome.Outcome.{Outcome}
 use Rattle.gaz_hub.specs.declared.outcome.Outcome.TheVariants.{Applied, Rejected, Held}
 
+-- the first basis line whose volume isn't reached
+abbrev pub first_unreached : Board → List Basis → Option Basis
+first_unreached B bases = find (λ d. not (nat_le d.volume (reached B d.custodian))) bases
+
 -- what a custodian's next volume waits for: itself where it wasn't received, else the first basis line that isn't reached
+abbrev pub wants_as : Board → ℕ → Option Reading → Option (ℕ × ℕ)
+wants_as B c None = Some (c, reached B c + 1)
+wants_as B c (Some r) = option_map (λ d. (d.custodian, d.volume)) (first_unreached B (bases_of r))
+
+-- the same, by how it reads; nothing after volume 999,999
 abbrev pub wants : Received → Board → ℕ → Option (ℕ × ℕ)
-wants F B c =
-    let volume = reached B c + 1 in
-    if nat_le volume 999999
-    then option_map_or
-    (λ r. option_map (λ d. (d.custodian, d.volume)) (find (λ d. not (nat_le d.volume (reached B d.custodian))) (bases_of r)))
-    (next_reading F B c)
-    (Some (c, volume))
-    else None
+wants F B c = if nat_le (reached B c + 1) 999999 then wants_as B c (next_reading F B c) else None
 
 abbrev pub outcome_of : Verdict → Outcome
 outcome_of verdict.Applied = Applied
@@ -31,9 +35,7 @@ outcome_of (verdict.Rejected place rule) = Rejected place rule
 -- the outcome of a received file: its verdict where it is judged, else what its custodian's next volume waits for
 abbrev pub outcome : Received → Board → ℕ → ℕ → Option Outcome
 outcome F B c volume =
-    option_map_or (λ j. Some (outcome_of j.verdict))
-    (slice_get (B c) (volume - 1))
-    (option_map (λ w. Held w.0 w.1) (wants F B c))
+    option_map_or (λ v. Some (outcome_of v)) (verdict_on B c volume) (option_map (λ w. Held w.0 w.1) (wants F B c))
 
 -- how many files of a custodian were received and aren't judged
 abbrev pub held_count : Received → Board → ℕ → ℕ

@@ -67,16 +67,40 @@ first_received d p _ _ = None
 
 -- ---- the laws of whole runs
 
+-- what is received is what was there before and then what came first, and the board is partial over it
+pub record AbidesFrom (d : Door) (old : HubState) (commands : List Command) (responses : List Response) (hub : HubState) : Type 0 where
+  pub first : (p : ℕ × ℕ) → map.get hub.received p ≡ option_or (map.get old.received p) (first_received d p commands responses)
+  pub partial : IsPartial d.register hub.received hub.board
+
+-- whatever commands come to a hub whose board is partial, in whatever order
+abbrev pub EveryRunFrom : Type 0
+EveryRunFrom = (d : Door) (old hub : HubState) (commands : List Command) (responses : List Response)
+    → IsPartial d.register old.received old.board → Run d old commands responses hub → AbidesFrom d old commands responses hub
+
+-- a run from a partial board to this hub, whose last response settles
+pub record SettledRun (d : Door) (hub : HubState) : Type 0 where
+  pub old : HubState
+  pub partial : IsPartial d.register old.received old.board
+  pub commands : List Command
+  pub responses : List Response
+  pub command : Command
+  pub response : Response
+  pub run : Run d old (commands ++ command ∷ []) (responses ++ response ∷ []) hub
+  pub settles : is_settled response ≡ true
+
+-- after it the board is the standing one
+abbrev pub EverySettledRunFrom : Type 0
+EverySettledRunFrom = (d : Door) (hub : HubState) → SettledRun d hub → hub.board ≡ standing d.register hub.received
+
 -- what was received is what came first, and the board is partial over it
 pub record Abides (d : Door) (commands : List Command) (responses : List Response) (hub : HubState) : Type 0 where
   pub first : (p : ℕ × ℕ) → map.get hub.received p ≡ first_received d p commands responses
   pub partial : IsPartial d.register hub.received hub.board
 
--- whatever commands come, in whatever order
+-- the same of a hub that begins with nothing
 abbrev pub EveryRun : Type 0
 EveryRun = (d : Door) (commands : List Command) (responses : List Response) (hub : HubState) → Run d new_hub commands responses hub → Abides d commands responses hub
 
--- after a response that settles, the board is the standing one
 abbrev pub EverySettledRun : Type 0
 EverySettledRun = (d : Door) (commands : List Command) (responses : List Response) (command : Command) (response : Response) (hub : HubState) →
     Run d new_hub (commands ++ command ∷ []) (responses ++ response ∷ []) hub → is_settled response ≡ true → hub.board ≡ standing d.register hub.received
@@ -94,7 +118,6 @@ EveryRepeat = (d : Door) (old new : HubState) (c volume : ℕ) (bytes : List ℕ
 abbrev pub JudgementsStay : Type 0
 JudgementsStay = (d : Door) (old new : HubState) (command : Command) (response : Response) → Step d old command response new → (c : ℕ) → IsPrefixOf (old.board c) (new.board c)
 
--- runs that end settled with equal received sets leave equal boards, whatever came and in whatever order
+-- two runs that end settled and with equal received sets leave equal hubs, whatever came and in whatever order
 abbrev pub EqualReceived : Type 0
-EqualReceived = (d : Door) (one other : HubState) → IsPartial d.register one.received one.board → NothingReady one.received one.board →
-    IsPartial d.register other.received other.board → NothingReady other.received other.board → other.received ≡ one.received → other ≡ one
+EqualReceived = (d : Door) (one other : HubState) → SettledRun d one → SettledRun d other → other.received ≡ one.received → other ≡ one

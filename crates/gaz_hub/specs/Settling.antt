@@ -1,17 +1,16 @@
 -- Settling over a keeper: what a look at a custodian's next volume finds, and what judging adds.
-use Rattle.std.specs.Prelude.{◌≡◌, ◌≤◌, ◌<◌, ◌+◌, ℕ, Bool, true, false, length, not, nat_le, List, Option, Some, None, Result, Ok, Err, OnOk, IfOk, IfErr}
-use Rattle.std.specs.List.{find}
+use Rattle.std.specs.Prelude.{◌≡◌, ◌≤◌, ◌<◌, ◌+◌, ◌*◌, ℕ, nat_le, if◌then◌else◌, true, false, length, List, [], ◌∷◌, Option, Some, None, Result, Ok, Err, OnOk, IfOk, IfErr}
 use Rattle.std.specs.FinMap as map
 use Rattle.gaz_changefile.specs.Contents.{Contents}
 use Rattle.gaz_changefile.specs.Reading.{Good, Bad, reading}
-use Rattle.gaz_changefile.specs.declared.change.Basis.{Basis}
+use Rattle.gaz_register.specs.Registers.{RegisterValue}
 use Rattle.gaz_shelf.specs.Board.{Board, reached}
 use Rattle.gaz_shelf.specs.Keeper.{Counts, IsNotOpen, Keeps, Seen}
 use Rattle.gaz_shelf.specs.Received.{Received}
 use Rattle.gaz_shelf.specs.declared.fault.ShelfFault.{ShelfFault}
 use Rattle.gaz_shelf.specs.declared.fault.ShelfFault.TheVariants.{Store}
 use Rattle.gaz_hub.specs.Hubs.{StandsFor}
-use Rattle.gaz_hub.specs.Outcomes.{wants}
+use Rattle.gaz_hub.specs.Outcomes.{first_unreached, wants}
 use Rattle.gaz_hub.specs.Standing.{Follows, NothingReady, next_reading, ready}
 use Rattle.gaz_hub.specs.Step.{Door}
 use Rattle.gaz_hub.specs.declared.looking.NextFile.{NextFile}
@@ -26,10 +25,6 @@ pub record Looks {T : Type 0} (old new : Seen) (result : Result T ShelfFault) (I
   pub keeps : Keeps old new
   pub right : old.stands → new.unharmed → IfOk result IsRight
   pub counts : Counts old new result
-
--- the first basis line whose volume isn't reached
-abbrev pub first_unreached : Board → List Basis → Option Basis
-first_unreached B bases = find (λ d. not (nat_le d.volume (reached B d.custodian))) bases
 
 -- a custodian's next volume, and its bytes where it was received
 abbrev pub IsNextFile : Received → Board → ℕ → NextFile → Type 0
@@ -75,18 +70,31 @@ pub record Advances (d : Door) (least : ℕ) (old new : Seen) : Type 0 where
   pub idle : IsNotOpen new.progress
   pub kept : old.failures ≤ new.failures
 
--- how many files were surely judged in a call that answers whether any was
-abbrev pub judged_in : Result Bool ShelfFault → ℕ
-judged_in (Ok true) = 1
-judged_in (Ok false) = 0
+-- how many files were surely judged in a call that tells how many were
+abbrev pub judged_in : Result ℕ ShelfFault → ℕ
+judged_in (Ok n) = n
 judged_in (Err fault) = 0
 
--- a call that judges what is ready among some custodians, and answers whether any was; where none was, the board is as before
-pub record Tries (d : Door) (old new : Seen) (result : Result Bool ShelfFault) (IsAmong : ℕ → Type 0) : Type 0 where
+-- a custodian has this many volumes at most
+abbrev pub capped : ℕ → ℕ
+capped n = if nat_le n 999999 then n else 999999
+
+-- how many volumes of the custodians of a register are judged
+abbrev pub judged_by : RegisterValue → Board → ℕ
+judged_by [] B = 0
+judged_by (k ∷ register) B = capped (reached B k.code) + judged_by register B
+
+-- with so many judgements more, all volumes of the custodians would be judged
+abbrev pub IsAll : Door → Board → ℕ → Type 0
+IsAll d B left = 999999 * length d.custodians ≤ judged_by d.custodians B + left
+
+-- a call that judges at most so many of what is ready among some custodians, and tells how many; where none was, the board is as before
+pub record Tries (d : Door) (left : ℕ) (old new : Seen) (result : Result ℕ ShelfFault) (IsAmong : ℕ → Type 0) : Type 0 where
   pub advances : Advances d (judged_in result) old new
-  pub same : StandsFor d old → new.unharmed → IfOk result (λ more. more ≡ false → new.content.board ≡ old.content.board)
-  pub rests : StandsFor d old → new.unharmed → IfOk result (λ more. more ≡ false → (c : ℕ) → IsAmong c → ready old.content.files old.content.board c ≡ false)
-  pub counts : Counts old new result
+  pub within : IfOk result (λ n. n ≤ left)
+  pub same : StandsFor d old → new.unharmed → IfOk result (λ n. n ≡ 0 → new.content.board ≡ old.content.board)
+  pub rests : StandsFor d old → new.unharmed → IfOk result (λ n. n ≡ 0 → (c : ℕ) → IsAmong c → ready old.content.files old.content.board c ≡ false)
+  pub cause : StandsFor d old → new.unharmed → IsAll d old.content.board left → IfErr result (λ e. e ≡ Store → old.failures < new.failures)
 
 -- a call that settles and then reads: after an Ok nothing is ready, and the answer is right
 pub record Tells {T : Type 0} (d : Door) (old new : Seen) (result : Result T ShelfFault) (IsRight : T → Type 0) : Type 0 where

@@ -7,7 +7,8 @@ use Rattle.gaz_shelf.specs.Board.{empty_board}
 use Rattle.gaz_shelf.specs.declared.fault.ShelfFault.TheVariants as fault
 use Rattle.gaz_hub.specs.Examples.{one_judged, sent}
 use Rattle.gaz_hub.specs.Hubs.{cause_of, door_of, is_foreign, state_of}
-use Rattle.gaz_hub.specs.Settling.{IsNext, IsNextFile, first_unreached, wanted_by}
+use Rattle.gaz_hub.specs.Outcomes.{first_unreached}
+use Rattle.gaz_hub.specs.Settling.{IsNext, IsNextFile, wanted_by}
 use Rattle.gaz_hub.specs.Step.{Settled, Stands, Submitted, Told, new_hub, turned_away}
 use Rattle.gaz_hub.specs.WorkedBoards.{basis}
 use Rattle.gaz_hub.specs.declared.answer.Answer.TheVariants.{New, Refused, Taken}

@@ -7,7 +7,7 @@ use Rattle.gaz_rows.specs.Rows.{lines_of}
 use Rattle.gaz_shelf.specs.Board.{empty_board}
 use Rattle.gaz_shelf.specs.declared.fault.ShelfFault.TheVariants as fault
 use Rattle.gaz_hub.specs.Examples.{gap_hub, late_hub, one_judged}
-use Rattle.gaz_hub.specs.Hubs.{AreKeyed, cause_of, told, told_all}
+use Rattle.gaz_hub.specs.Hubs.{cause_of, told, told_all}
 use Rattle.gaz_hub.specs.Readings.{is_question}
 use Rattle.gaz_hub.specs.Runs.{is_settled}
 use Rattle.gaz_hub.specs.Sample.{sample_door}
@@ -50,5 +50,3 @@ pub record WorkedReadings : Type 0 where
   pub submitting_asks_not : is_question (Submit 1003 1 []) ≡ false
   pub nothing_told : told (Ok None) ≡ Ok None
   pub refusal_told : told_all (Err refusal.BadVolume) ≡ Err refusal.BadVolume
-  pub keyed_at_first : AreKeyed empty_board
-  pub keyed_after : AreKeyed one_judged

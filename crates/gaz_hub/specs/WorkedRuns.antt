@@ -1,13 +1,15 @@
 -- Worked examples on runs of a hub.
 use Rattle.std.specs.Prelude.{◌≡◌, true, false, List, [], ◌∷◌, Some, None, Ok, Err}
 use Rattle.gaz_shelf.specs.declared.fault.ShelfFault.TheVariants as fault
+use Rattle.std.specs.FinMap as map
+use Rattle.gaz_hub.specs.Answers.{AllReadOff, IsReadOff, received_by, then_received}
 use Rattle.gaz_hub.specs.Runs.{Abides, ChangesNothing, Run, accepted, first_received, is_answered_51, is_not_received, is_settled, is_settled_answer, same_pair}
 use Rattle.gaz_hub.specs.Step.{Ask, Command, HubState, Response, Settled, Stands, Submit, Submitted, Told, new_hub}
 use Rattle.gaz_hub.specs.Sample.{sample_door}
 use Rattle.gaz_hub.specs.declared.answer.Answer.TheVariants.{New, Repeat, Taken, Refused}
 use Rattle.gaz_hub.specs.declared.outcome.Outcome.TheVariants.{Rejected, Held}
 use Rattle.gaz_hub.specs.declared.refusal.Refusal.TheVariants as refusal
-use Rattle.gaz_hub.specs.Examples.{first_hub, gap_hub, no_text, whole_hub}
+use Rattle.gaz_hub.specs.Examples.{first_hub, first_sent, gap_hub, no_text, sent, whole_hub}
 
 -- what answers say of what was received and of what is settled
 pub record WorkedResponses : Type 0 where
@@ -56,6 +58,18 @@ answers = Submitted (New (Rejected 1 1)) ∷ Submitted (New (Held 1003 2)) ∷ S
 abbrev pub wrong_answers : List Response
 wrong_answers = Submitted (New (Rejected 1 1)) ∷ Submitted (New (Held 1003 2)) ∷ Submitted (New (Rejected 1 1)) ∷ []
 
+-- what is received by then, and what answers are read off
+pub record WorkedReadOff : Type 0 where
+  pub received : then_received sample_door map.empty (Submit 1003 1 no_text) (Submitted (New (Rejected 1 1))) ≡ first_sent
+  pub not_after_51 : then_received sample_door first_sent (Submit 1003 3 no_text) (Submitted (Refused (refusal.NotReceived fault.Memory))) ≡ first_sent
+  pub never_replaced : then_received sample_door first_sent (Submit 1003 1 []) (Submitted (Taken [])) ≡ first_sent
+  pub one_by_one : received_by sample_door map.empty sending answers ≡ sent
+  pub read_off : AllReadOff sample_door map.empty sending answers
+  pub never_new_twice : AllReadOff sample_door map.empty sending wrong_answers → ⊥
+  pub never_held_for_good : IsReadOff sample_door sent (Submit 1003 2 no_text) (Submitted (New (Held 1003 2))) → ⊥
+  pub never_nothing : IsReadOff sample_door sent (Ask 1003 1) (Told (Ok None)) → ⊥
+  pub never_answered_otherwise : IsReadOff sample_door sent (Ask 1003 1) (Settled (Ok tt)) → ⊥
+
 -- whole runs, and what holds after them
 pub record WorkedWholes : Type 0 where
   pub runs : Run sample_door new_hub sending answers gap_hub
@@ -73,4 +87,5 @@ pub record WorkedWholes : Type 0 where
 pub record WorkedRuns : Type 0 where
   pub on_responses : WorkedResponses
   pub on_firsts : WorkedFirsts
+  pub on_read_off : WorkedReadOff
   pub on_wholes : WorkedWholes

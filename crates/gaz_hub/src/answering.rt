@@ -4,8 +4,8 @@ ghost use Rattle.sha2.specs.Sha256.{sha256};
 ghost use Rattle.gaz_register.specs.Registers.{knows};
 ghost use Rattle.gaz_shelf.specs.Board.{reached};
 ghost use Rattle.gaz_shelf.specs.Keeper.{IsNotOpen, Seen};
-ghost use Rattle.gaz_hub.specs.Asked.{IsAgain, IsHeld, IsOutcome, IsToldNow, TakesIn};
-ghost use Rattle.gaz_hub.specs.Hubs.{Steps, door_of, is_foreign};
+ghost use Rattle.gaz_hub.specs.Asked.{AnyIsPastDoor, IsAgain, IsHeld, IsOutcome, IsPastDoor, IsToldNow, TakesIn};
+ghost use Rattle.gaz_hub.specs.Hubs.{MeetsDoor, Steps, door_of, is_foreign};
 ghost use Rattle.gaz_hub.specs.Outcomes.{held_count, outcome_of, status};
 ghost use Rattle.gaz_hub.specs.Settling.{Looks, Tells};
 ghost use Rattle.gaz_hub.specs.Step.{Ask, IsTold, Stand, Stands, Submit, Submitted, Told, door, turned_away};
@@ -16,15 +16,12 @@ use crate::outcome::Outcome;
 use crate::refusal::Refusal;
 use crate::settling::settle;
 use crate::standing::Standing;
-use gaz_changefile::profile_of;
-use gaz_ids::{Code, Volume};
+use gaz_changefile::{KNOWN_PROFILE, profile_of};
+use gaz_ids::{Code, MOST_BYTES, Volume};
 use gaz_register::Register;
 use gaz_shelf::{Inbox, ShelfFault, Verdict};
 use sha2::{Digest, Sha256};
 use std::alloc::{AllocError, Global};
-
-/// The most bytes that a file may have.
-pub const MAX_FILE: usize = 1_048_576;
 
 // The code, where the register has it.
 fn known_code(register: &Register, code: u64) -> Result<Code, Refusal>
@@ -51,20 +48,20 @@ pub fn at_door(
     let Some(volume) = Volume::of(volume) else {
         return Err(Refusal::BadVolume);
     };
-    if size > MAX_FILE {
+    if size as u64 > MOST_BYTES {
         return Err(Refusal::TooLarge);
     }
     Ok((code, volume))
 }
 
-// Whether the file names a profile that isn't known. There is one, 1.
+// Whether the file names a profile that isn't known.
 // A reader of CSV takes 32 KiB of the stack, which no other request should touch.
 #[inline(never)]
 fn names_unknown_profile(alloc: Global, file: &[u8]) -> Result<bool, AllocError>
     ensures { IfOk result (λ foreign. foreign ≡ is_foreign file.now) }
 {
     match profile_of(alloc, file)? {
-        Some(profile) => Ok(profile != 1),
+        Some(profile) => Ok(profile != KNOWN_PROFILE),
         None => Ok(false),
     }
 }
@@ -134,7 +131,8 @@ fn answer_again<K: Inbox>(
     volume: Volume,
     file: &[u8],
 ) -> Result<Option<Answer>, ShelfFault>
-    ensures { Looks (K.seen keeper.old) (K.seen keeper.new) result (IsAgain (K.seen keeper.old).content.files (K.seen keeper.old).content.board code volume file.now) }
+    ensures looks { Looks (K.seen keeper.old) (K.seen keeper.new) result (IsAgain (K.seen keeper.old).content.files (K.seen keeper.old).content.board code volume file.now) }
+    ensures past_door { IfOk result AnyIsPastDoor }
 {
     let Some(there) = keeper.received(code, volume)? else {
         return Ok(None);
@@ -157,7 +155,8 @@ fn settle_and_answer<K: Inbox>(
     file: &[u8],
 ) -> Result<Option<Answer>, ShelfFault>
     requires { IsNotOpen (K.seen keeper.old).progress }
-    ensures { Tells (door_of register.now) (K.seen keeper.old) (K.seen keeper.new) result (IsAgain (K.seen keeper.new).content.files (K.seen keeper.new).content.board code volume file.now) }
+    ensures tells { Tells (door_of register.now) (K.seen keeper.old) (K.seen keeper.new) result (IsAgain (K.seen keeper.new).content.files (K.seen keeper.new).content.board code volume file.now) }
+    ensures past_door { IfOk result AnyIsPastDoor }
 {
     settle(alloc, register, keeper)?;
     answer_again(alloc, keeper, code, volume, file)
@@ -189,7 +188,8 @@ fn take_in<K: Inbox>(
 ) -> Answer
     requires idle { IsNotOpen (K.seen keeper.old).progress }
     requires let_in { door (door_of register.now) code volume file.now ≡ None }
-    ensures { TakesIn (door_of register.now) (K.seen keeper.old) (K.seen keeper.new) code volume file.now result }
+    ensures takes_in { TakesIn (door_of register.now) (K.seen keeper.old) (K.seen keeper.new) code volume file.now result }
+    ensures past_door { IsPastDoor result }
 {
     match keeper.receive(code, volume, file) {
         Ok(()) => {}
@@ -212,7 +212,8 @@ fn submit_let_in<K: Inbox>(
 ) -> Answer
     requires idle { IsNotOpen (K.seen keeper.old).progress }
     requires let_in { door (door_of register.now) code volume file.now ≡ None }
-    ensures { Steps (door_of register.now) (K.seen keeper.old) (K.seen keeper.new) (Submit code volume file.now) (Submitted result) }
+    ensures steps { Steps (door_of register.now) (K.seen keeper.old) (K.seen keeper.new) (Submit code volume file.now) (Submitted result) }
+    ensures past_door { IsPastDoor result }
 {
     match settle_and_answer(alloc, register, keeper, code, volume, file) {
         Ok(Some(answer)) => answer,
@@ -231,7 +232,8 @@ pub fn submit_file<K: Inbox>(
     file: &[u8],
 ) -> Answer
     requires { IsNotOpen (K.seen keeper.old).progress }
-    ensures { Steps (door_of register.now) (K.seen keeper.old) (K.seen keeper.new) (Submit code volume file.now) (Submitted result) }
+    ensures steps { Steps (door_of register.now) (K.seen keeper.old) (K.seen keeper.new) (Submit code volume file.now) (Submitted result) }
+    ensures door { MeetsDoor (door_of register.now) keeper.old keeper.new (Submit code volume file.now) (Submitted result) }
 {
     let (code, volume) = match at_door(register, code, volume, file.len()) {
         Ok(pair) => pair,
@@ -284,7 +286,8 @@ pub fn ask<K: Inbox>(
     volume: u64,
 ) -> Result<Option<(FileDigest, Outcome)>, Refusal>
     requires { IsNotOpen (K.seen keeper.old).progress }
-    ensures { Steps (door_of register.now) (K.seen keeper.old) (K.seen keeper.new) (Ask code volume) (Told result) }
+    ensures steps { Steps (door_of register.now) (K.seen keeper.old) (K.seen keeper.new) (Ask code volume) (Told result) }
+    ensures door { MeetsDoor (door_of register.now) keeper.old keeper.new (Ask code volume) (Told result) }
 {
     let (code, volume) = match at_door(register, code, volume, 0) {
         Ok(pair) => pair,
@@ -345,7 +348,8 @@ pub fn stand<K: Inbox>(
     code: u64,
 ) -> Result<Standing, Refusal>
     requires { IsNotOpen (K.seen keeper.old).progress }
-    ensures { Steps (door_of register.now) (K.seen keeper.old) (K.seen keeper.new) (Stand code) (Stands result) }
+    ensures steps { Steps (door_of register.now) (K.seen keeper.old) (K.seen keeper.new) (Stand code) (Stands result) }
+    ensures door { MeetsDoor (door_of register.now) keeper.old keeper.new (Stand code) (Stands result) }
 {
     let custodian = match known_code(register, code) {
         Ok(custodian) => custodian,

@@ -1,6 +1,6 @@
 ghost use Rattle.std.specs.Prelude.{◌≡◌};
 ghost use Rattle.gaz_shelf.specs.Keeper.{IsNotOpen, Seen};
-ghost use Rattle.gaz_hub.specs.Hubs.{Steps, door_of, told, told_all};
+ghost use Rattle.gaz_hub.specs.Hubs.{MeetsDoor, Steps, door_of, told, told_all};
 ghost use Rattle.gaz_hub.specs.Step.{Ask, Extract, Extracted, ListClosed, Listed, LookUp, LookedUp, Settle, Settled, Stand, Stands, Submit, Submitted, Told};
 
 use crate::answer::{Answer, Digest};
@@ -18,8 +18,9 @@ use std::alloc::Global;
 
 /// A hub of the custodians of a register, which keeps files and board in a keeper.
 ///
-/// Each call settles first: it judges what is ready, until nothing is. What a call does is said of the content of the keeper, where it
-/// stands for one and nobody else wrote on it up to the call's end.
+/// Each call that the door lets in settles first: it judges what is ready, until nothing is. What a call does is said of the content of
+/// the keeper, where it stands for one and nobody else wrote on it up to the call's end. Whom the door refuses, and by what, is said
+/// whatever the keeper stands for; the keeper isn't called then.
 #[derive(Drop)]
 pub struct Hub<K: Inbox + Drop> {
     alloc: Global,
@@ -69,6 +70,7 @@ impl<K: Inbox + Drop> Hub<K> {
     pub fn submit(&mut self, code: u64, volume: u64, file: &[u8]) -> Answer
         requires idle { IsNotOpen (K.seen self.old.keeper).progress }
         ensures steps { Steps (door_of self.old.register) (K.seen self.old.keeper) (K.seen self.new.keeper) (Submit code volume file.now) (Submitted result) }
+        ensures door { MeetsDoor (door_of self.old.register) self.old.keeper self.new.keeper (Submit code volume file.now) (Submitted result) }
         ensures register { self.new.register ≡ self.old.register }
     {
         submit_file(
@@ -85,6 +87,7 @@ impl<K: Inbox + Drop> Hub<K> {
     pub fn outcome(&mut self, code: u64, volume: u64) -> Result<Option<(Digest, Outcome)>, Refusal>
         requires idle { IsNotOpen (K.seen self.old.keeper).progress }
         ensures steps { Steps (door_of self.old.register) (K.seen self.old.keeper) (K.seen self.new.keeper) (Ask code volume) (Told result) }
+        ensures door { MeetsDoor (door_of self.old.register) self.old.keeper self.new.keeper (Ask code volume) (Told result) }
         ensures register { self.new.register ≡ self.old.register }
     {
         ask(self.alloc, &self.register, &mut self.keeper, code, volume)
@@ -94,6 +97,7 @@ impl<K: Inbox + Drop> Hub<K> {
     pub fn status(&mut self, code: u64) -> Result<Standing, Refusal>
         requires idle { IsNotOpen (K.seen self.old.keeper).progress }
         ensures steps { Steps (door_of self.old.register) (K.seen self.old.keeper) (K.seen self.new.keeper) (Stand code) (Stands result) }
+        ensures door { MeetsDoor (door_of self.old.register) self.old.keeper self.new.keeper (Stand code) (Stands result) }
         ensures register { self.new.register ≡ self.old.register }
     {
         stand(self.alloc, &self.register, &mut self.keeper, code)
@@ -112,6 +116,7 @@ impl<K: Inbox + Drop> Hub<K> {
     pub fn lookup(&mut self, uprn: Uprn) -> Result<Option<Found>, Refusal>
         requires idle { IsNotOpen (K.seen self.old.keeper).progress }
         ensures steps { Steps (door_of self.old.register) (K.seen self.old.keeper) (K.seen self.new.keeper) (LookUp uprn) (LookedUp result) }
+        ensures door { MeetsDoor (door_of self.old.register) self.old.keeper self.new.keeper (LookUp uprn) (LookedUp result) }
         ensures register { self.new.register ≡ self.old.register }
     {
         look_up(self.alloc, &self.register, &mut self.keeper, uprn)
@@ -121,6 +126,7 @@ impl<K: Inbox + Drop> Hub<K> {
     pub fn extract(&mut self, code: u64, volume: u64) -> Result<Option<Vec<u8>>, Refusal>
         requires idle { IsNotOpen (K.seen self.old.keeper).progress }
         ensures steps { Steps (door_of self.old.register) (K.seen self.old.keeper) (K.seen self.new.keeper) (Extract code volume) (Extracted (told result)) }
+        ensures door { MeetsDoor (door_of self.old.register) self.old.keeper self.new.keeper (Extract code volume) (Extracted (told result)) }
         ensures register { self.new.register ≡ self.old.register }
     {
         extract_of(self.alloc, &self.register, &mut self.keeper, code, volume)
@@ -130,6 +136,7 @@ impl<K: Inbox + Drop> Hub<K> {
     pub fn closed_streets(&mut self) -> Result<Vec<Closed>, Refusal>
         requires idle { IsNotOpen (K.seen self.old.keeper).progress }
         ensures steps { Steps (door_of self.old.register) (K.seen self.old.keeper) (K.seen self.new.keeper) ListClosed (Listed (told_all result)) }
+        ensures door { MeetsDoor (door_of self.old.register) self.old.keeper self.new.keeper ListClosed (Listed (told_all result)) }
         ensures register { self.new.register ≡ self.old.register }
     {
         list_closed(self.alloc, &self.register, &mut self.keeper)

@@ -1,9 +1,11 @@
 //! Laws over the definitions alone: whichever ready file is judged first, whatever commands come.
-ghost use Rattle.gaz_hub.specs.Laws.{AllSound, EveryRunOver, EverySettledRunOver};
+ghost use Rattle.gaz_hub.specs.Answers.{EveryAnswer};
+ghost use Rattle.gaz_hub.specs.Laws.{AllSound, CallsMakeRuns, EveryAnswerOver, EveryRunFromOver, EveryRunOver, EverySettledRunFromOver, EverySettledRunOver};
 ghost use Rattle.gaz_hub.specs.Readings.{EqualAnswers, ExtractsStay, OneHolder};
-ghost use Rattle.gaz_hub.specs.Runs.{EqualReceived, EveryRepeat, EveryRun, EverySettledRun, JudgementsStay};
+ghost use Rattle.gaz_hub.specs.Runs.{EqualReceived, EveryRepeat, EveryRun, EveryRunFrom, EverySettledRun, EverySettledRunFrom, JudgementsStay};
 ghost use Rattle.gaz_hub.specs.Standing.{AnyOrder, MoreFiles, StandingIsSettled};
 ghost use Rattle.gaz_hub.specs.WorkedAnswers.{WorkedAnswers};
+ghost use Rattle.gaz_hub.specs.WorkedBases.{WorkedBases};
 ghost use Rattle.gaz_hub.specs.WorkedBoards.{WorkedBoards};
 ghost use Rattle.gaz_hub.specs.WorkedHubs.{WorkedHubs};
 ghost use Rattle.gaz_hub.specs.WorkedReadings.{WorkedReadings};
@@ -27,12 +29,28 @@ pub fn more_files()
     ensures { MoreFiles }
 {}
 
-/// Whatever commands come, what is received is what came first, and the board is partial over it.
+/// Whatever commands come to a hub whose board is partial, what is received is what was there and then what came first, and the board
+/// stays partial over it.
+pub fn every_run_from()
+    ensures { EveryRunFrom }
+{}
+
+/// After a response that settles, the board of such a hub is the standing one.
+pub fn every_settled_run_from()
+    ensures { EverySettledRunFrom }
+{}
+
+/// Each response of such a hub that settles is the one read off the standing board of the files that are received by then.
+pub fn every_answer()
+    ensures { EveryAnswer }
+{}
+
+/// Whatever commands come to a hub that begins with nothing, what is received is what came first, and the board is partial over it.
 pub fn every_run()
     ensures { EveryRun }
 {}
 
-/// After a response that settles, the board is the standing one.
+/// After a response that settles, the board of a hub that began with nothing is the standing one.
 pub fn every_settled_run()
     ensures { EverySettledRun }
 {}
@@ -47,7 +65,7 @@ pub fn judgements_stay()
     ensures { JudgementsStay }
 {}
 
-/// Equal received sets leave equal boards, whatever came and in whatever order.
+/// Two runs that end settled and with equal received sets leave equal boards, whatever came and in whatever order.
 pub fn equal_received()
     ensures { EqualReceived }
 {}
@@ -72,12 +90,32 @@ pub fn one_holder()
     ensures { OneHolder }
 {}
 
+/// Calls one after another are runs.
+pub fn calls_make_runs<K: Inbox>()
+    ensures { CallsMakeRuns K.seen }
+{}
+
+/// Whatever commands come, over any keeper that stood for a partial run of files of known custodians, it stands for one.
+pub fn every_run_from_over<K: Inbox>()
+    ensures { EveryRunFromOver K.seen }
+{}
+
+/// After a response that settles, over any such keeper, the board is the standing one.
+pub fn every_settled_run_from_over<K: Inbox>()
+    ensures { EverySettledRunFromOver K.seen }
+{}
+
+/// Each response that settles, over any such keeper, is the one read off the standing board of the files that are received by then.
+pub fn every_answer_over<K: Inbox>()
+    ensures { EveryAnswerOver K.seen }
+{}
+
 /// Whatever commands come, over any keeper that began with nothing, it stands for what came first and for a board that is partial over it.
 pub fn every_run_over<K: Inbox>()
     ensures { EveryRunOver K.seen }
 {}
 
-/// After a response that settles, over any such keeper, the board is the standing one.
+/// After a response that settles, over any keeper that began with nothing, the board is the standing one.
 pub fn every_settled_run_over<K: Inbox>()
     ensures { EverySettledRunOver K.seen }
 {}
@@ -85,6 +123,11 @@ pub fn every_settled_run_over<K: Inbox>()
 /// What was received, who is ready, and which boards come next, on worked examples.
 pub fn worked_boards()
     ensures { WorkedBoards }
+{}
+
+/// A file that is applied and one that rests on it, on worked examples.
+pub fn worked_bases()
+    ensures { WorkedBases }
 {}
 
 /// What judging comes to and what custodians are told, on worked examples.

@@ -13,7 +13,6 @@ mod settling;
 mod standing;
 
 pub use answer::{Answer, Digest};
-pub use answering::MAX_FILE;
 pub use hub::Hub;
 pub use outcome::Outcome;
 pub use refusal::Refusal;

@@ -3,11 +3,11 @@ ghost use Rattle.std.specs.Prelude.{◌≡◌, ◌≤◌, ◌+◌, IfErr, IfOk};
 ghost use Rattle.gaz_changefile.specs.Reading.{Bad, Good, reading};
 ghost use Rattle.gaz_shelf.specs.Board.{reached};
 ghost use Rattle.gaz_shelf.specs.Keeper.{Seen};
-ghost use Rattle.gaz_hub.specs.Settling.{Looks, IsNext, IsNextFile, IsReadAs, IsWeighed, first_unreached, wanted_by};
-ghost use Rattle.gaz_hub.specs.Outcomes.{wants};
+ghost use Rattle.gaz_hub.specs.Settling.{Looks, IsNext, IsNextFile, IsReadAs, IsWeighed, wanted_by};
+ghost use Rattle.gaz_hub.specs.Outcomes.{first_unreached, wants};
 
 use gaz_changefile::{Basis, ChangeFile, FileFault, read_file};
-use gaz_ids::{Code, Volume};
+use gaz_ids::{Code, LAST_VOLUME, Volume};
 use gaz_shelf::{Inbox, Shelf, ShelfFault};
 use std::alloc::Global;
 
@@ -52,7 +52,7 @@ pub fn next_file<K: Inbox>(keeper: &mut K, code: Code) -> Result<NextFile, Shelf
     ensures { Looks (K.seen keeper.old) (K.seen keeper.new) result (IsNextFile (K.seen keeper.old).content.files (K.seen keeper.old).content.board code) }
 {
     let reached = keeper.reached(code)?;
-    if reached >= 999_999 {
+    if reached >= LAST_VOLUME {
         return Ok(NextFile::Past);
     }
     let Some(volume) = Volume::of(reached + 1) else {

@@ -4,7 +4,7 @@ ghost use Rattle.gaz_extract.specs.Closing.{closed_streets};
 ghost use Rattle.gaz_extract.specs.Extracts.{extract};
 ghost use Rattle.gaz_extract.specs.Lookups.{lookup};
 ghost use Rattle.gaz_shelf.specs.Keeper.{IsNotOpen, Seen};
-ghost use Rattle.gaz_hub.specs.Hubs.{Steps, door_of, told, told_all};
+ghost use Rattle.gaz_hub.specs.Hubs.{MeetsDoor, Steps, door_of, told, told_all};
 ghost use Rattle.gaz_hub.specs.Settling.{Tells};
 ghost use Rattle.gaz_hub.specs.Step.{Extract, Extracted, ListClosed, Listed, LookUp, LookedUp};
 
@@ -39,7 +39,8 @@ pub fn look_up<K: Inbox>(
     uprn: Uprn,
 ) -> Result<Option<Found>, Refusal>
     requires { IsNotOpen (K.seen keeper.old).progress }
-    ensures { Steps (door_of register.now) (K.seen keeper.old) (K.seen keeper.new) (LookUp uprn) (LookedUp result) }
+    ensures steps { Steps (door_of register.now) (K.seen keeper.old) (K.seen keeper.new) (LookUp uprn) (LookedUp result) }
+    ensures door { MeetsDoor (door_of register.now) keeper.old keeper.new (LookUp uprn) (LookedUp result) }
 {
     match settle_and_look_up(alloc, register, keeper, uprn) {
         Ok(found) => Ok(found),
@@ -71,7 +72,8 @@ pub fn extract_of<K: Inbox>(
     volume: u64,
 ) -> Result<Option<Vec<u8>>, Refusal>
     requires { IsNotOpen (K.seen keeper.old).progress }
-    ensures { Steps (door_of register.now) (K.seen keeper.old) (K.seen keeper.new) (Extract code volume) (Extracted (told result)) }
+    ensures steps { Steps (door_of register.now) (K.seen keeper.old) (K.seen keeper.new) (Extract code volume) (Extracted (told result)) }
+    ensures door { MeetsDoor (door_of register.now) keeper.old keeper.new (Extract code volume) (Extracted (told result)) }
 {
     let (code, volume) = match at_door(register, code, volume, 0) {
         Ok(pair) => pair,
@@ -103,7 +105,8 @@ pub fn list_closed<K: Inbox>(
     keeper: &mut K,
 ) -> Result<Vec<Closed>, Refusal>
     requires { IsNotOpen (K.seen keeper.old).progress }
-    ensures { Steps (door_of register.now) (K.seen keeper.old) (K.seen keeper.new) ListClosed (Listed (told_all result)) }
+    ensures steps { Steps (door_of register.now) (K.seen keeper.old) (K.seen keeper.new) ListClosed (Listed (told_all result)) }
+    ensures door { MeetsDoor (door_of register.now) keeper.old keeper.new ListClosed (Listed (told_all result)) }
 {
     match settle_and_list(alloc, register, keeper) {
         Ok(closed) => Ok(closed),

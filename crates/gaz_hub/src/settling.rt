@@ -1,65 +1,77 @@
 //! Judging what is ready, until nothing is.
-ghost use Rattle.std.specs.Prelude.{◌≡◌, ⊤, true};
+ghost use Rattle.std.specs.Prelude.{◌≡◌, ◌≤◌, ⊤, true, IfErr, OnOk};
 ghost use Rattle.gaz_register.specs.Registers.{knows};
 ghost use Rattle.gaz_shelf.specs.Keeper.{IsNotOpen, Seen};
 ghost use Rattle.gaz_hub.specs.Hubs.{door_of};
 ghost use Rattle.gaz_hub.specs.Settling.{Tells, Tries};
 
 use crate::looking::{Next, look};
-use gaz_ids::Code;
+use gaz_ids::{Code, LAST_VOLUME};
 use gaz_register::Register;
 use gaz_rules::judge;
 use gaz_shelf::{Inbox, ShelfFault};
 use std::alloc::Global;
 
-/// The last volume of a custodian.
-const LAST_VOLUME: u64 = 999_999;
+// Whether one more may be judged. No lawful content asks past the last.
+fn ask_room(left: u64) -> Result<(), ShelfFault>
+    ensures room { OnOk result (1 ≤ left) }
+    ensures none { IfErr result (λ e. left ≡ 0) }
+{
+    if left == 0 {
+        return Err(ShelfFault::Store);
+    }
+    Ok(())
+}
 
-/// Judges a custodian's next volume, where it is ready; whether it was.
+/// Judges a custodian's next volume, where it is ready; how many were judged, of at most `left`.
 fn judge_next<K: Inbox>(
     alloc: Global,
     register: &Register,
     keeper: &mut K,
     code: Code,
-) -> Result<bool, ShelfFault>
+    left: u64,
+) -> Result<u64, ShelfFault>
     requires { IsNotOpen (K.seen keeper.old).progress }
-    ensures { Tries (door_of register.now) (K.seen keeper.old) (K.seen keeper.new) result (λ c. c ≡ code) }
+    ensures { Tries (door_of register.now) left (K.seen keeper.old) (K.seen keeper.new) result (λ c. c ≡ code) }
 {
     let next = look(alloc, keeper, code)?;
     match &next {
         Next::Good(file) => {
+            ask_room(left)?;
             judge(alloc, keeper, register, code, file)?;
-            Ok(true)
+            Ok(1)
         }
         Next::Bad { place, rule } => {
+            ask_room(left)?;
             keeper.skip(code, *place, *rule)?;
-            Ok(true)
+            Ok(1)
         }
-        Next::Waits(..) | Next::Done => Ok(false),
+        Next::Waits(..) | Next::Done => Ok(0),
     }
 }
 
-/// Looks at all custodians by rising code, and judges the next volume of each that is ready; whether any was.
+/// Looks at all custodians by rising code, and judges the next volume of each that is ready; how many were judged, of at most `left`.
 fn settle_round<K: Inbox>(
     alloc: Global,
     register: &Register,
     keeper: &mut K,
-) -> Result<bool, ShelfFault>
+    left: u64,
+) -> Result<u64, ShelfFault>
     requires { IsNotOpen (K.seen keeper.old).progress }
-    ensures { Tries (door_of register.now) (K.seen keeper.old) (K.seen keeper.new) result (λ c. knows register.now c ≡ true) }
+    ensures { Tries (door_of register.now) left (K.seen keeper.old) (K.seen keeper.new) result (λ c. knows register.now c ≡ true) }
 {
     let custodians = register.custodians();
-    let mut more = false;
+    let mut judged = 0;
     for custodian in custodians {
-        more |= judge_next(alloc, register, keeper, custodian.code())?;
+        judged += judge_next(alloc, register, keeper, custodian.code(), left - judged)?;
     }
-    Ok(more)
+    Ok(judged)
 }
 
 /// Judges until nothing is ready.
 ///
-/// Each round but the last judges a file, and there are at most 999,999 for each custodian, 399,999,600 in all. So a lawful content is
-/// settled before the rounds run out.
+/// At most 999,999 volumes of each custodian are judged, 399,999,600 in all; a content with more of them ready isn't lawful, and is answered `Store`.
+/// Each round but the last judges a file, so that the rounds end by themselves.
 pub fn settle<K: Inbox>(
     alloc: Global,
     register: &Register,
@@ -69,10 +81,13 @@ pub fn settle<K: Inbox>(
     ensures { Tells (door_of register.now) (K.seen keeper.old) (K.seen keeper.new) result (λ done. ⊤) }
 {
     let most = LAST_VOLUME * register.custodians().len() as u64;
+    let mut left = most;
     for _round in 0..most + 1 {
-        if !settle_round(alloc, register, keeper)? {
+        let judged = settle_round(alloc, register, keeper, left)?;
+        if judged == 0 {
             return Ok(());
         }
+        left -= judged;
     }
     Err(ShelfFault::Store)
 }

@@ -45,9 +45,6 @@ own = numerals_by_value (λ ds. all_ascii_digits ds ≡ true) tells_all_ascii_di
 pub short_value : (s : List ℕ) → all_ascii_digits s ≡ true → length s ≤ 18 → digits_value 10 s < 10 ^ 18
 short_value s d h = digits_value_short own s 18 d h
 
-pub value_at_end : (v i : ℕ) (s : List ℕ) → length s ≤ i → digits_value_after 10 v (drop i s) ≡ digits_value 10 s → v ≡ digits_value 10 s
-value_at_end v i s h e = rw (drop_all i s h) at e
-
 -- what a number prints reads back
 pub read_decimal : (w l h n : ℕ) → 0 < w → n < 10 ^ w → n < 2 ^ 64 → l ≤ n → n ≤ h → read_id w l h (decimal n) ≡ Ok n
 unfolding read_id

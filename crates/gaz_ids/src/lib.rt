@@ -5,10 +5,12 @@ pub mod digits;
 mod fault;
 mod lang;
 pub mod laws;
+mod limits;
 mod number;
 mod status;
 
 pub use fault::IdFault;
 pub use lang::Lang;
+pub use limits::{LAST_VOLUME, MOST_BYTES};
 pub use number::{Code, Number, Order, Uprn, Usrn, Volume};
 pub use status::Status;

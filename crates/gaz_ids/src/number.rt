@@ -3,6 +3,7 @@ ghost use Rattle.gaz_ids.specs.Numbers.{of_id, read_id};
 
 use crate::digits::{are_digits, value_of};
 use crate::fault::IdFault;
+use crate::limits::LAST_VOLUME;
 use std::fmt;
 use std::marker::Model;
 
@@ -23,8 +24,8 @@ pub type Usrn = Number<2, 8, 1, 99_999_999>;
 /// The code of a custodian, 1 to 9999 (our profile).
 pub type Code = Number<3, 4, 1, 9999>;
 
-/// The number of a custodian's file, 1 to 999,999 (our profile).
-pub type Volume = Number<4, 6, 1, 999_999>;
+/// The number of a custodian's file, 1 to `LAST_VOLUME` (our profile).
+pub type Volume = Number<4, 6, 1, LAST_VOLUME>;
 
 /// The place of a change record among those of its file, 1 to 5000 (our profile).
 pub type Order = Number<5, 4, 1, 5000>;

@@ -15,3 +15,4 @@ pub mod Known
 pub mod Ranges
 pub mod Ledgers
 pub mod Closings
+pub mod Lawful

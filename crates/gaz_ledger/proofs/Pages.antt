@@ -4,14 +4,14 @@ use Rattle.std.specs.Prelude.{Option, Some, None, filter, nat_le, option_map}
 use Rattle.std.proofs.lemmas.Bool.Decides.{nat_tests}
 use Rattle.std.proofs.lemmas.List.{append-nil, drop-map, length-take, take-append-drop, take_all}
 use Rattle.std.specs.List.{All}
-use Rattle.std.proofs.lemmas.List.Elements.{All-filter, All-head, All-tail, filter_agree, filter_passes}
+use Rattle.std.proofs.lemmas.List.Elements.{All-cons, All-filter, All-head, All-nil, All-tail, filter_agree, filter_passes}
 use Rattle.std.specs.Cmp.{tied_itself}
-use Rattle.std.specs.Ordering.{is_lt, ordering_reverse}
+use Rattle.std.specs.Ordering.{eq_by_cmp, is_eq, is_lt, ordering_reverse}
 use Rattle.std.specs.declared.cmp.Ordering.{Ordering}
 use Rattle.std.specs.declared.cmp.Ordering.TheVariants.{Less, Equal, Greater}
 use Rattle.std.specs.FinMap as finite
 use Rattle.std.specs.FinMap.Entries.{below_all, is_sorted, is_sorted-where_key}
-use Rattle.gaz_records.proofs.KeyOrder.{keys_total}
+use Rattle.gaz_records.proofs.KeyOrder.{keys_exact, keys_total}
 use Rattle.gaz_records.specs.Keys.{key_cmp, key_of}
 use Rattle.gaz_records.specs.declared.item.Item.{Item}
 use Rattle.gaz_records.specs.declared.item.Kind.{Kind}
@@ -104,6 +104,36 @@ behind (f ∷ es) (suc n) e h is =
     let before = not_back f.0 e.0 (in_front f.0 es n e (passing _ (both_true _ _ h).0) is) in
     ap (λ b. cond b (f ∷ filter (follows e.0) es) (filter (follows e.0) es)) before ∙ behind es n e (both_true _ _ h).1 is
 
+-- ---- items under their own keys
+
+tied : (o : Ordering) → is_eq o ≡ true → o ≡ Equal
+tied Less e = cc
+tied Equal e = refl
+tied Greater e = cc
+
+-- a row of a key that is below them all isn't among them
+none_tied : (x : Key) (es : List Row) → T (below_all key_cmp x es) → (k : Key) (i : Item) → finite.find key_cmp k es ≡ Some i → eq_by_cmp key_cmp k x ≡ false
+none_tied x [] h k i e = cc
+none_tied x (f ∷ es) h k i e =
+    let two = both_true _ _ h in
+    elim (eq_by_cmp key_cmp k f.0) as (λ b. eq_by_cmp key_cmp k f.0 ≡ b → cond b (Some f.1) (finite.find key_cmp k es) ≡ Some i → eq_by_cmp key_cmp k x ≡ false) [
+      | true ↦ λ tie _.
+          let same : f.0 ≡ k = sym (keys_exact k f.0 (tied _ tie)) in
+          ap is_eq (keys_total.antisymm k x ∙ ap ordering_reverse (subst (λ (q : Key). key_cmp x q ≡ Less) same (less _ two.0)))
+      | false ↦ λ _ found. none_tied x es two.1 k i found
+    ] refl e
+
+-- what holds of each key and item that is found holds of each row
+of_rows : (P : Row → Type 0) (es : List Row) → T (is_sorted key_cmp es) → ((k : Key) (i : Item) → finite.find key_cmp k es ≡ Some i → P (k, i)) → All P es
+of_rows P [] h found = All-nil P
+of_rows P (e ∷ es) h found =
+    let two = both_true _ _ h in
+    let here = found e.0 e.1 (ap (λ o. cond (is_eq o) (Some e.1) (finite.find key_cmp e.0 es)) (tied_itself keys_total e.0)) in
+    All-cons P e es here (of_rows P es two.1 (λ k i is. found k i (ap (λ b. cond b (Some e.1) (finite.find key_cmp k es)) (none_tied e.0 es (passing _ two.0) k i is) ∙ is)))
+
+pub rows_keyed : (v : View) → IsKeyed v → All (λ (e : Row). key_of e.1 ≡ e.0) (entries v)
+rows_keyed v keyed = of_rows (λ (e : Row). key_of e.1 ≡ e.0) (entries v) (finite.entries_sorted v.items) (λ k i is. keyed k i (finite.get-entries v.items k ∙ is))
+
 -- ---- pages
 
 module _ (v : View) (kind : Kind) where
@@ -144,7 +174,7 @@ module _ (v : View) (kind : Kind) where
       let long : length (take most all) ≡ most = omega (arith, length-take most all) in
       let last : suc (length (take most all) - 1) ≡ most = omega arith in
       let row = map_at (λ (e : Row). e.1) (rows_after after) (length (take most all) - 1) i (take_at most all _ i is) in
-      let named = at (λ (e : Row). key_of e.1 ≡ e.0) (rows_after after) _ row.0 (All-filter _ (λ (e : Row). key_of e.1 ≡ e.0) (entries v) keyed) row.1 in
+      let named = at (λ (e : Row). key_of e.1 ≡ e.0) (rows_after after) _ row.0 (All-filter _ (λ (e : Row). key_of e.1 ≡ e.0) (entries v) (rows_keyed v keyed)) row.1 in
       let same : key_of i ≡ row.0.0 = ap key_of (sym row.2) ∙ named in
       ap (λ k. take most all ++ rest_of v kind (Some k)) same
       ∙ ap (λ (es : List Row). take most all ++ map (λ e. e.1) es) (rows_behind after _ row.0 row.1 ∙ ap (λ n. drop n (rows_after after)) last)

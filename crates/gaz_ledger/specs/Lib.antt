@@ -1,6 +1,7 @@
 pub mod View
 pub mod Words
 pub mod Reading
+pub mod Lawful
 pub mod Indexes
 pub mod ViewCode
 pub mod Judgements

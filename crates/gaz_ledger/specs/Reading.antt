@@ -1,6 +1,6 @@
 -- What is read page by page.
 use Rattle.std.specs.Prelude.{◌≡◌, ◌-◌, ℕ, nat_le, nat_lt, Bool, List, [], length, slice_get, Option, Some, None, option_map, if◌then◌else◌}
-use Rattle.std.specs.List.{All}
+use Rattle.std.specs.FinMap as map
 use Rattle.std.specs.declared.ops.Bound.{Bound}
 use Rattle.std.specs.declared.ops.Bound.TheVariants.{Excluded, Unbounded}
 use Rattle.gaz_records.specs.Keys.{key_of, kind_number}
@@ -9,11 +9,11 @@ use Rattle.gaz_records.specs.declared.item.Kind.{Kind}
 use Rattle.gaz_records.specs.declared.item.Kind.TheVariants as kind
 use Rattle.gaz_records.specs.declared.key.Key.{Key}
 use Rattle.gaz_ledger.specs.View.{View}
-use Rattle.gaz_ledger.specs.Words.{entries, rest_of}
+use Rattle.gaz_ledger.specs.Words.{rest_of}
 
 -- each item stands under its own key
 abbrev pub IsKeyed : View → Type 0
-IsKeyed v = All (λ e. key_of e.1 ≡ e.0) (entries v)
+IsKeyed v = (k : Key) (i : Item) → map.get v.items k ≡ Some i → key_of i ≡ k
 
 -- the items of a kind that are left, where the next page begins after a key; none are left where there is no next page
 abbrev pub left_after : View → Kind → Option Key → List Item

@@ -13,7 +13,7 @@ use crate::property::Property;
 use crate::seed::Seed;
 use crate::verdict::Verdict;
 use gaz_ids::Uprn;
-use gaz_records::{Key, SharedItem};
+use gaz_records::{Key, SharedItem, key_of};
 use std::alloc::{AllocError, Global};
 use std::marker::Model;
 
@@ -76,7 +76,7 @@ impl Book {
         ensures ok { OnOk result (self.new ≡ record { judged = self.old.judged; working = with_item self.old.working item }) }
         ensures err { OnErr result (self.new ≡ self.old) }
     {
-        let key = Key::of(&item);
+        let key = key_of(&item);
         let comes = marks_of(&item);
         let was = self.ledger.put(item)?;
         forget_changed(&mut self.known, &mut self.changed, &key, &was, &comes);

@@ -16,7 +16,7 @@ use crate::property::{Property, share_found};
 use crate::seed::Seed;
 use crate::verdict::Verdict;
 use gaz_ids::{Lang, Uprn, Usrn};
-use gaz_records::{Key, Kind, SharedItem};
+use gaz_records::{Key, Kind, SharedItem, key_of};
 use std::alloc::{AllocError, Global};
 use std::marker::Model;
 
@@ -49,7 +49,7 @@ impl Model for Ledger {
 
 impl Ledger {
     /// No judgements.
-    pub fn new(alloc: Global, seed: Seed) -> Ledger
+    pub(crate) fn new(alloc: Global, seed: Seed) -> Ledger
         ensures { result ≡ empty_account }
     {
         Ledger {
@@ -172,7 +172,11 @@ impl Ledger {
     }
 
     /// A BLPU with its address, in the last view or the working one.
-    pub fn property_of(&self, volume: u64, uprn: Uprn) -> Result<Option<Property>, AllocError>
+    pub(crate) fn property_of(
+        &self,
+        volume: u64,
+        uprn: Uprn,
+    ) -> Result<Option<Property>, AllocError>
         requires { length self.now.judged ≤ volume }
         ensures { IfOk result (λ p. p ≡ property_of (view_in self.now volume) uprn) }
     {
@@ -210,13 +214,13 @@ impl Ledger {
     }
 
     /// Sets an item in the working view. Where memory runs out, nothing changes. Answers the marks of the item that stood at its key.
-    pub fn put(&mut self, item: SharedItem) -> Result<Marks, AllocError>
+    pub(crate) fn put(&mut self, item: SharedItem) -> Result<Marks, AllocError>
         ensures ok { OnOk result (self.new ≡ record { judged = self.old.judged; working = with_item self.old.working item }) }
         ensures err { OnErr result (self.new ≡ self.old) }
         ensures marks { IfOk result (λ was. (m : Mark) → marked_at (entries self.old.working) m (key_of item) ≡ true → (was.0 ≡ Some m) ⊎ (was.1 ≡ Some m)) }
     {
         let reached = self.verdicts.len() as u64;
-        let key = Key::of(&item);
+        let key = key_of(&item);
         touch(&mut self.touched, &key)?;
         Ok(change(
             &mut self.histories,
@@ -229,7 +233,7 @@ impl Ledger {
     }
 
     /// Takes a key's item from the working view. Where memory runs out, nothing changes. Answers the marks of the item that stood there.
-    pub fn take(&mut self, key: &Key) -> Result<Marks, AllocError>
+    pub(crate) fn take(&mut self, key: &Key) -> Result<Marks, AllocError>
         ensures ok { OnOk result (self.new ≡ record { judged = self.old.judged; working = without_key self.old.working key.now }) }
         ensures err { OnErr result (self.new ≡ self.old) }
         ensures marks { IfOk result (λ was. (m : Mark) → marked_at (entries self.old.working) m key.now ≡ true → (was.0 ≡ Some m) ⊎ (was.1 ≡ Some m)) }
@@ -250,7 +254,7 @@ impl Ledger {
     }
 
     /// The working view is the last one again.
-    pub fn undo(&mut self)
+    pub(crate) fn undo(&mut self)
         ensures { self.new ≡ record { judged = self.old.judged; working = last_of self.old } }
     {
         let reached = self.verdicts.len() as u64;
@@ -264,7 +268,7 @@ impl Ledger {
     }
 
     /// Judges the next volume: the working view is the view after it. Where memory runs out, nothing changes.
-    pub fn close(&mut self, verdict: Verdict) -> Result<(), AllocError>
+    pub(crate) fn close(&mut self, verdict: Verdict) -> Result<(), AllocError>
         ensures ok { OnOk result (self.new ≡ record { judged = self.old.judged ++ record { verdict = verdict; view = self.old.working } ∷ []; working = self.old.working }) }
         ensures err { OnErr result (self.new ≡ self.old) }
     {

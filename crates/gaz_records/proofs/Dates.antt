@@ -4,14 +4,7 @@ use Rattle.std.proofs.lemmas.Bool.Decides.{nat_tests}
 use Rattle.std.specs.Char.{is_ascii_digit, digit_value}
 use Rattle.std.specs.Str.{all_ascii_digits}
 use Rattle.std.specs.Str.Parse.{digits_value}
-use Rattle.gaz_ids.specs.Numbers.{read_id}
 use Rattle.gaz_records.specs.Days.{CivilDay, date_of, date_text, four, is_day, two}
-
-pub read_range : (w l h : ℕ) (s : List ℕ) (n : ℕ) → read_id w l h s ≡ Ok n → (l ≤ n) × (n ≤ h)
-unfolding read_id
-read_range w l h s n e = grind (arith, nat_tests)
-
-pub ruleset read_bounds = (read_range)
 
 digit : (k : ℕ) → k < 10 → is_ascii_digit (48 + k) ≡ true
 digit k h = grind (arith, nat_tests)

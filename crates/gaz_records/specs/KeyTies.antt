@@ -9,7 +9,9 @@ use Rattle.std.specs.declared.cmp.Ordering.TheVariants.{Less, Equal, Greater}
 use Rattle.gaz_ids.specs.declared.lang.Lang.{Lang}
 use Rattle.gaz_ids.specs.declared.lang.Lang.TheVariants.{Cym, Eng}
 use Rattle.gaz_records.specs.Keys.{key_cmp, kind_number, number_in, text_in}
+use Rattle.gaz_records.specs.Kinds.{number_of}
 use Rattle.gaz_records.specs.SortKeys.{high_of, low_of}
+use Rattle.gaz_records.specs.declared.item.Kind.TheVariants as kinds
 use Rattle.gaz_records.specs.declared.key.Key.{Key}
 use Rattle.gaz_records.specs.declared.key.Key.TheVariants as key
 
@@ -19,7 +21,10 @@ lang_in [] = Cym
 lang_in (b ∷ bs) = cond (eqb b 67) Cym Eng
 
 made : ℕ → ℕ → List ℕ → Key
-made kind n t = cond (eqb kind 11) (key.Street n) (cond (eqb kind 15) (key.Descriptor n (lang_in t)) (cond (eqb kind 21) (key.Blpu n) (cond (eqb kind 23) (key.Xref t) (key.Lpi t))))
+made kind n t =
+    cond (eqb kind (number_of kinds.Street)) (key.Street n)
+    (cond (eqb kind (number_of kinds.Descriptor)) (key.Descriptor n (lang_in t))
+    (cond (eqb kind (number_of kinds.Blpu)) (key.Blpu n) (cond (eqb kind (number_of kinds.Xref)) (key.Xref t) (key.Lpi t))))
 
 made-parts : (k : Key) → made (kind_number k) (number_in k) (text_in k) ≡ k
 unfolding made lang_in

@@ -5,9 +5,11 @@ use Rattle.std.specs.declared.cmp.Ordering.TheVariants.{Equal}
 use Rattle.std.specs.Ordering.{nat_cmp, ordering_then}
 use Rattle.std.specs.Cmp.{IsTotalOrder}
 use Rattle.gaz_ids.specs.Codes.{lang_text}
+use Rattle.gaz_records.specs.Kinds.{number_of}
 use Rattle.gaz_records.specs.Labels.{label_cmp}
 use Rattle.gaz_records.specs.declared.item.Item.{Item}
 use Rattle.gaz_records.specs.declared.item.Item.TheVariants as item
+use Rattle.gaz_records.specs.declared.item.Kind.TheVariants as kind
 use Rattle.gaz_records.specs.declared.key.Key.{Key}
 use Rattle.gaz_records.specs.declared.key.Key.TheVariants as key
 
@@ -21,11 +23,11 @@ key_of (item.Lpi x) = key.Lpi x.key
 
 -- the record identifier of its kind
 abbrev pub kind_number : Key → ℕ
-kind_number (key.Street n) = 11
-kind_number (key.Descriptor n l) = 15
-kind_number (key.Blpu n) = 21
-kind_number (key.Xref t) = 23
-kind_number (key.Lpi t) = 24
+kind_number (key.Street n) = number_of kind.Street
+kind_number (key.Descriptor n l) = number_of kind.Descriptor
+kind_number (key.Blpu n) = number_of kind.Blpu
+kind_number (key.Xref t) = number_of kind.Xref
+kind_number (key.Lpi t) = number_of kind.Lpi
 
 -- the number in a key
 abbrev pub number_in : Key → ℕ

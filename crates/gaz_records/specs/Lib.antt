@@ -2,6 +2,7 @@ pub mod Days
 pub mod Fields
 pub mod Labels
 pub mod Forms
+pub mod Kinds
 pub mod Table
 pub mod Streets
 pub mod Descriptors

@@ -5,7 +5,9 @@ use Rattle.gaz_ids.specs.declared.lang.Lang.TheVariants.{Cym, Eng}
 use Rattle.std.proofs.lemmas.Cmp.{on_total, then_total, nat_list_cmp_total}
 use Rattle.std.specs.Cmp.{IsTotalOrder, nat_cmp_total}
 use Rattle.gaz_records.specs.Keys.{key_cmp, kind_number, number_in, text_in}
+use Rattle.gaz_records.specs.Kinds.{number_of}
 use Rattle.gaz_records.specs.Labels.{before_zero, is_label, padded, word}
+use Rattle.gaz_records.specs.declared.item.Kind.TheVariants as kinds
 use Rattle.gaz_records.specs.declared.key.Key.{Key}
 use Rattle.gaz_records.specs.declared.key.Key.TheVariants as key
 
@@ -70,10 +72,10 @@ label_in first second = text_of (bytes_of 7 first ++ bytes_of 7 second)
 
 abbrev pub key_from : ℕ → ℕ → ℕ → Key
 key_from kind rest low =
-    if kind == 11 then key.Street rest else
-    if kind == 15 then key.Descriptor rest (if low == 0 then Cym else Eng) else
-    if kind == 21 then key.Blpu rest else
-    if kind == 23 then key.Xref (label_in rest low) else key.Lpi (label_in rest low)
+    if kind == number_of kinds.Street then key.Street rest else
+    if kind == number_of kinds.Descriptor then key.Descriptor rest (if low == 0 then Cym else Eng) else
+    if kind == number_of kinds.Blpu then key.Blpu rest else
+    if kind == number_of kinds.Xref then key.Xref (label_in rest low) else key.Lpi (label_in rest low)
 
 abbrev pub key_at : ℕ → ℕ → Key
 key_at high low = key_from (high / seven_bytes) (high % seven_bytes) low

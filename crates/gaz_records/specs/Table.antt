@@ -1,8 +1,6 @@
 -- The field table: for each kind of item the fields of its record after the order field, each with its form.
 use Rattle.std.specs.Prelude.{List, [], ◌∷◌}
 use Rattle.gaz_records.specs.Forms.{Form, Digits, Language, BlpuStatus, LpiStatus, LabelTo, TextTo, Date, EndDate, AddressableObject, Opt}
-use Rattle.gaz_records.specs.declared.item.Kind.{Kind}
-use Rattle.gaz_records.specs.declared.item.Kind.TheVariants as kind
 
 abbrev pub usrn : Form
 usrn = Digits 8 1 99_999_999
@@ -29,10 +27,3 @@ xref_table = LabelTo 14 ∷ uprn ∷ LabelTo 6 ∷ TextTo 50 ∷ Date ∷ Opt En
 -- 24 LPI: key (key); uprn; language; status; usrn; secondary object; primary object; start date; end date
 abbrev pub lpi_table : List Form
 lpi_table = LabelTo 14 ∷ uprn ∷ Language ∷ LpiStatus ∷ usrn ∷ Opt AddressableObject ∷ AddressableObject ∷ Date ∷ Opt EndDate ∷ []
-
-abbrev pub table_of : Kind → List Form
-table_of kind.Street = street_table
-table_of kind.Descriptor = descriptor_table
-table_of kind.Blpu = blpu_table
-table_of kind.Xref = xref_table
-table_of kind.Lpi = lpi_table

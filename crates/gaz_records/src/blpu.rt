@@ -4,7 +4,6 @@ ghost use Rattle.gaz_rows.specs.Rows.{line_of};
 ghost use Rattle.gaz_records.specs.Fields.{OrMemory};
 ghost use Rattle.gaz_records.specs.Blpus.{blpu_texts, is_blpu, read_blpu};
 
-use crate::copies::copy_text;
 use crate::day::Day;
 use crate::fields::FieldFault;
 use crate::reading::Fields;
@@ -109,24 +108,5 @@ impl Blpu {
         next_text(out, &self.postcode)?;
         next_dates(out, &self.start, &self.end)?;
         Ok(())
-    }
-}
-
-/// A clone is the same BLPU.
-impl Clone for Blpu {
-    ghost is_clone = { λ a b. b ≡ a };
-
-    fn clone(&self) -> Result<Blpu, AllocError> {
-        let postcode = copy_text(&self.postcode)?;
-        Ok(Blpu {
-            uprn: self.uprn,
-            status: self.status,
-            easting: self.easting,
-            northing: self.northing,
-            parent: self.parent,
-            postcode,
-            start: self.start,
-            end: self.end,
-        })
     }
 }

@@ -1,10 +1,9 @@
-ghost use Rattle.std.specs.Prelude.{◌≡◌, ◌≤◌, ◌++◌, pos, nat_le, true, IfOk, OnOk};
+ghost use Rattle.std.specs.Prelude.{◌≡◌, ◌≤◌, pos, nat_le, true};
 ghost use Rattle.jiff_core.specs.Calendar.{days_in_month};
 ghost use Rattle.gaz_records.specs.Days.{date_of, date_text, day_of, is_day, day_le};
 
 use gaz_ids::digits::{are_digits, value_of};
 use jiff::civil::Date;
-use std::alloc::{AllocError, Global};
 use std::marker::Model;
 
 /// A civil date, from the year 1 to 9999, of the calendar that ISO 8601 extends (`jiff`).
@@ -103,20 +102,6 @@ impl Day {
             b'0' + self.day / 10,
             b'0' + self.day % 10,
         ]
-    }
-
-    /// Adds `YYYY-MM-DD`.
-    pub fn write(&self, out: &mut Vec<u8>) -> Result<(), AllocError>
-        ensures { OnOk result (out.new.items ≡ out.old.items ++ date_text self.now) }
-    {
-        out.extend_from_slice(&self.digits())
-    }
-
-    /// The bytes of `YYYY-MM-DD`.
-    pub fn bytes(&self, alloc: Global) -> Result<Vec<u8>, AllocError>
-        ensures { IfOk result (λ t. t.items ≡ date_text self.now) }
-    {
-        Vec::from_slice(alloc, &self.digits())
     }
 
     /// What each date holds.

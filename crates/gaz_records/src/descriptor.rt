@@ -4,7 +4,6 @@ ghost use Rattle.gaz_rows.specs.Rows.{line_of};
 ghost use Rattle.gaz_records.specs.Fields.{OrMemory};
 ghost use Rattle.gaz_records.specs.Descriptors.{descriptor_texts, is_descriptor, read_descriptor};
 
-use crate::copies::copy_text;
 use crate::fields::FieldFault;
 use crate::reading::Fields;
 use crate::row::{add_number, next_field, next_text};
@@ -89,25 +88,5 @@ impl Descriptor {
         next_text(out, &self.town)?;
         next_field(out, self.area.as_bytes())?;
         Ok(())
-    }
-}
-
-/// A clone is the same descriptor.
-impl Clone for Descriptor {
-    ghost is_clone = { λ a b. b ≡ a };
-
-    fn clone(&self) -> Result<Descriptor, AllocError> {
-        let description = self.description.copy()?;
-        let locality = copy_text(&self.locality)?;
-        let town = copy_text(&self.town)?;
-        let area = self.area.copy()?;
-        Ok(Descriptor {
-            usrn: self.usrn,
-            lang: self.lang,
-            description,
-            locality,
-            town,
-            area,
-        })
     }
 }

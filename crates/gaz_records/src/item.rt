@@ -112,28 +112,6 @@ impl Item {
             Item::Lpi(lpi) => lpi.known(),
         }
     }
-
-    /// The same item.
-    pub fn copy(&self) -> Result<Item, AllocError>
-        ensures { IfOk result (λ x. x ≡ self.now) }
-    {
-        match self {
-            Item::Street(street) => Ok(Item::Street(street.clone()?)),
-            Item::Descriptor(descriptor) => Ok(Item::Descriptor(descriptor.clone()?)),
-            Item::Blpu(blpu) => Ok(Item::Blpu(blpu.clone()?)),
-            Item::Xref(xref) => Ok(Item::Xref(xref.clone()?)),
-            Item::Lpi(lpi) => Ok(Item::Lpi(lpi.clone()?)),
-        }
-    }
-}
-
-/// A clone is the same item.
-impl Clone for Item {
-    ghost is_clone = { λ a b. b ≡ a };
-
-    fn clone(&self) -> Result<Item, AllocError> {
-        self.copy()
-    }
 }
 
 /// Adds the row of the item's fields as `csv` writes it, without a line end. After want of memory a part of the row may be there.

@@ -19,19 +19,6 @@ pub enum Key {
 }
 
 impl Key {
-    /// The key under which an item stands.
-    pub fn of(item: &Item) -> Key
-        ensures { result ≡ key_of item.now }
-    {
-        match item {
-            Item::Street(street) => Key::Street(street.usrn),
-            Item::Descriptor(descriptor) => Key::Descriptor(descriptor.usrn, descriptor.lang),
-            Item::Blpu(blpu) => Key::Blpu(blpu.uprn),
-            Item::Xref(xref) => Key::Xref(xref.key),
-            Item::Lpi(lpi) => Key::Lpi(lpi.key),
-        }
-    }
-
     #[tactic(auto, using(crate::proofs::KeyOrder::orders))]
     /// How this key compares with another, as `cmp` does.
     pub fn compare(&self, other: &Key) -> Ordering
@@ -45,5 +32,11 @@ impl Key {
 pub fn key_of(item: &Item) -> Key
     ensures { result ≡ key_of item.now }
 {
-    Key::of(item)
+    match item {
+        Item::Street(street) => Key::Street(street.usrn),
+        Item::Descriptor(descriptor) => Key::Descriptor(descriptor.usrn, descriptor.lang),
+        Item::Blpu(blpu) => Key::Blpu(blpu.uprn),
+        Item::Xref(xref) => Key::Xref(xref.key),
+        Item::Lpi(lpi) => Key::Lpi(lpi.key),
+    }
 }

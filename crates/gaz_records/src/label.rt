@@ -136,7 +136,7 @@ fn seven_at(bytes: &[u8; 14], start: usize) -> u64
 impl RecordKey {
     /// The first seven bytes as one number and the other seven as another, each with its first byte foremost and 0 for each byte
     /// that is not there.
-    pub fn halves(&self) -> (u64, u64)
+    pub(crate) fn halves(&self) -> (u64, u64)
         ensures first { result.0 ≡ first_half self.now }
         ensures second { result.1 ≡ second_half self.now }
         ensures below { result.0 < seven_bytes }

@@ -2,12 +2,12 @@
 #![tactic(auto)]
 
 mod blpu;
-mod copies;
 mod day;
 mod descriptor;
 mod fields;
 mod item;
 mod key;
+mod kind;
 mod label;
 pub mod laws;
 mod lpi;

@@ -4,7 +4,6 @@ ghost use Rattle.gaz_rows.specs.Rows.{line_of};
 ghost use Rattle.gaz_records.specs.Fields.{OrMemory};
 ghost use Rattle.gaz_records.specs.Lpis.{is_lpi, lpi_texts, read_lpi};
 
-use crate::copies::copy_object;
 use crate::day::Day;
 use crate::fields::FieldFault;
 use crate::label::RecordKey;
@@ -105,26 +104,5 @@ impl Lpi {
         next_object(out, &self.primary)?;
         next_dates(out, &self.start, &self.end)?;
         Ok(())
-    }
-}
-
-/// A clone is the same LPI.
-impl Clone for Lpi {
-    ghost is_clone = { λ a b. b ≡ a };
-
-    fn clone(&self) -> Result<Lpi, AllocError> {
-        let secondary = copy_object(&self.secondary)?;
-        let primary = self.primary.copy()?;
-        Ok(Lpi {
-            key: self.key,
-            uprn: self.uprn,
-            lang: self.lang,
-            status: self.status,
-            usrn: self.usrn,
-            secondary,
-            primary,
-            start: self.start,
-            end: self.end,
-        })
     }
 }

@@ -8,6 +8,7 @@ ghost use Rattle.gaz_records.specs.Keys.{key_cmp, kind_number, number_in};
 ghost use Rattle.gaz_records.specs.KeyTies.{keys_alike, written};
 ghost use Rattle.gaz_records.specs.SortKeys.{has_label, high_of, keys_total, lang_rank, low_of, seven_bytes};
 
+use crate::item::Kind;
 use crate::key::Key;
 use gaz_ids::Lang;
 use std::cmp::Ordering;
@@ -60,16 +61,19 @@ fn numbers_of(key: &Key) -> (u64, u64)
     ensures label { has_label key.now ≡ true }
 {
     match key {
-        Key::Street(usrn) => (11 * SEVEN_BYTES + usrn.number(), 0),
-        Key::Descriptor(usrn, lang) => (15 * SEVEN_BYTES + usrn.number(), rank(*lang)),
-        Key::Blpu(uprn) => (21 * SEVEN_BYTES + uprn.number(), 0),
+        Key::Street(usrn) => (Kind::Street.number() * SEVEN_BYTES + usrn.number(), 0),
+        Key::Descriptor(usrn, lang) => (
+            Kind::Descriptor.number() * SEVEN_BYTES + usrn.number(),
+            rank(*lang),
+        ),
+        Key::Blpu(uprn) => (Kind::Blpu.number() * SEVEN_BYTES + uprn.number(), 0),
         Key::Xref(label) => {
             let (first, second) = label.halves();
-            (23 * SEVEN_BYTES + first, second)
+            (Kind::Xref.number() * SEVEN_BYTES + first, second)
         }
         Key::Lpi(label) => {
             let (first, second) = label.halves();
-            (24 * SEVEN_BYTES + first, second)
+            (Kind::Lpi.number() * SEVEN_BYTES + first, second)
         }
     }
 }

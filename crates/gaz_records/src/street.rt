@@ -81,17 +81,3 @@ impl Street {
         Ok(())
     }
 }
-
-/// A clone is the same street.
-impl Clone for Street {
-    ghost is_clone = { λ a b. b ≡ a };
-
-    fn clone(&self) -> Result<Street, AllocError> {
-        Ok(Street {
-            usrn: self.usrn,
-            sort: self.sort,
-            start: self.start,
-            end: self.end,
-        })
-    }
-}

@@ -91,20 +91,3 @@ impl Xref {
         Ok(())
     }
 }
-
-/// A clone is the same cross reference.
-impl Clone for Xref {
-    ghost is_clone = { λ a b. b ≡ a };
-
-    fn clone(&self) -> Result<Xref, AllocError> {
-        let reference = self.reference.copy()?;
-        Ok(Xref {
-            key: self.key,
-            uprn: self.uprn,
-            source: self.source,
-            reference,
-            start: self.start,
-            end: self.end,
-        })
-    }
-}

@@ -12,18 +12,6 @@ use std::alloc::Global;
 use std::time::Instant;
 use std::{env, fs};
 
-// The kind of a record identifier.
-fn kind_of(identifier: &str) -> Option<Kind> {
-    match identifier {
-        "11" => Some(Kind::Street),
-        "15" => Some(Kind::Descriptor),
-        "21" => Some(Kind::Blpu),
-        "23" => Some(Kind::Xref),
-        "24" => Some(Kind::Lpi),
-        _ => None,
-    }
-}
-
 // The fields of each line.
 fn rows_of(alloc: Global, text: &str) -> Result<Vec<ByteRecord>> {
     let mut rows = Vec::new(alloc);
@@ -57,7 +45,7 @@ fn main(rt: HostRuntime) -> Result<()> {
     else {
         return Ok(());
     };
-    let kind = kind_of(&identifier).context("no record identifier of an item")?;
+    let kind = Kind::read(identifier.as_bytes()).context("no record identifier of an item")?;
     let text = fs::read_to_string(&rt, path.as_str())?;
     let rows = rows_of(rt.alloc(), &text)?;
     let mut out = Vec::new(rt.alloc());

@@ -24,22 +24,6 @@ module _ {X Y Z : Type 0} (f : X → Result Y RegFault) (add : Z → Y → Z) wh
   abbrev pub onto : Z → List X → Result Z RegFault
   onto done rest = all_good (map f rest) then (λ more. Ok (fold add done more))
 
-  join : (done : Z) (y : Y) (r : Result (List Y) RegFault)
-      → (r then (λ more. Ok (y ∷ more))) then (λ more. Ok (fold add done more)) ≡ r then (λ more. Ok (fold add (add done y) more))
-  join done y (Ok ys) = refl
-  join done y (Err e) = refl
-
-  pub onto-next : (done : Z) (xs : List X) (i : ℕ) (d : X) (y : Y) → i < length xs → f (get_or xs i d) ≡ Ok y
-      → onto done (drop i xs) ≡ onto (add done y) (drop (i + 1) xs)
-  onto-next done xs i d y h e = rw (drop_more xs i d h, e) (join done y (all_good (map f (drop (i + 1) xs))))
-
-  pub onto-fault : (done : Z) (xs : List X) (i : ℕ) (d : X) (e : RegFault) → i < length xs → f (get_or xs i d) ≡ Err e
-      → onto done (drop i xs) ≡ Err e
-  onto-fault done xs i d e h fault = rw (drop_more xs i d h, fault) refl
-
-  pub onto-end : (done : Z) (xs : List X) (i : ℕ) → length xs ≤ i → onto done (drop i xs) ≡ Ok done
-  onto-end done xs i h = rw (drop_all i xs h) refl
-
 pub fold-push : {Y : Type 0} (done more : List Y) → fold (λ ys y. ys ++ y ∷ []) done more ≡ done ++ more
 fold-push done [] = sym (append-nil done)
 fold-push done (y ∷ ys) = fold-push (done ++ y ∷ []) ys ∙ append_assoc done (y ∷ []) ys

@@ -11,6 +11,5 @@ pub mod Rowwise
 pub mod Keyed
 pub mod Telling
 pub mod Ownership
-pub mod Named
 pub mod Utf8
 pub mod Codes

@@ -4,12 +4,12 @@ use Rattle.std.specs.Prelude.{IsUtf8, ◌==◌, ◌&&◌, not, decimal}
 use Rattle.std.proofs.lemmas.Bool.{and_parts, cases_Bool, cases_eq}
 use Rattle.std.proofs.lemmas.Bool.Decides.{nat_tests}
 use Rattle.std.proofs.lemmas.Fmt.{IsAscii-decimal}
-use Rattle.std.proofs.lemmas.Str.{IsUtf8-append, IsUtf8-encode, IsUtf8-from_ascii, IsUtf8-from_is_utf8, IsUtf8-nil, encode_ascii, inside_one}
+use Rattle.std.proofs.lemmas.Str.{IsUtf8-append, IsUtf8-encode, IsUtf8-from_ascii, IsUtf8-nil, encode_ascii, inside_one}
 use Rattle.std.proofs.Math.Utf8.{encode, encodes, scalar, scalars}
 use Rattle.std.proofs.lemmas.List.{append-nil, get_or_default}
 use Rattle.std.specs.List.{list_all}
-use Rattle.std.specs.Str.{is_utf8}
 use Rattle.csv.specs.Writing.{default_writer, escaped, field_text, fields_text, is_blank, needs_quotes, row_body}
+use Rattle.gaz_addressable.proofs.Characters.{plain_utf8}
 use Rattle.gaz_rows.specs.Rows.{Fields, lines_of}
 use Rattle.gaz_register.specs.Names.{is_name}
 use Rattle.gaz_register.specs.Registers.{CustodianValue, RegisterValue, is_custodian, most_uprn, most_usrn}
@@ -107,8 +107,8 @@ blocks-utf8 (b ∷ c ∷ cs) h =
 last-off : (a b : Bool) → a && b ≡ true → a ≡ true
 last-off a b e = (and_parts a b e).0
 
-name-text : (bs : List ℕ) → is_name bs ≡ true → is_utf8 bs ≡ true
-name-text bs e = last-off _ _ (last-off _ _ (last-off _ _ (last-off _ _ e)))
+name-text : (bs : List ℕ) → is_name bs ≡ true → IsUtf8 bs
+name-text bs e = plain_utf8 bs (last-off _ _ e)
 
 name-lawful : (c : CustodianValue) → is_custodian c ≡ true → is_name c.name ≡ true
 name-lawful c e = (and_parts _ _ (last-off _ _ (last-off _ _ e))).1
@@ -117,7 +117,7 @@ custodian-utf8 : (c : CustodianValue) → is_custodian c ≡ true → AllUtf8 (r
 custodian-utf8 c e = (
   decimal-utf8 c.code (small-code c.code (code-lawful c e)),
   (
-    IsUtf8-from_is_utf8 c.name (name-text c.name (name-lawful c e)),
+    name-text c.name (name-lawful c e),
     (
       blocks-utf8 c.own.uprn (small-blocks most_uprn c.own.uprn (lit< tt) (uprn-blocks c e)),
       (

@@ -6,11 +6,7 @@ use Rattle.gaz_ids.specs.Numbers.{in_range}
 use Rattle.gaz_register.specs.Lists.{each_two}
 use Rattle.gaz_register.specs.Names.{is_name}
 
--- the numbers from the first to the last, both included
-abbrev pub BlockValue : Type 0
-BlockValue = ℕ × ℕ
-
--- the blocks of a custodian, for each kind of number by rising first number
+-- the blocks of a custodian, each its first and its last number, for each kind of number by rising first number
 pub record Blocks : Type 0 where
   pub uprn : List (ℕ × ℕ)
   pub usrn : List (ℕ × ℕ)

@@ -1,4 +1,4 @@
-ghost use Rattle.std.specs.Prelude.{◌≡◌, ◌≤◌, ◌<◌, ℕ, List, length, IfOk, map, option_map};
+ghost use Rattle.std.specs.Prelude.{◌≡◌, ◌≤◌, length, IfOk, map, option_map};
 ghost use Rattle.csv.specs.Writing as Writing;
 ghost use Rattle.csv.specs.Records.{fields_of};
 ghost use Rattle.gaz_rows.specs.Rows.{line_of, one_row};
@@ -47,24 +47,4 @@ pub fn read_row(alloc: Global, text: &[u8]) -> Result<Option<ByteRecord>, AllocE
         return Ok(None);
     }
     Ok(Some(row))
-}
-
-// The bytes of each field.
-fn borrowed(alloc: Global, fields: &[Vec<u8>]) -> Result<Vec<&[u8]>, AllocError>
-    ensures { IfOk result (λ v. map (λ f. f.now) v.items ≡ map (λ f. f.items) fields.now) }
-{
-    let mut refs = Vec::new(alloc);
-    for field in fields {
-        refs.push(field.as_slice())?;
-    }
-    Ok(refs)
-}
-
-/// The text of a row of two fields or more, without a line end.
-pub fn write_fields(alloc: Global, fields: &[Vec<u8>]) -> Result<Vec<u8>, AllocError>
-    requires { 2 ≤ length fields.now }
-    ensures { IfOk result (λ v. v.items ≡ line_of (map (λ f. f.items) fields.now)) }
-{
-    let refs = borrowed(alloc, fields)?;
-    write_row(alloc, &refs)
 }

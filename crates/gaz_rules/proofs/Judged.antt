@@ -20,7 +20,7 @@ use Rattle.gaz_ledger.specs.View.{View, holds, was_used, with_item, without_key}
 use Rattle.gaz_rules.specs.Rules.{done, effect, first_broken, is_outside, record_rules, stays}
 use Rattle.gaz_rules.specs.EndRules.{end_rules, same_key}
 use Rattle.gaz_rules.specs.Judging.{Fault, end_faults, fault_at, judge, judged_by_faults, record_faults, with_views}
-use Rattle.gaz_rules.specs.Sound.{IsSound}
+use Rattle.gaz_rules.specs.Sound.{HoldsOwn, IsSound}
 use Rattle.gaz_rules.proofs.Keys.{key_tied}
 use Rattle.gaz_rules.proofs.Soundness.{AllFalse, IsForeign, Keeps, keeps_all, sound_after}
 use Rattle.gaz_rules.proofs.Booleans.{by_test, false_by, neither, not_false}
@@ -35,7 +35,7 @@ none_broken (r ∷ rules) e =
       | false ↦ λ is rest. (is, none_broken rules rest)
     ] refl e
 
-both_empty : {X : Type 0} (xs ys : List X) → xs ++ ys ≡ [] → (xs ≡ []) × (ys ≡ [])
+pub both_empty : {X : Type 0} (xs ys : List X) → xs ++ ys ≡ [] → (xs ≡ []) × (ys ≡ [])
 both_empty [] ys e = (refl, e)
 both_empty (x ∷ xs) ys e = cc
 
@@ -56,7 +56,7 @@ pub record Kept (own : Blocks) (v w : View) : Type 0 where
   pub streets_stay : (n : ℕ) → holds v (key.Street n) ≡ true → holds w (key.Street n) ≡ true
   pub blpus_stay : (n : ℕ) → holds v (key.Blpu n) ≡ true → holds w (key.Blpu n) ≡ true
   pub own_streets : ((n : ℕ) → holds v (key.Street n) ≡ true → within own.usrn n ≡ true) → (n : ℕ) → holds w (key.Street n) ≡ true → within own.usrn n ≡ true
-  pub own_blpus : ((n : ℕ) → holds v (key.Blpu n) ≡ true → within own.uprn n ≡ true) → (n : ℕ) → holds w (key.Blpu n) ≡ true → within own.uprn n ≡ true
+  pub own_blpus : HoldsOwn own v → HoldsOwn own w
   pub keyed : ((k : Key) (i : Item) → map.get v.items k ≡ Some i → key_of i ≡ k) → (k : Key) (i : Item) → map.get w.items k ≡ Some i → key_of i ≡ k
   pub used : ((k : Key) → holds v k ≡ true → was_used v k ≡ true) → (k : Key) → holds w k ≡ true → was_used w k ≡ true
 
@@ -84,37 +84,37 @@ still_some : {T : Type 0} (b : Bool) (x : T) (o : Option T) → is_some o ≡ tr
 still_some true x o h = refl
 still_some false x o h = h
 
-own_number : (own : Blocks) (i : Item) (n : ℕ) → key.Street n ≡ key_of i → is_outside own i ≡ false → within own.usrn n ≡ true
-own_number own (item.Street s) n e h =
+own_number : (own : Blocks) (v : View) (i : Item) (n : ℕ) → key.Street n ≡ key_of i → is_outside own v i ≡ false → within own.usrn n ≡ true
+own_number own v (item.Street s) n e h =
     let is : n ≡ s.usrn = cc in
     ap (within own.usrn) is ∙ not_false _ h
-own_number own (item.Descriptor s) n e h = cc
-own_number own (item.Blpu s) n e h = cc
-own_number own (item.Xref s) n e h = cc
-own_number own (item.Lpi s) n e h = cc
+own_number own v (item.Descriptor s) n e h = cc
+own_number own v (item.Blpu s) n e h = cc
+own_number own v (item.Xref s) n e h = cc
+own_number own v (item.Lpi s) n e h = cc
 
-own_property : (own : Blocks) (i : Item) (n : ℕ) → key.Blpu n ≡ key_of i → is_outside own i ≡ false → within own.uprn n ≡ true
-own_property own (item.Street s) n e h = cc
-own_property own (item.Descriptor s) n e h = cc
-own_property own (item.Blpu s) n e h =
+own_property : (own : Blocks) (v : View) (i : Item) (n : ℕ) → key.Blpu n ≡ key_of i → is_outside own v i ≡ false → within own.uprn n ≡ true
+own_property own v (item.Street s) n e h = cc
+own_property own v (item.Descriptor s) n e h = cc
+own_property own v (item.Blpu s) n e h =
     let is : n ≡ s.uprn = cc in
     ap (within own.uprn) is ∙ not_false _ h
-own_property own (item.Xref s) n e h = cc
-own_property own (item.Lpi s) n e h = cc
+own_property own v (item.Xref s) n e h = cc
+own_property own v (item.Lpi s) n e h = cc
 
-put_kept : (own : Blocks) (v : View) (i : Item) → is_outside own i ≡ false → Kept own v (with_item v i)
+put_kept : (own : Blocks) (v : View) (i : Item) → is_outside own v i ≡ false → Kept own v (with_item v i)
 put_kept own v i fits =
     record {
       streets_stay = λ n h. ap is_some (after_put v i (key.Street n)) ∙ still_some (same_key (key.Street n) (key_of i)) i _ h;
       blpus_stay = λ n h. ap is_some (after_put v i (key.Blpu n)) ∙ still_some (same_key (key.Blpu n) (key_of i)) i _ h;
       own_streets = λ all n h.
           elim (same_key (key.Street n) (key_of i)) as (λ b. same_key (key.Street n) (key_of i) ≡ b → is_some (cond b (Some i) (map.get v.items (key.Street n))) ≡ true → within own.usrn n ≡ true) [
-            | true ↦ λ e _. own_number own i n (key_tied _ _ e) fits
+            | true ↦ λ e _. own_number own v i n (key_tied _ _ e) fits
             | false ↦ λ _ there. all n there
           ] refl (sym (ap is_some (after_put v i (key.Street n))) ∙ h);
       own_blpus = λ all n h.
           elim (same_key (key.Blpu n) (key_of i)) as (λ b. same_key (key.Blpu n) (key_of i) ≡ b → is_some (cond b (Some i) (map.get v.items (key.Blpu n))) ≡ true → within own.uprn n ≡ true) [
-            | true ↦ λ e _. own_property own i n (key_tied _ _ e) fits
+            | true ↦ λ e _. own_property own v i n (key_tied _ _ e) fits
             | false ↦ λ _ there. all n there
           ] refl (sym (ap is_some (after_put v i (key.Blpu n))) ∙ h);
       used = λ all k h.
@@ -171,7 +171,7 @@ step_kept own v Insert i fits = put_kept own v i fits.0
 step_kept own v Update i fits = put_kept own v i fits.0
 step_kept own v Delete i fits = take_kept own v i fits.1.1.1.0
 
-all_kept : (own : Blocks) (v : View) (cs : List Change) → record_faults own v cs ≡ [] → Kept own v (fold effect v cs)
+pub all_kept : (own : Blocks) (v : View) (cs : List Change) → record_faults own v cs ≡ [] → Kept own v (fold effect v cs)
 all_kept own v [] e = kept_itself own v
 all_kept own v (c ∷ cs) e =
     let parts = first_none (λ (s : View × Change). fault_at s.1.place (first_broken (record_rules own s.0 s.1.action s.1.item))) (v, c) (with_views (effect v c) cs) e in
@@ -204,9 +204,10 @@ all_checked w out (c ∷ cs) k t e =
 
 -- ---- judging keeps a view sound
 
-pub sound_or_same : (own : Blocks) (v w : View) (fs : List Fault) → IsSound own v → (fs ≡ [] → IsSound own w) → IsSound own (judged_by_faults v w fs).view
-sound_or_same own v w [] was good = good refl
-sound_or_same own v w (f ∷ fs) was good = was
+-- what holds of the view before and of that after a file without a fault holds of what judging leaves
+pub stays_or_same : (P : View → Type 0) (v w : View) (fs : List Fault) → P v → (fs ≡ [] → P w) → P (judged_by_faults v w fs).view
+stays_or_same P v w [] was good = good refl
+stays_or_same P v w (f ∷ fs) was good = was
 
 pub judge_sound : (own : Blocks) (v : View) (out : List (ℕ × View)) (r : Reading) → IsSound own v → IsForeign own out → IsSound own (judge own v out r).view
 unfolding judge
@@ -214,7 +215,7 @@ judge_sound own v out (Bad place rule) sound foreign = sound
 judge_sound own v out (Good file) sound foreign =
     let cs = file.changes in
     let w = fold effect v cs in
-    sound_or_same own v w _ sound (λ none.
+    stays_or_same (IsSound own) v w _ sound (λ none.
     let parts = both_empty (record_faults own v cs) (end_faults w out cs) none in
     let kept = all_kept own v cs parts.0 in
     sound_after own v w out (is_touched cs) sound foreign
@@ -224,7 +225,6 @@ judge_sound own v out (Good file) sound foreign =
       streets_stay = kept.streets_stay;
       blpus_stay = kept.blpus_stay;
       own_streets = kept.own_streets sound.own_streets;
-      own_blpus = kept.own_blpus sound.own_blpus;
       keyed = kept.keyed sound.keyed;
       used = kept.used sound.used;
     }))

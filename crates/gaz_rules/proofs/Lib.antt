@@ -6,6 +6,9 @@ pub mod Soundness
 pub mod Judged
 pub mod SoundBoards
 pub mod Sentences
+pub mod KeySentences
+pub mod RecordSentences
+pub mod OwnNumbers
 pub mod Verdicts
 pub mod Worked
 pub mod Examples

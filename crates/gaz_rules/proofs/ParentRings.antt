@@ -129,11 +129,15 @@ ring_breaks v n steps h e =
     any_in_range _ 1 (map.len v.items) j.0 j.1 (omega arith) (passes_some (ancestor v j.0 n) (λ a. nat_eq a n) n j.3 (eq-eqb n n refl))
 
 -- and what breaks it is on a ring
-ring_found : (v : View) (n : ℕ) → is_own_ancestor v (key.Blpu n) ≡ true → IsOnRing v n
-ring_found v n h =
+ring_found : (v : View) (k : Key) → is_own_ancestor v k ≡ true → IsOnRing v k
+ring_found v (key.Blpu n) h =
     let j = in_range_some (λ k. if_some (ancestor v k n) (λ a. nat_eq a n)) 1 (map.len v.items) h in
     let end = some_passes (ancestor v j.0 n) (λ a. nat_eq a n) j.2 in
-    record { steps = j.0; at_least_one = j.1; leads = end.1 ∙ ap Some (eqb-true _ _ end.2) }
+    record { uprn = n; is = refl; steps = j.0; at_least_one = j.1; leads = end.1 ∙ ap Some (eqb-true _ _ end.2) }
+ring_found v (key.Street n) h = absurd (true≢false (sym h))
+ring_found v (key.Descriptor n l) h = absurd (true≢false (sym h))
+ring_found v (key.Xref t) h = absurd (true≢false (sym h))
+ring_found v (key.Lpi t) h = absurd (true≢false (sym h))
 
 pub finds_rings_holds : FindsRings
-finds_rings_holds v n = (ring_found v n, λ ring. ring_breaks v n ring.steps ring.at_least_one ring.leads)
+finds_rings_holds v k = (ring_found v k, λ ring. ap (is_own_ancestor v) ring.is ∙ ring_breaks v ring.uprn ring.steps ring.at_least_one ring.leads)

@@ -1,11 +1,10 @@
--- That the tests say what the sentences say.
-use Rattle.std.proofs.Common.{◌≡◌, ℕ, Bool, true, false, cond, not, ◌&&◌, List, [], ◌∷◌, ◌++◌, refl, sym, ap, ◌∙◌, true≢false, is_some, is_none}
+-- That the tests of items say what the sentences say.
+use Rattle.std.proofs.Common.{◌≡◌, ℕ, Bool, true, false, cond, not, List, [], ◌∷◌, ◌++◌, refl, sym, ap, ◌∙◌, true≢false, is_some, is_none}
 use Rattle.std.specs.Prelude.{◌↔◌, Option, Some, None}
 use Rattle.std.specs.Option.{option_and_then}
 use Rattle.std.specs.List.{find}
 use Rattle.std.specs.FinMap as fin
 use Rattle.std.proofs.lemmas.List.Elements.{All-cons, All-nil}
-use Rattle.gaz_ids.specs.declared.lang.Lang.{Lang}
 use Rattle.gaz_ids.specs.declared.status.Status.{Status}
 use Rattle.gaz_ids.specs.declared.status.Status.TheVariants.{Approved, Alternative, Historical, Provisional}
 use Rattle.gaz_records.specs.Blpus.{BlpuValue}
@@ -16,13 +15,13 @@ use Rattle.gaz_records.specs.declared.item.Item.TheVariants as item
 use Rattle.gaz_records.specs.declared.key.Key.{Key}
 use Rattle.gaz_records.specs.declared.key.Key.TheVariants as key
 use Rattle.gaz_ledger.specs.View.{View, holds}
-use Rattle.gaz_ledger.specs.Words.{is_approved, same_lang}
-use Rattle.gaz_rules.specs.EndRules.{approved_at, as_approved, as_blpu, as_street, blpu_at, blpu_named, closed_under_lpi, found_in, if_some, is_closed, is_historical, is_past, is_second, lacks_blpu, lacks_descriptor, lacks_own_street, lacks_parent, lacks_street, leaves_lpi, names_closed, names_past, parent_of, past_under_lpi, same_key, street_at}
-use Rattle.gaz_rules.specs.Sentences.{ClosedUnderLpi, HasSecond, HaveNone, IsApprovedLpi, IsClosedStreet, IsFirstWith, IsPastBlpu, LacksBlpu, LacksOwnStreet, LacksParent, LeavesLpi, NamesClosed, NamesNowhere, NamesPast, NamesUnnamed, PastUnderLpi, TestsSay, views_in_turn}
-use Rattle.gaz_rules.proofs.Approved.{an_lpi, of_from, of_gives, on_from, on_gives, same_lang_is, same_lang_itself, some_from, some_gives}
+use Rattle.gaz_ledger.specs.Words.{is_approved}
+use Rattle.gaz_rules.specs.EndRules.{approved_at, as_approved, as_blpu, as_street, blpu_at, blpu_named, found_in, if_some, is_closed, is_historical, is_past, is_second, lacks_blpu, lacks_descriptor, lacks_street, names_closed, names_past, same_key, street_at}
+use Rattle.gaz_rules.specs.Sentences.{HasSecond, HaveNone, IsApprovedLpi, IsClosedStreet, IsFirstWith, IsPastBlpu, LacksBlpu, NamesClosed, NamesNowhere, NamesPast, NamesUnnamed, views_in_turn}
+use Rattle.gaz_rules.proofs.Approved.{an_lpi, of_from, of_gives}
 use Rattle.gaz_rules.proofs.Keys.{key_itself, key_tied}
 use Rattle.gaz_rules.proofs.SoundBoards.{all_first, all_rest}
-use Rattle.gaz_rules.proofs.Booleans.{and_then_gives, both_parts, false_by, joined, no_false, not_true, passes_some, some_passes}
+use Rattle.gaz_rules.proofs.Booleans.{and_then_gives, false_by, no_false, not_true, passes_some, some_passes}
 
 -- ---- what stands in a view
 
@@ -38,13 +37,13 @@ historical_is Alternative e = absurd (true≢false (sym e))
 historical_is Provisional e = absurd (true≢false (sym e))
 historical_is Approved e = absurd (true≢false (sym e))
 
-lpi_told : (v : View) (k : Key) (l : LpiValue) → approved_at v k ≡ Some l → IsApprovedLpi v k l
+pub lpi_told : (v : View) (k : Key) (l : LpiValue) → approved_at v k ≡ Some l → IsApprovedLpi v k l
 lpi_told v k l e =
     let at = and_then_gives as_approved (fin.get v.items k) l e in
     let is = an_lpi at.0 l at.2 in
     record { there = at.1 ∙ ap Some is.0; approved = approved_is l.status is.1 }
 
-lpi_at : (v : View) (k : Key) (l : LpiValue) → IsApprovedLpi v k l → approved_at v k ≡ Some l
+pub lpi_at : (v : View) (k : Key) (l : LpiValue) → IsApprovedLpi v k l → approved_at v k ≡ Some l
 lpi_at v k l is =
     ap (option_and_then as_approved) is.there ∙ ap (λ s. cond (is_approved s) (Some l) None) is.approved
 
@@ -55,7 +54,7 @@ a_street (item.Blpu t) s e = cc
 a_street (item.Xref t) s e = cc
 a_street (item.Lpi t) s e = cc
 
-a_blpu : (i : Item) (b : BlpuValue) → as_blpu i ≡ Some b → i ≡ item.Blpu b
+pub a_blpu : (i : Item) (b : BlpuValue) → as_blpu i ≡ Some b → i ≡ item.Blpu b
 a_blpu (item.Street t) b e = cc
 a_blpu (item.Descriptor t) b e = cc
 a_blpu (item.Blpu t) b e = let is : t ≡ b = cc in ap item.Blpu is
@@ -70,27 +69,27 @@ no_value : {T : Type 0} (o : Option T) → is_none o ≡ true → o ≡ None
 no_value None e = refl
 no_value (Some x) e = absurd (true≢false (sym e))
 
-unheld_none : (v : View) (k : Key) → not (holds v k) ≡ true → fin.get v.items k ≡ None
+pub unheld_none : (v : View) (k : Key) → not (holds v k) ≡ true → fin.get v.items k ≡ None
 unheld_none v k h =
     elim (fin.get v.items k) as (λ o. not (is_some o) ≡ true → o ≡ None) [ None ↦ λ _. refl | Some i ↦ λ e. absurd (true≢false (sym e)) ] h
 
-closed_told : (v : View) (usrn : ℕ) → is_closed v usrn ≡ true → IsClosedStreet v usrn
+pub closed_told : (v : View) (usrn : ℕ) → is_closed v usrn ≡ true → IsClosedStreet v usrn
 closed_told v usrn h =
     let s = some_passes (street_at v usrn) (λ s. is_some s.end) h in
     let at = and_then_gives as_street (fin.get v.items (key.Street usrn)) s.0 s.1 in
     let day = some_value s.0.end s.2 in
     record { street = s.0; day = day.0; there = at.1 ∙ ap Some (a_street at.0 s.0 at.2); ended = day.1 }
 
-closed_from : (v : View) (usrn : ℕ) → IsClosedStreet v usrn → is_closed v usrn ≡ true
+pub closed_from : (v : View) (usrn : ℕ) → IsClosedStreet v usrn → is_closed v usrn ≡ true
 closed_from v usrn is = passes_some (street_at v usrn) (λ s. is_some s.end) is.street (ap (option_and_then as_street) is.there) (ap is_some is.ended)
 
-past_told : (v : View) (uprn : ℕ) → is_past v uprn ≡ true → IsPastBlpu v uprn
+pub past_told : (v : View) (uprn : ℕ) → is_past v uprn ≡ true → IsPastBlpu v uprn
 past_told v uprn h =
     let b = some_passes (blpu_at v uprn) (λ b. is_historical b.status) h in
     let at = and_then_gives as_blpu (fin.get v.items (key.Blpu uprn)) b.0 b.1 in
     record { blpu = b.0; there = at.1 ∙ ap Some (a_blpu at.0 b.0 at.2); historical = historical_is b.0.status b.2 }
 
-past_from : (v : View) (uprn : ℕ) → IsPastBlpu v uprn → is_past v uprn ≡ true
+pub past_from : (v : View) (uprn : ℕ) → IsPastBlpu v uprn → is_past v uprn ≡ true
 past_from v uprn is = passes_some (blpu_at v uprn) (λ b. is_historical b.status) is.blpu (ap (option_and_then as_blpu) is.there) (ap is_historical is.historical)
 
 -- ---- where a street is found
@@ -132,18 +131,18 @@ none_from [] usrn none = refl
 none_from (u ∷ us) usrn none =
     ap (λ b. cond b (Some u) (find (has usrn) us)) (all_first (misses usrn) u us none) ∙ none_from us usrn (all_rest (misses usrn) u us none)
 
-found_says : (v w : View) (out : List (ℕ × View)) (usrn : ℕ) → (found_in v out usrn ≡ Some w) ↔ IsFirstWith (views_in_turn v out) usrn w
+pub found_says : (v w : View) (out : List (ℕ × View)) (usrn : ℕ) → (found_in v out usrn ≡ Some w) ↔ IsFirstWith (views_in_turn v out) usrn w
 found_says v w out usrn = (
   first_told (views_in_turn v out) usrn w,
   λ is. ap (find (has usrn)) is.in_turn ∙ first_from is.before is.after usrn w is.none_before is.has,
 )
 
-nowhere_says : (v : View) (out : List (ℕ × View)) (usrn : ℕ) → (found_in v out usrn ≡ None) ↔ HaveNone (views_in_turn v out) usrn
+pub nowhere_says : (v : View) (out : List (ℕ × View)) (usrn : ℕ) → (found_in v out usrn ≡ None) ↔ HaveNone (views_in_turn v out) usrn
 nowhere_says v out usrn = (none_told (views_in_turn v out) usrn, none_from (views_in_turn v out) usrn)
 
 -- ---- the rules
 
-second_says : (v : View) (k : Key) → (is_second v k ≡ true) ↔ HasSecond v k
+pub second_says : (v : View) (k : Key) → (is_second v k ≡ true) ↔ HasSecond v k
 second_says v k = (told, from)
   where
     told : is_second v k ≡ true → HasSecond v k
@@ -166,7 +165,7 @@ second_says v k = (told, from)
         (of_from v is.lpi.uprn (λ m. not (same_key m k)) is.other_key is.other (lpi_at v is.other_key is.other is.other_there) is.same_blpu
         (ap not (false_by (same_key is.other_key k) (λ tied. is.another (key_tied is.other_key k tied)))))
 
-blpu_says : (v : View) (k : Key) → (lacks_blpu v k ≡ true) ↔ LacksBlpu v k
+pub blpu_says : (v : View) (k : Key) → (lacks_blpu v k ≡ true) ↔ LacksBlpu v k
 blpu_says v k = (
   λ h.
       let uprn = some_passes (option_and_then blpu_named (fin.get v.items k)) (λ n. not (holds v (key.Blpu n))) h in
@@ -176,7 +175,7 @@ blpu_says v k = (
       (ap (option_and_then blpu_named) is.there ∙ is.names) (ap (λ o. not (is_some o)) is.gone),
 )
 
-street_says : (v : View) (out : List (ℕ × View)) (k : Key) → (lacks_street v out k ≡ true) ↔ NamesNowhere v out k
+pub street_says : (v : View) (out : List (ℕ × View)) (k : Key) → (lacks_street v out k ≡ true) ↔ NamesNowhere v out k
 street_says v out k = (
   λ h.
       let l = some_passes (approved_at v k) (λ l. is_none (found_in v out l.usrn)) h in
@@ -184,7 +183,7 @@ street_says v out k = (
   λ is. passes_some (approved_at v k) (λ l. is_none (found_in v out l.usrn)) is.lpi (lpi_at v k is.lpi is.there) (ap is_none (none_from (views_in_turn v out) is.lpi.usrn is.nowhere)),
 )
 
-open_says : (v : View) (out : List (ℕ × View)) (k : Key) → (names_closed v out k ≡ true) ↔ NamesClosed v out k
+pub open_says : (v : View) (out : List (ℕ × View)) (k : Key) → (names_closed v out k ≡ true) ↔ NamesClosed v out k
 open_says v out k = (
   λ h.
       let l = some_passes (approved_at v k) (λ l. if_some (found_in v out l.usrn) (λ w. is_closed w l.usrn)) h in
@@ -194,7 +193,7 @@ open_says v out k = (
       (passes_some (found_in v out is.lpi.usrn) (λ w. is_closed w is.lpi.usrn) is.found ((found_says v is.found out is.lpi.usrn).1 is.first) (closed_from is.found is.lpi.usrn is.closed)),
 )
 
-descriptor_says : (v : View) (out : List (ℕ × View)) (k : Key) → (lacks_descriptor v out k ≡ true) ↔ NamesUnnamed v out k
+pub descriptor_says : (v : View) (out : List (ℕ × View)) (k : Key) → (lacks_descriptor v out k ≡ true) ↔ NamesUnnamed v out k
 descriptor_says v out k = (
   λ h.
       let l = some_passes (approved_at v k) (λ l. if_some (found_in v out l.usrn) (λ w. not (holds w (key.Descriptor l.usrn l.lang)))) h in
@@ -204,82 +203,10 @@ descriptor_says v out k = (
       (passes_some (found_in v out is.lpi.usrn) (λ w. not (holds w (key.Descriptor is.lpi.usrn is.lpi.lang))) is.found ((found_says v is.found out is.lpi.usrn).1 is.first) (ap not is.unnamed)),
 )
 
-leaves_says : (v : View) (usrn : ℕ) (lang : Lang) → (leaves_lpi v (key.Descriptor usrn lang) ≡ true) ↔ LeavesLpi v usrn lang
-leaves_says v usrn lang = (
-  λ h.
-      let parts = both_parts (not (holds v (key.Descriptor usrn lang)) && holds v (key.Street usrn)) _ h in
-      let first = both_parts (not (holds v (key.Descriptor usrn lang))) _ parts.0 in
-      let m = on_gives v usrn (Some lang) parts.1 in
-      record {
-        gone = not_true _ first.0;
-        street_there = first.1;
-        lpi_key = m.key;
-        lpi = m.lpi;
-        lpi_there = lpi_told v m.key m.lpi m.at;
-        on_it = m.its;
-        in_it = same_lang_is _ _ m.speaks;
-      },
-  λ is. joined _ _ (joined _ _ (ap not is.gone) is.street_there)
-      (on_from v usrn (Some lang) is.lpi_key is.lpi (lpi_at v is.lpi_key is.lpi is.lpi_there) is.on_it (ap (λ x. same_lang x lang) is.in_it ∙ same_lang_itself lang)),
-)
-
-parent_says : (v : View) (uprn : ℕ) → (lacks_parent v (key.Blpu uprn) ≡ true) ↔ LacksParent v uprn
-parent_says v uprn = (
-  λ h.
-      let p = some_passes (parent_of v uprn) (λ n. not (holds v (key.Blpu n))) h in
-      let b = and_then_gives (λ b. b.parent) (blpu_at v uprn) p.0 p.1 in
-      let at = and_then_gives as_blpu (fin.get v.items (key.Blpu uprn)) b.0 b.1 in
-      record { blpu = b.0; parent = p.0; there = at.1 ∙ ap Some (a_blpu at.0 b.0 at.2); is_part = b.2; gone = unheld_none v (key.Blpu p.0) p.2 },
-  λ is. passes_some (parent_of v uprn) (λ n. not (holds v (key.Blpu n))) is.parent
-      (ap (λ o. option_and_then (λ b. b.parent) (option_and_then as_blpu o)) is.there ∙ is.is_part) (ap (λ o. not (is_some o)) is.gone),
-)
-
-own_street_says : (v : View) (usrn : ℕ) (lang : Lang) → (lacks_own_street v (key.Descriptor usrn lang) ≡ true) ↔ LacksOwnStreet v usrn lang
-own_street_says v usrn lang = (
-  λ h. let parts = both_parts (holds v (key.Descriptor usrn lang)) _ h in record { there = parts.0; gone = not_true _ parts.1 },
-  λ is. joined _ _ is.there (ap not is.gone),
-)
-
-names_past_says : (v : View) (k : Key) → (names_past v k ≡ true) ↔ NamesPast v k
+pub names_past_says : (v : View) (k : Key) → (names_past v k ≡ true) ↔ NamesPast v k
 names_past_says v k = (
   λ h.
       let l = some_passes (approved_at v k) (λ l. is_past v l.uprn) h in
       record { lpi = l.0; there = lpi_told v k l.0 l.1; past = past_told v l.0.uprn l.2 },
   λ is. passes_some (approved_at v k) (λ l. is_past v l.uprn) is.lpi (lpi_at v k is.lpi is.there) (past_from v is.lpi.uprn is.past),
 )
-
-past_under_says : (v : View) (uprn : ℕ) → (past_under_lpi v (key.Blpu uprn) ≡ true) ↔ PastUnderLpi v uprn
-past_under_says v uprn = (
-  λ h.
-      let parts = both_parts (is_past v uprn) _ h in
-      let m = some_gives v uprn parts.1 in
-      record { past = past_told v uprn parts.0; lpi_key = m.key; lpi = m.lpi; lpi_there = lpi_told v m.key m.lpi m.at; its = m.its },
-  λ is. joined _ _ (past_from v uprn is.past) (some_from v uprn is.lpi_key is.lpi (lpi_at v is.lpi_key is.lpi is.lpi_there) is.its),
-)
-
-closed_under_says : (v : View) (usrn : ℕ) → (closed_under_lpi v (key.Street usrn) ≡ true) ↔ ClosedUnderLpi v usrn
-closed_under_says v usrn = (
-  λ h.
-      let parts = both_parts (is_closed v usrn) _ h in
-      let m = on_gives v usrn None parts.1 in
-      record { closed = closed_told v usrn parts.0; lpi_key = m.key; lpi = m.lpi; lpi_there = lpi_told v m.key m.lpi m.at; on_it = m.its },
-  λ is. joined _ _ (closed_from v usrn is.closed) (on_from v usrn None is.lpi_key is.lpi (lpi_at v is.lpi_key is.lpi is.lpi_there) is.on_it refl),
-)
-
-pub tests_say_holds : TestsSay
-tests_say_holds =
-    record {
-      second = second_says;
-      blpu = blpu_says;
-      found = found_says;
-      nowhere = nowhere_says;
-      street = street_says;
-      open_street = open_says;
-      descriptor = descriptor_says;
-      leaves = leaves_says;
-      parent = parent_says;
-      names_past = names_past_says;
-      past_under_lpi = past_under_says;
-      own_street = own_street_says;
-      closed_under_lpi = closed_under_says;
-    }

@@ -33,7 +33,7 @@ nothing k = fin.get-empty key_cmp k
 unapproved : (k : Key) → approved_at empty_view k ≡ None
 unapproved k = ap (option_and_then as_approved) (nothing k)
 
-unheld : (k : Key) → holds empty_view k ≡ false
+pub unheld : (k : Key) → holds empty_view k ≡ false
 unheld k = ap is_some (nothing k)
 
 -- no approved LPI is there, of a BLPU or on a street
@@ -99,7 +99,6 @@ empty_sound own =
       street_there = no_own_street;
       open_under_lpi = no_closed;
       own_streets = λ n h. no_false _ h (unheld (key.Street n));
-      own_blpus = λ n h. no_false _ h (unheld (key.Blpu n));
       own_named = λ k l e. let no : Some l ≡ None = sym e ∙ unapproved k in cc;
     }
 
@@ -128,21 +127,31 @@ stays_sound_holds = record { empty = empty_sound; after_file = sound_after_file 
 
 -- ---- a board
 
-abbrev SoundList : Blocks → List Judgement → Type 0
-SoundList own js = (n : ℕ) → IsSound own (unwrap_or (slice_get (map (λ j. j.view) js) n) empty_view)
+module _ (P : ℕ → View → Type 0) (at_first : (c : ℕ) → P c empty_view) where
+  abbrev EachView : ℕ → List Judgement → Type 0
+  EachView c js = (n : ℕ) → P c (unwrap_or (slice_get (map (λ j. j.view) js) n) empty_view)
 
-list_pushed : (own : Blocks) (js : List Judgement) (j : Judgement) → SoundList own js → IsSound own j.view → SoundList own (js ++ j ∷ [])
-list_pushed own [] j all good zero = good
-list_pushed own [] j all good (suc n) = empty_sound own
-list_pushed own (x ∷ xs) j all good zero = all 0
-list_pushed own (x ∷ xs) j all good (suc n) = list_pushed own xs j (λ m. all (suc m)) good n
+  list_pushed : (c : ℕ) (js : List Judgement) (j : Judgement) → EachView c js → P c j.view → EachView c (js ++ j ∷ [])
+  list_pushed c [] j all good zero = good
+  list_pushed c [] j all good (suc n) = at_first c
+  list_pushed c (x ∷ xs) j all good zero = all 0
+  list_pushed c (x ∷ xs) j all good (suc n) = list_pushed c xs j (λ m. all (suc m)) good n
 
-list_of_board : (own : Owners) (B : Board) → IsSoundBoard own B → (c : ℕ) → SoundList (own c) (B c)
-list_of_board own B sound c n = sound c (suc n)
+  of_lists : (B : Board) → ((c : ℕ) → EachView c (B c)) → (c volume : ℕ) → P c (view_after B c volume)
+  of_lists B all c zero = at_first c
+  of_lists B all c (suc n) = all c n
 
-board_of_lists : (own : Owners) (B : Board) → ((c : ℕ) → SoundList (own c) (B c)) → IsSoundBoard own B
-board_of_lists own B all c zero = empty_sound (own c)
-board_of_lists own B all c (suc n) = all c n
+  -- what holds of the empty view holds of each view of the board without judgements
+  pub on_empty_board : (c volume : ℕ) → P c (view_after empty_board c volume)
+  on_empty_board = of_lists empty_board (λ c n. at_first c)
+
+  -- and what holds of each view of a board and of one more judgement's holds of each view after it
+  pub on_more : (B : Board) (c : ℕ) (j : Judgement) → ((d volume : ℕ) → P d (view_after B d volume)) → P c j.view → (d volume : ℕ) → P d (view_after (adds B c j) d volume)
+  on_more B c j all good =
+      of_lists (adds B c j) (λ d. elim (eqb d c) as (λ b. eqb d c ≡ b → EachView d (cond b (B d ++ j ∷ []) (B d))) [
+        | true ↦ λ e. list_pushed d (B d) j (λ n. all d (suc n)) (subst (λ k. P k j.view) (sym (eqb-true d c e)) good)
+        | false ↦ λ _ n. all d (suc n)
+      ] refl)
 
 -- the views on which basis lines rest are sound and of others
 basis_sound : (own : Owners) (B : Board) (c : ℕ) (bases : List Basis) → IsSoundBoard own B → All (λ d. d.custodian ≢ c) bases → AreSoundBases own c (basis_views B bases)
@@ -156,10 +165,7 @@ pub board_after_file : (own : Owners) (B : Board) (c : ℕ) (r : Reading) → Ar
 board_after_file own B c r apart others sound =
     let j = judged_on (own c) B c r in
     let good : IsSound (own c) j.view = sound_after_file own c (last_view B c) (basis_views B (bases_of r)) r apart (sound c (reached B c)) (basis_sound own B c (bases_of r) sound others) in
-    board_of_lists own _ (λ d. elim (eqb d c) as (λ b. eqb d c ≡ b → SoundList (own d) (cond b (B d ++ j ∷ []) (B d))) [
-      | true ↦ λ e. list_pushed (own d) (B d) j (list_of_board own B sound d) (subst (λ k. IsSound (own k) j.view) (sym (eqb-true d c e)) good)
-      | false ↦ λ _. list_of_board own B sound d
-    ] refl)
+    on_more (λ d. IsSound (own d)) (λ d. empty_sound (own d)) B c j sound good
 
 -- the blocks of a register are disjoint: a number in them has one owner
 pub register_disjoint : (register : RegisterValue) → IsRegister register → AreDisjoint (blocks_of register)
@@ -171,7 +177,7 @@ register_disjoint register is c d usrn mine its =
 pub boards_stay_sound_holds : BoardsStaySound
 boards_stay_sound_holds =
     record {
-      empty = λ own. board_of_lists own empty_board (λ c n. empty_sound (own c));
+      empty = λ own. on_empty_board (λ c. IsSound (own c)) (λ c. empty_sound (own c));
       after_file = board_after_file;
       of_register = register_disjoint;
     }

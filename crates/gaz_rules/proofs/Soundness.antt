@@ -63,7 +63,6 @@ pub record Passed (own : Blocks) (v w : View) (out : List (ℕ × View)) (touche
   pub streets_stay : (usrn : ℕ) → holds v (key.Street usrn) ≡ true → holds w (key.Street usrn) ≡ true
   pub blpus_stay : (uprn : ℕ) → holds v (key.Blpu uprn) ≡ true → holds w (key.Blpu uprn) ≡ true
   pub own_streets : (usrn : ℕ) → holds w (key.Street usrn) ≡ true → within own.usrn usrn ≡ true
-  pub own_blpus : (uprn : ℕ) → holds w (key.Blpu uprn) ≡ true → within own.uprn uprn ≡ true
   pub keyed : (k : Key) (i : Item) → fin.get w.items k ≡ Some i → key_of i ≡ k
   pub used : (k : Key) → holds w k ≡ true → was_used w k ≡ true
 
@@ -351,6 +350,5 @@ module _ (own : Blocks) (v w : View) (out : List (ℕ × View)) (touched : Key �
         street_there = own_street_sound;
         open_under_lpi = open_sound;
         own_streets = passed.own_streets;
-        own_blpus = passed.own_blpus;
         own_named = named_sound;
       }

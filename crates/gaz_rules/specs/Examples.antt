@@ -40,10 +40,10 @@ pub record WorkedRecordRules : Type 0 where
 
 -- the rules that depend on the kind of an item
 pub record WorkedKinds : Type 0 where
-  pub below : is_outside own (blpu 999 None) ≡ true
-  pub first : is_outside own (blpu 1000 None) ≡ false
-  pub of_any_street : is_outside own (name 99 Eng) ≡ false
-  pub of_any_property : is_outside own (council_tax (codes "X1") 999) ≡ false
+  pub below : is_outside own empty_view (blpu 999 None) ≡ true
+  pub first : is_outside own empty_view (blpu 1000 None) ≡ false
+  pub of_any_street : is_outside own empty_view (name 99 Eng) ≡ false
+  pub of_any_property : is_outside own empty_view (council_tax (codes "X1") 999) ≡ false
   pub blpus_stay : stays (blpu 1000 None) ≡ true
   pub descriptors_go : stays (name 101 Eng) ≡ false
   pub addresses_go : stays (lpi (codes "L1") 1001 Eng Approved 101) ≡ false

@@ -1,5 +1,6 @@
 -- What a reader of the rules may rely on.
 use Rattle.std.specs.Prelude.{◌≡◌, ◌≤◌, ◌↔◌, ℕ, List, Some, true}
+use Rattle.gaz_records.specs.declared.key.Key.{Key}
 use Rattle.gaz_records.specs.declared.key.Key.TheVariants as key
 use Rattle.gaz_changefile.specs.Reading.{Reading}
 use Rattle.gaz_register.specs.Registers.{Blocks, IsRegister, RegisterValue, blocks_of}
@@ -7,20 +8,23 @@ use Rattle.gaz_ledger.specs.View.{View, empty_view}
 use Rattle.gaz_shelf.specs.Board.{Board, adds, empty_board}
 use Rattle.gaz_rules.specs.EndRules.{ancestor, is_own_ancestor}
 use Rattle.gaz_rules.specs.Judging.{judge}
+use Rattle.gaz_rules.specs.Rules.{holds_number}
 use Rattle.gaz_rules.specs.Bases.{judged_on}
-use Rattle.gaz_rules.specs.Sound.{AreDisjoint, AreSoundBases, IsSound, IsSoundBoard, NamesOthers, Owners}
+use Rattle.gaz_rules.specs.Sound.{AllHoldOwn, AreDisjoint, AreSoundBases, HoldsOwn, IsSound, IsSoundBoard, NamesOthers, Owners}
 
 -- ---- rings
 
--- a chain of one or more parents leads from the BLPU to itself
-pub record IsOnRing (v : View) (uprn : ℕ) : Type 0 where
+-- a BLPU, and a chain of one or more parents leads from it to itself
+pub record IsOnRing (v : View) (k : Key) : Type 0 where
+  pub uprn : ℕ
+  pub is : k ≡ key.Blpu uprn
   pub steps : ℕ
   pub at_least_one : 1 ≤ steps
   pub leads : ancestor v steps uprn ≡ Some uprn
 
 -- rule 36 is broken on a ring of any length, and nowhere else
 abbrev pub FindsRings : Type 0
-FindsRings = (v : View) (uprn : ℕ) → (is_own_ancestor v (key.Blpu uprn) ≡ true) ↔ IsOnRing v uprn
+FindsRings = (v : View) (k : Key) → (is_own_ancestor v k ≡ true) ↔ IsOnRing v k
 
 -- ---- touched keys are enough
 
@@ -36,3 +40,15 @@ pub record BoardsStaySound : Type 0 where
   pub after_file : (own : Owners) (B : Board) (c : ℕ) (r : Reading)
       → AreDisjoint own → NamesOthers c r → IsSoundBoard own B → IsSoundBoard own (adds B c (judged_on (own c) B c r))
   pub of_register : (register : RegisterValue) → IsRegister register → AreDisjoint (blocks_of register)
+
+-- ---- own numbers stay own
+
+-- rule 20 alone keeps them, whatever the basis views are; and no number is held by two custodians of a register
+pub record OwnNumbersStay : Type 0 where
+  pub empty : (own : Blocks) → HoldsOwn own empty_view
+  pub after_file : (own : Blocks) (v : View) (out : List (ℕ × View)) (r : Reading) → HoldsOwn own v → HoldsOwn own (judge own v out r).view
+  pub of_no_file : (own : Owners) → AllHoldOwn own empty_board
+  pub after_judgement : (own : Owners) (B : Board) (c : ℕ) (r : Reading)
+      → AllHoldOwn own B → AllHoldOwn own (adds B c (judged_on (own c) B c r))
+  pub one_custodian : (register : RegisterValue) (v w : View) (c d uprn : ℕ) → IsRegister register
+      → holds_number (blocks_of register c) v uprn ≡ true → holds_number (blocks_of register d) w uprn ≡ true → c ≡ d

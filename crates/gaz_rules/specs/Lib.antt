@@ -10,6 +10,7 @@ pub mod Knowing
 pub mod Breaches
 pub mod Laws
 pub mod Sentences
+pub mod RecordSentences
 pub mod Verdicts
 pub mod Examples
 pub mod Phases

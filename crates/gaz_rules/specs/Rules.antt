@@ -41,11 +41,15 @@ is_delete Insert = false
 is_delete Update = false
 is_delete Delete = true
 
--- 20: a street or a BLPU, and its number is in none of the custodian's own blocks of that kind
-abbrev pub is_outside : Blocks → Item → Bool
-is_outside own (item.Street s) = not (within own.usrn s.usrn)
-is_outside own (item.Blpu b) = not (within own.uprn b.uprn)
-is_outside own _ = false
+-- a custodian with these own blocks, and this view, holds the number of a BLPU: it is in one of its blocks
+abbrev pub holds_number : Blocks → View → ℕ → Bool
+holds_number own v uprn = within own.uprn uprn
+
+-- 20: a street whose number is in none of the custodian's own blocks, or a BLPU whose number it doesn't hold
+abbrev pub is_outside : Blocks → View → Item → Bool
+is_outside own v (item.Street s) = not (within own.usrn s.usrn)
+is_outside own v (item.Blpu b) = not (holds_number own v b.uprn)
+is_outside own v _ = false
 
 -- 21: an insert whose key was ever used
 abbrev pub is_used_again : View → Action → Item → Bool
@@ -78,7 +82,7 @@ moves_what_stays v a i = is_update a && option_map_or (λ old. is_moved old i) (
 -- the record rules by number, the least first
 abbrev pub record_rules : Blocks → View → Action → Item → List (ℕ × Bool)
 record_rules own v a i =
-    (20, is_outside own i)
+    (20, is_outside own v i)
     ∷ (21, is_used_again v a i)
     ∷ (22, is_missing v a i)
     ∷ (23, takes_what_stays a i)

@@ -93,9 +93,12 @@ pub record NamesUnnamed (v : View) (out : List (ℕ × View)) (k : Key) : Type 0
   pub first : IsFirstWith (views_in_turn v out) lpi.usrn found
   pub unnamed : holds found (key.Descriptor lpi.usrn lpi.lang) ≡ false
 
--- 34: the descriptor isn't there, its street is, and an approved LPI has that street and language
-pub record LeavesLpi (v : View) (usrn : ℕ) (lang : Lang) : Type 0 where
-  pub gone : holds v (key.Descriptor usrn lang) ≡ false
+-- 34: a descriptor that isn't there, its street is, and an approved LPI has that street and language
+pub record LeavesLpi (v : View) (k : Key) : Type 0 where
+  pub usrn : ℕ
+  pub lang : Lang
+  pub is : k ≡ key.Descriptor usrn lang
+  pub gone : holds v k ≡ false
   pub street_there : holds v (key.Street usrn) ≡ true
   pub lpi_key : Key
   pub lpi : LpiValue
@@ -104,10 +107,12 @@ pub record LeavesLpi (v : View) (usrn : ℕ) (lang : Lang) : Type 0 where
   pub in_it : lpi.lang ≡ lang
 
 -- 35: a BLPU with a parent, under which nothing stands
-pub record LacksParent (v : View) (uprn : ℕ) : Type 0 where
+pub record LacksParent (v : View) (k : Key) : Type 0 where
+  pub uprn : ℕ
   pub blpu : BlpuValue
   pub parent : ℕ
-  pub there : fin.get v.items (key.Blpu uprn) ≡ Some (item.Blpu blpu)
+  pub is : k ≡ key.Blpu uprn
+  pub there : fin.get v.items k ≡ Some (item.Blpu blpu)
   pub is_part : blpu.parent ≡ Some parent
   pub gone : fin.get v.items (key.Blpu parent) ≡ None
 
@@ -118,7 +123,9 @@ pub record NamesPast (v : View) (k : Key) : Type 0 where
   pub past : IsPastBlpu v lpi.uprn
 
 -- 37: a historical BLPU that has an approved LPI
-pub record PastUnderLpi (v : View) (uprn : ℕ) : Type 0 where
+pub record PastUnderLpi (v : View) (k : Key) : Type 0 where
+  pub uprn : ℕ
+  pub is : k ≡ key.Blpu uprn
   pub past : IsPastBlpu v uprn
   pub lpi_key : Key
   pub lpi : LpiValue
@@ -126,19 +133,24 @@ pub record PastUnderLpi (v : View) (uprn : ℕ) : Type 0 where
   pub its : lpi.uprn ≡ uprn
 
 -- 38: a descriptor is there, and its street isn't
-pub record LacksOwnStreet (v : View) (usrn : ℕ) (lang : Lang) : Type 0 where
-  pub there : holds v (key.Descriptor usrn lang) ≡ true
+pub record LacksOwnStreet (v : View) (k : Key) : Type 0 where
+  pub usrn : ℕ
+  pub lang : Lang
+  pub is : k ≡ key.Descriptor usrn lang
+  pub there : holds v k ≡ true
   pub gone : holds v (key.Street usrn) ≡ false
 
 -- 39: a closed street that an approved LPI names
-pub record ClosedUnderLpi (v : View) (usrn : ℕ) : Type 0 where
+pub record ClosedUnderLpi (v : View) (k : Key) : Type 0 where
+  pub usrn : ℕ
+  pub is : k ≡ key.Street usrn
   pub closed : IsClosedStreet v usrn
   pub lpi_key : Key
   pub lpi : LpiValue
   pub lpi_there : IsApprovedLpi v lpi_key lpi
   pub on_it : lpi.usrn ≡ usrn
 
--- each test is true just where its sentence holds
+-- each test of a key is true just where its sentence holds, whatever the key's kind
 pub record TestsSay : Type 0 where
   pub second : (v : View) (k : Key) → (is_second v k ≡ true) ↔ HasSecond v k
   pub blpu : (v : View) (k : Key) → (lacks_blpu v k ≡ true) ↔ LacksBlpu v k
@@ -147,9 +159,9 @@ pub record TestsSay : Type 0 where
   pub street : (v : View) (out : List (ℕ × View)) (k : Key) → (lacks_street v out k ≡ true) ↔ NamesNowhere v out k
   pub open_street : (v : View) (out : List (ℕ × View)) (k : Key) → (names_closed v out k ≡ true) ↔ NamesClosed v out k
   pub descriptor : (v : View) (out : List (ℕ × View)) (k : Key) → (lacks_descriptor v out k ≡ true) ↔ NamesUnnamed v out k
-  pub leaves : (v : View) (usrn : ℕ) (lang : Lang) → (leaves_lpi v (key.Descriptor usrn lang) ≡ true) ↔ LeavesLpi v usrn lang
-  pub parent : (v : View) (uprn : ℕ) → (lacks_parent v (key.Blpu uprn) ≡ true) ↔ LacksParent v uprn
+  pub leaves : (v : View) (k : Key) → (leaves_lpi v k ≡ true) ↔ LeavesLpi v k
+  pub parent : (v : View) (k : Key) → (lacks_parent v k ≡ true) ↔ LacksParent v k
   pub names_past : (v : View) (k : Key) → (names_past v k ≡ true) ↔ NamesPast v k
-  pub past_under_lpi : (v : View) (uprn : ℕ) → (past_under_lpi v (key.Blpu uprn) ≡ true) ↔ PastUnderLpi v uprn
-  pub own_street : (v : View) (usrn : ℕ) (lang : Lang) → (lacks_own_street v (key.Descriptor usrn lang) ≡ true) ↔ LacksOwnStreet v usrn lang
-  pub closed_under_lpi : (v : View) (usrn : ℕ) → (closed_under_lpi v (key.Street usrn) ≡ true) ↔ ClosedUnderLpi v usrn
+  pub past_under_lpi : (v : View) (k : Key) → (past_under_lpi v k ≡ true) ↔ PastUnderLpi v k
+  pub own_street : (v : View) (k : Key) → (lacks_own_street v k ≡ true) ↔ LacksOwnStreet v k
+  pub closed_under_lpi : (v : View) (k : Key) → (closed_under_lpi v k ≡ true) ↔ ClosedUnderLpi v k

@@ -12,9 +12,10 @@ use Rattle.gaz_register.specs.Registers.{Blocks, within}
 use Rattle.gaz_ledger.specs.View.{View, holds, was_used}
 use Rattle.gaz_shelf.specs.Board.{Board, view_after}
 use Rattle.gaz_rules.specs.Judging.{bases_of}
+use Rattle.gaz_rules.specs.Rules.{holds_number}
 use Rattle.gaz_rules.specs.EndRules.{ancestor, approved_at, closed_under_lpi, is_out_of_date, is_second, is_unnamed, lacks_blpu, lacks_own_street, lacks_parent, names_closed}
 
--- no key at all breaks an end rule by what stands in the view itself, and what stands there is the custodian's own
+-- no key at all breaks an end rule by what stands in the view itself, and its streets are the custodian's own
 pub record IsSound (own : Blocks) (v : View) : Type 0 where
   -- each item stands under its own key, and each key that stands there was used
   pub keyed : (k : Key) (i : Item) → map.get v.items k ≡ Some i → key_of i ≡ k
@@ -32,10 +33,13 @@ pub record IsSound (own : Blocks) (v : View) : Type 0 where
   pub up_to_date : (k : Key) → is_out_of_date v k ≡ false
   pub street_there : (k : Key) → lacks_own_street v k ≡ false
   pub open_under_lpi : (k : Key) → closed_under_lpi v k ≡ false
-  -- streets and BLPUs are of the own blocks, and each street of them that an approved LPI names is there
+  -- streets are of the own blocks, and each street of them that an approved LPI names is there
   pub own_streets : (usrn : ℕ) → holds v (key.Street usrn) ≡ true → within own.usrn usrn ≡ true
-  pub own_blpus : (uprn : ℕ) → holds v (key.Blpu uprn) ≡ true → within own.uprn uprn ≡ true
   pub own_named : (k : Key) (l : LpiValue) → approved_at v k ≡ Some l → within own.usrn l.usrn ≡ true → holds v (key.Street l.usrn) ≡ true
+
+-- the custodian holds the number of every BLPU that is there
+abbrev pub HoldsOwn : Blocks → View → Type 0
+HoldsOwn own v = (uprn : ℕ) → holds v (key.Blpu uprn) ≡ true → holds_number own v uprn ≡ true
 
 -- ---- views of many custodians
 
@@ -62,3 +66,7 @@ NamesOthers c r = All (λ d. d.custodian ≢ c) (bases_of r)
 -- every view on the board is sound
 abbrev pub IsSoundBoard : Owners → Board → Type 0
 IsSoundBoard own B = (c volume : ℕ) → IsSound (own c) (view_after B c volume)
+
+-- in every view on the board each custodian holds the numbers of its BLPUs
+abbrev pub AllHoldOwn : Owners → Board → Type 0
+AllHoldOwn own B = (c volume : ℕ) → HoldsOwn (own c) (view_after B c volume)

@@ -14,7 +14,7 @@ use crate::known::Known;
 use crate::name_faults::{NameFaults, name_faults};
 use gaz_changefile::Basis;
 use gaz_ids::Code;
-use gaz_records::{Item, Key, SharedItem};
+use gaz_records::{Item, Key, SharedItem, key_of};
 use gaz_shelf::{Shelf, ShelfFault};
 
 /// The least rule that is broken.
@@ -66,7 +66,7 @@ pub(crate) fn breach<S: Shelf>(
     ensures { Reads (S.seen shelf.old) (S.seen shelf.new) result (λ r. are_reached (S.seen shelf.old).content.board bases.now ≡ true → IsRight (S.seen shelf.old).content.working (basis_views (S.seen shelf.old).content.board bases.now) known.old →
         IsRight (S.seen shelf.old).content.working (basis_views (S.seen shelf.old).content.board bases.now) known.new × (r ≡ first_broken (end_rules (S.seen shelf.old).content.working (basis_views (S.seen shelf.old).content.board bases.now) (key_of item.now)))) }
 {
-    let key = Key::of(item);
+    let key = key_of(item);
     let stored = shelf.current(code, &key)?;
     Ok(breach_at(shelf, code, bases, known, &key, &stored)?)
 }

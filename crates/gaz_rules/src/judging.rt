@@ -16,7 +16,7 @@ use crate::known::Known;
 use crate::{end_rules, record_rules};
 use gaz_changefile::{Action, Basis, Change, ChangeFile};
 use gaz_ids::Code;
-use gaz_records::{Key, SharedItem};
+use gaz_records::{SharedItem, key_of};
 use gaz_register::Register;
 use gaz_shelf::{Shelf, ShelfFault, Verdict};
 use std::alloc::Global;
@@ -45,7 +45,7 @@ fn perform<S: Shelf>(shelf: &mut S, code: Code, change: &Change) -> Result<(), S
 {
     match change.action {
         Action::Insert | Action::Update => put_shared(shelf, code, &change.item),
-        Action::Delete => shelf.take(&Key::of(&change.item)),
+        Action::Delete => shelf.take(&key_of(&change.item)),
     }
 }
 
@@ -158,7 +158,8 @@ fn conclude<S: Shelf>(
 ///
 /// The changes go into the working view, each asked the record rules (20 to 24) first; then the keys that they touched are asked the end
 /// rules (30 to 39), in file order. The answer is the verdict that the keeper then has. After a fault, `Memory` or `Store`, the keeper's
-/// board is as it was. Whatever is answered, no judgement is in progress any more.
+/// board is as it was. Whatever is answered, no judgement is in progress any more. That `Memory` isn't answered without need no clause
+/// says: `the_largest_file_is_judged_and_told` of `gaz_hub_trials` asks it of 5,000 changes.
 pub fn judge<S: Shelf>(
     alloc: Global,
     shelf: &mut S,

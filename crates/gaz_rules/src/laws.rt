@@ -1,6 +1,7 @@
 //! What a reader of the definitions may rely on.
 ghost use Rattle.gaz_rules.specs.JudgedExamples.{WorkedExamples};
-ghost use Rattle.gaz_rules.specs.Laws.{BoardsStaySound, FindsRings, StaysSound};
+ghost use Rattle.gaz_rules.specs.Laws.{BoardsStaySound, FindsRings, OwnNumbersStay, StaysSound};
+ghost use Rattle.gaz_rules.specs.RecordSentences.{RecordTestsSay};
 ghost use Rattle.gaz_rules.specs.Sentences.{TestsSay};
 ghost use Rattle.gaz_rules.specs.Verdicts.{JudgesSay};
 
@@ -15,9 +16,10 @@ pub fn judges_say()
     ensures { JudgesSay }
 {}
 
-/// The tests of the end rules, and of where a street is found, are true just where their sentences hold.
+/// The tests of the record rules, of the end rules, and of where a street is found, are true just where their sentences hold.
 pub fn tests_say()
-    ensures { TestsSay }
+    ensures records { RecordTestsSay }
+    ensures ends { TestsSay }
 {}
 
 /// Rule 36 is broken where a chain of one or more parents, of any length, leads from a property to itself, and nowhere else.
@@ -33,4 +35,9 @@ pub fn stays_sound()
 /// Where every view of a board is sound, every view is sound after one more judgement.
 pub fn boards_stay_sound()
     ensures { BoardsStaySound }
+{}
+
+/// A custodian holds the number of every BLPU in its views, whatever other custodians' views are, and no other holds that number.
+pub fn own_numbers_stay()
+    ensures { OwnNumbersStay }
 {}

@@ -5,18 +5,18 @@ ghost use Rattle.std.specs.Option.{option_map_or};
 ghost use Rattle.gaz_records.specs.Keys.{key_of};
 ghost use Rattle.gaz_register.specs.Registers.{Blocks, blocks_of};
 ghost use Rattle.gaz_shelf.specs.Keeper.{Open, Reads, Seen};
-ghost use Rattle.gaz_ledger.specs.View.{holds, was_used};
+ghost use Rattle.gaz_ledger.specs.View.{View, holds, was_used};
 ghost use Rattle.gaz_rules.specs.Rules.{first_broken, is_moved, is_outside, record_rules, stays};
 
 use crate::key_faults::is_there;
 use gaz_changefile::{Action, Change};
 use gaz_ids::Code;
-use gaz_records::{Item, Key};
+use gaz_records::{Item, Key, key_of};
 use gaz_register::Register;
 use gaz_shelf::{Shelf, ShelfFault};
 
 fn is_outside(register: &Register, code: Code, item: &Item) -> bool
-    ensures { result ≡ is_outside (blocks_of register.now code) item.now }
+    ensures { (v : View) → result ≡ is_outside (blocks_of register.now code) v item.now }
 {
     match item {
         Item::Street(street) => !register.allotted_usrn(code, street.usrn),
@@ -91,9 +91,9 @@ fn action_breach<S: Shelf>(
     change: &Change,
 ) -> Result<Option<u8>, ShelfFault>
     requires { (S.seen shelf.old).progress ≡ Open code }
-    ensures { Reads (S.seen shelf.old) (S.seen shelf.new) result (λ r. (own : Blocks) → is_outside own change.now.item ≡ false → r ≡ first_broken (record_rules own (S.seen shelf.old).content.working change.now.action change.now.item)) }
+    ensures { Reads (S.seen shelf.old) (S.seen shelf.new) result (λ r. (own : Blocks) → is_outside own (S.seen shelf.old).content.working change.now.item ≡ false → r ≡ first_broken (record_rules own (S.seen shelf.old).content.working change.now.action change.now.item)) }
 {
-    let key = Key::of(&change.item);
+    let key = key_of(&change.item);
     match change.action {
         Action::Insert => Ok(insert_breach(shelf, code, &key)?),
         Action::Update => Ok(update_breach(shelf, code, &key, &change.item)?),

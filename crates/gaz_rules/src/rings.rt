@@ -1,5 +1,5 @@
 //! Rings of parents. Over a whole file each BLPU's parent is looked up at most once.
-ghost use Rattle.std.specs.Prelude.{◌≡◌, ◌<◌, ◌≤◌, ◌++◌, ◌∷◌, [], ℕ, Bool, false, true, cond, is_some, length, slice_get, None, OnOk, Some};
+ghost use Rattle.std.specs.Prelude.{◌≡◌, ◌<◌, ◌≤◌, ◌^◌, ◌++◌, ◌∷◌, [], ℕ, Bool, false, true, cond, is_some, length, slice_get, None, OnOk, Some};
 ghost use Rattle.std.specs.Ordering.{nat_cmp};
 ghost use Rattle.std.specs.BTreeMap as tree;
 ghost use Rattle.gaz_records.specs.declared.key.Key.TheVariants as key;
@@ -34,10 +34,11 @@ impl Walked {
         }
     }
 
-    /// Visits a BLPU, of which no ring is known so far.
+    /// Visits a BLPU, of which no ring is known so far. There is room for at most so many visits.
     fn visit(&mut self, uprn: Uprn) -> Result<(), AllocError>
         ensures visits { OnOk result ((q : ℕ) → visit_of self.new q ≡ cond (tree.is_at (nat_cmp uprn) q) (Some (length self.old.on_ring.items)) (visit_of self.old q)) }
         ensures on_ring { OnOk result (self.new.on_ring.items ≡ self.old.on_ring.items ++ false ∷ []) }
+        ensures room { length self.old.on_ring.items < 2 ^ 64 }
     {
         let visit = self.on_ring.len();
         self.on_ring.push(false)?;
@@ -96,7 +97,8 @@ fn parent_of<S: Shelf>(shelf: &mut S, code: Code, uprn: Uprn) -> Result<Option<U
     Ok(blpu.parent)
 }
 
-/// Walks up from a BLPU, to the top or to one that was visited, and marks those on a ring that this closes.
+/// Walks up from a BLPU, to the top or to one that was visited, and marks those on a ring that this closes. Each turn visits one that wasn't,
+/// and takes memory for it: so the walk ends whatever the keeper answers.
 fn walk<S: Shelf>(
     shelf: &mut S,
     code: Code,
@@ -108,8 +110,7 @@ fn walk<S: Shelf>(
 {
     let mut at = uprn;
     let start = walked.on_ring.len();
-    // A keeper may answer what it likes, so the number of steps is bounded.
-    for step in 0..u64::MAX {
+    'up: loop {
         if let Some(visit) = walked.visit_of(at) {
             if visit < start {
                 return Ok(());
@@ -123,7 +124,6 @@ fn walk<S: Shelf>(
         };
         at = parent;
     }
-    Err(ShelfFault::Memory)
 }
 
 /// Whether a chain of parents leads from a BLPU with this parent back to it.

@@ -17,10 +17,10 @@ tie c q = grind (arith, nat_tests)
 same_code : (q c : ℕ) → (q == c) ≡ true → q ≡ c
 same_code q c e = grind (arith, nat_tests)
 
-abbrev Changes : List (ℕ × Account) → List (ℕ × Account) → ℕ → Account → Type 0
+abbrev pub Changes : List (ℕ × Account) → List (ℕ × Account) → ℕ → Account → Type 0
 Changes es fs c a = (q : ℕ) → lookup (is_at (nat_cmp q)) fs ≡ cond (is_at (nat_cmp c) q) (Some a) (lookup (is_at (nat_cmp q)) es)
 
-changed : (es fs : List (ℕ × Account)) (c : ℕ) (a : Account) → Changes es fs c a → (q : ℕ) → account_of fs q ≡ cond (q == c) a (account_of es q)
+pub changed : (es fs : List (ℕ × Account)) (c : ℕ) (a : Account) → Changes es fs c a → (q : ℕ) → account_of fs q ≡ cond (q == c) a (account_of es q)
 changed es fs c a h q = ap (λ o. unwrap_or o empty_account) (h q ∙ ap (λ b. cond b (Some a) (lookup (is_at (nat_cmp q)) es)) (tie c q)) ∙ of_cond (q == c)
   where
     of_cond : (b : Bool) → unwrap_or (cond b (Some a) (lookup (is_at (nat_cmp q)) es)) empty_account ≡ cond b a (account_of es q)

@@ -1,9 +1,27 @@
 -- What the definitions come to on worked examples.
-use Rattle.std.proofs.Common.{refl}
-use Rattle.gaz_shelf.specs.Examples.{WorkedBoards, WorkedExamples, WorkedFiles}
+use Rattle.std.proofs.Common.{◌≡◌, ◌∙◌, ◌&&◌, ℕ, List, [], ◌∷◌, map, not, refl, ap}
+use Rattle.std.specs.Prelude.{◌==◌, count_by, nat_le}
+use Rattle.std.specs.FinMap as finite
+use Rattle.gaz_ledger.proofs.Trees.{no_entries}
+use Rattle.gaz_shelf.proofs.Pairs.{pairs_total}
+use Rattle.gaz_shelf.specs.Examples.{WorkedBoards, WorkedContents, WorkedExamples, WorkedFiles, three_files}
+use Rattle.gaz_shelf.specs.Received.{Received, count_above, pair_cmp, with_file}
+
+abbrev Entries : Type 0
+Entries = List ((ℕ × ℕ) × List ℕ)
+
+-- the entries with one more file
+with_one : (F : Received) (es : Entries) (c volume : ℕ) → finite.entries F ≡ es → finite.entries (with_file F c volume []) ≡ finite.put pair_cmp (c, volume) [] es
+with_one F es c volume is = finite.entries-insert pairs_total F (c, volume) [] ∙ ap (finite.put pair_cmp (c, volume) []) is
+
+three_entries : finite.entries three_files ≡ ((1001, 1), []) ∷ ((1001, 3), []) ∷ ((1002, 2), []) ∷ []
+three_entries = with_one _ _ 1001 1 (with_one _ _ 1002 2 (with_one _ _ 1001 3 (no_entries _ _)))
+
+counted : (c volume : ℕ) → count_above three_files c volume ≡ count_by {X = ℕ × ℕ} (λ p. (p.0 == c) && not (nat_le p.1 volume)) ((1001, 1) ∷ (1001, 3) ∷ (1002, 2) ∷ [])
+counted c volume = ap (λ (es : Entries). count_by {X = ℕ × ℕ} (λ p. (p.0 == c) && not (nat_le p.1 volume)) (map (λ e. e.0) es)) three_entries
 
 pub worked_examples_hold : WorkedExamples
-worked_examples_hold = record { on_boards = on_boards; on_files = on_files }
+worked_examples_hold = record { on_boards = on_boards; on_contents = on_contents; on_files = on_files }
   where
     on_boards : WorkedBoards
     on_boards = record {
@@ -14,7 +32,38 @@ worked_examples_hold = record { on_boards = on_boards; on_files = on_files }
       after_1 = refl;
       after_2 = refl;
       of_another = refl;
+      on_none = refl;
+      on_1 = refl;
+      on_2 = refl;
+      on_3 = refl;
+      on_another = refl;
+    }
+
+    on_contents : WorkedContents
+    on_contents = record {
+      kept_verdict = refl;
+      kept_view = refl;
+      kept_earlier = refl;
+      kept_alone = refl;
+      kept_closed = refl;
+      kept_idle = refl;
+      kept_broken = refl;
+      skipped_verdict = refl;
+      skipped_view = refl;
+      skipped_earlier = refl;
+      skipped_alone = refl;
+      first_verdict = refl;
+      first_view = refl;
     }
 
     on_files : WorkedFiles
-    on_files = record { at_the_highest = refl; above_the_highest = refl; of_nobody = refl }
+    on_files = record {
+      at_the_highest = refl;
+      above_the_highest = refl;
+      of_nobody = refl;
+      above_none = counted 1001 0;
+      above_1 = counted 1001 1;
+      above_3 = counted 1001 3;
+      of_another = counted 1002 1;
+      of_none = counted 1003 0;
+    }

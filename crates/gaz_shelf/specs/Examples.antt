@@ -1,10 +1,12 @@
 -- Worked examples, computed from the definitions.
-use Rattle.std.specs.Prelude.{◌≡◌, ◌==◌, true, false, [], ◌∷◌, if◌then◌else◌}
-use Rattle.gaz_ledger.specs.Examples.{one_street}
+use Rattle.std.specs.Prelude.{◌≡◌, ◌==◌, true, false, [], ◌∷◌, if◌then◌else◌, Some, None}
+use Rattle.std.specs.FinMap as map
+use Rattle.gaz_ledger.specs.Examples.{no_more, one_street}
 use Rattle.gaz_ledger.specs.View.{empty_view}
 use Rattle.gaz_ledger.specs.declared.verdict.Verdict.TheVariants.{Applied, Rejected}
-use Rattle.gaz_shelf.specs.Board.{Board, empty_board, reached, view_after}
-use Rattle.gaz_shelf.specs.Received.{is_below}
+use Rattle.gaz_shelf.specs.Board.{Board, empty_board, last_view, reached, verdict_on, view_after}
+use Rattle.gaz_shelf.specs.Keeper.{Broken, Content, Idle, Open, kept, skipped}
+use Rattle.gaz_shelf.specs.Received.{Received, count_above, is_below, with_file}
 
 -- custodian 1001 has applied volume 1, and its volume 2 was rejected
 abbrev pub two_judged : Board
@@ -12,7 +14,7 @@ two_judged = λ c. if c == 1001
     then record { verdict = Applied; view = one_street } ∷ record { verdict = Rejected 2 21; view = one_street } ∷ []
     else []
 
--- how far custodians are judged, and their views there
+-- how far custodians are judged, and their verdicts and views there
 pub record WorkedBoards : Type 0 where
   pub two_reached : reached two_judged 1001 ≡ 2
   pub none_reached : reached two_judged 1002 ≡ 0
@@ -21,13 +23,59 @@ pub record WorkedBoards : Type 0 where
   pub after_1 : view_after two_judged 1001 1 ≡ one_street
   pub after_2 : view_after two_judged 1001 2 ≡ one_street
   pub of_another : view_after two_judged 1002 0 ≡ empty_view
+  pub on_none : verdict_on two_judged 1001 0 ≡ None
+  pub on_1 : verdict_on two_judged 1001 1 ≡ Some Applied
+  pub on_2 : verdict_on two_judged 1001 2 ≡ Some (Rejected 2 21)
+  pub on_3 : verdict_on two_judged 1001 3 ≡ None
+  pub on_another : verdict_on two_judged 1002 1 ≡ None
+
+-- 1001 is being judged, and street 101 was taken so far
+abbrev pub third_judged : Content
+third_judged = record { files = map.empty; board = two_judged; working = no_more }
+
+-- it is applied
+abbrev pub third_kept : Content
+third_kept = kept (Open 1001) third_judged
+
+-- or it is rejected at record 4 by rule 22
+abbrev pub third_skipped : Content
+third_skipped = skipped third_judged 1001 4 22
+
+-- the first volume of 1002 is rejected
+abbrev pub first_skipped : Content
+first_skipped = skipped third_judged 1002 1 2
+
+pub record WorkedContents : Type 0 where
+  pub kept_verdict : verdict_on third_kept.board 1001 3 ≡ Some Applied
+  pub kept_view : last_view third_kept.board 1001 ≡ no_more
+  pub kept_earlier : view_after third_kept.board 1001 2 ≡ one_street
+  pub kept_alone : reached third_kept.board 1002 ≡ 0
+  pub kept_closed : third_kept.working ≡ empty_view
+  pub kept_idle : kept Idle third_judged ≡ third_judged
+  pub kept_broken : kept Broken third_judged ≡ third_judged
+  pub skipped_verdict : verdict_on third_skipped.board 1001 3 ≡ Some (Rejected 4 22)
+  pub skipped_view : last_view third_skipped.board 1001 ≡ one_street
+  pub skipped_earlier : verdict_on third_skipped.board 1001 2 ≡ Some (Rejected 2 21)
+  pub skipped_alone : reached third_skipped.board 1002 ≡ 0
+  pub first_verdict : verdict_on first_skipped.board 1002 1 ≡ Some (Rejected 1 2)
+  pub first_view : last_view first_skipped.board 1002 ≡ empty_view
+
+-- the volumes 1 and 3 of 1001 were received, and the volume 2 of 1002
+abbrev pub three_files : Received
+three_files = with_file (with_file (with_file map.empty 1001 3 []) 1002 2 []) 1001 1 []
 
 -- the highest volume of 1001 is the third, that of 1002 the first
 pub record WorkedFiles : Type 0 where
   pub at_the_highest : is_below ((1001, 3) ∷ (1002, 1) ∷ []) 1001 3 ≡ true
   pub above_the_highest : is_below ((1001, 3) ∷ (1002, 1) ∷ []) 1002 2 ≡ false
   pub of_nobody : is_below ((1001, 3) ∷ (1002, 1) ∷ []) 1003 1 ≡ false
+  pub above_none : count_above three_files 1001 0 ≡ 2
+  pub above_1 : count_above three_files 1001 1 ≡ 1
+  pub above_3 : count_above three_files 1001 3 ≡ 0
+  pub of_another : count_above three_files 1002 1 ≡ 1
+  pub of_none : count_above three_files 1003 0 ≡ 0
 
 pub record WorkedExamples : Type 0 where
   pub on_boards : WorkedBoards
+  pub on_contents : WorkedContents
   pub on_files : WorkedFiles

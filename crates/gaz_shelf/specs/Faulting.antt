@@ -1,6 +1,7 @@
 -- A keeper around another, as it is seen.
-use Rattle.std.specs.Prelude.{ℕ, Bool, true, false, ◌+◌, ◌-◌, ◌^◌, ◌==◌}
-use Rattle.gaz_shelf.specs.Keeper.{Broken, Content, Idle, Open, Progress, Seen, closed}
+use Rattle.std.specs.Prelude.{◌≡◌, ◌≤◌, ℕ, Bool, true, false, ◌+◌, ◌-◌, ◌^◌, ◌==◌}
+use Rattle.std.proofs.Common.{eqb-true, le-add_left, le_of_eq, le_trans, sym}
+use Rattle.gaz_shelf.specs.Keeper.{Broken, Content, Idle, IsLawful, Open, Progress, Seen, closed}
 
 -- the progress, where the outer keeper says itself whether a judgement is broken
 abbrev pub progress_around : Bool → Progress → Progress
@@ -15,13 +16,24 @@ content_around Idle k = closed k
 content_around (Open c) k = k
 content_around Broken k = closed k
 
+-- it is lawful where the inner one's is
+pub lawful_around : (p : Progress) (k : Content) → IsLawful k → IsLawful (content_around p k)
+lawful_around Idle k all = record { views = all.views; working = all.views 0 0 }
+lawful_around (Open c) k all = all
+lawful_around Broken k all = record { views = all.views; working = all.views 0 0 }
+
+pub full_around : (inner own : ℕ) → (own == 2 ^ 64 - 1) ≡ true → 2 ^ 64 - 1 ≤ inner + own
+full_around inner own full = le_trans (le_of_eq (sym (eqb-true own (2 ^ 64 - 1) full))) (le-add_left own inner)
+
 -- the keeper around another, that holds a judgement as broken or not and failed so often itself
 abbrev pub around : Seen → Bool → ℕ → Seen
 around s broken failures = record {
   content = content_around (progress_around broken s.progress) s.content;
   stands = s.stands;
+  lawful = λ stood. lawful_around (progress_around broken s.progress) s.content (s.lawful stood);
   unharmed = s.unharmed;
   progress = progress_around broken s.progress;
   failures = s.failures + failures;
   is_full = failures == 2 ^ 64 - 1;
+  full = full_around s.failures failures;
 }

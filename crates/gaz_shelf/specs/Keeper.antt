@@ -1,8 +1,9 @@
 -- A keeper at one moment, and what each of its calls tells.
-use Rattle.std.specs.Prelude.{◌≡◌, ◌≢◌, ◌≤◌, ◌<◌, ◌+◌, ◌==◌, ⊤, ℕ, Bool, if◌then◌else◌, List, [], None, IsSome, Result, Err, IfOk, IfErr, OnOk, OnErr, fold}
+use Rattle.std.specs.Prelude.{◌≡◌, ◌≢◌, ◌≤◌, ◌<◌, ◌+◌, ◌-◌, ◌^◌, ◌==◌, ⊤, ℕ, Bool, true, if◌then◌else◌, List, [], None, IsSome, Result, Err, IfOk, IfErr, OnOk, OnErr, fold}
 use Rattle.std.specs.FinMap as map
+use Rattle.gaz_ledger.specs.Lawful.{IsLawfulView}
 use Rattle.gaz_ledger.specs.View.{View, empty_view, with_item}
-use Rattle.gaz_shelf.specs.Board.{Board, Judgement, adds, last_view, reached}
+use Rattle.gaz_shelf.specs.Board.{Board, Judgement, adds, last_view, reached, view_after}
 use Rattle.gaz_shelf.specs.Received.{Received, with_file}
 use Rattle.gaz_records.specs.declared.item.Item.{Item}
 use Rattle.gaz_shelf.specs.declared.writing.Ending.{Ending}
@@ -22,6 +23,11 @@ pub record Content : Type 0 where
 abbrev pub empty_content : Content
 empty_content = record { files = map.empty; board = λ c. []; working = empty_view }
 
+-- each view on the board is lawful, and so is the working one
+pub record IsLawful (k : Content) : Type 0 where
+  pub views : (c volume : ℕ) → IsLawfulView (view_after k.board c volume)
+  pub working : IsLawfulView k.working
+
 -- whether a judgement is in progress
 pub data Progress : Type 0 where
   Idle : Progress
@@ -35,6 +41,8 @@ pub record Seen : Type 1 where
   pub content : Content
   -- its state stands for this content
   pub stands : Type 0
+  -- which is then a lawful one
+  pub lawful : stands → IsLawful content
   -- nobody else wrote on what it keeps
   pub unharmed : Type 0
   pub progress : Progress
@@ -42,6 +50,8 @@ pub record Seen : Type 1 where
   pub failures : ℕ
   -- that count is at its last value
   pub is_full : Bool
+  -- and only then; the count of a keeper around another is beyond it where the inner one failed too
+  pub full : is_full ≡ true → 2 ^ 64 - 1 ≤ failures
 
 -- ---- the content before and after
 

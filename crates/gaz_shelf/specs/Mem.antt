@@ -1,9 +1,11 @@
 -- What a keeper in memory keeps.
-use Rattle.std.specs.Prelude.{ℕ, ◌==◌, ◌^◌, ◌-◌, ⊤, List}
+use Rattle.std.specs.Prelude.{◌≡◌, ◌≤◌, true, ℕ, ◌==◌, ◌^◌, ◌-◌, ⊤, List}
+use Rattle.std.proofs.Common.{eqb-true, le_of_eq, sym}
+use Rattle.gaz_ledger.specs.Lawful.{IsLawfulView}
 use Rattle.gaz_ledger.specs.View.{View, empty_view}
 use Rattle.gaz_ledger.specs.Ledgers.{Account}
-use Rattle.gaz_shelf.specs.Accounts.{account_of, board_of}
-use Rattle.gaz_shelf.specs.Keeper.{Broken, Content, Idle, Open, Progress, Seen}
+use Rattle.gaz_shelf.specs.Accounts.{AreLawful, account_of, board_of}
+use Rattle.gaz_shelf.specs.Keeper.{Broken, Content, Idle, IsLawful, Open, Progress, Seen}
 use Rattle.gaz_shelf.specs.declared.mem_shelf.Judging.{Judging}
 use Rattle.gaz_shelf.specs.declared.mem_shelf.Judging.TheVariants as judging
 use Rattle.gaz_shelf.specs.declared.mem_shelf.MemShelf.{MemShelf}
@@ -20,15 +22,36 @@ working_of (judging.Open c) es = (account_of es c).working
 working_of judging.Broken es = empty_view
 
 abbrev pub content_in : MemShelf → Content
-content_in s = record { files = s.files; board = board_of s.books.entries; working = working_of s.judging s.books.entries }
+content_in s = record {
+  files = s.files;
+  board = board_of s.books.by_code.entries;
+  working = working_of s.judging s.books.by_code.entries;
+}
+
+-- it is lawful, since each book is
+lawful_working : (j : Judging) (es : List (ℕ × Account)) → AreLawful es → IsLawfulView (working_of j es)
+lawful_working judging.Idle es all = (all 0).judged 0
+lawful_working (judging.Open c) es all = (all c).working
+lawful_working judging.Broken es all = (all 0).judged 0
+
+pub lawful_in : (s : MemShelf) → IsLawful (content_in s)
+lawful_in s = record {
+  views = λ c volume. (s.books.lawful c).judged volume;
+  working = lawful_working s.judging s.books.by_code.entries s.books.lawful;
+}
+
+pub full_in : (failures : ℕ) → (failures == 2 ^ 64 - 1) ≡ true → 2 ^ 64 - 1 ≤ failures
+full_in failures full = le_of_eq (sym (eqb-true failures (2 ^ 64 - 1) full))
 
 -- it always stands for its content, and nobody else can write on it
 abbrev pub seen_in : MemShelf → Seen
 seen_in s = record {
   content = content_in s;
   stands = ⊤;
+  lawful = λ _. lawful_in s;
   unharmed = ⊤;
   progress = progress_of s.judging;
   failures = s.failures;
   is_full = s.failures == 2 ^ 64 - 1;
+  full = full_in s.failures;
 }

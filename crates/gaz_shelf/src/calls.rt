@@ -1,6 +1,8 @@
 //! How often each call of a keeper was made, and which call is to fail.
-ghost use Rattle.std.specs.Prelude.{◌≡◌, ◌-◌, ◌==◌, if◌then◌else◌, Some, None};
-ghost use Rattle.gaz_shelf.specs.Calls.{no_calls};
+ghost use Rattle.std.specs.Prelude.{◌≡◌, ◌≤◌, ◌<◌, ◌-◌, ◌==◌, if◌then◌else◌, Some};
+ghost use Rattle.gaz_shelf.specs.Calls.{counted, failure_of, no_calls, plan_from};
+
+use crate::fault::ShelfFault;
 
 /// A call of a keeper.
 #[derive(Clone, Copy, Debug, PartialEq, Eq)]
@@ -78,33 +80,31 @@ impl Calls {
         }
     }
 
-    fn count_mut(&mut self, call: Call) -> &mut u64 {
+    // Counts a call of this kind.
+    fn add(&mut self, call: Call)
+        ensures { self.new ≡ counted call self.old }
+    {
         match call {
-            Call::Reached => &mut self.reached,
-            Call::Verdict => &mut self.verdict,
-            Call::Current => &mut self.current,
-            Call::At => &mut self.at,
-            Call::Ever => &mut self.ever,
-            Call::ApprovedOf => &mut self.approved_of,
-            Call::PropertyOf => &mut self.property_of,
-            Call::ApprovedOn => &mut self.approved_on,
-            Call::Children => &mut self.children,
-            Call::Page => &mut self.page,
-            Call::Begin => &mut self.begin,
-            Call::Put => &mut self.put,
-            Call::Take => &mut self.take,
-            Call::Keep => &mut self.keep,
-            Call::Abandon => &mut self.abandon,
-            Call::Skip => &mut self.skip,
-            Call::Received => &mut self.received,
-            Call::Receive => &mut self.receive,
-            Call::Held => &mut self.held,
+            Call::Reached => self.reached = self.reached.saturating_add(1),
+            Call::Verdict => self.verdict = self.verdict.saturating_add(1),
+            Call::Current => self.current = self.current.saturating_add(1),
+            Call::At => self.at = self.at.saturating_add(1),
+            Call::Ever => self.ever = self.ever.saturating_add(1),
+            Call::ApprovedOf => self.approved_of = self.approved_of.saturating_add(1),
+            Call::PropertyOf => self.property_of = self.property_of.saturating_add(1),
+            Call::ApprovedOn => self.approved_on = self.approved_on.saturating_add(1),
+            Call::Children => self.children = self.children.saturating_add(1),
+            Call::Page => self.page = self.page.saturating_add(1),
+            Call::Begin => self.begin = self.begin.saturating_add(1),
+            Call::Put => self.put = self.put.saturating_add(1),
+            Call::Take => self.take = self.take.saturating_add(1),
+            Call::Keep => self.keep = self.keep.saturating_add(1),
+            Call::Abandon => self.abandon = self.abandon.saturating_add(1),
+            Call::Skip => self.skip = self.skip.saturating_add(1),
+            Call::Received => self.received = self.received.saturating_add(1),
+            Call::Receive => self.receive = self.receive.saturating_add(1),
+            Call::Held => self.held = self.held.saturating_add(1),
         }
-    }
-
-    fn add(&mut self, call: Call) {
-        let count = self.count_mut(call);
-        *count = count.saturating_add(1);
     }
 }
 
@@ -115,17 +115,20 @@ pub(crate) struct Plan {
     /// How many calls there are up to the one that is to fail, and that one; 0 where none is.
     left: u64,
     failed: Option<Call>,
+    /// How often a call failed here; the count stays at its last value.
+    failures: u64,
 }
 
 impl Plan {
     /// The call of this number is to fail, from 1; none where it is 0.
     pub(crate) fn new(fails_at: u64) -> Plan
-        ensures { result ≡ record { calls = no_calls; left = fails_at; failed = None } }
+        ensures { result ≡ plan_from fails_at }
     {
         Plan {
             calls: Calls::none(),
             left: fails_at,
             failed: None,
+            failures: 0,
         }
     }
 
@@ -144,8 +147,10 @@ impl Plan {
     /// Counts a call, and tells whether it is the one to fail.
     pub(crate) fn is_due(&mut self, call: Call) -> bool
         ensures due { result ≡ (self.old.left == 1) }
+        ensures calls { self.new.calls ≡ counted call self.old.calls }
         ensures left { self.new.left ≡ self.old.left - 1 }
         ensures failed { self.new.failed ≡ (if self.old.left == 1 then Some call else self.old.failed) }
+        ensures failures { self.new.failures ≡ self.old.failures }
     {
         self.calls.add(call);
         let is_due = self.left == 1;
@@ -154,5 +159,21 @@ impl Plan {
             self.failed = Some(call);
         }
         is_due
+    }
+
+    /// Counts a failure, where the count isn't at its last value.
+    pub(crate) fn fail(&mut self) -> ShelfFault
+        ensures fault { result ≡ failure_of self.old }
+        ensures kept { self.old.failures ≤ self.new.failures }
+        ensures store { result ≡ ShelfFault.Store → self.old.failures < self.new.failures }
+        ensures calls { self.new.calls ≡ self.old.calls }
+        ensures left { self.new.left ≡ self.old.left }
+        ensures failed { self.new.failed ≡ self.old.failed }
+    {
+        if self.failures == u64::MAX {
+            return ShelfFault::Memory;
+        }
+        self.failures += 1;
+        ShelfFault::Store
     }
 }

@@ -8,6 +8,7 @@ mod faulty;
 mod files;
 pub mod laws;
 mod mem_shelf;
+mod passing;
 mod reading;
 mod shelf;
 mod writing;

@@ -5,12 +5,11 @@ ghost use Rattle.gaz_ledger.specs.View.{empty_view, was_used, with_item, without
 ghost use Rattle.gaz_ledger.specs.Words.{approved_of, approved_on, has_children, page, property_of};
 ghost use Rattle.gaz_shelf.specs.Board.{adds, last_view, reached, verdict_on, view_after};
 ghost use Rattle.gaz_ledger.specs.Ledgers.{view_in};
-ghost use Rattle.gaz_shelf.specs.Accounts.{board_of};
 ghost use Rattle.gaz_shelf.specs.Received.{count_above};
 ghost use Rattle.gaz_shelf.specs.Keeper.{Broken, Content, Enters, Goes, Idle, IsAtHand, IsNew, IsNotOpen, Keeps, Open, Reads, Refuses, Seen, Sets, begun, closed, empty_content, kept, skipped, view_of, with_received};
 ghost use Rattle.gaz_shelf.specs.Mem.{content_in, progress_of, seen_in, working_of};
 
-use crate::accounts::{book_of, close_in, open_in, put_in, take_in, undo_in};
+use crate::accounts::Books;
 use crate::fault::ShelfFault;
 use crate::files::Files;
 use crate::shelf::{Inbox, Shelf};
@@ -18,7 +17,6 @@ use gaz_ids::{Code, Lang, Uprn, Usrn, Volume};
 use gaz_ledger::{Book, Property, Seed, Verdict, share_found};
 use gaz_records::{Key, Kind, SharedItem};
 use std::alloc::{AllocError, Global};
-use std::collections::BTreeMap;
 
 /// Whether a judgement is in progress, and whose.
 #[derive(Clone, Copy, Debug, PartialEq, Eq)]
@@ -36,7 +34,7 @@ pub struct MemShelf {
     alloc: Global,
     seed: Seed,
     files: Files,
-    books: BTreeMap<Code, Book>,
+    books: Books,
     judging: Judging,
     failures: u64,
 }
@@ -52,7 +50,7 @@ impl MemShelf {
             alloc,
             seed,
             files: Files::new(alloc),
-            books: BTreeMap::new(alloc),
+            books: Books::new(alloc),
             judging: Judging::Idle,
             failures: 0,
         }
@@ -89,7 +87,7 @@ impl MemShelf {
         ensures view { IfSome result (λ s. view_in s.0.now s.1 ≡ view_of (seen_in self.now) code) }
         ensures reached { IfSome result (λ s. length s.0.now.judged ≤ s.1) }
     {
-        let Some(book) = book_of(&self.books, code) else {
+        let Some(book) = self.books.get(code) else {
             return None;
         };
         let reached = book.ledger().reached();
@@ -100,18 +98,18 @@ impl MemShelf {
     }
 
     fn count_reached(&self, code: Code) -> u64
-        ensures { result ≡ reached (board_of self.now.books.entries) code }
+        ensures { result ≡ reached (content_in self.now).board code }
     {
-        match book_of(&self.books, code) {
+        match self.books.get(code) {
             Some(book) => book.ledger().reached(),
             None => 0,
         }
     }
 
     fn find_verdict(&self, code: Code, volume: Volume) -> Option<Verdict>
-        ensures { result ≡ verdict_on (board_of self.now.books.entries) code volume }
+        ensures { result ≡ verdict_on ((content_in self.now).board) code volume }
     {
-        match book_of(&self.books, code) {
+        match self.books.get(code) {
             Some(book) => book.ledger().verdict(volume.number()),
             None => None,
         }
@@ -127,9 +125,9 @@ impl MemShelf {
     }
 
     fn find_at(&self, code: Code, volume: u64, key: &Key) -> Result<Option<SharedItem>, AllocError>
-        ensures { IfOk result (λ i. volume ≤ reached (board_of self.now.books.entries) code → i ≡ map.get (view_after (board_of self.now.books.entries) code volume).items key.now) }
+        ensures { IfOk result (λ i. volume ≤ reached (content_in self.now).board code → i ≡ map.get (view_after (content_in self.now).board code volume).items key.now) }
     {
-        match book_of(&self.books, code) {
+        match self.books.get(code) {
             Some(book) => Ok(share_found(book.ledger().item(volume, key))?),
             None => Ok(None),
         }
@@ -188,9 +186,9 @@ impl MemShelf {
         after: Option<Key>,
         most: usize,
     ) -> Result<Vec<SharedItem>, AllocError>
-        ensures { IfOk result (λ items. volume ≤ reached (board_of self.now.books.entries) code → items.items ≡ page (view_after (board_of self.now.books.entries) code volume) kind after most) }
+        ensures { IfOk result (λ items. volume ≤ reached (content_in self.now).board code → items.items ≡ page (view_after (content_in self.now).board code volume) kind after most) }
     {
-        match book_of(&self.books, code) {
+        match self.books.get(code) {
             Some(book) => Ok(book.ledger().page(self.alloc, volume, kind, after, most)?),
             None => Ok(Vec::new(self.alloc)),
         }
@@ -224,7 +222,7 @@ impl MemShelf {
         requires { progress_of self.old.judging ≡ Open code }
         ensures { Sets (seen_in self.old) (seen_in self.new) result (with_item (content_in self.old).working item) }
     {
-        match put_in(&mut self.books, code, item) {
+        match self.books.put(code, item) {
             Ok(()) => Ok(()),
             Err(_) => {
                 self.judging = Judging::Broken;
@@ -238,7 +236,7 @@ impl MemShelf {
         requires { progress_of self.old.judging ≡ Open code }
         ensures { Sets (seen_in self.old) (seen_in self.new) result (without_key (content_in self.old).working key.now) }
     {
-        match take_in(&mut self.books, code, key) {
+        match self.books.take(code, key) {
             Ok(()) => Ok(()),
             Err(_) => {
                 self.judging = Judging::Broken;
@@ -252,7 +250,7 @@ impl MemShelf {
         requires { progress_of self.old.judging ≡ Open code }
         ensures { Goes (seen_in self.old) (seen_in self.new) result ⊤ (kept (progress_of self.old.judging) (content_in self.old)) Idle }
     {
-        match close_in(&mut self.books, code, Verdict::Applied) {
+        match self.books.close(code, Verdict::Applied) {
             Ok(()) => {
                 self.judging = Judging::Idle;
                 Ok(())
@@ -342,7 +340,7 @@ impl Shelf for MemShelf {
     }
 
     fn begin(&mut self, code: Code) -> Result<(), ShelfFault> {
-        match open_in(self.alloc, self.seed, &mut self.books, code) {
+        match self.books.begin(self.alloc, self.seed, code) {
             Ok(()) => {
                 self.judging = Judging::Open(code);
                 Ok(())
@@ -377,7 +375,7 @@ impl Shelf for MemShelf {
 
     fn abandon(&mut self) -> Result<(), ShelfFault> {
         if let Some(code) = self.open_code() {
-            undo_in(&mut self.books, code);
+            self.books.undo(code);
         }
         self.judging = Judging::Idle;
         Ok(())
@@ -385,8 +383,8 @@ impl Shelf for MemShelf {
 
     fn skip(&mut self, code: Code, place: u64, rule: u8) -> Result<(), ShelfFault> {
         self.clear();
-        open_in(self.alloc, self.seed, &mut self.books, code)?;
-        close_in(&mut self.books, code, Verdict::Rejected { place, rule })?;
+        self.books.begin(self.alloc, self.seed, code)?;
+        self.books.close(code, Verdict::Rejected { place, rule })?;
         Ok(())
     }
 }

@@ -2,19 +2,18 @@
 ghost use Rattle.std.specs.Prelude.{◌≡◌, ◌+◌, ◌<◌, ◌≤◌, ◌++◌, ◌^◌, if◌then◌else◌, IfOk, None, is_some, vec_len};
 ghost use Rattle.gaz_shelf.specs.Board.{reached, view_after};
 ghost use Rattle.gaz_shelf.specs.Keeper.{Reads, Seen};
-ghost use Rattle.gaz_ledger.specs.Reading.{IsKeyed, left_after, next_after};
+ghost use Rattle.gaz_ledger.specs.Reading.{left_after, next_after};
 ghost use Rattle.gaz_ledger.specs.Words.{rest_of};
 
 use crate::fault::ShelfFault;
 use crate::shelf::Shelf;
 use gaz_ids::Code;
-use gaz_records::{Key, Kind, SharedItem};
+use gaz_records::{Key, Kind, SharedItem, key_of};
 use std::alloc::Global;
 
 /// All items of a kind after a volume, which is to be reached, in key order, read `most` at a time, which is at least 1.
 ///
-/// Each item is to stand under its own key, since the next page is asked for after the key of the last item. `Memory` too where a keeper
-/// answers more items than memory holds.
+/// `Memory` too where a keeper answers more items than memory holds.
 pub fn read_kind<S: Shelf>(
     alloc: Global,
     shelf: &mut S,
@@ -24,7 +23,7 @@ pub fn read_kind<S: Shelf>(
     most: usize,
 ) -> Result<Vec<SharedItem>, ShelfFault>
     requires { 1 ≤ most }
-    ensures { Reads (S.seen shelf.old) (S.seen shelf.new) result (λ items. volume ≤ reached (S.seen shelf.old).content.board code → IsKeyed (view_after (S.seen shelf.old).content.board code volume) → items.items ≡ rest_of (view_after (S.seen shelf.old).content.board code volume) kind None) }
+    ensures { Reads (S.seen shelf.old) (S.seen shelf.new) result (λ items. volume ≤ reached (S.seen shelf.old).content.board code → items.items ≡ rest_of (view_after (S.seen shelf.old).content.board code volume) kind None) }
 {
     let mut items = Vec::new(alloc);
     let mut next = add_page(shelf, code, volume, kind, None, most, &mut items)?;
@@ -45,7 +44,7 @@ fn add_page<S: Shelf>(
     items: &mut Vec<SharedItem>,
 ) -> Result<Option<Key>, ShelfFault>
     requires { 1 ≤ most }
-    ensures reads { Reads (S.seen shelf.old) (S.seen shelf.new) result (λ next. volume ≤ reached (S.seen shelf.old).content.board code → IsKeyed (view_after (S.seen shelf.old).content.board code volume) → items.new.items ++ left_after (view_after (S.seen shelf.old).content.board code volume) kind next ≡ items.old.items ++ rest_of (view_after (S.seen shelf.old).content.board code volume) kind after) }
+    ensures reads { Reads (S.seen shelf.old) (S.seen shelf.new) result (λ next. volume ≤ reached (S.seen shelf.old).content.board code → items.new.items ++ left_after (view_after (S.seen shelf.old).content.board code volume) kind next ≡ items.old.items ++ rest_of (view_after (S.seen shelf.old).content.board code volume) kind after) }
     ensures goes_on { IfOk result (λ next. vec_len items.old + (if is_some next then 1 else 0) ≤ vec_len items.new) }
     ensures fits { vec_len items.new < 2 ^ 64 }
 {
@@ -64,7 +63,7 @@ fn next_after(page: &[SharedItem], most: usize) -> Option<Key>
         return None;
     }
     match page.last() {
-        Some(item) => Some(Key::of(item)),
+        Some(item) => Some(key_of(item)),
         None => None,
     }
 }

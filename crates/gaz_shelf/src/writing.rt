@@ -1,7 +1,7 @@
 //! Writing over any keeper.
-ghost use Rattle.std.specs.Prelude.{◌≡◌, ◌≢◌, fold};
+ghost use Rattle.std.specs.Prelude.{◌≡◌, ◌≢◌, [], fold};
 ghost use Rattle.gaz_ledger.specs.View.{with_item};
-ghost use Rattle.gaz_shelf.specs.Keeper.{Goes, Idle, IsAtHand, IsNotOpen, Seen, Sets, written};
+ghost use Rattle.gaz_shelf.specs.Keeper.{Goes, Idle, IsAtHand, IsNotOpen, Refuses, Seen, Sets, written};
 
 use crate::fault::ShelfFault;
 use crate::shelf::Shelf;
@@ -20,7 +20,8 @@ pub enum Ending {
 /// Sets these items in the working view, one after another, up to a fault.
 pub fn put_all<S: Shelf>(shelf: &mut S, items: Vec<SharedItem>) -> Result<(), ShelfFault>
     requires { (S.seen shelf.old).progress ≢ Idle }
-    ensures { Sets (S.seen shelf.old) (S.seen shelf.new) result (fold with_item (S.seen shelf.old).content.working items.items) }
+    ensures sets { Sets (S.seen shelf.old) (S.seen shelf.new) result (fold with_item (S.seen shelf.old).content.working items.items) }
+    ensures refuses { items.items ≢ [] → Refuses (S.seen shelf.old) result }
 {
     for item in items {
         shelf.put(item)?;

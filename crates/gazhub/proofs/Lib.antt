@@ -1,1 +1,2 @@
 pub mod Beginning
+mod Endings

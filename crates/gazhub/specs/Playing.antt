@@ -1,9 +1,11 @@
 -- A whole conversation of a hub that begins with nothing.
 use Rattle.std.specs.Prelude.{◌≡◌, ℕ, List, Option, Result, Ok}
+use Rattle.std.specs.FinMap as map
 use Rattle.gaz_register.specs.Reading.{register_of}
 use Rattle.gaz_register.specs.Registers.{RegisterValue}
 use Rattle.gaz_shelf.specs.Mem.{content_in, seen_in}
 use Rattle.gaz_shelf.specs.declared.mem_shelf.MemShelf.{MemShelf}
+use Rattle.gaz_hub.specs.Answers.{AllAnswered}
 use Rattle.gaz_hub.specs.Hubs.{door_of, state_of}
 use Rattle.gaz_hub.specs.Runs.{Abides}
 use Rattle.gaz_hub.specs.Step.{new_hub}
@@ -23,3 +25,5 @@ pub record Plays (text : List ℕ) (most : ℕ) (had left held holds : Option (L
   pub conversation : Conversation (door_of register) most had left held holds (seen_in first) (seen_in last) result
   -- what was received is what came first, and the board is partial over it
   pub abides : Abides (door_of register) (commands_of conversation.exchanges) (responses_of conversation.exchanges) (state_of (content_in last))
+  -- and each answer is read off the standing board of the files that were received by then
+  pub answers : AllAnswered (door_of register) map.empty (commands_of conversation.exchanges) (responses_of conversation.exchanges) (content_in last).files

@@ -10,11 +10,11 @@ returns-then-starts_with c = sym (names_known c.args.bytes.now (sym c.starts_wit
 pub returns-then-not-branch : goal.returns-then-not-branch
 unfolding profile_of
 returns-then-not-branch c =
-    let k = rw c.if-not-branch.true at (c.in_ok-next_row.ensures (rows_of c.args.bytes.now) c.open_rows-rdr.ensures) in
-    sym (ap profile_first k)
+    let k = rw c.if-not-branch.true at (c.in_ok-next_row.ensures.read (rows_of c.args.bytes.now) c.open_rows-rdr.ensures) in
+    sym (ap profile_first k.0)
 
 pub returns : goal.returns
 unfolding profile_of
 returns c =
-    let k = rw c.if-not-branch.false at (c.in_ok-next_row.ensures (rows_of c.args.bytes.now) c.open_rows-rdr.ensures) in
+    let k = rw c.if-not-branch.false at (c.in_ok-next_row.ensures.read (rows_of c.args.bytes.now) c.open_rows-rdr.ensures) in
     c.profile_in.ensures ∙ sym (ap profile_first k.1)

@@ -15,13 +15,13 @@ returns-in_default-clause-bad c = rw c.at-none.ensures (no_text c.args.bytes.now
 pub returns-then-not-branch-clause-bad : goal.returns-then-not-branch-clause-bad
 returns-then-not-branch-clause-bad c =
     let bytes = c.args.bytes.now in
-    let n = rw c.if-not-branch.true at (c.in_ok-next_row.ensures (rows_of bytes) c.open_rows-rdr.ensures) in
-    rw c.at-none.ensures (read_text bytes c.args.code c.args.volume c.in-Ok.ensures.cases.1 ∙ no_record c.args.code c.args.volume (rows_of bytes) _ n)
+    let n = rw c.if-not-branch.true at (c.in_ok-next_row.ensures.read (rows_of bytes) c.open_rows-rdr.ensures) in
+    rw c.at-none.ensures (read_text bytes c.args.code c.args.volume c.in-Ok.ensures.cases.1 ∙ no_record c.args.code c.args.volume (rows_of bytes) _ n.0)
 
 pub returns-in_err-date-clause-bad : goal.returns-in_err-date-clause-bad
 returns-in_err-date-clause-bad c =
     let bytes = c.args.bytes.now in
-    let n = rw c.if-not-branch.false at (c.in_ok-next_row.ensures (rows_of bytes) c.open_rows-rdr.ensures) in
+    let n = rw c.if-not-branch.false at (c.in_ok-next_row.ensures.read (rows_of bytes) c.open_rows-rdr.ensures) in
     let p = err_from_is_err_and c.from_residual-in_err-date.result c.from_residual-in_err-date.ensures.1 in
     rw (p.1, p.2) (told bytes c.args.code c.args.volume 1 (header_rules c.args.code c.args.volume (fields_of c.next_row.new.row)) _ c.in_err-date.ensures.bad (λ rule broken.
     read_text bytes c.args.code c.args.volume c.in-Ok.ensures.cases.1 ∙ bad_header c.args.code c.args.volume (rows_of bytes) _ n.0 _ rule n.1 broken))
@@ -29,7 +29,7 @@ returns-in_err-date-clause-bad c =
 pub loop-place-init : goal.loop-place-init
 loop-place-init c =
     let bytes = c.args.bytes.now in
-    let n = rw c.if-not-branch.false at (c.in_ok-next_row.ensures (rows_of bytes) c.open_rows-rdr.ensures) in
+    let n = rw c.if-not-branch.false at (c.in_ok-next_row.ensures.read (rows_of bytes) c.open_rows-rdr.ensures) in
     let h = c.in_ok-date.ensures in
     let d = c.new-draft.ensures in (
       fields_of c.next_row.new.row ∷ [],
@@ -42,9 +42,9 @@ pub returns-then-not-branch-2-clause-good : goal.returns-then-not-branch-2-claus
 returns-then-not-branch-2-clause-good c =
     let bytes = c.args.bytes.now in
     let (before, left, kept, is_at) = c.loop-place.invariant in
-    let n = rw c.if-not-branch-2.true at (c.in_ok-next_row-2.ensures left is_at) in
+    let n = rw c.if-not-branch-2.true at (c.in_ok-next_row-2.ensures.read left is_at) in
     ok_both c.finish.result _ _ _ c.finish.ensures.file c.finish.ensures.good (λ f is none.
-    read_text bytes c.args.code c.args.volume c.in-Ok.ensures.cases.1 ∙ good_end c.args.code c.args.volume (rows_of bytes) before c.loop-place.place c.loop-place.draft (rw n at kept) none
+    read_text bytes c.args.code c.args.volume c.in-Ok.ensures.cases.1 ∙ good_end c.args.code c.args.volume (rows_of bytes) before c.loop-place.place c.loop-place.draft (rw n.0 at kept) none
     ∙ ap Good (sym is))
 
 pub returns-then-not-branch-2-clause-bases : goal.returns-then-not-branch-2-clause-bases
@@ -59,16 +59,16 @@ pub returns-then-not-branch-2-clause-bad : goal.returns-then-not-branch-2-clause
 returns-then-not-branch-2-clause-bad c =
     let bytes = c.args.bytes.now in
     let (before, left, kept, is_at) = c.loop-place.invariant in
-    let n = rw c.if-not-branch-2.true at (c.in_ok-next_row-2.ensures left is_at) in
+    let n = rw c.if-not-branch-2.true at (c.in_ok-next_row-2.ensures.read left is_at) in
     IfErr-weaker c.finish.result _ _ (λ f h. told bytes c.args.code c.args.volume c.loop-place.place (later_rules c.loop-place.draft.own (before_in c.loop-place.draft) None) f h (λ rule broken.
-    read_text bytes c.args.code c.args.volume c.in-Ok.ensures.cases.1 ∙ bad_end c.args.code c.args.volume (rows_of bytes) before c.loop-place.place c.loop-place.draft _ rule (rw n at kept) broken))
+    read_text bytes c.args.code c.args.volume c.in-Ok.ensures.cases.1 ∙ bad_end c.args.code c.args.volume (rows_of bytes) before c.loop-place.place c.loop-place.draft _ rule (rw n.0 at kept) broken))
     c.finish.ensures.bad
 
 pub returns-in_err-add-clause-bad : goal.returns-in_err-add-clause-bad
 returns-in_err-add-clause-bad c =
     let bytes = c.args.bytes.now in
     let (before, left, kept, is_at) = c.loop-place.invariant in
-    let n = rw c.if-not-branch-2.false at (c.in_ok-next_row-2.ensures left is_at) in
+    let n = rw c.if-not-branch-2.false at (c.in_ok-next_row-2.ensures.read left is_at) in
     let p = err_from_is_err_and c.from_residual-in_err-add.result c.from_residual-in_err-add.ensures.1 in
     rw (p.1, p.2) (told bytes c.args.code c.args.volume c.loop-place.place
     (later_rules c.loop-place.draft.own (before_in c.loop-place.draft) (Some (fields_of c.next_row-in-loop-place.new.row))) _ c.in_err-add.ensures.bad (λ rule broken.
@@ -78,7 +78,7 @@ pub loop-place-preserved : goal.loop-place-preserved
 loop-place-preserved c =
     let bytes = c.args.bytes.now in
     let (before, left, kept, is_at) = c.loop-place.invariant in
-    let n = rw c.if-not-branch-2.false at (c.in_ok-next_row-2.ensures left is_at) in
+    let n = rw c.if-not-branch-2.false at (c.in_ok-next_row-2.ensures.read left is_at) in
     let row = fields_of c.next_row-in-loop-place.new.row in (
       before ++ (row ∷ []),
       n.0,

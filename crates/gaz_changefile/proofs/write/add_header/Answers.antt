@@ -7,5 +7,7 @@ returns c =
       c.format.ensures.text,
       c.as_bytes-2.ensures.value,
       c.format-2.ensures.text,
+      c.as_bytes-3.ensures.value,
+      c.format-3.ensures.text,
       c.digits.ensures,
     ) at c.add_row.ensures

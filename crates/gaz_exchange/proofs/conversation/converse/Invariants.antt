@@ -5,5 +5,5 @@ use Rattle.gaz_exchange.proofs.conversation.converse.Given as goal
 
 abbrev pub invariant-loop-n : goal.invariant-loop-n
 invariant-loop-n g l =
-    IsSoFar (door_of l.fn.hub.register) l.most l.n (g.R.Read.remaining l.fn.r) (g.R.Read.remaining l.r) (g.W.Write.contents l.fn.w) (g.W.Write.contents l.w)
+    IsSoFar (door_of l.fn.hub.register) l.most l.n l.intake.routes (g.R.Read.remaining l.fn.r) (g.R.Read.remaining l.r) (g.W.Write.contents l.fn.w) (g.W.Write.contents l.w)
     (g.K.Shelf.seen l.fn.hub.keeper) (g.K.Shelf.seen l.hub.keeper) l.intake.inlet × (l.hub.register ≡ l.fn.hub.register)

@@ -16,7 +16,7 @@ returns-in-Head-clause-read g c =
     let (within, h, stands, short, few) = next in
     let pending = c.next_head.new.inlet in
     let begins : BeginsWith pending h (drop c.in-Head.spans.len pending) = record { reads = stands.reads; short = short; few = few } in
-    let needed = c.needed_of-needed.ensures h (rw c.pending-bytes.ensures.pending stands) in
+    let needed = c.needed_of-needed.ensures.needed h (rw c.pending-bytes.ensures.pending stands) in
     let all : pending ++ more ≡ c.args.intake.now.inlet ++ (bs ++ more) = ap (λ l. l ++ more) grown ∙ append_assoc c.args.intake.now.inlet bs more in
-    let came = head_then (pending ++ more) h _ (begins_more pending h _ more begins) _ _ c.needed_of-needed.result c.with_body.result needed (rw c.take.ensures at behind) in
+    let came = head_then (pending ++ more) h _ (begins_more pending h _ more begins) _ _ _ c.needed_of-needed.result c.with_body.result needed (rw c.take.ensures at behind) in
     (bs ++ more, Consumes-trans _ _ _ _ _ eaten drunk, rw all at came)

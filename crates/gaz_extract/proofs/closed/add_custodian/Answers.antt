@@ -3,37 +3,40 @@ use Rattle.std.specs.List.{filter_map}
 use Rattle.gaz_records.specs.declared.item.Kind.TheVariants as kind
 use Rattle.gaz_shelf.specs.Board.{last_view, reached, view_after}
 use Rattle.gaz_shelf.specs.Keeper.{Content}
-use Rattle.gaz_ledger.specs.Reading.{IsKeyed, left_after}
+use Rattle.gaz_ledger.specs.Reading.{left_after}
 use Rattle.gaz_ledger.specs.Words.{rest_of}
 use Rattle.gaz_shelf.proofs.Keeping.{keeps_then}
 use Rattle.gaz_extract.specs.Closing.{closed_by}
 use Rattle.gaz_extract.proofs.Turns.{left_is_rest}
 use Rattle.gaz_extract.proofs.closed.add_custodian.Goals as goal
 
-pub loop-turn-preserved : goal.loop-turn-preserved
-loop-turn-preserved g c =
-    let so_far = c.loop-turn.invariant in
+pub pages-preserved : goal.pages-preserved
+pages-preserved g c =
+    let so_far = c.pages.invariant in
     let more = c.in_ok-next-2.ensures.tells in
     let code = c.args.code in
     let register = c.args.register.now in
     let was = g.S.Shelf.seen c.args.shelf.now in
-    let old = c.loop-turn.closed.items in
-    let new = c.add_page-in-loop-turn.new.closed.items in
-    let next = c.loop-turn.next in
+    let old = c.pages.closed.items in
+    let new = c.add_page-in-pages.new.closed.items in
+    let next = c.pages.next in
     let after = c.in_ok-next-2.next in
     record {
       keeps = keeps_then _ _ _ so_far.keeps more.keeps;
       not_open = c.in_ok-next-2.ensures.not_open;
       counted = (let one = so_far.counted in let two = more.counts.kept in omega arith);
       volume = λ stood fine. so_far.volume stood (more.keeps.harm fine);
-      left = λ stood fine keyed.
+      left = λ stood fine.
           let mid = more.keeps.harm fine in
           let then = subst
-          (λ (k : Content). c.in_ok-volume.volume ≤ reached k.board code → IsKeyed (view_after k.board code c.in_ok-volume.volume) → new ++ filter_map (closed_by k.board register code) (left_after (view_after k.board code c.in_ok-volume.volume) kind.Lpi after) ≡ old ++ filter_map (closed_by k.board register code) (rest_of (view_after k.board code c.in_ok-volume.volume) kind.Lpi next))
+          (λ (k : Content). c.in_ok-volume.volume ≤ reached k.board code → new ++ filter_map (closed_by k.board register code) (left_after (view_after k.board code c.in_ok-volume.volume) kind.Lpi after) ≡ old ++ filter_map (closed_by k.board register code) (rest_of (view_after k.board code c.in_ok-volume.volume) kind.Lpi next))
           (so_far.keeps.content stood mid) (more.right (so_far.keeps.stands stood mid) fine) in
           let here = subst
-          (λ (n : ℕ). n ≤ reached was.content.board code → IsKeyed (view_after was.content.board code n) → new ++ filter_map (closed_by was.content.board register code) (left_after (view_after was.content.board code n) kind.Lpi after) ≡ old ++ filter_map (closed_by was.content.board register code) (rest_of (view_after was.content.board code n) kind.Lpi next))
+          (λ (n : ℕ). n ≤ reached was.content.board code → new ++ filter_map (closed_by was.content.board register code) (left_after (view_after was.content.board code n) kind.Lpi after) ≡ old ++ filter_map (closed_by was.content.board register code) (rest_of (view_after was.content.board code n) kind.Lpi next))
           (so_far.volume stood mid) then in
           let last = last_view was.content.board code in
-          here (omega arith) keyed ∙ ap (λ l. old ++ filter_map (closed_by was.content.board register code) l) (sym (left_is_rest last kind.Lpi next (c.is_none.ensures ∙ ap not c.if-is_none.false))) ∙ so_far.left stood mid keyed;
+          here (omega arith) ∙ ap (λ l. old ++ filter_map (closed_by was.content.board register code) l) (sym (left_is_rest last kind.Lpi next (c.is_none.ensures ∙ ap not c.if-is_none.false))) ∙ so_far.left stood mid;
     }
+
+pub pages-smaller : goal.pages-smaller
+pages-smaller g c = c.in_ok-next-2.ensures.fewer (c.is_none.ensures ∙ ap not c.if-is_none.false)

@@ -4,12 +4,13 @@ use Rattle.std.specs.List.{filter_map}
 use Rattle.gaz_records.specs.declared.item.Kind.TheVariants as kind
 use Rattle.gaz_shelf.specs.Board.{last_view, reached}
 use Rattle.gaz_shelf.specs.Keeper.{IsNotOpen, Keeps}
-use Rattle.gaz_ledger.specs.Reading.{IsKeyed, left_after}
+use Rattle.gaz_ledger.specs.Reading.{left_after}
 use Rattle.gaz_extract.specs.Closing.{closed_by, closed_of}
+use Rattle.gaz_extract.specs.Paging.{pages_left}
 use Rattle.gaz_extract.proofs.closed.add_custodian.Given as goal
 
-abbrev pub invariant-loop-turn : goal.invariant-loop-turn
-invariant-loop-turn g l =
+abbrev pub invariant-pages : goal.invariant-pages
+invariant-pages g l =
     let now = g.S.Shelf.seen l.shelf in
     let was = g.S.Shelf.seen l.fn.shelf in
     let B = was.content.board in
@@ -18,5 +19,8 @@ invariant-loop-turn g l =
       not_open : IsNotOpen now.progress;
       counted : was.failures ≤ now.failures;
       volume : was.stands → now.unharmed → l.volume ≡ reached B l.code;
-      left : was.stands → now.unharmed → IsKeyed (last_view B l.code) → l.closed.items ++ filter_map (closed_by B l.register l.code) (left_after (last_view B l.code) kind.Lpi l.next) ≡ l.fn.closed.items ++ closed_of B l.register l.code;
+      left : was.stands → now.unharmed → l.closed.items ++ filter_map (closed_by B l.register l.code) (left_after (last_view B l.code) kind.Lpi l.next) ≡ l.fn.closed.items ++ closed_of B l.register l.code;
     }
+
+abbrev pub decreases-pages : goal.decreases-pages
+decreases-pages g l = pages_left l.next

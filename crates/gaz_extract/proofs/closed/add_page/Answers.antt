@@ -19,11 +19,11 @@ returns-clause-tells g c =
     let told = closed_by (g.S.Shelf.seen c.args.shelf.now).content.board c.args.register.now c.args.code in
     record {
       keeps = keeps_then _ _ _ first.keeps second.keeps;
-      right = λ stood fine within keyed.
+      right = λ stood fine within.
           let mid = second.keeps.harm fine in
           let added = second.right (first.keeps.stands stood mid) fine
           ∙ ap (λ (k : Content). c.args.closed.now.items ++ filter_map (closed_by k.board c.args.register.now c.args.code) c.as_slice.result.now) (first.keeps.content stood mid)
           ∙ ap (λ (is : List Item). c.args.closed.now.items ++ filter_map told is) c.as_slice.ensures.value in
-          told_more told c.args.closed.now.items _ c.in_ok-page.page.items.items (left_after v kind.Lpi c.in_ok-page.page.next) (rest_of v kind.Lpi c.args.after) added (first.right stood mid within keyed);
+          told_more told c.args.closed.now.items _ c.in_ok-page.page.items.items (left_after v kind.Lpi c.in_ok-page.page.next) (rest_of v kind.Lpi c.args.after) added (first.right stood mid within);
       counts = record { kept = (let one = first.counts.kept in let two = second.counts.kept in omega arith); store = tt };
     }

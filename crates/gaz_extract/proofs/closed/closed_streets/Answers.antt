@@ -1,7 +1,6 @@
 use Rattle.std.proofs.Common.{◌≡◌, ◌≤◌, ◌<◌, ◌∙◌, ap, subst, ◌++◌, List, length, get_or, arith}
 use Rattle.gaz_shelf.specs.Board.{last_view}
 use Rattle.gaz_shelf.specs.Keeper.{Content}
-use Rattle.gaz_ledger.specs.Reading.{IsKeyed}
 use Rattle.gaz_shelf.proofs.Keeping.{keeps_then}
 use Rattle.gaz_register.specs.Registers.{CustodianValue}
 use Rattle.gaz_extract.specs.Closing.{closed_of}
@@ -23,14 +22,14 @@ loop-custodian-preserved g c =
       keeps = keeps_then _ _ _ so_far.keeps more.keeps;
       not_open = c.in_ok-add_custodian.ensures.not_open;
       counted = (let one = so_far.counted in let two = more.counts.kept in omega arith);
-      left = λ stood fine keyed.
+      left = λ stood fine.
           let mid = more.keeps.harm fine in
-          let told = subst (λ (k : Content). IsKeyed (last_view k.board c.code.result) → new ≡ old ++ closed_of k.board register c.code.result)
-          (so_far.keeps.content stood mid) (more.right (so_far.keeps.stands stood mid) fine) (keyed c.code.result) in
+          let told = subst (λ (k : Content). new ≡ old ++ closed_of k.board register c.code.result)
+          (so_far.keeps.content stood mid) (more.right (so_far.keeps.stands stood mid) fine) in
           let named = told ∙ ap (λ n. old ++ closed_of B register n) c.code.ensures in
           let short = subst (λ (xs : List CustodianValue). i < length xs) all c.loop-custodian-test.true in
           let there = subst (λ (xs : List CustodianValue). custodian ≡ get_or xs i custodian) all c.custodian-item.is in
-          told_next (λ (x : CustodianValue). closed_of B register x.code) old new _ register i custodian short there named (so_far.left stood mid keyed);
+          told_next (λ (x : CustodianValue). closed_of B register x.code) old new _ register i custodian short there named (so_far.left stood mid);
     }
 
 pub returns : goal.returns
@@ -41,6 +40,6 @@ returns g c =
     let past = subst (λ (xs : List CustodianValue). length xs ≤ c.loop-custodian.custodian-index) c.custodians-custodian-items.ensures.value c.loop-custodian-test.false in
     record {
       keeps = so_far.keeps;
-      right = λ stood fine keyed. told_all (λ (x : CustodianValue). closed_of B register x.code) c.loop-custodian.closed.items _ register c.loop-custodian.custodian-index past (so_far.left stood fine keyed);
+      right = λ stood fine. told_all (λ (x : CustodianValue). closed_of B register x.code) c.loop-custodian.closed.items _ register c.loop-custodian.custodian-index past (so_far.left stood fine);
       counts = record { kept = so_far.counted; store = tt };
     }

@@ -3,7 +3,6 @@ use Rattle.std.proofs.Common.{◌≡◌, ◌≤◌, ◌++◌, ℕ, drop}
 use Rattle.std.specs.List.{flat_map}
 use Rattle.gaz_shelf.specs.Board.{last_view}
 use Rattle.gaz_shelf.specs.Keeper.{IsNotOpen, Keeps}
-use Rattle.gaz_ledger.specs.Reading.{IsKeyed}
 use Rattle.gaz_extract.specs.Closing.{closed_of}
 use Rattle.gaz_extract.proofs.closed.closed_streets.Given as goal
 
@@ -16,5 +15,5 @@ invariant-loop-custodian g l =
       keeps : Keeps was now;
       not_open : IsNotOpen now.progress;
       counted : was.failures ≤ now.failures;
-      left : was.stands → now.unharmed → ((c : ℕ) → IsKeyed (last_view B c)) → l.closed.items ++ flat_map (λ c. closed_of B l.fn.register c.code) (drop l.custodian-index l.fn.register) ≡ flat_map (λ c. closed_of B l.fn.register c.code) l.fn.register;
+      left : was.stands → now.unharmed → l.closed.items ++ flat_map (λ c. closed_of B l.fn.register c.code) (drop l.custodian-index l.fn.register) ≡ flat_map (λ c. closed_of B l.fn.register c.code) l.fn.register;
     }

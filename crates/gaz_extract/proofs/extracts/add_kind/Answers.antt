@@ -7,12 +7,15 @@ use Rattle.gaz_extract.proofs.extracts.add_kind.Goals as goal
 
 pub returns-then-is_none-clause-tells : goal.returns-then-is_none-clause-tells
 returns-then-is_none-clause-tells g c =
-    let so_far = c.loop-turn.invariant in
-    let draft = c.loop-turn.written.draft in
+    let so_far = c.pages.invariant in
+    let draft = c.pages.written.draft in
     let v = view_after (g.S.Shelf.seen c.args.shelf.now).content.board c.args.code c.args.volume in
-    let none = none_left v c.args.kind c.loop-turn.written.next (c.is_none.ensures ∙ ap not c.if-is_none.true) in
+    let none = none_left v c.args.kind c.pages.written.next (c.is_none.ensures ∙ ap not c.if-is_none.true) in
     record {
       keeps = so_far.keeps;
-      right = λ stood fine within keyed. sym (with-none draft) ∙ ap (with_items draft) (sym none) ∙ so_far.left stood fine within keyed;
+      right = λ stood fine within. sym (with-none draft) ∙ ap (with_items draft) (sym none) ∙ so_far.left stood fine within;
       counts = record { kept = so_far.counted; store = tt };
     }
+
+pub pages-smaller : goal.pages-smaller
+pages-smaller g c = c.in_ok-written-2.ensures.fewer (c.is_none.ensures ∙ ap not c.if-is_none.false)

@@ -2,13 +2,14 @@
 use Rattle.std.proofs.Common.{◌≡◌, ◌≤◌, None}
 use Rattle.gaz_shelf.specs.Board.{reached, view_after}
 use Rattle.gaz_shelf.specs.Keeper.{IsNotOpen, Keeps}
-use Rattle.gaz_ledger.specs.Reading.{IsKeyed, left_after}
+use Rattle.gaz_ledger.specs.Reading.{left_after}
 use Rattle.gaz_ledger.specs.Words.{rest_of}
 use Rattle.gaz_extract.specs.Drafts.{with_items}
+use Rattle.gaz_extract.specs.Paging.{pages_left}
 use Rattle.gaz_extract.proofs.extracts.add_kind.Given as goal
 
-abbrev pub invariant-loop-turn : goal.invariant-loop-turn
-invariant-loop-turn g l =
+abbrev pub invariant-pages : goal.invariant-pages
+invariant-pages g l =
     let now = g.S.Shelf.seen l.shelf in
     let was = g.S.Shelf.seen l.fn.shelf in
     let v = view_after was.content.board l.code l.volume in
@@ -16,5 +17,8 @@ invariant-loop-turn g l =
       keeps : Keeps was now;
       not_open : IsNotOpen now.progress;
       counted : was.failures ≤ now.failures;
-      left : was.stands → now.unharmed → l.volume ≤ reached was.content.board l.code → IsKeyed v → with_items l.written.draft (left_after v l.kind l.written.next) ≡ with_items l.fn.draft (rest_of v l.kind None);
+      left : was.stands → now.unharmed → l.volume ≤ reached was.content.board l.code → with_items l.written.draft (left_after v l.kind l.written.next) ≡ with_items l.fn.draft (rest_of v l.kind None);
     }
+
+abbrev pub decreases-pages : goal.decreases-pages
+decreases-pages g l = pages_left l.written.next

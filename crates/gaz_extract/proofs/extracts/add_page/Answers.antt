@@ -14,8 +14,8 @@ returns-clause-tells g c =
     let added = c.in_ok-draft.ensures ∙ ap (λ (is : List Item). with_items c.args.draft is) c.as_slice.ensures.value in
     record {
       keeps = read.keeps;
-      right = λ stood fine within keyed.
+      right = λ stood fine within.
           ap (λ (d : DraftValue). with_items d left) added ∙ with-append c.args.draft c.in_ok-page.page.items.items left
-          ∙ ap (with_items c.args.draft) (read.right stood fine within keyed);
+          ∙ ap (with_items c.args.draft) (read.right stood fine within);
       counts = record { kept = read.counts.kept; store = tt };
     }

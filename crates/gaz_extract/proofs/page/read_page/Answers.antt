@@ -1,17 +1,24 @@
-use Rattle.std.proofs.Common.{◌∙◌, ap, refl, [], arith}
+use Rattle.std.proofs.Common.{◌∙◌, ap, refl, List, [], arith}
+use Rattle.gaz_records.specs.declared.item.Item.{Item}
 use Rattle.gaz_ledger.proofs.Pages.{page_added}
 use Rattle.gaz_shelf.specs.Board.{view_after}
 use Rattle.gaz_ledger.specs.Reading.{next_after}
+use Rattle.gaz_extract.specs.Paging.{rising}
+use Rattle.gaz_extract.proofs.Rising.{pages_rise}
 use Rattle.gaz_extract.proofs.page.read_page.Goals as goal
 
 pub returns-clause-tells : goal.returns-clause-tells
 returns-clause-tells g c =
     let read = c.in_ok-items.ensures in
     let v = view_after (g.S.Shelf.seen c.args.shelf.now).content.board c.args.code c.args.volume in
-    let next = c.next_after-next.ensures ∙ ap (next_after 512) c.as_slice.ensures.value in
+    let items = c.in_ok-items.items.items in
+    let last = c.next_after-next.ensures.next ∙ ap (λ (is : List Item). rising c.args.after (next_after 512 is)) c.as_slice.ensures.value in
     record {
       keeps = read.keeps;
-      right = λ stood fine within keyed.
-          page_added v c.args.kind c.args.after 512 [] c.in_ok-items.items.items c.in_ok-items.items.items c.next_after-next.result keyed (omega arith) (read.right stood fine within) refl next;
+      right = λ stood fine within.
+          let is = read.right stood fine within in
+          let keyed = (((g.S.Shelf.seen c.args.shelf.now).lawful stood).views c.args.code c.args.volume).keyed in
+          page_added v c.args.kind c.args.after 512 [] items items c.next_after-next.result keyed (omega arith) is refl
+          (last ∙ pages_rise v c.args.kind c.args.after 512 items keyed is);
       counts = record { kept = read.counts.kept; store = tt };
     }

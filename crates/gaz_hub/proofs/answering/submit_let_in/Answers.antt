@@ -3,7 +3,7 @@ use Rattle.gaz_hub.specs.Hubs.{door_of}
 use Rattle.gaz_hub.proofs.AnswerSteps.{taken_in}
 use Rattle.gaz_hub.proofs.answering.submit_let_in.Goals as goal
 
-pub returns-in-Ok-None : goal.returns-in-Ok-None
-returns-in-Ok-None g c =
+pub returns-in-Ok-None-clause-steps : goal.returns-in-Ok-None-clause-steps
+returns-in-Ok-None-clause-steps g c =
     taken_in (door_of c.args.register.now) (g.K.Shelf.seen c.args.keeper.now) (g.K.Shelf.seen c.settle_and_answer.new.keeper) (g.K.Shelf.seen c.take_in.new.keeper)
-    c.args.code c.args.volume c.args.file.now c.take_in.result c.requires.let_in (rw c.in-Ok-None.field-0-is at c.in-Ok-None.ensures) c.take_in.ensures
+    c.args.code c.args.volume c.args.file.now c.take_in.result c.requires.let_in (rw c.in-Ok-None.field-0-is at c.in-Ok-None.ensures.tells) c.take_in.ensures.takes_in

@@ -4,9 +4,28 @@ use Rattle.gaz_changefile.specs.Reading.{Bad, Good}
 use Rattle.gaz_register.specs.Registers.{blocks_of}
 use Rattle.gaz_hub.specs.Hubs.{door_of}
 use Rattle.gaz_hub.specs.Settling.{Tries}
-use Rattle.gaz_hub.proofs.Advancing.{adds_after, adds_judged, adds_skipped, asks_bad, asks_good, is_err, tries_broken, tries_judged}
+use Rattle.gaz_hub.specs.declared.looking.Next.TheVariants as next
+use Rattle.gaz_hub.proofs.Advancing.{adds_after, adds_judged, adds_skipped, asks_bad, asks_good, is_err, tries_broken, tries_judged, tries_past}
 use Rattle.gaz_hub.proofs.Looks.{left_not_open}
 use Rattle.gaz_hub.proofs.settling.judge_next.Goals as goal
+
+pub returns-in_err-ask_room-in-Good : goal.returns-in_err-ask_room-in-Good
+returns-in_err-ask_room-in-Good g c =
+    let a = g.K.Shelf.seen c.args.keeper.now in
+    let b = g.K.Shelf.seen c.look.new.keeper in
+    let e = c.in_err-ask_room-in-Good.field-0.0 in
+    let looked = rw c.in-Good.is at c.in_ok-next.ensures in
+    subst (λ r. Tries (door_of c.args.register.now) c.args.left a b r (λ k. k ≡ c.args.code)) (sym (is_err c.from_residual-in_err-ask_room-in-Good.result e c.from_residual-in_err-ask_room-in-Good.ensures.1))
+    (tries_past c.args.register.now a b c.args.code c.args.left e (next.Good c.in-Good.file) (Good c.in-Good.file) _ c.in_err-ask_room-in-Good.ensures.none looked c.requires (λ h. h))
+
+pub returns-in_err-ask_room-in-Bad : goal.returns-in_err-ask_room-in-Bad
+returns-in_err-ask_room-in-Bad g c =
+    let a = g.K.Shelf.seen c.args.keeper.now in
+    let b = g.K.Shelf.seen c.look.new.keeper in
+    let e = c.in_err-ask_room-in-Bad.field-0.0 in
+    let looked = rw c.in-Bad.is at c.in_ok-next.ensures in
+    subst (λ r. Tries (door_of c.args.register.now) c.args.left a b r (λ k. k ≡ c.args.code)) (sym (is_err c.from_residual-in_err-ask_room-in-Bad.result e c.from_residual-in_err-ask_room-in-Bad.ensures.1))
+    (tries_past c.args.register.now a b c.args.code c.args.left e (next.Bad c.in-Bad.place c.in-Bad.rule) (Bad c.in-Bad.place c.in-Bad.rule) _ c.in_err-ask_room-in-Bad.ensures.none looked c.requires (λ h. h))
 
 pub returns-in_err-judge-in-Good : goal.returns-in_err-judge-in-Good
 returns-in_err-judge-in-Good g c =
@@ -17,9 +36,9 @@ returns-in_err-judge-in-Good g c =
     let looked = rw c.in-Good.is at c.in_ok-next.ensures in
     let e = c.in_err-judge-in-Good.field-0.0 in
     let told = tries_broken d a (g.K.Shelf.seen c.judge.new.shelf) c.args.code (Good c.in-Good.file)
-    (λ stood fine. looked.right stood (c.in_err-judge-in-Good.ensures.harm fine)) e (λ k. k ≡ c.args.code)
+    (λ stood fine. looked.right stood (c.in_err-judge-in-Good.ensures.harm fine)) e c.args.left (λ k. k ≡ c.args.code)
     (adds_after a b _ _ _ c.args.code (Good c.in-Good.file) own _ _ looked (asks_good b.content c.args.code c.in-Good.file) (adds_judged b _ _ _ _ _ c.in_err-judge-in-Good.ensures)) in
-    subst (λ r. Tries d a (g.K.Shelf.seen c.judge.new.shelf) r (λ k. k ≡ c.args.code)) (sym (is_err c.from_residual-in_err-judge-in-Good.result e c.from_residual-in_err-judge-in-Good.ensures.1)) told
+    subst (λ r. Tries d c.args.left a (g.K.Shelf.seen c.judge.new.shelf) r (λ k. k ≡ c.args.code)) (sym (is_err c.from_residual-in_err-judge-in-Good.result e c.from_residual-in_err-judge-in-Good.ensures.1)) told
 
 pub returns-in-Good : goal.returns-in-Good
 returns-in-Good g c =
@@ -28,7 +47,7 @@ returns-in-Good g c =
     let own = blocks_of c.args.register.now c.args.code in
     let looked = rw c.in-Good.is at c.in_ok-next.ensures in
     tries_judged (door_of c.args.register.now) a (g.K.Shelf.seen c.judge.new.shelf) c.args.code (Good c.in-Good.file)
-    (λ stood fine. looked.right stood (c.in_ok-judge-in-Good.ensures.harm fine)) _ _
+    (λ stood fine. looked.right stood (c.in_ok-judge-in-Good.ensures.harm fine)) _ c.args.left _ c.in_ok-ask_room-in-Good.ensures.room
     (adds_after a b _ _ _ c.args.code (Good c.in-Good.file) own _ _ looked (asks_good b.content c.args.code c.in-Good.file) (adds_judged b _ _ _ _ _ c.in_ok-judge-in-Good.ensures))
 
 pub returns-in-Bad : goal.returns-in-Bad
@@ -39,6 +58,6 @@ returns-in-Bad g c =
     let rd = Bad c.in-Bad.place c.in-Bad.rule in
     let looked = rw c.in-Bad.is at c.in_ok-next.ensures in
     tries_judged (door_of c.args.register.now) a (g.K.Shelf.seen c.skip.new.self) c.args.code rd
-    (λ stood fine. looked.right stood (c.in_ok-skip-in-Bad.ensures.harm fine)) _ _
+    (λ stood fine. looked.right stood (c.in_ok-skip-in-Bad.ensures.harm fine)) _ c.args.left _ c.in_ok-ask_room-in-Bad.ensures.room
     (adds_after a b _ _ _ c.args.code rd own _ _ looked (asks_bad b.content c.args.code c.in-Bad.place c.in-Bad.rule)
     (adds_skipped b _ _ c.args.code own c.in-Bad.place c.in-Bad.rule (left_not_open a.progress b.progress looked.keeps.progress c.requires) c.in_ok-skip-in-Bad.ensures))

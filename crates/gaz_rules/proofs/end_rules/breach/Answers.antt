@@ -21,10 +21,10 @@ pub returns : goal.returns
 returns g c =
     let was = g.S.Shelf.seen c.args.shelf.now in
     let after = c.breach_at.new.known in
-    let at = c.of-key.result in
+    let at = c.key_of-key.result in
     let stored = c.in_ok-stored.stored in
     reads_both _ _ _ _ c.in_ok-breach_at.field-0 _ (λ i. i ≡ map.get (view_of was c.args.code).items at)
     (λ k r. stored ≡ map.get k.working.items at → Told c.args.bases.now c.args.known.now after k at r) _
     c.in_ok-stored.ensures c.in_ok-breach_at.ensures
-    (λ here told. subst (λ x. Told c.args.bases.now c.args.known.now after was.content x c.in_ok-breach_at.field-0) c.of-key.ensures
+    (λ here told. subst (λ x. Told c.args.bases.now c.args.known.now after was.content x c.in_ok-breach_at.field-0) c.key_of-key.ensures
     (told (here ∙ ap (λ v. map.get v.items at) (view_open was c.args.code c.requires))))

@@ -2,7 +2,7 @@
 use Rattle.std.proofs.Common.{◌≡◌, ◌≢◌, ◌≤◌, ◌++◌, ◌^◌, ◌+◌, ◌-◌, cond, None, is_some, vec_len}
 use Rattle.gaz_shelf.specs.Board.{reached, view_after}
 use Rattle.gaz_shelf.specs.Keeper.{Broken, Keeps}
-use Rattle.gaz_ledger.specs.Reading.{IsKeyed, left_after}
+use Rattle.gaz_ledger.specs.Reading.{left_after}
 use Rattle.gaz_ledger.specs.Words.{rest_of}
 use Rattle.gaz_shelf.proofs.reading.read_kind.Given as goal
 
@@ -15,7 +15,7 @@ invariant-loop-next g l =
       keeps : Keeps was now;
       cleared : now.progress ≢ Broken;
       counted : was.failures ≤ now.failures;
-      left : was.stands → now.unharmed → l.volume ≤ reached was.content.board l.code → IsKeyed view → l.items.items ++ left_after view l.kind l.next ≡ rest_of view l.kind None;
+      left : was.stands → now.unharmed → l.volume ≤ reached was.content.board l.code → l.items.items ++ left_after view l.kind l.next ≡ rest_of view l.kind None;
     }
 
 abbrev pub decreases-loop-next : goal.decreases-loop-next

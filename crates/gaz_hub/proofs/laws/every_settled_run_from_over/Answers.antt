@@ -1,0 +1,5 @@
+use Rattle.gaz_hub.proofs.Headline.{every_settled_run_from_over}
+use Rattle.gaz_hub.proofs.laws.every_settled_run_from_over.Goals as goal
+
+pub returns : goal.returns
+returns g c = every_settled_run_from_over g.K.Shelf.seen

@@ -1,0 +1,83 @@
+-- Which answers the received files give: those read off the standing board.
+use Rattle.std.specs.Prelude.{◌≡◌, ⊤, ℕ, not, ◌&&◌, if◌then◌else◌, is_none, List, [], ◌∷◌, Option, Some, None, Ok, Err}
+use Rattle.std.specs.FinMap as map
+use Rattle.gaz_extract.specs.Closing.{closed_streets}
+use Rattle.gaz_extract.specs.Extracts.{extract}
+use Rattle.gaz_extract.specs.Lookups.{lookup}
+use Rattle.gaz_shelf.specs.Received.{Received, with_file}
+use Rattle.gaz_hub.specs.Asked.{IsTaken}
+use Rattle.gaz_hub.specs.Outcomes.{outcome, status}
+use Rattle.gaz_hub.specs.Runs.{Run, is_answered_51}
+use Rattle.gaz_hub.specs.Standing.{IsPartial, standing}
+use Rattle.gaz_hub.specs.Step.{Ask, Command, Door, Extract, Extracted, HubState, IsTold, ListClosed, Listed, LookUp, LookedUp, Response, Settle, Settled, Stand, Stands, Submit, Submitted, Told, door}
+use Rattle.gaz_hub.specs.declared.answer.Answer.{Answer}
+use Rattle.gaz_hub.specs.declared.answer.Answer.TheVariants.{New, Repeat, Taken, Refused}
+use Rattle.gaz_hub.specs.declared.outcome.Outcome.{Outcome}
+
+-- ---- what is received
+
+-- with the file of a submission, where its place was free, it passed the door and wasn't answered 51
+abbrev pub then_received : Door → Received → Command → Response → Received
+then_received d F (Submit c volume bytes) (Submitted answer) =
+    if is_none (map.get F (c, volume)) && (is_none (door d c volume bytes) && not (is_answered_51 answer))
+    then with_file F c volume bytes
+    else F
+then_received d F _ _ = F
+
+-- with the files of all submissions, one after another
+abbrev pub received_by : Door → Received → List Command → List Response → Received
+received_by d F (command ∷ commands) (response ∷ responses) =
+    received_by d (then_received d F command response) commands responses
+received_by d F _ _ = F
+
+-- ---- what is answered
+
+-- the outcome of a received file on the standing board
+abbrev pub standing_outcome : Door → Received → ℕ → ℕ → Option Outcome
+standing_outcome d F c volume = outcome F (standing d.register F) c volume
+
+-- a submission's answer, where these files were received before; a refusal settles nothing
+abbrev pub IsAnswerOff : Door → Received → ℕ → ℕ → List ℕ → Answer → Type 0
+IsAnswerOff d F c volume bytes (New told) =
+    (map.get F (c, volume) ≡ None) × (standing_outcome d (with_file F c volume bytes) c volume ≡ Some told)
+IsAnswerOff d F c volume bytes (Repeat told) =
+    (map.get F (c, volume) ≡ Some bytes) × (standing_outcome d F c volume ≡ Some told)
+IsAnswerOff d F c volume bytes (Taken digest) = IsTaken F c volume bytes digest
+IsAnswerOff d F c volume bytes (Refused r) = ⊤
+
+-- the response, where these files were received before, is the one read off the standing board; ⊤ where it doesn't settle
+abbrev pub IsReadOff : Door → Received → Command → Response → Type 0
+IsReadOff d F (Submit c volume bytes) (Submitted answer) = IsAnswerOff d F c volume bytes answer
+IsReadOff d F (Ask c volume) (Told (Ok told)) = IsTold F (standing d.register F) c volume told
+IsReadOff d F (Ask c volume) (Told (Err r)) = ⊤
+IsReadOff d F (Stand c) (Stands (Ok stands)) = stands ≡ status F (standing d.register F) c
+IsReadOff d F (Stand c) (Stands (Err r)) = ⊤
+IsReadOff d F Settle (Settled done) = ⊤
+IsReadOff d F (LookUp uprn) (LookedUp (Ok found)) = found ≡ lookup (standing d.register F) d.custodians uprn
+IsReadOff d F (LookUp uprn) (LookedUp (Err r)) = ⊤
+IsReadOff d F (Extract c volume) (Extracted (Ok bytes)) = bytes ≡ extract (standing d.register F) c volume
+IsReadOff d F (Extract c volume) (Extracted (Err r)) = ⊤
+IsReadOff d F ListClosed (Listed (Ok closed)) = closed ≡ closed_streets (standing d.register F) d.custodians
+IsReadOff d F ListClosed (Listed (Err r)) = ⊤
+IsReadOff d F _ _ = ⊥
+
+-- each response is, of the files that are received by then
+abbrev pub AllReadOff : Door → Received → List Command → List Response → Type 0
+AllReadOff d F [] [] = ⊤
+AllReadOff d F (command ∷ commands) (response ∷ responses) =
+    IsReadOff d F command response × AllReadOff d (then_received d F command response) commands responses
+AllReadOff d F [] (response ∷ responses) = ⊥
+AllReadOff d F (command ∷ commands) [] = ⊥
+
+-- ---- the law
+
+-- what is received after a run, and what its answers are read off
+pub record AllAnswered (d : Door) (before : Received) (commands : List Command) (responses : List Response) (after : Received) : Type 0 where
+  pub received : after ≡ received_by d before commands responses
+  pub read_off : AllReadOff d before commands responses
+
+-- whatever commands come to a hub whose board is partial
+abbrev pub EveryAnswer : Type 0
+EveryAnswer = (d : Door) (old new : HubState) (commands : List Command) (responses : List Response)
+    → IsPartial d.register old.received old.board → Run d old commands responses new
+    → AllAnswered d old.received commands responses new.received

@@ -1,0 +1,9 @@
+pub mod Equal
+pub mod Inserts
+pub mod Lists
+pub mod Meanings
+pub mod NoteTexts
+pub mod Selects
+pub mod Texts
+pub mod Typed
+pub mod Updates

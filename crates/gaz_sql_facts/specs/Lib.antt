@@ -1,0 +1,4 @@
+pub mod Changes
+pub mod Notes
+pub mod Selects
+pub mod Tables
