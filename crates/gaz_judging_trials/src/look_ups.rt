@@ -1,9 +1,9 @@
 //! How often a judgement looks an item up, by a keeper that counts.
 use crate::cases::{Row, custodian, file_of, item_of, judged, writes};
-use crate::sample::REGISTER;
 use gaz_changefile::{Action, Change, ChangeFile};
 use gaz_records::{Kind, SharedItem, item_of_text};
 use gaz_register::Register;
+use gaz_samples::REGISTER;
 use gaz_shelf::{Faulty, MemShelf, Seed, Verdict};
 use std::alloc::Global;
 use std::process::Abort;

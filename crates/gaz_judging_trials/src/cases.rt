@@ -1,13 +1,13 @@
 //! Cases of judgements as text, and the files that they stand for.
-ghost use Rattle.std.specs.Prelude.{◌≡◌, OnOk};
-ghost use Rattle.gaz_shelf.specs.Keeper.{IsNotOpen, Seen};
+ghost use Rattle.std.specs.Prelude.{OnOk};
+ghost use Rattle.gaz_shelf.specs.Keeper.{IsNotOpen};
 
-use crate::sample::REGISTER;
 use gaz_changefile::{Action, Basis, Change, ChangeFile};
 use gaz_ids::{Code, Volume};
 use gaz_records::{Day, Kind, SharedItem, item_of_text};
 use gaz_register::Register;
 use gaz_rules::judge;
+use gaz_samples::REGISTER;
 use gaz_shelf::{Ending, Inbox, Shelf, Verdict, write_volume};
 use std::alloc::Global;
 use std::process::Abort;
@@ -40,26 +40,15 @@ pub(crate) fn file_of(bases: Vec<Basis>, changes: Vec<Change>) -> Result<ChangeF
     })
 }
 
-fn kind_of(text: &str) -> Result<Kind, Fail> {
-    match text {
-        "11" => Ok(Kind::Street),
-        "15" => Ok(Kind::Descriptor),
-        "21" => Ok(Kind::Blpu),
-        "23" => Ok(Kind::Xref),
-        "24" => Ok(Kind::Lpi),
-        _ => Err(Fail::from("a kind")),
-    }
-}
-
 fn change_of(alloc: Global, place: u64, line: &str) -> Result<Change, Fail> {
     let (kind, line) = line.split_once(',').ok_or("a kind")?;
     let (action, row) = line.split_once(',').ok_or("a change type")?;
+    let kind = Kind::read(kind.as_bytes()).ok_or("a kind")?;
     let action = Action::read(action.as_bytes()).ok_or("a change type")?;
-    let item = item_of_text(alloc, kind_of(kind)?, row.as_bytes())?;
     Ok(Change {
         place,
         action,
-        item: SharedItem::new(alloc, item)?,
+        item: item(alloc, kind, row)?,
     })
 }
 
@@ -169,9 +158,13 @@ pub(crate) fn are_judged<K: Inbox>(
 /// The kind and the row of an item.
 pub(crate) type Row = (Kind, &'static str);
 
-pub(crate) fn item_of(alloc: Global, row: Row) -> Result<SharedItem, Fail> {
-    let item = item_of_text(alloc, row.0, row.1.as_bytes())?;
+pub(crate) fn item(alloc: Global, kind: Kind, row: &str) -> Result<SharedItem, Fail> {
+    let item = item_of_text(alloc, kind, row.as_bytes())?;
     Ok(SharedItem::new(alloc, item)?)
+}
+
+pub(crate) fn item_of(alloc: Global, row: Row) -> Result<SharedItem, Fail> {
+    item(alloc, row.0, row.1)
 }
 
 // A custodian's volume 1 puts these items into its view, as a file may or may not.

@@ -1,14 +1,14 @@
 //! A judgement in which a call of the keeper fails, each in turn.
 ghost use Rattle.std.specs.Prelude.{IfOk};
-ghost use Rattle.gaz_shelf.specs.Keeper.{IsNotOpen, Seen};
+ghost use Rattle.gaz_shelf.specs.Keeper.{IsNotOpen};
 ghost use Rattle.gaz_shelf.specs.Mem.{progress_of};
 
 use crate::cases::{Case, are_judged, case_of, custodian, volume};
-use crate::sample::REGISTER;
 use gaz_ids::Code;
 use gaz_records::{Kind, item_text};
 use gaz_register::Register;
 use gaz_rules::judge;
+use gaz_samples::REGISTER;
 use gaz_shelf::{Call, Faulty, Inbox, MemShelf, Seed, Shelf, ShelfFault, Verdict, read_kind};
 use std::alloc::Global;
 use std::process::Abort;
@@ -167,6 +167,7 @@ fn fails_at(
     Ok(Some(call))
 }
 
+// These calls are among those that failed.
 fn has_each(rt: &impl Abort, failed: &[Call], among: &[Call]) -> Result<(), Fail> {
     for call in among {
         assert!(rt; failed.contains(call), "{call:?} never failed");

@@ -1,9 +1,10 @@
 //! What many addresses left, or parts of a property, is asked at once: nothing is kept of them there.
 //!
 //! Were each that left passed over at each question, a test would take minutes, and it has one.
+use crate::fixtures::puts;
 use gaz_ids::{Uprn, Usrn};
 use gaz_ledger::{Book, Seed, Verdict};
-use gaz_records::{Kind, SharedItem, item_of_text};
+use gaz_records::Kind;
 use std::alloc::Global;
 use std::process::Abort;
 use std::test::Fail;
@@ -13,12 +14,6 @@ const MANY: u64 = 4_000;
 
 /// How often one is asked for then.
 const OFTEN: u64 = 5_000_000;
-
-fn puts(alloc: Global, book: &mut Book, kind: Kind, row: &str) -> Result<(), Fail> {
-    let item = item_of_text(alloc, kind, row.as_bytes())?;
-    book.put(SharedItem::new(alloc, item)?)?;
-    Ok(())
-}
 
 // Puts as many addresses on a street.
 fn puts_on(alloc: Global, book: &mut Book, street: u64) -> Result<(), Fail> {

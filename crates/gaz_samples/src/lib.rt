@@ -1,7 +1,8 @@
-//! The register that the tests share.
+//! What the crates of tests share.
+#![tactic(auto)]
 
-/// The sample register.
-pub(crate) const REGISTER: &[u8] = b"[[custodian]]
+/// A register of three custodians.
+pub const REGISTER: &[u8] = b"[[custodian]]
 code = 1001
 name = \"Upper County\"
 uprn = [[1, 99999], [999999999000, 999999999999]]

@@ -1,11 +1,11 @@
 //! A hub over a keeper of which one call fails, each in turn.
 ghost use Rattle.std.specs.Prelude.{OnOk};
-ghost use Rattle.gaz_shelf.specs.Keeper.{IsNotOpen, Seen};
+ghost use Rattle.gaz_shelf.specs.Keeper.{IsNotOpen};
 
 use crate::hubs::{STREET_101, held};
-use crate::sample::REGISTER;
 use gaz_hub::{Answer, Hub, Outcome, Refusal};
 use gaz_register::Register;
+use gaz_samples::REGISTER;
 use gaz_shelf::{Call, Faulty, Inbox, MemShelf, Seed, ShelfFault};
 use std::process::Abort;
 use std::test::Fail;
@@ -119,22 +119,25 @@ fn is_refused_as(rt: &impl Abort, call: Call, refusal: Refusal) {
     }
 }
 
-fn has_each(rt: &impl Abort, failed: &[Call]) -> Result<(), Fail> {
-    let among = [
-        Call::Receive,
-        Call::Begin,
-        Call::Put,
-        Call::Keep,
-        Call::Skip,
-        Call::Received,
-        Call::Reached,
-        Call::Verdict,
-    ];
+// These calls are among those that failed.
+pub(crate) fn has_each(rt: &impl Abort, failed: &[Call], among: &[Call]) -> Result<(), Fail> {
     for call in among {
-        assert!(rt; failed.contains(&call), "{call:?} never failed");
+        assert!(rt; failed.contains(call), "{call:?} never failed");
     }
     Ok(())
 }
+
+/// What a hub calls when files come.
+const AMONG: &[Call] = &[
+    Call::Receive,
+    Call::Begin,
+    Call::Put,
+    Call::Keep,
+    Call::Skip,
+    Call::Received,
+    Call::Reached,
+    Call::Verdict,
+];
 
 #[test]
 fn a_fault_at_any_call(rt: HostRuntime) -> Result<(), Fail> {
@@ -145,7 +148,7 @@ fn a_fault_at_any_call(rt: HostRuntime) -> Result<(), Fail> {
                 is_refused_as(&rt, call, refusal);
                 failed.push(call)?;
             }
-            None => return has_each(&rt, &failed),
+            None => return has_each(&rt, &failed, AMONG),
         }
     }
     Err(Fail::from("too many calls"))

@@ -1,11 +1,10 @@
 //! One call that fails, and what follows.
-ghost use Rattle.std.specs.Prelude.{IfOk};
 ghost use Rattle.gaz_shelf.specs.Keeper.{IsNotOpen};
-ghost use Rattle.gaz_shelf.specs.Mem.{progress_of};
 
+use crate::fixtures::{custodian, item, received};
 use gaz_ids::{Code, Volume};
-use gaz_records::{Key, Kind, SharedItem, item_of_text};
-use gaz_shelf::{Call, Calls, Faulty, Inbox, MemShelf, Seed, Shelf, ShelfFault};
+use gaz_records::{Kind, SharedItem, key_of};
+use gaz_shelf::{Call, Calls, Faulty, Inbox, Shelf, ShelfFault};
 use std::alloc::Global;
 use std::process::Abort;
 use std::test::Fail;
@@ -15,21 +14,7 @@ const FIRST: &str = "101,1,2001-04-01,";
 const SECOND: &str = "102,1,2001-04-01,";
 
 fn street(alloc: Global, row: &str) -> Result<SharedItem, Fail> {
-    Ok(SharedItem::new(alloc, item_of_text(alloc, Kind::Street, row.as_bytes())?)?)
-}
-
-fn custodian() -> Result<Code, Fail> {
-    Ok(Code::of(1001).ok_or("a code")?)
-}
-
-// A keeper that received one file.
-fn received(alloc: Global) -> Result<MemShelf, Fail>
-    ensures { IfOk result (λ s. IsNotOpen (progress_of s.judging)) }
-{
-    let mut shelf = MemShelf::new(alloc, Seed::of(1));
-    let volume = Volume::of(1).ok_or("a volume")?;
-    shelf.receive(custodian()?, volume, b"a file")?;
-    Ok(shelf)
+    item(alloc, Kind::Street, row)
 }
 
 // A volume in which a street comes and goes, and another comes.
@@ -42,7 +27,7 @@ fn writes<K: Inbox>(
     requires { IsNotOpen (K.seen shelf.old).progress }
     ensures { IsNotOpen (K.seen shelf.new).progress }
 {
-    let key = Key::of(&first);
+    let key = key_of(&first);
     shelf.begin(code)?;
     shelf.put(first)?;
     shelf.take(&key)?;
@@ -56,9 +41,9 @@ fn has_written<K: Inbox>(
     shelf: &mut K,
     has: bool,
 ) -> Result<(), Fail> {
-    let code = custodian()?;
-    let first = Key::of(street(rt.alloc(), FIRST)?.as_item());
-    let second = Key::of(street(rt.alloc(), SECOND)?.as_item());
+    let code = custodian(1001)?;
+    let first = key_of(street(rt.alloc(), FIRST)?.as_item());
+    let second = key_of(street(rt.alloc(), SECOND)?.as_item());
     assert_eq!(rt; shelf.reached(code)?, u64::from(has));
     assert_eq!(rt; shelf.held(code)?, u64::from(!has));
     assert_eq!(rt; shelf.ever(code, &first)?, has);
@@ -71,7 +56,7 @@ fn fails_at(rt: &(impl Abort + AllocGlobal), number: u64, call: Call) -> Result<
     let alloc = rt.alloc();
     let (first, second) = (street(alloc, FIRST)?, street(alloc, SECOND)?);
     let mut shelf = Faulty::new(received(alloc)?, number);
-    let fails = writes(&mut shelf, custodian()?, first, second);
+    let fails = writes(&mut shelf, custodian(1001)?, first, second);
     assert!(rt; matches!(fails, Err(ShelfFault::Store)), "{call:?}");
     assert_eq!(rt; shelf.failed(), Some(call));
     has_written(rt, &mut shelf, false)
@@ -82,10 +67,10 @@ fn goes_on_after(rt: &(impl Abort + AllocGlobal), number: u64) -> Result<(), Fai
     let alloc = rt.alloc();
     let (first, second) = (street(alloc, FIRST)?, street(alloc, SECOND)?);
     let mut shelf = Faulty::new(received(alloc)?, number);
-    let fails = writes(&mut shelf, custodian()?, first, second);
+    let fails = writes(&mut shelf, custodian(1001)?, first, second);
     assert!(rt; fails.is_err());
     let (first, second) = (street(alloc, FIRST)?, street(alloc, SECOND)?);
-    writes(&mut shelf, custodian()?, first, second)?;
+    writes(&mut shelf, custodian(1001)?, first, second)?;
     has_written(rt, &mut shelf, true)
 }
 
@@ -109,8 +94,8 @@ fn after_each_failing_call_the_volume_is_written(rt: HostRuntime) -> Result<(), 
 #[test]
 fn a_broken_judgement_refuses_and_is_cleared(rt: HostRuntime) -> Result<(), Fail> {
     let alloc = rt.alloc();
-    let code = custodian()?;
-    let key = Key::of(street(alloc, FIRST)?.as_item());
+    let code = custodian(1001)?;
+    let key = key_of(street(alloc, FIRST)?.as_item());
     let mut shelf = Faulty::new(received(alloc)?, 2);
     shelf.begin(code)?;
     assert!(rt; matches!(shelf.put(street(alloc, FIRST)?), Err(ShelfFault::Store)));
@@ -138,7 +123,7 @@ fn a_broken_judgement_refuses_and_is_cleared(rt: HostRuntime) -> Result<(), Fail
 #[test]
 fn failing_to_begin_or_to_abandon_breaks_a_judgement(rt: HostRuntime) -> Result<(), Fail> {
     let alloc = rt.alloc();
-    let code = custodian()?;
+    let code = custodian(1001)?;
     let mut shelf = Faulty::new(received(alloc)?, 2);
     shelf.begin(code)?;
     assert!(rt; matches!(shelf.abandon(), Err(ShelfFault::Store)));
@@ -154,13 +139,13 @@ fn failing_to_begin_or_to_abandon_breaks_a_judgement(rt: HostRuntime) -> Result<
 #[test]
 fn other_failing_calls_change_nothing(rt: HostRuntime) -> Result<(), Fail> {
     let alloc = rt.alloc();
-    let code = custodian()?;
+    let code = custodian(1001)?;
     let mut shelf = Faulty::new(received(alloc)?, 3);
     shelf.begin(code)?;
     shelf.put(street(alloc, SECOND)?)?;
     assert!(rt; matches!(shelf.reached(code), Err(ShelfFault::Store)));
     shelf.keep()?;
-    let second = Key::of(street(alloc, SECOND)?.as_item());
+    let second = key_of(street(alloc, SECOND)?.as_item());
     assert!(rt; shelf.current(code, &second)?.is_some());
     let mut shelf = Faulty::new(received(alloc)?, 1);
     assert!(rt; matches!(shelf.skip(code, 1, 1), Err(ShelfFault::Store)));

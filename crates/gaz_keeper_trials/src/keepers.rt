@@ -1,21 +1,18 @@
+//! One list of calls over two keepers, between which no judgement is in progress.
 ghost use Rattle.std.specs.Prelude.{◌≡◌, ◌≤◌, OnOk};
 ghost use Rattle.gaz_shelf.specs.Keeper.{Idle};
 
-use gaz_ids::{Code, Lang, Uprn, Usrn, Volume};
-use gaz_records::{Key, Kind, RecordKey, SharedItem, item_of_text, item_text};
-use gaz_shelf::{
-    Ending, Faulty, Inbox, MemShelf, Property, Seed, Shelf, ShelfFault, Verdict, read_kind,
-    write_volume,
+use crate::fixtures::{blpu_key, custodian, item, lpi_key, street_key, volume, xref_key};
+use crate::told::{
+    had_item, has_address_on, has_addresses, has_all, has_counts, has_file, has_item, has_page,
+    has_parts, has_property, has_used, has_verdict,
 };
+use gaz_ids::Lang;
+use gaz_records::{Key, Kind, SharedItem};
+use gaz_shelf::{Ending, Faulty, Inbox, MemShelf, Seed, Shelf, ShelfFault, Verdict, write_volume};
 use std::alloc::Global;
 use std::process::Abort;
 use std::test::Fail;
-
-// ---- one list of calls over two keepers, between which no judgement is in progress
-
-fn item(alloc: Global, kind: Kind, row: &str) -> Result<SharedItem, Fail> {
-    Ok(SharedItem::new(alloc, item_of_text(alloc, kind, row.as_bytes())?)?)
-}
 
 fn items(alloc: Global, rows: &[(Kind, &str)]) -> Result<Vec<SharedItem>, Fail> {
     let mut items = Vec::new(alloc);
@@ -23,50 +20,6 @@ fn items(alloc: Global, rows: &[(Kind, &str)]) -> Result<Vec<SharedItem>, Fail> 
         items.push(item(alloc, *kind, row)?)?;
     }
     Ok(items)
-}
-
-fn custodian(number: u64) -> Result<Code, Fail> {
-    Ok(Code::of(number).ok_or("a code")?)
-}
-
-fn volume(number: u64) -> Result<Volume, Fail> {
-    Ok(Volume::of(number).ok_or("a volume")?)
-}
-
-fn blpu_key(number: u64) -> Result<Key, Fail> {
-    Ok(Key::Blpu(Uprn::of(number).ok_or("a UPRN")?))
-}
-
-fn street_key(number: u64) -> Result<Key, Fail> {
-    Ok(Key::Street(Usrn::of(number).ok_or("a USRN")?))
-}
-
-fn lpi_key(text: &str) -> Result<Key, Fail> {
-    Ok(Key::Lpi(RecordKey::read(text.as_bytes()).ok_or("a key")?))
-}
-
-fn xref_key(text: &str) -> Result<Key, Fail> {
-    Ok(Key::Xref(RecordKey::read(text.as_bytes()).ok_or("a key")?))
-}
-
-// The item is there, and this row is written of it, or none is where none is given.
-fn is_row(
-    rt: &(impl Abort + AllocGlobal),
-    found: &Option<SharedItem>,
-    row: Option<&str>,
-) -> Result<(), Fail> {
-    match (found, row) {
-        (None, None) => {}
-        (Some(item), Some(row)) => {
-            assert_eq!(rt;
-                item_text(rt.alloc(), item)?.as_slice(),
-                row.as_bytes(),
-                "{row}"
-            );
-        }
-        _ => assert!(rt; false, "another row"),
-    }
-    Ok(())
 }
 
 fn receives<K: Inbox>(shelf: &mut K, code: u64, number: u64) -> Result<(), Fail>
@@ -97,240 +50,6 @@ fn skips<K: Inbox>(shelf: &mut K, code: u64, place: u64, rule: u8) -> Result<(),
 {
     shelf.skip(custodian(code)?, place, rule)?;
     Ok(())
-}
-
-// How many volumes are judged and held.
-fn has_counts<K: Inbox>(
-    rt: &(impl Abort + AllocGlobal),
-    shelf: &mut K,
-    code: u64,
-    reached: u64,
-    held: u64,
-) -> Result<(), Fail>
-    requires { (K.seen shelf.old).progress ≡ Idle }
-    ensures { OnOk result ((K.seen shelf.new).progress ≡ Idle) }
-{
-    let code = custodian(code)?;
-    assert_eq!(rt; shelf.reached(code)?, reached);
-    assert_eq!(rt; shelf.held(code)?, held);
-    Ok(())
-}
-
-// The item in the last view, and in the view after a volume.
-fn has_item<K: Inbox>(
-    rt: &(impl Abort + AllocGlobal),
-    shelf: &mut K,
-    code: u64,
-    key: &Key,
-    row: Option<&str>,
-) -> Result<(), Fail>
-    requires { (K.seen shelf.old).progress ≡ Idle }
-    ensures { OnOk result ((K.seen shelf.new).progress ≡ Idle) }
-{
-    let found = shelf.current(custodian(code)?, key)?;
-    is_row(rt, &found, row)
-}
-
-fn had_item<K: Inbox>(
-    rt: &(impl Abort + AllocGlobal),
-    shelf: &mut K,
-    code: u64,
-    after: u64,
-    key: &Key,
-    row: Option<&str>,
-) -> Result<(), Fail>
-    requires { (K.seen shelf.old).progress ≡ Idle }
-    ensures { OnOk result ((K.seen shelf.new).progress ≡ Idle) }
-{
-    let found = shelf.at(custodian(code)?, after, key)?;
-    is_row(rt, &found, row)
-}
-
-// Whether the key was used, and whether the property has parts.
-fn has_used<K: Inbox>(
-    rt: &(impl Abort + AllocGlobal),
-    shelf: &mut K,
-    code: u64,
-    key: &Key,
-    used: bool,
-) -> Result<(), Fail>
-    requires { (K.seen shelf.old).progress ≡ Idle }
-    ensures { OnOk result ((K.seen shelf.new).progress ≡ Idle) }
-{
-    assert_eq!(rt; shelf.ever(custodian(code)?, key)?, used);
-    Ok(())
-}
-
-fn has_parts<K: Inbox>(
-    rt: &(impl Abort + AllocGlobal),
-    shelf: &mut K,
-    code: u64,
-    uprn: u64,
-    has: bool,
-) -> Result<(), Fail>
-    requires { (K.seen shelf.old).progress ≡ Idle }
-    ensures { OnOk result ((K.seen shelf.new).progress ≡ Idle) }
-{
-    let uprn = Uprn::of(uprn).ok_or("a UPRN")?;
-    assert_eq!(rt; shelf.children(custodian(code)?, uprn)?, has);
-    Ok(())
-}
-
-fn has_addresses<K: Inbox>(
-    rt: &(impl Abort + AllocGlobal),
-    shelf: &mut K,
-    code: u64,
-    uprn: u64,
-    keys: &[Key],
-) -> Result<(), Fail>
-    requires { (K.seen shelf.old).progress ≡ Idle }
-    ensures { OnOk result ((K.seen shelf.new).progress ≡ Idle) }
-{
-    let uprn = Uprn::of(uprn).ok_or("a UPRN")?;
-    let found = shelf.approved_of(custodian(code)?, uprn)?;
-    assert!(rt; found.as_slice() == keys);
-    Ok(())
-}
-
-fn is_property(
-    rt: &(impl Abort + AllocGlobal),
-    found: Option<Property>,
-    rows: Option<(&str, &str)>,
-) -> Result<(), Fail> {
-    match (found, rows) {
-        (None, None) => {}
-        (Some(found), Some((blpu, address))) => {
-            is_row(rt, &Some(found.blpu), Some(blpu))?;
-            is_row(rt, &found.address, Some(address))?;
-        }
-        _ => assert!(rt; false, "another property"),
-    }
-    Ok(())
-}
-
-// The rows of a BLPU and of its address.
-fn has_property<K: Inbox>(
-    rt: &(impl Abort + AllocGlobal),
-    shelf: &mut K,
-    code: u64,
-    uprn: u64,
-    rows: Option<(&str, &str)>,
-) -> Result<(), Fail>
-    requires { (K.seen shelf.old).progress ≡ Idle }
-    ensures { OnOk result ((K.seen shelf.new).progress ≡ Idle) }
-{
-    let uprn = Uprn::of(uprn).ok_or("a UPRN")?;
-    let found = shelf.property_of(custodian(code)?, uprn)?;
-    is_property(rt, found, rows)
-}
-
-fn has_address_on<K: Inbox>(
-    rt: &(impl Abort + AllocGlobal),
-    shelf: &mut K,
-    code: u64,
-    usrn: u64,
-    lang: Option<Lang>,
-    has: bool,
-) -> Result<(), Fail>
-    requires { (K.seen shelf.old).progress ≡ Idle }
-    ensures { OnOk result ((K.seen shelf.new).progress ≡ Idle) }
-{
-    let usrn = Usrn::of(usrn).ok_or("a USRN")?;
-    assert_eq!(rt; shelf.approved_on(custodian(code)?, usrn, lang)?, has);
-    Ok(())
-}
-
-fn has_verdict<K: Inbox>(
-    rt: &(impl Abort + AllocGlobal),
-    shelf: &mut K,
-    code: u64,
-    number: u64,
-    verdict: Option<Verdict>,
-) -> Result<(), Fail>
-    requires { (K.seen shelf.old).progress ≡ Idle }
-    ensures { OnOk result ((K.seen shelf.new).progress ≡ Idle) }
-{
-    assert!(rt; shelf.verdict(custodian(code)?, volume(number)?)? == verdict);
-    Ok(())
-}
-
-fn has_file<K: Inbox>(
-    rt: &(impl Abort + AllocGlobal),
-    shelf: &mut K,
-    code: u64,
-    number: u64,
-    has: bool,
-) -> Result<(), Fail>
-    requires { (K.seen shelf.old).progress ≡ Idle }
-    ensures { OnOk result ((K.seen shelf.new).progress ≡ Idle) }
-{
-    let found = shelf.received(custodian(code)?, volume(number)?)?;
-    assert_eq!(rt;
-        found.is_some_and(|bytes| bytes.as_slice() == b"a file".as_slice()),
-        has
-    );
-    Ok(())
-}
-
-// A page has this many items, of which the first is this row.
-fn has_page<K: Inbox>(
-    rt: &(impl Abort + AllocGlobal),
-    shelf: &mut K,
-    after: u64,
-    kind: Kind,
-    from: Option<Key>,
-    most: usize,
-    len: usize,
-    row: &str,
-) -> Result<(), Fail>
-    requires { (K.seen shelf.old).progress ≡ Idle }
-    ensures { OnOk result ((K.seen shelf.new).progress ≡ Idle) }
-{
-    let page = shelf.page(custodian(1001)?, after, kind, from, most)?;
-    assert_eq!(rt; page.len(), len);
-    match page.first() {
-        Some(item) => assert_eq!(rt;
-            item_text(rt.alloc(), item)?.as_slice(),
-            row.as_bytes(),
-            "{row}"
-        ),
-        None => assert!(rt; row.is_empty(), "{row}"),
-    }
-    Ok(())
-}
-
-// These items are these rows.
-fn are_rows(
-    rt: &(impl Abort + AllocGlobal),
-    items: &[SharedItem],
-    rows: &[&str],
-) -> Result<(), Fail> {
-    assert_eq!(rt; items.len(), rows.len());
-    for (item, row) in items.iter().zip(rows) {
-        assert_eq!(rt;
-            item_text(rt.alloc(), item)?.as_slice(),
-            row.as_bytes(),
-            "{row}"
-        );
-    }
-    Ok(())
-}
-
-// All items of a kind after a volume of 1001, read so many at a time, are these rows.
-fn has_all<K: Inbox>(
-    rt: &(impl Abort + AllocGlobal),
-    shelf: &mut K,
-    after: u64,
-    kind: Kind,
-    most: usize,
-    rows: &[&str],
-) -> Result<(), Fail>
-    requires idle { (K.seen shelf.old).progress ≡ Idle }
-    requires some { 1 ≤ most }
-    ensures { OnOk result ((K.seen shelf.new).progress ≡ Idle) }
-{
-    let items = read_kind(rt.alloc(), shelf, custodian(1001)?, after, kind, most)?;
-    are_rows(rt, items.as_slice(), rows)
 }
 
 // The second volume of 1001: a street is closed, a cross reference and an address go, another address comes.

@@ -1,30 +1,18 @@
 ghost use Rattle.std.specs.Prelude.{◌≡◌, OnOk};
 ghost use Rattle.gaz_shelf.specs.Keeper.{Idle};
 
-use crate::sample::REGISTER;
+use crate::cases::{custodian, item, volume};
 use gaz_extract::{closed_streets, extract, line, lookup};
-use gaz_ids::{Code, Status, Uprn, Volume};
-use gaz_records::{Item, Kind, SharedItem, item_of_text};
+use gaz_ids::{Status, Uprn};
+use gaz_records::{Item, Kind};
 use gaz_register::Register;
+use gaz_samples::REGISTER;
 use gaz_shelf::{Ending, Inbox, MemShelf, Seed, write_volume};
 use std::alloc::Global;
 use std::process::Abort;
 use std::test::Fail;
 
 const FLAT: &str = "L1,42,ENG,1,101,,,,,Flat 2,12,A,14,,,2001-04-01,";
-
-fn custodian(number: u64) -> Result<Code, Fail> {
-    Ok(Code::of(number).ok_or("a code")?)
-}
-
-fn volume(number: u64) -> Result<Volume, Fail> {
-    Ok(Volume::of(number).ok_or("a volume")?)
-}
-
-fn item(alloc: Global, kind: Kind, row: &str) -> Result<SharedItem, Fail> {
-    let item = item_of_text(alloc, kind, row.as_bytes())?;
-    Ok(SharedItem::new(alloc, item)?)
-}
 
 // A volume that puts these rows.
 fn puts<K: Inbox>(
@@ -305,7 +293,7 @@ fn a_street_closes(rt: HostRuntime) -> Result<(), Fail> {
     many(&rt, &mut shelf, &register)
 }
 
-// More addresses than two pages hold, all on the closed street.
+// More addresses than nine pages hold, all on the closed street.
 fn many<K: Inbox>(
     rt: &(impl Abort + AllocGlobal),
     shelf: &mut K,
@@ -314,17 +302,17 @@ fn many<K: Inbox>(
     requires { (K.seen shelf.old).progress ≡ Idle }
 {
     let mut items = Vec::new(rt.alloc());
-    for n in 1000_u64..2100 {
+    for n in 1000_u64..6000 {
         let row = format!(in rt.alloc(); "A{n},{n},ENG,1,150,,,,,,7,,,,,2020-01-01,")?;
         items.push(item(rt.alloc(), Kind::Lpi, row.as_str())?)?;
     }
     shelf.receive(custodian(1002)?, volume(2)?, b"a file")?;
     write_volume(shelf, custodian(1002)?, items, Ending::Keep)?;
-    has_closed(rt, shelf, register, 1101, "A1000")?;
+    has_closed(rt, shelf, register, 5001, "A1000")?;
     let text = extract(rt.alloc(), shelf, custodian(1002)?, volume(2)?)?.ok_or("no extract")?;
     assert!(rt;
         text.as_slice().ends_with(
-            b"24,I,1102,K1,100001,ENG,1,150,,,,,,7,,,,,2020-01-01,\n99,1102\n"
+            b"24,I,5002,K1,100001,ENG,1,150,,,,,,7,,,,,2020-01-01,\n99,5002\n"
         )
     );
     Ok(())

@@ -1,6 +1,8 @@
 //! One conversation after another over one hub, and what is too large for a file of conversations. The expected texts are those of docs/exchange.md.
 
 use crate::hubs::mem_hub;
+use crate::large_files::largest_file;
+use crate::streams::APPLIED;
 use gaz_exchange::{Ended, Served, Stopped, converse};
 use gaz_register::RegFault;
 use std::alloc::Global;
@@ -49,16 +51,18 @@ fn what_breaks_the_framing_is_not_received(rt: HostRuntime) -> Result<(), Fail> 
 }
 
 #[test]
-fn a_body_of_1_mib_is_read(rt: HostRuntime) -> Result<(), Fail> {
+fn the_largest_file_is_read_and_told(rt: HostRuntime) -> Result<(), Fail> {
     let head = b"POST /custodians/1001/volumes/1 HTTP/1.1\r\nContent-Length: 1048576\r\n\r\n";
-    let mut request = Vec::from_slice(rt.alloc(), head)?;
-    request.extend_from_slice(&vec![in rt.alloc(); b'a'; 1_048_576]?)?;
+    let mut requests = Vec::from_slice(rt.alloc(), head)?;
+    requests.extend_from_slice(&largest_file(rt.alloc())?)?;
+    requests.extend_from_slice(b"GET /custodians/1001/volumes/1 HTTP/1.1\r\n\r\n")?;
     let mut hub = mem_hub(rt.alloc())?;
     let mut out = Vec::new(rt.alloc());
-    let ended = converse(rt.alloc(), &mut request.as_slice(), &mut out, &mut hub, 9);
+    let ended = converse(rt.alloc(), &mut requests.as_slice(), &mut out, &mut hub, 9);
     let told =
-        "HTTP/1.1 201 Created\r\nContent-Type: application/json\r\nContent-Length: 43\r\n\r\n{\"outcome\":\"rejected\",\"record\":1,\"rule\":2}\n";
-    assert_eq!(rt; out.as_slice(), told.as_bytes());
-    assert!(rt; ended.is_ok_and(|served| served.requests == 1));
+        "HTTP/1.1 200 OK\r\nContent-Type: application/json\r\nContent-Length: 98\r\n\r\n{\"digest\":\"43d3316140e2e89539ead882e7c0602c3155255730a2c439487d16084a7a1690\",\"outcome\":\"applied\"}\n";
+    let both = format!(in rt.alloc(); "{APPLIED}{told}")?;
+    assert_eq!(rt; out.as_slice(), both.as_bytes());
+    assert!(rt; ended.is_ok_and(|served| served.requests == 2));
     Ok(())
 }

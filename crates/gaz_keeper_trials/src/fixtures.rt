@@ -1,0 +1,94 @@
+//! Numbers, keys and items of text, and a book and a keeper to begin with.
+ghost use Rattle.std.specs.Prelude.{IfOk};
+ghost use Rattle.gaz_shelf.specs.Keeper.{IsNotOpen};
+ghost use Rattle.gaz_shelf.specs.Mem.{seen_in};
+
+use gaz_ids::{Code, Uprn, Usrn, Volume};
+use gaz_ledger::{Book, Verdict};
+use gaz_records::{Key, Kind, RecordKey, SharedItem, item_of_text, key_of};
+use gaz_shelf::{Inbox, MemShelf, Seed};
+use std::alloc::Global;
+use std::test::Fail;
+
+pub(crate) fn custodian(number: u64) -> Result<Code, Fail> {
+    Ok(Code::of(number).ok_or("a code")?)
+}
+
+pub(crate) fn volume(number: u64) -> Result<Volume, Fail> {
+    Ok(Volume::of(number).ok_or("a volume")?)
+}
+
+pub(crate) fn blpu_key(number: u64) -> Result<Key, Fail> {
+    Ok(Key::Blpu(Uprn::of(number).ok_or("a UPRN")?))
+}
+
+pub(crate) fn street_key(number: u64) -> Result<Key, Fail> {
+    Ok(Key::Street(Usrn::of(number).ok_or("a USRN")?))
+}
+
+pub(crate) fn lpi_key(text: &str) -> Result<Key, Fail> {
+    Ok(Key::Lpi(RecordKey::read(text.as_bytes()).ok_or("a key")?))
+}
+
+pub(crate) fn xref_key(text: &str) -> Result<Key, Fail> {
+    Ok(Key::Xref(RecordKey::read(text.as_bytes()).ok_or("a key")?))
+}
+
+pub(crate) fn item(alloc: Global, kind: Kind, row: &str) -> Result<SharedItem, Fail> {
+    Ok(SharedItem::new(alloc, item_of_text(alloc, kind, row.as_bytes())?)?)
+}
+
+/// What is done to a book: an item of a row is put, or what stands under its key is taken, or a volume ends.
+#[derive(Clone, Copy)]
+pub(crate) enum Step {
+    Put(Kind, &'static str),
+    Take(Kind, &'static str),
+    Close,
+    Reject { place: u64, rule: u8 },
+    Undo,
+}
+
+pub(crate) fn puts(alloc: Global, book: &mut Book, kind: Kind, row: &str) -> Result<(), Fail> {
+    book.put(item(alloc, kind, row)?)?;
+    Ok(())
+}
+
+fn takes(alloc: Global, book: &mut Book, kind: Kind, row: &str) -> Result<(), Fail> {
+    let key = key_of(item(alloc, kind, row)?.as_item());
+    book.take(&key)?;
+    Ok(())
+}
+
+pub(crate) fn closes(book: &mut Book, verdict: Verdict) -> Result<(), Fail> {
+    book.close(verdict)?;
+    Ok(())
+}
+
+fn steps(alloc: Global, book: &mut Book, step: Step) -> Result<(), Fail> {
+    match step {
+        Step::Put(kind, row) => puts(alloc, book, kind, row),
+        Step::Take(kind, row) => takes(alloc, book, kind, row),
+        Step::Close => closes(book, Verdict::Applied),
+        Step::Reject { place, rule } => closes(book, Verdict::Rejected { place, rule }),
+        Step::Undo => {
+            book.undo();
+            Ok(())
+        }
+    }
+}
+
+pub(crate) fn walks(alloc: Global, book: &mut Book, path: &[Step]) -> Result<(), Fail> {
+    for step in path {
+        steps(alloc, book, *step)?;
+    }
+    Ok(())
+}
+
+// A keeper that received one file.
+pub(crate) fn received(alloc: Global) -> Result<MemShelf, Fail>
+    ensures { IfOk result (λ s. IsNotOpen (seen_in s).progress) }
+{
+    let mut shelf = MemShelf::new(alloc, Seed::of(1));
+    shelf.receive(custodian(1001)?, volume(1)?, b"a file")?;
+    Ok(shelf)
+}
