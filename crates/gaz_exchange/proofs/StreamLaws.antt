@@ -108,7 +108,7 @@ all_same most bytes [] (f ∷ fs) rest left c k a b = absurd (not_all most bytes
 all_same most bytes (e ∷ es) [] rest left c k a b = absurd (not_all most bytes e es left rest k c b)
 all_same most bytes (e ∷ es) (f ∷ fs) rest left c k a b =
     let first = first_same most bytes e f es fs rest left c k in
-    pairs_same e f first.1 first.2 (requests_of es) (requests_of fs) 
+    pairs_same e f first.1 first.2 (requests_of es) (requests_of fs)
     (all_behind most bytes e f es fs rest left c k first.1 (λ after x y p q. all_same (most - 1) after es fs rest left x y p q) a b (ends_after most e) refl)
 
 pub bytes_tell_requests_holds : BytesTellRequests
