@@ -2,3 +2,4 @@ pub mod Characters
 pub mod Reading
 pub mod Rounds
 pub mod HouseOrder
+pub mod Undoing

@@ -1,4 +1,4 @@
-ghost use Rattle.std.specs.Prelude.{◌≡◌, ◌++◌, OnOk, true};
+ghost use Rattle.std.specs.Prelude.{◌≡◌, ◌++◌, ◌∷◌, OnErr, OnOk, true};
 ghost use Rattle.gaz_addressable.specs.HouseNumbers.{house_cmp, is_before, is_house_number, is_range, number_text, range_text, suffix_text};
 
 use gaz_ids::Number;
@@ -68,9 +68,10 @@ impl HouseNumber {
         self.compare(other).is_lt()
     }
 
-    /// Adds the suffix, if there is one.
+    /// Adds the suffix, if there is one. After want of memory `out` is as it was.
     pub fn write_suffix(&self, out: &mut Vec<u8>) -> Result<(), AllocError>
-        ensures { OnOk result (out.new.items ≡ out.old.items ++ suffix_text self.now.suffix) }
+        ensures text { OnOk result (out.new.items ≡ out.old.items ++ suffix_text self.now.suffix) }
+        ensures undone { OnErr result (out.new.items ≡ out.old.items) }
     {
         match self.suffix {
             Some(letter) => Ok(out.push(letter)?),
@@ -78,14 +79,36 @@ impl HouseNumber {
         }
     }
 
-    /// Adds the number and its suffix, as `12A`.
+    #[tactic(auto, using(crate::proofs::Undoing::undoing))]
+    /// Adds the number and its suffix, as `12A`. After want of memory `out` is as it was.
     pub fn write(&self, out: &mut Vec<u8>) -> Result<(), AllocError>
-        ensures { OnOk result (out.new.items ≡ out.old.items ++ number_text self.now) }
+        ensures text { OnOk result (out.new.items ≡ out.old.items ++ number_text self.now) }
+        ensures undone { OnErr result (out.new.items ≡ out.old.items) }
     {
+        let was = out.len();
         let mut buffer = Buffer::new();
         let digits = buffer.format(self.n.number());
         out.extend_from_slice(digits.as_bytes())?;
-        self.write_suffix(out)
+        if let Err(fault) = self.write_suffix(out) {
+            out.truncate(was);
+            return Err(fault);
+        }
+        Ok(())
+    }
+
+    #[tactic(auto, using(crate::proofs::Undoing::undoing))]
+    // Adds a dash and the number. After want of memory `out` is as it was.
+    fn write_end(&self, out: &mut Vec<u8>) -> Result<(), AllocError>
+        ensures text { OnOk result (out.new.items ≡ out.old.items ++ 45 ∷ number_text self.now) }
+        ensures undone { OnErr result (out.new.items ≡ out.old.items) }
+    {
+        let was = out.len();
+        out.push(b'-')?;
+        if let Err(fault) = self.write(out) {
+            out.truncate(was);
+            return Err(fault);
+        }
+        Ok(())
     }
 }
 
@@ -100,17 +123,20 @@ impl Range {
         }
     }
 
-    /// Adds the numbers, as `12A-14`, or as `12A` where there is one.
+    #[tactic(auto, using(crate::proofs::Undoing::undoing))]
+    /// Adds the numbers, as `12A-14`, or as `12A` where there is one. After want of memory `out` is as it was.
     pub fn write(&self, out: &mut Vec<u8>) -> Result<(), AllocError>
-        ensures { OnOk result (out.new.items ≡ out.old.items ++ range_text self.now) }
+        ensures text { OnOk result (out.new.items ≡ out.old.items ++ range_text self.now) }
+        ensures undone { OnErr result (out.new.items ≡ out.old.items) }
     {
+        let was = out.len();
         self.from.write(out)?;
-        match &self.to {
-            Some(to) => {
-                out.push(b'-')?;
-                to.write(out)
+        if let Some(to) = &self.to {
+            if let Err(fault) = to.write_end(out) {
+                out.truncate(was);
+                return Err(fault);
             }
-            None => Ok(()),
         }
+        Ok(())
     }
 }

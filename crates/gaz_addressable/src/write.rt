@@ -1,4 +1,4 @@
-ghost use Rattle.std.specs.Prelude.{◌≡◌, ◌++◌, IfOk, OnOk, Ok, map, option_map, true};
+ghost use Rattle.std.specs.Prelude.{◌≡◌, ◌++◌, IfOk, OnErr, OnOk, Ok, map, option_map, true};
 ghost use Rattle.gaz_addressable.specs.HouseNumbers.{numbers_text};
 ghost use Rattle.gaz_addressable.specs.Objects.{digits_text, from_of, is_object, letter_text, object_of_fields, or_empty, texts_of, to_of};
 
@@ -68,9 +68,10 @@ impl Object {
         }
     }
 
-    /// Adds the house numbers, as `12A-14`, and nothing where there are none.
+    /// Adds the house numbers, as `12A-14`, and nothing where there are none. After want of memory `out` is as it was.
     pub fn write_numbers(&self, out: &mut Vec<u8>) -> Result<(), AllocError>
-        ensures { OnOk result (out.new.items ≡ out.old.items ++ numbers_text self.now.range) }
+        ensures text { OnOk result (out.new.items ≡ out.old.items ++ numbers_text self.now.range) }
+        ensures undone { OnErr result (out.new.items ≡ out.old.items) }
     {
         match &self.range {
             Some(range) => range.write(out),

@@ -4,6 +4,7 @@ pub mod Places
 pub mod LabelBytes
 pub mod LabelOrder
 pub mod Written
+pub mod Growing
 pub mod Says
 pub mod FieldsBack
 pub mod ItemsBack

@@ -1,3 +1,4 @@
+pub mod Appending
 pub mod Days
 pub mod Fields
 pub mod Labels

@@ -3,6 +3,7 @@ ghost use Rattle.csv.specs.Records.{fields_of};
 ghost use Rattle.gaz_rows.specs.Rows.{line_of};
 ghost use Rattle.gaz_records.specs.Fields.{OrMemory};
 ghost use Rattle.gaz_records.specs.Blpus.{blpu_texts, is_blpu, read_blpu};
+ghost use Rattle.gaz_records.specs.Appending.{Grows};
 
 use crate::day::Day;
 use crate::fields::FieldFault;
@@ -98,7 +99,8 @@ impl Blpu {
 
     /// Adds the row of the fields as `csv` writes it, without a line end.
     pub(crate) fn write(&self, out: &mut Vec<u8>) -> Result<(), AllocError>
-        ensures { OnOk result (out.new.items ≡ out.old.items ++ line_of (blpu_texts self.now)) }
+        ensures row { OnOk result (out.new.items ≡ out.old.items ++ line_of (blpu_texts self.now)) }
+        ensures kept { Grows out.old.items out.new.items }
     {
         add_number(out, self.uprn.number())?;
         next_field(out, self.status.text())?;

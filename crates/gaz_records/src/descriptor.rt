@@ -3,6 +3,7 @@ ghost use Rattle.csv.specs.Records.{fields_of};
 ghost use Rattle.gaz_rows.specs.Rows.{line_of};
 ghost use Rattle.gaz_records.specs.Fields.{OrMemory};
 ghost use Rattle.gaz_records.specs.Descriptors.{descriptor_texts, is_descriptor, read_descriptor};
+ghost use Rattle.gaz_records.specs.Appending.{Grows};
 
 use crate::fields::FieldFault;
 use crate::reading::Fields;
@@ -79,7 +80,8 @@ impl Descriptor {
 
     /// Adds the row of the fields as `csv` writes it, without a line end.
     pub(crate) fn write(&self, out: &mut Vec<u8>) -> Result<(), AllocError>
-        ensures { OnOk result (out.new.items ≡ out.old.items ++ line_of (descriptor_texts self.now)) }
+        ensures row { OnOk result (out.new.items ≡ out.old.items ++ line_of (descriptor_texts self.now)) }
+        ensures kept { Grows out.old.items out.new.items }
     {
         add_number(out, self.usrn.number())?;
         next_field(out, self.lang.text())?;

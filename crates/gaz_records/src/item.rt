@@ -1,7 +1,8 @@
-ghost use Rattle.std.specs.Prelude.{◌≡◌, ◌≤◌, ◌++◌, drop, IfOk, Ok, OnOk, true};
+ghost use Rattle.std.specs.Prelude.{◌≡◌, ◌≤◌, ◌++◌, drop, IfOk, Ok, OnErr, OnOk, true};
 ghost use Rattle.csv.specs.Records.{fields_of};
 ghost use Rattle.gaz_records.specs.Fields.{OrMemory};
 ghost use Rattle.gaz_records.specs.Items.{is_item, item_of_text, item_text, kind_of, read_item};
+ghost use Rattle.gaz_records.specs.Appending.{Grows};
 
 use crate::blpu::Blpu;
 use crate::descriptor::Descriptor;
@@ -114,9 +115,11 @@ impl Item {
     }
 }
 
-/// Adds the row of the item's fields as `csv` writes it, without a line end. After want of memory a part of the row may be there.
-pub fn write_item(item: &Item, out: &mut Vec<u8>) -> Result<(), AllocError>
-    ensures { OnOk result (out.new.items ≡ out.old.items ++ item_text item.now) }
+#[tactic(auto, using(crate::proofs::Growing::growing))]
+// Adds the row of the item's fields. After want of memory a part of it may be there.
+fn add_row(item: &Item, out: &mut Vec<u8>) -> Result<(), AllocError>
+    ensures row { OnOk result (out.new.items ≡ out.old.items ++ item_text item.now) }
+    ensures kept { Grows out.old.items out.new.items }
 {
     match item {
         Item::Street(street) => Ok(street.write(out)?),
@@ -125,6 +128,20 @@ pub fn write_item(item: &Item, out: &mut Vec<u8>) -> Result<(), AllocError>
         Item::Xref(xref) => Ok(xref.write(out)?),
         Item::Lpi(lpi) => Ok(lpi.write(out)?),
     }
+}
+
+#[tactic(auto, using(crate::proofs::Growing::growing))]
+/// Adds the row of the item's fields as `csv` writes it, without a line end. After want of memory `out` is as it was.
+pub fn write_item(item: &Item, out: &mut Vec<u8>) -> Result<(), AllocError>
+    ensures row { OnOk result (out.new.items ≡ out.old.items ++ item_text item.now) }
+    ensures undone { OnErr result (out.new.items ≡ out.old.items) }
+{
+    let was = out.len();
+    if let Err(fault) = add_row(item, out) {
+        out.truncate(was);
+        return Err(fault);
+    }
+    Ok(())
 }
 
 /// The row of the item's fields as `csv` writes it, without a line end. It reads back as the same item.

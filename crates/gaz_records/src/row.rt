@@ -6,6 +6,7 @@ ghost use Rattle.gaz_records.specs.Days.{date_text, end_text};
 ghost use Rattle.gaz_records.specs.Fields.{or_empty};
 ghost use Rattle.gaz_records.specs.Blpus.{parent_text};
 ghost use Rattle.gaz_records.specs.Lpis.{secondary_texts};
+ghost use Rattle.gaz_records.specs.Appending.{Grows};
 
 use crate::day::Day;
 use gaz_addressable::{HouseNumber, Object, Text};
@@ -25,10 +26,11 @@ fn needs_quotes(field: &[u8]) -> bool
     false
 }
 
-#[tactic(auto, using(std::proofs::lemmas::Bool::Decides::nat_tests, crate::proofs::Written::writing))]
+#[tactic(auto, using(std::proofs::lemmas::Bool::Decides::nat_tests, crate::proofs::Written::writing, crate::proofs::Growing::growing))]
 // Adds the bytes of a field between its quotes, in which each quote stands twice.
 fn add_escaped(out: &mut Vec<u8>, field: &[u8]) -> Result<(), AllocError>
-    ensures { OnOk result (out.new.items ≡ out.old.items ++ escaped default_writer field.now) }
+    ensures row { OnOk result (out.new.items ≡ out.old.items ++ escaped default_writer field.now) }
+    ensures kept { Grows out.old.items out.new.items }
 {
     for byte in field {
         if *byte == b'"' {
@@ -39,9 +41,11 @@ fn add_escaped(out: &mut Vec<u8>, field: &[u8]) -> Result<(), AllocError>
     Ok(())
 }
 
+#[tactic(auto, using(crate::proofs::Growing::growing))]
 /// Adds a field as `csv` writes it.
 pub fn add_field(out: &mut Vec<u8>, field: &[u8]) -> Result<(), AllocError>
-    ensures { OnOk result (out.new.items ≡ out.old.items ++ field_text default_writer field.now) }
+    ensures row { OnOk result (out.new.items ≡ out.old.items ++ field_text default_writer field.now) }
+    ensures kept { Grows out.old.items out.new.items }
 {
     if !needs_quotes(field) {
         return out.extend_from_slice(field);
@@ -52,10 +56,11 @@ pub fn add_field(out: &mut Vec<u8>, field: &[u8]) -> Result<(), AllocError>
     Ok(())
 }
 
-#[tactic(auto, using(crate::proofs::Written::writing))]
+#[tactic(auto, using(crate::proofs::Written::writing, crate::proofs::Growing::growing))]
 /// Adds a comma and a field.
 pub fn next_field(out: &mut Vec<u8>, field: &[u8]) -> Result<(), AllocError>
-    ensures { OnOk result (out.new.items ≡ out.old.items ++ fields_text default_writer (field.now ∷ [])) }
+    ensures row { OnOk result (out.new.items ≡ out.old.items ++ fields_text default_writer (field.now ∷ [])) }
+    ensures kept { Grows out.old.items out.new.items }
 {
     out.push(b',')?;
     add_field(out, field)?;
@@ -64,7 +69,8 @@ pub fn next_field(out: &mut Vec<u8>, field: &[u8]) -> Result<(), AllocError>
 
 /// Adds the digits of a number.
 pub fn add_number(out: &mut Vec<u8>, n: u64) -> Result<(), AllocError>
-    ensures { OnOk result (out.new.items ≡ out.old.items ++ field_text default_writer (decimal n)) }
+    ensures row { OnOk result (out.new.items ≡ out.old.items ++ field_text default_writer (decimal n)) }
+    ensures kept { Grows out.old.items out.new.items }
 {
     let mut buffer = Buffer::new();
     add_field(out, buffer.format(n).as_bytes())
@@ -72,7 +78,8 @@ pub fn add_number(out: &mut Vec<u8>, n: u64) -> Result<(), AllocError>
 
 /// Adds a comma and the digits of a number.
 pub fn next_number(out: &mut Vec<u8>, n: u64) -> Result<(), AllocError>
-    ensures { OnOk result (out.new.items ≡ out.old.items ++ fields_text default_writer (decimal n ∷ [])) }
+    ensures row { OnOk result (out.new.items ≡ out.old.items ++ fields_text default_writer (decimal n ∷ [])) }
+    ensures kept { Grows out.old.items out.new.items }
 {
     let mut buffer = Buffer::new();
     next_field(out, buffer.format(n).as_bytes())
@@ -83,7 +90,8 @@ pub fn next_text<const MOST: u64>(
     out: &mut Vec<u8>,
     text: &Option<Text<MOST>>,
 ) -> Result<(), AllocError>
-    ensures { OnOk result (out.new.items ≡ out.old.items ++ fields_text default_writer (or_empty text.now ∷ [])) }
+    ensures row { OnOk result (out.new.items ≡ out.old.items ++ fields_text default_writer (or_empty text.now ∷ [])) }
+    ensures kept { Grows out.old.items out.new.items }
 {
     match text {
         Some(text) => next_field(out, text.as_bytes()),
@@ -93,7 +101,8 @@ pub fn next_text<const MOST: u64>(
 
 /// Adds a comma and the digits of a UPRN, if there is one.
 pub fn next_parent(out: &mut Vec<u8>, parent: Option<Uprn>) -> Result<(), AllocError>
-    ensures { OnOk result (out.new.items ≡ out.old.items ++ fields_text default_writer (parent_text parent ∷ [])) }
+    ensures row { OnOk result (out.new.items ≡ out.old.items ++ fields_text default_writer (parent_text parent ∷ [])) }
+    ensures kept { Grows out.old.items out.new.items }
 {
     match parent {
         Some(uprn) => next_number(out, uprn.number()),
@@ -103,7 +112,8 @@ pub fn next_parent(out: &mut Vec<u8>, parent: Option<Uprn>) -> Result<(), AllocE
 
 // Adds a comma and the digits of a house number, if there is one.
 fn next_digits(out: &mut Vec<u8>, number: Option<HouseNumber>) -> Result<(), AllocError>
-    ensures { OnOk result (out.new.items ≡ out.old.items ++ fields_text default_writer (digits_text number ∷ [])) }
+    ensures row { OnOk result (out.new.items ≡ out.old.items ++ fields_text default_writer (digits_text number ∷ [])) }
+    ensures kept { Grows out.old.items out.new.items }
 {
     match number {
         Some(number) => next_number(out, number.n.number()),
@@ -113,7 +123,8 @@ fn next_digits(out: &mut Vec<u8>, number: Option<HouseNumber>) -> Result<(), All
 
 // Adds a comma and the suffix of a house number, if it has one.
 fn next_letter(out: &mut Vec<u8>, number: Option<HouseNumber>) -> Result<(), AllocError>
-    ensures { OnOk result (out.new.items ≡ out.old.items ++ fields_text default_writer (letter_text number ∷ [])) }
+    ensures row { OnOk result (out.new.items ≡ out.old.items ++ fields_text default_writer (letter_text number ∷ [])) }
+    ensures kept { Grows out.old.items out.new.items }
 {
     match number {
         Some(number) => match number.suffix {
@@ -126,7 +137,8 @@ fn next_letter(out: &mut Vec<u8>, number: Option<HouseNumber>) -> Result<(), All
 
 /// Adds the five fields of an object, each behind a comma.
 pub fn next_object(out: &mut Vec<u8>, object: &Object) -> Result<(), AllocError>
-    ensures { OnOk result (out.new.items ≡ out.old.items ++ fields_text default_writer (texts_of object.now)) }
+    ensures row { OnOk result (out.new.items ≡ out.old.items ++ fields_text default_writer (texts_of object.now)) }
+    ensures kept { Grows out.old.items out.new.items }
 {
     next_digits(out, object.from())?;
     next_letter(out, object.from())?;
@@ -136,17 +148,19 @@ pub fn next_object(out: &mut Vec<u8>, object: &Object) -> Result<(), AllocError>
     Ok(())
 }
 
-#[tactic(auto, unfolding(csv::specs::Writing::fields_text))]
+#[tactic(auto, using(crate::proofs::Growing::growing), unfolding(csv::specs::Writing::fields_text))]
 // Adds five empty fields, each behind a comma.
 fn next_blank(out: &mut Vec<u8>) -> Result<(), AllocError>
-    ensures { OnOk result (out.new.items ≡ out.old.items ++ fields_text default_writer (secondary_texts None)) }
+    ensures row { OnOk result (out.new.items ≡ out.old.items ++ fields_text default_writer (secondary_texts None)) }
+    ensures kept { Grows out.old.items out.new.items }
 {
     out.extend_from_slice(b",,,,,")
 }
 
 /// Adds the five fields of an object, if there is one, each behind a comma.
 pub fn next_secondary(out: &mut Vec<u8>, object: &Option<Object>) -> Result<(), AllocError>
-    ensures { OnOk result (out.new.items ≡ out.old.items ++ fields_text default_writer (secondary_texts object.now)) }
+    ensures row { OnOk result (out.new.items ≡ out.old.items ++ fields_text default_writer (secondary_texts object.now)) }
+    ensures kept { Grows out.old.items out.new.items }
 {
     match object {
         Some(object) => next_object(out, object),
@@ -156,7 +170,8 @@ pub fn next_secondary(out: &mut Vec<u8>, object: &Option<Object>) -> Result<(), 
 
 // Adds a comma and a date, if there is one.
 fn next_end(out: &mut Vec<u8>, end: &Option<Day>) -> Result<(), AllocError>
-    ensures { OnOk result (out.new.items ≡ out.old.items ++ fields_text default_writer (end_text end.now ∷ [])) }
+    ensures row { OnOk result (out.new.items ≡ out.old.items ++ fields_text default_writer (end_text end.now ∷ [])) }
+    ensures kept { Grows out.old.items out.new.items }
 {
     match end {
         Some(end) => next_field(out, &end.digits()),
@@ -164,9 +179,11 @@ fn next_end(out: &mut Vec<u8>, end: &Option<Day>) -> Result<(), AllocError>
     }
 }
 
+#[tactic(auto, using(crate::proofs::Growing::growing))]
 /// Adds a start date and an end date, if there is one, each behind a comma.
 pub fn next_dates(out: &mut Vec<u8>, start: &Day, end: &Option<Day>) -> Result<(), AllocError>
-    ensures { OnOk result (out.new.items ≡ out.old.items ++ fields_text default_writer (date_text start.now ∷ end_text end.now ∷ [])) }
+    ensures row { OnOk result (out.new.items ≡ out.old.items ++ fields_text default_writer (date_text start.now ∷ end_text end.now ∷ [])) }
+    ensures kept { Grows out.old.items out.new.items }
 {
     next_field(out, &start.digits())?;
     next_end(out, end)?;

@@ -2,6 +2,7 @@ ghost use Rattle.std.specs.Prelude.{◌≡◌, ◌≤◌, ◌++◌, drop, OnOk, 
 ghost use Rattle.csv.specs.Records.{fields_of};
 ghost use Rattle.gaz_rows.specs.Rows.{line_of};
 ghost use Rattle.gaz_records.specs.Streets.{is_street, read_street, street_texts};
+ghost use Rattle.gaz_records.specs.Appending.{Grows};
 
 use crate::day::Day;
 use crate::fields::FieldFault;
@@ -71,9 +72,11 @@ impl Street {
         }
     }
 
+    #[tactic(auto, using(crate::proofs::Growing::growing))]
     /// Adds the row of the fields as `csv` writes it, without a line end.
     pub(crate) fn write(&self, out: &mut Vec<u8>) -> Result<(), AllocError>
-        ensures { OnOk result (out.new.items ≡ out.old.items ++ line_of (street_texts self.now)) }
+        ensures row { OnOk result (out.new.items ≡ out.old.items ++ line_of (street_texts self.now)) }
+        ensures kept { Grows out.old.items out.new.items }
     {
         add_number(out, self.usrn.number())?;
         next_number(out, u64::from(self.sort))?;

@@ -3,6 +3,7 @@ ghost use Rattle.csv.specs.Records.{fields_of};
 ghost use Rattle.gaz_rows.specs.Rows.{line_of};
 ghost use Rattle.gaz_records.specs.Fields.{OrMemory};
 ghost use Rattle.gaz_records.specs.Xrefs.{is_xref, read_xref, xref_texts};
+ghost use Rattle.gaz_records.specs.Appending.{Grows};
 
 use crate::day::Day;
 use crate::fields::FieldFault;
@@ -81,7 +82,8 @@ impl Xref {
 
     /// Adds the row of the fields as `csv` writes it, without a line end.
     pub(crate) fn write(&self, out: &mut Vec<u8>) -> Result<(), AllocError>
-        ensures { OnOk result (out.new.items ≡ out.old.items ++ line_of (xref_texts self.now)) }
+        ensures row { OnOk result (out.new.items ≡ out.old.items ++ line_of (xref_texts self.now)) }
+        ensures kept { Grows out.old.items out.new.items }
     {
         add_field(out, self.key.as_bytes())?;
         next_number(out, self.uprn.number())?;

@@ -9,5 +9,5 @@ pub returns : goal.returns
 returns c =
     let start = rw (c.text.ensures, c.kind.ensures, c.deref.ensures, c.text-2.ensures, c.as_bytes.ensures.value, c.format.ensures.text) at c.in_ok-start.ensures in
     by_parts c.args.out.now.items _ _ _ _ _ _ _ (rw (c.deref-2.ensures.value, start) at c.in_ok-extend_from_slice.ensures.items)
-    c.in_ok-push.ensures.items (rw c.deref-3.ensures at c.in_ok-write_item.ensures) c.in_ok-push-2.ensures.items
+    c.in_ok-push.ensures.items (rw c.deref-3.ensures at c.in_ok-write_item.ensures.row) c.in_ok-push-2.ensures.items
     (item_behind (identifier (kind_of c.args.change.now.item)) (action_text c.args.change.now.action) (decimal c.args.order) c.args.change.now.item)

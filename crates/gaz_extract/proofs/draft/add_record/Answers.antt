@@ -11,5 +11,5 @@ returns c =
     let insert = c.in_ok-extend_from_slice-2.ensures.items ∙ ap (λ o. o ++ codes ",I,") id in
     let order = c.in_ok-add_number.ensures ∙ ap (λ o. o ++ decimal c.args.order) insert in
     let comma = c.in_ok-push.ensures.items ∙ ap (λ o. o ++ (44 ∷ [])) order in
-    let row = c.in_ok-write_item.ensures ∙ ap (λ o. o ++ item_text c.args.item.now) comma in
+    let row = c.in_ok-write_item.ensures.row ∙ ap (λ o. o ++ item_text c.args.item.now) comma in
     c.in_ok-push-2.ensures.items ∙ ap (λ o. o ++ (10 ∷ [])) row ∙ record_written c.args.out.now.items c.args.order c.args.item.now c.ranges.order.fits
