@@ -65,7 +65,7 @@ def item_rows(folder, kind, count=5000):
     title, *forms = KINDS[kind]
     text = "".join(forms[k % 2].format(k=k) + "\n" for k in range(1, count + 1))
     path = in_file(folder, "rows.csv", text.encode())
-    times, rows = output_of("gaz_records_bench", kind, path, 300).split(b"\n", 1)
+    times, rows = output_of("gaz_bench", kind, path, 300).split(b"\n", 1)
     theirs = items.best_times(kind, text, 10)
     assert rows.decode() == theirs[2] == text, f"rows differ: {title}"
     for action, ours, their in zip((f"reading {title} from fields", f"writing rows of {title}"), times.split(), theirs):

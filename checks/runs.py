@@ -30,6 +30,7 @@ class Run:
     written: bytes = b""  # on standard output
     source: str = ""  # what is read in place of the bytes given
     sink: str = ""  # what is written to in place of this program
+    said_to: str = ""  # where the errors go in place of this program
 
 
 RUNS = (
@@ -39,7 +40,9 @@ RUNS = (
     Run("a request that is cut off", (), GET[:-2], 0, written=CUT_OFF),
     Run("another word", ("nonsense",), GET, 2, said=USAGE),
     Run("an empty word", ("",), GET, 2, said=USAGE),
-    Run("a word behind play", ("play", "nonsense"), GET, 2, said=USAGE),
+    Run("a word that begins with play", ("plays",), GET, 2, said=USAGE),
+    Run("a word behind play", ("play", "play"), GET, 2, said=USAGE),
+    Run("another word, and nobody to hear", ("nonsense",), GET, 2, said_to="/dev/full"),
     Run("a word that can't be read", (b"\xff",), GET, 3, said=READ_FAULT),
     Run("an input that can't be read", (), b"", 3, said=READ_FAULT, source="/"),
     Run("an output that takes nothing", (), GET, 3, said=WRITE_FAULT, sink="/dev/full"),
@@ -51,12 +54,15 @@ def fault_of(program: Path, run: Run, deadline: float = DEADLINE) -> str | None:
     """What is wrong with how a run ends."""
     with contextlib.ExitStack() as opened:
         given = {"stdin": opened.enter_context(_opened(run.source, os.O_RDONLY))} if run.source else {"input": run.given}
-        taken = opened.enter_context(_opened(run.sink, os.O_WRONLY)) if run.sink else subprocess.PIPE
+        taken = {
+            name: opened.enter_context(_opened(path, os.O_WRONLY)) if path else subprocess.PIPE
+            for name, path in (("stdout", run.sink), ("stderr", run.said_to))
+        }
         try:
-            ran = subprocess.run([program, *run.words], stdout=taken, stderr=subprocess.PIPE, timeout=deadline, **given)
+            ran = subprocess.run([program, *run.words], timeout=deadline, **given, **taken)
         except subprocess.TimeoutExpired:
             return f"didn't end within {deadline:g} s"
-    said, written = difference(run.said, ran.stderr), difference(run.written, ran.stdout or b"")
+    said, written = difference(run.said, ran.stderr or b""), difference(run.written, ran.stdout or b"")
     faults = (
         f"exit status {ran.returncode}, wanted {run.status}" if ran.returncode != run.status else None,
         f"standard error {said}" if said else None,

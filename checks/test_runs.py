@@ -16,6 +16,7 @@ given=$(cat 2> /dev/null) || end 3 ReadFault
 ASKED = Run("a request", (), GET, 0, written=REPLY)
 WORD = Run("a word", ("nonsense",), GET, 2, said=USAGE)
 UNREADABLE = Run("a folder", (), b"", 3, said=READ_FAULT, source="/")
+UNHEARD = Run("a word that nobody hears of", ("nonsense",), GET, 2, said_to="/dev/full")
 FULL = Run("a full output", (), GET, 3, said=WRITE_FAULT, sink="/dev/full")
 
 
@@ -29,7 +30,7 @@ class Running(unittest.TestCase):
             return fault_of(program, run, deadline)
 
     def test_a_right_program_passes(self) -> None:
-        for run in (ASKED, WORD, UNREADABLE, FULL):
+        for run in (ASKED, WORD, UNHEARD, UNREADABLE, FULL):
             self.assertIsNone(self.fault(RIGHT, run), run.name)
 
     def test_another_status_is_reported(self) -> None:

@@ -3,8 +3,6 @@
 
 mod program;
 mod sample;
-#[cfg(test)]
-mod tests;
 
 use gaz_shelf::Seed;
 use program::command;
