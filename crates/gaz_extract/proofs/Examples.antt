@@ -13,9 +13,9 @@ use Rattle.gaz_records.proofs.KeyOrder.{keys_total}
 use Rattle.gaz_records.specs.Keys.{key_cmp, key_of}
 use Rattle.gaz_records.specs.declared.item.Item.{Item}
 use Rattle.gaz_records.specs.declared.key.Key.{Key}
-use Rattle.gaz_ledger.specs.View.{View, empty_view, with_item}
-use Rattle.gaz_ledger.specs.Words.{entries}
-use Rattle.gaz_ledger.proofs.Trees.{no_entries}
+use Rattle.gaz_views.specs.View.{View, empty_view, with_item}
+use Rattle.gaz_views.specs.Words.{entries}
+use Rattle.gaz_views.proofs.Trees.{no_entries}
 use Rattle.gaz_extract.specs.Examples.{WorkedClosings, WorkedExamples, WorkedExtracts, WorkedLines, WorkedLookups}
 
 -- the entries that putting these items one after another leaves

@@ -15,8 +15,8 @@ use Rattle.gaz_records.specs.declared.item.Kind.{Kind}
 use Rattle.gaz_records.specs.declared.item.Kind.TheVariants as kind
 use Rattle.gaz_records.specs.declared.key.Key.{Key}
 use Rattle.gaz_records.specs.declared.key.Key.TheVariants as key
-use Rattle.gaz_ledger.specs.View.{View}
-use Rattle.gaz_ledger.specs.Words.{entries, is_of}
+use Rattle.gaz_views.specs.View.{View}
+use Rattle.gaz_views.specs.Words.{entries, is_of}
 use Rattle.gaz_extract.specs.Drafts.{by_kind}
 use Rattle.gaz_extract.specs.Extracts.{items_of}
 

@@ -7,10 +7,10 @@ use Rattle.gaz_records.specs.Keys.{key_of}
 use Rattle.gaz_records.specs.declared.item.Item.{Item}
 use Rattle.gaz_records.specs.declared.item.Kind.{Kind}
 use Rattle.gaz_records.specs.declared.key.Key.{Key}
-use Rattle.gaz_ledger.proofs.Pages.{rows_keyed}
-use Rattle.gaz_ledger.specs.Reading.{IsKeyed, next_after}
-use Rattle.gaz_ledger.specs.View.{View}
-use Rattle.gaz_ledger.specs.Words.{comes_after, entries, is_of, page, rest_of}
+use Rattle.gaz_views.proofs.Pages.{rows_keyed}
+use Rattle.gaz_views.specs.Reading.{IsKeyed, next_after}
+use Rattle.gaz_views.specs.View.{View}
+use Rattle.gaz_views.specs.Words.{comes_after, entries, is_of, page, rest_of}
 use Rattle.gaz_extract.specs.Paging.{rising}
 
 abbrev Row : Type 0

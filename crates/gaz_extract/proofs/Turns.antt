@@ -6,9 +6,9 @@ use Rattle.gaz_records.specs.declared.item.Kind.{Kind}
 use Rattle.gaz_records.specs.declared.key.Key.{Key}
 use Rattle.gaz_shelf.specs.Board.{reached, view_after}
 use Rattle.gaz_shelf.specs.Keeper.{Content, Keeps, Seen}
-use Rattle.gaz_ledger.specs.Reading.{left_after}
-use Rattle.gaz_ledger.specs.View.{View}
-use Rattle.gaz_ledger.specs.Words.{rest_of}
+use Rattle.gaz_views.specs.Reading.{left_after}
+use Rattle.gaz_views.specs.View.{View}
+use Rattle.gaz_views.specs.Words.{rest_of}
 use Rattle.gaz_extract.specs.Drafts.{DraftValue, with_items}
 use Rattle.gaz_extract.proofs.Rows.{with-append}
 

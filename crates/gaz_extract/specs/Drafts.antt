@@ -3,8 +3,8 @@ use Rattle.std.specs.Prelude.{ℕ, ◌+◌, List, ◌++◌, length}
 use Rattle.gaz_records.specs.declared.item.Item.{Item}
 use Rattle.gaz_records.specs.declared.item.Kind.TheVariants as kind
 use Rattle.gaz_rows.specs.Rows.{lines_of}
-use Rattle.gaz_ledger.specs.View.{View}
-use Rattle.gaz_ledger.specs.Words.{rest_of}
+use Rattle.gaz_views.specs.View.{View}
+use Rattle.gaz_views.specs.Words.{rest_of}
 use Rattle.std.specs.Prelude.{None}
 use Rattle.gaz_extract.specs.Extracts.{records_from}
 

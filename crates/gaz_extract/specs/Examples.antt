@@ -13,8 +13,8 @@ use Rattle.gaz_records.specs.declared.item.Item.{Item}
 use Rattle.gaz_records.specs.declared.item.Item.TheVariants as item
 use Rattle.gaz_register.specs.Registers.{RegisterValue}
 use Rattle.gaz_shelf.specs.Board.{Board}
-use Rattle.gaz_ledger.specs.View.{View, empty_view, with_item}
-use Rattle.gaz_ledger.specs.declared.verdict.Verdict.TheVariants.{Applied}
+use Rattle.gaz_views.specs.View.{View, empty_view, with_item}
+use Rattle.gaz_views.specs.declared.verdict.Verdict.TheVariants.{Applied}
 use Rattle.gaz_extract.specs.Closing.{closed_streets}
 use Rattle.gaz_extract.specs.Extracts.{extract}
 use Rattle.gaz_extract.specs.Lines.{line_text}

@@ -5,8 +5,8 @@ use Rattle.gaz_records.specs.Kinds.{identifier}
 use Rattle.gaz_records.specs.declared.item.Item.{Item}
 use Rattle.gaz_rows.specs.Rows.{Fields, lines_of}
 use Rattle.gaz_shelf.specs.Board.{Board, reached, view_after}
-use Rattle.gaz_ledger.specs.View.{View}
-use Rattle.gaz_ledger.specs.Words.{entries}
+use Rattle.gaz_views.specs.View.{View}
+use Rattle.gaz_views.specs.Words.{entries}
 
 -- the record that inserts an item, at its place in the order
 abbrev pub record_of : ℕ → Item → Fields

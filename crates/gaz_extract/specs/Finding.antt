@@ -10,7 +10,7 @@ use Rattle.gaz_records.specs.Streets.{StreetValue}
 use Rattle.gaz_records.specs.declared.item.Item.{Item}
 use Rattle.gaz_records.specs.declared.item.Item.TheVariants as item
 use Rattle.gaz_records.specs.declared.key.Key.TheVariants as key
-use Rattle.gaz_ledger.specs.View.{View}
+use Rattle.gaz_views.specs.View.{View}
 
 abbrev pub as_street : Item → Option StreetValue
 as_street (item.Street s) = Some s

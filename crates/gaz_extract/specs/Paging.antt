@@ -2,7 +2,7 @@
 use Rattle.std.specs.Prelude.{ℕ, suc, ◌+◌, ◌-◌, ◌*◌, Option, Some, None, if◌then◌else◌}
 use Rattle.gaz_records.specs.SortKeys.{high_of, low_of, seven_bytes}
 use Rattle.gaz_records.specs.declared.key.Key.{Key}
-use Rattle.gaz_ledger.specs.Words.{comes_after}
+use Rattle.gaz_views.specs.Words.{comes_after}
 
 -- the key after which the next page would begin, where it comes after the one after which this page began
 abbrev pub rising : Option Key → Option Key → Option Key

@@ -1,8 +1,8 @@
 ghost use Rattle.std.specs.Prelude.{◌≡◌, ◌≤◌, ◌<◌, None, true, is_some, option_map, IfOk};
 ghost use Rattle.gaz_shelf.specs.Board.{reached, view_after};
 ghost use Rattle.gaz_shelf.specs.Keeper.{IsNotOpen};
-ghost use Rattle.gaz_ledger.specs.Reading.{left_after};
-ghost use Rattle.gaz_ledger.specs.Words.{rest_of};
+ghost use Rattle.gaz_views.specs.Reading.{left_after};
+ghost use Rattle.gaz_views.specs.Words.{rest_of};
 ghost use Rattle.gaz_extract.specs.Drafts.{by_kind, with_items};
 ghost use Rattle.gaz_extract.specs.Extracts.{extract};
 ghost use Rattle.gaz_extract.specs.Paging.{pages_left};

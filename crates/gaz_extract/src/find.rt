@@ -4,7 +4,7 @@ ghost use Rattle.std.specs.FinMap as map;
 ghost use Rattle.std.specs.Option.{option_and_then};
 ghost use Rattle.gaz_shelf.specs.Keeper.{IsNotOpen};
 ghost use Rattle.gaz_shelf.specs.Board.{last_view};
-ghost use Rattle.gaz_ledger.specs.Words.{property_of};
+ghost use Rattle.gaz_views.specs.Words.{property_of};
 ghost use Rattle.gaz_extract.specs.Finding.{as_descriptor, descriptor_at, has_closed_street, street_at};
 ghost use Rattle.gaz_extract.specs.Readings.{Tells};
 

@@ -4,8 +4,8 @@ ghost use Rattle.gaz_records.specs.Keys.{number_in};
 ghost use Rattle.gaz_records.specs.SortKeys.{has_label, seven_bytes};
 ghost use Rattle.gaz_shelf.specs.Board.{reached, view_after};
 ghost use Rattle.gaz_shelf.specs.Keeper.{IsNotOpen};
-ghost use Rattle.gaz_ledger.specs.Reading.{left_after, next_after};
-ghost use Rattle.gaz_ledger.specs.Words.{comes_after, rest_of};
+ghost use Rattle.gaz_views.specs.Reading.{left_after, next_after};
+ghost use Rattle.gaz_views.specs.Words.{comes_after, rest_of};
 ghost use Rattle.gaz_extract.specs.Paging.{pages_left, rising};
 ghost use Rattle.gaz_extract.specs.Readings.{Tells};
 

@@ -6,8 +6,8 @@ use Rattle.std.specs.FinMap as map
 use Rattle.gaz_rules.specs.Judging.{judge}
 use Rattle.gaz_rules.proofs.Worked.{views}
 use Rattle.gaz_shelf.specs.Board.{Judgement, Board, empty_board}
-use Rattle.gaz_ledger.specs.View.{empty_view}
-use Rattle.gaz_ledger.specs.declared.verdict.Verdict.TheVariants.{Applied, Rejected}
+use Rattle.gaz_views.specs.View.{empty_view}
+use Rattle.gaz_views.specs.declared.verdict.Verdict.TheVariants.{Applied, Rejected}
 use Rattle.gaz_shelf.specs.Received.{Received, with_file}
 use Rattle.gaz_hub.specs.Standing.{Follows, IsPartial, Leads, judge_one, ready, round, rounds, with_next}
 use Rattle.gaz_hub.specs.Sample.{sample_register}

@@ -5,7 +5,7 @@ use Rattle.gaz_records.specs.declared.key.Key.TheVariants as key
 use Rattle.gaz_register.specs.Registers.{IsRegister, RegisterValue, blocks_of}
 use Rattle.gaz_shelf.specs.Board.{Board, last_view, reached}
 use Rattle.gaz_shelf.specs.Received.{Received}
-use Rattle.gaz_ledger.specs.View.{holds}
+use Rattle.gaz_views.specs.View.{holds}
 use Rattle.gaz_hub.specs.Runs.{Run, is_settled}
 use Rattle.gaz_hub.specs.Standing.{HasAllOf, IsPartial, Register, standing}
 use Rattle.gaz_hub.specs.Step.{Ask, Command, Door, Extract, HubState, ListClosed, LookUp, Response, Settle, Stand, Step, Submit, new_hub}

@@ -2,7 +2,7 @@
 use Rattle.std.specs.Prelude.{◌≡◌, true, false, [], Some, None}
 use Rattle.gaz_register.specs.Registers.{within}
 use Rattle.gaz_shelf.specs.Board.{Board, empty_board, reached}
-use Rattle.gaz_ledger.specs.declared.verdict.Verdict.TheVariants as verdict
+use Rattle.gaz_views.specs.declared.verdict.Verdict.TheVariants as verdict
 use Rattle.gaz_hub.specs.Outcomes.{held_count, outcome, outcome_of, status, wants}
 use Rattle.gaz_hub.specs.Sample.{is_sample_code, sample_door, sample_register, state_of}
 use Rattle.gaz_hub.specs.declared.outcome.Outcome.TheVariants.{Applied, Rejected, Held}

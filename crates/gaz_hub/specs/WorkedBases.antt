@@ -2,9 +2,9 @@
 use Rattle.std.specs.Prelude.{◌≡◌, ◌==◌, true, false, List, [], ◌∷◌, ◌++◌, ℕ, if◌then◌else◌, codes, Some, None}
 use Rattle.std.specs.FinMap as map
 use Rattle.gaz_changefile.specs.Reading.{Good, Reading, reading}
-use Rattle.gaz_ledger.specs.Examples.{one_street}
-use Rattle.gaz_ledger.specs.View.{empty_view}
-use Rattle.gaz_ledger.specs.declared.verdict.Verdict.TheVariants as verdict
+use Rattle.gaz_views.specs.Examples.{one_street}
+use Rattle.gaz_views.specs.View.{empty_view}
+use Rattle.gaz_views.specs.declared.verdict.Verdict.TheVariants as verdict
 use Rattle.gaz_rules.specs.Examples.{file_of, insertion}
 use Rattle.gaz_shelf.specs.Board.{Board, Judgement, empty_board}
 use Rattle.gaz_shelf.specs.Received.{Received, with_file}

@@ -5,10 +5,10 @@ use Rattle.std.specs.FinMap as map
 use Rattle.gaz_changefile.specs.declared.change.Basis.{Basis}
 use Rattle.gaz_changefile.specs.Reading.{Bad}
 use Rattle.gaz_shelf.specs.Board.{Board, empty_board, reached}
-use Rattle.gaz_ledger.specs.Examples.{one_street}
+use Rattle.gaz_views.specs.Examples.{one_street}
 use Rattle.gaz_shelf.specs.Examples.{two_judged}
-use Rattle.gaz_ledger.specs.View.{empty_view}
-use Rattle.gaz_ledger.specs.declared.verdict.Verdict.TheVariants.{Applied, Rejected}
+use Rattle.gaz_views.specs.View.{empty_view}
+use Rattle.gaz_views.specs.declared.verdict.Verdict.TheVariants.{Applied, Rejected}
 use Rattle.gaz_rules.specs.Examples.{file_of, insertion}
 use Rattle.gaz_hub.specs.Standing.{HasAllOf, Follows, IsPartial, IsPrefixOf, Leads, NothingReady, StandsSettled, judge_one, judgement_after, next_reading, ready, round, rounds, standing, with_next}
 use Rattle.gaz_shelf.specs.Received.{pair_cmp, with_file}

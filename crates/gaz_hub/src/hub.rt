@@ -4,12 +4,13 @@ ghost use Rattle.gaz_hub.specs.Hubs.{MeetsDoor, Steps, door_of, told, told_all};
 ghost use Rattle.gaz_hub.specs.Step.{Ask, Extract, Extracted, ListClosed, Listed, LookUp, LookedUp, Settle, Settled, Stand, Stands, Submit, Submitted, Told};
 
 use crate::answer::{Answer, Digest};
-use crate::answering::{ask, stand, submit_file};
+use crate::asking::{ask, stand};
 use crate::outcome::Outcome;
 use crate::reading::{extract_of, list_closed, look_up};
 use crate::refusal::Refusal;
 use crate::settling::settle;
 use crate::standing::Standing;
+use crate::submitting::submit_file;
 use gaz_extract::{Closed, Found};
 use gaz_ids::Uprn;
 use gaz_register::Register;

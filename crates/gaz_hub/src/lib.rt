@@ -1,16 +1,19 @@
 //! The hub: what was received, in what order it is judged, and what each custodian is told.
 #![tactic(auto)]
 
+mod admission;
 mod answer;
-mod answering;
+mod asking;
 mod hub;
 pub mod laws;
 mod looking;
 mod outcome;
 mod reading;
 mod refusal;
+mod reply;
 mod settling;
 mod standing;
+mod submitting;
 
 pub use answer::{Answer, Digest};
 pub use hub::Hub;

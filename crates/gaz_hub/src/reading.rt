@@ -8,7 +8,7 @@ ghost use Rattle.gaz_hub.specs.Hubs.{MeetsDoor, Steps, door_of, told, told_all};
 ghost use Rattle.gaz_hub.specs.Settling.{Tells};
 ghost use Rattle.gaz_hub.specs.Step.{Extract, Extracted, ListClosed, Listed, LookUp, LookedUp};
 
-use crate::answering::at_door;
+use crate::admission::at_door;
 use crate::refusal::Refusal;
 use crate::settling::settle;
 use gaz_extract::{Closed, Found, closed_streets, extract, lookup};

@@ -4,9 +4,10 @@ ghost use Rattle.gaz_shelf.specs.Keeper.{IsNotOpen};
 ghost use Rattle.gaz_shelf.specs.Mem.{seen_in};
 
 use gaz_ids::{Code, Uprn, Usrn, Volume};
-use gaz_ledger::{Book, Verdict};
+use gaz_ledger::Book;
 use gaz_records::{Key, Kind, RecordKey, SharedItem, item_of_text, key_of};
 use gaz_shelf::{Inbox, MemShelf, Seed};
+use gaz_views::Verdict;
 use std::alloc::Global;
 use std::test::Fail;
 

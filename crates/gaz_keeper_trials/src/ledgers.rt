@@ -1,8 +1,9 @@
 //! A custodian's ledger through its volumes.
 use crate::fixtures::{Step, lpi_key, street_key, walks};
 use gaz_ids::{Uprn, Usrn};
-use gaz_ledger::{Book, Seed, Verdict};
+use gaz_ledger::{Book, Seed};
 use gaz_records::{Key, Kind, item_text};
+use gaz_views::Verdict;
 use std::alloc::Global;
 use std::process::Abort;
 use std::test::Fail;

@@ -3,8 +3,9 @@
 //! Were each that left passed over at each question, a test would take minutes, and it has one.
 use crate::fixtures::puts;
 use gaz_ids::{Uprn, Usrn};
-use gaz_ledger::{Book, Seed, Verdict};
+use gaz_ledger::{Book, Seed};
 use gaz_records::Kind;
+use gaz_views::Verdict;
 use std::alloc::Global;
 use std::process::Abort;
 use std::test::Fail;

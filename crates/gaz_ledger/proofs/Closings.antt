@@ -6,18 +6,19 @@ use Rattle.gaz_histories.specs.Histories.{before, item_at}
 use Rattle.gaz_records.specs.Keys.{key_of}
 use Rattle.gaz_records.specs.declared.item.Item.{Item}
 use Rattle.gaz_records.specs.declared.key.Key.{Key}
+use Rattle.gaz_views.specs.Accounts.{Account, last_of}
+use Rattle.gaz_views.specs.View.{View, with_item, without_key}
+use Rattle.gaz_views.specs.Words.{entries}
+use Rattle.gaz_views.specs.declared.verdict.Verdict.{Verdict}
 use Rattle.gaz_ledger.proofs.Gazetteers.{none_taken, past_view, put_view, row_at, settled_view, taken_view}
 use Rattle.gaz_ledger.proofs.Judgements.{IsWithin, judged_now, last_at, working_now}
 use Rattle.gaz_ledger.proofs.Ledgers.{finds_next, ledger_closed, ledger_set}
 use Rattle.gaz_ledger.proofs.Versions.{item_set, until_set, used_set}
 use Rattle.gaz_ledger.specs.Gazetteer.{ChangesAt, Gazetteer, versions_at, view_at}
 use Rattle.gaz_ledger.specs.Indexes.{has_mark, marked_at}
-use Rattle.gaz_ledger.specs.Ledgers.{Account, Finds, IsLedger, account_at, last_of}
-use Rattle.gaz_ledger.specs.View.{View, with_item, without_key}
-use Rattle.gaz_ledger.specs.Words.{entries}
+use Rattle.gaz_ledger.specs.Ledgers.{Finds, IsLedger, account_at}
 use Rattle.gaz_ledger.specs.declared.index.Index.{Index}
 use Rattle.gaz_ledger.specs.declared.index.Mark.{Mark}
-use Rattle.gaz_ledger.specs.declared.verdict.Verdict.{Verdict}
 
 -- an item stands at a key from a volume on, or none any more
 abbrev Sets : Gazetteer → Gazetteer → Key → Option Item → ℕ → Type 0

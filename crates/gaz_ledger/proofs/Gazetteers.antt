@@ -17,10 +17,11 @@ use Rattle.gaz_records.proofs.KeyOrder.{keys_exact, keys_total}
 use Rattle.gaz_records.specs.Keys.{key_cmp, key_of}
 use Rattle.gaz_records.specs.declared.item.Item.{Item}
 use Rattle.gaz_records.specs.declared.key.Key.{Key}
+use Rattle.gaz_views.proofs.SameKeys.{same_key}
+use Rattle.gaz_views.specs.View.{View, empty_view, with_item, without_key}
+use Rattle.gaz_views.specs.Words.{entries}
 use Rattle.gaz_ledger.proofs.Versions.{last, none_at_first, no_version, settled, some_version, used_by, used_where_item}
 use Rattle.gaz_ledger.specs.Gazetteer.{ChangesAt, Gazetteer, rows_at, used_at, versions_at, view_at}
-use Rattle.gaz_ledger.specs.View.{View, empty_view, with_item, without_key}
-use Rattle.gaz_ledger.specs.Words.{entries}
 
 abbrev Rows : Type 0
 Rows = List (Key × Versions)
@@ -42,14 +43,6 @@ is_less : (o : Ordering) → T (is_lt o) → o ≡ Less
 is_less Less h = refl
 is_less Equal h = absurd h
 is_less Greater h = absurd h
-
-is_equal : (o : Ordering) → is_eq o ≡ true → o ≡ Equal
-is_equal Less e = cc
-is_equal Equal e = refl
-is_equal Greater e = cc
-
-pub same_key : (q k : Key) → eq_by_cmp key_cmp q k ≡ true → q ≡ k
-same_key q k e = keys_exact q k (is_equal _ e)
 
 -- a key that is below all of them is none of them
 below_none : (k : Key) (es : Rows) → T (below_all key_cmp k es) → find key_cmp k es ≡ None

@@ -13,7 +13,7 @@ use Rattle.gaz_records.proofs.KeyOrder.{keys_exact, keys_same, keys_total}
 use Rattle.gaz_records.specs.Keys.{key_cmp}
 use Rattle.gaz_records.specs.contracts.key.KeyOrd.TheImpl.{cmp-value as key-value}
 use Rattle.gaz_records.specs.declared.key.Key.{Key}
-use Rattle.gaz_ledger.proofs.Trees.{any-is}
+use Rattle.gaz_views.proofs.Trees.{any-is}
 use Rattle.gaz_ledger.specs.Indexes.{has_key, listed}
 use Rattle.gaz_ledger.specs.declared.keys.Keys.{Keys}
 

@@ -14,20 +14,21 @@ use Rattle.gaz_records.specs.Keys.{key_cmp, key_of}
 use Rattle.gaz_records.specs.declared.item.Item.{Item}
 use Rattle.gaz_records.specs.declared.key.Key.{Key}
 use Rattle.gaz_records.specs.declared.key.Key.TheVariants.{Blpu}
-use Rattle.gaz_ledger.proofs.Gazetteers.{same_key, view_ascends}
+use Rattle.gaz_views.proofs.SameKeys.{same_key}
+use Rattle.gaz_views.specs.Judgements.{Judgement}
+use Rattle.gaz_views.specs.Accounts.{last_of}
+use Rattle.gaz_views.specs.View.{View, empty_view, with_item, without_key}
+use Rattle.gaz_views.specs.Words.{address_of, entries, first_of, property_of}
+use Rattle.gaz_views.specs.declared.property.Property.{Property}
+use Rattle.gaz_views.specs.declared.verdict.Verdict.{Verdict}
+use Rattle.gaz_ledger.proofs.Gazetteers.{view_ascends}
 use Rattle.gaz_ledger.proofs.Marked.{Row, first_marked, has, held, passes, rows_ascend}
 use Rattle.gaz_ledger.proofs.Marks.{mark_itself}
-use Rattle.gaz_ledger.specs.Judgements.{Judgement}
 use Rattle.gaz_ledger.specs.Indexes.{has_mark, marked_at, marked_item}
-use Rattle.gaz_ledger.specs.Ledgers.{last_of}
 use Rattle.gaz_ledger.specs.Properties.{AreSo, is_address_of, is_blpu, known_in}
-use Rattle.gaz_ledger.specs.View.{View, empty_view, with_item, without_key}
-use Rattle.gaz_ledger.specs.Words.{address_of, entries, first_of, property_of}
 use Rattle.gaz_ledger.specs.declared.index.Mark.{Mark}
 use Rattle.gaz_ledger.specs.declared.index.Mark.TheVariants.{AddressOf}
 use Rattle.gaz_ledger.specs.declared.properties.Properties.{Properties}
-use Rattle.gaz_ledger.specs.declared.property.Property.{Property}
-use Rattle.gaz_ledger.specs.declared.verdict.Verdict.{Verdict}
 
 -- ---- an address is that of the items that have its mark
 

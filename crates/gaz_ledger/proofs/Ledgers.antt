@@ -15,18 +15,22 @@ use Rattle.gaz_records.proofs.KeyOrder.{keys_total}
 use Rattle.gaz_records.specs.Keys.{key_cmp}
 use Rattle.gaz_records.specs.declared.item.Item.{Item}
 use Rattle.gaz_records.specs.declared.key.Key.{Key}
-use Rattle.gaz_ledger.proofs.Gazetteers.{contains_at, get_at, get_now, holds_at, past_view, same_key, same_views}
-use Rattle.gaz_ledger.proofs.Judgements.{IsWithin, count_judged, later_view, view_in_at}
+use Rattle.gaz_views.proofs.SameKeys.{same_key}
+use Rattle.gaz_views.proofs.Judgements.{count_judged}
+use Rattle.gaz_views.specs.Judgements.{judgements}
+use Rattle.gaz_views.specs.Accounts.{Account, empty_account, view_in}
+use Rattle.gaz_views.specs.View.{View, empty_view}
+use Rattle.gaz_views.specs.Words.{entries}
+use Rattle.gaz_views.specs.declared.verdict.Verdict.{Verdict}
+use Rattle.gaz_ledger.proofs.Gazetteers.{contains_at, get_at, get_now, holds_at, past_view, same_views}
+use Rattle.gaz_ledger.proofs.Judgements.{IsWithin, later_view, view_in_at}
 use Rattle.gaz_ledger.proofs.Marked.{finds_with_more, still_finds}
 use Rattle.gaz_ledger.proofs.Versions.{before_next, before_within, cut_within, item_set, last, set_within, until_before, until_set}
-use Rattle.gaz_ledger.specs.Gazetteer.{ChangesAt, Gazetteer, judgements, versions_at, view_at}
+use Rattle.gaz_ledger.specs.Gazetteer.{ChangesAt, Gazetteer, versions_at, view_at}
 use Rattle.gaz_ledger.specs.Indexes.{FindsAll, has_mark, is_under, marked_at, same_mark}
-use Rattle.gaz_ledger.specs.Ledgers.{Account, Finds, IsLedger, account_at, empty_account, view_in}
-use Rattle.gaz_ledger.specs.View.{View, empty_view}
-use Rattle.gaz_ledger.specs.Words.{entries}
+use Rattle.gaz_ledger.specs.Ledgers.{Finds, IsLedger, account_at}
 use Rattle.gaz_ledger.specs.declared.index.Index.{Index}
 use Rattle.gaz_ledger.specs.declared.index.Mark.{Mark}
-use Rattle.gaz_ledger.specs.declared.verdict.Verdict.{Verdict}
 
 -- ---- what is found
 
@@ -181,7 +185,7 @@ finds_at n g x ks is v le = elim (cases_lt n v) [
 ]
 
 pub reached_of : (ds : List Verdict) (g : Gazetteer) (a : Account) → account_at ds g ≡ a → length ds ≡ length a.judged
-reached_of ds g a is = sym (count_judged ds g) ∙ ap (λ (b : Account). length b.judged) is
+reached_of ds g a is = sym (count_judged ds (view_at g)) ∙ ap (λ (b : Account). length b.judged) is
 
 pub finds_from : (ds : List Verdict) (g : Gazetteer) (x : Index) (ks : List Key) (a : Account) → IsLedger (length ds) g x ks → account_at ds g ≡ a → (v : ℕ) → length a.judged ≤ v → FindsAll x (entries (view_at g v))
 finds_from ds g x ks a ledger is v le = finds_at (length ds) g x ks ledger v (omega (arith, reached_of ds g a is))

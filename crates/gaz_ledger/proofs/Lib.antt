@@ -1,8 +1,4 @@
-pub mod Outcomes
-pub mod Trees
-pub mod Emptiness
 pub mod Examples
-pub mod Pages
 pub mod Versions
 pub mod Gazetteers
 pub mod Stored
@@ -15,4 +11,3 @@ pub mod Known
 pub mod Ranges
 pub mod Ledgers
 pub mod Closings
-pub mod Lawful

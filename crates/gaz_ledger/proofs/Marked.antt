@@ -21,11 +21,11 @@ use Rattle.gaz_records.specs.contracts.key.KeyOrd.TheImpl.{cmp-value}
 use Rattle.gaz_records.specs.declared.item.Item.{Item}
 use Rattle.gaz_records.specs.declared.item.Item.TheVariants as item
 use Rattle.gaz_records.specs.declared.key.Key.{Key}
+use Rattle.gaz_views.proofs.Trees.{entries_tree}
+use Rattle.gaz_views.specs.Words.{first_of, is_approved, is_approved_on, is_in}
 use Rattle.gaz_ledger.proofs.Marks.{marks_exact}
-use Rattle.gaz_ledger.proofs.Trees.{entries_tree}
 use Rattle.gaz_ledger.specs.Indexes.{FindsAll, has_mark, is_under, keys_under, marked_at, marked_item, same_mark}
 use Rattle.gaz_ledger.specs.declared.index.Index.{Index}
-use Rattle.gaz_ledger.specs.Words.{first_of, is_approved, is_approved_on, is_in}
 use Rattle.gaz_ledger.specs.declared.index.Mark.{Mark}
 
 abbrev pub Row : Type 0

@@ -22,11 +22,11 @@ use Rattle.gaz_records.specs.declared.item.Kind.{Kind}
 use Rattle.gaz_records.specs.declared.item.Kind.TheVariants as kind
 use Rattle.gaz_records.specs.declared.key.Key.{Key}
 use Rattle.gaz_records.specs.declared.key.Key.TheVariants as key
+use Rattle.gaz_views.proofs.Pages.{passes}
+use Rattle.gaz_views.specs.Words.{comes_after, is_of}
 use Rattle.gaz_ledger.proofs.Marked.{Ascends}
-use Rattle.gaz_ledger.proofs.Pages.{passes}
 use Rattle.gaz_ledger.specs.Gazetteer.{rows_at, versions_among, with_versions}
-use Rattle.gaz_ledger.specs.Reading.{is_past, start_after}
-use Rattle.gaz_ledger.specs.Words.{comes_after, is_of}
+use Rattle.gaz_ledger.specs.Ranges.{is_past, start_after}
 
 abbrev Row : Type 0
 Row = Key × Item

@@ -15,10 +15,10 @@ use Rattle.gaz_records.specs.Keys.{key_cmp}
 use Rattle.gaz_records.specs.declared.item.Item.{Item}
 use Rattle.gaz_records.specs.declared.item.Kind.{Kind}
 use Rattle.gaz_records.specs.declared.key.Key.{Key}
-use Rattle.gaz_ledger.proofs.Gazetteers.{same_key}
-use Rattle.gaz_ledger.proofs.Trees.{entries_tree, get_tree}
+use Rattle.gaz_views.proofs.SameKeys.{same_key}
+use Rattle.gaz_views.proofs.Trees.{entries_tree, get_tree}
+use Rattle.gaz_views.specs.Words.{comes_after, entries, is_of, page}
 use Rattle.gaz_ledger.specs.Gazetteer.{ChangesAt, Gazetteer, HasJustTheKeysOf, rows_at, versions_among, versions_at, view_at, with_versions}
-use Rattle.gaz_ledger.specs.Words.{comes_after, entries, is_of, page}
 
 abbrev Rows : Type 0
 Rows = List (Key × Versions)

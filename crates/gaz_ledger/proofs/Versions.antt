@@ -7,7 +7,7 @@ use Rattle.std.proofs.lemmas.List.Elements.{All-filter, All-head, All-push, All-
 use Rattle.std.specs.List.{All}
 use Rattle.gaz_histories.specs.Histories.{Version, Versions, before, item_at, until, was_used_at}
 use Rattle.gaz_records.specs.declared.item.Item.{Item}
-use Rattle.gaz_ledger.proofs.Pages.{passes}
+use Rattle.gaz_views.proofs.Pages.{passes}
 
 abbrev in_first : ℕ → Version → Bool
 in_first v e = nat_le e.0 v

@@ -2,16 +2,14 @@
 use Rattle.std.specs.Prelude.{◌≡◌, ℕ, if◌then◌else◌, List, [], map, filter, unwrap_or, option_map, is_some}
 use Rattle.std.specs.FinMap as finite
 use Rattle.std.specs.FinSet as set
-use Rattle.std.specs.List.{enumerate_from, filter_map, list_any}
+use Rattle.std.specs.List.{filter_map, list_any}
 use Rattle.std.specs.Map.{lookup}
 use Rattle.std.specs.Ordering.{eq_by_cmp}
 use Rattle.gaz_histories.specs.Histories.{Versions, item_at, was_used_at}
 use Rattle.gaz_records.specs.Keys.{key_cmp}
 use Rattle.gaz_records.specs.declared.item.Item.{Item}
 use Rattle.gaz_records.specs.declared.key.Key.{Key}
-use Rattle.gaz_ledger.specs.Judgements.{Judgement}
-use Rattle.gaz_ledger.specs.View.{View}
-use Rattle.gaz_ledger.specs.declared.verdict.Verdict.{Verdict}
+use Rattle.gaz_views.specs.View.{View}
 
 -- what stood at each key that was ever used
 abbrev pub Gazetteer : Type 0
@@ -51,7 +49,3 @@ used_at es volume = map (λ e. e.0) (filter (λ e. was_used_at e.1 volume) es)
 
 unfoldable pub view_at : Gazetteer → ℕ → View
 view_at g volume = record { items = finite.from_entries (rows_at (finite.entries g) volume); used = set.from_list (used_at (finite.entries g) volume) }
-
--- the verdicts on the volumes 1, 2, 3, .. beside the views after them
-unfoldable pub judgements : List Verdict → Gazetteer → List Judgement
-judgements verdicts g = map (λ p. record { verdict = p.1; view = view_at g p.0 }) (enumerate_from 1 verdicts)

@@ -9,7 +9,7 @@ use Rattle.gaz_ids.specs.declared.lang.Lang.TheVariants.{Cym, Eng}
 use Rattle.gaz_records.specs.Keys.{key_cmp}
 use Rattle.gaz_records.specs.declared.item.Item.{Item}
 use Rattle.gaz_records.specs.declared.key.Key.{Key}
-use Rattle.gaz_ledger.specs.Words.{is_approved_of, is_approved_on, is_child_of}
+use Rattle.gaz_views.specs.Words.{is_approved_of, is_approved_on, is_child_of}
 use Rattle.gaz_ledger.specs.declared.index.Index.{Index}
 use Rattle.gaz_ledger.specs.declared.index.Mark.{Mark}
 use Rattle.gaz_ledger.specs.declared.index.Mark.TheVariants.{AddressOf, EnglishOn, PartOf, WelshOn}

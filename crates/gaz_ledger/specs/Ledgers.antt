@@ -1,35 +1,20 @@
--- What is kept of a custodian.
-use Rattle.std.specs.Prelude.{◌≡◌, ◌≤◌, ◌<◌, ◌+◌, ℕ, nat_le, if◌then◌else◌, false, List, [], length, slice_get, unwrap_or}
+-- What a ledger keeps of a custodian.
+use Rattle.std.specs.Prelude.{◌≡◌, ◌≤◌, ◌<◌, ◌+◌, ℕ, false, List, length}
 use Rattle.std.specs.List.{All, list_any}
 use Rattle.std.specs.Ordering.{eq_by_cmp}
 use Rattle.gaz_records.specs.Keys.{key_cmp}
 use Rattle.gaz_records.specs.declared.key.Key.{Key}
-use Rattle.gaz_ledger.specs.Judgements.{Judgement, views}
-use Rattle.gaz_ledger.specs.Gazetteer.{Gazetteer, judgements, versions_at, view_at}
+use Rattle.gaz_views.specs.Accounts.{Account}
+use Rattle.gaz_views.specs.Judgements.{judgements}
+use Rattle.gaz_views.specs.Words.{entries}
+use Rattle.gaz_views.specs.declared.verdict.Verdict.{Verdict}
+use Rattle.gaz_ledger.specs.Gazetteer.{Gazetteer, versions_at, view_at}
 use Rattle.gaz_ledger.specs.Indexes.{FindsAll}
-use Rattle.gaz_ledger.specs.View.{View, empty_view}
-use Rattle.gaz_ledger.specs.Words.{entries}
 use Rattle.gaz_ledger.specs.declared.index.Index.{Index}
-use Rattle.gaz_ledger.specs.declared.verdict.Verdict.{Verdict}
-
--- a custodian's judgements, and the view that its next volume has made so far
-pub record Account : Type 0 where
-  pub judged : List Judgement
-  pub working : View
-
-abbrev pub empty_account : Account
-empty_account = record { judged = []; working = empty_view }
-
-abbrev pub last_of : Account → View
-last_of a = unwrap_or (slice_get (views a.judged) (length a.judged)) empty_view
-
--- the view after a volume that is judged, and the working view after any later one
-abbrev pub view_in : Account → ℕ → View
-view_in a volume = if nat_le volume (length a.judged) then unwrap_or (slice_get (views a.judged) volume) empty_view else a.working
 
 -- the account of a gazetteer whose volumes have these verdicts
 abbrev pub account_at : List Verdict → Gazetteer → Account
-account_at verdicts g = record { judged = judgements verdicts g; working = view_at g (length verdicts + 1) }
+account_at verdicts g = record { judged = judgements verdicts (view_at g); working = view_at g (length verdicts + 1) }
 
 -- ---- what holds of a ledger that has reached a volume
 

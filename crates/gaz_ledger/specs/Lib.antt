@@ -1,11 +1,7 @@
-pub mod View
-pub mod Words
-pub mod Reading
-pub mod Lawful
+pub mod Ranges
 pub mod Indexes
-pub mod ViewCode
-pub mod Judgements
 pub mod Gazetteer
+pub mod GazetteerCode
 pub mod Ledgers
 pub mod Properties
 pub mod Examples

@@ -4,13 +4,13 @@ use Rattle.std.specs.Map.{lookup}
 use Rattle.std.specs.Option.{IfSome, option_map_or}
 use Rattle.gaz_records.specs.declared.key.Key.{Key}
 use Rattle.gaz_records.specs.declared.key.Key.TheVariants as key
+use Rattle.gaz_views.specs.View.{View}
+use Rattle.gaz_views.specs.Words.{property_of}
+use Rattle.gaz_views.specs.declared.property.Property.{Property}
 use Rattle.gaz_ledger.specs.Indexes.{same_mark}
-use Rattle.gaz_ledger.specs.View.{View}
-use Rattle.gaz_ledger.specs.Words.{property_of}
 use Rattle.gaz_ledger.specs.declared.index.Mark.{Mark}
 use Rattle.gaz_ledger.specs.declared.index.Mark.TheVariants.{AddressOf}
 use Rattle.gaz_ledger.specs.declared.properties.Properties.{Properties}
-use Rattle.gaz_ledger.specs.declared.property.Property.{Property}
 
 -- the property of this number, where it is known
 abbrev pub known_in : Properties → ℕ → Option Property

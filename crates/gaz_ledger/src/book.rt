@@ -1,19 +1,18 @@
 //! A custodian's ledger with its properties at hand.
 ghost use Rattle.std.specs.Prelude.{◌≡◌, ◌≤◌, ◌||◌, ◌++◌, ◌∷◌, [], ℕ, if◌then◌else◌, length, false, None, Some, IfOk, OnErr, OnOk};
-ghost use Rattle.gaz_ledger.specs.Ledgers.{empty_account, last_of, view_in};
+ghost use Rattle.gaz_views.specs.Accounts.{empty_account, last_of, view_in};
+ghost use Rattle.gaz_views.specs.declared.property.Property.{Property};
+ghost use Rattle.gaz_views.specs.View.{with_item, without_key};
+ghost use Rattle.gaz_views.specs.Words.{property_of};
 ghost use Rattle.gaz_ledger.specs.Properties.{AreSo, is_address_of, is_blpu, known_in};
-ghost use Rattle.gaz_ledger.specs.declared.property.Property.{Property};
-ghost use Rattle.gaz_ledger.specs.View.{with_item, without_key};
-ghost use Rattle.gaz_ledger.specs.Words.{property_of};
 
 use crate::index::{Mark, Marks, marks_of};
 use crate::ledger::Ledger;
 use crate::properties::Properties;
-use crate::property::Property;
 use crate::seed::Seed;
-use crate::verdict::Verdict;
 use gaz_ids::Uprn;
 use gaz_records::{Key, SharedItem, key_of};
+use gaz_views::{Property, Verdict};
 use std::alloc::{AllocError, Global};
 use std::marker::Model;
 
@@ -28,9 +27,9 @@ pub struct Book {
 }
 
 impl Model for Book {
-    ghost use Rattle.gaz_ledger.specs.Ledgers.{Account, last_of};
+    ghost use Rattle.gaz_views.specs.Accounts.{Account, last_of};
+    ghost use Rattle.gaz_views.specs.ViewCode.{account_code};
     ghost use Rattle.gaz_ledger.specs.Properties.{AreSo};
-    ghost use Rattle.gaz_ledger.specs.ViewCode.{account_code};
 
     ghost Value = { Account };
 

@@ -5,9 +5,9 @@ ghost use Rattle.std.specs.Option.{option_map_or};
 ghost use Rattle.std.specs.FinMap as finite;
 ghost use Rattle.gaz_histories.specs.Histories.{before, item_at, was_used_at};
 ghost use Rattle.gaz_records.specs.declared.key.Key.{Key};
+ghost use Rattle.gaz_views.specs.Words.{entries, page};
 ghost use Rattle.gaz_ledger.specs.Gazetteer.{ChangesAt, versions_at, view_at};
 ghost use Rattle.gaz_ledger.specs.Indexes.{has_mark, marked_at};
-ghost use Rattle.gaz_ledger.specs.Words.{entries, page};
 ghost use Rattle.gaz_ledger.specs.declared.index.Mark.{Mark};
 
 use crate::index::{Marks, marks_of};
@@ -32,7 +32,7 @@ pub struct Histories {
 impl Model for Histories {
     ghost use Rattle.std.specs.FinMap as finite;
     ghost use Rattle.gaz_ledger.specs.Gazetteer.{Gazetteer, HasJustTheKeysOf};
-    ghost use Rattle.gaz_ledger.specs.ViewCode.{gazetteer_code};
+    ghost use Rattle.gaz_ledger.specs.GazetteerCode.{gazetteer_code};
 
     ghost Value = { Gazetteer };
 

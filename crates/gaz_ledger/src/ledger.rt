@@ -3,20 +3,19 @@ ghost use Rattle.std.specs.Prelude.{◌≡◌, ◌⊎◌, ◌≤◌, ◌<◌, �
 ghost use Rattle.std.specs.FinMap as finite;
 ghost use Rattle.std.specs.List.{list_any};
 ghost use Rattle.gaz_records.specs.Keys.{key_of};
+ghost use Rattle.gaz_views.specs.Accounts.{empty_account, last_of, view_in};
+ghost use Rattle.gaz_views.specs.View.{was_used, with_item, without_key};
+ghost use Rattle.gaz_views.specs.Words.{address_of, approved_of, approved_on, entries, first_of, has_children, page, property_of};
 ghost use Rattle.gaz_ledger.specs.Indexes.{has_mark, marked_at};
-ghost use Rattle.gaz_ledger.specs.Ledgers.{empty_account, last_of, view_in};
 ghost use Rattle.gaz_ledger.specs.declared.index.Mark.{Mark};
-ghost use Rattle.gaz_ledger.specs.View.{was_used, with_item, without_key};
-ghost use Rattle.gaz_ledger.specs.Words.{address_of, approved_of, approved_on, entries, first_of, has_children, page, property_of};
 
 use crate::changes::{Leaving, change, forget_all, undo_all};
 use crate::histories::Histories;
 use crate::index::{Index, Mark, Marks, any_marked, first_marked, keys_marked};
-use crate::property::{Property, share_found};
 use crate::seed::Seed;
-use crate::verdict::Verdict;
 use gaz_ids::{Lang, Uprn, Usrn};
 use gaz_records::{Key, Kind, SharedItem, key_of};
+use gaz_views::{Property, Verdict, share_found};
 use std::alloc::{AllocError, Global};
 use std::marker::Model;
 
@@ -35,8 +34,9 @@ pub struct Ledger {
 
 impl Model for Ledger {
     ghost use Rattle.std.specs.Prelude.{length};
-    ghost use Rattle.gaz_ledger.specs.Ledgers.{Account, IsLedger, account_at};
-    ghost use Rattle.gaz_ledger.specs.ViewCode.{account_code};
+    ghost use Rattle.gaz_views.specs.Accounts.{Account};
+    ghost use Rattle.gaz_views.specs.ViewCode.{account_code};
+    ghost use Rattle.gaz_ledger.specs.Ledgers.{IsLedger, account_at};
 
     ghost Value = { Account };
 

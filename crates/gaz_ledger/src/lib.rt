@@ -9,13 +9,9 @@ mod keys;
 pub mod laws;
 mod ledger;
 mod properties;
-mod property;
 mod seed;
-mod verdict;
 mod words;
 
 pub use book::Book;
 pub use ledger::Ledger;
-pub use property::{Property, share_found};
 pub use seed::Seed;
-pub use verdict::Verdict;

@@ -2,9 +2,9 @@
 ghost use Rattle.std.specs.Prelude.{◌≡◌, ◌==◌, ℕ, if◌then◌else◌, is_some, None, OnErr, OnOk, option_map, Some};
 ghost use Rattle.gaz_ledger.specs.Properties.{known_in};
 
-use crate::property::Property;
 use crate::seed::Seed;
 use gaz_ids::Uprn;
+use gaz_views::Property;
 use std::alloc::{AllocError, Global};
 use std::collections::HashMap;
 

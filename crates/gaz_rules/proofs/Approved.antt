@@ -11,8 +11,8 @@ use Rattle.gaz_records.specs.Lpis.{LpiValue}
 use Rattle.gaz_records.specs.declared.item.Item.{Item}
 use Rattle.gaz_records.specs.declared.item.Item.TheVariants as item
 use Rattle.gaz_records.specs.declared.key.Key.{Key}
-use Rattle.gaz_ledger.specs.View.{View}
-use Rattle.gaz_ledger.specs.Words.{approved_of, approved_on, entries, is_approved, is_approved_of, is_approved_on, is_in, same_lang}
+use Rattle.gaz_views.specs.View.{View}
+use Rattle.gaz_views.specs.Words.{approved_of, approved_on, entries, is_approved, is_approved_of, is_approved_on, is_in, same_lang}
 use Rattle.gaz_rules.specs.EndRules.{approved_at, as_approved}
 use Rattle.gaz_rules.proofs.Keys.{any_from, any_gives}
 use Rattle.gaz_rules.proofs.Booleans.{and_then_gives, both_parts, false_by, joined}

@@ -9,8 +9,8 @@ use Rattle.gaz_records.specs.Lpis.{LpiValue}
 use Rattle.gaz_records.specs.declared.item.Item.TheVariants as item
 use Rattle.gaz_records.specs.declared.key.Key.{Key}
 use Rattle.gaz_records.specs.declared.key.Key.TheVariants as key
-use Rattle.gaz_ledger.specs.View.{View, holds}
-use Rattle.gaz_ledger.specs.Words.{approved_of, is_approved}
+use Rattle.gaz_views.specs.View.{View, holds}
+use Rattle.gaz_views.specs.Words.{approved_of, is_approved}
 use Rattle.gaz_rules.specs.Breaches.{blpu_state, key_faults, name_faults, no_key_fault}
 use Rattle.gaz_rules.specs.EndRules.{approved_at, as_approved, blpu_at, blpu_named, found_in, if_some, is_closed, is_historical, is_past, same_key}
 use Rattle.gaz_rules.specs.Streets.{street_faults}

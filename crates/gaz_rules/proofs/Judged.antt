@@ -16,7 +16,7 @@ use Rattle.gaz_changefile.specs.declared.action.Action.{Action}
 use Rattle.gaz_changefile.specs.declared.action.Action.TheVariants.{Insert, Update, Delete}
 use Rattle.gaz_changefile.specs.declared.change.Change.{Change}
 use Rattle.gaz_register.specs.Registers.{Blocks, within}
-use Rattle.gaz_ledger.specs.View.{View, holds, was_used, with_item, without_key}
+use Rattle.gaz_views.specs.View.{View, holds, was_used, with_item, without_key}
 use Rattle.gaz_rules.specs.Rules.{done, effect, first_broken, is_outside, record_rules, stays}
 use Rattle.gaz_rules.specs.EndRules.{end_rules, same_key}
 use Rattle.gaz_rules.specs.Judging.{Fault, end_faults, fault_at, judge, judged_by_faults, record_faults, with_views}

@@ -2,8 +2,8 @@
 use Rattle.std.proofs.Common.{refl}
 use Rattle.gaz_ids.specs.declared.lang.Lang.TheVariants.{Eng}
 use Rattle.gaz_records.specs.declared.key.Key.TheVariants as key
-use Rattle.gaz_ledger.proofs.Examples.{get_one}
-use Rattle.gaz_ledger.specs.Examples.{name, one_street}
+use Rattle.gaz_views.proofs.Examples.{get_one}
+use Rattle.gaz_views.specs.Examples.{name, one_street}
 use Rattle.gaz_rules.specs.Judging.{judge}
 use Rattle.gaz_rules.specs.JudgedExamples.{WorkedBoards, WorkedEndFaults, WorkedExamples, WorkedFiles, WorkedForeign, WorkedRecordFaults}
 use Rattle.gaz_rules.proofs.Worked.{taken-put, views}

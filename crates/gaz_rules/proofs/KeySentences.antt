@@ -6,8 +6,8 @@ use Rattle.std.specs.FinMap as fin
 use Rattle.gaz_records.specs.declared.item.Item.TheVariants as item
 use Rattle.gaz_records.specs.declared.key.Key.{Key}
 use Rattle.gaz_records.specs.declared.key.Key.TheVariants as key
-use Rattle.gaz_ledger.specs.View.{View, holds}
-use Rattle.gaz_ledger.specs.Words.{same_lang}
+use Rattle.gaz_views.specs.View.{View, holds}
+use Rattle.gaz_views.specs.Words.{same_lang}
 use Rattle.gaz_rules.specs.EndRules.{as_blpu, blpu_at, closed_under_lpi, is_closed, is_past, lacks_own_street, lacks_parent, leaves_lpi, parent_of, past_under_lpi}
 use Rattle.gaz_rules.specs.Sentences.{ClosedUnderLpi, LacksOwnStreet, LacksParent, LeavesLpi, PastUnderLpi, TestsSay}
 use Rattle.gaz_rules.proofs.Approved.{on_from, on_gives, same_lang_is, same_lang_itself, some_from, some_gives}

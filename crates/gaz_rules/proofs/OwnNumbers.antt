@@ -5,7 +5,7 @@ use Rattle.gaz_changefile.specs.Reading.{Reading, Good, Bad}
 use Rattle.gaz_records.specs.declared.key.Key.TheVariants as key
 use Rattle.gaz_register.proofs.Ownership.{one-owner}
 use Rattle.gaz_register.specs.Registers.{Blocks, IsRegister, RegisterValue, blocks_of}
-use Rattle.gaz_ledger.specs.View.{View, empty_view}
+use Rattle.gaz_views.specs.View.{View, empty_view}
 use Rattle.gaz_shelf.specs.Board.{Board, adds, last_view, reached}
 use Rattle.gaz_rules.specs.Rules.{effect, holds_number}
 use Rattle.gaz_rules.specs.Judging.{bases_of, end_faults, judge, record_faults}

@@ -9,7 +9,7 @@ use Rattle.gaz_records.proofs.KeyOrder.{keys_total}
 use Rattle.gaz_records.specs.Keys.{key_cmp}
 use Rattle.gaz_records.specs.declared.key.Key.{Key}
 use Rattle.gaz_records.specs.declared.key.Key.TheVariants as key
-use Rattle.gaz_ledger.specs.View.{View, holds}
+use Rattle.gaz_views.specs.View.{View, holds}
 use Rattle.gaz_rules.specs.EndRules.{ancestor, as_blpu, blpu_at, if_some, is_own_ancestor, parent_of, same_key}
 use Rattle.gaz_rules.specs.Laws.{FindsRings, IsOnRing}
 use Rattle.gaz_rules.proofs.Keys.{key_tied}

@@ -11,13 +11,13 @@ use Rattle.gaz_changefile.specs.declared.change.Basis.{Basis}
 use Rattle.gaz_changefile.specs.declared.change.Change.{Change}
 use Rattle.gaz_register.specs.Registers.{Blocks}
 use Rattle.gaz_shelf.specs.Board.{Judgement, last_view}
-use Rattle.gaz_ledger.specs.View.{View}
+use Rattle.gaz_views.specs.View.{View}
 use Rattle.gaz_shelf.specs.Keeper.{Content, Counts, Goes, IsAtHand, Keeps, Open, Reads, Seen, begun, closed, with_judgement}
 use Rattle.gaz_shelf.specs.declared.fault.ShelfFault.{ShelfFault}
-use Rattle.gaz_ledger.specs.declared.verdict.Verdict.{Verdict}
-use Rattle.gaz_ledger.specs.declared.verdict.Verdict.TheVariants.{Applied, Rejected}
+use Rattle.gaz_views.specs.declared.verdict.Verdict.{Verdict}
+use Rattle.gaz_views.specs.declared.verdict.Verdict.TheVariants.{Applied, Rejected}
 use Rattle.gaz_shelf.proofs.Keeping.{keeps_then, still_open}
-use Rattle.gaz_ledger.proofs.Outcomes.{on_err, on_ok}
+use Rattle.gaz_views.proofs.Outcomes.{on_err, on_ok}
 use Rattle.gaz_rules.specs.Bases.{are_reached, basis_views, judged_on}
 use Rattle.gaz_rules.specs.EndRules.{end_rules}
 use Rattle.gaz_rules.specs.Judges.{IsReady, Judges}

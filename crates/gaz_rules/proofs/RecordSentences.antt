@@ -11,8 +11,8 @@ use Rattle.gaz_records.specs.declared.item.Item.TheVariants as item
 use Rattle.gaz_changefile.specs.declared.action.Action.{Action}
 use Rattle.gaz_changefile.specs.declared.action.Action.TheVariants.{Insert, Update, Delete}
 use Rattle.gaz_register.specs.Registers.{Blocks, within}
-use Rattle.gaz_ledger.specs.View.{View, holds, was_used}
-use Rattle.gaz_ledger.specs.Words.{same_lang}
+use Rattle.gaz_views.specs.View.{View, holds, was_used}
+use Rattle.gaz_views.specs.Words.{same_lang}
 use Rattle.gaz_rules.specs.Rules.{is_delete, is_insert, is_missing, is_moved, is_outside, is_update, is_used_again, moves_what_stays, stays, takes_what_stays}
 use Rattle.gaz_rules.specs.RecordSentences.{ChangesNothing, DeletesWhatStays, InsertsAgain, IsAnothers, IsInNone, IsStreetOrBlpu, LiesOutside, MovesItem, RecordTestsSay}
 use Rattle.gaz_rules.proofs.Approved.{same_lang_is, same_lang_itself}

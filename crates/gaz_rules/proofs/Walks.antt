@@ -12,7 +12,7 @@ use Rattle.std.specs.Prelude.{Option, Some, None, nat_le}
 use Rattle.std.specs.Option.{option_and_then}
 use Rattle.std.specs.List.{list_any, range_with_len, slice_get}
 use Rattle.std.specs.FinMap as map
-use Rattle.gaz_ledger.specs.View.{View}
+use Rattle.gaz_views.specs.View.{View}
 use Rattle.gaz_rules.specs.EndRules.{ancestor, parent_of, is_own_ancestor, if_some}
 use Rattle.gaz_records.specs.declared.key.Key.TheVariants as key
 use Rattle.gaz_rules.proofs.Booleans.{and_then_gives, by_test, false_by, some_passes}

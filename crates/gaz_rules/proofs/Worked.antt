@@ -8,9 +8,9 @@ use Rattle.gaz_records.proofs.KeyOrder.{keys_exact, keys_total}
 use Rattle.gaz_records.specs.Keys.{key_cmp}
 use Rattle.gaz_records.specs.declared.item.Item.{Item}
 use Rattle.gaz_records.specs.declared.key.Key.{Key}
-use Rattle.gaz_ledger.specs.View.{empty_view}
-use Rattle.gaz_ledger.proofs.Trees.{no_entries}
-use Rattle.gaz_ledger.proofs.Examples.{get_none, used_none}
+use Rattle.gaz_views.specs.View.{empty_view}
+use Rattle.gaz_views.proofs.Trees.{no_entries}
+use Rattle.gaz_views.proofs.Examples.{get_none, used_none}
 use Rattle.gaz_rules.proofs.Keys.{key_tied}
 
 pub get-put : (m : map.FinMap key_cmp Item) (k : Key) (i : Item) (q : Key) → map.get (map.insert m k i) q ≡ cond (eq_by_cmp key_cmp q k) (Some i) (map.get m q)

@@ -2,7 +2,7 @@
 use Rattle.std.specs.Prelude.{ℕ, Bool, false, ◌||◌, List, [], ◌∷◌}
 use Rattle.gaz_records.specs.declared.key.Key.{Key}
 use Rattle.gaz_records.specs.declared.key.Key.TheVariants as key
-use Rattle.gaz_ledger.specs.View.{View, holds}
+use Rattle.gaz_views.specs.View.{View, holds}
 use Rattle.gaz_rules.specs.EndRules.{closed_under_lpi, is_own_ancestor, is_past, is_second, lacks_blpu, lacks_descriptor, lacks_own_street, lacks_parent, lacks_street, leaves_lpi, names_closed, names_past, past_under_lpi}
 use Rattle.gaz_rules.specs.declared.key_faults.KeyFaults.{KeyFaults}
 use Rattle.gaz_rules.specs.declared.name_faults.BlpuState.{BlpuState}

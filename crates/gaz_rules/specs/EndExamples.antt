@@ -7,8 +7,8 @@ use Rattle.gaz_records.specs.declared.item.Item.{Item}
 use Rattle.gaz_records.specs.declared.item.Item.TheVariants as item
 use Rattle.gaz_records.specs.declared.key.Key.{Key}
 use Rattle.gaz_records.specs.declared.key.Key.TheVariants as key
-use Rattle.gaz_ledger.specs.Examples.{blpu, council_tax, lpi, name, spring, street}
-use Rattle.gaz_ledger.specs.View.{View, empty_view, with_item}
+use Rattle.gaz_views.specs.Examples.{blpu, council_tax, lpi, name, spring, street}
+use Rattle.gaz_views.specs.View.{View, empty_view, with_item}
 use Rattle.gaz_rules.specs.Rules.{first_broken}
 use Rattle.gaz_rules.specs.EndRules.{end_rules}
 

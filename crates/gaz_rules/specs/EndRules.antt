@@ -14,8 +14,8 @@ use Rattle.gaz_records.specs.declared.item.Item.{Item}
 use Rattle.gaz_records.specs.declared.item.Item.TheVariants as item
 use Rattle.gaz_records.specs.declared.key.Key.{Key}
 use Rattle.gaz_records.specs.declared.key.Key.TheVariants as key
-use Rattle.gaz_ledger.specs.View.{View, holds}
-use Rattle.gaz_ledger.specs.Words.{approved_of, approved_on, is_approved}
+use Rattle.gaz_views.specs.View.{View, holds}
+use Rattle.gaz_views.specs.Words.{approved_of, approved_on, is_approved}
 
 -- ---- what stands in a view
 

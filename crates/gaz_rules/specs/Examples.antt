@@ -7,8 +7,8 @@ use Rattle.gaz_changefile.specs.Reading.{Reading, Good}
 use Rattle.gaz_changefile.specs.declared.action.Action.{Action}
 use Rattle.gaz_changefile.specs.declared.action.Action.TheVariants.{Insert, Update, Delete}
 use Rattle.gaz_changefile.specs.declared.change.Change.{Change}
-use Rattle.gaz_ledger.specs.Examples.{blpu, council_tax, lpi, name, no_more, one_street, street}
-use Rattle.gaz_ledger.specs.View.{View, empty_view, with_item}
+use Rattle.gaz_views.specs.Examples.{blpu, council_tax, lpi, name, no_more, one_street, street}
+use Rattle.gaz_views.specs.View.{View, empty_view, with_item}
 use Rattle.gaz_register.specs.Registers.{Blocks}
 use Rattle.gaz_rules.specs.Rules.{first_broken, is_outside, record_rules, stays}
 

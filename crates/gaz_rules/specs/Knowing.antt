@@ -1,6 +1,6 @@
 -- What is known of views while the end rules are asked.
 use Rattle.std.specs.Prelude.{◌≡◌, ℕ, IfSome, List}
-use Rattle.gaz_ledger.specs.View.{View}
+use Rattle.gaz_views.specs.View.{View}
 use Rattle.gaz_rules.specs.Rings.{Knows}
 use Rattle.gaz_rules.specs.Streets.{street_faults}
 use Rattle.gaz_rules.specs.declared.known.Known.{Known}

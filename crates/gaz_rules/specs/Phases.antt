@@ -3,12 +3,12 @@ use Rattle.std.specs.Prelude.{◌≡◌, ◌≢◌, ◌≤◌, ℕ, List, [], �
 use Rattle.std.specs.Option.{option_map}
 use Rattle.std.specs.List.{fold}
 use Rattle.gaz_changefile.specs.Contents.{Contents}
-use Rattle.gaz_ledger.specs.View.{View}
+use Rattle.gaz_views.specs.View.{View}
 use Rattle.gaz_shelf.specs.Board.{Judgement, last_view}
 use Rattle.gaz_shelf.specs.Keeper.{Content, Counts, Idle, IsAtHand, IsNotOpen, Seen, closed, with_judgement, with_working}
 use Rattle.gaz_shelf.specs.declared.fault.ShelfFault.{ShelfFault}
-use Rattle.gaz_ledger.specs.declared.verdict.Verdict.{Verdict}
-use Rattle.gaz_ledger.specs.declared.verdict.Verdict.TheVariants.{Applied, Rejected}
+use Rattle.gaz_views.specs.declared.verdict.Verdict.{Verdict}
+use Rattle.gaz_views.specs.declared.verdict.Verdict.TheVariants.{Applied, Rejected}
 use Rattle.gaz_register.specs.Registers.{Blocks}
 use Rattle.gaz_rules.specs.Bases.{basis_views}
 use Rattle.gaz_rules.specs.Judging.{Fault, end_faults, record_faults}

@@ -10,7 +10,7 @@ use Rattle.gaz_records.specs.declared.item.Item.TheVariants as item
 use Rattle.gaz_changefile.specs.declared.action.Action.{Action}
 use Rattle.gaz_changefile.specs.declared.action.Action.TheVariants.{Insert, Update, Delete}
 use Rattle.gaz_register.specs.Registers.{Blocks}
-use Rattle.gaz_ledger.specs.View.{View, was_used}
+use Rattle.gaz_views.specs.View.{View, was_used}
 use Rattle.gaz_rules.specs.Rules.{is_missing, is_outside, is_used_again, moves_what_stays, takes_what_stays}
 
 -- the number is in none of these blocks

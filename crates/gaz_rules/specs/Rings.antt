@@ -3,7 +3,7 @@ use Rattle.std.specs.Prelude.{◌≡◌, ℕ, Bool, true, List, Option, Some, is
 use Rattle.std.specs.Ordering.{nat_cmp}
 use Rattle.std.specs.BTreeMap as tree
 use Rattle.gaz_records.specs.declared.key.Key.TheVariants as key
-use Rattle.gaz_ledger.specs.View.{View}
+use Rattle.gaz_views.specs.View.{View}
 use Rattle.gaz_rules.specs.EndRules.{is_own_ancestor, parent_of}
 use Rattle.gaz_rules.specs.declared.rings.Walked.{Walked}
 

@@ -7,8 +7,8 @@ use Rattle.gaz_records.specs.Keys.{key_of}
 use Rattle.gaz_records.specs.declared.item.Item.{Item}
 use Rattle.gaz_records.specs.declared.item.Item.TheVariants as item
 use Rattle.gaz_register.specs.Registers.{Blocks, within}
-use Rattle.gaz_ledger.specs.View.{View, with_item, without_key, holds, was_used}
-use Rattle.gaz_ledger.specs.Words.{same_lang}
+use Rattle.gaz_views.specs.View.{View, with_item, without_key, holds, was_used}
+use Rattle.gaz_views.specs.Words.{same_lang}
 use Rattle.gaz_changefile.specs.declared.action.Action.{Action}
 use Rattle.gaz_changefile.specs.declared.action.Action.TheVariants.{Insert, Update, Delete}
 use Rattle.gaz_changefile.specs.declared.change.Change.{Change}

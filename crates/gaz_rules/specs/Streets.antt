@@ -5,7 +5,7 @@ use Rattle.std.specs.FinMap as fin
 use Rattle.gaz_ids.specs.declared.lang.Lang.{Lang}
 use Rattle.gaz_records.specs.declared.item.Item.{Item}
 use Rattle.gaz_records.specs.declared.key.Key.TheVariants as key
-use Rattle.gaz_ledger.specs.View.{View, holds}
+use Rattle.gaz_views.specs.View.{View, holds}
 use Rattle.gaz_shelf.specs.Board.{reached, view_after}
 use Rattle.gaz_shelf.specs.Keeper.{Content}
 use Rattle.gaz_rules.specs.EndRules.{as_street, found_in, if_some, is_closed}

@@ -5,7 +5,7 @@ ghost use Rattle.gaz_records.specs.Keys.{key_of};
 ghost use Rattle.gaz_changefile.specs.Reading.{Good};
 ghost use Rattle.gaz_register.specs.Registers.{blocks_of};
 ghost use Rattle.gaz_shelf.specs.Keeper.{Idle, IsNotOpen, Open, Reads, Seen, with_working};
-ghost use Rattle.gaz_ledger.specs.View.{with_item, without_key};
+ghost use Rattle.gaz_views.specs.View.{with_item, without_key};
 ghost use Rattle.gaz_rules.specs.Bases.{are_reached, basis_views, judged_on};
 ghost use Rattle.gaz_rules.specs.Judges.{Judges};
 ghost use Rattle.gaz_rules.specs.Judging.{end_faults, record_faults};

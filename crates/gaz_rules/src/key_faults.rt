@@ -3,8 +3,8 @@ ghost use Rattle.std.specs.Prelude.{◌≡◌, ◌==◌, ◌&&◌, false, length
 ghost use Rattle.std.specs.Option.{option_and_then, option_map, option_map_or};
 ghost use Rattle.std.specs.FinMap as map;
 ghost use Rattle.gaz_records.specs.declared.key.Key.TheVariants as key;
-ghost use Rattle.gaz_ledger.specs.View.{holds};
-ghost use Rattle.gaz_ledger.specs.Words.{approved_of, approved_on};
+ghost use Rattle.gaz_views.specs.View.{holds};
+ghost use Rattle.gaz_views.specs.Words.{approved_of, approved_on};
 ghost use Rattle.gaz_shelf.specs.Keeper.{Open, Reads};
 ghost use Rattle.gaz_rules.specs.Breaches.{key_faults, no_key_fault};
 ghost use Rattle.gaz_rules.specs.EndRules.{as_blpu, blpu_at, closed_under_lpi, is_historical, is_own_ancestor, parent_of};

@@ -1,6 +1,6 @@
 //! What is known already while the end rules are asked.
 ghost use Rattle.std.specs.Prelude.{ℕ, List};
-ghost use Rattle.gaz_ledger.specs.View.{View};
+ghost use Rattle.gaz_views.specs.View.{View};
 ghost use Rattle.gaz_rules.specs.Knowing.{IsRight};
 
 use crate::last_street::LastStreet;

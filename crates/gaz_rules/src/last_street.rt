@@ -1,6 +1,6 @@
 //! The street that an approved LPI named last. Over a whole file most LPIs name the same one.
 ghost use Rattle.std.specs.Prelude.{◌≡◌, ℕ, true, IfSome, List};
-ghost use Rattle.gaz_ledger.specs.View.{View};
+ghost use Rattle.gaz_views.specs.View.{View};
 ghost use Rattle.gaz_shelf.specs.Keeper.{Open, Reads};
 ghost use Rattle.gaz_rules.specs.Bases.{are_reached, basis_views};
 ghost use Rattle.gaz_rules.specs.Knowing.{Recalls};

@@ -5,7 +5,7 @@ ghost use Rattle.std.specs.Option.{option_map_or};
 ghost use Rattle.gaz_records.specs.Keys.{key_of};
 ghost use Rattle.gaz_register.specs.Registers.{Blocks, blocks_of};
 ghost use Rattle.gaz_shelf.specs.Keeper.{Open, Reads, Seen};
-ghost use Rattle.gaz_ledger.specs.View.{View, holds, was_used};
+ghost use Rattle.gaz_views.specs.View.{View, holds, was_used};
 ghost use Rattle.gaz_rules.specs.Rules.{first_broken, is_moved, is_outside, record_rules, stays};
 
 use crate::key_faults::is_there;

@@ -3,7 +3,7 @@ ghost use Rattle.std.specs.Prelude.{◌≡◌, ◌<◌, ◌≤◌, ◌^◌, ◌+
 ghost use Rattle.std.specs.Ordering.{nat_cmp};
 ghost use Rattle.std.specs.BTreeMap as tree;
 ghost use Rattle.gaz_records.specs.declared.key.Key.TheVariants as key;
-ghost use Rattle.gaz_ledger.specs.View.{View};
+ghost use Rattle.gaz_views.specs.View.{View};
 ghost use Rattle.gaz_shelf.specs.Keeper.{Open, Reads};
 ghost use Rattle.gaz_rules.specs.EndRules.{is_own_ancestor, parent_of};
 ghost use Rattle.gaz_rules.specs.Rings.{Knows, visit_of};

@@ -1,7 +1,7 @@
 //! Streets, in the view that is judged and in those of basis custodians.
 ghost use Rattle.std.specs.Prelude.{◌≡◌, ◌≤◌, true, IfSome};
 ghost use Rattle.std.specs.Option.{option_map};
-ghost use Rattle.gaz_ledger.specs.View.{holds};
+ghost use Rattle.gaz_views.specs.View.{holds};
 ghost use Rattle.gaz_shelf.specs.Board.{reached, view_after};
 ghost use Rattle.gaz_shelf.specs.Keeper.{Open, Reads};
 ghost use Rattle.gaz_rules.specs.Bases.{are_reached, basis_views};

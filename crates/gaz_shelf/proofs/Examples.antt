@@ -2,7 +2,7 @@
 use Rattle.std.proofs.Common.{◌≡◌, ◌∙◌, ◌&&◌, ℕ, List, [], ◌∷◌, map, not, refl, ap}
 use Rattle.std.specs.Prelude.{◌==◌, count_by, nat_le}
 use Rattle.std.specs.FinMap as finite
-use Rattle.gaz_ledger.proofs.Trees.{no_entries}
+use Rattle.gaz_views.proofs.Trees.{no_entries}
 use Rattle.gaz_shelf.proofs.Pairs.{pairs_total}
 use Rattle.gaz_shelf.specs.Examples.{WorkedBoards, WorkedContents, WorkedExamples, WorkedFiles, three_files}
 use Rattle.gaz_shelf.specs.Received.{Received, count_above, pair_cmp, with_file}

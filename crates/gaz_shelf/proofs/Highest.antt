@@ -11,7 +11,7 @@ use Rattle.std.specs.declared.cmp.Ordering.{Ordering}
 use Rattle.std.specs.declared.cmp.Ordering.TheVariants.{Less, Equal, Greater}
 use Rattle.std.proofs.lemmas.Map.Lookups.{exact_unsigned}
 use Rattle.gaz_shelf.proofs.Pairs.{pairs_exact, pairs_total}
-use Rattle.gaz_ledger.proofs.Trees.{get_tree}
+use Rattle.gaz_views.proofs.Trees.{get_tree}
 use Rattle.gaz_shelf.specs.Received.{AreBelow, is_below, pair_cmp}
 
 abbrev Volumes : Type 0

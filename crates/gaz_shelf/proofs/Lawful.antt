@@ -4,12 +4,12 @@ use Rattle.std.specs.Prelude.{◌==◌, Some, Result, Ok, Err, OnOk, OnErr}
 use Rattle.std.specs.BTreeMap.{BTreeMap, Updates, is_at}
 use Rattle.std.specs.Map.{lookup}
 use Rattle.std.specs.Ordering.{nat_cmp}
-use Rattle.gaz_ledger.proofs.Lawful.{lawful_empty, lawful_put, lawful_taken}
-use Rattle.gaz_ledger.specs.Judgements.{Judgement}
-use Rattle.gaz_ledger.specs.Lawful.{IsLawfulView}
-use Rattle.gaz_ledger.specs.Ledgers.{Account, empty_account, last_of}
-use Rattle.gaz_ledger.specs.View.{View, empty_view, with_item, without_key}
-use Rattle.gaz_ledger.specs.declared.verdict.Verdict.{Verdict}
+use Rattle.gaz_views.proofs.Lawful.{lawful_empty, lawful_put, lawful_taken}
+use Rattle.gaz_views.specs.Judgements.{Judgement}
+use Rattle.gaz_views.specs.Lawful.{IsLawfulView}
+use Rattle.gaz_views.specs.Accounts.{Account, empty_account, last_of}
+use Rattle.gaz_views.specs.View.{View, empty_view, with_item, without_key}
+use Rattle.gaz_views.specs.declared.verdict.Verdict.{Verdict}
 use Rattle.gaz_records.specs.declared.item.Item.{Item}
 use Rattle.gaz_records.specs.declared.key.Key.{Key}
 use Rattle.gaz_shelf.proofs.Boards.{Changes, changed}

@@ -2,14 +2,14 @@
 use Rattle.std.proofs.Common.{◌≡◌, ℕ, List, sym, ap}
 use Rattle.gaz_shelf.specs.Board.{adds}
 use Rattle.gaz_shelf.specs.Keeper.{Content, Open, kept}
-use Rattle.gaz_ledger.specs.Ledgers.{Account}
+use Rattle.gaz_views.specs.Accounts.{Account}
 use Rattle.gaz_shelf.specs.Accounts.{account_of, board_of}
 use Rattle.gaz_shelf.specs.Mem.{progress_of, working_of}
 use Rattle.gaz_shelf.specs.Received.{Received}
-use Rattle.gaz_ledger.specs.View.{empty_view}
+use Rattle.gaz_views.specs.View.{empty_view}
 use Rattle.gaz_shelf.specs.declared.mem_shelf.Judging.{Judging}
 use Rattle.gaz_shelf.specs.declared.mem_shelf.Judging.TheVariants as judging
-use Rattle.gaz_ledger.specs.declared.verdict.Verdict.TheVariants.{Applied}
+use Rattle.gaz_views.specs.declared.verdict.Verdict.TheVariants.{Applied}
 
 abbrev judged : Received → List (ℕ × Account) → ℕ → Content
 judged files es c = record { files = files; board = adds (board_of es) c (record { verdict = Applied; view = (account_of es c).working }); working = empty_view }

@@ -3,10 +3,10 @@ use Rattle.std.specs.Prelude.{ℕ, List, slice_get, unwrap_or}
 use Rattle.std.specs.BTreeMap.{is_at}
 use Rattle.std.specs.Map.{lookup}
 use Rattle.std.specs.Ordering.{nat_cmp}
-use Rattle.gaz_ledger.specs.Judgements.{views}
-use Rattle.gaz_ledger.specs.Lawful.{IsLawfulView, IsLawfulView-prop}
-use Rattle.gaz_ledger.specs.Ledgers.{Account, empty_account}
-use Rattle.gaz_ledger.specs.View.{empty_view}
+use Rattle.gaz_views.specs.Judgements.{views}
+use Rattle.gaz_views.specs.Lawful.{IsLawfulView, IsLawfulView-prop}
+use Rattle.gaz_views.specs.Accounts.{Account, empty_account}
+use Rattle.gaz_views.specs.View.{empty_view}
 use Rattle.gaz_shelf.specs.Board.{Board}
 
 -- a custodian without an account has an empty one

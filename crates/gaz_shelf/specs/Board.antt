@@ -1,8 +1,8 @@
 -- The judgements of all custodians.
 use Rattle.std.specs.Prelude.{ℕ, zero, suc, ◌==◌, if◌then◌else◌, List, [], ◌∷◌, ◌++◌, length, slice_get, unwrap_or, Option, None, option_map}
-pub use Rattle.gaz_ledger.specs.Judgements.{Judgement, views}
-use Rattle.gaz_ledger.specs.View.{View, empty_view}
-use Rattle.gaz_ledger.specs.declared.verdict.Verdict.{Verdict}
+pub use Rattle.gaz_views.specs.Judgements.{Judgement, views}
+use Rattle.gaz_views.specs.View.{View, empty_view}
+use Rattle.gaz_views.specs.declared.verdict.Verdict.{Verdict}
 
 -- each custodian's judgements, those of the volumes 1, 2, 3, ..
 abbrev pub Board : Type 0

@@ -1,9 +1,9 @@
 -- Worked examples, computed from the definitions.
 use Rattle.std.specs.Prelude.{◌≡◌, ◌==◌, true, false, [], ◌∷◌, if◌then◌else◌, Some, None}
 use Rattle.std.specs.FinMap as map
-use Rattle.gaz_ledger.specs.Examples.{no_more, one_street}
-use Rattle.gaz_ledger.specs.View.{empty_view}
-use Rattle.gaz_ledger.specs.declared.verdict.Verdict.TheVariants.{Applied, Rejected}
+use Rattle.gaz_views.specs.Examples.{no_more, one_street}
+use Rattle.gaz_views.specs.View.{empty_view}
+use Rattle.gaz_views.specs.declared.verdict.Verdict.TheVariants.{Applied, Rejected}
 use Rattle.gaz_shelf.specs.Board.{Board, empty_board, last_view, reached, verdict_on, view_after}
 use Rattle.gaz_shelf.specs.Keeper.{Broken, Content, Idle, Open, kept, skipped}
 use Rattle.gaz_shelf.specs.Received.{Received, count_above, is_below, with_file}

@@ -1,8 +1,8 @@
 -- A keeper at one moment, and what each of its calls tells.
 use Rattle.std.specs.Prelude.{◌≡◌, ◌≢◌, ◌≤◌, ◌<◌, ◌+◌, ◌-◌, ◌^◌, ◌==◌, ⊤, ℕ, Bool, true, if◌then◌else◌, List, [], None, IsSome, Result, Err, IfOk, IfErr, OnOk, OnErr, fold}
 use Rattle.std.specs.FinMap as map
-use Rattle.gaz_ledger.specs.Lawful.{IsLawfulView}
-use Rattle.gaz_ledger.specs.View.{View, empty_view, with_item}
+use Rattle.gaz_views.specs.Lawful.{IsLawfulView}
+use Rattle.gaz_views.specs.View.{View, empty_view, with_item}
 use Rattle.gaz_shelf.specs.Board.{Board, Judgement, adds, last_view, reached, view_after}
 use Rattle.gaz_shelf.specs.Received.{Received, with_file}
 use Rattle.gaz_records.specs.declared.item.Item.{Item}
@@ -10,7 +10,7 @@ use Rattle.gaz_shelf.specs.declared.writing.Ending.{Ending}
 use Rattle.gaz_shelf.specs.declared.writing.Ending.TheVariants.{Keep, Abandon}
 use Rattle.gaz_shelf.specs.declared.fault.ShelfFault.{ShelfFault}
 use Rattle.gaz_shelf.specs.declared.fault.ShelfFault.TheVariants.{Memory, Store}
-use Rattle.gaz_ledger.specs.declared.verdict.Verdict.TheVariants.{Applied, Rejected}
+use Rattle.gaz_views.specs.declared.verdict.Verdict.TheVariants.{Applied, Rejected}
 
 -- ---- what is kept
 

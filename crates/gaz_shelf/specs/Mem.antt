@@ -1,9 +1,9 @@
 -- What a keeper in memory keeps.
 use Rattle.std.specs.Prelude.{◌≡◌, ◌≤◌, true, ℕ, ◌==◌, ◌^◌, ◌-◌, ⊤, List}
 use Rattle.std.proofs.Common.{eqb-true, le_of_eq, sym}
-use Rattle.gaz_ledger.specs.Lawful.{IsLawfulView}
-use Rattle.gaz_ledger.specs.View.{View, empty_view}
-use Rattle.gaz_ledger.specs.Ledgers.{Account}
+use Rattle.gaz_views.specs.Lawful.{IsLawfulView}
+use Rattle.gaz_views.specs.View.{View, empty_view}
+use Rattle.gaz_views.specs.Accounts.{Account}
 use Rattle.gaz_shelf.specs.Accounts.{AreLawful, account_of, board_of}
 use Rattle.gaz_shelf.specs.Keeper.{Broken, Content, Idle, IsLawful, Open, Progress, Seen}
 use Rattle.gaz_shelf.specs.declared.mem_shelf.Judging.{Judging}

@@ -1,13 +1,14 @@
 //! The books of all custodians.
 ghost use Rattle.std.specs.Prelude.{◌≡◌, [], MatchOption, OnOk, OnErr};
-ghost use Rattle.gaz_ledger.specs.Ledgers.{empty_account};
-ghost use Rattle.gaz_ledger.specs.View.{with_item, without_key};
+ghost use Rattle.gaz_views.specs.Accounts.{empty_account};
+ghost use Rattle.gaz_views.specs.View.{with_item, without_key};
 ghost use Rattle.gaz_shelf.specs.Accounts.{AreLawful, AreLawful-prop, account_of, board_of};
 ghost use Rattle.gaz_shelf.specs.Board.{adds, last_view};
 
 use gaz_ids::Code;
-use gaz_ledger::{Book, Seed, Verdict};
+use gaz_ledger::{Book, Seed};
 use gaz_records::{Key, SharedItem};
+use gaz_views::Verdict;
 use std::alloc::{AllocError, Global};
 use std::collections::BTreeMap;
 

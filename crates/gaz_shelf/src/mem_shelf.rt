@@ -1,10 +1,10 @@
 //! A keeper in memory.
 ghost use Rattle.std.specs.Prelude.{◌≡◌, ◌≢◌, ◌≤◌, ◌<◌, ◌==◌, ◌^◌, ◌-◌, ℕ, if◌then◌else◌, ⊤, length, IfOk, IfNone, IfSome, IsOk, MatchOption, option_map};
 ghost use Rattle.std.specs.FinMap as map;
-ghost use Rattle.gaz_ledger.specs.View.{empty_view, was_used, with_item, without_key};
-ghost use Rattle.gaz_ledger.specs.Words.{approved_of, approved_on, has_children, page, property_of};
+ghost use Rattle.gaz_views.specs.View.{empty_view, was_used, with_item, without_key};
+ghost use Rattle.gaz_views.specs.Words.{approved_of, approved_on, has_children, page, property_of};
 ghost use Rattle.gaz_shelf.specs.Board.{adds, last_view, reached, verdict_on, view_after};
-ghost use Rattle.gaz_ledger.specs.Ledgers.{view_in};
+ghost use Rattle.gaz_views.specs.Accounts.{view_in};
 ghost use Rattle.gaz_shelf.specs.Received.{count_above};
 ghost use Rattle.gaz_shelf.specs.Keeper.{Broken, Content, Enters, Goes, Idle, IsAtHand, IsNew, IsNotOpen, Keeps, Open, Reads, Refuses, Seen, Sets, begun, closed, empty_content, kept, skipped, view_of, with_received};
 ghost use Rattle.gaz_shelf.specs.Mem.{content_in, progress_of, seen_in, working_of};
@@ -14,8 +14,9 @@ use crate::fault::ShelfFault;
 use crate::files::Files;
 use crate::shelf::{Inbox, Shelf};
 use gaz_ids::{Code, Lang, Uprn, Usrn, Volume};
-use gaz_ledger::{Book, Property, Seed, Verdict, share_found};
+use gaz_ledger::{Book, Seed};
 use gaz_records::{Key, Kind, SharedItem};
+use gaz_views::{Property, Verdict, share_found};
 use std::alloc::{AllocError, Global};
 
 /// Whether a judgement is in progress, and whose.

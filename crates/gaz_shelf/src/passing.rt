@@ -1,8 +1,8 @@
 //! The calls that a keeper for tests passes on.
 ghost use Rattle.std.specs.Prelude.{◌≡◌, ◌≢◌, ◌≤◌, ⊤, option_map};
 ghost use Rattle.std.specs.FinMap as map;
-ghost use Rattle.gaz_ledger.specs.View.{was_used, with_item, without_key};
-ghost use Rattle.gaz_ledger.specs.Words.{approved_of, approved_on, has_children, page, property_of};
+ghost use Rattle.gaz_views.specs.View.{was_used, with_item, without_key};
+ghost use Rattle.gaz_views.specs.Words.{approved_of, approved_on, has_children, page, property_of};
 ghost use Rattle.gaz_shelf.specs.Board.{reached, verdict_on, view_after};
 ghost use Rattle.gaz_shelf.specs.Calls.{CountsAs};
 ghost use Rattle.gaz_shelf.specs.Faulting.{around, progress_around};
@@ -14,8 +14,8 @@ use crate::fault::ShelfFault;
 use crate::faulty::Faulty;
 use crate::shelf::{Inbox, Shelf};
 use gaz_ids::{Code, Lang, Uprn, Usrn, Volume};
-use gaz_ledger::{Property, Verdict};
 use gaz_records::{Key, Kind, SharedItem};
+use gaz_views::{Property, Verdict};
 
 // What a call says of the content it says as every keeper; beside that it counts as the call that it is.
 impl<K: Inbox + Drop> Shelf for Faulty<K> {

@@ -2,8 +2,8 @@
 ghost use Rattle.std.specs.Prelude.{◌≡◌, ◌+◌, ◌<◌, ◌≤◌, ◌++◌, ◌^◌, if◌then◌else◌, IfOk, None, is_some, vec_len};
 ghost use Rattle.gaz_shelf.specs.Board.{reached, view_after};
 ghost use Rattle.gaz_shelf.specs.Keeper.{Reads, Seen};
-ghost use Rattle.gaz_ledger.specs.Reading.{left_after, next_after};
-ghost use Rattle.gaz_ledger.specs.Words.{rest_of};
+ghost use Rattle.gaz_views.specs.Reading.{left_after, next_after};
+ghost use Rattle.gaz_views.specs.Words.{rest_of};
 
 use crate::fault::ShelfFault;
 use crate::shelf::Shelf;

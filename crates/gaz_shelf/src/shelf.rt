@@ -1,16 +1,16 @@
 //! What is asked of a keeper of boards.
 ghost use Rattle.std.specs.Prelude.{◌≡◌, ◌≢◌, ◌≤◌, ⊤, option_map};
 ghost use Rattle.std.specs.FinMap as map;
-ghost use Rattle.gaz_ledger.specs.View.{was_used, with_item, without_key};
-ghost use Rattle.gaz_ledger.specs.Words.{approved_of, approved_on, has_children, page, property_of};
+ghost use Rattle.gaz_views.specs.View.{was_used, with_item, without_key};
+ghost use Rattle.gaz_views.specs.Words.{approved_of, approved_on, has_children, page, property_of};
 ghost use Rattle.gaz_shelf.specs.Board.{reached, verdict_on, view_after};
 ghost use Rattle.gaz_shelf.specs.Received.{count_above};
 ghost use Rattle.gaz_shelf.specs.Keeper.{Enters, Goes, Idle, IsAtHand, IsNew, IsNotOpen, Open, Reads, Refuses, Seen, Sets, begun, closed, kept, skipped, view_of, with_received};
 
 use crate::fault::ShelfFault;
 use gaz_ids::{Code, Lang, Uprn, Usrn, Volume};
-use gaz_ledger::{Property, Verdict};
 use gaz_records::{Key, Kind, SharedItem};
+use gaz_views::{Property, Verdict};
 
 /// Keeps each custodian's views and verdicts, and at most one judgement in progress.
 ///

@@ -1,6 +1,6 @@
 //! Writing over any keeper.
 ghost use Rattle.std.specs.Prelude.{◌≡◌, ◌≢◌, [], fold};
-ghost use Rattle.gaz_ledger.specs.View.{with_item};
+ghost use Rattle.gaz_views.specs.View.{with_item};
 ghost use Rattle.gaz_shelf.specs.Keeper.{Goes, Idle, IsAtHand, IsNotOpen, Refuses, Seen, Sets, written};
 
 use crate::fault::ShelfFault;

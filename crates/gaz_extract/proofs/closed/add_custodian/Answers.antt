@@ -3,8 +3,8 @@ use Rattle.std.specs.List.{filter_map}
 use Rattle.gaz_records.specs.declared.item.Kind.TheVariants as kind
 use Rattle.gaz_shelf.specs.Board.{last_view, reached, view_after}
 use Rattle.gaz_shelf.specs.Keeper.{Content}
-use Rattle.gaz_ledger.specs.Reading.{left_after}
-use Rattle.gaz_ledger.specs.Words.{rest_of}
+use Rattle.gaz_views.specs.Reading.{left_after}
+use Rattle.gaz_views.specs.Words.{rest_of}
 use Rattle.gaz_shelf.proofs.Keeping.{keeps_then}
 use Rattle.gaz_extract.specs.Closing.{closed_by}
 use Rattle.gaz_extract.proofs.Turns.{left_is_rest}

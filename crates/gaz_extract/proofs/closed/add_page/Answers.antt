@@ -4,8 +4,8 @@ use Rattle.gaz_records.specs.declared.item.Item.{Item}
 use Rattle.gaz_records.specs.declared.item.Kind.TheVariants as kind
 use Rattle.gaz_shelf.specs.Board.{view_after}
 use Rattle.gaz_shelf.specs.Keeper.{Content}
-use Rattle.gaz_ledger.specs.Reading.{left_after}
-use Rattle.gaz_ledger.specs.Words.{rest_of}
+use Rattle.gaz_views.specs.Reading.{left_after}
+use Rattle.gaz_views.specs.Words.{rest_of}
 use Rattle.gaz_shelf.proofs.Keeping.{keeps_then}
 use Rattle.gaz_extract.specs.Closing.{closed_by}
 use Rattle.gaz_extract.proofs.Lists.{told_more}

@@ -2,8 +2,8 @@
 use Rattle.std.proofs.Common.{◌≡◌, ◌≤◌, None}
 use Rattle.gaz_shelf.specs.Board.{reached, view_after}
 use Rattle.gaz_shelf.specs.Keeper.{IsNotOpen, Keeps}
-use Rattle.gaz_ledger.specs.Reading.{left_after}
-use Rattle.gaz_ledger.specs.Words.{rest_of}
+use Rattle.gaz_views.specs.Reading.{left_after}
+use Rattle.gaz_views.specs.Words.{rest_of}
 use Rattle.gaz_extract.specs.Drafts.{with_items}
 use Rattle.gaz_extract.specs.Paging.{pages_left}
 use Rattle.gaz_extract.proofs.extracts.add_kind.Given as goal

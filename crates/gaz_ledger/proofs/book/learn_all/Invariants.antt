@@ -1,6 +1,6 @@
 -- What is known stays so.
 use Rattle.std.proofs.Common.{vec_len}
-use Rattle.gaz_ledger.specs.Ledgers.{last_of}
+use Rattle.gaz_views.specs.Accounts.{last_of}
 use Rattle.gaz_ledger.specs.Properties.{AreSo}
 use Rattle.gaz_ledger.proofs.book.learn_all.Given as goal
 

@@ -1,9 +1,9 @@
 -- The keys so far and those of what is left are those of all.
 use Rattle.std.proofs.Common.{◌≡◌, ◌++◌}
 use Rattle.std.specs.Prelude.{filter}
+use Rattle.gaz_views.specs.Words.{entries}
 use Rattle.gaz_ledger.specs.Gazetteer.{view_at}
 use Rattle.gaz_ledger.specs.Indexes.{listed, marked_at}
-use Rattle.gaz_ledger.specs.Words.{entries}
 use Rattle.gaz_ledger.proofs.index.keys_marked.Given as goal
 
 abbrev pub invariant-loop-key : goal.invariant-loop-key

@@ -3,7 +3,7 @@ use Rattle.std.proofs.Common.{◌≡◌, ◌∙◌, ap, sym, true, not, Bool}
 use Rattle.std.specs.Prelude.{Some}
 use Rattle.std.specs.List.{list_any}
 use Rattle.gaz_records.specs.declared.item.Item.TheVariants as item
-use Rattle.gaz_ledger.specs.Words.{approved_of}
+use Rattle.gaz_views.specs.Words.{approved_of}
 use Rattle.gaz_rules.specs.Bases.{are_reached, basis_views}
 use Rattle.gaz_rules.specs.Breaches.{blpu_state}
 use Rattle.gaz_rules.specs.EndRules.{same_key}

@@ -1,7 +1,7 @@
 use Rattle.std.proofs.Common.{◌∙◌, ap}
 use Rattle.gaz_shelf.specs.Board.{view_after}
-use Rattle.gaz_ledger.specs.Reading.{next_after}
-use Rattle.gaz_ledger.proofs.Pages.{page_added}
+use Rattle.gaz_views.specs.Reading.{next_after}
+use Rattle.gaz_views.proofs.Pages.{page_added}
 use Rattle.gaz_shelf.proofs.reading.add_page.Goals as goal
 
 pub returns-clause-reads : goal.returns-clause-reads

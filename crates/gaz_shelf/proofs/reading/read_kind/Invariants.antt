@@ -2,8 +2,8 @@
 use Rattle.std.proofs.Common.{◌≡◌, ◌≢◌, ◌≤◌, ◌++◌, ◌^◌, ◌+◌, ◌-◌, cond, None, is_some, vec_len}
 use Rattle.gaz_shelf.specs.Board.{reached, view_after}
 use Rattle.gaz_shelf.specs.Keeper.{Broken, Keeps}
-use Rattle.gaz_ledger.specs.Reading.{left_after}
-use Rattle.gaz_ledger.specs.Words.{rest_of}
+use Rattle.gaz_views.specs.Reading.{left_after}
+use Rattle.gaz_views.specs.Words.{rest_of}
 use Rattle.gaz_shelf.proofs.reading.read_kind.Given as goal
 
 abbrev pub invariant-loop-next : goal.invariant-loop-next

@@ -2,7 +2,7 @@
 use Rattle.std.proofs.Common.{◌≡◌, ◌≤◌}
 use Rattle.std.specs.Prelude.{fold}
 use Rattle.std.specs.Vec.Iter.{into_iter_items}
-use Rattle.gaz_ledger.specs.View.{with_item}
+use Rattle.gaz_views.specs.View.{with_item}
 use Rattle.gaz_shelf.specs.Keeper.{Broken, closed, with_working}
 use Rattle.gaz_shelf.proofs.writing.put_all.Given as goal
 

@@ -1,7 +1,7 @@
 -- The view that was the working one is the last one too.
 use Rattle.std.proofs.Common.{◌≡◌, ◌∙◌, ap, subst, sym}
+use Rattle.gaz_views.specs.Accounts.{Account, last_of}
 use Rattle.gaz_ledger.proofs.Known.{last_judged}
-use Rattle.gaz_ledger.specs.Ledgers.{Account, last_of}
 use Rattle.gaz_ledger.specs.Properties.{AreSo}
 use Rattle.gaz_ledger.proofs.book.Book.close.Goals as goal
 

@@ -2,12 +2,12 @@
 use Rattle.std.proofs.Common.{◌≡◌, ◌⊎◌, ◌∙◌, ap, subst, sym, true}
 use Rattle.std.specs.Prelude.{Some}
 use Rattle.gaz_records.specs.Keys.{key_of}
+use Rattle.gaz_views.specs.Accounts.{Account, last_of}
+use Rattle.gaz_views.specs.View.{with_item}
+use Rattle.gaz_views.specs.Words.{entries}
 use Rattle.gaz_ledger.proofs.Known.{fewer, marked_put, others_put, still_so}
 use Rattle.gaz_ledger.specs.Indexes.{has_mark, marked_at}
-use Rattle.gaz_ledger.specs.Ledgers.{Account, last_of}
 use Rattle.gaz_ledger.specs.Properties.{AreSo, is_blpu}
-use Rattle.gaz_ledger.specs.View.{with_item}
-use Rattle.gaz_ledger.specs.Words.{entries}
 use Rattle.gaz_ledger.specs.declared.index.Mark.{Mark}
 use Rattle.gaz_ledger.proofs.book.Book.put.Goals as goal
 

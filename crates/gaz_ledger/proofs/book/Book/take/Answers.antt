@@ -1,10 +1,10 @@
 -- What is known still is untouched by the item that goes.
 use Rattle.std.proofs.Common.{◌≡◌, ◌∙◌, false, subst, sym, true}
 use Rattle.std.specs.Prelude.{None}
+use Rattle.gaz_views.specs.Accounts.{Account, last_of}
+use Rattle.gaz_views.specs.View.{without_key}
 use Rattle.gaz_ledger.proofs.Known.{fewer, others_taken, still_so, unmarked_taken}
-use Rattle.gaz_ledger.specs.Ledgers.{Account, last_of}
 use Rattle.gaz_ledger.specs.Properties.{AreSo}
-use Rattle.gaz_ledger.specs.View.{without_key}
 use Rattle.gaz_ledger.proofs.book.Book.take.Goals as goal
 
 pub invariant_of-self-2 : goal.invariant_of-self-2

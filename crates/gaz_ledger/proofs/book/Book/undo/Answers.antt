@@ -1,6 +1,6 @@
 -- The working view is the last one, of which all that is known is so.
 use Rattle.std.proofs.Common.{◌≡◌, ◌∙◌, ap, subst, sym}
-use Rattle.gaz_ledger.specs.Ledgers.{Account, last_of}
+use Rattle.gaz_views.specs.Accounts.{Account, last_of}
 use Rattle.gaz_ledger.specs.Properties.{AreSo}
 use Rattle.gaz_ledger.proofs.book.Book.undo.Goals as goal
 

@@ -1,8 +1,8 @@
 use Rattle.std.proofs.Common.{rules, ◌∙◌}
 use Rattle.std.specs.Prelude.{Some}
 use Rattle.std.specs.HashMap.Entry.{entry_value, map_with_value}
+use Rattle.gaz_views.proofs.Outcomes.{on_ok}
 use Rattle.gaz_ledger.proofs.Indexes.{in_end, more_there, none_more, on_errs, one_more, same_there}
-use Rattle.gaz_ledger.proofs.Outcomes.{on_ok}
 use Rattle.gaz_ledger.proofs.index.Index.add.Goals as goal
 
 pub returns-clause-ok : goal.returns-clause-ok

@@ -1,8 +1,8 @@
 use Rattle.std.proofs.Common.{◌≡◌, ◌∙◌, ap, sym}
+use Rattle.gaz_views.proofs.Outcomes.{on_ok}
 use Rattle.gaz_ledger.specs.Indexes.{is_under}
 use Rattle.gaz_ledger.specs.declared.index.Mark.{Mark}
 use Rattle.gaz_ledger.proofs.Indexes.{is_added, kept_under}
-use Rattle.gaz_ledger.proofs.Outcomes.{on_ok}
 use Rattle.gaz_ledger.proofs.index.Index.add_some.Goals as goal
 
 pub returns-in-Some-clause-ok : goal.returns-in-Some-clause-ok

@@ -1,7 +1,7 @@
 use Rattle.std.proofs.Common.{◌∙◌, ◌||◌, ap, sym}
 use Rattle.std.specs.Ordering.{eq_by_cmp, is_eq}
 use Rattle.gaz_records.specs.Keys.{key_cmp}
-use Rattle.gaz_ledger.proofs.Outcomes.{where_err}
+use Rattle.gaz_views.proofs.Outcomes.{where_err}
 use Rattle.gaz_ledger.proofs.KeySets.{added, known, not_there}
 use Rattle.gaz_ledger.specs.Indexes.{has_key, listed}
 use Rattle.gaz_ledger.specs.declared.keys.Keys.{Keys}

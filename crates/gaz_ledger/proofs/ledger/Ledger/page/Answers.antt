@@ -1,7 +1,7 @@
 use Rattle.std.proofs.Common.{◌∙◌, ap}
+use Rattle.gaz_views.specs.View.{View}
+use Rattle.gaz_views.specs.Words.{page}
 use Rattle.gaz_ledger.proofs.Ledgers.{seen}
-use Rattle.gaz_ledger.specs.View.{View}
-use Rattle.gaz_ledger.specs.Words.{page}
 use Rattle.gaz_ledger.proofs.ledger.Ledger.page.Goals as goal
 
 pub returns : goal.returns

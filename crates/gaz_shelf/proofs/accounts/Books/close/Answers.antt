@@ -1,8 +1,8 @@
 use Rattle.std.proofs.Common.{rules, ◌∙◌, ◌++◌, ◌∷◌, [], ap, unwrap_or}
 use Rattle.gaz_shelf.proofs.Lawful.{after_close, all_lawful, found_lawful, none_found}
 use Rattle.gaz_shelf.proofs.Boards.{no_more, one_more}
-use Rattle.gaz_ledger.proofs.Outcomes.{where_err}
-use Rattle.gaz_ledger.specs.Ledgers.{Account, empty_account}
+use Rattle.gaz_views.proofs.Outcomes.{where_err}
+use Rattle.gaz_views.specs.Accounts.{Account, empty_account}
 use Rattle.gaz_shelf.proofs.accounts.Books.close.Goals as goal
 
 pub returns-in_err-close-clause-err : goal.returns-in_err-close-clause-err

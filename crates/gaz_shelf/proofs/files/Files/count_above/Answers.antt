@@ -1,7 +1,7 @@
 use Rattle.std.proofs.Common.{◌∙◌, sym, ap, refl, ℕ, List, ◌&&◌, not, map}
 use Rattle.std.specs.Prelude.{◌==◌, nat_le, count_by}
 use Rattle.std.specs.FinMap as finite
-use Rattle.gaz_ledger.proofs.Trees.{entries_tree}
+use Rattle.gaz_views.proofs.Trees.{entries_tree}
 use Rattle.gaz_shelf.specs.Received.{Received, pair_cmp}
 use Rattle.gaz_shelf.proofs.Pairs.{pairs_total}
 use Rattle.gaz_shelf.proofs.files.Files.count_above.Goals as goal

@@ -1,6 +1,6 @@
 use Rattle.std.proofs.Common.{◌∙◌, sym, ap, refl, Some}
 use Rattle.std.specs.FinMap as map
-use Rattle.gaz_ledger.proofs.Trees.{get_tree}
+use Rattle.gaz_views.proofs.Trees.{get_tree}
 use Rattle.gaz_shelf.specs.Received.{Received, pair_cmp}
 use Rattle.gaz_shelf.proofs.Pairs.{pairs_total}
 use Rattle.gaz_shelf.proofs.files.Files.get.Goals as goal

@@ -1,4 +1,4 @@
-use Rattle.gaz_ledger.proofs.Emptiness.{none_approved_on}
+use Rattle.gaz_views.proofs.Emptiness.{none_approved_on}
 use Rattle.gaz_shelf.proofs.mem_shelf.MemShelf.find_approved_on.Goals as goal
 
 pub returns-in-None : goal.returns-in-None

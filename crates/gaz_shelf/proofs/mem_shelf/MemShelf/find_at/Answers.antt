@@ -1,4 +1,4 @@
-use Rattle.gaz_ledger.proofs.Emptiness.{no_item}
+use Rattle.gaz_views.proofs.Emptiness.{no_item}
 use Rattle.gaz_shelf.proofs.Boards.{never_changed}
 use Rattle.gaz_shelf.proofs.mem_shelf.MemShelf.find_at.Goals as goal
 

@@ -1,4 +1,4 @@
-use Rattle.gaz_ledger.proofs.Emptiness.{never_used}
+use Rattle.gaz_views.proofs.Emptiness.{never_used}
 use Rattle.gaz_shelf.proofs.mem_shelf.MemShelf.find_ever.Goals as goal
 
 pub returns-in-None : goal.returns-in-None

@@ -1,5 +1,5 @@
 use Rattle.std.proofs.Common.{◌∙◌}
-use Rattle.gaz_ledger.proofs.Emptiness.{empty_page}
+use Rattle.gaz_views.proofs.Emptiness.{empty_page}
 use Rattle.gaz_shelf.proofs.Boards.{never_changed}
 use Rattle.gaz_shelf.proofs.mem_shelf.MemShelf.find_page.Goals as goal
 

@@ -1,6 +1,6 @@
 use Rattle.std.proofs.Common.{◌∙◌, arith, refl}
 use Rattle.gaz_shelf.proofs.Mem.{kept_open}
-use Rattle.gaz_ledger.specs.View.{empty_view}
+use Rattle.gaz_views.specs.View.{empty_view}
 use Rattle.gaz_shelf.proofs.mem_shelf.MemShelf.finish.Goals as goal
 
 pub returns-in-Ok : goal.returns-in-Ok

@@ -1,7 +1,7 @@
 -- The file is received, and all is settled.
 use Rattle.gaz_hub.specs.Hubs.{door_of}
 use Rattle.gaz_hub.proofs.AnswerSteps.{taken_new, taken_unsettled}
-use Rattle.gaz_hub.proofs.answering.take_in.Goals as goal
+use Rattle.gaz_hub.proofs.submitting.take_in.Goals as goal
 
 pub returns-in-Ok-settle_and_tell-clause-takes_in : goal.returns-in-Ok-settle_and_tell-clause-takes_in
 returns-in-Ok-settle_and_tell-clause-takes_in g c =

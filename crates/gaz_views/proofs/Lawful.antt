@@ -8,10 +8,10 @@ use Rattle.gaz_records.proofs.KeyOrder.{keys_total}
 use Rattle.gaz_records.specs.Keys.{key_cmp, key_of}
 use Rattle.gaz_records.specs.declared.item.Item.{Item}
 use Rattle.gaz_records.specs.declared.key.Key.{Key}
-use Rattle.gaz_ledger.proofs.Emptiness.{get_none}
-use Rattle.gaz_ledger.proofs.Gazetteers.{same_key}
-use Rattle.gaz_ledger.specs.Lawful.{IsLawfulView}
-use Rattle.gaz_ledger.specs.View.{View, empty_view, holds, was_used, with_item, without_key}
+use Rattle.gaz_views.proofs.Emptiness.{get_none}
+use Rattle.gaz_views.proofs.SameKeys.{same_key}
+use Rattle.gaz_views.specs.Lawful.{IsLawfulView}
+use Rattle.gaz_views.specs.View.{View, empty_view, holds, was_used, with_item, without_key}
 
 pub lawful_empty : IsLawfulView empty_view
 lawful_empty = record {

@@ -1,7 +1,7 @@
 -- A file that isn't judged is held.
 use Rattle.std.proofs.Common.{◌≤◌, subst}
 use Rattle.gaz_hub.proofs.Telling.{looks_held}
-use Rattle.gaz_hub.proofs.answering.tell.Goals as goal
+use Rattle.gaz_hub.proofs.reply.tell.Goals as goal
 
 pub returns-in-None : goal.returns-in-None
 returns-in-None g c =

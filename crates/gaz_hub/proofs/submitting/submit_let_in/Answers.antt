@@ -1,7 +1,7 @@
 -- A new file is taken in after what was there is settled.
 use Rattle.gaz_hub.specs.Hubs.{door_of}
 use Rattle.gaz_hub.proofs.AnswerSteps.{taken_in}
-use Rattle.gaz_hub.proofs.answering.submit_let_in.Goals as goal
+use Rattle.gaz_hub.proofs.submitting.submit_let_in.Goals as goal
 
 pub returns-in-Ok-None-clause-steps : goal.returns-in-Ok-None-clause-steps
 returns-in-Ok-None-clause-steps g c =

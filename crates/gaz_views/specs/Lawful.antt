@@ -3,8 +3,8 @@ use Rattle.std.specs.Prelude.{◌≡◌, true}
 use Rattle.std.specs.Coded.{Coded-set, coded_bool}
 use Rattle.gaz_records.specs.contracts.key.Key as key
 use Rattle.gaz_records.specs.declared.key.Key.{Key}
-use Rattle.gaz_ledger.specs.Reading.{IsKeyed}
-use Rattle.gaz_ledger.specs.View.{View, holds, was_used}
+use Rattle.gaz_views.specs.Reading.{IsKeyed}
+use Rattle.gaz_views.specs.View.{View, holds, was_used}
 
 -- each item stands under its own key, and each key at which one stands was used
 pub record IsLawfulView (v : View) : Type 0 where

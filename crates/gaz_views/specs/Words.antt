@@ -15,8 +15,8 @@ use Rattle.gaz_records.specs.declared.item.Kind.{Kind}
 use Rattle.gaz_records.specs.declared.item.Kind.TheVariants as kind
 use Rattle.gaz_records.specs.declared.key.Key.{Key}
 use Rattle.gaz_records.specs.declared.key.Key.TheVariants as key
-use Rattle.gaz_ledger.specs.View.{View}
-use Rattle.gaz_ledger.specs.declared.property.Property.{Property}
+use Rattle.gaz_views.specs.View.{View}
+use Rattle.gaz_views.specs.declared.property.Property.{Property}
 
 -- what a view holds, in the order of keys
 abbrev pub entries : View → List (Key × Item)

@@ -3,7 +3,7 @@ use Rattle.std.proofs.Common.{◌≡◌}
 use Rattle.gaz_hub.specs.Hubs.{door_of}
 use Rattle.gaz_hub.specs.Outcomes.{status}
 use Rattle.gaz_hub.proofs.Telling.{tells_looks}
-use Rattle.gaz_hub.proofs.answering.settle_and_stand.Goals as goal
+use Rattle.gaz_hub.proofs.asking.settle_and_stand.Goals as goal
 
 pub returns : goal.returns
 returns g c =

@@ -10,9 +10,9 @@ use Rattle.gaz_records.specs.declared.item.Item.{Item}
 use Rattle.gaz_records.specs.declared.item.Kind.{Kind}
 use Rattle.gaz_records.specs.declared.key.Key.{Key}
 use Rattle.gaz_records.specs.declared.key.Key.TheVariants as key
-use Rattle.gaz_ledger.proofs.Trees.{no_entries}
-use Rattle.gaz_ledger.specs.View.{View, empty_view, was_used}
-use Rattle.gaz_ledger.specs.Words.{address_of, approved_of, approved_on, comes_after, entries, has_children, is_approved_of, is_approved_on, is_child_of, is_of, page, property_of}
+use Rattle.gaz_views.proofs.Trees.{no_entries}
+use Rattle.gaz_views.specs.View.{View, empty_view, was_used}
+use Rattle.gaz_views.specs.Words.{address_of, approved_of, approved_on, comes_after, entries, has_children, is_approved_of, is_approved_on, is_child_of, is_of, page, property_of}
 
 -- ---- the empty view
 

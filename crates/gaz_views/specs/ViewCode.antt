@@ -1,27 +1,22 @@
--- Views, gazetteers and accounts can be stored as the values of models.
+-- Views, judgements and accounts can be stored as the values of models.
 use Rattle.std.specs.Prelude.{refl, List}
 use Rattle.std.specs.Coded.{Coded, code_by, coded_list, coded×}
 use Rattle.std.specs.FinMap as map
 use Rattle.std.specs.FinSet as set
-use Rattle.gaz_histories.specs.contracts.history.History as history
 use Rattle.gaz_records.specs.Keys.{key_cmp}
 use Rattle.gaz_records.specs.declared.item.Item.{Item}
 use Rattle.gaz_records.specs.contracts.key.Key as key
 use Rattle.gaz_records.specs.contracts.item.Item as item
-use Rattle.gaz_ledger.specs.Judgements.{Judgement}
-use Rattle.gaz_ledger.specs.Gazetteer.{Gazetteer}
-use Rattle.gaz_ledger.specs.Ledgers.{Account}
-use Rattle.gaz_ledger.specs.View.{View}
-use Rattle.gaz_ledger.specs.declared.verdict.Verdict.{Verdict}
-use Rattle.gaz_ledger.specs.contracts.verdict.Verdict as verdict
+use Rattle.gaz_views.specs.Judgements.{Judgement}
+use Rattle.gaz_views.specs.Accounts.{Account}
+use Rattle.gaz_views.specs.View.{View}
+use Rattle.gaz_views.specs.declared.verdict.Verdict.{Verdict}
+use Rattle.gaz_views.specs.contracts.verdict.Verdict as verdict
 
 abbrev pub view_code : Coded View
 view_code =
     code_by (map.FinMap key_cmp Item × set.FinSet key_cmp) (coded× (map.code key.the_row.coded item.the_row.coded) (set.code key.the_row.coded))
     (λ v. (v.items, v.used)) (λ p. record { items = p.0; used = p.1 }) (λ _. refl)
-
-abbrev pub gazetteer_code : Coded Gazetteer
-gazetteer_code = map.code key.the_row.coded history.the_row.coded
 
 abbrev pub judgement_code : Coded Judgement
 judgement_code = code_by (Verdict × View) (coded× verdict.the_row.coded view_code) (λ j. (j.verdict, j.view)) (λ p. record { verdict = p.0; view = p.1 }) (λ _. refl)

@@ -1,0 +1,54 @@
+//! What the door turns away before the keeper is called.
+ghost use Rattle.std.specs.Prelude.{◌≡◌, IfOk, IfErr, Some, None, true, false};
+ghost use Rattle.gaz_register.specs.Registers.{knows};
+ghost use Rattle.gaz_hub.specs.Hubs.{door_of, is_foreign};
+ghost use Rattle.gaz_hub.specs.Step.{door, turned_away};
+
+use crate::refusal::Refusal;
+use gaz_changefile::{KNOWN_PROFILE, profile_of};
+use gaz_ids::{Code, MOST_BYTES, Volume};
+use gaz_register::Register;
+use std::alloc::{AllocError, Global};
+
+/// The code, where the register has it.
+pub fn known_code(register: &Register, code: u64) -> Result<Code, Refusal>
+    ensures refused { IfErr result (λ r. (r ≡ Refusal.UnknownCustodian) × (knows register.now code ≡ false)) }
+    ensures known { IfOk result (λ c. (c ≡ code) × (knows register.now code ≡ true)) }
+{
+    match register.code_of(code) {
+        Some(code) => Ok(code),
+        None => Err(Refusal::UnknownCustodian),
+    }
+}
+
+/// The pair under which a file of this size came, or the first refusal of the door.
+pub fn at_door(
+    register: &Register,
+    code: u64,
+    volume: u64,
+    size: usize,
+) -> Result<(Code, Volume), Refusal>
+    ensures refused { IfErr result (λ r. turned_away (door_of register.now) code volume size ≡ Some r) }
+    ensures let_in { IfOk result (λ p. (turned_away (door_of register.now) code volume size ≡ None) × (p ≡ (code, volume))) }
+{
+    let code = known_code(register, code)?;
+    let Some(volume) = Volume::of(volume) else {
+        return Err(Refusal::BadVolume);
+    };
+    if size as u64 > MOST_BYTES {
+        return Err(Refusal::TooLarge);
+    }
+    Ok((code, volume))
+}
+
+/// Whether the file names a profile that isn't known.
+/// A reader of CSV takes 32 KiB of the stack, which no other request should touch.
+#[inline(never)]
+pub fn names_unknown_profile(alloc: Global, file: &[u8]) -> Result<bool, AllocError>
+    ensures { IfOk result (λ foreign. foreign ≡ is_foreign file.now) }
+{
+    match profile_of(alloc, file)? {
+        Some(profile) => Ok(profile != KNOWN_PROFILE),
+        None => Ok(false),
+    }
+}

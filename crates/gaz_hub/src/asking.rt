@@ -1,0 +1,137 @@
+//! How questions of outcomes and standings are answered.
+ghost use Rattle.std.specs.Prelude.{◌≡◌, Some, None};
+ghost use Rattle.gaz_shelf.specs.Board.{reached};
+ghost use Rattle.gaz_shelf.specs.Keeper.{IsNotOpen};
+ghost use Rattle.gaz_hub.specs.Asked.{IsToldNow};
+ghost use Rattle.gaz_hub.specs.Hubs.{MeetsDoor, Steps, door_of};
+ghost use Rattle.gaz_hub.specs.Outcomes.{held_count, status};
+ghost use Rattle.gaz_hub.specs.Settling.{Looks, Tells};
+ghost use Rattle.gaz_hub.specs.Step.{Ask, IsTold, Stand, Stands, Told};
+
+use crate::admission::{at_door, known_code};
+use crate::answer::Digest as FileDigest;
+use crate::looking::wants;
+use crate::outcome::Outcome;
+use crate::refusal::Refusal;
+use crate::reply::{digest_of, tell};
+use crate::settling::settle;
+use crate::standing::Standing;
+use gaz_ids::{Code, Volume};
+use gaz_register::Register;
+use gaz_shelf::{Inbox, ShelfFault};
+use std::alloc::Global;
+
+// The digest and the outcome of a volume, read off the board as it is.
+fn tell_of<K: Inbox>(
+    alloc: Global,
+    keeper: &mut K,
+    code: Code,
+    volume: Volume,
+) -> Result<Option<(FileDigest, Outcome)>, ShelfFault>
+    ensures { Looks (K.seen keeper.old) (K.seen keeper.new) result (IsToldNow (K.seen keeper.old).content.files (K.seen keeper.old).content.board code volume) }
+{
+    let Some(there) = keeper.received(code, volume)? else {
+        return Ok(None);
+    };
+    let told = tell(alloc, keeper, code, volume)?;
+    Ok(Some((digest_of(&there), told)))
+}
+
+// The digest and the outcome of a volume, once all is settled.
+fn settle_and_tell_of<K: Inbox>(
+    alloc: Global,
+    register: &Register,
+    keeper: &mut K,
+    code: Code,
+    volume: Volume,
+) -> Result<Option<(FileDigest, Outcome)>, ShelfFault>
+    requires { IsNotOpen (K.seen keeper.old).progress }
+    ensures { Tells (door_of register.now) (K.seen keeper.old) (K.seen keeper.new) result (IsTold (K.seen keeper.new).content.files (K.seen keeper.new).content.board code volume) }
+{
+    settle(alloc, register, keeper)?;
+    tell_of(alloc, keeper, code, volume)
+}
+
+/// The digest and the outcome of a volume, where it was received.
+pub fn ask<K: Inbox>(
+    alloc: Global,
+    register: &Register,
+    keeper: &mut K,
+    code: u64,
+    volume: u64,
+) -> Result<Option<(FileDigest, Outcome)>, Refusal>
+    requires { IsNotOpen (K.seen keeper.old).progress }
+    ensures steps { Steps (door_of register.now) (K.seen keeper.old) (K.seen keeper.new) (Ask code volume) (Told result) }
+    ensures door { MeetsDoor (door_of register.now) keeper.old keeper.new (Ask code volume) (Told result) }
+{
+    let (code, volume) = match at_door(register, code, volume, 0) {
+        Ok(pair) => pair,
+        Err(refusal) => return Err(refusal),
+    };
+    match settle_and_tell_of(alloc, register, keeper, code, volume) {
+        Ok(told) => Ok(told),
+        Err(fault) => Err(Refusal::NotReceived(fault)),
+    }
+}
+
+// How many files of a custodian are judged, and how many aren't.
+fn count_files<K: Inbox>(keeper: &mut K, code: Code) -> Result<(u64, u64), ShelfFault>
+    ensures { Looks (K.seen keeper.old) (K.seen keeper.new) result (λ n. n ≡ (reached (K.seen keeper.old).content.board code, held_count (K.seen keeper.old).content.files (K.seen keeper.old).content.board code)) }
+{
+    let judged = keeper.reached(code)?;
+    let held = keeper.held(code)?;
+    Ok((judged, held))
+}
+
+// How far a custodian's files are judged on the board as it is.
+fn status_of<K: Inbox>(
+    alloc: Global,
+    keeper: &mut K,
+    custodian: Code,
+) -> Result<Standing, ShelfFault>
+    ensures { Looks (K.seen keeper.old) (K.seen keeper.new) result (λ s. s ≡ status (K.seen keeper.old).content.files (K.seen keeper.old).content.board custodian) }
+{
+    let (judged, held) = count_files(keeper, custodian)?;
+    let wants = wants(alloc, keeper, custodian)?;
+    Ok(Standing {
+        custodian,
+        held,
+        judged,
+        wants,
+    })
+}
+
+// How far a custodian's files are judged, once all is settled.
+fn settle_and_stand<K: Inbox>(
+    alloc: Global,
+    register: &Register,
+    keeper: &mut K,
+    code: Code,
+) -> Result<Standing, ShelfFault>
+    requires { IsNotOpen (K.seen keeper.old).progress }
+    ensures { Tells (door_of register.now) (K.seen keeper.old) (K.seen keeper.new) result (λ s. s ≡ status (K.seen keeper.new).content.files (K.seen keeper.new).content.board code) }
+{
+    settle(alloc, register, keeper)?;
+    status_of(alloc, keeper, code)
+}
+
+/// How far a custodian's files are judged.
+pub fn stand<K: Inbox>(
+    alloc: Global,
+    register: &Register,
+    keeper: &mut K,
+    code: u64,
+) -> Result<Standing, Refusal>
+    requires { IsNotOpen (K.seen keeper.old).progress }
+    ensures steps { Steps (door_of register.now) (K.seen keeper.old) (K.seen keeper.new) (Stand code) (Stands result) }
+    ensures door { MeetsDoor (door_of register.now) keeper.old keeper.new (Stand code) (Stands result) }
+{
+    let custodian = match known_code(register, code) {
+        Ok(custodian) => custodian,
+        Err(refusal) => return Err(refusal),
+    };
+    match settle_and_stand(alloc, register, keeper, custodian) {
+        Ok(standing) => Ok(standing),
+        Err(fault) => Err(Refusal::NotReceived(fault)),
+    }
+}

@@ -1,0 +1,66 @@
+//! What a received file is told.
+ghost use Rattle.std.specs.Prelude.{◌≡◌, Some, None};
+ghost use Rattle.sha2.specs.Sha256.{sha256};
+ghost use Rattle.gaz_hub.specs.Asked.{IsHeld, IsOutcome};
+ghost use Rattle.gaz_hub.specs.Outcomes.{outcome_of};
+ghost use Rattle.gaz_hub.specs.Settling.{Looks};
+
+use crate::answer::Digest as FileDigest;
+use crate::looking::wants;
+use crate::outcome::Outcome;
+use gaz_ids::{Code, Volume};
+use gaz_shelf::{Inbox, ShelfFault, Verdict};
+use sha2::{Digest, Sha256};
+use std::alloc::Global;
+
+fn outcome_of(verdict: Verdict) -> Outcome
+    ensures { result ≡ outcome_of verdict }
+{
+    match verdict {
+        Verdict::Applied => Outcome::Applied,
+        Verdict::Rejected { place, rule } => Outcome::Rejected { place, rule },
+    }
+}
+
+/// The SHA-256 of some bytes (FIPS 180-4).
+pub fn digest_of(bytes: &[u8]) -> FileDigest
+    ensures { result ≡ sha256 bytes.now }
+{
+    Sha256::digest(bytes)
+}
+
+/// The outcome of a received file, read off the board as it is.
+pub fn tell<K: Inbox>(
+    alloc: Global,
+    keeper: &mut K,
+    code: Code,
+    volume: Volume,
+) -> Result<Outcome, ShelfFault>
+    ensures { Looks (K.seen keeper.old) (K.seen keeper.new) result (IsOutcome (K.seen keeper.old).content.files (K.seen keeper.old).content.board code volume) }
+{
+    // From 1 to 999,999.
+    let _number = volume.number();
+    match keeper.verdict(code, volume)? {
+        Some(verdict) => Ok(outcome_of(verdict)),
+        None => tell_held(alloc, keeper, code, volume),
+    }
+}
+
+// The outcome of a received file that isn't judged: what its custodian's next volume waits for.
+fn tell_held<K: Inbox>(
+    alloc: Global,
+    keeper: &mut K,
+    code: Code,
+    volume: Volume,
+) -> Result<Outcome, ShelfFault>
+    ensures { Looks (K.seen keeper.old) (K.seen keeper.new) result (IsHeld (K.seen keeper.old).content.files (K.seen keeper.old).content.board code) }
+{
+    match wants(alloc, keeper, code)? {
+        Some((custodian, volume)) => Ok(Outcome::Held { custodian, volume }),
+        // A board on which something is ready; no settled one.
+        None => Ok(Outcome::Held {
+            custodian: code,
+            volume,
+        }),
+    }
+}

@@ -1,0 +1,19 @@
+-- What is kept of a custodian.
+use Rattle.std.specs.Prelude.{ℕ, nat_le, if◌then◌else◌, List, [], length, slice_get, unwrap_or}
+use Rattle.gaz_views.specs.Judgements.{Judgement, views}
+use Rattle.gaz_views.specs.View.{View, empty_view}
+
+-- a custodian's judgements, and the view that its next volume has made so far
+pub record Account : Type 0 where
+  pub judged : List Judgement
+  pub working : View
+
+abbrev pub empty_account : Account
+empty_account = record { judged = []; working = empty_view }
+
+abbrev pub last_of : Account → View
+last_of a = unwrap_or (slice_get (views a.judged) (length a.judged)) empty_view
+
+-- the view after a volume that is judged, and the working view after any later one
+abbrev pub view_in : Account → ℕ → View
+view_in a volume = if nat_le volume (length a.judged) then unwrap_or (slice_get (views a.judged) volume) empty_view else a.working

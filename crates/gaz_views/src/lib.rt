@@ -1,0 +1,9 @@
+//! A custodian's view after a volume, what is asked of it, and what became of its volumes: what every keeper of views stands on.
+#![tactic(auto)]
+
+pub mod laws;
+mod property;
+mod verdict;
+
+pub use property::{Property, share_found};
+pub use verdict::Verdict;
