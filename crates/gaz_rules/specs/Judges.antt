@@ -5,7 +5,10 @@ use Rattle.gaz_shelf.specs.Board.{Judgement}
 use Rattle.gaz_shelf.specs.Keeper.{Content, Counts, IsAtHand, IsNotOpen, Seen, closed, with_judgement}
 use Rattle.gaz_shelf.specs.declared.fault.ShelfFault.{ShelfFault}
 use Rattle.gaz_views.specs.declared.verdict.Verdict.{Verdict}
-use Rattle.gaz_rules.specs.Bases.{are_reached}
+use Rattle.gaz_changefile.specs.Contents.{Contents}
+use Rattle.gaz_changefile.specs.Reading.{Good}
+use Rattle.gaz_register.specs.Registers.{Blocks}
+use Rattle.gaz_rules.specs.Bases.{are_reached, judged_on}
 
 -- what is asked of the content: the next volume is at hand, and all that it rests on is reached
 pub record IsReady (k : Content) (c : ℕ) (bases : List Basis) : Type 0 where
@@ -21,3 +24,7 @@ pub record Judges (old new : Seen) (result : Result Verdict ShelfFault) (c : ℕ
   pub undone : old.stands → IsReady old.content c bases → new.unharmed → OnErr result (new.content ≡ closed old.content)
   pub idle : IsNotOpen new.progress
   pub counts : Counts old new result
+
+-- a good file is judged, under the rules of the custodian with these blocks; `seen` is how the keeper is seen
+abbrev pub JudgesFile : {K : Type 0} → (K → Seen) → K → K → Result Verdict ShelfFault → Blocks → ℕ → Contents → Type 0
+JudgesFile seen old new result own c file = Judges (seen old) (seen new) result c file.bases (judged_on own (seen old).content.board c (Good file))

@@ -16,3 +16,4 @@ pub mod Examples
 pub mod Phases
 pub mod EndExamples
 pub mod JudgedExamples
+pub mod Working

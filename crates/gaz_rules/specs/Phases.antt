@@ -61,6 +61,10 @@ pub record Ends (old new : Seen) (result : Result Verdict ShelfFault) (c : ℕ) 
   pub idle : IsNotOpen new.progress
   pub counts : Counts old new result
 
+-- it ends by what was found
+abbrev pub Concludes : {K : Type 0} → (K → Seen) → K → K → Result Verdict ShelfFault → ℕ → Option found.Fault → Type 0
+Concludes seen old new result c r = Ends (seen old) (seen new) result c (conclusion (seen old).content c r)
+
 -- no judgement is in progress any more, and files and board stay
 pub record GivesUp (old new : Seen) : Type 0 where
   pub harm : new.unharmed → old.unharmed

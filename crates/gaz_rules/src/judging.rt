@@ -1,16 +1,12 @@
 //! The judgement of a file, over any keeper.
-ghost use Rattle.std.specs.Prelude.{◌≡◌, ◌≢◌, true, Some, None};
-ghost use Rattle.std.specs.List.{fold};
-ghost use Rattle.gaz_records.specs.Keys.{key_of};
-ghost use Rattle.gaz_changefile.specs.Reading.{Good};
+ghost use Rattle.std.specs.Prelude.{◌≡◌, ◌≢◌, Some, None};
 ghost use Rattle.gaz_register.specs.Registers.{blocks_of};
-ghost use Rattle.gaz_shelf.specs.Keeper.{Idle, IsNotOpen, Open, Reads, Seen, with_working};
-ghost use Rattle.gaz_views.specs.View.{with_item, without_key};
-ghost use Rattle.gaz_rules.specs.Bases.{are_reached, basis_views, judged_on};
-ghost use Rattle.gaz_rules.specs.Judges.{Judges};
-ghost use Rattle.gaz_rules.specs.Judging.{end_faults, record_faults};
-ghost use Rattle.gaz_rules.specs.Phases.{Ends, Finds, GivesUp, IsFirst, Works, conclusion, faults_in};
+ghost use Rattle.gaz_shelf.specs.Keeper.{Idle, IsNotOpen, Open};
+ghost use Rattle.gaz_views.specs.View.{with_item};
+ghost use Rattle.gaz_rules.specs.Phases.{Concludes, GivesUp};
 ghost use Rattle.gaz_rules.specs.Rules.{effect};
+ghost use Rattle.gaz_rules.specs.Working.{DoesPhases, DoesRecords, FindsEndFault, MakesView};
+ghost use Rattle.gaz_rules.specs.Judges.{JudgesFile};
 
 use crate::known::Known;
 use crate::{end_rules, record_rules};
@@ -32,7 +28,7 @@ pub(crate) struct Fault {
 /// Sets an item in the working view, which shares it with the file.
 fn put_shared<S: Shelf>(shelf: &mut S, code: Code, item: &SharedItem) -> Result<(), ShelfFault>
     requires { (S.seen shelf.old).progress ≡ Open code }
-    ensures { Works (S.seen shelf.old) (S.seen shelf.new) result (λ _. (S.seen shelf.new).content ≡ with_working (S.seen shelf.old).content (with_item (S.seen shelf.old).content.working item.now)) }
+    ensures { MakesView S.seen shelf.old shelf.new result (λ v. with_item v item.now) }
 {
     let shared = item.share()?;
     shelf.put(shared)
@@ -41,7 +37,7 @@ fn put_shared<S: Shelf>(shelf: &mut S, code: Code, item: &SharedItem) -> Result<
 /// Does a change on the working view.
 fn perform<S: Shelf>(shelf: &mut S, code: Code, change: &Change) -> Result<(), ShelfFault>
     requires { (S.seen shelf.old).progress ≡ Open code }
-    ensures { Works (S.seen shelf.old) (S.seen shelf.new) result (λ _. (S.seen shelf.new).content ≡ with_working (S.seen shelf.old).content (effect (S.seen shelf.old).content.working change.now)) }
+    ensures { MakesView S.seen shelf.old shelf.new result (λ v. effect v change.now) }
 {
     match change.action {
         Action::Insert | Action::Update => put_shared(shelf, code, &change.item),
@@ -57,7 +53,7 @@ fn record_phase<S: Shelf>(
     changes: &[Change],
 ) -> Result<Option<Fault>, ShelfFault>
     requires { (S.seen shelf.old).progress ≡ Open code }
-    ensures { Works (S.seen shelf.old) (S.seen shelf.new) result (Finds (S.seen shelf.old).content (S.seen shelf.new).content (record_faults (blocks_of register.now code) (S.seen shelf.old).content.working changes.now) (fold effect (S.seen shelf.old).content.working changes.now)) }
+    ensures { DoesRecords S.seen shelf.old shelf.new result (blocks_of register.now code) changes.now }
 {
     for change in changes {
         let place = change.place;
@@ -78,7 +74,7 @@ fn end_phase<S: Shelf>(
     changes: &[Change],
 ) -> Result<Option<Fault>, ShelfFault>
     requires { (S.seen shelf.old).progress ≡ Open code }
-    ensures { Reads (S.seen shelf.old) (S.seen shelf.new) result (λ r. are_reached (S.seen shelf.old).content.board bases.now ≡ true → IsFirst (end_faults (S.seen shelf.old).content.working (basis_views (S.seen shelf.old).content.board bases.now) changes.now) r) }
+    ensures { FindsEndFault S.seen shelf.old shelf.new result bases.now changes.now }
 {
     let mut known = Known::new(alloc);
     for change in changes {
@@ -99,7 +95,7 @@ fn phases<S: Shelf>(
     file: &ChangeFile,
 ) -> Result<Option<Fault>, ShelfFault>
     requires { (S.seen shelf.old).progress ≡ Open code }
-    ensures { Works (S.seen shelf.old) (S.seen shelf.new) result (λ r. are_reached (S.seen shelf.old).content.board file.now.bases ≡ true → Finds (S.seen shelf.old).content (S.seen shelf.new).content (faults_in (blocks_of register.now code) (S.seen shelf.old).content file.now) (fold effect (S.seen shelf.old).content.working file.now.changes) r) }
+    ensures { DoesPhases S.seen shelf.old shelf.new result (blocks_of register.now code) file.now }
 {
     if let Some(fault) = record_phase(shelf, register, code, &file.changes)? {
         return Ok(Some(fault));
@@ -120,7 +116,7 @@ fn give_up<S: Shelf>(shelf: &mut S)
 /// Ends a judgement as rejected for a fault.
 fn reject<S: Shelf>(shelf: &mut S, code: Code, fault: Fault) -> Result<Verdict, ShelfFault>
     requires { (S.seen shelf.old).progress ≡ Open code }
-    ensures { Ends (S.seen shelf.old) (S.seen shelf.new) result code (conclusion (S.seen shelf.old).content code (Some fault)) }
+    ensures { Concludes S.seen shelf.old shelf.new result code (Some fault) }
 {
     shelf.abandon()?;
     shelf.skip(code, fault.place, fault.rule)?;
@@ -133,7 +129,7 @@ fn reject<S: Shelf>(shelf: &mut S, code: Code, fault: Fault) -> Result<Verdict, 
 /// Ends a judgement as applied.
 fn apply<S: Shelf>(shelf: &mut S, code: Code) -> Result<Verdict, ShelfFault>
     requires { (S.seen shelf.old).progress ≡ Open code }
-    ensures { Ends (S.seen shelf.old) (S.seen shelf.new) result code (conclusion (S.seen shelf.old).content code None) }
+    ensures { Concludes S.seen shelf.old shelf.new result code None }
 {
     shelf.keep()?;
     Ok(Verdict::Applied)
@@ -146,7 +142,7 @@ fn conclude<S: Shelf>(
     found: Option<Fault>,
 ) -> Result<Verdict, ShelfFault>
     requires { (S.seen shelf.old).progress ≡ Open code }
-    ensures { Ends (S.seen shelf.old) (S.seen shelf.new) result code (conclusion (S.seen shelf.old).content code found) }
+    ensures { Concludes S.seen shelf.old shelf.new result code found }
 {
     match found {
         Some(fault) => reject(shelf, code, fault),
@@ -168,7 +164,7 @@ pub fn judge<S: Shelf>(
     file: &ChangeFile,
 ) -> Result<Verdict, ShelfFault>
     requires { IsNotOpen (S.seen shelf.old).progress }
-    ensures { Judges (S.seen shelf.old) (S.seen shelf.new) result code file.now.bases (judged_on (blocks_of register.now code) (S.seen shelf.old).content.board code (Good file.now)) }
+    ensures { JudgesFile S.seen shelf.old shelf.new result (blocks_of register.now code) code file.now }
 {
     shelf.begin(code)?;
     match phases(alloc, shelf, register, code, file) {

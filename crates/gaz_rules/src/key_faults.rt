@@ -5,10 +5,11 @@ ghost use Rattle.std.specs.FinMap as map;
 ghost use Rattle.gaz_records.specs.declared.key.Key.TheVariants as key;
 ghost use Rattle.gaz_views.specs.View.{holds};
 ghost use Rattle.gaz_views.specs.Words.{approved_of, approved_on};
-ghost use Rattle.gaz_shelf.specs.Keeper.{Open, Reads};
+ghost use Rattle.gaz_shelf.specs.Keeper.{Open};
 ghost use Rattle.gaz_rules.specs.Breaches.{key_faults, no_key_fault};
 ghost use Rattle.gaz_rules.specs.EndRules.{as_blpu, blpu_at, closed_under_lpi, is_historical, is_own_ancestor, parent_of};
 ghost use Rattle.gaz_rules.specs.Rings.{Knows};
+ghost use Rattle.gaz_rules.specs.Working.{ReadsView};
 
 use crate::rings::{Walked, is_on_ring};
 use crate::streets::StreetState;
@@ -51,7 +52,7 @@ impl KeyFaults {
 /// Whether something stands under a key in the view that is judged.
 pub(crate) fn is_there<S: Shelf>(shelf: &mut S, code: Code, key: &Key) -> Result<bool, ShelfFault>
     requires { (S.seen shelf.old).progress ≡ Open code }
-    ensures { Reads (S.seen shelf.old) (S.seen shelf.new) result (λ b. b ≡ holds (S.seen shelf.old).content.working key.now) }
+    ensures { ReadsView S.seen shelf.old shelf.new result (λ v b. b ≡ holds v key.now) }
 {
     Ok(shelf.current(code, key)?.is_some())
 }
@@ -64,7 +65,7 @@ fn has_lpi_on<S: Shelf>(
     lang: Option<Lang>,
 ) -> Result<bool, ShelfFault>
     requires { (S.seen shelf.old).progress ≡ Open code }
-    ensures { Reads (S.seen shelf.old) (S.seen shelf.new) result (λ b. b ≡ approved_on (S.seen shelf.old).content.working usrn lang) }
+    ensures { ReadsView S.seen shelf.old shelf.new result (λ v b. b ≡ approved_on v usrn lang) }
 {
     Ok(shelf.approved_on(code, usrn, lang)?)
 }
@@ -77,7 +78,8 @@ fn closed_under_lpi<S: Shelf>(
     stored: &Option<SharedItem>,
 ) -> Result<bool, ShelfFault>
     requires { (S.seen shelf.old).progress ≡ Open code }
-    ensures { Reads (S.seen shelf.old) (S.seen shelf.new) result (λ b. stored.now ≡ map.get (S.seen shelf.old).content.working.items (key.Street usrn) → b ≡ closed_under_lpi (S.seen shelf.old).content.working (key.Street usrn)) }
+    ensures { ReadsView S.seen shelf.old shelf.new result
+        (λ v b. stored.now ≡ map.get v.items (key.Street usrn) → b ≡ closed_under_lpi v (key.Street usrn)) }
 {
     if !StreetState::of(stored).is_closed {
         return Ok(false);
@@ -93,7 +95,8 @@ fn street_faults<S: Shelf>(
     stored: &Option<SharedItem>,
 ) -> Result<KeyFaults, ShelfFault>
     requires { (S.seen shelf.old).progress ≡ Open code }
-    ensures { Reads (S.seen shelf.old) (S.seen shelf.new) result (λ f. stored.now ≡ map.get (S.seen shelf.old).content.working.items (key.Street usrn) → f ≡ key_faults (S.seen shelf.old).content.working (key.Street usrn)) }
+    ensures { ReadsView S.seen shelf.old shelf.new result
+        (λ v f. stored.now ≡ map.get v.items (key.Street usrn) → f ≡ key_faults v (key.Street usrn)) }
 {
     let mut faults = KeyFaults::none();
     faults.closed_under_lpi = closed_under_lpi(shelf, code, usrn, stored)?;
@@ -109,7 +112,9 @@ fn descriptor_faults<S: Shelf>(
     stored: &Option<SharedItem>,
 ) -> Result<KeyFaults, ShelfFault>
     requires { (S.seen shelf.old).progress ≡ Open code }
-    ensures { Reads (S.seen shelf.old) (S.seen shelf.new) result (λ f. stored.now ≡ map.get (S.seen shelf.old).content.working.items (key.Descriptor usrn lang) → f ≡ key_faults (S.seen shelf.old).content.working (key.Descriptor usrn lang)) }
+    ensures { ReadsView S.seen shelf.old shelf.new result
+        (λ v f. stored.now ≡ map.get v.items (key.Descriptor usrn lang)
+        → f ≡ key_faults v (key.Descriptor usrn lang)) }
 {
     let mut faults = KeyFaults::none();
     let has_street = is_there(shelf, code, &Key::Street(usrn))?;
@@ -126,7 +131,8 @@ fn descriptor_faults<S: Shelf>(
 /// Whether a BLPU's parent isn't there.
 fn lacks_parent<S: Shelf>(shelf: &mut S, code: Code, blpu: &Blpu) -> Result<bool, ShelfFault>
     requires { (S.seen shelf.old).progress ≡ Open code }
-    ensures { Reads (S.seen shelf.old) (S.seen shelf.new) result (λ b. b ≡ option_map_or (λ p. not (holds (S.seen shelf.old).content.working (key.Blpu p))) blpu.now.parent false) }
+    ensures { ReadsView S.seen shelf.old shelf.new result
+        (λ v b. b ≡ option_map_or (λ p. not (holds v (key.Blpu p))) blpu.now.parent false) }
 {
     let Some(parent) = blpu.parent else {
         return Ok(false);
@@ -143,7 +149,9 @@ fn is_own_ancestor<S: Shelf>(
     parent: Option<Uprn>,
 ) -> Result<bool, ShelfFault>
     requires { (S.seen shelf.old).progress ≡ Open code }
-    ensures { Reads (S.seen shelf.old) (S.seen shelf.new) result (λ b. Knows (S.seen shelf.old).content.working walked.old → Knows (S.seen shelf.old).content.working walked.new × (parent ≡ parent_of (S.seen shelf.old).content.working uprn → b ≡ is_own_ancestor (S.seen shelf.old).content.working (key.Blpu uprn))) }
+    ensures { ReadsView S.seen shelf.old shelf.new result
+        (λ v b. Knows v walked.old
+        → Knows v walked.new × (parent ≡ parent_of v uprn → b ≡ is_own_ancestor v (key.Blpu uprn))) }
 {
     let Some(parent) = parent else {
         return Ok(false);
@@ -165,7 +173,8 @@ fn past_under_lpi<S: Shelf>(
     status: Status,
 ) -> Result<bool, ShelfFault>
     requires { (S.seen shelf.old).progress ≡ Open code }
-    ensures { Reads (S.seen shelf.old) (S.seen shelf.new) result (λ b. b ≡ (is_historical status && not (length (approved_of (S.seen shelf.old).content.working uprn) == 0))) }
+    ensures { ReadsView S.seen shelf.old shelf.new result
+        (λ v b. b ≡ (is_historical status && not (length (approved_of v uprn) == 0))) }
 {
     let Status::Historical = status else {
         return Ok(false);
@@ -193,7 +202,9 @@ fn blpu_faults<S: Shelf>(
     blpu: &Blpu,
 ) -> Result<KeyFaults, ShelfFault>
     requires { (S.seen shelf.old).progress ≡ Open code }
-    ensures { Reads (S.seen shelf.old) (S.seen shelf.new) result (λ f. blpu_at (S.seen shelf.old).content.working uprn ≡ Some blpu.now → Knows (S.seen shelf.old).content.working walked.old → Knows (S.seen shelf.old).content.working walked.new × (f ≡ key_faults (S.seen shelf.old).content.working (key.Blpu uprn))) }
+    ensures { ReadsView S.seen shelf.old shelf.new result
+        (λ v f. blpu_at v uprn ≡ Some blpu.now → Knows v walked.old
+        → Knows v walked.new × (f ≡ key_faults v (key.Blpu uprn))) }
 {
     let mut faults = KeyFaults::none();
     faults.lacks_parent = lacks_parent(shelf, code, blpu)?;
@@ -211,7 +222,9 @@ pub(crate) fn key_faults<S: Shelf>(
     stored: &Option<SharedItem>,
 ) -> Result<KeyFaults, ShelfFault>
     requires { (S.seen shelf.old).progress ≡ Open code }
-    ensures { Reads (S.seen shelf.old) (S.seen shelf.new) result (λ f. stored.now ≡ map.get (S.seen shelf.old).content.working.items key.now → Knows (S.seen shelf.old).content.working walked.old → Knows (S.seen shelf.old).content.working walked.new × (f ≡ key_faults (S.seen shelf.old).content.working key.now)) }
+    ensures { ReadsView S.seen shelf.old shelf.new result
+        (λ v f. stored.now ≡ map.get v.items key.now → Knows v walked.old
+        → Knows v walked.new × (f ≡ key_faults v key.now)) }
 {
     match key {
         Key::Street(usrn) => Ok(street_faults(shelf, code, *usrn, stored)?),

@@ -1,8 +1,10 @@
 pub mod Board
 pub mod Received
 pub mod Keeper
+pub mod Telling
 pub mod Calls
 pub mod Faulting
+pub mod Around
 pub mod Accounts
 pub mod Mem
 pub mod Examples

@@ -1,13 +1,10 @@
 //! The calls that a keeper for tests passes on.
-ghost use Rattle.std.specs.Prelude.{◌≡◌, ◌≢◌, ◌≤◌, ⊤, option_map};
-ghost use Rattle.std.specs.FinMap as map;
-ghost use Rattle.gaz_views.specs.View.{was_used, with_item, without_key};
-ghost use Rattle.gaz_views.specs.Words.{approved_of, approved_on, has_children, page, property_of};
-ghost use Rattle.gaz_shelf.specs.Board.{reached, verdict_on, view_after};
+ghost use Rattle.std.specs.Prelude.{◌≢◌};
 ghost use Rattle.gaz_shelf.specs.Calls.{CountsAs};
-ghost use Rattle.gaz_shelf.specs.Faulting.{around, progress_around};
-ghost use Rattle.gaz_shelf.specs.Keeper.{Enters, Goes, Idle, IsAtHand, IsNew, IsNotOpen, Open, Reads, Refuses, Sets, begun, closed, kept, skipped, view_of, with_received};
-ghost use Rattle.gaz_shelf.specs.Received.{count_above};
+ghost use Rattle.gaz_shelf.specs.Around.{seen_around};
+ghost use Rattle.gaz_shelf.specs.Faulting.{progress_around};
+ghost use Rattle.gaz_shelf.specs.Keeper.{Idle, IsNotOpen, Refuses};
+ghost use Rattle.gaz_shelf.specs.Telling.{Abandons, Applies, Begins, Puts, Receives, Skips, Takes, TellsApprovedOf, TellsApprovedOn, TellsAt, TellsChildren, TellsCurrent, TellsEver, TellsHeld, TellsPage, TellsPropertyOf, TellsReached, TellsReceived, TellsVerdict};
 
 use crate::calls::Call;
 use crate::fault::ShelfFault;
@@ -19,12 +16,10 @@ use gaz_views::{Property, Verdict};
 
 // What a call says of the content it says as every keeper; beside that it counts as the call that it is.
 impl<K: Inbox + Drop> Shelf for Faulty<K> {
-    ghost seen = { λ s. around (K.seen s.inner) s.broken s.plan.failures };
+    ghost seen = { seen_around };
 
     fn reached(&mut self, code: Code) -> Result<u64, ShelfFault>
-        ensures reads { let old = around (K.seen self.old.inner) self.old.broken self.old.plan.failures in
-            let new = around (K.seen self.new.inner) self.new.broken self.new.plan.failures in
-            Reads old new result (λ n. n ≡ reached old.content.board code) }
+        ensures reads { TellsReached seen_around self.old self.new result code }
         ensures counts { CountsAs Call.Reached self.old.plan self.new.plan self.old.broken result }
     {
         self.admit(Call::Reached)?;
@@ -32,9 +27,7 @@ impl<K: Inbox + Drop> Shelf for Faulty<K> {
     }
 
     fn verdict(&mut self, code: Code, volume: Volume) -> Result<Option<Verdict>, ShelfFault>
-        ensures reads { let old = around (K.seen self.old.inner) self.old.broken self.old.plan.failures in
-            let new = around (K.seen self.new.inner) self.new.broken self.new.plan.failures in
-            Reads old new result (λ v. v ≡ verdict_on old.content.board code volume) }
+        ensures reads { TellsVerdict seen_around self.old self.new result code volume }
         ensures counts { CountsAs Call.Verdict self.old.plan self.new.plan self.old.broken result }
     {
         self.admit(Call::Verdict)?;
@@ -42,9 +35,7 @@ impl<K: Inbox + Drop> Shelf for Faulty<K> {
     }
 
     fn current(&mut self, code: Code, key: &Key) -> Result<Option<SharedItem>, ShelfFault>
-        ensures reads { let old = around (K.seen self.old.inner) self.old.broken self.old.plan.failures in
-            let new = around (K.seen self.new.inner) self.new.broken self.new.plan.failures in
-            Reads old new result (λ i. i ≡ map.get (view_of old code).items key.now) }
+        ensures reads { TellsCurrent seen_around self.old self.new result code key.now }
         ensures counts { CountsAs Call.Current self.old.plan self.new.plan self.old.broken result }
     {
         self.admit(Call::Current)?;
@@ -52,9 +43,7 @@ impl<K: Inbox + Drop> Shelf for Faulty<K> {
     }
 
     fn at(&mut self, code: Code, volume: u64, key: &Key) -> Result<Option<SharedItem>, ShelfFault>
-        ensures reads { let old = around (K.seen self.old.inner) self.old.broken self.old.plan.failures in
-            let new = around (K.seen self.new.inner) self.new.broken self.new.plan.failures in
-            Reads old new result (λ i. volume ≤ reached old.content.board code → i ≡ map.get (view_after old.content.board code volume).items key.now) }
+        ensures reads { TellsAt seen_around self.old self.new result code volume key.now }
         ensures counts { CountsAs Call.At self.old.plan self.new.plan self.old.broken result }
     {
         self.admit(Call::At)?;
@@ -62,9 +51,7 @@ impl<K: Inbox + Drop> Shelf for Faulty<K> {
     }
 
     fn ever(&mut self, code: Code, key: &Key) -> Result<bool, ShelfFault>
-        ensures reads { let old = around (K.seen self.old.inner) self.old.broken self.old.plan.failures in
-            let new = around (K.seen self.new.inner) self.new.broken self.new.plan.failures in
-            Reads old new result (λ b. b ≡ was_used (view_of old code) key.now) }
+        ensures reads { TellsEver seen_around self.old self.new result code key.now }
         ensures counts { CountsAs Call.Ever self.old.plan self.new.plan self.old.broken result }
     {
         self.admit(Call::Ever)?;
@@ -72,9 +59,7 @@ impl<K: Inbox + Drop> Shelf for Faulty<K> {
     }
 
     fn approved_of(&mut self, code: Code, uprn: Uprn) -> Result<Vec<Key>, ShelfFault>
-        ensures reads { let old = around (K.seen self.old.inner) self.old.broken self.old.plan.failures in
-            let new = around (K.seen self.new.inner) self.new.broken self.new.plan.failures in
-            Reads old new result (λ keys. keys.items ≡ approved_of (view_of old code) uprn) }
+        ensures reads { TellsApprovedOf seen_around self.old self.new result code uprn }
         ensures counts { CountsAs Call.ApprovedOf self.old.plan self.new.plan self.old.broken result }
     {
         self.admit(Call::ApprovedOf)?;
@@ -82,9 +67,7 @@ impl<K: Inbox + Drop> Shelf for Faulty<K> {
     }
 
     fn property_of(&mut self, code: Code, uprn: Uprn) -> Result<Option<Property>, ShelfFault>
-        ensures reads { let old = around (K.seen self.old.inner) self.old.broken self.old.plan.failures in
-            let new = around (K.seen self.new.inner) self.new.broken self.new.plan.failures in
-            Reads old new result (λ p. p ≡ property_of (view_of old code) uprn) }
+        ensures reads { TellsPropertyOf seen_around self.old self.new result code uprn }
         ensures counts { CountsAs Call.PropertyOf self.old.plan self.new.plan self.old.broken result }
     {
         self.admit(Call::PropertyOf)?;
@@ -97,9 +80,7 @@ impl<K: Inbox + Drop> Shelf for Faulty<K> {
         usrn: Usrn,
         lang: Option<Lang>,
     ) -> Result<bool, ShelfFault>
-        ensures reads { let old = around (K.seen self.old.inner) self.old.broken self.old.plan.failures in
-            let new = around (K.seen self.new.inner) self.new.broken self.new.plan.failures in
-            Reads old new result (λ b. b ≡ approved_on (view_of old code) usrn lang) }
+        ensures reads { TellsApprovedOn seen_around self.old self.new result code usrn lang }
         ensures counts { CountsAs Call.ApprovedOn self.old.plan self.new.plan self.old.broken result }
     {
         self.admit(Call::ApprovedOn)?;
@@ -107,9 +88,7 @@ impl<K: Inbox + Drop> Shelf for Faulty<K> {
     }
 
     fn children(&mut self, code: Code, uprn: Uprn) -> Result<bool, ShelfFault>
-        ensures reads { let old = around (K.seen self.old.inner) self.old.broken self.old.plan.failures in
-            let new = around (K.seen self.new.inner) self.new.broken self.new.plan.failures in
-            Reads old new result (λ b. b ≡ has_children (view_of old code) uprn) }
+        ensures reads { TellsChildren seen_around self.old self.new result code uprn }
         ensures counts { CountsAs Call.Children self.old.plan self.new.plan self.old.broken result }
     {
         self.admit(Call::Children)?;
@@ -124,9 +103,7 @@ impl<K: Inbox + Drop> Shelf for Faulty<K> {
         after: Option<Key>,
         most: usize,
     ) -> Result<Vec<SharedItem>, ShelfFault>
-        ensures reads { let old = around (K.seen self.old.inner) self.old.broken self.old.plan.failures in
-            let new = around (K.seen self.new.inner) self.new.broken self.new.plan.failures in
-            Reads old new result (λ items. volume ≤ reached old.content.board code → items.items ≡ page (view_after old.content.board code volume) kind after most) }
+        ensures reads { TellsPage seen_around self.old self.new result code volume kind after most }
         ensures counts { CountsAs Call.Page self.old.plan self.new.plan self.old.broken result }
     {
         self.admit(Call::Page)?;
@@ -135,9 +112,7 @@ impl<K: Inbox + Drop> Shelf for Faulty<K> {
 
     fn begin(&mut self, code: Code) -> Result<(), ShelfFault>
         requires { IsNotOpen (progress_around self.old.broken (K.seen self.old.inner).progress) }
-        ensures goes { let old = around (K.seen self.old.inner) self.old.broken self.old.plan.failures in
-            let new = around (K.seen self.new.inner) self.new.broken self.new.plan.failures in
-            Goes old new result (IsAtHand old.content code) (begun old.content code) (Open code) }
+        ensures goes { Begins seen_around self.old self.new result code }
         ensures counts { CountsAs Call.Begin self.old.plan self.new.plan self.old.broken result }
     {
         if self.plan.is_due(Call::Begin) {
@@ -152,11 +127,8 @@ impl<K: Inbox + Drop> Shelf for Faulty<K> {
 
     fn put(&mut self, item: SharedItem) -> Result<(), ShelfFault>
         requires { progress_around self.old.broken (K.seen self.old.inner).progress ≢ Idle }
-        ensures sets { let old = around (K.seen self.old.inner) self.old.broken self.old.plan.failures in
-            let new = around (K.seen self.new.inner) self.new.broken self.new.plan.failures in
-            Sets old new result (with_item old.content.working item) }
-        ensures refuses { let old = around (K.seen self.old.inner) self.old.broken self.old.plan.failures in
-            Refuses old result }
+        ensures sets { Puts seen_around self.old self.new result item }
+        ensures refuses { Refuses (seen_around self.old) result }
         ensures counts { CountsAs Call.Put self.old.plan self.new.plan self.old.broken result }
     {
         if self.is_stopped(Call::Put) {
@@ -169,11 +141,8 @@ impl<K: Inbox + Drop> Shelf for Faulty<K> {
 
     fn take(&mut self, key: &Key) -> Result<(), ShelfFault>
         requires { progress_around self.old.broken (K.seen self.old.inner).progress ≢ Idle }
-        ensures sets { let old = around (K.seen self.old.inner) self.old.broken self.old.plan.failures in
-            let new = around (K.seen self.new.inner) self.new.broken self.new.plan.failures in
-            Sets old new result (without_key old.content.working key.now) }
-        ensures refuses { let old = around (K.seen self.old.inner) self.old.broken self.old.plan.failures in
-            Refuses old result }
+        ensures sets { Takes seen_around self.old self.new result key.now }
+        ensures refuses { Refuses (seen_around self.old) result }
         ensures counts { CountsAs Call.Take self.old.plan self.new.plan self.old.broken result }
     {
         if self.is_stopped(Call::Take) {
@@ -186,11 +155,8 @@ impl<K: Inbox + Drop> Shelf for Faulty<K> {
 
     fn keep(&mut self) -> Result<(), ShelfFault>
         requires { progress_around self.old.broken (K.seen self.old.inner).progress ≢ Idle }
-        ensures keeps { let old = around (K.seen self.old.inner) self.old.broken self.old.plan.failures in
-            let new = around (K.seen self.new.inner) self.new.broken self.new.plan.failures in
-            Goes old new result ⊤ (kept old.progress old.content) Idle }
-        ensures refuses { let old = around (K.seen self.old.inner) self.old.broken self.old.plan.failures in
-            Refuses old result }
+        ensures keeps { Applies seen_around self.old self.new result }
+        ensures refuses { Refuses (seen_around self.old) result }
         ensures counts { CountsAs Call.Keep self.old.plan self.new.plan self.old.broken result }
     {
         if self.is_stopped(Call::Keep) {
@@ -203,9 +169,7 @@ impl<K: Inbox + Drop> Shelf for Faulty<K> {
 
     fn abandon(&mut self) -> Result<(), ShelfFault>
         requires { progress_around self.old.broken (K.seen self.old.inner).progress ≢ Idle }
-        ensures goes { let old = around (K.seen self.old.inner) self.old.broken self.old.plan.failures in
-            let new = around (K.seen self.new.inner) self.new.broken self.new.plan.failures in
-            Goes old new result ⊤ (closed old.content) Idle }
+        ensures goes { Abandons seen_around self.old self.new result }
         ensures counts { CountsAs Call.Abandon self.old.plan self.new.plan self.old.broken result }
     {
         if self.plan.is_due(Call::Abandon) {
@@ -222,9 +186,7 @@ impl<K: Inbox + Drop> Shelf for Faulty<K> {
 
     fn skip(&mut self, code: Code, place: u64, rule: u8) -> Result<(), ShelfFault>
         requires { IsNotOpen (progress_around self.old.broken (K.seen self.old.inner).progress) }
-        ensures enters { let old = around (K.seen self.old.inner) self.old.broken self.old.plan.failures in
-            let new = around (K.seen self.new.inner) self.new.broken self.new.plan.failures in
-            Enters old new result (IsAtHand old.content code) (skipped old.content code place rule) }
+        ensures enters { Skips seen_around self.old self.new result code place rule }
         ensures counts { CountsAs Call.Skip self.old.plan self.new.plan self.old.broken result }
     {
         self.admit(Call::Skip)?;
@@ -234,9 +196,7 @@ impl<K: Inbox + Drop> Shelf for Faulty<K> {
 
 impl<K: Inbox + Drop> Inbox for Faulty<K> {
     fn received(&mut self, code: Code, volume: Volume) -> Result<Option<Vec<u8>>, ShelfFault>
-        ensures reads { let old = around (K.seen self.old.inner) self.old.broken self.old.plan.failures in
-            let new = around (K.seen self.new.inner) self.new.broken self.new.plan.failures in
-            Reads old new result (λ bytes. option_map (λ b. b.items) bytes ≡ map.get old.content.files (code, volume)) }
+        ensures reads { TellsReceived seen_around self.old self.new result code volume }
         ensures counts { CountsAs Call.Received self.old.plan self.new.plan self.old.broken result }
     {
         self.admit(Call::Received)?;
@@ -245,9 +205,7 @@ impl<K: Inbox + Drop> Inbox for Faulty<K> {
 
     fn receive(&mut self, code: Code, volume: Volume, bytes: &[u8]) -> Result<(), ShelfFault>
         requires { IsNotOpen (progress_around self.old.broken (K.seen self.old.inner).progress) }
-        ensures enters { let old = around (K.seen self.old.inner) self.old.broken self.old.plan.failures in
-            let new = around (K.seen self.new.inner) self.new.broken self.new.plan.failures in
-            Enters old new result (IsNew old.content code volume) (with_received old.content code volume bytes.now) }
+        ensures enters { Receives seen_around self.old self.new result code volume bytes.now }
         ensures counts { CountsAs Call.Receive self.old.plan self.new.plan self.old.broken result }
     {
         self.admit(Call::Receive)?;
@@ -255,9 +213,7 @@ impl<K: Inbox + Drop> Inbox for Faulty<K> {
     }
 
     fn held(&mut self, code: Code) -> Result<u64, ShelfFault>
-        ensures reads { let old = around (K.seen self.old.inner) self.old.broken self.old.plan.failures in
-            let new = around (K.seen self.new.inner) self.new.broken self.new.plan.failures in
-            Reads old new result (λ n. n ≡ count_above old.content.files code (reached old.content.board code)) }
+        ensures reads { TellsHeld seen_around self.old self.new result code }
         ensures counts { CountsAs Call.Held self.old.plan self.new.plan self.old.broken result }
     {
         self.admit(Call::Held)?;

@@ -1,9 +1,8 @@
 //! Reading over any keeper.
-ghost use Rattle.std.specs.Prelude.{◌≡◌, ◌+◌, ◌<◌, ◌≤◌, ◌++◌, ◌^◌, if◌then◌else◌, IfOk, None, is_some, vec_len};
-ghost use Rattle.gaz_shelf.specs.Board.{reached, view_after};
-ghost use Rattle.gaz_shelf.specs.Keeper.{Reads, Seen};
-ghost use Rattle.gaz_views.specs.Reading.{left_after, next_after};
-ghost use Rattle.gaz_views.specs.Words.{rest_of};
+ghost use Rattle.std.specs.Prelude.{◌≡◌, ◌+◌, ◌<◌, ◌≤◌, ◌^◌, if◌then◌else◌, IfOk, is_some, vec_len};
+ghost use Rattle.gaz_shelf.specs.Keeper.{Seen};
+ghost use Rattle.gaz_views.specs.Reading.{next_after};
+ghost use Rattle.gaz_shelf.specs.Telling.{AddsPage, TellsAll};
 
 use crate::fault::ShelfFault;
 use crate::shelf::Shelf;
@@ -23,7 +22,7 @@ pub fn read_kind<S: Shelf>(
     most: usize,
 ) -> Result<Vec<SharedItem>, ShelfFault>
     requires { 1 ≤ most }
-    ensures { Reads (S.seen shelf.old) (S.seen shelf.new) result (λ items. volume ≤ reached (S.seen shelf.old).content.board code → items.items ≡ rest_of (view_after (S.seen shelf.old).content.board code volume) kind None) }
+    ensures { TellsAll S.seen shelf.old shelf.new result code volume kind }
 {
     let mut items = Vec::new(alloc);
     let mut next = add_page(shelf, code, volume, kind, None, most, &mut items)?;
@@ -44,8 +43,9 @@ fn add_page<S: Shelf>(
     items: &mut Vec<SharedItem>,
 ) -> Result<Option<Key>, ShelfFault>
     requires { 1 ≤ most }
-    ensures reads { Reads (S.seen shelf.old) (S.seen shelf.new) result (λ next. volume ≤ reached (S.seen shelf.old).content.board code → items.new.items ++ left_after (view_after (S.seen shelf.old).content.board code volume) kind next ≡ items.old.items ++ rest_of (view_after (S.seen shelf.old).content.board code volume) kind after) }
-    ensures goes_on { IfOk result (λ next. vec_len items.old + (if is_some next then 1 else 0) ≤ vec_len items.new) }
+    ensures reads { AddsPage S.seen shelf.old shelf.new result code volume kind after items.old items.new }
+    ensures goes_on { IfOk result (λ next.
+        vec_len items.old + (if is_some next then 1 else 0) ≤ vec_len items.new) }
     ensures fits { vec_len items.new < 2 ^ 64 }
 {
     let mut page = shelf.page(code, volume, kind, after, most)?;

@@ -1,7 +1,7 @@
 //! Writing over any keeper.
-ghost use Rattle.std.specs.Prelude.{◌≡◌, ◌≢◌, [], fold};
-ghost use Rattle.gaz_views.specs.View.{with_item};
-ghost use Rattle.gaz_shelf.specs.Keeper.{Goes, Idle, IsAtHand, IsNotOpen, Refuses, Seen, Sets, written};
+ghost use Rattle.std.specs.Prelude.{◌≢◌, []};
+ghost use Rattle.gaz_shelf.specs.Keeper.{Idle, IsNotOpen, Refuses, Seen};
+ghost use Rattle.gaz_shelf.specs.Telling.{PutsAll, Writes};
 
 use crate::fault::ShelfFault;
 use crate::shelf::Shelf;
@@ -20,7 +20,7 @@ pub enum Ending {
 /// Sets these items in the working view, one after another, up to a fault.
 pub fn put_all<S: Shelf>(shelf: &mut S, items: Vec<SharedItem>) -> Result<(), ShelfFault>
     requires { (S.seen shelf.old).progress ≢ Idle }
-    ensures sets { Sets (S.seen shelf.old) (S.seen shelf.new) result (fold with_item (S.seen shelf.old).content.working items.items) }
+    ensures sets { PutsAll S.seen shelf.old shelf.new result items.items }
     ensures refuses { items.items ≢ [] → Refuses (S.seen shelf.old) result }
 {
     for item in items {
@@ -37,7 +37,7 @@ pub fn write_volume<S: Shelf>(
     ending: Ending,
 ) -> Result<(), ShelfFault>
     requires { IsNotOpen (S.seen shelf.old).progress }
-    ensures { Goes (S.seen shelf.old) (S.seen shelf.new) result (IsAtHand (S.seen shelf.old).content code) (written (S.seen shelf.old).content code items.items ending) Idle }
+    ensures { Writes S.seen shelf.old shelf.new result code items.items ending }
 {
     shelf.begin(code)?;
     put_all(shelf, items)?;
