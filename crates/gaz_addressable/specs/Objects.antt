@@ -31,9 +31,9 @@ abbrev pub is_empty : List ℕ → Bool
 is_empty t = length t == 0
 
 -- what a field that has its form says
-abbrev pub the : {A : Type 0} → Option (Option A) → Option A
-the None = None
-the (Some x) = x
+abbrev pub flattened : {A : Type 0} → Option (Option A) → Option A
+flattened None = None
+flattened (Some x) = x
 
 abbrev pub numbered : Option ℕ → Option ℕ → Option HouseNumberValue
 numbered None suffix = None
@@ -46,7 +46,7 @@ range_from (Some from) to = Some (record { from = from; to = to })
 -- the house numbers of four fields that have their forms
 abbrev pub range_value : (start suffix end end_suffix : List ℕ) → Option RangeValue
 range_value start suffix end end_suffix =
-    range_from (numbered (the (house_of start)) (the (suffix_of suffix))) (numbered (the (house_of end)) (the (suffix_of end_suffix)))
+    range_from (numbered (flattened (house_of start)) (flattened (suffix_of suffix))) (numbered (flattened (house_of end)) (flattened (suffix_of end_suffix)))
 
 abbrev pub rises_if_there : Option RangeValue → Bool
 rises_if_there None = true

@@ -7,7 +7,7 @@ use Rattle.std.specs.Option.{option_map}
 use Rattle.std.specs.Str.{IsUtf8, is_utf8}
 use Rattle.gaz_rows.specs.Rows.{Fields, rows_of}
 use Rattle.gaz_changefile.specs.Contents.{contents_of}
-use Rattle.gaz_changefile.specs.Laws.{AreKept, BreaksFirst, LeastFault, Tells}
+use Rattle.gaz_changefile.specs.Laws.{AreKept, BreaksFirst, LeastFault, TellsReading}
 use Rattle.gaz_changefile.specs.Reading.{Fault, by_faults, fault_at, faults}
 use Rattle.gaz_changefile.specs.Rules.{first_broken, rules_at}
 use Rattle.gaz_changefile.proofs.Runs.{no_text, read_text}
@@ -77,7 +77,7 @@ broken_at c v rows i x (Some rule) h e =
     (sym (ap (λ (f : Fault). f.place) q), breaks_first (rules_at c v rows i) x.rule (h ∙ ap Some (ap (λ (f : Fault). f.rule) q)))
 
 by_list : (bytes : List ℕ) (c v : ℕ) → IsUtf8 bytes → (fs : List Fault) → faults c v (rows_of bytes) ≡ fs
-    → Tells bytes c v (by_faults (contents_of (rows_of bytes)) fs)
+    → TellsReading bytes c v (by_faults (contents_of (rows_of bytes)) fs)
 by_list bytes c v text [] e = record {
   text = text;
   kept = λ i h. kept_at c v (rows_of bytes) i _ refl (none_at (fault_at c v (rows_of bytes)) 0 (length (rows_of bytes) + 1) e i (omega arith) (omega arith));

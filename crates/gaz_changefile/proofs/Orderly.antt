@@ -15,7 +15,7 @@ use Rattle.gaz_records.specs.Items.{read_item}
 use Rattle.gaz_records.specs.declared.fields.FieldFault.{FieldFault}
 use Rattle.gaz_records.specs.declared.item.Item.{Item}
 use Rattle.gaz_records.specs.declared.item.Kind.{Kind}
-use Rattle.gaz_changefile.specs.Contents.{Contents, bases_in, basis_in, basis_of, change_of, changes_in, contents_of, made}
+use Rattle.gaz_changefile.specs.Contents.{Contents, bases_in, basis_in, basis_of, change_from, change_of, changes_in, contents_of}
 use Rattle.gaz_changefile.specs.Files.{AreBases, ArePlaced}
 use Rattle.gaz_changefile.specs.Laws.{AreKept, BasesRise, ChangesArePlaced, IsGood}
 use Rattle.gaz_changefile.specs.Lines.{action_of, field, is_basis, is_basis_line, is_change, is_change_line, is_trailer, is_trailer_line, is_value, line_of, read_code, read_order, read_volume}
@@ -177,7 +177,7 @@ basis_more c before row (Some b) e is k fresh h =
     (λ t q. sym (rw (map-append (λ (b : Basis). b.custodian) (bases_in before) (b ∷ [])) (last_push None (map (λ b. b.custodian) (bases_in before)) b.custodian)))
 
 -- a change record that keeps its rules
-made_some : (place : ℕ) (a : Option Action) (r : Result Item FieldFault) → not (is_some a && is_ok r) ≡ false → (x : Change) × (made place a r ≡ Some x) × (x.place ≡ place)
+made_some : (place : ℕ) (a : Option Action) (r : Result Item FieldFault) → not (is_some a && is_ok r) ≡ false → (x : Change) × (change_from place a r ≡ Some x) × (x.place ≡ place)
 made_some place None r h = cc h
 made_some place (Some a) (Err e) h = cc h
 made_some place (Some a) (Ok i) h = (record { place = place; action = a; item = i }, refl, refl)

@@ -3,7 +3,7 @@ use Rattle.std.specs.Prelude.{ℕ, ◌==◌, List, [], ◌∷◌, drop, length, 
 use Rattle.std.specs.List.{enumerate_from, filter_map}
 use Rattle.gaz_rows.specs.Rows.{Fields}
 use Rattle.gaz_records.specs.Days.{CivilDay, date_of, no_day}
-use Rattle.gaz_records.specs.Fields.{the}
+use Rattle.gaz_records.specs.Fields.{value_or}
 use Rattle.gaz_records.specs.Items.{read_item}
 use Rattle.gaz_records.specs.declared.fields.FieldFault.{FieldFault}
 use Rattle.gaz_records.specs.declared.item.Item.{Item}
@@ -24,17 +24,17 @@ pub record Contents : Type 0 where
 -- the date in the header
 abbrev pub date_in : List Fields → CivilDay
 date_in [] = no_day
-date_in (row ∷ rows) = the no_day (date_of (field row 4))
+date_in (row ∷ rows) = value_or no_day (date_of (field row 4))
 
 -- a basis, where its custodian and its volume were read
-abbrev pub rested : Option ℕ → Option ℕ → Option Basis
-rested None volume = None
-rested (Some d) None = None
-rested (Some d) (Some w) = Some (record { custodian = d; volume = w })
+abbrev pub basis_from : Option ℕ → Option ℕ → Option Basis
+basis_from None volume = None
+basis_from (Some d) None = None
+basis_from (Some d) (Some w) = Some (record { custodian = d; volume = w })
 
 -- the basis that three fields say: behind the first a custodian and a volume
 abbrev pub basis_in : Fields → Option Basis
-basis_in row = if length row == 3 then rested (read_code (field row 1)) (read_volume (field row 2)) else None
+basis_in row = if length row == 3 then basis_from (read_code (field row 1)) (read_volume (field row 2)) else None
 
 -- the basis of a record, by what the record is
 abbrev pub basis_of : Fields → Line → Option Basis
@@ -52,14 +52,14 @@ abbrev pub bases_in : List Fields → List Basis
 bases_in rows = filter_map basis_at rows
 
 -- a change, where its type and its item were read
-abbrev pub made : ℕ → Option Action → Result Item FieldFault → Option Change
-made place None item = None
-made place (Some a) (Err e) = None
-made place (Some a) (Ok x) = Some (record { place = place; action = a; item = x })
+abbrev pub change_from : ℕ → Option Action → Result Item FieldFault → Option Change
+change_from place None item = None
+change_from place (Some a) (Err e) = None
+change_from place (Some a) (Ok x) = Some (record { place = place; action = a; item = x })
 
 -- the change that a change record says, whose item's fields stand behind the first three
 abbrev pub change_in : ℕ → Kind → Fields → Option Change
-change_in place kind row = made place (action_of (field row 1)) (read_item kind (drop 3 row))
+change_in place kind row = change_from place (action_of (field row 1)) (read_item kind (drop 3 row))
 
 abbrev pub change_of : ℕ → Fields → Line → Option Change
 change_of place row (line.Change kind) = change_in place kind row

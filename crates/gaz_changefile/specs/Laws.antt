@@ -37,12 +37,12 @@ pub record IsLeast (c v : ℕ) (bytes : List ℕ) (place rule : ℕ) : Type 0 wh
   pub least : (i : ℕ) → i < index → AreKept (rules_at c v (rows_of bytes) i)
 
 -- what each reading means
-abbrev pub Tells : List ℕ → ℕ → ℕ → Reading → Type 0
-Tells bytes c v (Good contents) = IsGood c v bytes contents
-Tells bytes c v (Bad place rule) = ((IsUtf8 bytes → ⊥) × (place ≡ 1) × (rule ≡ 1)) ⊎ IsLeast c v bytes place rule
+abbrev pub TellsReading : List ℕ → ℕ → ℕ → Reading → Type 0
+TellsReading bytes c v (Good contents) = IsGood c v bytes contents
+TellsReading bytes c v (Bad place rule) = ((IsUtf8 bytes → ⊥) × (place ≡ 1) × (rule ≡ 1)) ⊎ IsLeast c v bytes place rule
 
 abbrev pub LeastFault : Type 0
-LeastFault = (bytes : List ℕ) (c v : ℕ) → Tells bytes c v (reading bytes c v)
+LeastFault = (bytes : List ℕ) (c v : ℕ) → TellsReading bytes c v (reading bytes c v)
 
 -- the bases of a good file rise by custodian, and none is the own
 abbrev pub BasesRise : Type 0

@@ -7,7 +7,7 @@ ghost use Rattle.gaz_views.specs.Reading.{left_after};
 ghost use Rattle.gaz_views.specs.Words.{rest_of};
 ghost use Rattle.gaz_extract.specs.Closing.{closed_at_owner, closed_by, closed_of, closed_streets, is_on_closed};
 ghost use Rattle.gaz_extract.specs.Paging.{pages_left};
-ghost use Rattle.gaz_extract.specs.Readings.{Tells};
+ghost use Rattle.gaz_extract.specs.Readings.{Looks};
 
 use crate::find::{has_closed_street, has_street};
 use crate::page::read_page;
@@ -32,7 +32,7 @@ fn closed_at_owner<S: Shelf>(
     usrn: Usrn,
 ) -> Result<bool, ShelfFault>
     requires { IsNotOpen (S.seen shelf.old).progress }
-    ensures tells { Tells (S.seen shelf.old) (S.seen shelf.new) result (λ b. b ≡ closed_at_owner (S.seen shelf.old).content.board register.now usrn) }
+    ensures tells { Looks (S.seen shelf.old) (S.seen shelf.new) result (λ b. b ≡ closed_at_owner (S.seen shelf.old).content.board register.now usrn) }
     ensures not_open { IsNotOpen (S.seen shelf.new).progress }
 {
     match register.owner_usrn(usrn) {
@@ -49,7 +49,7 @@ fn is_on_closed<S: Shelf>(
     lpi: &Lpi,
 ) -> Result<bool, ShelfFault>
     requires { IsNotOpen (S.seen shelf.old).progress }
-    ensures tells { Tells (S.seen shelf.old) (S.seen shelf.new) result (λ b. b ≡ is_on_closed (S.seen shelf.old).content.board register.now code lpi.now) }
+    ensures tells { Looks (S.seen shelf.old) (S.seen shelf.new) result (λ b. b ≡ is_on_closed (S.seen shelf.old).content.board register.now code lpi.now) }
     ensures not_open { IsNotOpen (S.seen shelf.new).progress }
 {
     if !matches!(lpi.status, Status::Approved) {
@@ -69,7 +69,7 @@ fn closed_by<S: Shelf>(
     item: &Item,
 ) -> Result<Option<Closed>, ShelfFault>
     requires { IsNotOpen (S.seen shelf.old).progress }
-    ensures tells { Tells (S.seen shelf.old) (S.seen shelf.new) result (λ x. x ≡ closed_by (S.seen shelf.old).content.board register.now code item.now) }
+    ensures tells { Looks (S.seen shelf.old) (S.seen shelf.new) result (λ x. x ≡ closed_by (S.seen shelf.old).content.board register.now code item.now) }
     ensures not_open { IsNotOpen (S.seen shelf.new).progress }
 {
     let Item::Lpi(lpi) = item else {
@@ -104,7 +104,7 @@ fn add_item<S: Shelf>(
     closed: &mut Vec<Closed>,
 ) -> Result<(), ShelfFault>
     requires { IsNotOpen (S.seen shelf.old).progress }
-    ensures tells { Tells (S.seen shelf.old) (S.seen shelf.new) result (λ _. closed.new.items ≡ closed.old.items ++ filter_map (closed_by (S.seen shelf.old).content.board register.now code) (item.now ∷ [])) }
+    ensures tells { Looks (S.seen shelf.old) (S.seen shelf.new) result (λ _. closed.new.items ≡ closed.old.items ++ filter_map (closed_by (S.seen shelf.old).content.board register.now code) (item.now ∷ [])) }
     ensures not_open { IsNotOpen (S.seen shelf.new).progress }
 {
     let found = closed_by(shelf, register, code, item)?;
@@ -121,7 +121,7 @@ fn add_items<S: Shelf>(
     closed: &mut Vec<Closed>,
 ) -> Result<(), ShelfFault>
     requires { IsNotOpen (S.seen shelf.old).progress }
-    ensures tells { Tells (S.seen shelf.old) (S.seen shelf.new) result (λ _. closed.new.items ≡ closed.old.items ++ filter_map (closed_by (S.seen shelf.old).content.board register.now code) items.now) }
+    ensures tells { Looks (S.seen shelf.old) (S.seen shelf.new) result (λ _. closed.new.items ≡ closed.old.items ++ filter_map (closed_by (S.seen shelf.old).content.board register.now code) items.now) }
     ensures not_open { IsNotOpen (S.seen shelf.new).progress }
 {
     for item in items {
@@ -140,7 +140,7 @@ fn add_page<S: Shelf>(
     closed: &mut Vec<Closed>,
 ) -> Result<Option<Key>, ShelfFault>
     requires { IsNotOpen (S.seen shelf.old).progress }
-    ensures tells { Tells (S.seen shelf.old) (S.seen shelf.new) result (λ next. volume ≤ reached (S.seen shelf.old).content.board code → closed.new.items ++ filter_map (closed_by (S.seen shelf.old).content.board register.now code) (left_after (view_after (S.seen shelf.old).content.board code volume) kind.Lpi next) ≡ closed.old.items ++ filter_map (closed_by (S.seen shelf.old).content.board register.now code) (rest_of (view_after (S.seen shelf.old).content.board code volume) kind.Lpi after)) }
+    ensures tells { Looks (S.seen shelf.old) (S.seen shelf.new) result (λ next. volume ≤ reached (S.seen shelf.old).content.board code → closed.new.items ++ filter_map (closed_by (S.seen shelf.old).content.board register.now code) (left_after (view_after (S.seen shelf.old).content.board code volume) kind.Lpi next) ≡ closed.old.items ++ filter_map (closed_by (S.seen shelf.old).content.board register.now code) (rest_of (view_after (S.seen shelf.old).content.board code volume) kind.Lpi after)) }
     ensures fewer { is_some after ≡ true → IfOk result (λ next. pages_left next < pages_left after) }
     ensures not_open { IsNotOpen (S.seen shelf.new).progress }
 {
@@ -157,7 +157,7 @@ fn add_custodian<S: Shelf>(
     closed: &mut Vec<Closed>,
 ) -> Result<(), ShelfFault>
     requires { IsNotOpen (S.seen shelf.old).progress }
-    ensures tells { Tells (S.seen shelf.old) (S.seen shelf.new) result (λ _. closed.new.items ≡ closed.old.items ++ closed_of (S.seen shelf.old).content.board register.now code) }
+    ensures tells { Looks (S.seen shelf.old) (S.seen shelf.new) result (λ _. closed.new.items ≡ closed.old.items ++ closed_of (S.seen shelf.old).content.board register.now code) }
     ensures not_open { IsNotOpen (S.seen shelf.new).progress }
 {
     let volume = shelf.reached(code)?;
@@ -178,7 +178,7 @@ pub fn closed_streets<S: Shelf>(
     register: &Register,
 ) -> Result<Vec<Closed>, ShelfFault>
     requires { IsNotOpen (S.seen shelf.old).progress }
-    ensures { Tells (S.seen shelf.old) (S.seen shelf.new) result (λ closed. closed.items ≡ closed_streets (S.seen shelf.old).content.board register.now) }
+    ensures { Looks (S.seen shelf.old) (S.seen shelf.new) result (λ closed. closed.items ≡ closed_streets (S.seen shelf.old).content.board register.now) }
 {
     let mut closed = Vec::new(alloc);
     for custodian in register.custodians() {

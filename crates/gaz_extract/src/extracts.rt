@@ -6,7 +6,7 @@ ghost use Rattle.gaz_views.specs.Words.{rest_of};
 ghost use Rattle.gaz_extract.specs.Drafts.{by_kind, with_items};
 ghost use Rattle.gaz_extract.specs.Extracts.{extract};
 ghost use Rattle.gaz_extract.specs.Paging.{pages_left};
-ghost use Rattle.gaz_extract.specs.Readings.{Tells};
+ghost use Rattle.gaz_extract.specs.Readings.{Looks};
 
 use crate::draft::Draft;
 use crate::page::read_page;
@@ -32,7 +32,7 @@ fn add_page<S: Shelf>(
     draft: Draft,
 ) -> Result<Written, ShelfFault>
     requires { IsNotOpen (S.seen shelf.old).progress }
-    ensures tells { Tells (S.seen shelf.old) (S.seen shelf.new) result (λ w. volume ≤ reached (S.seen shelf.old).content.board code → with_items w.draft (left_after (view_after (S.seen shelf.old).content.board code volume) kind w.next) ≡ with_items draft (rest_of (view_after (S.seen shelf.old).content.board code volume) kind after)) }
+    ensures tells { Looks (S.seen shelf.old) (S.seen shelf.new) result (λ w. volume ≤ reached (S.seen shelf.old).content.board code → with_items w.draft (left_after (view_after (S.seen shelf.old).content.board code volume) kind w.next) ≡ with_items draft (rest_of (view_after (S.seen shelf.old).content.board code volume) kind after)) }
     ensures fewer { is_some after ≡ true → IfOk result (λ w. pages_left w.next < pages_left after) }
     ensures not_open { IsNotOpen (S.seen shelf.new).progress }
 {
@@ -53,7 +53,7 @@ fn add_kind<S: Shelf>(
     draft: Draft,
 ) -> Result<Draft, ShelfFault>
     requires { IsNotOpen (S.seen shelf.old).progress }
-    ensures tells { Tells (S.seen shelf.old) (S.seen shelf.new) result (λ d. volume ≤ reached (S.seen shelf.old).content.board code → d ≡ with_items draft (rest_of (view_after (S.seen shelf.old).content.board code volume) kind None)) }
+    ensures tells { Looks (S.seen shelf.old) (S.seen shelf.new) result (λ d. volume ≤ reached (S.seen shelf.old).content.board code → d ≡ with_items draft (rest_of (view_after (S.seen shelf.old).content.board code volume) kind None)) }
     ensures not_open { IsNotOpen (S.seen shelf.new).progress }
 {
     let mut written = add_page(shelf, code, volume, kind, None, draft)?;
@@ -74,7 +74,7 @@ fn add_view<S: Shelf>(
     draft: Draft,
 ) -> Result<Draft, ShelfFault>
     requires { IsNotOpen (S.seen shelf.old).progress }
-    ensures tells { Tells (S.seen shelf.old) (S.seen shelf.new) result (λ d. volume ≤ reached (S.seen shelf.old).content.board code → d ≡ with_items draft (by_kind (view_after (S.seen shelf.old).content.board code volume))) }
+    ensures tells { Looks (S.seen shelf.old) (S.seen shelf.new) result (λ d. volume ≤ reached (S.seen shelf.old).content.board code → d ≡ with_items draft (by_kind (view_after (S.seen shelf.old).content.board code volume))) }
     ensures not_open { IsNotOpen (S.seen shelf.new).progress }
 {
     let draft = add_kind(shelf, code, volume, Kind::Street, draft)?;
@@ -98,7 +98,7 @@ pub fn extract<S: Shelf>(
     volume: Volume,
 ) -> Result<Option<Vec<u8>>, ShelfFault>
     requires { IsNotOpen (S.seen shelf.old).progress }
-    ensures { Tells (S.seen shelf.old) (S.seen shelf.new) result (λ text. option_map (λ t. t.items) text ≡ extract (S.seen shelf.old).content.board code volume) }
+    ensures { Looks (S.seen shelf.old) (S.seen shelf.new) result (λ text. option_map (λ t. t.items) text ≡ extract (S.seen shelf.old).content.board code volume) }
 {
     if shelf.reached(code)? < volume.number() {
         return Ok(None);

@@ -6,7 +6,7 @@ ghost use Rattle.gaz_shelf.specs.Keeper.{IsNotOpen};
 ghost use Rattle.gaz_shelf.specs.Board.{last_view};
 ghost use Rattle.gaz_views.specs.Words.{property_of};
 ghost use Rattle.gaz_extract.specs.Finding.{as_descriptor, descriptor_at, has_closed_street, street_at};
-ghost use Rattle.gaz_extract.specs.Readings.{Tells};
+ghost use Rattle.gaz_extract.specs.Readings.{Looks};
 
 use crate::lend::street_in;
 use gaz_ids::{Code, Lang, Uprn, Usrn};
@@ -20,7 +20,7 @@ fn item_now<S: Shelf>(
     key: &Key,
 ) -> Result<Option<SharedItem>, ShelfFault>
     requires { IsNotOpen (S.seen shelf.old).progress }
-    ensures tells { Tells (S.seen shelf.old) (S.seen shelf.new) result (λ i. i ≡ map.get (last_view (S.seen shelf.old).content.board code).items key.now) }
+    ensures tells { Looks (S.seen shelf.old) (S.seen shelf.new) result (λ i. i ≡ map.get (last_view (S.seen shelf.old).content.board code).items key.now) }
     ensures not_open { IsNotOpen (S.seen shelf.new).progress }
 {
     shelf.current(code, key)
@@ -29,7 +29,7 @@ fn item_now<S: Shelf>(
 /// Whether the street of this number is there, in a custodian's last view.
 pub fn has_street<S: Shelf>(shelf: &mut S, code: Code, usrn: Usrn) -> Result<bool, ShelfFault>
     requires { IsNotOpen (S.seen shelf.old).progress }
-    ensures tells { Tells (S.seen shelf.old) (S.seen shelf.new) result (λ b. b ≡ is_some (street_at (last_view (S.seen shelf.old).content.board code) usrn)) }
+    ensures tells { Looks (S.seen shelf.old) (S.seen shelf.new) result (λ b. b ≡ is_some (street_at (last_view (S.seen shelf.old).content.board code) usrn)) }
     ensures not_open { IsNotOpen (S.seen shelf.new).progress }
 {
     let item = item_now(shelf, code, &Key::Street(usrn))?;
@@ -43,7 +43,7 @@ pub fn has_closed_street<S: Shelf>(
     usrn: Usrn,
 ) -> Result<bool, ShelfFault>
     requires { IsNotOpen (S.seen shelf.old).progress }
-    ensures tells { Tells (S.seen shelf.old) (S.seen shelf.new) result (λ b. b ≡ has_closed_street (last_view (S.seen shelf.old).content.board code) usrn) }
+    ensures tells { Looks (S.seen shelf.old) (S.seen shelf.new) result (λ b. b ≡ has_closed_street (last_view (S.seen shelf.old).content.board code) usrn) }
     ensures not_open { IsNotOpen (S.seen shelf.new).progress }
 {
     let item = item_now(shelf, code, &Key::Street(usrn))?;
@@ -61,7 +61,7 @@ pub fn descriptor_item<S: Shelf>(
     lang: Lang,
 ) -> Result<Option<SharedItem>, ShelfFault>
     requires { IsNotOpen (S.seen shelf.old).progress }
-    ensures tells { Tells (S.seen shelf.old) (S.seen shelf.new) result (λ i. option_and_then as_descriptor i ≡ descriptor_at (last_view (S.seen shelf.old).content.board code) usrn lang) }
+    ensures tells { Looks (S.seen shelf.old) (S.seen shelf.new) result (λ i. option_and_then as_descriptor i ≡ descriptor_at (last_view (S.seen shelf.old).content.board code) usrn lang) }
     ensures not_open { IsNotOpen (S.seen shelf.new).progress }
 {
     item_now(shelf, code, &Key::Descriptor(usrn, lang))
@@ -74,7 +74,7 @@ pub fn property_now<S: Shelf>(
     uprn: Uprn,
 ) -> Result<Option<Property>, ShelfFault>
     requires { IsNotOpen (S.seen shelf.old).progress }
-    ensures tells { Tells (S.seen shelf.old) (S.seen shelf.new) result (λ p. p ≡ property_of (last_view (S.seen shelf.old).content.board code) uprn) }
+    ensures tells { Looks (S.seen shelf.old) (S.seen shelf.new) result (λ p. p ≡ property_of (last_view (S.seen shelf.old).content.board code) uprn) }
     ensures not_open { IsNotOpen (S.seen shelf.new).progress }
 {
     shelf.property_of(code, uprn)

@@ -2,7 +2,7 @@ ghost use Rattle.std.specs.Prelude.{◌≡◌, option_map};
 ghost use Rattle.std.specs.Option.{option_and_then};
 ghost use Rattle.gaz_shelf.specs.Keeper.{IsNotOpen};
 ghost use Rattle.gaz_extract.specs.Finding.{as_descriptor};
-ghost use Rattle.gaz_extract.specs.Readings.{Tells};
+ghost use Rattle.gaz_extract.specs.Readings.{Looks};
 ghost use Rattle.gaz_extract.specs.Lookups.{descriptor_now, keeper_of_street, line_at, lookup, said_by};
 
 use crate::address::{AddressLine, line};
@@ -32,7 +32,7 @@ fn keeper_of_street<S: Shelf>(
     usrn: Usrn,
 ) -> Result<Option<Code>, ShelfFault>
     requires { IsNotOpen (S.seen shelf.old).progress }
-    ensures tells { Tells (S.seen shelf.old) (S.seen shelf.new) result (λ d. d ≡ keeper_of_street (S.seen shelf.old).content.board register.now code usrn) }
+    ensures tells { Looks (S.seen shelf.old) (S.seen shelf.new) result (λ d. d ≡ keeper_of_street (S.seen shelf.old).content.board register.now code usrn) }
     ensures not_open { IsNotOpen (S.seen shelf.new).progress }
 {
     let owner = register.owner_usrn(usrn);
@@ -51,7 +51,7 @@ fn descriptor_for<S: Shelf>(
     lpi: &Lpi,
 ) -> Result<Option<SharedItem>, ShelfFault>
     requires { IsNotOpen (S.seen shelf.old).progress }
-    ensures tells { Tells (S.seen shelf.old) (S.seen shelf.new) result (λ i. option_and_then as_descriptor i ≡ descriptor_now (S.seen shelf.old).content.board register.now code lpi.now) }
+    ensures tells { Looks (S.seen shelf.old) (S.seen shelf.new) result (λ i. option_and_then as_descriptor i ≡ descriptor_now (S.seen shelf.old).content.board register.now code lpi.now) }
     ensures not_open { IsNotOpen (S.seen shelf.new).progress }
 {
     match keeper_of_street(shelf, register, code, lpi.usrn)? {
@@ -70,7 +70,7 @@ fn line_at<S: Shelf>(
     blpu: &Blpu,
 ) -> Result<Option<AddressLine>, ShelfFault>
     requires { IsNotOpen (S.seen shelf.old).progress }
-    ensures tells { Tells (S.seen shelf.old) (S.seen shelf.new) result (λ l. l ≡ line_at (S.seen shelf.old).content.board register.now code (option_map (λ a. a.now) address.entry) blpu.now) }
+    ensures tells { Looks (S.seen shelf.old) (S.seen shelf.new) result (λ l. l ≡ line_at (S.seen shelf.old).content.board register.now code (option_map (λ a. a.now) address.entry) blpu.now) }
     ensures not_open { IsNotOpen (S.seen shelf.new).progress }
 {
     let Some(lpi) = address else {
@@ -92,7 +92,7 @@ fn said_by<S: Shelf>(
     code: Code,
 ) -> Result<Option<Found>, ShelfFault>
     requires { IsNotOpen (S.seen shelf.old).progress }
-    ensures tells { Tells (S.seen shelf.old) (S.seen shelf.new) result (λ f. f ≡ said_by (S.seen shelf.old).content.board register.now uprn code) }
+    ensures tells { Looks (S.seen shelf.old) (S.seen shelf.new) result (λ f. f ≡ said_by (S.seen shelf.old).content.board register.now uprn code) }
     ensures not_open { IsNotOpen (S.seen shelf.new).progress }
 {
     let Some(property) = property_now(shelf, code, uprn)? else {
@@ -123,7 +123,7 @@ pub fn lookup<S: Shelf>(
     uprn: Uprn,
 ) -> Result<Option<Found>, ShelfFault>
     requires { IsNotOpen (S.seen shelf.old).progress }
-    ensures { Tells (S.seen shelf.old) (S.seen shelf.new) result (λ f. f ≡ lookup (S.seen shelf.old).content.board register.now uprn) }
+    ensures { Looks (S.seen shelf.old) (S.seen shelf.new) result (λ f. f ≡ lookup (S.seen shelf.old).content.board register.now uprn) }
 {
     for custodian in register.custodians() {
         let found = said_by(alloc, shelf, register, uprn, custodian.code())?;

@@ -7,7 +7,7 @@ ghost use Rattle.gaz_shelf.specs.Keeper.{IsNotOpen};
 ghost use Rattle.gaz_views.specs.Reading.{left_after, next_after};
 ghost use Rattle.gaz_views.specs.Words.{comes_after, rest_of};
 ghost use Rattle.gaz_extract.specs.Paging.{pages_left, rising};
-ghost use Rattle.gaz_extract.specs.Readings.{Tells};
+ghost use Rattle.gaz_extract.specs.Readings.{Looks};
 
 use gaz_ids::Code;
 use gaz_records::{Key, Kind, SharedItem, key_of};
@@ -96,7 +96,7 @@ pub fn read_page<S: Shelf>(
     after: Option<Key>,
 ) -> Result<Page, ShelfFault>
     requires { IsNotOpen (S.seen shelf.old).progress }
-    ensures tells { Tells (S.seen shelf.old) (S.seen shelf.new) result (λ p. volume ≤ reached (S.seen shelf.old).content.board code → p.items.items ++ left_after (view_after (S.seen shelf.old).content.board code volume) kind p.next ≡ rest_of (view_after (S.seen shelf.old).content.board code volume) kind after) }
+    ensures tells { Looks (S.seen shelf.old) (S.seen shelf.new) result (λ p. volume ≤ reached (S.seen shelf.old).content.board code → p.items.items ++ left_after (view_after (S.seen shelf.old).content.board code volume) kind p.next ≡ rest_of (view_after (S.seen shelf.old).content.board code volume) kind after) }
     ensures fewer { is_some after ≡ true → IfOk result (λ p. pages_left p.next < pages_left after) }
     ensures not_open { IsNotOpen (S.seen shelf.new).progress }
 {

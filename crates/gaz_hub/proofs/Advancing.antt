@@ -12,7 +12,7 @@ use Rattle.gaz_changefile.specs.Reading.{Good, Bad, Reading, reading}
 use Rattle.gaz_changefile.specs.declared.change.Basis.{Basis}
 use Rattle.gaz_register.specs.Registers.{Blocks, CustodianValue, RegisterValue, knows}
 use Rattle.gaz_shelf.specs.Board.{Board, Judgement, adds, reached}
-use Rattle.gaz_shelf.specs.Keeper.{Content, Counts, Enters, IsAtHand, IsNotOpen, Seen, closed, skipped, with_judgement}
+use Rattle.gaz_shelf.specs.Keeper.{Content, Counts, Enters, IsAtHand, IsNotOpen, Seen, after_abandon, after_skip, with_judgement}
 use Rattle.gaz_shelf.specs.Received.{Received}
 use Rattle.gaz_shelf.specs.declared.fault.ShelfFault.{ShelfFault}
 use Rattle.gaz_views.specs.declared.verdict.Verdict.{Verdict}
@@ -94,7 +94,7 @@ pub record Adds {T : Type 0} (b c : Seen) (r : Result T ShelfFault) (code : ℕ)
   pub harm : c.unharmed → b.unharmed
   pub stands : b.stands → asked → c.unharmed → c.stands
   pub done : b.stands → asked → c.unharmed → OnOk r (c.content ≡ with_judgement b.content code j)
-  pub undone : b.stands → asked → c.unharmed → OnErr r (closed c.content ≡ closed b.content)
+  pub undone : b.stands → asked → c.unharmed → OnErr r (after_abandon c.content ≡ after_abandon b.content)
   pub idle : IsNotOpen c.progress
   pub counts : Counts b c r
 
@@ -112,20 +112,20 @@ adds_judged b c r code bases j l =
       harm = l.harm;
       stands = l.stands;
       done = l.done;
-      undone = λ stood met fine. on_err r (ap closed) (l.undone stood met fine);
+      undone = λ stood met fine. on_err r (ap after_abandon) (l.undone stood met fine);
       idle = l.idle;
       counts = l.counts;
     }
 
 pub adds_skipped : {T : Type 0} (b c : Seen) (r : Result T ShelfFault) (code : ℕ) (own : Blocks) (place rule : ℕ) → IsNotOpen b.progress
-    → Enters b c r (IsAtHand b.content code) (skipped b.content code place rule) → Adds b c r code (IsAtHand b.content code) (judged_on own b.content.board code (Bad place rule))
+    → Enters b c r (IsAtHand b.content code) (after_skip b.content code place rule) → Adds b c r code (IsAtHand b.content code) (judged_on own b.content.board code (Bad place rule))
 unfolding judge
 adds_skipped b c r code own place rule idle l =
     record {
       harm = l.harm;
       stands = l.stands;
       done = l.done;
-      undone = λ stood met fine. on_err r (ap closed) (l.undone stood met fine);
+      undone = λ stood met fine. on_err r (ap after_abandon) (l.undone stood met fine);
       idle = left_not_open b.progress c.progress l.progress idle;
       counts = l.counts;
     }
@@ -182,7 +182,7 @@ adds_after a b c x r code rd own asked P l asks g =
       undone = λ stood met fine.
           let mid = g.harm fine in
           let same = l.keeps.content stood mid in
-          on_err r (λ e. e ∙ ap closed same) (g.undone (l.keeps.stands stood mid) (asks (now_in _ _ code rd (sym same) met)) fine);
+          on_err r (λ e. e ∙ ap after_abandon same) (g.undone (l.keeps.stands stood mid) (asks (now_in _ _ code rd (sym same) met)) fine);
       idle = g.idle;
       counts = counts_then a b c r l.counts.kept g.counts;
     }

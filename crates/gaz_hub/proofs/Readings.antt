@@ -7,5 +7,5 @@ use Rattle.gaz_hub.specs.Settling.{Looks}
 use Rattle.gaz_hub.proofs.Looks.{if_ok}
 
 -- what is read there is a look
-pub looks_read : {T : Type 0} (a b : Seen) (r : Result T ShelfFault) (P Q : T → Type 0) → ((x : T) → P x → Q x) → extract.Tells a b r P → Looks a b r Q
+pub looks_read : {T : Type 0} (a b : Seen) (r : Result T ShelfFault) (P Q : T → Type 0) → ((x : T) → P x → Q x) → extract.Looks a b r P → Looks a b r Q
 looks_read a b r P Q f l = record { keeps = l.keeps; right = λ stood fine. if_ok r P Q f (l.right stood fine); counts = l.counts }

@@ -1,10 +1,10 @@
-//! Numbers, keys and items of text, and a book and a keeper to begin with.
+//! Numbers, keys and items of text, and a account and a keeper to begin with.
 ghost use Rattle.std.specs.Prelude.{IfOk};
 ghost use Rattle.gaz_shelf.specs.Keeper.{IsNotOpen};
 ghost use Rattle.gaz_shelf.specs.Mem.{seen_in};
 
 use gaz_ids::{Code, Uprn, Usrn, Volume};
-use gaz_ledger::Book;
+use gaz_ledger::CachedLedger;
 use gaz_records::{Key, Kind, RecordKey, SharedItem, item_of_text, key_of};
 use gaz_shelf::{Inbox, MemShelf, Seed};
 use gaz_views::Verdict;
@@ -39,7 +39,7 @@ pub(crate) fn item(alloc: Global, kind: Kind, row: &str) -> Result<SharedItem, F
     Ok(SharedItem::new(alloc, item_of_text(alloc, kind, row.as_bytes())?)?)
 }
 
-/// What is done to a book: an item of a row is put, or what stands under its key is taken, or a volume ends.
+/// What is done to a account: an item of a row is put, or what stands under its key is taken, or a volume ends.
 #[derive(Clone, Copy)]
 pub(crate) enum Step {
     Put(Kind, &'static str),
@@ -49,38 +49,38 @@ pub(crate) enum Step {
     Undo,
 }
 
-pub(crate) fn puts(alloc: Global, book: &mut Book, kind: Kind, row: &str) -> Result<(), Fail> {
-    book.put(item(alloc, kind, row)?)?;
+pub(crate) fn puts(alloc: Global, account: &mut CachedLedger, kind: Kind, row: &str) -> Result<(), Fail> {
+    account.put(item(alloc, kind, row)?)?;
     Ok(())
 }
 
-fn takes(alloc: Global, book: &mut Book, kind: Kind, row: &str) -> Result<(), Fail> {
+fn takes(alloc: Global, account: &mut CachedLedger, kind: Kind, row: &str) -> Result<(), Fail> {
     let key = key_of(item(alloc, kind, row)?.as_item());
-    book.take(&key)?;
+    account.take(&key)?;
     Ok(())
 }
 
-pub(crate) fn closes(book: &mut Book, verdict: Verdict) -> Result<(), Fail> {
-    book.close(verdict)?;
+pub(crate) fn closes(account: &mut CachedLedger, verdict: Verdict) -> Result<(), Fail> {
+    account.close(verdict)?;
     Ok(())
 }
 
-fn steps(alloc: Global, book: &mut Book, step: Step) -> Result<(), Fail> {
+fn steps(alloc: Global, account: &mut CachedLedger, step: Step) -> Result<(), Fail> {
     match step {
-        Step::Put(kind, row) => puts(alloc, book, kind, row),
-        Step::Take(kind, row) => takes(alloc, book, kind, row),
-        Step::Close => closes(book, Verdict::Applied),
-        Step::Reject { place, rule } => closes(book, Verdict::Rejected { place, rule }),
+        Step::Put(kind, row) => puts(alloc, account, kind, row),
+        Step::Take(kind, row) => takes(alloc, account, kind, row),
+        Step::Close => closes(account, Verdict::Applied),
+        Step::Reject { place, rule } => closes(account, Verdict::Rejected { place, rule }),
         Step::Undo => {
-            book.undo();
+            account.undo();
             Ok(())
         }
     }
 }
 
-pub(crate) fn walks(alloc: Global, book: &mut Book, path: &[Step]) -> Result<(), Fail> {
+pub(crate) fn walks(alloc: Global, account: &mut CachedLedger, path: &[Step]) -> Result<(), Fail> {
     for step in path {
-        steps(alloc, book, *step)?;
+        steps(alloc, account, *step)?;
     }
     Ok(())
 }

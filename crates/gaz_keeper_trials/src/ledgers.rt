@@ -1,7 +1,7 @@
 //! A custodian's ledger through its volumes.
 use crate::fixtures::{Step, lpi_key, street_key, walks};
 use gaz_ids::{Uprn, Usrn};
-use gaz_ledger::{Book, Seed};
+use gaz_ledger::{CachedLedger, Seed};
 use gaz_records::{Key, Kind, item_text};
 use gaz_views::Verdict;
 use std::alloc::Global;
@@ -33,22 +33,22 @@ const FOUR_VOLUMES: &[Step] = &[
     Step::Close,
 ];
 
-fn four_volumes(alloc: Global) -> Result<Book, Fail> {
-    let mut book = Book::new(alloc, Seed::of(7));
-    walks(alloc, &mut book, FOUR_VOLUMES)?;
-    Ok(book)
+fn four_volumes(alloc: Global) -> Result<CachedLedger, Fail> {
+    let mut account = CachedLedger::new(alloc, Seed::of(7));
+    walks(alloc, &mut account, FOUR_VOLUMES)?;
+    Ok(account)
 }
 
 // This row is written of the street after a volume, or none stands there where the row is empty; and whether its key was used.
 fn is_street(
     rt: &(impl Abort + AllocGlobal),
-    book: &Book,
+    account: &CachedLedger,
     volume: u64,
     key: &Key,
     row: &str,
     used: bool,
 ) -> Result<(), Fail> {
-    let ledger = book.ledger();
+    let ledger = account.ledger();
     match ledger.item(volume, key) {
         Some(item) => {
             assert!(rt;
@@ -74,18 +74,18 @@ const VIEWS: &[(u64, &str, &str)] = &[
 
 #[test]
 fn each_volume_keeps_its_view(rt: HostRuntime) -> Result<(), Fail> {
-    let book = four_volumes(rt.alloc())?;
+    let account = four_volumes(rt.alloc())?;
     for (volume, first, second) in VIEWS {
-        is_street(&rt, &book, *volume, &street_key(101)?, first, *volume > 0)?;
-        is_street(&rt, &book, *volume, &street_key(102)?, second, *volume > 2)?;
+        is_street(&rt, &account, *volume, &street_key(101)?, first, *volume > 0)?;
+        is_street(&rt, &account, *volume, &street_key(102)?, second, *volume > 2)?;
     }
     Ok(())
 }
 
 #[test]
 fn each_volume_keeps_its_verdict(rt: HostRuntime) -> Result<(), Fail> {
-    let book = four_volumes(rt.alloc())?;
-    let ledger = book.ledger();
+    let account = four_volumes(rt.alloc())?;
+    let ledger = account.ledger();
     assert!(rt; ledger.reached() == 4);
     for volume in [1, 3, 4] {
         assert!(rt;
@@ -122,27 +122,27 @@ const AFTER_UNDOING: &[(u64, u64, &str, bool)] = &[
 
 fn has_streets(
     rt: &(impl Abort + AllocGlobal),
-    book: &Book,
+    account: &CachedLedger,
     streets: &[(u64, u64, &str, bool)],
 ) -> Result<(), Fail> {
     for (volume, usrn, row, used) in streets {
-        is_street(rt, book, *volume, &street_key(*usrn)?, row, *used)?;
+        is_street(rt, account, *volume, &street_key(*usrn)?, row, *used)?;
     }
     Ok(())
 }
 
 #[test]
 fn what_is_undone_was_never_there(rt: HostRuntime) -> Result<(), Fail> {
-    let mut book = four_volumes(rt.alloc())?;
-    walks(rt.alloc(), &mut book, FIFTH)?;
-    has_streets(&rt, &book, BEFORE_UNDOING)?;
-    book.undo();
-    has_streets(&rt, &book, AFTER_UNDOING)
+    let mut account = four_volumes(rt.alloc())?;
+    walks(rt.alloc(), &mut account, FIFTH)?;
+    has_streets(&rt, &account, BEFORE_UNDOING)?;
+    account.undo();
+    has_streets(&rt, &account, AFTER_UNDOING)
 }
 
 // These are the keys of the property's approved addresses in the working view, and whether one is on the street.
-fn has_addresses(rt: &(impl Abort + AllocGlobal), book: &Book, keys: &[&str]) -> Result<(), Fail> {
-    let ledger = book.ledger();
+fn has_addresses(rt: &(impl Abort + AllocGlobal), account: &CachedLedger, keys: &[&str]) -> Result<(), Fail> {
+    let ledger = account.ledger();
     let working = ledger.reached() + 1;
     let uprn = Uprn::of(1001).ok_or("a UPRN")?;
     let found = ledger.approved_of(rt.alloc(), working, uprn)?;
@@ -196,10 +196,10 @@ const ADDRESSES: &[(&[Step], &[&str])] = &[
 
 #[test]
 fn addresses_come_and_go(rt: HostRuntime) -> Result<(), Fail> {
-    let mut book = Book::new(rt.alloc(), Seed::of(7));
+    let mut account = CachedLedger::new(rt.alloc(), Seed::of(7));
     for (path, keys) in ADDRESSES {
-        walks(rt.alloc(), &mut book, path)?;
-        has_addresses(&rt, &book, keys)?;
+        walks(rt.alloc(), &mut account, path)?;
+        has_addresses(&rt, &account, keys)?;
     }
     Ok(())
 }

@@ -1,7 +1,7 @@
-//! What a book tells of a property through its volumes.
+//! What a account tells of a property through its volumes.
 use crate::fixtures::{Step, walks};
 use gaz_ids::Uprn;
-use gaz_ledger::{Book, Seed};
+use gaz_ledger::{CachedLedger, Seed};
 use gaz_records::{Kind, SharedItem, item_text};
 use std::process::Abort;
 use std::test::Fail;
@@ -30,12 +30,12 @@ fn is_row(
 // In the last view the property has these rows, that of no address where the second is empty; there is none where both are.
 fn is_property(
     rt: &(impl Abort + AllocGlobal),
-    book: &Book,
+    account: &CachedLedger,
     blpu: &str,
     address: &str,
 ) -> Result<(), Fail> {
     let uprn = Uprn::of(1001).ok_or("a UPRN")?;
-    match book.property_of(book.ledger().reached(), uprn)? {
+    match account.property_of(account.ledger().reached(), uprn)? {
         Some(property) => {
             is_row(rt, Some(&property.blpu), blpu)?;
             is_row(rt, property.address.as_ref(), address)
@@ -71,10 +71,10 @@ const TURNS: &[(&[Step], &str, &str)] = &[
 
 #[test]
 fn a_property_is_as_the_last_view_has_it(rt: HostRuntime) -> Result<(), Fail> {
-    let mut book = Book::new(rt.alloc(), Seed::of(7));
+    let mut account = CachedLedger::new(rt.alloc(), Seed::of(7));
     for (path, blpu, address) in TURNS {
-        walks(rt.alloc(), &mut book, path)?;
-        is_property(&rt, &book, blpu, address)?;
+        walks(rt.alloc(), &mut account, path)?;
+        is_property(&rt, &account, blpu, address)?;
     }
     Ok(())
 }

@@ -11,9 +11,9 @@ use Rattle.gaz_histories.specs.Histories.{item_at, was_used_at}
 use Rattle.gaz_views.specs.Examples.{street}
 use Rattle.gaz_views.specs.Judgements.{judgements}
 use Rattle.gaz_views.specs.View.{was_used}
-use Rattle.gaz_ledger.proofs.Gazetteers.{contains_at, get_at}
+use Rattle.gaz_ledger.proofs.KeyHistories.{contains_at, get_at}
 use Rattle.gaz_ledger.specs.Examples.{WorkedExamples, WorkedGazetteers, WorkedKeeping, three_volumes}
-use Rattle.gaz_ledger.specs.Gazetteer.{view_at}
+use Rattle.gaz_ledger.specs.KeyHistories.{view_at}
 
 versions_in_three : (k : Key) → map.get three_volumes k ≡ cond (eq_by_cmp key_cmp k (key.Street 102)) (Some ((2, Some (street 102)) ∷ [])) (cond (eq_by_cmp key_cmp k (key.Street 101)) (Some ((1, Some (street 101)) ∷ (3, None) ∷ [])) None)
 versions_in_three k =

@@ -10,45 +10,45 @@ use Rattle.gaz_views.specs.Judgements.{judgements, views}
 use Rattle.gaz_views.specs.Accounts.{last_of, view_in}
 use Rattle.gaz_views.specs.View.{View, empty_view}
 use Rattle.gaz_views.specs.declared.verdict.Verdict.{Verdict}
-use Rattle.gaz_ledger.proofs.Gazetteers.{first_view, settled_view}
-use Rattle.gaz_ledger.specs.Gazetteer.{Gazetteer, versions_at, view_at}
+use Rattle.gaz_ledger.proofs.KeyHistories.{first_view, settled_view}
+use Rattle.gaz_ledger.specs.KeyHistories.{KeyHistories, versions_at, view_at}
 use Rattle.gaz_ledger.specs.Ledgers.{account_at}
 
-abbrev pub IsWithin : ℕ → Gazetteer → Type 0
+abbrev pub IsWithin : ℕ → KeyHistories → Type 0
 IsWithin n g = (k : Key) → All (λ (e : Version). (0 < e.0) × (e.0 ≤ n + 1)) (versions_at g k)
 
-upper : (n : ℕ) (g : Gazetteer) → IsWithin n g → (k : Key) → All (λ (e : Version). e.0 ≤ n + 1) (versions_at g k)
+upper : (n : ℕ) (g : KeyHistories) → IsWithin n g → (k : Key) → All (λ (e : Version). e.0 ≤ n + 1) (versions_at g k)
 upper n g within k i d less = (within k i d less).1
 
 -- the working view is that of any later volume too
-pub later_view : (n : ℕ) (g : Gazetteer) → IsWithin n g → (v w : ℕ) → n < v → n < w → view_at g v ≡ view_at g w
+pub later_view : (n : ℕ) (g : KeyHistories) → IsWithin n g → (v w : ℕ) → n < v → n < w → view_at g v ≡ view_at g w
 later_view n g within v w after behind = settled_view g (n + 1) v w (omega arith) (omega arith) (upper n g within)
 
-judged_view : (ds : List Verdict) (g : Gazetteer) → IsWithin (length ds) g → (v : ℕ) → v ≤ length ds → unwrap_or (slice_get (views (judgements ds (view_at g))) v) empty_view ≡ view_at g v
+judged_view : (ds : List Verdict) (g : KeyHistories) → IsWithin (length ds) g → (v : ℕ) → v ≤ length ds → unwrap_or (slice_get (views (judgements ds (view_at g))) v) empty_view ≡ view_at g v
 judged_view ds g within zero le = sym (first_view g (length ds + 1) within)
 judged_view ds g within (suc k) le =
     let e : 1 + k ≡ suc k = omega arith in
     ap (λ o. unwrap_or o empty_view) (view_judged ds (view_at g) k (omega arith)) ∙ ap (view_at g) e
 
 -- an account's view is that of the gazetteer
-pub view_in_at : (ds : List Verdict) (g : Gazetteer) → IsWithin (length ds) g → (v : ℕ) → view_in (account_at ds g) v ≡ view_at g v
+pub view_in_at : (ds : List Verdict) (g : KeyHistories) → IsWithin (length ds) g → (v : ℕ) → view_in (account_at ds g) v ≡ view_at g v
 view_in_at ds g within v = ap (λ n. cond (nat_le v n) (unwrap_or (slice_get (views (judgements ds (view_at g))) v) empty_view) (view_at g (length ds + 1))) (count_judged ds (view_at g)) ∙ by_test (nat_le v (length ds)) refl
   where
     by_test : (b : Bool) → nat_le v (length ds) ≡ b → cond b (unwrap_or (slice_get (views (judgements ds (view_at g))) v) empty_view) (view_at g (length ds + 1)) ≡ view_at g v
     by_test true is = let le : v ≤ length ds = grind (arith, nat_tests) in judged_view ds g within v le
     by_test false is = let lt : length ds < v = grind (arith, nat_tests) in later_view (length ds) g within (length ds + 1) v (omega arith) lt
 
-pub last_at : (ds : List Verdict) (g : Gazetteer) → IsWithin (length ds) g → last_of (account_at ds g) ≡ view_at g (length ds)
+pub last_at : (ds : List Verdict) (g : KeyHistories) → IsWithin (length ds) g → last_of (account_at ds g) ≡ view_at g (length ds)
 last_at ds g within = ap (λ n. unwrap_or (slice_get (views (judgements ds (view_at g))) n) empty_view) (count_judged ds (view_at g)) ∙ judged_view ds g within (length ds) (omega arith)
 
 -- ---- the account after a change
 
 -- the working view alone
-pub working_now : (ds : List Verdict) (g h : Gazetteer) (w : View) → ((v : ℕ) → v ≤ length ds → view_at h v ≡ view_at g v) → view_at h (length ds + 1) ≡ w → account_at ds h ≡ record { judged = (account_at ds g).judged; working = w }
+pub working_now : (ds : List Verdict) (g h : KeyHistories) (w : View) → ((v : ℕ) → v ≤ length ds → view_at h v ≡ view_at g v) → view_at h (length ds + 1) ≡ w → account_at ds h ≡ record { judged = (account_at ds g).judged; working = w }
 working_now ds g h w alike now = λ i. record { judged = same_judged ds (view_at g) (view_at h) alike i; working = now i }
 
 -- one more judgement
-pub judged_now : (ds es : List Verdict) (d : Verdict) (g : Gazetteer) → IsWithin (length ds) g → es ≡ ds ++ d ∷ []
+pub judged_now : (ds es : List Verdict) (d : Verdict) (g : KeyHistories) → IsWithin (length ds) g → es ≡ ds ++ d ∷ []
     → account_at es g ≡ record { judged = (account_at ds g).judged ++ record { verdict = d; view = (account_at ds g).working } ∷ []; working = (account_at ds g).working }
 judged_now ds es d g within is =
     let long : length es ≡ length ds + 1 = omega (arith, ap length is, length-append ds (d ∷ [])) in

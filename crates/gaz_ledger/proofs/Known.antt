@@ -21,7 +21,7 @@ use Rattle.gaz_views.specs.View.{View, empty_view, with_item, without_key}
 use Rattle.gaz_views.specs.Words.{address_of, entries, first_of, property_of}
 use Rattle.gaz_views.specs.declared.property.Property.{Property}
 use Rattle.gaz_views.specs.declared.verdict.Verdict.{Verdict}
-use Rattle.gaz_ledger.proofs.Gazetteers.{view_ascends}
+use Rattle.gaz_ledger.proofs.KeyHistories.{view_ascends}
 use Rattle.gaz_ledger.proofs.Marked.{Row, first_marked, has, held, passes, rows_ascend}
 use Rattle.gaz_ledger.proofs.Marks.{mark_itself}
 use Rattle.gaz_ledger.specs.Indexes.{has_mark, marked_at, marked_item}

@@ -22,11 +22,11 @@ use Rattle.gaz_views.specs.Accounts.{Account, empty_account, view_in}
 use Rattle.gaz_views.specs.View.{View, empty_view}
 use Rattle.gaz_views.specs.Words.{entries}
 use Rattle.gaz_views.specs.declared.verdict.Verdict.{Verdict}
-use Rattle.gaz_ledger.proofs.Gazetteers.{contains_at, get_at, get_now, holds_at, past_view, same_views}
+use Rattle.gaz_ledger.proofs.KeyHistories.{contains_at, get_at, get_now, holds_at, past_view, same_views}
 use Rattle.gaz_ledger.proofs.Judgements.{IsWithin, later_view, view_in_at}
 use Rattle.gaz_ledger.proofs.Marked.{finds_with_more, still_finds}
 use Rattle.gaz_ledger.proofs.Versions.{before_next, before_within, cut_within, item_set, last, set_within, until_before, until_set}
-use Rattle.gaz_ledger.specs.Gazetteer.{ChangesAt, Gazetteer, versions_at, view_at}
+use Rattle.gaz_ledger.specs.KeyHistories.{ChangesAt, KeyHistories, versions_at, view_at}
 use Rattle.gaz_ledger.specs.Indexes.{FindsAll, has_mark, is_under, marked_at, same_mark}
 use Rattle.gaz_ledger.specs.Ledgers.{Finds, IsLedger, account_at}
 use Rattle.gaz_ledger.specs.declared.index.Index.{Index}
@@ -47,22 +47,22 @@ finds_by x v found m k = subst (Found x m k) (get-entries v.items k) (found m k)
 abbrev More : Index → Index → Type 0
 More x y = (m : Mark) (k : Key) → is_under x m k ≡ true → is_under y m k ≡ true
 
-pub finds_more : (x y : Index) (g : Gazetteer) (n : ℕ) → More x y → Finds x g n → Finds y g n
+pub finds_more : (x y : Index) (g : KeyHistories) (n : ℕ) → More x y → Finds x g n → Finds y g n
 finds_more x y g n more finds =
     record { last = finds_with_more x y (entries (view_at g n)) finds.last more; working = finds_with_more x y (entries (view_at g (n + 1))) finds.working more }
 
 -- a key is taken from under a mark that its item has neither in the last view nor in the working one
-pub finds_less : (x y : Index) (g : Gazetteer) (n : ℕ) (mark : Mark) (key : Key) → marked_at (entries (view_at g n)) mark key ≡ false → marked_at (entries (view_at g (n + 1))) mark key ≡ false
+pub finds_less : (x y : Index) (g : KeyHistories) (n : ℕ) (mark : Mark) (key : Key) → marked_at (entries (view_at g n)) mark key ≡ false → marked_at (entries (view_at g (n + 1))) mark key ≡ false
     → ((m : Mark) (k : Key) → is_under y m k ≡ (not (same_mark mark m && eq_by_cmp key_cmp key k) && is_under x m k)) → Finds x g n → Finds y g n
 finds_less x y g n mark key before_that now less finds =
     record { last = still_finds x y (entries (view_at g n)) mark key finds.last before_that less; working = still_finds x y (entries (view_at g (n + 1))) mark key finds.working now less }
 
 -- the volume is judged
-pub finds_next : (x : Index) (g : Gazetteer) (n : ℕ) → IsWithin n g → Finds x g n → Finds x g (n + 1)
+pub finds_next : (x : Index) (g : KeyHistories) (n : ℕ) → IsWithin n g → Finds x g n → Finds x g (n + 1)
 finds_next x g n within finds =
     record { last = finds.working; working = subst (λ (v : View). FindsAll x (entries v)) (later_view n g within (n + 1) (n + 1 + 1) (omega arith) (omega arith)) finds.working }
 
-module _ (x : Index) (g h : Gazetteer) (key : Key) (vs : Versions) (n : ℕ) (change : ChangesAt g h key vs) (past : until vs n ≡ until (versions_at g key) n) where
+module _ (x : Index) (g h : KeyHistories) (key : Key) (vs : Versions) (n : ℕ) (change : ChangesAt g h key vs) (past : until vs n ≡ until (versions_at g key) n) where
   -- what changes in the working view is found
   finds_changed : Finds x g n → ((m : Mark) → Found x m key (item_at vs (n + 1))) → Finds x h n
   finds_changed finds now =
@@ -75,7 +75,7 @@ module _ (x : Index) (g h : Gazetteer) (key : Key) (vs : Versions) (n : ℕ) (ch
       by_same m k true at = subst (λ (q : Key). Found x m q (item_at vs (n + 1))) (sym (same_key k key at)) (now m)
       by_same m k false at = found_at x (view_at g (n + 1)) finds.working m k
 
-pub finds_set : (x y : Index) (g h : Gazetteer) (key : Key) (n : ℕ) (o : Option Item) → More x y → IfSome o (λ i. (m : Mark) → has_mark m i ≡ true → is_under y m key ≡ true)
+pub finds_set : (x y : Index) (g h : KeyHistories) (key : Key) (n : ℕ) (o : Option Item) → More x y → IfSome o (λ i. (m : Mark) → has_mark m i ≡ true → is_under y m key ≡ true)
     → ChangesAt g h key (before (versions_at g key) (n + 1) ++ (n + 1, o) ∷ []) → Finds x g n → Finds y h n
 finds_set x y g h key n o more marks change finds =
     finds_changed y g h key (before (versions_at g key) (n + 1) ++ (n + 1, o) ∷ []) n change (until_set (versions_at g key) (n + 1) n o (omega arith)) (finds_more x y g n more finds)
@@ -85,7 +85,7 @@ finds_set x y g h key n o more marks change finds =
     by_item None h m = tt
     by_item (Some i) h m = h m
 
-pub finds_cut : (x : Index) (g h : Gazetteer) (key : Key) (n : ℕ) → ChangesAt g h key (before (versions_at g key) (n + 1)) → Finds x g n → Finds x h n
+pub finds_cut : (x : Index) (g h : KeyHistories) (key : Key) (n : ℕ) → ChangesAt g h key (before (versions_at g key) (n + 1)) → Finds x g n → Finds x h n
 finds_cut x g h key n change finds =
     let vs = versions_at g key in
     let as_last : item_at (before vs (n + 1)) (n + 1) ≡ finite.get (view_at g n).items key = ap last (before_next vs n (n + 1) (omega arith)) ∙ sym (get_at g n key) in
@@ -117,7 +117,7 @@ turned : (key k : Key) → eq_by_cmp key_cmp k key ≡ false → eq_by_cmp key_c
 turned key k e = (eq_by_cmp_equiv keys_total).symm key k ∙ e
 
 -- the versions of another key
-others : (g h : Gazetteer) (key : Key) (vs : Versions) → ChangesAt g h key vs → (k : Key) → eq_by_cmp key_cmp k key ≡ false → versions_at h k ≡ versions_at g k
+others : (g h : KeyHistories) (key : Key) (vs : Versions) → ChangesAt g h key vs → (k : Key) → eq_by_cmp key_cmp k key ≡ false → versions_at h k ≡ versions_at g k
 others g h key vs change k other = change k ∙ ap (λ b. cond b vs (versions_at g k)) (turned key k other)
 
 pub nothing_there : (k : Key) → versions_at finite.empty k ≡ []
@@ -134,7 +134,7 @@ ledger_new x =
     finds_none : (v : ℕ) → FindsAll x (entries (view_at finite.empty v))
     finds_none v = finds_by x (view_at finite.empty v) (λ m k. subst (Found x m k) (sym (get_at finite.empty v k ∙ ap (λ vs. item_at vs v) (nothing_there k))) tt)
 
-pub ledger_set : (n : ℕ) (g h : Gazetteer) (x y : Index) (ks ls : List Key) (key : Key) (o : Option Item) → IsLedger n g x ks → Finds y h n → ls ≡ ks ++ key ∷ []
+pub ledger_set : (n : ℕ) (g h : KeyHistories) (x y : Index) (ks ls : List Key) (key : Key) (o : Option Item) → IsLedger n g x ks → Finds y h n → ls ≡ ks ++ key ∷ []
     → ChangesAt g h key (before (versions_at g key) (n + 1) ++ (n + 1, o) ∷ []) → IsLedger n h y ls
 ledger_set n g h x y ks ls key o was finds is change =
     let vs = before (versions_at g key) (n + 1) ++ (n + 1, o) ∷ [] in
@@ -145,7 +145,7 @@ ledger_set n g h x y ks ls key o was finds is change =
           subst (λ (ws : Versions). All (λ (e : Version). e.0 ≤ n) ws) (sym (others g h key vs change k two.1)) (was.touched k two.0);
     }
 
-pub ledger_cut : (n : ℕ) (g h : Gazetteer) (x y : Index) (ks ls : List Key) (key : Key) → IsLedger n g x ks → Finds y h n → ks ≡ ls ++ key ∷ []
+pub ledger_cut : (n : ℕ) (g h : KeyHistories) (x y : Index) (ks ls : List Key) (key : Key) → IsLedger n g x ks → Finds y h n → ks ≡ ls ++ key ∷ []
     → ChangesAt g h key (before (versions_at g key) (n + 1)) → IsLedger n h y ls
 ledger_cut n g h x y ks ls key was finds is change =
     let vs = before (versions_at g key) (n + 1) in
@@ -163,7 +163,7 @@ ledger_cut n g h x y ks ls key was finds is change =
         subst (λ (ws : Versions). All (λ (e : Version). e.0 ≤ n) ws) (sym (others g h key (before (versions_at g key) (n + 1)) change k at))
         (was.touched k (ap (list_any (eq_by_cmp key_cmp k)) is ∙ none_there (eq_by_cmp key_cmp k) ls key none at))
 
-pub ledger_closed : (n : ℕ) (g : Gazetteer) (x y : Index) (ks ls : List Key) → IsLedger n g x ks → Finds y g (n + 1) → ls ≡ [] → IsLedger (n + 1) g y ls
+pub ledger_closed : (n : ℕ) (g : KeyHistories) (x y : Index) (ks ls : List Key) → IsLedger n g x ks → Finds y g (n + 1) → ls ≡ [] → IsLedger (n + 1) g y ls
 ledger_closed n g x y ks ls was finds is =
     record {
       finds = finds;
@@ -172,26 +172,26 @@ ledger_closed n g x y ks ls was finds is =
     }
 
 -- what was found is found
-pub ledger_found : (n : ℕ) (g : Gazetteer) (x y : Index) (ks : List Key) → IsLedger n g x ks → (Finds x g n → Finds y g n) → IsLedger n g y ks
+pub ledger_found : (n : ℕ) (g : KeyHistories) (x y : Index) (ks : List Key) → IsLedger n g x ks → (Finds x g n → Finds y g n) → IsLedger n g y ks
 ledger_found n g x y ks was finds = record { finds = finds was.finds; within = was.within; touched = was.touched }
 
 -- ---- reading
 
 -- the last view and any later one are found
-pub finds_at : (n : ℕ) (g : Gazetteer) (x : Index) (ks : List Key) → IsLedger n g x ks → (v : ℕ) → n ≤ v → FindsAll x (entries (view_at g v))
+pub finds_at : (n : ℕ) (g : KeyHistories) (x : Index) (ks : List Key) → IsLedger n g x ks → (v : ℕ) → n ≤ v → FindsAll x (entries (view_at g v))
 finds_at n g x ks is v le = elim (cases_lt n v) [
   | inl h ↦ subst (λ (w : View). FindsAll x (entries w)) (later_view n g is.within (n + 1) v (omega arith) h) is.finds.working
   | inr h ↦ let same : n ≡ v = omega arith in subst (λ (m : ℕ). FindsAll x (entries (view_at g m))) same is.finds.last
 ]
 
-pub reached_of : (ds : List Verdict) (g : Gazetteer) (a : Account) → account_at ds g ≡ a → length ds ≡ length a.judged
+pub reached_of : (ds : List Verdict) (g : KeyHistories) (a : Account) → account_at ds g ≡ a → length ds ≡ length a.judged
 reached_of ds g a is = sym (count_judged ds (view_at g)) ∙ ap (λ (b : Account). length b.judged) is
 
-pub finds_from : (ds : List Verdict) (g : Gazetteer) (x : Index) (ks : List Key) (a : Account) → IsLedger (length ds) g x ks → account_at ds g ≡ a → (v : ℕ) → length a.judged ≤ v → FindsAll x (entries (view_at g v))
+pub finds_from : (ds : List Verdict) (g : KeyHistories) (x : Index) (ks : List Key) (a : Account) → IsLedger (length ds) g x ks → account_at ds g ≡ a → (v : ℕ) → length a.judged ≤ v → FindsAll x (entries (view_at g v))
 finds_from ds g x ks a ledger is v le = finds_at (length ds) g x ks ledger v (omega (arith, reached_of ds g a is))
 
 -- a view of an account is that of its gazetteer
-pub seen : (ds : List Verdict) (g : Gazetteer) (a : Account) → IsWithin (length ds) g → account_at ds g ≡ a → (v : ℕ) → view_at g v ≡ view_in a v
+pub seen : (ds : List Verdict) (g : KeyHistories) (a : Account) → IsWithin (length ds) g → account_at ds g ≡ a → (v : ℕ) → view_at g v ≡ view_in a v
 seen ds g a within is v = sym (view_in_at ds g within v) ∙ ap (λ (b : Account). view_in b v) is
 
 pub account_new : account_at [] finite.empty ≡ empty_account

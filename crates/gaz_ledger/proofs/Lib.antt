@@ -1,6 +1,6 @@
 pub mod Examples
 pub mod Versions
-pub mod Gazetteers
+pub mod KeyHistories
 pub mod Stored
 pub mod Judgements
 pub mod Marks

@@ -1,4 +1,4 @@
--- Gazetteers as histories in any order, and their keys in order beside them.
+-- KeyHistories as histories in any order, and their keys in order beside them.
 use Rattle.std.proofs.Common.{◌≡◌, ◌&&◌, ◌||◌, ℕ, Bool, true, false, cond, List, [], ◌∷◌, map, take, refl, sym, ap, subst, ◌∙◌, unwrap_or}
 use Rattle.std.specs.Prelude.{Option, Some, None, filter, is_some, option_map}
 use Rattle.std.specs.Bool.{OnTrue}
@@ -18,7 +18,7 @@ use Rattle.gaz_records.specs.declared.key.Key.{Key}
 use Rattle.gaz_views.proofs.SameKeys.{same_key}
 use Rattle.gaz_views.proofs.Trees.{entries_tree, get_tree}
 use Rattle.gaz_views.specs.Words.{comes_after, entries, is_of, page}
-use Rattle.gaz_ledger.specs.Gazetteer.{ChangesAt, Gazetteer, HasJustTheKeysOf, rows_at, versions_among, versions_at, view_at, with_versions}
+use Rattle.gaz_ledger.specs.KeyHistories.{ChangesAt, KeyHistories, HasJustTheKeysOf, rows_at, versions_among, versions_at, view_at, with_versions}
 
 abbrev Rows : Type 0
 Rows = List (Key × Versions)
@@ -27,8 +27,8 @@ abbrev pub stored : Rows → Key → Option Versions
 stored es k = lookup (eq_by_cmp key_cmp k) es
 
 -- the versions at a key are those of its history
-pub versions_stored : (g : Gazetteer) (es : Rows) (k : Key) → finite.from_entries es ≡ g → versions_at g k ≡ unwrap_or (stored es k) []
-versions_stored g es k is = ap (λ (h : Gazetteer). versions_at h k) (sym is) ∙ ap (λ o. unwrap_or o []) (get_tree (λ a b. refl) keys_total es k)
+pub versions_stored : (g : KeyHistories) (es : Rows) (k : Key) → finite.from_entries es ≡ g → versions_at g k ≡ unwrap_or (stored es k) []
+versions_stored g es k is = ap (λ (h : KeyHistories). versions_at h k) (sym is) ∙ ap (λ o. unwrap_or o []) (get_tree (λ a b. refl) keys_total es k)
 
 abbrev has : List Key → Key → Bool
 has ks k = list_any (eq_by_cmp key_cmp k) ks
@@ -44,12 +44,12 @@ written es fs key o h k = ap (λ p. unwrap_or p []) (h k) ∙ of_cond (eq_by_cmp
     of_cond false = refl
 
 -- another history at a key
-pub stores : (g : Gazetteer) (es fs : Rows) (key : Key) (vs ws : Versions) → finite.from_entries es ≡ g → Writes es fs key (Some vs) → vs ≡ ws → ChangesAt g (finite.from_entries fs) key ws
+pub stores : (g : KeyHistories) (es fs : Rows) (key : Key) (vs ws : Versions) → finite.from_entries es ≡ g → Writes es fs key (Some vs) → vs ≡ ws → ChangesAt g (finite.from_entries fs) key ws
 stores g es fs key vs ws is h same k =
     versions_stored (finite.from_entries fs) fs k refl ∙ written es fs key (Some vs) h k ∙ (λ i. cond (eq_by_cmp key_cmp key k) (same i) (sym (versions_stored g es k is) i))
 
 -- no history at a key that had no versions
-pub stores_none : (g : Gazetteer) (es fs : Rows) (key : Key) → finite.from_entries es ≡ g → Writes es fs key None → versions_at g key ≡ [] → (k : Key) → versions_at (finite.from_entries fs) k ≡ versions_at g k
+pub stores_none : (g : KeyHistories) (es fs : Rows) (key : Key) → finite.from_entries es ≡ g → Writes es fs key None → versions_at g key ≡ [] → (k : Key) → versions_at (finite.from_entries fs) k ≡ versions_at g k
 stores_none g es fs key is h none k =
     versions_stored (finite.from_entries fs) fs k refl ∙ written es fs key None h k ∙ ap (cond (eq_by_cmp key_cmp key k) []) (sym (versions_stored g es k is)) ∙ by_same (eq_by_cmp key_cmp key k) refl
   where
@@ -58,7 +58,7 @@ stores_none g es fs key is h none k =
     by_same false at = refl
 
 -- the same history again
-stores_same : (g : Gazetteer) (es fs : Rows) (key : Key) (vs : Versions) → finite.from_entries es ≡ g → Writes es fs key (Some vs) → Some vs ≡ stored es key → finite.from_entries fs ≡ g
+stores_same : (g : KeyHistories) (es fs : Rows) (key : Key) (vs : Versions) → finite.from_entries es ≡ g → Writes es fs key (Some vs) → Some vs ≡ stored es key → finite.from_entries fs ≡ g
 stores_same g es fs key vs is h same =
     finite.same_map keys_total keys_exact (finite.from_entries {R = key_cmp} fs) (finite.from_entries {R = key_cmp} es) (λ q. get_tree (λ a b. refl) keys_total fs q ∙ h q ∙ by_same q (eq_by_cmp key_cmp key q) refl ∙ sym (get_tree (λ a b. refl) keys_total es q)) ∙ is
   where
@@ -66,7 +66,7 @@ stores_same g es fs key vs is h same =
     by_same q true at = same ∙ ap (stored es) (same_key key q at)
     by_same q false at = refl
 
-module _ (g : Gazetteer) (es : Rows) (key : Key) (is : finite.from_entries es ≡ g) where
+module _ (g : KeyHistories) (es : Rows) (key : Key) (is : finite.from_entries es ≡ g) where
   -- the versions of a history that is there
   pub was_there : (vs : Versions) → stored es key ≡ Some vs → vs ≡ versions_at g key
   was_there vs there = ap (λ o. unwrap_or o []) (sym there) ∙ sym (versions_stored g es key is)
@@ -87,12 +87,12 @@ nothing_in [] e = refl
 nothing_in (v ∷ vs) e = cc
 
 -- whether a change leaves no versions
-pub emptied : (g h : Gazetteer) (key : Key) (vs ws : Versions) (b : Bool) → ChangesAt g h key vs → ws ≡ vs → b ≡ is_empty ws → OnTrue b (versions_at h key ≡ [])
+pub emptied : (g h : KeyHistories) (key : Key) (vs ws : Versions) (b : Bool) → ChangesAt g h key vs → ws ≡ vs → b ≡ is_empty ws → OnTrue b (versions_at h key ≡ [])
 emptied g h key vs ws true change same none = change key ∙ ap (λ b. cond b vs (versions_at g key)) ((eq_by_cmp_equiv keys_total).refl key) ∙ sym same ∙ nothing_in ws none
 emptied g h key vs ws false change same none = tt
 
 -- nothing is cut where there are no versions
-pub cut_none : (g : Gazetteer) (key : Key) (v : ℕ) → versions_at g key ≡ [] → ChangesAt g g key (before (versions_at g key) v)
+pub cut_none : (g : KeyHistories) (key : Key) (v : ℕ) → versions_at g key ≡ [] → ChangesAt g g key (before (versions_at g key) v)
 cut_none g key v none k = by_same (eq_by_cmp key_cmp key k) refl
   where
     by_same : (b : Bool) → eq_by_cmp key_cmp key k ≡ b → versions_at g k ≡ cond b (before (versions_at g key) v) (versions_at g k)
@@ -147,12 +147,12 @@ rows_ascend v (e ∷ es) h = by_item (item_at e.1 v) (rows_ascend v es h.1) (abo
     by_item (Some i) rest first = (first, rest)
 
 -- a view's rows are those of entries in order
-rows_stored : (g : Gazetteer) (es : Rows) (v : ℕ) → finite.from_entries es ≡ g → IsStrictlySortedBy key_cmp (keys_of es) → rows_at es v ≡ entries (view_at g v)
+rows_stored : (g : KeyHistories) (es : Rows) (v : ℕ) → finite.from_entries es ≡ g → IsStrictlySortedBy key_cmp (keys_of es) → rows_at es v ≡ entries (view_at g v)
 unfolding view_at
 rows_stored g es v is h =
     sym (entries_tree (λ a b. refl) keys_total (rows_at es v) (rows_ascend v es h))
     ∙ ap (λ (l : Rows). finite.entries (finite.from_entries {R = key_cmp} (rows_at l v))) (sym (entries_tree (λ a b. refl) keys_total es h))
-    ∙ ap (λ (h : Gazetteer). finite.entries (finite.from_entries {R = key_cmp} (rows_at (finite.entries h) v))) is
+    ∙ ap (λ (h : KeyHistories). finite.entries (finite.from_entries {R = key_cmp} (rows_at (finite.entries h) v))) is
 
 -- the keys are those that are given versions
 keys_with : (ks : List Key) (es : Rows) → keys_of (with_versions ks es) ≡ ks
@@ -177,7 +177,7 @@ in_their_order ks es just =
     either None = refl
     either (Some vs) = refl
 
-pub page_stored : (g : Gazetteer) (ks : List Key) (es : Rows) (v : ℕ) (kind : Kind) (after : Option Key) (most : ℕ) → finite.from_entries es ≡ g → HasJustTheKeysOf ks es → IsStrictlySortedBy key_cmp ks
+pub page_stored : (g : KeyHistories) (ks : List Key) (es : Rows) (v : ℕ) (kind : Kind) (after : Option Key) (most : ℕ) → finite.from_entries es ≡ g → HasJustTheKeysOf ks es → IsStrictlySortedBy key_cmp ks
     → take most (map (λ (e : Key × Item). e.1) (filter (λ (e : Key × Item). is_of kind e.0 && comes_after after e.0) (rows_at (with_versions ks es) v))) ≡ page (view_at g v) kind after most
 page_stored g ks es v kind after most is just h =
     ap (λ (l : List (Key × Item)). take most (map (λ e. e.1) (filter (λ e. is_of kind e.0 && comes_after after e.0) l)))

@@ -11,7 +11,7 @@ use Rattle.gaz_views.specs.Examples.{blpu, lpi, street}
 use Rattle.gaz_views.specs.Judgements.{judgements}
 use Rattle.gaz_views.specs.View.{was_used}
 use Rattle.gaz_views.specs.declared.verdict.Verdict.TheVariants.{Applied, Rejected}
-use Rattle.gaz_ledger.specs.Gazetteer.{Gazetteer, HasJustTheKeysOf, view_at, with_versions}
+use Rattle.gaz_ledger.specs.KeyHistories.{KeyHistories, HasJustTheKeysOf, view_at, with_versions}
 use Rattle.gaz_ledger.specs.Indexes.{marked_item, same_mark}
 use Rattle.gaz_ledger.specs.Properties.{is_address_of, is_blpu}
 use Rattle.gaz_ledger.specs.declared.index.Mark.TheVariants.{AddressOf, PartOf}
@@ -19,7 +19,7 @@ use Rattle.gaz_ledger.specs.declared.index.Mark.TheVariants.{AddressOf, PartOf}
 -- ---- a gazetteer through its volumes
 
 -- street 101 came with volume 1 and went with volume 3, street 102 came with volume 2
-abbrev pub three_volumes : Gazetteer
+abbrev pub three_volumes : KeyHistories
 three_volumes = map.insert (map.insert map.empty (key.Street 101) ((1, Some (street 101)) ∷ (3, None) ∷ [])) (key.Street 102) ((2, Some (street 102)) ∷ [])
 
 pub record WorkedGazetteers : Type 0 where

@@ -8,22 +8,22 @@ use Rattle.gaz_views.specs.Accounts.{Account}
 use Rattle.gaz_views.specs.Judgements.{judgements}
 use Rattle.gaz_views.specs.Words.{entries}
 use Rattle.gaz_views.specs.declared.verdict.Verdict.{Verdict}
-use Rattle.gaz_ledger.specs.Gazetteer.{Gazetteer, versions_at, view_at}
+use Rattle.gaz_ledger.specs.KeyHistories.{KeyHistories, versions_at, view_at}
 use Rattle.gaz_ledger.specs.Indexes.{FindsAll}
 use Rattle.gaz_ledger.specs.declared.index.Index.{Index}
 
 -- the account of a gazetteer whose volumes have these verdicts
-abbrev pub account_at : List Verdict → Gazetteer → Account
+abbrev pub account_at : List Verdict → KeyHistories → Account
 account_at verdicts g = record { judged = judgements verdicts (view_at g); working = view_at g (length verdicts + 1) }
 
 -- ---- what holds of a ledger that has reached a volume
 
 -- the items of the last view and of the working one are found under their marks
-pub record Finds (x : Index) (g : Gazetteer) (reached : ℕ) : Type 0 where
+pub record Finds (x : Index) (g : KeyHistories) (reached : ℕ) : Type 0 where
   pub last : FindsAll x (entries (view_at g reached))
   pub working : FindsAll x (entries (view_at g (reached + 1)))
 
-pub record IsLedger (reached : ℕ) (g : Gazetteer) (x : Index) (changed : List Key) : Type 0 where
+pub record IsLedger (reached : ℕ) (g : KeyHistories) (x : Index) (changed : List Key) : Type 0 where
   pub finds : Finds x g reached
   -- each version began at a volume that is judged or is being judged
   pub within : (k : Key) → All (λ v. (0 < v.0) × (v.0 ≤ reached + 1)) (versions_at g k)

@@ -1,7 +1,7 @@
 pub mod Ranges
 pub mod Indexes
-pub mod Gazetteer
-pub mod GazetteerCode
+pub mod KeyHistories
+pub mod KeyHistoriesCode
 pub mod Ledgers
 pub mod Properties
 pub mod Examples

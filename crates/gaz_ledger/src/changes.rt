@@ -2,7 +2,7 @@
 ghost use Rattle.std.specs.Prelude.{◌≡◌, ◌⊎◌, ◌≤◌, ◌<◌, ◌+◌, ◌-◌, ◌^◌, ◌++◌, ◌∷◌, [], ℕ, IfOk, OnOk, OnErr, Some, true};
 ghost use Rattle.gaz_histories.specs.Histories.{before};
 ghost use Rattle.gaz_views.specs.Words.{entries};
-ghost use Rattle.gaz_ledger.specs.Gazetteer.{ChangesAt, versions_at, view_at};
+ghost use Rattle.gaz_ledger.specs.KeyHistories.{ChangesAt, versions_at, view_at};
 ghost use Rattle.gaz_ledger.specs.Indexes.{marked_at};
 ghost use Rattle.gaz_ledger.specs.Ledgers.{Finds, IsLedger};
 ghost use Rattle.gaz_ledger.specs.declared.index.Mark.{Mark};

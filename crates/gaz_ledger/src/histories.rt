@@ -6,7 +6,7 @@ ghost use Rattle.std.specs.FinMap as finite;
 ghost use Rattle.gaz_histories.specs.Histories.{before, item_at, was_used_at};
 ghost use Rattle.gaz_records.specs.declared.key.Key.{Key};
 ghost use Rattle.gaz_views.specs.Words.{entries, page};
-ghost use Rattle.gaz_ledger.specs.Gazetteer.{ChangesAt, versions_at, view_at};
+ghost use Rattle.gaz_ledger.specs.KeyHistories.{ChangesAt, versions_at, view_at};
 ghost use Rattle.gaz_ledger.specs.Indexes.{has_mark, marked_at};
 ghost use Rattle.gaz_ledger.specs.declared.index.Mark.{Mark};
 
@@ -31,12 +31,12 @@ pub struct Histories {
 
 impl Model for Histories {
     ghost use Rattle.std.specs.FinMap as finite;
-    ghost use Rattle.gaz_ledger.specs.Gazetteer.{Gazetteer, HasJustTheKeysOf};
-    ghost use Rattle.gaz_ledger.specs.GazetteerCode.{gazetteer_code};
+    ghost use Rattle.gaz_ledger.specs.KeyHistories.{KeyHistories, HasJustTheKeysOf};
+    ghost use Rattle.gaz_ledger.specs.KeyHistoriesCode.{key_histories_code};
 
-    ghost Value = { Gazetteer };
+    ghost Value = { KeyHistories };
 
-    ghost coded = { gazetteer_code };
+    ghost coded = { key_histories_code };
 
     ghost view = { λ h. finite.from_entries h.by_key.entries };
 

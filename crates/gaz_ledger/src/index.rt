@@ -8,7 +8,7 @@ ghost use Rattle.gaz_histories.specs.Histories.{item_at};
 ghost use Rattle.gaz_records.specs.Keys.{key_cmp};
 ghost use Rattle.gaz_records.specs.declared.key.Key.{Key};
 ghost use Rattle.gaz_views.specs.Words.{entries, first_of};
-ghost use Rattle.gaz_ledger.specs.Gazetteer.{versions_at, view_at};
+ghost use Rattle.gaz_ledger.specs.KeyHistories.{versions_at, view_at};
 ghost use Rattle.gaz_ledger.specs.Indexes.{has_mark, is_under, keys_under, listed, marked_at, marked_item, same_mark};
 ghost use Rattle.gaz_ledger.specs.declared.index.Mark.{Mark};
 

@@ -1,7 +1,7 @@
 //! One custodian's gazetteer through its volumes.
 #![tactic(auto)]
 
-mod book;
+mod cached_ledger;
 mod changes;
 mod histories;
 mod index;
@@ -12,6 +12,6 @@ mod properties;
 mod seed;
 mod words;
 
-pub use book::Book;
+pub use cached_ledger::CachedLedger;
 pub use ledger::Ledger;
 pub use seed::Seed;

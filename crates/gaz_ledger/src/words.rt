@@ -3,7 +3,7 @@ ghost use Rattle.std.specs.Prelude.{◌≡◌, ◌&&◌, map, filter, take, if�
 ghost use Rattle.std.specs.List.Sorted.{IsStrictlySortedBy};
 ghost use Rattle.gaz_histories.specs.Histories.{item_at};
 ghost use Rattle.gaz_views.specs.Words.{comes_after, is_approved_of, is_approved_on, is_child_of, is_in, is_of};
-ghost use Rattle.gaz_ledger.specs.Gazetteer.{rows_at, versions_among, with_versions};
+ghost use Rattle.gaz_ledger.specs.KeyHistories.{rows_at, versions_among, with_versions};
 ghost use Rattle.gaz_ledger.specs.Ranges.{is_past, number_of, start_after};
 
 use crate::seed::Seed;

@@ -5,7 +5,7 @@ use Rattle.gaz_ids.specs.declared.status.Status.{Status}
 use Rattle.gaz_ids.specs.declared.status.Status.TheVariants.{Approved}
 use Rattle.gaz_addressable.specs.Objects.{is_text_or_none}
 use Rattle.gaz_records.specs.Days.{CivilDay, are_days, date_text, end_text, ends_by, is_day, no_day}
-use Rattle.gaz_records.specs.Fields.{or_empty, the}
+use Rattle.gaz_records.specs.Fields.{or_empty, value_or}
 use Rattle.gaz_records.specs.Forms.{BlpuStatus, Date, Digits, EndDate, Opt, TextTo, in_form, of_blpu, says}
 use Rattle.gaz_records.specs.Table.{blpu_table, uprn}
 use Rattle.gaz_records.specs.declared.fields.FieldFault.{FieldFault}
@@ -23,14 +23,14 @@ pub record BlpuValue : Type 0 where
 
 abbrev pub blpu_said : List (List ℕ) → BlpuValue
 blpu_said f = record {
-  uprn = the 0 (says uprn f 0);
-  status = the Approved (says BlpuStatus f 1);
-  easting = the 0 (says (Digits 6 0 700_000) f 2);
-  northing = the 0 (says (Digits 7 0 1_300_000) f 3);
-  parent = the None (says (Opt uprn) f 4);
-  postcode = the None (says (Opt (TextTo 8)) f 5);
-  start = the no_day (says Date f 6);
-  end = the None (says (Opt EndDate) f 7);
+  uprn = value_or 0 (says uprn f 0);
+  status = value_or Approved (says BlpuStatus f 1);
+  easting = value_or 0 (says (Digits 6 0 700_000) f 2);
+  northing = value_or 0 (says (Digits 7 0 1_300_000) f 3);
+  parent = value_or None (says (Opt uprn) f 4);
+  postcode = value_or None (says (Opt (TextTo 8)) f 5);
+  start = value_or no_day (says Date f 6);
+  end = value_or None (says (Opt EndDate) f 7);
 }
 
 -- the BLPU that fields say, or what is wrong with them

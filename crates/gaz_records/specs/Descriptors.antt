@@ -5,7 +5,7 @@ use Rattle.gaz_ids.specs.declared.lang.Lang.{Lang}
 use Rattle.gaz_ids.specs.declared.lang.Lang.TheVariants.{Eng}
 use Rattle.gaz_addressable.specs.Texts.{is_text}
 use Rattle.gaz_addressable.specs.Objects.{is_text_or_none}
-use Rattle.gaz_records.specs.Fields.{or_empty, the}
+use Rattle.gaz_records.specs.Fields.{or_empty, value_or}
 use Rattle.gaz_records.specs.Forms.{Language, Opt, TextTo, in_form, says}
 use Rattle.gaz_records.specs.Table.{descriptor_table, usrn}
 use Rattle.gaz_records.specs.Streets.{is_usrn}
@@ -22,12 +22,12 @@ pub record DescriptorValue : Type 0 where
 
 abbrev pub descriptor_said : List (List ℕ) → DescriptorValue
 descriptor_said f = record {
-  usrn = the 0 (says usrn f 0);
-  lang = the Eng (says Language f 1);
-  description = the [] (says (TextTo 100) f 2);
-  locality = the None (says (Opt (TextTo 35)) f 3);
-  town = the None (says (Opt (TextTo 30)) f 4);
-  area = the [] (says (TextTo 30) f 5);
+  usrn = value_or 0 (says usrn f 0);
+  lang = value_or Eng (says Language f 1);
+  description = value_or [] (says (TextTo 100) f 2);
+  locality = value_or None (says (Opt (TextTo 35)) f 3);
+  town = value_or None (says (Opt (TextTo 30)) f 4);
+  area = value_or [] (says (TextTo 30) f 5);
 }
 
 -- the descriptor that fields say, or what is wrong with them

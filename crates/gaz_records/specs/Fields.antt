@@ -18,23 +18,23 @@ ok_of (Ok x) = Some x
 ok_of (Err e) = None
 
 -- the value, which is there where all forms fit
-abbrev pub the : {A : Type 0} → A → Option A → A
-the d None = d
-the d (Some x) = x
+abbrev pub value_or : {A : Type 0} → A → Option A → A
+value_or d None = d
+value_or d (Some x) = x
 
 -- the fields, where there are so many
 abbrev pub counted : ℕ → List (List ℕ) → Result (List (List ℕ)) FieldFault
 counted count f = if length f == count then Ok f else Err fault.Count
 
 -- what the field at a place says, or that it has a wrong form
-abbrev pub Tells : {A : Type 0} → Result A FieldFault → ℕ → Option A → Type 0
-Tells (Ok x) i said = said ≡ Some x
-Tells (Err e) i said = (said ≡ None) × (e ≡ fault.Form (i + 1))
+abbrev pub TellsField : {A : Type 0} → Result A FieldFault → ℕ → Option A → Type 0
+TellsField (Ok x) i said = said ≡ Some x
+TellsField (Err e) i said = (said ≡ None) × (e ≡ fault.Form (i + 1))
 
 -- the same, or want of memory
-abbrev pub TellsOrMemory : {A : Type 0} → Result A FieldFault → ℕ → Option A → Type 0
-TellsOrMemory (Ok x) i said = said ≡ Some x
-TellsOrMemory (Err e) i said = (e ≡ fault.Memory) ⊎ ((said ≡ None) × (e ≡ fault.Form (i + 1)))
+abbrev pub TellsFieldOrMemory : {A : Type 0} → Result A FieldFault → ℕ → Option A → Type 0
+TellsFieldOrMemory (Ok x) i said = said ≡ Some x
+TellsFieldOrMemory (Err e) i said = (e ≡ fault.Memory) ⊎ ((said ≡ None) × (e ≡ fault.Form (i + 1)))
 
 -- the answer, or want of memory in its place
 abbrev pub OrMemory : {A : Type 0} → Result A FieldFault → Result A FieldFault → Type 0

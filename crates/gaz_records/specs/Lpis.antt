@@ -7,7 +7,7 @@ use Rattle.gaz_ids.specs.declared.status.Status.{Status}
 use Rattle.gaz_ids.specs.declared.status.Status.TheVariants.{Approved}
 use Rattle.gaz_addressable.specs.Objects.{ObjectValue, is_object, texts_of}
 use Rattle.gaz_records.specs.Days.{CivilDay, are_days, date_text, end_text, ends_by, is_day, no_day}
-use Rattle.gaz_records.specs.Fields.{the}
+use Rattle.gaz_records.specs.Fields.{value_or}
 use Rattle.gaz_records.specs.Forms.{AddressableObject, Date, EndDate, LabelTo, Language, LpiStatus, Opt, in_form, says}
 use Rattle.gaz_records.specs.Labels.{is_label}
 use Rattle.gaz_records.specs.Table.{lpi_table, uprn, usrn}
@@ -32,15 +32,15 @@ no_object = record { range = None; text = None }
 
 abbrev pub lpi_said : List (List ℕ) → LpiValue
 lpi_said f = record {
-  key = the [] (says (LabelTo 14) f 0);
-  uprn = the 0 (says uprn f 1);
-  lang = the Eng (says Language f 2);
-  status = the Approved (says LpiStatus f 3);
-  usrn = the 0 (says usrn f 4);
-  secondary = the None (says (Opt AddressableObject) f 5);
-  primary = the no_object (says AddressableObject f 10);
-  start = the no_day (says Date f 15);
-  end = the None (says (Opt EndDate) f 16);
+  key = value_or [] (says (LabelTo 14) f 0);
+  uprn = value_or 0 (says uprn f 1);
+  lang = value_or Eng (says Language f 2);
+  status = value_or Approved (says LpiStatus f 3);
+  usrn = value_or 0 (says usrn f 4);
+  secondary = value_or None (says (Opt AddressableObject) f 5);
+  primary = value_or no_object (says AddressableObject f 10);
+  start = value_or no_day (says Date f 15);
+  end = value_or None (says (Opt EndDate) f 16);
 }
 
 -- the LPI that fields say, or what is wrong with them

@@ -2,7 +2,7 @@ ghost use Rattle.std.specs.Prelude.{◌≡◌, ◌≤◌, ◌+◌, ◌-◌, drop
 ghost use Rattle.csv.specs.Records.{fields_of};
 ghost use Rattle.gaz_addressable.specs.Objects as Objects;
 ghost use Rattle.gaz_records.specs.Days.{ends_by};
-ghost use Rattle.gaz_records.specs.Fields.{Tells, TellsOrMemory, counted, field};
+ghost use Rattle.gaz_records.specs.Fields.{TellsField, TellsFieldOrMemory, counted, field};
 ghost use Rattle.gaz_records.specs.Forms.{AddressableObject, BlpuStatus, Date, Digits, EndDate, LabelTo, Language, LpiStatus, Opt, TextTo, is_blank, object_at, of_blpu, says};
 
 use crate::day::Day;
@@ -74,7 +74,7 @@ impl<'a> Fields<'a> {
     ) -> Result<Number<KIND, WIDTH, LOW, HIGH>, FieldFault>
         requires width { WIDTH ≤ 18 }
         requires place { i ≤ 16 }
-        ensures { Tells result i (says (Digits WIDTH LOW HIGH) self.now i) }
+        ensures { TellsField result i (says (Digits WIDTH LOW HIGH) self.now i) }
     {
         match Number::read(self.get(i)) {
             Ok(n) => Ok(n),
@@ -90,7 +90,7 @@ impl<'a> Fields<'a> {
     ) -> Result<Option<Number<KIND, WIDTH, LOW, HIGH>>, FieldFault>
         requires width { WIDTH ≤ 18 }
         requires place { i ≤ 16 }
-        ensures { Tells result i (says (Opt (Digits WIDTH LOW HIGH)) self.now i) }
+        ensures { TellsField result i (says (Opt (Digits WIDTH LOW HIGH)) self.now i) }
     {
         if self.get(i).is_empty() {
             return Ok(None);
@@ -105,7 +105,7 @@ impl<'a> Fields<'a> {
     /// A language.
     pub fn lang(&self, i: usize) -> Result<Lang, FieldFault>
         requires { i ≤ 16 }
-        ensures { Tells result i (says Language self.now i) }
+        ensures { TellsField result i (says Language self.now i) }
     {
         match Lang::read(self.get(i)) {
             Some(lang) => Ok(lang),
@@ -117,7 +117,7 @@ impl<'a> Fields<'a> {
     /// The status of an LPI.
     pub fn lpi_status(&self, i: usize) -> Result<Status, FieldFault>
         requires { i ≤ 16 }
-        ensures { Tells result i (says LpiStatus self.now i) }
+        ensures { TellsField result i (says LpiStatus self.now i) }
     {
         match Status::read(self.get(i)) {
             Some(status) => Ok(status),
@@ -129,7 +129,7 @@ impl<'a> Fields<'a> {
     /// The status of a BLPU.
     pub fn blpu_status(&self, i: usize) -> Result<Status, FieldFault>
         requires { i ≤ 16 }
-        ensures tells { Tells result i (says BlpuStatus self.now i) }
+        ensures tells { TellsField result i (says BlpuStatus self.now i) }
         ensures kept { IfOk result (λ status. is_some (of_blpu status) ≡ true) }
     {
         match Status::read(self.get(i)) {
@@ -142,7 +142,7 @@ impl<'a> Fields<'a> {
     /// A label.
     pub fn label<const MOST: usize>(&self, i: usize) -> Result<Label<MOST>, FieldFault>
         requires { i ≤ 16 }
-        ensures { Tells result i (says (LabelTo MOST) self.now i) }
+        ensures { TellsField result i (says (LabelTo MOST) self.now i) }
     {
         match Label::read(self.get(i)) {
             Some(label) => Ok(label),
@@ -154,7 +154,7 @@ impl<'a> Fields<'a> {
     /// A text.
     pub fn text<const MOST: u64>(&self, alloc: Global, i: usize) -> Result<Text<MOST>, FieldFault>
         requires { i ≤ 16 }
-        ensures { TellsOrMemory result i (says (TextTo MOST) self.now i) }
+        ensures { TellsFieldOrMemory result i (says (TextTo MOST) self.now i) }
     {
         match Text::read(alloc, self.get(i)) {
             Ok(text) => Ok(text),
@@ -171,7 +171,7 @@ impl<'a> Fields<'a> {
         i: usize,
     ) -> Result<Option<Text<MOST>>, FieldFault>
         requires { i ≤ 16 }
-        ensures { TellsOrMemory result i (says (Opt (TextTo MOST)) self.now i) }
+        ensures { TellsFieldOrMemory result i (says (Opt (TextTo MOST)) self.now i) }
     {
         if self.get(i).is_empty() {
             return Ok(None);
@@ -187,7 +187,7 @@ impl<'a> Fields<'a> {
     /// A date.
     pub fn day(&self, i: usize) -> Result<Day, FieldFault>
         requires { i ≤ 16 }
-        ensures { Tells result i (says Date self.now i) }
+        ensures { TellsField result i (says Date self.now i) }
     {
         match Day::read(self.get(i)) {
             Some(day) => Ok(day),
@@ -200,7 +200,7 @@ impl<'a> Fields<'a> {
     pub fn end_day(&self, i: usize, start: &Day) -> Result<Option<Day>, FieldFault>
         requires place { i ≤ 16 }
         requires start { says Date self.now (i - 1) ≡ Some start.now }
-        ensures tells { Tells result i (says (Opt EndDate) self.now i) }
+        ensures tells { TellsField result i (says (Opt EndDate) self.now i) }
         ensures order { IfOk result (λ end. ends_by start.now end ≡ true) }
     {
         if self.get(i).is_empty() {
@@ -239,7 +239,7 @@ impl<'a> Fields<'a> {
     /// An object, in five fields.
     pub fn object(&self, alloc: Global, i: usize) -> Result<Object, FieldFault>
         requires { i ≤ 16 }
-        ensures { TellsOrMemory result i (says AddressableObject self.now i) }
+        ensures { TellsFieldOrMemory result i (says AddressableObject self.now i) }
     {
         match self.read_object(alloc, i) {
             Ok(object) => Ok(object),
@@ -264,7 +264,7 @@ impl<'a> Fields<'a> {
     /// An object that may be left out, in five fields.
     pub fn opt_object(&self, alloc: Global, i: usize) -> Result<Option<Object>, FieldFault>
         requires { i ≤ 16 }
-        ensures { TellsOrMemory result i (says (Opt AddressableObject) self.now i) }
+        ensures { TellsFieldOrMemory result i (says (Opt AddressableObject) self.now i) }
     {
         if self.has_no_object(i) {
             return Ok(None);

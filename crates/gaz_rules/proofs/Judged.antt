@@ -17,7 +17,7 @@ use Rattle.gaz_changefile.specs.declared.action.Action.TheVariants.{Insert, Upda
 use Rattle.gaz_changefile.specs.declared.change.Change.{Change}
 use Rattle.gaz_register.specs.Registers.{Blocks, within}
 use Rattle.gaz_views.specs.View.{View, holds, was_used, with_item, without_key}
-use Rattle.gaz_rules.specs.Rules.{done, effect, first_broken, is_outside, record_rules, stays}
+use Rattle.gaz_rules.specs.Rules.{effect_of, effect, first_broken, is_outside, record_rules, stays}
 use Rattle.gaz_rules.specs.EndRules.{end_rules, same_key}
 use Rattle.gaz_rules.specs.Judging.{Fault, end_faults, fault_at, judge, judged_by_faults, record_faults, with_views}
 use Rattle.gaz_rules.specs.Sound.{HoldsOwn, IsSound}
@@ -166,7 +166,7 @@ take_kept own v i fits =
       keyed = λ all k j h. all k j (taken_was (same_key k (key_of i)) _ j (sym (after_take v (key_of i) k) ∙ h));
     }
 
-step_kept : (own : Blocks) (v : View) (a : Action) (i : Item) → AllFalse (record_rules own v a i) → Kept own v (done a v i)
+step_kept : (own : Blocks) (v : View) (a : Action) (i : Item) → AllFalse (record_rules own v a i) → Kept own v (effect_of a v i)
 step_kept own v Insert i fits = put_kept own v i fits.0
 step_kept own v Update i fits = put_kept own v i fits.0
 step_kept own v Delete i fits = take_kept own v i fits.1.1.1.0
@@ -183,7 +183,7 @@ all_kept own v (c ∷ cs) e =
 abbrev pub is_touched : List Change → Key → Bool
 is_touched cs k = list_any (λ c. same_key k (key_of c.item)) cs
 
-step_other : (v : View) (a : Action) (i : Item) (k : Key) → same_key k (key_of i) ≡ false → map.get (done a v i).items k ≡ map.get v.items k
+step_other : (v : View) (a : Action) (i : Item) (k : Key) → same_key k (key_of i) ≡ false → map.get (effect_of a v i).items k ≡ map.get v.items k
 step_other v Insert i k h = after_put v i k ∙ ap (λ b. cond b (Some i) (map.get v.items k)) h
 step_other v Update i k h = after_put v i k ∙ ap (λ b. cond b (Some i) (map.get v.items k)) h
 step_other v Delete i k h = after_take v (key_of i) k ∙ ap (λ b. cond b None (map.get v.items k)) h

@@ -12,7 +12,7 @@ use Rattle.gaz_changefile.specs.declared.change.Change.{Change}
 use Rattle.gaz_register.specs.Registers.{Blocks}
 use Rattle.gaz_shelf.specs.Board.{Judgement, last_view}
 use Rattle.gaz_views.specs.View.{View}
-use Rattle.gaz_shelf.specs.Keeper.{Content, Counts, Goes, IsAtHand, Keeps, Open, Reads, Seen, begun, closed, with_judgement}
+use Rattle.gaz_shelf.specs.Keeper.{Content, Counts, Goes, IsAtHand, Keeps, Open, Reads, Seen, after_begin, after_abandon, with_judgement}
 use Rattle.gaz_shelf.specs.declared.fault.ShelfFault.{ShelfFault}
 use Rattle.gaz_views.specs.declared.verdict.Verdict.{Verdict}
 use Rattle.gaz_views.specs.declared.verdict.Verdict.TheVariants.{Applied, Rejected}
@@ -151,7 +151,7 @@ phases_together old mid new c own file r is_open first second =
           }) (second.right stood_mid fine);
       stay = λ stood fine.
           let fine_mid = second.keeps.harm fine in
-          ap closed (second.keeps.content (first.stands stood fine_mid) fine) ∙ first.stay stood fine_mid;
+          ap after_abandon (second.keeps.content (first.stands stood fine_mid) fine) ∙ first.stay stood fine_mid;
       on = on_ok_of r _ (now_open ∙ sym is_open);
       going = λ e. cc;
       counts = counts_after _ _ _ r first.counts.kept second.counts;
@@ -173,8 +173,8 @@ PhasesFind own file now o k = are_reached k.board file.bases ≡ true → Finds 
 
 -- the first fault found decides
 concluded : (own : Blocks) (old mid : Content) (c : ℕ) (file : Contents) (o : Option found.Fault) →
-    closed mid ≡ closed old →
-    Finds (begun old c) mid (faults_in own (begun old c) file) (fold effect (last_view old.board c) file.changes) o →
+    after_abandon mid ≡ after_abandon old →
+    Finds (after_begin old c) mid (faults_in own (after_begin old c) file) (fold effect (last_view old.board c) file.changes) o →
     conclusion mid c o ≡ judged_on own old.board c (Good file)
 unfolding judge
 concluded own old mid c file None same finds =
@@ -186,7 +186,7 @@ concluded own old mid c file (Some f) same finds =
     ∙ sym (by_some v (fold effect v file.changes) _ (record { place = f.place; rule = f.rule }) finds.first)
 
 pub judged : (old opened mid new : Seen) (c : ℕ) (own : Blocks) (file : Contents) (o : Option found.Fault) (r : Result Verdict ShelfFault) →
-    Goes {T = Unit {0}} old opened (Ok tt) (IsAtHand old.content c) (begun old.content c) (Open c) →
+    Goes {T = Unit {0}} old opened (Ok tt) (IsAtHand old.content c) (after_begin old.content c) (Open c) →
     Works {T = Option found.Fault} opened mid (Ok o) (λ o. PhasesFind own file mid.content o opened.content) →
     Ends mid new r c (conclusion mid.content c o) →
     Judges old new r c file.bases (judged_on own old.content.board c (Good file))
@@ -196,7 +196,7 @@ judged old opened mid new c own file o r begins did ends =
     let stood_mid = λ (stood : old.stands) (ready : IsReady old.content c file.bases) (fine : new.unharmed). did.stands (stood_open stood ready fine) (ends.harm fine) in
     let begun_is = λ (stood : old.stands) (ready : IsReady old.content c file.bases) (fine : new.unharmed). begins.done stood ready.at_hand (open_fine fine) in
     let same = λ (stood : old.stands) (ready : IsReady old.content c file.bases) (fine : new.unharmed).
-    did.stay (stood_open stood ready fine) (ends.harm fine) ∙ ap closed (begun_is stood ready fine) in
+    did.stay (stood_open stood ready fine) (ends.harm fine) ∙ ap after_abandon (begun_is stood ready fine) in
     let at_hand = λ (stood : old.stands) (ready : IsReady old.content c file.bases) (fine : new.unharmed).
     subst (λ (k : Content). IsAtHand k c) (sym (same stood ready fine)) ready.at_hand in
     let right = λ (stood : old.stands) (ready : IsReady old.content c file.bases) (fine : new.unharmed).

@@ -2,7 +2,7 @@
 use Rattle.std.specs.Prelude.{◌≡◌, ℕ, true, List, Result, IfOk, OnOk, OnErr}
 use Rattle.gaz_changefile.specs.declared.change.Basis.{Basis}
 use Rattle.gaz_shelf.specs.Board.{Judgement}
-use Rattle.gaz_shelf.specs.Keeper.{Content, Counts, IsAtHand, IsNotOpen, Seen, closed, with_judgement}
+use Rattle.gaz_shelf.specs.Keeper.{Content, Counts, IsAtHand, IsNotOpen, Seen, after_abandon, with_judgement}
 use Rattle.gaz_shelf.specs.declared.fault.ShelfFault.{ShelfFault}
 use Rattle.gaz_views.specs.declared.verdict.Verdict.{Verdict}
 use Rattle.gaz_changefile.specs.Contents.{Contents}
@@ -21,7 +21,7 @@ pub record Judges (old new : Seen) (result : Result Verdict ShelfFault) (c : ℕ
   pub stands : old.stands → IsReady old.content c bases → new.unharmed → new.stands
   pub verdict : old.stands → IsReady old.content c bases → new.unharmed → IfOk result (λ v. v ≡ j.verdict)
   pub done : old.stands → IsReady old.content c bases → new.unharmed → OnOk result (new.content ≡ with_judgement old.content c j)
-  pub undone : old.stands → IsReady old.content c bases → new.unharmed → OnErr result (new.content ≡ closed old.content)
+  pub undone : old.stands → IsReady old.content c bases → new.unharmed → OnErr result (new.content ≡ after_abandon old.content)
   pub idle : IsNotOpen new.progress
   pub counts : Counts old new result
 

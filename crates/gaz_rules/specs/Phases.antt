@@ -5,7 +5,7 @@ use Rattle.std.specs.List.{fold}
 use Rattle.gaz_changefile.specs.Contents.{Contents}
 use Rattle.gaz_views.specs.View.{View}
 use Rattle.gaz_shelf.specs.Board.{Judgement, last_view}
-use Rattle.gaz_shelf.specs.Keeper.{Content, Counts, Idle, IsAtHand, IsNotOpen, Seen, closed, with_judgement, with_working}
+use Rattle.gaz_shelf.specs.Keeper.{Content, Counts, Idle, IsAtHand, IsNotOpen, Seen, after_abandon, with_judgement, with_working}
 use Rattle.gaz_shelf.specs.declared.fault.ShelfFault.{ShelfFault}
 use Rattle.gaz_views.specs.declared.verdict.Verdict.{Verdict}
 use Rattle.gaz_views.specs.declared.verdict.Verdict.TheVariants.{Applied, Rejected}
@@ -41,7 +41,7 @@ pub record Works {T : Type 0} (old new : Seen) (result : Result T ShelfFault) (I
   pub harm : new.unharmed → old.unharmed
   pub stands : old.stands → new.unharmed → new.stands
   pub right : old.stands → new.unharmed → IfOk result IsRight
-  pub stay : old.stands → new.unharmed → closed new.content ≡ closed old.content
+  pub stay : old.stands → new.unharmed → after_abandon new.content ≡ after_abandon old.content
   pub on : OnOk result (new.progress ≡ old.progress)
   pub going : new.progress ≢ Idle
   pub counts : Counts old new result
@@ -57,7 +57,7 @@ pub record Ends (old new : Seen) (result : Result Verdict ShelfFault) (c : ℕ) 
   pub stands : old.stands → IsAtHand old.content c → new.unharmed → new.stands
   pub verdict : IfOk result (λ v. v ≡ j.verdict)
   pub done : old.stands → IsAtHand old.content c → new.unharmed → OnOk result (new.content ≡ with_judgement old.content c j)
-  pub undone : old.stands → IsAtHand old.content c → new.unharmed → OnErr result (new.content ≡ closed old.content)
+  pub undone : old.stands → IsAtHand old.content c → new.unharmed → OnErr result (new.content ≡ after_abandon old.content)
   pub idle : IsNotOpen new.progress
   pub counts : Counts old new result
 
@@ -69,6 +69,6 @@ Concludes seen old new result c r = Ends (seen old) (seen new) result c (conclus
 pub record GivesUp (old new : Seen) : Type 0 where
   pub harm : new.unharmed → old.unharmed
   pub stands : old.stands → new.unharmed → new.stands
-  pub content : old.stands → new.unharmed → new.content ≡ closed old.content
+  pub content : old.stands → new.unharmed → new.content ≡ after_abandon old.content
   pub idle : IsNotOpen new.progress
   pub counted : old.failures ≤ new.failures

@@ -16,13 +16,13 @@ use Rattle.gaz_changefile.specs.declared.change.Change.{Change}
 -- ---- the effect of a change
 
 -- an insert and an update set the item and mark its key as used, a delete takes it
-abbrev pub done : Action → View → Item → View
-done Insert v i = with_item v i
-done Update v i = with_item v i
-done Delete v i = without_key v (key_of i)
+abbrev pub effect_of : Action → View → Item → View
+effect_of Insert v i = with_item v i
+effect_of Update v i = with_item v i
+effect_of Delete v i = without_key v (key_of i)
 
 abbrev pub effect : View → Change → View
-effect v c = done c.action v c.item
+effect v c = effect_of c.action v c.item
 
 -- ---- record rules
 

@@ -1,4 +1,4 @@
--- The books of all custodians after one has changed: each view of them is a lawful one still.
+-- The accounts of all custodians after one has changed: each view of them is a lawful one still.
 use Rattle.std.proofs.Common.{◌≡◌, ℕ, zero, suc, Bool, true, false, cond, List, [], ◌∷◌, ◌++◌, map, length, sym, ap, subst, slice_get, unwrap_or}
 use Rattle.std.specs.Prelude.{◌==◌, Some, Result, Ok, Err, OnOk, OnErr}
 use Rattle.std.specs.BTreeMap.{BTreeMap, Updates, is_at}
@@ -91,7 +91,7 @@ all_lawful es fs c a h was now q = subst IsLawfulAccount (sym (changed es fs c a
 pub none_found : (m n : BTreeMap ℕ Account) → n ≡ m → AreLawful m.entries → AreLawful n.entries
 none_found m n same all = subst (λ (b : BTreeMap ℕ Account). AreLawful b.entries) (sym same) all
 
--- a book is added
+-- a account is added
 pub after_insert : {T E : Type 0} (r : Result T E) (m n : BTreeMap ℕ Account) (c : ℕ) (a : Account) → AreLawful m.entries → IsLawfulAccount a → OnOk r (Updates nat_cmp m n c (Some a)) → OnErr r (n.entries ≡ m.entries) → AreLawful n.entries
 after_insert (Ok x) m n c a all is ok err = all_lawful m.entries n.entries c a ok.0 all is
 after_insert (Err e) m n c a all is ok err = subst AreLawful (sym err) all

@@ -5,7 +5,7 @@ use Rattle.gaz_views.specs.Examples.{no_more, one_street}
 use Rattle.gaz_views.specs.View.{empty_view}
 use Rattle.gaz_views.specs.declared.verdict.Verdict.TheVariants.{Applied, Rejected}
 use Rattle.gaz_shelf.specs.Board.{Board, empty_board, last_view, reached, verdict_on, view_after}
-use Rattle.gaz_shelf.specs.Keeper.{Broken, Content, Idle, Open, kept, skipped}
+use Rattle.gaz_shelf.specs.Keeper.{Broken, Content, Idle, Open, after_keep, after_skip}
 use Rattle.gaz_shelf.specs.Received.{Received, count_above, is_below, with_file}
 
 -- custodian 1001 has applied volume 1, and its volume 2 was rejected
@@ -35,15 +35,15 @@ third_judged = record { files = map.empty; board = two_judged; working = no_more
 
 -- it is applied
 abbrev pub third_kept : Content
-third_kept = kept (Open 1001) third_judged
+third_kept = after_keep (Open 1001) third_judged
 
 -- or it is rejected at record 4 by rule 22
 abbrev pub third_skipped : Content
-third_skipped = skipped third_judged 1001 4 22
+third_skipped = after_skip third_judged 1001 4 22
 
 -- the first volume of 1002 is rejected
 abbrev pub first_skipped : Content
-first_skipped = skipped third_judged 1002 1 2
+first_skipped = after_skip third_judged 1002 1 2
 
 pub record WorkedContents : Type 0 where
   pub kept_verdict : verdict_on third_kept.board 1001 3 ≡ Some Applied
@@ -51,8 +51,8 @@ pub record WorkedContents : Type 0 where
   pub kept_earlier : view_after third_kept.board 1001 2 ≡ one_street
   pub kept_alone : reached third_kept.board 1002 ≡ 0
   pub kept_closed : third_kept.working ≡ empty_view
-  pub kept_idle : kept Idle third_judged ≡ third_judged
-  pub kept_broken : kept Broken third_judged ≡ third_judged
+  pub kept_idle : after_keep Idle third_judged ≡ third_judged
+  pub kept_broken : after_keep Broken third_judged ≡ third_judged
   pub skipped_verdict : verdict_on third_skipped.board 1001 3 ≡ Some (Rejected 4 22)
   pub skipped_view : last_view third_skipped.board 1001 ≡ one_street
   pub skipped_earlier : verdict_on third_skipped.board 1001 2 ≡ Some (Rejected 2 21)

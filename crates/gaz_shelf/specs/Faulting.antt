@@ -1,7 +1,7 @@
 -- A keeper around another, as it is seen.
 use Rattle.std.specs.Prelude.{◌≡◌, ◌≤◌, ℕ, Bool, true, false, ◌+◌, ◌-◌, ◌^◌, ◌==◌}
 use Rattle.std.proofs.Common.{eqb-true, le-add_left, le_of_eq, le_trans, sym}
-use Rattle.gaz_shelf.specs.Keeper.{Broken, Content, Idle, IsLawful, Open, Progress, Seen, closed}
+use Rattle.gaz_shelf.specs.Keeper.{Broken, Content, Idle, IsLawful, Open, Progress, Seen, after_abandon}
 
 -- the progress, where the outer keeper says itself whether a judgement is broken
 abbrev pub progress_around : Bool → Progress → Progress
@@ -12,9 +12,9 @@ progress_around false Broken = Idle
 
 -- the content, where a working view stands only while a judgement is open
 abbrev pub content_around : Progress → Content → Content
-content_around Idle k = closed k
+content_around Idle k = after_abandon k
 content_around (Open c) k = k
-content_around Broken k = closed k
+content_around Broken k = after_abandon k
 
 -- it is lawful where the inner one's is
 pub lawful_around : (p : Progress) (k : Content) → IsLawful k → IsLawful (content_around p k)

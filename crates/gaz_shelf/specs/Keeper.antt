@@ -59,25 +59,25 @@ abbrev pub with_working : Content → View → Content
 with_working k w = record { files = k.files; board = k.board; working = w }
 
 -- no judgement is in progress any more
-abbrev pub closed : Content → Content
-closed k = with_working k empty_view
+abbrev pub after_abandon : Content → Content
+after_abandon k = with_working k empty_view
 
 -- a custodian's judgement begins on its last view
-abbrev pub begun : Content → ℕ → Content
-begun k c = with_working k (last_view k.board c)
+abbrev pub after_begin : Content → ℕ → Content
+after_begin k c = with_working k (last_view k.board c)
 
 abbrev pub with_judgement : Content → ℕ → Judgement → Content
 with_judgement k c j = record { files = k.files; board = adds k.board c j; working = empty_view }
 
 -- the judgement in progress ends as applied
-abbrev pub kept : Progress → Content → Content
-kept Idle k = k
-kept (Open c) k = with_judgement k c (record { verdict = Applied; view = k.working })
-kept Broken k = k
+abbrev pub after_keep : Progress → Content → Content
+after_keep Idle k = k
+after_keep (Open c) k = with_judgement k c (record { verdict = Applied; view = k.working })
+after_keep Broken k = k
 
 -- a custodian's next volume is rejected, and its view stays as it was
-abbrev pub skipped : Content → ℕ → ℕ → ℕ → Content
-skipped k c place rule = with_judgement k c (record { verdict = Rejected place rule; view = last_view k.board c })
+abbrev pub after_skip : Content → ℕ → ℕ → ℕ → Content
+after_skip k c place rule = with_judgement k c (record { verdict = Rejected place rule; view = last_view k.board c })
 
 abbrev pub with_received : Content → ℕ → ℕ → List ℕ → Content
 with_received k c volume bytes = record { files = with_file k.files c volume bytes; board = k.board; working = k.working }
@@ -110,7 +110,7 @@ view_of s c = viewed s.progress s.content c
 
 -- no failure is forgotten, and one of the store is counted
 pub record Counts {T : Type 0} (old new : Seen) (result : Result T ShelfFault) : Type 0 where
-  pub kept : old.failures ≤ new.failures
+  pub after_keep : old.failures ≤ new.failures
   pub store : IfErr result (λ e. e ≡ Store → old.failures < new.failures)
 
 -- a judgement in progress goes on, and a broken one stays so or is cleared
@@ -138,7 +138,7 @@ pub record Goes {T : Type 0} (old new : Seen) (result : Result T ShelfFault) (as
   pub harm : new.unharmed → old.unharmed
   pub stands : old.stands → asked → new.unharmed → new.stands
   pub done : old.stands → asked → new.unharmed → OnOk result (new.content ≡ becomes)
-  pub undone : old.stands → asked → new.unharmed → OnErr result (new.content ≡ closed old.content)
+  pub undone : old.stands → asked → new.unharmed → OnErr result (new.content ≡ after_abandon old.content)
   pub on : OnOk result (new.progress ≡ after)
   pub broken : OnErr result (new.progress ≡ Broken)
   pub counts : Counts old new result
@@ -166,7 +166,7 @@ Refuses old result = old.progress ≡ Broken → result ≡ Err (if old.is_full 
 -- how a judgement is to end
 abbrev pub ended : Ending → Content → ℕ → View → Content
 ended Keep k c w = with_judgement k c (record { verdict = Applied; view = w })
-ended Abandon k c w = closed k
+ended Abandon k c w = after_abandon k
 
 -- items set one after another on a custodian's last view, and the judgement ended
 abbrev pub written : Content → ℕ → List Item → Ending → Content

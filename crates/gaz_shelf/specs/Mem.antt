@@ -24,11 +24,11 @@ working_of judging.Broken es = empty_view
 abbrev pub content_in : MemShelf → Content
 content_in s = record {
   files = s.files;
-  board = board_of s.books.by_code.entries;
-  working = working_of s.judging s.books.by_code.entries;
+  board = board_of s.accounts.by_code.entries;
+  working = working_of s.judging s.accounts.by_code.entries;
 }
 
--- it is lawful, since each book is
+-- it is lawful, since each account is
 lawful_working : (j : Judging) (es : List (ℕ × Account)) → AreLawful es → IsLawfulView (working_of j es)
 lawful_working judging.Idle es all = (all 0).judged 0
 lawful_working (judging.Open c) es all = (all c).working
@@ -36,8 +36,8 @@ lawful_working judging.Broken es all = (all 0).judged 0
 
 pub lawful_in : (s : MemShelf) → IsLawful (content_in s)
 lawful_in s = record {
-  views = λ c volume. (s.books.lawful c).judged volume;
-  working = lawful_working s.judging s.books.by_code.entries s.books.lawful;
+  views = λ c volume. (s.accounts.lawful c).judged volume;
+  working = lawful_working s.judging s.accounts.by_code.entries s.accounts.lawful;
 }
 
 pub full_in : (failures : ℕ) → (failures == 2 ^ 64 - 1) ≡ true → 2 ^ 64 - 1 ≤ failures

@@ -12,7 +12,7 @@ use Rattle.gaz_views.specs.Words.{approved_of, approved_on, has_children, page, 
 use Rattle.gaz_views.specs.declared.property.Property.{Property}
 use Rattle.gaz_views.specs.declared.verdict.Verdict.{Verdict}
 use Rattle.gaz_shelf.specs.Board.{Board, reached, verdict_on, view_after}
-use Rattle.gaz_shelf.specs.Keeper.{Enters, Goes, Idle, IsAtHand, IsNew, Open, Reads, Seen, Sets, begun, closed, kept, skipped, view_of, with_received, written}
+use Rattle.gaz_shelf.specs.Keeper.{Enters, Goes, Idle, IsAtHand, IsNew, Open, Reads, Seen, Sets, after_begin, after_abandon, after_keep, after_skip, view_of, with_received, written}
 use Rattle.gaz_shelf.specs.Received.{count_above}
 use Rattle.gaz_shelf.specs.declared.fault.ShelfFault.{ShelfFault}
 use Rattle.gaz_shelf.specs.declared.writing.Ending.{Ending}
@@ -80,7 +80,7 @@ TellsHeld seen old new result c =
 -- ---- the calls of a judgement, and those outside one
 
 abbrev pub Begins : {K T : Type 0} → (K → Seen) → K → K → Result T ShelfFault → ℕ → Type 0
-Begins seen old new result c = Goes (seen old) (seen new) result (IsAtHand (seen old).content c) (begun (seen old).content c) (Open c)
+Begins seen old new result c = Goes (seen old) (seen new) result (IsAtHand (seen old).content c) (after_begin (seen old).content c) (Open c)
 
 abbrev pub Puts : {K T : Type 0} → (K → Seen) → K → K → Result T ShelfFault → Item → Type 0
 Puts seen old new result item = Sets (seen old) (seen new) result (with_item (seen old).content.working item)
@@ -89,14 +89,14 @@ abbrev pub Takes : {K T : Type 0} → (K → Seen) → K → K → Result T Shel
 Takes seen old new result key = Sets (seen old) (seen new) result (without_key (seen old).content.working key)
 
 abbrev pub Applies : {K T : Type 0} → (K → Seen) → K → K → Result T ShelfFault → Type 0
-Applies seen old new result = Goes (seen old) (seen new) result ⊤ (kept (seen old).progress (seen old).content) Idle
+Applies seen old new result = Goes (seen old) (seen new) result ⊤ (after_keep (seen old).progress (seen old).content) Idle
 
 abbrev pub Abandons : {K T : Type 0} → (K → Seen) → K → K → Result T ShelfFault → Type 0
-Abandons seen old new result = Goes (seen old) (seen new) result ⊤ (closed (seen old).content) Idle
+Abandons seen old new result = Goes (seen old) (seen new) result ⊤ (after_abandon (seen old).content) Idle
 
 abbrev pub Skips : {K T : Type 0} → (K → Seen) → K → K → Result T ShelfFault → ℕ → ℕ → ℕ → Type 0
 Skips seen old new result c place rule =
-    Enters (seen old) (seen new) result (IsAtHand (seen old).content c) (skipped (seen old).content c place rule)
+    Enters (seen old) (seen new) result (IsAtHand (seen old).content c) (after_skip (seen old).content c place rule)
 
 abbrev pub Receives : {K T : Type 0} → (K → Seen) → K → K → Result T ShelfFault → ℕ → ℕ → List ℕ → Type 0
 Receives seen old new result c volume bytes =

@@ -1,4 +1,4 @@
-//! The books of all custodians.
+//! The accounts of all custodians.
 ghost use Rattle.std.specs.Prelude.{◌≡◌, [], MatchOption, OnOk, OnErr};
 ghost use Rattle.gaz_views.specs.Accounts.{empty_account};
 ghost use Rattle.gaz_views.specs.View.{with_item, without_key};
@@ -6,48 +6,48 @@ ghost use Rattle.gaz_shelf.specs.Accounts.{AreLawful, AreLawful-prop, account_of
 ghost use Rattle.gaz_shelf.specs.Board.{adds, last_view};
 
 use gaz_ids::Code;
-use gaz_ledger::{Book, Seed};
+use gaz_ledger::{CachedLedger, Seed};
 use gaz_records::{Key, SharedItem};
 use gaz_views::Verdict;
 use std::alloc::{AllocError, Global};
 use std::collections::BTreeMap;
 
-/// The books of all custodians, each view of which is a lawful one.
+/// The accounts of all custodians, each view of which is a lawful one.
 #[derive(Drop)]
-pub struct Books {
-    by_code: BTreeMap<Code, Book>,
+pub struct Accounts {
+    by_code: BTreeMap<Code, CachedLedger>,
     ghost lawful: { AreLawful by_code.entries } by { AreLawful-prop by_code.entries },
 }
 
-impl Books {
+impl Accounts {
     /// None.
-    pub fn new(alloc: Global) -> Books
+    pub fn new(alloc: Global) -> Accounts
         ensures { result.by_code.entries ≡ [] }
     {
-        Books {
+        Accounts {
             by_code: BTreeMap::new(alloc),
         }
     }
 
-    /// A custodian's book, where it has one.
-    pub fn get(&self, code: Code) -> Option<&Book>
+    /// A custodian's account, where it has one.
+    pub fn get(&self, code: Code) -> Option<&CachedLedger>
         ensures { MatchOption result (account_of self.now.by_code.entries code ≡ empty_account)
             (λ l. l.now ≡ account_of self.now.by_code.entries code) }
     {
         self.by_code.get(&code)
     }
 
-    /// A custodian's working view is its last one. Where it has no book yet, it has one then.
+    /// A custodian's working view is its last one. Where it has no account yet, it has one then.
     pub fn begin(&mut self, alloc: Global, seed: Seed, code: Code) -> Result<(), AllocError>
         ensures board { board_of self.new.by_code.entries ≡ board_of self.old.by_code.entries }
         ensures working { OnOk result ((account_of self.new.by_code.entries code).working
             ≡ last_view (board_of self.old.by_code.entries) code) }
     {
-        if let Some(book) = self.by_code.get_mut(&code) {
-            book.undo();
+        if let Some(account) = self.by_code.get_mut(&code) {
+            account.undo();
             return Ok(());
         }
-        self.by_code.insert(code, Book::new(alloc, seed))?;
+        self.by_code.insert(code, CachedLedger::new(alloc, seed))?;
         Ok(())
     }
 
@@ -57,47 +57,47 @@ impl Books {
         ensures working { (account_of self.new.by_code.entries code).working
             ≡ last_view (board_of self.old.by_code.entries) code }
     {
-        if let Some(book) = self.by_code.get_mut(&code) {
-            book.undo();
+        if let Some(account) = self.by_code.get_mut(&code) {
+            account.undo();
         }
     }
 
-    /// Sets an item in the working view of a custodian that has a book.
+    /// Sets an item in the working view of a custodian that has an account.
     pub fn put(&mut self, code: Code, item: SharedItem) -> Result<(), AllocError>
         ensures board { board_of self.new.by_code.entries ≡ board_of self.old.by_code.entries }
         ensures working { OnOk result ((account_of self.new.by_code.entries code).working
             ≡ with_item (account_of self.old.by_code.entries code).working item) }
     {
-        let Some(book) = self.by_code.get_mut(&code) else {
+        let Some(account) = self.by_code.get_mut(&code) else {
             return Err(AllocError);
         };
-        book.put(item)?;
+        account.put(item)?;
         Ok(())
     }
 
-    /// Takes a key's item from the working view of a custodian that has a book.
+    /// Takes a key's item from the working view of a custodian that has an account.
     pub fn take(&mut self, code: Code, key: &Key) -> Result<(), AllocError>
         ensures board { board_of self.new.by_code.entries ≡ board_of self.old.by_code.entries }
         ensures working { OnOk result ((account_of self.new.by_code.entries code).working
             ≡ without_key (account_of self.old.by_code.entries code).working key.now) }
     {
-        let Some(book) = self.by_code.get_mut(&code) else {
+        let Some(account) = self.by_code.get_mut(&code) else {
             return Err(AllocError);
         };
-        book.take(key)?;
+        account.take(key)?;
         Ok(())
     }
 
-    /// Judges the next volume of a custodian that has a book: its working view is the view after it.
+    /// Judges the next volume of a custodian that has an account: its working view is the view after it.
     pub fn close(&mut self, code: Code, verdict: Verdict) -> Result<(), AllocError>
         ensures ok { OnOk result (board_of self.new.by_code.entries ≡ adds (board_of self.old.by_code.entries) code
             (record { verdict = verdict; view = (account_of self.old.by_code.entries code).working })) }
         ensures err { OnErr result (board_of self.new.by_code.entries ≡ board_of self.old.by_code.entries) }
     {
-        let Some(book) = self.by_code.get_mut(&code) else {
+        let Some(account) = self.by_code.get_mut(&code) else {
             return Err(AllocError);
         };
-        book.close(verdict)?;
+        account.close(verdict)?;
         Ok(())
     }
 }

@@ -88,7 +88,7 @@ impl Shelf for MemShelf {
     }
 
     fn begin(&mut self, code: Code) -> Result<(), ShelfFault> {
-        match self.books.begin(self.alloc, self.seed, code) {
+        match self.accounts.begin(self.alloc, self.seed, code) {
             Ok(()) => {
                 self.judging = Judging::Open(code);
                 Ok(())
@@ -123,7 +123,7 @@ impl Shelf for MemShelf {
 
     fn abandon(&mut self) -> Result<(), ShelfFault> {
         if let Some(code) = self.open_code() {
-            self.books.undo(code);
+            self.accounts.undo(code);
         }
         self.judging = Judging::Idle;
         Ok(())
@@ -131,8 +131,8 @@ impl Shelf for MemShelf {
 
     fn skip(&mut self, code: Code, place: u64, rule: u8) -> Result<(), ShelfFault> {
         self.clear();
-        self.books.begin(self.alloc, self.seed, code)?;
-        self.books.close(code, Verdict::Rejected { place, rule })?;
+        self.accounts.begin(self.alloc, self.seed, code)?;
+        self.accounts.close(code, Verdict::Rejected { place, rule })?;
         Ok(())
     }
 }

@@ -11,33 +11,33 @@ ghost use Rattle.gaz_shelf.specs.Telling.{IsItemAt, IsPageAt};
 
 use crate::mem_shelf::{Judging, MemShelf};
 use gaz_ids::{Code, Lang, Uprn, Usrn, Volume};
-use gaz_ledger::Book;
+use gaz_ledger::CachedLedger;
 use gaz_records::{Key, Kind, SharedItem};
 use gaz_views::{Property, Verdict, share_found};
 use std::alloc::AllocError;
 
 impl MemShelf {
-    /// A custodian's book and the volume at which it is seen, where it has a book.
-    fn seen(&self, code: Code) -> Option<(&Book, u64)>
+    /// A custodian's account and the volume at which it is seen, where it has an account.
+    fn seen(&self, code: Code) -> Option<(&CachedLedger, u64)>
         ensures none { IfNone result (view_of (seen_in self.now) code ≡ empty_view) }
         ensures view { IfSome result (λ s. view_in s.0.now s.1 ≡ view_of (seen_in self.now) code) }
         ensures reached { IfSome result (λ s. length s.0.now.judged ≤ s.1) }
     {
-        let Some(book) = self.books.get(code) else {
+        let Some(account) = self.accounts.get(code) else {
             return None;
         };
-        let reached = book.ledger().reached();
+        let reached = account.ledger().reached();
         match self.judging {
-            Judging::Open(judged) if judged == code => Some((book, reached + 1)),
-            _ => Some((book, reached)),
+            Judging::Open(judged) if judged == code => Some((account, reached + 1)),
+            _ => Some((account, reached)),
         }
     }
 
     pub(crate) fn count_reached(&self, code: Code) -> u64
         ensures { result ≡ reached (content_in self.now).board code }
     {
-        match self.books.get(code) {
-            Some(book) => book.ledger().reached(),
+        match self.accounts.get(code) {
+            Some(account) => account.ledger().reached(),
             None => 0,
         }
     }
@@ -45,8 +45,8 @@ impl MemShelf {
     pub(crate) fn find_verdict(&self, code: Code, volume: Volume) -> Option<Verdict>
         ensures { result ≡ verdict_on ((content_in self.now).board) code volume }
     {
-        match self.books.get(code) {
-            Some(book) => book.ledger().verdict(volume.number()),
+        match self.accounts.get(code) {
+            Some(account) => account.ledger().verdict(volume.number()),
             None => None,
         }
     }
@@ -59,7 +59,7 @@ impl MemShelf {
         ensures { IfOk result (λ i. i ≡ map.get (view_of (seen_in self.now) code).items key.now) }
     {
         match self.seen(code) {
-            Some((book, volume)) => Ok(share_found(book.ledger().item(volume, key))?),
+            Some((account, volume)) => Ok(share_found(account.ledger().item(volume, key))?),
             None => Ok(None),
         }
     }
@@ -72,8 +72,8 @@ impl MemShelf {
     ) -> Result<Option<SharedItem>, AllocError>
         ensures { IfOk result (λ i. IsItemAt (content_in self.now).board code volume key.now i) }
     {
-        match self.books.get(code) {
-            Some(book) => Ok(share_found(book.ledger().item(volume, key))?),
+        match self.accounts.get(code) {
+            Some(account) => Ok(share_found(account.ledger().item(volume, key))?),
             None => Ok(None),
         }
     }
@@ -82,7 +82,7 @@ impl MemShelf {
         ensures { result ≡ was_used (view_of (seen_in self.now) code) key.now }
     {
         match self.seen(code) {
-            Some((book, volume)) => book.ledger().was_used(volume, key),
+            Some((account, volume)) => account.ledger().was_used(volume, key),
             None => false,
         }
     }
@@ -91,7 +91,7 @@ impl MemShelf {
         ensures { IfOk result (λ keys. keys.items ≡ approved_of (view_of (seen_in self.now) code) uprn) }
     {
         match self.seen(code) {
-            Some((book, volume)) => Ok(book.ledger().approved_of(self.alloc, volume, uprn)?),
+            Some((account, volume)) => Ok(account.ledger().approved_of(self.alloc, volume, uprn)?),
             None => Ok(Vec::new(self.alloc)),
         }
     }
@@ -104,7 +104,7 @@ impl MemShelf {
         ensures { IfOk result (λ p. p ≡ property_of (view_of (seen_in self.now) code) uprn) }
     {
         match self.seen(code) {
-            Some((book, volume)) => Ok(book.property_of(volume, uprn)?),
+            Some((account, volume)) => Ok(account.property_of(volume, uprn)?),
             None => Ok(None),
         }
     }
@@ -113,7 +113,7 @@ impl MemShelf {
         ensures { result ≡ approved_on (view_of (seen_in self.now) code) usrn lang }
     {
         match self.seen(code) {
-            Some((book, volume)) => book.ledger().approved_on(volume, usrn, lang),
+            Some((account, volume)) => account.ledger().approved_on(volume, usrn, lang),
             None => false,
         }
     }
@@ -122,7 +122,7 @@ impl MemShelf {
         ensures { result ≡ has_children (view_of (seen_in self.now) code) uprn }
     {
         match self.seen(code) {
-            Some((book, volume)) => book.ledger().has_children(volume, uprn),
+            Some((account, volume)) => account.ledger().has_children(volume, uprn),
             None => false,
         }
     }
@@ -137,8 +137,8 @@ impl MemShelf {
     ) -> Result<Vec<SharedItem>, AllocError>
         ensures { IfOk result (λ items. IsPageAt (content_in self.now).board code volume kind after most items.items) }
     {
-        match self.books.get(code) {
-            Some(book) => Ok(book.ledger().page(self.alloc, volume, kind, after, most)?),
+        match self.accounts.get(code) {
+            Some(account) => Ok(account.ledger().page(self.alloc, volume, kind, after, most)?),
             None => Ok(Vec::new(self.alloc)),
         }
     }

@@ -15,7 +15,7 @@ impl MemShelf {
     pub(crate) fn clear(&mut self)
         ensures keeps { Keeps (seen_in self.old) (seen_in self.new) }
         ensures view { (c : ℕ) → view_of (seen_in self.new) c ≡ view_of (seen_in self.old) c }
-        ensures board { self.new.books ≡ self.old.books }
+        ensures board { self.new.accounts ≡ self.old.accounts }
         ensures files { self.new.files ≡ self.old.files }
         ensures cleared { progress_of self.new.judging ≢ Broken }
         ensures idle { IsNotOpen (progress_of self.old.judging) → progress_of self.new.judging ≡ Idle }
@@ -57,7 +57,7 @@ impl MemShelf {
         requires { progress_of self.old.judging ≡ Open code }
         ensures { Puts seen_in self.old self.new result item }
     {
-        match self.books.put(code, item) {
+        match self.accounts.put(code, item) {
             Ok(()) => Ok(()),
             Err(_) => {
                 self.judging = Judging::Broken;
@@ -71,7 +71,7 @@ impl MemShelf {
         requires { progress_of self.old.judging ≡ Open code }
         ensures { Takes seen_in self.old self.new result key.now }
     {
-        match self.books.take(code, key) {
+        match self.accounts.take(code, key) {
             Ok(()) => Ok(()),
             Err(_) => {
                 self.judging = Judging::Broken;
@@ -85,7 +85,7 @@ impl MemShelf {
         requires { progress_of self.old.judging ≡ Open code }
         ensures { Applies seen_in self.old self.new result }
     {
-        match self.books.close(code, Verdict::Applied) {
+        match self.accounts.close(code, Verdict::Applied) {
             Ok(()) => {
                 self.judging = Judging::Idle;
                 Ok(())

@@ -3,7 +3,7 @@ ghost use Rattle.std.specs.Prelude.{◌≡◌};
 ghost use Rattle.gaz_shelf.specs.Keeper.{Idle, empty_content};
 ghost use Rattle.gaz_shelf.specs.Mem.{content_in, progress_of};
 
-use crate::accounts::Books;
+use crate::accounts::Accounts;
 use crate::files::Files;
 use gaz_ids::Code;
 use gaz_ledger::Seed;
@@ -25,7 +25,7 @@ pub struct MemShelf {
     pub(crate) alloc: Global,
     pub(crate) seed: Seed,
     pub(crate) files: Files,
-    pub(crate) books: Books,
+    pub(crate) accounts: Accounts,
     pub(crate) judging: Judging,
     pub(crate) failures: u64,
 }
@@ -41,7 +41,7 @@ impl MemShelf {
             alloc,
             seed,
             files: Files::new(alloc),
-            books: Books::new(alloc),
+            accounts: Accounts::new(alloc),
             judging: Judging::Idle,
             failures: 0,
         }

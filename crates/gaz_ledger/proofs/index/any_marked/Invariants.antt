@@ -1,7 +1,7 @@
 use Rattle.std.proofs.Common.{◌≡◌}
 use Rattle.std.specs.List.{list_any}
 use Rattle.gaz_views.specs.Words.{entries}
-use Rattle.gaz_ledger.specs.Gazetteer.{view_at}
+use Rattle.gaz_ledger.specs.KeyHistories.{view_at}
 use Rattle.gaz_ledger.specs.Indexes.{listed, marked_at}
 use Rattle.gaz_ledger.proofs.index.any_marked.Given as goal
 

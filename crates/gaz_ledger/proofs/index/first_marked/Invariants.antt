@@ -1,7 +1,7 @@
 use Rattle.std.proofs.Common.{◌≡◌}
 use Rattle.std.specs.List.{filter_map}
 use Rattle.gaz_views.specs.Words.{entries, first_of}
-use Rattle.gaz_ledger.specs.Gazetteer.{view_at}
+use Rattle.gaz_ledger.specs.KeyHistories.{view_at}
 use Rattle.gaz_ledger.specs.Indexes.{listed, marked_item}
 use Rattle.gaz_ledger.proofs.index.first_marked.Given as goal
 

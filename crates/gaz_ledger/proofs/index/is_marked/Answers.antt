@@ -1,6 +1,6 @@
 use Rattle.std.proofs.Common.{◌∙◌, ap, false}
 use Rattle.std.specs.Option.{option_map_or}
-use Rattle.gaz_ledger.proofs.Gazetteers.{row_at}
+use Rattle.gaz_ledger.proofs.KeyHistories.{row_at}
 use Rattle.gaz_ledger.specs.Indexes.{has_mark}
 use Rattle.gaz_ledger.proofs.index.is_marked.Goals as goal
 

@@ -3,7 +3,7 @@ use Rattle.std.specs.Prelude.{Option, Some, None, option_map, if◌then◌else�
 use Rattle.std.specs.Option.{option_and_then}
 use Rattle.gaz_records.specs.declared.item.Item.{Item}
 use Rattle.gaz_records.specs.declared.shared.SharedItem.{SharedItem}
-use Rattle.gaz_ledger.proofs.Gazetteers.{row_at}
+use Rattle.gaz_ledger.proofs.KeyHistories.{row_at}
 use Rattle.gaz_ledger.specs.Indexes.{has_mark}
 use Rattle.gaz_ledger.specs.declared.index.Mark.{Mark}
 use Rattle.gaz_ledger.proofs.index.item_marked.Goals as goal

@@ -8,7 +8,7 @@ use Rattle.gaz_records.specs.declared.item.Item.{Item}
 use Rattle.gaz_records.specs.declared.key.Key.{Key}
 use Rattle.gaz_views.specs.Words.{comes_after, is_of}
 use Rattle.gaz_ledger.proofs.Ranges.{from_start, full, next_ascends, part_ascends, past, told_in, told_out}
-use Rattle.gaz_ledger.specs.Gazetteer.{rows_at, with_versions}
+use Rattle.gaz_ledger.specs.KeyHistories.{rows_at, with_versions}
 use Rattle.gaz_ledger.specs.Ranges.{start_after}
 use Rattle.gaz_ledger.proofs.words.page_of.Goals as goal
 use Rattle.gaz_ledger.proofs.words.page_of.Goals.{then-len-most-via-then-len-most, then-len-most-via-else-len-most+then-is_past}

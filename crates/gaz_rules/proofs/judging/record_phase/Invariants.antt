@@ -2,7 +2,7 @@
 use Rattle.std.proofs.Common.{◌≡◌, ◌≤◌, drop}
 use Rattle.std.specs.List.{fold}
 use Rattle.gaz_register.specs.Registers.{blocks_of}
-use Rattle.gaz_shelf.specs.Keeper.{Open, closed, with_working}
+use Rattle.gaz_shelf.specs.Keeper.{Open, after_abandon, with_working}
 use Rattle.gaz_rules.specs.Judging.{record_faults}
 use Rattle.gaz_rules.specs.Rules.{effect}
 use Rattle.gaz_rules.proofs.judging.record_phase.Given as goal
@@ -18,7 +18,7 @@ invariant-loop-change g l =
       stands : was.stands → now.unharmed → now.stands;
       open_for : now.progress ≡ Open l.code;
       counted : was.failures ≤ now.failures;
-      stay : was.stands → now.unharmed → closed now.content ≡ closed was.content;
+      stay : was.stands → now.unharmed → after_abandon now.content ≡ after_abandon was.content;
       faults : was.stands → now.unharmed → record_faults own now.content.working left ≡ record_faults own was.content.working l.changes;
       view : was.stands → now.unharmed → with_working now.content (fold effect now.content.working left) ≡ with_working was.content (fold effect was.content.working l.changes);
     }

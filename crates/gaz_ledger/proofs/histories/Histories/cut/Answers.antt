@@ -1,6 +1,6 @@
 use Rattle.std.proofs.Common.{◌∙◌, ap}
 use Rattle.gaz_ledger.proofs.Stored.{keys_taken, stores_none}
-use Rattle.gaz_ledger.specs.Gazetteer.{versions_at}
+use Rattle.gaz_ledger.specs.KeyHistories.{versions_at}
 use Rattle.gaz_ledger.proofs.histories.Histories.cut.Goals as goal
 
 pub invariant_of-self : goal.invariant_of-self

@@ -4,7 +4,7 @@ use Rattle.std.specs.HashMap.{HashMap}
 use Rattle.gaz_histories.specs.Histories.{Versions, before}
 use Rattle.gaz_records.specs.declared.key.Key.{Key}
 use Rattle.gaz_ledger.proofs.Stored.{cut_none, emptied, keys_stay, stores, versions_stored}
-use Rattle.gaz_ledger.specs.Gazetteer.{Gazetteer, versions_at}
+use Rattle.gaz_ledger.specs.KeyHistories.{KeyHistories, versions_at}
 use Rattle.gaz_ledger.proofs.histories.Histories.cut_there.Goals as goal
 
 pub returns-in_default-clause-changes : goal.returns-in_default-clause-changes
@@ -13,7 +13,7 @@ returns-in_default-clause-changes c =
     let same : m ≡ c.self.inside.by_key = c.get_mut.follows.holds-at-none in
     let is = ap (λ (n : HashMap Key Versions _). finite.from_entries n.entries) same ∙ c.self.view_is in
     let none = versions_stored c.args.self.now c.self.inside.by_key.entries c.of.result c.self.view_is ∙ sym (ap (λ o. unwrap_or o []) c.in_default.ensures.value) in
-    rw (← c.of.ensures) (λ k. ap (λ (g : Gazetteer). versions_at g k) is ∙ cut_none c.args.self.now c.of.result c.args.volume none k)
+    rw (← c.of.ensures) (λ k. ap (λ (g : KeyHistories). versions_at g k) is ∙ cut_none c.args.self.now c.of.result c.args.volume none k)
 
 pub invariant_of-self-2 : goal.invariant_of-self-2
 invariant_of-self-2 c =

@@ -7,9 +7,9 @@ use Rattle.std.specs.Ordering.{eq_by_cmp}
 use Rattle.gaz_histories.specs.Histories.{Versions, before, item_at}
 use Rattle.gaz_records.specs.Keys.{key_cmp}
 use Rattle.gaz_views.proofs.Outcomes.{where_err}
-use Rattle.gaz_ledger.proofs.Gazetteers.{row_at}
+use Rattle.gaz_ledger.proofs.KeyHistories.{row_at}
 use Rattle.gaz_ledger.proofs.Stored.{keys_put, keys_stay, stored, stores_again, stores_now, was_nowhere, was_there}
-use Rattle.gaz_ledger.specs.Gazetteer.{versions_at}
+use Rattle.gaz_ledger.specs.KeyHistories.{versions_at}
 use Rattle.gaz_ledger.specs.Indexes.{has_mark}
 use Rattle.gaz_ledger.proofs.histories.Histories.set.Goals as goal
 

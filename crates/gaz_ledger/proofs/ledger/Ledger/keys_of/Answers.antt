@@ -2,11 +2,11 @@ use Rattle.std.proofs.Common.{◌∙◌, ap, map}
 use Rattle.std.specs.Prelude.{filter}
 use Rattle.gaz_views.specs.View.{View}
 use Rattle.gaz_views.specs.Words.{entries}
-use Rattle.gaz_ledger.proofs.Gazetteers.{view_ascends}
+use Rattle.gaz_ledger.proofs.KeyHistories.{view_ascends}
 use Rattle.gaz_ledger.proofs.Marked.{in_key_order}
 use Rattle.gaz_ledger.proofs.Marked.{marked_under, nothing_under}
 use Rattle.gaz_ledger.proofs.Ledgers.{finds_from, seen}
-use Rattle.gaz_ledger.specs.Gazetteer.{view_at}
+use Rattle.gaz_ledger.specs.KeyHistories.{view_at}
 use Rattle.gaz_ledger.specs.Indexes.{has_mark, listed}
 use Rattle.gaz_ledger.proofs.ledger.Ledger.keys_of.Goals as goal
 

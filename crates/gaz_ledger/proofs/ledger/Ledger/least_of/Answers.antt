@@ -4,10 +4,10 @@ use Rattle.gaz_records.specs.declared.item.Item.{Item}
 use Rattle.gaz_records.specs.declared.key.Key.{Key}
 use Rattle.gaz_views.specs.View.{View}
 use Rattle.gaz_views.specs.Words.{entries, first_of}
-use Rattle.gaz_ledger.proofs.Gazetteers.{view_ascends}
+use Rattle.gaz_ledger.proofs.KeyHistories.{view_ascends}
 use Rattle.gaz_ledger.proofs.Ledgers.{finds_from, seen}
 use Rattle.gaz_ledger.proofs.Marked.{first_under, in_key_order, no_first}
-use Rattle.gaz_ledger.specs.Gazetteer.{view_at}
+use Rattle.gaz_ledger.specs.KeyHistories.{view_at}
 use Rattle.gaz_ledger.specs.Indexes.{has_mark, listed}
 use Rattle.gaz_ledger.proofs.ledger.Ledger.least_of.Goals as goal
 

@@ -4,7 +4,7 @@ use Rattle.std.specs.Prelude.{◌==◌, ◌-◌, None, option_map}
 use Rattle.gaz_views.proofs.Judgements.{verdict_at}
 use Rattle.gaz_views.specs.Judgements.{Judgement}
 use Rattle.gaz_views.specs.Accounts.{Account}
-use Rattle.gaz_ledger.specs.Gazetteer.{view_at}
+use Rattle.gaz_ledger.specs.KeyHistories.{view_at}
 use Rattle.gaz_ledger.proofs.ledger.Ledger.verdict.Goals as goal
 
 pub returns : goal.returns

@@ -3,4 +3,4 @@ use Rattle.gaz_shelf.proofs.Boards.{never_changed}
 use Rattle.gaz_shelf.proofs.mem_shelf.MemShelf.find_at.Goals as goal
 
 pub returns-in-None : goal.returns-in-None
-returns-in-None c _ = no_item _ (never_changed c.args.self.now.books.by_code.entries c.args.code c.in-None.ensures c.args.volume) c.args.key.now
+returns-in-None c _ = no_item _ (never_changed c.args.self.now.accounts.by_code.entries c.args.code c.in-None.ensures c.args.volume) c.args.key.now

@@ -9,7 +9,7 @@ returns-in-Ok c =
     record {
       harm = λ fine. fine;
       stands = λ _ _ _. tt;
-      done = λ _ _ _. (λ i. record { files = files; board = c.in-Ok.ensures.ok i; working = empty_view }) ∙ kept_open c.args.self.now.judging files c.args.self.now.books.by_code.entries c.args.code c.requires;
+      done = λ _ _ _. (λ i. record { files = files; board = c.in-Ok.ensures.ok i; working = empty_view }) ∙ kept_open c.args.self.now.judging files c.args.self.now.accounts.by_code.entries c.args.code c.requires;
       undone = λ _ _ _. tt;
       on = refl;
       broken = tt;

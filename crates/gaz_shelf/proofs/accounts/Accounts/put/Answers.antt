@@ -2,7 +2,7 @@ use Rattle.std.proofs.Common.{rules, ◌∙◌, ap, unwrap_or}
 use Rattle.gaz_shelf.proofs.Lawful.{after_put, all_lawful, found_lawful, none_found}
 use Rattle.gaz_shelf.proofs.Boards.{no_more}
 use Rattle.gaz_views.specs.Accounts.{Account, empty_account}
-use Rattle.gaz_shelf.proofs.accounts.Books.put.Goals as goal
+use Rattle.gaz_shelf.proofs.accounts.Accounts.put.Goals as goal
 
 pub returns-in_err-put-clause-board : goal.returns-in_err-put-clause-board
 returns-in_err-put-clause-board c =

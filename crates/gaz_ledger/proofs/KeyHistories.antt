@@ -21,7 +21,7 @@ use Rattle.gaz_views.proofs.SameKeys.{same_key}
 use Rattle.gaz_views.specs.View.{View, empty_view, with_item, without_key}
 use Rattle.gaz_views.specs.Words.{entries}
 use Rattle.gaz_ledger.proofs.Versions.{last, none_at_first, no_version, settled, some_version, used_by, used_where_item}
-use Rattle.gaz_ledger.specs.Gazetteer.{ChangesAt, Gazetteer, rows_at, used_at, versions_at, view_at}
+use Rattle.gaz_ledger.specs.KeyHistories.{ChangesAt, KeyHistories, rows_at, used_at, versions_at, view_at}
 
 abbrev Rows : Type 0
 Rows = List (Key × Versions)
@@ -95,18 +95,18 @@ view_ascends v = ascends (entries v) (entries_sorted v.items)
 
 -- ---- what a view has at a key
 
-pub get_at : (g : Gazetteer) (v : ℕ) (k : Key) → finite.get (view_at g v).items k ≡ item_at (versions_at g k) v
+pub get_at : (g : KeyHistories) (v : ℕ) (k : Key) → finite.get (view_at g v).items k ≡ item_at (versions_at g k) v
 unfolding view_at
 get_at g v k =
     finite.get-from_entries keys_total (rows_at (finite.entries g) v) k ∙ same_rows (finite.entries g) (entries_sorted g) v k ∙ ap (λ o. item_at (unwrap_or o []) v) (sym (get-entries g k))
 
-pub contains_at : (g : Gazetteer) (v : ℕ) (k : Key) → set.contains (view_at g v).used k ≡ was_used_at (versions_at g k) v
+pub contains_at : (g : KeyHistories) (v : ℕ) (k : Key) → set.contains (view_at g v).used k ≡ was_used_at (versions_at g k) v
 unfolding view_at
 contains_at g v k =
     set.contains-from_list keys_total (used_at (finite.entries g) v) k ∙ same_used (finite.entries g) (entries_sorted g) v k ∙ ap (λ o. was_used_at (unwrap_or o []) v) (sym (get-entries g k))
 
 -- the row of a key in a view
-pub row_at : (g : Gazetteer) (v : ℕ) (k : Key) → item_at (versions_at g k) v ≡ find key_cmp k (entries (view_at g v))
+pub row_at : (g : KeyHistories) (v : ℕ) (k : Key) → item_at (versions_at g k) v ≡ find key_cmp k (entries (view_at g v))
 row_at g v k = sym (get_at g v k) ∙ get-entries (view_at g v).items k
 
 -- ---- views that are one
@@ -118,17 +118,17 @@ same_views v w items used =
     λ i. record { items = there i; used = marked i }
 
 -- where the same versions have begun
-pub same_view : (g h : Gazetteer) (v w : ℕ) → ((k : Key) → until (versions_at g k) v ≡ until (versions_at h k) w) → view_at g v ≡ view_at h w
+pub same_view : (g h : KeyHistories) (v w : ℕ) → ((k : Key) → until (versions_at g k) v ≡ until (versions_at h k) w) → view_at g v ≡ view_at h w
 same_view g h v w alike = same_views (view_at g v) (view_at h w)
     (λ k. get_at g v k ∙ ap last (alike k) ∙ sym (get_at h w k))
     (λ k. contains_at g v k ∙ used_by (versions_at g k) v ∙ ap some_version (alike k) ∙ sym (used_by (versions_at h k) w) ∙ sym (contains_at h w k))
 
 -- where no more versions begin
-pub settled_view : (g : Gazetteer) (n v w : ℕ) → n ≤ v → n ≤ w → ((k : Key) → All (λ (e : Version). e.0 ≤ n) (versions_at g k)) → view_at g v ≡ view_at g w
+pub settled_view : (g : KeyHistories) (n v w : ℕ) → n ≤ v → n ≤ w → ((k : Key) → All (λ (e : Version). e.0 ≤ n) (versions_at g k)) → view_at g v ≡ view_at g w
 settled_view g n v w le lf all = same_view g g v w (λ k. settled (versions_at g k) n v le (all k) ∙ sym (settled (versions_at g k) n w lf (all k)))
 
 -- before the first volume
-pub first_view : (g : Gazetteer) (n : ℕ) → ((k : Key) → All (λ (e : Version). (0 < e.0) × (e.0 ≤ n)) (versions_at g k)) → view_at g 0 ≡ empty_view
+pub first_view : (g : KeyHistories) (n : ℕ) → ((k : Key) → All (λ (e : Version). (0 < e.0) × (e.0 ≤ n)) (versions_at g k)) → view_at g 0 ≡ empty_view
 unfolding empty_view
 first_view g n all = same_views (view_at g 0) empty_view
     (λ k. get_at g 0 k ∙ ap last (none_at_first (versions_at g k) n (all k)) ∙ sym (finite.get-empty key_cmp k))
@@ -139,7 +139,7 @@ first_view g n all = same_views (view_at g 0) empty_view
 
 -- ---- where the versions of one key change
 
-module _ (g h : Gazetteer) (key : Key) (vs : Versions) (change : ChangesAt g h key vs) where
+module _ (g h : KeyHistories) (key : Key) (vs : Versions) (change : ChangesAt g h key vs) where
   -- what is asked of versions is the same at all keys where it is at this one
   pub alike_at : {X : Type 0} (f : Versions → X) → f vs ≡ f (versions_at g key) → (k : Key) → f (versions_at h k) ≡ f (versions_at g k)
   alike_at f same_here k = ap f (change k) ∙ by_same (eq_by_cmp key_cmp key k) refl
@@ -186,7 +186,7 @@ module _ (g h : Gazetteer) (key : Key) (vs : Versions) (change : ChangesAt g h k
       (λ k. contains_at h n k ∙ alike_at (λ ws. was_used_at ws n) (used ∙ sym (used_where_item (versions_at g key) n i there)) k ∙ sym (contains_at g n k))
 
 -- where nothing stands, there is nothing to take
-pub none_taken : (g : Gazetteer) (n : ℕ) (key : Key) → item_at (versions_at g key) n ≡ None → view_at g n ≡ without_key (view_at g n) key
+pub none_taken : (g : KeyHistories) (n : ℕ) (key : Key) → item_at (versions_at g key) n ≡ None → view_at g n ≡ without_key (view_at g n) key
 none_taken g n key none = same_views (view_at g n) (without_key (view_at g n) key) (λ k. by_same k (eq_by_cmp key_cmp k key) refl ∙ sym (finite.get-remove keys_total (view_at g n).items key k)) (λ k. refl)
   where
     by_same : (k : Key) (b : Bool) → eq_by_cmp key_cmp k key ≡ b → finite.get (view_at g n).items k ≡ cond b None (finite.get (view_at g n).items k)

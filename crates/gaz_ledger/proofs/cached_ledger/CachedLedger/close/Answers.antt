@@ -3,7 +3,7 @@ use Rattle.std.proofs.Common.{◌≡◌, ◌∙◌, ap, subst, sym}
 use Rattle.gaz_views.specs.Accounts.{Account, last_of}
 use Rattle.gaz_ledger.proofs.Known.{last_judged}
 use Rattle.gaz_ledger.specs.Properties.{AreSo}
-use Rattle.gaz_ledger.proofs.book.Book.close.Goals as goal
+use Rattle.gaz_ledger.proofs.cached_ledger.CachedLedger.close.Goals as goal
 
 pub learn_all-requires : goal.learn_all-requires
 learn_all-requires c =

@@ -3,7 +3,7 @@ use Rattle.gaz_shelf.proofs.Lawful.{after_close, all_lawful, found_lawful, none_
 use Rattle.gaz_shelf.proofs.Boards.{no_more, one_more}
 use Rattle.gaz_views.proofs.Outcomes.{where_err}
 use Rattle.gaz_views.specs.Accounts.{Account, empty_account}
-use Rattle.gaz_shelf.proofs.accounts.Books.close.Goals as goal
+use Rattle.gaz_shelf.proofs.accounts.Accounts.close.Goals as goal
 
 pub returns-in_err-close-clause-err : goal.returns-in_err-close-clause-err
 returns-in_err-close-clause-err c =

@@ -2,7 +2,7 @@
 use Rattle.std.proofs.Common.{◌≡◌, ◌∙◌, ap, subst, sym}
 use Rattle.gaz_views.specs.Accounts.{Account, last_of}
 use Rattle.gaz_ledger.specs.Properties.{AreSo}
-use Rattle.gaz_ledger.proofs.book.Book.undo.Goals as goal
+use Rattle.gaz_ledger.proofs.cached_ledger.CachedLedger.undo.Goals as goal
 
 pub invariant_of-self : goal.invariant_of-self
 invariant_of-self c =

@@ -5,7 +5,7 @@ use Rattle.gaz_views.specs.Accounts.{Account, last_of}
 use Rattle.gaz_views.specs.View.{without_key}
 use Rattle.gaz_ledger.proofs.Known.{fewer, others_taken, still_so, unmarked_taken}
 use Rattle.gaz_ledger.specs.Properties.{AreSo}
-use Rattle.gaz_ledger.proofs.book.Book.take.Goals as goal
+use Rattle.gaz_ledger.proofs.cached_ledger.CachedLedger.take.Goals as goal
 
 pub invariant_of-self-2 : goal.invariant_of-self-2
 invariant_of-self-2 c =

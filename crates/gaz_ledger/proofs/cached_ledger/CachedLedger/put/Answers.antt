@@ -9,7 +9,7 @@ use Rattle.gaz_ledger.proofs.Known.{fewer, marked_put, others_put, still_so}
 use Rattle.gaz_ledger.specs.Indexes.{has_mark, marked_at}
 use Rattle.gaz_ledger.specs.Properties.{AreSo, is_blpu}
 use Rattle.gaz_ledger.specs.declared.index.Mark.{Mark}
-use Rattle.gaz_ledger.proofs.book.Book.put.Goals as goal
+use Rattle.gaz_ledger.proofs.cached_ledger.CachedLedger.put.Goals as goal
 
 pub invariant_of-self-2 : goal.invariant_of-self-2
 invariant_of-self-2 c =

@@ -5,7 +5,7 @@ use Rattle.gaz_shelf.proofs.Boards.{no_more}
 use Rattle.gaz_shelf.specs.Board.{Board}
 use Rattle.gaz_views.specs.Accounts.{Account, empty_account}
 use Rattle.gaz_shelf.specs.Accounts.{board_of}
-use Rattle.gaz_shelf.proofs.accounts.Books.begin.Goals as goal
+use Rattle.gaz_shelf.proofs.accounts.Accounts.begin.Goals as goal
 
 pub returns-in-Some-clause-board : goal.returns-in-Some-clause-board
 returns-in-Some-clause-board c =

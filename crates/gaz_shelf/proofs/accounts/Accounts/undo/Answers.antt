@@ -2,7 +2,7 @@ use Rattle.std.proofs.Common.{rules, ◌∙◌, ap, unwrap_or}
 use Rattle.gaz_shelf.proofs.Lawful.{after_undo, all_lawful, found_lawful, none_found}
 use Rattle.gaz_shelf.proofs.Boards.{no_more}
 use Rattle.gaz_views.specs.Accounts.{Account, empty_account}
-use Rattle.gaz_shelf.proofs.accounts.Books.undo.Goals as goal
+use Rattle.gaz_shelf.proofs.accounts.Accounts.undo.Goals as goal
 
 pub returns-in-Some-clause-board : goal.returns-in-Some-clause-board
 returns-in-Some-clause-board c =

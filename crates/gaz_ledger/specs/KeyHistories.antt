@@ -12,15 +12,15 @@ use Rattle.gaz_records.specs.declared.key.Key.{Key}
 use Rattle.gaz_views.specs.View.{View}
 
 -- what stood at each key that was ever used
-abbrev pub Gazetteer : Type 0
-Gazetteer = finite.FinMap key_cmp Versions
+abbrev pub KeyHistories : Type 0
+KeyHistories = finite.FinMap key_cmp Versions
 
 -- what stood at a key; nothing where it was never used
-abbrev pub versions_at : Gazetteer → Key → Versions
+abbrev pub versions_at : KeyHistories → Key → Versions
 versions_at g k = unwrap_or (finite.get g k) []
 
 -- these are the versions of a key now, and all others are as they were
-abbrev pub ChangesAt : Gazetteer → Gazetteer → Key → Versions → Type 0
+abbrev pub ChangesAt : KeyHistories → KeyHistories → Key → Versions → Type 0
 ChangesAt old new key vs = (k : Key) → versions_at new k ≡ (if eq_by_cmp key_cmp key k then vs else versions_at old k)
 
 -- ---- as it is kept: entries in any order, and their keys in order beside them
@@ -47,5 +47,5 @@ rows_at es volume = filter_map (λ e. option_map (λ i. (e.0, i)) (item_at e.1 v
 abbrev pub used_at : List (Key × Versions) → ℕ → List Key
 used_at es volume = map (λ e. e.0) (filter (λ e. was_used_at e.1 volume) es)
 
-unfoldable pub view_at : Gazetteer → ℕ → View
+unfoldable pub view_at : KeyHistories → ℕ → View
 view_at g volume = record { items = finite.from_entries (rows_at (finite.entries g) volume); used = set.from_list (used_at (finite.entries g) volume) }

@@ -18,7 +18,7 @@ use std::marker::Model;
 
 /// A custodian's ledger. Properties that have an address, or had one, stand beside it, so that a look-up finds both items by one search.
 #[derive(Drop)]
-pub struct Book {
+pub struct CachedLedger {
     ledger: Ledger,
     // They are the same in the last view and in the working one. What isn't known is read off the ledger.
     known: Properties,
@@ -26,7 +26,7 @@ pub struct Book {
     changed: Vec<Key>,
 }
 
-impl Model for Book {
+impl Model for CachedLedger {
     ghost use Rattle.gaz_views.specs.Accounts.{Account, last_of};
     ghost use Rattle.gaz_views.specs.ViewCode.{account_code};
     ghost use Rattle.gaz_ledger.specs.Properties.{AreSo};
@@ -40,12 +40,12 @@ impl Model for Book {
     ghost invariant = { λ b. AreSo b.known (last_of b.ledger) × AreSo b.known b.ledger.working };
 }
 
-impl Book {
+impl CachedLedger {
     /// No judgements.
-    pub fn new(alloc: Global, seed: Seed) -> Book
+    pub fn new(alloc: Global, seed: Seed) -> CachedLedger
         ensures { result ≡ empty_account }
     {
-        Book {
+        CachedLedger {
             ledger: Ledger::new(alloc, seed),
             known: Properties::new(alloc, seed),
             changed: Vec::new(alloc),
