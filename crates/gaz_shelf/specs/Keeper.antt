@@ -110,7 +110,7 @@ view_of s c = viewed s.progress s.content c
 
 -- no failure is forgotten, and one of the store is counted
 pub record Counts {T : Type 0} (old new : Seen) (result : Result T ShelfFault) : Type 0 where
-  pub after_keep : old.failures ≤ new.failures
+  pub kept : old.failures ≤ new.failures
   pub store : IfErr result (λ e. e ≡ Store → old.failures < new.failures)
 
 -- a judgement in progress goes on, and a broken one stays so or is cleared
