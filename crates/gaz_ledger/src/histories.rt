@@ -3,7 +3,7 @@ ghost use Rattle.std.specs.Prelude.{◌≡◌, ◌⊎◌, ◌++◌, ◌∷◌, [
 ghost use Rattle.std.specs.Bool.{OnTrue};
 ghost use Rattle.std.specs.Option.{option_map_or};
 ghost use Rattle.std.specs.FinMap as finite;
-ghost use Rattle.gaz_histories.specs.Histories.{before, item_at, was_used_at};
+ghost use Rattle.gaz_histories.specs.Histories.{before, standing_at, was_used_at};
 ghost use Rattle.gaz_records.specs.declared.key.Key.{Key};
 ghost use Rattle.gaz_views.specs.Words.{entries, page};
 ghost use Rattle.gaz_ledger.specs.KeyHistories.{ChangesAt, versions_at, view_at};
@@ -24,7 +24,7 @@ use std::marker::Model;
 #[derive(Drop)]
 pub struct Histories {
     alloc: Global,
-    by_key: HashMap<SortKey, History, Seed>,
+    by_key: HashMap<SortKey, History<SharedItem>, Seed>,
     // The same keys, in their order: pages go by it, and all else by the hashes.
     order: BTreeSet<SortKey>,
 }
@@ -57,10 +57,10 @@ impl Histories {
 
     /// The item at a key after a volume.
     pub fn item(&self, volume: u64, key: &Key) -> Option<&SharedItem>
-        ensures { option_map (λ i. i.now) result ≡ item_at (versions_at self.now key.now) volume }
+        ensures { option_map (λ i. i.now) result ≡ standing_at (versions_at self.now key.now) volume }
     {
         match self.by_key.get(&SortKey::of(key)) {
-            Some(history) => history.item_at(volume),
+            Some(history) => history.standing_at(volume),
             None => None,
         }
     }
@@ -143,11 +143,11 @@ impl Histories {
 
 // From a volume on this item stands in a history, or none any more. Answers the marks of the item that stood there. The
 // first version of all needs no memory.
-fn set_in(history: &mut History, volume: u64, item: Option<SharedItem>) -> Result<Marks, AllocError>
+fn set_in(history: &mut History<SharedItem>, volume: u64, item: Option<SharedItem>) -> Result<Marks, AllocError>
     ensures ok { OnOk result (history.new ≡ before history.old volume ++ (volume, item) ∷ []) }
     ensures err { OnErr result (history.new ≡ history.old) }
     ensures first { history.old ≡ [] → IsOk result }
-    ensures marks { IfOk result (λ was. (m : Mark) → option_map_or (has_mark m) (item_at history.old volume) false ≡ true → (was.0 ≡ Some m) ⊎ (was.1 ≡ Some m)) }
+    ensures marks { IfOk result (λ was. (m : Mark) → option_map_or (has_mark m) (standing_at history.old volume) false ≡ true → (was.0 ≡ Some m) ⊎ (was.1 ≡ Some m)) }
 {
     let was = marks_in(history, volume);
     history.set(volume, item)?;
@@ -155,10 +155,10 @@ fn set_in(history: &mut History, volume: u64, item: Option<SharedItem>) -> Resul
 }
 
 // The marks of the item that a history has after a volume.
-fn marks_in(history: &History, volume: u64) -> Marks
-    ensures { (m : Mark) → option_map_or (has_mark m) (item_at history.now volume) false ≡ true → (result.0 ≡ Some m) ⊎ (result.1 ≡ Some m) }
+fn marks_in(history: &History<SharedItem>, volume: u64) -> Marks
+    ensures { (m : Mark) → option_map_or (has_mark m) (standing_at history.now volume) false ≡ true → (result.0 ≡ Some m) ⊎ (result.1 ≡ Some m) }
 {
-    match history.item_at(volume) {
+    match history.standing_at(volume) {
         Some(item) => marks_of(item),
         None => (None, None),
     }

@@ -4,7 +4,7 @@ ghost use Rattle.std.specs.Option.{IfSome};
 ghost use Rattle.std.specs.List.{filter_map, list_any};
 ghost use Rattle.std.specs.Option.{option_map_or};
 ghost use Rattle.std.specs.Ordering.{eq_by_cmp};
-ghost use Rattle.gaz_histories.specs.Histories.{item_at};
+ghost use Rattle.gaz_histories.specs.Histories.{standing_at};
 ghost use Rattle.gaz_records.specs.Keys.{key_cmp};
 ghost use Rattle.gaz_records.specs.declared.key.Key.{Key};
 ghost use Rattle.gaz_views.specs.Words.{entries, first_of};
