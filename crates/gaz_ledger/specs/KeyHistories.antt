@@ -1,5 +1,5 @@
 -- A gazetteer through its volumes.
-use Rattle.std.specs.Prelude.{◌≡◌, ℕ, if◌then◌else◌, List, [], map, filter, unwrap_or, option_map, is_some}
+use Rattle.std.specs.Prelude.{◌≡◌, ◌&&◌, ℕ, if◌then◌else◌, List, [], map, filter, Option, None, unwrap_or, option_map, is_some}
 use Rattle.std.specs.FinMap as finite
 use Rattle.std.specs.FinSet as set
 use Rattle.std.specs.List.{filter_map, list_any}
@@ -8,8 +8,10 @@ use Rattle.std.specs.Ordering.{eq_by_cmp}
 use Rattle.gaz_histories.specs.Histories.{Version, Versions, standing_at, was_used_at}
 use Rattle.gaz_records.specs.Keys.{key_cmp}
 use Rattle.gaz_records.specs.declared.item.Item.{Item}
+use Rattle.gaz_records.specs.declared.item.Kind.{Kind}
 use Rattle.gaz_records.specs.declared.key.Key.{Key}
 use Rattle.gaz_views.specs.View.{View}
+use Rattle.gaz_views.specs.Words.{comes_after, is_of}
 
 -- the versions of a key at which items stand
 abbrev pub ItemVersion : Type 0
@@ -50,9 +52,20 @@ HasJustTheKeysOf ks es = (k : Key) → list_any (eq_by_cmp key_cmp k) ks ≡ is_
 abbrev pub rows_at : List (Key × ItemVersions) → ℕ → List (Key × Item)
 rows_at es volume = filter_map (λ e. option_map (λ i. (e.0, i)) (standing_at e.1 volume)) es
 
+-- the items of a kind among such rows that come after a key
+abbrev pub items_after : Kind → Option Key → List (Key × Item) → List Item
+items_after kind after rows = map (λ e. e.1) (filter (λ e. is_of kind e.0 && comes_after after e.0) rows)
+
+-- what stands at a key of the kind after a volume; nothing at keys of other kinds
+abbrev pub item_of_kind : Kind → List (Key × ItemVersions) → Key → ℕ → Option Item
+item_of_kind kind es k volume = if is_of kind k then standing_at (versions_among es k) volume else None
+
 -- the keys that were used until then
 abbrev pub used_at : List (Key × ItemVersions) → ℕ → List Key
 used_at es volume = map (λ e. e.0) (filter (λ e. was_used_at e.1 volume) es)
 
 unfoldable pub view_at : KeyHistories → ℕ → View
-view_at g volume = record { items = finite.from_entries (rows_at (finite.entries g) volume); used = set.from_list (used_at (finite.entries g) volume) }
+view_at g volume = record {
+  items = finite.from_entries (rows_at (finite.entries g) volume);
+  used = set.from_list (used_at (finite.entries g) volume);
+}

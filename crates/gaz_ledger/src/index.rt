@@ -1,14 +1,12 @@
 //! Where a view's items are found beside their keys.
-ghost use Rattle.std.specs.Prelude.{◌≡◌, ◌&&◌, ◌||◌, ◌⊎◌, ◌<◌, ◌^◌, ◌-◌, [], filter, not, true, IfOk, OnOk, OnErr, Some, option_map};
+ghost use Rattle.std.specs.Prelude.{◌≡◌, ◌⊎◌, ◌<◌, ◌^◌, ◌-◌, [], filter, true, IfOk, OnOk, OnErr, Some, option_map};
 ghost use Rattle.std.specs.Option.{IfSome};
 ghost use Rattle.std.specs.List.{filter_map, list_any};
 ghost use Rattle.std.specs.Option.{option_map_or};
-ghost use Rattle.std.specs.Ordering.{eq_by_cmp};
-ghost use Rattle.gaz_histories.specs.Histories.{standing_at};
-ghost use Rattle.gaz_records.specs.Keys.{key_cmp};
 ghost use Rattle.gaz_records.specs.declared.key.Key.{Key};
 ghost use Rattle.gaz_views.specs.Words.{entries, first_of};
-ghost use Rattle.gaz_ledger.specs.KeyHistories.{versions_at, view_at};
+ghost use Rattle.gaz_ledger.specs.Changing.{AddsUnder, AreMarksAt, IsUnderItsMarks, KeepsUnder, SameUnder, TakesUnder};
+ghost use Rattle.gaz_ledger.specs.KeyHistories.{view_at};
 ghost use Rattle.gaz_ledger.specs.Indexes.{has_mark, is_under, keys_under, listed, marked_at, marked_item, same_mark};
 ghost use Rattle.gaz_ledger.specs.declared.index.Mark.{Mark};
 
@@ -105,17 +103,17 @@ impl Index {
 
     /// Adds a key under a mark. Where memory runs out, nothing is added.
     pub fn add(&mut self, mark: Mark, key: Key) -> Result<(), AllocError>
-        ensures ok { OnOk result ((m : Mark) → (k : Key) → is_under self.new m k ≡ ((same_mark mark m && eq_by_cmp key_cmp key k) || is_under self.old m k)) }
-        ensures err { OnErr result ((m : Mark) → (k : Key) → is_under self.new m k ≡ is_under self.old m k) }
+        ensures ok { OnOk result (AddsUnder self.old self.new mark key) }
+        ensures err { OnErr result (SameUnder self.old self.new) }
     {
         let keys = self.by_mark.entry(mark)?.or_insert(Keys::one(key));
         keys.insert(self.alloc, key)
     }
 
-    // The same, where a mark is given.
+    // Adds a key under a mark, where one is given. Where memory runs out, nothing is added.
     fn add_some(&mut self, mark: Option<Mark>, key: &Key) -> Result<(), AllocError>
         ensures ok { OnOk result ((m : Mark) → mark ≡ Some m → is_under self.new m key.now ≡ true) }
-        ensures kept { (m : Mark) → (k : Key) → is_under self.old m k ≡ true → is_under self.new m k ≡ true }
+        ensures kept { KeepsUnder self.old self.new }
     {
         match mark {
             Some(mark) => self.add(mark, *key),
@@ -125,8 +123,8 @@ impl Index {
 
     /// Adds a key under each mark of its item. Where memory runs out, it may be under some of them.
     pub fn add_marks(&mut self, item: &Item, key: &Key) -> Result<(), AllocError>
-        ensures ok { OnOk result ((m : Mark) → has_mark m item.now ≡ true → is_under self.new m key.now ≡ true) }
-        ensures kept { (m : Mark) → (k : Key) → is_under self.old m k ≡ true → is_under self.new m k ≡ true }
+        ensures ok { OnOk result (IsUnderItsMarks self.new key.now item.now) }
+        ensures kept { KeepsUnder self.old self.new }
     {
         let (first, second) = marks_of(item);
         self.add_some(first, key)?;
@@ -134,10 +132,10 @@ impl Index {
         Ok(())
     }
 
-    /// The same, where there is an item.
+    /// Adds a key under each mark of its item, where there is one. Where memory runs out, it may be under some of them.
     pub fn add_marks_of(&mut self, item: &Option<SharedItem>, key: &Key) -> Result<(), AllocError>
-        ensures ok { OnOk result (IfSome item.now (λ i. (m : Mark) → has_mark m i ≡ true → is_under self.new m key.now ≡ true)) }
-        ensures kept { (m : Mark) → (k : Key) → is_under self.old m k ≡ true → is_under self.new m k ≡ true }
+        ensures ok { OnOk result (IfSome item.now (IsUnderItsMarks self.new key.now)) }
+        ensures kept { KeepsUnder self.old self.new }
     {
         match item {
             Some(item) => self.add_marks(item, key),
@@ -147,7 +145,7 @@ impl Index {
 
     /// Takes a key from under a mark.
     pub fn remove(&mut self, mark: Mark, key: &Key)
-        ensures { (m : Mark) → (k : Key) → is_under self.new m k ≡ (not (same_mark mark m && eq_by_cmp key_cmp key.now k) && is_under self.old m k) }
+        ensures { TakesUnder self.old self.new mark key.now }
     {
         let Some(keys) = self.by_mark.get_mut(&mark) else {
             return;
@@ -171,7 +169,7 @@ pub fn is_marked(histories: &Histories, volume: u64, mark: &Mark, key: &Key) -> 
 
 /// The marks of the item under the key after a volume.
 pub fn marks_at(histories: &Histories, volume: u64, key: &Key) -> Marks
-    ensures { (m : Mark) → marked_at (entries (view_at histories.now volume)) m key.now ≡ true → (result.0 ≡ Some m) ⊎ (result.1 ≡ Some m) }
+    ensures { AreMarksAt (view_at histories.now volume) key.now result }
 {
     match histories.item(volume, key) {
         Some(item) => marks_of(item),
@@ -187,7 +185,8 @@ pub fn keys_marked(
     mark: &Mark,
     keys: &Keys,
 ) -> Result<Vec<Key>, AllocError>
-    ensures { IfOk result (λ ks. ks.items ≡ filter (marked_at (entries (view_at histories.now volume)) mark.now) (listed keys.now)) }
+    ensures { IfOk result (λ ks. ks.items
+        ≡ filter (marked_at (entries (view_at histories.now volume)) mark.now) (listed keys.now)) }
 {
     let mut found = Vec::new(alloc);
     match keys {
@@ -209,7 +208,8 @@ pub fn keys_marked(
 
 /// Whether an item with the mark stands under one of these keys after a volume.
 pub fn any_marked(histories: &Histories, volume: u64, mark: &Mark, keys: &Keys) -> bool
-    ensures { result ≡ list_any (marked_at (entries (view_at histories.now volume)) mark.now) (listed keys.now) }
+    ensures { result
+        ≡ list_any (marked_at (entries (view_at histories.now volume)) mark.now) (listed keys.now) }
 {
     match keys {
         Keys::One(key) => is_marked(histories, volume, mark, key),
@@ -231,7 +231,8 @@ fn item_marked<'a>(
     mark: &Mark,
     key: &Key,
 ) -> Option<&'a SharedItem>
-    ensures { option_map (λ i. i.now) result ≡ marked_item (entries (view_at histories.now volume)) mark.now key.now }
+    ensures { option_map (λ i. i.now) result
+        ≡ marked_item (entries (view_at histories.now volume)) mark.now key.now }
 {
     let item = histories.item(volume, key)?;
     if mark.is_on(item) { Some(item) } else { None }
@@ -244,7 +245,8 @@ pub fn first_marked<'a>(
     mark: &Mark,
     keys: &Keys,
 ) -> Option<&'a SharedItem>
-    ensures { option_map (λ i. i.now) result ≡ first_of (filter_map (marked_item (entries (view_at histories.now volume)) mark.now) (listed keys.now)) }
+    ensures { option_map (λ i. i.now) result ≡ first_of
+        (filter_map (marked_item (entries (view_at histories.now volume)) mark.now) (listed keys.now)) }
 {
     match keys {
         Keys::One(key) => item_marked(histories, volume, mark, key),

@@ -8,6 +8,7 @@ mod index;
 mod keys;
 pub mod laws;
 mod ledger;
+mod ledger_finding;
 mod properties;
 mod seed;
 mod words;
