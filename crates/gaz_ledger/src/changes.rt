@@ -6,7 +6,8 @@ ghost use Rattle.gaz_ledger.specs.KeyHistories.{view_at};
 ghost use Rattle.gaz_ledger.specs.Ledgers.{Finds, IsLedger};
 
 use crate::histories::Histories;
-use crate::index::{Index, Mark, Marks, is_marked, marks_at, marks_of};
+use crate::index::{Index, Mark, Marks, marks_of};
+use crate::marked_items::{is_marked, marks_at};
 use gaz_records::{Key, SharedItem};
 use std::alloc::AllocError;
 

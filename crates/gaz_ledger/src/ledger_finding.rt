@@ -9,8 +9,9 @@ ghost use Rattle.gaz_views.specs.Words.{has_children, page, property_of};
 ghost use Rattle.gaz_ledger.specs.Changing.{entries_with};
 ghost use Rattle.gaz_ledger.specs.Indexes.{has_mark};
 
-use crate::index::{Mark, any_marked, first_marked, keys_marked};
+use crate::index::Mark;
 use crate::ledger::Ledger;
+use crate::marked_items::{any_marked, first_marked, keys_marked};
 use gaz_ids::{Lang, Uprn, Usrn};
 use gaz_records::{Key, Kind, SharedItem};
 use gaz_views::{Property, share_found};

@@ -9,6 +9,7 @@ mod keys;
 pub mod laws;
 mod ledger;
 mod ledger_finding;
+mod marked_items;
 mod properties;
 mod seed;
 mod words;
