@@ -11,8 +11,7 @@ use Rattle.std.proofs.lemmas.List.{append-nil}
 use Rattle.std.proofs.lemmas.List.Elements.{filter-append}
 use Rattle.std.proofs.lemmas.List.Kept.{IsStrictlySortedBy-filter}
 use Rattle.std.specs.Cmp.{nat_cmp_is}
-use Rattle.gaz_records.specs.declared.item.Item.{Item}
-use Rattle.gaz_histories.specs.Histories.{Ascends, Version, Versions, before, item_at, until, was_used_at}
+use Rattle.gaz_histories.specs.Histories.{Ascends, Version, Versions, before, standing_at, until, was_used_at}
 
 module _ {X Y : Type 0} (f : X → Y) (n : Y → ℕ) where
   below : (x : ℕ) (xs : List X) → AllByRecursion (λ y. nat_cmp x y ≡ Less) (map n (map f xs)) → (j : ℕ) (d : X) → j < length xs → x < n (f (slice_index_or xs j d))
@@ -43,19 +42,19 @@ module _ {X Y : Type 0} (f : X → Y) (p : Y → Bool) where
 
 -- ---- versions
 
-pub last_of : (a : Option Item) (vs : Versions) (n : ℕ) (d : Version) → n < length vs → fold (λ i v. v.1) a (take (suc n) vs) ≡ (slice_index_or vs n d).1
+pub last_of : {T : Type 0} (a : Option T) (vs : Versions T) (n : ℕ) (d : Version T) → n < length vs → fold (λ i v. v.1) a (take (suc n) vs) ≡ (slice_index_or vs n d).1
 last_of a [] n d lt = absurd (omega arith)
 last_of a (v ∷ vs) zero d lt = refl
 last_of a (v ∷ vs) (suc n) d lt = last_of v.1 vs n d (omega arith)
 
-volumes_before : (vs : Versions) (volume : ℕ) → map (λ v. v.0) (before vs volume) ≡ filter (λ n. nat_lt n volume) (map (λ v. v.0) vs)
+volumes_before : {T : Type 0} (vs : Versions T) (volume : ℕ) → map (λ v. v.0) (before vs volume) ≡ filter (λ n. nat_lt n volume) (map (λ v. v.0) vs)
 volumes_before [] volume = refl
 volumes_before (v ∷ vs) volume = elim (nat_lt v.0 volume) as (λ b. map (λ w. w.0) (cond b (v ∷ before vs volume) (before vs volume)) ≡ cond b (v.0 ∷ filter (λ n. nat_lt n volume) (map (λ w. w.0) vs)) (filter (λ n. nat_lt n volume) (map (λ w. w.0) vs))) [
   | true ↦ ap (λ l. v.0 ∷ l) (volumes_before vs volume)
   | false ↦ volumes_before vs volume
 ]
 
-pub before_ascends : (vs : Versions) (volume : ℕ) → Ascends vs → Ascends (before vs volume)
+pub before_ascends : {T : Type 0} (vs : Versions T) (volume : ℕ) → Ascends vs → Ascends (before vs volume)
 before_ascends vs volume h = subst (IsStrictlySortedBy nat_cmp) (sym (volumes_before vs volume)) (IsStrictlySortedBy-filter nat_cmp (λ n. nat_lt n volume) (map (λ v. v.0) vs) h)
 
 end_behind : (x n : ℕ) (ks : List ℕ) → AllByRecursion (λ y. nat_cmp x y ≡ Less) ks → nat_cmp x n ≡ Less → AllByRecursion (λ y. nat_cmp x y ≡ Less) (ks ++ n ∷ [])
@@ -67,7 +66,7 @@ unfolding IsStrictlySortedBy
 with_end n [] h all = (tt, tt)
 with_end n (k ∷ ks) h all = (end_behind k n ks h.0 all.0, with_end n ks h.1 all.1)
 
-all_below : (vs : Versions) (volume : ℕ) → AllByRecursion (λ k. nat_cmp k volume ≡ Less) (map (λ v. v.0) (before vs volume))
+all_below : {T : Type 0} (vs : Versions T) (volume : ℕ) → AllByRecursion (λ k. nat_cmp k volume ≡ Less) (map (λ v. v.0) (before vs volume))
 all_below [] volume = tt
 all_below (v ∷ vs) volume = by_test (all_below vs volume) (nat_lt v.0 volume) refl
   where
@@ -76,11 +75,11 @@ all_below (v ∷ vs) volume = by_test (all_below vs volume) (nat_lt v.0 volume) 
     by_test rest true e = (sym (nat_cmp_is v.0 volume Less (grind (arith, nat_tests))), rest)
     by_test rest false e = rest
 
-volumes_added : (vs : Versions) (v : Version) → map (λ w. w.0) (vs ++ v ∷ []) ≡ map (λ w. w.0) vs ++ v.0 ∷ []
+volumes_added : {T : Type 0} (vs : Versions T) (v : Version T) → map (λ w. w.0) (vs ++ v ∷ []) ≡ map (λ w. w.0) vs ++ v.0 ∷ []
 volumes_added [] v = refl
 volumes_added (w ∷ vs) v = ap (λ l. w.0 ∷ l) (volumes_added vs v)
 
-pub set_ascends : (vs : Versions) (volume : ℕ) (i : Option Item) → Ascends vs → Ascends (before vs volume ++ (volume, i) ∷ [])
+pub set_ascends : {T : Type 0} (vs : Versions T) (volume : ℕ) (i : Option T) → Ascends vs → Ascends (before vs volume ++ (volume, i) ∷ [])
 set_ascends vs volume i h =
     subst (IsStrictlySortedBy nat_cmp) (sym (volumes_added (before vs volume) (volume, i)))
     (with_end volume (map (λ v. v.0) (before vs volume)) (before_ascends vs volume h) (all_below vs volume))
@@ -96,17 +95,17 @@ unfolding IsStrictlySortedBy
 split_end [] n h = (tt, tt)
 split_end (k ∷ ks) n h = let here = in_front k ks n h.0 in let rest = split_end ks n h.1 in ((here.0, rest.0), (here.1, rest.1))
 
-parts : (vs : Versions) (v : Version) → Ascends (vs ++ v ∷ []) → Ascends vs × AllByRecursion (λ k. nat_cmp k v.0 ≡ Less) (map (λ w. w.0) vs)
+parts : {T : Type 0} (vs : Versions T) (v : Version T) → Ascends (vs ++ v ∷ []) → Ascends vs × AllByRecursion (λ k. nat_cmp k v.0 ≡ Less) (map (λ w. w.0) vs)
 parts vs v h = split_end (map (λ w. w.0) vs) v.0 (subst (IsStrictlySortedBy nat_cmp) (volumes_added vs v) h)
 
-pub front_ascends : (vs : Versions) (v : Version) → Ascends (vs ++ v ∷ []) → Ascends vs
+pub front_ascends : {T : Type 0} (vs : Versions T) (v : Version T) → Ascends (vs ++ v ∷ []) → Ascends vs
 front_ascends vs v h = (parts vs v h).0
 
 -- all begin before a volume where the last one does
-pub all_before : (vs : Versions) (v : Version) (volume : ℕ) → Ascends (vs ++ v ∷ []) → nat_lt v.0 volume ≡ true → before (vs ++ v ∷ []) volume ≡ vs ++ v ∷ []
-all_before vs v volume h is = by_steps vs (parts vs v h).1
+pub all_before : {T : Type 0} (vs : Versions T) (v : Version T) (volume : ℕ) → Ascends (vs ++ v ∷ []) → nat_lt v.0 volume ≡ true → before (vs ++ v ∷ []) volume ≡ vs ++ v ∷ []
+all_before {T} vs v volume h is = by_steps vs (parts vs v h).1
   where
-    by_steps : (ws : Versions) → AllByRecursion (λ k. nat_cmp k v.0 ≡ Less) (map (λ w. w.0) ws) → before (ws ++ v ∷ []) volume ≡ ws ++ v ∷ []
+    by_steps : (ws : Versions T) → AllByRecursion (λ k. nat_cmp k v.0 ≡ Less) (map (λ w. w.0) ws) → before (ws ++ v ∷ []) volume ≡ ws ++ v ∷ []
     by_steps [] all = ap (λ b. cond b (v ∷ []) []) is
     by_steps (w ∷ ws) all =
         let less = ranked w.0 v.0 Less (sym all.0) in
@@ -114,14 +113,14 @@ all_before vs v volume h is = by_steps vs (parts vs v h).1
         ap (λ b. cond b (w ∷ before (ws ++ v ∷ []) volume) (before (ws ++ v ∷ []) volume)) here ∙ ap (λ l. w ∷ l) (by_steps ws all.1)
 
 -- only those in front of it begin before a volume where it does not
-pub front_before : (vs : Versions) (v : Version) (volume : ℕ) → nat_lt v.0 volume ≡ false → before (vs ++ v ∷ []) volume ≡ before vs volume
+pub front_before : {T : Type 0} (vs : Versions T) (v : Version T) (volume : ℕ) → nat_lt v.0 volume ≡ false → before (vs ++ v ∷ []) volume ≡ before vs volume
 front_before vs v volume is =
     filter-append (λ w. nat_lt w.0 volume) vs (v ∷ []) ∙ ap (λ b. before vs volume ++ cond b (v ∷ []) []) is ∙ append-nil (before vs volume)
 
 -- ---- the first version
 
 -- what begins after a version that begins too late begins too late
-too_late : (from volume : ℕ) (vs : Versions) → AllByRecursion (λ n. nat_cmp from n ≡ Less) (map (λ v. v.0) vs) → nat_le from volume ≡ false → list_any (λ v. nat_le v.0 volume) vs ≡ false
+too_late : {T : Type 0} (from volume : ℕ) (vs : Versions T) → AllByRecursion (λ n. nat_cmp from n ≡ Less) (map (λ v. v.0) vs) → nat_le from volume ≡ false → list_any (λ v. nat_le v.0 volume) vs ≡ false
 too_late from volume [] h late = refl
 too_late from volume (v ∷ vs) h late =
     let more = ranked from v.0 Less (sym h.0) in
@@ -129,7 +128,7 @@ too_late from volume (v ∷ vs) h late =
     ap (λ b. b || list_any (λ w. nat_le w.0 volume) vs) here ∙ too_late from volume vs h.1 late
 
 -- the first version tells whether the key was used
-pub first_tells : (v : Version) (vs : Versions) (volume : ℕ) → Ascends (v ∷ vs) → was_used_at (v ∷ vs) volume ≡ nat_le v.0 volume
+pub first_tells : {T : Type 0} (v : Version T) (vs : Versions T) (volume : ℕ) → Ascends (v ∷ vs) → was_used_at (v ∷ vs) volume ≡ nat_le v.0 volume
 unfolding IsStrictlySortedBy
 first_tells v vs volume h = by_test (nat_le v.0 volume) refl
   where

@@ -3,36 +3,35 @@ use Rattle.std.specs.Prelude.{ℕ, nat_le, nat_lt, Bool, true, false, List, [], 
 use Rattle.std.specs.List.{list_any}
 use Rattle.std.specs.List.Sorted.{IsStrictlySortedBy}
 use Rattle.std.specs.Ordering.{nat_cmp}
-use Rattle.gaz_records.specs.declared.item.Item.{Item}
 
--- a volume, and the item that stands at the key from it on, or none any more
-abbrev pub Version : Type 0
-Version = ℕ × Option Item
+-- a volume, and what stands at the key from it on, or nothing any more
+abbrev pub Version : Type 0 → Type 0
+Version T = ℕ × Option T
 
 -- the versions of a key
-abbrev pub Versions : Type 0
-Versions = List Version
+abbrev pub Versions : Type 0 → Type 0
+Versions T = List (Version T)
 
-abbrev pub is_empty : Versions → Bool
+abbrev pub is_empty : {T : Type 0} → Versions T → Bool
 is_empty [] = true
 is_empty (v ∷ vs) = false
 
 -- each begins at a later volume than those before it
-abbrev pub Ascends : Versions → Type 0
+abbrev pub Ascends : {T : Type 0} → Versions T → Type 0
 Ascends vs = IsStrictlySortedBy nat_cmp (map (λ v. v.0) vs)
 
 -- those that begin at a volume or before it
-abbrev pub until : Versions → ℕ → Versions
+abbrev pub until : {T : Type 0} → Versions T → ℕ → Versions T
 until vs volume = filter (λ v. nat_le v.0 volume) vs
 
 -- those that begin before a volume
-abbrev pub before : Versions → ℕ → Versions
+abbrev pub before : {T : Type 0} → Versions T → ℕ → Versions T
 before vs volume = filter (λ v. nat_lt v.0 volume) vs
 
--- the item that stands at the key after a volume: each version until then replaces what stood there
-abbrev pub item_at : Versions → ℕ → Option Item
-item_at vs volume = fold (λ i v. v.1) None (until vs volume)
+-- what stands at the key after a volume: each version until then replaces what stood there
+abbrev pub standing_at : {T : Type 0} → Versions T → ℕ → Option T
+standing_at vs volume = fold (λ i v. v.1) None (until vs volume)
 
 -- the key was used at a volume or before it
-abbrev pub was_used_at : Versions → ℕ → Bool
+abbrev pub was_used_at : {T : Type 0} → Versions T → ℕ → Bool
 was_used_at vs volume = list_any (λ v. nat_le v.0 volume) vs

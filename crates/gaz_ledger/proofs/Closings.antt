@@ -2,7 +2,7 @@
 use Rattle.std.proofs.Common.{◌≡◌, ◌≤◌, ◌+◌, ℕ, true, false, List, [], ◌∷◌, ◌++◌, length, refl, sym, ap, subst, ◌∙◌, arith, is_some, length-append, Bor}
 use Rattle.std.specs.Prelude.{Option, Some, None, option_map}
 use Rattle.std.specs.Option.{option_map_or}
-use Rattle.gaz_histories.specs.Histories.{before, item_at}
+use Rattle.gaz_histories.specs.Histories.{before, standing_at}
 use Rattle.gaz_records.specs.Keys.{key_of}
 use Rattle.gaz_records.specs.declared.item.Item.{Item}
 use Rattle.gaz_records.specs.declared.key.Key.{Key}
@@ -55,26 +55,26 @@ behind : (o : Option (Bor Item)) (p : Option Item) → option_map (λ i. i.now) 
 behind None p e = ap is_some (sym e)
 behind (Some i) p e = ap is_some (sym e)
 
-pub account_taken : (ds : List Verdict) (g h : KeyHistories) (a : Account) (key : Key) (r : Option (Bor Item)) (m : ℕ) → m ≡ length ds → account_at ds g ≡ a → option_map (λ i. i.now) r ≡ item_at (versions_at g key) (m + 1) → is_some r ≡ true
+pub account_taken : (ds : List Verdict) (g h : KeyHistories) (a : Account) (key : Key) (r : Option (Bor Item)) (m : ℕ) → m ≡ length ds → account_at ds g ≡ a → option_map (λ i. i.now) r ≡ standing_at (versions_at g key) (m + 1) → is_some r ≡ true
     → Sets g h key None m → account_at ds h ≡ record { judged = a.judged; working = without_key a.working key }
 account_taken ds g h a key r m reach is read some change =
-    let here = found (item_at (versions_at g key) (m + 1)) (behind r _ read ∙ some) in
-    let there : item_at (versions_at g key) (length ds + 1) ≡ Some here.0 = ap (λ n. item_at (versions_at g key) (n + 1)) (sym reach) ∙ here.1 in
+    let here = found (standing_at (versions_at g key) (m + 1)) (behind r _ read ∙ some) in
+    let there : standing_at (versions_at g key) (length ds + 1) ≡ Some here.0 = ap (λ n. standing_at (versions_at g key) (n + 1)) (sym reach) ∙ here.1 in
     let now = taken_view g h key _ (changed ds g h key None m reach change) (length ds + 1) here.0 (item_set (versions_at g key) (length ds + 1) None) (used_set (versions_at g key) (length ds + 1) None) there in
     account_changed ds g h key None m reach change (without_key (view_at g (length ds + 1)) key) now ∙ ap (λ (b : Account). record { judged = b.judged; working = without_key b.working key }) is
 
-pub account_untaken : (ds : List Verdict) (g : KeyHistories) (a : Account) (key : Key) (r : Option (Bor Item)) (m : ℕ) → m ≡ length ds → account_at ds g ≡ a → option_map (λ i. i.now) r ≡ item_at (versions_at g key) (m + 1) → is_some r ≡ false
+pub account_untaken : (ds : List Verdict) (g : KeyHistories) (a : Account) (key : Key) (r : Option (Bor Item)) (m : ℕ) → m ≡ length ds → account_at ds g ≡ a → option_map (λ i. i.now) r ≡ standing_at (versions_at g key) (m + 1) → is_some r ≡ false
     → a ≡ record { judged = a.judged; working = without_key a.working key }
 account_untaken ds g a key r m reach is read none =
-    let gone : item_at (versions_at g key) (length ds + 1) ≡ None = ap (λ n. item_at (versions_at g key) (n + 1)) (sym reach) ∙ missing (item_at (versions_at g key) (m + 1)) (behind r _ read ∙ none) in
+    let gone : standing_at (versions_at g key) (length ds + 1) ≡ None = ap (λ n. standing_at (versions_at g key) (n + 1)) (sym reach) ∙ missing (standing_at (versions_at g key) (m + 1)) (behind r _ read ∙ none) in
     let same = none_taken g (length ds + 1) key gone in
     sym is ∙ (λ i. record { judged = (account_at ds g).judged; working = same i }) ∙ ap (λ (b : Account). record { judged = b.judged; working = without_key b.working key }) is
 
 -- a key without an item has no mark
-pub account_unmarked : (ds : List Verdict) (g : KeyHistories) (a : Account) (key : Key) (r : Option (Bor Item)) (m : ℕ) → m ≡ length ds → account_at ds g ≡ a → option_map (λ i. i.now) r ≡ item_at (versions_at g key) (m + 1) → is_some r ≡ false
+pub account_unmarked : (ds : List Verdict) (g : KeyHistories) (a : Account) (key : Key) (r : Option (Bor Item)) (m : ℕ) → m ≡ length ds → account_at ds g ≡ a → option_map (λ i. i.now) r ≡ standing_at (versions_at g key) (m + 1) → is_some r ≡ false
     → (mark : Mark) → marked_at (entries a.working) mark key ≡ false
 account_unmarked ds g a key r m reach is read none mark =
-    let gone : item_at (versions_at g key) (length ds + 1) ≡ None = ap (λ n. item_at (versions_at g key) (n + 1)) (sym reach) ∙ missing (item_at (versions_at g key) (m + 1)) (behind r _ read ∙ none) in
+    let gone : standing_at (versions_at g key) (length ds + 1) ≡ None = ap (λ n. standing_at (versions_at g key) (n + 1)) (sym reach) ∙ missing (standing_at (versions_at g key) (m + 1)) (behind r _ read ∙ none) in
     ap (λ (b : Account). marked_at (entries b.working) mark key) (sym is) ∙ ap (λ o. option_map_or (has_mark mark) o false) (sym (row_at g (length ds + 1) key) ∙ gone)
 
 pub account_undone : (ds : List Verdict) (g h : KeyHistories) (y : Index) (ls : List Key) (a : Account) (m : ℕ) → m ≡ length ds → account_at ds g ≡ a → IsWithin (length ds) g → IsLedger m h y ls → ls ≡ [] → ((v : ℕ) → v ≤ m → view_at h v ≡ view_at g v)

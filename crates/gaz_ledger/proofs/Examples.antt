@@ -7,7 +7,7 @@ use Rattle.gaz_records.proofs.KeyOrder.{keys_total}
 use Rattle.gaz_records.specs.Keys.{key_cmp}
 use Rattle.gaz_records.specs.declared.key.Key.{Key}
 use Rattle.gaz_records.specs.declared.key.Key.TheVariants as key
-use Rattle.gaz_histories.specs.Histories.{item_at, was_used_at}
+use Rattle.gaz_histories.specs.Histories.{standing_at, was_used_at}
 use Rattle.gaz_views.specs.Examples.{street}
 use Rattle.gaz_views.specs.Judgements.{judgements}
 use Rattle.gaz_views.specs.View.{was_used}
@@ -21,8 +21,8 @@ versions_in_three k =
     ∙ ap (cond (eq_by_cmp key_cmp k (key.Street 102)) (Some ((2, Some (street 102)) ∷ [])))
     (map.get-insert keys_total map.empty (key.Street 101) ((1, Some (street 101)) ∷ (3, None) ∷ []) k ∙ ap (cond (eq_by_cmp key_cmp k (key.Street 101)) (Some ((1, Some (street 101)) ∷ (3, None) ∷ []))) (map.get-empty key_cmp k))
 
-item_in_three : (volume : ℕ) (k : Key) → map.get (view_at three_volumes volume).items k ≡ item_at (unwrap_or (cond (eq_by_cmp key_cmp k (key.Street 102)) (Some ((2, Some (street 102)) ∷ [])) (cond (eq_by_cmp key_cmp k (key.Street 101)) (Some ((1, Some (street 101)) ∷ (3, None) ∷ [])) None)) []) volume
-item_in_three volume k = get_at three_volumes volume k ∙ ap (λ o. item_at (unwrap_or o []) volume) (versions_in_three k)
+item_in_three : (volume : ℕ) (k : Key) → map.get (view_at three_volumes volume).items k ≡ standing_at (unwrap_or (cond (eq_by_cmp key_cmp k (key.Street 102)) (Some ((2, Some (street 102)) ∷ [])) (cond (eq_by_cmp key_cmp k (key.Street 101)) (Some ((1, Some (street 101)) ∷ (3, None) ∷ [])) None)) []) volume
+item_in_three volume k = get_at three_volumes volume k ∙ ap (λ o. standing_at (unwrap_or o []) volume) (versions_in_three k)
 
 used_in_three : (volume : ℕ) (k : Key) → was_used (view_at three_volumes volume) k ≡ was_used_at (unwrap_or (cond (eq_by_cmp key_cmp k (key.Street 102)) (Some ((2, Some (street 102)) ∷ [])) (cond (eq_by_cmp key_cmp k (key.Street 101)) (Some ((1, Some (street 101)) ∷ (3, None) ∷ [])) None)) []) volume
 used_in_three volume k = contains_at three_volumes volume k ∙ ap (λ o. was_used_at (unwrap_or o []) volume) (versions_in_three k)

@@ -12,7 +12,7 @@ use Rattle.std.specs.Map.{keys_of}
 use Rattle.std.specs.Ordering.{eq_by_cmp, is_eq, is_lt}
 use Rattle.std.specs.declared.cmp.Ordering.{Ordering}
 use Rattle.std.specs.declared.cmp.Ordering.TheVariants.{Less, Equal, Greater}
-use Rattle.gaz_histories.specs.Histories.{Version, Versions, item_at, until, was_used_at}
+use Rattle.gaz_histories.specs.Histories.{standing_at, until, was_used_at}
 use Rattle.gaz_records.proofs.KeyOrder.{keys_exact, keys_total}
 use Rattle.gaz_records.specs.Keys.{key_cmp, key_of}
 use Rattle.gaz_records.specs.declared.item.Item.{Item}
@@ -21,13 +21,13 @@ use Rattle.gaz_views.proofs.SameKeys.{same_key}
 use Rattle.gaz_views.specs.View.{View, empty_view, with_item, without_key}
 use Rattle.gaz_views.specs.Words.{entries}
 use Rattle.gaz_ledger.proofs.Versions.{last, none_at_first, no_version, settled, some_version, used_by, used_where_item}
-use Rattle.gaz_ledger.specs.KeyHistories.{ChangesAt, KeyHistories, rows_at, used_at, versions_at, view_at}
+use Rattle.gaz_ledger.specs.KeyHistories.{ChangesAt, ItemVersion, ItemVersions, KeyHistories, rows_at, used_at, versions_at, view_at}
 
 abbrev Rows : Type 0
-Rows = List (Key × Versions)
+Rows = List (Key × ItemVersions)
 
 -- the versions that entries have at a key
-abbrev versions_in : Rows → Key → Versions
+abbrev versions_in : Rows → Key → ItemVersions
 versions_in es q = unwrap_or (find key_cmp q es) []
 
 abbrev same : Key → Key → Bool
@@ -51,15 +51,15 @@ below_none k (e ∷ es) h =
     let two = both_hold _ _ h in
     ap (λ r. cond (is_eq r) (Some e.1) (find key_cmp k es)) (is_less _ two.0) ∙ below_none k es two.1
 
-same_rows : (es : Rows) → T (is_sorted key_cmp es) → (v : ℕ) (q : Key) → find key_cmp q (rows_at es v) ≡ item_at (versions_in es q) v
+same_rows : (es : Rows) → T (is_sorted key_cmp es) → (v : ℕ) (q : Key) → find key_cmp q (rows_at es v) ≡ standing_at (versions_in es q) v
 same_rows [] h v q = refl
-same_rows (e ∷ es) h v q = by_item (same_rows es (both_hold (below_all key_cmp e.0 es) (is_sorted key_cmp es) h).1 v q) (item_at e.1 v) refl (same q e.0) refl
+same_rows (e ∷ es) h v q = by_item (same_rows es (both_hold (below_all key_cmp e.0 es) (is_sorted key_cmp es) h).1 v q) (standing_at e.1 v) refl (same q e.0) refl
   where
     two : T (below_all key_cmp e.0 es) × T (is_sorted key_cmp es)
     two = both_hold _ _ h
 
-    by_item : find key_cmp q (rows_at es v) ≡ item_at (versions_in es q) v → (o : Option Item) → item_at e.1 v ≡ o → (b : Bool) → same q e.0 ≡ b → find key_cmp q (cons_option (option_map (λ i. (e.0, i)) o) (rows_at es v)) ≡ item_at (unwrap_or (cond b (Some e.1) (find key_cmp q es)) []) v
-    by_item behind None is true at = behind ∙ ap (λ k. item_at (versions_in es k) v) (same_key q e.0 at) ∙ ap (λ o. item_at (unwrap_or o []) v) (below_none e.0 es two.0) ∙ sym is
+    by_item : find key_cmp q (rows_at es v) ≡ standing_at (versions_in es q) v → (o : Option Item) → standing_at e.1 v ≡ o → (b : Bool) → same q e.0 ≡ b → find key_cmp q (cons_option (option_map (λ i. (e.0, i)) o) (rows_at es v)) ≡ standing_at (unwrap_or (cond b (Some e.1) (find key_cmp q es)) []) v
+    by_item behind None is true at = behind ∙ ap (λ k. standing_at (versions_in es k) v) (same_key q e.0 at) ∙ ap (λ o. standing_at (unwrap_or o []) v) (below_none e.0 es two.0) ∙ sym is
     by_item behind None is false at = behind
     by_item behind (Some i) is true at = ap (λ b. cond b (Some i) (find key_cmp q (rows_at es v))) at ∙ sym is
     by_item behind (Some i) is false at = ap (λ b. cond b (Some i) (find key_cmp q (rows_at es v))) at ∙ behind
@@ -95,10 +95,10 @@ view_ascends v = ascends (entries v) (entries_sorted v.items)
 
 -- ---- what a view has at a key
 
-pub get_at : (g : KeyHistories) (v : ℕ) (k : Key) → finite.get (view_at g v).items k ≡ item_at (versions_at g k) v
+pub get_at : (g : KeyHistories) (v : ℕ) (k : Key) → finite.get (view_at g v).items k ≡ standing_at (versions_at g k) v
 unfolding view_at
 get_at g v k =
-    finite.get-from_entries keys_total (rows_at (finite.entries g) v) k ∙ same_rows (finite.entries g) (entries_sorted g) v k ∙ ap (λ o. item_at (unwrap_or o []) v) (sym (get-entries g k))
+    finite.get-from_entries keys_total (rows_at (finite.entries g) v) k ∙ same_rows (finite.entries g) (entries_sorted g) v k ∙ ap (λ o. standing_at (unwrap_or o []) v) (sym (get-entries g k))
 
 pub contains_at : (g : KeyHistories) (v : ℕ) (k : Key) → set.contains (view_at g v).used k ≡ was_used_at (versions_at g k) v
 unfolding view_at
@@ -106,7 +106,7 @@ contains_at g v k =
     set.contains-from_list keys_total (used_at (finite.entries g) v) k ∙ same_used (finite.entries g) (entries_sorted g) v k ∙ ap (λ o. was_used_at (unwrap_or o []) v) (sym (get-entries g k))
 
 -- the row of a key in a view
-pub row_at : (g : KeyHistories) (v : ℕ) (k : Key) → item_at (versions_at g k) v ≡ find key_cmp k (entries (view_at g v))
+pub row_at : (g : KeyHistories) (v : ℕ) (k : Key) → standing_at (versions_at g k) v ≡ find key_cmp k (entries (view_at g v))
 row_at g v k = sym (get_at g v k) ∙ get-entries (view_at g v).items k
 
 -- ---- views that are one
@@ -124,11 +124,11 @@ same_view g h v w alike = same_views (view_at g v) (view_at h w)
     (λ k. contains_at g v k ∙ used_by (versions_at g k) v ∙ ap some_version (alike k) ∙ sym (used_by (versions_at h k) w) ∙ sym (contains_at h w k))
 
 -- where no more versions begin
-pub settled_view : (g : KeyHistories) (n v w : ℕ) → n ≤ v → n ≤ w → ((k : Key) → All (λ (e : Version). e.0 ≤ n) (versions_at g k)) → view_at g v ≡ view_at g w
+pub settled_view : (g : KeyHistories) (n v w : ℕ) → n ≤ v → n ≤ w → ((k : Key) → All (λ (e : ItemVersion). e.0 ≤ n) (versions_at g k)) → view_at g v ≡ view_at g w
 settled_view g n v w le lf all = same_view g g v w (λ k. settled (versions_at g k) n v le (all k) ∙ sym (settled (versions_at g k) n w lf (all k)))
 
 -- before the first volume
-pub first_view : (g : KeyHistories) (n : ℕ) → ((k : Key) → All (λ (e : Version). (0 < e.0) × (e.0 ≤ n)) (versions_at g k)) → view_at g 0 ≡ empty_view
+pub first_view : (g : KeyHistories) (n : ℕ) → ((k : Key) → All (λ (e : ItemVersion). (0 < e.0) × (e.0 ≤ n)) (versions_at g k)) → view_at g 0 ≡ empty_view
 unfolding empty_view
 first_view g n all = same_views (view_at g 0) empty_view
     (λ k. get_at g 0 k ∙ ap last (none_at_first (versions_at g k) n (all k)) ∙ sym (finite.get-empty key_cmp k))
@@ -139,9 +139,9 @@ first_view g n all = same_views (view_at g 0) empty_view
 
 -- ---- where the versions of one key change
 
-module _ (g h : KeyHistories) (key : Key) (vs : Versions) (change : ChangesAt g h key vs) where
+module _ (g h : KeyHistories) (key : Key) (vs : ItemVersions) (change : ChangesAt g h key vs) where
   -- what is asked of versions is the same at all keys where it is at this one
-  pub alike_at : {X : Type 0} (f : Versions → X) → f vs ≡ f (versions_at g key) → (k : Key) → f (versions_at h k) ≡ f (versions_at g k)
+  pub alike_at : {X : Type 0} (f : ItemVersions → X) → f vs ≡ f (versions_at g key) → (k : Key) → f (versions_at h k) ≡ f (versions_at g k)
   alike_at f same_here k = ap f (change k) ∙ by_same (eq_by_cmp key_cmp key k) refl
     where
       by_same : (b : Bool) → eq_by_cmp key_cmp key k ≡ b → f (cond b vs (versions_at g k)) ≡ f (versions_at g k)
@@ -149,7 +149,7 @@ module _ (g h : KeyHistories) (key : Key) (vs : Versions) (change : ChangesAt g 
       by_same false at = refl
 
   -- what holds of the versions of all keys
-  pub holds_at : (P : Versions → Type 0) → P vs → ((k : Key) → P (versions_at g k)) → (k : Key) → P (versions_at h k)
+  pub holds_at : (P : ItemVersions → Type 0) → P vs → ((k : Key) → P (versions_at g k)) → (k : Key) → P (versions_at h k)
   holds_at P here all k = subst P (sym (change k)) (by_same (eq_by_cmp key_cmp key k))
     where
       by_same : (b : Bool) → P (cond b vs (versions_at g k))
@@ -159,18 +159,18 @@ module _ (g h : KeyHistories) (key : Key) (vs : Versions) (change : ChangesAt g 
   pub past_view : (v : ℕ) → until vs v ≡ until (versions_at g key) v → view_at h v ≡ view_at g v
   past_view v same_here = same_view h g v v (alike_at (λ ws. until ws v) same_here)
 
-  item_now : (v : ℕ) (k : Key) → item_at (versions_at h k) v ≡ cond (eq_by_cmp key_cmp k key) (item_at vs v) (item_at (versions_at g k) v)
-  item_now v k = ap (λ ws. item_at ws v) (change k) ∙ of_cond (eq_by_cmp key_cmp key k) ∙ ap (λ b. cond b (item_at vs v) (item_at (versions_at g k) v)) ((eq_by_cmp_equiv keys_total).symm key k)
+  item_now : (v : ℕ) (k : Key) → standing_at (versions_at h k) v ≡ cond (eq_by_cmp key_cmp k key) (standing_at vs v) (standing_at (versions_at g k) v)
+  item_now v k = ap (λ ws. standing_at ws v) (change k) ∙ of_cond (eq_by_cmp key_cmp key k) ∙ ap (λ b. cond b (standing_at vs v) (standing_at (versions_at g k) v)) ((eq_by_cmp_equiv keys_total).symm key k)
     where
-      of_cond : (b : Bool) → item_at (cond b vs (versions_at g k)) v ≡ cond b (item_at vs v) (item_at (versions_at g k) v)
+      of_cond : (b : Bool) → standing_at (cond b vs (versions_at g k)) v ≡ cond b (standing_at vs v) (standing_at (versions_at g k) v)
       of_cond true = refl
       of_cond false = refl
 
   -- what the view has at a key
-  pub get_now : (v : ℕ) (k : Key) → finite.get (view_at h v).items k ≡ cond (eq_by_cmp key_cmp k key) (item_at vs v) (finite.get (view_at g v).items k)
-  get_now v k = get_at h v k ∙ item_now v k ∙ ap (cond (eq_by_cmp key_cmp k key) (item_at vs v)) (sym (get_at g v k))
+  pub get_now : (v : ℕ) (k : Key) → finite.get (view_at h v).items k ≡ cond (eq_by_cmp key_cmp k key) (standing_at vs v) (finite.get (view_at g v).items k)
+  get_now v k = get_at h v k ∙ item_now v k ∙ ap (cond (eq_by_cmp key_cmp k key) (standing_at vs v)) (sym (get_at g v k))
 
-  pub put_view : (n : ℕ) (i : Item) → key ≡ key_of i → item_at vs n ≡ Some i → was_used_at vs n ≡ true → view_at h n ≡ with_item (view_at g n) i
+  pub put_view : (n : ℕ) (i : Item) → key ≡ key_of i → standing_at vs n ≡ Some i → was_used_at vs n ≡ true → view_at h n ≡ with_item (view_at g n) i
   put_view n i is there used = same_views (view_at h n) (with_item (view_at g n) i)
       (λ k. get_now n k ∙ ap (λ o. cond (eq_by_cmp key_cmp k key) o (finite.get (view_at g n).items k)) there ∙ ap (λ q. cond (eq_by_cmp key_cmp k q) (Some i) (finite.get (view_at g n).items k)) is ∙ sym (finite.get-insert keys_total (view_at g n).items (key_of i) i k))
       (λ k. contains_at h n k ∙ ap (λ ws. was_used_at ws n) (change k) ∙ of_cond k (eq_by_cmp key_cmp key k) refl ∙ ap (λ b. b || set.contains (view_at g n).used k) ((eq_by_cmp_equiv keys_total).symm key k)
@@ -180,15 +180,15 @@ module _ (g h : KeyHistories) (key : Key) (vs : Versions) (change : ChangesAt g 
       of_cond k true at = used
       of_cond k false at = sym (contains_at g n k)
 
-  pub taken_view : (n : ℕ) (i : Item) → item_at vs n ≡ None → was_used_at vs n ≡ true → item_at (versions_at g key) n ≡ Some i → view_at h n ≡ without_key (view_at g n) key
+  pub taken_view : (n : ℕ) (i : Item) → standing_at vs n ≡ None → was_used_at vs n ≡ true → standing_at (versions_at g key) n ≡ Some i → view_at h n ≡ without_key (view_at g n) key
   taken_view n i gone used there = same_views (view_at h n) (without_key (view_at g n) key)
       (λ k. get_now n k ∙ ap (λ o. cond (eq_by_cmp key_cmp k key) o (finite.get (view_at g n).items k)) gone ∙ sym (finite.get-remove keys_total (view_at g n).items key k))
       (λ k. contains_at h n k ∙ alike_at (λ ws. was_used_at ws n) (used ∙ sym (used_where_item (versions_at g key) n i there)) k ∙ sym (contains_at g n k))
 
 -- where nothing stands, there is nothing to take
-pub none_taken : (g : KeyHistories) (n : ℕ) (key : Key) → item_at (versions_at g key) n ≡ None → view_at g n ≡ without_key (view_at g n) key
+pub none_taken : (g : KeyHistories) (n : ℕ) (key : Key) → standing_at (versions_at g key) n ≡ None → view_at g n ≡ without_key (view_at g n) key
 none_taken g n key none = same_views (view_at g n) (without_key (view_at g n) key) (λ k. by_same k (eq_by_cmp key_cmp k key) refl ∙ sym (finite.get-remove keys_total (view_at g n).items key k)) (λ k. refl)
   where
     by_same : (k : Key) (b : Bool) → eq_by_cmp key_cmp k key ≡ b → finite.get (view_at g n).items k ≡ cond b None (finite.get (view_at g n).items k)
-    by_same k true at = get_at g n k ∙ ap (λ q. item_at (versions_at g q) n) (same_key k key at) ∙ none
+    by_same k true at = get_at g n k ∙ ap (λ q. standing_at (versions_at g q) n) (same_key k key at) ∙ none
     by_same k false at = refl

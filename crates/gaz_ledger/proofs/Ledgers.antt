@@ -10,7 +10,7 @@ use Rattle.std.specs.FinSet as set
 use Rattle.std.specs.List.{All, list_any}
 use Rattle.std.specs.Option.{IfSome}
 use Rattle.std.specs.Ordering.{eq_by_cmp}
-use Rattle.gaz_histories.specs.Histories.{Version, Versions, before, item_at, until, was_used_at}
+use Rattle.gaz_histories.specs.Histories.{before, standing_at, until, was_used_at}
 use Rattle.gaz_records.proofs.KeyOrder.{keys_total}
 use Rattle.gaz_records.specs.Keys.{key_cmp}
 use Rattle.gaz_records.specs.declared.item.Item.{Item}
@@ -26,7 +26,7 @@ use Rattle.gaz_ledger.proofs.KeyHistories.{contains_at, get_at, get_now, holds_a
 use Rattle.gaz_ledger.proofs.Judgements.{IsWithin, later_view, view_in_at}
 use Rattle.gaz_ledger.proofs.Marked.{finds_with_more, still_finds}
 use Rattle.gaz_ledger.proofs.Versions.{before_next, before_within, cut_within, item_set, last, set_within, until_before, until_set}
-use Rattle.gaz_ledger.specs.KeyHistories.{ChangesAt, KeyHistories, versions_at, view_at}
+use Rattle.gaz_ledger.specs.KeyHistories.{ChangesAt, ItemVersion, ItemVersions, KeyHistories, versions_at, view_at}
 use Rattle.gaz_ledger.specs.Indexes.{FindsAll, has_mark, is_under, marked_at, same_mark}
 use Rattle.gaz_ledger.specs.Ledgers.{Finds, IsLedger, account_at}
 use Rattle.gaz_ledger.specs.declared.index.Index.{Index}
@@ -62,17 +62,17 @@ pub finds_next : (x : Index) (g : KeyHistories) (n : ℕ) → IsWithin n g → F
 finds_next x g n within finds =
     record { last = finds.working; working = subst (λ (v : View). FindsAll x (entries v)) (later_view n g within (n + 1) (n + 1 + 1) (omega arith) (omega arith)) finds.working }
 
-module _ (x : Index) (g h : KeyHistories) (key : Key) (vs : Versions) (n : ℕ) (change : ChangesAt g h key vs) (past : until vs n ≡ until (versions_at g key) n) where
+module _ (x : Index) (g h : KeyHistories) (key : Key) (vs : ItemVersions) (n : ℕ) (change : ChangesAt g h key vs) (past : until vs n ≡ until (versions_at g key) n) where
   -- what changes in the working view is found
-  finds_changed : Finds x g n → ((m : Mark) → Found x m key (item_at vs (n + 1))) → Finds x h n
+  finds_changed : Finds x g n → ((m : Mark) → Found x m key (standing_at vs (n + 1))) → Finds x h n
   finds_changed finds now =
       record {
         last = subst (λ (v : View). FindsAll x (entries v)) (sym (past_view g h key vs change n past)) finds.last;
         working = finds_by x (view_at h (n + 1)) (λ m k. subst (Found x m k) (sym (get_now g h key vs change (n + 1) k)) (by_same m k (eq_by_cmp key_cmp k key) refl));
       }
     where
-      by_same : (m : Mark) (k : Key) (b : Bool) → eq_by_cmp key_cmp k key ≡ b → Found x m k (cond b (item_at vs (n + 1)) (finite.get (view_at g (n + 1)).items k))
-      by_same m k true at = subst (λ (q : Key). Found x m q (item_at vs (n + 1))) (sym (same_key k key at)) (now m)
+      by_same : (m : Mark) (k : Key) (b : Bool) → eq_by_cmp key_cmp k key ≡ b → Found x m k (cond b (standing_at vs (n + 1)) (finite.get (view_at g (n + 1)).items k))
+      by_same m k true at = subst (λ (q : Key). Found x m q (standing_at vs (n + 1))) (sym (same_key k key at)) (now m)
       by_same m k false at = found_at x (view_at g (n + 1)) finds.working m k
 
 pub finds_set : (x y : Index) (g h : KeyHistories) (key : Key) (n : ℕ) (o : Option Item) → More x y → IfSome o (λ i. (m : Mark) → has_mark m i ≡ true → is_under y m key ≡ true)
@@ -88,7 +88,7 @@ finds_set x y g h key n o more marks change finds =
 pub finds_cut : (x : Index) (g h : KeyHistories) (key : Key) (n : ℕ) → ChangesAt g h key (before (versions_at g key) (n + 1)) → Finds x g n → Finds x h n
 finds_cut x g h key n change finds =
     let vs = versions_at g key in
-    let as_last : item_at (before vs (n + 1)) (n + 1) ≡ finite.get (view_at g n).items key = ap last (before_next vs n (n + 1) (omega arith)) ∙ sym (get_at g n key) in
+    let as_last : standing_at (before vs (n + 1)) (n + 1) ≡ finite.get (view_at g n).items key = ap last (before_next vs n (n + 1) (omega arith)) ∙ sym (get_at g n key) in
     finds_changed x g h key (before vs (n + 1)) n change (until_before vs (n + 1) n (omega arith)) finds (λ m. subst (Found x m key) (sym as_last) (found_at x (view_at g n) finds.last m key))
 
 -- ---- the whole
@@ -117,7 +117,7 @@ turned : (key k : Key) → eq_by_cmp key_cmp k key ≡ false → eq_by_cmp key_c
 turned key k e = (eq_by_cmp_equiv keys_total).symm key k ∙ e
 
 -- the versions of another key
-others : (g h : KeyHistories) (key : Key) (vs : Versions) → ChangesAt g h key vs → (k : Key) → eq_by_cmp key_cmp k key ≡ false → versions_at h k ≡ versions_at g k
+others : (g h : KeyHistories) (key : Key) (vs : ItemVersions) → ChangesAt g h key vs → (k : Key) → eq_by_cmp key_cmp k key ≡ false → versions_at h k ≡ versions_at g k
 others g h key vs change k other = change k ∙ ap (λ b. cond b vs (versions_at g k)) (turned key k other)
 
 pub nothing_there : (k : Key) → versions_at finite.empty k ≡ []
@@ -127,12 +127,12 @@ pub ledger_new : (x : Index) → IsLedger 0 finite.empty x []
 ledger_new x =
     record {
       finds = record { last = finds_none 0; working = finds_none 1 };
-      within = λ k. subst (λ (vs : Versions). All (λ (e : Version). (0 < e.0) × (e.0 ≤ 1)) vs) (sym (nothing_there k)) (All-nil (λ (e : Version). (0 < e.0) × (e.0 ≤ 1)));
-      touched = λ k _. subst (λ (vs : Versions). All (λ (e : Version). e.0 ≤ 0) vs) (sym (nothing_there k)) (All-nil (λ (e : Version). e.0 ≤ 0));
+      within = λ k. subst (λ (vs : ItemVersions). All (λ (e : ItemVersion). (0 < e.0) × (e.0 ≤ 1)) vs) (sym (nothing_there k)) (All-nil (λ (e : ItemVersion). (0 < e.0) × (e.0 ≤ 1)));
+      touched = λ k _. subst (λ (vs : ItemVersions). All (λ (e : ItemVersion). e.0 ≤ 0) vs) (sym (nothing_there k)) (All-nil (λ (e : ItemVersion). e.0 ≤ 0));
     }
   where
     finds_none : (v : ℕ) → FindsAll x (entries (view_at finite.empty v))
-    finds_none v = finds_by x (view_at finite.empty v) (λ m k. subst (Found x m k) (sym (get_at finite.empty v k ∙ ap (λ vs. item_at vs v) (nothing_there k))) tt)
+    finds_none v = finds_by x (view_at finite.empty v) (λ m k. subst (Found x m k) (sym (get_at finite.empty v k ∙ ap (λ vs. standing_at vs v) (nothing_there k))) tt)
 
 pub ledger_set : (n : ℕ) (g h : KeyHistories) (x y : Index) (ks ls : List Key) (key : Key) (o : Option Item) → IsLedger n g x ks → Finds y h n → ls ≡ ks ++ key ∷ []
     → ChangesAt g h key (before (versions_at g key) (n + 1) ++ (n + 1, o) ∷ []) → IsLedger n h y ls
@@ -140,9 +140,9 @@ ledger_set n g h x y ks ls key o was finds is change =
     let vs = before (versions_at g key) (n + 1) ++ (n + 1, o) ∷ [] in
     record {
       finds = finds;
-      within = holds_at g h key vs change (λ (ws : Versions). All (λ (e : Version). (0 < e.0) × (e.0 ≤ n + 1)) ws) (set_within (versions_at g key) n o (was.within key)) was.within;
+      within = holds_at g h key vs change (λ (ws : ItemVersions). All (λ (e : ItemVersion). (0 < e.0) × (e.0 ≤ n + 1)) ws) (set_within (versions_at g key) n o (was.within key)) was.within;
       touched = λ k none. let two = none_of (eq_by_cmp key_cmp k) ks key (ap (list_any (eq_by_cmp key_cmp k)) (sym is) ∙ none) in
-          subst (λ (ws : Versions). All (λ (e : Version). e.0 ≤ n) ws) (sym (others g h key vs change k two.1)) (was.touched k two.0);
+          subst (λ (ws : ItemVersions). All (λ (e : ItemVersion). e.0 ≤ n) ws) (sym (others g h key vs change k two.1)) (was.touched k two.0);
     }
 
 pub ledger_cut : (n : ℕ) (g h : KeyHistories) (x y : Index) (ks ls : List Key) (key : Key) → IsLedger n g x ks → Finds y h n → ks ≡ ls ++ key ∷ []
@@ -151,24 +151,24 @@ ledger_cut n g h x y ks ls key was finds is change =
     let vs = before (versions_at g key) (n + 1) in
     record {
       finds = finds;
-      within = holds_at g h key vs change (λ (ws : Versions). All (λ (e : Version). (0 < e.0) × (e.0 ≤ n + 1)) ws) (cut_within (versions_at g key) (n + 1) (n + 1) (was.within key)) was.within;
+      within = holds_at g h key vs change (λ (ws : ItemVersions). All (λ (e : ItemVersion). (0 < e.0) × (e.0 ≤ n + 1)) ws) (cut_within (versions_at g key) (n + 1) (n + 1) (was.within key)) was.within;
       touched = λ k none. by_key k none (eq_by_cmp key_cmp k key) refl;
     }
   where
-    by_key : (k : Key) → list_any (eq_by_cmp key_cmp k) ls ≡ false → (b : Bool) → eq_by_cmp key_cmp k key ≡ b → All (λ (e : Version). e.0 ≤ n) (versions_at h k)
+    by_key : (k : Key) → list_any (eq_by_cmp key_cmp k) ls ≡ false → (b : Bool) → eq_by_cmp key_cmp k key ≡ b → All (λ (e : ItemVersion). e.0 ≤ n) (versions_at h k)
     by_key k none true at =
         let here : versions_at h k ≡ before (versions_at g key) (n + 1) = change k ∙ ap (λ b. cond b (before (versions_at g key) (n + 1)) (versions_at g k)) ((eq_by_cmp_equiv keys_total).symm key k ∙ at) in
-        subst (λ (ws : Versions). All (λ (e : Version). e.0 ≤ n) ws) (sym here) (before_within (versions_at g key) n)
+        subst (λ (ws : ItemVersions). All (λ (e : ItemVersion). e.0 ≤ n) ws) (sym here) (before_within (versions_at g key) n)
     by_key k none false at =
-        subst (λ (ws : Versions). All (λ (e : Version). e.0 ≤ n) ws) (sym (others g h key (before (versions_at g key) (n + 1)) change k at))
+        subst (λ (ws : ItemVersions). All (λ (e : ItemVersion). e.0 ≤ n) ws) (sym (others g h key (before (versions_at g key) (n + 1)) change k at))
         (was.touched k (ap (list_any (eq_by_cmp key_cmp k)) is ∙ none_there (eq_by_cmp key_cmp k) ls key none at))
 
 pub ledger_closed : (n : ℕ) (g : KeyHistories) (x y : Index) (ks ls : List Key) → IsLedger n g x ks → Finds y g (n + 1) → ls ≡ [] → IsLedger (n + 1) g y ls
 ledger_closed n g x y ks ls was finds is =
     record {
       finds = finds;
-      within = λ k. All-weaker (λ (e : Version). (0 < e.0) × (e.0 ≤ n + 1)) (λ (e : Version). (0 < e.0) × (e.0 ≤ n + 1 + 1)) (λ e h. (h.0, (let le : e.0 ≤ n + 1 = h.1 in omega arith))) (versions_at g k) (was.within k);
-      touched = λ k _. All-weaker (λ (e : Version). (0 < e.0) × (e.0 ≤ n + 1)) (λ (e : Version). e.0 ≤ n + 1) (λ e h. h.1) (versions_at g k) (was.within k);
+      within = λ k. All-weaker (λ (e : ItemVersion). (0 < e.0) × (e.0 ≤ n + 1)) (λ (e : ItemVersion). (0 < e.0) × (e.0 ≤ n + 1 + 1)) (λ e h. (h.0, (let le : e.0 ≤ n + 1 = h.1 in omega arith))) (versions_at g k) (was.within k);
+      touched = λ k _. All-weaker (λ (e : ItemVersion). (0 < e.0) × (e.0 ≤ n + 1)) (λ (e : ItemVersion). e.0 ≤ n + 1) (λ e h. h.1) (versions_at g k) (was.within k);
     }
 
 -- what was found is found
@@ -198,6 +198,6 @@ pub account_new : account_at [] finite.empty ≡ empty_account
 unfolding judgements empty_view
 account_new =
     let none : view_at finite.empty 1 ≡ empty_view = same_views (view_at finite.empty 1) empty_view
-    (λ k. get_at finite.empty 1 k ∙ ap (λ (vs : Versions). item_at vs 1) (nothing_there k) ∙ sym (finite.get-empty key_cmp k))
-    (λ k. contains_at finite.empty 1 k ∙ ap (λ (vs : Versions). was_used_at vs 1) (nothing_there k) ∙ sym (set.contains-empty key_cmp k)) in
+    (λ k. get_at finite.empty 1 k ∙ ap (λ (vs : ItemVersions). standing_at vs 1) (nothing_there k) ∙ sym (finite.get-empty key_cmp k))
+    (λ k. contains_at finite.empty 1 k ∙ ap (λ (vs : ItemVersions). was_used_at vs 1) (nothing_there k) ∙ sym (set.contains-empty key_cmp k)) in
     λ i. record { judged = []; working = none i }

@@ -15,7 +15,7 @@ use Rattle.std.specs.Ordering.{is_lt, nat_cmp, ordering_then}
 use Rattle.std.specs.declared.cmp.Ordering.{Ordering}
 use Rattle.std.specs.declared.cmp.Ordering.TheVariants.{Less, Greater}
 use Rattle.std.specs.declared.ops.Bound.TheVariants.{Unbounded}
-use Rattle.gaz_histories.specs.Histories.{Versions, item_at}
+use Rattle.gaz_histories.specs.Histories.{standing_at}
 use Rattle.gaz_records.specs.Keys.{key_cmp, kind_number}
 use Rattle.gaz_records.specs.declared.item.Item.{Item}
 use Rattle.gaz_records.specs.declared.item.Kind.{Kind}
@@ -25,7 +25,7 @@ use Rattle.gaz_records.specs.declared.key.Key.TheVariants as key
 use Rattle.gaz_views.proofs.Pages.{passes}
 use Rattle.gaz_views.specs.Words.{comes_after, is_of}
 use Rattle.gaz_ledger.proofs.Marked.{Ascends}
-use Rattle.gaz_ledger.specs.KeyHistories.{rows_at, versions_among, with_versions}
+use Rattle.gaz_ledger.specs.KeyHistories.{ItemVersions, rows_at, versions_among, with_versions}
 use Rattle.gaz_ledger.specs.Ranges.{is_past, start_after}
 
 abbrev Row : Type 0
@@ -33,7 +33,7 @@ Row = Key × Item
 
 -- a key and its versions
 abbrev Past : Type 0
-Past = Key × Versions
+Past = Key × ItemVersions
 
 -- ---- the rows after a volume
 
@@ -52,11 +52,11 @@ row_kept p k (Some i) rows = refl
 -- keys are kept before or after
 rows_kept : (p : Key → Bool) (volume : ℕ) (es : List Past) → rows_at (filter (λ e. p e.0) es) volume ≡ filter (λ e. p e.0) (rows_at es volume)
 rows_kept p volume [] = refl
-rows_kept p volume (e ∷ es) = by_test (rows_kept p volume es) (p e.0) ∙ sym (row_kept p e.0 (item_at e.1 volume) (rows_at es volume))
+rows_kept p volume (e ∷ es) = by_test (rows_kept p volume es) (p e.0) ∙ sym (row_kept p e.0 (standing_at e.1 volume) (rows_at es volume))
   where
     by_test : rows_at (filter (λ e. p e.0) es) volume ≡ filter (λ e. p e.0) (rows_at es volume) → (b : Bool)
-        → rows_at (cond b (e ∷ filter (λ e. p e.0) es) (filter (λ e. p e.0) es)) volume ≡ cond b (row e.0 (item_at e.1 volume) (filter (λ e. p e.0) (rows_at es volume))) (filter (λ e. p e.0) (rows_at es volume))
-    by_test rest true = ap (row e.0 (item_at e.1 volume)) rest
+        → rows_at (cond b (e ∷ filter (λ e. p e.0) es) (filter (λ e. p e.0) es)) volume ≡ cond b (row e.0 (standing_at e.1 volume) (filter (λ e. p e.0) (rows_at es volume))) (filter (λ e. p e.0) (rows_at es volume))
+    by_test rest true = ap (row e.0 (standing_at e.1 volume)) rest
     by_test rest false = rest
 
 with_kept : (p : Key → Bool) (es : List Past) (ks : List Key) → with_versions (filter p ks) es ≡ filter (λ e. p e.0) (with_versions ks es)
@@ -140,7 +140,7 @@ module _ (kind : Kind) (volume : ℕ) (es : List Past) (all : List Item) (found 
 
   -- the item at a key that is wanted
   abbrev wanted : Key → Option Item
-  wanted k = cond (is_of kind k) (item_at (versions_among es k) volume) None
+  wanted k = cond (is_of kind k) (standing_at (versions_among es k) volume) None
 
   items_by : (b : Bool) (k : Key) (o : Option Item) (rows : List Row) → map (λ (e : Row). e.1) (cond b (row k o rows) rows) ≡ cons_option (cond b o None) (map (λ (e : Row). e.1) rows)
   items_by true k None rows = refl
@@ -149,7 +149,7 @@ module _ (kind : Kind) (volume : ℕ) (es : List Past) (all : List Item) (found 
 
   left_with : (k : Key) (rest : List Key) → left (k ∷ rest) ≡ cons_option (wanted k) (left rest)
   left_with k rest =
-      let o = item_at (versions_among es k) volume in
+      let o = standing_at (versions_among es k) volume in
       ap (map (λ (e : Row). e.1)) (row_kept (is_of kind) k o (rows_at (with_versions rest es) volume)) ∙ items_by (is_of kind k) k o _
 
   pub told_in : (k : Key) (i : Item) (fs rest : List Key) → fs ≡ k ∷ rest → Some i ≡ wanted k → found ++ left fs ≡ all → (found ++ i ∷ []) ++ left rest ≡ all

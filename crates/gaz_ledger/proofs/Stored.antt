@@ -9,7 +9,7 @@ use Rattle.std.specs.List.Sorted.{IsStrictlySortedBy}
 use Rattle.std.specs.Map.{keys_of, lookup}
 use Rattle.std.specs.Ordering.{eq_by_cmp}
 use Rattle.std.specs.declared.cmp.Ordering.TheVariants.{Less}
-use Rattle.gaz_histories.specs.Histories.{Versions, before, is_empty, item_at}
+use Rattle.gaz_histories.specs.Histories.{before, is_empty, standing_at}
 use Rattle.gaz_records.proofs.KeyOrder.{keys_exact, keys_total}
 use Rattle.gaz_records.specs.Keys.{key_cmp}
 use Rattle.gaz_records.specs.declared.item.Item.{Item}
@@ -18,12 +18,12 @@ use Rattle.gaz_records.specs.declared.key.Key.{Key}
 use Rattle.gaz_views.proofs.SameKeys.{same_key}
 use Rattle.gaz_views.proofs.Trees.{entries_tree, get_tree}
 use Rattle.gaz_views.specs.Words.{comes_after, entries, is_of, page}
-use Rattle.gaz_ledger.specs.KeyHistories.{ChangesAt, KeyHistories, HasJustTheKeysOf, rows_at, versions_among, versions_at, view_at, with_versions}
+use Rattle.gaz_ledger.specs.KeyHistories.{ChangesAt, HasJustTheKeysOf, ItemVersions, KeyHistories, rows_at, versions_among, versions_at, view_at, with_versions}
 
 abbrev Rows : Type 0
-Rows = List (Key × Versions)
+Rows = List (Key × ItemVersions)
 
-abbrev pub stored : Rows → Key → Option Versions
+abbrev pub stored : Rows → Key → Option ItemVersions
 stored es k = lookup (eq_by_cmp key_cmp k) es
 
 -- the versions at a key are those of its history
@@ -33,10 +33,10 @@ versions_stored g es k is = ap (λ (h : KeyHistories). versions_at h k) (sym is)
 abbrev has : List Key → Key → Bool
 has ks k = list_any (eq_by_cmp key_cmp k) ks
 
-abbrev Writes : Rows → Rows → Key → Option Versions → Type 0
+abbrev Writes : Rows → Rows → Key → Option ItemVersions → Type 0
 Writes es fs key o = (q : Key) → stored fs q ≡ cond (eq_by_cmp key_cmp key q) o (stored es q)
 
-written : (es fs : Rows) (key : Key) (o : Option Versions) → Writes es fs key o → (k : Key) → unwrap_or (stored fs k) [] ≡ cond (eq_by_cmp key_cmp key k) (unwrap_or o []) (unwrap_or (stored es k) [])
+written : (es fs : Rows) (key : Key) (o : Option ItemVersions) → Writes es fs key o → (k : Key) → unwrap_or (stored fs k) [] ≡ cond (eq_by_cmp key_cmp key k) (unwrap_or o []) (unwrap_or (stored es k) [])
 written es fs key o h k = ap (λ p. unwrap_or p []) (h k) ∙ of_cond (eq_by_cmp key_cmp key k)
   where
     of_cond : (b : Bool) → unwrap_or (cond b o (stored es k)) [] ≡ cond b (unwrap_or o []) (unwrap_or (stored es k) [])
@@ -44,7 +44,7 @@ written es fs key o h k = ap (λ p. unwrap_or p []) (h k) ∙ of_cond (eq_by_cmp
     of_cond false = refl
 
 -- another history at a key
-pub stores : (g : KeyHistories) (es fs : Rows) (key : Key) (vs ws : Versions) → finite.from_entries es ≡ g → Writes es fs key (Some vs) → vs ≡ ws → ChangesAt g (finite.from_entries fs) key ws
+pub stores : (g : KeyHistories) (es fs : Rows) (key : Key) (vs ws : ItemVersions) → finite.from_entries es ≡ g → Writes es fs key (Some vs) → vs ≡ ws → ChangesAt g (finite.from_entries fs) key ws
 stores g es fs key vs ws is h same k =
     versions_stored (finite.from_entries fs) fs k refl ∙ written es fs key (Some vs) h k ∙ (λ i. cond (eq_by_cmp key_cmp key k) (same i) (sym (versions_stored g es k is) i))
 
@@ -58,7 +58,7 @@ stores_none g es fs key is h none k =
     by_same false at = refl
 
 -- the same history again
-stores_same : (g : KeyHistories) (es fs : Rows) (key : Key) (vs : Versions) → finite.from_entries es ≡ g → Writes es fs key (Some vs) → Some vs ≡ stored es key → finite.from_entries fs ≡ g
+stores_same : (g : KeyHistories) (es fs : Rows) (key : Key) (vs : ItemVersions) → finite.from_entries es ≡ g → Writes es fs key (Some vs) → Some vs ≡ stored es key → finite.from_entries fs ≡ g
 stores_same g es fs key vs is h same =
     finite.same_map keys_total keys_exact (finite.from_entries {R = key_cmp} fs) (finite.from_entries {R = key_cmp} es) (λ q. get_tree (λ a b. refl) keys_total fs q ∙ h q ∙ by_same q (eq_by_cmp key_cmp key q) refl ∙ sym (get_tree (λ a b. refl) keys_total es q)) ∙ is
   where
@@ -68,26 +68,26 @@ stores_same g es fs key vs is h same =
 
 module _ (g : KeyHistories) (es : Rows) (key : Key) (is : finite.from_entries es ≡ g) where
   -- the versions of a history that is there
-  pub was_there : (vs : Versions) → stored es key ≡ Some vs → vs ≡ versions_at g key
+  pub was_there : (vs : ItemVersions) → stored es key ≡ Some vs → vs ≡ versions_at g key
   was_there vs there = ap (λ o. unwrap_or o []) (sym there) ∙ sym (versions_stored g es key is)
 
   -- there are none where there is no history
   pub was_nowhere : stored es key ≡ None → [] ≡ versions_at g key
   was_nowhere none = ap (λ o. unwrap_or o []) (sym none) ∙ sym (versions_stored g es key is)
 
-  pub stores_now : (fs hs : Rows) (vs ws : Versions) → fs ≡ hs → Writes es hs key (Some vs) → vs ≡ ws → ChangesAt g (finite.from_entries fs) key ws
+  pub stores_now : (fs hs : Rows) (vs ws : ItemVersions) → fs ≡ hs → Writes es hs key (Some vs) → vs ≡ ws → ChangesAt g (finite.from_entries fs) key ws
   stores_now fs hs vs ws new h same k = ap (λ (l : Rows). versions_at (finite.from_entries l) k) new ∙ stores g es hs key vs ws is h same k
 
   -- the same history again
-  pub stores_again : (fs hs : Rows) (vs ws : Versions) → fs ≡ hs → Writes es hs key (Some vs) → vs ≡ ws → stored es key ≡ Some ws → finite.from_entries fs ≡ g
+  pub stores_again : (fs hs : Rows) (vs ws : ItemVersions) → fs ≡ hs → Writes es hs key (Some vs) → vs ≡ ws → stored es key ≡ Some ws → finite.from_entries fs ≡ g
   stores_again fs hs vs ws new h same there = ap (λ (l : Rows). finite.from_entries l) new ∙ stores_same g es hs key vs is h (ap Some same ∙ sym there)
 
-pub nothing_in : (vs : Versions) → true ≡ is_empty vs → vs ≡ []
+pub nothing_in : (vs : ItemVersions) → true ≡ is_empty vs → vs ≡ []
 nothing_in [] e = refl
 nothing_in (v ∷ vs) e = cc
 
 -- whether a change leaves no versions
-pub emptied : (g h : KeyHistories) (key : Key) (vs ws : Versions) (b : Bool) → ChangesAt g h key vs → ws ≡ vs → b ≡ is_empty ws → OnTrue b (versions_at h key ≡ [])
+pub emptied : (g h : KeyHistories) (key : Key) (vs ws : ItemVersions) (b : Bool) → ChangesAt g h key vs → ws ≡ vs → b ≡ is_empty ws → OnTrue b (versions_at h key ≡ [])
 emptied g h key vs ws true change same none = change key ∙ ap (λ b. cond b vs (versions_at g key)) ((eq_by_cmp_equiv keys_total).refl key) ∙ sym same ∙ nothing_in ws none
 emptied g h key vs ws false change same none = tt
 
@@ -96,13 +96,13 @@ pub cut_none : (g : KeyHistories) (key : Key) (v : ℕ) → versions_at g key �
 cut_none g key v none k = by_same (eq_by_cmp key_cmp key k) refl
   where
     by_same : (b : Bool) → eq_by_cmp key_cmp key k ≡ b → versions_at g k ≡ cond b (before (versions_at g key) v) (versions_at g k)
-    by_same true at = ap (versions_at g) (sym (same_key key k at)) ∙ none ∙ ap (λ (vs : Versions). before vs v) (sym none)
+    by_same true at = ap (versions_at g) (sym (same_key key k at)) ∙ none ∙ ap (λ (vs : ItemVersions). before vs v) (sym none)
     by_same false at = refl
 
 -- ---- the keys in order
 
 -- another history at a key that has one
-pub keys_stay : (ks : List Key) (es fs hs : Rows) (key : Key) (vs ws : Versions) → HasJustTheKeysOf ks es → stored es key ≡ Some ws → fs ≡ hs → Writes es hs key (Some vs) → HasJustTheKeysOf ks fs
+pub keys_stay : (ks : List Key) (es fs hs : Rows) (key : Key) (vs ws : ItemVersions) → HasJustTheKeysOf ks es → stored es key ≡ Some ws → fs ≡ hs → Writes es hs key (Some vs) → HasJustTheKeysOf ks fs
 keys_stay ks es fs hs key vs ws just there new h k = just k ∙ by_same (eq_by_cmp key_cmp key k) refl ∙ ap is_some (sym (h k)) ∙ ap (λ (l : Rows). is_some (stored l k)) (sym new)
   where
     by_same : (b : Bool) → eq_by_cmp key_cmp key k ≡ b → is_some (stored es k) ≡ is_some (cond b (Some vs) (stored es k))
@@ -110,7 +110,7 @@ keys_stay ks es fs hs key vs ws just there new h k = just k ∙ by_same (eq_by_c
     by_same false at = refl
 
 -- a history at a key that is put in the order
-pub keys_put : (ks ls : List Key) (es fs hs : Rows) (key : Key) (vs : Versions) → HasJustTheKeysOf ks es → ((k : Key) → has ls k ≡ cond (eq_by_cmp key_cmp key k) true (has ks k))
+pub keys_put : (ks ls : List Key) (es fs hs : Rows) (key : Key) (vs : ItemVersions) → HasJustTheKeysOf ks es → ((k : Key) → has ls k ≡ cond (eq_by_cmp key_cmp key k) true (has ks k))
     → fs ≡ hs → Writes es hs key (Some vs) → HasJustTheKeysOf ls fs
 keys_put ks ls es fs hs key vs just put new h k = put k ∙ by_same (eq_by_cmp key_cmp key k) ∙ ap is_some (sym (h k)) ∙ ap (λ (l : Rows). is_some (stored l k)) (sym new)
   where
@@ -132,11 +132,11 @@ keys_taken ks ls es fs key just taken h k = taken k ∙ by_same (eq_by_cmp key_c
 rows_ascend : (v : ℕ) (es : Rows) → IsStrictlySortedBy key_cmp (keys_of es) → IsStrictlySortedBy key_cmp (keys_of (rows_at es v))
 unfolding IsStrictlySortedBy
 rows_ascend v [] h = tt
-rows_ascend v (e ∷ es) h = by_item (item_at e.1 v) (rows_ascend v es h.1) (above es h.0)
+rows_ascend v (e ∷ es) h = by_item (standing_at e.1 v) (rows_ascend v es h.1) (above es h.0)
   where
     above : (es : Rows) → AllByRecursion (λ y. key_cmp e.0 y ≡ Less) (keys_of es) → AllByRecursion (λ y. key_cmp e.0 y ≡ Less) (keys_of (rows_at es v))
     above [] h = tt
-    above (f ∷ es) h = either (item_at f.1 v) h.0 (above es h.1)
+    above (f ∷ es) h = either (standing_at f.1 v) h.0 (above es h.1)
       where
         either : (o : Option Item) → key_cmp e.0 f.0 ≡ Less → AllByRecursion (λ y. key_cmp e.0 y ≡ Less) (keys_of (rows_at es v)) → AllByRecursion (λ y. key_cmp e.0 y ≡ Less) (keys_of (cons_option (option_map (λ i. (f.0, i)) o) (rows_at es v)))
         either None here rest = rest
@@ -173,7 +173,7 @@ in_their_order ks es just =
     finite.same_map keys_total keys_exact _ _ (λ q.
     get_tree (λ a b. refl) keys_total (with_versions ks es) q ∙ found_with ks es q ∙ ap (λ b. cond b (Some (versions_among es q)) None) (just q) ∙ either (stored es q) ∙ sym (get_tree (λ a b. refl) keys_total es q))
   where
-    either : (o : Option Versions) → cond (is_some o) (Some (unwrap_or o [])) None ≡ o
+    either : (o : Option ItemVersions) → cond (is_some o) (Some (unwrap_or o [])) None ≡ o
     either None = refl
     either (Some vs) = refl
 

@@ -6,12 +6,11 @@ use Rattle.gaz_ids.specs.declared.status.Status.TheVariants.{Approved}
 use Rattle.gaz_records.specs.declared.item.Item.{Item}
 use Rattle.gaz_records.specs.declared.key.Key.{Key}
 use Rattle.gaz_records.specs.declared.key.Key.TheVariants as key
-use Rattle.gaz_histories.specs.Histories.{Versions}
 use Rattle.gaz_views.specs.Examples.{blpu, lpi, street}
 use Rattle.gaz_views.specs.Judgements.{judgements}
 use Rattle.gaz_views.specs.View.{was_used}
 use Rattle.gaz_views.specs.declared.verdict.Verdict.TheVariants.{Applied, Rejected}
-use Rattle.gaz_ledger.specs.KeyHistories.{KeyHistories, HasJustTheKeysOf, view_at, with_versions}
+use Rattle.gaz_ledger.specs.KeyHistories.{HasJustTheKeysOf, ItemVersions, KeyHistories, view_at, with_versions}
 use Rattle.gaz_ledger.specs.Indexes.{marked_item, same_mark}
 use Rattle.gaz_ledger.specs.Properties.{is_address_of, is_blpu}
 use Rattle.gaz_ledger.specs.declared.index.Mark.TheVariants.{AddressOf, PartOf}
@@ -37,7 +36,7 @@ pub record WorkedGazetteers : Type 0 where
 -- ---- as it is kept
 
 -- streets 101 and 102 in no order of keys
-abbrev pub second_first : List (Key × Versions)
+abbrev pub second_first : List (Key × ItemVersions)
 second_first = (key.Street 102, (2, Some (street 102)) ∷ []) ∷ (key.Street 101, (1, Some (street 101)) ∷ []) ∷ []
 
 -- property 1002, which is a part of 1001, and its address

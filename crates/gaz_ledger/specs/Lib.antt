@@ -4,4 +4,5 @@ pub mod KeyHistories
 pub mod KeyHistoriesCode
 pub mod Ledgers
 pub mod Properties
+pub mod Changing
 pub mod Examples

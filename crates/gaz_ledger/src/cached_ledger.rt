@@ -1,10 +1,11 @@
 //! A custodian's ledger with its properties at hand.
-ghost use Rattle.std.specs.Prelude.{◌≡◌, ◌≤◌, ◌||◌, ◌++◌, ◌∷◌, [], ℕ, if◌then◌else◌, length, false, None, Some, IfOk, OnErr, OnOk};
+ghost use Rattle.std.specs.Prelude.{◌≡◌, ◌≤◌, length, IfOk, OnErr, OnOk};
 ghost use Rattle.gaz_views.specs.Accounts.{empty_account, last_of, view_in};
-ghost use Rattle.gaz_views.specs.declared.property.Property.{Property};
 ghost use Rattle.gaz_views.specs.View.{with_item, without_key};
 ghost use Rattle.gaz_views.specs.Words.{property_of};
-ghost use Rattle.gaz_ledger.specs.Properties.{AreSo, is_address_of, is_blpu, known_in};
+ghost use Rattle.gaz_ledger.specs.Changing.{Forgets, KnowsNone, LearnsNothing, is_addressed_by};
+ghost use Rattle.gaz_ledger.specs.Changing.{with_verdict, with_working};
+ghost use Rattle.gaz_ledger.specs.Properties.{AreSo, is_address_of, is_blpu};
 
 use crate::index::{Mark, Marks, marks_of};
 use crate::ledger::Ledger;
@@ -16,13 +17,16 @@ use gaz_views::{Property, Verdict};
 use std::alloc::{AllocError, Global};
 use std::marker::Model;
 
-/// A custodian's ledger. Properties that have an address, or had one, stand beside it, so that a look-up finds both items by one search.
+/// A custodian's ledger. Properties that have an address, or had one, stand beside it, so that a look-up finds both
+/// items by one search.
 #[derive(Drop)]
 pub struct CachedLedger {
     ledger: Ledger,
-    // They are the same in the last view and in the working one. What isn't known is read off the ledger.
+    // They are the same in the last view and in the working one.
+    // What isn't known is read off the ledger.
     known: Properties,
-    // The BLPUs of those that the next volume has changed. They are known again when it is judged or undone.
+    // The BLPUs of those that the next volume has changed.
+    // They are known again when it is judged or undone.
     changed: Vec<Key>,
 }
 
@@ -72,7 +76,8 @@ impl CachedLedger {
 
     /// Sets an item in the working view. Where memory runs out, nothing changes.
     pub fn put(&mut self, item: SharedItem) -> Result<(), AllocError>
-        ensures ok { OnOk result (self.new ≡ record { judged = self.old.judged; working = with_item self.old.working item }) }
+        ensures ok { OnOk result (self.new
+            ≡ with_working self.old (with_item self.old.working item)) }
         ensures err { OnErr result (self.new ≡ self.old) }
     {
         let key = key_of(&item);
@@ -84,7 +89,8 @@ impl CachedLedger {
 
     /// Takes a key's item from the working view. Where memory runs out, nothing changes.
     pub fn take(&mut self, key: &Key) -> Result<(), AllocError>
-        ensures ok { OnOk result (self.new ≡ record { judged = self.old.judged; working = without_key self.old.working key.now }) }
+        ensures ok { OnOk result (self.new
+            ≡ with_working self.old (without_key self.old.working key.now)) }
         ensures err { OnErr result (self.new ≡ self.old) }
     {
         let was = self.ledger.take(key)?;
@@ -95,15 +101,16 @@ impl CachedLedger {
 
     /// The working view is the last one again.
     pub fn undo(&mut self)
-        ensures { self.new ≡ record { judged = self.old.judged; working = last_of self.old } }
+        ensures { self.new ≡ with_working self.old (last_of self.old) }
     {
         self.ledger.undo();
         learn_all(&self.ledger, &mut self.known, &mut self.changed);
     }
 
-    /// Judges the next volume: the working view is the view after it. Where memory runs out, nothing changes.
+    /// Judges the next volume: the working view is the view after it.
+    /// Where memory runs out, nothing changes.
     pub fn close(&mut self, verdict: Verdict) -> Result<(), AllocError>
-        ensures ok { OnOk result (self.new ≡ record { judged = self.old.judged ++ record { verdict = verdict; view = self.old.working } ∷ []; working = self.old.working }) }
+        ensures ok { OnOk result (self.new ≡ with_verdict self.old verdict) }
         ensures err { OnErr result (self.new ≡ self.old) }
     {
         self.ledger.close(verdict)?;
@@ -114,7 +121,7 @@ impl CachedLedger {
 
 // Forgets the BLPU of a key.
 fn forget_blpu(known: &mut Properties, changed: &mut Vec<Key>, key: &Key)
-    ensures { (n : ℕ) → known_in known.new n ≡ (if is_blpu n key.now then None else known_in known.old n) }
+    ensures { Forgets known.old known.new (λ n. is_blpu n key.now) }
 {
     if let Key::Blpu(uprn) = key {
         if known.forget(*uprn) {
@@ -126,7 +133,7 @@ fn forget_blpu(known: &mut Properties, changed: &mut Vec<Key>, key: &Key)
 
 // Forgets the property of which a mark says that it has an address.
 fn forget_address(known: &mut Properties, changed: &mut Vec<Key>, mark: &Option<Mark>)
-    ensures { (n : ℕ) → known_in known.new n ≡ (if is_address_of n mark.now then None else known_in known.old n) }
+    ensures { Forgets known.old known.new (λ n. is_address_of n mark.now) }
 {
     if let Some(Mark::AddressOf(uprn)) = mark {
         known.forget(*uprn);
@@ -134,15 +141,16 @@ fn forget_address(known: &mut Properties, changed: &mut Vec<Key>, mark: &Option<
     }
 }
 
-// The same of two marks.
+// Forgets the properties of which one of two marks says that they have an address.
 fn forget_addresses(known: &mut Properties, changed: &mut Vec<Key>, marks: &Marks)
-    ensures { (n : ℕ) → known_in known.new n ≡ (if is_address_of n marks.now.0 || is_address_of n marks.now.1 then None else known_in known.old n) }
+    ensures { Forgets known.old known.new (is_addressed_by marks.now) }
 {
     forget_address(known, changed, &marks.0);
     forget_address(known, changed, &marks.1);
 }
 
-// Forgets what a change at a key tells otherwise: the BLPU of the key, and the properties that lost or got an address.
+// Forgets what a change at a key tells otherwise: the BLPU of the key, and the properties that
+// lost or got an address.
 fn forget_changed(
     known: &mut Properties,
     changed: &mut Vec<Key>,
@@ -150,10 +158,10 @@ fn forget_changed(
     was: &Marks,
     comes: &Marks,
 )
-    ensures same { (n : ℕ) (p : Property) → known_in known.new n ≡ Some p → known_in known.old n ≡ Some p }
-    ensures blpu { (n : ℕ) (p : Property) → known_in known.new n ≡ Some p → is_blpu n key.now ≡ false }
-    ensures was { (n : ℕ) (p : Property) → known_in known.new n ≡ Some p → (is_address_of n was.now.0 || is_address_of n was.now.1) ≡ false }
-    ensures comes { (n : ℕ) (p : Property) → known_in known.new n ≡ Some p → (is_address_of n comes.now.0 || is_address_of n comes.now.1) ≡ false }
+    ensures same { LearnsNothing known.old known.new }
+    ensures blpu { KnowsNone known.new (λ n. is_blpu n key.now) }
+    ensures was { KnowsNone known.new (is_addressed_by was.now) }
+    ensures comes { KnowsNone known.new (is_addressed_by comes.now) }
 {
     forget_blpu(known, changed, key);
     forget_addresses(known, changed, was);
@@ -173,7 +181,7 @@ fn learn(ledger: &Ledger, known: &mut Properties, key: &Key)
     }
 }
 
-// The same of all that have changed.
+// Makes the properties of all BLPUs that have changed known as the last view has them.
 fn learn_all(ledger: &Ledger, known: &mut Properties, changed: &mut Vec<Key>)
     requires { last_of ledger.now ≡ ledger.now.working }
     ensures { AreSo known.old (last_of ledger.now) → AreSo known.new (last_of ledger.now) }

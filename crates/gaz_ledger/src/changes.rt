@@ -1,14 +1,13 @@
-//! Changes of what stands at keys and of what is found under marks, at the volume after those reached.
-ghost use Rattle.std.specs.Prelude.{◌≡◌, ◌⊎◌, ◌≤◌, ◌<◌, ◌+◌, ◌-◌, ◌^◌, ◌++◌, ◌∷◌, [], ℕ, IfOk, OnOk, OnErr, Some, true};
-ghost use Rattle.gaz_histories.specs.Histories.{before};
-ghost use Rattle.gaz_views.specs.Words.{entries};
-ghost use Rattle.gaz_ledger.specs.KeyHistories.{ChangesAt, versions_at, view_at};
-ghost use Rattle.gaz_ledger.specs.Indexes.{marked_at};
+//! Changes of what stands at keys and of what is found under marks, at the volume after those
+//! reached.
+ghost use Rattle.std.specs.Prelude.{◌≡◌, ◌⊎◌, ◌≤◌, ◌<◌, ◌+◌, ◌-◌, ◌^◌, [], ℕ, IfOk, OnOk, OnErr};
+ghost use Rattle.gaz_ledger.specs.Changing.{AreMarksAt, CutsAt, SetsAt};
+ghost use Rattle.gaz_ledger.specs.KeyHistories.{view_at};
 ghost use Rattle.gaz_ledger.specs.Ledgers.{Finds, IsLedger};
-ghost use Rattle.gaz_ledger.specs.declared.index.Mark.{Mark};
 
 use crate::histories::Histories;
-use crate::index::{Index, Mark, Marks, is_marked, marks_at, marks_of};
+use crate::index::{Index, Mark, Marks, marks_of};
+use crate::marked_items::{is_marked, marks_at};
 use gaz_records::{Key, SharedItem};
 use std::alloc::AllocError;
 
@@ -49,7 +48,8 @@ fn forget(histories: &Histories, index: &mut Index, reached: u64, key: &Key, mar
     forget_mark(histories, index, reached, key, second);
 }
 
-// Sets an item at a key, under its marks, or takes the one that stands there. Answers the marks of that one.
+// Sets an item at a key, under its marks, or takes the one that stands there.
+// Answers the marks of that one.
 fn set_found(
     histories: &mut Histories,
     index: &mut Index,
@@ -58,10 +58,10 @@ fn set_found(
     item: Option<SharedItem>,
 ) -> Result<Marks, AllocError>
     requires { reached < 2 ^ 64 - 1 }
-    ensures ok { OnOk result (ChangesAt histories.old histories.new key (before (versions_at histories.old key) (reached + 1) ++ (reached + 1, item) ∷ [])) }
+    ensures ok { OnOk result (SetsAt histories.old histories.new (reached + 1) key item) }
     ensures err { OnErr result (histories.new ≡ histories.old) }
     ensures finds { Finds index.old histories.old reached → Finds index.new histories.new reached }
-    ensures marks { IfOk result (λ was. (m : Mark) → marked_at (entries (view_at histories.old (reached + 1))) m key ≡ true → (was.0 ≡ Some m) ⊎ (was.1 ≡ Some m)) }
+    ensures marks { IfOk result (AreMarksAt (view_at histories.old (reached + 1)) key) }
 {
     index.add_marks_of(&item, &key)?;
     Ok(histories.set(reached + 1, key, item)?)
@@ -80,7 +80,7 @@ fn note_mark(leaving: &mut Vec<Leaving>, key: &Key, mark: Option<Mark>, stays: &
     }
 }
 
-// The same of two marks.
+// Notes which of two marks a key leaves, that are not among those that its item has now.
 fn note(leaving: &mut Vec<Leaving>, key: &Key, marks: &Marks, stays: &Marks)
     ensures { marks.now ≡ stays.now → leaving.new.items ≡ leaving.old.items }
 {
@@ -88,7 +88,8 @@ fn note(leaving: &mut Vec<Leaving>, key: &Key, marks: &Marks, stays: &Marks)
     note_mark(leaving, key, marks.1, stays);
 }
 
-/// The same, and notes the marks that are left without an item. Answers the marks of the item that stood there.
+/// Sets an item at a key, under its marks, or takes the one that stands there, and notes the marks that are left
+/// without an item. Answers the marks of the item that stood there.
 pub fn change(
     histories: &mut Histories,
     index: &mut Index,
@@ -98,10 +99,10 @@ pub fn change(
     item: Option<SharedItem>,
 ) -> Result<Marks, AllocError>
     requires { reached < 2 ^ 64 - 1 }
-    ensures ok { OnOk result (ChangesAt histories.old histories.new key.now (before (versions_at histories.old key.now) (reached + 1) ++ (reached + 1, item) ∷ [])) }
+    ensures ok { OnOk result (SetsAt histories.old histories.new (reached + 1) key.now item) }
     ensures err { OnErr result (histories.new ≡ histories.old) }
     ensures finds { Finds index.old histories.old reached → Finds index.new histories.new reached }
-    ensures marks { IfOk result (λ was. (m : Mark) → marked_at (entries (view_at histories.old (reached + 1))) m key.now ≡ true → (was.0 ≡ Some m) ⊎ (was.1 ≡ Some m)) }
+    ensures marks { IfOk result (AreMarksAt (view_at histories.old (reached + 1)) key.now) }
 {
     let comes = match &item {
         Some(item) => marks_of(item),
@@ -122,7 +123,7 @@ pub fn change(
 // A key is again as the last view has it.
 fn undo_key(histories: &mut Histories, index: &mut Index, reached: u64, key: &Key)
     requires { reached < 2 ^ 64 - 1 }
-    ensures change { ChangesAt histories.old histories.new key.now (before (versions_at histories.old key.now) (reached + 1)) }
+    ensures change { CutsAt histories.old histories.new (reached + 1) key.now }
     ensures finds { Finds index.old histories.old reached → Finds index.new histories.new reached }
 {
     let was = marks_at(histories, reached + 1, key);
@@ -136,14 +137,16 @@ pub fn undo_all(histories: &mut Histories, index: &mut Index, reached: u64, touc
     requires ledger { IsLedger reached histories.old index.old touched.old.items }
     ensures ledger { IsLedger reached histories.new index.new touched.new.items }
     ensures undone { touched.new.items ≡ [] }
-    ensures past { (volume : ℕ) → volume ≤ reached → view_at histories.new volume ≡ view_at histories.old volume }
+    ensures past { (volume : ℕ) → volume ≤ reached
+        → view_at histories.new volume ≡ view_at histories.old volume }
 {
     while let Some(key) = touched.pop() {
         undo_key(histories, index, reached, &key);
     }
 }
 
-/// Forgets the marks that keys left, and that their items have neither in the last view nor in the working one.
+/// Forgets the marks that keys left, and that their items have neither in the last view nor in the
+/// working one.
 pub fn forget_all(
     histories: &Histories,
     index: &mut Index,

@@ -1,14 +1,11 @@
 //! What stood at each key through the volumes of a gazetteer.
-ghost use Rattle.std.specs.Prelude.{◌≡◌, ◌⊎◌, ◌++◌, ◌∷◌, [], true, false, IfOk, IsOk, OnOk, OnErr, Some, option_map};
+ghost use Rattle.std.specs.Prelude.{◌≡◌, ◌++◌, ◌∷◌, [], IfOk, IsOk, OnOk, OnErr, option_map};
 ghost use Rattle.std.specs.Bool.{OnTrue};
-ghost use Rattle.std.specs.Option.{option_map_or};
 ghost use Rattle.std.specs.FinMap as finite;
-ghost use Rattle.gaz_histories.specs.Histories.{before, item_at, was_used_at};
-ghost use Rattle.gaz_records.specs.declared.key.Key.{Key};
-ghost use Rattle.gaz_views.specs.Words.{entries, page};
-ghost use Rattle.gaz_ledger.specs.KeyHistories.{ChangesAt, versions_at, view_at};
-ghost use Rattle.gaz_ledger.specs.Indexes.{has_mark, marked_at};
-ghost use Rattle.gaz_ledger.specs.declared.index.Mark.{Mark};
+ghost use Rattle.gaz_histories.specs.Histories.{before, standing_at, was_used_at};
+ghost use Rattle.gaz_views.specs.Words.{page};
+ghost use Rattle.gaz_ledger.specs.Changing.{AreMarksAt, CutsAt, HasMarksIn, SetsAt};
+ghost use Rattle.gaz_ledger.specs.KeyHistories.{versions_at, view_at};
 
 use crate::index::{Marks, marks_of};
 use crate::seed::Seed;
@@ -24,7 +21,7 @@ use std::marker::Model;
 #[derive(Drop)]
 pub struct Histories {
     alloc: Global,
-    by_key: HashMap<SortKey, History, Seed>,
+    by_key: HashMap<SortKey, History<SharedItem>, Seed>,
     // The same keys, in their order: pages go by it, and all else by the hashes.
     order: BTreeSet<SortKey>,
 }
@@ -57,10 +54,11 @@ impl Histories {
 
     /// The item at a key after a volume.
     pub fn item(&self, volume: u64, key: &Key) -> Option<&SharedItem>
-        ensures { option_map (λ i. i.now) result ≡ item_at (versions_at self.now key.now) volume }
+        ensures { option_map (λ i. i.now) result
+            ≡ standing_at (versions_at self.now key.now) volume }
     {
         match self.by_key.get(&SortKey::of(key)) {
-            Some(history) => history.item_at(volume),
+            Some(history) => history.standing_at(volume),
             None => None,
         }
     }
@@ -75,7 +73,8 @@ impl Histories {
         }
     }
 
-    /// The first `most` items of a kind after a key, or from the start, in key order, after a volume.
+    /// The first `most` items of a kind after a key, or from the start, in key order, after a
+    /// volume.
     pub fn page(
         &self,
         alloc: Global,
@@ -84,7 +83,8 @@ impl Histories {
         after: Option<Key>,
         most: usize,
     ) -> Result<Vec<SharedItem>, AllocError>
-        ensures { IfOk result (λ items. items.items ≡ page (view_at self.now volume) kind after most) }
+        ensures { IfOk result (λ items. items.items
+            ≡ page (view_at self.now volume) kind after most) }
     {
         in_order(&self.order);
         Ok(page_of(alloc, &self.order, &self.by_key, volume, kind, after, most)?)
@@ -98,9 +98,9 @@ impl Histories {
         key: Key,
         item: Option<SharedItem>,
     ) -> Result<Marks, AllocError>
-        ensures ok { OnOk result (ChangesAt self.old self.new key (before (versions_at self.old key) volume ++ (volume, item) ∷ [])) }
+        ensures ok { OnOk result (SetsAt self.old self.new volume key item) }
         ensures err { OnErr result (self.new ≡ self.old) }
-        ensures marks { IfOk result (λ was. (m : Mark) → marked_at (entries (view_at self.old volume)) m key ≡ true → (was.0 ≡ Some m) ⊎ (was.1 ≡ Some m)) }
+        ensures marks { IfOk result (AreMarksAt (view_at self.old volume) key) }
     {
         let key = SortKey::of(&key);
         match self.by_key.entry(key)? {
@@ -118,7 +118,7 @@ impl Histories {
 
     /// Forgets what began at a key at a volume or after it.
     pub fn cut(&mut self, volume: u64, key: &Key)
-        ensures { ChangesAt self.old self.new key.now (before (versions_at self.old key.now) volume) }
+        ensures { CutsAt self.old self.new volume key.now }
     {
         if self.cut_there(volume, key) {
             // Keeps nothing of a key that was never used.
@@ -130,7 +130,7 @@ impl Histories {
 
     // The same, and answers whether a history without versions is left.
     fn cut_there(&mut self, volume: u64, key: &Key) -> bool
-        ensures changes { ChangesAt self.old self.new key.now (before (versions_at self.old key.now) volume) }
+        ensures changes { CutsAt self.old self.new volume key.now }
         ensures empty { OnTrue result (versions_at self.new key.now ≡ []) }
     {
         let Some(history) = self.by_key.get_mut(&SortKey::of(key)) else {
@@ -143,11 +143,15 @@ impl Histories {
 
 // From a volume on this item stands in a history, or none any more. Answers the marks of the item that stood there. The
 // first version of all needs no memory.
-fn set_in(history: &mut History, volume: u64, item: Option<SharedItem>) -> Result<Marks, AllocError>
+fn set_in(
+    history: &mut History<SharedItem>,
+    volume: u64,
+    item: Option<SharedItem>,
+) -> Result<Marks, AllocError>
     ensures ok { OnOk result (history.new ≡ before history.old volume ++ (volume, item) ∷ []) }
     ensures err { OnErr result (history.new ≡ history.old) }
     ensures first { history.old ≡ [] → IsOk result }
-    ensures marks { IfOk result (λ was. (m : Mark) → option_map_or (has_mark m) (item_at history.old volume) false ≡ true → (was.0 ≡ Some m) ⊎ (was.1 ≡ Some m)) }
+    ensures marks { IfOk result (HasMarksIn (standing_at history.old volume)) }
 {
     let was = marks_in(history, volume);
     history.set(volume, item)?;
@@ -155,10 +159,10 @@ fn set_in(history: &mut History, volume: u64, item: Option<SharedItem>) -> Resul
 }
 
 // The marks of the item that a history has after a volume.
-fn marks_in(history: &History, volume: u64) -> Marks
-    ensures { (m : Mark) → option_map_or (has_mark m) (item_at history.now volume) false ≡ true → (result.0 ≡ Some m) ⊎ (result.1 ≡ Some m) }
+fn marks_in(history: &History<SharedItem>, volume: u64) -> Marks
+    ensures { HasMarksIn (standing_at history.now volume) result }
 {
-    match history.item_at(volume) {
+    match history.standing_at(volume) {
         Some(item) => marks_of(item),
         None => (None, None),
     }

@@ -1,18 +1,10 @@
 //! Where a view's items are found beside their keys.
-ghost use Rattle.std.specs.Prelude.{◌≡◌, ◌&&◌, ◌||◌, ◌⊎◌, ◌<◌, ◌^◌, ◌-◌, [], filter, not, true, IfOk, OnOk, OnErr, Some, option_map};
-ghost use Rattle.std.specs.Option.{IfSome};
-ghost use Rattle.std.specs.List.{filter_map, list_any};
-ghost use Rattle.std.specs.Option.{option_map_or};
-ghost use Rattle.std.specs.Ordering.{eq_by_cmp};
-ghost use Rattle.gaz_histories.specs.Histories.{item_at};
-ghost use Rattle.gaz_records.specs.Keys.{key_cmp};
-ghost use Rattle.gaz_records.specs.declared.key.Key.{Key};
-ghost use Rattle.gaz_views.specs.Words.{entries, first_of};
-ghost use Rattle.gaz_ledger.specs.KeyHistories.{versions_at, view_at};
-ghost use Rattle.gaz_ledger.specs.Indexes.{has_mark, is_under, keys_under, listed, marked_at, marked_item, same_mark};
+ghost use Rattle.std.specs.Prelude.{◌≡◌, ◌⊎◌, [], true, OnOk, OnErr, Some};
+ghost use Rattle.std.specs.Option.{IfSome, option_map_or};
+ghost use Rattle.gaz_ledger.specs.Changing.{AddsUnder, IsUnderItsMarks, KeepsUnder, SameUnder, TakesUnder};
+ghost use Rattle.gaz_ledger.specs.Indexes.{has_mark, is_under, keys_under, listed};
 ghost use Rattle.gaz_ledger.specs.declared.index.Mark.{Mark};
 
-use crate::histories::Histories;
 use crate::keys::Keys;
 use crate::seed::Seed;
 use crate::words::{is_approved_of, is_approved_on, is_child_of};
@@ -105,17 +97,17 @@ impl Index {
 
     /// Adds a key under a mark. Where memory runs out, nothing is added.
     pub fn add(&mut self, mark: Mark, key: Key) -> Result<(), AllocError>
-        ensures ok { OnOk result ((m : Mark) → (k : Key) → is_under self.new m k ≡ ((same_mark mark m && eq_by_cmp key_cmp key k) || is_under self.old m k)) }
-        ensures err { OnErr result ((m : Mark) → (k : Key) → is_under self.new m k ≡ is_under self.old m k) }
+        ensures ok { OnOk result (AddsUnder self.old self.new mark key) }
+        ensures err { OnErr result (SameUnder self.old self.new) }
     {
         let keys = self.by_mark.entry(mark)?.or_insert(Keys::one(key));
         keys.insert(self.alloc, key)
     }
 
-    // The same, where a mark is given.
+    // Adds a key under a mark, where one is given. Where memory runs out, nothing is added.
     fn add_some(&mut self, mark: Option<Mark>, key: &Key) -> Result<(), AllocError>
         ensures ok { OnOk result ((m : Mark) → mark ≡ Some m → is_under self.new m key.now ≡ true) }
-        ensures kept { (m : Mark) → (k : Key) → is_under self.old m k ≡ true → is_under self.new m k ≡ true }
+        ensures kept { KeepsUnder self.old self.new }
     {
         match mark {
             Some(mark) => self.add(mark, *key),
@@ -125,8 +117,8 @@ impl Index {
 
     /// Adds a key under each mark of its item. Where memory runs out, it may be under some of them.
     pub fn add_marks(&mut self, item: &Item, key: &Key) -> Result<(), AllocError>
-        ensures ok { OnOk result ((m : Mark) → has_mark m item.now ≡ true → is_under self.new m key.now ≡ true) }
-        ensures kept { (m : Mark) → (k : Key) → is_under self.old m k ≡ true → is_under self.new m k ≡ true }
+        ensures ok { OnOk result (IsUnderItsMarks self.new key.now item.now) }
+        ensures kept { KeepsUnder self.old self.new }
     {
         let (first, second) = marks_of(item);
         self.add_some(first, key)?;
@@ -134,10 +126,10 @@ impl Index {
         Ok(())
     }
 
-    /// The same, where there is an item.
+    /// Adds a key under each mark of its item, where there is one. Where memory runs out, it may be under some of them.
     pub fn add_marks_of(&mut self, item: &Option<SharedItem>, key: &Key) -> Result<(), AllocError>
-        ensures ok { OnOk result (IfSome item.now (λ i. (m : Mark) → has_mark m i ≡ true → is_under self.new m key.now ≡ true)) }
-        ensures kept { (m : Mark) → (k : Key) → is_under self.old m k ≡ true → is_under self.new m k ≡ true }
+        ensures ok { OnOk result (IfSome item.now (IsUnderItsMarks self.new key.now)) }
+        ensures kept { KeepsUnder self.old self.new }
     {
         match item {
             Some(item) => self.add_marks(item, key),
@@ -147,7 +139,7 @@ impl Index {
 
     /// Takes a key from under a mark.
     pub fn remove(&mut self, mark: Mark, key: &Key)
-        ensures { (m : Mark) → (k : Key) → is_under self.new m k ≡ (not (same_mark mark m && eq_by_cmp key_cmp key.now k) && is_under self.old m k) }
+        ensures { TakesUnder self.old self.new mark key.now }
     {
         let Some(keys) = self.by_mark.get_mut(&mark) else {
             return;
@@ -155,107 +147,6 @@ impl Index {
         keys.remove(self.alloc, key);
         if keys.is_empty() {
             self.by_mark.remove(&mark);
-        }
-    }
-}
-
-/// Whether an item with the mark stands under the key after a volume.
-pub fn is_marked(histories: &Histories, volume: u64, mark: &Mark, key: &Key) -> bool
-    ensures { result ≡ marked_at (entries (view_at histories.now volume)) mark.now key.now }
-{
-    match histories.item(volume, key) {
-        Some(item) => mark.is_on(item),
-        None => false,
-    }
-}
-
-/// The marks of the item under the key after a volume.
-pub fn marks_at(histories: &Histories, volume: u64, key: &Key) -> Marks
-    ensures { (m : Mark) → marked_at (entries (view_at histories.now volume)) m key.now ≡ true → (result.0 ≡ Some m) ⊎ (result.1 ≡ Some m) }
-{
-    match histories.item(volume, key) {
-        Some(item) => marks_of(item),
-        None => (None, None),
-    }
-}
-
-/// Those of these keys under which an item with the mark stands after a volume.
-pub fn keys_marked(
-    alloc: Global,
-    histories: &Histories,
-    volume: u64,
-    mark: &Mark,
-    keys: &Keys,
-) -> Result<Vec<Key>, AllocError>
-    ensures { IfOk result (λ ks. ks.items ≡ filter (marked_at (entries (view_at histories.now volume)) mark.now) (listed keys.now)) }
-{
-    let mut found = Vec::new(alloc);
-    match keys {
-        Keys::One(key) => {
-            if is_marked(histories, volume, mark, key) {
-                found.push(*key)?;
-            }
-        }
-        Keys::Many(keys) => {
-            for key in keys {
-                if is_marked(histories, volume, mark, key) {
-                    found.push(*key)?;
-                }
-            }
-        }
-    }
-    Ok(found)
-}
-
-/// Whether an item with the mark stands under one of these keys after a volume.
-pub fn any_marked(histories: &Histories, volume: u64, mark: &Mark, keys: &Keys) -> bool
-    ensures { result ≡ list_any (marked_at (entries (view_at histories.now volume)) mark.now) (listed keys.now) }
-{
-    match keys {
-        Keys::One(key) => is_marked(histories, volume, mark, key),
-        Keys::Many(keys) => {
-            for key in keys {
-                if is_marked(histories, volume, mark, key) {
-                    return true;
-                }
-            }
-            false
-        }
-    }
-}
-
-// The item under the key after a volume, where it has the mark.
-fn item_marked<'a>(
-    histories: &'a Histories,
-    volume: u64,
-    mark: &Mark,
-    key: &Key,
-) -> Option<&'a SharedItem>
-    ensures { option_map (λ i. i.now) result ≡ marked_item (entries (view_at histories.now volume)) mark.now key.now }
-{
-    let item = histories.item(volume, key)?;
-    if mark.is_on(item) { Some(item) } else { None }
-}
-
-/// The first item with the mark under these keys after a volume.
-pub fn first_marked<'a>(
-    histories: &'a Histories,
-    volume: u64,
-    mark: &Mark,
-    keys: &Keys,
-) -> Option<&'a SharedItem>
-    ensures { option_map (λ i. i.now) result ≡ first_of (filter_map (marked_item (entries (view_at histories.now volume)) mark.now) (listed keys.now)) }
-{
-    match keys {
-        Keys::One(key) => item_marked(histories, volume, mark, key),
-        Keys::Many(keys) => {
-            for key in keys {
-                let found = item_marked(histories, volume, mark, key);
-                if found.is_some() {
-                    return found;
-                }
-            }
-            None
         }
     }
 }

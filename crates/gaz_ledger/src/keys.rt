@@ -1,9 +1,7 @@
 //! The keys that are found under one mark.
-ghost use Rattle.std.specs.Prelude.{◌≡◌, ◌&&◌, ◌||◌, ◌∷◌, [], false, not, OnOk, OnErr, IfOk, IsTrue, ◌↔◌};
+ghost use Rattle.std.specs.Prelude.{◌≡◌, ◌∷◌, [], false, OnOk, OnErr, IfOk, IsTrue, ◌↔◌};
 ghost use Rattle.std.specs.List.Sorted.{IsStrictlySortedBy};
-ghost use Rattle.std.specs.Ordering.{eq_by_cmp};
-ghost use Rattle.gaz_records.specs.Keys.{key_cmp};
-ghost use Rattle.gaz_records.specs.declared.key.Key.{Key};
+ghost use Rattle.gaz_ledger.specs.Changing.{AddsKey, TakesKey};
 ghost use Rattle.gaz_ledger.specs.Indexes.{has_key, listed};
 
 use gaz_records::Key;
@@ -27,9 +25,10 @@ impl Keys {
         Keys::One(key)
     }
 
-    /// Adds a key. Where memory runs out, the keys are as they were, and only for a key that is new.
+    /// Adds a key. Where memory runs out, which it does only for a key that is new, the keys are as
+    /// they were.
     pub fn insert(&mut self, alloc: Global, key: Key) -> Result<(), AllocError>
-        ensures ok { OnOk result ((k : Key) → has_key (listed self.new) k ≡ (eq_by_cmp key_cmp key k || has_key (listed self.old) k)) }
+        ensures ok { OnOk result (AddsKey (listed self.old) (listed self.new) key) }
         ensures err { OnErr result (listed self.new ≡ listed self.old) }
         ensures absent { OnErr result (has_key (listed self.old) key ≡ false) }
     {
@@ -50,7 +49,7 @@ impl Keys {
 
     /// Takes a key out, where it is there.
     pub fn remove(&mut self, alloc: Global, key: &Key)
-        ensures { (k : Key) → has_key (listed self.new) k ≡ (not (eq_by_cmp key_cmp key.now k) && has_key (listed self.old) k) }
+        ensures { TakesKey (listed self.old) (listed self.new) key.now }
     {
         match self {
             Keys::One(one) => {
@@ -89,7 +88,7 @@ impl Keys {
 
 // Two keys.
 fn both_of(alloc: Global, one: Key, other: Key) -> Result<BTreeSet<Key>, AllocError>
-    ensures { IfOk result (λ keys. (k : Key) → has_key keys.keys k ≡ (eq_by_cmp key_cmp other k || has_key (one ∷ []) k)) }
+    ensures { IfOk result (λ keys. AddsKey (one ∷ []) keys.keys other) }
 {
     let mut both = BTreeSet::new(alloc);
     both.insert(one)?;

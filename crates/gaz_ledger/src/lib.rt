@@ -8,6 +8,8 @@ mod index;
 mod keys;
 pub mod laws;
 mod ledger;
+mod ledger_finding;
+mod marked_items;
 mod properties;
 mod seed;
 mod words;

@@ -1,5 +1,6 @@
 //! Properties that are at hand.
-ghost use Rattle.std.specs.Prelude.{◌≡◌, ◌==◌, ℕ, if◌then◌else◌, is_some, None, OnErr, OnOk, option_map, Some};
+ghost use Rattle.std.specs.Prelude.{◌≡◌, ℕ, is_some, None, OnErr, OnOk, option_map, Some};
+ghost use Rattle.gaz_ledger.specs.Changing.{KnowsOf};
 ghost use Rattle.gaz_ledger.specs.Properties.{known_in};
 
 use crate::seed::Seed;
@@ -33,7 +34,7 @@ impl Properties {
 
     /// Makes a property known. Where memory runs out, nothing changes.
     pub fn set(&mut self, uprn: Uprn, property: Property) -> Result<(), AllocError>
-        ensures ok { OnOk result ((n : ℕ) → known_in self.new n ≡ (if uprn == n then Some property else known_in self.old n)) }
+        ensures ok { OnOk result (KnowsOf self.old self.new uprn (Some property)) }
         ensures err { OnErr result ((n : ℕ) → known_in self.new n ≡ known_in self.old n) }
     {
         self.by_uprn.insert(uprn, property)?;
@@ -42,7 +43,7 @@ impl Properties {
 
     /// Makes a property unknown. Whether it was known.
     pub fn forget(&mut self, uprn: Uprn) -> bool
-        ensures known { (n : ℕ) → known_in self.new n ≡ (if uprn == n then None else known_in self.old n) }
+        ensures known { KnowsOf self.old self.new uprn None }
         ensures was { result ≡ is_some (known_in self.old uprn) }
     {
         // Mostly it isn't, and looking costs less than removing.

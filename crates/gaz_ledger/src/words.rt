@@ -1,9 +1,8 @@
 //! What is asked of a view, over its entries as they stand.
-ghost use Rattle.std.specs.Prelude.{◌≡◌, ◌&&◌, map, filter, take, if◌then◌else◌, IfOk, None, option_map};
+ghost use Rattle.std.specs.Prelude.{◌≡◌, take, if◌then◌else◌, IfOk, None, option_map};
 ghost use Rattle.std.specs.List.Sorted.{IsStrictlySortedBy};
-ghost use Rattle.gaz_histories.specs.Histories.{item_at};
 ghost use Rattle.gaz_views.specs.Words.{comes_after, is_approved_of, is_approved_on, is_child_of, is_in, is_of};
-ghost use Rattle.gaz_ledger.specs.KeyHistories.{rows_at, versions_among, with_versions};
+ghost use Rattle.gaz_ledger.specs.KeyHistories.{item_of_kind, items_after, rows_at, with_versions};
 ghost use Rattle.gaz_ledger.specs.Ranges.{is_past, number_of, start_after};
 
 use crate::seed::Seed;
@@ -101,15 +100,16 @@ fn wanted<'a>(
     kind: Kind,
     volume: u64,
     key: &SortKey,
-    histories: &'a HashMap<SortKey, History, Seed>,
+    histories: &'a HashMap<SortKey, History<SharedItem>, Seed>,
 ) -> Option<&'a SharedItem>
-    ensures { option_map (λ i. i.now) result ≡ (if is_of kind key.now then item_at (versions_among histories.now.entries key.now) volume else None) }
+    ensures { option_map (λ i. i.now) result
+        ≡ item_of_kind kind histories.now.entries key.now volume }
 {
     if !is_of(kind, key) {
         return None;
     }
     match histories.get(key) {
-        Some(history) => history.item_at(volume),
+        Some(history) => history.standing_at(volume),
         None => None,
     }
 }
@@ -118,13 +118,14 @@ fn wanted<'a>(
 pub fn page_of(
     alloc: Global,
     order: &BTreeSet<SortKey>,
-    histories: &HashMap<SortKey, History, Seed>,
+    histories: &HashMap<SortKey, History<SharedItem>, Seed>,
     volume: u64,
     kind: Kind,
     after: Option<Key>,
     most: usize,
 ) -> Result<Vec<SharedItem>, AllocError>
-    ensures { IfOk result (λ found. found.items ≡ take most (map (λ e. e.1) (filter (λ e. is_of kind e.0 && comes_after after e.0) (rows_at (with_versions order.now.keys histories.now.entries) volume)))) }
+    ensures { IfOk result (λ found. found.items ≡ take most (items_after kind after
+        (rows_at (with_versions order.now.keys histories.now.entries) volume))) }
 {
     let mut found = Vec::new(alloc);
     for key in order.range((start_after(after), Bound::Unbounded)) {

@@ -5,7 +5,7 @@ use Rattle.gaz_histories.proofs.Searches.{front, rises}
 use Rattle.gaz_histories.proofs.history.count_before.Goals as goal
 
 pub returns-clause-before : goal.returns-clause-before
-returns-clause-before c =
+returns-clause-before g c =
     let volume = c.args.volume in
     let vs = c.args.versions.now in
     let parted = IsPartitionedBy-ltb (λ v. v.since) vs volume (rises version_in (λ v. v.0) vs c.requires) in

@@ -5,7 +5,7 @@ use Rattle.gaz_histories.proofs.Searches.{front, rises}
 use Rattle.gaz_histories.proofs.history.count_until.Goals as goal
 
 pub returns-clause-until : goal.returns-clause-until
-returns-clause-until c =
+returns-clause-until g c =
     let volume = c.args.volume in
     let vs = c.args.versions.now in
     let parted = IsPartitionedBy-leb (λ v. v.since) vs volume (rises version_in (λ v. v.0) vs c.requires) in

@@ -6,4 +6,4 @@ use Rattle.gaz_histories.proofs.history.History.new.Goals as goal
 
 pub invariant_of-result : goal.invariant_of-result
 unfolding IsStrictlySortedBy
-invariant_of-result c = subst (λ vs. Ascends (versions_of vs)) (sym c.new.ensures.items) tt
+invariant_of-result g c = subst (λ vs. Ascends (versions_of vs)) (sym c.new.ensures.items) tt

@@ -6,7 +6,7 @@ use Rattle.gaz_records.specs.declared.shared.SharedItem.{SharedItem}
 use Rattle.gaz_ledger.proofs.KeyHistories.{row_at}
 use Rattle.gaz_ledger.specs.Indexes.{has_mark}
 use Rattle.gaz_ledger.specs.declared.index.Mark.{Mark}
-use Rattle.gaz_ledger.proofs.index.item_marked.Goals as goal
+use Rattle.gaz_ledger.proofs.marked_items.item_marked.Goals as goal
 
 abbrev where_on : Mark → Option Item → Option Item
 where_on m o = option_and_then (λ i. if has_mark m i then Some i else None) o

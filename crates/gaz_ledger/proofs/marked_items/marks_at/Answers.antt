@@ -2,7 +2,7 @@ use Rattle.std.proofs.Common.{◌≡◌, ◌∙◌, ap, true, false}
 use Rattle.std.specs.Option.{option_map_or}
 use Rattle.gaz_ledger.proofs.KeyHistories.{row_at}
 use Rattle.gaz_ledger.specs.Indexes.{has_mark}
-use Rattle.gaz_ledger.proofs.index.marks_at.Goals as goal
+use Rattle.gaz_ledger.proofs.marked_items.marks_at.Goals as goal
 
 pub returns-in-Some : goal.returns-in-Some
 returns-in-Some c m is =

@@ -4,7 +4,7 @@ use Rattle.std.specs.Prelude.{filter}
 use Rattle.gaz_views.specs.Words.{entries}
 use Rattle.gaz_ledger.specs.KeyHistories.{view_at}
 use Rattle.gaz_ledger.specs.Indexes.{listed, marked_at}
-use Rattle.gaz_ledger.proofs.index.keys_marked.Given as goal
+use Rattle.gaz_ledger.proofs.marked_items.keys_marked.Given as goal
 
 abbrev pub invariant-loop-key : goal.invariant-loop-key
 invariant-loop-key l = l.found.items ++ filter (marked_at (entries (view_at l.histories l.volume)) l.mark) l.key-iterator ≡ filter (marked_at (entries (view_at l.histories l.volume)) l.mark) (listed l.keys)
