@@ -1,5 +1,7 @@
 -- House numbers, their order, and how they are read and written.
-use Rattle.std.specs.Prelude.{◌≡◌, ℕ, ◌==◌, ◌&&◌, nat_le, List, [], ◌∷◌, ◌++◌, length, slice_index, Option, Some, None, option_map, Result, Ok, Err, if◌then◌else◌, Bool, true, decimal}
+use Rattle.std.specs.Prelude.{◌≡◌, ℕ, ◌==◌, ◌&&◌, nat_le, List, [], ◌∷◌, ◌++◌, length, slice_index}
+use Rattle.std.specs.Prelude.{Option, Some, None, option_map, Result, Ok, Err, if◌then◌else◌, Bool}
+use Rattle.std.specs.Prelude.{true, decimal}
 use Rattle.std.specs.Ordering.{is_lt, nat_cmp, ordering_then}
 use Rattle.std.specs.declared.cmp.Ordering.{Ordering}
 use Rattle.std.specs.declared.cmp.Ordering.TheVariants.{Less, Equal, Greater}
@@ -73,7 +75,8 @@ house_of t = optional (λ d. ok_of (read_id 4 1 9999 d)) t
 
 -- one letter from A to Z
 abbrev pub letter_in : List ℕ → Option ℕ
-letter_in t = if (length t == 1) && is_letter (slice_index t 0) then Some (slice_index t 0) else None
+letter_in t =
+    if (length t == 1) && is_letter (slice_index t 0) then Some (slice_index t 0) else None
 
 abbrev pub suffix_of : List ℕ → Option (Option ℕ)
 suffix_of t = optional letter_in t

@@ -1,7 +1,10 @@
 -- Addressable objects: what five fields say, and the five texts of an object.
-use Rattle.std.specs.Prelude.{◌≡◌, ◌⊎◌, ℕ, ◌==◌, ◌&&◌, ◌||◌, not, nat_lt, List, [], ◌∷◌, ◌++◌, length, get_or, Option, Some, None, is_some, is_none, Result, Ok, Err, if◌then◌else◌, Bool, true, decimal}
+use Rattle.std.specs.Prelude.{◌≡◌, ◌⊎◌, ℕ, ◌==◌, ◌&&◌, ◌||◌, not, nat_lt, List, [], ◌∷◌, ◌++◌}
+use Rattle.std.specs.Prelude.{length, get_or, Option, Some, None, is_some, is_none, Result, Ok, Err}
+use Rattle.std.specs.Prelude.{if◌then◌else◌, Bool, true, decimal}
 use Rattle.gaz_addressable.specs.Texts.{is_plain, char_count, is_text}
-use Rattle.gaz_addressable.specs.HouseNumbers.{HouseNumberValue, RangeValue, house_of, is_range, rises, suffix_of, suffix_text}
+use Rattle.gaz_addressable.specs.HouseNumbers.{HouseNumberValue, RangeValue, house_of, is_range}
+use Rattle.gaz_addressable.specs.HouseNumbers.{rises, suffix_of, suffix_text}
 use Rattle.gaz_addressable.specs.declared.object.ObjFault.{ObjFault}
 use Rattle.gaz_addressable.specs.declared.object.ObjFault.TheVariants as fault
 
@@ -46,7 +49,9 @@ range_from (Some from) to = Some (record { from = from; to = to })
 -- the house numbers of four fields that have their forms
 abbrev pub range_value : (start suffix end end_suffix : List ℕ) → Option RangeValue
 range_value start suffix end end_suffix =
-    range_from (numbered (flattened (house_of start)) (flattened (suffix_of suffix))) (numbered (flattened (house_of end)) (flattened (suffix_of end_suffix)))
+    range_from
+    (numbered (flattened (house_of start)) (flattened (suffix_of suffix)))
+    (numbered (flattened (house_of end)) (flattened (suffix_of end_suffix)))
 
 abbrev pub rises_if_there : Option RangeValue → Bool
 rises_if_there None = true
@@ -59,7 +64,10 @@ range_faults start suffix end end_suffix =
     ∷ (is_none (suffix_of suffix) || (not (is_empty suffix) && is_empty start), fault.BadSuffix)
     ∷ (is_none (house_of end), fault.BadNumber)
     ∷ (not (is_empty end) && is_empty start, fault.EndWithoutStart)
-    ∷ (is_none (suffix_of end_suffix) || (not (is_empty end_suffix) && is_empty end), fault.BadSuffix)
+    ∷ (
+      is_none (suffix_of end_suffix) || (not (is_empty end_suffix) && is_empty end),
+      fault.BadSuffix,
+    )
     ∷ (not (rises_if_there (range_value start suffix end end_suffix)), fault.EndNotAfterStart)
     ∷ []
 
@@ -72,8 +80,10 @@ text_faults text =
 
 -- and with all five
 abbrev pub object_faults : (start suffix end end_suffix text : List ℕ) → List (Bool × ObjFault)
-object_faults start suffix end end_suffix text =
-    (is_empty start && is_empty suffix && is_empty end && is_empty end_suffix && is_empty text, fault.Empty)
+object_faults start suffix end end_suffix text = (
+  is_empty start && is_empty suffix && is_empty end && is_empty end_suffix && is_empty text,
+  fault.Empty,
+)
     ∷ (range_faults start suffix end end_suffix ++ text_faults text)
 
 -- the first that applies
@@ -86,23 +96,31 @@ unless None x = Ok x
 unless (Some f) x = Err f
 
 -- the house numbers that four fields say, if any
-unfoldable pub range_of : (start suffix end end_suffix : List ℕ) → Result (Option RangeValue) ObjFault
-range_of start suffix end end_suffix = unless (first_of (range_faults start suffix end end_suffix)) (range_value start suffix end end_suffix)
+unfoldable pub range_of :
+    (start suffix end end_suffix : List ℕ) → Result (Option RangeValue) ObjFault
+range_of start suffix end end_suffix =
+    unless (first_of (range_faults start suffix end end_suffix))
+    (range_value start suffix end end_suffix)
 
 -- the object that five fields say
 unfoldable pub object_of : (start suffix end end_suffix text : List ℕ) → Result ObjectValue ObjFault
 object_of start suffix end end_suffix text =
     unless (first_of (object_faults start suffix end end_suffix text))
-    (record { range = range_value start suffix end end_suffix; text = if is_empty text then None else Some text })
+    (record {
+      range = range_value start suffix end end_suffix;
+      text = if is_empty text then None else Some text;
+    })
 
 -- the object of house numbers that were read, if any, and of a text
 abbrev pub with_text : Option RangeValue → List ℕ → Result ObjectValue ObjFault
 with_text range text =
     if is_none range && is_empty text then Err fault.Empty
-    else unless (first_of (text_faults text)) (record { range = range; text = if is_empty text then None else Some text })
+    else unless (first_of (text_faults text))
+    (record { range = range; text = if is_empty text then None else Some text })
 
 abbrev pub object_of_fields : List (List ℕ) → Result ObjectValue ObjFault
-object_of_fields f = object_of (get_or f 0 []) (get_or f 1 []) (get_or f 2 []) (get_or f 3 []) (get_or f 4 [])
+object_of_fields f =
+    object_of (get_or f 0 []) (get_or f 1 []) (get_or f 2 []) (get_or f 3 []) (get_or f 4 [])
 
 -- the answer, or want of memory in its place
 abbrev pub OrMemory : {A : Type 0} → Result A ObjFault → Result A ObjFault → Type 0
@@ -132,7 +150,10 @@ or_empty (Some t) = t
 
 -- start number, start suffix, end number, end suffix, text
 abbrev pub texts_of : ObjectValue → List (List ℕ)
-texts_of o = digits_text (from_of o.range) ∷ letter_text (from_of o.range) ∷ digits_text (to_of o.range) ∷ letter_text (to_of o.range) ∷ or_empty o.text ∷ []
+texts_of o =
+    digits_text (from_of o.range) ∷ letter_text (from_of o.range)
+    ∷ digits_text (to_of o.range) ∷ letter_text (to_of o.range)
+    ∷ or_empty o.text ∷ []
 
 -- what an object writes reads back as the same object
 abbrev pub ObjectsReadBack : Type 0

@@ -1,5 +1,6 @@
 -- What a text may hold, by its characters.
-use Rattle.std.specs.Prelude.{◌≡◌, ◌⊎◌, ℕ, ◌-◌, ◌==◌, ◌&&◌, ◌||◌, not, nat_lt, nat_le, List, length, slice_index, Result, Ok, Err, if◌then◌else◌, Bool}
+use Rattle.std.specs.Prelude.{◌≡◌, ◌⊎◌, ℕ, ◌-◌, ◌==◌, ◌&&◌, ◌||◌, not, nat_lt, nat_le, List, length}
+use Rattle.std.specs.Prelude.{slice_index, Result, Ok, Err, if◌then◌else◌, Bool}
 use Rattle.std.specs.List.{list_any}
 use Rattle.std.specs.Str.{chars, is_utf8}
 use Rattle.gaz_addressable.specs.declared.text.TextFault.{TextFault}
@@ -11,7 +12,10 @@ is_control c = nat_lt c 32 || (c == 127)
 
 -- one character or more, no space (U+0020) at either end, no control character
 abbrev pub are_plain : List ℕ → Bool
-are_plain cs = not (length cs == 0) && not (slice_index cs 0 == 32) && not (slice_index cs (length cs - 1) == 32) && not (list_any is_control cs)
+are_plain cs =
+    not (length cs == 0)
+    && not (slice_index cs 0 == 32) && not (slice_index cs (length cs - 1) == 32)
+    && not (list_any is_control cs)
 
 -- UTF-8 whose characters are such
 unfoldable pub is_plain : List ℕ → Bool

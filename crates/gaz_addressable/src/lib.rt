@@ -1,4 +1,5 @@
-//! Addressable objects: house numbers and texts (BS 7666:2006, Part 2; the bounds are our profile's).
+//! Addressable objects: house numbers and texts (BS 7666:2006, Part 2; the bounds are our
+//! profile's).
 #![tactic(auto)]
 
 pub mod laws;

@@ -1,5 +1,7 @@
 ghost use Rattle.std.specs.Prelude.{◌≡◌, ◌++◌, ◌∷◌, OnErr, OnOk, true};
-ghost use Rattle.gaz_addressable.specs.HouseNumbers.{house_cmp, is_before, is_house_number, is_range, number_text, range_text, suffix_text};
+ghost use Rattle.gaz_addressable.specs.HouseNumbers.{house_cmp, is_before, is_house_number};
+ghost use Rattle.gaz_addressable.specs.HouseNumbers.{is_range, number_text, range_text};
+ghost use Rattle.gaz_addressable.specs.HouseNumbers.{suffix_text};
 
 use gaz_ids::Number;
 use itoa::Buffer;
@@ -12,7 +14,8 @@ pub type HouseDigits = Number<10, 4, 1, 9999>;
 
 /// A house number with its suffix, `A` to `Z`, if it has one.
 ///
-/// Its order is by the number, then by the suffix; a number without a suffix comes before those with one.
+/// Its order is by the number, then by the suffix; a number without a suffix comes before those
+/// with one.
 #[derive(Clone, Copy, Debug, PartialEq, Eq, PartialOrd, Ord)]
 pub struct HouseNumber {
     pub n: HouseDigits,
@@ -124,7 +127,8 @@ impl Range {
     }
 
     #[tactic(auto, using(crate::proofs::Undoing::undoing))]
-    /// Adds the numbers, as `12A-14`, or as `12A` where there is one. After want of memory `out` is as it was.
+    /// Adds the numbers, as `12A-14`, or as `12A` where there is one. After want of memory `out` is
+    /// as it was.
     pub fn write(&self, out: &mut Vec<u8>) -> Result<(), AllocError>
         ensures text { OnOk result (out.new.items ≡ out.old.items ++ range_text self.now) }
         ensures undone { OnErr result (out.new.items ≡ out.old.items) }

@@ -3,7 +3,8 @@ use crate::text::Text;
 use std::marker::Model;
 use thiserror::Error;
 
-/// Why five fields are no object: the first of these that applies, in the order that `Object::read` gives.
+/// Why five fields are no object: the first of these that applies, in the order that `Object::read`
+/// gives.
 #[derive(Clone, Copy, Debug, PartialEq, Eq, Error)]
 pub enum ObjFault {
     #[error("no field is filled")]

@@ -111,9 +111,9 @@ impl Object {
     #[tactic(auto, using(crate::proofs::Reading::readings))]
     /// The object that five fields say: start number, start suffix, end number, end suffix, text.
     ///
-    /// The faults in order: `Empty` where all five are; `BadNumber` (start); `BadSuffix` (start), also without a start number;
-    /// `BadNumber` (end); `EndWithoutStart`; `BadSuffix` (end), also without an end number; `EndNotAfterStart`; `BadText`;
-    /// `TextTooLong`.
+    /// The faults in order: `Empty` where all five are; `BadNumber` (start); `BadSuffix` (start),
+    /// also without a start number; `BadNumber` (end); `EndWithoutStart`; `BadSuffix` (end), also
+    /// without an end number; `EndNotAfterStart`; `BadText`; `TextTooLong`.
     pub fn read(alloc: Global, fields: [&[u8]; 5]) -> Result<Object, ObjFault>
         ensures { OrMemory result (object_of_fields (map (λ f. f.now) fields.entry)) }
     {

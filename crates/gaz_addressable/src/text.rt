@@ -1,6 +1,7 @@
 ghost use Rattle.std.specs.Prelude.{◌≡◌, nat_le, not, true, IfSome, is_some};
 ghost use Rattle.std.specs.List.{list_any};
-ghost use Rattle.gaz_addressable.specs.Texts.{OrMemory, char_count, is_control, is_plain, is_text, text_of};
+ghost use Rattle.gaz_addressable.specs.Texts.{OrMemory, char_count, is_control, is_plain, is_text};
+ghost use Rattle.gaz_addressable.specs.Texts.{text_of};
 
 use std::alloc::Global;
 use std::marker::Model;
@@ -19,7 +20,8 @@ pub enum TextFault {
     Memory,
 }
 
-/// A text of 1 to `MOST` characters in UTF-8, none of them below U+0020 nor U+007F, with no space (U+0020) at either end.
+/// A text of 1 to `MOST` characters in UTF-8, none of them below U+0020 nor U+007F, with no space
+/// (U+0020) at either end.
 #[derive(Debug, Drop)]
 pub struct Text<const MOST: u64> {
     inner: String,

@@ -1,6 +1,7 @@
 ghost use Rattle.std.specs.Prelude.{◌≡◌, ◌++◌, IfOk, OnErr, OnOk, Ok, map, option_map, true};
 ghost use Rattle.gaz_addressable.specs.HouseNumbers.{numbers_text};
-ghost use Rattle.gaz_addressable.specs.Objects.{digits_text, from_of, is_object, letter_text, object_of_fields, or_empty, texts_of, to_of};
+ghost use Rattle.gaz_addressable.specs.Objects.{digits_text, from_of, is_object, letter_text};
+ghost use Rattle.gaz_addressable.specs.Objects.{object_of_fields, or_empty, texts_of, to_of};
 
 use crate::number::{HouseNumber, Range};
 use crate::object::Object;
@@ -68,7 +69,8 @@ impl Object {
         }
     }
 
-    /// Adds the house numbers, as `12A-14`, and nothing where there are none. After want of memory `out` is as it was.
+    /// Adds the house numbers, as `12A-14`, and nothing where there are none. After want of memory
+    /// `out` is as it was.
     pub fn write_numbers(&self, out: &mut Vec<u8>) -> Result<(), AllocError>
         ensures text { OnOk result (out.new.items ≡ out.old.items ++ numbers_text self.now.range) }
         ensures undone { OnErr result (out.new.items ≡ out.old.items) }
@@ -89,7 +91,8 @@ impl Object {
     }
 
     #[tactic(auto, using(crate::proofs::Rounds::object_back))]
-    /// The five texts: start number, start suffix, end number, end suffix, text. They read back as the same object.
+    /// The five texts: start number, start suffix, end number, end suffix, text. They read back as
+    /// the same object.
     pub fn fields(&self, alloc: Global) -> Result<[Vec<u8>; 5], AllocError>
         ensures texts { IfOk result (λ v. map (λ t. t.items) v ≡ texts_of self.now) }
         ensures reads_back { object_of_fields (texts_of self.now) ≡ Ok self.now }

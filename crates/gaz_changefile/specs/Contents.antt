@@ -1,5 +1,6 @@
 -- What the records of a good file say.
-use Rattle.std.specs.Prelude.{ℕ, ◌==◌, List, [], ◌∷◌, drop, length, Option, Some, None, Result, Ok, Err, if◌then◌else◌}
+use Rattle.std.specs.Prelude.{ℕ, ◌==◌, List, [], ◌∷◌, drop, length, Option, Some, None, Result, Ok}
+use Rattle.std.specs.Prelude.{Err, if◌then◌else◌}
 use Rattle.std.specs.List.{enumerate_from, filter_map}
 use Rattle.gaz_rows.specs.Rows.{Fields}
 use Rattle.gaz_records.specs.Days.{CivilDay, date_of, no_day}
@@ -34,7 +35,9 @@ basis_from (Some d) (Some w) = Some (record { custodian = d; volume = w })
 
 -- the basis that three fields say: behind the first a custodian and a volume
 abbrev pub basis_in : Fields → Option Basis
-basis_in row = if length row == 3 then basis_from (read_code (field row 1)) (read_volume (field row 2)) else None
+basis_in row =
+    if length row == 3
+    then basis_from (read_code (field row 1)) (read_volume (field row 2)) else None
 
 -- the basis of a record, by what the record is
 abbrev pub basis_of : Fields → Line → Option Basis

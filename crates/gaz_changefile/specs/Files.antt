@@ -15,7 +15,8 @@ pub record AreBases (own : ℕ) (bases : List Basis) : Type 0 where
   pub rise : IsStrictlyIncreasing (map (λ b. b.custodian) bases)
   pub others : All (λ b. b.custodian ≢ own) bases
 
--- at most 5,000 changes, each placed by the number of its record: the header is record 1, then come the bases
+-- at most 5,000 changes, each placed by the number of its record: the header is record 1, then come
+-- the bases
 pub record ArePlaced (bases : List Basis) (changes : List Change) : Type 0 where
   pub few : length changes ≤ 5000
   pub places : map (λ x. x.place) changes ≡ range_with_len (length bases + 2) (length changes)
@@ -27,7 +28,8 @@ pub record IsBasis (b : Basis) : Type 0 where
   pub volume_from : 1 ≤ b.volume
   pub volume_to : b.volume ≤ last_volume
 
--- what the types of a file's parts hold: a date that the calendar has, codes and volumes, items that the field table allows
+-- what the types of a file's parts hold: a date that the calendar has, codes and volumes, items
+-- that the field table allows
 pub record IsTyped (f : Contents) : Type 0 where
   pub date : is_day f.date ≡ true
   pub bases : All IsBasis f.bases

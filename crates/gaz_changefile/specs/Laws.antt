@@ -1,5 +1,6 @@
 -- What a reading means, as a relation.
-use Rattle.std.specs.Prelude.{◌≡◌, ◌⊎◌, ◌≤◌, ◌<◌, ℕ, ◌+◌, List, [], ◌∷◌, ◌++◌, length, Bool, true, false}
+use Rattle.std.specs.Prelude.{◌≡◌, ◌⊎◌, ◌≤◌, ◌<◌, ℕ, ◌+◌, List, [], ◌∷◌, ◌++◌, length, Bool, true}
+use Rattle.std.specs.Prelude.{false}
 use Rattle.std.specs.Str.{IsUtf8}
 use Rattle.gaz_ids.specs.Limits.{last_volume}
 use Rattle.gaz_rows.specs.Rows.{rows_of}
@@ -39,20 +40,27 @@ pub record IsLeast (c v : ℕ) (bytes : List ℕ) (place rule : ℕ) : Type 0 wh
 -- what each reading means
 abbrev pub TellsReading : List ℕ → ℕ → ℕ → Reading → Type 0
 TellsReading bytes c v (Good contents) = IsGood c v bytes contents
-TellsReading bytes c v (Bad place rule) = ((IsUtf8 bytes → ⊥) × (place ≡ 1) × (rule ≡ 1)) ⊎ IsLeast c v bytes place rule
+TellsReading bytes c v (Bad place rule) =
+    ((IsUtf8 bytes → ⊥) × (place ≡ 1) × (rule ≡ 1)) ⊎ IsLeast c v bytes place rule
 
 abbrev pub LeastFault : Type 0
 LeastFault = (bytes : List ℕ) (c v : ℕ) → TellsReading bytes c v (reading bytes c v)
 
 -- the bases of a good file rise by custodian, and none is the own
 abbrev pub BasesRise : Type 0
-BasesRise = (bytes : List ℕ) (c v : ℕ) (contents : Contents) → reading bytes c v ≡ Good contents → AreBases c contents.bases
+BasesRise =
+    (bytes : List ℕ) (c v : ℕ) (contents : Contents) → reading bytes c v ≡ Good contents
+    → AreBases c contents.bases
 
 -- the changes of a good file are placed by the numbers of their records
 abbrev pub ChangesArePlaced : Type 0
-ChangesArePlaced = (bytes : List ℕ) (c v : ℕ) (contents : Contents) → reading bytes c v ≡ Good contents → ArePlaced contents.bases contents.changes
+ChangesArePlaced =
+    (bytes : List ℕ) (c v : ℕ) (contents : Contents) → reading bytes c v ≡ Good contents
+    → ArePlaced contents.bases contents.changes
 
 -- what is written of an orderly file of a custodian and volume says the same file
 abbrev pub FilesReadBack : Type 0
-FilesReadBack = (c v : ℕ) (f : Contents) → 1 ≤ c → c ≤ 9999 → 1 ≤ v → v ≤ last_volume → IsTyped f → AreBases c f.bases → ArePlaced f.bases f.changes
+FilesReadBack =
+    (c v : ℕ) (f : Contents) → 1 ≤ c → c ≤ 9999 → 1 ≤ v → v ≤ last_volume
+    → IsTyped f → AreBases c f.bases → ArePlaced f.bases f.changes
     → reading (file_text c v f) c v ≡ Good f

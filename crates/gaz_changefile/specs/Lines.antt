@@ -1,5 +1,6 @@
 -- What the fields of one record say.
-use Rattle.std.specs.Prelude.{ℕ, ◌==◌, List, Option, Some, None, if◌then◌else◌, Bool, true, false, codes}
+use Rattle.std.specs.Prelude.{ℕ, ◌==◌, List, Option, Some, None, if◌then◌else◌, Bool, true, false}
+use Rattle.std.specs.Prelude.{codes}
 use Rattle.std.specs.Str.{bytes_eq}
 use Rattle.gaz_ids.specs.Limits.{last_volume}
 use Rattle.gaz_ids.specs.Numbers.{read_id}
@@ -54,7 +55,8 @@ action_of text =
 abbrev pub line_from : List ℕ → Option Kind → Line
 line_from text (Some k) = line.Change k
 line_from text None =
-    if bytes_eq text (codes "90") then line.Basis else if bytes_eq text (codes "99") then line.Trailer else line.Other
+    if bytes_eq text (codes "90") then line.Basis else
+    if bytes_eq text (codes "99") then line.Trailer else line.Other
 
 -- what a record behind the header is, by its first field
 abbrev pub line_of : Fields → Line

@@ -18,7 +18,9 @@ pub record Fault : Type 0 where
 
 -- the first fault of the record at an index, from 0
 abbrev pub fault_at : ℕ → ℕ → List Fields → ℕ → Option Fault
-fault_at c v rows i = option_map (λ rule. record { place = i + 1; rule = rule }) (first_broken (rules_at c v rows i))
+fault_at c v rows i =
+    option_map (λ rule. record { place = i + 1; rule = rule })
+    (first_broken (rules_at c v rows i))
 
 -- the first fault of each record that has one, in file order, and of the end of the file
 abbrev pub faults : ℕ → ℕ → List Fields → List Fault
@@ -29,6 +31,9 @@ abbrev pub by_faults : Contents → List Fault → Reading
 by_faults contents [] = Good contents
 by_faults contents (f ∷ fs) = Bad f.place f.rule
 
--- what the bytes say as the file of a custodian and volume; bytes that aren't UTF-8 break rule 1 at the first record
+-- what the bytes say as the file of a custodian and volume; bytes that aren't UTF-8 break rule 1 at
+-- the first record
 unfoldable pub reading : List ℕ → ℕ → ℕ → Reading
-reading bytes c v = if is_utf8 bytes then by_faults (contents_of (rows_of bytes)) (faults c v (rows_of bytes)) else Bad 1 1
+reading bytes c v =
+    if is_utf8 bytes
+    then by_faults (contents_of (rows_of bytes)) (faults c v (rows_of bytes)) else Bad 1 1

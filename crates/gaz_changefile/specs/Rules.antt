@@ -1,5 +1,9 @@
--- The rules that each record of a file has to keep, in the order in which they are looked at, each with whether it is broken.
-use Rattle.std.specs.Prelude.{ℕ, zero, suc, ◌+◌, ◌&&◌, not, ◌==◌, nat_le, nat_lt, List, [], ◌∷◌, length, take, drop, Option, Some, None, is_some, is_ok, option_and_then, option_map, slice_get, if◌then◌else◌, Bool, true, false, count_by, codes, Result, Ok, Err}
+-- The rules that each record of a file has to keep, in the order in which they are looked at, each
+-- with whether it is broken.
+use Rattle.std.specs.Prelude.{ℕ, zero, suc, ◌+◌, ◌&&◌, not, ◌==◌, nat_le, nat_lt, List, [], ◌∷◌}
+use Rattle.std.specs.Prelude.{length, take, drop, Option, Some, None, is_some, is_ok}
+use Rattle.std.specs.Prelude.{option_and_then, option_map, slice_get, if◌then◌else◌, Bool, true}
+use Rattle.std.specs.Prelude.{false, count_by, codes, Result, Ok, Err}
 use Rattle.std.specs.List.{last_or, list_any}
 use Rattle.std.specs.Str.{bytes_eq}
 use Rattle.gaz_rows.specs.Rows.{Fields}
@@ -10,7 +14,9 @@ use Rattle.gaz_records.specs.declared.fields.FieldFault.TheVariants as fieldfaul
 use Rattle.gaz_records.specs.declared.item.Item.{Item}
 use Rattle.gaz_records.specs.declared.item.Kind.{Kind}
 use Rattle.gaz_changefile.specs.Contents.{basis_at, basis_in}
-use Rattle.gaz_changefile.specs.Lines.{action_of, field, is_basis, is_change, is_trailer, is_value, known_profile, line_of, read_code, read_count, read_order, read_profile, read_volume}
+use Rattle.gaz_changefile.specs.Lines.{action_of, field, is_basis, is_change, is_trailer, is_value}
+use Rattle.gaz_changefile.specs.Lines.{known_profile, line_of, read_code, read_count, read_order}
+use Rattle.gaz_changefile.specs.Lines.{read_profile, read_volume}
 use Rattle.gaz_changefile.specs.declared.change.Basis.{Basis}
 use Rattle.gaz_changefile.specs.declared.line.Line.{Line}
 use Rattle.gaz_changefile.specs.declared.line.Line.TheVariants as line
@@ -38,8 +44,8 @@ header_rules c v row =
 abbrev pub custodian_at : Fields → Option ℕ
 custodian_at row = option_map (λ b. b.custodian) (basis_at row)
 
--- what stands before a record: how many basis lines and change records, the custodian that the record just before it names, if
--- that is a basis line, and whether there is a trailer
+-- what stands before a record: how many basis lines and change records, the custodian that the
+-- record just before it names, if that is a basis line, and whether there is a trailer
 pub record Before : Type 0 where
   pub bases : ℕ
   pub changes : ℕ
@@ -60,11 +66,13 @@ abbrev pub is_above : Option ℕ → ℕ → Bool
 is_above None custodian = true
 is_above (Some before) custodian = nat_lt before custodian
 
--- a basis of another custodian, at most the sixteenth, by rising code, and before all change records
+-- a basis of another custodian, at most the sixteenth, by rising code, and before all change
+-- records
 abbrev pub is_next_basis : ℕ → Before → Option Basis → Bool
 is_next_basis own before None = false
 is_next_basis own before (Some b) =
-    not (b.custodian == own) && is_above before.last b.custodian && nat_lt before.bases 16 && (before.changes == 0)
+    not (b.custodian == own) && is_above before.last b.custodian
+    && nat_lt before.bases 16 && (before.changes == 0)
 
 -- a basis line in a file of the own custodian
 unfoldable pub basis_rules : ℕ → Before → Fields → List (ℕ × Bool)
@@ -77,7 +85,8 @@ is_miscounted (Err fieldfault.Count) = true
 is_miscounted (Err (fieldfault.Form n)) = false
 is_miscounted (Err fieldfault.Memory) = false
 
--- a change record behind so many others: at most 5,000, the fields of its kind, each in its form, the next order
+-- a change record behind so many others: at most 5,000, the fields of its kind, each in its form,
+-- the next order
 unfoldable pub change_rules : ℕ → Kind → Fields → List (ℕ × Bool)
 change_rules before kind row =
     (9, nat_le 5000 before)
@@ -88,7 +97,8 @@ change_rules before kind row =
 
 -- the trailer behind so many change records: 99 and their count
 unfoldable pub trailer_rules : ℕ → Fields → List (ℕ × Bool)
-trailer_rules before row = (8, not ((length row == 2) && is_value before (read_count (field row 1)))) ∷ []
+trailer_rules before row =
+    (8, not ((length row == 2) && is_value before (read_count (field row 1)))) ∷ []
 
 -- a record that begins otherwise is none
 abbrev pub line_rules : ℕ → Before → Fields → Line → List (ℕ × Bool)
@@ -107,7 +117,8 @@ abbrev pub first_rules : ℕ → ℕ → Option Fields → List (ℕ × Bool)
 first_rules c v None = (1, true) ∷ []
 first_rules c v (Some row) = header_rules c v row
 
--- the rules of the record at an index, from 0, of these records; the index behind the last is the end of the file
+-- the rules of the record at an index, from 0, of these records; the index behind the last is the
+-- end of the file
 unfoldable pub rules_at : ℕ → ℕ → List Fields → ℕ → List (ℕ × Bool)
 rules_at c v rows zero = first_rules c v (slice_get rows 0)
 rules_at c v rows (suc i) = later_rules c (before_of (take (suc i) rows)) (slice_get rows (suc i))

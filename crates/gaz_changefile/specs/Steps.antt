@@ -1,5 +1,6 @@
 -- How a file is read record by record.
-use Rattle.std.specs.Prelude.{◌≡◌, ◌≤◌, ℕ, ◌+◌, List, [], ◌∷◌, ◌++◌, length, Option, Some, None, Bool, false, cond}
+use Rattle.std.specs.Prelude.{◌≡◌, ◌≤◌, ℕ, ◌+◌, List, [], ◌∷◌, ◌++◌, length, Option, Some, None}
+use Rattle.std.specs.Prelude.{Bool, false, cond}
 use Rattle.gaz_rows.specs.Rows.{Fields}
 use Rattle.gaz_changefile.specs.Contents.{basis_at, change_at}
 use Rattle.gaz_changefile.specs.Lines.{is_basis, is_change, is_trailer}
@@ -8,20 +9,32 @@ use Rattle.gaz_changefile.specs.declared.draft.Draft.{Draft}
 use Rattle.gaz_changefile.specs.declared.file.FileFault.{FileFault}
 use Rattle.gaz_changefile.specs.declared.file.FileFault.TheVariants.{Bad, Memory}
 
--- the fault is at this place, by the first of the rules that is broken; of want of memory nothing is said
+-- the fault is at this place, by the first of the rules that is broken; of want of memory nothing
+-- is said
 abbrev pub IsFirstOf : ℕ → List (ℕ × Bool) → FileFault → Type 0
 IsFirstOf place rules (Bad p rule) = (p ≡ place) × (first_broken rules ≡ Some rule)
 IsFirstOf place rules Memory = Unit {0}
 
+-- each of the rules is kept
+abbrev pub KeepsAll : List (ℕ × Bool) → Type 0
+KeepsAll rules = first_broken rules ≡ None
+
+-- one thing or none, as a list
 abbrev pub listed : {A : Type 0} → Option A → List A
 listed None = []
 listed (Some x) = x ∷ []
 
 -- what stands before the next record of a file that was read so far
 abbrev pub before_in : Draft → Before
-before_in d = record { bases = length d.bases.items; changes = length d.changes.items; last = d.last; ended = d.ended }
+before_in d = record {
+  bases = length d.bases.items;
+  changes = length d.changes.items;
+  last = d.last;
+  ended = d.ended;
+}
 
--- a record that breaks no rule was read: its basis or its change stands last, and the file ends where it is a trailer
+-- a record that breaks no rule was read: its basis or its change stands last, and the file ends
+-- where it is a trailer
 pub record Adds (old new : Draft) (place : ℕ) (row : Fields) : Type 0 where
   pub kept : first_broken (later_rules old.own (before_in old) (Some row)) ≡ None
   pub open_before : old.ended ≡ false

@@ -26,7 +26,12 @@ street_101 = record {
   changes = record {
     place = 2;
     action = Insert;
-    item = item.Street (record { usrn = 101; sort = 1; start = record { year = 2001; month = 4; day = 1 }; end = None });
+    item = item.Street (record {
+      usrn = 101;
+      sort = 1;
+      start = record { year = 2001; month = 4; day = 1 };
+      end = None;
+    });
   } ∷ [];
 }
 
@@ -47,7 +52,16 @@ house_7 = record {
   changes = record {
     place = 3;
     action = Insert;
-    item = item.Blpu (record { uprn = 100001; status = Approved; easting = 455000; northing = 255000; parent = None; postcode = None; start = record { year = 2020; month = 1; day = 1 }; end = None });
+    item = item.Blpu (record {
+      uprn = 100001;
+      status = Approved;
+      easting = 455000;
+      northing = 255000;
+      parent = None;
+      postcode = None;
+      start = record { year = 2020; month = 1; day = 1 };
+      end = None;
+    });
   } ∷ record {
     place = 4;
     action = Insert;
@@ -58,7 +72,10 @@ house_7 = record {
       status = Approved;
       usrn = 150;
       secondary = None;
-      primary = record { range = Some (record { from = record { n = 7; suffix = None }; to = None }); text = None };
+      primary = record {
+        range = Some (record { from = record { n = 7; suffix = None }; to = None });
+        text = None;
+      };
       start = record { year = 2020; month = 1; day = 1 };
       end = None;
     });
@@ -71,13 +88,18 @@ resting lines = house_header ++ (lines ++ line (codes "99,0"))
 
 -- basis lines: a good file, and which of them are none
 pub record WorkedBases : Type 0 where
-  pub good : reading (house_header ++ (line (codes "90,1001,1") ++ (house_changes ++ line (codes "99,2")))) 1002 1 ≡ Good house_7
+  pub good :
+      reading (house_header ++ (line (codes "90,1001,1") ++ (house_changes ++ line (codes "99,2"))))
+      1002 1 ≡ Good house_7
   pub own : reading (resting (line (codes "90,1002,1"))) 1002 1 ≡ Bad 2 4
   pub no_volume : reading (resting (line (codes "90,1001,0"))) 1002 1 ≡ Bad 2 4
   pub two_fields : reading (resting (line (codes "90,1001"))) 1002 1 ≡ Bad 2 4
-  pub twice : reading (resting (line (codes "90,1001,1") ++ line (codes "90,1001,2"))) 1002 1 ≡ Bad 3 4
-  pub falling : reading (resting (line (codes "90,1003,1") ++ line (codes "90,1001,1"))) 1002 1 ≡ Bad 3 4
-  pub after_change : reading (house_header ++ (house_changes ++ line (codes "90,1001,1"))) 1002 1 ≡ Bad 4 4
+  pub twice :
+      reading (resting (line (codes "90,1001,1") ++ line (codes "90,1001,2"))) 1002 1 ≡ Bad 3 4
+  pub falling :
+      reading (resting (line (codes "90,1003,1") ++ line (codes "90,1001,1"))) 1002 1 ≡ Bad 3 4
+  pub after_change :
+      reading (house_header ++ (house_changes ++ line (codes "90,1001,1"))) 1002 1 ≡ Bad 4 4
   pub after_trailer : reading (resting [] ++ line (codes "90,1001,1")) 1002 1 ≡ Bad 3 8
   pub second_header : reading (resting house_header) 1002 1 ≡ Bad 2 5
 
@@ -86,9 +108,13 @@ pub record WorkedFiles : Type 0 where
   pub good : reading (header ++ (insertion ++ line (codes "99,1"))) 1001 1 ≡ Good street_101
   pub other_count : reading (header ++ (insertion ++ line (codes "99,0"))) 1001 1 ≡ Bad 3 8
   pub no_trailer : reading (header ++ insertion) 1001 1 ≡ Bad 3 8
-  pub second_trailer : reading (header ++ (insertion ++ (line (codes "99,1") ++ line (codes "99,1")))) 1001 1 ≡ Bad 4 8
+  pub second_trailer :
+      reading (header ++ (insertion ++ (line (codes "99,1") ++ line (codes "99,1"))))
+        1001 1 ≡ Bad 4 8
   pub other_volume : reading (header ++ line (codes "99,0")) 1001 2 ≡ Bad 1 3
-  pub two_marks : reading (0xEF ∷ 0xBB ∷ 0xBF ∷ 0xEF ∷ 0xBB ∷ 0xBF ∷ (header ++ line (codes "99,0"))) 1001 1 ≡ Bad 1 2
+  pub two_marks :
+      reading (0xEF ∷ 0xBB ∷ 0xBF ∷ 0xEF ∷ 0xBB ∷ 0xBF ∷ (header ++ line (codes "99,0")))
+      1001 1 ≡ Bad 1 2
   pub not_text : reading (0xFF ∷ []) 1001 1 ≡ Bad 1 1
   pub empty : reading [] 1001 1 ≡ Bad 1 1
 

@@ -1,5 +1,5 @@
 -- How a change file is written.
-use Rattle.std.specs.Prelude.{ℕ, List, [], ◌∷◌, ◌++◌, length, map, decimal, codes}
+use Rattle.std.specs.Prelude.{◌≡◌, ℕ, List, [], ◌∷◌, ◌++◌, length, map, decimal, codes}
 use Rattle.std.specs.List.{enumerate_from}
 use Rattle.gaz_rows.specs.Rows.{Fields, line_of, lines_of}
 use Rattle.gaz_records.specs.Days.{CivilDay, date_text}
@@ -20,7 +20,8 @@ action_text Delete = codes "D"
 
 -- the header of the known profile; numbers are written without leading zeros
 abbrev pub header_row : ℕ → ℕ → CivilDay → Fields
-header_row c v date = codes "10" ∷ decimal known_profile ∷ decimal c ∷ decimal v ∷ date_text date ∷ []
+header_row code volume date =
+    codes "10" ∷ decimal known_profile ∷ decimal code ∷ decimal volume ∷ date_text date ∷ []
 
 -- a basis line
 abbrev pub basis_row : Basis → Fields
@@ -28,7 +29,8 @@ basis_row b = codes "90" ∷ decimal b.custodian ∷ decimal b.volume ∷ []
 
 -- a change with its order
 abbrev pub change_row : ℕ × Change → Fields
-change_row (n, x) = identifier (kind_of x.item) ∷ action_text x.action ∷ decimal n ∷ item_texts x.item
+change_row (n, x) =
+    identifier (kind_of x.item) ∷ action_text x.action ∷ decimal n ∷ item_texts x.item
 
 -- the trailer behind so many changes
 abbrev pub trailer_row : ℕ → Fields
@@ -40,12 +42,19 @@ change_rows first changes = map change_row (enumerate_from first changes)
 
 -- the records of the file of a custodian and volume
 abbrev pub file_rows : ℕ → ℕ → Contents → List Fields
-file_rows c v f = header_row c v f.date ∷ (map basis_row f.bases ++ (change_rows 1 f.changes ++ (trailer_row (length f.changes) ∷ [])))
+file_rows code volume file =
+    header_row code volume file.date
+    ∷ (map basis_row file.bases
+    ++ (change_rows 1 file.changes ++ (trailer_row (length file.changes) ∷ [])))
 
 -- its canonical bytes, each record as `csv` writes it, ended by LF
 abbrev pub file_text : ℕ → ℕ → Contents → List ℕ
-file_text c v f = lines_of (file_rows c v f)
+file_text code volume file = lines_of (file_rows code volume file)
 
 -- a record of two fields or more and its line end
 abbrev pub line_text : Fields → List ℕ
 line_text row = line_of row ++ (10 ∷ [])
+
+-- behind what was there stands the record with its line end
+abbrev pub AddsRow : (old new : List ℕ) → Fields → Type 0
+AddsRow old new row = new ≡ old ++ line_text row

@@ -1,8 +1,9 @@
-ghost use Rattle.std.specs.Prelude.{◌≡◌, ◌≤◌, ◌<◌, ◌+◌, [], length, false, IfErr, IfOk, OnOk, Some, None};
+ghost use Rattle.std.specs.Prelude.{◌≡◌, ◌≤◌, ◌<◌, ◌+◌, [], length, false, IfErr, IfOk, OnOk, Some};
+ghost use Rattle.std.specs.Prelude.{None};
 ghost use Rattle.csv.specs.Records.{fields_of};
 ghost use Rattle.gaz_changefile.specs.Contents.{basis_in};
 ghost use Rattle.gaz_changefile.specs.Rules.{basis_rules, first_broken, is_above, later_rules};
-ghost use Rattle.gaz_changefile.specs.Steps.{Adds, IsFirstOf, before_in};
+ghost use Rattle.gaz_changefile.specs.Steps.{Adds, IsFirstOf, KeepsAll, before_in};
 
 use crate::change::{Basis, Change};
 use crate::file::{ChangeFile, FileFault};
@@ -63,8 +64,10 @@ impl Draft {
     #[tactic(auto, unfolding(crate::specs::Rules::basis_rules))]
     // The basis of the basis line at `place`.
     fn read_basis(&self, row: &ByteRecord, place: u64) -> Result<Basis, FileFault>
-        ensures bad { IfErr result (IsFirstOf place (basis_rules self.now.own (before_in self.now) (fields_of row.now))) }
-        ensures good { OnOk result (first_broken (basis_rules self.now.own (before_in self.now) (fields_of row.now)) ≡ None) }
+        ensures bad { IfErr result (IsFirstOf place
+            (basis_rules self.now.own (before_in self.now) (fields_of row.now))) }
+        ensures good { OnOk result (KeepsAll
+            (basis_rules self.now.own (before_in self.now) (fields_of row.now))) }
         ensures basis { IfOk result (λ basis. basis_in (fields_of row.now) ≡ Some basis) }
     {
         let Some(basis) = basis_in(row) else {
@@ -89,7 +92,8 @@ impl Draft {
         place: u64,
     ) -> Result<(), FileFault>
         requires { length self.old.changes.items ≤ 5000 }
-        ensures bad { IfErr result (IsFirstOf place (later_rules self.old.own (before_in self.old) (Some (fields_of row.now)))) }
+        ensures bad { IfErr result (IsFirstOf place
+            (later_rules self.old.own (before_in self.old) (Some (fields_of row.now)))) }
         ensures good { OnOk result (Adds self.old self.new place (fields_of row.now)) }
     {
         if self.ended {
@@ -124,8 +128,12 @@ impl Draft {
     /// The file, where `place` is one past its last record.
     pub(crate) fn finish(self, place: u64) -> Result<ChangeFile, FileFault>
         ensures bad { IfErr result (IsFirstOf place (later_rules self.own (before_in self) None)) }
-        ensures good { OnOk result (first_broken (later_rules self.own (before_in self) None) ≡ None) }
-        ensures file { IfOk result (λ f. f ≡ record { date = self.date; bases = self.bases.items; changes = self.changes.items }) }
+        ensures good { OnOk result (KeepsAll (later_rules self.own (before_in self) None)) }
+        ensures file { IfOk result (λ f. f ≡ record {
+          date = self.date;
+          bases = self.bases.items;
+          changes = self.changes.items;
+        }) }
     {
         if !self.ended {
             return Err(FileFault::at(place, rule::TRAILER));

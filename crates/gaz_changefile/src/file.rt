@@ -26,7 +26,11 @@ impl Model for ChangeFile {
 
     ghost Value = { Contents };
 
-    ghost view = { λ f. record { date = f.date; bases = f.bases.items; changes = f.changes.items } };
+    ghost view = { λ f. record {
+      date = f.date;
+      bases = f.bases.items;
+      changes = f.changes.items;
+    } };
 }
 
 impl ChangeFile {
@@ -62,8 +66,8 @@ fn known_changes(changes: &[Change])
 /// Why bytes are no good change file, or want of memory.
 #[derive(Clone, Copy, Debug, PartialEq, Eq, Error)]
 pub enum FileFault {
-    /// The record, from 1 for the header, with the first fault, and the first rule that it breaks (module `rule`).
-    /// A missing trailer is named at the number of records plus 1.
+    /// The record, from 1 for the header, with the first fault, and the first rule that it breaks
+    /// (module `rule`). A missing trailer is named at the number of records plus 1.
     #[error("record {place} breaks rule {rule}")]
     Bad { place: u64, rule: u8 },
     #[error("out of memory")]

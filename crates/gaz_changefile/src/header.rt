@@ -3,7 +3,7 @@ ghost use Rattle.csv.specs.Records.{fields_of};
 ghost use Rattle.gaz_records.specs.Days.{date_of};
 ghost use Rattle.gaz_changefile.specs.Lines.{field, line_of};
 ghost use Rattle.gaz_changefile.specs.Rules.{first_broken, header_rules};
-ghost use Rattle.gaz_changefile.specs.Steps.{IsFirstOf};
+ghost use Rattle.gaz_changefile.specs.Steps.{IsFirstOf, KeepsAll};
 ghost use Rattle.gaz_changefile.specs.declared.line.Line.TheVariants.{Other};
 
 use crate::file::FileFault;
@@ -15,10 +15,11 @@ use gaz_ids::{Code, Volume};
 use gaz_records::Day;
 
 #[tactic(auto, unfolding(crate::specs::Rules::header_rules))]
-/// The date of the header of this custodian's file of this volume, or the first rule that it breaks.
+/// The date of the header of this custodian's file of this volume, or the first rule that it
+/// breaks.
 pub(crate) fn read_header(row: &ByteRecord, code: Code, volume: Volume) -> Result<Day, FileFault>
     ensures bad { IfErr result (IsFirstOf 1 (header_rules code volume (fields_of row.now))) }
-    ensures good { OnOk result (first_broken (header_rules code volume (fields_of row.now)) ≡ None) }
+    ensures good { OnOk result (KeepsAll (header_rules code volume (fields_of row.now))) }
     ensures date { IfOk result (λ date. date_of (field (fields_of row.now) 4) ≡ Some date) }
     ensures other { OnOk result (line_of (fields_of row.now) ≡ Other) }
 {

@@ -2,12 +2,14 @@
 ghost use Rattle.gaz_changefile.specs.Laws.{BasesRise, ChangesArePlaced, FilesReadBack, LeastFault};
 ghost use Rattle.gaz_changefile.specs.Worked.{WorkedBases, WorkedFiles, WorkedProfiles};
 
-/// A bad reading names the least place at which a rule is broken and, there, the first that is. A good one breaks none.
+/// A bad reading names the least place at which a rule is broken and, there, the first that is. A
+/// good one breaks none.
 pub fn least_fault()
     ensures { LeastFault }
 {}
 
-/// The basis lines of a good file are at most 16 and rise by custodian, and none names the custodian whose file it is.
+/// The basis lines of a good file are at most 16 and rise by custodian, and none names the
+/// custodian whose file it is.
 pub fn bases_rise()
     ensures { BasesRise }
 {}

@@ -25,7 +25,8 @@ pub(crate) fn field(row: &ByteRecord, i: usize) -> &[u8]
 }
 
 impl Line {
-    /// Change records begin with the record identifier of their kind, a basis line with `90`, the trailer with `99`.
+    /// Change records begin with the record identifier of their kind, a basis line with `90`, the
+    /// trailer with `99`.
     pub(crate) fn of(row: &ByteRecord) -> Line
         ensures { result ≡ line_of (fields_of row.now) }
     {

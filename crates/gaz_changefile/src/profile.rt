@@ -20,13 +20,15 @@ fn profile_in(row: &ByteRecord) -> Option<u64>
     }
 }
 
-/// The profile, 1 to 9999, that the first record of a file names: the number in its second field, where its first is `10`.
+/// The profile, 1 to 9999, that the first record of a file names: the number in its second field,
+/// where its first is `10`.
 ///
 /// Nothing else of the file is looked at; it need not be UTF-8.
 pub fn profile_of(alloc: Global, bytes: &[u8]) -> Result<Option<u64>, AllocError>
     ensures { IfOk result (λ profile. profile ≡ profile_of bytes.now) }
 {
-    // A reader costs more than all else that is done with a small file, and most files begin so, with the known profile.
+    // A reader costs more than all else that is done with a small file, and most files begin so,
+    // with the known profile.
     if bytes.starts_with(b"10,1,") {
         return Ok(Some(KNOWN_PROFILE));
     }

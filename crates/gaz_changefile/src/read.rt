@@ -15,9 +15,9 @@ use std::str;
 
 /// Reads the file of a custodian and volume: its contents, or its first fault (`FileFault`).
 ///
-/// The bytes are CSV in UTF-8, with or without a byte order mark; records are counted without empty lines.
-/// After a fault nothing is read on. A file without a fault has at most 16 bases by rising custodian, none the own, and at
-/// most 5,000 changes, each placed by the number of its record.
+/// The bytes are CSV in UTF-8, with or without a byte order mark; records are counted without empty
+/// lines. After a fault nothing is read on. A file without a fault has at most 16 bases by rising
+/// custodian, none the own, and at most 5,000 changes, each placed by the number of its record.
 pub fn read_file(
     alloc: Global,
     bytes: &[u8],

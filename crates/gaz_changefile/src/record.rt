@@ -2,7 +2,7 @@ ghost use Rattle.std.specs.Prelude.{◌≡◌, ◌≤◌, ◌<◌, ◌+◌, IfEr
 ghost use Rattle.csv.specs.Records.{fields_of};
 ghost use Rattle.gaz_changefile.specs.Rules.{change_rules, first_broken, trailer_rules};
 ghost use Rattle.gaz_changefile.specs.Contents.{basis_in, change_in};
-ghost use Rattle.gaz_changefile.specs.Steps.{IsFirstOf};
+ghost use Rattle.gaz_changefile.specs.Steps.{IsFirstOf, KeepsAll};
 
 use crate::action::Action;
 use crate::change::{Basis, Change};
@@ -45,8 +45,9 @@ pub(crate) fn read_change(
     requires { before ≤ 5000 }
     ensures bad { IfErr result (IsFirstOf place (change_rules before kind (fields_of row.now))) }
     ensures few { OnOk result (before < 5000) }
-    ensures good { OnOk result (first_broken (change_rules before kind (fields_of row.now)) ≡ None) }
-    ensures change { IfOk result (λ change. change_in place kind (fields_of row.now) ≡ Some change) }
+    ensures good { OnOk result (KeepsAll (change_rules before kind (fields_of row.now))) }
+    ensures change { IfOk result (λ change.
+        change_in place kind (fields_of row.now) ≡ Some change) }
 {
     if before >= MOST_CHANGES {
         return Err(FileFault::at(place, rule::LIMIT));
@@ -75,7 +76,7 @@ pub(crate) fn read_change(
 pub(crate) fn read_trailer(row: &ByteRecord, place: u64, before: usize) -> Result<(), FileFault>
     requires { before ≤ 5000 }
     ensures bad { IfErr result (IsFirstOf place (trailer_rules before (fields_of row.now))) }
-    ensures good { OnOk result (first_broken (trailer_rules before (fields_of row.now)) ≡ None) }
+    ensures good { OnOk result (KeepsAll (trailer_rules before (fields_of row.now))) }
 {
     if row.len() != 2 || !is_value(Count::read(field(row, 1)), before as u64) {
         return Err(FileFault::at(place, rule::TRAILER));

@@ -9,8 +9,8 @@ pub const HEADER: u8 = 2;
 /// The header names another custodian or volume than the file came under.
 pub const ADDRESS: u8 = 3;
 
-/// A basis line that names no custodian and volume, or the own custodian, or none of a greater code than the one before, or
-/// the seventeenth, or one after a change record.
+/// A basis line that names no custodian and volume, or the own custodian, or none of a greater code
+/// than the one before, or the seventeenth, or one after a change record.
 pub const BASIS: u8 = 4;
 
 /// A record of no known kind, or with too few or too many fields.

@@ -2,7 +2,8 @@ ghost use Rattle.std.specs.Prelude.{◌≡◌, ◌≤◌, ◌++◌, length, map,
 ghost use Rattle.gaz_rows.specs.Rows.{lines_of};
 ghost use Rattle.gaz_changefile.specs.Files.{AreBases, ArePlaced};
 ghost use Rattle.gaz_changefile.specs.Reading.{Good, reading};
-ghost use Rattle.gaz_changefile.specs.Writing.{basis_row, change_row, change_rows, file_text, header_row, line_text, trailer_row};
+ghost use Rattle.gaz_changefile.specs.Writing.{basis_row, change_row, change_rows, file_text};
+ghost use Rattle.gaz_changefile.specs.Writing.{AddsRow, header_row, trailer_row};
 
 use crate::change::{Basis, Change};
 use crate::file::ChangeFile;
@@ -16,7 +17,7 @@ use std::alloc::{AllocError, Global};
 // Adds a record of two fields or more and its line end.
 fn add_row(alloc: Global, out: &mut Vec<u8>, fields: &[&[u8]]) -> Result<(), AllocError>
     requires { 2 ≤ length fields.now }
-    ensures { OnOk result (out.new.items ≡ out.old.items ++ line_text (map (λ f. f.now) fields.now)) }
+    ensures { OnOk result (AddsRow out.old.items out.new.items (map (λ f. f.now) fields.now)) }
 {
     let row = write_row(alloc, fields)?;
     out.extend_from_slice(&row)?;
@@ -31,7 +32,8 @@ fn add_header(
     volume: u64,
     date: &Day,
 ) -> Result<(), AllocError>
-    ensures { OnOk result (out.new.items ≡ out.old.items ++ line_text (header_row custodian volume date.now)) }
+    ensures { OnOk result
+        (AddsRow out.old.items out.new.items (header_row custodian volume date.now)) }
 {
     let mut profile_digits = Buffer::new();
     let mut code_digits = Buffer::new();
@@ -47,7 +49,7 @@ fn add_header(
 }
 
 fn add_basis(alloc: Global, out: &mut Vec<u8>, basis: &Basis) -> Result<(), AllocError>
-    ensures { OnOk result (out.new.items ≡ out.old.items ++ line_text (basis_row basis.now)) }
+    ensures { OnOk result (AddsRow out.old.items out.new.items (basis_row basis.now)) }
 {
     let mut custodian = Buffer::new();
     let mut volume = Buffer::new();
@@ -66,7 +68,7 @@ fn add_change(
     order: u64,
     change: &Change,
 ) -> Result<(), AllocError>
-    ensures { OnOk result (out.new.items ≡ out.old.items ++ line_text (change_row (order, change.now))) }
+    ensures { OnOk result (AddsRow out.old.items out.new.items (change_row (order, change.now))) }
 {
     let mut digits = Buffer::new();
     let fields: [&[u8]; 3] = [
@@ -84,7 +86,7 @@ fn add_change(
 
 // Adds the trailer behind these changes.
 fn add_trailer(alloc: Global, out: &mut Vec<u8>, changes: &[Change]) -> Result<(), AllocError>
-    ensures { OnOk result (out.new.items ≡ out.old.items ++ line_text (trailer_row (length changes.now))) }
+    ensures { OnOk result (AddsRow out.old.items out.new.items (trailer_row (length changes.now))) }
 {
     let mut digits = Buffer::new();
     let fields: [&[u8]; 2] = [b"99", digits.format(changes.len()).as_bytes()];
@@ -111,10 +113,11 @@ fn add_changes(alloc: Global, out: &mut Vec<u8>, changes: &[Change]) -> Result<(
     Ok(())
 }
 
-/// Writes the file of a custodian and volume: canonical bytes, which `read_file` reads back as the same file.
+/// Writes the file of a custodian and volume: canonical bytes, which `read_file` reads back as the
+/// same file.
 ///
-/// A file has at most 16 bases by rising custodian, none the own, and at most 5,000 changes, each placed by the number of its
-/// record: change i, from 1, at i + 1 + the number of bases.
+/// A file has at most 16 bases by rising custodian, none the own, and at most 5,000 changes, each
+/// placed by the number of its record: change i, from 1, at i + 1 + the number of bases.
 pub fn write_file(
     alloc: Global,
     file: &ChangeFile,

@@ -7,7 +7,8 @@ use Rattle.std.specs.Str.{bytes_eq}
 use Rattle.gaz_ids.specs.declared.lang.Lang.{Lang}
 use Rattle.gaz_ids.specs.declared.lang.Lang.TheVariants.{Cym, Eng}
 use Rattle.gaz_ids.specs.declared.status.Status.{Status}
-use Rattle.gaz_ids.specs.declared.status.Status.TheVariants.{Approved, Alternative, Provisional, Historical}
+use Rattle.gaz_ids.specs.declared.status.Status.TheVariants.{Approved, Alternative, Provisional}
+use Rattle.gaz_ids.specs.declared.status.Status.TheVariants.{Historical}
 
 abbrev pub lang_text : Lang → List ℕ
 lang_text Cym = codes "CYM"
@@ -15,7 +16,9 @@ lang_text Eng = codes "ENG"
 
 -- the language of a text, or none
 abbrev pub lang_of : List ℕ → Option Lang
-lang_of t = if bytes_eq t (lang_text Eng) then Some Eng else if bytes_eq t (lang_text Cym) then Some Cym else None
+lang_of t =
+    if bytes_eq t (lang_text Eng) then Some Eng else
+    if bytes_eq t (lang_text Cym) then Some Cym else None
 
 -- languages are in the order of the bytes of their codes
 abbrev pub lang_cmp : Lang → Lang → Ordering
@@ -48,4 +51,6 @@ status_number Historical = 8
 
 -- a language and a status read back from their texts
 abbrev pub CodesReadBack : Type 0
-CodesReadBack = ((l : Lang) → lang_of (lang_text l) ≡ Some l) × ((s : Status) → status_of (status_text s) ≡ Some s)
+CodesReadBack =
+    ((l : Lang) → lang_of (lang_text l) ≡ Some l)
+    × ((s : Status) → status_of (status_text s) ≡ Some s)

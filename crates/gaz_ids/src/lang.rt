@@ -3,7 +3,8 @@ ghost use Rattle.gaz_ids.specs.Codes.{lang_cmp, lang_number, lang_of, lang_text}
 
 use std::cmp::Ordering;
 
-/// A language of names: Welsh or English (our profile). Welsh comes first in order, as `CYM` does before `ENG`.
+/// A language of names: Welsh or English (our profile). Welsh comes first in order, as `CYM` does
+/// before `ENG`.
 #[derive(Clone, Copy, Debug, PartialEq, Eq, PartialOrd, Ord, Hash)]
 pub enum Lang {
     /// `CYM`.

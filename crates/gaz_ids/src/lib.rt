@@ -1,4 +1,5 @@
-//! The numbers of a gazetteer, as UPRNs, USRNs, custodian codes, volumes and orders, and its codes of languages and statuses.
+//! The numbers of a gazetteer, as UPRNs, USRNs, custodian codes, volumes and orders, and its codes
+//! of languages and statuses.
 #![tactic(auto)]
 
 pub mod digits;

@@ -9,7 +9,8 @@ use std::marker::Model;
 
 /// A whole number from `LOW` to `HIGH`, both included, written in at most `WIDTH` decimal digits.
 ///
-/// `KIND` keeps two kinds of number apart whose bounds are equal. Equality, order and hash are those of the number.
+/// `KIND` keeps two kinds of number apart whose bounds are equal. Equality, order and hash are
+/// those of the number.
 #[derive(Clone, Copy, Debug, PartialEq, Eq, PartialOrd, Ord, Hash)]
 pub struct Number<const KIND: u64, const WIDTH: u64, const LOW: u64, const HIGH: u64> {
     value: u64,
@@ -48,7 +49,8 @@ impl<const KIND: u64, const WIDTH: u64, const LOW: u64, const HIGH: u64> Number<
     HIGH,
 > {
     #[tactic(auto, using(std::proofs::lemmas::Bool::Decides::nat_tests), unfolding(crate::specs::Numbers::read_id))]
-    /// Reads the digits; leading zeros are allowed up to the width. Every kind of number has at most 18 digits.
+    /// Reads the digits; leading zeros are allowed up to the width. Every kind of number has at
+    /// most 18 digits.
     pub fn read(text: &[u8]) -> Result<Self, IdFault>
         requires { WIDTH ≤ 18 }
         ensures { result ≡ read_id WIDTH LOW HIGH text.now }

@@ -1,12 +1,14 @@
 -- BLPUs: what their fields say, and how they are written.
-use Rattle.std.specs.Prelude.{ℕ, ◌&&◌, nat_le, List, [], ◌∷◌, Option, Some, None, is_some, Result, Bool, true, decimal}
+use Rattle.std.specs.Prelude.{ℕ, ◌&&◌, nat_le, List, [], ◌∷◌, Option, Some, None, is_some, Result}
+use Rattle.std.specs.Prelude.{Bool, true, decimal}
 use Rattle.gaz_ids.specs.Codes.{status_text}
 use Rattle.gaz_ids.specs.declared.status.Status.{Status}
 use Rattle.gaz_ids.specs.declared.status.Status.TheVariants.{Approved}
 use Rattle.gaz_addressable.specs.Objects.{is_text_or_none}
 use Rattle.gaz_records.specs.Days.{CivilDay, are_days, date_text, end_text, ends_by, is_day, no_day}
 use Rattle.gaz_records.specs.Fields.{or_empty, value_or}
-use Rattle.gaz_records.specs.Forms.{BlpuStatus, Date, Digits, EndDate, Opt, TextTo, in_form, of_blpu, says}
+use Rattle.gaz_records.specs.Forms.{BlpuStatus, Date, Digits, EndDate, Opt, TextTo, in_form}
+use Rattle.gaz_records.specs.Forms.{of_blpu, says}
 use Rattle.gaz_records.specs.Table.{blpu_table, uprn}
 use Rattle.gaz_records.specs.declared.fields.FieldFault.{FieldFault}
 
@@ -55,5 +57,7 @@ is_parent (Some n) = is_uprn n
 
 -- what the table allows
 abbrev pub is_blpu : BlpuValue → Bool
-is_blpu x = is_uprn x.uprn && is_some (of_blpu x.status) && nat_le x.easting 700_000 && nat_le x.northing 1_300_000 && is_parent x.parent
+is_blpu x =
+    is_uprn x.uprn && is_some (of_blpu x.status) && nat_le x.easting 700_000
+    && nat_le x.northing 1_300_000 && is_parent x.parent
     && is_text_or_none 8 x.postcode && is_day x.start && are_days x.end && ends_by x.start x.end

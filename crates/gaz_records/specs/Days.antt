@@ -1,5 +1,7 @@
 -- Dates and how they are written.
-use Rattle.std.specs.Prelude.{ℕ, pos, ◌+◌, ◌*◌, ◌/◌, ◌%◌, ◌==◌, ◌&&◌, nat_le, true, List, [], ◌∷◌, ◌++◌, length, slice_index, slice_range, Option, Some, None, if◌then◌else◌, Bool}
+use Rattle.std.specs.Prelude.{ℕ, pos, ◌+◌, ◌*◌, ◌/◌, ◌%◌, ◌==◌, ◌&&◌, nat_le, true, List, [], ◌∷◌}
+use Rattle.std.specs.Prelude.{◌++◌, length, slice_index, slice_range, Option, Some, None}
+use Rattle.std.specs.Prelude.{if◌then◌else◌, Bool}
 use Rattle.std.specs.Str.{all_ascii_digits}
 use Rattle.std.specs.Str.Parse.{digits_value}
 use Rattle.jiff_core.specs.Calendar.{days_in_month}
@@ -12,7 +14,9 @@ pub record CivilDay : Type 0 where
 
 -- the calendar has it, from the year 1
 abbrev pub is_day : CivilDay → Bool
-is_day d = nat_le 1 d.year && nat_le d.year 9999 && nat_le 1 d.month && nat_le d.month 12 && nat_le 1 d.day && nat_le d.day 31
+is_day d =
+    nat_le 1 d.year && nat_le d.year 9999 && nat_le 1 d.month && nat_le d.month 12
+    && nat_le 1 d.day && nat_le d.day 31
     && nat_le d.day (days_in_month (pos d.year) d.month)
 
 -- no date, for where there is none to tell
@@ -24,14 +28,21 @@ are_days None = true
 are_days (Some d) = is_day d
 
 abbrev pub day_of : ℕ → ℕ → ℕ → Option CivilDay
-day_of y m d = if is_day (record { year = y; month = m; day = d }) then Some (record { year = y; month = m; day = d }) else None
+day_of year month day =
+    if is_day (record { year = year; month = month; day = day })
+    then Some (record { year = year; month = month; day = day }) else None
 
 -- exactly YYYY-MM-DD
 unfoldable pub date_of : List ℕ → Option CivilDay
 date_of t =
     if (length t == 10) && (slice_index t 4 == 45) && (slice_index t 7 == 45)
-    && all_ascii_digits (slice_range t 0 4) && all_ascii_digits (slice_range t 5 7) && all_ascii_digits (slice_range t 8 10)
-    then day_of (digits_value 10 (slice_range t 0 4)) (digits_value 10 (slice_range t 5 7)) (digits_value 10 (slice_range t 8 10)) else None
+    && all_ascii_digits (slice_range t 0 4) && all_ascii_digits (slice_range t 5 7)
+    && all_ascii_digits (slice_range t 8 10)
+    then day_of
+    (digits_value 10 (slice_range t 0 4))
+    (digits_value 10 (slice_range t 5 7))
+    (digits_value 10 (slice_range t 8 10))
+    else None
 
 abbrev pub two : ℕ → List ℕ
 two n = (48 + n / 10) ∷ (48 + n % 10) ∷ []

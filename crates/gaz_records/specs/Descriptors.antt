@@ -36,8 +36,12 @@ read_descriptor f = in_form descriptor_table f (descriptor_said f)
 
 -- the texts of its fields
 abbrev pub descriptor_texts : DescriptorValue → List (List ℕ)
-descriptor_texts x = decimal x.usrn ∷ lang_text x.lang ∷ x.description ∷ or_empty x.locality ∷ or_empty x.town ∷ x.area ∷ []
+descriptor_texts x =
+    decimal x.usrn ∷ lang_text x.lang ∷ x.description ∷ or_empty x.locality ∷ or_empty x.town
+    ∷ x.area ∷ []
 
 -- what the table allows
 abbrev pub is_descriptor : DescriptorValue → Bool
-is_descriptor x = is_usrn x.usrn && is_text 100 x.description && is_text_or_none 35 x.locality && is_text_or_none 30 x.town && is_text 30 x.area
+is_descriptor x =
+    is_usrn x.usrn && is_text 100 x.description && is_text_or_none 35 x.locality
+    && is_text_or_none 30 x.town && is_text 30 x.area

@@ -1,5 +1,6 @@
 -- The fields of a record, and what a reading of them may answer.
-use Rattle.std.specs.Prelude.{◌≡◌, ◌⊎◌, ℕ, ◌+◌, ◌==◌, List, [], length, Option, Some, None, Result, Ok, Err, if◌then◌else◌}
+use Rattle.std.specs.Prelude.{◌≡◌, ◌⊎◌, ℕ, ◌+◌, ◌==◌, List, [], length, Option, Some, None, Result}
+use Rattle.std.specs.Prelude.{Ok, Err, if◌then◌else◌}
 use Rattle.csv.specs.Records.{field_at}
 use Rattle.gaz_records.specs.declared.fields.FieldFault.{FieldFault}
 use Rattle.gaz_records.specs.declared.fields.FieldFault.TheVariants as fault

@@ -1,10 +1,13 @@
 -- The forms that fields have, and what a field of a form says.
-use Rattle.std.specs.Prelude.{ℕ, ◌+◌, ◌-◌, ◌==◌, ◌&&◌, List, [], ◌∷◌, length, Option, Some, None, is_some, option_map, option_and_then, Result, Ok, Err, if◌then◌else◌, Bool}
+use Rattle.std.specs.Prelude.{ℕ, ◌+◌, ◌-◌, ◌==◌, ◌&&◌, List, [], ◌∷◌, length, Option, Some, None}
+use Rattle.std.specs.Prelude.{is_some, option_map, option_and_then, Result, Ok, Err, if◌then◌else◌}
+use Rattle.std.specs.Prelude.{Bool}
 use Rattle.gaz_ids.specs.Numbers.{read_id}
 use Rattle.gaz_ids.specs.Codes.{lang_of, status_of}
 use Rattle.gaz_ids.specs.declared.lang.Lang.{Lang}
 use Rattle.gaz_ids.specs.declared.status.Status.{Status}
-use Rattle.gaz_ids.specs.declared.status.Status.TheVariants.{Approved, Alternative, Provisional, Historical}
+use Rattle.gaz_ids.specs.declared.status.Status.TheVariants.{Approved, Alternative, Provisional}
+use Rattle.gaz_ids.specs.declared.status.Status.TheVariants.{Historical}
 use Rattle.gaz_addressable.specs.Texts.{text_of}
 use Rattle.gaz_addressable.specs.Objects.{ObjectValue, object_of}
 use Rattle.gaz_addressable.specs.declared.object.ObjFault.{ObjFault}
@@ -74,7 +77,8 @@ not_before start end = if day_le start end then Some end else None
 
 -- an object stands in five fields
 abbrev pub object_at : List (List ℕ) → ℕ → Result ObjectValue ObjFault
-object_at f i = object_of (field f i) (field f (i + 1)) (field f (i + 2)) (field f (i + 3)) (field f (i + 4))
+object_at f i =
+    object_of (field f i) (field f (i + 1)) (field f (i + 2)) (field f (i + 3)) (field f (i + 4))
 
 abbrev pub no_byte : List (List ℕ) → ℕ → Bool
 no_byte f i = length (field f i) == 0
@@ -89,7 +93,9 @@ is_blank (LabelTo most) f i = no_byte f i
 is_blank (TextTo most) f i = no_byte f i
 is_blank Date f i = no_byte f i
 is_blank EndDate f i = no_byte f i
-is_blank AddressableObject f i = no_byte f i && no_byte f (i + 1) && no_byte f (i + 2) && no_byte f (i + 3) && no_byte f (i + 4)
+is_blank AddressableObject f i =
+    no_byte f i && no_byte f (i + 1) && no_byte f (i + 2) && no_byte f (i + 3)
+    && no_byte f (i + 4)
 is_blank (Opt form) f i = is_blank form f i
 
 -- what the field at a place says, where it has the form
@@ -101,14 +107,17 @@ says LpiStatus f i = status_of (field f i)
 says (LabelTo most) f i = label_of most (field f i)
 says (TextTo most) f i = ok_of (text_of most (field f i))
 says Date f i = date_of (field f i)
-says EndDate f i = option_and_then (λ start. option_and_then (not_before start) (date_of (field f i))) (date_of (field f (i - 1)))
+says EndDate f i =
+    option_and_then (λ start. option_and_then (not_before start) (date_of (field f i)))
+    (date_of (field f (i - 1)))
 says AddressableObject f i = ok_of (object_at f i)
 says (Opt form) f i = if is_blank form f i then Some None else option_map Some (says form f i)
 
 -- the first field, from 1, that hasn't its form
 abbrev pub first_bad : List Form → List (List ℕ) → ℕ → Option ℕ
 first_bad [] f i = None
-first_bad (form ∷ forms) f i = if is_some (says form f i) then first_bad forms f (i + width form) else Some (i + 1)
+first_bad (form ∷ forms) f i =
+    if is_some (says form f i) then first_bad forms f (i + width form) else Some (i + 1)
 
 -- how many fields the forms take
 abbrev pub total_width : List Form → ℕ
@@ -121,4 +130,5 @@ unless_bad (Some n) x = Err (fault.Form n)
 
 -- so many fields, each in its form, say this value
 abbrev pub in_form : {A : Type 0} → List Form → List (List ℕ) → A → Result A FieldFault
-in_form forms f x = if length f == total_width forms then unless_bad (first_bad forms f 0) x else Err fault.Count
+in_form forms f x =
+    if length f == total_width forms then unless_bad (first_bad forms f 0) x else Err fault.Count

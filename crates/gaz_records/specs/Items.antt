@@ -63,4 +63,5 @@ is_item (item.Lpi x) = is_lpi x
 -- an item reads back from its fields and from its row
 abbrev pub ItemsReadBack : Type 0
 ItemsReadBack = (x : Item) → is_item x ≡ true
-    → (read_item (kind_of x) (item_texts x) ≡ Ok x) × (item_of_text (kind_of x) (item_text x) ≡ Ok x)
+    → (read_item (kind_of x) (item_texts x) ≡ Ok x)
+    × (item_of_text (kind_of x) (item_text x) ≡ Ok x)

@@ -1,5 +1,6 @@
 -- Keys that tie are one, and so are hashed alike.
-use Rattle.std.proofs.Common.{◌≡◌, ℕ, Bool, true, List, [], ◌∷◌, ◌++◌, refl, sym, ap, ◌∙◌, cond, eqb}
+use Rattle.std.proofs.Common.{◌≡◌, ℕ, Bool, true, List, [], ◌∷◌, ◌++◌, refl, sym, ap, ◌∙◌, cond}
+use Rattle.std.proofs.Common.{eqb}
 use Rattle.std.proofs.lemmas.Map.Lookups.{exact_bytes, exact_unsigned}
 use Rattle.std.specs.Hash as fed
 use Rattle.std.specs.Hash.{Alike, HashWrites}
@@ -24,7 +25,8 @@ made : ℕ → ℕ → List ℕ → Key
 made kind n t =
     cond (eqb kind (number_of kinds.Street)) (key.Street n)
     (cond (eqb kind (number_of kinds.Descriptor)) (key.Descriptor n (lang_in t))
-    (cond (eqb kind (number_of kinds.Blpu)) (key.Blpu n) (cond (eqb kind (number_of kinds.Xref)) (key.Xref t) (key.Lpi t))))
+    (cond (eqb kind (number_of kinds.Blpu)) (key.Blpu n)
+    (cond (eqb kind (number_of kinds.Xref)) (key.Xref t) (key.Lpi t))))
 
 made-parts : (k : Key) → made (kind_number k) (number_in k) (text_in k) ≡ k
 unfolding made lang_in

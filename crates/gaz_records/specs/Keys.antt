@@ -47,7 +47,9 @@ text_in (key.Lpi t) = t
 
 -- the order of keys: by kind, then by number, then by the bytes of the text, so CYM before ENG
 abbrev pub key_cmp : Key → Key → Ordering
-key_cmp a b = ordering_then (nat_cmp (kind_number a) (kind_number b)) (ordering_then (nat_cmp (number_in a) (number_in b)) (label_cmp (text_in a) (text_in b)))
+key_cmp a b =
+    ordering_then (nat_cmp (kind_number a) (kind_number b))
+    (ordering_then (nat_cmp (number_in a) (number_in b)) (label_cmp (text_in a) (text_in b)))
 
 -- the order is total, and keys that tie are one
 abbrev pub KeysAreOrdered : Type 0

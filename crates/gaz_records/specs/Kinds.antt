@@ -30,4 +30,5 @@ identified text = find (λ k. bytes_eq text (identifier k)) kinds
 
 -- the identifier of a kind is the digits of its number, and says the kind
 abbrev pub IdentifiersReadBack : Type 0
-IdentifiersReadBack = (k : Kind) → (identifier k ≡ decimal (number_of k)) × (identified (identifier k) ≡ Some k)
+IdentifiersReadBack =
+    (k : Kind) → (identifier k ≡ decimal (number_of k)) × (identified (identifier k) ≡ Some k)

@@ -1,5 +1,7 @@
 -- Labels of letters and digits, as the keys of records.
-use Rattle.std.specs.Prelude.{◌≡◌, ℕ, zero, suc, ◌+◌, ◌*◌, ◌-◌, ◌<◌, ◌==◌, not, ◌&&◌, ◌||◌, nat_le, Bool, true, List, [], ◌∷◌, ◌++◌, length, take, replicate, slice_index, Option, Some, None, if◌then◌else◌}
+use Rattle.std.specs.Prelude.{◌≡◌, ℕ, zero, suc, ◌+◌, ◌*◌, ◌-◌, ◌<◌, ◌==◌, not, ◌&&◌, ◌||◌, nat_le}
+use Rattle.std.specs.Prelude.{Bool, true, List, [], ◌∷◌, ◌++◌, length, take, replicate, slice_index}
+use Rattle.std.specs.Prelude.{Option, Some, None, if◌then◌else◌}
 use Rattle.std.specs.List.{prefix_len}
 use Rattle.std.specs.declared.cmp.Ordering.{Ordering}
 use Rattle.std.specs.Ordering.{nat_cmp, eq_by_cmp}
@@ -41,7 +43,8 @@ pub record IsPadded (most len : ℕ) (bytes : List ℕ) : Type 0 where
   pub label : is_label most (take len bytes) ≡ true
   pub rest : padded most (take len bytes) ≡ bytes
 
--- the first so many bytes as one number, the first byte foremost, with 0 for each byte that is not there
+-- the first so many bytes as one number, the first byte foremost, with 0 for each byte that is not
+-- there
 unfoldable pub word : ℕ → List ℕ → ℕ
 word zero bytes = 0
 word (suc n) bytes = word n bytes * 256 + slice_index bytes n

@@ -1,5 +1,6 @@
 -- LPIs: what their fields say, and how they are written.
-use Rattle.std.specs.Prelude.{ℕ, ◌&&◌, List, [], ◌∷◌, ◌++◌, Option, Some, None, Result, Bool, true, decimal}
+use Rattle.std.specs.Prelude.{ℕ, ◌&&◌, List, [], ◌∷◌, ◌++◌, Option, Some, None, Result, Bool, true}
+use Rattle.std.specs.Prelude.{decimal}
 use Rattle.gaz_ids.specs.Codes.{lang_text, status_text}
 use Rattle.gaz_ids.specs.declared.lang.Lang.{Lang}
 use Rattle.gaz_ids.specs.declared.lang.Lang.TheVariants.{Eng}
@@ -8,7 +9,8 @@ use Rattle.gaz_ids.specs.declared.status.Status.TheVariants.{Approved}
 use Rattle.gaz_addressable.specs.Objects.{ObjectValue, is_object, texts_of}
 use Rattle.gaz_records.specs.Days.{CivilDay, are_days, date_text, end_text, ends_by, is_day, no_day}
 use Rattle.gaz_records.specs.Fields.{value_or}
-use Rattle.gaz_records.specs.Forms.{AddressableObject, Date, EndDate, LabelTo, Language, LpiStatus, Opt, in_form, says}
+use Rattle.gaz_records.specs.Forms.{AddressableObject, Date, EndDate, LabelTo, Language, LpiStatus}
+use Rattle.gaz_records.specs.Forms.{Opt, in_form, says}
 use Rattle.gaz_records.specs.Labels.{is_label}
 use Rattle.gaz_records.specs.Table.{lpi_table, uprn, usrn}
 use Rattle.gaz_records.specs.Streets.{is_usrn}
@@ -53,8 +55,10 @@ secondary_texts (Some o) = texts_of o
 
 -- the texts of its fields
 abbrev pub lpi_texts : LpiValue → List (List ℕ)
-lpi_texts x = x.key ∷ decimal x.uprn ∷ lang_text x.lang ∷ status_text x.status ∷ decimal x.usrn
-    ∷ (secondary_texts x.secondary ++ (texts_of x.primary ++ (date_text x.start ∷ end_text x.end ∷ [])))
+lpi_texts x =
+    x.key ∷ decimal x.uprn ∷ lang_text x.lang ∷ status_text x.status ∷ decimal x.usrn
+    ∷ (secondary_texts x.secondary
+       ++ (texts_of x.primary ++ (date_text x.start ∷ end_text x.end ∷ [])))
 
 abbrev pub is_secondary : Option ObjectValue → Bool
 is_secondary None = true
@@ -62,4 +66,6 @@ is_secondary (Some o) = is_object o
 
 -- what the table allows
 abbrev pub is_lpi : LpiValue → Bool
-is_lpi x = is_label 14 x.key && is_uprn x.uprn && is_usrn x.usrn && is_secondary x.secondary && is_object x.primary && is_day x.start && are_days x.end && ends_by x.start x.end
+is_lpi x =
+    is_label 14 x.key && is_uprn x.uprn && is_usrn x.usrn && is_secondary x.secondary
+    && is_object x.primary && is_day x.start && are_days x.end && ends_by x.start x.end

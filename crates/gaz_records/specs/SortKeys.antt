@@ -1,5 +1,6 @@
 -- Keys as two numbers that compare as keys do.
-use Rattle.std.specs.Prelude.{◌≡◌, codes, ℕ, zero, suc, ◌+◌, ◌*◌, ◌/◌, ◌%◌, ◌<◌, ◌==◌, if◌then◌else◌, Bool, true, List, [], ◌∷◌, ◌++◌, take, drop}
+use Rattle.std.specs.Prelude.{◌≡◌, codes, ℕ, zero, suc, ◌+◌, ◌*◌, ◌/◌, ◌%◌, ◌<◌, ◌==◌}
+use Rattle.std.specs.Prelude.{if◌then◌else◌, Bool, true, List, [], ◌∷◌, ◌++◌, take, drop}
 use Rattle.gaz_ids.specs.declared.lang.Lang.{Lang}
 use Rattle.gaz_ids.specs.declared.lang.Lang.TheVariants.{Cym, Eng}
 use Rattle.std.proofs.lemmas.Cmp.{on_total, then_total, nat_list_cmp_total}
@@ -13,7 +14,9 @@ use Rattle.gaz_records.specs.declared.key.Key.TheVariants as key
 
 -- the order of keys is total
 pub keys_total : IsTotalOrder key_cmp
-keys_total = then_total (on_total kind_number nat_cmp_total) (then_total (on_total number_in nat_cmp_total) (on_total text_in nat_list_cmp_total))
+keys_total =
+    then_total (on_total kind_number nat_cmp_total)
+    (then_total (on_total number_in nat_cmp_total) (on_total text_in nat_list_cmp_total))
 
 -- numbers of 7 bytes
 abbrev pub seven_bytes : ℕ
@@ -73,9 +76,11 @@ label_in first second = text_of (bytes_of 7 first ++ bytes_of 7 second)
 abbrev pub key_from : ℕ → ℕ → ℕ → Key
 key_from kind rest low =
     if kind == number_of kinds.Street then key.Street rest else
-    if kind == number_of kinds.Descriptor then key.Descriptor rest (if low == 0 then Cym else Eng) else
+    if kind == number_of kinds.Descriptor
+    then key.Descriptor rest (if low == 0 then Cym else Eng) else
     if kind == number_of kinds.Blpu then key.Blpu rest else
-    if kind == number_of kinds.Xref then key.Xref (label_in rest low) else key.Lpi (label_in rest low)
+    if kind == number_of kinds.Xref then key.Xref (label_in rest low) else
+    key.Lpi (label_in rest low)
 
 abbrev pub key_at : ℕ → ℕ → Key
 key_at high low = key_from (high / seven_bytes) (high % seven_bytes) low
@@ -92,6 +97,9 @@ pub record IsSortKey (high low : ℕ) : Type 0 where
 abbrev pub WorkedSortKeys : Type 0
 WorkedSortKeys =
     (high_of (key.Blpu 42) ≡ 1513209474796486698) × (low_of (key.Blpu 42) ≡ 0)
-    × (high_of (key.Descriptor 101 Eng) ≡ 1080863910568919141) × (low_of (key.Descriptor 101 Eng) ≡ 1)
+    × (high_of (key.Descriptor 101 Eng) ≡ 1080863910568919141)
+    × (low_of (key.Descriptor 101 Eng) ≡ 1)
     × (high_of (key.Lpi (codes "K1")) ≡ 1750546756233330688) × (low_of (key.Lpi (codes "K1")) ≡ 0)
-    × (key_at 1513209474796486698 0 ≡ key.Blpu 42) × (key_at 1080863910568919141 1 ≡ key.Descriptor 101 Eng) × (key_at 1750546756233330688 0 ≡ key.Lpi (codes "K1"))
+    × (key_at 1513209474796486698 0 ≡ key.Blpu 42)
+    × (key_at 1080863910568919141 1 ≡ key.Descriptor 101 Eng)
+    × (key_at 1750546756233330688 0 ≡ key.Lpi (codes "K1"))

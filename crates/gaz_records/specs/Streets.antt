@@ -37,4 +37,6 @@ is_sort n = nat_le 1 n && nat_le n 4
 
 -- what the table allows
 abbrev pub is_street : StreetValue → Bool
-is_street x = is_usrn x.usrn && is_sort x.sort && is_day x.start && are_days x.end && ends_by x.start x.end
+is_street x =
+    is_usrn x.usrn && is_sort x.sort && is_day x.start && are_days x.end
+    && ends_by x.start x.end

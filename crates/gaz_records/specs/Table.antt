@@ -1,6 +1,8 @@
--- The field table: for each kind of item the fields of its record after the order field, each with its form.
+-- The field table: for each kind of item the fields of its record after the order field, each with
+-- its form.
 use Rattle.std.specs.Prelude.{List, [], ◌∷◌}
-use Rattle.gaz_records.specs.Forms.{Form, Digits, Language, BlpuStatus, LpiStatus, LabelTo, TextTo, Date, EndDate, AddressableObject, Opt}
+use Rattle.gaz_records.specs.Forms.{Form, Digits, Language, BlpuStatus, LpiStatus, LabelTo, TextTo}
+use Rattle.gaz_records.specs.Forms.{Date, EndDate, AddressableObject, Opt}
 
 abbrev pub usrn : Form
 usrn = Digits 8 1 99_999_999
@@ -16,14 +18,20 @@ street_table = usrn ∷ Digits 1 1 4 ∷ Date ∷ Opt EndDate ∷ []
 abbrev pub descriptor_table : List Form
 descriptor_table = usrn ∷ Language ∷ TextTo 100 ∷ Opt (TextTo 35) ∷ Opt (TextTo 30) ∷ TextTo 30 ∷ []
 
--- 21 BLPU: uprn (key); status; easting, northing in metres; parent uprn; postcode; start date; end date
+-- 21 BLPU: uprn (key); status; easting, northing in metres; parent uprn; postcode; start date; end
+-- date
 abbrev pub blpu_table : List Form
-blpu_table = uprn ∷ BlpuStatus ∷ Digits 6 0 700_000 ∷ Digits 7 0 1_300_000 ∷ Opt uprn ∷ Opt (TextTo 8) ∷ Date ∷ Opt EndDate ∷ []
+blpu_table =
+    uprn ∷ BlpuStatus ∷ Digits 6 0 700_000 ∷ Digits 7 0 1_300_000 ∷ Opt uprn ∷ Opt (TextTo 8)
+    ∷ Date ∷ Opt EndDate ∷ []
 
 -- 23 cross reference: key (key); uprn; source; reference; start date; end date
 abbrev pub xref_table : List Form
 xref_table = LabelTo 14 ∷ uprn ∷ LabelTo 6 ∷ TextTo 50 ∷ Date ∷ Opt EndDate ∷ []
 
--- 24 LPI: key (key); uprn; language; status; usrn; secondary object; primary object; start date; end date
+-- 24 LPI: key (key); uprn; language; status; usrn; secondary object; primary object; start date;
+-- end date
 abbrev pub lpi_table : List Form
-lpi_table = LabelTo 14 ∷ uprn ∷ Language ∷ LpiStatus ∷ usrn ∷ Opt AddressableObject ∷ AddressableObject ∷ Date ∷ Opt EndDate ∷ []
+lpi_table =
+    LabelTo 14 ∷ uprn ∷ Language ∷ LpiStatus ∷ usrn ∷ Opt AddressableObject ∷ AddressableObject
+    ∷ Date ∷ Opt EndDate ∷ []

@@ -34,8 +34,11 @@ read_xref f = in_form xref_table f (xref_said f)
 
 -- the texts of its fields
 abbrev pub xref_texts : XrefValue → List (List ℕ)
-xref_texts x = x.key ∷ decimal x.uprn ∷ x.source ∷ x.reference ∷ date_text x.start ∷ end_text x.end ∷ []
+xref_texts x =
+    x.key ∷ decimal x.uprn ∷ x.source ∷ x.reference ∷ date_text x.start ∷ end_text x.end ∷ []
 
 -- what the table allows
 abbrev pub is_xref : XrefValue → Bool
-is_xref x = is_label 14 x.key && is_uprn x.uprn && is_label 6 x.source && is_text 50 x.reference && is_day x.start && are_days x.end && ends_by x.start x.end
+is_xref x =
+    is_label 14 x.key && is_uprn x.uprn && is_label 6 x.source && is_text 50 x.reference
+    && is_day x.start && are_days x.end && ends_by x.start x.end

@@ -1,9 +1,8 @@
 ghost use Rattle.std.specs.Prelude.{◌≡◌, ◌≤◌, ◌++◌, drop, OnOk, true};
 ghost use Rattle.csv.specs.Records.{fields_of};
-ghost use Rattle.gaz_rows.specs.Rows.{line_of};
 ghost use Rattle.gaz_records.specs.Fields.{OrMemory};
 ghost use Rattle.gaz_records.specs.Blpus.{blpu_texts, is_blpu, read_blpu};
-ghost use Rattle.gaz_records.specs.Appending.{Grows};
+ghost use Rattle.gaz_records.specs.Appending.{AddsLine, Grows};
 
 use crate::day::Day;
 use crate::fields::FieldFault;
@@ -23,7 +22,8 @@ pub type Northing = Number<22, 7, 0, 1_300_000>;
 
 /// A basic land and property unit (BS 7666:2006, Part 2).
 ///
-/// It is no alternative, and its end date isn't before its start date. `parent` is the BLPU of which it is a part.
+/// It is no alternative, and its end date isn't before its start date. `parent` is the BLPU of
+/// which it is a part.
 #[derive(Debug, Drop)]
 pub struct Blpu {
     pub uprn: Uprn,
@@ -44,7 +44,16 @@ impl Model for Blpu {
 
     ghost Value = { BlpuValue };
 
-    ghost view = { λ x. record { uprn = x.uprn; status = x.status; easting = x.easting; northing = x.northing; parent = x.parent; postcode = x.postcode; start = x.start; end = x.end } };
+    ghost view = { λ x. record {
+      uprn = x.uprn;
+      status = x.status;
+      easting = x.easting;
+      northing = x.northing;
+      parent = x.parent;
+      postcode = x.postcode;
+      start = x.start;
+      end = x.end;
+    } };
 
     ghost invariant = { λ x. (is_some (of_blpu x.status) && ends_by x.start x.end) ≡ true };
 }
@@ -99,7 +108,7 @@ impl Blpu {
 
     /// Adds the row of the fields as `csv` writes it, without a line end.
     pub(crate) fn write(&self, out: &mut Vec<u8>) -> Result<(), AllocError>
-        ensures row { OnOk result (out.new.items ≡ out.old.items ++ line_of (blpu_texts self.now)) }
+        ensures row { OnOk result (AddsLine out.old.items out.new.items (blpu_texts self.now)) }
         ensures kept { Grows out.old.items out.new.items }
     {
         add_number(out, self.uprn.number())?;

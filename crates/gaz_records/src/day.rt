@@ -22,7 +22,8 @@ impl Model for Day {
 
     ghost view = { λ d. record { year = d.year; month = d.month; day = d.day } };
 
-    ghost invariant = { λ d. is_day (record { year = d.year; month = d.month; day = d.day }) ≡ true };
+    ghost invariant = { λ d.
+        is_day (record { year = d.year; month = d.month; day = d.day }) ≡ true };
 
     ghost inverse = { λ v. record { year = v.year; month = v.month; day = v.day } };
 }

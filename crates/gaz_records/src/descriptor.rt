@@ -1,9 +1,8 @@
 ghost use Rattle.std.specs.Prelude.{◌≡◌, ◌≤◌, ◌++◌, drop, OnOk, true};
 ghost use Rattle.csv.specs.Records.{fields_of};
-ghost use Rattle.gaz_rows.specs.Rows.{line_of};
 ghost use Rattle.gaz_records.specs.Fields.{OrMemory};
 ghost use Rattle.gaz_records.specs.Descriptors.{descriptor_texts, is_descriptor, read_descriptor};
-ghost use Rattle.gaz_records.specs.Appending.{Grows};
+ghost use Rattle.gaz_records.specs.Appending.{AddsLine, Grows};
 
 use crate::fields::FieldFault;
 use crate::reading::Fields;
@@ -14,7 +13,8 @@ use gaz_ids::{Lang, Usrn};
 use std::alloc::{AllocError, Global};
 use std::marker::Model;
 
-/// A street's descriptor: what it is called in a language, and where it lies (BS 7666:2006, Part 1; the lengths are our profile's).
+/// A street's descriptor: what it is called in a language, and where it lies (BS 7666:2006, Part 1;
+/// the lengths are our profile's).
 #[derive(Debug, Drop)]
 pub struct Descriptor {
     pub usrn: Usrn,
@@ -31,7 +31,14 @@ impl Model for Descriptor {
 
     ghost Value = { DescriptorValue };
 
-    ghost view = { λ x. record { usrn = x.usrn; lang = x.lang; description = x.description; locality = x.locality; town = x.town; area = x.area } };
+    ghost view = { λ x. record {
+      usrn = x.usrn;
+      lang = x.lang;
+      description = x.description;
+      locality = x.locality;
+      town = x.town;
+      area = x.area;
+    } };
 }
 
 impl Descriptor {
@@ -80,7 +87,8 @@ impl Descriptor {
 
     /// Adds the row of the fields as `csv` writes it, without a line end.
     pub(crate) fn write(&self, out: &mut Vec<u8>) -> Result<(), AllocError>
-        ensures row { OnOk result (out.new.items ≡ out.old.items ++ line_of (descriptor_texts self.now)) }
+        ensures row { OnOk result
+            (AddsLine out.old.items out.new.items (descriptor_texts self.now)) }
         ensures kept { Grows out.old.items out.new.items }
     {
         add_number(out, self.usrn.number())?;

@@ -41,8 +41,8 @@ pub enum Item {
 
 /// The item of a kind that the fields of a record behind the first `skip` ones say.
 ///
-/// `Count` where there are too few or too many of them, else `Form` with the first field, from 1, of a wrong form; an object
-/// counts as its first field. `Memory` may come in place of either.
+/// `Count` where there are too few or too many of them, else `Form` with the first field, from 1,
+/// of a wrong form; an object counts as its first field. `Memory` may come in place of either.
 pub fn read_item(
     alloc: Global,
     kind: Kind,
@@ -76,7 +76,8 @@ pub fn read_item(
     }
 }
 
-/// The item of a kind that a text says which is one row: `Count` where it isn't one row, else as `read_item`.
+/// The item of a kind that a text says which is one row: `Count` where it isn't one row, else as
+/// `read_item`.
 pub fn item_of_text(alloc: Global, kind: Kind, text: &[u8]) -> Result<Item, FieldFault>
     ensures { OrMemory result (item_of_text kind text.now) }
 {
@@ -131,7 +132,8 @@ fn add_row(item: &Item, out: &mut Vec<u8>) -> Result<(), AllocError>
 }
 
 #[tactic(auto, using(crate::proofs::Growing::growing))]
-/// Adds the row of the item's fields as `csv` writes it, without a line end. After want of memory `out` is as it was.
+/// Adds the row of the item's fields as `csv` writes it, without a line end. After want of memory
+/// `out` is as it was.
 pub fn write_item(item: &Item, out: &mut Vec<u8>) -> Result<(), AllocError>
     ensures row { OnOk result (out.new.items ≡ out.old.items ++ item_text item.now) }
     ensures undone { OnErr result (out.new.items ≡ out.old.items) }
@@ -144,7 +146,8 @@ pub fn write_item(item: &Item, out: &mut Vec<u8>) -> Result<(), AllocError>
     Ok(())
 }
 
-/// The row of the item's fields as `csv` writes it, without a line end. It reads back as the same item.
+/// The row of the item's fields as `csv` writes it, without a line end. It reads back as the same
+/// item.
 pub fn item_text(alloc: Global, item: &Item) -> Result<Vec<u8>, AllocError>
     ensures text { IfOk result (λ t. t.items ≡ item_text item.now) }
     ensures reads_back { item_of_text (kind_of item.now) (item_text item.now) ≡ Ok item.now }

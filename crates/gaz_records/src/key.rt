@@ -8,7 +8,8 @@ use std::cmp::Ordering;
 
 /// Which item of a custodian. Keys of two custodians are apart.
 ///
-/// In order they go by kind, then by number, a street's descriptors `CYM` before `ENG`, and by the bytes of the key.
+/// In order they go by kind, then by number, a street's descriptors `CYM` before `ENG`, and by the
+/// bytes of the key.
 #[derive(Clone, Copy, Debug, PartialEq, Eq, PartialOrd, Ord)]
 pub enum Key {
     Street(Usrn),

@@ -3,7 +3,8 @@ ghost use Rattle.std.proofs.Common.{rules};
 ghost use Rattle.std.specs.Cmp.{partial_order_from_own_ties};
 ghost use Rattle.std.specs.Cmp.Rules.{comparing};
 ghost use Rattle.std.specs.Ordering.{as_partial_cmp};
-ghost use Rattle.gaz_records.specs.Labels.{AreBytes, are_label_bytes, before_zero, is_label, label_cmp, label_eq, label_of, word};
+ghost use Rattle.gaz_records.specs.Labels.{AreBytes, are_label_bytes, before_zero, is_label};
+ghost use Rattle.gaz_records.specs.Labels.{label_cmp, label_eq, label_of, word};
 ghost use Rattle.gaz_records.specs.SortKeys.{first_half, second_half, seven_bytes};
 ghost use Rattle.std.specs.Ordering.{nat_cmp};
 ghost use Rattle.std.specs.Cmp.Lexicographic.{slice_cmp};
@@ -11,7 +12,8 @@ ghost use Rattle.std.specs.Cmp.Lexicographic.{slice_cmp};
 use std::cmp::Ordering;
 use std::marker::Model;
 
-/// A label of 1 to `MOST` letters `A` to `Z` and digits `0` to `9` (our profile). Its order is that of its bytes.
+/// A label of 1 to `MOST` letters `A` to `Z` and digits `0` to `9` (our profile). Its order is that
+/// of its bytes.
 #[derive(Clone, Copy, Debug)]
 pub struct Label<const MOST: usize> {
     bytes: [u8; MOST],
@@ -62,7 +64,8 @@ fn count_before_zero(bytes: &[u8]) -> usize
     bytes.len()
 }
 
-// The four bytes from `start` on as one number, the first byte foremost, with 0 for each byte that is not there.
+// The four bytes from `start` on as one number, the first byte foremost, with 0 for each byte that
+// is not there.
 fn word_at<const MOST: usize>(bytes: &[u8; MOST], start: usize) -> u32
     requires within { start < MOST }
     requires bytes { AreBytes bytes.now }
@@ -80,7 +83,8 @@ fn word_at<const MOST: usize>(bytes: &[u8; MOST], start: usize) -> u32
     word
 }
 
-// How the bytes compare. LLVM reads a number of four bytes by one load, and one of eight byte by byte.
+// How the bytes compare. LLVM reads a number of four bytes by one load, and one of eight byte by
+// byte.
 fn compare_by_words<const MOST: usize>(one: &[u8; MOST], other: &[u8; MOST]) -> Ordering
     requires one { AreBytes one.now }
     requires other { AreBytes other.now }
@@ -134,8 +138,8 @@ fn seven_at(bytes: &[u8; 14], start: usize) -> u64
 }
 
 impl RecordKey {
-    /// The first seven bytes as one number and the other seven as another, each with its first byte foremost and 0 for each byte
-    /// that is not there.
+    /// The first seven bytes as one number and the other seven as another, each with its first byte
+    /// foremost and 0 for each byte that is not there.
     pub(crate) fn halves(&self) -> (u64, u64)
         ensures first { result.0 ≡ first_half self.now }
         ensures second { result.1 ≡ second_half self.now }
@@ -163,7 +167,8 @@ impl<const MOST: usize> Ord for Label<MOST> {
 impl<const MOST: usize> PartialOrd for Label<MOST> {
     ghost partial_cmp = { as_partial_cmp label_cmp };
 
-    ghost laws = { partial_order_from_own_ties (Prim.search (comparing, rules)) (Prim.search (comparing, rules)) };
+    ghost laws = { partial_order_from_own_ties
+        (Prim.search (comparing, rules)) (Prim.search (comparing, rules)) };
 
     fn partial_cmp(&self, other: &Self) -> Option<Ordering> {
         Some(self.cmp(other))

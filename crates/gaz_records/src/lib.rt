@@ -1,4 +1,5 @@
-//! The records of a gazetteer: streets, their descriptors, BLPUs, cross references and LPIs, their fields, rows and keys.
+//! The records of a gazetteer: streets, their descriptors, BLPUs, cross references and LPIs, their
+//! fields, rows and keys.
 #![tactic(auto)]
 
 mod blpu;

@@ -1,9 +1,8 @@
 ghost use Rattle.std.specs.Prelude.{◌≡◌, ◌≤◌, ◌++◌, drop, OnOk, true};
 ghost use Rattle.csv.specs.Records.{fields_of};
-ghost use Rattle.gaz_rows.specs.Rows.{line_of};
 ghost use Rattle.gaz_records.specs.Fields.{OrMemory};
 ghost use Rattle.gaz_records.specs.Lpis.{is_lpi, lpi_texts, read_lpi};
-ghost use Rattle.gaz_records.specs.Appending.{Grows};
+ghost use Rattle.gaz_records.specs.Appending.{AddsLine, Grows};
 
 use crate::day::Day;
 use crate::fields::FieldFault;
@@ -39,7 +38,17 @@ impl Model for Lpi {
 
     ghost Value = { LpiValue };
 
-    ghost view = { λ x. record { key = x.key; uprn = x.uprn; lang = x.lang; status = x.status; usrn = x.usrn; secondary = x.secondary; primary = x.primary; start = x.start; end = x.end } };
+    ghost view = { λ x. record {
+      key = x.key;
+      uprn = x.uprn;
+      lang = x.lang;
+      status = x.status;
+      usrn = x.usrn;
+      secondary = x.secondary;
+      primary = x.primary;
+      start = x.start;
+      end = x.end;
+    } };
 
     ghost invariant = { λ x. ends_by x.start x.end ≡ true };
 }
@@ -94,7 +103,7 @@ impl Lpi {
 
     /// Adds the row of the fields as `csv` writes it, without a line end.
     pub(crate) fn write(&self, out: &mut Vec<u8>) -> Result<(), AllocError>
-        ensures row { OnOk result (out.new.items ≡ out.old.items ++ line_of (lpi_texts self.now)) }
+        ensures row { OnOk result (AddsLine out.old.items out.new.items (lpi_texts self.now)) }
         ensures kept { Grows out.old.items out.new.items }
     {
         add_field(out, self.key.as_bytes())?;

@@ -3,7 +3,9 @@ ghost use Rattle.csv.specs.Records.{fields_of};
 ghost use Rattle.gaz_addressable.specs.Objects as Objects;
 ghost use Rattle.gaz_records.specs.Days.{ends_by};
 ghost use Rattle.gaz_records.specs.Fields.{TellsField, TellsFieldOrMemory, counted, field};
-ghost use Rattle.gaz_records.specs.Forms.{AddressableObject, BlpuStatus, Date, Digits, EndDate, LabelTo, Language, LpiStatus, Opt, TextTo, is_blank, object_at, of_blpu, says};
+ghost use Rattle.gaz_records.specs.Forms.{AddressableObject, BlpuStatus, Date, Digits, EndDate};
+ghost use Rattle.gaz_records.specs.Forms.{LabelTo, Language, LpiStatus, Opt, TextTo, is_blank};
+ghost use Rattle.gaz_records.specs.Forms.{object_at, of_blpu, says};
 
 use crate::day::Day;
 use crate::fields::FieldFault;

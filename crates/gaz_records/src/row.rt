@@ -1,12 +1,12 @@
 ghost use Rattle.std.specs.Prelude.{◌≡◌, ◌++◌, [], ◌∷◌, None, OnOk, decimal};
 ghost use Rattle.std.specs.List.{list_any};
-ghost use Rattle.csv.specs.Writing.{default_writer, escaped, field_text, fields_text, needs_byte};
+ghost use Rattle.csv.specs.Writing.{default_writer, escaped, needs_byte};
 ghost use Rattle.gaz_addressable.specs.Objects.{texts_of, digits_text, letter_text};
 ghost use Rattle.gaz_records.specs.Days.{date_text, end_text};
 ghost use Rattle.gaz_records.specs.Fields.{or_empty};
 ghost use Rattle.gaz_records.specs.Blpus.{parent_text};
 ghost use Rattle.gaz_records.specs.Lpis.{secondary_texts};
-ghost use Rattle.gaz_records.specs.Appending.{Grows};
+ghost use Rattle.gaz_records.specs.Appending.{AddsField, AddsFields, Grows};
 
 use crate::day::Day;
 use gaz_addressable::{HouseNumber, Object, Text};
@@ -44,7 +44,7 @@ fn add_escaped(out: &mut Vec<u8>, field: &[u8]) -> Result<(), AllocError>
 #[tactic(auto, using(crate::proofs::Growing::growing))]
 /// Adds a field as `csv` writes it.
 pub fn add_field(out: &mut Vec<u8>, field: &[u8]) -> Result<(), AllocError>
-    ensures row { OnOk result (out.new.items ≡ out.old.items ++ field_text default_writer field.now) }
+    ensures row { OnOk result (AddsField out.old.items out.new.items field.now) }
     ensures kept { Grows out.old.items out.new.items }
 {
     if !needs_quotes(field) {
@@ -59,7 +59,7 @@ pub fn add_field(out: &mut Vec<u8>, field: &[u8]) -> Result<(), AllocError>
 #[tactic(auto, using(crate::proofs::Written::writing, crate::proofs::Growing::growing))]
 /// Adds a comma and a field.
 pub fn next_field(out: &mut Vec<u8>, field: &[u8]) -> Result<(), AllocError>
-    ensures row { OnOk result (out.new.items ≡ out.old.items ++ fields_text default_writer (field.now ∷ [])) }
+    ensures row { OnOk result (AddsFields out.old.items out.new.items (field.now ∷ [])) }
     ensures kept { Grows out.old.items out.new.items }
 {
     out.push(b',')?;
@@ -69,7 +69,7 @@ pub fn next_field(out: &mut Vec<u8>, field: &[u8]) -> Result<(), AllocError>
 
 /// Adds the digits of a number.
 pub fn add_number(out: &mut Vec<u8>, n: u64) -> Result<(), AllocError>
-    ensures row { OnOk result (out.new.items ≡ out.old.items ++ field_text default_writer (decimal n)) }
+    ensures row { OnOk result (AddsField out.old.items out.new.items (decimal n)) }
     ensures kept { Grows out.old.items out.new.items }
 {
     let mut buffer = Buffer::new();
@@ -78,7 +78,7 @@ pub fn add_number(out: &mut Vec<u8>, n: u64) -> Result<(), AllocError>
 
 /// Adds a comma and the digits of a number.
 pub fn next_number(out: &mut Vec<u8>, n: u64) -> Result<(), AllocError>
-    ensures row { OnOk result (out.new.items ≡ out.old.items ++ fields_text default_writer (decimal n ∷ [])) }
+    ensures row { OnOk result (AddsFields out.old.items out.new.items (decimal n ∷ [])) }
     ensures kept { Grows out.old.items out.new.items }
 {
     let mut buffer = Buffer::new();
@@ -90,7 +90,7 @@ pub fn next_text<const MOST: u64>(
     out: &mut Vec<u8>,
     text: &Option<Text<MOST>>,
 ) -> Result<(), AllocError>
-    ensures row { OnOk result (out.new.items ≡ out.old.items ++ fields_text default_writer (or_empty text.now ∷ [])) }
+    ensures row { OnOk result (AddsFields out.old.items out.new.items (or_empty text.now ∷ [])) }
     ensures kept { Grows out.old.items out.new.items }
 {
     match text {
@@ -101,7 +101,7 @@ pub fn next_text<const MOST: u64>(
 
 /// Adds a comma and the digits of a UPRN, if there is one.
 pub fn next_parent(out: &mut Vec<u8>, parent: Option<Uprn>) -> Result<(), AllocError>
-    ensures row { OnOk result (out.new.items ≡ out.old.items ++ fields_text default_writer (parent_text parent ∷ [])) }
+    ensures row { OnOk result (AddsFields out.old.items out.new.items (parent_text parent ∷ [])) }
     ensures kept { Grows out.old.items out.new.items }
 {
     match parent {
@@ -112,7 +112,7 @@ pub fn next_parent(out: &mut Vec<u8>, parent: Option<Uprn>) -> Result<(), AllocE
 
 // Adds a comma and the digits of a house number, if there is one.
 fn next_digits(out: &mut Vec<u8>, number: Option<HouseNumber>) -> Result<(), AllocError>
-    ensures row { OnOk result (out.new.items ≡ out.old.items ++ fields_text default_writer (digits_text number ∷ [])) }
+    ensures row { OnOk result (AddsFields out.old.items out.new.items (digits_text number ∷ [])) }
     ensures kept { Grows out.old.items out.new.items }
 {
     match number {
@@ -123,7 +123,7 @@ fn next_digits(out: &mut Vec<u8>, number: Option<HouseNumber>) -> Result<(), All
 
 // Adds a comma and the suffix of a house number, if it has one.
 fn next_letter(out: &mut Vec<u8>, number: Option<HouseNumber>) -> Result<(), AllocError>
-    ensures row { OnOk result (out.new.items ≡ out.old.items ++ fields_text default_writer (letter_text number ∷ [])) }
+    ensures row { OnOk result (AddsFields out.old.items out.new.items (letter_text number ∷ [])) }
     ensures kept { Grows out.old.items out.new.items }
 {
     match number {
@@ -137,7 +137,7 @@ fn next_letter(out: &mut Vec<u8>, number: Option<HouseNumber>) -> Result<(), All
 
 /// Adds the five fields of an object, each behind a comma.
 pub fn next_object(out: &mut Vec<u8>, object: &Object) -> Result<(), AllocError>
-    ensures row { OnOk result (out.new.items ≡ out.old.items ++ fields_text default_writer (texts_of object.now)) }
+    ensures row { OnOk result (AddsFields out.old.items out.new.items (texts_of object.now)) }
     ensures kept { Grows out.old.items out.new.items }
 {
     next_digits(out, object.from())?;
@@ -151,7 +151,7 @@ pub fn next_object(out: &mut Vec<u8>, object: &Object) -> Result<(), AllocError>
 #[tactic(auto, using(crate::proofs::Growing::growing), unfolding(csv::specs::Writing::fields_text))]
 // Adds five empty fields, each behind a comma.
 fn next_blank(out: &mut Vec<u8>) -> Result<(), AllocError>
-    ensures row { OnOk result (out.new.items ≡ out.old.items ++ fields_text default_writer (secondary_texts None)) }
+    ensures row { OnOk result (AddsFields out.old.items out.new.items (secondary_texts None)) }
     ensures kept { Grows out.old.items out.new.items }
 {
     out.extend_from_slice(b",,,,,")
@@ -159,7 +159,8 @@ fn next_blank(out: &mut Vec<u8>) -> Result<(), AllocError>
 
 /// Adds the five fields of an object, if there is one, each behind a comma.
 pub fn next_secondary(out: &mut Vec<u8>, object: &Option<Object>) -> Result<(), AllocError>
-    ensures row { OnOk result (out.new.items ≡ out.old.items ++ fields_text default_writer (secondary_texts object.now)) }
+    ensures row { OnOk result
+        (AddsFields out.old.items out.new.items (secondary_texts object.now)) }
     ensures kept { Grows out.old.items out.new.items }
 {
     match object {
@@ -170,7 +171,7 @@ pub fn next_secondary(out: &mut Vec<u8>, object: &Option<Object>) -> Result<(), 
 
 // Adds a comma and a date, if there is one.
 fn next_end(out: &mut Vec<u8>, end: &Option<Day>) -> Result<(), AllocError>
-    ensures row { OnOk result (out.new.items ≡ out.old.items ++ fields_text default_writer (end_text end.now ∷ [])) }
+    ensures row { OnOk result (AddsFields out.old.items out.new.items (end_text end.now ∷ [])) }
     ensures kept { Grows out.old.items out.new.items }
 {
     match end {
@@ -182,7 +183,8 @@ fn next_end(out: &mut Vec<u8>, end: &Option<Day>) -> Result<(), AllocError>
 #[tactic(auto, using(crate::proofs::Growing::growing))]
 /// Adds a start date and an end date, if there is one, each behind a comma.
 pub fn next_dates(out: &mut Vec<u8>, start: &Day, end: &Option<Day>) -> Result<(), AllocError>
-    ensures row { OnOk result (out.new.items ≡ out.old.items ++ fields_text default_writer (date_text start.now ∷ end_text end.now ∷ [])) }
+    ensures row { OnOk result (AddsFields out.old.items out.new.items
+        (date_text start.now ∷ end_text end.now ∷ [])) }
     ensures kept { Grows out.old.items out.new.items }
 {
     next_field(out, &start.digits())?;

@@ -6,7 +6,8 @@ ghost use Rattle.std.specs.Cmp.Rules.{comparing};
 ghost use Rattle.std.specs.Ordering.{as_partial_cmp, eq_by_cmp};
 ghost use Rattle.gaz_records.specs.Keys.{key_cmp, kind_number, number_in};
 ghost use Rattle.gaz_records.specs.KeyTies.{keys_alike, written};
-ghost use Rattle.gaz_records.specs.SortKeys.{has_label, high_of, keys_total, lang_rank, low_of, seven_bytes};
+ghost use Rattle.gaz_records.specs.SortKeys.{has_label, high_of, keys_total, lang_rank, low_of};
+ghost use Rattle.gaz_records.specs.SortKeys.{seven_bytes};
 
 use crate::item::Kind;
 use crate::key::Key;
@@ -18,10 +19,11 @@ use std::marker::Model;
 // The first number has the kind above so many others.
 const SEVEN_BYTES: u64 = 1 << 56;
 
-/// A key as two numbers, which compare as keys do. It takes 16 bytes, and a search goes by it without asking for the kind.
+/// A key as two numbers, which compare as keys do. It takes 16 bytes, and a search goes by it
+/// without asking for the kind.
 ///
-/// The first number is the record identifier of the kind with the number or the first seven letters and digits behind it; the second is the
-/// language, `CYM` before `ENG`, or the other seven.
+/// The first number is the record identifier of the kind with the number or the first seven letters
+/// and digits behind it; the second is the language, `CYM` before `ENG`, or the other seven.
 #[derive(Clone, Copy, Debug)]
 pub struct SortKey {
     high: u64,
@@ -112,7 +114,8 @@ impl Ord for SortKey {
 impl PartialOrd for SortKey {
     ghost partial_cmp = { as_partial_cmp key_cmp };
 
-    ghost laws = { partial_order_from_own_ties (Prim.search (comparing, rules, keys_total)) (Prim.search (comparing, rules)) };
+    ghost laws = { partial_order_from_own_ties
+        (Prim.search (comparing, rules, keys_total)) (Prim.search (comparing, rules)) };
 
     fn partial_cmp(&self, other: &Self) -> Option<Ordering> {
         Some(self.cmp(other))

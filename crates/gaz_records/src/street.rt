@@ -1,8 +1,7 @@
 ghost use Rattle.std.specs.Prelude.{◌≡◌, ◌≤◌, ◌++◌, drop, OnOk, true};
 ghost use Rattle.csv.specs.Records.{fields_of};
-ghost use Rattle.gaz_rows.specs.Rows.{line_of};
 ghost use Rattle.gaz_records.specs.Streets.{is_street, read_street, street_texts};
-ghost use Rattle.gaz_records.specs.Appending.{Grows};
+ghost use Rattle.gaz_records.specs.Appending.{AddsLine, Grows};
 
 use crate::day::Day;
 use crate::fields::FieldFault;
@@ -18,8 +17,8 @@ type Sort = Number<20, 1, 1, 4>;
 
 /// A street (BS 7666:2006, Part 1; the types are our profile's).
 ///
-/// `sort` is 1 officially designated name, 2 street description, 3 numbered street or 4 unofficial name. A street with an end
-/// date is closed; `end` isn't before `start`.
+/// `sort` is 1 officially designated name, 2 street description, 3 numbered street or 4 unofficial
+/// name. A street with an end date is closed; `end` isn't before `start`.
 #[derive(Debug, Drop)]
 pub struct Street {
     pub usrn: Usrn,
@@ -75,7 +74,7 @@ impl Street {
     #[tactic(auto, using(crate::proofs::Growing::growing))]
     /// Adds the row of the fields as `csv` writes it, without a line end.
     pub(crate) fn write(&self, out: &mut Vec<u8>) -> Result<(), AllocError>
-        ensures row { OnOk result (out.new.items ≡ out.old.items ++ line_of (street_texts self.now)) }
+        ensures row { OnOk result (AddsLine out.old.items out.new.items (street_texts self.now)) }
         ensures kept { Grows out.old.items out.new.items }
     {
         add_number(out, self.usrn.number())?;

@@ -1,9 +1,8 @@
 ghost use Rattle.std.specs.Prelude.{◌≡◌, ◌≤◌, ◌++◌, drop, OnOk, true};
 ghost use Rattle.csv.specs.Records.{fields_of};
-ghost use Rattle.gaz_rows.specs.Rows.{line_of};
 ghost use Rattle.gaz_records.specs.Fields.{OrMemory};
 ghost use Rattle.gaz_records.specs.Xrefs.{is_xref, read_xref, xref_texts};
-ghost use Rattle.gaz_records.specs.Appending.{Grows};
+ghost use Rattle.gaz_records.specs.Appending.{AddsLine, Grows};
 
 use crate::day::Day;
 use crate::fields::FieldFault;
@@ -16,7 +15,8 @@ use gaz_ids::Uprn;
 use std::alloc::{AllocError, Global};
 use std::marker::Model;
 
-/// An application cross reference: by what another source knows a BLPU (BS 7666:2006, Part 2; the bounds are our profile's).
+/// An application cross reference: by what another source knows a BLPU (BS 7666:2006, Part 2; the
+/// bounds are our profile's).
 ///
 /// Its end date isn't before its start date.
 #[derive(Debug, Drop)]
@@ -36,7 +36,14 @@ impl Model for Xref {
 
     ghost Value = { XrefValue };
 
-    ghost view = { λ x. record { key = x.key; uprn = x.uprn; source = x.source; reference = x.reference; start = x.start; end = x.end } };
+    ghost view = { λ x. record {
+      key = x.key;
+      uprn = x.uprn;
+      source = x.source;
+      reference = x.reference;
+      start = x.start;
+      end = x.end;
+    } };
 
     ghost invariant = { λ x. ends_by x.start x.end ≡ true };
 }
@@ -82,7 +89,7 @@ impl Xref {
 
     /// Adds the row of the fields as `csv` writes it, without a line end.
     pub(crate) fn write(&self, out: &mut Vec<u8>) -> Result<(), AllocError>
-        ensures row { OnOk result (out.new.items ≡ out.old.items ++ line_of (xref_texts self.now)) }
+        ensures row { OnOk result (AddsLine out.old.items out.new.items (xref_texts self.now)) }
         ensures kept { Grows out.old.items out.new.items }
     {
         add_field(out, self.key.as_bytes())?;

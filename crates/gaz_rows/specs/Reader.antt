@@ -1,8 +1,9 @@
 -- The records that a reader of a text has left.
-use Rattle.std.specs.Prelude.{◌≡◌, ℕ, ◌+◌, List, [], length, Option, Some, None, true}
+use Rattle.std.specs.Prelude.{◌≡◌, ℕ, ◌+◌, List, [], ◌∷◌, length, Option, Some, None, true}
 use Rattle.std.specs.Option.{option_map_or}
 use denote.Ref.{Bor}
-use Rattle.csv.specs.Reading.{Ready, default_config, is_flexible, reader_config, reader_state, reader_trim, records_from, source_of}
+use Rattle.csv.specs.Reading.{Ready, default_config, is_flexible, reader_config, reader_state}
+use Rattle.csv.specs.Reading.{reader_trim, records_from, source_of}
 use Rattle.csv.specs.declared.reader.Reader.{Reader}
 use Rattle.csv.specs.declared.reader.Trim.TheVariants as trim
 use Rattle.csv.specs.declared.parser.State.{State}
@@ -40,6 +41,19 @@ left_in Open rdr = Some (left_at rdr)
 left_in Ended rdr = Some []
 left_in Failed rdr = None
 
+-- a record was read: the first of those that were left, and the others are left by an open reader
+abbrev pub ReadsFirst : (old new : TextReader) → Fields → Type 0
+ReadsFirst old new row = IsOpen new × (left_at old ≡ row ∷ left_at new)
+
+-- a row was taken: the first of those that were left, and the others are left
+abbrev pub TakesFirst : (left : List Fields) → Fields → (new : Option (List Fields)) → Type 0
+TakesFirst left row new = (rest : List Fields) × (left ≡ row ∷ rest) × (new ≡ Some rest)
+
+-- no row was left, and none is
+abbrev pub FindsEnd : (left : List Fields) → (new : Option (List Fields)) → Type 0
+FindsEnd left new = (left ≡ []) × (new ≡ Some [])
+
+-- what has to be so of a reader, by how it was read so far
 abbrev pub Stands : Progress → TextReader → Type 0
 Stands Open rdr = IsOpen rdr
 Stands Ended rdr = Unit {0}

@@ -1,8 +1,9 @@
-ghost use Rattle.std.specs.Prelude.{◌≡◌, ℕ, List, [], ◌∷◌, Err, IfOk, OnErr, Some, None, alloc_error};
+ghost use Rattle.std.specs.Prelude.{◌≡◌, ℕ, List, [], ◌∷◌, Err, IfOk, OnErr, Some, None};
+ghost use Rattle.std.specs.Prelude.{alloc_error};
 ghost use Rattle.std.specs.Bool.{MatchBool};
 ghost use Rattle.csv.specs.Records.{fields_of};
 ghost use Rattle.gaz_rows.specs.Rows.{Fields, rows_of};
-ghost use Rattle.gaz_rows.specs.Reader.{IsOpen, left_at};
+ghost use Rattle.gaz_rows.specs.Reader.{FindsEnd, IsOpen, ReadsFirst, TakesFirst, left_at};
 
 use csv::{ByteRecord, ErrorKind, Reader, ReaderBuilder};
 use std::alloc::{AllocError, Global};
@@ -16,7 +17,8 @@ pub(crate) enum Progress {
     Failed,
 }
 
-/// The records of some bytes, read one after another: those that are left, or none where a read failed.
+/// The records of some bytes, read one after another: those that are left, or none where a read
+/// failed.
 #[derive(Drop)]
 pub struct Rows<'a> {
     rdr: Reader<&'a [u8]>,
@@ -52,7 +54,8 @@ pub fn open_rows<'a>(alloc: Global, bytes: &'a [u8]) -> Rows<'a>
 // The next record of a reader, if there is one.
 fn read_next(rdr: &mut Reader<&[u8]>, row: &mut ByteRecord) -> Result<bool, AllocError>
     requires { IsOpen rdr.old }
-    ensures { IfOk result (λ found. MatchBool found (IsOpen rdr.new × (left_at rdr.old ≡ fields_of row.new ∷ left_at rdr.new)) (left_at rdr.old ≡ [])) }
+    ensures { IfOk result (λ found. MatchBool found
+        (ReadsFirst rdr.old rdr.new (fields_of row.new)) (left_at rdr.old ≡ [])) }
 {
     match rdr.read_byte_record(row) {
         Ok(found) => Ok(found),
@@ -63,11 +66,11 @@ fn read_next(rdr: &mut Reader<&[u8]>, row: &mut ByteRecord) -> Result<bool, Allo
     }
 }
 
-/// The next record, if there is one. Only memory may fail it, and then it fails from then on; where no record is left, none
-/// is ever left.
+/// The next record, if there is one. Only memory may fail it, and then it fails from then on; where
+/// no record is left, none is ever left.
 pub fn next_row(rows: &mut Rows, row: &mut ByteRecord) -> Result<bool, AllocError>
-    ensures read { (left : List Fields) → rows.old ≡ Some left → IfOk result (λ found. MatchBool found
-        ((rest : List Fields) × (left ≡ fields_of row.new ∷ rest) × (rows.new ≡ Some rest)) ((left ≡ []) × (rows.new ≡ Some []))) }
+    ensures read { (left : List Fields) → rows.old ≡ Some left → IfOk result (λ found.
+        MatchBool found (TakesFirst left (fields_of row.new) rows.new) (FindsEnd left rows.new)) }
     ensures failed { OnErr result (rows.new ≡ None) }
     ensures stays { rows.old ≡ None → result ≡ Err alloc_error }
 {

@@ -9,7 +9,8 @@ use std::alloc::{AllocError, Global};
 
 // The text of a row, with its line end.
 fn row_bytes(alloc: Global, fields: &[&[u8]]) -> Result<Vec<u8>, Error>
-    ensures { IfOk result (λ v. v.items ≡ Writing.row_text Writing.default_writer (map (λ f. f.now) fields.now)) }
+    ensures { IfOk result (λ v.
+        v.items ≡ Writing.row_text Writing.default_writer (map (λ f. f.now) fields.now)) }
 {
     let mut wtr = WriterBuilder::new().from_writer(Vec::new(alloc));
     wtr.write_fields(fields)?;

@@ -8,12 +8,16 @@ pub record Account : Type 0 where
   pub judged : List Judgement
   pub working : View
 
+-- nothing is judged
 abbrev pub empty_account : Account
 empty_account = record { judged = []; working = empty_view }
 
+-- the view after the last judged volume
 abbrev pub last_of : Account → View
 last_of a = unwrap_or (slice_get (views a.judged) (length a.judged)) empty_view
 
 -- the view after a volume that is judged, and the working view after any later one
 abbrev pub view_in : Account → ℕ → View
-view_in a volume = if nat_le volume (length a.judged) then unwrap_or (slice_get (views a.judged) volume) empty_view else a.working
+view_in account volume =
+    if nat_le volume (length account.judged)
+    then unwrap_or (slice_get (views account.judged) volume) empty_view else account.working

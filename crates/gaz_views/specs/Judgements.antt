@@ -15,4 +15,5 @@ views js = empty_view ∷ map (λ j. j.view) js
 
 -- the verdicts on the volumes 1, 2, 3, .. beside the views after them
 unfoldable pub judgements : List Verdict → (ℕ → View) → List Judgement
-judgements verdicts view_at = map (λ p. record { verdict = p.1; view = view_at p.0 }) (enumerate_from 1 verdicts)
+judgements verdicts view_at =
+    map (λ p. record { verdict = p.1; view = view_at p.0 }) (enumerate_from 1 verdicts)

@@ -17,7 +17,10 @@ empty_view = record { items = map.empty; used = set.empty }
 
 -- the item set at its key, which is marked as used
 abbrev pub with_item : View → Item → View
-with_item v i = record { items = map.insert v.items (key_of i) i; used = set.insert v.used (key_of i) }
+with_item v i = record {
+  items = map.insert v.items (key_of i) i;
+  used = set.insert v.used (key_of i);
+}
 
 -- the key's item taken; the key stays used
 abbrev pub without_key : View → Key → View

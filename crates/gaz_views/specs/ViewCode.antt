@@ -15,11 +15,16 @@ use Rattle.gaz_views.specs.contracts.verdict.Verdict as verdict
 
 abbrev pub view_code : Coded View
 view_code =
-    code_by (map.FinMap key_cmp Item × set.FinSet key_cmp) (coded× (map.code key.the_row.coded item.the_row.coded) (set.code key.the_row.coded))
+    code_by (map.FinMap key_cmp Item × set.FinSet key_cmp)
+    (coded× (map.code key.the_row.coded item.the_row.coded) (set.code key.the_row.coded))
     (λ v. (v.items, v.used)) (λ p. record { items = p.0; used = p.1 }) (λ _. refl)
 
 abbrev pub judgement_code : Coded Judgement
-judgement_code = code_by (Verdict × View) (coded× verdict.the_row.coded view_code) (λ j. (j.verdict, j.view)) (λ p. record { verdict = p.0; view = p.1 }) (λ _. refl)
+judgement_code =
+    code_by (Verdict × View) (coded× verdict.the_row.coded view_code)
+    (λ j. (j.verdict, j.view)) (λ p. record { verdict = p.0; view = p.1 }) (λ _. refl)
 
 abbrev pub account_code : Coded Account
-account_code = code_by (List Judgement × View) (coded× (coded_list judgement_code) view_code) (λ a. (a.judged, a.working)) (λ p. record { judged = p.0; working = p.1 }) (λ _. refl)
+account_code =
+    code_by (List Judgement × View) (coded× (coded_list judgement_code) view_code)
+    (λ a. (a.judged, a.working)) (λ p. record { judged = p.0; working = p.1 }) (λ _. refl)

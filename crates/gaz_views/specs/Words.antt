@@ -1,5 +1,6 @@
 -- What rules and readings ask of a view.
-use Rattle.std.specs.Prelude.{ℕ, ◌==◌, ◌&&◌, Bool, true, false, List, [], ◌∷◌, map, filter, take, Option, Some, None, option_map}
+use Rattle.std.specs.Prelude.{ℕ, ◌==◌, ◌&&◌, Bool, true, false, List, [], ◌∷◌, map, filter, take}
+use Rattle.std.specs.Prelude.{Option, Some, None, option_map}
 use Rattle.std.specs.Option.{option_map_or}
 use Rattle.std.specs.List.{list_any}
 use Rattle.std.specs.Ordering.{is_lt}
@@ -27,10 +28,12 @@ abbrev pub first_of : {A : Type 0} → List A → Option A
 first_of [] = None
 first_of (x ∷ xs) = Some x
 
+-- the status Approved, and no other
 abbrev pub is_approved : Status → Bool
 is_approved Approved = true
 is_approved _ = false
 
+-- they are one language
 abbrev pub same_lang : Lang → Lang → Bool
 same_lang Cym Cym = true
 same_lang Eng Eng = true
@@ -63,11 +66,14 @@ approved_of v uprn = map (λ e. e.0) (filter (λ e. is_approved_of uprn e.1) (en
 
 -- the BLPU's approved LPI of the least key
 abbrev pub address_of : View → ℕ → Option Item
-address_of v uprn = option_map (λ e. e.1) (first_of (filter (λ e. is_approved_of uprn e.1) (entries v)))
+address_of v uprn =
+    option_map (λ e. e.1) (first_of (filter (λ e. is_approved_of uprn e.1) (entries v)))
 
 -- the BLPU with its address
 abbrev pub property_of : View → ℕ → Option Property
-property_of v uprn = option_map (λ blpu. record { blpu = blpu; address = address_of v uprn }) (map.get v.items (key.Blpu uprn))
+property_of v uprn =
+    option_map (λ blpu. record { blpu = blpu; address = address_of v uprn })
+    (map.get v.items (key.Blpu uprn))
 
 -- an approved LPI stands on the street, in this language where one is given
 abbrev pub approved_on : View → ℕ → Option Lang → Bool
@@ -79,6 +85,7 @@ has_children v uprn = list_any (λ e. is_child_of uprn e.1) (entries v)
 
 -- ---- pages
 
+-- the key is one of the kind
 abbrev pub is_of : Kind → Key → Bool
 is_of kind.Street (key.Street n) = true
 is_of kind.Descriptor (key.Descriptor n l) = true
@@ -93,7 +100,8 @@ comes_after after k = option_map_or (λ a. is_lt (key_cmp a k)) after true
 
 -- the items of a kind after a key, in the order of keys
 abbrev pub rest_of : View → Kind → Option Key → List Item
-rest_of v kind after = map (λ e. e.1) (filter (λ e. is_of kind e.0 && comes_after after e.0) (entries v))
+rest_of v kind after =
+    map (λ e. e.1) (filter (λ e. is_of kind e.0 && comes_after after e.0) (entries v))
 
 -- the first so many of them
 abbrev pub page : View → Kind → Option Key → ℕ → List Item

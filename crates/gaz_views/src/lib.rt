@@ -1,4 +1,5 @@
-//! A custodian's view after a volume, what is asked of it, and what became of its volumes: what every keeper of views stands on.
+//! A custodian's view after a volume, what is asked of it, and what became of its volumes: what
+//! every keeper of views stands on.
 #![tactic(auto)]
 
 pub mod laws;

@@ -12,7 +12,7 @@ pub struct Property {
 }
 
 impl Property {
-    /// The same property for one more; a fault where nobody can count its items any more.
+    /// The property for one more who holds it; a fault where nobody can count its items any more.
     pub fn share(&self) -> Result<Property, AllocError>
         ensures { IfOk result (λ p. p ≡ self.now) }
     {
@@ -23,7 +23,7 @@ impl Property {
     }
 }
 
-/// The same item for one more, where there is one.
+/// The found item for one more who holds it, where there is one.
 pub fn share_found(found: Option<&SharedItem>) -> Result<Option<SharedItem>, AllocError>
     ensures { IfOk result (λ i. i ≡ option_map (λ x. x.now) found.entry) }
 {
