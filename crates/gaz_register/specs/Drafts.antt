@@ -1,7 +1,11 @@
 -- What the TOML of a register says, before its values are judged.
-use Rattle.std.specs.Prelude.{◌≡◌, ◌⊎◌, ℕ, ℤ, ◌+◌, ◌==◌, not, List, [], ◌∷◌, length, map, codes, Option, Result, Ok, Err, if◌then◌else◌}
+use Rattle.std.specs.Prelude.{◌≡◌, ◌⊎◌, ℕ, ℤ, ◌+◌, ◌==◌, not, List, [], ◌∷◌, length, map, codes}
+use Rattle.std.specs.Prelude.{Option, Result, Ok, Err, if◌then◌else◌}
+use Rattle.std.specs.Global.{Vec}
 use Rattle.std.specs.Option.{option_and_then, ok_or}
-use Rattle.toml.specs.Data.{Data, Items, no_items, item, Members, no_members, member, integer, array, as_array, as_integer, as_str, as_table, get_member}
+use Rattle.std.specs.Result.{result_map_both}
+use Rattle.toml.specs.Data.{Data, Items, no_items, item, Members, no_members, member, integer}
+use Rattle.toml.specs.Data.{array, as_array, as_integer, as_str, as_table, get_member}
 use Rattle.gaz_register.specs.declared.fault.RegFault.{RegFault}
 use Rattle.gaz_register.specs.declared.fault.RegFault.TheVariants.{Shape, Memory}
 
@@ -19,6 +23,11 @@ all_good (r ∷ rs) = r then (λ a. all_good rs then (λ more. Ok (a ∷ more)))
 -- the right answer, or want of memory
 abbrev pub OrMemory : {A : Type 0} → Result A RegFault → Result A RegFault → Type 0
 OrMemory result right = (result ≡ right) ⊎ (result ≡ Err Memory)
+
+-- the items are the right ones, or there was want of memory
+abbrev pub ItemsOrMemory :
+    {A : Type 0} → Result (Vec A) RegFault → Result (List A) RegFault → Type 0
+ItemsOrMemory result right = OrMemory (result_map_both (λ v. v.items) (λ e. e) result) right
 
 -- a custodian as its table writes it
 pub record DraftValue : Type 0 where

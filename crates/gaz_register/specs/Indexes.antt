@@ -28,7 +28,9 @@ abbrev pub Rises : List Holding → Type 0
 Rises holdings = AllAdjacentBelow (λ a b. a.last < b.first) holdings (length holdings)
 
 -- the blocks of one kind in rising order
-pub record IsIndex (kind : Blocks → List (ℕ × ℕ)) (register : RegisterValue) (holdings : List Holding) : Type 0 where
+pub record IsIndex
+    (kind : Blocks → List (ℕ × ℕ)) (register : RegisterValue) (holdings : List Holding)
+    : Type 0 where
   pub same : IsPermutation (holdings_of kind register) holdings
   pub sorted : IsNonDecreasingBy (λ h. h.first) holdings
   pub rises : Rises holdings

@@ -1,5 +1,6 @@
 -- The register that a text describes, or the first fault.
-use Rattle.std.specs.Prelude.{ℕ, ℤ, pos, negsuc, ◌&&◌, not, nat_lt, List, length, map, Option, None, Result, Ok, Err, if◌then◌else◌}
+use Rattle.std.specs.Prelude.{ℕ, ℤ, pos, negsuc, ◌&&◌, not, nat_lt, List, length, map, Option, None}
+use Rattle.std.specs.Prelude.{Result, Ok, Err, if◌then◌else◌}
 use Rattle.std.specs.Option.{ok_or}
 use Rattle.std.specs.Str.{is_utf8}
 use Rattle.toml.specs.Data.{Members}
@@ -8,9 +9,12 @@ use Rattle.gaz_ids.specs.Numbers.{of_id}
 use Rattle.gaz_register.specs.Drafts.{◌then◌, all_good, DraftValue, drafts_in}
 use Rattle.gaz_register.specs.Lists.{by_key}
 use Rattle.gaz_register.specs.Names.{is_name}
-use Rattle.gaz_register.specs.Registers.{CustodianValue, RegisterValue, has_own_codes, is_disjoint, most_uprn, most_usrn}
+use Rattle.gaz_register.specs.Registers.{CustodianValue, RegisterValue, has_own_codes, is_disjoint}
+use Rattle.gaz_register.specs.Registers.{most_uprn, most_usrn}
 use Rattle.gaz_register.specs.declared.fault.RegFault.{RegFault}
-use Rattle.gaz_register.specs.declared.fault.RegFault.TheVariants.{NotToml, TooMany, BadCode, BadName, BadBlock, SameCode, Overlap}
+use Rattle.gaz_register.specs.declared.fault.RegFault.TheVariants.{NotToml, TooMany, BadCode}
+use Rattle.gaz_register.specs.declared.fault.RegFault.TheVariants.{BadName, BadBlock, SameCode}
+use Rattle.gaz_register.specs.declared.fault.RegFault.TheVariants.{Overlap}
 
 -- the number, where it is from the lowest to the highest
 abbrev pub number_from : ℕ → ℕ → ℤ → Option ℕ
@@ -41,21 +45,25 @@ custodian_from d =
 
 -- the custodians by rising code, or the first fault in the order of the text
 unfoldable pub custodians_from : List DraftValue → Result RegisterValue RegFault
-custodians_from drafts = all_good (map custodian_from drafts) then (λ custodians. Ok (by_key (λ c. c.code) custodians))
+custodians_from drafts =
+    all_good (map custodian_from drafts) then (λ custodians.
+    Ok (by_key (λ c. c.code) custodians))
 
 -- the register, where each custodian has a code of its own and no number is in two blocks
 unfoldable pub checked : RegisterValue → Result RegisterValue RegFault
 checked register =
     if not (has_own_codes register) then Err SameCode else
-    if not (is_disjoint (λ b. b.uprn) register && is_disjoint (λ b. b.usrn) register) then Err Overlap else
+    if not (is_disjoint (λ b. b.uprn) register && is_disjoint (λ b. b.usrn) register)
+    then Err Overlap else
     Ok register
 
 -- the table that the bytes of a TOML document write
 abbrev pub document : List ℕ → Option Members
 document text = if is_utf8 text then parse_document text else None
 
--- the register that a text describes; or the first fault: not TOML, a shape, too many custodians, then the faults of
--- each custodian in the order of the text, then two with one code, then an overlap
+-- the register that a text describes; or the first fault: not TOML, a shape, too many custodians,
+-- then the faults of each custodian in the order of the text, then two with one code, then an
+-- overlap
 unfoldable pub register_of : List ℕ → Result RegisterValue RegFault
 register_of text =
     ok_or (document text) NotToml then (λ table.

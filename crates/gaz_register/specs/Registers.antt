@@ -1,12 +1,15 @@
 -- What a register of custodians holds, and whose a number is.
-use Rattle.std.specs.Prelude.{◌≡◌, ℕ, ◌<◌, ◌≤◌, ◌==◌, ◌&&◌, ◌||◌, not, nat_lt, nat_le, Bool, true, List, [], length, Option, Some, None, option_map, is_some, if◌then◌else◌}
+use Rattle.std.specs.Prelude.{◌≡◌, ℕ, ◌<◌, ◌≤◌, ◌==◌, ◌&&◌, ◌||◌, not, nat_lt, nat_le, Bool, true}
+use Rattle.std.specs.Prelude.{List, [], length, Option, Some, None, option_map, is_some}
+use Rattle.std.specs.Prelude.{if◌then◌else◌}
 use Rattle.std.specs.List.{AllAdjacentBelow, find, flat_map, list_all, list_any}
 use Rattle.std.specs.Option.{option_map_or}
 use Rattle.gaz_ids.specs.Numbers.{in_range}
 use Rattle.gaz_register.specs.Lists.{each_two}
 use Rattle.gaz_register.specs.Names.{is_name}
 
--- the blocks of a custodian, each its first and its last number, for each kind of number by rising first number
+-- the blocks of a custodian, each its first and its last number, for each kind of number by rising
+-- first number
 pub record Blocks : Type 0 where
   pub uprn : List (ℕ × ℕ)
   pub usrn : List (ℕ × ℕ)
@@ -85,13 +88,18 @@ is_disjoint kind register = each_two is_apart (all_blocks kind register)
 abbrev pub has_own_codes : RegisterValue → Bool
 has_own_codes register = each_two (λ a b. not (a.code == b.code)) register
 
--- at most 8 blocks, each from a first number to one that isn't below it, from 1 to the highest number
+-- at most 8 blocks, each from a first number to one that isn't below it, from 1 to the highest
+-- number
 abbrev pub are_blocks : ℕ → List (ℕ × ℕ) → Bool
-are_blocks most blocks = nat_le (length blocks) 8 && list_all (λ b. nat_le 1 b.0 && nat_le b.0 b.1 && nat_le b.1 most) blocks
+are_blocks most blocks =
+    nat_le (length blocks) 8
+    && list_all (λ b. nat_le 1 b.0 && nat_le b.0 b.1 && nat_le b.1 most) blocks
 
 -- a code, a name and blocks that a custodian may have
 abbrev pub is_custodian : CustodianValue → Bool
-is_custodian c = in_range 1 9999 c.code && is_name c.name && are_blocks most_uprn c.own.uprn && are_blocks most_usrn c.own.usrn
+is_custodian c =
+    in_range 1 9999 c.code && is_name c.name
+    && are_blocks most_uprn c.own.uprn && are_blocks most_usrn c.own.usrn
 
 -- at most 400 custodians, by rising code, and no number is in two blocks
 pub record IsRegister (register : RegisterValue) : Type 0 where

@@ -24,14 +24,22 @@ impl Model for Custodian {
 
     ghost Value = { CustodianValue };
 
-    ghost view = { λ c. record { code = c.code; name = string_bytes c.name; own = record { uprn = c.uprn.items; usrn = c.usrn.items } } };
+    ghost view = { λ c. record {
+      code = c.code;
+      name = string_bytes c.name;
+      own = record { uprn = c.uprn.items; usrn = c.usrn.items };
+    } };
 }
 
 impl Custodian {
     ghost use Rattle.std.specs.String.{string_bytes};
 
     pub(crate) fn new(code: Code, name: String, uprn: Vec<Block>, usrn: Vec<Block>) -> Self
-        ensures { result ≡ record { code = code; name = string_bytes name; own = record { uprn = uprn.items; usrn = usrn.items } } }
+        ensures { result ≡ record {
+          code = code;
+          name = string_bytes name;
+          own = record { uprn = uprn.items; usrn = usrn.items };
+        } }
     {
         Custodian {
             code,
@@ -76,7 +84,8 @@ pub(crate) fn put_custodian(
     custodian: Custodian,
 ) -> Result<(), AllocError>
     requires { IsNonDecreasingBy (λ c. c.code) custodians.old.items }
-    ensures placed { IfOk result (λ _. custodians.new.items ≡ place (λ c. c.code) custodian custodians.old.items) }
+    ensures placed { IfOk result (λ _.
+        custodians.new.items ≡ place (λ c. c.code) custodian custodians.old.items) }
     ensures rises { IfOk result (λ _. IsNonDecreasingBy (λ c. c.code) custodians.new.items) }
 {
     let code = custodian.code().number();
@@ -105,7 +114,8 @@ pub(crate) fn find_custodian(custodians: &[Custodian], code: Code) -> Option<&Cu
 
 /// Whether each code is below the next.
 pub(crate) fn have_own_codes(custodians: &[Custodian]) -> bool
-    ensures { IsTrue result ↔ AllAdjacentBelow (λ a b. a.code < b.code) custodians.now (length custodians.now) }
+    ensures { IsTrue result
+        ↔ AllAdjacentBelow (λ a b. a.code < b.code) custodians.now (length custodians.now) }
 {
     for i in 1..custodians.len() {
         if custodians[i].code().number() <= custodians[i - 1].code().number() {

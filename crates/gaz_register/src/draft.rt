@@ -2,7 +2,8 @@ ghost use Rattle.std.specs.Prelude.{◌≡◌, map};
 ghost use Rattle.std.specs.Result.{result_map_both};
 ghost use Rattle.toml.specs.Data.{as_integer, as_str, as_array};
 ghost use Rattle.toml.specs.View.{view, table_view, array_view};
-ghost use Rattle.gaz_register.specs.Drafts.{OrMemory, at_key, pair_of, pairs_of, draft_in, draft_of, drafts_in, all_good};
+ghost use Rattle.gaz_register.specs.Drafts.{ItemsOrMemory, OrMemory, at_key, pair_of, pairs_of};
+ghost use Rattle.gaz_register.specs.Drafts.{draft_in, draft_of, drafts_in, all_good};
 
 use crate::fault::RegFault;
 use std::alloc::Global;
@@ -27,7 +28,12 @@ impl<'t> Model for Draft<'t> {
 
     ghost Value = { DraftValue };
 
-    ghost view = { λ d. record { code = d.code; name = d.name.now; uprn = d.uprn.items; usrn = d.usrn.items } };
+    ghost view = { λ d. record {
+      code = d.code;
+      name = d.name.now;
+      uprn = d.uprn.items;
+      usrn = d.usrn.items;
+    } };
 }
 
 fn integer_at(table: &Table, key: &str) -> Result<i64, RegFault>
@@ -40,7 +46,8 @@ fn integer_at(table: &Table, key: &str) -> Result<i64, RegFault>
 }
 
 fn text_at<'t>(table: &'t Table, key: &str) -> Result<&'t str, RegFault>
-    ensures { result_map_both (λ s. s.now) (λ e. e) result ≡ at_key as_str key.now (table_view table.now) }
+    ensures { result_map_both (λ s. s.now) (λ e. e) result
+        ≡ at_key as_str key.now (table_view table.now) }
 {
     let Some(value) = table.get(key) else {
         return Err(RegFault::Shape);
@@ -49,7 +56,8 @@ fn text_at<'t>(table: &'t Table, key: &str) -> Result<&'t str, RegFault>
 }
 
 fn array_at<'t>(table: &'t Table, key: &str) -> Result<&'t Array, RegFault>
-    ensures { result_map_both (λ v. array_view v.now) (λ e. e) result ≡ at_key as_array key.now (table_view table.now) }
+    ensures { result_map_both (λ v. array_view v.now) (λ e. e) result
+        ≡ at_key as_array key.now (table_view table.now) }
 {
     let Some(value) = table.get(key) else {
         return Err(RegFault::Shape);
@@ -78,7 +86,7 @@ fn pair_of(value: &Value) -> Result<Pair, RegFault>
 #[tactic(auto, using(crate::proofs::Gather::onto_pushed))]
 // The items as pairs.
 fn pairs_from(alloc: Global, items: &[Value]) -> Result<Vec<Pair>, RegFault>
-    ensures { OrMemory (result_map_both (λ v. v.items) (λ e. e) result) (all_good (map (λ v. pair_of (view v)) items.now)) }
+    ensures { ItemsOrMemory result (all_good (map (λ v. pair_of (view v)) items.now)) }
 {
     let mut pairs = Vec::new(alloc);
     for item in items {
@@ -88,7 +96,7 @@ fn pairs_from(alloc: Global, items: &[Value]) -> Result<Vec<Pair>, RegFault>
 }
 
 fn pairs_of(alloc: Global, table: &Table, key: &str) -> Result<Vec<Pair>, RegFault>
-    ensures { OrMemory (result_map_both (λ v. v.items) (λ e. e) result) (pairs_of key.now (table_view table.now)) }
+    ensures { ItemsOrMemory result (pairs_of key.now (table_view table.now)) }
 {
     let items = array_at(table, key)?;
     pairs_from(alloc, items)
@@ -125,7 +133,7 @@ fn draft_of<'t>(alloc: Global, value: &'t Value) -> Result<Draft<'t>, RegFault>
 #[tactic(auto, using(crate::proofs::Gather::onto_pushed))]
 // The items as custodians.
 fn drafts_from<'t>(alloc: Global, items: &'t [Value]) -> Result<Vec<Draft<'t>>, RegFault>
-    ensures { OrMemory (result_map_both (λ v. v.items) (λ e. e) result) (all_good (map (λ v. draft_of (view v)) items.now)) }
+    ensures { ItemsOrMemory result (all_good (map (λ v. draft_of (view v)) items.now)) }
 {
     let mut drafts = Vec::new(alloc);
     for item in items {
@@ -137,7 +145,7 @@ fn drafts_from<'t>(alloc: Global, items: &'t [Value]) -> Result<Vec<Draft<'t>>, 
 #[tactic(auto, unfolding(crate::specs::Drafts::drafts_in))]
 /// The custodians of a document as their tables write them, in the order of the text.
 pub(crate) fn drafts_in<'t>(alloc: Global, table: &'t Table) -> Result<Vec<Draft<'t>>, RegFault>
-    ensures { OrMemory (result_map_both (λ v. v.items) (λ e. e) result) (drafts_in (table_view table.now)) }
+    ensures { ItemsOrMemory result (drafts_in (table_view table.now)) }
 {
     if table.len() != 1 {
         return Err(RegFault::Shape);

@@ -4,7 +4,8 @@ ghost use Rattle.gaz_register.specs.declared.fault.RegFault.TheVariants as fault
 use std::alloc::{AllocError, AllocFailed};
 use thiserror::Error;
 
-/// Why a text is no register. The faults are looked for in this order; `Memory` may come in place of any other answer.
+/// Why a text is no register. The faults are looked for in this order; `Memory` may come in place
+/// of any other answer.
 #[derive(Clone, Copy, Debug, PartialEq, Eq, Error)]
 pub enum RegFault {
     #[error("not TOML")]

@@ -1,8 +1,10 @@
-ghost use Rattle.std.specs.Prelude.{◌≡◌, ◌++◌, ◌⊎◌, ◌↔◌, map, option_map, true, false, IfErr, IfOk, IsTrue, OnOk};
+ghost use Rattle.std.specs.Prelude.{◌≡◌, ◌++◌, ◌⊎◌, ◌↔◌, map, option_map, true, false, IfErr, IfOk};
+ghost use Rattle.std.specs.Prelude.{IsTrue, OnOk};
 ghost use Rattle.std.specs.List.{find, list_all};
 ghost use Rattle.std.specs.List.Sorted.{IsPermutation, IsNonDecreasingBy};
 ghost use Rattle.gaz_register.specs.Registers.{is_custodian, is_disjoint};
-ghost use Rattle.gaz_register.specs.Indexes.{IsIndex, Rises, blocks_in, holding, holdings_of, is_in};
+ghost use Rattle.gaz_register.specs.Indexes.{IsIndex, Rises, blocks_in, holding, holdings_of};
+ghost use Rattle.gaz_register.specs.Indexes.{is_in};
 
 use crate::block::Block;
 use crate::custodian::Custodian;
@@ -35,7 +37,8 @@ fn own_blocks(custodian: &Custodian, kind: Kind) -> &[Block]
 }
 
 fn add_blocks(holdings: &mut Vec<Holding>, blocks: &[Block], owner: Code) -> Result<(), AllocError>
-    ensures { IfOk result (λ _. holdings.new.items ≡ holdings.old.items ++ map (holding owner) blocks.now) }
+    ensures { IfOk result (λ _.
+        holdings.new.items ≡ holdings.old.items ++ map (holding owner) blocks.now) }
 {
     for block in blocks {
         holdings.push(Holding {
@@ -62,13 +65,14 @@ fn all_holdings(
     Ok(holdings)
 }
 
-// The same by rising first number.
+// The blocks of one kind of all custodians with their owners, by rising first number.
 fn sorted_holdings(
     alloc: Global,
     custodians: &[Custodian],
     kind: Kind,
 ) -> Result<Vec<Holding>, AllocError>
-    ensures same { IfOk result (λ v. IsPermutation (holdings_of (blocks_in kind) custodians.now) v.items) }
+    ensures same { IfOk result (λ v.
+        IsPermutation (holdings_of (blocks_in kind) custodians.now) v.items) }
     ensures sorted { IfOk result (λ v. IsNonDecreasingBy (λ h. h.first) v.items) }
 {
     let mut holdings = all_holdings(alloc, custodians, kind)?;
@@ -88,8 +92,9 @@ fn rises(holdings: &[Holding]) -> bool
     true
 }
 
-/// The blocks of one kind of all custodians with their owners, by rising first number; `Overlap` where a number is in
-/// two of them. Sorted blocks overlap only where two neighbours do, so each is compared with the one before alone.
+/// The blocks of one kind of all custodians with their owners, by rising first number; `Overlap`
+/// where a number is in two of them. Sorted blocks overlap only where two neighbours do, so each is
+/// compared with the one before alone.
 pub(crate) fn index_of(
     alloc: Global,
     custodians: &[Custodian],
@@ -98,7 +103,8 @@ pub(crate) fn index_of(
     requires { list_all is_custodian custodians.now ≡ true }
     ensures index { IfOk result (λ v. IsIndex (blocks_in kind) custodians.now v.items) }
     ensures disjoint { OnOk result (is_disjoint (blocks_in kind) custodians.now ≡ true) }
-    ensures overlap { IfErr result (λ e. (e ≡ RegFault.Memory) ⊎ ((e ≡ RegFault.Overlap) × (is_disjoint (blocks_in kind) custodians.now ≡ false))) }
+    ensures overlap { IfErr result (λ e. (e ≡ RegFault.Memory)
+        ⊎ ((e ≡ RegFault.Overlap) × (is_disjoint (blocks_in kind) custodians.now ≡ false))) }
 {
     let holdings = sorted_holdings(alloc, custodians, kind)?;
     if !rises(&holdings) {

@@ -1,4 +1,5 @@
-ghost use Rattle.gaz_register.specs.Laws.{OneOwner, ReadsRegisters, SortsBlocks, SortsCustodians, TextsTell};
+ghost use Rattle.gaz_register.specs.Laws.{OneOwner, ReadsRegisters, SortsBlocks, SortsCustodians};
+ghost use Rattle.gaz_register.specs.Laws.{TextsTell};
 
 /// What a text describes is a register: its codes rise, and no number is in two blocks.
 pub fn reads_registers()

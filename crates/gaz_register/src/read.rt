@@ -3,8 +3,9 @@ ghost use Rattle.std.specs.List.Sorted.{IsNonDecreasingBy};
 ghost use Rattle.std.specs.Option.{ok_or};
 ghost use Rattle.std.specs.Result.{result_map_both};
 ghost use Rattle.toml.specs.View.{table_view};
-ghost use Rattle.gaz_register.specs.Drafts.{OrMemory};
-ghost use Rattle.gaz_register.specs.Reading.{block_from, blocks_from, custodian_from, custodians_from, document, number_from, register_of};
+ghost use Rattle.gaz_register.specs.Drafts.{ItemsOrMemory, OrMemory};
+ghost use Rattle.gaz_register.specs.Reading.{block_from, blocks_from, custodian_from};
+ghost use Rattle.gaz_register.specs.Reading.{custodians_from, document, number_from, register_of};
 
 use crate::block::{Block, put_block};
 use crate::custodian::{Custodian, put_custodian};
@@ -31,7 +32,8 @@ const MOST_USRN: u64 = 99_999_999;
 
 // The table that a TOML text writes.
 fn document(alloc: Global, text: &[u8]) -> Result<Table, RegFault>
-    ensures { OrMemory (result_map_both (λ t. table_view t) (λ e. e) result) (ok_or (document text.now) RegFault.NotToml) }
+    ensures { OrMemory (result_map_both (λ t. table_view t) (λ e. e) result)
+        (ok_or (document text.now) RegFault.NotToml) }
 {
     let Ok(text) = str::from_utf8(text) else {
         return Err(RegFault::NotToml);
@@ -76,7 +78,7 @@ fn block_from(most: u64, pair: Pair) -> Result<Block, RegFault>
 
 #[tactic(auto, using(std::proofs::lemmas::Bool::Decides::nat_tests), unfolding(crate::specs::Reading::blocks_from))]
 fn blocks_from(alloc: Global, most: u64, pairs: &[Pair]) -> Result<Vec<Block>, RegFault>
-    ensures { OrMemory (result_map_both (λ v. v.items) (λ e. e) result) (blocks_from most pairs.now) }
+    ensures { ItemsOrMemory result (blocks_from most pairs.now) }
 {
     if pairs.len() > MOST_BLOCKS {
         return Err(RegFault::BadBlock);
@@ -107,7 +109,7 @@ fn custodian_from(alloc: Global, draft: &Draft) -> Result<Custodian, RegFault>
 #[tactic(auto, unfolding(crate::specs::Reading::custodians_from))]
 // The custodians by rising code.
 fn custodians_from(alloc: Global, drafts: &[Draft]) -> Result<Vec<Custodian>, RegFault>
-    ensures value { OrMemory (result_map_both (λ v. v.items) (λ e. e) result) (custodians_from drafts.now) }
+    ensures value { ItemsOrMemory result (custodians_from drafts.now) }
     ensures sorted { IfOk result (λ v. IsNonDecreasingBy (λ c. c.code) v.items) }
 {
     let mut custodians = Vec::new(alloc);
@@ -119,8 +121,9 @@ fn custodians_from(alloc: Global, drafts: &[Draft]) -> Result<Vec<Custodian>, Re
 
 impl Register {
     #[tactic(auto, using(std::proofs::lemmas::Bool::Decides::nat_tests), unfolding(crate::specs::Reading::register_of))]
-    /// Reads a register from TOML: an array of tables `custodian`, each with exactly `code`, `name`, `uprn` and `usrn`
-    /// (our profile). A text that is none gives its first fault in the order of `RegFault`; docs/register.md lists them.
+    /// Reads a register from TOML: an array of tables `custodian`, each with exactly `code`,
+    /// `name`, `uprn` and `usrn` (our profile). A text that is none gives its first fault in the
+    /// order of `RegFault`; docs/register.md lists them.
     pub fn read(alloc: Global, text: &[u8]) -> Result<Register, RegFault>
         ensures { OrMemory result (register_of text.now) }
     {

@@ -4,7 +4,9 @@ ghost use Rattle.std.specs.Option.{option_copied};
 ghost use Rattle.std.specs.List.Sorted.{IsNonDecreasingBy};
 ghost use Rattle.gaz_register.specs.Drafts.{OrMemory};
 ghost use Rattle.gaz_register.specs.Reading.{checked};
-ghost use Rattle.gaz_register.specs.Registers.{IsRegister, blocks_of, code_of, custodian_of, is_custodian, knows, name_of, owner_of_uprn, owner_of_usrn, within};
+ghost use Rattle.gaz_register.specs.Registers.{IsRegister, blocks_of, code_of, custodian_of};
+ghost use Rattle.gaz_register.specs.Registers.{is_custodian, knows, name_of, owner_of_uprn};
+ghost use Rattle.gaz_register.specs.Registers.{owner_of_usrn, within};
 
 use crate::custodian::{Custodian, find_custodian, have_own_codes};
 use crate::fault::RegFault;
@@ -13,7 +15,8 @@ use gaz_ids::{Code, Uprn, Usrn};
 use std::alloc::Global;
 use std::marker::Model;
 
-/// The custodians and their blocks: at most 400 custodians with codes of their own, and no number in two blocks.
+/// The custodians and their blocks: at most 400 custodians with codes of their own, and no number
+/// in two blocks.
 #[derive(Drop)]
 pub struct Register {
     custodians: Vec<Custodian>,
@@ -100,21 +103,24 @@ impl Register {
         }
     }
 
-    /// The custodian whose block holds the UPRN, or nobody. The time grows with the logarithm of the blocks.
+    /// The custodian whose block holds the UPRN, or nobody. The time grows with the logarithm of
+    /// the blocks.
     pub fn owner_uprn(&self, uprn: Uprn) -> Option<Code>
         ensures { result ≡ owner_of_uprn self.now uprn }
     {
         owner_at(&self.uprn, uprn.number())
     }
 
-    /// The custodian whose block holds the USRN, or nobody. The time grows with the logarithm of the blocks.
+    /// The custodian whose block holds the USRN, or nobody. The time grows with the logarithm of
+    /// the blocks.
     pub fn owner_usrn(&self, usrn: Usrn) -> Option<Code>
         ensures { result ≡ owner_of_usrn self.now usrn }
     {
         owner_at(&self.usrn, usrn.number())
     }
 
-    /// Whether the custodian's own block holds the UPRN; never where the register lacks the custodian.
+    /// Whether the custodian's own block holds the UPRN; never where the register lacks the
+    /// custodian.
     pub fn allotted(&self, code: Code, uprn: Uprn) -> bool
         ensures { result ≡ within (blocks_of self.now code).uprn uprn }
     {
@@ -127,7 +133,8 @@ impl Register {
         }
     }
 
-    /// Whether the custodian's own block holds the USRN; never where the register lacks the custodian.
+    /// Whether the custodian's own block holds the USRN; never where the register lacks the
+    /// custodian.
     pub fn allotted_usrn(&self, code: Code, usrn: Usrn) -> bool
         ensures { result ≡ within (blocks_of self.now code).usrn usrn }
     {

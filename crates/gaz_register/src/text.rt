@@ -54,8 +54,9 @@ fn rows_text(alloc: Global, custodians: &[Custodian]) -> Result<Vec<u8>, AllocEr
 }
 
 impl Register {
-    /// The canonical text: a row of CSV for each custodian by rising code, ended by LF, with the code, the name, the
-    /// blocks of UPRNs and the blocks of USRNs. Two registers with the same text are the same.
+    /// The canonical text: a row of CSV for each custodian by rising code, ended by LF, with the
+    /// code, the name, the blocks of UPRNs and the blocks of USRNs. Two registers with the same
+    /// text are the same.
     pub fn text(&self, alloc: Global) -> Result<String, AllocError>
         ensures { IfOk result (λ t. string_bytes t ≡ register_text self.now) }
     {
