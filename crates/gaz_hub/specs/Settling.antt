@@ -1,5 +1,5 @@
 -- Settling over a keeper: what a look at a custodian's next volume finds, and what judging adds.
-use Rattle.std.specs.Prelude.{◌≡◌, ◌≤◌, ◌<◌, ◌+◌, ◌*◌, ℕ, nat_le, if◌then◌else◌, true, false, length, List, [], ◌∷◌, Option, Some, None, Result, Ok, Err, OnOk, IfOk, IfErr}
+use Rattle.std.specs.Prelude.{◌≡◌, ◌≤◌, ◌<◌, ◌+◌, ◌*◌, ◌⊎◌, ⊤, ℕ, nat_le, if◌then◌else◌, true, false, length, List, [], ◌∷◌, Option, Some, None, Result, Ok, Err, OnOk, IfOk, IfErr}
 use Rattle.std.specs.FinMap as map
 use Rattle.gaz_changefile.specs.Contents.{Contents}
 use Rattle.gaz_changefile.specs.Reading.{Good, Bad, reading}
@@ -102,3 +102,20 @@ pub record Tells {T : Type 0} (d : Door) (old new : Seen) (result : Result T She
   pub settled : StandsFor d old → new.unharmed → OnOk result (NothingReady new.content.files new.content.board)
   pub right : StandsFor d old → new.unharmed → IfOk result IsRight
   pub cause : StandsFor d old → new.unharmed → IfErr result (λ e. e ≡ Store → old.failures < new.failures)
+
+-- ---- settling and then a call
+
+-- all is settled, and then this call is made
+pub record CalledSettled {K T : Type 0} (d : Door) (seen : K → Seen) (Calls : K → Result T ShelfFault → K → Type 0) (old new : K) (result : Result T ShelfFault) : Type 0 where
+  pub mid : K
+  pub settled : Tells {T = Unit {0}} d (seen old) (seen mid) (Ok tt) (λ done. ⊤)
+  pub called : Calls mid result new
+
+-- settling failed
+pub record FailedSettling {K T : Type 0} (d : Door) (seen : K → Seen) (old new : K) (result : Result T ShelfFault) : Type 0 where
+  pub fault : ShelfFault
+  pub told : result ≡ Err fault
+  pub failed : Tells {T = Unit {0}} d (seen old) (seen new) (Err fault) (λ done. ⊤)
+
+abbrev pub SettlesAndCalls : {K T : Type 0} → Door → (K → Seen) → (K → Result T ShelfFault → K → Type 0) → K → K → Result T ShelfFault → Type 0
+SettlesAndCalls d seen Calls old new result = CalledSettled d seen Calls old new result ⊎ FailedSettling d seen old new result

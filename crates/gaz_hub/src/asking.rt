@@ -3,10 +3,10 @@ ghost use Rattle.std.specs.Prelude.{◌≡◌, Some, None};
 ghost use Rattle.gaz_shelf.specs.Board.{reached};
 ghost use Rattle.gaz_shelf.specs.Keeper.{IsNotOpen};
 ghost use Rattle.gaz_hub.specs.Asked.{IsToldNow};
-ghost use Rattle.gaz_hub.specs.Hubs.{MeetsDoor, Steps, door_of};
+ghost use Rattle.gaz_hub.specs.Hubs.{MeetsDoor, Steps, door_of, state_of};
 ghost use Rattle.gaz_hub.specs.Outcomes.{held_count, status};
 ghost use Rattle.gaz_hub.specs.Settling.{Looks, Tells};
-ghost use Rattle.gaz_hub.specs.Step.{Ask, IsTold, Stand, Stands, Told};
+ghost use Rattle.gaz_hub.specs.Step.{Ask, Pose, Replied, Stand, told_of};
 
 use crate::admission::{at_door, known_code};
 use crate::answer::Digest as FileDigest;
@@ -14,7 +14,7 @@ use crate::looking::wants;
 use crate::outcome::Outcome;
 use crate::refusal::Refusal;
 use crate::reply::{digest_of, tell};
-use crate::settling::settle;
+use crate::settling::{settle, settled};
 use crate::standing::Standing;
 use gaz_ids::{Code, Volume};
 use gaz_register::Register;
@@ -46,7 +46,7 @@ fn settle_and_tell_of<K: Inbox>(
     volume: Volume,
 ) -> Result<Option<(FileDigest, Outcome)>, ShelfFault>
     requires { IsNotOpen (K.seen keeper.old).progress }
-    ensures { Tells (door_of register.now) (K.seen keeper.old) (K.seen keeper.new) result (IsTold (K.seen keeper.new).content.files (K.seen keeper.new).content.board code volume) }
+    ensures { Tells (door_of register.now) (K.seen keeper.old) (K.seen keeper.new) result (λ told. told ≡ told_of (state_of (K.seen keeper.new).content) code volume) }
 {
     settle(alloc, register, keeper)?;
     tell_of(alloc, keeper, code, volume)
@@ -61,8 +61,8 @@ pub fn ask<K: Inbox>(
     volume: u64,
 ) -> Result<Option<(FileDigest, Outcome)>, Refusal>
     requires { IsNotOpen (K.seen keeper.old).progress }
-    ensures steps { Steps (door_of register.now) (K.seen keeper.old) (K.seen keeper.new) (Ask code volume) (Told result) }
-    ensures door { MeetsDoor (door_of register.now) keeper.old keeper.new (Ask code volume) (Told result) }
+    ensures steps { Steps (door_of register.now) (K.seen keeper.old) (K.seen keeper.new) (Pose (Ask code volume)) (Replied (Ask code volume) result) }
+    ensures door { MeetsDoor (door_of register.now) keeper.old keeper.new (Pose (Ask code volume)) (Replied (Ask code volume) result) }
 {
     let (code, volume) = match at_door(register, code, volume, 0) {
         Ok(pair) => pair,
@@ -111,8 +111,7 @@ fn settle_and_stand<K: Inbox>(
     requires { IsNotOpen (K.seen keeper.old).progress }
     ensures { Tells (door_of register.now) (K.seen keeper.old) (K.seen keeper.new) result (λ s. s ≡ status (K.seen keeper.new).content.files (K.seen keeper.new).content.board code) }
 {
-    settle(alloc, register, keeper)?;
-    status_of(alloc, keeper, code)
+    settled(alloc, register, keeper, |keeper| status_of(alloc, keeper, code))
 }
 
 /// How far a custodian's files are judged.
@@ -123,8 +122,8 @@ pub fn stand<K: Inbox>(
     code: u64,
 ) -> Result<Standing, Refusal>
     requires { IsNotOpen (K.seen keeper.old).progress }
-    ensures steps { Steps (door_of register.now) (K.seen keeper.old) (K.seen keeper.new) (Stand code) (Stands result) }
-    ensures door { MeetsDoor (door_of register.now) keeper.old keeper.new (Stand code) (Stands result) }
+    ensures steps { Steps (door_of register.now) (K.seen keeper.old) (K.seen keeper.new) (Pose (Stand code)) (Replied (Stand code) result) }
+    ensures door { MeetsDoor (door_of register.now) keeper.old keeper.new (Pose (Stand code)) (Replied (Stand code) result) }
 {
     let custodian = match known_code(register, code) {
         Ok(custodian) => custodian,

@@ -6,7 +6,7 @@ ghost use Rattle.gaz_extract.specs.Lookups.{lookup};
 ghost use Rattle.gaz_shelf.specs.Keeper.{IsNotOpen, Seen};
 ghost use Rattle.gaz_hub.specs.Hubs.{MeetsDoor, Steps, door_of, told, told_all};
 ghost use Rattle.gaz_hub.specs.Settling.{Tells};
-ghost use Rattle.gaz_hub.specs.Step.{Extract, Extracted, ListClosed, Listed, LookUp, LookedUp};
+ghost use Rattle.gaz_hub.specs.Step.{Extract, ListClosed, LookUp, Pose, Replied};
 
 use crate::admission::at_door;
 use crate::refusal::Refusal;
@@ -39,8 +39,8 @@ pub fn look_up<K: Inbox>(
     uprn: Uprn,
 ) -> Result<Option<Found>, Refusal>
     requires { IsNotOpen (K.seen keeper.old).progress }
-    ensures steps { Steps (door_of register.now) (K.seen keeper.old) (K.seen keeper.new) (LookUp uprn) (LookedUp result) }
-    ensures door { MeetsDoor (door_of register.now) keeper.old keeper.new (LookUp uprn) (LookedUp result) }
+    ensures steps { Steps (door_of register.now) (K.seen keeper.old) (K.seen keeper.new) (Pose (LookUp uprn)) (Replied (LookUp uprn) result) }
+    ensures door { MeetsDoor (door_of register.now) keeper.old keeper.new (Pose (LookUp uprn)) (Replied (LookUp uprn) result) }
 {
     match settle_and_look_up(alloc, register, keeper, uprn) {
         Ok(found) => Ok(found),
@@ -72,8 +72,8 @@ pub fn extract_of<K: Inbox>(
     volume: u64,
 ) -> Result<Option<Vec<u8>>, Refusal>
     requires { IsNotOpen (K.seen keeper.old).progress }
-    ensures steps { Steps (door_of register.now) (K.seen keeper.old) (K.seen keeper.new) (Extract code volume) (Extracted (told result)) }
-    ensures door { MeetsDoor (door_of register.now) keeper.old keeper.new (Extract code volume) (Extracted (told result)) }
+    ensures steps { Steps (door_of register.now) (K.seen keeper.old) (K.seen keeper.new) (Pose (Extract code volume)) (Replied (Extract code volume) (told result)) }
+    ensures door { MeetsDoor (door_of register.now) keeper.old keeper.new (Pose (Extract code volume)) (Replied (Extract code volume) (told result)) }
 {
     let (code, volume) = match at_door(register, code, volume, 0) {
         Ok(pair) => pair,
@@ -105,8 +105,8 @@ pub fn list_closed<K: Inbox>(
     keeper: &mut K,
 ) -> Result<Vec<Closed>, Refusal>
     requires { IsNotOpen (K.seen keeper.old).progress }
-    ensures steps { Steps (door_of register.now) (K.seen keeper.old) (K.seen keeper.new) ListClosed (Listed (told_all result)) }
-    ensures door { MeetsDoor (door_of register.now) keeper.old keeper.new ListClosed (Listed (told_all result)) }
+    ensures steps { Steps (door_of register.now) (K.seen keeper.old) (K.seen keeper.new) (Pose ListClosed) (Replied ListClosed (told_all result)) }
+    ensures door { MeetsDoor (door_of register.now) keeper.old keeper.new (Pose ListClosed) (Replied ListClosed (told_all result)) }
 {
     match settle_and_list(alloc, register, keeper) {
         Ok(closed) => Ok(closed),

@@ -1,9 +1,10 @@
 //! Judging what is ready, until nothing is.
 ghost use Rattle.std.specs.Prelude.{◌≡◌, ◌≤◌, ⊤, true, IfErr, OnOk};
+ghost use Rattle.std.specs.Fn.{FnOnceReturnsAtMut};
 ghost use Rattle.gaz_register.specs.Registers.{knows};
 ghost use Rattle.gaz_shelf.specs.Keeper.{IsNotOpen, Seen};
 ghost use Rattle.gaz_hub.specs.Hubs.{door_of};
-ghost use Rattle.gaz_hub.specs.Settling.{Tells, Tries};
+ghost use Rattle.gaz_hub.specs.Settling.{SettlesAndCalls, Tells, Tries};
 
 use crate::looking::{Next, look};
 use gaz_ids::{Code, LAST_VOLUME};
@@ -90,4 +91,19 @@ pub fn settle<K: Inbox>(
         left -= judged;
     }
     Err(ShelfFault::Store)
+}
+
+/// What a reading tells, once all is settled.
+pub fn settled<K: Inbox, T, F: FnOnce(&mut K) -> Result<T, ShelfFault>>(
+    alloc: Global,
+    register: &Register,
+    keeper: &mut K,
+    read: F,
+) -> Result<T, ShelfFault>
+    requires idle { IsNotOpen (K.seen keeper.old).progress }
+    requires callable { F.IsAlwaysCallable read }
+    ensures { SettlesAndCalls (door_of register.now) K.seen (λ mid told after. FnOnceReturnsAtMut F.FnOnce read mid told after) keeper.old keeper.new result }
+{
+    settle(alloc, register, keeper)?;
+    read(keeper)
 }
