@@ -23,7 +23,7 @@ use Rattle.gaz_hub.proofs.Looks.{IsFile, if_ok, looks_then, ready_as, wants_for}
 
 -- ---- outcomes
 
-was_none : {X Y : Type 0} (f : X → Y) (o : Option X) → None ≡ option_map f o → o ≡ None
+pub was_none : {X Y : Type 0} (f : X → Y) (o : Option X) → None ≡ option_map f o → o ≡ None
 was_none f None e = refl
 was_none f (Some x) e = cc
 
@@ -33,7 +33,7 @@ at_most_there (x ∷ xs) zero e = cc
 at_most_there (x ∷ xs) (suc n) e = let h = at_most_there xs n e in omega arith
 
 -- a volume without a verdict isn't reached
-not_reached : (B : Board) (c volume : ℕ) → 1 ≤ volume → None ≡ verdict_on B c volume → reached B c + 1 ≤ volume
+pub not_reached : (B : Board) (c volume : ℕ) → 1 ≤ volume → None ≡ verdict_on B c volume → reached B c + 1 ≤ volume
 not_reached B c zero one e = absurd (omega arith)
 not_reached B c (suc n) one e = let h = at_most_there (B c) n (was_none (λ (j : Judgement). j.verdict) (slice_get (B c) n) e) in omega arith
 

@@ -79,10 +79,10 @@ abbrev pub told_all : Result (Vec Closed) Refusal → Result (List Closed) Refus
 told_all (Ok closed) = Ok closed.items
 told_all (Err r) = Err r
 
--- settling that failed received nothing
-abbrev pub told_done : Result (Unit {0}) ShelfFault → Result (Unit {0}) Refusal
-told_done (Ok done) = Ok done
-told_done (Err fault) = Err (refusal.NotReceived fault)
+-- a fault is told as 51
+abbrev pub or_not_received : {T : Type 0} → Result T ShelfFault → Result T Refusal
+or_not_received (Ok x) = Ok x
+or_not_received (Err fault) = Err (refusal.NotReceived fault)
 
 -- a call at the door, of a keeper that was so before and is so after, whatever it stands for
 pub record MeetsDoor {K : Type 0} (d : Door) (old new : K) (command : Command) (response : Response) : Type 0 where

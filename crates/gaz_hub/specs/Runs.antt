@@ -92,7 +92,7 @@ pub record Abides (d : Door) (commands : List Command) (responses : List Respons
   pub first : (p : ℕ × ℕ) → map.get hub.received p ≡ first_received d p commands responses
   pub partial : IsPartial d.register hub.received hub.board
 
--- the same of a hub that begins with nothing
+-- what is received comes first and the board is partial, whatever commands come to a hub that begins with nothing
 abbrev pub EveryRun : Type 0
 EveryRun = (d : Door) (commands : List Command) (responses : List Response) (hub : HubState) → Run d new_hub commands responses hub → Abides d commands responses hub
 

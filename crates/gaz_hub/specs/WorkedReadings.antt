@@ -7,7 +7,7 @@ use Rattle.gaz_rows.specs.Rows.{lines_of}
 use Rattle.gaz_shelf.specs.Board.{empty_board}
 use Rattle.gaz_shelf.specs.declared.fault.ShelfFault.TheVariants as fault
 use Rattle.gaz_hub.specs.Examples.{gap_hub, late_hub, one_judged}
-use Rattle.gaz_hub.specs.Hubs.{cause_of, told, told_all, told_done}
+use Rattle.gaz_hub.specs.Hubs.{cause_of, told, told_all, or_not_received}
 use Rattle.gaz_hub.specs.Runs.{is_settled}
 use Rattle.gaz_hub.specs.Sample.{sample_door}
 use Rattle.gaz_hub.specs.Step.{Command, Extract, HubState, ListClosed, LookUp, Pose, Replied, Response, Step, early_refusal}
@@ -45,6 +45,6 @@ pub record WorkedReadings : Type 0 where
   pub no_cause : cause_of (Replied (LookUp 42) (Ok None)) ≡ None
   pub told_settles : is_settled (Replied ListClosed (Ok [])) ≡ true
   pub fault_settles_not : is_settled (Replied (LookUp 42) (Err (refusal.NotReceived fault.Memory))) ≡ false
-  pub done_told : told_done (Err fault.Store) ≡ Err (refusal.NotReceived fault.Store)
+  pub done_told : or_not_received {T = Unit {0}} (Err fault.Store) ≡ Err (refusal.NotReceived fault.Store)
   pub nothing_told : told (Ok None) ≡ Ok None
   pub refusal_told : told_all (Err refusal.BadVolume) ≡ Err refusal.BadVolume

@@ -1,6 +1,6 @@
 ghost use Rattle.std.specs.Prelude.{◌≡◌};
 ghost use Rattle.gaz_shelf.specs.Keeper.{IsNotOpen, Seen};
-ghost use Rattle.gaz_hub.specs.Hubs.{MeetsDoor, Steps, door_of, told, told_all, told_done};
+ghost use Rattle.gaz_hub.specs.Hubs.{MeetsDoor, Steps, door_of, told, told_all, or_not_received};
 ghost use Rattle.gaz_hub.specs.Step.{Ask, Extract, ListClosed, LookUp, Pose, Replied, Settle, Stand, Submit, Submitted};
 
 use crate::answer::{Answer, Digest};
@@ -107,7 +107,7 @@ impl<K: Inbox + Drop> Hub<K> {
     /// Judges until nothing is ready: all custodians are looked at by rising code, again and again, until none is.
     pub fn settle(&mut self) -> Result<(), ShelfFault>
         requires idle { IsNotOpen (K.seen self.old.keeper).progress }
-        ensures steps { Steps (door_of self.old.register) (K.seen self.old.keeper) (K.seen self.new.keeper) (Pose Settle) (Replied Settle (told_done result)) }
+        ensures steps { Steps (door_of self.old.register) (K.seen self.old.keeper) (K.seen self.new.keeper) (Pose Settle) (Replied Settle (or_not_received result)) }
         ensures register { self.new.register ≡ self.old.register }
     {
         settle(self.alloc, &self.register, &mut self.keeper)
