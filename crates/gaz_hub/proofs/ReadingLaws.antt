@@ -1,5 +1,5 @@
 -- Readings over equal received sets, over more files, and of one property.
-use Rattle.std.proofs.Common.{◌≡◌, ◌≤◌, ℕ, true, cond, List, [], ◌∷◌, ◌++◌, refl, sym, ap, ◌∙◌, subst, le-leb, arith}
+use Rattle.std.proofs.Common.{◌≡◌, ◌≤◌, ℕ, cond, List, [], ◌∷◌, ◌++◌, refl, sym, ap, ◌∙◌, subst, le-leb, arith}
 use Rattle.std.specs.Prelude.{Some, None, Ok}
 use Rattle.gaz_extract.specs.Extracts.{extract, extract_rows, items_of}
 use Rattle.gaz_rows.specs.Rows.{lines_of}
