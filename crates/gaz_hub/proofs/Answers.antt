@@ -2,16 +2,12 @@
 use Rattle.std.proofs.Common.{◌≡◌, ℕ, Bool, true, false, cond, ◌&&◌, is_none, List, [], ◌∷◌, refl, sym, ap, ◌∙◌, subst}
 use Rattle.std.specs.Prelude.{Option, Some, None, Ok, Err}
 use Rattle.std.specs.FinMap as map
-use Rattle.gaz_extract.specs.Closing.{closed_streets}
-use Rattle.gaz_extract.specs.Extracts.{extract}
-use Rattle.gaz_extract.specs.Lookups.{lookup}
-use Rattle.gaz_shelf.specs.Board.{Board}
 use Rattle.gaz_shelf.specs.Received.{Received, with_file}
 use Rattle.gaz_hub.specs.Answers.{AllAnswered, AllReadOff, EveryAnswer, IsAnswerOff, IsReadOff, received_by, then_received}
-use Rattle.gaz_hub.specs.Outcomes.{outcome, status}
+use Rattle.gaz_hub.specs.Outcomes.{outcome}
 use Rattle.gaz_hub.specs.Runs.{Run, is_settled}
 use Rattle.gaz_hub.specs.Standing.{IsPartial, standing}
-use Rattle.gaz_hub.specs.Step.{Ask, Command, Door, Extract, Extracted, HubState, IsTold, ListClosed, Listed, LookUp, LookedUp, Refuses, Response, Settle, Settled, Stand, Stands, Step, Submit, Submits, Submitted, Told, door}
+use Rattle.gaz_hub.specs.Step.{Command, Door, HubState, Pose, Question, Refuses, Replied, Response, Step, Submit, Submits, Submitted, answer_to, door}
 use Rattle.gaz_hub.specs.declared.answer.Answer.{Answer}
 use Rattle.gaz_hub.specs.declared.answer.Answer.TheVariants.{New, Repeat, Taken, Refused}
 use Rattle.gaz_hub.specs.declared.refusal.Refusal.{Refusal}
@@ -49,30 +45,20 @@ module _ (d : Door) (old new : HubState) (c volume : ℕ) (bytes : List ℕ) whe
   submitted_then (Refused refusal.TooLarge) s = shut _ true s.refused s.same
   submitted_then (Refused refusal.UnknownProfile) s = shut _ true s.refused s.same
 
-refused_then : (d : Door) (old : HubState) (command : Command) (r : Refusal) (new : HubState) → Refuses d old command r new → new.received ≡ old.received
-refused_then d old command (refusal.NotReceived cause) new s = s.received
-refused_then d old command (refusal.ReceivedUnsettled cause) new s = absurd s
-refused_then d old command refusal.UnknownCustodian new s = ap (λ (h : HubState). h.received) s.same
-refused_then d old command refusal.BadVolume new s = ap (λ (h : HubState). h.received) s.same
-refused_then d old command refusal.TooLarge new s = ap (λ (h : HubState). h.received) s.same
-refused_then d old command refusal.UnknownProfile new s = ap (λ (h : HubState). h.received) s.same
+refused_then : (d : Door) (old : HubState) (q : Question) (r : Refusal) (new : HubState) → Refuses d old q r new → new.received ≡ old.received
+refused_then d old q (refusal.NotReceived cause) new s = s.received
+refused_then d old q (refusal.ReceivedUnsettled cause) new s = absurd s
+refused_then d old q refusal.UnknownCustodian new s = ap (λ (h : HubState). h.received) s.same
+refused_then d old q refusal.BadVolume new s = ap (λ (h : HubState). h.received) s.same
+refused_then d old q refusal.TooLarge new s = ap (λ (h : HubState). h.received) s.same
+refused_then d old q refusal.UnknownProfile new s = ap (λ (h : HubState). h.received) s.same
 
 -- what a step receives
 pub received_then : (d : Door) (old : HubState) (command : Command) (response : Response) (new : HubState) → Step d old command response new
     → new.received ≡ then_received d old.received command response
 received_then d old (Submit c volume bytes) (Submitted answer) new s = submitted_then d old new c volume bytes answer s
-received_then d old (Ask c volume) (Told (Ok told)) new s = s.received
-received_then d old (Ask c volume) (Told (Err r)) new s = refused_then d old _ r new s
-received_then d old (Stand c) (Stands (Ok stands)) new s = s.received
-received_then d old (Stand c) (Stands (Err r)) new s = refused_then d old _ r new s
-received_then d old Settle (Settled (Ok done)) new s = s.received
-received_then d old Settle (Settled (Err fault)) new s = s.received
-received_then d old (LookUp uprn) (LookedUp (Ok found)) new s = s.received
-received_then d old (LookUp uprn) (LookedUp (Err r)) new s = refused_then d old _ r new s
-received_then d old (Extract c volume) (Extracted (Ok bytes)) new s = s.received
-received_then d old (Extract c volume) (Extracted (Err r)) new s = refused_then d old _ r new s
-received_then d old ListClosed (Listed (Ok closed)) new s = s.received
-received_then d old ListClosed (Listed (Err r)) new s = refused_then d old _ r new s
+received_then d old (Pose q) (Replied p (Ok told)) new s = s.1.received
+received_then d old (Pose q) (Replied p (Err r)) new s = refused_then d old p r new s.1
 received_then d old _ _ new s = absurd s
 
 -- ---- what is answered
@@ -97,24 +83,10 @@ module _ (d : Door) (old new : HubState) (partial : IsPartial d.register old.rec
 
   read_off : (command : Command) (response : Response) → Step d old command response new → IsReadOff d old.received command response
   read_off (Submit c volume bytes) (Submitted answer) s = answer_off c volume bytes answer s
-  read_off (Ask c volume) (Told (Ok told)) s =
-      let board = stands_then d old (Ask c volume) (Told (Ok told)) new _ partial s refl s.received in
-      subst (λ (x : Received × Board). IsTold x.0 x.1 c volume told) (λ i. (s.received i, board i)) s.answer
-  read_off (Ask c volume) (Told (Err r)) s = tt
-  read_off (Stand c) (Stands (Ok stands)) s =
-      let board = stands_then d old (Stand c) (Stands (Ok stands)) new _ partial s refl s.received in
-      s.answer ∙ (λ i. status (s.received i) (board i) c)
-  read_off (Stand c) (Stands (Err r)) s = tt
-  read_off Settle (Settled done) s = tt
-  read_off (LookUp uprn) (LookedUp (Ok found)) s =
-      s.answer ∙ ap (λ B. lookup B d.custodians uprn) (stands_then d old (LookUp uprn) (LookedUp (Ok found)) new _ partial s refl s.received)
-  read_off (LookUp uprn) (LookedUp (Err r)) s = tt
-  read_off (Extract c volume) (Extracted (Ok bytes)) s =
-      s.answer ∙ ap (λ B. extract B c volume) (stands_then d old (Extract c volume) (Extracted (Ok bytes)) new _ partial s refl s.received)
-  read_off (Extract c volume) (Extracted (Err r)) s = tt
-  read_off ListClosed (Listed (Ok closed)) s =
-      s.answer ∙ ap (λ B. closed_streets B d.custodians) (stands_then d old ListClosed (Listed (Ok closed)) new _ partial s refl s.received)
-  read_off ListClosed (Listed (Err r)) s = tt
+  read_off (Pose q) (Replied p (Ok told)) s =
+      let board = stands_then d old (Pose q) (Replied p (Ok told)) new _ partial s refl s.1.received in
+      (s.0, s.1.answer ∙ (λ i. answer_to p d.custodians (record { received = s.1.received i; board = board i })))
+  read_off (Pose q) (Replied p (Err r)) s = (s.0, tt)
   read_off _ _ s = absurd s
 
 all_answered : (d : Door) (old new : HubState) (commands : List Command) (responses : List Response) → IsPartial d.register old.received old.board → Run d old commands responses new

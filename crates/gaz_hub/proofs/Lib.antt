@@ -8,6 +8,8 @@ pub mod Looks
 pub mod Bounds
 pub mod Advancing
 pub mod Telling
+pub mod Told
+pub mod Replying
 pub mod AnswerSteps
 pub mod Readings
 pub mod HubRuns

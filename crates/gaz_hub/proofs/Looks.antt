@@ -62,6 +62,10 @@ looks_then a b c x r P Q R first second both =
       counts = counts_then a b c r first.counts.kept second.counts;
     }
 
+-- what is right is right in other words too
+pub looks_as : {T : Type 0} (a b : Seen) (r : Result T ShelfFault) (P Q : T → Type 0) → ((x : T) → P x → Q x) → Looks a b r P → Looks a b r Q
+looks_as a b r P Q f l = record { keeps = l.keeps; right = λ stood fine. if_ok r P Q f (l.right stood fine); counts = l.counts }
+
 -- an answer that is made of what was read
 pub looks_to : {T U : Type 0} (a b : Seen) (x : T) (y : U) (P : T → Type 0) (Q : U → Type 0) → Looks a b (Ok x) P → (P x → Q y) → Looks a b (Ok y) Q
 looks_to a b x y P Q l f = record { keeps = l.keeps; right = λ stood fine. f (l.right stood fine); counts = record { kept = l.counts.kept; store = tt } }

@@ -7,7 +7,7 @@ use Rattle.std.specs.FinMap as map
 use Rattle.gaz_shelf.specs.Board.{Board}
 use Rattle.gaz_shelf.specs.Received.{Received, pair_cmp, with_file}
 use Rattle.gaz_hub.specs.Standing.{HasAllOf, Follows, NothingReady}
-use Rattle.gaz_hub.specs.Step.{Door, HubState, Command, Submit, Ask, Stand, Settle, LookUp, Extract, ListClosed, Response, Submitted, Told, Stands, Settled, LookedUp, Extracted, Listed, Step, Submits, Refuses, TurnedAway, NotReceived, WasAsked, Settles, door}
+use Rattle.gaz_hub.specs.Step.{Door, HubState, Command, Submit, Pose, Question, Response, Submitted, Replied, Told, Step, Submits, Refuses, TurnedAway, NotReceived, WasAsked, Settles, door}
 use Rattle.gaz_hub.specs.Runs.{accepted, is_settled, same_pair, is_answered_51}
 use Rattle.gaz_hub.specs.declared.answer.Answer.{Answer}
 use Rattle.gaz_hub.specs.declared.answer.Answer.TheVariants.{New, Repeat, Taken, Refused}
@@ -88,20 +88,19 @@ from_same d old new command response e open_still first =
       first = first;
     }
 
-from_asked : (d : Door) (old new : HubState) (command : Command) (response : Response) (Q : Type 0) → WasAsked d old command new Q
-    → ((p : ℕ × ℕ) → accepted d p command response ≡ None) → Goes d old command response new
-from_asked d old new command response Q w none =
+from_asked : (d : Door) (old new : HubState) (q p : Question) (told : Told p) → WasAsked d old p told new → Goes d old (Pose q) (Replied p (Ok told)) new
+from_asked d old new q p told w =
     let s = settles_in d old.received new.received old.board new.board w.received w.settled in
     record {
       all = has_itself _ _ w.received;
       board = s.0;
       settled = λ _. s.1;
-      first = λ p. ap (λ X. map.get X p) w.received ∙ or_none _ ∙ ap (option_or (map.get old.received p)) (sym (none p));
+      first = λ k. ap (λ X. map.get X k) w.received ∙ or_none _;
     }
 
-from_not_received : (d : Door) (old new : HubState) (command : Command) (response : Response) → NotReceived d old command new → is_settled response ≡ false
+from_not_received : (d : Door) (old new : HubState) (asked command : Command) (response : Response) → NotReceived d old asked new → is_settled response ≡ false
     → ((p : ℕ × ℕ) → map.get new.received p ≡ option_or (map.get old.received p) (accepted d p command response)) → Goes d old command response new
-from_not_received d old new command response n open_still first =
+from_not_received d old new asked command response n open_still first =
     record {
       all = has_itself _ _ n.received;
       board = subst (λ X. Follows d.register X old.board new.board) (sym n.received) n.board;
@@ -119,16 +118,15 @@ still : (d : Door) (old : HubState) (command : Command) (new : HubState) (respon
 still d old command new response e open_still none =
     from_same d old new command response e open_still (λ p. ap (λ h. map.get h.received p) e ∙ or_none _ ∙ ap (option_or (map.get old.received p)) (sym (none p)))
 
--- a refusal of what isn't a submission
-refuses_goes : (d : Door) (old : HubState) (command : Command) (r : Refusal) (new : HubState) (response : Response) → Refuses d old command r new → is_settled response ≡ false
-    → ((p : ℕ × ℕ) → accepted d p command response ≡ None) → Goes d old command response new
-refuses_goes d old command (refusal.NotReceived cause) new response s open_still none =
-    from_not_received d old new command response s open_still (λ p. ap (λ X. map.get X p) s.received ∙ or_none _ ∙ ap (option_or (map.get old.received p)) (sym (none p)))
-refuses_goes d old command (refusal.ReceivedUnsettled cause) new response s open_still none = absurd s
-refuses_goes d old command refusal.UnknownCustodian new response s open_still none = still d old command new response s.same open_still none
-refuses_goes d old command refusal.BadVolume new response s open_still none = still d old command new response s.same open_still none
-refuses_goes d old command refusal.TooLarge new response s open_still none = still d old command new response s.same open_still none
-refuses_goes d old command refusal.UnknownProfile new response s open_still none = still d old command new response s.same open_still none
+-- a refusal of a question
+refuses_goes : (d : Door) (old : HubState) (q p : Question) (r : Refusal) (new : HubState) → Refuses d old p r new → Goes d old (Pose q) (Replied p (Err r)) new
+refuses_goes d old q p (refusal.NotReceived cause) new s =
+    from_not_received d old new _ (Pose q) _ s refl (λ k. ap (λ X. map.get X k) s.received ∙ or_none _)
+refuses_goes d old q p (refusal.ReceivedUnsettled cause) new s = absurd s
+refuses_goes d old q p refusal.UnknownCustodian new s = still d old (Pose q) new _ s.same refl (λ k. refl)
+refuses_goes d old q p refusal.BadVolume new s = still d old (Pose q) new _ s.same refl (λ k. refl)
+refuses_goes d old q p refusal.TooLarge new s = still d old (Pose q) new _ s.same refl (λ k. refl)
+refuses_goes d old q p refusal.UnknownProfile new s = still d old (Pose q) new _ s.same refl (λ k. refl)
 
 submits_goes : (d : Door) (old : HubState) (c volume : ℕ) (bytes : List ℕ) (answer : Answer) (new : HubState) → Submits d old c volume bytes answer new
     → Goes d old (Submit c volume bytes) (Submitted answer) new
@@ -147,7 +145,7 @@ submits_goes d old c volume bytes (Taken digest) new s =
     let x = settles_in d old.received new.received old.board new.board s.received s.settled in
     record { all = has_itself _ _ s.received; board = x.0; settled = λ _. x.1; first = λ p. stays_first old.received new.received p (c, volume) s.others bytes _ s.received s.there }
 submits_goes d old c volume bytes (Refused (refusal.NotReceived cause)) new s =
-    from_not_received d old new _ _ s refl (λ p. refused_first old.received new.received p _ _ bytes (and_false (is_none (door d c volume bytes))) s.received)
+    from_not_received d old new _ _ _ s refl (λ p. refused_first old.received new.received p _ _ bytes (and_false (is_none (door d c volume bytes))) s.received)
 submits_goes d old c volume bytes (Refused (refusal.ReceivedUnsettled cause)) new s =
     record {
       all = subst (λ X. HasAllOf X old.received) (sym s.received) (has_all_with old.received c volume bytes s.free);
@@ -162,16 +160,6 @@ submits_goes d old c volume bytes (Refused refusal.UnknownProfile) new s = turne
 
 pub goes : (d : Door) (old : HubState) (command : Command) (response : Response) (new : HubState) → Step d old command response new → Goes d old command response new
 goes d old (Submit c volume bytes) (Submitted answer) new s = submits_goes d old c volume bytes answer new s
-goes d old (Ask c volume) (Told (Ok told)) new s = from_asked d old new _ _ _ s (λ p. refl)
-goes d old (Ask c volume) (Told (Err r)) new s = refuses_goes d old _ r new _ s refl (λ p. refl)
-goes d old (Stand c) (Stands (Ok stands)) new s = from_asked d old new _ _ _ s (λ p. refl)
-goes d old (Stand c) (Stands (Err r)) new s = refuses_goes d old _ r new _ s refl (λ p. refl)
-goes d old Settle (Settled (Ok done)) new s = from_asked d old new _ _ _ s (λ p. refl)
-goes d old Settle (Settled (Err fault)) new s = from_not_received d old new _ _ s refl (λ p. ap (λ X. map.get X p) s.received ∙ or_none _)
-goes d old (LookUp uprn) (LookedUp (Ok found)) new s = from_asked d old new _ _ _ s (λ p. refl)
-goes d old (LookUp uprn) (LookedUp (Err r)) new s = refuses_goes d old _ r new _ s refl (λ p. refl)
-goes d old (Extract c volume) (Extracted (Ok bytes)) new s = from_asked d old new _ _ _ s (λ p. refl)
-goes d old (Extract c volume) (Extracted (Err r)) new s = refuses_goes d old _ r new _ s refl (λ p. refl)
-goes d old ListClosed (Listed (Ok closed)) new s = from_asked d old new _ _ _ s (λ p. refl)
-goes d old ListClosed (Listed (Err r)) new s = refuses_goes d old _ r new _ s refl (λ p. refl)
+goes d old (Pose q) (Replied p (Ok told)) new s = from_asked d old new q p told s.1
+goes d old (Pose q) (Replied p (Err r)) new s = refuses_goes d old q p r new s.1
 goes d old _ _ new s = absurd s

@@ -1,5 +1,5 @@
 -- What is told of a file, read off a board.
-use Rattle.std.proofs.Common.{◌≡◌, ◌≤◌, ◌<◌, ◌+◌, ℕ, zero, suc, true, false, cond, not, ◌&&◌, List, [], ◌∷◌, length, refl, sym, ap, ◌∙◌, subst, arith, le-leb}
+use Rattle.std.proofs.Common.{◌≡◌, ◌≤◌, ◌<◌, ◌+◌, ℕ, zero, suc, true, false, cond, not, ◌&&◌, List, [], ◌∷◌, length, refl, sym, ap, ◌∙◌, subst, arith, le-leb, inl, inr}
 use Rattle.std.specs.Prelude.{nat_le, slice_get, Option, Some, None, Result, Ok, Err, IfErr, OnOk}
 use Rattle.std.specs.Option.{option_map, option_map_or}
 use Rattle.std.specs.FinMap as map
@@ -13,7 +13,7 @@ use Rattle.gaz_shelf.specs.declared.fault.ShelfFault.TheVariants.{Store}
 use Rattle.gaz_rules.specs.Bases.{are_reached}
 use Rattle.gaz_hub.specs.Asked.{IsHeld, IsOutcome}
 use Rattle.gaz_hub.specs.Outcomes.{first_unreached, outcome_of, wants, wants_as}
-use Rattle.gaz_hub.specs.Settling.{Looks, Tells}
+use Rattle.gaz_hub.specs.Settling.{Looks, SettlesAndCalls, Tells}
 use Rattle.gaz_hub.specs.Standing.{NothingReady}
 use Rattle.gaz_hub.specs.Step.{Door}
 use Rattle.gaz_hub.specs.declared.outcome.Outcome.{Outcome}
@@ -23,7 +23,7 @@ use Rattle.gaz_hub.proofs.Looks.{IsFile, if_ok, looks_then, ready_as, wants_for}
 
 -- ---- outcomes
 
-was_none : {X Y : Type 0} (f : X → Y) (o : Option X) → None ≡ option_map f o → o ≡ None
+pub was_none : {X Y : Type 0} (f : X → Y) (o : Option X) → None ≡ option_map f o → o ≡ None
 was_none f None e = refl
 was_none f (Some x) e = cc
 
@@ -33,7 +33,7 @@ at_most_there (x ∷ xs) zero e = cc
 at_most_there (x ∷ xs) (suc n) e = let h = at_most_there xs n e in omega arith
 
 -- a volume without a verdict isn't reached
-not_reached : (B : Board) (c volume : ℕ) → 1 ≤ volume → None ≡ verdict_on B c volume → reached B c + 1 ≤ volume
+pub not_reached : (B : Board) (c volume : ℕ) → 1 ≤ volume → None ≡ verdict_on B c volume → reached B c + 1 ≤ volume
 not_reached B c zero one e = absurd (omega arith)
 not_reached B c (suc n) one e = let h = at_most_there (B c) n (was_none (λ (j : Judgement). j.verdict) (slice_get (B c) n) e) in omega arith
 
@@ -93,6 +93,14 @@ tells_looks d a b c x r P Q first second =
     later : {V : Type 0} (r : Result V ShelfFault) (m n k : ℕ) → m ≤ n → IfErr r (λ e. e ≡ Store → n < k) → IfErr r (λ e. e ≡ Store → m < k)
     later (Ok x) m n k h g = tt
     later (Err e) m n k h g = λ is. let more = g is in omega arith
+
+-- the same where both were one call
+pub tells_settled : {K T : Type 0} (d : Door) (seen : K → Seen) (Calls : K → Result T ShelfFault → K → Type 0) (old new : K) (r : Result T ShelfFault) (Q : Content → T → Type 0)
+    → SettlesAndCalls d seen Calls old new r → ((mid : K) → Calls mid r new → Looks (seen mid) (seen new) r (Q (seen mid).content)) → Tells d (seen old) (seen new) r (Q (seen new).content)
+tells_settled d seen Calls old new r Q (inl x) looks = tells_looks d (seen old) (seen x.mid) (seen new) tt r _ Q x.settled (looks x.mid x.called)
+tells_settled d seen Calls old new r Q (inr x) looks =
+    subst (λ k. Tells d (seen old) (seen new) k (Q (seen new).content)) (sym x.told)
+    (record { advances = x.failed.advances; settled = λ stood fine. tt; right = λ stood fine. tt; cause = x.failed.cause })
 
 -- what isn't judged is held
 pub looks_held : (a b c : Seen) (code volume : ℕ) (r : Result Outcome ShelfFault) → 1 ≤ volume → volume ≤ 999999

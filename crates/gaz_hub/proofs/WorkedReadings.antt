@@ -33,30 +33,29 @@ none_closed = rw entries-none refl
 
 pub worked_readings_hold : WorkedReadings
 worked_readings_hold = record {
-  not_found = record { let_in = refl; received = refl; settled = gap_settled; answer = nothing_found };
-  never_found = λ found s. let no : Some found ≡ None = s.answer ∙ sym nothing_found in cc;
-  look_up_faults = record { let_in = refl; received = refl; board = follows_itself sample_register sent empty_board empty_board refl };
-  never_refused_at_the_door = λ s. let no = s.refused in cc;
-  extracted = record { let_in = refl; received = refl; settled = gap_settled; answer = text_is };
-  settled_first = record { let_in = refl; received = refl; settled = late_settled; answer = text_is };
-  never_from_before = λ s. let no : None ≡ Some of_nothing = s.answer ∙ sym text_is in cc;
-  never_unsettled = λ s. true≢false (sym (first_ready sent (get_sent (1003, 1))) ∙ s.settled.settled 1003);
-  not_reached = record { let_in = refl; received = refl; settled = gap_settled; answer = refl };
-  never_the_last_view = λ text s. let no : Some text ≡ None = s.answer in cc;
-  unknown_first = record { refused = refl; same = refl };
-  no_volume = record { refused = refl; same = refl };
-  never_received = λ s. s;
-  listed = record { let_in = refl; received = refl; settled = gap_settled; answer = none_closed };
-  never_listed = λ closed s. let no : closed ∷ [] ≡ [] = s.answer ∙ sym none_closed in cc;
-  never_answered_otherwise = λ s. s;
+  not_found = (refl, record { let_in = refl; received = refl; settled = gap_settled; answer = nothing_found });
+  never_found = λ found s. let no : Some found ≡ None = s.1.answer ∙ sym nothing_found in cc;
+  look_up_faults = (refl, record { let_in = refl; received = refl; board = follows_itself sample_register sent empty_board empty_board refl });
+  never_refused_at_the_door = λ s. let no = s.1.refused in cc;
+  extracted = (refl, record { let_in = refl; received = refl; settled = gap_settled; answer = text_is });
+  settled_first = (refl, record { let_in = refl; received = refl; settled = late_settled; answer = text_is });
+  never_from_before = λ s. let no : None ≡ Some of_nothing = s.1.answer ∙ sym text_is in cc;
+  never_unsettled = λ s. true≢false (sym (first_ready sent (get_sent (1003, 1))) ∙ s.1.settled.settled 1003);
+  not_reached = (refl, record { let_in = refl; received = refl; settled = gap_settled; answer = refl });
+  never_the_last_view = λ text s. let no : Some text ≡ None = s.1.answer in cc;
+  unknown_first = (refl, record { refused = refl; same = refl });
+  no_volume = (refl, record { refused = refl; same = refl });
+  never_received = λ s. s.1;
+  listed = (refl, record { let_in = refl; received = refl; settled = gap_settled; answer = none_closed });
+  never_listed = λ closed s. let no : closed ∷ [] ≡ [] = s.1.answer ∙ sym none_closed in cc;
+  never_answered_otherwise = λ s. let no = s.0 in cc;
   looking_let_in = refl;
   listing_let_in = refl;
   cause_of_a_reading = refl;
   no_cause = refl;
   told_settles = refl;
   fault_settles_not = refl;
-  settling_asks = refl;
-  submitting_asks_not = refl;
+  done_told = refl;
   nothing_told = refl;
   refusal_told = refl;
 }

@@ -1,14 +1,15 @@
 -- The worked examples on runs of a hub.
 use Rattle.std.proofs.Common.{◌≡◌, [], ◌∷◌, refl, sym, ap, ◌∙◌}
-use Rattle.std.specs.Prelude.{Some}
+use Rattle.std.specs.Prelude.{Some, None}
 use Rattle.std.specs.FinMap as map
+use Rattle.sha2.specs.Sha256.{sha256}
 use Rattle.gaz_shelf.specs.Received.{pair_cmp, with_file}
-use Rattle.gaz_hub.specs.Answers.{AllAnswered, IsReadOff, received_by}
+use Rattle.gaz_hub.specs.Answers.{AllAnswered, IsReadOff, received_by, standing_hub}
 use Rattle.gaz_hub.specs.Outcomes.{outcome}
 use Rattle.gaz_hub.specs.Runs.{Run}
 use Rattle.gaz_hub.specs.Sample.{sample_door, sample_register}
 use Rattle.gaz_hub.specs.Standing.{standing}
-use Rattle.gaz_hub.specs.Step.{HubState, Submit, Submitted, new_hub}
+use Rattle.gaz_hub.specs.Step.{HubState, Submit, Submitted, new_hub, told_of}
 use Rattle.gaz_hub.specs.declared.answer.Answer.TheVariants.{New}
 use Rattle.gaz_hub.specs.declared.outcome.Outcome.TheVariants.{Rejected, Held}
 use Rattle.gaz_hub.specs.Examples.{all_sent, first_hub, gap_hub, no_text, sent}
@@ -70,6 +71,9 @@ sent_then =
     (nothing_partial sample_door)
     (first_hub, on_submissions.new, (gap_hub, on_submissions.new_and_held, refl))).received
 
+told_stands : told_of (standing_hub sample_door sent) 1003 1 ≡ Some (sha256 no_text, Rejected 1 1)
+told_stands = rw (stands_sent, get_sent (1003, 1)) refl
+
 on_read_off : WorkedReadOff
 on_read_off = record {
   received = rw (map.get-empty pair_cmp (1003, 1)) refl;
@@ -79,8 +83,8 @@ on_read_off = record {
   read_off = answered.read_off;
   never_new_twice = λ all. no_none _ _ (get_sent (1003, 1)) (ap (λ F. map.get F (1003, 1)) sent_then ∙ all.1.1.0.0);
   never_held_for_good = held_for_good;
-  never_nothing = λ h. no_none _ _ (get_sent (1003, 1)) h;
-  never_answered_otherwise = λ h. h;
+  never_nothing = λ h. let no : None ≡ Some (sha256 no_text, Rejected 1 1) = h.1 ∙ told_stands in cc;
+  never_answered_otherwise = λ h. let no = h.0 in cc;
 }
 
 new_twice : (hub : HubState) → Run sample_door new_hub sending wrong_answers hub → ⊥

@@ -1,6 +1,7 @@
 -- The worked examples on the door and on the steps of a hub.
 use Rattle.std.proofs.Common.{◌≡◌, ℕ, List, [], refl, sym, ap, ◌∙◌, subst, true≢false}
 use Rattle.std.specs.Prelude.{Option, Some, None}
+use Rattle.std.specs.Option.{option_map}
 use Rattle.std.specs.FinMap as map
 use Rattle.sha2.specs.Sha256.{sha256}
 use Rattle.gaz_shelf.specs.Board.{Board, empty_board}
@@ -8,7 +9,7 @@ use Rattle.gaz_shelf.specs.Received.{pair_cmp}
 use Rattle.gaz_hub.specs.Standing.{Follows, standing}
 use Rattle.gaz_hub.specs.Outcomes.{outcome, status}
 use Rattle.gaz_hub.specs.Sample.{sample_door, sample_register}
-use Rattle.gaz_hub.specs.Step.{HubState, Settles, new_hub}
+use Rattle.gaz_hub.specs.Step.{HubState, Settles, new_hub, told_of}
 use Rattle.gaz_hub.specs.declared.outcome.Outcome.{Outcome}
 use Rattle.gaz_hub.specs.declared.outcome.Outcome.TheVariants.{Rejected, Held}
 use Rattle.gaz_hub.specs.declared.refusal.Refusal.TheVariants as refusal
@@ -124,29 +125,35 @@ on_refusals = record {
   refused = record { refused = refl; same = refl };
   never_for_another_reason = λ s. let e : Some refusal.BadVolume ≡ Some refusal.TooLarge = s.refused in cc;
   never_with_a_change = λ s. same_hub gap_hub new_hub (1003, 1) no_text (get_sent (1003, 1)) (map.get-empty pair_cmp (1003, 1)) (ap (λ h. h.received) s.same);
-  asked_in_vain = record { refused = refl; same = refl };
-  stands_in_vain = record { refused = refl; same = refl };
+  asked_in_vain = (refl, record { refused = refl; same = refl });
+  stands_in_vain = (refl, record { refused = refl; same = refl });
   not_received = record { let_in = refl; received = refl; board = from_first };
   some_judged = record { let_in = refl; received = refl; board = partial_sent };
   never_received = λ s. same_hub whole_hub gap_hub (1003, 2) no_text (get_all (1003, 2)) (get_sent (1003, 2)) (sym s.received);
-  never_received_by_asking = λ s. s;
+  never_received_by_asking = λ s. s.1;
 }
 
 standing_is : status sent one_judged 1003 ≡ record { custodian = 1003; held = 1; judged = 1; wants = Some (1003, 2) }
 standing_is = rw (entries_sent, get_sent (1003, 2)) refl
 
+told_first : told_of gap_hub 1003 1 ≡ Some (sha256 no_text, Rejected 1 1)
+told_first = rw (get_sent (1003, 1)) refl
+
+told_none : told_of gap_hub 1003 2 ≡ None
+told_none = rw (get_sent (1003, 2)) refl
+
 on_questions : WorkedQuestions
 on_questions = record {
-  told = record { let_in = refl; received = refl; settled = gap_settled; answer = record { bytes = no_text; there = get_sent (1003, 1); digest_is = refl; outcome_is = refl } };
-  told_of_nothing = record { let_in = refl; received = refl; settled = gap_settled; answer = get_sent (1003, 2) };
-  never_nothing = λ s. no_none _ _ (get_sent (1003, 1)) s.answer;
-  never_another_outcome = λ s. not_both _ 1 1 1003 2 refl s.answer.outcome_is;
-  stands = record { let_in = refl; received = refl; settled = gap_settled; answer = sym standing_is };
-  never_judged_as_held = λ s. let e : 2 ≡ 1 = ap (λ (x : Standing). x.held) (s.answer ∙ standing_is) in cc;
-  settled = record { let_in = refl; received = refl; settled = late_settled; answer = tt };
-  never_half_settled = λ s. never_late _ s.settled;
-  gives_up = record { let_in = refl; received = refl; board = follows_itself sample_register sent empty_board empty_board refl };
-  never_answered_otherwise = λ s. s;
+  told = (refl, record { let_in = refl; received = refl; settled = gap_settled; answer = sym told_first });
+  told_of_nothing = (refl, record { let_in = refl; received = refl; settled = gap_settled; answer = sym told_none });
+  never_nothing = λ s. let no : None ≡ Some (sha256 no_text, Rejected 1 1) = s.1.answer ∙ told_first in cc;
+  never_another_outcome = λ s. let e : Some (Held 1003 2) ≡ Some (Rejected 1 1) = ap (option_map (λ (x : List ℕ × Outcome). x.1)) (s.1.answer ∙ told_first) in cc;
+  stands = (refl, record { let_in = refl; received = refl; settled = gap_settled; answer = sym standing_is });
+  never_judged_as_held = λ s. let e : 2 ≡ 1 = ap (λ (x : Standing). x.held) (s.1.answer ∙ standing_is) in cc;
+  settled = (refl, record { let_in = refl; received = refl; settled = late_settled; answer = refl });
+  never_half_settled = λ s. never_late _ s.1.settled;
+  gives_up = (refl, record { let_in = refl; received = refl; board = follows_itself sample_register sent empty_board empty_board refl });
+  never_answered_otherwise = λ s. let no = s.0 in cc;
   settles = late_settled;
   settles_too_little = λ s. never_late _ s;
 }

@@ -1,18 +1,16 @@
 -- Which answers the received files give: those read off the standing board.
-use Rattle.std.specs.Prelude.{◌≡◌, ⊤, ℕ, not, ◌&&◌, if◌then◌else◌, is_none, List, [], ◌∷◌, Option, Some, None, Ok, Err}
+use Rattle.std.specs.Prelude.{◌≡◌, ⊤, ℕ, not, ◌&&◌, if◌then◌else◌, is_none, List, [], ◌∷◌, Option, Some, None, Result, Ok, Err}
 use Rattle.std.specs.FinMap as map
-use Rattle.gaz_extract.specs.Closing.{closed_streets}
-use Rattle.gaz_extract.specs.Extracts.{extract}
-use Rattle.gaz_extract.specs.Lookups.{lookup}
 use Rattle.gaz_shelf.specs.Received.{Received, with_file}
 use Rattle.gaz_hub.specs.Asked.{IsTaken}
-use Rattle.gaz_hub.specs.Outcomes.{outcome, status}
+use Rattle.gaz_hub.specs.Outcomes.{outcome}
 use Rattle.gaz_hub.specs.Runs.{Run, is_answered_51}
 use Rattle.gaz_hub.specs.Standing.{IsPartial, standing}
-use Rattle.gaz_hub.specs.Step.{Ask, Command, Door, Extract, Extracted, HubState, IsTold, ListClosed, Listed, LookUp, LookedUp, Response, Settle, Settled, Stand, Stands, Submit, Submitted, Told, door}
+use Rattle.gaz_hub.specs.Step.{Command, Door, HubState, Pose, Question, Replied, Response, Submit, Submitted, Told, answer_to, door}
 use Rattle.gaz_hub.specs.declared.answer.Answer.{Answer}
 use Rattle.gaz_hub.specs.declared.answer.Answer.TheVariants.{New, Repeat, Taken, Refused}
 use Rattle.gaz_hub.specs.declared.outcome.Outcome.{Outcome}
+use Rattle.gaz_hub.specs.declared.refusal.Refusal.{Refusal}
 
 -- ---- what is received
 
@@ -45,20 +43,19 @@ IsAnswerOff d F c volume bytes (Repeat told) =
 IsAnswerOff d F c volume bytes (Taken digest) = IsTaken F c volume bytes digest
 IsAnswerOff d F c volume bytes (Refused r) = ⊤
 
+-- the hub that has received these and settled all
+abbrev pub standing_hub : Door → Received → HubState
+standing_hub d F = record { received = F; board = standing d.register F }
+
+-- a reply is the one read off the standing board; ⊤ where it doesn't settle
+abbrev pub IsReplyOff : Door → Received → (q : Question) → Result (Told q) Refusal → Type 0
+IsReplyOff d F q (Ok told) = told ≡ answer_to q d.custodians (standing_hub d F)
+IsReplyOff d F q (Err r) = ⊤
+
 -- the response, where these files were received before, is the one read off the standing board; ⊤ where it doesn't settle
 abbrev pub IsReadOff : Door → Received → Command → Response → Type 0
 IsReadOff d F (Submit c volume bytes) (Submitted answer) = IsAnswerOff d F c volume bytes answer
-IsReadOff d F (Ask c volume) (Told (Ok told)) = IsTold F (standing d.register F) c volume told
-IsReadOff d F (Ask c volume) (Told (Err r)) = ⊤
-IsReadOff d F (Stand c) (Stands (Ok stands)) = stands ≡ status F (standing d.register F) c
-IsReadOff d F (Stand c) (Stands (Err r)) = ⊤
-IsReadOff d F Settle (Settled done) = ⊤
-IsReadOff d F (LookUp uprn) (LookedUp (Ok found)) = found ≡ lookup (standing d.register F) d.custodians uprn
-IsReadOff d F (LookUp uprn) (LookedUp (Err r)) = ⊤
-IsReadOff d F (Extract c volume) (Extracted (Ok bytes)) = bytes ≡ extract (standing d.register F) c volume
-IsReadOff d F (Extract c volume) (Extracted (Err r)) = ⊤
-IsReadOff d F ListClosed (Listed (Ok closed)) = closed ≡ closed_streets (standing d.register F) d.custodians
-IsReadOff d F ListClosed (Listed (Err r)) = ⊤
+IsReadOff d F (Pose q) (Replied p reply) = (p ≡ q) × IsReplyOff d F p reply
 IsReadOff d F _ _ = ⊥
 
 -- each response is, of the files that are received by then

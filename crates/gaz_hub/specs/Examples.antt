@@ -55,7 +55,7 @@ first_hub = record { received = first_sent; board = one_judged }
 abbrev pub gap_hub : HubState
 gap_hub = record { received = sent; board = one_judged }
 
--- the same files, of which none is judged yet
+-- the files of gap_hub, of which none is judged yet
 abbrev pub late_hub : HubState
 late_hub = record { received = sent; board = empty_board }
 

@@ -10,7 +10,7 @@ use Rattle.gaz_shelf.specs.Received.{Received}
 use Rattle.gaz_shelf.specs.Keeper.{Content, IsNotOpen, Seen}
 use Rattle.gaz_shelf.specs.declared.fault.ShelfFault.{ShelfFault}
 use Rattle.gaz_shelf.specs.declared.fault.ShelfFault.TheVariants.{Memory, Store}
-use Rattle.gaz_hub.specs.Step.{Command, Door, Extracted, HubState, Listed, LookedUp, Response, Settled, Stands, Step, Submitted, Told, early_refusal, refusal_at_door}
+use Rattle.gaz_hub.specs.Step.{Command, Door, HubState, Replied, Response, Step, Submitted, early_refusal, refusal_at_door}
 use Rattle.gaz_hub.specs.Runs.{Run}
 use Rattle.gaz_hub.specs.declared.answer.Answer.{Answer}
 use Rattle.gaz_hub.specs.declared.answer.Answer.TheVariants.{New, Repeat, Taken, Refused}
@@ -61,13 +61,7 @@ refusal_in (Err r) = Some r
 
 abbrev pub refusal_of : Response → Option Refusal
 refusal_of (Submitted answer) = refusal_in_answer answer
-refusal_of (Told told) = refusal_in told
-refusal_of (Stands stands) = refusal_in stands
-refusal_of (Settled (Ok done)) = None
-refusal_of (Settled (Err fault)) = Some (refusal.NotReceived fault)
-refusal_of (LookedUp found) = refusal_in found
-refusal_of (Extracted bytes) = refusal_in bytes
-refusal_of (Listed closed) = refusal_in closed
+refusal_of (Replied q reply) = refusal_in reply
 
 abbrev pub cause_in_answer : Answer → Option ShelfFault
 cause_in_answer answer = option_and_then cause_in (refusal_in_answer answer)
@@ -84,6 +78,11 @@ told (Err r) = Err r
 abbrev pub told_all : Result (Vec Closed) Refusal → Result (List Closed) Refusal
 told_all (Ok closed) = Ok closed.items
 told_all (Err r) = Err r
+
+-- a fault is told as 51
+abbrev pub or_not_received : {T : Type 0} → Result T ShelfFault → Result T Refusal
+or_not_received (Ok x) = Ok x
+or_not_received (Err fault) = Err (refusal.NotReceived fault)
 
 -- a call at the door, of a keeper that was so before and is so after, whatever it stands for
 pub record MeetsDoor {K : Type 0} (d : Door) (old new : K) (command : Command) (response : Response) : Type 0 where

@@ -1,5 +1,6 @@
 -- What holds of whole runs over a keeper, and of the views on a board.
-use Rattle.std.specs.Prelude.{◌≡◌, true, List, [], ◌∷◌, ◌++◌}
+use Rattle.std.specs.Prelude.{◌≡◌, ℕ, true, List, [], ◌∷◌, ◌++◌, IsSome, None, Ok}
+use Rattle.std.specs.FinMap as map
 use Rattle.gaz_register.specs.Registers.{IsRegister, RegisterValue, blocks_of}
 use Rattle.gaz_shelf.specs.Board.{Board}
 use Rattle.gaz_shelf.specs.Keeper.{Seen, empty_content}
@@ -7,13 +8,30 @@ use Rattle.gaz_shelf.specs.Received.{Received}
 use Rattle.gaz_rules.specs.Sound.{IsSoundBoard}
 use Rattle.gaz_hub.specs.Answers.{AllAnswered}
 use Rattle.gaz_hub.specs.Hubs.{Runs, StandsFor, Steps, state_of}
+use Rattle.gaz_hub.specs.Outcomes.{outcome}
 use Rattle.gaz_hub.specs.Runs.{Abides, AbidesFrom, is_settled}
-use Rattle.gaz_hub.specs.Standing.{IsPartial, standing}
-use Rattle.gaz_hub.specs.Step.{Command, Door, Response}
+use Rattle.gaz_hub.specs.Standing.{IsPartial, NothingReady, standing}
+use Rattle.gaz_hub.specs.Step.{Ask, Command, Door, HubState, Pose, Replied, Response, Step, is_volume}
 
 -- every view of a partial board is sound
 abbrev pub AllSound : Type 0
 AllSound = (register : RegisterValue) (F : Received) (B : Board) → IsRegister register → IsPartial (blocks_of register) F B → IsSoundBoard (blocks_of register) B
+
+-- ---- what is told of a received file
+
+-- on a board on which nothing is ready it has an outcome, at each volume that the door lets in
+abbrev pub HasOutcome : Type 0
+HasOutcome = (F : Received) (B : Board) (c volume : ℕ)
+    → NothingReady F B → is_volume volume ≡ true → IsSome (map.get F (c, volume)) → IsSome (outcome F B c volume)
+
+-- so a hub that is asked for an outcome tells nothing only where nothing was received
+abbrev pub NothingOfNothing : Type 0
+NothingOfNothing = (d : Door) (old new : HubState) (c volume : ℕ)
+    → Step d old (Pose (Ask c volume)) (Replied (Ask c volume) (Ok None)) new → map.get new.received (c, volume) ≡ None
+
+pub record EachIsTold : Type 0 where
+  pub on_a_board : HasOutcome
+  pub when_asked : NothingOfNothing
 
 -- ---- calls one after another
 

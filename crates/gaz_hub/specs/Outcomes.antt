@@ -24,7 +24,7 @@ abbrev pub wants_as : Board → ℕ → Option Reading → Option (ℕ × ℕ)
 wants_as B c None = Some (c, reached B c + 1)
 wants_as B c (Some r) = option_map (λ d. (d.custodian, d.volume)) (first_unreached B (bases_of r))
 
--- the same, by how it reads; nothing after volume 999,999
+-- what a custodian's next volume waits for, by how it reads; nothing after volume 999,999
 abbrev pub wants : Received → Board → ℕ → Option (ℕ × ℕ)
 wants F B c = if nat_le (reached B c + 1) 999999 then wants_as B c (next_reading F B c) else None
 

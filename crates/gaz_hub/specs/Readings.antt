@@ -1,30 +1,21 @@
 -- What readings of a hub come to: over equal received sets, over more files, and of one property.
-use Rattle.std.specs.Prelude.{◌≡◌, ◌≤◌, ℕ, Bool, true, false, List, [], ◌∷◌, ◌++◌}
+use Rattle.std.specs.Prelude.{◌≡◌, ◌≤◌, ℕ, true, List, [], ◌∷◌, ◌++◌, Ok}
 use Rattle.gaz_extract.specs.Extracts.{extract}
 use Rattle.gaz_records.specs.declared.key.Key.TheVariants as key
 use Rattle.gaz_register.specs.Registers.{IsRegister, RegisterValue, blocks_of}
 use Rattle.gaz_shelf.specs.Board.{Board, last_view, reached}
 use Rattle.gaz_shelf.specs.Received.{Received}
 use Rattle.gaz_views.specs.View.{holds}
-use Rattle.gaz_hub.specs.Runs.{Run, is_settled}
+use Rattle.gaz_hub.specs.Runs.{Run}
 use Rattle.gaz_hub.specs.Standing.{HasAllOf, IsPartial, Register, standing}
-use Rattle.gaz_hub.specs.Step.{Ask, Command, Door, Extract, HubState, ListClosed, LookUp, Response, Settle, Stand, Step, Submit, new_hub}
+use Rattle.gaz_hub.specs.Step.{Command, Door, HubState, Pose, Question, Replied, Response, Step, Told, new_hub}
 
--- everything but a submission
-abbrev pub is_question : Command → Bool
-is_question (Submit c volume bytes) = false
-is_question (Ask c volume) = true
-is_question (Stand c) = true
-is_question Settle = true
-is_question (LookUp uprn) = true
-is_question (Extract c volume) = true
-is_question ListClosed = true
-
--- whatever came before, and in whatever order: two hubs that received the same tell the same to a question, wherever both answer it
+-- whatever came before, and in whatever order: two hubs with equal received sets answer a question equally, wherever both answer it
 abbrev pub EqualAnswers : Type 0
-EqualAnswers = (d : Door) (one other : HubState) (commands others : List Command) (responses replies : List Response) (question : Command) (told heard : Response)
-    → Run d new_hub (commands ++ question ∷ []) (responses ++ told ∷ []) one → Run d new_hub (others ++ question ∷ []) (replies ++ heard ∷ []) other
-    → is_question question ≡ true → is_settled told ≡ true → is_settled heard ≡ true → other.received ≡ one.received → heard ≡ told
+EqualAnswers = (d : Door) (one other : HubState) (commands others : List Command) (responses replies : List Response) (q : Question) (told heard : Told q)
+    → Run d new_hub (commands ++ Pose q ∷ []) (responses ++ Replied q (Ok told) ∷ []) one
+    → Run d new_hub (others ++ Pose q ∷ []) (replies ++ Replied q (Ok heard) ∷ []) other
+    → other.received ≡ one.received → heard ≡ told
 
 -- the extract of a volume that is reached stays: with more files, and whatever is asked next
 pub record ExtractsStay : Type 0 where

@@ -6,7 +6,7 @@ use Rattle.std.specs.FinMap as map
 use Rattle.gaz_shelf.specs.Received.{pair_cmp}
 use Rattle.gaz_hub.specs.Standing.{IsPartial, IsPrefixOf, NothingReady, standing}
 use Rattle.gaz_hub.specs.Outcomes.{outcome}
-use Rattle.gaz_hub.specs.Step.{Door, HubState, new_hub, Command, Submit, Response, Submitted, Told, Stands, Settled, LookedUp, Extracted, Listed, Step, door}
+use Rattle.gaz_hub.specs.Step.{Door, HubState, new_hub, Command, Submit, Response, Submitted, Replied, Step, door}
 use Rattle.gaz_hub.specs.declared.answer.Answer.{Answer}
 use Rattle.gaz_hub.specs.declared.answer.Answer.TheVariants.{New, Repeat, Taken, Refused}
 use Rattle.gaz_hub.specs.declared.outcome.Outcome.{Outcome}
@@ -29,12 +29,7 @@ is_settled_answer (Refused r) = false
 
 abbrev pub is_settled : Response → Bool
 is_settled (Submitted answer) = is_settled_answer answer
-is_settled (Told told) = is_ok told
-is_settled (Stands stands) = is_ok stands
-is_settled (Settled done) = is_ok done
-is_settled (LookedUp found) = is_ok found
-is_settled (Extracted bytes) = is_ok bytes
-is_settled (Listed closed) = is_ok closed
+is_settled (Replied q reply) = is_ok reply
 
 abbrev pub same_pair : ℕ × ℕ → ℕ × ℕ → Bool
 same_pair = eq_by_cmp pair_cmp
@@ -97,7 +92,7 @@ pub record Abides (d : Door) (commands : List Command) (responses : List Respons
   pub first : (p : ℕ × ℕ) → map.get hub.received p ≡ first_received d p commands responses
   pub partial : IsPartial d.register hub.received hub.board
 
--- the same of a hub that begins with nothing
+-- what is received comes first and the board is partial, whatever commands come to a hub that begins with nothing
 abbrev pub EveryRun : Type 0
 EveryRun = (d : Door) (commands : List Command) (responses : List Response) (hub : HubState) → Run d new_hub commands responses hub → Abides d commands responses hub
 

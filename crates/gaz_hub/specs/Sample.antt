@@ -16,7 +16,7 @@ sample_register c =
 abbrev pub is_sample_code : ℕ → Bool
 is_sample_code c = (c == 1001) || (c == 1002) || (c == 1003)
 
--- the same custodians as a register has them
+-- the sample custodians as a register has them
 abbrev pub sample_custodians : RegisterValue
 sample_custodians =
     record { code = 1001; name = codes "Upper County"; own = sample_register 1001 }

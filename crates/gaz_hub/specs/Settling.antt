@@ -1,5 +1,5 @@
 -- Settling over a keeper: what a look at a custodian's next volume finds, and what judging adds.
-use Rattle.std.specs.Prelude.{◌≡◌, ◌≤◌, ◌<◌, ◌+◌, ◌*◌, ℕ, nat_le, if◌then◌else◌, true, false, length, List, [], ◌∷◌, Option, Some, None, Result, Ok, Err, OnOk, IfOk, IfErr}
+use Rattle.std.specs.Prelude.{◌≡◌, ◌≤◌, ◌<◌, ◌+◌, ◌*◌, ◌⊎◌, ⊤, ℕ, nat_le, if◌then◌else◌, true, false, length, List, [], ◌∷◌, Option, Some, None, Result, Ok, Err, OnOk, IfOk, IfErr}
 use Rattle.std.specs.FinMap as map
 use Rattle.gaz_changefile.specs.Contents.{Contents}
 use Rattle.gaz_changefile.specs.Reading.{Good, Bad, reading}
@@ -9,10 +9,11 @@ use Rattle.gaz_shelf.specs.Keeper.{Counts, IsNotOpen, Keeps, Seen}
 use Rattle.gaz_shelf.specs.Received.{Received}
 use Rattle.gaz_shelf.specs.declared.fault.ShelfFault.{ShelfFault}
 use Rattle.gaz_shelf.specs.declared.fault.ShelfFault.TheVariants.{Store}
-use Rattle.gaz_hub.specs.Hubs.{StandsFor}
+use Rattle.gaz_hub.specs.Hubs.{StandsFor, or_not_received}
 use Rattle.gaz_hub.specs.Outcomes.{first_unreached, wants}
 use Rattle.gaz_hub.specs.Standing.{Follows, NothingReady, next_reading, ready}
 use Rattle.gaz_hub.specs.Step.{Door}
+use Rattle.gaz_hub.specs.declared.refusal.Refusal.{Refusal}
 use Rattle.gaz_hub.specs.declared.looking.NextFile.{NextFile}
 use Rattle.gaz_hub.specs.declared.looking.NextFile.TheVariants as file
 use Rattle.gaz_hub.specs.declared.looking.Next.{Next}
@@ -39,7 +40,7 @@ IsWeighed B f (next.Waits d volume) = first_unreached B f.bases ≡ Some (record
 IsWeighed B f (next.Bad place rule) = ⊥
 IsWeighed B f next.Done = ⊥
 
--- the same of bytes that came as a custodian's volume
+-- what is to become of bytes that came as a custodian's volume
 abbrev pub IsReadAs : Board → ℕ → ℕ → List ℕ → Next → Type 0
 IsReadAs B c volume bytes (next.Bad place rule) = reading bytes c volume ≡ Bad place rule
 IsReadAs B c volume bytes other = (f : Contents) × (reading bytes c volume ≡ Good f) × IsWeighed B f other
@@ -102,3 +103,30 @@ pub record Tells {T : Type 0} (d : Door) (old new : Seen) (result : Result T She
   pub settled : StandsFor d old → new.unharmed → OnOk result (NothingReady new.content.files new.content.board)
   pub right : StandsFor d old → new.unharmed → IfOk result IsRight
   pub cause : StandsFor d old → new.unharmed → IfErr result (λ e. e ≡ Store → old.failures < new.failures)
+
+-- ---- settling and then a call
+
+-- it may be made on each keeper in which no judgement is open
+abbrev pub TakesIdle : {K : Type 0} → (K → Seen) → (K → Type 0) → Type 0
+TakesIdle {K} seen Takes = (mid : K) → IsNotOpen (seen mid).progress → Takes mid
+
+-- all is settled, and then this call is made
+pub record CalledSettled {K T : Type 0} (d : Door) (seen : K → Seen) (Calls : K → Result T ShelfFault → K → Type 0) (old new : K) (result : Result T ShelfFault) : Type 0 where
+  pub mid : K
+  pub settled : Tells {T = Unit {0}} d (seen old) (seen mid) (Ok tt) (λ done. ⊤)
+  pub called : Calls mid result new
+
+-- settling failed
+pub record FailedSettling {K T : Type 0} (d : Door) (seen : K → Seen) (old new : K) (result : Result T ShelfFault) : Type 0 where
+  pub fault : ShelfFault
+  pub told : result ≡ Err fault
+  pub failed : Tells {T = Unit {0}} d (seen old) (seen new) (Err fault) (λ done. ⊤)
+
+abbrev pub SettlesAndCalls : {K T : Type 0} → Door → (K → Seen) → (K → Result T ShelfFault → K → Type 0) → K → K → Result T ShelfFault → Type 0
+SettlesAndCalls d seen Calls old new result = CalledSettled d seen Calls old new result ⊎ FailedSettling d seen old new result
+
+-- settling and then a call, where a fault is told as 51
+pub record AnswersSettled {K T : Type 0} (d : Door) (seen : K → Seen) (Calls : K → Result T ShelfFault → K → Type 0) (old new : K) (result : Result T Refusal) : Type 0 where
+  pub read : Result T ShelfFault
+  pub told : result ≡ or_not_received read
+  pub calls : SettlesAndCalls d seen Calls old new read

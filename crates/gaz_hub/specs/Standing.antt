@@ -1,4 +1,6 @@
 -- Which files are judged, and what is left when all is settled.
+-- Judging one ready file is a step; `Follows` is its closure (any number of steps), a board on which nothing is ready is a normal form,
+-- and `any_order` says that there is one normal form, the standing board.
 use Rattle.std.specs.Prelude.{◌≡◌, ℕ, zero, suc, ◌+◌, ◌==◌, nat_le, Bool, false, ◌&&◌, if◌then◌else◌, IsTrue, List, [], ◌∷◌, ◌++◌, Some, Option}
 use Rattle.std.specs.Option.{option_map, option_map_or}
 use Rattle.std.specs.FinMap as map

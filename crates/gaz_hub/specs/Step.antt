@@ -1,5 +1,6 @@
 -- What a hub may do at a command.
 use Rattle.std.specs.Prelude.{◌≡◌, ◌≢◌, ℕ, nat_le, Bool, not, ◌&&◌, if◌then◌else◌, List, length, Option, Some, None, Result, Ok, Err}
+use Rattle.std.specs.Option.{option_and_then, option_map}
 use Rattle.std.specs.FinMap as map
 use Rattle.sha2.specs.Sha256.{sha256}
 use Rattle.gaz_extract.specs.Closing.{closed_streets}
@@ -9,7 +10,6 @@ use Rattle.gaz_extract.specs.declared.closed.Closed.{Closed}
 use Rattle.gaz_extract.specs.declared.found.Found.{Found}
 use Rattle.gaz_register.specs.Registers.{RegisterValue}
 use Rattle.gaz_shelf.specs.Board.{Board, empty_board}
-use Rattle.gaz_shelf.specs.declared.fault.ShelfFault.{ShelfFault}
 use Rattle.gaz_shelf.specs.Received.{Received, with_file}
 use Rattle.gaz_hub.specs.Standing.{Register, Follows, NothingReady}
 use Rattle.gaz_hub.specs.Outcomes.{outcome, status}
@@ -37,26 +37,50 @@ pub record HubState : Type 0 where
 abbrev pub new_hub : HubState
 new_hub = record { received = map.empty; board = empty_board }
 
--- a file submitted as a custodian's volume; the outcome of a volume asked for; how far a custodian is judged; nothing but settling;
--- a property looked up by its UPRN; a custodian's view after a volume; approved addresses on streets that others closed
+-- ---- what is asked, and what is told
+
+-- the digest and the outcome of a volume; how far a custodian is judged; nothing but settling; a property looked up by its UPRN;
+-- a custodian's view after a volume; approved addresses on streets that others closed
+pub data Question : Type 0 where
+  Ask : ℕ → ℕ → Question
+  Stand : ℕ → Question
+  Settle : Question
+  LookUp : ℕ → Question
+  Extract : ℕ → ℕ → Question
+  ListClosed : Question
+
+-- what each is told
+abbrev pub Told : Question → Type 0
+Told (Ask c volume) = Option (List ℕ × Outcome)
+Told (Stand c) = Standing
+Told Settle = Unit {0}
+Told (LookUp uprn) = Option Found
+Told (Extract c volume) = Option (List ℕ)
+Told ListClosed = List Closed
+
+-- the digest and the outcome of a volume, where it was received
+abbrev pub told_of : HubState → ℕ → ℕ → Option (List ℕ × Outcome)
+told_of s c volume =
+    option_and_then (λ bytes. option_map (λ o. (sha256 bytes, o)) (outcome s.received s.board c volume)) (map.get s.received (c, volume))
+
+-- the answer that a settled hub over this register reads off its state
+abbrev pub answer_to : (q : Question) → RegisterValue → HubState → Told q
+answer_to (Ask c volume) register s = told_of s c volume
+answer_to (Stand c) register s = status s.received s.board c
+answer_to Settle register s = tt
+answer_to (LookUp uprn) register s = lookup s.board register uprn
+answer_to (Extract c volume) register s = extract s.board c volume
+answer_to ListClosed register s = closed_streets s.board register
+
+-- a file submitted as a custodian's volume, or a question
 pub data Command : Type 0 where
   Submit : ℕ → ℕ → List ℕ → Command
-  Ask : ℕ → ℕ → Command
-  Stand : ℕ → Command
-  Settle : Command
-  LookUp : ℕ → Command
-  Extract : ℕ → ℕ → Command
-  ListClosed : Command
+  Pose : Question → Command
 
--- what the hub answers to each
+-- what the hub answers to each; a reply names its question
 pub data Response : Type 0 where
   Submitted : Answer → Response
-  Told : Result (Option (List ℕ × Outcome)) Refusal → Response
-  Stands : Result Standing Refusal → Response
-  Settled : Result (Unit {0}) ShelfFault → Response
-  LookedUp : Result (Option Found) Refusal → Response
-  Extracted : Result (Option (List ℕ)) Refusal → Response
-  Listed : Result (List Closed) Refusal → Response
+  Replied : (q : Question) → Result (Told q) Refusal → Response
 
 -- ---- the door
 
@@ -78,20 +102,24 @@ or_foreign foreign None = if foreign then Some refusal.UnknownProfile else None
 abbrev pub door : Door → ℕ → ℕ → List ℕ → Option Refusal
 door d c volume bytes = or_foreign (d.is_foreign bytes) (turned_away d c volume (length bytes))
 
+-- the refusal of a question at the door
+abbrev pub question_refusal : Door → Question → Option Refusal
+question_refusal d (Ask c volume) = turned_away d c volume 0
+question_refusal d (Stand c) = if not (d.knows c) then Some refusal.UnknownCustodian else None
+question_refusal d Settle = None
+question_refusal d (LookUp uprn) = None
+question_refusal d (Extract c volume) = turned_away d c volume 0
+question_refusal d ListClosed = None
+
 -- the refusal of a command at the door, but for that of an unknown profile
 abbrev pub early_refusal : Door → Command → Option Refusal
 early_refusal d (Submit c volume bytes) = turned_away d c volume (length bytes)
-early_refusal d (Ask c volume) = turned_away d c volume 0
-early_refusal d (Stand c) = if not (d.knows c) then Some refusal.UnknownCustodian else None
-early_refusal d Settle = None
-early_refusal d (LookUp uprn) = None
-early_refusal d (Extract c volume) = turned_away d c volume 0
-early_refusal d ListClosed = None
+early_refusal d (Pose q) = question_refusal d q
 
 -- the refusal of a command at the door
 abbrev pub refusal_at_door : Door → Command → Option Refusal
 refusal_at_door d (Submit c volume bytes) = door d c volume bytes
-refusal_at_door d command = early_refusal d command
+refusal_at_door d (Pose q) = question_refusal d q
 
 -- ---- the cases of a step
 
@@ -144,23 +172,12 @@ pub record WasTaken (d : Door) (old : HubState) (c volume : ℕ) (bytes digest :
   pub received : new.received ≡ old.received
   pub settled : Settles d old.received old.board new.board
 
--- a question: nothing is received, all is settled, and the answer is read off the board
-pub record WasAsked (d : Door) (old : HubState) (command : Command) (new : HubState) (IsRight : Type 0) : Type 0 where
-  pub let_in : refusal_at_door d command ≡ None
+-- a question: nothing is received, all is settled, and the answer is read off the state then
+pub record WasAsked (d : Door) (old : HubState) (q : Question) (told : Told q) (new : HubState) : Type 0 where
+  pub let_in : question_refusal d q ≡ None
   pub received : new.received ≡ old.received
   pub settled : Settles d old.received old.board new.board
-  pub answer : IsRight
-
--- the digest and the outcome of a volume, where it was received
-pub record IsToldOf (F : Received) (B : Board) (c volume : ℕ) (digest : List ℕ) (told : Outcome) : Type 0 where
-  pub bytes : List ℕ
-  pub there : map.get F (c, volume) ≡ Some bytes
-  pub digest_is : digest ≡ sha256 bytes
-  pub outcome_is : outcome F B c volume ≡ Some told
-
-abbrev pub IsTold : Received → Board → ℕ → ℕ → Option (List ℕ × Outcome) → Type 0
-IsTold F B c volume None = map.get F (c, volume) ≡ None
-IsTold F B c volume (Some told) = IsToldOf F B c volume told.0 told.1
+  pub answer : told ≡ answer_to q d.custodians new
 
 abbrev pub Submits : Door → HubState → ℕ → ℕ → List ℕ → Answer → HubState → Type 0
 Submits d old c volume bytes (New told) new = WasNew d old c volume bytes told new
@@ -173,46 +190,21 @@ Submits d old c volume bytes (Refused refusal.BadVolume) new = TurnedAway d old 
 Submits d old c volume bytes (Refused refusal.TooLarge) new = TurnedAway d old (Submit c volume bytes) refusal.TooLarge new
 Submits d old c volume bytes (Refused refusal.UnknownProfile) new = TurnedAway d old (Submit c volume bytes) refusal.UnknownProfile new
 
--- a refusal of what isn't a submission
-abbrev pub Refuses : Door → HubState → Command → Refusal → HubState → Type 0
-Refuses d old command (refusal.NotReceived cause) new = NotReceived d old command new
-Refuses d old command (refusal.ReceivedUnsettled cause) new = ⊥
-Refuses d old command refusal.UnknownCustodian new = TurnedAway d old command refusal.UnknownCustodian new
-Refuses d old command refusal.BadVolume new = TurnedAway d old command refusal.BadVolume new
-Refuses d old command refusal.TooLarge new = TurnedAway d old command refusal.TooLarge new
-Refuses d old command refusal.UnknownProfile new = TurnedAway d old command refusal.UnknownProfile new
+-- a refusal of a question
+abbrev pub Refuses : Door → HubState → Question → Refusal → HubState → Type 0
+Refuses d old q (refusal.NotReceived cause) new = NotReceived d old (Pose q) new
+Refuses d old q (refusal.ReceivedUnsettled cause) new = ⊥
+Refuses d old q refusal.UnknownCustodian new = TurnedAway d old (Pose q) refusal.UnknownCustodian new
+Refuses d old q refusal.BadVolume new = TurnedAway d old (Pose q) refusal.BadVolume new
+Refuses d old q refusal.TooLarge new = TurnedAway d old (Pose q) refusal.TooLarge new
+Refuses d old q refusal.UnknownProfile new = TurnedAway d old (Pose q) refusal.UnknownProfile new
 
-abbrev pub Asks : Door → HubState → ℕ → ℕ → Result (Option (List ℕ × Outcome)) Refusal → HubState → Type 0
-Asks d old c volume (Ok told) new = WasAsked d old (Ask c volume) new (IsTold new.received new.board c volume told)
-Asks d old c volume (Err r) new = Refuses d old (Ask c volume) r new
-
-abbrev pub TellsStanding : Door → HubState → ℕ → Result Standing Refusal → HubState → Type 0
-TellsStanding d old c (Ok stands) new = WasAsked d old (Stand c) new (stands ≡ status new.received new.board c)
-TellsStanding d old c (Err r) new = Refuses d old (Stand c) r new
-
-abbrev pub SettlesAll : Door → HubState → Result (Unit {0}) ShelfFault → HubState → Type 0
-SettlesAll d old (Ok done) new = WasAsked d old Settle new (Unit {0})
-SettlesAll d old (Err fault) new = NotReceived d old Settle new
-
-abbrev pub LooksUp : Door → HubState → ℕ → Result (Option Found) Refusal → HubState → Type 0
-LooksUp d old uprn (Ok found) new = WasAsked d old (LookUp uprn) new (found ≡ lookup new.board d.custodians uprn)
-LooksUp d old uprn (Err r) new = Refuses d old (LookUp uprn) r new
-
-abbrev pub Extracts : Door → HubState → ℕ → ℕ → Result (Option (List ℕ)) Refusal → HubState → Type 0
-Extracts d old c volume (Ok bytes) new = WasAsked d old (Extract c volume) new (bytes ≡ extract new.board c volume)
-Extracts d old c volume (Err r) new = Refuses d old (Extract c volume) r new
-
-abbrev pub ListsClosed : Door → HubState → Result (List Closed) Refusal → HubState → Type 0
-ListsClosed d old (Ok closed) new = WasAsked d old ListClosed new (closed ≡ closed_streets new.board d.custodians)
-ListsClosed d old (Err r) new = Refuses d old ListClosed r new
+abbrev pub Replies : Door → HubState → (q : Question) → Result (Told q) Refusal → HubState → Type 0
+Replies d old q (Ok told) new = WasAsked d old q told new
+Replies d old q (Err r) new = Refuses d old q r new
 
 -- from old the hub may give this response to the command and go on to new
 abbrev pub Step : Door → HubState → Command → Response → HubState → Type 0
 Step d old (Submit c volume bytes) (Submitted answer) new = Submits d old c volume bytes answer new
-Step d old (Ask c volume) (Told told) new = Asks d old c volume told new
-Step d old (Stand c) (Stands stands) new = TellsStanding d old c stands new
-Step d old Settle (Settled done) new = SettlesAll d old done new
-Step d old (LookUp uprn) (LookedUp found) new = LooksUp d old uprn found new
-Step d old (Extract c volume) (Extracted bytes) new = Extracts d old c volume bytes new
-Step d old ListClosed (Listed closed) new = ListsClosed d old closed new
+Step d old (Pose q) (Replied p reply) new = (p ≡ q) × Replies d old p reply new
 Step d old _ _ new = ⊥

@@ -9,7 +9,7 @@ use Rattle.gaz_hub.specs.Examples.{one_judged, sent}
 use Rattle.gaz_hub.specs.Hubs.{cause_of, door_of, is_foreign, state_of}
 use Rattle.gaz_hub.specs.Outcomes.{first_unreached}
 use Rattle.gaz_hub.specs.Settling.{IsNext, IsNextFile, wanted_by}
-use Rattle.gaz_hub.specs.Step.{Settled, Stands, Submitted, Told, new_hub, turned_away}
+use Rattle.gaz_hub.specs.Step.{Ask, Replied, Settle, Stand, Submitted, new_hub, turned_away}
 use Rattle.gaz_hub.specs.WorkedBoards.{basis}
 use Rattle.gaz_hub.specs.declared.answer.Answer.TheVariants.{New, Refused, Taken}
 use Rattle.gaz_hub.specs.declared.looking.Next.{Next}
@@ -45,10 +45,10 @@ pub record WorkedCauses : Type 0 where
   pub of_taken : cause_of (Submitted (Taken [])) ≡ None
   pub of_51 : cause_of (Submitted (Refused (NotReceived fault.Store))) ≡ Some fault.Store
   pub of_52 : cause_of (Submitted (Refused (ReceivedUnsettled fault.Memory))) ≡ Some fault.Memory
-  pub of_the_door : cause_of (Told (Err BadVolume)) ≡ None
-  pub of_standing : cause_of (Stands (Err (NotReceived fault.Memory))) ≡ Some fault.Memory
-  pub of_settling : cause_of (Settled (Err fault.Store)) ≡ Some fault.Store
-  pub of_settled : cause_of (Settled (Ok tt)) ≡ None
+  pub of_the_door : cause_of (Replied (Ask 1003 0) (Err BadVolume)) ≡ None
+  pub of_standing : cause_of (Replied (Stand 1003) (Err (NotReceived fault.Memory))) ≡ Some fault.Memory
+  pub of_settling : cause_of (Replied Settle (Err (NotReceived fault.Store))) ≡ Some fault.Store
+  pub of_settled : cause_of (Replied Settle (Ok tt)) ≡ None
 
 -- volume 1 of custodian 1003 is judged, volume 2 is missing and volume 3 was received
 abbrev pub Finds : Next → Type 0

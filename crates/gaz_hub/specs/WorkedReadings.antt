@@ -4,14 +4,12 @@ use Rattle.gaz_extract.specs.Extracts.{header, trailer}
 use Rattle.gaz_extract.specs.declared.closed.Closed.{Closed}
 use Rattle.gaz_extract.specs.declared.found.Found.{Found}
 use Rattle.gaz_rows.specs.Rows.{lines_of}
-use Rattle.gaz_shelf.specs.Board.{empty_board}
 use Rattle.gaz_shelf.specs.declared.fault.ShelfFault.TheVariants as fault
-use Rattle.gaz_hub.specs.Examples.{gap_hub, late_hub, one_judged}
-use Rattle.gaz_hub.specs.Hubs.{cause_of, told, told_all}
-use Rattle.gaz_hub.specs.Readings.{is_question}
+use Rattle.gaz_hub.specs.Examples.{gap_hub, late_hub}
+use Rattle.gaz_hub.specs.Hubs.{cause_of, told, told_all, or_not_received}
 use Rattle.gaz_hub.specs.Runs.{is_settled}
 use Rattle.gaz_hub.specs.Sample.{sample_door}
-use Rattle.gaz_hub.specs.Step.{Command, Extract, Extracted, HubState, ListClosed, Listed, LookUp, LookedUp, Response, Settle, Step, Submit, early_refusal}
+use Rattle.gaz_hub.specs.Step.{Command, Extract, HubState, ListClosed, LookUp, Pose, Replied, Response, Step, early_refusal}
 use Rattle.gaz_hub.specs.declared.refusal.Refusal.TheVariants as refusal
 
 -- from one state of a hub over the sample register to another
@@ -24,29 +22,28 @@ of_nothing = lines_of (header 1003 1 ∷ trailer 0 ∷ [])
 
 -- volume 1 of custodian 1003 was rejected, and volume 2 is missing: nobody has a property
 pub record WorkedReadings : Type 0 where
-  pub not_found : Reads gap_hub (LookUp 42) (LookedUp (Ok None)) gap_hub
-  pub never_found : (found : Found) → Reads gap_hub (LookUp 42) (LookedUp (Ok (Some found))) gap_hub → ⊥
-  pub look_up_faults : Reads late_hub (LookUp 42) (LookedUp (Err (refusal.NotReceived fault.Memory))) late_hub
-  pub never_refused_at_the_door : Reads gap_hub (LookUp 42) (LookedUp (Err refusal.UnknownCustodian)) gap_hub → ⊥
-  pub extracted : Reads gap_hub (Extract 1003 1) (Extracted (Ok (Some of_nothing))) gap_hub
-  pub settled_first : Reads late_hub (Extract 1003 1) (Extracted (Ok (Some of_nothing))) gap_hub
-  pub never_from_before : Reads late_hub (Extract 1003 1) (Extracted (Ok None)) gap_hub → ⊥
-  pub never_unsettled : Reads late_hub (Extract 1003 1) (Extracted (Ok None)) late_hub → ⊥
-  pub not_reached : Reads gap_hub (Extract 1003 2) (Extracted (Ok None)) gap_hub
-  pub never_the_last_view : (text : List ℕ) → Reads gap_hub (Extract 1003 2) (Extracted (Ok (Some text))) gap_hub → ⊥
-  pub unknown_first : Reads gap_hub (Extract 9998 0) (Extracted (Err refusal.UnknownCustodian)) gap_hub
-  pub no_volume : Reads gap_hub (Extract 1003 0) (Extracted (Err refusal.BadVolume)) gap_hub
-  pub never_received : Reads gap_hub (Extract 1003 1) (Extracted (Err (refusal.ReceivedUnsettled fault.Memory))) gap_hub → ⊥
-  pub listed : Reads gap_hub ListClosed (Listed (Ok [])) gap_hub
-  pub never_listed : (closed : Closed) → Reads gap_hub ListClosed (Listed (Ok (closed ∷ []))) gap_hub → ⊥
-  pub never_answered_otherwise : Reads gap_hub ListClosed (LookedUp (Ok None)) gap_hub → ⊥
-  pub looking_let_in : early_refusal sample_door (LookUp 0) ≡ None
-  pub listing_let_in : early_refusal sample_door ListClosed ≡ None
-  pub cause_of_a_reading : cause_of (Extracted (Err (refusal.NotReceived fault.Store))) ≡ Some fault.Store
-  pub no_cause : cause_of (LookedUp (Ok None)) ≡ None
-  pub told_settles : is_settled (Listed (Ok [])) ≡ true
-  pub fault_settles_not : is_settled (LookedUp (Err (refusal.NotReceived fault.Memory))) ≡ false
-  pub settling_asks : is_question Settle ≡ true
-  pub submitting_asks_not : is_question (Submit 1003 1 []) ≡ false
+  pub not_found : Reads gap_hub (Pose (LookUp 42)) (Replied (LookUp 42) (Ok None)) gap_hub
+  pub never_found : (found : Found) → Reads gap_hub (Pose (LookUp 42)) (Replied (LookUp 42) (Ok (Some found))) gap_hub → ⊥
+  pub look_up_faults : Reads late_hub (Pose (LookUp 42)) (Replied (LookUp 42) (Err (refusal.NotReceived fault.Memory))) late_hub
+  pub never_refused_at_the_door : Reads gap_hub (Pose (LookUp 42)) (Replied (LookUp 42) (Err refusal.UnknownCustodian)) gap_hub → ⊥
+  pub extracted : Reads gap_hub (Pose (Extract 1003 1)) (Replied (Extract 1003 1) (Ok (Some of_nothing))) gap_hub
+  pub settled_first : Reads late_hub (Pose (Extract 1003 1)) (Replied (Extract 1003 1) (Ok (Some of_nothing))) gap_hub
+  pub never_from_before : Reads late_hub (Pose (Extract 1003 1)) (Replied (Extract 1003 1) (Ok None)) gap_hub → ⊥
+  pub never_unsettled : Reads late_hub (Pose (Extract 1003 1)) (Replied (Extract 1003 1) (Ok None)) late_hub → ⊥
+  pub not_reached : Reads gap_hub (Pose (Extract 1003 2)) (Replied (Extract 1003 2) (Ok None)) gap_hub
+  pub never_the_last_view : (text : List ℕ) → Reads gap_hub (Pose (Extract 1003 2)) (Replied (Extract 1003 2) (Ok (Some text))) gap_hub → ⊥
+  pub unknown_first : Reads gap_hub (Pose (Extract 9998 0)) (Replied (Extract 9998 0) (Err refusal.UnknownCustodian)) gap_hub
+  pub no_volume : Reads gap_hub (Pose (Extract 1003 0)) (Replied (Extract 1003 0) (Err refusal.BadVolume)) gap_hub
+  pub never_received : Reads gap_hub (Pose (Extract 1003 1)) (Replied (Extract 1003 1) (Err (refusal.ReceivedUnsettled fault.Memory))) gap_hub → ⊥
+  pub listed : Reads gap_hub (Pose ListClosed) (Replied ListClosed (Ok [])) gap_hub
+  pub never_listed : (closed : Closed) → Reads gap_hub (Pose ListClosed) (Replied ListClosed (Ok (closed ∷ []))) gap_hub → ⊥
+  pub never_answered_otherwise : Reads gap_hub (Pose ListClosed) (Replied (LookUp 42) (Ok None)) gap_hub → ⊥
+  pub looking_let_in : early_refusal sample_door (Pose (LookUp 0)) ≡ None
+  pub listing_let_in : early_refusal sample_door (Pose ListClosed) ≡ None
+  pub cause_of_a_reading : cause_of (Replied (Extract 1003 1) (Err (refusal.NotReceived fault.Store))) ≡ Some fault.Store
+  pub no_cause : cause_of (Replied (LookUp 42) (Ok None)) ≡ None
+  pub told_settles : is_settled (Replied ListClosed (Ok [])) ≡ true
+  pub fault_settles_not : is_settled (Replied (LookUp 42) (Err (refusal.NotReceived fault.Memory))) ≡ false
+  pub done_told : or_not_received {T = Unit {0}} (Err fault.Store) ≡ Err (refusal.NotReceived fault.Store)
   pub nothing_told : told (Ok None) ≡ Ok None
   pub refusal_told : told_all (Err refusal.BadVolume) ≡ Err refusal.BadVolume

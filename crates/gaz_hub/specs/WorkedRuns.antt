@@ -4,7 +4,7 @@ use Rattle.gaz_shelf.specs.declared.fault.ShelfFault.TheVariants as fault
 use Rattle.std.specs.FinMap as map
 use Rattle.gaz_hub.specs.Answers.{AllReadOff, IsReadOff, received_by, then_received}
 use Rattle.gaz_hub.specs.Runs.{Abides, ChangesNothing, Run, accepted, first_received, is_answered_51, is_not_received, is_settled, is_settled_answer, same_pair}
-use Rattle.gaz_hub.specs.Step.{Ask, Command, HubState, Response, Settled, Stands, Submit, Submitted, Told, new_hub}
+use Rattle.gaz_hub.specs.Step.{Ask, Command, HubState, Pose, Replied, Response, Settle, Stand, Submit, Submitted, new_hub}
 use Rattle.gaz_hub.specs.Sample.{sample_door}
 use Rattle.gaz_hub.specs.declared.answer.Answer.TheVariants.{New, Repeat, Taken, Refused}
 use Rattle.gaz_hub.specs.declared.outcome.Outcome.TheVariants.{Rejected, Held}
@@ -17,10 +17,10 @@ pub record WorkedResponses : Type 0 where
   pub taken_settles : is_settled_answer (Taken []) ≡ true
   pub refused_settles_nothing : is_settled_answer (Refused refusal.BadVolume) ≡ false
   pub submitted_settles : is_settled (Submitted (Repeat (Rejected 1 1))) ≡ true
-  pub told_settles : is_settled (Told (Ok None)) ≡ true
-  pub stands_settles_nothing : is_settled (Stands (Err refusal.UnknownCustodian)) ≡ false
-  pub settled_settles : is_settled (Settled (Ok tt)) ≡ true
-  pub given_up_settles_nothing : is_settled (Settled (Err fault.Memory)) ≡ false
+  pub told_settles : is_settled (Replied (Ask 1003 1) (Ok None)) ≡ true
+  pub stands_settles_nothing : is_settled (Replied (Stand 9999) (Err refusal.UnknownCustodian)) ≡ false
+  pub settled_settles : is_settled (Replied Settle (Ok tt)) ≡ true
+  pub given_up_settles_nothing : is_settled (Replied Settle (Err (refusal.NotReceived fault.Memory))) ≡ false
   pub for_51 : is_not_received (refusal.NotReceived fault.Memory) ≡ true
   pub for_52 : is_not_received (refusal.ReceivedUnsettled fault.Memory) ≡ false
   pub answered_51 : is_answered_51 (Refused (refusal.NotReceived fault.Memory)) ≡ true
@@ -44,7 +44,7 @@ pub record WorkedFirsts : Type 0 where
   pub not_received : accepted sample_door (1003, 1) (Submit 1003 1 []) (Submitted (Refused (refusal.NotReceived fault.Memory))) ≡ None
   pub turned_away : accepted sample_door (1003, 0) (Submit 1003 0 []) (Submitted (Refused refusal.BadVolume)) ≡ None
   pub another_pair : accepted sample_door (1003, 2) (Submit 1003 1 []) (Submitted (New (Rejected 1 1))) ≡ None
-  pub asked : accepted sample_door (1003, 1) (Ask 1003 1) (Told (Ok None)) ≡ None
+  pub asked : accepted sample_door (1003, 1) (Pose (Ask 1003 1)) (Replied (Ask 1003 1) (Ok None)) ≡ None
   pub second_stays : first_received sample_door (1003, 1) commands responses ≡ Some (98 ∷ [])
   pub nothing_else : first_received sample_door (1003, 2) commands responses ≡ None
 
@@ -67,8 +67,8 @@ pub record WorkedReadOff : Type 0 where
   pub read_off : AllReadOff sample_door map.empty sending answers
   pub never_new_twice : AllReadOff sample_door map.empty sending wrong_answers → ⊥
   pub never_held_for_good : IsReadOff sample_door sent (Submit 1003 2 no_text) (Submitted (New (Held 1003 2))) → ⊥
-  pub never_nothing : IsReadOff sample_door sent (Ask 1003 1) (Told (Ok None)) → ⊥
-  pub never_answered_otherwise : IsReadOff sample_door sent (Ask 1003 1) (Settled (Ok tt)) → ⊥
+  pub never_nothing : IsReadOff sample_door sent (Pose (Ask 1003 1)) (Replied (Ask 1003 1) (Ok None)) → ⊥
+  pub never_answered_otherwise : IsReadOff sample_door sent (Pose (Ask 1003 1)) (Replied Settle (Ok tt)) → ⊥
 
 -- whole runs, and what holds after them
 pub record WorkedWholes : Type 0 where

@@ -3,7 +3,7 @@ use Rattle.std.specs.Prelude.{◌≡◌, ℕ, List, true, false, [], Some, None,
 use Rattle.sha2.specs.Sha256.{sha256}
 use Rattle.gaz_shelf.specs.Board.{empty_board}
 use Rattle.gaz_shelf.specs.declared.fault.ShelfFault.TheVariants as fault
-use Rattle.gaz_hub.specs.Step.{Ask, Command, HubState, Response, Settle, Settled, Settles, Stand, Stands, Step, Submit, Submitted, Told, door, early_refusal, is_volume, new_hub, or_foreign, refusal_at_door, turned_away}
+use Rattle.gaz_hub.specs.Step.{Ask, Command, HubState, Pose, Replied, Response, Settle, Settles, Stand, Step, Submit, Submitted, door, early_refusal, is_volume, new_hub, or_foreign, refusal_at_door, turned_away}
 use Rattle.gaz_hub.specs.Sample.{sample_door}
 use Rattle.gaz_hub.specs.declared.answer.Answer.TheVariants.{New, Repeat, Taken, Refused}
 use Rattle.gaz_hub.specs.declared.outcome.Outcome.TheVariants.{Rejected, Held}
@@ -31,11 +31,11 @@ pub record WorkedDoor : Type 0 where
 pub record WorkedCommands : Type 0 where
   pub profile_not_early : early_refusal foreign_door (Submit 1003 1 []) ≡ None
   pub profile_at_door : refusal_at_door foreign_door (Submit 1003 1 []) ≡ Some refusal.UnknownProfile
-  pub no_profile_asked : refusal_at_door foreign_door (Ask 1003 1) ≡ None
-  pub no_volume_asked : refusal_at_door sample_door (Ask 1003 0) ≡ Some refusal.BadVolume
-  pub unknown_asked : refusal_at_door sample_door (Stand 9999) ≡ Some refusal.UnknownCustodian
-  pub known_asked : early_refusal sample_door (Stand 1003) ≡ None
-  pub settling_let_in : refusal_at_door sample_door Settle ≡ None
+  pub no_profile_asked : refusal_at_door foreign_door (Pose (Ask 1003 1)) ≡ None
+  pub no_volume_asked : refusal_at_door sample_door (Pose (Ask 1003 0)) ≡ Some refusal.BadVolume
+  pub unknown_asked : refusal_at_door sample_door (Pose (Stand 9999)) ≡ Some refusal.UnknownCustodian
+  pub known_asked : early_refusal sample_door (Pose (Stand 1003)) ≡ None
+  pub settling_let_in : refusal_at_door sample_door (Pose Settle) ≡ None
 
 -- from one state of a hub over the sample register to another
 abbrev pub Goes : HubState → Command → Response → HubState → Type 0
@@ -69,25 +69,25 @@ pub record WorkedRefusals : Type 0 where
   pub refused : Goes gap_hub (Submit 1003 0 no_text) (Submitted (Refused refusal.BadVolume)) gap_hub
   pub never_for_another_reason : Goes gap_hub (Submit 1003 0 no_text) (Submitted (Refused refusal.TooLarge)) gap_hub → ⊥
   pub never_with_a_change : Goes gap_hub (Submit 1003 0 no_text) (Submitted (Refused refusal.BadVolume)) new_hub → ⊥
-  pub asked_in_vain : Goes gap_hub (Ask 1003 0) (Told (Err refusal.BadVolume)) gap_hub
-  pub stands_in_vain : Goes gap_hub (Stand 9999) (Stands (Err refusal.UnknownCustodian)) gap_hub
+  pub asked_in_vain : Goes gap_hub (Pose (Ask 1003 0)) (Replied (Ask 1003 0) (Err refusal.BadVolume)) gap_hub
+  pub stands_in_vain : Goes gap_hub (Pose (Stand 9999)) (Replied (Stand 9999) (Err refusal.UnknownCustodian)) gap_hub
   pub not_received : Goes gap_hub (Submit 1003 2 no_text) (Submitted (Refused (refusal.NotReceived fault.Memory))) gap_hub
   pub some_judged : Goes late_hub (Submit 1003 2 no_text) (Submitted (Refused (refusal.NotReceived fault.Memory))) gap_hub
   pub never_received : Goes gap_hub (Submit 1003 2 no_text) (Submitted (Refused (refusal.NotReceived fault.Memory))) whole_hub → ⊥
-  pub never_received_by_asking : Goes gap_hub (Ask 1003 1) (Told (Err (refusal.ReceivedUnsettled fault.Memory))) gap_hub → ⊥
+  pub never_received_by_asking : Goes gap_hub (Pose (Ask 1003 1)) (Replied (Ask 1003 1) (Err (refusal.ReceivedUnsettled fault.Memory))) gap_hub → ⊥
 
 -- questions, and settling
 pub record WorkedQuestions : Type 0 where
-  pub told : Goes gap_hub (Ask 1003 1) (Told (Ok (Some (sha256 no_text, Rejected 1 1)))) gap_hub
-  pub told_of_nothing : Goes gap_hub (Ask 1003 2) (Told (Ok None)) gap_hub
-  pub never_nothing : Goes gap_hub (Ask 1003 1) (Told (Ok None)) gap_hub → ⊥
-  pub never_another_outcome : Goes gap_hub (Ask 1003 1) (Told (Ok (Some (sha256 no_text, Held 1003 2)))) gap_hub → ⊥
-  pub stands : Goes gap_hub (Stand 1003) (Stands (Ok (record { custodian = 1003; held = 1; judged = 1; wants = Some (1003, 2) }))) gap_hub
-  pub never_judged_as_held : Goes gap_hub (Stand 1003) (Stands (Ok (record { custodian = 1003; held = 2; judged = 1; wants = Some (1003, 2) }))) gap_hub → ⊥
-  pub settled : Goes late_hub Settle (Settled (Ok tt)) gap_hub
-  pub never_half_settled : Goes late_hub Settle (Settled (Ok tt)) late_hub → ⊥
-  pub gives_up : Goes late_hub Settle (Settled (Err fault.Memory)) late_hub
-  pub never_answered_otherwise : Goes gap_hub Settle (Told (Ok None)) gap_hub → ⊥
+  pub told : Goes gap_hub (Pose (Ask 1003 1)) (Replied (Ask 1003 1) (Ok (Some (sha256 no_text, Rejected 1 1)))) gap_hub
+  pub told_of_nothing : Goes gap_hub (Pose (Ask 1003 2)) (Replied (Ask 1003 2) (Ok None)) gap_hub
+  pub never_nothing : Goes gap_hub (Pose (Ask 1003 1)) (Replied (Ask 1003 1) (Ok None)) gap_hub → ⊥
+  pub never_another_outcome : Goes gap_hub (Pose (Ask 1003 1)) (Replied (Ask 1003 1) (Ok (Some (sha256 no_text, Held 1003 2)))) gap_hub → ⊥
+  pub stands : Goes gap_hub (Pose (Stand 1003)) (Replied (Stand 1003) (Ok (record { custodian = 1003; held = 1; judged = 1; wants = Some (1003, 2) }))) gap_hub
+  pub never_judged_as_held : Goes gap_hub (Pose (Stand 1003)) (Replied (Stand 1003) (Ok (record { custodian = 1003; held = 2; judged = 1; wants = Some (1003, 2) }))) gap_hub → ⊥
+  pub settled : Goes late_hub (Pose Settle) (Replied Settle (Ok tt)) gap_hub
+  pub never_half_settled : Goes late_hub (Pose Settle) (Replied Settle (Ok tt)) late_hub → ⊥
+  pub gives_up : Goes late_hub (Pose Settle) (Replied Settle (Err (refusal.NotReceived fault.Memory))) late_hub
+  pub never_answered_otherwise : Goes gap_hub (Pose Settle) (Replied (Ask 1003 2) (Ok None)) gap_hub → ⊥
   pub settles : Settles sample_door sent empty_board one_judged
   pub settles_too_little : Settles sample_door sent empty_board empty_board → ⊥
 

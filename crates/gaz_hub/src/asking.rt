@@ -5,8 +5,8 @@ ghost use Rattle.gaz_shelf.specs.Keeper.{IsNotOpen};
 ghost use Rattle.gaz_hub.specs.Asked.{IsToldNow};
 ghost use Rattle.gaz_hub.specs.Hubs.{MeetsDoor, Steps, door_of};
 ghost use Rattle.gaz_hub.specs.Outcomes.{held_count, status};
-ghost use Rattle.gaz_hub.specs.Settling.{Looks, Tells};
-ghost use Rattle.gaz_hub.specs.Step.{Ask, IsTold, Stand, Stands, Told};
+ghost use Rattle.gaz_hub.specs.Settling.{Looks};
+ghost use Rattle.gaz_hub.specs.Step.{Ask, Pose, Replied, Stand};
 
 use crate::admission::{at_door, known_code};
 use crate::answer::Digest as FileDigest;
@@ -14,7 +14,7 @@ use crate::looking::wants;
 use crate::outcome::Outcome;
 use crate::refusal::Refusal;
 use crate::reply::{digest_of, tell};
-use crate::settling::settle;
+use crate::settling::answered;
 use crate::standing::Standing;
 use gaz_ids::{Code, Volume};
 use gaz_register::Register;
@@ -37,21 +37,6 @@ fn tell_of<K: Inbox>(
     Ok(Some((digest_of(&there), told)))
 }
 
-// The digest and the outcome of a volume, once all is settled.
-fn settle_and_tell_of<K: Inbox>(
-    alloc: Global,
-    register: &Register,
-    keeper: &mut K,
-    code: Code,
-    volume: Volume,
-) -> Result<Option<(FileDigest, Outcome)>, ShelfFault>
-    requires { IsNotOpen (K.seen keeper.old).progress }
-    ensures { Tells (door_of register.now) (K.seen keeper.old) (K.seen keeper.new) result (IsTold (K.seen keeper.new).content.files (K.seen keeper.new).content.board code volume) }
-{
-    settle(alloc, register, keeper)?;
-    tell_of(alloc, keeper, code, volume)
-}
-
 /// The digest and the outcome of a volume, where it was received.
 pub fn ask<K: Inbox>(
     alloc: Global,
@@ -61,17 +46,15 @@ pub fn ask<K: Inbox>(
     volume: u64,
 ) -> Result<Option<(FileDigest, Outcome)>, Refusal>
     requires { IsNotOpen (K.seen keeper.old).progress }
-    ensures steps { Steps (door_of register.now) (K.seen keeper.old) (K.seen keeper.new) (Ask code volume) (Told result) }
-    ensures door { MeetsDoor (door_of register.now) keeper.old keeper.new (Ask code volume) (Told result) }
+    ensures steps { Steps (door_of register.now) (K.seen keeper.old) (K.seen keeper.new) (Pose (Ask code volume)) (Replied (Ask code volume) result) }
+    ensures door { MeetsDoor (door_of register.now) keeper.old keeper.new (Pose (Ask code volume)) (Replied (Ask code volume) result) }
 {
     let (code, volume) = match at_door(register, code, volume, 0) {
         Ok(pair) => pair,
         Err(refusal) => return Err(refusal),
     };
-    match settle_and_tell_of(alloc, register, keeper, code, volume) {
-        Ok(told) => Ok(told),
-        Err(fault) => Err(Refusal::NotReceived(fault)),
-    }
+    let read = |keeper: &mut K| tell_of(alloc, keeper, code, volume);
+    answered(alloc, register, keeper, read)
 }
 
 // How many files of a custodian are judged, and how many aren't.
@@ -101,20 +84,6 @@ fn status_of<K: Inbox>(
     })
 }
 
-// How far a custodian's files are judged, once all is settled.
-fn settle_and_stand<K: Inbox>(
-    alloc: Global,
-    register: &Register,
-    keeper: &mut K,
-    code: Code,
-) -> Result<Standing, ShelfFault>
-    requires { IsNotOpen (K.seen keeper.old).progress }
-    ensures { Tells (door_of register.now) (K.seen keeper.old) (K.seen keeper.new) result (λ s. s ≡ status (K.seen keeper.new).content.files (K.seen keeper.new).content.board code) }
-{
-    settle(alloc, register, keeper)?;
-    status_of(alloc, keeper, code)
-}
-
 /// How far a custodian's files are judged.
 pub fn stand<K: Inbox>(
     alloc: Global,
@@ -123,15 +92,13 @@ pub fn stand<K: Inbox>(
     code: u64,
 ) -> Result<Standing, Refusal>
     requires { IsNotOpen (K.seen keeper.old).progress }
-    ensures steps { Steps (door_of register.now) (K.seen keeper.old) (K.seen keeper.new) (Stand code) (Stands result) }
-    ensures door { MeetsDoor (door_of register.now) keeper.old keeper.new (Stand code) (Stands result) }
+    ensures steps { Steps (door_of register.now) (K.seen keeper.old) (K.seen keeper.new) (Pose (Stand code)) (Replied (Stand code) result) }
+    ensures door { MeetsDoor (door_of register.now) keeper.old keeper.new (Pose (Stand code)) (Replied (Stand code) result) }
 {
     let custodian = match known_code(register, code) {
         Ok(custodian) => custodian,
         Err(refusal) => return Err(refusal),
     };
-    match settle_and_stand(alloc, register, keeper, custodian) {
-        Ok(standing) => Ok(standing),
-        Err(fault) => Err(Refusal::NotReceived(fault)),
-    }
+    let read = |keeper: &mut K| status_of(alloc, keeper, custodian);
+    answered(alloc, register, keeper, read)
 }

@@ -1,7 +1,7 @@
 ghost use Rattle.std.specs.Prelude.{◌≡◌};
 ghost use Rattle.gaz_shelf.specs.Keeper.{IsNotOpen, Seen};
-ghost use Rattle.gaz_hub.specs.Hubs.{MeetsDoor, Steps, door_of, told, told_all};
-ghost use Rattle.gaz_hub.specs.Step.{Ask, Extract, Extracted, ListClosed, Listed, LookUp, LookedUp, Settle, Settled, Stand, Stands, Submit, Submitted, Told};
+ghost use Rattle.gaz_hub.specs.Hubs.{MeetsDoor, Steps, door_of, told, told_all, or_not_received};
+ghost use Rattle.gaz_hub.specs.Step.{Ask, Extract, ListClosed, LookUp, Pose, Replied, Settle, Stand, Submit, Submitted};
 
 use crate::answer::{Answer, Digest};
 use crate::asking::{ask, stand};
@@ -87,8 +87,8 @@ impl<K: Inbox + Drop> Hub<K> {
     /// The digest and the outcome of a volume, where it was received.
     pub fn outcome(&mut self, code: u64, volume: u64) -> Result<Option<(Digest, Outcome)>, Refusal>
         requires idle { IsNotOpen (K.seen self.old.keeper).progress }
-        ensures steps { Steps (door_of self.old.register) (K.seen self.old.keeper) (K.seen self.new.keeper) (Ask code volume) (Told result) }
-        ensures door { MeetsDoor (door_of self.old.register) self.old.keeper self.new.keeper (Ask code volume) (Told result) }
+        ensures steps { Steps (door_of self.old.register) (K.seen self.old.keeper) (K.seen self.new.keeper) (Pose (Ask code volume)) (Replied (Ask code volume) result) }
+        ensures door { MeetsDoor (door_of self.old.register) self.old.keeper self.new.keeper (Pose (Ask code volume)) (Replied (Ask code volume) result) }
         ensures register { self.new.register ≡ self.old.register }
     {
         ask(self.alloc, &self.register, &mut self.keeper, code, volume)
@@ -97,8 +97,8 @@ impl<K: Inbox + Drop> Hub<K> {
     /// How far a custodian's files are judged.
     pub fn status(&mut self, code: u64) -> Result<Standing, Refusal>
         requires idle { IsNotOpen (K.seen self.old.keeper).progress }
-        ensures steps { Steps (door_of self.old.register) (K.seen self.old.keeper) (K.seen self.new.keeper) (Stand code) (Stands result) }
-        ensures door { MeetsDoor (door_of self.old.register) self.old.keeper self.new.keeper (Stand code) (Stands result) }
+        ensures steps { Steps (door_of self.old.register) (K.seen self.old.keeper) (K.seen self.new.keeper) (Pose (Stand code)) (Replied (Stand code) result) }
+        ensures door { MeetsDoor (door_of self.old.register) self.old.keeper self.new.keeper (Pose (Stand code)) (Replied (Stand code) result) }
         ensures register { self.new.register ≡ self.old.register }
     {
         stand(self.alloc, &self.register, &mut self.keeper, code)
@@ -107,7 +107,7 @@ impl<K: Inbox + Drop> Hub<K> {
     /// Judges until nothing is ready: all custodians are looked at by rising code, again and again, until none is.
     pub fn settle(&mut self) -> Result<(), ShelfFault>
         requires idle { IsNotOpen (K.seen self.old.keeper).progress }
-        ensures steps { Steps (door_of self.old.register) (K.seen self.old.keeper) (K.seen self.new.keeper) Settle (Settled result) }
+        ensures steps { Steps (door_of self.old.register) (K.seen self.old.keeper) (K.seen self.new.keeper) (Pose Settle) (Replied Settle (or_not_received result)) }
         ensures register { self.new.register ≡ self.old.register }
     {
         settle(self.alloc, &self.register, &mut self.keeper)
@@ -116,8 +116,8 @@ impl<K: Inbox + Drop> Hub<K> {
     /// Where a property stands now and how it is addressed; none where it stands with no custodian.
     pub fn lookup(&mut self, uprn: Uprn) -> Result<Option<Found>, Refusal>
         requires idle { IsNotOpen (K.seen self.old.keeper).progress }
-        ensures steps { Steps (door_of self.old.register) (K.seen self.old.keeper) (K.seen self.new.keeper) (LookUp uprn) (LookedUp result) }
-        ensures door { MeetsDoor (door_of self.old.register) self.old.keeper self.new.keeper (LookUp uprn) (LookedUp result) }
+        ensures steps { Steps (door_of self.old.register) (K.seen self.old.keeper) (K.seen self.new.keeper) (Pose (LookUp uprn)) (Replied (LookUp uprn) result) }
+        ensures door { MeetsDoor (door_of self.old.register) self.old.keeper self.new.keeper (Pose (LookUp uprn)) (Replied (LookUp uprn) result) }
         ensures register { self.new.register ≡ self.old.register }
     {
         look_up(self.alloc, &self.register, &mut self.keeper, uprn)
@@ -126,8 +126,8 @@ impl<K: Inbox + Drop> Hub<K> {
     /// A custodian's view after a volume, as the text of an extract; none where the volume isn't reached.
     pub fn extract(&mut self, code: u64, volume: u64) -> Result<Option<Vec<u8>>, Refusal>
         requires idle { IsNotOpen (K.seen self.old.keeper).progress }
-        ensures steps { Steps (door_of self.old.register) (K.seen self.old.keeper) (K.seen self.new.keeper) (Extract code volume) (Extracted (told result)) }
-        ensures door { MeetsDoor (door_of self.old.register) self.old.keeper self.new.keeper (Extract code volume) (Extracted (told result)) }
+        ensures steps { Steps (door_of self.old.register) (K.seen self.old.keeper) (K.seen self.new.keeper) (Pose (Extract code volume)) (Replied (Extract code volume) (told result)) }
+        ensures door { MeetsDoor (door_of self.old.register) self.old.keeper self.new.keeper (Pose (Extract code volume)) (Replied (Extract code volume) (told result)) }
         ensures register { self.new.register ≡ self.old.register }
     {
         extract_of(self.alloc, &self.register, &mut self.keeper, code, volume)
@@ -136,8 +136,8 @@ impl<K: Inbox + Drop> Hub<K> {
     /// The approved addresses on streets that other custodians closed, by custodian and then by the LPI's key.
     pub fn closed_streets(&mut self) -> Result<Vec<Closed>, Refusal>
         requires idle { IsNotOpen (K.seen self.old.keeper).progress }
-        ensures steps { Steps (door_of self.old.register) (K.seen self.old.keeper) (K.seen self.new.keeper) ListClosed (Listed (told_all result)) }
-        ensures door { MeetsDoor (door_of self.old.register) self.old.keeper self.new.keeper ListClosed (Listed (told_all result)) }
+        ensures steps { Steps (door_of self.old.register) (K.seen self.old.keeper) (K.seen self.new.keeper) (Pose ListClosed) (Replied ListClosed (told_all result)) }
+        ensures door { MeetsDoor (door_of self.old.register) self.old.keeper self.new.keeper (Pose ListClosed) (Replied ListClosed (told_all result)) }
         ensures register { self.new.register ≡ self.old.register }
     {
         list_closed(self.alloc, &self.register, &mut self.keeper)

@@ -1,6 +1,6 @@
 //! Laws over the definitions alone: whichever ready file is judged first, whatever commands come.
 ghost use Rattle.gaz_hub.specs.Answers.{EveryAnswer};
-ghost use Rattle.gaz_hub.specs.Laws.{AllSound, CallsMakeRuns, EveryAnswerOver, EveryRunFromOver, EveryRunOver, EverySettledRunFromOver, EverySettledRunOver};
+ghost use Rattle.gaz_hub.specs.Laws.{AllSound, CallsMakeRuns, EachIsTold, EveryAnswerOver, EveryRunFromOver, EveryRunOver, EverySettledRunFromOver, EverySettledRunOver};
 ghost use Rattle.gaz_hub.specs.Readings.{EqualAnswers, ExtractsStay, OneHolder};
 ghost use Rattle.gaz_hub.specs.Runs.{EqualReceived, EveryRepeat, EveryRun, EveryRunFrom, EverySettledRun, EverySettledRunFrom, JudgementsStay};
 ghost use Rattle.gaz_hub.specs.Standing.{AnyOrder, MoreFiles, StandingIsSettled};
@@ -75,7 +75,13 @@ pub fn all_sound()
     ensures { AllSound }
 {}
 
-/// Two hubs that received the same tell the same outcomes, standings, look-ups, extracts and closed streets, whatever came and in whatever order.
+/// On a board on which nothing is ready each received file has an outcome, and a hub that is asked for one tells nothing only where
+/// nothing was received.
+pub fn each_is_told()
+    ensures { EachIsTold }
+{}
+
+/// Two hubs that received the same give the same answer to each question, whatever came and in whatever order.
 pub fn equal_answers()
     ensures { EqualAnswers }
 {}

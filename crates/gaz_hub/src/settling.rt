@@ -1,11 +1,13 @@
 //! Judging what is ready, until nothing is.
 ghost use Rattle.std.specs.Prelude.{◌≡◌, ◌≤◌, ⊤, true, IfErr, OnOk};
+ghost use Rattle.std.specs.Fn.{FnOnceReturnsAtMut, FnOnceTakesAtMut};
 ghost use Rattle.gaz_register.specs.Registers.{knows};
 ghost use Rattle.gaz_shelf.specs.Keeper.{IsNotOpen, Seen};
 ghost use Rattle.gaz_hub.specs.Hubs.{door_of};
-ghost use Rattle.gaz_hub.specs.Settling.{Tells, Tries};
+ghost use Rattle.gaz_hub.specs.Settling.{AnswersSettled, SettlesAndCalls, TakesIdle, Tells, Tries};
 
 use crate::looking::{Next, look};
+use crate::refusal::Refusal;
 use gaz_ids::{Code, LAST_VOLUME};
 use gaz_register::Register;
 use gaz_rules::judge;
@@ -90,4 +92,38 @@ pub fn settle<K: Inbox>(
         left -= judged;
     }
     Err(ShelfFault::Store)
+}
+
+/// What a reading tells, once all is settled. It may be any that can be made while no judgement is open.
+pub fn settled<K: Inbox, T, F: FnOnce(&mut K) -> Result<T, ShelfFault>>(
+    alloc: Global,
+    register: &Register,
+    keeper: &mut K,
+    read: F,
+) -> Result<T, ShelfFault>
+    requires idle { IsNotOpen (K.seen keeper.old).progress }
+    requires callable { TakesIdle K.seen (λ mid. FnOnceTakesAtMut F.FnOnce read mid) }
+    ensures { SettlesAndCalls (door_of register.now) K.seen (λ mid told after. FnOnceReturnsAtMut F.FnOnce read mid told after) keeper.old keeper.new result }
+{
+    match settle(alloc, register, keeper) {
+        Ok(()) => read(keeper),
+        Err(fault) => Err(fault),
+    }
+}
+
+/// What a reading tells, once all is settled, as the reply to a question: a fault is `NotReceived` (51).
+pub fn answered<K: Inbox, T, F: FnOnce(&mut K) -> Result<T, ShelfFault>>(
+    alloc: Global,
+    register: &Register,
+    keeper: &mut K,
+    read: F,
+) -> Result<T, Refusal>
+    requires idle { IsNotOpen (K.seen keeper.old).progress }
+    requires callable { TakesIdle K.seen (λ mid. FnOnceTakesAtMut F.FnOnce read mid) }
+    ensures { AnswersSettled (door_of register.now) K.seen (λ mid told after. FnOnceReturnsAtMut F.FnOnce read mid told after) keeper.old keeper.new result }
+{
+    match settled(alloc, register, keeper, read) {
+        Ok(told) => Ok(told),
+        Err(fault) => Err(Refusal::NotReceived(fault)),
+    }
 }

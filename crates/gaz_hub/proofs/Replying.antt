@@ -1,0 +1,87 @@
+-- Questions that are answered as steps.
+use Rattle.std.proofs.Common.{◌≡◌, refl, sym, ap, ◌∙◌, subst, true≢false}
+use Rattle.std.specs.Prelude.{Some, None, Result, Ok, Err, is_some}
+use Rattle.std.specs.Option.{option_and_then}
+use Rattle.gaz_shelf.specs.Keeper.{Content, Seen}
+use Rattle.gaz_shelf.specs.declared.fault.ShelfFault.{ShelfFault}
+use Rattle.gaz_shelf.specs.declared.fault.ShelfFault.TheVariants.{Store}
+use Rattle.gaz_hub.specs.Hubs.{MeetsDoor, Steps, cause_in, or_not_received, state_of}
+use Rattle.gaz_hub.specs.Settling.{AnswersSettled, Looks, Tells}
+use Rattle.gaz_hub.specs.Standing.{NothingReady}
+use Rattle.gaz_hub.specs.Step.{Door, Pose, Question, Replied, Told, answer_to, question_refusal}
+use Rattle.gaz_hub.specs.declared.refusal.Refusal.{Refusal}
+use Rattle.gaz_hub.specs.declared.refusal.Refusal.TheVariants as refusal
+use Rattle.gaz_hub.proofs.Telling.{tells_settled}
+
+-- what is read says this of the question, and a refusal is told as it is
+pub record Says {T : Type 0} (q : Question) (say : T → Told q) (reply : Result T Refusal → Result (Told q) Refusal) : Type 0 where
+  pub ok : (x : T) → reply (Ok x) ≡ Ok (say x)
+  pub err : (r : Refusal) → reply (Err r) ≡ Err r
+
+module _ {T : Type 0} (d : Door) (q : Question) (say : T → Told q) (reply : Result T Refusal → Result (Told q) Refusal) (says : Says q say reply) (let_in : question_refusal d q ≡ None) where
+  -- what is read off a board on which nothing is ready says the answer
+  abbrev pub IsSaid : Content → T → Type 0
+  IsSaid k x = NothingReady k.files k.board → say x ≡ answer_to q d.custodians (state_of k)
+
+  steps_read : (a c : Seen) (r : Result T ShelfFault) → Tells d a c r (IsSaid c.content) → Steps d a c (Pose q) (Replied q (reply (or_not_received r)))
+  steps_read a c (Ok x) l =
+      subst (λ k. Steps d a c (Pose q) (Replied q k)) (sym (says.ok x))
+      (record {
+        harm = l.advances.harm;
+        stands = l.advances.stands;
+        step = λ stood fine. (
+          refl,
+          record {
+            let_in = let_in;
+            received = l.advances.files stood fine;
+            settled = record {
+              follows = l.advances.board stood fine;
+              settled = subst (λ F. NothingReady F c.content.board) (l.advances.files stood fine) (l.settled stood fine);
+            };
+            answer = l.right stood fine (l.settled stood fine);
+          },
+        );
+        idle = l.advances.idle;
+        failures = l.advances.kept;
+        cause = λ stood fine e. cc;
+      })
+  steps_read a c (Err fault) l =
+      subst (λ k. Steps d a c (Pose q) (Replied q k)) (sym (says.err (refusal.NotReceived fault)))
+      (record {
+        harm = l.advances.harm;
+        stands = l.advances.stands;
+        step = λ stood fine. (refl, record { let_in = let_in; received = l.advances.files stood fine; board = l.advances.board stood fine });
+        idle = l.advances.idle;
+        failures = l.advances.kept;
+        cause = λ stood fine e. let store : fault ≡ Store = cc in l.cause stood fine store;
+      })
+
+  pub answered_steps : {K : Type 0} (seen : K → Seen) (Calls : K → Result T ShelfFault → K → Type 0) (old new : K) (result : Result T Refusal) → AnswersSettled d seen Calls old new result
+      → ((mid : K) (r : Result T ShelfFault) → Calls mid r new → Looks (seen mid) (seen new) r (IsSaid (seen mid).content))
+      → Steps d (seen old) (seen new) (Pose q) (Replied q (reply result))
+  answered_steps seen Calls old new result a looks =
+      subst (λ k. Steps d (seen old) (seen new) (Pose q) (Replied q (reply k))) (sym a.told)
+      (steps_read (seen old) (seen new) a.read
+      (tells_settled d seen Calls old new a.read IsSaid a.calls (λ mid called. looks mid a.read called)))
+
+  door_read : {K : Type 0} (old new : K) (r : Result T ShelfFault) → MeetsDoor d old new (Pose q) (Replied q (reply (or_not_received r)))
+  door_read old new (Ok x) =
+      subst (λ k. MeetsDoor d old new (Pose q) (Replied q k)) (sym (says.ok x))
+      (record {
+        early = λ r e. let no : Some r ≡ None = sym e ∙ let_in in cc;
+        late = λ r e. let no : Some r ≡ None = sym e ∙ let_in in absurd (true≢false (ap is_some no));
+        only = λ r e n. cc;
+        unasked = λ h. absurd (true≢false (sym h ∙ ap is_some let_in));
+      })
+  door_read old new (Err fault) =
+      subst (λ k. MeetsDoor d old new (Pose q) (Replied q k)) (sym (says.err (refusal.NotReceived fault)))
+      (record {
+        early = λ r e. let no : Some r ≡ None = sym e ∙ let_in in cc;
+        late = λ r e. let no : Some r ≡ None = sym e ∙ let_in in absurd (true≢false (ap is_some no));
+        only = λ r e n. let no : Some fault ≡ None = ap (option_and_then cause_in) e ∙ n in cc;
+        unasked = λ h. absurd (true≢false (sym h ∙ ap is_some let_in));
+      })
+
+  pub answered_door : {K : Type 0} (seen : K → Seen) (Calls : K → Result T ShelfFault → K → Type 0) (old new : K) (result : Result T Refusal) → AnswersSettled d seen Calls old new result
+      → MeetsDoor d old new (Pose q) (Replied q (reply result))
+  answered_door seen Calls old new result a = subst (λ k. MeetsDoor d old new (Pose q) (Replied q (reply k))) (sym a.told) (door_read old new a.read)

@@ -1,0 +1,20 @@
+-- The list is read off the settled board.
+use Rattle.std.proofs.Common.{rules, refl}
+use Rattle.gaz_hub.specs.Hubs.{door_of, told_all}
+use Rattle.gaz_hub.specs.Step.{ListClosed}
+use Rattle.gaz_hub.proofs.Replying.{answered_door, answered_steps}
+use Rattle.gaz_hub.proofs.Readings.{looks_read}
+use Rattle.std.specs.Global.{Vec}
+use Rattle.gaz_extract.specs.declared.closed.Closed.{Closed}
+use Rattle.gaz_hub.proofs.reading.list_closed.Goals as goal
+
+pub returns-clause-steps : goal.returns-clause-steps
+returns-clause-steps g c =
+    answered_steps (door_of c.args.register.now) (ListClosed) (λ (x : Vec Closed). x.items) told_all (record { ok = λ x. refl; err = λ r. refl }) refl
+    g.K.Shelf.seen _ c.args.keeper.now c.answered.new.keeper c.answered.result c.answered.ensures
+    (λ mid r called. rw (← called.shows, ← called.leaves) (looks_read _ _ _ _ _ (λ x is _. is) (search rules)))
+
+pub returns-clause-door : goal.returns-clause-door
+returns-clause-door g c =
+    answered_door (door_of c.args.register.now) (ListClosed) (λ (x : Vec Closed). x.items) told_all (record { ok = λ x. refl; err = λ r. refl }) refl
+    g.K.Shelf.seen _ c.args.keeper.now c.answered.new.keeper c.answered.result c.answered.ensures
