@@ -17,6 +17,7 @@ keeps_then a b c first second =
       stands = λ stood fine. second.stands (first.stands stood (second.harm fine)) fine;
       content = λ stood fine. second.content (first.stands stood (second.harm fine)) fine ∙ first.content stood (second.harm fine);
       progress = left_then a.progress b.progress c.progress first.progress second.progress;
+      leaves = λ sound k left. first.leaves sound k (second.leaves (λ fine. first.stands (sound (first.harm fine)) fine) k left);
     }
 
 pub still_open : (a b : Seen) (c : ℕ) → Keeps a b → a.progress ≡ Open c → b.progress ≡ Open c

@@ -6,3 +6,4 @@ pub mod Pairs
 pub mod Highest
 pub mod Mem
 pub mod Faulting
+pub mod Written

@@ -36,4 +36,5 @@ around s broken failures = record {
   failures = s.failures + failures;
   is_full = failures == 2 ^ 64 - 1;
   full = full_around s.failures failures;
+  leaves = s.leaves;
 }

@@ -1,5 +1,5 @@
 -- A keeper at one moment, and what each of its calls tells.
-use Rattle.std.specs.Prelude.{◌≡◌, ◌≢◌, ◌≤◌, ◌<◌, ◌+◌, ◌-◌, ◌^◌, ◌==◌, ⊤, ℕ, Bool, true, if◌then◌else◌, List, [], None, IsSome, Result, Err, IfOk, IfErr, OnOk, OnErr, fold}
+use Rattle.std.specs.Prelude.{◌≡◌, ◌≢◌, ◌≤◌, ◌<◌, ◌+◌, ◌-◌, ◌^◌, ◌==◌, ◌⊎◌, ⊤, ℕ, Bool, true, if◌then◌else◌, List, [], Option, None, Some, IsSome, Result, Err, IfOk, IfErr, OnOk, OnErr, fold}
 use Rattle.std.specs.FinMap as map
 use Rattle.gaz_views.specs.Lawful.{IsLawfulView}
 use Rattle.gaz_views.specs.View.{View, empty_view, with_item}
@@ -52,6 +52,8 @@ pub record Seen : Type 1 where
   pub is_full : Bool
   -- and only then; the count of a keeper around another is beyond it where the inner one failed too
   pub full : is_full ≡ true → 2 ^ 64 - 1 ≤ failures
+  -- what a stop at this moment may leave
+  pub leaves : Content → Type 0
 
 -- ---- the content before and after
 
@@ -82,6 +84,10 @@ after_skip k c place rule = with_judgement k c (record { verdict = Rejected plac
 abbrev pub with_received : Content → ℕ → ℕ → List ℕ → Content
 with_received k c volume bytes = record { files = with_file k.files c volume bytes; board = k.board; working = k.working }
 
+-- a stop leaves no working view
+abbrev pub after_stop : Content → Content
+after_stop k = with_working k empty_view
+
 -- ---- what is asked
 
 -- a custodian's next volume is at hand
@@ -106,6 +112,22 @@ viewed Broken k c = last_view k.board c
 abbrev pub view_of : Seen → ℕ → View
 view_of s c = viewed s.progress s.content c
 
+-- ---- what a stop may leave after a call
+
+-- its state stands for its content, unless somebody wrote on what it keeps
+abbrev pub IsSound : Seen → Type 0
+IsSound s = s.unharmed → s.stands
+
+-- nothing that it couldn't leave before, but for the content that the call commits, where it commits one and was unharmed
+abbrev pub LeavesAtMost : Option Content → Seen → Seen → Type 0
+LeavesAtMost None old new = (k : Content) → new.leaves k → old.leaves k
+LeavesAtMost (Some becomes) old new = (k : Content) → new.leaves k → old.leaves k ⊎ (old.unharmed × (k ≡ after_stop becomes))
+
+-- what is committed, and nothing else
+abbrev pub LeavesJust : Option Content → Seen → Type 0
+LeavesJust None new = ⊤
+LeavesJust (Some becomes) new = (k : Content) → new.leaves k → k ≡ after_stop becomes
+
 -- ---- what a call tells
 
 -- no failure is forgotten, and one of the store is counted
@@ -125,6 +147,7 @@ pub record Keeps (old new : Seen) : Type 0 where
   pub stands : old.stands → new.unharmed → new.stands
   pub content : old.stands → new.unharmed → new.content ≡ old.content
   pub progress : IsLeft old.progress new.progress
+  pub leaves : IsSound old → LeavesAtMost None old new
 
 -- a call that reads: its answer is right, and after it no judgement is broken
 pub record Reads {T : Type 0} (old new : Seen) (result : Result T ShelfFault) (IsRight : T → Type 0) : Type 0 where
@@ -134,7 +157,8 @@ pub record Reads {T : Type 0} (old new : Seen) (result : Result T ShelfFault) (I
   pub counts : Counts old new result
 
 -- a call of a judgement: where what it asks is so, the content becomes this one; a fault breaks the judgement and undoes it
-pub record Goes {T : Type 0} (old new : Seen) (result : Result T ShelfFault) (asked : Type 0) (becomes : Content) (after : Progress) : Type 0 where
+pub record Goes {T : Type 0} (old new : Seen) (result : Result T ShelfFault) (asked : Type 0) (becomes : Content) (commits : Option Content)
+    (after : Progress) : Type 0 where
   pub harm : new.unharmed → old.unharmed
   pub stands : old.stands → asked → new.unharmed → new.stands
   pub done : old.stands → asked → new.unharmed → OnOk result (new.content ≡ becomes)
@@ -142,6 +166,8 @@ pub record Goes {T : Type 0} (old new : Seen) (result : Result T ShelfFault) (as
   pub on : OnOk result (new.progress ≡ after)
   pub broken : OnErr result (new.progress ≡ Broken)
   pub counts : Counts old new result
+  pub leaves : IsSound old → asked → LeavesAtMost commits old new
+  pub committed : old.stands → asked → new.unharmed → OnOk result (LeavesJust commits new)
 
 -- a call while no judgement is in progress: where what it asks is so, the content becomes this one; a fault changes nothing
 pub record Enters {T : Type 0} (old new : Seen) (result : Result T ShelfFault) (asked : Type 0) (becomes : Content) : Type 0 where
@@ -152,10 +178,12 @@ pub record Enters {T : Type 0} (old new : Seen) (result : Result T ShelfFault) (
   pub progress : IsLeft old.progress new.progress
   pub cleared : OnOk result (new.progress ≢ Broken)
   pub counts : Counts old new result
+  pub leaves : IsSound old → asked → LeavesAtMost (Some becomes) old new
+  pub committed : old.stands → asked → new.unharmed → OnOk result (LeavesJust (Some becomes) new)
 
 -- the working view becomes this one
 abbrev pub Sets : {T : Type 0} → Seen → Seen → Result T ShelfFault → View → Type 0
-Sets old new result w = Goes old new result ⊤ (with_working old.content w) old.progress
+Sets old new result w = Goes old new result ⊤ (with_working old.content w) None old.progress
 
 -- a broken judgement is refused, which is a failure: it is counted unless the count is at its last value
 abbrev pub Refuses : {T : Type 0} → Seen → Result T ShelfFault → Type 0
@@ -167,6 +195,11 @@ Refuses old result = old.progress ≡ Broken → result ≡ Err (if old.is_full 
 abbrev pub ended : Ending → Content → ℕ → View → Content
 ended Keep k c w = with_judgement k c (record { verdict = Applied; view = w })
 ended Abandon k c w = after_abandon k
+
+-- what ending a judgement so commits
+abbrev pub committed_by : Ending → Content → Option Content
+committed_by Keep becomes = Some becomes
+committed_by Abandon becomes = None
 
 -- items set one after another on a custodian's last view, and the judgement ended
 abbrev pub written : Content → ℕ → List Item → Ending → Content

@@ -43,7 +43,7 @@ lawful_in s = record {
 pub full_in : (failures : ℕ) → (failures == 2 ^ 64 - 1) ≡ true → 2 ^ 64 - 1 ≤ failures
 full_in failures full = le_of_eq (sym (eqb-true failures (2 ^ 64 - 1) full))
 
--- it always stands for its content, and nobody else can write on it
+-- it always stands for its content, and nobody else can write on it; a stop leaves nothing of it
 abbrev pub seen_in : MemShelf → Seen
 seen_in s = record {
   content = content_in s;
@@ -54,4 +54,5 @@ seen_in s = record {
   failures = s.failures;
   is_full = s.failures == 2 ^ 64 - 1;
   full = full_in s.failures;
+  leaves = λ _. ⊥;
 }

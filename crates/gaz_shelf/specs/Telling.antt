@@ -1,5 +1,5 @@
 -- What each call of a keeper tells of it before and after, where `seen` is how it is seen.
-use Rattle.std.specs.Prelude.{◌≡◌, ◌≤◌, ◌++◌, ⊤, ℕ, Bool, List, Option, None, option_map, Result, fold}
+use Rattle.std.specs.Prelude.{◌≡◌, ◌≤◌, ◌++◌, ⊤, ℕ, Bool, List, Option, None, Some, option_map, Result, fold}
 use Rattle.std.specs.FinMap as map
 use Rattle.std.specs.Global.{Vec}
 use Rattle.gaz_ids.specs.declared.lang.Lang.{Lang}
@@ -12,7 +12,8 @@ use Rattle.gaz_views.specs.Words.{approved_of, approved_on, has_children, page, 
 use Rattle.gaz_views.specs.declared.property.Property.{Property}
 use Rattle.gaz_views.specs.declared.verdict.Verdict.{Verdict}
 use Rattle.gaz_shelf.specs.Board.{Board, reached, verdict_on, view_after}
-use Rattle.gaz_shelf.specs.Keeper.{Enters, Goes, Idle, IsAtHand, IsNew, Open, Reads, Seen, Sets, after_begin, after_abandon, after_keep, after_skip, view_of, with_received, written}
+use Rattle.gaz_shelf.specs.Keeper.{Enters, Goes, Idle, IsAtHand, IsNew, Open, Reads, Seen, Sets, after_abandon, after_begin, after_keep, after_skip}
+use Rattle.gaz_shelf.specs.Keeper.{committed_by, view_of, with_received, written}
 use Rattle.gaz_shelf.specs.Received.{count_above}
 use Rattle.gaz_shelf.specs.declared.fault.ShelfFault.{ShelfFault}
 use Rattle.gaz_shelf.specs.declared.writing.Ending.{Ending}
@@ -80,7 +81,8 @@ TellsHeld seen old new result c =
 -- ---- the calls of a judgement, and those outside one
 
 abbrev pub Begins : {K T : Type 0} → (K → Seen) → K → K → Result T ShelfFault → ℕ → Type 0
-Begins seen old new result c = Goes (seen old) (seen new) result (IsAtHand (seen old).content c) (after_begin (seen old).content c) (Open c)
+Begins seen old new result c =
+    Goes (seen old) (seen new) result (IsAtHand (seen old).content c) (after_begin (seen old).content c) None (Open c)
 
 abbrev pub Puts : {K T : Type 0} → (K → Seen) → K → K → Result T ShelfFault → Item → Type 0
 Puts seen old new result item = Sets (seen old) (seen new) result (with_item (seen old).content.working item)
@@ -89,10 +91,12 @@ abbrev pub Takes : {K T : Type 0} → (K → Seen) → K → K → Result T Shel
 Takes seen old new result key = Sets (seen old) (seen new) result (without_key (seen old).content.working key)
 
 abbrev pub Applies : {K T : Type 0} → (K → Seen) → K → K → Result T ShelfFault → Type 0
-Applies seen old new result = Goes (seen old) (seen new) result ⊤ (after_keep (seen old).progress (seen old).content) Idle
+Applies seen old new result =
+    Goes (seen old) (seen new) result ⊤ (after_keep (seen old).progress (seen old).content)
+    (Some (after_keep (seen old).progress (seen old).content)) Idle
 
 abbrev pub Abandons : {K T : Type 0} → (K → Seen) → K → K → Result T ShelfFault → Type 0
-Abandons seen old new result = Goes (seen old) (seen new) result ⊤ (after_abandon (seen old).content) Idle
+Abandons seen old new result = Goes (seen old) (seen new) result ⊤ (after_abandon (seen old).content) None Idle
 
 abbrev pub Skips : {K T : Type 0} → (K → Seen) → K → K → Result T ShelfFault → ℕ → ℕ → ℕ → Type 0
 Skips seen old new result c place rule =
@@ -118,4 +122,5 @@ PutsAll seen old new result items = Sets (seen old) (seen new) result (fold with
 
 abbrev pub Writes : {K T : Type 0} → (K → Seen) → K → K → Result T ShelfFault → ℕ → List Item → Ending → Type 0
 Writes seen old new result c items ending =
-    Goes (seen old) (seen new) result (IsAtHand (seen old).content c) (written (seen old).content c items ending) Idle
+    Goes (seen old) (seen new) result (IsAtHand (seen old).content c) (written (seen old).content c items ending)
+    (committed_by ending (written (seen old).content c items ending)) Idle

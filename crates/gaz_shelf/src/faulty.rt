@@ -85,7 +85,7 @@ impl<K: Inbox + Drop> Faulty<K> {
         requires { progress_around self.old.broken (K.seen self.old.inner).progress ≢ Idle }
         ensures breaks { let old = around (K.seen self.old.inner) self.old.broken self.old.plan.failures in
             let new = around (K.seen self.new.inner) self.new.broken self.new.plan.failures in
-            Goes {T = Unit {0}} old new (Err result) ⊤ (after_abandon (K.seen self.old.inner).content) Idle }
+            Goes {T = Unit {0}} old new (Err result) ⊤ (after_abandon (K.seen self.old.inner).content) None Idle }
         ensures fault { result ≡ failure_of self.old.plan }
         ensures calls { self.new.plan.calls ≡ self.old.plan.calls }
         ensures left { self.new.plan.left ≡ self.old.plan.left }

@@ -1,9 +1,9 @@
 -- What is left comes to the same view. On a broken judgement nothing was put.
 use Rattle.std.proofs.Common.{◌≡◌, ◌≤◌}
-use Rattle.std.specs.Prelude.{fold}
+use Rattle.std.specs.Prelude.{None, fold}
 use Rattle.std.specs.Vec.Iter.{into_iter_items}
 use Rattle.gaz_views.specs.View.{with_item}
-use Rattle.gaz_shelf.specs.Keeper.{Broken, after_abandon, with_working}
+use Rattle.gaz_shelf.specs.Keeper.{Broken, IsSound, LeavesAtMost, after_abandon, with_working}
 use Rattle.gaz_shelf.proofs.writing.put_all.Given as goal
 
 abbrev pub invariant-loop-item : goal.invariant-loop-item
@@ -17,6 +17,7 @@ invariant-loop-item g l =
       counted : was.failures ≤ now.failures;
       left : was.stands → now.unharmed → with_working now.content (fold with_item now.content.working (into_iter_items l.item-iterator)) ≡ with_working was.content (fold with_item was.content.working l.fn.items.items);
       undone : was.stands → now.unharmed → after_abandon now.content ≡ after_abandon was.content;
+      leaves : IsSound was → LeavesAtMost None was now;
       full : was.progress ≡ Broken → now.is_full ≡ was.is_full;
       none_put : was.progress ≡ Broken → into_iter_items l.item-iterator ≡ l.fn.items.items;
     }

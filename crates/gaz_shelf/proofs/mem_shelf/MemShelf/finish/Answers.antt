@@ -14,4 +14,6 @@ returns-in-Ok c =
       on = refl;
       broken = tt;
       counts = record { kept = omega arith; store = tt };
+      leaves = λ _ _ k left. absurd left;
+      committed = λ _ _ _ k left. absurd left;
     }
