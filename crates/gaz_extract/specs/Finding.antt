@@ -38,7 +38,8 @@ has_closed_street v usrn = option_map_or (λ s. is_some s.end) (street_at v usrn
 
 -- the descriptor of this street in this language
 abbrev pub descriptor_at : View → ℕ → Lang → Option DescriptorValue
-descriptor_at v usrn lang = option_and_then as_descriptor (map.get v.items (key.Descriptor usrn lang))
+descriptor_at v usrn lang =
+    option_and_then as_descriptor (map.get v.items (key.Descriptor usrn lang))
 
 -- the BLPU of this number
 abbrev pub blpu_at : View → ℕ → Option BlpuValue
