@@ -54,6 +54,6 @@ abbrev pub closed_left : Board → RegisterValue → ℕ → ℕ → Option Key 
 closed_left board register c volume next =
     closed_among board register c (left_after (view_after board c volume) kind.Lpi next)
 
--- all of them, by custodian
+-- the addresses on closed streets of all custodians of a register, in its order
 abbrev pub closed_streets : Board → RegisterValue → List Closed
 closed_streets board register = flat_map (λ c. closed_of board register c.code) register

@@ -8,7 +8,7 @@ use Rattle.gaz_views.specs.View.{View}
 use Rattle.gaz_views.specs.Words.{rest_of}
 use Rattle.gaz_extract.specs.Extracts.{header, records_from, trailer}
 
--- the text so far, and the order of the next record
+-- a draft: the text so far, and the order of the next record
 pub record DraftValue : Type 0 where
   pub text : List ℕ
   pub next : ℕ
@@ -20,11 +20,11 @@ with_items draft items = record {
   next = draft.next + length items;
 }
 
--- the header alone
+-- a draft with the header alone
 abbrev pub begun_draft : ℕ → ℕ → DraftValue
 begun_draft c volume = record { text = row_text default_writer (header c volume); next = 1 }
 
--- its text with the trailer, which counts the records
+-- a draft's text with the trailer, which counts the records
 abbrev pub ended_text : DraftValue → List ℕ
 ended_text draft = draft.text ++ row_text default_writer (trailer (draft.next - 1))
 

@@ -124,11 +124,11 @@ county_items =
     ∷ item.Descriptor county_road
     ∷ []
 
--- then its other street closes
+-- the county's other street closes
 abbrev pub closing_items : List Item
 closing_items = street 150 (Some (record { year = 2024; month = 4; day = 30 })) ∷ []
 
--- a house on that street
+-- the district's house on the county's other street
 abbrev pub district_items : List Item
 district_items = item.Lpi house_7 ∷ item.Blpu (property 100001 None) ∷ []
 
@@ -144,8 +144,8 @@ district = fold with_item empty_view district_items
 abbrev pub two_custodians : Board
 two_custodians = λ c. if c == 1001
     then record { verdict = Applied; view = county }
-        ∷ record { verdict = Applied; view = county_later }
-        ∷ []
+    ∷ record { verdict = Applied; view = county_later }
+    ∷ []
     else if c == 1002 then record { verdict = Applied; view = district } ∷ [] else []
 
 -- the county's streets are 100 to 199, the district's 200 to 299
@@ -166,17 +166,17 @@ two_in_register =
 -- where properties stand, and how they are addressed
 pub record WorkedLookups : Type 0 where
   pub own_street : lookup two_custodians two_in_register 42 ≡ Some (record {
-      custodian = 1001;
-      uprn = 42;
-      status = Approved;
-      line = Some (codes "Flat 2, 12A-14 High Street, Arden, AR1 2DN");
-    })
+    custodian = 1001;
+    uprn = 42;
+    status = Approved;
+    line = Some (codes "Flat 2, 12A-14 High Street, Arden, AR1 2DN");
+  })
   pub street_of_another : lookup two_custodians two_in_register 100001 ≡ Some (record {
-      custodian = 1002;
-      uprn = 100001;
-      status = Approved;
-      line = Some (codes "7 County Road, Arden");
-    })
+    custodian = 1002;
+    uprn = 100001;
+    status = Approved;
+    line = Some (codes "7 County Road, Arden");
+  })
   pub nowhere : lookup two_custodians two_in_register 43 ≡ None
 
 pub record WorkedClosings : Type 0 where

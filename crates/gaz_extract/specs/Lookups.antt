@@ -34,7 +34,7 @@ abbrev pub line_at : Board → RegisterValue → ℕ → Option LpiValue → Blp
 line_at board register c address blpu =
     option_and_then
     (λ lpi. option_map (λ descriptor. line_text lpi descriptor blpu)
-        (descriptor_now board register c lpi))
+    (descriptor_now board register c lpi))
     address
 
 -- the line of a custodian's property at its approved address
