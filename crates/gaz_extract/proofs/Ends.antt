@@ -6,14 +6,10 @@ use Rattle.csv.specs.Writing.{default_writer, row_text}
 use Rattle.gaz_records.specs.declared.item.Item.{Item}
 use Rattle.gaz_rows.specs.Rows.{lines_of}
 use Rattle.gaz_shelf.specs.Board.{Board, reached, view_after}
-use Rattle.gaz_extract.specs.Drafts.{DraftValue, by_kind, with_items}
+use Rattle.gaz_extract.specs.Drafts.{DraftValue, begun_draft, by_kind, with_items}
 use Rattle.gaz_extract.specs.Extracts.{extract, extract_rows, items_of, header, records_from, trailer}
 use Rattle.gaz_extract.proofs.InOrder.{in_key_order}
 use Rattle.gaz_extract.proofs.Rows.{lines-append}
-
--- the header alone
-abbrev pub begun_draft : ℕ → ℕ → DraftValue
-begun_draft c volume = record { text = row_text default_writer (header c volume); next = 1 }
 
 pub finished : (c volume : ℕ) (items : List Item) → (with_items (begun_draft c volume) items).text ++ row_text default_writer (trailer ((with_items (begun_draft c volume) items).next - 1)) ≡ lines_of (extract_rows c volume items)
 unfolding lines_of

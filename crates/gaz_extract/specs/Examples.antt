@@ -1,5 +1,6 @@
 -- Worked examples, computed from the definitions.
-use Rattle.std.specs.Prelude.{◌≡◌, ℕ, ◌==◌, List, [], ◌∷◌, ◌++◌, fold, Option, Some, None, if◌then◌else◌, codes}
+use Rattle.std.specs.Prelude.{◌≡◌, ℕ, ◌==◌, List, [], ◌∷◌, ◌++◌, fold, Option, Some, None}
+use Rattle.std.specs.Prelude.{if◌then◌else◌, codes}
 use Rattle.gaz_ids.specs.declared.lang.Lang.TheVariants.{Eng}
 use Rattle.gaz_ids.specs.declared.status.Status.{Status}
 use Rattle.gaz_ids.specs.declared.status.Status.TheVariants.{Approved, Historical, Provisional}
@@ -36,17 +37,45 @@ named text = record { range = None; text = Some text }
 -- an English address of a property on a street
 abbrev pub address : List ℕ → ℕ → Status → ℕ → Option ObjectValue → ObjectValue → LpiValue
 address text uprn status usrn secondary primary =
-    record { key = text; uprn = uprn; lang = Eng; status = status; usrn = usrn; secondary = secondary; primary = primary; start = spring; end = None }
+    record {
+      key = text;
+      uprn = uprn;
+      lang = Eng;
+      status = status;
+      usrn = usrn;
+      secondary = secondary;
+      primary = primary;
+      start = spring;
+      end = None;
+    }
 
 -- what a street is called in English, with no locality
 abbrev pub street_name : ℕ → List ℕ → Option (List ℕ) → List ℕ → DescriptorValue
-street_name usrn description town area = record { usrn = usrn; lang = Eng; description = description; locality = None; town = town; area = area }
+street_name usrn description town area = record {
+  usrn = usrn;
+  lang = Eng;
+  description = description;
+  locality = None;
+  town = town;
+  area = area;
+}
 
 abbrev pub property : ℕ → Option (List ℕ) → BlpuValue
-property uprn postcode = record { uprn = uprn; status = Approved; easting = 0; northing = 0; parent = None; postcode = postcode; start = spring; end = None }
+property uprn postcode = record {
+  uprn = uprn;
+  status = Approved;
+  easting = 0;
+  northing = 0;
+  parent = None;
+  postcode = postcode;
+  start = spring;
+  end = None;
+}
 
 abbrev pub flat_2 : LpiValue
-flat_2 = address (codes "L1") 42 Approved 101 (Some (named (codes "Flat 2"))) (from_to (number 12 (Some 65)) (Some (number 14 None)))
+flat_2 =
+    address (codes "L1") 42 Approved 101 (Some (named (codes "Flat 2")))
+    (from_to (number 12 (Some 65)) (Some (number 14 None)))
 
 abbrev pub high_street : DescriptorValue
 high_street = street_name 101 (codes "High Street") (Some (codes "Arden")) (codes "Arden")
@@ -59,12 +88,24 @@ house_7 = address (codes "K1") 100001 Approved 150 None (from_to (number 7 None)
 
 -- an address by its parts
 pub record WorkedLines : Type 0 where
-  pub a_flat : line_text flat_2 high_street (property 42 (Some (codes "AR1 2DN"))) ≡ codes "Flat 2, 12A-14 High Street, Arden, AR1 2DN"
-  pub a_house : line_text (address (codes "L2") 42 Approved 101 None (from_to (number 14 None) None)) high_street (property 42 (Some (codes "AR1 2DN"))) ≡ codes "14 High Street, Arden, AR1 2DN"
-  pub no_postcode : line_text house_7 county_road (property 100001 None) ≡ codes "7 County Road, Arden"
-  pub no_numbers : line_text (address (codes "Q1") 200000 Provisional 300 None (named (codes "The Old Mill"))) (street_name 300 (codes "Mill Lane, rear of") (Some (codes "Bay")) (codes "Bay Area")) (property 200000 None) ≡ codes "The Old Mill, Mill Lane, rear of, Bay, Bay Area"
+  pub a_flat : line_text flat_2 high_street (property 42 (Some (codes "AR1 2DN")))
+      ≡ codes "Flat 2, 12A-14 High Street, Arden, AR1 2DN"
+  pub a_house :
+      line_text (address (codes "L2") 42 Approved 101 None (from_to (number 14 None) None))
+      high_street (property 42 (Some (codes "AR1 2DN")))
+      ≡ codes "14 High Street, Arden, AR1 2DN"
+  pub no_postcode : line_text house_7 county_road (property 100001 None)
+      ≡ codes "7 County Road, Arden"
+  pub no_numbers :
+      line_text (address (codes "Q1") 200000 Provisional 300 None (named (codes "The Old Mill")))
+      (street_name 300 (codes "Mill Lane, rear of") (Some (codes "Bay")) (codes "Bay Area"))
+      (property 200000 None)
+      ≡ codes "The Old Mill, Mill Lane, rear of, Bay, Bay Area"
   -- with no town the area stands
-  pub no_town : line_text house_7 (street_name 150 (codes "County Road") None (codes "Arden")) (property 100001 None) ≡ codes "7 County Road, Arden"
+  pub no_town :
+      line_text house_7 (street_name 150 (codes "County Road") None (codes "Arden"))
+      (property 100001 None)
+      ≡ codes "7 County Road, Arden"
 
 -- ---- a county and a district
 
@@ -83,11 +124,11 @@ county_items =
     ∷ item.Descriptor county_road
     ∷ []
 
--- then its other street closes
+-- the county's other street closes
 abbrev pub closing_items : List Item
 closing_items = street 150 (Some (record { year = 2024; month = 4; day = 30 })) ∷ []
 
--- a house on that street
+-- the district's house on the county's other street
 abbrev pub district_items : List Item
 district_items = item.Lpi house_7 ∷ item.Blpu (property 100001 None) ∷ []
 
@@ -102,31 +143,56 @@ district = fold with_item empty_view district_items
 
 abbrev pub two_custodians : Board
 two_custodians = λ c. if c == 1001
-    then record { verdict = Applied; view = county } ∷ record { verdict = Applied; view = county_later } ∷ []
+    then record { verdict = Applied; view = county }
+    ∷ record { verdict = Applied; view = county_later }
+    ∷ []
     else if c == 1002 then record { verdict = Applied; view = district } ∷ [] else []
 
 -- the county's streets are 100 to 199, the district's 200 to 299
 abbrev pub two_in_register : RegisterValue
 two_in_register =
-    record { code = 1001; name = codes "Upper County"; own = record { uprn = (1, 99999) ∷ []; usrn = (100, 199) ∷ [] } }
-    ∷ record { code = 1002; name = codes "Lower District"; own = record { uprn = (100000, 199999) ∷ []; usrn = (200, 299) ∷ [] } }
+    record {
+      code = 1001;
+      name = codes "Upper County";
+      own = record { uprn = (1, 99999) ∷ []; usrn = (100, 199) ∷ [] };
+    }
+    ∷ record {
+      code = 1002;
+      name = codes "Lower District";
+      own = record { uprn = (100000, 199999) ∷ []; usrn = (200, 299) ∷ [] };
+    }
     ∷ []
 
 -- where properties stand, and how they are addressed
 pub record WorkedLookups : Type 0 where
-  pub own_street : lookup two_custodians two_in_register 42 ≡ Some (record { custodian = 1001; uprn = 42; status = Approved; line = Some (codes "Flat 2, 12A-14 High Street, Arden, AR1 2DN") })
-  pub street_of_another : lookup two_custodians two_in_register 100001 ≡ Some (record { custodian = 1002; uprn = 100001; status = Approved; line = Some (codes "7 County Road, Arden") })
+  pub own_street : lookup two_custodians two_in_register 42 ≡ Some (record {
+    custodian = 1001;
+    uprn = 42;
+    status = Approved;
+    line = Some (codes "Flat 2, 12A-14 High Street, Arden, AR1 2DN");
+  })
+  pub street_of_another : lookup two_custodians two_in_register 100001 ≡ Some (record {
+    custodian = 1002;
+    uprn = 100001;
+    status = Approved;
+    line = Some (codes "7 County Road, Arden");
+  })
   pub nowhere : lookup two_custodians two_in_register 43 ≡ None
 
 pub record WorkedClosings : Type 0 where
-  pub one_address : closed_streets two_custodians two_in_register ≡ record { custodian = 1002; lpi = codes "K1"; usrn = 150 } ∷ []
+  pub one_address : closed_streets two_custodians two_in_register
+      ≡ record { custodian = 1002; lpi = codes "K1"; usrn = 150 } ∷ []
 
 -- each line with its end
 abbrev pub line : List ℕ → List ℕ
 line text = text ++ 10 ∷ []
 
 pub record WorkedExtracts : Type 0 where
-  pub of_the_district : extract two_custodians 1002 1 ≡ Some (line (codes "10,E,1002,1") ++ (line (codes "21,I,1,100001,1,0,0,,,2001-04-01,") ++ (line (codes "24,I,2,K1,100001,ENG,1,150,,,,,,7,,,,,2001-04-01,") ++ line (codes "99,2"))))
+  pub of_the_district : extract two_custodians 1002 1 ≡ Some
+      (line (codes "10,E,1002,1")
+      ++ (line (codes "21,I,1,100001,1,0,0,,,2001-04-01,")
+      ++ (line (codes "24,I,2,K1,100001,ENG,1,150,,,,,,7,,,,,2001-04-01,")
+      ++ line (codes "99,2"))))
   pub not_reached : extract two_custodians 1002 2 ≡ None
   pub before_any : extract two_custodians 1003 1 ≡ None
 

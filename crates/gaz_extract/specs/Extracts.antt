@@ -1,5 +1,6 @@
 -- The whole view of a custodian after a volume, as a file of insertions.
-use Rattle.std.specs.Prelude.{ℕ, ◌+◌, nat_le, List, [], ◌∷◌, ◌++◌, length, map, codes, decimal, Option, Some, None, if◌then◌else◌}
+use Rattle.std.specs.Prelude.{ℕ, ◌+◌, nat_le, List, [], ◌∷◌, ◌++◌, length, map, codes, decimal}
+use Rattle.std.specs.Prelude.{Option, Some, None, if◌then◌else◌}
 use Rattle.gaz_records.specs.Items.{item_texts, kind_of}
 use Rattle.gaz_records.specs.Kinds.{identifier}
 use Rattle.gaz_records.specs.declared.item.Item.{Item}
@@ -17,9 +18,11 @@ abbrev pub records_from : ℕ → List Item → List Fields
 records_from order [] = []
 records_from order (i ∷ is) = record_of order i ∷ records_from (order + 1) is
 
+-- the first record, of a custodian's code and a volume
 abbrev pub header : ℕ → ℕ → Fields
 header c volume = codes "10" ∷ codes "E" ∷ decimal c ∷ decimal volume ∷ []
 
+-- the last record, of the number of records between
 abbrev pub trailer : ℕ → Fields
 trailer count = codes "99" ∷ decimal count ∷ []
 
@@ -27,10 +30,13 @@ trailer count = codes "99" ∷ decimal count ∷ []
 abbrev pub items_of : View → List Item
 items_of v = map (λ e. e.1) (entries v)
 
--- header, a record for each item, trailer
+-- the header, a record for each item, and the trailer
 abbrev pub extract_rows : ℕ → ℕ → List Item → List Fields
-extract_rows c volume items = header c volume ∷ (records_from 1 items ++ trailer (length items) ∷ [])
+extract_rows c volume items =
+    header c volume ∷ (records_from 1 items ++ trailer (length items) ∷ [])
 
--- the view of a custodian after a volume; none where the volume isn't reached
+-- the text of a custodian's view after a volume; none where the volume isn't reached
 abbrev pub extract : Board → ℕ → ℕ → Option (List ℕ)
-extract B c volume = if nat_le volume (reached B c) then Some (lines_of (extract_rows c volume (items_of (view_after B c volume)))) else None
+extract board c volume =
+    if nat_le volume (reached board c)
+    then Some (lines_of (extract_rows c volume (items_of (view_after board c volume)))) else None

@@ -12,18 +12,22 @@ use Rattle.gaz_records.specs.declared.item.Item.TheVariants as item
 use Rattle.gaz_records.specs.declared.key.Key.TheVariants as key
 use Rattle.gaz_views.specs.View.{View}
 
+-- the street, where an item is one
 abbrev pub as_street : Item → Option StreetValue
 as_street (item.Street s) = Some s
 as_street _ = None
 
+-- the descriptor, where an item is one
 abbrev pub as_descriptor : Item → Option DescriptorValue
 as_descriptor (item.Descriptor d) = Some d
 as_descriptor _ = None
 
+-- the BLPU, where an item is one
 abbrev pub as_blpu : Item → Option BlpuValue
 as_blpu (item.Blpu b) = Some b
 as_blpu _ = None
 
+-- the LPI, where an item is one
 abbrev pub as_lpi : Item → Option LpiValue
 as_lpi (item.Lpi l) = Some l
 as_lpi _ = None
@@ -38,7 +42,8 @@ has_closed_street v usrn = option_map_or (λ s. is_some s.end) (street_at v usrn
 
 -- the descriptor of this street in this language
 abbrev pub descriptor_at : View → ℕ → Lang → Option DescriptorValue
-descriptor_at v usrn lang = option_and_then as_descriptor (map.get v.items (key.Descriptor usrn lang))
+descriptor_at v usrn lang =
+    option_and_then as_descriptor (map.get v.items (key.Descriptor usrn lang))
 
 -- the BLPU of this number
 abbrev pub blpu_at : View → ℕ → Option BlpuValue

@@ -1,5 +1,6 @@
 -- What holds of every extract.
-use Rattle.std.specs.Prelude.{◌≡◌, ◌∷◌, ℕ, List, [], codes, fold, Option, Some, None, true, if◌then◌else◌}
+use Rattle.std.specs.Prelude.{◌≡◌, ◌∷◌, ℕ, List, [], codes, fold, Option, Some, None, true}
+use Rattle.std.specs.Prelude.{if◌then◌else◌}
 use Rattle.std.specs.List.{All, filter_map}
 use Rattle.std.specs.Option.{option_and_then}
 use Rattle.std.specs.Str.{bytes_eq}
@@ -15,9 +16,12 @@ use Rattle.gaz_extract.specs.Extracts.{extract, items_of}
 
 -- ---- an extract as it is read
 
--- the item that a row inserts, of the kind that its identifier names; none where it is no record that inserts one, as a header or a trailer
+-- the item that a row inserts, of the kind that its identifier names; none where it is no record
+-- that inserts one, as a header or a trailer
 abbrev pub inserted : Fields → Option Item
-inserted (id ∷ (change ∷ (order ∷ fields))) = if bytes_eq change (codes "I") then option_and_then (λ k. ok_of (read_item k fields)) (identified id) else None
+inserted (id ∷ (change ∷ (order ∷ fields))) =
+    if bytes_eq change (codes "I")
+    then option_and_then (λ k. ok_of (read_item k fields)) (identified id) else None
 inserted _ = None
 
 -- the items that the rows of a text insert, one after another
@@ -30,12 +34,15 @@ items_read text = filter_map inserted (rows_of text)
 abbrev pub HasItems : View → Type 0
 HasItems v = All (λ i. is_item i ≡ true) (items_of v)
 
--- the rows of a text insert just the items of a view, in the order of keys; put on the empty view they give what it holds
+-- the rows of a text insert just the items of a view, in the order of keys; put on the empty view
+-- they give what it holds
 pub record GivesBack (text : List ℕ) (v : View) : Type 0 where
   pub items : items_read text ≡ items_of v
   pub holds : (fold with_item empty_view (items_read text)).items ≡ v.items
 
 -- the extract of a view gives it back
 abbrev pub ExtractsReadBack : Type 0
-ExtractsReadBack = (B : Board) (c volume : ℕ) (text : List ℕ) → extract B c volume ≡ Some text
-    → IsKeyed (view_after B c volume) → HasItems (view_after B c volume) → GivesBack text (view_after B c volume)
+ExtractsReadBack = (board : Board) (c volume : ℕ) (text : List ℕ)
+    → extract board c volume ≡ Some text
+    → IsKeyed (view_after board c volume) → HasItems (view_after board c volume)
+    → GivesBack text (view_after board c volume)

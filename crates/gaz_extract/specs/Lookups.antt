@@ -17,29 +17,43 @@ use Rattle.gaz_extract.specs.declared.found.Found.{Found}
 abbrev pub address_in : View → ℕ → Option LpiValue
 address_in v uprn = option_and_then as_lpi (address_of v uprn)
 
--- whose last view tells of a street now: the custodian itself, where the street is in its last view, else the one whose block holds it
-abbrev pub keeper_of_street : Board → RegisterValue → ℕ → ℕ → Option ℕ
-keeper_of_street B register c usrn =
-    if is_some (street_at (last_view B c) usrn) then Some c else owner_of_usrn register usrn
+-- whose last view tells of a street now: the custodian itself, where the street is in its last
+-- view, else the one whose block holds it
+abbrev pub owner_of_street : Board → RegisterValue → ℕ → ℕ → Option ℕ
+owner_of_street board register c usrn =
+    if is_some (street_at (last_view board c) usrn) then Some c else owner_of_usrn register usrn
 
 -- the descriptor of an address's street in its language, from that last view
 abbrev pub descriptor_now : Board → RegisterValue → ℕ → LpiValue → Option DescriptorValue
-descriptor_now B register c lpi = option_and_then (λ d. descriptor_at (last_view B d) lpi.usrn lpi.lang) (keeper_of_street B register c lpi.usrn)
+descriptor_now board register c lpi =
+    option_and_then (λ owner. descriptor_at (last_view board owner) lpi.usrn lpi.lang)
+    (owner_of_street board register c lpi.usrn)
 
 -- the line of a custodian's property at this address; none without an address or its descriptor
 abbrev pub line_at : Board → RegisterValue → ℕ → Option LpiValue → BlpuValue → Option (List ℕ)
-line_at B register c address blpu = option_and_then (λ lpi. option_map (λ d. line_text lpi d blpu) (descriptor_now B register c lpi)) address
+line_at board register c address blpu =
+    option_and_then
+    (λ lpi. option_map (λ descriptor. line_text lpi descriptor blpu)
+    (descriptor_now board register c lpi))
+    address
 
 -- the line of a custodian's property at its approved address
 abbrev pub line_now : Board → RegisterValue → ℕ → ℕ → BlpuValue → Option (List ℕ)
-line_now B register c uprn blpu = line_at B register c (address_in (last_view B c) uprn) blpu
+line_now board register c uprn blpu =
+    line_at board register c (address_in (last_view board c) uprn) blpu
 
 -- what a custodian's last view says of a property, where the property stands in it
 abbrev pub said_by : Board → RegisterValue → ℕ → ℕ → Option Found
-said_by B register uprn c = option_map
-    (λ blpu. record { custodian = c; uprn = uprn; status = blpu.status; line = line_now B register c uprn blpu })
-    (blpu_at (last_view B c) uprn)
+said_by board register uprn c = option_map
+    (λ blpu. record {
+      custodian = c;
+      uprn = uprn;
+      status = blpu.status;
+      line = line_now board register c uprn blpu;
+    })
+    (blpu_at (last_view board c) uprn)
 
 -- where a property stands: with the least custodian of the register in whose last view it does
 abbrev pub lookup : Board → RegisterValue → ℕ → Option Found
-lookup B register uprn = first_of (filter_map (λ c. said_by B register uprn c.code) register)
+lookup board register uprn =
+    first_of (filter_map (λ c. said_by board register uprn c.code) register)

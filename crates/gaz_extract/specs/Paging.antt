@@ -4,7 +4,8 @@ use Rattle.gaz_records.specs.SortKeys.{high_of, low_of, seven_bytes}
 use Rattle.gaz_records.specs.declared.key.Key.{Key}
 use Rattle.gaz_views.specs.Words.{comes_after}
 
--- the key after which the next page would begin, where it comes after the one after which this page began
+-- the key after which the next page would begin, where it comes after the one after which this page
+-- began
 abbrev pub rising : Option Key → Option Key → Option Key
 rising after None = None
 rising after (Some k) = if comes_after after k then Some k else None

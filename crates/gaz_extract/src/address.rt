@@ -1,7 +1,8 @@
 ghost use Rattle.std.specs.Prelude.{◌≡◌, ◌++◌, codes, IfOk, OnOk, option_map};
 ghost use Rattle.std.specs.String.{string_bytes};
 ghost use Rattle.gaz_addressable.specs.HouseNumbers.{number_text, range_text};
-ghost use Rattle.gaz_extract.specs.Lines.{area_of, is_town, line_text, numbers_of, on_street, text_of};
+ghost use Rattle.gaz_extract.specs.Lines.{area_of, is_town, line_text, numbers_of, on_street};
+ghost use Rattle.gaz_extract.specs.Lines.{text_of};
 ghost use Rattle.gaz_extract.specs.Pieces.{after, before};
 
 use gaz_addressable::{HouseNumber, Object, Range, Text};
@@ -96,7 +97,8 @@ fn add_after<const MOST: u64>(out: &mut String, part: &Option<Text<MOST>>) -> Re
 
 // Adds the text and the numbers of the secondary object.
 fn add_secondary(out: &mut String, object: &Option<Object>) -> Result<(), AllocError>
-    ensures { OnOk result (string_bytes out.new ≡ string_bytes out.old ++ (before (text_of object.now) ++ before (numbers_of object.now))) }
+    ensures { OnOk result (string_bytes out.new ≡ string_bytes out.old
+        ++ (before (text_of object.now) ++ before (numbers_of object.now))) }
 {
     let Some(object) = object else {
         return Ok(());
@@ -111,7 +113,8 @@ fn add_secondary(out: &mut String, object: &Option<Object>) -> Result<(), AllocE
 
 // Adds the house numbers on the street, if there are any, and its description.
 fn add_street(out: &mut String, range: &Option<Range>, description: &str) -> Result<(), AllocError>
-    ensures { OnOk result (string_bytes out.new ≡ string_bytes out.old ++ on_street range.now description.now) }
+    ensures { OnOk result (string_bytes out.new ≡ string_bytes out.old
+        ++ on_street range.now description.now) }
 {
     if let Some(range) = range {
         add_range(out, range)?;
@@ -132,7 +135,8 @@ fn is_town(town: &Option<Text<30>>, text: &Text<30>) -> bool
 
 // Adds the administrative area, where its text differs from the town's.
 fn add_area(out: &mut String, descriptor: &Descriptor) -> Result<(), AllocError>
-    ensures { OnOk result (string_bytes out.new ≡ string_bytes out.old ++ after (area_of descriptor.now)) }
+    ensures { OnOk result (string_bytes out.new ≡ string_bytes out.old
+        ++ after (area_of descriptor.now)) }
 {
     if is_town(&descriptor.town, &descriptor.area) {
         return Ok(());
@@ -142,9 +146,10 @@ fn add_area(out: &mut String, descriptor: &Descriptor) -> Result<(), AllocError>
 }
 
 #[tactic(auto, using(crate::proofs::Joins::line_is))]
-/// The address line: with comma and space between them the parts that are there, which are the secondary text, the secondary
-/// numbers, the primary text, the primary numbers and the street's description (one space between them), the locality, the town,
-/// the administrative area where its text differs from the town's, and the postcode (our profile, docs/extracts.md).
+/// The address line: with comma and space between them the parts that are there, which are the
+/// secondary text, the secondary numbers, the primary text, the primary numbers and the street's
+/// description (one space between them), the locality, the town, the administrative area where its
+/// text differs from the town's, and the postcode (our profile, docs/extracts.md).
 pub fn line(
     alloc: Global,
     lpi: &Lpi,

@@ -1,7 +1,7 @@
 ghost use Rattle.std.specs.Prelude.{◌≡◌, ◌≤◌, ◌++◌, ◌-◌, ◌∷◌, [], length, map, decimal, IfOk, OnOk};
 ghost use Rattle.csv.specs.Writing.{default_writer, row_text};
-ghost use Rattle.gaz_extract.specs.Drafts.{with_items};
-ghost use Rattle.gaz_extract.specs.Extracts.{header, record_of, trailer};
+ghost use Rattle.gaz_extract.specs.Drafts.{begun_draft, ended_text, with_items};
+ghost use Rattle.gaz_extract.specs.Extracts.{record_of};
 
 use gaz_ids::{Code, Volume};
 use gaz_records::{Item, SharedItem, write_item};
@@ -39,7 +39,8 @@ fn add_number(out: &mut Vec<u8>, number: u64) -> Result<(), AllocError>
 
 // Adds the record that inserts an item, with its line end.
 fn add_record(out: &mut Vec<u8>, order: u64, item: &Item) -> Result<(), AllocError>
-    ensures { OnOk result (out.new.items ≡ out.old.items ++ row_text default_writer (record_of order item.now)) }
+    ensures { OnOk result (out.new.items ≡ out.old.items
+        ++ row_text default_writer (record_of order item.now)) }
 {
     out.extend_from_slice(item.kind().text())?;
     out.extend_from_slice(b",I,")?;
@@ -53,7 +54,8 @@ fn add_record(out: &mut Vec<u8>, order: u64, item: &Item) -> Result<(), AllocErr
 // Adds a row and its line end.
 fn add_row(alloc: Global, out: &mut Vec<u8>, fields: &[&[u8]]) -> Result<(), AllocError>
     requires { 2 ≤ length fields.now }
-    ensures { OnOk result (out.new.items ≡ out.old.items ++ row_text default_writer (map (λ f. f.now) fields.now)) }
+    ensures { OnOk result (out.new.items ≡ out.old.items
+        ++ row_text default_writer (map (λ f. f.now) fields.now)) }
 {
     let row = write_row(alloc, fields)?;
     out.extend_from_slice(&row)?;
@@ -64,7 +66,7 @@ fn add_row(alloc: Global, out: &mut Vec<u8>, fields: &[&[u8]]) -> Result<(), All
 impl Draft {
     /// The header alone.
     pub fn new(alloc: Global, code: Code, volume: Volume) -> Result<Draft, AllocError>
-        ensures { IfOk result (λ d. d ≡ record { text = row_text default_writer (header code volume); next = 1 }) }
+        ensures { IfOk result (λ d. d ≡ begun_draft code volume) }
     {
         let mut text = Vec::new(alloc);
         let code = format!(in alloc; "{code}")?;
@@ -99,7 +101,7 @@ impl Draft {
 
     /// The text with the trailer.
     pub fn finish(self, alloc: Global) -> Result<Vec<u8>, AllocError>
-        ensures { IfOk result (λ t. t.items ≡ self.text ++ row_text default_writer (trailer (self.next - 1))) }
+        ensures { IfOk result (λ t. t.items ≡ ended_text self) }
     {
         let Draft { mut text, next } = self;
         let count = format!(in alloc; "{}", next - 1)?;

@@ -1,12 +1,10 @@
 ghost use Rattle.std.specs.Prelude.{◌≡◌, ◌≤◌, ◌<◌, None, true, is_some, option_map, IfOk};
-ghost use Rattle.gaz_shelf.specs.Board.{reached, view_after};
-ghost use Rattle.gaz_shelf.specs.Keeper.{IsNotOpen};
 ghost use Rattle.gaz_views.specs.Reading.{left_after};
 ghost use Rattle.gaz_views.specs.Words.{rest_of};
 ghost use Rattle.gaz_extract.specs.Drafts.{by_kind, with_items};
 ghost use Rattle.gaz_extract.specs.Extracts.{extract};
 ghost use Rattle.gaz_extract.specs.Paging.{pages_left};
-ghost use Rattle.gaz_extract.specs.Readings.{Looks};
+ghost use Rattle.gaz_extract.specs.Readings.{IsNotJudging, LooksAfter, LooksAtBoard};
 
 use crate::draft::Draft;
 use crate::page::read_page;
@@ -23,20 +21,22 @@ struct Written {
 }
 
 // The draft with the records of the page after a key.
-fn add_page<S: Shelf>(
-    shelf: &mut S,
+fn add_page<K: Shelf>(
+    keeper: &mut K,
     code: Code,
     volume: u64,
     kind: Kind,
     after: Option<Key>,
     draft: Draft,
 ) -> Result<Written, ShelfFault>
-    requires { IsNotOpen (S.seen shelf.old).progress }
-    ensures tells { Looks (S.seen shelf.old) (S.seen shelf.new) result (λ w. volume ≤ reached (S.seen shelf.old).content.board code → with_items w.draft (left_after (view_after (S.seen shelf.old).content.board code volume) kind w.next) ≡ with_items draft (rest_of (view_after (S.seen shelf.old).content.board code volume) kind after)) }
+    requires { IsNotJudging K.seen keeper.old }
+    ensures tells { LooksAfter K.seen keeper.old keeper.new result code volume
+        (λ view w. with_items w.draft (left_after view kind w.next)
+        ≡ with_items draft (rest_of view kind after)) }
     ensures fewer { is_some after ≡ true → IfOk result (λ w. pages_left w.next < pages_left after) }
-    ensures not_open { IsNotOpen (S.seen shelf.new).progress }
+    ensures not_open { IsNotJudging K.seen keeper.new }
 {
-    let page = read_page(shelf, code, volume, kind, after)?;
+    let page = read_page(keeper, code, volume, kind, after)?;
     let draft = draft.append(page.items.as_slice())?;
     Ok(Written {
         draft,
@@ -45,66 +45,70 @@ fn add_page<S: Shelf>(
 }
 
 // The draft with the records of a kind.
-fn add_kind<S: Shelf>(
-    shelf: &mut S,
+fn add_kind<K: Shelf>(
+    keeper: &mut K,
     code: Code,
     volume: u64,
     kind: Kind,
     draft: Draft,
 ) -> Result<Draft, ShelfFault>
-    requires { IsNotOpen (S.seen shelf.old).progress }
-    ensures tells { Looks (S.seen shelf.old) (S.seen shelf.new) result (λ d. volume ≤ reached (S.seen shelf.old).content.board code → d ≡ with_items draft (rest_of (view_after (S.seen shelf.old).content.board code volume) kind None)) }
-    ensures not_open { IsNotOpen (S.seen shelf.new).progress }
+    requires { IsNotJudging K.seen keeper.old }
+    ensures tells { LooksAfter K.seen keeper.old keeper.new result code volume
+        (λ view d. d ≡ with_items draft (rest_of view kind None)) }
+    ensures not_open { IsNotJudging K.seen keeper.new }
 {
-    let mut written = add_page(shelf, code, volume, kind, None, draft)?;
+    let mut written = add_page(keeper, code, volume, kind, None, draft)?;
     'pages: loop {
         let Written { draft, next } = written;
         if next.is_none() {
             return Ok(draft);
         }
-        written = add_page(shelf, code, volume, kind, next, draft)?;
+        written = add_page(keeper, code, volume, kind, next, draft)?;
     }
 }
 
 // The draft with the records of a view.
-fn add_view<S: Shelf>(
-    shelf: &mut S,
+fn add_view<K: Shelf>(
+    keeper: &mut K,
     code: Code,
     volume: u64,
     draft: Draft,
 ) -> Result<Draft, ShelfFault>
-    requires { IsNotOpen (S.seen shelf.old).progress }
-    ensures tells { Looks (S.seen shelf.old) (S.seen shelf.new) result (λ d. volume ≤ reached (S.seen shelf.old).content.board code → d ≡ with_items draft (by_kind (view_after (S.seen shelf.old).content.board code volume))) }
-    ensures not_open { IsNotOpen (S.seen shelf.new).progress }
+    requires { IsNotJudging K.seen keeper.old }
+    ensures tells { LooksAfter K.seen keeper.old keeper.new result code volume
+        (λ view d. d ≡ with_items draft (by_kind view)) }
+    ensures not_open { IsNotJudging K.seen keeper.new }
 {
-    let draft = add_kind(shelf, code, volume, Kind::Street, draft)?;
-    let draft = add_kind(shelf, code, volume, Kind::Descriptor, draft)?;
-    let draft = add_kind(shelf, code, volume, Kind::Blpu, draft)?;
-    let draft = add_kind(shelf, code, volume, Kind::Xref, draft)?;
-    let draft = add_kind(shelf, code, volume, Kind::Lpi, draft)?;
+    let draft = add_kind(keeper, code, volume, Kind::Street, draft)?;
+    let draft = add_kind(keeper, code, volume, Kind::Descriptor, draft)?;
+    let draft = add_kind(keeper, code, volume, Kind::Blpu, draft)?;
+    let draft = add_kind(keeper, code, volume, Kind::Xref, draft)?;
+    let draft = add_kind(keeper, code, volume, Kind::Lpi, draft)?;
     Ok(draft)
 }
 
-/// The view of a custodian after a volume, as a file: the header `10,E,code,volume`, a record of the change type `I` for each item in
-/// the order of keys, with orders 1, 2, 3, .. without limit, and the trailer `99,count`; rows as `csv` writes them, each ended by LF (our
-/// profile, docs/extracts.md). None where the volume isn't reached.
+/// The view of a custodian after a volume, as a file: the header `10,E,code,volume`, a record of
+/// the change type `I` for each item in the order of keys, with orders 1, 2, 3, .. without limit,
+/// and the trailer `99,count`; rows as `csv` writes them, each ended by LF (our profile,
+/// docs/extracts.md). None where the volume isn't reached.
 ///
 /// It takes memory for itself and a page. That `Memory` isn't answered without need no clause says:
 /// `the_largest_file_is_judged_and_told` of `gaz_hub_trials` asks it of 5,000 items.
-pub fn extract<S: Shelf>(
+pub fn extract<K: Shelf>(
     alloc: Global,
-    shelf: &mut S,
+    keeper: &mut K,
     code: Code,
     volume: Volume,
 ) -> Result<Option<Vec<u8>>, ShelfFault>
-    requires { IsNotOpen (S.seen shelf.old).progress }
-    ensures { Looks (S.seen shelf.old) (S.seen shelf.new) result (λ text. option_map (λ t. t.items) text ≡ extract (S.seen shelf.old).content.board code volume) }
+    requires { IsNotJudging K.seen keeper.old }
+    ensures { LooksAtBoard K.seen keeper.old keeper.new result
+        (λ board text. option_map (λ t. t.items) text ≡ extract board code volume) }
 {
-    if shelf.reached(code)? < volume.number() {
+    if keeper.reached(code)? < volume.number() {
         return Ok(None);
     }
     let draft = Draft::new(alloc, code, volume)?;
-    let draft = add_view(shelf, code, volume.number(), draft)?;
+    let draft = add_view(keeper, code, volume.number(), draft)?;
     let text = draft.finish(alloc)?;
     Ok(Some(text))
 }

@@ -2,11 +2,10 @@
 ghost use Rattle.std.specs.Prelude.{◌≡◌, is_some};
 ghost use Rattle.std.specs.FinMap as map;
 ghost use Rattle.std.specs.Option.{option_and_then};
-ghost use Rattle.gaz_shelf.specs.Keeper.{IsNotOpen};
-ghost use Rattle.gaz_shelf.specs.Board.{last_view};
 ghost use Rattle.gaz_views.specs.Words.{property_of};
-ghost use Rattle.gaz_extract.specs.Finding.{as_descriptor, descriptor_at, has_closed_street, street_at};
-ghost use Rattle.gaz_extract.specs.Readings.{Looks};
+ghost use Rattle.gaz_extract.specs.Finding.{as_descriptor, descriptor_at};
+ghost use Rattle.gaz_extract.specs.Finding.{has_closed_street, street_at};
+ghost use Rattle.gaz_extract.specs.Readings.{IsNotJudging, LooksAtLast};
 
 use crate::lend::street_in;
 use gaz_ids::{Code, Lang, Uprn, Usrn};
@@ -14,39 +13,42 @@ use gaz_records::{Key, SharedItem};
 use gaz_shelf::{Property, Shelf, ShelfFault};
 
 // The item at a key.
-fn item_now<S: Shelf>(
-    shelf: &mut S,
+fn item_now<K: Shelf>(
+    keeper: &mut K,
     code: Code,
     key: &Key,
 ) -> Result<Option<SharedItem>, ShelfFault>
-    requires { IsNotOpen (S.seen shelf.old).progress }
-    ensures tells { Looks (S.seen shelf.old) (S.seen shelf.new) result (λ i. i ≡ map.get (last_view (S.seen shelf.old).content.board code).items key.now) }
-    ensures not_open { IsNotOpen (S.seen shelf.new).progress }
+    requires { IsNotJudging K.seen keeper.old }
+    ensures tells { LooksAtLast K.seen keeper.old keeper.new result code
+        (λ view i. i ≡ map.get view.items key.now) }
+    ensures not_open { IsNotJudging K.seen keeper.new }
 {
-    shelf.current(code, key)
+    keeper.current(code, key)
 }
 
 /// Whether the street of this number is there, in a custodian's last view.
-pub fn has_street<S: Shelf>(shelf: &mut S, code: Code, usrn: Usrn) -> Result<bool, ShelfFault>
-    requires { IsNotOpen (S.seen shelf.old).progress }
-    ensures tells { Looks (S.seen shelf.old) (S.seen shelf.new) result (λ b. b ≡ is_some (street_at (last_view (S.seen shelf.old).content.board code) usrn)) }
-    ensures not_open { IsNotOpen (S.seen shelf.new).progress }
+pub fn has_street<K: Shelf>(keeper: &mut K, code: Code, usrn: Usrn) -> Result<bool, ShelfFault>
+    requires { IsNotJudging K.seen keeper.old }
+    ensures tells { LooksAtLast K.seen keeper.old keeper.new result code
+        (λ view b. b ≡ is_some (street_at view usrn)) }
+    ensures not_open { IsNotJudging K.seen keeper.new }
 {
-    let item = item_now(shelf, code, &Key::Street(usrn))?;
+    let item = item_now(keeper, code, &Key::Street(usrn))?;
     Ok(street_in(&item).is_some())
 }
 
 /// Whether the street of this number is there and closed, in a custodian's last view.
-pub fn has_closed_street<S: Shelf>(
-    shelf: &mut S,
+pub fn has_closed_street<K: Shelf>(
+    keeper: &mut K,
     code: Code,
     usrn: Usrn,
 ) -> Result<bool, ShelfFault>
-    requires { IsNotOpen (S.seen shelf.old).progress }
-    ensures tells { Looks (S.seen shelf.old) (S.seen shelf.new) result (λ b. b ≡ has_closed_street (last_view (S.seen shelf.old).content.board code) usrn) }
-    ensures not_open { IsNotOpen (S.seen shelf.new).progress }
+    requires { IsNotJudging K.seen keeper.old }
+    ensures tells { LooksAtLast K.seen keeper.old keeper.new result code
+        (λ view b. b ≡ has_closed_street view usrn) }
+    ensures not_open { IsNotJudging K.seen keeper.new }
 {
-    let item = item_now(shelf, code, &Key::Street(usrn))?;
+    let item = item_now(keeper, code, &Key::Street(usrn))?;
     match street_in(&item) {
         Some(street) => Ok(street.end.is_some()),
         None => Ok(false),
@@ -54,28 +56,30 @@ pub fn has_closed_street<S: Shelf>(
 }
 
 /// The item that is the descriptor of a street in a language, in a custodian's last view.
-pub fn descriptor_item<S: Shelf>(
-    shelf: &mut S,
+pub fn descriptor_item<K: Shelf>(
+    keeper: &mut K,
     code: Code,
     usrn: Usrn,
     lang: Lang,
 ) -> Result<Option<SharedItem>, ShelfFault>
-    requires { IsNotOpen (S.seen shelf.old).progress }
-    ensures tells { Looks (S.seen shelf.old) (S.seen shelf.new) result (λ i. option_and_then as_descriptor i ≡ descriptor_at (last_view (S.seen shelf.old).content.board code) usrn lang) }
-    ensures not_open { IsNotOpen (S.seen shelf.new).progress }
+    requires { IsNotJudging K.seen keeper.old }
+    ensures tells { LooksAtLast K.seen keeper.old keeper.new result code
+        (λ view i. option_and_then as_descriptor i ≡ descriptor_at view usrn lang) }
+    ensures not_open { IsNotJudging K.seen keeper.new }
 {
-    item_now(shelf, code, &Key::Descriptor(usrn, lang))
+    item_now(keeper, code, &Key::Descriptor(usrn, lang))
 }
 
 /// The property of this number with its address, in a custodian's last view.
-pub fn property_now<S: Shelf>(
-    shelf: &mut S,
+pub fn property_now<K: Shelf>(
+    keeper: &mut K,
     code: Code,
     uprn: Uprn,
 ) -> Result<Option<Property>, ShelfFault>
-    requires { IsNotOpen (S.seen shelf.old).progress }
-    ensures tells { Looks (S.seen shelf.old) (S.seen shelf.new) result (λ p. p ≡ property_of (last_view (S.seen shelf.old).content.board code) uprn) }
-    ensures not_open { IsNotOpen (S.seen shelf.new).progress }
+    requires { IsNotJudging K.seen keeper.old }
+    ensures tells { LooksAtLast K.seen keeper.old keeper.new result code
+        (λ view p. p ≡ property_of view uprn) }
+    ensures not_open { IsNotJudging K.seen keeper.new }
 {
-    shelf.property_of(code, uprn)
+    keeper.property_of(code, uprn)
 }

@@ -1,9 +1,9 @@
 ghost use Rattle.std.specs.Prelude.{◌≡◌, option_map};
 ghost use Rattle.std.specs.Option.{option_and_then};
-ghost use Rattle.gaz_shelf.specs.Keeper.{IsNotOpen};
 ghost use Rattle.gaz_extract.specs.Finding.{as_descriptor};
-ghost use Rattle.gaz_extract.specs.Readings.{Looks};
-ghost use Rattle.gaz_extract.specs.Lookups.{descriptor_now, keeper_of_street, line_at, lookup, said_by};
+ghost use Rattle.gaz_extract.specs.Readings.{IsNotJudging, LooksAtBoard};
+ghost use Rattle.gaz_extract.specs.Lookups.{descriptor_now, line_at, lookup, owner_of_street};
+ghost use Rattle.gaz_extract.specs.Lookups.{said_by};
 
 use crate::address::{AddressLine, line};
 use crate::find::{descriptor_item, has_street, property_now};
@@ -25,58 +25,63 @@ pub struct Found {
 }
 
 // Whose last view tells of a street now.
-fn keeper_of_street<S: Shelf>(
-    shelf: &mut S,
+fn owner_of_street<K: Shelf>(
+    keeper: &mut K,
     register: &Register,
     code: Code,
     usrn: Usrn,
 ) -> Result<Option<Code>, ShelfFault>
-    requires { IsNotOpen (S.seen shelf.old).progress }
-    ensures tells { Looks (S.seen shelf.old) (S.seen shelf.new) result (λ d. d ≡ keeper_of_street (S.seen shelf.old).content.board register.now code usrn) }
-    ensures not_open { IsNotOpen (S.seen shelf.new).progress }
+    requires { IsNotJudging K.seen keeper.old }
+    ensures tells { LooksAtBoard K.seen keeper.old keeper.new result
+        (λ board d. d ≡ owner_of_street board register.now code usrn) }
+    ensures not_open { IsNotJudging K.seen keeper.new }
 {
     let owner = register.owner_usrn(usrn);
     // Within its own block it is the custodian either way, and the keeper isn't asked.
-    if owner == Some(code) || has_street(shelf, code, usrn)? {
+    if owner == Some(code) || has_street(keeper, code, usrn)? {
         return Ok(Some(code));
     }
     Ok(owner)
 }
 
 // The item that is the descriptor of an address's street in its language.
-fn descriptor_for<S: Shelf>(
-    shelf: &mut S,
+fn descriptor_for<K: Shelf>(
+    keeper: &mut K,
     register: &Register,
     code: Code,
     lpi: &Lpi,
 ) -> Result<Option<SharedItem>, ShelfFault>
-    requires { IsNotOpen (S.seen shelf.old).progress }
-    ensures tells { Looks (S.seen shelf.old) (S.seen shelf.new) result (λ i. option_and_then as_descriptor i ≡ descriptor_now (S.seen shelf.old).content.board register.now code lpi.now) }
-    ensures not_open { IsNotOpen (S.seen shelf.new).progress }
+    requires { IsNotJudging K.seen keeper.old }
+    ensures tells { LooksAtBoard K.seen keeper.old keeper.new result
+        (λ board i. option_and_then as_descriptor i
+        ≡ descriptor_now board register.now code lpi.now) }
+    ensures not_open { IsNotJudging K.seen keeper.new }
 {
-    match keeper_of_street(shelf, register, code, lpi.usrn)? {
-        Some(keeper) => descriptor_item(shelf, keeper, lpi.usrn, lpi.lang),
+    match owner_of_street(keeper, register, code, lpi.usrn)? {
+        Some(owner) => descriptor_item(keeper, owner, lpi.usrn, lpi.lang),
         None => Ok(None),
     }
 }
 
 // The line of a property at the address that it has.
-fn line_at<S: Shelf>(
+fn line_at<K: Shelf>(
     alloc: Global,
-    shelf: &mut S,
+    keeper: &mut K,
     register: &Register,
     code: Code,
     address: Option<&Lpi>,
     blpu: &Blpu,
 ) -> Result<Option<AddressLine>, ShelfFault>
-    requires { IsNotOpen (S.seen shelf.old).progress }
-    ensures tells { Looks (S.seen shelf.old) (S.seen shelf.new) result (λ l. l ≡ line_at (S.seen shelf.old).content.board register.now code (option_map (λ a. a.now) address.entry) blpu.now) }
-    ensures not_open { IsNotOpen (S.seen shelf.new).progress }
+    requires { IsNotJudging K.seen keeper.old }
+    ensures tells { LooksAtBoard K.seen keeper.old keeper.new result
+        (λ board l. l
+        ≡ line_at board register.now code (option_map (λ a. a.now) address.entry) blpu.now) }
+    ensures not_open { IsNotJudging K.seen keeper.new }
 {
     let Some(lpi) = address else {
         return Ok(None);
     };
-    let item = descriptor_for(shelf, register, code, lpi)?;
+    let item = descriptor_for(keeper, register, code, lpi)?;
     let Some(descriptor) = descriptor_in(&item) else {
         return Ok(None);
     };
@@ -84,25 +89,26 @@ fn line_at<S: Shelf>(
 }
 
 // What a custodian's last view says of a property.
-fn said_by<S: Shelf>(
+fn said_by<K: Shelf>(
     alloc: Global,
-    shelf: &mut S,
+    keeper: &mut K,
     register: &Register,
     uprn: Uprn,
     code: Code,
 ) -> Result<Option<Found>, ShelfFault>
-    requires { IsNotOpen (S.seen shelf.old).progress }
-    ensures tells { Looks (S.seen shelf.old) (S.seen shelf.new) result (λ f. f ≡ said_by (S.seen shelf.old).content.board register.now uprn code) }
-    ensures not_open { IsNotOpen (S.seen shelf.new).progress }
+    requires { IsNotJudging K.seen keeper.old }
+    ensures tells { LooksAtBoard K.seen keeper.old keeper.new result
+        (λ board f. f ≡ said_by board register.now uprn code) }
+    ensures not_open { IsNotJudging K.seen keeper.new }
 {
-    let Some(property) = property_now(shelf, code, uprn)? else {
+    let Some(property) = property_now(keeper, code, uprn)? else {
         return Ok(None);
     };
     let Item::Blpu(blpu) = property.blpu.as_item() else {
         return Ok(None);
     };
     let address = lpi_in(&property.address);
-    let line = line_at(alloc, shelf, register, code, address, blpu)?;
+    let line = line_at(alloc, keeper, register, code, address, blpu)?;
     Ok(Some(Found {
         custodian: code,
         uprn,
@@ -111,22 +117,25 @@ fn said_by<S: Shelf>(
     }))
 }
 
-/// Where a property stands now: with the least custodian of the register in whose last view its BLPU does.
+/// Where a property stands now: with the least custodian of the register in whose last view its
+/// BLPU does.
 ///
-/// The line is that of the property's approved LPI of the least key, with the descriptor of that LPI's street in its language: from
-/// the own last view where the street is there, else from the last view of the custodian whose block holds the USRN (our profile,
-/// docs/extracts.md). None where the BLPU stands in no last view. A fault is the keeper's, or `Memory` for the line.
-pub fn lookup<S: Shelf>(
+/// The line is that of the property's approved LPI of the least key, with the descriptor of that
+/// LPI's street in its language: from the own last view where the street is there, else from the
+/// last view of the custodian whose block holds the USRN (our profile, docs/extracts.md). None
+/// where the BLPU stands in no last view. A fault is the keeper's, or `Memory` for the line.
+pub fn lookup<K: Shelf>(
     alloc: Global,
-    shelf: &mut S,
+    keeper: &mut K,
     register: &Register,
     uprn: Uprn,
 ) -> Result<Option<Found>, ShelfFault>
-    requires { IsNotOpen (S.seen shelf.old).progress }
-    ensures { Looks (S.seen shelf.old) (S.seen shelf.new) result (λ f. f ≡ lookup (S.seen shelf.old).content.board register.now uprn) }
+    requires { IsNotJudging K.seen keeper.old }
+    ensures { LooksAtBoard K.seen keeper.old keeper.new result
+        (λ board f. f ≡ lookup board register.now uprn) }
 {
     for custodian in register.custodians() {
-        let found = said_by(alloc, shelf, register, uprn, custodian.code())?;
+        let found = said_by(alloc, keeper, register, uprn, custodian.code())?;
         if found.is_some() {
             return Ok(found);
         }

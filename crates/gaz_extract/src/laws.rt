@@ -7,7 +7,8 @@ pub fn worked_examples()
     ensures { WorkedExamples }
 {}
 
-/// The text of an extract, read as rows, inserts just the items of the view that it was taken of, and they give what that view holds.
+/// The text of an extract, read as rows, inserts just the items of the view that it was taken of,
+/// and they give what that view holds.
 pub fn extracts_read_back()
     ensures { ExtractsReadBack }
 {}

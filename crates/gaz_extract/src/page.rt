@@ -2,12 +2,10 @@
 ghost use Rattle.std.specs.Prelude.{◌≡◌, ◌≤◌, ◌<◌, ◌++◌, true, is_some, IfOk, Some};
 ghost use Rattle.gaz_records.specs.Keys.{number_in};
 ghost use Rattle.gaz_records.specs.SortKeys.{has_label, seven_bytes};
-ghost use Rattle.gaz_shelf.specs.Board.{reached, view_after};
-ghost use Rattle.gaz_shelf.specs.Keeper.{IsNotOpen};
 ghost use Rattle.gaz_views.specs.Reading.{left_after, next_after};
 ghost use Rattle.gaz_views.specs.Words.{comes_after, rest_of};
 ghost use Rattle.gaz_extract.specs.Paging.{pages_left, rising};
-ghost use Rattle.gaz_extract.specs.Readings.{Looks};
+ghost use Rattle.gaz_extract.specs.Readings.{IsNotJudging, LooksAfter};
 
 use gaz_ids::Code;
 use gaz_records::{Key, Kind, SharedItem, key_of};
@@ -23,7 +21,8 @@ pub struct Page {
     pub next: Option<Key>,
 }
 
-// Does nothing: it promises of a key what its parts promise, a number of at most 12 digits, a text that is a label.
+// Does nothing: it promises of a key what its parts promise, a number of at most 12 digits, a text
+// that is a label.
 fn read_ranges(key: &Key)
     ensures number { number_in key.now < seven_bytes }
     ensures label { has_label key.now ≡ true }
@@ -70,7 +69,8 @@ fn last_key(items: &[SharedItem]) -> Option<Key>
     }
 }
 
-// The key after which the next page begins, where this one is full and its last key comes after the one after which it began.
+// The key after which the next page begins, where this one is full and its last key comes after the
+// one after which it began.
 fn next_after(items: &[SharedItem], after: &Option<Key>) -> Option<Key>
     ensures next { result ≡ rising after.now (next_after 512 items.now) }
     ensures fewer { is_some after.now ≡ true → pages_left result < pages_left after.now }
@@ -85,22 +85,24 @@ fn next_after(items: &[SharedItem], after: &Option<Key>) -> Option<Key>
     None
 }
 
-/// The page of a kind after a key, or from the start, after a volume, which is to be reached. With what comes after it, it is what
-/// there is after that key. Whatever the keeper answers, less is left for the pages that follow: a page whose last key doesn't come after
-/// the one before is taken as the last, and no keeper that stands for a content answers such a one.
-pub fn read_page<S: Shelf>(
-    shelf: &mut S,
+/// The page of a kind after a key, or from the start, after a volume, which is to be reached. With
+/// what comes after it, it is what there is after that key. Whatever the keeper answers, less is
+/// left for the pages that follow: a page whose last key doesn't come after the one before is taken
+/// as the last, and no keeper that stands for a content answers such a one.
+pub fn read_page<K: Shelf>(
+    keeper: &mut K,
     code: Code,
     volume: u64,
     kind: Kind,
     after: Option<Key>,
 ) -> Result<Page, ShelfFault>
-    requires { IsNotOpen (S.seen shelf.old).progress }
-    ensures tells { Looks (S.seen shelf.old) (S.seen shelf.new) result (λ p. volume ≤ reached (S.seen shelf.old).content.board code → p.items.items ++ left_after (view_after (S.seen shelf.old).content.board code volume) kind p.next ≡ rest_of (view_after (S.seen shelf.old).content.board code volume) kind after) }
+    requires { IsNotJudging K.seen keeper.old }
+    ensures tells { LooksAfter K.seen keeper.old keeper.new result code volume
+        (λ view p. p.items.items ++ left_after view kind p.next ≡ rest_of view kind after) }
     ensures fewer { is_some after ≡ true → IfOk result (λ p. pages_left p.next < pages_left after) }
-    ensures not_open { IsNotOpen (S.seen shelf.new).progress }
+    ensures not_open { IsNotJudging K.seen keeper.new }
 {
-    let items = shelf.page(code, volume, kind, after, MOST)?;
+    let items = keeper.page(code, volume, kind, after, MOST)?;
     let next = next_after(items.as_slice(), &after);
     Ok(Page { items, next })
 }

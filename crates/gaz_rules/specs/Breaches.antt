@@ -3,7 +3,10 @@ use Rattle.std.specs.Prelude.{ℕ, Bool, false, ◌||◌, List, [], ◌∷◌}
 use Rattle.gaz_records.specs.declared.key.Key.{Key}
 use Rattle.gaz_records.specs.declared.key.Key.TheVariants as key
 use Rattle.gaz_views.specs.View.{View, holds}
-use Rattle.gaz_rules.specs.EndRules.{closed_under_lpi, is_own_ancestor, is_past, is_second, lacks_blpu, lacks_descriptor, lacks_own_street, lacks_parent, lacks_street, leaves_lpi, names_closed, names_past, past_under_lpi}
+use Rattle.gaz_rules.specs.EndRules.{closed_under_lpi, is_own_ancestor, is_past, is_second}
+use Rattle.gaz_rules.specs.EndRules.{lacks_blpu, lacks_descriptor, lacks_own_street, lacks_parent}
+use Rattle.gaz_rules.specs.EndRules.{lacks_street, leaves_lpi, names_closed, names_past}
+use Rattle.gaz_rules.specs.EndRules.{past_under_lpi}
 use Rattle.gaz_rules.specs.declared.key_faults.KeyFaults.{KeyFaults}
 use Rattle.gaz_rules.specs.declared.name_faults.BlpuState.{BlpuState}
 use Rattle.gaz_rules.specs.declared.name_faults.NameFaults.{NameFaults}
@@ -14,18 +17,25 @@ blpu_state v uprn = record { is_there = holds v (key.Blpu uprn); is_past = is_pa
 
 -- what an item breaks by what it names
 abbrev pub name_faults : View → List (ℕ × View) → Key → NameFaults
-name_faults v out k = record {
+name_faults v others k = record {
   is_second = is_second v k;
   lacks_blpu = lacks_blpu v k;
-  lacks_street = lacks_street v out k;
-  names_closed = names_closed v out k;
-  lacks_descriptor = lacks_descriptor v out k;
+  lacks_street = lacks_street v others k;
+  names_closed = names_closed v others k;
+  lacks_descriptor = lacks_descriptor v others k;
   names_past = names_past v k;
 }
 
 -- at most that its BLPU isn't there
 abbrev pub blpu_fault : Bool → NameFaults
-blpu_fault lacks = record { is_second = false; lacks_blpu = lacks; lacks_street = false; names_closed = false; lacks_descriptor = false; names_past = false }
+blpu_fault lacks = record {
+  is_second = false;
+  lacks_blpu = lacks;
+  lacks_street = false;
+  names_closed = false;
+  lacks_descriptor = false;
+  names_past = false;
+}
 
 -- what a key breaks for what others name
 abbrev pub key_faults : View → Key → KeyFaults
@@ -39,7 +49,14 @@ key_faults v k = record {
 }
 
 abbrev pub no_key_fault : KeyFaults
-no_key_fault = record { leaves_lpi = false; lacks_parent = false; is_own_ancestor = false; past_under_lpi = false; lacks_own_street = false; closed_under_lpi = false }
+no_key_fault = record {
+  leaves_lpi = false;
+  lacks_parent = false;
+  is_own_ancestor = false;
+  past_under_lpi = false;
+  lacks_own_street = false;
+  closed_under_lpi = false;
+}
 
 -- the end rules by number, the least first
 abbrev pub numbered : NameFaults → KeyFaults → List (ℕ × Bool)

@@ -2,7 +2,8 @@
 use Rattle.std.specs.Prelude.{◌≡◌, ℕ, List, [], ◌∷◌, ◌++◌, fold, Option, Some, None, codes}
 use Rattle.gaz_ids.specs.declared.lang.Lang.TheVariants.{Cym, Eng}
 use Rattle.gaz_ids.specs.declared.status.Status.{Status}
-use Rattle.gaz_ids.specs.declared.status.Status.TheVariants.{Approved, Alternative, Historical, Provisional}
+use Rattle.gaz_ids.specs.declared.status.Status.TheVariants.{Approved, Alternative, Historical}
+use Rattle.gaz_ids.specs.declared.status.Status.TheVariants.{Provisional}
 use Rattle.gaz_records.specs.declared.item.Item.{Item}
 use Rattle.gaz_records.specs.declared.item.Item.TheVariants as item
 use Rattle.gaz_records.specs.declared.key.Key.{Key}
@@ -18,7 +19,7 @@ view_of items = fold with_item empty_view items
 
 -- the least end rule that a key breaks in the view of these items, with these basis views
 abbrev pub rests : List Item → List (ℕ × View) → Key → Option ℕ
-rests items out k = first_broken (end_rules (view_of items) out k)
+rests items others k = first_broken (end_rules (view_of items) others k)
 
 abbrev pub breaks : List Item → Key → Option ℕ
 breaks items k = rests items [] k
@@ -39,10 +40,20 @@ abbrev pub x1 : Key
 x1 = key.Xref (codes "X1")
 
 abbrev pub closed_street : ℕ → Item
-closed_street usrn = item.Street (record { usrn = usrn; sort = 1; start = spring; end = Some spring })
+closed_street usrn =
+    item.Street (record { usrn = usrn; sort = 1; start = spring; end = Some spring })
 
 abbrev pub past : ℕ → Item
-past uprn = item.Blpu (record { uprn = uprn; status = Historical; easting = 0; northing = 0; parent = None; postcode = None; start = spring; end = Some spring })
+past uprn = item.Blpu (record {
+  uprn = uprn;
+  status = Historical;
+  easting = 0;
+  northing = 0;
+  parent = None;
+  postcode = None;
+  start = spring;
+  end = Some spring;
+})
 
 -- property 1001, with an approved address on street 101, which has an English name
 abbrev pub home : List Item
@@ -57,7 +68,8 @@ pub record WorkedSecond : Type 0 where
   pub of_the_second : breaks (home ++ address (codes "L2") Approved ∷ []) l2 ≡ Some 30
   pub beside_another_name : breaks (home ++ address (codes "L2") Alternative ∷ []) l1 ≡ None
   pub as_another_name : breaks (home ++ address (codes "L2") Alternative ∷ []) l2 ≡ None
-  pub of_another_property : breaks (home ++ blpu 1002 None ∷ lpi (codes "L2") 1002 Eng Approved 101 ∷ []) l2 ≡ None
+  pub of_another_property : breaks
+      (home ++ blpu 1002 None ∷ lpi (codes "L2") 1002 Eng Approved 101 ∷ []) l2 ≡ None
 
 -- 31 and 35, of what names a property
 pub record WorkedLacking : Type 0 where
@@ -78,26 +90,36 @@ pub record WorkedRings : Type 0 where
   pub on_it_too : breaks ring (key.Blpu 1002) ≡ Some 36
   pub leads_to_it : breaks ring (key.Blpu 1003) ≡ None
   pub of_one : breaks (blpu 1001 (Some 1001) ∷ []) (key.Blpu 1001) ≡ Some 36
-  pub chain : breaks (blpu 1001 None ∷ blpu 1002 (Some 1001) ∷ blpu 1003 (Some 1002) ∷ []) (key.Blpu 1003) ≡ None
+  pub chain : breaks (blpu 1001 None ∷ blpu 1002 (Some 1001) ∷ blpu 1003 (Some 1002) ∷ [])
+      (key.Blpu 1003) ≡ None
 
 -- 32, 33 and 39, of an address on a street of the view
 pub record WorkedStreets : Type 0 where
   pub nowhere : breaks (blpu 1001 None ∷ address (codes "L1") Approved ∷ []) l1 ≡ Some 32
   pub nowhere_yet : breaks (blpu 1001 None ∷ address (codes "L1") Provisional ∷ []) l1 ≡ None
   pub closed : breaks (home ++ closed_street 101 ∷ []) l1 ≡ Some 33
-  pub closed_over_another_name : breaks (home ++ closed_street 101 ∷ address (codes "L1") Alternative ∷ []) l1 ≡ None
+  pub closed_over_another_name : breaks
+      (home ++ closed_street 101 ∷ address (codes "L1") Alternative ∷ []) l1 ≡ None
   pub street_under_it : breaks (home ++ closed_street 101 ∷ []) (key.Street 101) ≡ Some 39
   pub open_street : breaks home (key.Street 101) ≡ None
-  pub street_under_another_name : breaks (home ++ closed_street 101 ∷ address (codes "L1") Alternative ∷ []) (key.Street 101) ≡ None
+  pub street_under_another_name : breaks
+      (home ++ closed_street 101 ∷ address (codes "L1") Alternative ∷ []) (key.Street 101) ≡ None
 
 -- 34 and 38, of an address and of a descriptor
 pub record WorkedNames : Type 0 where
-  pub unnamed : breaks (street 101 ∷ blpu 1001 None ∷ address (codes "L1") Approved ∷ []) l1 ≡ Some 34
-  pub in_welsh_alone : breaks (street 101 ∷ name 101 Cym ∷ blpu 1001 None ∷ address (codes "L1") Approved ∷ []) l1 ≡ Some 34
-  pub taken : breaks (street 101 ∷ name 101 Cym ∷ blpu 1001 None ∷ address (codes "L1") Approved ∷ []) (key.Descriptor 101 Eng) ≡ Some 34
+  pub unnamed : breaks (street 101 ∷ blpu 1001 None ∷ address (codes "L1") Approved ∷ []) l1
+      ≡ Some 34
+  pub in_welsh_alone : breaks
+      (street 101 ∷ name 101 Cym ∷ blpu 1001 None ∷ address (codes "L1") Approved ∷ []) l1 ≡ Some 34
+  pub taken : breaks
+      (street 101 ∷ name 101 Cym ∷ blpu 1001 None ∷ address (codes "L1") Approved ∷ [])
+      (key.Descriptor 101 Eng) ≡ Some 34
   pub welsh_taken : breaks home (key.Descriptor 101 Cym) ≡ None
-  pub taken_under_another_name : breaks (street 101 ∷ blpu 1001 None ∷ address (codes "L1") Alternative ∷ []) (key.Descriptor 101 Eng) ≡ None
-  pub taken_of_no_street : breaks (blpu 1001 None ∷ address (codes "L1") Approved ∷ []) (key.Descriptor 101 Eng) ≡ None
+  pub taken_under_another_name : breaks
+      (street 101 ∷ blpu 1001 None ∷ address (codes "L1") Alternative ∷ []) (key.Descriptor 101 Eng)
+      ≡ None
+  pub taken_of_no_street : breaks (blpu 1001 None ∷ address (codes "L1") Approved ∷ [])
+      (key.Descriptor 101 Eng) ≡ None
   pub of_no_street : breaks (name 101 Eng ∷ []) (key.Descriptor 101 Eng) ≡ Some 38
   pub of_its_street : breaks home (key.Descriptor 101 Eng) ≡ None
 
@@ -105,8 +127,10 @@ pub record WorkedNames : Type 0 where
 pub record WorkedPast : Type 0 where
   pub address_of_past : breaks (home ++ past 1001 ∷ []) l1 ≡ Some 37
   pub past_with_address : breaks (home ++ past 1001 ∷ []) (key.Blpu 1001) ≡ Some 37
-  pub other_name_of_past : breaks (home ++ past 1001 ∷ address (codes "L1") Alternative ∷ []) l1 ≡ None
-  pub past_with_other_name : breaks (home ++ past 1001 ∷ address (codes "L1") Alternative ∷ []) (key.Blpu 1001) ≡ None
+  pub other_name_of_past : breaks (home ++ past 1001 ∷ address (codes "L1") Alternative ∷ []) l1
+      ≡ None
+  pub past_with_other_name : breaks (home ++ past 1001 ∷ address (codes "L1") Alternative ∷ [])
+      (key.Blpu 1001) ≡ None
 
 -- ---- streets of other custodians
 
@@ -130,11 +154,16 @@ pub record WorkedBases : Type 0 where
   pub not_there : rests away (of_custodian 1002 (street 202 ∷ []) ∷ []) l1 ≡ Some 32
   pub open_at_it : rests away (of_custodian 1002 open_there ∷ []) l1 ≡ None
   pub closed_at_it : rests away (of_custodian 1002 closed_there ∷ []) l1 ≡ Some 33
-  pub unnamed_there : rests away (of_custodian 1002 (street 201 ∷ name 201 Cym ∷ []) ∷ []) l1 ≡ Some 34
-  pub named_elsewhere : rests (away ++ name 201 Eng ∷ []) (of_custodian 1002 (street 201 ∷ []) ∷ []) l1 ≡ Some 34
-  pub own_view_first : rests (away ++ street 201 ∷ []) (of_custodian 1002 open_there ∷ []) l1 ≡ Some 34
-  pub first_basis_first : rests away (of_custodian 1002 closed_there ∷ of_custodian 1003 open_there ∷ []) l1 ≡ Some 33
-  pub other_way_round : rests away (of_custodian 1003 open_there ∷ of_custodian 1002 closed_there ∷ []) l1 ≡ None
+  pub unnamed_there : rests away (of_custodian 1002 (street 201 ∷ name 201 Cym ∷ []) ∷ []) l1
+      ≡ Some 34
+  pub named_elsewhere : rests (away ++ name 201 Eng ∷ [])
+      (of_custodian 1002 (street 201 ∷ []) ∷ []) l1 ≡ Some 34
+  pub own_view_first : rests (away ++ street 201 ∷ []) (of_custodian 1002 open_there ∷ []) l1
+      ≡ Some 34
+  pub first_basis_first : rests away
+      (of_custodian 1002 closed_there ∷ of_custodian 1003 open_there ∷ []) l1 ≡ Some 33
+  pub other_way_round : rests away
+      (of_custodian 1003 open_there ∷ of_custodian 1002 closed_there ∷ []) l1 ≡ None
 
 pub record WorkedEndRules : Type 0 where
   pub on_second : WorkedSecond

@@ -1,5 +1,6 @@
 -- The end rules of a change file, as tests of a key in the view after all records.
-use Rattle.std.specs.Prelude.{ℕ, zero, suc, ◌==◌, Bool, true, false, not, ◌&&◌, ◌||◌, if◌then◌else◌, List, [], ◌∷◌, map, length, is_some, is_none, Option, Some, None}
+use Rattle.std.specs.Prelude.{ℕ, zero, suc, ◌==◌, Bool, true, false, not, ◌&&◌, ◌||◌, if◌then◌else◌}
+use Rattle.std.specs.Prelude.{List, [], ◌∷◌, map, length, is_some, is_none, Option, Some, None}
 use Rattle.std.specs.Option.{option_and_then, option_map_or}
 use Rattle.std.specs.List.{find, list_any, range_with_len}
 use Rattle.std.specs.Ordering.{eq_by_cmp}
@@ -66,40 +67,49 @@ is_historical _ = false
 abbrev pub is_past : View → ℕ → Bool
 is_past v uprn = if_some (blpu_at v uprn) (λ b. is_historical b.status)
 
--- the view where a street is found: this one, else the first basis view that has it, in the order of the file
+-- the view where a street is found: this one, else the first basis view that has it, in the order
+-- of the file
 abbrev pub found_in : View → List (ℕ × View) → ℕ → Option View
-found_in v out usrn = find (λ w. holds w (key.Street usrn)) (v ∷ map (λ b. b.1) out)
+found_in v others usrn = find (λ w. holds w (key.Street usrn)) (v ∷ map (λ b. b.1) others)
 
 -- ---- end rules
 
 -- 30: an approved LPI, and another approved LPI has the same BLPU
 abbrev pub is_second : View → Key → Bool
-is_second v k = if_some (approved_at v k) (λ l. list_any (λ m. not (same_key m k)) (approved_of v l.uprn))
+is_second v k =
+    if_some (approved_at v k) (λ l. list_any (λ m. not (same_key m k)) (approved_of v l.uprn))
 
 -- 31: an LPI or a cross reference whose BLPU isn't in the view
 abbrev pub lacks_blpu : View → Key → Bool
-lacks_blpu v k = if_some (option_and_then blpu_named (fin.get v.items k)) (λ uprn. not (holds v (key.Blpu uprn)))
+lacks_blpu v k =
+    if_some (option_and_then blpu_named (fin.get v.items k)) (λ uprn. not (holds v (key.Blpu uprn)))
 
 -- 32: an approved LPI whose street is found nowhere
 abbrev pub lacks_street : View → List (ℕ × View) → Key → Bool
-lacks_street v out k = if_some (approved_at v k) (λ l. is_none (found_in v out l.usrn))
+lacks_street v others k = if_some (approved_at v k) (λ l. is_none (found_in v others l.usrn))
 
 -- 33: an approved LPI whose found street is closed
 abbrev pub names_closed : View → List (ℕ × View) → Key → Bool
-names_closed v out k = if_some (approved_at v k) (λ l. if_some (found_in v out l.usrn) (λ w. is_closed w l.usrn))
+names_closed v others k =
+    if_some (approved_at v k) (λ l. if_some (found_in v others l.usrn) (λ w. is_closed w l.usrn))
 
 -- an approved LPI whose street is found in a view without a descriptor in the LPI's language
 abbrev pub lacks_descriptor : View → List (ℕ × View) → Key → Bool
-lacks_descriptor v out k = if_some (approved_at v k) (λ l. if_some (found_in v out l.usrn) (λ w. not (holds w (key.Descriptor l.usrn l.lang))))
+lacks_descriptor v others k =
+    if_some (approved_at v k)
+    (λ l. if_some (found_in v others l.usrn) (λ w. not (holds w (key.Descriptor l.usrn l.lang))))
 
--- a descriptor that isn't in the view, its street is, and an approved LPI has that street and language
+-- a descriptor that isn't in the view, its street is, and an approved LPI has that street and
+-- language
 abbrev pub leaves_lpi : View → Key → Bool
-leaves_lpi v (key.Descriptor usrn lang) = not (holds v (key.Descriptor usrn lang)) && holds v (key.Street usrn) && approved_on v usrn (Some lang)
+leaves_lpi v (key.Descriptor usrn lang) =
+    not (holds v (key.Descriptor usrn lang)) && holds v (key.Street usrn)
+    && approved_on v usrn (Some lang)
 leaves_lpi v _ = false
 
 -- 34: one or the other
 abbrev pub is_unnamed : View → List (ℕ × View) → Key → Bool
-is_unnamed v out k = lacks_descriptor v out k || leaves_lpi v k
+is_unnamed v others k = lacks_descriptor v others k || leaves_lpi v k
 
 -- the parent of a BLPU, which it is a part of
 abbrev pub parent_of : View → ℕ → Option ℕ
@@ -115,9 +125,12 @@ abbrev pub ancestor : View → ℕ → ℕ → Option ℕ
 ancestor v zero uprn = Some uprn
 ancestor v (suc n) uprn = option_and_then (ancestor v n) (parent_of v uprn)
 
--- 36: a BLPU from which a chain of one or more parents leads to itself; no ring is longer than the view has items
+-- 36: a BLPU from which a chain of one or more parents leads to itself; no ring is longer than the
+-- view has items
 abbrev pub is_own_ancestor : View → Key → Bool
-is_own_ancestor v (key.Blpu uprn) = list_any (λ n. if_some (ancestor v n uprn) (λ a. a == uprn)) (range_with_len 1 (fin.len v.items))
+is_own_ancestor v (key.Blpu uprn) =
+    list_any (λ n. if_some (ancestor v n uprn) (λ a. a == uprn))
+    (range_with_len 1 (fin.len v.items))
 is_own_ancestor v _ = false
 
 -- an approved LPI whose BLPU is historical
@@ -135,7 +148,8 @@ is_out_of_date v k = names_past v k || past_under_lpi v k
 
 -- 38: a descriptor whose street isn't in the view
 abbrev pub lacks_own_street : View → Key → Bool
-lacks_own_street v (key.Descriptor usrn lang) = holds v (key.Descriptor usrn lang) && not (holds v (key.Street usrn))
+lacks_own_street v (key.Descriptor usrn lang) =
+    holds v (key.Descriptor usrn lang) && not (holds v (key.Street usrn))
 lacks_own_street v _ = false
 
 -- 39: a closed street that an approved LPI names
@@ -145,12 +159,12 @@ closed_under_lpi v _ = false
 
 -- the end rules by number, the least first, of a key in a view, with each basis custodian's view
 abbrev pub end_rules : View → List (ℕ × View) → Key → List (ℕ × Bool)
-end_rules v out k =
+end_rules v others k =
     (30, is_second v k)
     ∷ (31, lacks_blpu v k)
-    ∷ (32, lacks_street v out k)
-    ∷ (33, names_closed v out k)
-    ∷ (34, is_unnamed v out k)
+    ∷ (32, lacks_street v others k)
+    ∷ (33, names_closed v others k)
+    ∷ (34, is_unnamed v others k)
     ∷ (35, lacks_parent v k)
     ∷ (36, is_own_ancestor v k)
     ∷ (37, is_out_of_date v k)

@@ -20,7 +20,8 @@ own = record { uprn = (1000, 1999) ∷ []; usrn = (100, 199) ∷ (300, 300) ∷ 
 abbrev pub broken : View → Action → Item → Option ℕ
 broken v a i = first_broken (record_rules own v a i)
 
--- of streets, where a rule is broken and where it just isn't; the views hold street 101, or held it, or never did
+-- of streets, where a rule is broken and where it just isn't; the views hold street 101, or held
+-- it, or never did
 pub record WorkedRecordRules : Type 0 where
   pub below : broken empty_view Insert (street 99) ≡ Some 20
   pub first : broken empty_view Insert (street 100) ≡ None
@@ -57,8 +58,10 @@ one_reference = with_item empty_view (council_tax (codes "X1") 1001)
 
 -- of what a text names, which keeps its property, and an address its language
 pub record WorkedTexts : Type 0 where
-  pub of_another_property : broken one_address Update (lpi (codes "L1") 1002 Eng Approved 101) ≡ Some 24
-  pub in_another_language : broken one_address Update (lpi (codes "L1") 1001 Cym Approved 101) ≡ Some 24
+  pub of_another_property : broken one_address Update (lpi (codes "L1") 1002 Eng Approved 101)
+      ≡ Some 24
+  pub in_another_language : broken one_address Update (lpi (codes "L1") 1001 Cym Approved 101)
+      ≡ Some 24
   pub another_name : broken one_address Update (lpi (codes "L1") 1001 Eng Alternative 101) ≡ None
   pub on_another_street : broken one_address Update (lpi (codes "L1") 1001 Eng Approved 102) ≡ None
   pub taken_as_another : broken one_address Delete (lpi (codes "L1") 1002 Eng Approved 101) ≡ None
@@ -70,7 +73,11 @@ pub record WorkedTexts : Type 0 where
 
 -- a file with these changes, and no basis
 abbrev pub file_of : List Change → Reading
-file_of changes = Good (record { date = record { year = 2024; month = 1; day = 2 }; bases = []; changes = changes })
+file_of changes = Good (record {
+  date = record { year = 2024; month = 1; day = 2 };
+  bases = [];
+  changes = changes;
+})
 
 -- record 2 of a file inserts street 101
 abbrev pub insertion : Change

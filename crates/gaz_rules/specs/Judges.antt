@@ -2,7 +2,8 @@
 use Rattle.std.specs.Prelude.{◌≡◌, ℕ, true, List, Result, IfOk, OnOk, OnErr}
 use Rattle.gaz_changefile.specs.declared.change.Basis.{Basis}
 use Rattle.gaz_shelf.specs.Board.{Judgement}
-use Rattle.gaz_shelf.specs.Keeper.{Content, Counts, IsAtHand, IsNotOpen, Seen, after_abandon, with_judgement}
+use Rattle.gaz_shelf.specs.Keeper.{Content, Counts, IsAtHand, IsNotOpen, Seen, after_abandon}
+use Rattle.gaz_shelf.specs.Keeper.{with_judgement}
 use Rattle.gaz_shelf.specs.declared.fault.ShelfFault.{ShelfFault}
 use Rattle.gaz_views.specs.declared.verdict.Verdict.{Verdict}
 use Rattle.gaz_changefile.specs.Contents.{Contents}
@@ -15,16 +16,25 @@ pub record IsReady (k : Content) (c : ℕ) (bases : List Basis) : Type 0 where
   pub at_hand : IsAtHand k c
   pub reached : are_reached k.board bases ≡ true
 
--- a custodian's next file is judged: the verdict is this one, and just it and its view are added; a fault leaves files and board as they were
-pub record Judges (old new : Seen) (result : Result Verdict ShelfFault) (c : ℕ) (bases : List Basis) (j : Judgement) : Type 0 where
+-- a custodian's next file is judged: the verdict is this one, and just it and its view are added; a
+-- fault leaves files and board as they were
+pub record Judges (old new : Seen) (result : Result Verdict ShelfFault) (c : ℕ) (bases : List Basis)
+    (j : Judgement) : Type 0 where
   pub harm : new.unharmed → old.unharmed
   pub stands : old.stands → IsReady old.content c bases → new.unharmed → new.stands
-  pub verdict : old.stands → IsReady old.content c bases → new.unharmed → IfOk result (λ v. v ≡ j.verdict)
-  pub done : old.stands → IsReady old.content c bases → new.unharmed → OnOk result (new.content ≡ with_judgement old.content c j)
-  pub undone : old.stands → IsReady old.content c bases → new.unharmed → OnErr result (new.content ≡ after_abandon old.content)
+  pub verdict : old.stands → IsReady old.content c bases → new.unharmed
+      → IfOk result (λ v. v ≡ j.verdict)
+  pub done : old.stands → IsReady old.content c bases → new.unharmed
+      → OnOk result (new.content ≡ with_judgement old.content c j)
+  pub undone : old.stands → IsReady old.content c bases → new.unharmed
+      → OnErr result (new.content ≡ after_abandon old.content)
   pub idle : IsNotOpen new.progress
   pub counts : Counts old new result
 
--- a good file is judged, under the rules of the custodian with these blocks; `seen` is how the keeper is seen
-abbrev pub JudgesFile : {K : Type 0} → (K → Seen) → K → K → Result Verdict ShelfFault → Blocks → ℕ → Contents → Type 0
-JudgesFile seen old new result own c file = Judges (seen old) (seen new) result c file.bases (judged_on own (seen old).content.board c (Good file))
+-- a good file is judged, under the rules of the custodian with these blocks; `seen` is how the
+-- keeper is seen
+abbrev pub JudgesFile : {K : Type 0} → (K → Seen) → K → K → Result Verdict ShelfFault → Blocks → ℕ
+    → Contents → Type 0
+JudgesFile seen old new result own c file =
+    Judges (seen old) (seen new) result c file.bases
+    (judged_on own (seen old).content.board c (Good file))

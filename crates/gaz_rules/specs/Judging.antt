@@ -32,20 +32,24 @@ fault_at place rule = option_map (λ r. record { place = place; rule = r }) rule
 
 -- the changes that don't fit the view before them, each with its least rule
 abbrev pub record_faults : Blocks → View → List Change → List Fault
-record_faults own v cs = filter_map (λ s. fault_at s.1.place (first_broken (record_rules own s.0 s.1.action s.1.item))) (with_views v cs)
+record_faults own v cs =
+    filter_map (λ s. fault_at s.1.place (first_broken (record_rules own s.0 s.1.action s.1.item)))
+    (with_views v cs)
 
 -- the changes whose keys break an end rule in the view w, each with its least rule
 abbrev pub end_faults : View → List (ℕ × View) → List Change → List Fault
-end_faults w out cs = filter_map (λ c. fault_at c.place (first_broken (end_rules w out (key_of c.item)))) cs
+end_faults w others cs =
+    filter_map (λ c. fault_at c.place (first_broken (end_rules w others (key_of c.item)))) cs
 
 -- rejected at the first fault, the view staying as it was; with no fault, applied
 abbrev pub judged_by_faults : View → View → List Fault → Judgement
 judged_by_faults v w [] = record { verdict = Applied; view = w }
 judged_by_faults v w (f ∷ fs) = record { verdict = Rejected f.place f.rule; view = v }
 
--- the judgement of a file of the custodian with these blocks, on its view and on those of its basis custodians
+-- the judgement of a file of the custodian with these blocks, on its view and on those of its basis
+-- custodians
 unfoldable pub judge : Blocks → View → List (ℕ × View) → Reading → Judgement
-judge own v out (Bad place rule) = record { verdict = Rejected place rule; view = v }
-judge own v out (Good file) =
+judge own v others (Bad place rule) = record { verdict = Rejected place rule; view = v }
+judge own v others (Good file) =
     let w = fold effect v file.changes in
-    judged_by_faults v w (record_faults own v file.changes ++ end_faults w out file.changes)
+    judged_by_faults v w (record_faults own v file.changes ++ end_faults w others file.changes)

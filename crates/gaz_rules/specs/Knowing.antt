@@ -8,8 +8,8 @@ use Rattle.gaz_rules.specs.declared.last_street.LastStreet.{LastStreet}
 
 -- the last answer about a street is right of a view and the basis views
 abbrev pub Recalls : View → List (ℕ × View) → LastStreet → Type 0
-Recalls v out s = IfSome s.answer (λ a. a.faults ≡ street_faults v out a.usrn a.lang)
+Recalls v others s = IfSome s.answer (λ a. a.faults ≡ street_faults v others a.usrn a.lang)
 
--- what was walked and what was last answered are
+-- what was walked and what was last answered are right of a view and the basis views
 abbrev pub IsRight : View → List (ℕ × View) → Known → Type 0
-IsRight v out k = Knows v k.walked × Recalls v out k.street
+IsRight v others k = Knows v k.walked × Recalls v others k.street

@@ -10,7 +10,8 @@ use Rattle.gaz_rules.specs.EndRules.{ancestor, is_own_ancestor}
 use Rattle.gaz_rules.specs.Judging.{judge}
 use Rattle.gaz_rules.specs.Rules.{holds_number}
 use Rattle.gaz_rules.specs.Bases.{judged_on}
-use Rattle.gaz_rules.specs.Sound.{AllHoldOwn, AreDisjoint, AreSoundBases, HoldsOwn, IsSound, IsSoundBoard, NamesOthers, Owners}
+use Rattle.gaz_rules.specs.Sound.{AllHoldOwn, AreDisjoint, AreSoundBases, HoldsOwn, IsSound}
+use Rattle.gaz_rules.specs.Sound.{IsSoundBoard, NamesOthers, Owners}
 
 -- ---- rings
 
@@ -28,27 +29,35 @@ FindsRings = (v : View) (k : Key) → (is_own_ancestor v k ≡ true) ↔ IsOnRin
 
 -- ---- touched keys are enough
 
--- the empty view is sound, and so is a sound view after a file that rests on sound views of others, though only touched keys were looked at
+-- the empty view is sound, and so is a sound view after a file that rests on sound views of others,
+-- though only touched keys were looked at
 pub record StaysSound : Type 0 where
   pub empty : (own : Blocks) → IsSound own empty_view
-  pub after_file : (own : Owners) (c : ℕ) (v : View) (out : List (ℕ × View)) (r : Reading)
-      → AreDisjoint own → IsSound (own c) v → AreSoundBases own c out → IsSound (own c) (judge (own c) v out r).view
+  pub after_file : (own : Owners) (c : ℕ) (v : View) (others : List (ℕ × View)) (r : Reading)
+      → AreDisjoint own → IsSound (own c) v → AreSoundBases own c others
+      → IsSound (own c) (judge (own c) v others r).view
 
--- the board without judgements is sound, and so is a sound board with one more judgement; the blocks of a register are disjoint
+-- the board without judgements is sound, and so is a sound board with one more judgement; the
+-- blocks of a register are disjoint
 pub record BoardsStaySound : Type 0 where
   pub empty : (own : Owners) → IsSoundBoard own empty_board
-  pub after_file : (own : Owners) (B : Board) (c : ℕ) (r : Reading)
-      → AreDisjoint own → NamesOthers c r → IsSoundBoard own B → IsSoundBoard own (adds B c (judged_on (own c) B c r))
-  pub of_register : (register : RegisterValue) → IsRegister register → AreDisjoint (blocks_of register)
+  pub after_file : (own : Owners) (board : Board) (c : ℕ) (r : Reading)
+      → AreDisjoint own → NamesOthers c r → IsSoundBoard own board
+      → IsSoundBoard own (adds board c (judged_on (own c) board c r))
+  pub of_register : (register : RegisterValue) → IsRegister register
+      → AreDisjoint (blocks_of register)
 
 -- ---- own numbers stay own
 
--- rule 20 alone keeps them, whatever the basis views are; and no number is held by two custodians of a register
+-- rule 20 alone keeps them, whatever the basis views are; and no number is held by two custodians
+-- of a register
 pub record OwnNumbersStay : Type 0 where
   pub empty : (own : Blocks) → HoldsOwn own empty_view
-  pub after_file : (own : Blocks) (v : View) (out : List (ℕ × View)) (r : Reading) → HoldsOwn own v → HoldsOwn own (judge own v out r).view
+  pub after_file : (own : Blocks) (v : View) (others : List (ℕ × View)) (r : Reading)
+      → HoldsOwn own v → HoldsOwn own (judge own v others r).view
   pub of_no_file : (own : Owners) → AllHoldOwn own empty_board
-  pub after_judgement : (own : Owners) (B : Board) (c : ℕ) (r : Reading)
-      → AllHoldOwn own B → AllHoldOwn own (adds B c (judged_on (own c) B c r))
+  pub after_judgement : (own : Owners) (board : Board) (c : ℕ) (r : Reading)
+      → AllHoldOwn own board → AllHoldOwn own (adds board c (judged_on (own c) board c r))
   pub one_custodian : (register : RegisterValue) (v w : View) (c d uprn : ℕ) → IsRegister register
-      → holds_number (blocks_of register c) v uprn ≡ true → holds_number (blocks_of register d) w uprn ≡ true → c ≡ d
+      → holds_number (blocks_of register c) v uprn ≡ true
+      → holds_number (blocks_of register d) w uprn ≡ true → c ≡ d

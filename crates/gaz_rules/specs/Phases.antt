@@ -1,11 +1,13 @@
 -- What the phases of a judgement tell.
-use Rattle.std.specs.Prelude.{◌≡◌, ◌≢◌, ◌≤◌, ℕ, List, [], ◌∷◌, ◌++◌, IfNone, Option, Some, None, Result, IfOk, OnOk, OnErr}
+use Rattle.std.specs.Prelude.{◌≡◌, ◌≢◌, ◌≤◌, ℕ, List, [], ◌∷◌, ◌++◌, IfNone, Option, Some, None}
+use Rattle.std.specs.Prelude.{Result, IfOk, OnOk, OnErr}
 use Rattle.std.specs.Option.{option_map}
 use Rattle.std.specs.List.{fold}
 use Rattle.gaz_changefile.specs.Contents.{Contents}
 use Rattle.gaz_views.specs.View.{View}
 use Rattle.gaz_shelf.specs.Board.{Judgement, last_view}
-use Rattle.gaz_shelf.specs.Keeper.{Content, Counts, Idle, IsAtHand, IsNotOpen, Seen, after_abandon, with_judgement, with_working}
+use Rattle.gaz_shelf.specs.Keeper.{Content, Counts, Idle, IsAtHand, IsNotOpen, Seen, after_abandon}
+use Rattle.gaz_shelf.specs.Keeper.{with_judgement, with_working}
 use Rattle.gaz_shelf.specs.declared.fault.ShelfFault.{ShelfFault}
 use Rattle.gaz_views.specs.declared.verdict.Verdict.{Verdict}
 use Rattle.gaz_views.specs.declared.verdict.Verdict.TheVariants.{Applied, Rejected}
@@ -26,18 +28,22 @@ abbrev pub IsFirst : List Fault → Option found.Fault → Type 0
 IsFirst fs r = first_of fs ≡ option_map (λ f. record { place = f.place; rule = f.rule }) r
 
 -- the first of these faults, and with none the content has this working view
-pub record Finds (old new : Content) (fs : List Fault) (w : View) (r : Option found.Fault) : Type 0 where
+pub record Finds (old new : Content) (fs : List Fault) (w : View) (r : Option found.Fault)
+    : Type 0 where
   pub first : IsFirst fs r
   pub view : IfNone r (new ≡ with_working old w)
 
 -- the faults of the records, and those of their keys in the last view
 abbrev pub faults_in : Blocks → Content → Contents → List Fault
-faults_in own k file = record_faults own k.working file.changes ++ end_faults (fold effect k.working file.changes) (basis_views k.board file.bases) file.changes
+faults_in own k file =
+    record_faults own k.working file.changes
+    ++ end_faults (fold effect k.working file.changes) (basis_views k.board file.bases) file.changes
 
 -- ---- what is done
 
 -- what is done within a judgement in progress: a fault may break it, and files and board stay
-pub record Works {T : Type 0} (old new : Seen) (result : Result T ShelfFault) (IsRight : T → Type 0) : Type 0 where
+pub record Works {T : Type 0} (old new : Seen) (result : Result T ShelfFault) (IsRight : T → Type 0)
+    : Type 0 where
   pub harm : new.unharmed → old.unharmed
   pub stands : old.stands → new.unharmed → new.stands
   pub right : old.stands → new.unharmed → IfOk result IsRight
@@ -52,18 +58,23 @@ conclusion k c None = record { verdict = Applied; view = k.working }
 conclusion k c (Some f) = record { verdict = Rejected f.place f.rule; view = last_view k.board c }
 
 -- a custodian's judgement in progress ends in this way; after a fault it is given up
-pub record Ends (old new : Seen) (result : Result Verdict ShelfFault) (c : ℕ) (j : Judgement) : Type 0 where
+pub record Ends (old new : Seen) (result : Result Verdict ShelfFault) (c : ℕ) (j : Judgement)
+    : Type 0 where
   pub harm : new.unharmed → old.unharmed
   pub stands : old.stands → IsAtHand old.content c → new.unharmed → new.stands
   pub verdict : IfOk result (λ v. v ≡ j.verdict)
-  pub done : old.stands → IsAtHand old.content c → new.unharmed → OnOk result (new.content ≡ with_judgement old.content c j)
-  pub undone : old.stands → IsAtHand old.content c → new.unharmed → OnErr result (new.content ≡ after_abandon old.content)
+  pub done : old.stands → IsAtHand old.content c → new.unharmed
+      → OnOk result (new.content ≡ with_judgement old.content c j)
+  pub undone : old.stands → IsAtHand old.content c → new.unharmed
+      → OnErr result (new.content ≡ after_abandon old.content)
   pub idle : IsNotOpen new.progress
   pub counts : Counts old new result
 
--- it ends by what was found
-abbrev pub Concludes : {K : Type 0} → (K → Seen) → K → K → Result Verdict ShelfFault → ℕ → Option found.Fault → Type 0
-Concludes seen old new result c r = Ends (seen old) (seen new) result c (conclusion (seen old).content c r)
+-- a judgement in progress ends by what was found
+abbrev pub Concludes : {K : Type 0} → (K → Seen) → K → K → Result Verdict ShelfFault → ℕ
+    → Option found.Fault → Type 0
+Concludes seen old new result c r =
+    Ends (seen old) (seen new) result c (conclusion (seen old).content c r)
 
 -- no judgement is in progress any more, and files and board stay
 pub record GivesUp (old new : Seen) : Type 0 where

@@ -11,7 +11,8 @@ use Rattle.gaz_changefile.specs.declared.action.Action.{Action}
 use Rattle.gaz_changefile.specs.declared.action.Action.TheVariants.{Insert, Update, Delete}
 use Rattle.gaz_register.specs.Registers.{Blocks}
 use Rattle.gaz_views.specs.View.{View, was_used}
-use Rattle.gaz_rules.specs.Rules.{is_missing, is_outside, is_used_again, moves_what_stays, takes_what_stays}
+use Rattle.gaz_rules.specs.Rules.{is_missing, is_outside, is_used_again, moves_what_stays}
+use Rattle.gaz_rules.specs.Rules.{takes_what_stays}
 
 -- the number is in none of these blocks
 abbrev pub IsInNone : List (ℕ × ℕ) → ℕ → Type 0
@@ -57,8 +58,11 @@ pub record MovesItem (v : View) (a : Action) (i : Item) : Type 0 where
 
 -- each test of a change is true just where its sentence holds
 pub record RecordTestsSay : Type 0 where
-  pub outside : (own : Blocks) (v : View) (i : Item) → (is_outside own v i ≡ true) ↔ LiesOutside own i
-  pub used_again : (v : View) (a : Action) (i : Item) → (is_used_again v a i ≡ true) ↔ InsertsAgain v a i
-  pub missing : (v : View) (a : Action) (i : Item) → (is_missing v a i ≡ true) ↔ ChangesNothing v a i
+  pub outside : (own : Blocks) (v : View) (i : Item) → (is_outside own v i ≡ true)
+      ↔ LiesOutside own i
+  pub used_again : (v : View) (a : Action) (i : Item) → (is_used_again v a i ≡ true)
+      ↔ InsertsAgain v a i
+  pub missing : (v : View) (a : Action) (i : Item) → (is_missing v a i ≡ true)
+      ↔ ChangesNothing v a i
   pub deleted : (a : Action) (i : Item) → (takes_what_stays a i ≡ true) ↔ DeletesWhatStays a i
   pub moved : (v : View) (a : Action) (i : Item) → (moves_what_stays v a i ≡ true) ↔ MovesItem v a i

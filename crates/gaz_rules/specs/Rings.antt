@@ -7,10 +7,13 @@ use Rattle.gaz_views.specs.View.{View}
 use Rattle.gaz_rules.specs.EndRules.{is_own_ancestor, parent_of}
 use Rattle.gaz_rules.specs.declared.rings.Walked.{Walked}
 
--- each BLPU that was walked has the number of its visit, which leads to whether it is its own ancestor, and its parent was walked too
+-- each BLPU that was walked has the number of its visit, which leads to whether it is its own
+-- ancestor, and its parent was walked too
 pub record IsKnown (v : View) (visit_of : ℕ → Option ℕ) (on_ring : List Bool) : Type 0 where
-  pub right : (x i : ℕ) → visit_of x ≡ Some i → slice_get on_ring i ≡ Some (is_own_ancestor v (key.Blpu x))
-  pub closed : (x i p : ℕ) → visit_of x ≡ Some i → parent_of v x ≡ Some p → is_some (visit_of p) ≡ true
+  pub right : (x i : ℕ) → visit_of x ≡ Some i → slice_get on_ring i
+      ≡ Some (is_own_ancestor v (key.Blpu x))
+  pub closed : (x i p : ℕ) → visit_of x ≡ Some i → parent_of v x ≡ Some p → is_some (visit_of p)
+      ≡ true
 
 -- the number of a BLPU's visit
 abbrev pub visit_of : Walked → ℕ → Option ℕ

@@ -41,11 +41,13 @@ is_delete Insert = false
 is_delete Update = false
 is_delete Delete = true
 
--- a custodian with these own blocks, and this view, holds the number of a BLPU: it is in one of its blocks
+-- a custodian with these own blocks, and this view, holds the number of a BLPU: it is in one of its
+-- blocks
 abbrev pub holds_number : Blocks → View → ℕ → Bool
 holds_number own v uprn = within own.uprn uprn
 
--- 20: a street whose number is in none of the custodian's own blocks, or a BLPU whose number it doesn't hold
+-- 20: a street whose number is in none of the custodian's own blocks, or a BLPU whose number it
+-- doesn't hold
 abbrev pub is_outside : Blocks → View → Item → Bool
 is_outside own v (item.Street s) = not (within own.usrn s.usrn)
 is_outside own v (item.Blpu b) = not (holds_number own v b.uprn)
@@ -71,13 +73,15 @@ takes_what_stays a i = is_delete a && stays i
 
 -- an LPI of another BLPU or in another language than before, or a cross reference of another BLPU
 abbrev pub is_moved : Item → Item → Bool
-is_moved (item.Lpi old) (item.Lpi new) = not (new.uprn == old.uprn) || not (same_lang new.lang old.lang)
+is_moved (item.Lpi old) (item.Lpi new) =
+    not (new.uprn == old.uprn) || not (same_lang new.lang old.lang)
 is_moved (item.Xref old) (item.Xref new) = not (new.uprn == old.uprn)
 is_moved _ _ = false
 
 -- 24: an update of what is there to such an item
 abbrev pub moves_what_stays : View → Action → Item → Bool
-moves_what_stays v a i = is_update a && option_map_or (λ old. is_moved old i) (map.get v.items (key_of i)) false
+moves_what_stays v a i =
+    is_update a && option_map_or (λ old. is_moved old i) (map.get v.items (key_of i)) false
 
 -- the record rules by number, the least first
 abbrev pub record_rules : Blocks → View → Action → Item → List (ℕ × Bool)

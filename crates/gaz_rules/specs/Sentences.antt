@@ -13,7 +13,9 @@ use Rattle.gaz_records.specs.declared.item.Item.TheVariants as item
 use Rattle.gaz_records.specs.declared.key.Key.{Key}
 use Rattle.gaz_records.specs.declared.key.Key.TheVariants as key
 use Rattle.gaz_views.specs.View.{View, holds}
-use Rattle.gaz_rules.specs.EndRules.{blpu_named, closed_under_lpi, found_in, is_second, lacks_blpu, lacks_descriptor, lacks_own_street, lacks_parent, lacks_street, leaves_lpi, names_closed, names_past, past_under_lpi}
+use Rattle.gaz_rules.specs.EndRules.{blpu_named, closed_under_lpi, found_in, is_second, lacks_blpu}
+use Rattle.gaz_rules.specs.EndRules.{lacks_descriptor, lacks_own_street, lacks_parent, lacks_street}
+use Rattle.gaz_rules.specs.EndRules.{leaves_lpi, names_closed, names_past, past_under_lpi}
 
 -- ---- what stands in a view
 
@@ -37,7 +39,7 @@ pub record IsPastBlpu (v : View) (uprn : ℕ) : Type 0 where
 
 -- the own view, then the basis views in the order of the file
 abbrev pub views_in_turn : View → List (ℕ × View) → List View
-views_in_turn v out = v ∷ map (λ b. b.1) out
+views_in_turn v others = v ∷ map (λ b. b.1) others
 
 -- none of these views has the street
 abbrev pub HaveNone : List View → ℕ → Type 0
@@ -72,28 +74,30 @@ pub record LacksBlpu (v : View) (k : Key) : Type 0 where
   pub gone : fin.get v.items (key.Blpu uprn) ≡ None
 
 -- 32: k is an approved LPI whose street is in none of the views
-pub record NamesNowhere (v : View) (out : List (ℕ × View)) (k : Key) : Type 0 where
+pub record NamesNowhere (v : View) (others : List (ℕ × View)) (k : Key) : Type 0 where
   pub lpi : LpiValue
   pub there : IsApprovedLpi v k lpi
-  pub nowhere : HaveNone (views_in_turn v out) lpi.usrn
+  pub nowhere : HaveNone (views_in_turn v others) lpi.usrn
 
 -- 33: k is an approved LPI whose street is closed in the first view that has it
-pub record NamesClosed (v : View) (out : List (ℕ × View)) (k : Key) : Type 0 where
+pub record NamesClosed (v : View) (others : List (ℕ × View)) (k : Key) : Type 0 where
   pub lpi : LpiValue
   pub found : View
   pub there : IsApprovedLpi v k lpi
-  pub first : IsFirstWith (views_in_turn v out) lpi.usrn found
+  pub first : IsFirstWith (views_in_turn v others) lpi.usrn found
   pub closed : IsClosedStreet found lpi.usrn
 
--- 34: k is an approved LPI, and the first view that has its street lacks the descriptor in its language
-pub record NamesUnnamed (v : View) (out : List (ℕ × View)) (k : Key) : Type 0 where
+-- 34: k is an approved LPI, and the first view that has its street lacks the descriptor in its
+-- language
+pub record NamesUnnamed (v : View) (others : List (ℕ × View)) (k : Key) : Type 0 where
   pub lpi : LpiValue
   pub found : View
   pub there : IsApprovedLpi v k lpi
-  pub first : IsFirstWith (views_in_turn v out) lpi.usrn found
+  pub first : IsFirstWith (views_in_turn v others) lpi.usrn found
   pub unnamed : holds found (key.Descriptor lpi.usrn lpi.lang) ≡ false
 
--- 34: a descriptor that isn't there, its street is, and an approved LPI has that street and language
+-- 34: a descriptor that isn't there, its street is, and an approved LPI has that street and
+-- language
 pub record LeavesLpi (v : View) (k : Key) : Type 0 where
   pub usrn : ℕ
   pub lang : Lang
@@ -154,11 +158,16 @@ pub record ClosedUnderLpi (v : View) (k : Key) : Type 0 where
 pub record TestsSay : Type 0 where
   pub second : (v : View) (k : Key) → (is_second v k ≡ true) ↔ HasSecond v k
   pub blpu : (v : View) (k : Key) → (lacks_blpu v k ≡ true) ↔ LacksBlpu v k
-  pub found : (v w : View) (out : List (ℕ × View)) (usrn : ℕ) → (found_in v out usrn ≡ Some w) ↔ IsFirstWith (views_in_turn v out) usrn w
-  pub nowhere : (v : View) (out : List (ℕ × View)) (usrn : ℕ) → (found_in v out usrn ≡ None) ↔ HaveNone (views_in_turn v out) usrn
-  pub street : (v : View) (out : List (ℕ × View)) (k : Key) → (lacks_street v out k ≡ true) ↔ NamesNowhere v out k
-  pub open_street : (v : View) (out : List (ℕ × View)) (k : Key) → (names_closed v out k ≡ true) ↔ NamesClosed v out k
-  pub descriptor : (v : View) (out : List (ℕ × View)) (k : Key) → (lacks_descriptor v out k ≡ true) ↔ NamesUnnamed v out k
+  pub found : (v w : View) (others : List (ℕ × View)) (usrn : ℕ) → (found_in v others usrn ≡ Some w)
+      ↔ IsFirstWith (views_in_turn v others) usrn w
+  pub nowhere : (v : View) (others : List (ℕ × View)) (usrn : ℕ) → (found_in v others usrn ≡ None)
+      ↔ HaveNone (views_in_turn v others) usrn
+  pub street : (v : View) (others : List (ℕ × View)) (k : Key) → (lacks_street v others k ≡ true)
+      ↔ NamesNowhere v others k
+  pub open_street : (v : View) (others : List (ℕ × View)) (k : Key)
+      → (names_closed v others k ≡ true) ↔ NamesClosed v others k
+  pub descriptor : (v : View) (others : List (ℕ × View)) (k : Key)
+      → (lacks_descriptor v others k ≡ true) ↔ NamesUnnamed v others k
   pub leaves : (v : View) (k : Key) → (leaves_lpi v k ≡ true) ↔ LeavesLpi v k
   pub parent : (v : View) (k : Key) → (lacks_parent v k ≡ true) ↔ LacksParent v k
   pub names_past : (v : View) (k : Key) → (names_past v k ≡ true) ↔ NamesPast v k

@@ -13,9 +13,12 @@ use Rattle.gaz_views.specs.View.{View, holds, was_used}
 use Rattle.gaz_shelf.specs.Board.{Board, view_after}
 use Rattle.gaz_rules.specs.Judging.{bases_of}
 use Rattle.gaz_rules.specs.Rules.{holds_number}
-use Rattle.gaz_rules.specs.EndRules.{ancestor, approved_at, closed_under_lpi, is_out_of_date, is_second, is_unnamed, lacks_blpu, lacks_own_street, lacks_parent, names_closed}
+use Rattle.gaz_rules.specs.EndRules.{ancestor, approved_at, closed_under_lpi, is_out_of_date}
+use Rattle.gaz_rules.specs.EndRules.{is_second, is_unnamed, lacks_blpu, lacks_own_street}
+use Rattle.gaz_rules.specs.EndRules.{lacks_parent, names_closed}
 
--- no key at all breaks an end rule by what stands in the view itself, and its streets are the custodian's own
+-- no key at all breaks an end rule by what stands in the view itself, and its streets are the
+-- custodian's own
 pub record IsSound (own : Blocks) (v : View) : Type 0 where
   -- each item stands under its own key, and each key that stands there was used
   pub keyed : (k : Key) (i : Item) → map.get v.items k ≡ Some i → key_of i ≡ k
@@ -35,7 +38,8 @@ pub record IsSound (own : Blocks) (v : View) : Type 0 where
   pub open_under_lpi : (k : Key) → closed_under_lpi v k ≡ false
   -- streets are of the own blocks, and each street of them that an approved LPI names is there
   pub own_streets : (usrn : ℕ) → holds v (key.Street usrn) ≡ true → within own.usrn usrn ≡ true
-  pub own_named : (k : Key) (l : LpiValue) → approved_at v k ≡ Some l → within own.usrn l.usrn ≡ true → holds v (key.Street l.usrn) ≡ true
+  pub own_named : (k : Key) (l : LpiValue) → approved_at v k ≡ Some l → within own.usrn l.usrn
+      ≡ true → holds v (key.Street l.usrn) ≡ true
 
 -- the custodian holds the number of every BLPU that is there
 abbrev pub HoldsOwn : Blocks → View → Type 0
@@ -49,7 +53,8 @@ Owners = ℕ → Blocks
 
 -- no street number is in the own blocks of two custodians
 abbrev pub AreDisjoint : Owners → Type 0
-AreDisjoint own = (c d usrn : ℕ) → within (own c).usrn usrn ≡ true → within (own d).usrn usrn ≡ true → c ≡ d
+AreDisjoint own =
+    (c d usrn : ℕ) → within (own c).usrn usrn ≡ true → within (own d).usrn usrn ≡ true → c ≡ d
 
 -- the view of another custodian than c, and sound for that one's blocks
 pub record IsSoundBasis (own : Owners) (c : ℕ) (b : ℕ × View) : Type 0 where
@@ -57,7 +62,7 @@ pub record IsSoundBasis (own : Owners) (c : ℕ) (b : ℕ × View) : Type 0 wher
   pub sound : IsSound (own b.0) b.1
 
 abbrev pub AreSoundBases : Owners → ℕ → List (ℕ × View) → Type 0
-AreSoundBases own c out = All (IsSoundBasis own c) out
+AreSoundBases own c others = All (IsSoundBasis own c) others
 
 -- no basis line names the custodian itself
 abbrev pub NamesOthers : ℕ → Reading → Type 0
@@ -65,8 +70,8 @@ NamesOthers c r = All (λ d. d.custodian ≢ c) (bases_of r)
 
 -- every view on the board is sound
 abbrev pub IsSoundBoard : Owners → Board → Type 0
-IsSoundBoard own B = (c volume : ℕ) → IsSound (own c) (view_after B c volume)
+IsSoundBoard own board = (c volume : ℕ) → IsSound (own c) (view_after board c volume)
 
 -- in every view on the board each custodian holds the numbers of its BLPUs
 abbrev pub AllHoldOwn : Owners → Board → Type 0
-AllHoldOwn own B = (c volume : ℕ) → HoldsOwn (own c) (view_after B c volume)
+AllHoldOwn own board = (c volume : ℕ) → HoldsOwn (own c) (view_after board c volume)

@@ -19,22 +19,25 @@ abbrev pub view_in : Content → Place → View
 view_in k place.Own = k.working
 view_in k (place.At d) = view_after k.board d.custodian d.volume
 
--- its volume is judged
+-- the volume at a place is judged
 abbrev pub IsReached : Content → Place → Type 0
 IsReached k place.Own = ⊤
 IsReached k (place.At d) = d.volume ≤ reached k.board d.custodian
 
 -- whether something stands there, and whether that is a closed street
 abbrev pub state_of : Option Item → StreetState
-state_of stored = record { is_there = is_some stored; is_closed = if_some (option_and_then as_street stored) (λ s. is_some s.end) }
+state_of stored = record {
+  is_there = is_some stored;
+  is_closed = if_some (option_and_then as_street stored) (λ s. is_some s.end);
+}
 
 abbrev pub street_state : View → ℕ → StreetState
 street_state v usrn = state_of (fin.get v.items (key.Street usrn))
 
 -- what an approved LPI breaks that names this street in this language
 abbrev pub street_faults : View → List (ℕ × View) → ℕ → Lang → StreetFaults
-street_faults v out usrn lang = record {
-  is_nowhere = is_none (found_in v out usrn);
-  is_closed = if_some (found_in v out usrn) (λ w. is_closed w usrn);
-  is_unnamed = if_some (found_in v out usrn) (λ w. not (holds w (key.Descriptor usrn lang)));
+street_faults v others usrn lang = record {
+  is_nowhere = is_none (found_in v others usrn);
+  is_closed = if_some (found_in v others usrn) (λ w. is_closed w usrn);
+  is_unnamed = if_some (found_in v others usrn) (λ w. not (holds w (key.Descriptor usrn lang)));
 }

@@ -22,35 +22,50 @@ pub record IsAmong (changes : List Change) (c : Change) : Type 0 where
 
 -- each change fits the view after the changes before it
 abbrev pub AllFit : Blocks → View → List Change → Type 0
-AllFit own v changes = (c : Change) (at : IsAmong changes c) → first_broken (record_rules own (fold effect v at.before) c.action c.item) ≡ None
+AllFit own v changes =
+    (c : Change) (at : IsAmong changes c)
+    → first_broken (record_rules own (fold effect v at.before) c.action c.item) ≡ None
 
 -- no key of the changes breaks an end rule in this view
 abbrev pub NoneBreaks : View → List (ℕ × View) → List Change → Type 0
-NoneBreaks w out changes = (c : Change) → IsAmong changes c → first_broken (end_rules w out (key_of c.item)) ≡ None
+NoneBreaks w others changes =
+    (c : Change) → IsAmong changes c → first_broken (end_rules w others (key_of c.item)) ≡ None
 
--- the first change that doesn't fit the view after the changes before it, and the least rule that it breaks
-pub record IsFirstMisfit (own : Blocks) (v : View) (changes : List Change) (c : Change) (rule : ℕ) : Type 0 where
+-- the first change that doesn't fit the view after the changes before it, and the least rule that
+-- it breaks
+pub record IsFirstMisfit (own : Blocks) (v : View) (changes : List Change) (c : Change) (rule : ℕ)
+    : Type 0 where
   pub at : IsAmong changes c
   pub before_fit : AllFit own v at.before
   pub breaks : first_broken (record_rules own (fold effect v at.before) c.action c.item) ≡ Some rule
 
 -- the first change whose key breaks an end rule in this view, and the least rule that it breaks
-pub record IsFirstBreach (w : View) (out : List (ℕ × View)) (changes : List Change) (c : Change) (rule : ℕ) : Type 0 where
+pub record IsFirstBreach (w : View) (others : List (ℕ × View)) (changes : List Change) (c : Change)
+    (rule : ℕ) : Type 0 where
   pub at : IsAmong changes c
-  pub before_keep : NoneBreaks w out at.before
-  pub breaks : first_broken (end_rules w out (key_of c.item)) ≡ Some rule
+  pub before_keep : NoneBreaks w others at.before
+  pub breaks : first_broken (end_rules w others (key_of c.item)) ≡ Some rule
 
--- rejected at its fault of form, else at its first misfit, else at its first breach in the last view, and the view stays; else applied
+-- rejected at its fault of form, else at its first misfit, else at its first breach in the last
+-- view, and the view stays; else applied
 pub record JudgesSay : Type 0 where
-  pub bad : (own : Blocks) (v : View) (out : List (ℕ × View)) (place rule : ℕ) → judge own v out (Bad place rule) ≡ record { verdict = Rejected place rule; view = v }
-  pub misfit : (own : Blocks) (v : View) (out : List (ℕ × View)) (file : Contents) (c : Change) (rule : ℕ)
-      → IsFirstMisfit own v file.changes c rule → judge own v out (Good file) ≡ record { verdict = Rejected c.place rule; view = v }
-  pub breach : (own : Blocks) (v : View) (out : List (ℕ × View)) (file : Contents) (c : Change) (rule : ℕ)
-      → AllFit own v file.changes → IsFirstBreach (fold effect v file.changes) out file.changes c rule
-      → judge own v out (Good file) ≡ record { verdict = Rejected c.place rule; view = v }
-  pub applied : (own : Blocks) (v : View) (out : List (ℕ × View)) (file : Contents)
-      → AllFit own v file.changes → NoneBreaks (fold effect v file.changes) out file.changes
-      → judge own v out (Good file) ≡ record { verdict = Applied; view = fold effect v file.changes }
+  pub bad : (own : Blocks) (v : View) (others : List (ℕ × View)) (place rule : ℕ)
+      → judge own v others (Bad place rule) ≡ record { verdict = Rejected place rule; view = v }
+  pub misfit : (own : Blocks) (v : View) (others : List (ℕ × View)) (file : Contents) (c : Change)
+      (rule : ℕ)
+      → IsFirstMisfit own v file.changes c rule → judge own v others (Good file)
+      ≡ record { verdict = Rejected c.place rule; view = v }
+  pub breach : (own : Blocks) (v : View) (others : List (ℕ × View)) (file : Contents) (c : Change)
+      (rule : ℕ)
+      → AllFit own v file.changes
+      → IsFirstBreach (fold effect v file.changes) others file.changes c rule
+      → judge own v others (Good file) ≡ record { verdict = Rejected c.place rule; view = v }
+  pub applied : (own : Blocks) (v : View) (others : List (ℕ × View)) (file : Contents)
+      → AllFit own v file.changes → NoneBreaks (fold effect v file.changes) others file.changes
+      → judge own v others (Good file)
+      ≡ record { verdict = Applied; view = fold effect v file.changes }
   -- rules are asked by rising number
-  pub record_numbers : (own : Blocks) (v : View) (a : Action) (i : Item) → map (λ r. r.0) (record_rules own v a i) ≡ 20 ∷ 21 ∷ 22 ∷ 23 ∷ 24 ∷ []
-  pub end_numbers : (w : View) (out : List (ℕ × View)) (k : Key) → map (λ r. r.0) (end_rules w out k) ≡ 30 ∷ 31 ∷ 32 ∷ 33 ∷ 34 ∷ 35 ∷ 36 ∷ 37 ∷ 38 ∷ 39 ∷ []
+  pub record_numbers : (own : Blocks) (v : View) (a : Action) (i : Item)
+      → map (λ r. r.0) (record_rules own v a i) ≡ 20 ∷ 21 ∷ 22 ∷ 23 ∷ 24 ∷ []
+  pub end_numbers : (w : View) (others : List (ℕ × View)) (k : Key)
+      → map (λ r. r.0) (end_rules w others k) ≡ 30 ∷ 31 ∷ 32 ∷ 33 ∷ 34 ∷ 35 ∷ 36 ∷ 37 ∷ 38 ∷ 39 ∷ []

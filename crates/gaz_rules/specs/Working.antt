@@ -1,11 +1,12 @@
--- What a call on a judgement in progress tells of the keeper before and after, where `seen` is how it is seen.
-use Rattle.std.specs.Prelude.{◌≡◌, true, List, Option, Result}
+-- What a call on a judgement in progress tells of the keeper before and after, where `seen` is how
+-- it is seen.
+use Rattle.std.specs.Prelude.{◌≡◌, ℕ, true, List, Option, Result}
 use Rattle.std.specs.List.{fold}
 use Rattle.gaz_changefile.specs.Contents.{Contents}
 use Rattle.gaz_changefile.specs.declared.change.Basis.{Basis}
 use Rattle.gaz_changefile.specs.declared.change.Change.{Change}
 use Rattle.gaz_register.specs.Registers.{Blocks}
-use Rattle.gaz_shelf.specs.Keeper.{Content, Reads, Seen, with_working}
+use Rattle.gaz_shelf.specs.Keeper.{Content, IsNotOpen, Open, Reads, Seen, with_working}
 use Rattle.gaz_shelf.specs.declared.fault.ShelfFault.{ShelfFault}
 use Rattle.gaz_views.specs.View.{View}
 use Rattle.gaz_rules.specs.Bases.{are_reached, basis_views}
@@ -14,37 +15,69 @@ use Rattle.gaz_rules.specs.Phases.{Finds, IsFirst, Works, faults_in}
 use Rattle.gaz_rules.specs.Rules.{effect}
 use Rattle.gaz_rules.specs.declared.judging.Fault as found
 
+-- ---- whether a judgement is in progress
+
+-- a judgement of this custodian is in progress
+abbrev pub IsJudging : {K : Type 0} → (K → Seen) → K → ℕ → Type 0
+IsJudging seen now code = (seen now).progress ≡ Open code
+
+-- no judgement is in progress
+abbrev pub IsNotJudging : {K : Type 0} → (K → Seen) → K → Type 0
+IsNotJudging seen now = IsNotOpen (seen now).progress
+
 -- ---- one call
 
 -- the answer is right of the content before
-abbrev pub ReadsContent : {K T : Type 0} → (K → Seen) → K → K → Result T ShelfFault → (Content → T → Type 0) → Type 0
-ReadsContent seen old new result IsRight = Reads (seen old) (seen new) result (λ x. IsRight (seen old).content x)
+abbrev pub ReadsContent : {K T : Type 0} → (K → Seen) → K → K → Result T ShelfFault
+    → (Content → T → Type 0) → Type 0
+ReadsContent seen old new result IsRight =
+    Reads (seen old) (seen new) result (λ x. IsRight (seen old).content x)
 
 -- the answer is right of the working view
-abbrev pub ReadsView : {K T : Type 0} → (K → Seen) → K → K → Result T ShelfFault → (View → T → Type 0) → Type 0
-ReadsView seen old new result IsRight = Reads (seen old) (seen new) result (λ x. IsRight (seen old).content.working x)
+abbrev pub ReadsView : {K T : Type 0} → (K → Seen) → K → K → Result T ShelfFault
+    → (View → T → Type 0) → Type 0
+ReadsView seen old new result IsRight =
+    Reads (seen old) (seen new) result (λ x. IsRight (seen old).content.working x)
+
+-- the answer is right of the working view and of the views that these bases name, where they are
+-- all reached
+abbrev pub ReadsViews : {K T : Type 0} → (K → Seen) → K → K → Result T ShelfFault
+    → List Basis → (View → List (ℕ × View) → T → Type 0) → Type 0
+ReadsViews seen old new result bases IsRight =
+    ReadsContent seen old new result
+    (λ content x. are_reached content.board bases ≡ true
+    → IsRight content.working (basis_views content.board bases) x)
 
 -- the working view becomes what this makes of it
-abbrev pub MakesView : {K T : Type 0} → (K → Seen) → K → K → Result T ShelfFault → (View → View) → Type 0
+abbrev pub MakesView : {K T : Type 0} → (K → Seen) → K → K → Result T ShelfFault → (View → View)
+    → Type 0
 MakesView seen old new result becomes =
-    Works (seen old) (seen new) result (λ _. (seen new).content ≡ with_working (seen old).content (becomes (seen old).content.working))
+    Works (seen old) (seen new) result
+    (λ _. (seen new).content ≡ with_working (seen old).content (becomes (seen old).content.working))
 
 -- ---- the phases
 
 -- the changes are done, up to the first that doesn't fit
-abbrev pub DoesRecords : {K : Type 0} → (K → Seen) → K → K → Result (Option found.Fault) ShelfFault → Blocks → List Change → Type 0
+abbrev pub DoesRecords : {K : Type 0} → (K → Seen) → K → K → Result (Option found.Fault) ShelfFault
+    → Blocks → List Change → Type 0
 DoesRecords seen old new result own changes =
     let k = (seen old).content in
-    Works (seen old) (seen new) result (Finds k (seen new).content (record_faults own k.working changes) (fold effect k.working changes))
+    Works (seen old) (seen new) result
+    (Finds k (seen new).content (record_faults own k.working changes)
+    (fold effect k.working changes))
 
 -- the first change whose key breaks an end rule
-abbrev pub FindsEndFault : {K : Type 0} → (K → Seen) → K → K → Result (Option found.Fault) ShelfFault → List Basis → List Change → Type 0
+abbrev pub FindsEndFault : {K : Type 0} → (K → Seen) → K → K
+    → Result (Option found.Fault) ShelfFault → List Basis → List Change → Type 0
 FindsEndFault seen old new result bases changes =
     let k = (seen old).content in
-    Reads (seen old) (seen new) result (λ r. are_reached k.board bases ≡ true → IsFirst (end_faults k.working (basis_views k.board bases) changes) r)
+    Reads (seen old) (seen new) result
+    (λ r. are_reached k.board bases ≡ true
+    → IsFirst (end_faults k.working (basis_views k.board bases) changes) r)
 
--- both
-abbrev pub DoesPhases : {K : Type 0} → (K → Seen) → K → K → Result (Option found.Fault) ShelfFault → Blocks → Contents → Type 0
+-- the changes are done, and the first fault of the records is found, else the first of their keys
+abbrev pub DoesPhases : {K : Type 0} → (K → Seen) → K → K → Result (Option found.Fault) ShelfFault
+    → Blocks → Contents → Type 0
 DoesPhases seen old new result own file =
     let k = (seen old).content in
     Works (seen old) (seen new) result (λ r. are_reached k.board file.bases ≡ true

@@ -17,7 +17,7 @@ pub(crate) struct Known {
 impl Known {
     /// Nothing so far, which is right of any views.
     pub(crate) fn new(alloc: Global) -> Known
-        ensures { (v : View) (out : List (ℕ × View)) → IsRight v out result }
+        ensures { (v : View) (others : List (ℕ × View)) → IsRight v others result }
     {
         Known {
             walked: Walked::new(alloc),

@@ -1,10 +1,9 @@
 //! The street that an approved LPI named last. Over a whole file most LPIs name the same one.
-ghost use Rattle.std.specs.Prelude.{◌≡◌, ℕ, true, IfSome, List};
+ghost use Rattle.std.specs.Prelude.{◌≡◌, ℕ, IfSome, List};
 ghost use Rattle.gaz_views.specs.View.{View};
-ghost use Rattle.gaz_shelf.specs.Keeper.{Open, Reads};
-ghost use Rattle.gaz_rules.specs.Bases.{are_reached, basis_views};
 ghost use Rattle.gaz_rules.specs.Knowing.{Recalls};
 ghost use Rattle.gaz_rules.specs.Streets.{street_faults};
+ghost use Rattle.gaz_rules.specs.Working.{IsJudging, ReadsViews};
 
 use crate::streets::{StreetFaults, street_faults};
 use gaz_changefile::Basis;
@@ -28,14 +27,15 @@ pub(crate) struct LastStreet {
 impl LastStreet {
     /// None so far, which is right of any views.
     pub(crate) fn new() -> LastStreet
-        ensures recalls { (v : View) (out : List (ℕ × View)) → Recalls v out result }
+        ensures recalls { (v : View) (others : List (ℕ × View)) → Recalls v others result }
     {
         LastStreet { answer: None }
     }
 
     /// The answer, where it is about this street in this language.
     fn about(&self, usrn: Usrn, lang: Lang) -> Option<StreetFaults>
-        ensures { (v : View) (out : List (ℕ × View)) → Recalls v out self.now → IfSome result (λ f. f ≡ street_faults v out usrn lang) }
+        ensures { (v : View) (others : List (ℕ × View)) → Recalls v others self.now
+            → IfSome result (λ f. f ≡ street_faults v others usrn lang) }
     {
         let Some(answer) = self.answer else {
             return None;
@@ -48,29 +48,32 @@ impl LastStreet {
 
     /// An answer about this street in this language is the last.
     fn set(&mut self, usrn: Usrn, lang: Lang, faults: StreetFaults)
-        ensures { (v : View) (out : List (ℕ × View)) → faults ≡ street_faults v out usrn lang → Recalls v out self.new }
+        ensures { (v : View) (others : List (ℕ × View)) → faults ≡ street_faults v others usrn lang
+            → Recalls v others self.new }
     {
         self.answer = Some(Answer { usrn, lang, faults });
     }
 }
 
-/// What an approved LPI breaks that names this street in this language. The keeper is asked only where the last answer is about another.
-pub(crate) fn faults_on<S: Shelf>(
-    shelf: &mut S,
+/// What an approved LPI breaks that names this street in this language. The keeper is asked only
+/// where the last answer is about another.
+pub(crate) fn faults_on<K: Shelf>(
+    keeper: &mut K,
     code: Code,
     bases: &[Basis],
     last: &mut LastStreet,
     usrn: Usrn,
     lang: Lang,
 ) -> Result<StreetFaults, ShelfFault>
-    requires { (S.seen shelf.old).progress ≡ Open code }
-    ensures { Reads (S.seen shelf.old) (S.seen shelf.new) result (λ f. are_reached (S.seen shelf.old).content.board bases.now ≡ true → Recalls (S.seen shelf.old).content.working (basis_views (S.seen shelf.old).content.board bases.now) last.old →
-        Recalls (S.seen shelf.old).content.working (basis_views (S.seen shelf.old).content.board bases.now) last.new × (f ≡ street_faults (S.seen shelf.old).content.working (basis_views (S.seen shelf.old).content.board bases.now) usrn lang)) }
+    requires { IsJudging K.seen keeper.old code }
+    ensures { ReadsViews K.seen keeper.old keeper.new result bases.now (λ view others f.
+        Recalls view others last.old
+        → Recalls view others last.new × (f ≡ street_faults view others usrn lang)) }
 {
     if let Some(faults) = last.about(usrn, lang) {
         return Ok(faults);
     }
-    let faults = street_faults(shelf, code, bases, usrn, lang)?;
+    let faults = street_faults(keeper, code, bases, usrn, lang)?;
     last.set(usrn, lang, faults);
     Ok(faults)
 }

@@ -10,24 +10,27 @@ pub fn worked_examples()
     ensures { WorkedExamples }
 {}
 
-/// A file is rejected at its fault of form, else at its first change that doesn't fit, else at its first key that breaks a rule in the
-/// end, each with the least rule; else it is applied.
+/// A file is rejected at its fault of form, else at its first change that doesn't fit, else at its
+/// first key that breaks a rule in the end, each with the least rule; else it is applied.
 pub fn judges_say()
     ensures { JudgesSay }
 {}
 
-/// The tests of the record rules, of the end rules, and of where a street is found, are true just where their sentences hold.
+/// The tests of the record rules, of the end rules, and of where a street is found, are true just
+/// where their sentences hold.
 pub fn tests_say()
     ensures records { RecordTestsSay }
     ensures ends { TestsSay }
 {}
 
-/// Rule 36 is broken where a chain of one or more parents, of any length, leads from a property to itself, and nowhere else.
+/// Rule 36 is broken where a chain of one or more parents, of any length, leads from a property to
+/// itself, and nowhere else.
 pub fn finds_rings()
     ensures { FindsRings }
 {}
 
-/// Touched keys are enough: judging a file leaves a sound view sound, where it rests on sound views of other custodians.
+/// Touched keys are enough: judging a file leaves a sound view sound, where it rests on sound views
+/// of other custodians.
 pub fn stays_sound()
     ensures { StaysSound }
 {}
@@ -37,7 +40,8 @@ pub fn boards_stay_sound()
     ensures { BoardsStaySound }
 {}
 
-/// A custodian holds the number of every BLPU in its views, whatever other custodians' views are, and no other holds that number.
+/// A custodian holds the number of every BLPU in its views, whatever other custodians' views are,
+/// and no other holds that number.
 pub fn own_numbers_stay()
     ensures { OwnNumbersStay }
 {}

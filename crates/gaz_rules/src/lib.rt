@@ -1,6 +1,7 @@
 //! The rules of a gazetteer, and what a change file comes to under them.
 #![tactic(auto)]
 
+mod blpu_faults;
 mod end_rules;
 mod judging;
 mod key_faults;

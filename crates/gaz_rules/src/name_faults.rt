@@ -1,16 +1,15 @@
 //! What an item breaks by what it names: its BLPU, and an approved LPI's street.
-ghost use Rattle.std.specs.Prelude.{◌≡◌, not, true, Some};
+ghost use Rattle.std.specs.Prelude.{◌≡◌, not, Some};
 ghost use Rattle.std.specs.FinMap as map;
 ghost use Rattle.std.specs.List.{list_any};
 ghost use Rattle.gaz_records.specs.declared.item.Item.TheVariants as item;
 ghost use Rattle.gaz_records.specs.declared.key.Key.TheVariants as key;
 ghost use Rattle.gaz_views.specs.View.{holds};
 ghost use Rattle.gaz_views.specs.Words.{approved_of};
-ghost use Rattle.gaz_shelf.specs.Keeper.{Open, Reads};
-ghost use Rattle.gaz_rules.specs.Bases.{are_reached, basis_views};
 ghost use Rattle.gaz_rules.specs.Breaches.{blpu_fault, blpu_state, name_faults};
 ghost use Rattle.gaz_rules.specs.EndRules.{same_key};
 ghost use Rattle.gaz_rules.specs.Knowing.{Recalls};
+ghost use Rattle.gaz_rules.specs.Working.{IsJudging, ReadsView, ReadsViews};
 
 use crate::last_street::{LastStreet, faults_on};
 use gaz_changefile::Basis;
@@ -59,11 +58,11 @@ struct BlpuState {
 }
 
 /// A BLPU in the view that is judged.
-fn blpu_state<S: Shelf>(shelf: &mut S, code: Code, uprn: Uprn) -> Result<BlpuState, ShelfFault>
-    requires { (S.seen shelf.old).progress ≡ Open code }
-    ensures { Reads (S.seen shelf.old) (S.seen shelf.new) result (λ s. s ≡ blpu_state (S.seen shelf.old).content.working uprn) }
+fn blpu_state<K: Shelf>(keeper: &mut K, code: Code, uprn: Uprn) -> Result<BlpuState, ShelfFault>
+    requires { IsJudging K.seen keeper.old code }
+    ensures { ReadsView K.seen keeper.old keeper.new result (λ view s. s ≡ blpu_state view uprn) }
 {
-    let stored = shelf.current(code, &Key::Blpu(uprn))?;
+    let stored = keeper.current(code, &Key::Blpu(uprn))?;
     let is_past = match item_in(&stored) {
         Some(Item::Blpu(blpu)) => matches!(blpu.status, Status::Historical),
         _ => false,
@@ -82,32 +81,40 @@ fn any_other(keys: &[Key], key: &Key) -> bool
 }
 
 /// Whether an approved LPI of a BLPU stands under another key.
-fn has_other<S: Shelf>(shelf: &mut S, code: Code, key: &Key, uprn: Uprn) -> Result<bool, ShelfFault>
-    requires { (S.seen shelf.old).progress ≡ Open code }
-    ensures { Reads (S.seen shelf.old) (S.seen shelf.new) result (λ b. b ≡ list_any (λ m. not (same_key m key.now)) (approved_of (S.seen shelf.old).content.working uprn)) }
+fn has_other<K: Shelf>(
+    keeper: &mut K,
+    code: Code,
+    key: &Key,
+    uprn: Uprn,
+) -> Result<bool, ShelfFault>
+    requires { IsJudging K.seen keeper.old code }
+    ensures { ReadsView K.seen keeper.old keeper.new result
+        (λ view b. b ≡ list_any (λ m. not (same_key m key.now)) (approved_of view uprn)) }
 {
-    let keys = shelf.approved_of(code, uprn)?;
+    let keys = keeper.approved_of(code, uprn)?;
     Ok(any_other(&keys, key))
 }
 
 /// What an LPI breaks. Its BLPU is looked up once.
-fn lpi_faults<S: Shelf>(
-    shelf: &mut S,
+fn lpi_faults<K: Shelf>(
+    keeper: &mut K,
     code: Code,
     bases: &[Basis],
     last: &mut LastStreet,
     key: &Key,
     lpi: &Lpi,
 ) -> Result<NameFaults, ShelfFault>
-    requires { (S.seen shelf.old).progress ≡ Open code }
-    ensures { Reads (S.seen shelf.old) (S.seen shelf.new) result (λ f. map.get (S.seen shelf.old).content.working.items key.now ≡ Some (item.Lpi lpi.now) → are_reached (S.seen shelf.old).content.board bases.now ≡ true → Recalls (S.seen shelf.old).content.working (basis_views (S.seen shelf.old).content.board bases.now) last.old → Recalls (S.seen shelf.old).content.working (basis_views (S.seen shelf.old).content.board bases.now) last.new × (f ≡ name_faults (S.seen shelf.old).content.working (basis_views (S.seen shelf.old).content.board bases.now) key.now)) }
+    requires { IsJudging K.seen keeper.old code }
+    ensures { ReadsViews K.seen keeper.old keeper.new result bases.now (λ view others f.
+        map.get view.items key.now ≡ Some (item.Lpi lpi.now) → Recalls view others last.old
+        → Recalls view others last.new × (f ≡ name_faults view others key.now)) }
 {
-    let blpu = blpu_state(shelf, code, lpi.uprn)?;
+    let blpu = blpu_state(keeper, code, lpi.uprn)?;
     let Status::Approved = lpi.status else {
         return Ok(NameFaults::of_blpu(!blpu.is_there));
     };
-    let is_second = has_other(shelf, code, key, lpi.uprn)?;
-    let street = faults_on(shelf, code, bases, last, lpi.usrn, lpi.lang)?;
+    let is_second = has_other(keeper, code, key, lpi.uprn)?;
+    let street = faults_on(keeper, code, bases, last, lpi.usrn, lpi.lang)?;
     Ok(NameFaults {
         is_second,
         lacks_blpu: !blpu.is_there,
@@ -119,29 +126,32 @@ fn lpi_faults<S: Shelf>(
 }
 
 /// What a cross reference to a BLPU breaks.
-fn xref_faults<S: Shelf>(shelf: &mut S, code: Code, uprn: Uprn) -> Result<NameFaults, ShelfFault>
-    requires { (S.seen shelf.old).progress ≡ Open code }
-    ensures { Reads (S.seen shelf.old) (S.seen shelf.new) result (λ f. f ≡ blpu_fault (not (holds (S.seen shelf.old).content.working (key.Blpu uprn)))) }
+fn xref_faults<K: Shelf>(keeper: &mut K, code: Code, uprn: Uprn) -> Result<NameFaults, ShelfFault>
+    requires { IsJudging K.seen keeper.old code }
+    ensures { ReadsView K.seen keeper.old keeper.new result
+        (λ view f. f ≡ blpu_fault (not (holds view (key.Blpu uprn)))) }
 {
-    let blpu = blpu_state(shelf, code, uprn)?;
+    let blpu = blpu_state(keeper, code, uprn)?;
     Ok(NameFaults::of_blpu(!blpu.is_there))
 }
 
 /// What the item breaks that stands under a key.
-pub(crate) fn name_faults<S: Shelf>(
-    shelf: &mut S,
+pub(crate) fn name_faults<K: Shelf>(
+    keeper: &mut K,
     code: Code,
     bases: &[Basis],
     last: &mut LastStreet,
     key: &Key,
     stored: &Option<SharedItem>,
 ) -> Result<NameFaults, ShelfFault>
-    requires { (S.seen shelf.old).progress ≡ Open code }
-    ensures { Reads (S.seen shelf.old) (S.seen shelf.new) result (λ f. stored.now ≡ map.get (S.seen shelf.old).content.working.items key.now → are_reached (S.seen shelf.old).content.board bases.now ≡ true → Recalls (S.seen shelf.old).content.working (basis_views (S.seen shelf.old).content.board bases.now) last.old → Recalls (S.seen shelf.old).content.working (basis_views (S.seen shelf.old).content.board bases.now) last.new × (f ≡ name_faults (S.seen shelf.old).content.working (basis_views (S.seen shelf.old).content.board bases.now) key.now)) }
+    requires { IsJudging K.seen keeper.old code }
+    ensures { ReadsViews K.seen keeper.old keeper.new result bases.now (λ view others f.
+        stored.now ≡ map.get view.items key.now → Recalls view others last.old
+        → Recalls view others last.new × (f ≡ name_faults view others key.now)) }
 {
     match item_in(stored) {
-        Some(Item::Lpi(lpi)) => Ok(lpi_faults(shelf, code, bases, last, key, lpi)?),
-        Some(Item::Xref(xref)) => Ok(xref_faults(shelf, code, xref.uprn)?),
+        Some(Item::Lpi(lpi)) => Ok(lpi_faults(keeper, code, bases, last, key, lpi)?),
+        Some(Item::Xref(xref)) => Ok(xref_faults(keeper, code, xref.uprn)?),
         _ => Ok(NameFaults::of_blpu(false)),
     }
 }

@@ -4,9 +4,9 @@ ghost use Rattle.std.specs.FinMap as map;
 ghost use Rattle.std.specs.Option.{option_map_or};
 ghost use Rattle.gaz_records.specs.Keys.{key_of};
 ghost use Rattle.gaz_register.specs.Registers.{Blocks, blocks_of};
-ghost use Rattle.gaz_shelf.specs.Keeper.{Open, Reads, Seen};
 ghost use Rattle.gaz_views.specs.View.{View, holds, was_used};
 ghost use Rattle.gaz_rules.specs.Rules.{first_broken, is_moved, is_outside, record_rules, stays};
+ghost use Rattle.gaz_rules.specs.Working.{IsJudging, ReadsView};
 
 use crate::key_faults::is_there;
 use gaz_changefile::{Action, Change};
@@ -42,77 +42,85 @@ fn is_moved(old: &Item, new: &Item) -> bool
 }
 
 /// The least rule that an insert under this key breaks, its number being the custodian's own.
-fn insert_breach<S: Shelf>(shelf: &mut S, code: Code, key: &Key) -> Result<Option<u8>, ShelfFault>
-    requires { (S.seen shelf.old).progress ≡ Open code }
-    ensures { Reads (S.seen shelf.old) (S.seen shelf.new) result (λ r. r ≡ (if was_used (S.seen shelf.old).content.working key.now then Some 21 else None)) }
+fn insert_breach<K: Shelf>(keeper: &mut K, code: Code, key: &Key) -> Result<Option<u8>, ShelfFault>
+    requires { IsJudging K.seen keeper.old code }
+    ensures { ReadsView K.seen keeper.old keeper.new result
+        (λ view r. r ≡ (if was_used view key.now then Some 21 else None)) }
 {
-    if shelf.ever(code, key)? {
+    if keeper.ever(code, key)? {
         return Ok(Some(21));
     }
     Ok(None)
 }
 
 /// The least rule that an update to this item breaks, its number being the custodian's own.
-fn update_breach<S: Shelf>(
-    shelf: &mut S,
+fn update_breach<K: Shelf>(
+    keeper: &mut K,
     code: Code,
     key: &Key,
     item: &Item,
 ) -> Result<Option<u8>, ShelfFault>
-    requires { (S.seen shelf.old).progress ≡ Open code }
-    ensures { Reads (S.seen shelf.old) (S.seen shelf.new) result (λ r. r ≡ option_map_or (λ old. if is_moved old item.now then Some 24 else None) (map.get (S.seen shelf.old).content.working.items key.now) (Some 22)) }
+    requires { IsJudging K.seen keeper.old code }
+    ensures { ReadsView K.seen keeper.old keeper.new result (λ view r. r
+        ≡ option_map_or (λ old. if is_moved old item.now then Some 24 else None)
+        (map.get view.items key.now) (Some 22)) }
 {
-    let Some(old) = shelf.current(code, key)? else {
+    let Some(old) = keeper.current(code, key)? else {
         return Ok(Some(22));
     };
     Ok(if is_moved(&old, item) { Some(24) } else { None })
 }
 
 /// The least rule that a deletion of this item breaks, its number being the custodian's own.
-fn delete_breach<S: Shelf>(
-    shelf: &mut S,
+fn delete_breach<K: Shelf>(
+    keeper: &mut K,
     code: Code,
     key: &Key,
     item: &Item,
 ) -> Result<Option<u8>, ShelfFault>
-    requires { (S.seen shelf.old).progress ≡ Open code }
-    ensures { Reads (S.seen shelf.old) (S.seen shelf.new) result (λ r. r ≡ (if holds (S.seen shelf.old).content.working key.now then (if stays item.now then Some 23 else None) else Some 22)) }
+    requires { IsJudging K.seen keeper.old code }
+    ensures { ReadsView K.seen keeper.old keeper.new result (λ view r. r
+        ≡ (if holds view key.now then (if stays item.now then Some 23 else None) else Some 22)) }
 {
-    if !is_there(shelf, code, key)? {
+    if !is_there(keeper, code, key)? {
         return Ok(Some(22));
     }
     Ok(if stays(item) { Some(23) } else { None })
 }
 
 /// The least record rule that a change breaks, its number being the custodian's own.
-fn action_breach<S: Shelf>(
-    shelf: &mut S,
+fn action_breach<K: Shelf>(
+    keeper: &mut K,
     code: Code,
     change: &Change,
 ) -> Result<Option<u8>, ShelfFault>
-    requires { (S.seen shelf.old).progress ≡ Open code }
-    ensures { Reads (S.seen shelf.old) (S.seen shelf.new) result (λ r. (own : Blocks) → is_outside own (S.seen shelf.old).content.working change.now.item ≡ false → r ≡ first_broken (record_rules own (S.seen shelf.old).content.working change.now.action change.now.item)) }
+    requires { IsJudging K.seen keeper.old code }
+    ensures { ReadsView K.seen keeper.old keeper.new result (λ view r.
+        (own : Blocks) → is_outside own view change.now.item ≡ false
+        → r ≡ first_broken (record_rules own view change.now.action change.now.item)) }
 {
     let key = key_of(&change.item);
     match change.action {
-        Action::Insert => Ok(insert_breach(shelf, code, &key)?),
-        Action::Update => Ok(update_breach(shelf, code, &key, &change.item)?),
-        Action::Delete => Ok(delete_breach(shelf, code, &key, &change.item)?),
+        Action::Insert => Ok(insert_breach(keeper, code, &key)?),
+        Action::Update => Ok(update_breach(keeper, code, &key, &change.item)?),
+        Action::Delete => Ok(delete_breach(keeper, code, &key, &change.item)?),
     }
 }
 
-/// The least record rule that a change breaks on the working view of its custodian, 20 to 24 (our profile).
-pub(crate) fn breach<S: Shelf>(
-    shelf: &mut S,
+/// The least record rule that a change breaks on the working view of its custodian, 20 to 24 (our
+/// profile).
+pub(crate) fn breach<K: Shelf>(
+    keeper: &mut K,
     register: &Register,
     code: Code,
     change: &Change,
 ) -> Result<Option<u8>, ShelfFault>
-    requires { (S.seen shelf.old).progress ≡ Open code }
-    ensures { Reads (S.seen shelf.old) (S.seen shelf.new) result (λ r. r ≡ first_broken (record_rules (blocks_of register.now code) (S.seen shelf.old).content.working change.now.action change.now.item)) }
+    requires { IsJudging K.seen keeper.old code }
+    ensures { ReadsView K.seen keeper.old keeper.new result (λ view r. r ≡ first_broken
+        (record_rules (blocks_of register.now code) view change.now.action change.now.item)) }
 {
     if is_outside(register, code, &change.item) {
         return Ok(Some(20));
     }
-    Ok(action_breach(shelf, code, change)?)
+    Ok(action_breach(keeper, code, change)?)
 }

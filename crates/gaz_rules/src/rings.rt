@@ -1,12 +1,13 @@
 //! Rings of parents. Over a whole file each BLPU's parent is looked up at most once.
-ghost use Rattle.std.specs.Prelude.{◌≡◌, ◌<◌, ◌≤◌, ◌^◌, ◌++◌, ◌∷◌, [], ℕ, Bool, false, true, cond, is_some, length, slice_get, None, OnOk, Some};
+ghost use Rattle.std.specs.Prelude.{◌≡◌, ◌<◌, ◌≤◌, ◌^◌, ◌++◌, ◌∷◌, [], ℕ, Bool, false, true, cond};
+ghost use Rattle.std.specs.Prelude.{is_some, length, slice_get, None, OnOk, Some};
 ghost use Rattle.std.specs.Ordering.{nat_cmp};
 ghost use Rattle.std.specs.BTreeMap as tree;
 ghost use Rattle.gaz_records.specs.declared.key.Key.TheVariants as key;
 ghost use Rattle.gaz_views.specs.View.{View};
-ghost use Rattle.gaz_shelf.specs.Keeper.{Open, Reads};
 ghost use Rattle.gaz_rules.specs.EndRules.{is_own_ancestor, parent_of};
 ghost use Rattle.gaz_rules.specs.Rings.{Knows, visit_of};
+ghost use Rattle.gaz_rules.specs.Working.{IsJudging, ReadsView};
 
 use gaz_ids::{Code, Uprn};
 use gaz_records::{Item, Key, item_in};
@@ -36,8 +37,11 @@ impl Walked {
 
     /// Visits a BLPU, of which no ring is known so far. There is room for at most so many visits.
     fn visit(&mut self, uprn: Uprn) -> Result<(), AllocError>
-        ensures visits { OnOk result ((q : ℕ) → visit_of self.new q ≡ cond (tree.is_at (nat_cmp uprn) q) (Some (length self.old.on_ring.items)) (visit_of self.old q)) }
-        ensures on_ring { OnOk result (self.new.on_ring.items ≡ self.old.on_ring.items ++ false ∷ []) }
+        ensures visits { OnOk result ((q : ℕ) → visit_of self.new q
+            ≡ cond (tree.is_at (nat_cmp uprn) q) (Some (length self.old.on_ring.items))
+            (visit_of self.old q)) }
+        ensures on_ring { OnOk result
+            (self.new.on_ring.items ≡ self.old.on_ring.items ++ false ∷ []) }
         ensures room { length self.old.on_ring.items < 2 ^ 64 }
     {
         let visit = self.on_ring.len();
@@ -55,7 +59,8 @@ impl Walked {
 
     /// Whether a BLPU is on a ring, as far as it was visited.
     fn is_on_ring(&self, uprn: Uprn) -> bool
-        ensures visited { (i : ℕ) (b : Bool) → visit_of self.now uprn ≡ Some i → slice_get self.now.on_ring.items i ≡ Some b → result ≡ b }
+        ensures visited { (i : ℕ) (b : Bool) → visit_of self.now uprn ≡ Some i
+            → slice_get self.now.on_ring.items i ≡ Some b → result ≡ b }
         ensures never { visit_of self.now uprn ≡ None → result ≡ false }
     {
         let Some(visit) = self.visit_of(uprn) else {
@@ -67,8 +72,10 @@ impl Walked {
     /// The BLPUs that were visited from here on are on a ring.
     fn close_ring(&mut self, from: usize)
         ensures visits { self.new.visits ≡ self.old.visits }
-        ensures before { (i : ℕ) → i < from → slice_get self.new.on_ring.items i ≡ slice_get self.old.on_ring.items i }
-        ensures after { (i : ℕ) → from ≤ i → i < length self.old.on_ring.items → slice_get self.new.on_ring.items i ≡ Some true }
+        ensures before { (i : ℕ) → i < from
+            → slice_get self.new.on_ring.items i ≡ slice_get self.old.on_ring.items i }
+        ensures after { (i : ℕ) → from ≤ i → i < length self.old.on_ring.items
+            → slice_get self.new.on_ring.items i ≡ Some true }
     {
         mark_from(&mut self.on_ring, from);
     }
@@ -86,27 +93,29 @@ fn mark_from(marks: &mut [bool], from: usize)
 }
 
 /// The parent of a BLPU.
-fn parent_of<S: Shelf>(shelf: &mut S, code: Code, uprn: Uprn) -> Result<Option<Uprn>, ShelfFault>
-    requires { (S.seen shelf.old).progress ≡ Open code }
-    ensures { Reads (S.seen shelf.old) (S.seen shelf.new) result (λ p. p ≡ parent_of (S.seen shelf.old).content.working uprn) }
+fn parent_of<K: Shelf>(keeper: &mut K, code: Code, uprn: Uprn) -> Result<Option<Uprn>, ShelfFault>
+    requires { IsJudging K.seen keeper.old code }
+    ensures { ReadsView K.seen keeper.old keeper.new result (λ view p. p ≡ parent_of view uprn) }
 {
-    let stored = shelf.current(code, &Key::Blpu(uprn))?;
+    let stored = keeper.current(code, &Key::Blpu(uprn))?;
     let Some(Item::Blpu(blpu)) = item_in(&stored) else {
         return Ok(None);
     };
     Ok(blpu.parent)
 }
 
-/// Walks up from a BLPU, to the top or to one that was visited, and marks those on a ring that this closes. Each turn visits one that wasn't,
-/// and takes memory for it: so the walk ends whatever the keeper answers.
-fn walk<S: Shelf>(
-    shelf: &mut S,
+/// Walks up from a BLPU, to the top or to one that was visited, and marks those on a ring that this
+/// closes. Each turn visits one that wasn't, and takes memory for it: so the walk ends whatever the
+/// keeper answers.
+fn walk<K: Shelf>(
+    keeper: &mut K,
     code: Code,
     walked: &mut Walked,
     uprn: Uprn,
 ) -> Result<(), ShelfFault>
-    requires { (S.seen shelf.old).progress ≡ Open code }
-    ensures { Reads (S.seen shelf.old) (S.seen shelf.new) result (λ _. Knows (S.seen shelf.old).content.working walked.old → Knows (S.seen shelf.old).content.working walked.new × (is_some (visit_of walked.new uprn) ≡ true)) }
+    requires { IsJudging K.seen keeper.old code }
+    ensures { ReadsView K.seen keeper.old keeper.new result (λ view _. Knows view walked.old
+        → Knows view walked.new × (is_some (visit_of walked.new uprn) ≡ true)) }
 {
     let mut at = uprn;
     let start = walked.on_ring.len();
@@ -119,7 +128,7 @@ fn walk<S: Shelf>(
             return Ok(());
         }
         walked.visit(at)?;
-        let Some(parent) = parent_of(shelf, code, at)? else {
+        let Some(parent) = parent_of(keeper, code, at)? else {
             return Ok(());
         };
         at = parent;
@@ -127,16 +136,18 @@ fn walk<S: Shelf>(
 }
 
 /// Whether a chain of parents leads from a BLPU with this parent back to it.
-pub(crate) fn is_on_ring<S: Shelf>(
-    shelf: &mut S,
+pub(crate) fn is_on_ring<K: Shelf>(
+    keeper: &mut K,
     code: Code,
     walked: &mut Walked,
     uprn: Uprn,
     parent: Uprn,
 ) -> Result<bool, ShelfFault>
-    requires { (S.seen shelf.old).progress ≡ Open code }
-    ensures { Reads (S.seen shelf.old) (S.seen shelf.new) result (λ b. Knows (S.seen shelf.old).content.working walked.old → Knows (S.seen shelf.old).content.working walked.new × (parent_of (S.seen shelf.old).content.working uprn ≡ Some parent → b ≡ is_own_ancestor (S.seen shelf.old).content.working (key.Blpu uprn))) }
+    requires { IsJudging K.seen keeper.old code }
+    ensures { ReadsView K.seen keeper.old keeper.new result (λ view b. Knows view walked.old
+        → Knows view walked.new
+        × (parent_of view uprn ≡ Some parent → b ≡ is_own_ancestor view (key.Blpu uprn))) }
 {
-    walk(shelf, code, walked, parent)?;
+    walk(keeper, code, walked, parent)?;
     Ok(walked.is_on_ring(uprn))
 }

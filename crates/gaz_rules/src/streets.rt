@@ -3,10 +3,11 @@ ghost use Rattle.std.specs.Prelude.{◌≡◌, ◌≤◌, true, IfSome};
 ghost use Rattle.std.specs.Option.{option_map};
 ghost use Rattle.gaz_views.specs.View.{holds};
 ghost use Rattle.gaz_shelf.specs.Board.{reached, view_after};
-ghost use Rattle.gaz_shelf.specs.Keeper.{Open, Reads};
 ghost use Rattle.gaz_rules.specs.Bases.{are_reached, basis_views};
 ghost use Rattle.gaz_rules.specs.EndRules.{found_in, is_closed};
-ghost use Rattle.gaz_rules.specs.Streets.{IsReached, state_of, street_faults, street_state, view_in};
+ghost use Rattle.gaz_rules.specs.Streets.{IsReached, state_of, street_faults, street_state};
+ghost use Rattle.gaz_rules.specs.Streets.{view_in};
+ghost use Rattle.gaz_rules.specs.Working.{IsJudging, ReadsContent, ReadsView, ReadsViews};
 
 use gaz_changefile::Basis;
 use gaz_ids::{Code, Lang, Usrn};
@@ -39,24 +40,26 @@ impl StreetState {
 }
 
 /// A street in the view that is judged.
-fn own_street<S: Shelf>(shelf: &mut S, code: Code, usrn: Usrn) -> Result<StreetState, ShelfFault>
-    requires { (S.seen shelf.old).progress ≡ Open code }
-    ensures { Reads (S.seen shelf.old) (S.seen shelf.new) result (λ s. s ≡ street_state (S.seen shelf.old).content.working usrn) }
+fn own_street<K: Shelf>(keeper: &mut K, code: Code, usrn: Usrn) -> Result<StreetState, ShelfFault>
+    requires { IsJudging K.seen keeper.old code }
+    ensures { ReadsView K.seen keeper.old keeper.new result (λ view s. s ≡ street_state view usrn) }
 {
-    let stored = shelf.current(code, &Key::Street(usrn))?;
+    let stored = keeper.current(code, &Key::Street(usrn))?;
     Ok(StreetState::of(&stored))
 }
 
 /// A street after the named volume of a basis custodian.
-fn basis_street<S: Shelf>(
-    shelf: &mut S,
+fn basis_street<K: Shelf>(
+    keeper: &mut K,
     basis: Basis,
     usrn: Usrn,
 ) -> Result<StreetState, ShelfFault>
-    ensures { Reads (S.seen shelf.old) (S.seen shelf.new) result (λ s. basis.volume ≤ reached (S.seen shelf.old).content.board basis.custodian → s ≡ street_state (view_after (S.seen shelf.old).content.board basis.custodian basis.volume) usrn) }
+    ensures { ReadsContent K.seen keeper.old keeper.new result (λ content s.
+        basis.volume ≤ reached content.board basis.custodian
+        → s ≡ street_state (view_after content.board basis.custodian basis.volume) usrn) }
 {
     let volume = basis.volume.number();
-    let stored = shelf.at(basis.custodian, volume, &Key::Street(usrn))?;
+    let stored = keeper.at(basis.custodian, volume, &Key::Street(usrn))?;
     Ok(StreetState::of(&stored))
 }
 
@@ -74,19 +77,23 @@ struct Found {
     is_closed: bool,
 }
 
-/// Where a street is found: in the own view, else in the first basis view, in the order of the file, that has it.
-fn find_street<S: Shelf>(
-    shelf: &mut S,
+/// Where a street is found: in the own view, else in the first basis view, in the order of the
+/// file, that has it.
+fn find_street<K: Shelf>(
+    keeper: &mut K,
     code: Code,
     bases: &[Basis],
     usrn: Usrn,
 ) -> Result<Option<Found>, ShelfFault>
-    requires { (S.seen shelf.old).progress ≡ Open code }
-    ensures { Reads (S.seen shelf.old) (S.seen shelf.new) result (λ f. are_reached (S.seen shelf.old).content.board bases.now ≡ true →
-        (option_map (λ x. view_in (S.seen shelf.old).content x.place) f ≡ found_in (S.seen shelf.old).content.working (basis_views (S.seen shelf.old).content.board bases.now) usrn)
-        × IfSome f (λ x. IsReached (S.seen shelf.old).content x.place × (x.is_closed ≡ is_closed (view_in (S.seen shelf.old).content x.place) usrn))) }
+    requires { IsJudging K.seen keeper.old code }
+    ensures { ReadsContent K.seen keeper.old keeper.new result (λ content found.
+        are_reached content.board bases.now ≡ true →
+        (option_map (λ x. view_in content x.place) found
+        ≡ found_in content.working (basis_views content.board bases.now) usrn)
+        × IfSome found (λ x. IsReached content x.place
+        × (x.is_closed ≡ is_closed (view_in content x.place) usrn))) }
 {
-    let own = own_street(shelf, code, usrn)?;
+    let own = own_street(keeper, code, usrn)?;
     if own.is_there {
         return Ok(Some(Found {
             place: Place::Own,
@@ -94,7 +101,7 @@ fn find_street<S: Shelf>(
         }));
     }
     for basis in bases {
-        let street = basis_street(shelf, *basis, usrn)?;
+        let street = basis_street(keeper, *basis, usrn)?;
         if street.is_there {
             return Ok(Some(Found {
                 place: Place::At(*basis),
@@ -106,20 +113,21 @@ fn find_street<S: Shelf>(
 }
 
 /// Whether something stands under a key in the view at a place.
-fn stands_at<S: Shelf>(
-    shelf: &mut S,
+fn stands_at<K: Shelf>(
+    keeper: &mut K,
     code: Code,
     place: Place,
     key: &Key,
 ) -> Result<bool, ShelfFault>
-    requires { (S.seen shelf.old).progress ≡ Open code }
-    ensures { Reads (S.seen shelf.old) (S.seen shelf.new) result (λ b. IsReached (S.seen shelf.old).content place → b ≡ holds (view_in (S.seen shelf.old).content place) key.now) }
+    requires { IsJudging K.seen keeper.old code }
+    ensures { ReadsContent K.seen keeper.old keeper.new result
+        (λ content b. IsReached content place → b ≡ holds (view_in content place) key.now) }
 {
     match place {
-        Place::Own => Ok(shelf.current(code, key)?.is_some()),
+        Place::Own => Ok(keeper.current(code, key)?.is_some()),
         Place::At(basis) => {
             let volume = basis.volume.number();
-            Ok(shelf.at(basis.custodian, volume, key)?.is_some())
+            Ok(keeper.at(basis.custodian, volume, key)?.is_some())
         }
     }
 }
@@ -135,26 +143,27 @@ pub(crate) struct StreetFaults {
     pub(crate) is_unnamed: bool,
 }
 
-/// What an approved LPI breaks that names this street in this language. The street is looked up once in each view up to the first that
-/// has it, and the descriptor once.
-pub(crate) fn street_faults<S: Shelf>(
-    shelf: &mut S,
+/// What an approved LPI breaks that names this street in this language. The street is looked up
+/// once in each view up to the first that has it, and the descriptor once.
+pub(crate) fn street_faults<K: Shelf>(
+    keeper: &mut K,
     code: Code,
     bases: &[Basis],
     usrn: Usrn,
     lang: Lang,
 ) -> Result<StreetFaults, ShelfFault>
-    requires { (S.seen shelf.old).progress ≡ Open code }
-    ensures { Reads (S.seen shelf.old) (S.seen shelf.new) result (λ f. are_reached (S.seen shelf.old).content.board bases.now ≡ true → f ≡ street_faults (S.seen shelf.old).content.working (basis_views (S.seen shelf.old).content.board bases.now) usrn lang) }
+    requires { IsJudging K.seen keeper.old code }
+    ensures { ReadsViews K.seen keeper.old keeper.new result bases.now
+        (λ view others f. f ≡ street_faults view others usrn lang) }
 {
-    let Some(street) = find_street(shelf, code, bases, usrn)? else {
+    let Some(street) = find_street(keeper, code, bases, usrn)? else {
         return Ok(StreetFaults {
             is_nowhere: true,
             is_closed: false,
             is_unnamed: false,
         });
     };
-    let is_named = stands_at(shelf, code, street.place, &Key::Descriptor(usrn, lang))?;
+    let is_named = stands_at(keeper, code, street.place, &Key::Descriptor(usrn, lang))?;
     Ok(StreetFaults {
         is_nowhere: false,
         is_closed: street.is_closed,

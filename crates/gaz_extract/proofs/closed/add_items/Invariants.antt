@@ -7,8 +7,8 @@ use Rattle.gaz_extract.proofs.closed.add_items.Given as goal
 
 abbrev pub invariant-loop-item : goal.invariant-loop-item
 invariant-loop-item g l =
-    let now = g.S.Shelf.seen l.shelf in
-    let was = g.S.Shelf.seen l.fn.shelf in
+    let now = g.K.Shelf.seen l.keeper in
+    let was = g.K.Shelf.seen l.fn.keeper in
     let told = closed_by was.content.board l.register l.code in
     record {
       keeps : Keeps was now;

@@ -15,8 +15,8 @@ pub returns-clause-tells : goal.returns-clause-tells
 returns-clause-tells g c =
     let first = c.in_ok-page.ensures.tells in
     let second = c.in_ok-add_items.ensures.tells in
-    let v = view_after (g.S.Shelf.seen c.args.shelf.now).content.board c.args.code c.args.volume in
-    let told = closed_by (g.S.Shelf.seen c.args.shelf.now).content.board c.args.register.now c.args.code in
+    let v = view_after (g.K.Shelf.seen c.args.keeper.now).content.board c.args.code c.args.volume in
+    let told = closed_by (g.K.Shelf.seen c.args.keeper.now).content.board c.args.register.now c.args.code in
     record {
       keeps = keeps_then _ _ _ first.keeps second.keeps;
       right = λ stood fine within.

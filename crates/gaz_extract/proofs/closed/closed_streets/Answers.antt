@@ -12,7 +12,7 @@ loop-custodian-preserved g c =
     let so_far = c.loop-custodian.invariant in
     let more = c.in_ok-add_custodian.ensures.tells in
     let register = c.args.register.now in
-    let B = (g.S.Shelf.seen c.args.shelf.now).content.board in
+    let B = (g.K.Shelf.seen c.args.keeper.now).content.board in
     let i = c.loop-custodian.custodian-index in
     let custodian = c.custodian-item.result in
     let old = c.loop-custodian.closed.items in
@@ -36,7 +36,7 @@ pub returns : goal.returns
 returns g c =
     let so_far = c.loop-custodian.invariant in
     let register = c.args.register.now in
-    let B = (g.S.Shelf.seen c.args.shelf.now).content.board in
+    let B = (g.K.Shelf.seen c.args.keeper.now).content.board in
     let past = subst (λ (xs : List CustodianValue). length xs ≤ c.loop-custodian.custodian-index) c.custodians-custodian-items.ensures.value c.loop-custodian-test.false in
     record {
       keeps = so_far.keeps;

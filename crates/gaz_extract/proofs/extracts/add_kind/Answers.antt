@@ -9,7 +9,7 @@ pub returns-then-is_none-clause-tells : goal.returns-then-is_none-clause-tells
 returns-then-is_none-clause-tells g c =
     let so_far = c.pages.invariant in
     let draft = c.pages.written.draft in
-    let v = view_after (g.S.Shelf.seen c.args.shelf.now).content.board c.args.code c.args.volume in
+    let v = view_after (g.K.Shelf.seen c.args.keeper.now).content.board c.args.code c.args.volume in
     let none = none_left v c.args.kind c.pages.written.next (c.is_none.ensures ∙ ap not c.if-is_none.true) in
     record {
       keeps = so_far.keeps;

@@ -10,8 +10,8 @@ use Rattle.gaz_extract.proofs.extracts.add_kind.Given as goal
 
 abbrev pub invariant-pages : goal.invariant-pages
 invariant-pages g l =
-    let now = g.S.Shelf.seen l.shelf in
-    let was = g.S.Shelf.seen l.fn.shelf in
+    let now = g.K.Shelf.seen l.keeper in
+    let was = g.K.Shelf.seen l.fn.keeper in
     let v = view_after was.content.board l.code l.volume in
     record {
       keeps : Keeps was now;

@@ -9,7 +9,7 @@ use Rattle.gaz_extract.proofs.extracts.add_page.Goals as goal
 pub returns-clause-tells : goal.returns-clause-tells
 returns-clause-tells g c =
     let read = c.in_ok-page.ensures.tells in
-    let v = view_after (g.S.Shelf.seen c.args.shelf.now).content.board c.args.code c.args.volume in
+    let v = view_after (g.K.Shelf.seen c.args.keeper.now).content.board c.args.code c.args.volume in
     let left = left_after v c.args.kind c.in_ok-page.page.next in
     let added = c.in_ok-draft.ensures ∙ ap (λ (is : List Item). with_items c.args.draft is) c.as_slice.ensures.value in
     record {

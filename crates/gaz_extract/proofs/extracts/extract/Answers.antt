@@ -10,7 +10,7 @@ pub returns : goal.returns
 returns g c =
     let first = c.in_ok-reached.ensures in
     let second = c.in_ok-draft-2.ensures.tells in
-    let B = (g.S.Shelf.seen c.args.shelf.now).content.board in
+    let B = (g.K.Shelf.seen c.args.keeper.now).content.board in
     let code = c.args.code in
     let volume = c.args.volume in
     let d1 = c.in_ok-draft.draft in

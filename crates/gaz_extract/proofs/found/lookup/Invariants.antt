@@ -7,8 +7,8 @@ use Rattle.gaz_extract.proofs.found.lookup.Given as goal
 
 abbrev pub invariant-loop-custodian : goal.invariant-loop-custodian
 invariant-loop-custodian g l =
-    let now = g.S.Shelf.seen l.shelf in
-    let was = g.S.Shelf.seen l.fn.shelf in
+    let now = g.K.Shelf.seen l.keeper in
+    let was = g.K.Shelf.seen l.fn.keeper in
     let B = was.content.board in
     record {
       keeps : Keeps was now;

@@ -11,7 +11,7 @@ use Rattle.gaz_extract.proofs.found.said_by.Goals as goal
 pub returns-in_default-as_item-clause-tells : goal.returns-in_default-as_item-clause-tells
 returns-in_default-as_item-clause-tells g c =
     let asked = c.in_ok-property.ensures.tells in
-    let was = g.S.Shelf.seen c.args.shelf.now in
+    let was = g.K.Shelf.seen c.args.keeper.now in
     record {
       keeps = asked.keeps;
       right = λ stood fine.
@@ -24,7 +24,7 @@ pub returns-clause-tells : goal.returns-clause-tells
 returns-clause-tells g c =
     let asked = c.in_ok-property.ensures.tells in
     let told = c.in_ok-line.ensures.tells in
-    let was = g.S.Shelf.seen c.args.shelf.now in
+    let was = g.K.Shelf.seen c.args.keeper.now in
     record {
       keeps = keeps_then _ _ _ asked.keeps told.keeps;
       right = λ stood fine.

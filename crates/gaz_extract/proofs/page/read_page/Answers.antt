@@ -10,14 +10,14 @@ use Rattle.gaz_extract.proofs.page.read_page.Goals as goal
 pub returns-clause-tells : goal.returns-clause-tells
 returns-clause-tells g c =
     let read = c.in_ok-items.ensures in
-    let v = view_after (g.S.Shelf.seen c.args.shelf.now).content.board c.args.code c.args.volume in
+    let v = view_after (g.K.Shelf.seen c.args.keeper.now).content.board c.args.code c.args.volume in
     let items = c.in_ok-items.items.items in
     let last = c.next_after-next.ensures.next ∙ ap (λ (is : List Item). rising c.args.after (next_after 512 is)) c.as_slice.ensures.value in
     record {
       keeps = read.keeps;
       right = λ stood fine within.
           let is = read.right stood fine within in
-          let keyed = (((g.S.Shelf.seen c.args.shelf.now).lawful stood).views c.args.code c.args.volume).keyed in
+          let keyed = (((g.K.Shelf.seen c.args.keeper.now).lawful stood).views c.args.code c.args.volume).keyed in
           page_added v c.args.kind c.args.after 512 [] items items c.next_after-next.result keyed (omega arith) is refl
           (last ∙ pages_rise v c.args.kind c.args.after 512 items keyed is);
       counts = record { kept = read.counts.kept; store = tt };

@@ -15,16 +15,16 @@ use Rattle.gaz_rules.proofs.Progress.{reads_both}
 use Rattle.gaz_rules.proofs.end_rules.breach.Goals as goal
 
 abbrev Told : List Basis → Known → Known → Content → Key → Option ℕ → Type 0
-Told bases before after k at r = are_reached k.board bases ≡ true → IsRight k.working (basis_views k.board bases) before → IsRight k.working (basis_views k.board bases) after × (r ≡ first_broken (end_rules k.working (basis_views k.board bases) at))
+Told bases before after k at r = IsRight k.working (basis_views k.board bases) before → IsRight k.working (basis_views k.board bases) after × (r ≡ first_broken (end_rules k.working (basis_views k.board bases) at))
 
 pub returns : goal.returns
 returns g c =
-    let was = g.S.Shelf.seen c.args.shelf.now in
+    let was = g.K.Shelf.seen c.args.keeper.now in
     let after = c.breach_at.new.known in
     let at = c.key_of-key.result in
     let stored = c.in_ok-stored.stored in
     reads_both _ _ _ _ c.in_ok-breach_at.field-0 _ (λ i. i ≡ map.get (view_of was c.args.code).items at)
-    (λ k r. stored ≡ map.get k.working.items at → Told c.args.bases.now c.args.known.now after k at r) _
+    (λ k r. are_reached k.board c.args.bases.now ≡ true → stored ≡ map.get k.working.items at → Told c.args.bases.now c.args.known.now after k at r) _
     c.in_ok-stored.ensures c.in_ok-breach_at.ensures
-    (λ here told. subst (λ x. Told c.args.bases.now c.args.known.now after was.content x c.in_ok-breach_at.field-0) c.key_of-key.ensures
-    (told (here ∙ ap (λ v. map.get v.items at) (view_open was c.args.code c.requires))))
+    (λ here told reached. subst (λ x. Told c.args.bases.now c.args.known.now after was.content x c.in_ok-breach_at.field-0) c.key_of-key.ensures
+    (told reached (here ∙ ap (λ v. map.get v.items at) (view_open was c.args.code c.requires))))

@@ -5,4 +5,4 @@ use Rattle.gaz_rules.proofs.judging.end_phase.Given as goal
 
 abbrev pub invariant-loop-change : goal.invariant-loop-change
 invariant-loop-change g l =
-    AskedSoFar (g.S.Shelf.seen l.fn.shelf) (g.S.Shelf.seen l.shelf) l.code l.bases l.changes (drop l.change-index l.changes) l.known
+    AskedSoFar (g.K.Shelf.seen l.fn.keeper) (g.K.Shelf.seen l.keeper) l.code l.bases l.changes (drop l.change-index l.changes) l.known

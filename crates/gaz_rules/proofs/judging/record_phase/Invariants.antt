@@ -9,8 +9,8 @@ use Rattle.gaz_rules.proofs.judging.record_phase.Given as goal
 
 abbrev pub invariant-loop-change : goal.invariant-loop-change
 invariant-loop-change g l =
-    let now = g.S.Shelf.seen l.shelf in
-    let was = g.S.Shelf.seen l.fn.shelf in
+    let now = g.K.Shelf.seen l.keeper in
+    let was = g.K.Shelf.seen l.fn.keeper in
     let own = blocks_of l.register l.code in
     let left = drop l.change-index l.changes in
     record {

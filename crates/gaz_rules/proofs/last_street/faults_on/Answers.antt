@@ -5,13 +5,13 @@ use Rattle.gaz_rules.proofs.last_street.faults_on.Goals as goal
 
 pub returns-in-Some : goal.returns-in-Some
 returns-in-Some g c =
-    let was = (g.S.Shelf.seen c.args.shelf.now).content in
+    let was = (g.K.Shelf.seen c.args.keeper.now).content in
     reads_none _ c.args.code _ _ c.requires (λ _ _ _ right. (right, rw c.in-Some.is at c.about.ensures was.working (basis_views was.board c.args.bases.now) right))
 
 pub returns : goal.returns
 returns g c =
     let did = c.in_ok-faults.ensures in
-    let was = (g.S.Shelf.seen c.args.shelf.now).content in
+    let was = (g.K.Shelf.seen c.args.keeper.now).content in
     record {
       keeps = did.keeps;
       right = λ stood fine reached _.

@@ -16,7 +16,7 @@ use Rattle.gaz_rules.proofs.name_faults.lpi_faults.Goals as goal
 
 pub returns : goal.returns
 returns g c =
-    let was = g.S.Shelf.seen c.args.shelf.now in
+    let was = g.K.Shelf.seen c.args.keeper.now in
     let lpi = c.lpi.inside in
     let blpu = c.in_ok-blpu.blpu in
     let second = c.in_ok-is_second.is_second in
@@ -28,7 +28,7 @@ returns g c =
     (λ k s. s ≡ list_any (λ m. not (same_key m c.args.key.now)) (approved_of k.working lpi.uprn)) _
     c.in_ok-blpu.ensures c.in_ok-is_second.ensures (λ a b. (a, b)))
     c.in_ok-street.ensures
-    (λ told streets here reached right.
+    (λ told streets reached here right.
     let did = streets reached right in (
       did.0,
       approved_breaks was.content.working (basis_views was.content.board c.args.bases.now) c.args.key.now _ second blpu street

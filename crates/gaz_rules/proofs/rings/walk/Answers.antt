@@ -35,7 +35,7 @@ returns-in-Some g c =
     record {
       keeps = inv.keeps;
       right = λ stood fine known. (
-        subst (λ s. IsKnown (g.S.Shelf.seen c.args.shelf.now).content.working s c.close_ring.new.self.on_ring.items) (sym same)
+        subst (λ s. IsKnown (g.K.Shelf.seen c.args.keeper.now).content.working s c.close_ring.new.self.on_ring.items) (sym same)
             (ends_ring _ _ _ _ _ c.up.walked.on_ring.items c.close_ring.new.self.on_ring.items _ _ _ known (inv.visits stood fine) (inv.here stood fine) stamp late closed.before closed.after),
         ap (λ s. is_some (s c.args.uprn)) same ∙ first_seen _ _ _ _ _ _ _ _ _ (inv.visits stood fine) (inv.here stood fine) stamp,
       );
@@ -47,8 +47,8 @@ pub returns-in_default-2 : goal.returns-in_default-2
 returns-in_default-2 g c =
     let inv = c.up.invariant in
     let up = c.in_ok-parent.ensures in
-    let was = g.S.Shelf.seen c.args.shelf.now in
-    let now = g.S.Shelf.seen c.parent_of.new.shelf in
+    let was = g.K.Shelf.seen c.args.keeper.now in
+    let now = g.K.Shelf.seen c.parent_of.new.keeper in
     let free : visit_of c.up.walked c.up.at ≡ None = sym c.visit_of.ensures ∙ c.in_default.is in
     let visits = λ (stood : was.stands) (fine : now.unharmed). visited_as _ _ _ _ _ _ _ _ (visit_of c.visit.new.self) c.visit.new.self.on_ring.items (inv.visits stood (up.keeps.harm fine)) (inv.here stood (up.keeps.harm fine)) free c.in_ok-visit.ensures.visits c.in_ok-visit.ensures.on_ring in
     record {
@@ -65,7 +65,7 @@ returns-in_default-2 g c =
 
 pub up-init : goal.up-init
 up-init g c =
-    let was = g.S.Shelf.seen c.args.shelf.now in
+    let was = g.K.Shelf.seen c.args.keeper.now in
     let old = c.args.walked.now.on_ring.items in
     let none : length old - length old ≡ 0 = omega arith in
     record {
@@ -83,8 +83,8 @@ pub up-preserved : goal.up-preserved
 up-preserved g c =
     let inv = c.up.invariant in
     let up = c.in_ok-parent.ensures in
-    let was = g.S.Shelf.seen c.args.shelf.now in
-    let now = g.S.Shelf.seen c.parent_of.new.shelf in
+    let was = g.K.Shelf.seen c.args.keeper.now in
+    let now = g.K.Shelf.seen c.parent_of.new.keeper in
     let free : visit_of c.up.walked c.up.at ≡ None = sym c.visit_of.ensures ∙ c.in_default.is in
     let old = c.args.walked.now.on_ring.items in
     let flags = c.up.walked.on_ring.items in

@@ -8,8 +8,8 @@ use Rattle.gaz_rules.proofs.rings.walk.Given as goal
 
 abbrev pub invariant-up : goal.invariant-up
 invariant-up g l =
-    let now = g.S.Shelf.seen l.shelf in
-    let was = g.S.Shelf.seen l.fn.shelf in
+    let now = g.K.Shelf.seen l.keeper in
+    let was = g.K.Shelf.seen l.fn.keeper in
     let v = was.content.working in
     let old = l.fn.walked.on_ring.items in
     let flags = l.walked.on_ring.items in

@@ -9,8 +9,8 @@ use Rattle.gaz_rules.proofs.streets.find_street.Given as goal
 
 abbrev pub invariant-loop-basis : goal.invariant-loop-basis
 invariant-loop-basis g l =
-    let now = g.S.Shelf.seen l.shelf in
-    let was = g.S.Shelf.seen l.fn.shelf in
+    let now = g.K.Shelf.seen l.keeper in
+    let was = g.K.Shelf.seen l.fn.keeper in
     let left = drop l.basis-index l.bases in
     record {
       keeps : Keeps was now;

@@ -7,11 +7,11 @@ use Rattle.gaz_rules.specs.Breaches.{key_faults}
 use Rattle.gaz_rules.specs.EndRules.{as_blpu}
 use Rattle.gaz_rules.proofs.Breaching.{no_blpu}
 use Rattle.gaz_rules.proofs.Progress.{reads_none}
-use Rattle.gaz_rules.proofs.key_faults.key_faults.Goals as goal
+use Rattle.gaz_rules.proofs.end_rules.key_faults.Goals as goal
 
 pub returns-in_default : goal.returns-in_default
 returns-in_default g c =
-    let v = (g.S.Shelf.seen c.args.shelf.now).content.working in
+    let v = (g.K.Shelf.seen c.args.keeper.now).content.working in
     let none : option_and_then as_blpu c.args.stored.now ≡ None = sym c.in_default.ensures in
     reads_none _ c.args.code _ _ c.requires
     (λ _ _ stored known. (
