@@ -37,7 +37,7 @@ left_itself (Open c) = refl
 left_itself Broken = λ c e. cc
 
 pub keeps_itself : (a : Seen) → Keeps a a
-keeps_itself a = record { harm = λ fine. fine; stands = λ stood _. stood; content = λ _ _. refl; progress = left_itself a.progress }
+keeps_itself a = record { harm = λ fine. fine; stands = λ stood _. stood; content = λ _ _. refl; progress = left_itself a.progress; leaves = λ _ k left. left }
 
 -- an answer without a call
 pub looks_nowhere : {T : Type 0} (a : Seen) (x : T) (P : T → Type 0) → P x → Looks a a (Ok x) P

@@ -186,7 +186,7 @@ concluded own old mid c file (Some f) same finds =
     ∙ sym (by_some v (fold effect v file.changes) _ (record { place = f.place; rule = f.rule }) finds.first)
 
 pub judged : (old opened mid new : Seen) (c : ℕ) (own : Blocks) (file : Contents) (o : Option found.Fault) (r : Result Verdict ShelfFault) →
-    Goes {T = Unit {0}} old opened (Ok tt) (IsAtHand old.content c) (after_begin old.content c) (Open c) →
+    Goes {T = Unit {0}} old opened (Ok tt) (IsAtHand old.content c) (after_begin old.content c) None (Open c) →
     Works {T = Option found.Fault} opened mid (Ok o) (λ o. PhasesFind own file mid.content o opened.content) →
     Ends mid new r c (conclusion mid.content c o) →
     Judges old new r c file.bases (judged_on own old.content.board c (Good file))

@@ -14,6 +14,7 @@ keeps_itself a c e =
       stands = λ stood _. stood;
       content = λ _ _. refl;
       progress = subst (λ p. IsLeft p a.progress) (sym e) e;
+      leaves = λ _ k left. left;
     }
 
 -- an answer without a call
