@@ -110,7 +110,7 @@ pub record WorkedFiles : Type 0 where
   pub no_trailer : reading (header ++ insertion) 1001 1 ≡ Bad 3 8
   pub second_trailer :
       reading (header ++ (insertion ++ (line (codes "99,1") ++ line (codes "99,1"))))
-        1001 1 ≡ Bad 4 8
+      1001 1 ≡ Bad 4 8
   pub other_volume : reading (header ++ line (codes "99,0")) 1001 2 ≡ Bad 1 3
   pub two_marks :
       reading (0xEF ∷ 0xBB ∷ 0xBF ∷ 0xEF ∷ 0xBB ∷ 0xBF ∷ (header ++ line (codes "99,0")))

@@ -65,11 +65,11 @@ pub fn next_file<K: Inbox>(keeper: &mut K, code: Code) -> Result<NextFile, Shelf
 }
 
 /// The first basis line whose volume isn't reached.
-fn first_unreached<S: Shelf>(shelf: &mut S, bases: &[Basis]) -> Result<Option<Basis>, ShelfFault>
-    ensures { Looks (S.seen shelf.old) (S.seen shelf.new) result (λ basis. basis ≡ first_unreached (S.seen shelf.old).content.board bases.now) }
+fn first_unreached<K: Shelf>(keeper: &mut K, bases: &[Basis]) -> Result<Option<Basis>, ShelfFault>
+    ensures { Looks (K.seen keeper.old) (K.seen keeper.new) result (λ basis. basis ≡ first_unreached (K.seen keeper.old).content.board bases.now) }
 {
     for basis in bases {
-        if shelf.reached(basis.custodian)? < basis.volume.number() {
+        if keeper.reached(basis.custodian)? < basis.volume.number() {
             return Ok(Some(*basis));
         }
     }
@@ -77,10 +77,10 @@ fn first_unreached<S: Shelf>(shelf: &mut S, bases: &[Basis]) -> Result<Option<Ba
 }
 
 /// What is to become of a good file.
-fn weigh<S: Shelf>(shelf: &mut S, file: ChangeFile) -> Result<Next, ShelfFault>
-    ensures { Looks (S.seen shelf.old) (S.seen shelf.new) result (IsWeighed (S.seen shelf.old).content.board file) }
+fn weigh<K: Shelf>(keeper: &mut K, file: ChangeFile) -> Result<Next, ShelfFault>
+    ensures { Looks (K.seen keeper.old) (K.seen keeper.new) result (IsWeighed (K.seen keeper.old).content.board file) }
 {
-    match first_unreached(shelf, &file.bases)? {
+    match first_unreached(keeper, &file.bases)? {
         Some(basis) => Ok(Next::Waits(basis.custodian, basis.volume)),
         None => Ok(Next::Good(file)),
     }
@@ -89,17 +89,17 @@ fn weigh<S: Shelf>(shelf: &mut S, file: ChangeFile) -> Result<Next, ShelfFault>
 /// What is to become of a file of these bytes.
 // A reader of CSV takes 32 KiB of the stack, which no look without a file should touch.
 #[inline(never)]
-fn read_next<S: Shelf>(
+fn read_next<K: Shelf>(
     alloc: Global,
-    shelf: &mut S,
+    keeper: &mut K,
     code: Code,
     volume: Volume,
     bytes: &[u8],
 ) -> Result<Next, ShelfFault>
-    ensures { Looks (S.seen shelf.old) (S.seen shelf.new) result (IsReadAs (S.seen shelf.old).content.board code volume bytes.now) }
+    ensures { Looks (K.seen keeper.old) (K.seen keeper.new) result (IsReadAs (K.seen keeper.old).content.board code volume bytes.now) }
 {
     match read_file(alloc, bytes, code, volume) {
-        Ok(file) => weigh(shelf, file),
+        Ok(file) => weigh(keeper, file),
         Err(FileFault::Bad { place, rule }) => Ok(Next::Bad { place, rule }),
         Err(FileFault::Memory) => Err(ShelfFault::Memory),
     }

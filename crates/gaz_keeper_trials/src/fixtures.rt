@@ -49,7 +49,12 @@ pub(crate) enum Step {
     Undo,
 }
 
-pub(crate) fn puts(alloc: Global, account: &mut CachedLedger, kind: Kind, row: &str) -> Result<(), Fail> {
+pub(crate) fn puts(
+    alloc: Global,
+    account: &mut CachedLedger,
+    kind: Kind,
+    row: &str,
+) -> Result<(), Fail> {
     account.put(item(alloc, kind, row)?)?;
     Ok(())
 }

@@ -76,8 +76,22 @@ const VIEWS: &[(u64, &str, &str)] = &[
 fn each_volume_keeps_its_view(rt: HostRuntime) -> Result<(), Fail> {
     let account = four_volumes(rt.alloc())?;
     for (volume, first, second) in VIEWS {
-        is_street(&rt, &account, *volume, &street_key(101)?, first, *volume > 0)?;
-        is_street(&rt, &account, *volume, &street_key(102)?, second, *volume > 2)?;
+        is_street(
+            &rt,
+            &account,
+            *volume,
+            &street_key(101)?,
+            first,
+            *volume > 0,
+        )?;
+        is_street(
+            &rt,
+            &account,
+            *volume,
+            &street_key(102)?,
+            second,
+            *volume > 2,
+        )?;
     }
     Ok(())
 }
@@ -141,7 +155,11 @@ fn what_is_undone_was_never_there(rt: HostRuntime) -> Result<(), Fail> {
 }
 
 // These are the keys of the property's approved addresses in the working view, and whether one is on the street.
-fn has_addresses(rt: &(impl Abort + AllocGlobal), account: &CachedLedger, keys: &[&str]) -> Result<(), Fail> {
+fn has_addresses(
+    rt: &(impl Abort + AllocGlobal),
+    account: &CachedLedger,
+    keys: &[&str],
+) -> Result<(), Fail> {
     let ledger = account.ledger();
     let working = ledger.reached() + 1;
     let uprn = Uprn::of(1001).ok_or("a UPRN")?;

@@ -58,7 +58,7 @@ abbrev pub lpi_texts : LpiValue → List (List ℕ)
 lpi_texts x =
     x.key ∷ decimal x.uprn ∷ lang_text x.lang ∷ status_text x.status ∷ decimal x.usrn
     ∷ (secondary_texts x.secondary
-       ++ (texts_of x.primary ++ (date_text x.start ∷ end_text x.end ∷ [])))
+    ++ (texts_of x.primary ++ (date_text x.start ∷ end_text x.end ∷ [])))
 
 abbrev pub is_secondary : Option ObjectValue → Bool
 is_secondary None = true

@@ -17,7 +17,6 @@ module _ (a b c d : Seen) (code : ℕ) (items : List Item) (r : Result (Unit {0}
     (begins : Goes {T = Unit {0}} a b (Ok tt) (IsAtHand a.content code) (after_begin a.content code) None (Open code))
     (puts : Goes {T = Unit {0}} b c (Ok tt) ⊤ (with_working b.content (fold with_item b.content.working items)) None b.progress)
     (keeps : Goes c d r ⊤ (after_keep c.progress c.content) (Some (after_keep c.progress c.content)) Idle) where
-
   put_stands : a.stands → IsAtHand a.content code → c.unharmed → c.stands
   put_stands stood met fine = puts.stands (begins.stands stood met (puts.harm fine)) tt fine
 

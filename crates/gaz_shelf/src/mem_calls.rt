@@ -132,7 +132,8 @@ impl Shelf for MemShelf {
     fn skip(&mut self, code: Code, place: u64, rule: u8) -> Result<(), ShelfFault> {
         self.clear();
         self.accounts.begin(self.alloc, self.seed, code)?;
-        self.accounts.close(code, Verdict::Rejected { place, rule })?;
+        self.accounts
+            .close(code, Verdict::Rejected { place, rule })?;
         Ok(())
     }
 }

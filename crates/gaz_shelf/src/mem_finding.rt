@@ -138,7 +138,11 @@ impl MemShelf {
         ensures { IfOk result (λ items. IsPageAt (content_in self.now).board code volume kind after most items.items) }
     {
         match self.accounts.get(code) {
-            Some(account) => Ok(account.ledger().page(self.alloc, volume, kind, after, most)?),
+            Some(account) => Ok(
+                account
+                    .ledger()
+                    .page(self.alloc, volume, kind, after, most)?,
+            ),
             None => Ok(Vec::new(self.alloc)),
         }
     }

@@ -9,7 +9,7 @@ pub loop-basis-preserved : goal.loop-basis-preserved
 loop-basis-preserved g c =
     let inv = c.loop-basis.invariant in
     let asked = c.in_ok-reached.ensures in
-    let was = g.S.Shelf.seen c.args.shelf.now in
+    let was = g.K.Shelf.seen c.args.keeper.now in
     let d = c.basis-item.result in
     record {
       keeps = keeps_then _ _ _ inv.keeps asked.keeps;

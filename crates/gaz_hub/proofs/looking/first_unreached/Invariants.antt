@@ -6,8 +6,8 @@ use Rattle.gaz_hub.proofs.looking.first_unreached.Given as goal
 
 abbrev pub invariant-loop-basis : goal.invariant-loop-basis
 invariant-loop-basis g l =
-    let now = g.S.Shelf.seen l.shelf in
-    let was = g.S.Shelf.seen l.fn.shelf in
+    let now = g.K.Shelf.seen l.keeper in
+    let was = g.K.Shelf.seen l.fn.keeper in
     record {
       keeps : Keeps was now;
       counted : was.failures ≤ now.failures;

@@ -35,10 +35,10 @@ returns-in_err-judge-in-Good g c =
     let own = blocks_of c.args.register.now c.args.code in
     let looked = rw c.in-Good.is at c.in_ok-next.ensures in
     let e = c.in_err-judge-in-Good.field-0.0 in
-    let told = tries_broken d a (g.K.Shelf.seen c.judge.new.shelf) c.args.code (Good c.in-Good.file)
+    let told = tries_broken d a (g.K.Shelf.seen c.judge.new.keeper) c.args.code (Good c.in-Good.file)
     (λ stood fine. looked.right stood (c.in_err-judge-in-Good.ensures.harm fine)) e c.args.left (λ k. k ≡ c.args.code)
     (adds_after a b _ _ _ c.args.code (Good c.in-Good.file) own _ _ looked (asks_good b.content c.args.code c.in-Good.file) (adds_judged b _ _ _ _ _ c.in_err-judge-in-Good.ensures)) in
-    subst (λ r. Tries d c.args.left a (g.K.Shelf.seen c.judge.new.shelf) r (λ k. k ≡ c.args.code)) (sym (is_err c.from_residual-in_err-judge-in-Good.result e c.from_residual-in_err-judge-in-Good.ensures.1)) told
+    subst (λ r. Tries d c.args.left a (g.K.Shelf.seen c.judge.new.keeper) r (λ k. k ≡ c.args.code)) (sym (is_err c.from_residual-in_err-judge-in-Good.result e c.from_residual-in_err-judge-in-Good.ensures.1)) told
 
 pub returns-in-Good : goal.returns-in-Good
 returns-in-Good g c =
@@ -46,7 +46,7 @@ returns-in-Good g c =
     let b = g.K.Shelf.seen c.look.new.keeper in
     let own = blocks_of c.args.register.now c.args.code in
     let looked = rw c.in-Good.is at c.in_ok-next.ensures in
-    tries_judged (door_of c.args.register.now) a (g.K.Shelf.seen c.judge.new.shelf) c.args.code (Good c.in-Good.file)
+    tries_judged (door_of c.args.register.now) a (g.K.Shelf.seen c.judge.new.keeper) c.args.code (Good c.in-Good.file)
     (λ stood fine. looked.right stood (c.in_ok-judge-in-Good.ensures.harm fine)) _ c.args.left _ c.in_ok-ask_room-in-Good.ensures.room
     (adds_after a b _ _ _ c.args.code (Good c.in-Good.file) own _ _ looked (asks_good b.content c.args.code c.in-Good.file) (adds_judged b _ _ _ _ _ c.in_ok-judge-in-Good.ensures))
 

@@ -11,5 +11,5 @@ returns-in-Keep g c =
     let code = c.args.code in
     let items = c.args.items.items in
     subst (λ (ending : Ending). Goes {T = Unit {0}} was now c.keep.result (IsAtHand was.content code) (written was.content code items ending)
-        (committed_by ending (written was.content code items ending)) Idle) (sym c.in-Keep.is)
+    (committed_by ending (written was.content code items ending)) Idle) (sym c.in-Keep.is)
     (writes was (g.S.Shelf.seen c.begin.new.self) (g.S.Shelf.seen c.put_all.new.shelf) now code items c.keep.result c.in_ok-begin.ensures c.in_ok-put_all.ensures.sets c.keep.ensures.keeps)
