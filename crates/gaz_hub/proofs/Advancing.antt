@@ -22,7 +22,7 @@ use Rattle.gaz_rules.specs.Judging.{bases_of, judge}
 use Rattle.gaz_hub.specs.Hubs.{AreKnown, StandsFor, door_of}
 use Rattle.gaz_hub.specs.Settling.{Advances, IsAll, IsNext, Looks, Tells, Tries}
 use Rattle.gaz_hub.specs.Standing.{Follows, Leads, NothingReady, Register, judge_one, judgement_after, next_reading, ready, with_next}
-use Rattle.gaz_hub.specs.Step.{Door}
+use Rattle.gaz_hub.specs.Step.{Door, blocks}
 use Rattle.gaz_hub.specs.declared.looking.Next.{Next}
 use Rattle.gaz_hub.proofs.Bounds.{all_then, not_all}
 use Rattle.gaz_hub.proofs.Leading.{follows_itself, leads_on}
@@ -44,7 +44,7 @@ advances_looking d a b r P l idle =
           let same = l.keeps.content stood.0 fine in
           (l.keeps.stands stood.0 fine, known_in d _ _ (sym (ap (λ (k : Content). k.files) same)) stood.1);
       files = λ stood fine. ap (λ (k : Content). k.files) (l.keeps.content stood.0 fine);
-      board = λ stood fine. follows_itself d.register _ _ _ (ap (λ (k : Content). k.board) (l.keeps.content stood.0 fine));
+      board = λ stood fine. follows_itself (blocks d) _ _ _ (ap (λ (k : Content). k.board) (l.keeps.content stood.0 fine));
       many = λ stood fine. omega arith;
       idle = left_not_open a.progress b.progress l.keeps.progress idle;
       kept = l.counts.kept;
@@ -65,8 +65,8 @@ advances_then d m n a b c first second =
           let g = second.board (first.stands stood mid) fine in
           record {
             order = f.order ++ g.order;
-            leads = leads_on d.register a.content.files a.content.board f.order b.content.board g.order c.content.board f.leads
-                (subst (λ X. Leads d.register X b.content.board g.order c.content.board) (first.files stood mid) g.leads);
+            leads = leads_on (blocks d) a.content.files a.content.board f.order b.content.board g.order c.content.board f.leads
+                (subst (λ X. Leads (blocks d) X b.content.board g.order c.content.board) (first.files stood mid) g.leads);
           };
       many = λ stood fine.
           let mid = second.harm fine in
@@ -187,13 +187,13 @@ adds_after a b c x r code rd own asked P l asks g =
       counts = counts_then a b c r l.counts.kept g.counts;
     }
 
-abbrev follows_judged : (d : Door) (k m : Content) (code : ℕ) (rd : Reading) → IsNow k code rd → m ≡ with_judgement k code (judged_on (d.register code) k.board code rd) → Follows d.register k.files k.board m.board
+abbrev follows_judged : (d : Door) (k m : Content) (code : ℕ) (rd : Reading) → IsNow k code rd → m ≡ with_judgement k code (judged_on ((blocks d) code) k.board code rd) → Follows (blocks d) k.files k.board m.board
 follows_judged d k m code rd now e =
-    record { order = code ∷ []; leads = (now.0, ap (λ (x : Content). x.board) e ∙ added_is d.register k.files k.board code rd now.1) }
+    record { order = code ∷ []; leads = (now.0, ap (λ (x : Content). x.board) e ∙ added_is (blocks d) k.files k.board code rd now.1) }
 
 module _ {T : Type 0} (d : Door) (a c : Seen) (code : ℕ) (rd : Reading) (met : a.stands → c.unharmed → IsNow a.content code rd) where
   -- the file was judged
-  pub advances_judged : (x : T) → Adds a c (Ok x) code (IsNow a.content code rd) (judged_on (d.register code) a.content.board code rd) → Advances d 1 a c
+  pub advances_judged : (x : T) → Adds a c (Ok x) code (IsNow a.content code rd) (judged_on ((blocks d) code) a.content.board code rd) → Advances d 1 a c
   advances_judged x g =
       record {
         harm = g.harm;
@@ -208,7 +208,7 @@ module _ {T : Type 0} (d : Door) (a c : Seen) (code : ℕ) (rd : Reading) (met :
       }
 
   -- it wasn't
-  pub advances_broken : (e : ShelfFault) → Adds {T = T} a c (Err e) code (IsNow a.content code rd) (judged_on (d.register code) a.content.board code rd) → Advances d 0 a c
+  pub advances_broken : (e : ShelfFault) → Adds {T = T} a c (Err e) code (IsNow a.content code rd) (judged_on ((blocks d) code) a.content.board code rd) → Advances d 0 a c
   advances_broken e g =
       record {
         harm = g.harm;
@@ -217,13 +217,13 @@ module _ {T : Type 0} (d : Door) (a c : Seen) (code : ℕ) (rd : Reading) (met :
             let same = g.undone stood.0 now fine in
             (g.stands stood.0 now fine, known_in d _ _ (sym (ap (λ (k : Content). k.files) same)) stood.1);
         files = λ stood fine. ap (λ (k : Content). k.files) (g.undone stood.0 (met stood.0 fine) fine);
-        board = λ stood fine. follows_itself d.register _ _ _ (ap (λ (k : Content). k.board) (g.undone stood.0 (met stood.0 fine) fine));
+        board = λ stood fine. follows_itself (blocks d) _ _ _ (ap (λ (k : Content). k.board) (g.undone stood.0 (met stood.0 fine) fine));
         many = λ stood fine. omega arith;
         idle = g.idle;
         kept = g.counts.kept;
       }
 
-  pub tries_judged : (x : T) (left : ℕ) (IsAmong : ℕ → Type 0) → 1 ≤ left → Adds a c (Ok x) code (IsNow a.content code rd) (judged_on (d.register code) a.content.board code rd) → Tries d left a c (Ok 1) IsAmong
+  pub tries_judged : (x : T) (left : ℕ) (IsAmong : ℕ → Type 0) → 1 ≤ left → Adds a c (Ok x) code (IsNow a.content code rd) (judged_on ((blocks d) code) a.content.board code rd) → Tries d left a c (Ok 1) IsAmong
   tries_judged x left IsAmong room g =
       record {
         advances = advances_judged x g;
@@ -233,7 +233,7 @@ module _ {T : Type 0} (d : Door) (a c : Seen) (code : ℕ) (rd : Reading) (met :
         cause = λ stood fine all. tt;
       }
 
-  pub tries_broken : (e : ShelfFault) (left : ℕ) (IsAmong : ℕ → Type 0) → Adds {T = T} a c (Err e) code (IsNow a.content code rd) (judged_on (d.register code) a.content.board code rd) → Tries d left a c (Err e) IsAmong
+  pub tries_broken : (e : ShelfFault) (left : ℕ) (IsAmong : ℕ → Type 0) → Adds {T = T} a c (Err e) code (IsNow a.content code rd) (judged_on ((blocks d) code) a.content.board code rd) → Tries d left a c (Err e) IsAmong
   tries_broken e left IsAmong g =
       record {
         advances = advances_broken e g;
@@ -332,7 +332,7 @@ looked_stopped reg some i m left a b c e P Q first second =
 -- ---- settling
 
 -- nothing is ready where no custodian of the register is
-nothing_ready : (d : Door) (F : Received) (B : Board) → AreKnown d F → ((c : ℕ) → d.knows c ≡ true → ready F B c ≡ false) → NothingReady F B
+nothing_ready : (d : Door) (F : Received) (B : Board) → AreKnown d F → ((c : ℕ) → knows d.register c ≡ true → ready F B c ≡ false) → NothingReady F B
 nothing_ready d F B known rest c =
     elim (ready F B c) as (λ b. ready F B c ≡ b → b ≡ false) [
       | true ↦ λ e. let is = ready_gives F B c e in sym e ∙ rest c (known (c, reached B c + 1) (ap is_some is.came))
@@ -340,7 +340,7 @@ nothing_ready d F B known rest c =
     ] refl
 
 -- a round that judged nothing ends it
-pub settled_now : (d : Door) (m left : ℕ) (a b c : Seen) → Advances d m a b → Tries d left b c (Ok 0) (λ x. d.knows x ≡ true) → Tells {T = Unit {0}} d a c (Ok tt) (λ _. ⊤)
+pub settled_now : (d : Door) (m left : ℕ) (a b c : Seen) → Advances d m a b → Tries d left b c (Ok 0) (λ x. knows d.register x ≡ true) → Tells {T = Unit {0}} d a c (Ok tt) (λ _. ⊤)
 settled_now d m left a b c first second =
     record {
       advances = advances_less d _ 0 a c (omega arith) (advances_then d m 0 a b c first second.advances);

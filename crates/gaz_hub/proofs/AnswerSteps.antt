@@ -9,11 +9,12 @@ use Rattle.gaz_shelf.specs.Keeper.{Content, Enters, IsNew, Seen, with_received}
 use Rattle.gaz_shelf.specs.Received.{Received, with_file}
 use Rattle.gaz_shelf.specs.declared.fault.ShelfFault.{ShelfFault}
 use Rattle.gaz_shelf.specs.declared.fault.ShelfFault.TheVariants.{Store}
+use Rattle.gaz_register.specs.Registers.{knows}
 use Rattle.gaz_hub.specs.Asked.{IsAgain, IsOutcome, TakesIn}
 use Rattle.gaz_hub.specs.Hubs.{AreKnown, StandsFor, Steps, state_of}
 use Rattle.gaz_hub.specs.Settling.{Tells}
 use Rattle.gaz_hub.specs.Standing.{Follows, Leads}
-use Rattle.gaz_hub.specs.Step.{Door, HubState, NotReceived, Submit, Submits, Submitted, Unsettled, WasNew, door, or_foreign, turned_away}
+use Rattle.gaz_hub.specs.Step.{Door, HubState, NotReceived, Submit, Submits, Submitted, Unsettled, WasNew, blocks, door, or_foreign, turned_away}
 use Rattle.gaz_hub.specs.Runs.{same_pair}
 use Rattle.gaz_hub.specs.declared.answer.Answer.{Answer}
 use Rattle.gaz_hub.specs.declared.answer.Answer.TheVariants.{New, Repeat, Taken, Refused}
@@ -38,8 +39,8 @@ known_at : (b : Bool) (o : Option Refusal) → cond (not b) (Some refusal.Unknow
 known_at true o e = refl
 known_at false o e = cc
 
-pub is_known : (d : Door) (c volume : ℕ) (bytes : List ℕ) → door d c volume bytes ≡ None → d.knows c ≡ true
-is_known d c volume bytes e = known_at (d.knows c) _ (early_let_in d c volume bytes e)
+pub is_known : (d : Door) (c volume : ℕ) (bytes : List ℕ) → door d c volume bytes ≡ None → knows d.register c ≡ true
+is_known d c volume bytes e = known_at (knows d.register c) _ (early_let_in d c volume bytes e)
 
 -- ---- what is there
 
@@ -49,10 +50,10 @@ there_now F K c volume bytes e =
     ap (λ X. map.get X (c, volume)) e ∙ map.get-insert pairs_total F (c, volume) bytes (c, volume)
     ∙ ap (λ b. cond b (Some bytes) (map.get F (c, volume))) ((eq_by_cmp_equiv pairs_total).refl (c, volume))
 
-known_with : (d : Door) (F : Received) (c volume : ℕ) (bytes : List ℕ) → d.knows c ≡ true → AreKnown d F → AreKnown d (with_file F c volume bytes)
+known_with : (d : Door) (F : Received) (c volume : ℕ) (bytes : List ℕ) → knows d.register c ≡ true → AreKnown d F → AreKnown d (with_file F c volume bytes)
 known_with d F c volume bytes e known p h =
-    elim (same_pair p (c, volume)) as (λ b. same_pair p (c, volume) ≡ b → is_some (cond b (Some bytes) (map.get F p)) ≡ true → d.knows p.0 ≡ true) [
-      | true ↦ λ t _. ap (λ (q : ℕ × ℕ). d.knows q.0) (pairs_same p (c, volume) t) ∙ e
+    elim (same_pair p (c, volume)) as (λ b. same_pair p (c, volume) ≡ b → is_some (cond b (Some bytes) (map.get F p)) ≡ true → knows d.register p.0 ≡ true) [
+      | true ↦ λ t _. ap (λ (q : ℕ × ℕ). knows d.register q.0) (pairs_same p (c, volume) t) ∙ e
       | false ↦ λ _ there. known p there
     ] refl (ap is_some (sym (map.get-insert pairs_total F (c, volume) bytes p)) ∙ h)
 
@@ -72,13 +73,13 @@ module _ (d : Door) (a b c : Seen) (code volume : ℕ) (bytes : List ℕ) (let_i
       let mid = l.advances.harm fine in
       l.advances.files (stood_then stood free mid) fine ∙ ap (λ (k : Content). k.files) (came.done stood.0 free mid)
 
-  board_then : {T : Type 0} (r : _) (P : T → Type 0) → Tells d b c r P → StandsFor d a → IsNew a.content code volume → c.unharmed → Follows d.register c.content.files a.content.board c.content.board
+  board_then : {T : Type 0} (r : _) (P : T → Type 0) → Tells d b c r P → StandsFor d a → IsNew a.content code volume → c.unharmed → Follows (blocks d) c.content.files a.content.board c.content.board
   board_then r P l stood free fine =
       let mid = l.advances.harm fine in
       let now = stood_then stood free mid in
       let f = l.advances.board now fine in
       let start = ap (λ (k : Content). k.board) (came.done stood.0 free mid) in
-      record { order = f.order; leads = subst (λ (x : Received × Board). Leads d.register x.0 x.1 f.order c.content.board) (λ i. (sym (l.advances.files now fine) i, start i)) f.leads }
+      record { order = f.order; leads = subst (λ (x : Received × Board). Leads (blocks d) x.0 x.1 f.order c.content.board) (λ i. (sym (l.advances.files now fine) i, start i)) f.leads }
 
   pub taken_new : (told : Outcome) → Tells d b c (Ok told) (IsOutcome c.content.files c.content.board code volume) → TakesIn d a c code volume bytes (New told)
   taken_new told l =
@@ -120,12 +121,12 @@ module _ (d : Door) (a b c : Seen) (code volume : ℕ) (bytes : List ℕ) (let_i
 -- ---- after what was there is settled
 
 -- the same answer from the board before that was settled
-module _ (d : Door) (old mid new : HubState) (c volume : ℕ) (bytes : List ℕ) (same : mid.received ≡ old.received) (before : Follows d.register old.received old.board mid.board) where
-  on_from : (K : Received) → K ≡ with_file mid.received c volume bytes → map.get mid.received (c, volume) ≡ None → Follows d.register K mid.board new.board → Follows d.register K old.board new.board
+module _ (d : Door) (old mid new : HubState) (c volume : ℕ) (bytes : List ℕ) (same : mid.received ≡ old.received) (before : Follows (blocks d) old.received old.board mid.board) where
+  on_from : (K : Received) → K ≡ with_file mid.received c volume bytes → map.get mid.received (c, volume) ≡ None → Follows (blocks d) K mid.board new.board → Follows (blocks d) K old.board new.board
   on_from K e free f =
-      let more = subst (λ X. Follows d.register X old.board mid.board) (sym same) before in
-      follows_on d.register K old.board mid.board new.board
-      (follows_more d.register mid.received K (λ p there at. subst (λ X. map.get X p ≡ Some there) (sym e) (has_all_with mid.received c volume bytes free p there at)) old.board mid.board more) f
+      let more = subst (λ X. Follows (blocks d) X old.board mid.board) (sym same) before in
+      follows_on (blocks d) K old.board mid.board new.board
+      (follows_more (blocks d) mid.received K (λ p there at. subst (λ X. map.get X p ≡ Some there) (sym e) (has_all_with mid.received c volume bytes free p there at)) old.board mid.board more) f
 
   free_then : map.get mid.received (c, volume) ≡ None → map.get old.received (c, volume) ≡ None
   free_then e = ap (λ X. map.get X (c, volume)) (sym same) ∙ e
@@ -157,7 +158,7 @@ module _ (d : Door) (old mid new : HubState) (c volume : ℕ) (bytes : List ℕ)
       record {
         let_in = w.let_in;
         received = w.received ∙ same;
-        board = follows_on d.register old.received old.board mid.board new.board before (subst (λ X. Follows d.register X mid.board new.board) same w.board);
+        board = follows_on (blocks d) old.received old.board mid.board new.board before (subst (λ X. Follows (blocks d) X mid.board new.board) same w.board);
       }
 
   pub submits_from : (answer : Answer) → door d c volume bytes ≡ None → map.get mid.received (c, volume) ≡ None → Submits d mid c volume bytes answer new → Submits d old c volume bytes answer new

@@ -7,7 +7,7 @@ use Rattle.gaz_hub.specs.Answers.{AllAnswered, AllReadOff, EveryAnswer, IsAnswer
 use Rattle.gaz_hub.specs.Outcomes.{outcome}
 use Rattle.gaz_hub.specs.Runs.{Run, is_settled}
 use Rattle.gaz_hub.specs.Standing.{IsPartial, standing}
-use Rattle.gaz_hub.specs.Step.{Command, Door, HubState, Pose, Question, Refuses, Replied, Response, Step, Submit, Submits, Submitted, answer_to, door}
+use Rattle.gaz_hub.specs.Step.{Command, Door, HubState, Pose, Question, Refuses, Replied, Response, Step, Submit, Submits, Submitted, answer_to, blocks, door}
 use Rattle.gaz_hub.specs.declared.answer.Answer.{Answer}
 use Rattle.gaz_hub.specs.declared.answer.Answer.TheVariants.{New, Repeat, Taken, Refused}
 use Rattle.gaz_hub.specs.declared.refusal.Refusal.{Refusal}
@@ -64,13 +64,13 @@ received_then d old _ _ new s = absurd s
 -- ---- what is answered
 
 -- the board after a response that settles, where these files are received then
-stands_then : (d : Door) (old : HubState) (command : Command) (response : Response) (new : HubState) (F : Received) → IsPartial d.register old.received old.board
-    → Step d old command response new → is_settled response ≡ true → new.received ≡ F → new.board ≡ standing d.register F
+stands_then : (d : Door) (old : HubState) (command : Command) (response : Response) (new : HubState) (F : Received) → IsPartial (blocks d) old.received old.board
+    → Step d old command response new → is_settled response ≡ true → new.received ≡ F → new.board ≡ standing (blocks d) F
 stands_then d old command response new F partial s y e =
-    any_order_holds d.register new.received new.board (partial_next d old command response new partial s) ((goes d old command response new s).settled y)
-    ∙ ap (standing d.register) e
+    any_order_holds (blocks d) new.received new.board (partial_next d old command response new partial s) ((goes d old command response new s).settled y)
+    ∙ ap (standing (blocks d)) e
 
-module _ (d : Door) (old new : HubState) (partial : IsPartial d.register old.received old.board) where
+module _ (d : Door) (old new : HubState) (partial : IsPartial (blocks d) old.received old.board) where
   answer_off : (c volume : ℕ) (bytes : List ℕ) (answer : Answer) → Submits d old c volume bytes answer new → IsAnswerOff d old.received c volume bytes answer
   answer_off c volume bytes (New told) s =
       let board = stands_then d old (Submit c volume bytes) (Submitted (New told)) new _ partial s refl s.received in
@@ -85,11 +85,11 @@ module _ (d : Door) (old new : HubState) (partial : IsPartial d.register old.rec
   read_off (Submit c volume bytes) (Submitted answer) s = answer_off c volume bytes answer s
   read_off (Pose q) (Replied p (Ok told)) s =
       let board = stands_then d old (Pose q) (Replied p (Ok told)) new _ partial s refl s.1.received in
-      (s.0, s.1.answer ∙ (λ i. answer_to p d.custodians (record { received = s.1.received i; board = board i })))
+      (s.0, s.1.answer ∙ (λ i. answer_to p d.register (record { received = s.1.received i; board = board i })))
   read_off (Pose q) (Replied p (Err r)) s = (s.0, tt)
   read_off _ _ s = absurd s
 
-all_answered : (d : Door) (old new : HubState) (commands : List Command) (responses : List Response) → IsPartial d.register old.received old.board → Run d old commands responses new
+all_answered : (d : Door) (old new : HubState) (commands : List Command) (responses : List Response) → IsPartial (blocks d) old.received old.board → Run d old commands responses new
     → AllAnswered d old.received commands responses new.received
 all_answered d old new [] [] partial e = record { received = ap (λ (h : HubState). h.received) e; read_off = tt }
 all_answered d old new (command ∷ commands) (response ∷ responses) partial r =

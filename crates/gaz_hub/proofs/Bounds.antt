@@ -7,6 +7,7 @@ use Rattle.std.specs.List.{find}
 use Rattle.gaz_register.specs.Registers.{CustodianValue, RegisterValue, knows}
 use Rattle.gaz_shelf.specs.Board.{Board, reached}
 use Rattle.gaz_shelf.specs.Received.{Received}
+use Rattle.gaz_hub.specs.Step.{blocks}
 use Rattle.gaz_hub.specs.Hubs.{AreKnown, StandsFor, door_of}
 use Rattle.gaz_hub.specs.Settling.{Advances, IsAll, capped, judged_by}
 use Rattle.gaz_hub.specs.Standing.{Leads, Register, judge_one, ready, with_next}
@@ -63,7 +64,7 @@ leads_total reg G F known B (c ∷ order) C l =
 -- where one more is ready, not all volumes are judged
 pub not_all : (reg : RegisterValue) (F : Received) (B : Board) (c : ℕ) → AreKnown (door_of reg) F → ready F B c ≡ true → IsAll (door_of reg) B 0 → ⊥
 not_all reg F B c known h all =
-    let G = (door_of reg).register in
+    let G = blocks (door_of reg) in
     let one = leads_total reg G F known B (c ∷ []) (judge_one G F B c) (h, refl) in
     omega (arith, one, total_most reg (judge_one G F B c), all)
 

@@ -14,7 +14,7 @@ use Rattle.gaz_shelf.specs.Received.{Received, pair_cmp}
 use Rattle.gaz_hub.specs.Hubs.{AreKnown, StandsFor, state_of}
 use Rattle.gaz_hub.specs.Laws.{AllSound, EveryAnswerOver, EveryRunFromOver, EveryRunOver, EverySettledRunFromOver, EverySettledRunOver, StandsForRun}
 use Rattle.gaz_hub.specs.Standing.{Leads, Register, judge_one, ready}
-use Rattle.gaz_hub.specs.Step.{Door}
+use Rattle.gaz_hub.specs.Step.{Door, blocks}
 use Rattle.gaz_hub.proofs.Advancing.{added_is}
 use Rattle.gaz_hub.proofs.Answers.{every_answer_holds}
 use Rattle.gaz_hub.proofs.Leading.{follows_itself}
@@ -31,7 +31,7 @@ begins_so d old stood e = (stood, none_known d old.content e)
 
 begins_run : (d : Door) (old : Seen) → old.stands → old.content ≡ empty_content → StandsForRun d old
 begins_run d old stood e =
-    record { stands = begins_so d old stood e; partial = follows_itself d.register old.content.files empty_board old.content.board (ap (λ (k : Content). k.board) e) }
+    record { stands = begins_so d old stood e; partial = follows_itself (blocks d) old.content.files empty_board old.content.board (ap (λ (k : Content). k.board) e) }
 
 pub every_run_from_over : {K : Type 0} (seen : K → Seen) → EveryRunFromOver seen
 every_run_from_over seen d old new commands responses was fine r =

@@ -7,7 +7,7 @@ use Rattle.gaz_shelf.specs.Board.{Board, last_view, reached}
 use Rattle.gaz_hub.specs.Readings.{EqualAnswers, ExtractsStay, OneHolder}
 use Rattle.gaz_hub.specs.Runs.{Run}
 use Rattle.gaz_hub.specs.Standing.{standing}
-use Rattle.gaz_hub.specs.Step.{Command, Door, HubState, Pose, Replied, Response, Step, answer_to}
+use Rattle.gaz_hub.specs.Step.{Command, Door, HubState, Pose, Replied, Response, Step, answer_to, blocks}
 use Rattle.gaz_hub.proofs.OwnNumbers.{all_own_holds}
 use Rattle.gaz_rules.proofs.OwnNumbers.{own_numbers_stay_holds}
 use Rattle.gaz_hub.proofs.Orders.{Below, more_files_hold, view_stays}
@@ -30,9 +30,9 @@ equal_answers_hold d one other commands others responses replies q told heard r 
     let first = last_step d _ commands responses (Pose q) (Replied q (Ok told)) one r in
     let second = last_step d _ others replies (Pose q) (Replied q (Ok heard)) other s in
     let alike : other ≡ one = same_state one other same
-    (every_settled_run_holds d others replies (Pose q) (Replied q (Ok heard)) other s refl ∙ ap (standing d.register) same
+    (every_settled_run_holds d others replies (Pose q) (Replied q (Ok heard)) other s refl ∙ ap (standing (blocks d)) same
     ∙ sym (every_settled_run_holds d commands responses (Pose q) (Replied q (Ok told)) one r refl)) in
-    second.1.1.answer ∙ ap (answer_to q d.custodians) alike ∙ sym first.1.1.answer
+    second.1.1.answer ∙ ap (answer_to q d.register) alike ∙ sym first.1.1.answer
 
 -- ---- reached volumes
 

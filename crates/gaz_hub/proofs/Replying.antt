@@ -21,7 +21,7 @@ pub record Says {T : Type 0} (q : Question) (say : T → Told q) (reply : Result
 module _ {T : Type 0} (d : Door) (q : Question) (say : T → Told q) (reply : Result T Refusal → Result (Told q) Refusal) (says : Says q say reply) (let_in : question_refusal d q ≡ None) where
   -- what is read off a board on which nothing is ready says the answer
   abbrev pub IsSaid : Content → T → Type 0
-  IsSaid k x = NothingReady k.files k.board → say x ≡ answer_to q d.custodians (state_of k)
+  IsSaid k x = NothingReady k.files k.board → say x ≡ answer_to q d.register (state_of k)
 
   steps_read : (a c : Seen) (r : Result T ShelfFault) → Tells d a c r (IsSaid c.content) → Steps d a c (Pose q) (Replied q (reply (or_not_received r)))
   steps_read a c (Ok x) l =

@@ -7,7 +7,7 @@ use Rattle.gaz_shelf.specs.Board.{Board, empty_board}
 use Rattle.gaz_shelf.specs.Received.{Received, pair_cmp}
 use Rattle.gaz_hub.specs.Standing.{Follows, IsPartial, NothingReady, standing, Leads, IsPrefixOf, judge_one, Register}
 use Rattle.gaz_hub.specs.Outcomes.{outcome}
-use Rattle.gaz_hub.specs.Step.{Door, HubState, Command, Response, Step, new_hub}
+use Rattle.gaz_hub.specs.Step.{Command, Door, HubState, Response, Step, blocks, new_hub}
 use Rattle.gaz_hub.specs.Runs.{Run, is_settled, first_received, Abides, AbidesFrom, EveryRun, EveryRunFrom, EverySettledRun, EverySettledRunFrom, EveryRepeat, JudgementsStay, EqualReceived}
 use Rattle.gaz_hub.proofs.Orders.{any_order_holds, judge_one_moved, moved_below}
 use Rattle.gaz_hub.proofs.Prefixes.{prefix_refl, prefix_trans}
@@ -21,17 +21,17 @@ or_assoc None b c = refl
 or_assoc (Some x) b c = refl
 
 -- a step leaves a partial board partial
-pub partial_next : (d : Door) (old : HubState) (command : Command) (response : Response) (new : HubState) → IsPartial d.register old.received old.board → Step d old command response new
-    → IsPartial d.register new.received new.board
+pub partial_next : (d : Door) (old : HubState) (command : Command) (response : Response) (new : HubState) → IsPartial (blocks d) old.received old.board → Step d old command response new
+    → IsPartial (blocks d) new.received new.board
 partial_next d old command response new partial s =
     let g = goes d old command response new s in
-    follows_on d.register new.received empty_board old.board new.board (follows_more d.register old.received new.received g.all empty_board old.board partial) g.board
+    follows_on (blocks d) new.received empty_board old.board new.board (follows_more (blocks d) old.received new.received g.all empty_board old.board partial) g.board
 
-run_kept : (d : Door) (old : HubState) (commands : List Command) (responses : List Response) (new : HubState) → IsPartial d.register old.received old.board → Run d old commands responses new → AbidesFrom d old commands responses new
+run_kept : (d : Door) (old : HubState) (commands : List Command) (responses : List Response) (new : HubState) → IsPartial (blocks d) old.received old.board → Run d old commands responses new → AbidesFrom d old commands responses new
 run_kept d old [] [] new partial e =
     record {
       first = λ p. ap (λ h. map.get h.received p) e ∙ or_none _;
-      partial = subst (λ h. IsPartial d.register h.received h.board) (sym e) partial;
+      partial = subst (λ h. IsPartial (blocks d) h.received h.board) (sym e) partial;
     }
 run_kept d old (command ∷ commands) (response ∷ responses) new partial r =
     let g = goes d old command response r.0 r.1 in
@@ -47,8 +47,8 @@ pub every_run_from_holds : EveryRunFrom
 every_run_from_holds d old hub commands responses partial r = run_kept d old commands responses hub partial r
 
 -- what began with nothing
-pub nothing_partial : (d : Door) → IsPartial d.register new_hub.received new_hub.board
-nothing_partial d = follows_itself d.register map.empty empty_board empty_board refl
+pub nothing_partial : (d : Door) → IsPartial (blocks d) new_hub.received new_hub.board
+nothing_partial d = follows_itself (blocks d) map.empty empty_board empty_board refl
 
 pub abides_after : (d : Door) (old : HubState) (commands : List Command) (responses : List Response) (hub : HubState) → old ≡ new_hub → AbidesFrom d old commands responses hub
     → Abides d commands responses hub
@@ -73,7 +73,7 @@ last_settled d old (c ∷ (b ∷ commands)) [] command response hub r y = absurd
 
 pub every_settled_run_from_holds : EverySettledRunFrom
 every_settled_run_from_holds d hub s =
-    any_order_holds d.register hub.received hub.board (run_kept d s.old _ _ hub s.partial s.run).partial
+    any_order_holds (blocks d) hub.received hub.board (run_kept d s.old _ _ hub s.partial s.run).partial
     (last_settled d s.old s.commands s.responses s.command s.response hub s.run s.settles)
 
 pub every_settled_run_holds : EverySettledRun
@@ -94,20 +94,20 @@ follows_below G F B C f = leads_below G F B f.order C f.leads
 pub judgements_stay_holds : JudgementsStay
 judgements_stay_holds d old new command response s c =
     let g = goes d old command response new s in
-    follows_below d.register new.received old.board new.board g.board c
+    follows_below (blocks d) new.received old.board new.board g.board c
 
 pub same_state : (one other : HubState) → other.received ≡ one.received → other.board ≡ one.board → other ≡ one
 same_state one other e f = λ i. record { received = e i; board = f i }
 
 pub equal_received_holds : EqualReceived
 equal_received_holds d one other x y e =
-    same_state one other e (every_settled_run_from_holds d other y ∙ ap (standing d.register) e ∙ sym (every_settled_run_from_holds d one x))
+    same_state one other e (every_settled_run_from_holds d other y ∙ ap (standing (blocks d)) e ∙ sym (every_settled_run_from_holds d one x))
 
 pub every_repeat_holds : EveryRepeat
 every_repeat_holds d old new c volume bytes told partial closed s =
-    let on = follows_on d.register old.received empty_board old.board new.board partial s.settled.follows in
-    let was = any_order_holds d.register old.received old.board partial closed in
-    let now = any_order_holds d.register old.received new.board on s.settled.settled in
+    let on = follows_on (blocks d) old.received empty_board old.board new.board partial s.settled.follows in
+    let was = any_order_holds (blocks d) old.received old.board partial closed in
+    let now = any_order_holds (blocks d) old.received new.board on s.settled.settled in
     record {
       same = same_state old new s.received (now ∙ sym was);
       outcome_is = sym ((λ i. outcome (s.received i) (now i) c volume)) ∙ s.answer;

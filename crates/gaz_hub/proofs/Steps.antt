@@ -7,7 +7,7 @@ use Rattle.std.specs.FinMap as map
 use Rattle.gaz_shelf.specs.Board.{Board}
 use Rattle.gaz_shelf.specs.Received.{Received, pair_cmp, with_file}
 use Rattle.gaz_hub.specs.Standing.{HasAllOf, Follows, NothingReady}
-use Rattle.gaz_hub.specs.Step.{Door, HubState, Command, Submit, Pose, Question, Response, Submitted, Replied, Told, Step, Submits, Refuses, TurnedAway, NotReceived, WasAsked, Settles, door}
+use Rattle.gaz_hub.specs.Step.{Command, Door, HubState, NotReceived, Pose, Question, Refuses, Replied, Response, Settles, Step, Submit, Submits, Submitted, Told, TurnedAway, WasAsked, blocks, door}
 use Rattle.gaz_hub.specs.Runs.{accepted, is_settled, same_pair, is_answered_51}
 use Rattle.gaz_hub.specs.declared.answer.Answer.{Answer}
 use Rattle.gaz_hub.specs.declared.answer.Answer.TheVariants.{New, Repeat, Taken, Refused}
@@ -33,7 +33,7 @@ has_itself F K e p bytes at = ap (λ X. map.get X p) e ∙ at
 -- what a step keeps, and what it adds
 pub record Goes (d : Door) (old : HubState) (command : Command) (response : Response) (new : HubState) : Type 0 where
   pub all : HasAllOf new.received old.received
-  pub board : Follows d.register new.received old.board new.board
+  pub board : Follows (blocks d) new.received old.board new.board
   pub settled : is_settled response ≡ true → NothingReady new.received new.board
   pub first : (p : ℕ × ℕ) → map.get new.received p ≡ option_or (map.get old.received p) (accepted d p command response)
 
@@ -75,15 +75,15 @@ let_in_once o b e h = ap (λ x. is_none x && b) e ∙ h
 pub closed_door : (o : Option Refusal) (r : Refusal) (b : Bool) → o ≡ Some r → (is_none o && b) ≡ false
 closed_door o r b e = ap (λ x. is_none x && b) e
 
-settles_in : (d : Door) (F K : Received) (old new : Board) → K ≡ F → Settles d F old new → Follows d.register K old new × NothingReady K new
-settles_in d F K old new e s = subst (λ X. Follows d.register X old new × NothingReady X new) (sym e) (s.follows, s.settled)
+settles_in : (d : Door) (F K : Received) (old new : Board) → K ≡ F → Settles d F old new → Follows (blocks d) K old new × NothingReady K new
+settles_in d F K old new e s = subst (λ X. Follows (blocks d) X old new × NothingReady X new) (sym e) (s.follows, s.settled)
 
 from_same : (d : Door) (old new : HubState) (command : Command) (response : Response) → new ≡ old → is_settled response ≡ false
     → ((p : ℕ × ℕ) → map.get new.received p ≡ option_or (map.get old.received p) (accepted d p command response)) → Goes d old command response new
 from_same d old new command response e open_still first =
     record {
       all = has_itself _ _ (ap (λ h. h.received) e);
-      board = follows_itself d.register _ _ _ (ap (λ h. h.board) e);
+      board = follows_itself (blocks d) _ _ _ (ap (λ h. h.board) e);
       settled = λ y. absurd (true≢false (sym y ∙ open_still));
       first = first;
     }
@@ -103,7 +103,7 @@ from_not_received : (d : Door) (old new : HubState) (asked command : Command) (r
 from_not_received d old new asked command response n open_still first =
     record {
       all = has_itself _ _ n.received;
-      board = subst (λ X. Follows d.register X old.board new.board) (sym n.received) n.board;
+      board = subst (λ X. Follows (blocks d) X old.board new.board) (sym n.received) n.board;
       settled = λ y. absurd (true≢false (sym y ∙ open_still));
       first = first;
     }

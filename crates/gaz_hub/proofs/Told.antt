@@ -7,6 +7,7 @@ use Rattle.std.specs.FinMap as map
 use Rattle.sha2.specs.Sha256.{sha256}
 use Rattle.gaz_shelf.specs.Board.{Board, verdict_on}
 use Rattle.gaz_shelf.specs.Received.{Received}
+use Rattle.gaz_register.specs.Registers.{knows}
 use Rattle.gaz_hub.specs.Asked.{IsToldNow}
 use Rattle.gaz_hub.specs.Laws.{EachIsTold, HasOutcome, NothingOfNothing}
 use Rattle.gaz_hub.specs.Outcomes.{outcome, outcome_of, wants}
@@ -60,7 +61,7 @@ nothing_of_nothing : NothingOfNothing
 nothing_of_nothing d old new c volume step =
     let w = step.1 in
     none_there (map.get new.received (c, volume)) (outcome new.received new.board c volume) (λ bytes o. (sha256 bytes, o))
-    (has_outcome new.received new.board c volume (subst (λ F. NothingReady F new.board) (sym w.received) w.settled.settled) (volume_in (d.knows c) (is_volume volume) _ w.let_in))
+    (has_outcome new.received new.board c volume (subst (λ F. NothingReady F new.board) (sym w.received) w.settled.settled) (volume_in (knows d.register c) (is_volume volume) _ w.let_in))
     w.answer
 
 pub each_is_told_holds : EachIsTold

@@ -6,7 +6,7 @@ use Rattle.gaz_hub.specs.Asked.{IsTaken}
 use Rattle.gaz_hub.specs.Outcomes.{outcome}
 use Rattle.gaz_hub.specs.Runs.{Run, is_answered_51}
 use Rattle.gaz_hub.specs.Standing.{IsPartial, standing}
-use Rattle.gaz_hub.specs.Step.{Command, Door, HubState, Pose, Question, Replied, Response, Submit, Submitted, Told, answer_to, door}
+use Rattle.gaz_hub.specs.Step.{Command, Door, HubState, Pose, Question, Replied, Response, Submit, Submitted, Told, answer_to, blocks, door}
 use Rattle.gaz_hub.specs.declared.answer.Answer.{Answer}
 use Rattle.gaz_hub.specs.declared.answer.Answer.TheVariants.{New, Repeat, Taken, Refused}
 use Rattle.gaz_hub.specs.declared.outcome.Outcome.{Outcome}
@@ -32,7 +32,7 @@ received_by d F _ _ = F
 
 -- the outcome of a received file on the standing board
 abbrev pub standing_outcome : Door → Received → ℕ → ℕ → Option Outcome
-standing_outcome d F c volume = outcome F (standing d.register F) c volume
+standing_outcome d F c volume = outcome F (standing (blocks d) F) c volume
 
 -- a submission's answer, where these files were received before; a refusal settles nothing
 abbrev pub IsAnswerOff : Door → Received → ℕ → ℕ → List ℕ → Answer → Type 0
@@ -45,11 +45,11 @@ IsAnswerOff d F c volume bytes (Refused r) = ⊤
 
 -- the hub that has received these and settled all
 abbrev pub standing_hub : Door → Received → HubState
-standing_hub d F = record { received = F; board = standing d.register F }
+standing_hub d F = record { received = F; board = standing (blocks d) F }
 
 -- a reply is the one read off the standing board; ⊤ where it doesn't settle
 abbrev pub IsReplyOff : Door → Received → (q : Question) → Result (Told q) Refusal → Type 0
-IsReplyOff d F q (Ok told) = told ≡ answer_to q d.custodians (standing_hub d F)
+IsReplyOff d F q (Ok told) = told ≡ answer_to q d.register (standing_hub d F)
 IsReplyOff d F q (Err r) = ⊤
 
 -- the response, where these files were received before, is the one read off the standing board; ⊤ where it doesn't settle
@@ -76,5 +76,5 @@ pub record AllAnswered (d : Door) (before : Received) (commands : List Command) 
 -- whatever commands come to a hub whose board is partial
 abbrev pub EveryAnswer : Type 0
 EveryAnswer = (d : Door) (old new : HubState) (commands : List Command) (responses : List Response)
-    → IsPartial d.register old.received old.board → Run d old commands responses new
+    → IsPartial (blocks d) old.received old.board → Run d old commands responses new
     → AllAnswered d old.received commands responses new.received

@@ -5,7 +5,7 @@ use Rattle.gaz_shelf.specs.Board.{Judgement, Board, empty_board}
 use Rattle.gaz_views.specs.View.{empty_view}
 use Rattle.gaz_views.specs.declared.verdict.Verdict.TheVariants.{Rejected}
 use Rattle.gaz_shelf.specs.Received.{Received, with_file}
-use Rattle.gaz_hub.specs.Sample.{sample_register}
+use Rattle.gaz_hub.specs.Sample.{sample_custodians}
 use Rattle.gaz_hub.specs.Step.{Door, HubState}
 
 -- a file that isn't UTF-8
@@ -64,4 +64,4 @@ whole_hub = record { received = all_sent; board = three_judged }
 
 -- a door that takes every file for one of an unknown profile
 abbrev pub foreign_door : Door
-foreign_door = record { register = sample_register; knows = λ c. true; is_foreign = λ bytes. true; custodians = [] }
+foreign_door = record { register = sample_custodians; is_foreign = λ bytes. true }

@@ -23,7 +23,7 @@ is_foreign bytes = option_map_or (λ profile. not (profile == 1)) (profile_of by
 
 -- the door of a hub with this register
 abbrev pub door_of : RegisterValue → Door
-door_of r = record { register = blocks_of r; knows = knows r; is_foreign = is_foreign; custodians = r }
+door_of r = record { register = r; is_foreign = is_foreign }
 
 -- what was received, and how far it is judged, of what a keeper keeps
 abbrev pub state_of : Content → HubState
@@ -31,7 +31,7 @@ state_of k = record { received = k.files; board = k.board }
 
 -- each received file is of a custodian that the door knows
 abbrev pub AreKnown : Door → Received → Type 0
-AreKnown d F = (p : ℕ × ℕ) → IsSome (map.get F p) → d.knows p.0 ≡ true
+AreKnown d F = (p : ℕ × ℕ) → IsSome (map.get F p) → knows d.register p.0 ≡ true
 
 -- the keeper stands for a content that such a hub may have
 abbrev pub StandsFor : Door → Seen → Type 0

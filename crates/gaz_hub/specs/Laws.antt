@@ -11,7 +11,7 @@ use Rattle.gaz_hub.specs.Hubs.{Runs, StandsFor, Steps, state_of}
 use Rattle.gaz_hub.specs.Outcomes.{outcome}
 use Rattle.gaz_hub.specs.Runs.{Abides, AbidesFrom, is_settled}
 use Rattle.gaz_hub.specs.Standing.{IsPartial, NothingReady, standing}
-use Rattle.gaz_hub.specs.Step.{Ask, Command, Door, HubState, Pose, Replied, Response, Step, is_volume}
+use Rattle.gaz_hub.specs.Step.{Ask, Command, Door, HubState, Pose, Replied, Response, Step, blocks, is_volume}
 
 -- every view of a partial board is sound
 abbrev pub AllSound : Type 0
@@ -49,7 +49,7 @@ pub record CallsMakeRuns {K : Type 0} (seen : K → Seen) : Type 0 where
 -- the keeper stands for a partial run of files of custodians that the door knows
 pub record StandsForRun (d : Door) (s : Seen) : Type 0 where
   pub stands : StandsFor d s
-  pub partial : IsPartial d.register s.content.files s.content.board
+  pub partial : IsPartial (blocks d) s.content.files s.content.board
 
 -- the keeper still does: of what was there before and then of what came first
 pub record StandsFrom (d : Door) (old : Seen) (commands : List Command) (responses : List Response) (new : Seen) : Type 0 where
@@ -68,7 +68,7 @@ EverySettledRunFromOver {K} seen =
     (d : Door) (old new : K) (commands : List Command) (responses : List Response) (command : Command) (response : Response)
     → StandsForRun d (seen old) → (seen new).unharmed
     → Runs d (seen old) (seen new) (commands ++ command ∷ []) (responses ++ response ∷ []) → is_settled response ≡ true
-    → (seen new).content.board ≡ standing d.register (seen new).content.files
+    → (seen new).content.board ≡ standing (blocks d) (seen new).content.files
 
 -- each answer is read off the standing board of the files that are received by then
 abbrev pub EveryAnswerOver : {K : Type 0} → (K → Seen) → Type 0
@@ -93,4 +93,4 @@ abbrev pub EverySettledRunOver : {K : Type 0} → (K → Seen) → Type 0
 EverySettledRunOver {K} seen = (d : Door) (old new : K) (commands : List Command) (responses : List Response) (command : Command) (response : Response)
     → (seen old).stands → (seen old).content ≡ empty_content → (seen new).unharmed
     → Runs d (seen old) (seen new) (commands ++ command ∷ []) (responses ++ response ∷ []) → is_settled response ≡ true
-    → (seen new).content.board ≡ standing d.register (seen new).content.files
+    → (seen new).content.board ≡ standing (blocks d) (seen new).content.files

@@ -6,7 +6,7 @@ use Rattle.std.specs.FinMap as map
 use Rattle.gaz_shelf.specs.Received.{pair_cmp}
 use Rattle.gaz_hub.specs.Standing.{IsPartial, IsPrefixOf, NothingReady, standing}
 use Rattle.gaz_hub.specs.Outcomes.{outcome}
-use Rattle.gaz_hub.specs.Step.{Door, HubState, new_hub, Command, Submit, Response, Submitted, Replied, Step, door}
+use Rattle.gaz_hub.specs.Step.{Command, Door, HubState, Replied, Response, Step, Submit, Submitted, blocks, door, new_hub}
 use Rattle.gaz_hub.specs.declared.answer.Answer.{Answer}
 use Rattle.gaz_hub.specs.declared.answer.Answer.TheVariants.{New, Repeat, Taken, Refused}
 use Rattle.gaz_hub.specs.declared.outcome.Outcome.{Outcome}
@@ -65,17 +65,17 @@ first_received d p _ _ = None
 -- what is received is what was there before and then what came first, and the board is partial over it
 pub record AbidesFrom (d : Door) (old : HubState) (commands : List Command) (responses : List Response) (hub : HubState) : Type 0 where
   pub first : (p : ℕ × ℕ) → map.get hub.received p ≡ option_or (map.get old.received p) (first_received d p commands responses)
-  pub partial : IsPartial d.register hub.received hub.board
+  pub partial : IsPartial (blocks d) hub.received hub.board
 
 -- whatever commands come to a hub whose board is partial, in whatever order
 abbrev pub EveryRunFrom : Type 0
 EveryRunFrom = (d : Door) (old hub : HubState) (commands : List Command) (responses : List Response)
-    → IsPartial d.register old.received old.board → Run d old commands responses hub → AbidesFrom d old commands responses hub
+    → IsPartial (blocks d) old.received old.board → Run d old commands responses hub → AbidesFrom d old commands responses hub
 
 -- a run from a partial board to this hub, whose last response settles
 pub record SettledRun (d : Door) (hub : HubState) : Type 0 where
   pub old : HubState
-  pub partial : IsPartial d.register old.received old.board
+  pub partial : IsPartial (blocks d) old.received old.board
   pub commands : List Command
   pub responses : List Response
   pub command : Command
@@ -85,12 +85,12 @@ pub record SettledRun (d : Door) (hub : HubState) : Type 0 where
 
 -- after it the board is the standing one
 abbrev pub EverySettledRunFrom : Type 0
-EverySettledRunFrom = (d : Door) (hub : HubState) → SettledRun d hub → hub.board ≡ standing d.register hub.received
+EverySettledRunFrom = (d : Door) (hub : HubState) → SettledRun d hub → hub.board ≡ standing (blocks d) hub.received
 
 -- what was received is what came first, and the board is partial over it
 pub record Abides (d : Door) (commands : List Command) (responses : List Response) (hub : HubState) : Type 0 where
   pub first : (p : ℕ × ℕ) → map.get hub.received p ≡ first_received d p commands responses
-  pub partial : IsPartial d.register hub.received hub.board
+  pub partial : IsPartial (blocks d) hub.received hub.board
 
 -- what is received comes first and the board is partial, whatever commands come to a hub that begins with nothing
 abbrev pub EveryRun : Type 0
@@ -98,15 +98,15 @@ EveryRun = (d : Door) (commands : List Command) (responses : List Response) (hub
 
 abbrev pub EverySettledRun : Type 0
 EverySettledRun = (d : Door) (commands : List Command) (responses : List Response) (command : Command) (response : Response) (hub : HubState) →
-    Run d new_hub (commands ++ command ∷ []) (responses ++ response ∷ []) hub → is_settled response ≡ true → hub.board ≡ standing d.register hub.received
+    Run d new_hub (commands ++ command ∷ []) (responses ++ response ∷ []) hub → is_settled response ≡ true → hub.board ≡ standing (blocks d) hub.received
 
 -- a repeat changes nothing where all was settled, and is answered by the outcome then standing
 pub record ChangesNothing (d : Door) (old : HubState) (c volume : ℕ) (told : Outcome) (new : HubState) : Type 0 where
   pub same : new ≡ old
-  pub outcome_is : outcome old.received (standing d.register old.received) c volume ≡ Some told
+  pub outcome_is : outcome old.received (standing (blocks d) old.received) c volume ≡ Some told
 
 abbrev pub EveryRepeat : Type 0
-EveryRepeat = (d : Door) (old new : HubState) (c volume : ℕ) (bytes : List ℕ) (told : Outcome) → IsPartial d.register old.received old.board → NothingReady old.received old.board →
+EveryRepeat = (d : Door) (old new : HubState) (c volume : ℕ) (bytes : List ℕ) (told : Outcome) → IsPartial (blocks d) old.received old.board → NothingReady old.received old.board →
     Step d old (Submit c volume bytes) (Submitted (Repeat told)) new → ChangesNothing d old c volume told new
 
 -- a judgement once on the board is on every later board at its place

@@ -12,7 +12,7 @@ use Rattle.gaz_shelf.specs.declared.fault.ShelfFault.TheVariants.{Store}
 use Rattle.gaz_hub.specs.Hubs.{StandsFor, or_not_received}
 use Rattle.gaz_hub.specs.Outcomes.{first_unreached, wants}
 use Rattle.gaz_hub.specs.Standing.{Follows, NothingReady, next_reading, ready}
-use Rattle.gaz_hub.specs.Step.{Door}
+use Rattle.gaz_hub.specs.Step.{Door, blocks}
 use Rattle.gaz_hub.specs.declared.refusal.Refusal.{Refusal}
 use Rattle.gaz_hub.specs.declared.looking.NextFile.{NextFile}
 use Rattle.gaz_hub.specs.declared.looking.NextFile.TheVariants as file
@@ -66,7 +66,7 @@ pub record Advances (d : Door) (least : ℕ) (old new : Seen) : Type 0 where
   pub harm : new.unharmed → old.unharmed
   pub stands : StandsFor d old → new.unharmed → StandsFor d new
   pub files : StandsFor d old → new.unharmed → new.content.files ≡ old.content.files
-  pub board : StandsFor d old → new.unharmed → Follows d.register old.content.files old.content.board new.content.board
+  pub board : StandsFor d old → new.unharmed → Follows (blocks d) old.content.files old.content.board new.content.board
   pub many : (stood : StandsFor d old) (fine : new.unharmed) → least ≤ length (board stood fine).order
   pub idle : IsNotOpen new.progress
   pub kept : old.failures ≤ new.failures
@@ -87,7 +87,7 @@ judged_by (k ∷ register) B = capped (reached B k.code) + judged_by register B
 
 -- with so many judgements more, all volumes of the custodians would be judged
 abbrev pub IsAll : Door → Board → ℕ → Type 0
-IsAll d B left = 999999 * length d.custodians ≤ judged_by d.custodians B + left
+IsAll d B left = 999999 * length d.register ≤ judged_by d.register B + left
 
 -- a call that judges at most so many of what is ready among some custodians, and tells how many; where none was, the board is as before
 pub record Tries (d : Door) (left : ℕ) (old new : Seen) (result : Result ℕ ShelfFault) (IsAmong : ℕ → Type 0) : Type 0 where

@@ -8,7 +8,7 @@ use Rattle.gaz_extract.specs.Extracts.{extract}
 use Rattle.gaz_extract.specs.Lookups.{lookup}
 use Rattle.gaz_extract.specs.declared.closed.Closed.{Closed}
 use Rattle.gaz_extract.specs.declared.found.Found.{Found}
-use Rattle.gaz_register.specs.Registers.{RegisterValue}
+use Rattle.gaz_register.specs.Registers.{RegisterValue, blocks_of, knows}
 use Rattle.gaz_shelf.specs.Board.{Board, empty_board}
 use Rattle.gaz_shelf.specs.Received.{Received, with_file}
 use Rattle.gaz_hub.specs.Standing.{Register, Follows, NothingReady}
@@ -20,13 +20,14 @@ use Rattle.gaz_hub.specs.declared.refusal.Refusal.{Refusal}
 use Rattle.gaz_hub.specs.declared.refusal.Refusal.TheVariants as refusal
 use Rattle.gaz_hub.specs.declared.standing.Standing.{Standing}
 
--- what the hub knows from outside: the blocks and the codes of its register, and which bytes name an unknown profile
+-- what the hub knows from outside: its register, and which bytes name an unknown profile
 pub record Door : Type 0 where
-  pub register : Register
-  pub knows : ℕ → Bool
+  pub register : RegisterValue
   pub is_foreign : List ℕ → Bool
-  -- the register itself, whose custodians' views are read
-  pub custodians : RegisterValue
+
+-- the blocks of each code
+abbrev pub blocks : Door → Register
+blocks d = blocks_of d.register
 
 -- what was received, and how far it is judged
 pub record HubState : Type 0 where
@@ -90,7 +91,7 @@ is_volume v = nat_le 1 v && nat_le v 999999
 -- the refusals of the door that take no memory: the first that applies
 abbrev pub turned_away : Door → ℕ → ℕ → ℕ → Option Refusal
 turned_away d c volume size =
-    if not (d.knows c) then Some refusal.UnknownCustodian
+    if not (knows d.register c) then Some refusal.UnknownCustodian
     else (if not (is_volume volume) then Some refusal.BadVolume
     else (if not (nat_le size 1048576) then Some refusal.TooLarge else None))
 
@@ -105,7 +106,7 @@ door d c volume bytes = or_foreign (d.is_foreign bytes) (turned_away d c volume 
 -- the refusal of a question at the door
 abbrev pub question_refusal : Door → Question → Option Refusal
 question_refusal d (Ask c volume) = turned_away d c volume 0
-question_refusal d (Stand c) = if not (d.knows c) then Some refusal.UnknownCustodian else None
+question_refusal d (Stand c) = if not (knows d.register c) then Some refusal.UnknownCustodian else None
 question_refusal d Settle = None
 question_refusal d (LookUp uprn) = None
 question_refusal d (Extract c volume) = turned_away d c volume 0
@@ -125,7 +126,7 @@ refusal_at_door d (Pose q) = question_refusal d q
 
 -- the board after follows the board before, and nothing is ready on it
 pub record Settles (d : Door) (F : Received) (before after : Board) : Type 0 where
-  pub follows : Follows d.register F before after
+  pub follows : Follows (blocks d) F before after
   pub settled : NothingReady F after
 
 -- a refusal at the door changes nothing
@@ -137,14 +138,14 @@ pub record TurnedAway (d : Door) (old : HubState) (command : Command) (r : Refus
 pub record NotReceived (d : Door) (old : HubState) (command : Command) (new : HubState) : Type 0 where
   pub let_in : early_refusal d command ≡ None
   pub received : new.received ≡ old.received
-  pub board : Follows d.register old.received old.board new.board
+  pub board : Follows (blocks d) old.received old.board new.board
 
 -- 52: the file was received, and perhaps not all that is ready was judged
 pub record Unsettled (d : Door) (old : HubState) (c volume : ℕ) (bytes : List ℕ) (new : HubState) : Type 0 where
   pub let_in : door d c volume bytes ≡ None
   pub free : map.get old.received (c, volume) ≡ None
   pub received : new.received ≡ with_file old.received c volume bytes
-  pub board : Follows d.register new.received old.board new.board
+  pub board : Follows (blocks d) new.received old.board new.board
 
 -- the pair was free: the file is received and all is settled
 pub record WasNew (d : Door) (old : HubState) (c volume : ℕ) (bytes : List ℕ) (told : Outcome) (new : HubState) : Type 0 where
@@ -177,7 +178,7 @@ pub record WasAsked (d : Door) (old : HubState) (q : Question) (told : Told q) (
   pub let_in : question_refusal d q ≡ None
   pub received : new.received ≡ old.received
   pub settled : Settles d old.received old.board new.board
-  pub answer : told ≡ answer_to q d.custodians new
+  pub answer : told ≡ answer_to q d.register new
 
 abbrev pub Submits : Door → HubState → ℕ → ℕ → List ℕ → Answer → HubState → Type 0
 Submits d old c volume bytes (New told) new = WasNew d old c volume bytes told new

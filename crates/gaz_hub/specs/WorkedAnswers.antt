@@ -1,10 +1,10 @@
 -- Worked examples on what is told of files, and on the sample register.
 use Rattle.std.specs.Prelude.{◌≡◌, true, false, [], Some, None}
-use Rattle.gaz_register.specs.Registers.{within}
+use Rattle.gaz_register.specs.Registers.{knows, within}
 use Rattle.gaz_shelf.specs.Board.{Board, empty_board, reached}
 use Rattle.gaz_views.specs.declared.verdict.Verdict.TheVariants as verdict
 use Rattle.gaz_hub.specs.Outcomes.{held_count, outcome, outcome_of, status, wants}
-use Rattle.gaz_hub.specs.Sample.{is_sample_code, sample_door, sample_register, state_of}
+use Rattle.gaz_hub.specs.Sample.{sample_custodians, sample_door, sample_register, state_of}
 use Rattle.gaz_hub.specs.declared.outcome.Outcome.TheVariants.{Applied, Rejected, Held}
 use Rattle.gaz_hub.specs.Examples.{all_sent, gap_hub, no_text, one_judged, sent, three_judged}
 
@@ -24,16 +24,16 @@ pub record WorkedOutcomes : Type 0 where
   pub stands : status sent one_judged 1003 ≡ record { custodian = 1003; held = 1; judged = 1; wants = Some (1003, 2) }
 
 pub record WorkedSample : Type 0 where
-  pub first_code : is_sample_code 1001 ≡ true
-  pub last_code : is_sample_code 1003 ≡ true
-  pub no_code : is_sample_code 1004 ≡ false
+  pub first_code : knows sample_custodians 1001 ≡ true
+  pub last_code : knows sample_custodians 1003 ≡ true
+  pub no_code : knows sample_custodians 1004 ≡ false
   pub last_of_block : within (sample_register 1001).usrn 199 ≡ true
   pub greatest_street : within (sample_register 1001).usrn 99_999_999 ≡ true
   pub of_a_neighbour : within (sample_register 1001).usrn 200 ≡ false
   pub in_second_block : within (sample_register 1002).usrn 200 ≡ true
   pub in_third_block : within (sample_register 1003).usrn 399 ≡ true
   pub without_code : (sample_register 1004).usrn ≡ []
-  pub not_known : sample_door.knows 1004 ≡ false
+  pub not_known : knows sample_door.register 1004 ≡ false
   pub none_foreign : sample_door.is_foreign no_text ≡ false
   pub state : state_of sent ≡ gap_hub
 

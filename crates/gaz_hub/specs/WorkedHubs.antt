@@ -9,7 +9,7 @@ use Rattle.gaz_hub.specs.Examples.{one_judged, sent}
 use Rattle.gaz_hub.specs.Hubs.{cause_of, door_of, is_foreign, state_of}
 use Rattle.gaz_hub.specs.Outcomes.{first_unreached}
 use Rattle.gaz_hub.specs.Settling.{IsNext, IsNextFile, wanted_by}
-use Rattle.gaz_hub.specs.Step.{Ask, Replied, Settle, Stand, Submitted, new_hub, turned_away}
+use Rattle.gaz_hub.specs.Step.{Ask, Replied, Settle, Stand, Submitted, blocks, new_hub, turned_away}
 use Rattle.gaz_hub.specs.WorkedBoards.{basis}
 use Rattle.gaz_hub.specs.declared.answer.Answer.TheVariants.{New, Refused, Taken}
 use Rattle.gaz_hub.specs.declared.looking.Next.{Next}
@@ -35,8 +35,8 @@ pub record WorkedDoors : Type 0 where
   pub no_custodian : turned_away (door_of upper_and_lower) 1003 0 0 ≡ Some UnknownCustodian
   pub no_volume : turned_away (door_of upper_and_lower) 1001 0 1_048_577 ≡ Some BadVolume
   pub too_large : turned_away (door_of upper_and_lower) 1001 1 1_048_577 ≡ Some TooLarge
-  pub own_block : within ((door_of upper_and_lower).register 1002).usrn 299 ≡ true
-  pub block_of_another : within ((door_of upper_and_lower).register 1002).usrn 199 ≡ false
+  pub own_block : within (blocks (door_of upper_and_lower) 1002).usrn 299 ≡ true
+  pub block_of_another : within (blocks (door_of upper_and_lower) 1002).usrn 199 ≡ false
   pub begins : state_of empty_content ≡ new_hub
 
 -- the fault that a response carries
