@@ -1,7 +1,7 @@
 -- What the hub is asked by a request.
 use Rattle.std.specs.Prelude.{ℕ, if◌then◌else◌, List, codes, bytes_eq, Option, Some, None, Result, Ok, Err}
 use Rattle.httparse.specs.Grammar.{RequestHead}
-use Rattle.gaz_hub.specs.Step.{Command}
+use Rattle.gaz_hub.specs.Step.{Command, Pose}
 use Rattle.gaz_hub.specs.Step as hub
 use Rattle.gaz_exchange.specs.Targets.{Target, Volume, Custodian, Extract, Property, Closed, Nowhere, target_of, code_in, volume_in, uprn_in}
 use Rattle.gaz_exchange.specs.declared.fault.Allowed.TheVariants as allowed
@@ -43,11 +43,11 @@ call_at Closed Other = Err (BadMethod allowed.Get)
 
 abbrev pub command_of : List ℕ → Call → Command
 command_of body (Submit code volume) = hub.Submit code volume body
-command_of body (Ask code volume) = hub.Ask code volume
-command_of body (Stand code) = hub.Stand code
-command_of body (LookUp uprn) = hub.LookUp uprn
-command_of body (call.Extract code volume) = hub.Extract code volume
-command_of body ListClosed = hub.ListClosed
+command_of body (Ask code volume) = Pose (hub.Ask code volume)
+command_of body (Stand code) = Pose (hub.Stand code)
+command_of body (LookUp uprn) = Pose (hub.LookUp uprn)
+command_of body (call.Extract code volume) = Pose (hub.Extract code volume)
+command_of body ListClosed = Pose hub.ListClosed
 
 abbrev pub with_body : List ℕ → Result Call Fault → Result Command Fault
 with_body body (Ok call) = Ok (command_of body call)

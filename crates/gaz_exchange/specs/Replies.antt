@@ -8,7 +8,7 @@ use Rattle.serde_json.specs.Written.{compact_text}
 use Rattle.gaz_ids.specs.Codes.{status_number}
 use Rattle.gaz_extract.specs.declared.closed.Closed.{Closed}
 use Rattle.gaz_extract.specs.declared.found.Found.{Found}
-use Rattle.gaz_hub.specs.Step.{Response, Submitted, Told, Stands, Settled, LookedUp, Extracted, Listed}
+use Rattle.gaz_hub.specs.Step.{Ask, Extract, ListClosed, LookUp, Question, Replied, Response, Settle, Stand, Submitted, Told}
 use Rattle.gaz_hub.specs.declared.answer.Answer.{Answer}
 use Rattle.gaz_hub.specs.declared.answer.Answer.TheVariants as answer
 use Rattle.gaz_hub.specs.declared.outcome.Outcome.{Outcome}
@@ -56,15 +56,19 @@ abbrev pub reply_listed : Result (List Closed) Refusal → Reply
 reply_listed (Ok closed) = reply.Closed closed
 reply_listed (Err refusal) = reply.Refused (fault_of refusal)
 
--- what a reply says of what the hub said; settling alone is asked by no request
+-- what a reply says of the answer to a question; settling alone is asked by no request
+abbrev pub reply_on : (q : Question) → Result (Told q) Refusal → Reply
+reply_on (Ask c volume) told = reply_told told
+reply_on (Stand c) standing = reply_stands standing
+reply_on Settle done = reply.Refused NotReceived
+reply_on (LookUp uprn) found = reply_found found
+reply_on (Extract c volume) bytes = reply_extracted bytes
+reply_on ListClosed closed = reply_listed closed
+
+-- what a reply says of what the hub said
 abbrev pub reply_to : Response → Reply
 reply_to (Submitted answer) = reply_of answer
-reply_to (Told told) = reply_told told
-reply_to (Stands stands) = reply_stands stands
-reply_to (LookedUp found) = reply_found found
-reply_to (Extracted bytes) = reply_extracted bytes
-reply_to (Listed closed) = reply_listed closed
-reply_to (Settled done) = reply.Refused NotReceived
+reply_to (Replied q told) = reply_on q told
 
 abbrev pub status_line : Reply → List ℕ
 status_line (reply.New outcome) = codes "201 Created"

@@ -1,7 +1,7 @@
 -- Worked examples on the requests of a stream.
 use Rattle.std.specs.Prelude.{◌≡◌, ℕ, true, false, List, [], ◌∷◌, ◌++◌, codes, Option, Some, None, Ok}
 use Rattle.httparse.specs.Grammar.{Field, RequestHead, crlf}
-use Rattle.gaz_hub.specs.Step.{Ask, Command, Response, Submit, Submitted, Told}
+use Rattle.gaz_hub.specs.Step.{Ask, Command, Pose, Replied, Response, Submit, Submitted}
 use Rattle.gaz_hub.specs.declared.answer.Answer.TheVariants.{New}
 use Rattle.gaz_hub.specs.declared.outcome.Outcome.TheVariants.{Rejected}
 use Rattle.gaz_exchange.specs.Exchanges.{Comes, Exchange, RoutesStay, commands_of, goes_on, replies, responses_of}
@@ -33,7 +33,7 @@ asked_for = record {
   head = head (codes "GET") (codes "/custodians/1001/volumes/2") [];
   body = [];
   routed = true;
-  response = Some (Told (Ok None));
+  response = Some (Replied (Ask 1001 2) (Ok None));
   reply = codes "HTTP/1.1 404 Not Found\r\nContent-Type: application/json\r\nContent-Length: 15\r\n\r\n{\"refusal\":17}\n";
 }
 
@@ -74,8 +74,8 @@ pub record WorkedThree : Type 0 where
   pub comes : Comes 4 (posting_bytes ++ (asking_bytes ++ lost_bytes)) (posted ∷ asked_for ∷ lost ∷ []) []
   pub open_yet : goes_on 4 (posted ∷ asked_for ∷ lost ∷ []) ≡ true
   pub routes : RoutesStay (posted ∷ asked_for ∷ lost ∷ [])
-  pub commands : commands_of (posted ∷ asked_for ∷ lost ∷ []) ≡ Submit 1001 1 (codes "abc") ∷ Ask 1001 2 ∷ []
-  pub responses : responses_of (posted ∷ asked_for ∷ lost ∷ []) ≡ Submitted (New (Rejected 1 2)) ∷ Told (Ok None) ∷ []
+  pub commands : commands_of (posted ∷ asked_for ∷ lost ∷ []) ≡ Submit 1001 1 (codes "abc") ∷ Pose (Ask 1001 2) ∷ []
+  pub responses : responses_of (posted ∷ asked_for ∷ lost ∷ []) ≡ Submitted (New (Rejected 1 2)) ∷ Replied (Ask 1001 2) (Ok None) ∷ []
   pub told : replies (posted ∷ asked_for ∷ []) ≡ posted.reply ++ asked_for.reply
   -- no other request is read there, and none of the three is left out
   pub never_another : (rest : List ℕ) → Comes 4 posting_bytes (asked_for ∷ []) rest → ⊥

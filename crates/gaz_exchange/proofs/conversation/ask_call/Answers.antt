@@ -1,21 +1,22 @@
+use Rattle.std.specs.Prelude.{refl}
 use Rattle.gaz_hub.specs.Hubs.{told, told_all}
-use Rattle.gaz_hub.specs.Step.{Submitted, Told, Stands, LookedUp, Extracted, Listed}
+use Rattle.gaz_hub.specs.Step.{Submitted, Replied, Ask, Stand, LookUp, Extract, ListClosed}
 use Rattle.gaz_exchange.proofs.conversation.ask_call.Goals as goal
 
 pub returns-in-Submit-clause-asked : goal.returns-in-Submit-clause-asked
 returns-in-Submit-clause-asked g c = rw c.in-Submit.is (Submitted c.submit.result, c.submit.ensures.steps, c.into.ensures)
 
 pub returns-in-Ask-clause-asked : goal.returns-in-Ask-clause-asked
-returns-in-Ask-clause-asked g c = rw c.in-Ask.is (Told c.outcome.result, c.outcome.ensures.steps, c.told.ensures)
+returns-in-Ask-clause-asked g c = rw c.in-Ask.is (_, c.outcome.ensures.steps, c.told.ensures)
 
 pub returns-in-Stand-clause-asked : goal.returns-in-Stand-clause-asked
-returns-in-Stand-clause-asked g c = rw c.in-Stand.is (Stands c.status.result, c.status.ensures.steps, c.stands.ensures)
+returns-in-Stand-clause-asked g c = rw c.in-Stand.is (_, c.status.ensures.steps, c.stands.ensures)
 
 pub returns-in-LookUp-clause-asked : goal.returns-in-LookUp-clause-asked
-returns-in-LookUp-clause-asked g c = rw c.in-LookUp.is (LookedUp c.lookup.result, c.lookup.ensures.steps, c.found.ensures)
+returns-in-LookUp-clause-asked g c = rw c.in-LookUp.is (_, c.lookup.ensures.steps, c.found.ensures)
 
 pub returns-in-Extract-clause-asked : goal.returns-in-Extract-clause-asked
-returns-in-Extract-clause-asked g c = rw c.in-Extract.is (Extracted (told c.extract.result), c.extract.ensures.steps, c.extracted.ensures)
+returns-in-Extract-clause-asked g c = rw c.in-Extract.is (_, c.extract.ensures.steps, c.extracted.ensures)
 
 pub returns-in-ListClosed-clause-asked : goal.returns-in-ListClosed-clause-asked
-returns-in-ListClosed-clause-asked g c = rw c.in-ListClosed.is (Listed (told_all c.closed_streets.result), c.closed_streets.ensures.steps, c.listed.ensures)
+returns-in-ListClosed-clause-asked g c = rw c.in-ListClosed.is (_, c.closed_streets.ensures.steps, c.listed.ensures)
