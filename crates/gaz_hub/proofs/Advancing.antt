@@ -19,8 +19,9 @@ use Rattle.gaz_views.specs.declared.verdict.Verdict.{Verdict}
 use Rattle.gaz_rules.specs.Bases.{are_reached, judged_on}
 use Rattle.gaz_rules.specs.Judges.{IsReady, Judges}
 use Rattle.gaz_rules.specs.Judging.{bases_of, judge}
+use Rattle.gaz_extract.specs.Readings.{Looks}
 use Rattle.gaz_hub.specs.Hubs.{AreKnown, StandsFor, door_of}
-use Rattle.gaz_hub.specs.Settling.{Advances, IsAll, IsNext, Looks, Tells, Tries}
+use Rattle.gaz_hub.specs.Settling.{Advances, IsAll, IsNext, Tells, Tries}
 use Rattle.gaz_hub.specs.Standing.{Follows, Leads, NothingReady, Register, judge_one, judgement_after, next_reading, ready, with_next}
 use Rattle.gaz_hub.specs.Step.{Door, blocks}
 use Rattle.gaz_hub.specs.declared.looking.Next.{Next}

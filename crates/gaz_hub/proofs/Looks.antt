@@ -16,8 +16,9 @@ use Rattle.gaz_shelf.specs.declared.fault.ShelfFault.TheVariants.{Store}
 use Rattle.gaz_shelf.proofs.Keeping.{keeps_then}
 use Rattle.gaz_rules.specs.Bases.{are_reached}
 use Rattle.gaz_rules.specs.Judging.{bases_of}
+use Rattle.gaz_extract.specs.Readings.{Looks}
 use Rattle.gaz_hub.specs.Outcomes.{first_unreached, wants, wants_as}
-use Rattle.gaz_hub.specs.Settling.{IsNext, IsReadAs, Looks, wanted_by}
+use Rattle.gaz_hub.specs.Settling.{IsNext, IsReadAs, wanted_by}
 use Rattle.gaz_hub.specs.Standing.{next_reading, ready}
 use Rattle.gaz_hub.specs.declared.looking.Next.{Next}
 use Rattle.gaz_hub.specs.declared.looking.Next.TheVariants as next

@@ -5,8 +5,9 @@ use Rattle.std.specs.Option.{option_and_then}
 use Rattle.gaz_shelf.specs.Keeper.{Content, Seen}
 use Rattle.gaz_shelf.specs.declared.fault.ShelfFault.{ShelfFault}
 use Rattle.gaz_shelf.specs.declared.fault.ShelfFault.TheVariants.{Store}
+use Rattle.gaz_extract.specs.Readings.{Looks}
 use Rattle.gaz_hub.specs.Hubs.{MeetsDoor, Steps, cause_in, or_not_received, state_of}
-use Rattle.gaz_hub.specs.Settling.{AnswersSettled, Looks, Tells}
+use Rattle.gaz_hub.specs.Settling.{AnswersSettled, Tells}
 use Rattle.gaz_hub.specs.Standing.{NothingReady}
 use Rattle.gaz_hub.specs.Step.{Door, Pose, Question, Replied, Told, answer_to, question_refusal}
 use Rattle.gaz_hub.specs.declared.refusal.Refusal.{Refusal}

@@ -11,9 +11,10 @@ use Rattle.gaz_shelf.specs.Received.{Received}
 use Rattle.gaz_shelf.specs.declared.fault.ShelfFault.{ShelfFault}
 use Rattle.gaz_shelf.specs.declared.fault.ShelfFault.TheVariants.{Store}
 use Rattle.gaz_rules.specs.Bases.{are_reached}
+use Rattle.gaz_extract.specs.Readings.{Looks}
 use Rattle.gaz_hub.specs.Asked.{IsHeld, IsOutcome}
 use Rattle.gaz_hub.specs.Outcomes.{first_unreached, outcome_of, wants, wants_as}
-use Rattle.gaz_hub.specs.Settling.{Looks, SettlesAndCalls, Tells}
+use Rattle.gaz_hub.specs.Settling.{SettlesAndCalls, Tells}
 use Rattle.gaz_hub.specs.Standing.{NothingReady}
 use Rattle.gaz_hub.specs.Step.{Door}
 use Rattle.gaz_hub.specs.declared.outcome.Outcome.{Outcome}

@@ -1,12 +1,14 @@
 -- Which answers the received files give: those read off the standing board.
-use Rattle.std.specs.Prelude.{◌≡◌, ⊤, ℕ, not, ◌&&◌, if◌then◌else◌, is_none, List, [], ◌∷◌, Option, Some, None, Result, Ok, Err}
+use Rattle.std.specs.Prelude.{◌≡◌, ⊤, ℕ, not, ◌&&◌, if◌then◌else◌, is_none, List, [], ◌∷◌, Option}
+use Rattle.std.specs.Prelude.{Some, None, Result, Ok, Err}
 use Rattle.std.specs.FinMap as map
 use Rattle.gaz_shelf.specs.Received.{Received, with_file}
 use Rattle.gaz_hub.specs.Asked.{IsTaken}
 use Rattle.gaz_hub.specs.Outcomes.{outcome}
 use Rattle.gaz_hub.specs.Runs.{Run, is_answered_51}
 use Rattle.gaz_hub.specs.Standing.{IsPartial, standing}
-use Rattle.gaz_hub.specs.Step.{Command, Door, HubState, Pose, Question, Replied, Response, Submit, Submitted, Told, answer_to, blocks, door}
+use Rattle.gaz_hub.specs.Step.{Command, Door, HubState, Pose, Question, Replied, Response, Submit}
+use Rattle.gaz_hub.specs.Step.{Submitted, Told, answer_to, blocks, door}
 use Rattle.gaz_hub.specs.declared.answer.Answer.{Answer}
 use Rattle.gaz_hub.specs.declared.answer.Answer.TheVariants.{New, Repeat, Taken, Refused}
 use Rattle.gaz_hub.specs.declared.outcome.Outcome.{Outcome}
@@ -14,7 +16,8 @@ use Rattle.gaz_hub.specs.declared.refusal.Refusal.{Refusal}
 
 -- ---- what is received
 
--- with the file of a submission, where its place was free, it passed the door and wasn't answered 51
+-- with the file of a submission, where its place was free, it passed the door and wasn't answered
+-- 51
 abbrev pub then_received : Door → Received → Command → Response → Received
 then_received d F (Submit c volume bytes) (Submitted answer) =
     if is_none (map.get F (c, volume)) && (is_none (door d c volume bytes) && not (is_answered_51 answer))
@@ -52,7 +55,8 @@ abbrev pub IsReplyOff : Door → Received → (q : Question) → Result (Told q)
 IsReplyOff d F q (Ok told) = told ≡ answer_to q d.register (standing_hub d F)
 IsReplyOff d F q (Err r) = ⊤
 
--- the response, where these files were received before, is the one read off the standing board; ⊤ where it doesn't settle
+-- the response, where these files were received before, is the one read off the standing board; ⊤
+-- where it doesn't settle
 abbrev pub IsReadOff : Door → Received → Command → Response → Type 0
 IsReadOff d F (Submit c volume bytes) (Submitted answer) = IsAnswerOff d F c volume bytes answer
 IsReadOff d F (Pose q) (Replied p reply) = (p ≡ q) × IsReplyOff d F p reply

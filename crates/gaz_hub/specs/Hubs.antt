@@ -1,5 +1,6 @@
 -- A hub over a keeper: what each of its calls tells.
-use Rattle.std.specs.Prelude.{◌≡◌, ◌≤◌, ◌<◌, ◌⊎◌, ℕ, ◌==◌, Bool, true, false, not, IsSome, List, Option, Some, None, Result, Ok, Err}
+use Rattle.std.specs.Prelude.{◌≡◌, ◌≤◌, ◌<◌, ◌⊎◌, ℕ, ◌==◌, Bool, true, false, not, IsSome, List}
+use Rattle.std.specs.Prelude.{Option, Some, None, Result, Ok, Err}
 use Rattle.std.specs.Global.{Vec}
 use Rattle.std.specs.Option.{option_and_then, option_map, option_map_or}
 use Rattle.std.specs.FinMap as map
@@ -10,7 +11,8 @@ use Rattle.gaz_shelf.specs.Received.{Received}
 use Rattle.gaz_shelf.specs.Keeper.{Content, IsNotOpen, Seen}
 use Rattle.gaz_shelf.specs.declared.fault.ShelfFault.{ShelfFault}
 use Rattle.gaz_shelf.specs.declared.fault.ShelfFault.TheVariants.{Memory, Store}
-use Rattle.gaz_hub.specs.Step.{Command, Door, HubState, Replied, Response, Step, Submitted, early_refusal, refusal_at_door}
+use Rattle.gaz_hub.specs.Step.{Command, Door, HubState, Replied, Response, Step, Submitted}
+use Rattle.gaz_hub.specs.Step.{early_refusal, refusal_at_door}
 use Rattle.gaz_hub.specs.Runs.{Run}
 use Rattle.gaz_hub.specs.declared.answer.Answer.{Answer}
 use Rattle.gaz_hub.specs.declared.answer.Answer.TheVariants.{New, Repeat, Taken, Refused}
@@ -96,7 +98,8 @@ pub record MeetsDoor {K : Type 0} (d : Door) (old new : K) (command : Command) (
   -- nor is the keeper called where the door refuses
   pub unasked : IsSome (refusal_at_door d command) → new ≡ old
 
--- one call: where the keeper stood for a content before and nobody else wrote on it, a step of the hub on that content
+-- one call: where the keeper stood for a content before and nobody else wrote on it, a step of the
+-- hub on that content
 pub record Steps (d : Door) (old new : Seen) (command : Command) (response : Response) : Type 0 where
   pub harm : new.unharmed → old.unharmed
   pub stands : StandsFor d old → new.unharmed → StandsFor d new

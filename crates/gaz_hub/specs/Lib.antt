@@ -8,6 +8,7 @@ pub mod Answers
 pub mod Laws
 pub mod Readings
 pub mod Settling
+pub mod Telling
 pub mod Asked
 pub mod Examples
 pub mod WorkedBoards

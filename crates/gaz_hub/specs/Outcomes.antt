@@ -1,5 +1,6 @@
 -- What a custodian is told of its files.
-use Rattle.std.specs.Prelude.{ℕ, ◌+◌, ◌==◌, nat_le, not, ◌&&◌, if◌then◌else◌, List, Option, Some, None}
+use Rattle.std.specs.Prelude.{ℕ, ◌+◌, ◌==◌, nat_le, not, ◌&&◌, if◌then◌else◌, List, Option, Some}
+use Rattle.std.specs.Prelude.{None}
 use Rattle.std.specs.Option.{option_map, option_map_or}
 use Rattle.std.specs.List.{find, count_by}
 use Rattle.std.specs.FinMap as map
@@ -19,7 +20,8 @@ use Rattle.gaz_hub.specs.declared.outcome.Outcome.TheVariants.{Applied, Rejected
 abbrev pub first_unreached : Board → List Basis → Option Basis
 first_unreached B bases = find (λ d. not (nat_le d.volume (reached B d.custodian))) bases
 
--- what a custodian's next volume waits for: itself where it wasn't received, else the first basis line that isn't reached
+-- what a custodian's next volume waits for: itself where it wasn't received, else the first basis
+-- line that isn't reached
 abbrev pub wants_as : Board → ℕ → Option Reading → Option (ℕ × ℕ)
 wants_as B c None = Some (c, reached B c + 1)
 wants_as B c (Some r) = option_map (λ d. (d.custodian, d.volume)) (first_unreached B (bases_of r))
@@ -32,7 +34,8 @@ abbrev pub outcome_of : Verdict → Outcome
 outcome_of verdict.Applied = Applied
 outcome_of (verdict.Rejected place rule) = Rejected place rule
 
--- the outcome of a received file: its verdict where it is judged, else what its custodian's next volume waits for
+-- the outcome of a received file: its verdict where it is judged, else what its custodian's next
+-- volume waits for
 abbrev pub outcome : Received → Board → ℕ → ℕ → Option Outcome
 outcome F B c volume =
     option_map_or (λ v. Some (outcome_of v)) (verdict_on B c volume) (option_map (λ w. Held w.0 w.1) (wants F B c))

@@ -8,9 +8,11 @@ use Rattle.gaz_shelf.specs.Received.{Received}
 use Rattle.gaz_views.specs.View.{holds}
 use Rattle.gaz_hub.specs.Runs.{Run}
 use Rattle.gaz_hub.specs.Standing.{HasAllOf, IsPartial, Register, standing}
-use Rattle.gaz_hub.specs.Step.{Command, Door, HubState, Pose, Question, Replied, Response, Step, Told, new_hub}
+use Rattle.gaz_hub.specs.Step.{Command, Door, HubState, Pose, Question, Replied, Response, Step}
+use Rattle.gaz_hub.specs.Step.{Told, new_hub}
 
--- whatever came before, and in whatever order: two hubs with equal received sets answer a question equally, wherever both answer it
+-- whatever came before, and in whatever order: two hubs with equal received sets answer a question
+-- equally, wherever both answer it
 abbrev pub EqualAnswers : Type 0
 EqualAnswers = (d : Door) (one other : HubState) (commands others : List Command) (responses replies : List Response) (q : Question) (told heard : Told q)
     → Run d new_hub (commands ++ Pose q ∷ []) (responses ++ Replied q (Ok told) ∷ []) one

@@ -1,12 +1,14 @@
 -- Whole runs of a hub, and what holds after each.
-use Rattle.std.specs.Prelude.{◌≡◌, ℕ, Bool, true, false, not, ◌&&◌, if◌then◌else◌, List, [], ◌∷◌, ◌++◌, is_none, is_ok, Option, Some, None}
+use Rattle.std.specs.Prelude.{◌≡◌, ℕ, Bool, true, false, not, ◌&&◌, if◌then◌else◌, List, [], ◌∷◌}
+use Rattle.std.specs.Prelude.{◌++◌, is_none, is_ok, Option, Some, None}
 use Rattle.std.specs.Option.{option_or}
 use Rattle.std.specs.Ordering.{eq_by_cmp}
 use Rattle.std.specs.FinMap as map
 use Rattle.gaz_shelf.specs.Received.{pair_cmp}
 use Rattle.gaz_hub.specs.Standing.{IsPartial, IsPrefixOf, NothingReady, standing}
 use Rattle.gaz_hub.specs.Outcomes.{outcome}
-use Rattle.gaz_hub.specs.Step.{Command, Door, HubState, Replied, Response, Step, Submit, Submitted, blocks, door, new_hub}
+use Rattle.gaz_hub.specs.Step.{Command, Door, HubState, Replied, Response, Step, Submit, Submitted}
+use Rattle.gaz_hub.specs.Step.{blocks, door, new_hub}
 use Rattle.gaz_hub.specs.declared.answer.Answer.{Answer}
 use Rattle.gaz_hub.specs.declared.answer.Answer.TheVariants.{New, Repeat, Taken, Refused}
 use Rattle.gaz_hub.specs.declared.outcome.Outcome.{Outcome}
@@ -62,7 +64,8 @@ first_received d p _ _ = None
 
 -- ---- the laws of whole runs
 
--- what is received is what was there before and then what came first, and the board is partial over it
+-- what is received is what was there before and then what came first, and the board is partial over
+-- it
 pub record AbidesFrom (d : Door) (old : HubState) (commands : List Command) (responses : List Response) (hub : HubState) : Type 0 where
   pub first : (p : ℕ × ℕ) → map.get hub.received p ≡ option_or (map.get old.received p) (first_received d p commands responses)
   pub partial : IsPartial (blocks d) hub.received hub.board
@@ -92,7 +95,8 @@ pub record Abides (d : Door) (commands : List Command) (responses : List Respons
   pub first : (p : ℕ × ℕ) → map.get hub.received p ≡ first_received d p commands responses
   pub partial : IsPartial (blocks d) hub.received hub.board
 
--- what is received comes first and the board is partial, whatever commands come to a hub that begins with nothing
+-- what is received comes first and the board is partial, whatever commands come to a hub that
+-- begins with nothing
 abbrev pub EveryRun : Type 0
 EveryRun = (d : Door) (commands : List Command) (responses : List Response) (hub : HubState) → Run d new_hub commands responses hub → Abides d commands responses hub
 
@@ -113,6 +117,7 @@ EveryRepeat = (d : Door) (old new : HubState) (c volume : ℕ) (bytes : List ℕ
 abbrev pub JudgementsStay : Type 0
 JudgementsStay = (d : Door) (old new : HubState) (command : Command) (response : Response) → Step d old command response new → (c : ℕ) → IsPrefixOf (old.board c) (new.board c)
 
--- two runs that end settled and with equal received sets leave equal hubs, whatever came and in whatever order
+-- two runs that end settled and with equal received sets leave equal hubs, whatever came and in
+-- whatever order
 abbrev pub EqualReceived : Type 0
 EqualReceived = (d : Door) (one other : HubState) → SettledRun d one → SettledRun d other → other.received ≡ one.received → other ≡ one

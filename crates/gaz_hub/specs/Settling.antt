@@ -1,11 +1,13 @@
 -- Settling over a keeper: what a look at a custodian's next volume finds, and what judging adds.
-use Rattle.std.specs.Prelude.{◌≡◌, ◌≤◌, ◌<◌, ◌+◌, ◌*◌, ◌⊎◌, ⊤, ℕ, nat_le, if◌then◌else◌, true, false, length, List, [], ◌∷◌, Option, Some, None, Result, Ok, Err, OnOk, IfOk, IfErr}
+use Rattle.std.specs.Prelude.{◌≡◌, ◌≤◌, ◌<◌, ◌+◌, ◌*◌, ◌⊎◌, ⊤, ℕ, nat_le, if◌then◌else◌, true}
+use Rattle.std.specs.Prelude.{false, length, List, [], ◌∷◌, Option, Some, None, Result, Ok, Err}
+use Rattle.std.specs.Prelude.{OnOk, IfOk, IfErr}
 use Rattle.std.specs.FinMap as map
 use Rattle.gaz_changefile.specs.Contents.{Contents}
 use Rattle.gaz_changefile.specs.Reading.{Good, Bad, reading}
 use Rattle.gaz_register.specs.Registers.{RegisterValue}
 use Rattle.gaz_shelf.specs.Board.{Board, reached}
-use Rattle.gaz_shelf.specs.Keeper.{Counts, IsNotOpen, Keeps, Seen}
+use Rattle.gaz_shelf.specs.Keeper.{IsNotOpen, Seen}
 use Rattle.gaz_shelf.specs.Received.{Received}
 use Rattle.gaz_shelf.specs.declared.fault.ShelfFault.{ShelfFault}
 use Rattle.gaz_shelf.specs.declared.fault.ShelfFault.TheVariants.{Store}
@@ -20,12 +22,6 @@ use Rattle.gaz_hub.specs.declared.looking.Next.{Next}
 use Rattle.gaz_hub.specs.declared.looking.Next.TheVariants as next
 
 -- ---- looking
-
--- calls that read: the answer is right, and the content is as it was
-pub record Looks {T : Type 0} (old new : Seen) (result : Result T ShelfFault) (IsRight : T → Type 0) : Type 0 where
-  pub keeps : Keeps old new
-  pub right : old.stands → new.unharmed → IfOk result IsRight
-  pub counts : Counts old new result
 
 -- a custodian's next volume, and its bytes where it was received
 abbrev pub IsNextFile : Received → Board → ℕ → NextFile → Type 0
@@ -89,7 +85,8 @@ judged_by (k ∷ register) B = capped (reached B k.code) + judged_by register B
 abbrev pub IsAll : Door → Board → ℕ → Type 0
 IsAll d B left = 999999 * length d.register ≤ judged_by d.register B + left
 
--- a call that judges at most so many of what is ready among some custodians, and tells how many; where none was, the board is as before
+-- a call that judges at most so many of what is ready among some custodians, and tells how many;
+-- where none was, the board is as before
 pub record Tries (d : Door) (left : ℕ) (old new : Seen) (result : Result ℕ ShelfFault) (IsAmong : ℕ → Type 0) : Type 0 where
   pub advances : Advances d (judged_in result) old new
   pub within : IfOk result (λ n. n ≤ left)

@@ -1,7 +1,8 @@
--- Which files are judged, and what is left when all is settled.
--- Judging one ready file is a step; `Follows` is its closure (any number of steps), a board on which nothing is ready is a normal form,
--- and `any_order` says that there is one normal form, the standing board.
-use Rattle.std.specs.Prelude.{◌≡◌, ℕ, zero, suc, ◌+◌, ◌==◌, nat_le, Bool, false, ◌&&◌, if◌then◌else◌, IsTrue, List, [], ◌∷◌, ◌++◌, Some, Option}
+-- Which files are judged, and what is left when all is settled. Judging one ready file is a step;
+-- `Follows` is its closure (any number of steps), a board on which nothing is ready is a normal
+-- form, and `any_order` says that there is one normal form, the standing board.
+use Rattle.std.specs.Prelude.{◌≡◌, ℕ, zero, suc, ◌+◌, ◌==◌, nat_le, Bool, false, ◌&&◌}
+use Rattle.std.specs.Prelude.{if◌then◌else◌, IsTrue, List, [], ◌∷◌, ◌++◌, Some, Option}
 use Rattle.std.specs.Option.{option_map, option_map_or}
 use Rattle.std.specs.FinMap as map
 use Rattle.gaz_changefile.specs.Reading.{Reading, reading}
@@ -53,7 +54,8 @@ standing G F = rounds G F (map.len F) empty_board
 
 -- ---- runs
 
--- judging the next files of these custodians, one at a time and each when it is ready, leads from B to C
+-- judging the next files of these custodians, one at a time and each when it is ready, leads from B
+-- to C
 abbrev pub Leads : Register → Received → Board → List ℕ → Board → Type 0
 Leads G F B [] C = C ≡ B
 Leads G F B (c ∷ cs) C = IsTrue (ready F B c) × Leads G F (judge_one G F B c) cs C

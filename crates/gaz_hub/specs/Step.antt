@@ -1,5 +1,6 @@
 -- What a hub may do at a command.
-use Rattle.std.specs.Prelude.{◌≡◌, ◌≢◌, ℕ, nat_le, Bool, not, ◌&&◌, if◌then◌else◌, List, length, Option, Some, None, Result, Ok, Err}
+use Rattle.std.specs.Prelude.{◌≡◌, ◌≢◌, ℕ, nat_le, Bool, not, ◌&&◌, if◌then◌else◌, List, length}
+use Rattle.std.specs.Prelude.{Option, Some, None, Result, Ok, Err}
 use Rattle.std.specs.Option.{option_and_then, option_map}
 use Rattle.std.specs.FinMap as map
 use Rattle.sha2.specs.Sha256.{sha256}
@@ -40,8 +41,9 @@ new_hub = record { received = map.empty; board = empty_board }
 
 -- ---- what is asked, and what is told
 
--- the digest and the outcome of a volume; how far a custodian is judged; nothing but settling; a property looked up by its UPRN;
--- a custodian's view after a volume; approved addresses on streets that others closed
+-- the digest and the outcome of a volume; how far a custodian is judged; nothing but settling; a
+-- property looked up by its UPRN; a custodian's view after a volume; approved addresses on streets
+-- that others closed
 pub data Question : Type 0 where
   Ask : ℕ → ℕ → Question
   Stand : ℕ → Question

@@ -1,5 +1,6 @@
 -- Worked examples of boards with a file that is applied, and with one that rests on it.
-use Rattle.std.specs.Prelude.{◌≡◌, ◌==◌, true, false, List, [], ◌∷◌, ◌++◌, ℕ, if◌then◌else◌, codes, Some, None}
+use Rattle.std.specs.Prelude.{◌≡◌, ◌==◌, true, false, List, [], ◌∷◌, ◌++◌, ℕ, if◌then◌else◌, codes}
+use Rattle.std.specs.Prelude.{Some, None}
 use Rattle.std.specs.FinMap as map
 use Rattle.gaz_changefile.specs.Reading.{Good, Reading, reading}
 use Rattle.gaz_views.specs.Examples.{one_street}

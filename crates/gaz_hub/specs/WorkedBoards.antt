@@ -10,11 +10,14 @@ use Rattle.gaz_shelf.specs.Examples.{two_judged}
 use Rattle.gaz_views.specs.View.{empty_view}
 use Rattle.gaz_views.specs.declared.verdict.Verdict.TheVariants.{Applied, Rejected}
 use Rattle.gaz_rules.specs.Examples.{file_of, insertion}
-use Rattle.gaz_hub.specs.Standing.{HasAllOf, Follows, IsPartial, IsPrefixOf, Leads, NothingReady, StandsSettled, judge_one, judgement_after, next_reading, ready, round, rounds, standing, with_next}
+use Rattle.gaz_hub.specs.Standing.{HasAllOf, Follows, IsPartial, IsPrefixOf, Leads, NothingReady}
+use Rattle.gaz_hub.specs.Standing.{StandsSettled, judge_one, judgement_after, next_reading, ready}
+use Rattle.gaz_hub.specs.Standing.{round, rounds, standing, with_next}
 use Rattle.gaz_shelf.specs.Received.{pair_cmp, with_file}
 use Rattle.gaz_rules.specs.Bases.{are_reached, basis_views}
 use Rattle.gaz_hub.specs.Sample.{sample_register}
-use Rattle.gaz_hub.specs.Examples.{all_sent, first_sent, no_text, no_text_judged, of_1003, one_judged, sent, sent_by_two, three_judged}
+use Rattle.gaz_hub.specs.Examples.{all_sent, first_sent, no_text, no_text_judged, of_1003}
+use Rattle.gaz_hub.specs.Examples.{one_judged, sent, sent_by_two, three_judged}
 
 pub record WorkedReceived : Type 0 where
   pub by_custodian : pair_cmp (1001, 9) (1002, 1) ≡ Less

@@ -1,4 +1,5 @@
--- Worked examples on a hub over a register. What a file's profile is, the worked examples on profiles compute.
+-- Worked examples on a hub over a register. What a file's profile is, the worked examples on
+-- profiles compute.
 use Rattle.std.specs.Prelude.{◌≡◌, ℕ, true, false, List, [], ◌∷◌, Some, None, Ok, Err, codes}
 use Rattle.gaz_changefile.specs.Profile.{profile_of}
 use Rattle.gaz_register.specs.Registers.{RegisterValue, within}
@@ -16,7 +17,9 @@ use Rattle.gaz_hub.specs.declared.looking.Next.{Next}
 use Rattle.gaz_hub.specs.declared.looking.Next.TheVariants.{Bad, Done, Waits}
 use Rattle.gaz_hub.specs.declared.looking.NextFile.TheVariants.{Missing, Past}
 use Rattle.gaz_hub.specs.declared.outcome.Outcome.TheVariants.{Rejected}
-use Rattle.gaz_hub.specs.declared.refusal.Refusal.TheVariants.{UnknownCustodian, BadVolume, TooLarge, NotReceived, ReceivedUnsettled}
+use Rattle.gaz_hub.specs.declared.refusal.Refusal.TheVariants.{UnknownCustodian, BadVolume}
+use Rattle.gaz_hub.specs.declared.refusal.Refusal.TheVariants.{TooLarge, NotReceived}
+use Rattle.gaz_hub.specs.declared.refusal.Refusal.TheVariants.{ReceivedUnsettled}
 
 -- a register of two custodians
 abbrev pub upper_and_lower : RegisterValue

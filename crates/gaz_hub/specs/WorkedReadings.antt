@@ -9,7 +9,8 @@ use Rattle.gaz_hub.specs.Examples.{gap_hub, late_hub}
 use Rattle.gaz_hub.specs.Hubs.{cause_of, told, told_all, or_not_received}
 use Rattle.gaz_hub.specs.Runs.{is_settled}
 use Rattle.gaz_hub.specs.Sample.{sample_door}
-use Rattle.gaz_hub.specs.Step.{Command, Extract, HubState, ListClosed, LookUp, Pose, Replied, Response, Step, early_refusal}
+use Rattle.gaz_hub.specs.Step.{Command, Extract, HubState, ListClosed, LookUp, Pose, Replied}
+use Rattle.gaz_hub.specs.Step.{Response, Step, early_refusal}
 use Rattle.gaz_hub.specs.declared.refusal.Refusal.TheVariants as refusal
 
 -- from one state of a hub over the sample register to another

@@ -3,8 +3,11 @@ use Rattle.std.specs.Prelude.{◌≡◌, true, false, List, [], ◌∷◌, Some,
 use Rattle.gaz_shelf.specs.declared.fault.ShelfFault.TheVariants as fault
 use Rattle.std.specs.FinMap as map
 use Rattle.gaz_hub.specs.Answers.{AllReadOff, IsReadOff, received_by, then_received}
-use Rattle.gaz_hub.specs.Runs.{Abides, ChangesNothing, Run, accepted, first_received, is_answered_51, is_not_received, is_settled, is_settled_answer, same_pair}
-use Rattle.gaz_hub.specs.Step.{Ask, Command, HubState, Pose, Replied, Response, Settle, Stand, Submit, Submitted, new_hub}
+use Rattle.gaz_hub.specs.Runs.{Abides, ChangesNothing, Run, accepted, first_received}
+use Rattle.gaz_hub.specs.Runs.{is_answered_51, is_not_received, is_settled, is_settled_answer}
+use Rattle.gaz_hub.specs.Runs.{same_pair}
+use Rattle.gaz_hub.specs.Step.{Ask, Command, HubState, Pose, Replied, Response, Settle, Stand}
+use Rattle.gaz_hub.specs.Step.{Submit, Submitted, new_hub}
 use Rattle.gaz_hub.specs.Sample.{sample_door}
 use Rattle.gaz_hub.specs.declared.answer.Answer.TheVariants.{New, Repeat, Taken, Refused}
 use Rattle.gaz_hub.specs.declared.outcome.Outcome.TheVariants.{Rejected, Held}
@@ -30,7 +33,8 @@ pub record WorkedResponses : Type 0 where
   pub another_volume : same_pair (1003, 1) (1003, 2) ≡ false
   pub another_custodian : same_pair (1003, 1) (1002, 1) ≡ false
 
--- three files came as volume 1 of custodian 1003: the first was answered 51, the second was received
+-- three files came as volume 1 of custodian 1003: the first was answered 51, the second was
+-- received
 abbrev pub commands : List Command
 commands = Submit 1003 1 (97 ∷ []) ∷ Submit 1003 1 (98 ∷ []) ∷ Submit 1003 1 (99 ∷ []) ∷ []
 

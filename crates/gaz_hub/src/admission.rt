@@ -2,7 +2,7 @@
 ghost use Rattle.std.specs.Prelude.{◌≡◌, IfOk, IfErr, Some, None, true, false};
 ghost use Rattle.gaz_register.specs.Registers.{knows};
 ghost use Rattle.gaz_hub.specs.Hubs.{door_of, is_foreign};
-ghost use Rattle.gaz_hub.specs.Step.{door, turned_away};
+ghost use Rattle.gaz_hub.specs.Step.{turned_away};
 
 use crate::refusal::Refusal;
 use gaz_changefile::{KNOWN_PROFILE, profile_of};
@@ -12,7 +12,8 @@ use std::alloc::{AllocError, Global};
 
 /// The code, where the register has it.
 pub fn known_code(register: &Register, code: u64) -> Result<Code, Refusal>
-    ensures refused { IfErr result (λ r. (r ≡ Refusal.UnknownCustodian) × (knows register.now code ≡ false)) }
+    ensures refused { IfErr result (λ r. (r ≡ Refusal.UnknownCustodian)
+        × (knows register.now code ≡ false)) }
     ensures known { IfOk result (λ c. (c ≡ code) × (knows register.now code ≡ true)) }
 {
     match register.code_of(code) {
@@ -28,8 +29,10 @@ pub fn at_door(
     volume: u64,
     size: usize,
 ) -> Result<(Code, Volume), Refusal>
-    ensures refused { IfErr result (λ r. turned_away (door_of register.now) code volume size ≡ Some r) }
-    ensures let_in { IfOk result (λ p. (turned_away (door_of register.now) code volume size ≡ None) × (p ≡ (code, volume))) }
+    ensures refused { IfErr result (λ r.
+        turned_away (door_of register.now) code volume size ≡ Some r) }
+    ensures let_in { IfOk result (λ p.
+        (turned_away (door_of register.now) code volume size ≡ None) × (p ≡ (code, volume))) }
 {
     let code = known_code(register, code)?;
     let Some(volume) = Volume::of(volume) else {

@@ -1,12 +1,12 @@
 //! How questions of outcomes and standings are answered.
 ghost use Rattle.std.specs.Prelude.{◌≡◌, Some, None};
 ghost use Rattle.gaz_shelf.specs.Board.{reached};
-ghost use Rattle.gaz_shelf.specs.Keeper.{IsNotOpen};
 ghost use Rattle.gaz_hub.specs.Asked.{IsToldNow};
-ghost use Rattle.gaz_hub.specs.Hubs.{MeetsDoor, Steps, door_of};
+ghost use Rattle.gaz_hub.specs.Hubs.{MeetsDoor, door_of};
 ghost use Rattle.gaz_hub.specs.Outcomes.{held_count, status};
-ghost use Rattle.gaz_hub.specs.Settling.{Looks};
 ghost use Rattle.gaz_hub.specs.Step.{Ask, Pose, Replied, Stand};
+ghost use Rattle.gaz_extract.specs.Readings.{IsNotJudging};
+ghost use Rattle.gaz_hub.specs.Telling.{LooksAtKept, RepliesTo};
 
 use crate::admission::{at_door, known_code};
 use crate::answer::Digest as FileDigest;
@@ -28,7 +28,8 @@ fn tell_of<K: Inbox>(
     code: Code,
     volume: Volume,
 ) -> Result<Option<(FileDigest, Outcome)>, ShelfFault>
-    ensures { Looks (K.seen keeper.old) (K.seen keeper.new) result (IsToldNow (K.seen keeper.old).content.files (K.seen keeper.old).content.board code volume) }
+    ensures { LooksAtKept K.seen keeper.old keeper.new result
+        (λ files board. IsToldNow files board code volume) }
 {
     let Some(there) = keeper.received(code, volume)? else {
         return Ok(None);
@@ -45,9 +46,11 @@ pub fn ask<K: Inbox>(
     code: u64,
     volume: u64,
 ) -> Result<Option<(FileDigest, Outcome)>, Refusal>
-    requires { IsNotOpen (K.seen keeper.old).progress }
-    ensures steps { Steps (door_of register.now) (K.seen keeper.old) (K.seen keeper.new) (Pose (Ask code volume)) (Replied (Ask code volume) result) }
-    ensures door { MeetsDoor (door_of register.now) keeper.old keeper.new (Pose (Ask code volume)) (Replied (Ask code volume) result) }
+    requires { IsNotJudging K.seen keeper.old }
+    ensures steps { RepliesTo K.seen register.now keeper.old keeper.new
+        (Ask code volume) result }
+    ensures door { MeetsDoor (door_of register.now) keeper.old keeper.new
+        (Pose (Ask code volume)) (Replied (Ask code volume) result) }
 {
     let (code, volume) = match at_door(register, code, volume, 0) {
         Ok(pair) => pair,
@@ -59,7 +62,8 @@ pub fn ask<K: Inbox>(
 
 // How many files of a custodian are judged, and how many aren't.
 fn count_files<K: Inbox>(keeper: &mut K, code: Code) -> Result<(u64, u64), ShelfFault>
-    ensures { Looks (K.seen keeper.old) (K.seen keeper.new) result (λ n. n ≡ (reached (K.seen keeper.old).content.board code, held_count (K.seen keeper.old).content.files (K.seen keeper.old).content.board code)) }
+    ensures { LooksAtKept K.seen keeper.old keeper.new result
+        (λ files board n. n ≡ (reached board code, held_count files board code)) }
 {
     let judged = keeper.reached(code)?;
     let held = keeper.held(code)?;
@@ -72,7 +76,8 @@ fn status_of<K: Inbox>(
     keeper: &mut K,
     custodian: Code,
 ) -> Result<Standing, ShelfFault>
-    ensures { Looks (K.seen keeper.old) (K.seen keeper.new) result (λ s. s ≡ status (K.seen keeper.old).content.files (K.seen keeper.old).content.board custodian) }
+    ensures { LooksAtKept K.seen keeper.old keeper.new result
+        (λ files board s. s ≡ status files board custodian) }
 {
     let (judged, held) = count_files(keeper, custodian)?;
     let wants = wants(alloc, keeper, custodian)?;
@@ -91,9 +96,11 @@ pub fn stand<K: Inbox>(
     keeper: &mut K,
     code: u64,
 ) -> Result<Standing, Refusal>
-    requires { IsNotOpen (K.seen keeper.old).progress }
-    ensures steps { Steps (door_of register.now) (K.seen keeper.old) (K.seen keeper.new) (Pose (Stand code)) (Replied (Stand code) result) }
-    ensures door { MeetsDoor (door_of register.now) keeper.old keeper.new (Pose (Stand code)) (Replied (Stand code) result) }
+    requires { IsNotJudging K.seen keeper.old }
+    ensures steps { RepliesTo K.seen register.now keeper.old keeper.new
+        (Stand code) result }
+    ensures door { MeetsDoor (door_of register.now) keeper.old keeper.new
+        (Pose (Stand code)) (Replied (Stand code) result) }
 {
     let custodian = match known_code(register, code) {
         Ok(custodian) => custodian,

@@ -1,7 +1,9 @@
 ghost use Rattle.std.specs.Prelude.{◌≡◌};
-ghost use Rattle.gaz_shelf.specs.Keeper.{IsNotOpen, Seen};
-ghost use Rattle.gaz_hub.specs.Hubs.{MeetsDoor, Steps, door_of, told, told_all, or_not_received};
-ghost use Rattle.gaz_hub.specs.Step.{Ask, Extract, ListClosed, LookUp, Pose, Replied, Settle, Stand, Submit, Submitted};
+ghost use Rattle.gaz_hub.specs.Hubs.{MeetsDoor, door_of, told, told_all, or_not_received};
+ghost use Rattle.gaz_hub.specs.Step.{Ask, Extract, ListClosed, LookUp, Pose, Replied, Settle};
+ghost use Rattle.gaz_hub.specs.Step.{Stand, Submit, Submitted};
+ghost use Rattle.gaz_extract.specs.Readings.{IsNotJudging};
+ghost use Rattle.gaz_hub.specs.Telling.{RepliesTo, StepsTo};
 
 use crate::answer::{Answer, Digest};
 use crate::asking::{ask, stand};
@@ -19,9 +21,10 @@ use std::alloc::Global;
 
 /// A hub of the custodians of a register, which keeps files and board in a keeper.
 ///
-/// Each call that the door lets in settles first: it judges what is ready, until nothing is. What a call does is said of the content of
-/// the keeper, where it stands for one and nobody else wrote on it up to the call's end. Whom the door refuses, and by what, is said
-/// whatever the keeper stands for; the keeper isn't called then.
+/// Each call that the door lets in settles first: it judges what is ready, until nothing is. What a
+/// call does is said of the content of the keeper, where it stands for one and nobody else wrote on
+/// it up to the call's end. Whom the door refuses, and by what, is said whatever the keeper stands
+/// for; the keeper isn't called then.
 #[derive(Drop)]
 pub struct Hub<K: Inbox + Drop> {
     alloc: Global,
@@ -32,7 +35,7 @@ pub struct Hub<K: Inbox + Drop> {
 impl<K: Inbox + Drop> Hub<K> {
     /// A hub over a keeper in which no judgement is in progress.
     pub fn new(alloc: Global, register: Register, keeper: K) -> Hub<K>
-        requires { IsNotOpen (K.seen keeper).progress }
+        requires { IsNotJudging K.seen keeper }
         ensures register { result.register ≡ register }
         ensures keeper { result.keeper ≡ keeper }
     {
@@ -66,12 +69,15 @@ impl<K: Inbox + Drop> Hub<K> {
 
     /// Submits a file as a volume of a custodian.
     ///
-    /// The first file of a pair that passes the door is received, whatever it holds, and stays. A file has at most 1,048,576
-    /// bytes, and names no profile but 1. `NotReceived` and `ReceivedUnsettled` carry the keeper's fault, or want of memory.
+    /// The first file of a pair that passes the door is received, whatever it holds, and stays. A
+    /// file has at most 1,048,576 bytes, and names no profile but 1. `NotReceived` and
+    /// `ReceivedUnsettled` carry the keeper's fault, or want of memory.
     pub fn submit(&mut self, code: u64, volume: u64, file: &[u8]) -> Answer
-        requires idle { IsNotOpen (K.seen self.old.keeper).progress }
-        ensures steps { Steps (door_of self.old.register) (K.seen self.old.keeper) (K.seen self.new.keeper) (Submit code volume file.now) (Submitted result) }
-        ensures door { MeetsDoor (door_of self.old.register) self.old.keeper self.new.keeper (Submit code volume file.now) (Submitted result) }
+        requires idle { IsNotJudging K.seen self.old.keeper }
+        ensures steps { StepsTo K.seen self.old.register self.old.keeper self.new.keeper
+            (Submit code volume file.now) (Submitted result) }
+        ensures door { MeetsDoor (door_of self.old.register) self.old.keeper self.new.keeper
+            (Submit code volume file.now) (Submitted result) }
         ensures register { self.new.register ≡ self.old.register }
     {
         submit_file(
@@ -86,9 +92,11 @@ impl<K: Inbox + Drop> Hub<K> {
 
     /// The digest and the outcome of a volume, where it was received.
     pub fn outcome(&mut self, code: u64, volume: u64) -> Result<Option<(Digest, Outcome)>, Refusal>
-        requires idle { IsNotOpen (K.seen self.old.keeper).progress }
-        ensures steps { Steps (door_of self.old.register) (K.seen self.old.keeper) (K.seen self.new.keeper) (Pose (Ask code volume)) (Replied (Ask code volume) result) }
-        ensures door { MeetsDoor (door_of self.old.register) self.old.keeper self.new.keeper (Pose (Ask code volume)) (Replied (Ask code volume) result) }
+        requires idle { IsNotJudging K.seen self.old.keeper }
+        ensures steps { RepliesTo K.seen self.old.register self.old.keeper self.new.keeper
+            (Ask code volume) result }
+        ensures door { MeetsDoor (door_of self.old.register) self.old.keeper self.new.keeper
+            (Pose (Ask code volume)) (Replied (Ask code volume) result) }
         ensures register { self.new.register ≡ self.old.register }
     {
         ask(self.alloc, &self.register, &mut self.keeper, code, volume)
@@ -96,18 +104,22 @@ impl<K: Inbox + Drop> Hub<K> {
 
     /// How far a custodian's files are judged.
     pub fn status(&mut self, code: u64) -> Result<Standing, Refusal>
-        requires idle { IsNotOpen (K.seen self.old.keeper).progress }
-        ensures steps { Steps (door_of self.old.register) (K.seen self.old.keeper) (K.seen self.new.keeper) (Pose (Stand code)) (Replied (Stand code) result) }
-        ensures door { MeetsDoor (door_of self.old.register) self.old.keeper self.new.keeper (Pose (Stand code)) (Replied (Stand code) result) }
+        requires idle { IsNotJudging K.seen self.old.keeper }
+        ensures steps { RepliesTo K.seen self.old.register self.old.keeper self.new.keeper
+            (Stand code) result }
+        ensures door { MeetsDoor (door_of self.old.register) self.old.keeper self.new.keeper
+            (Pose (Stand code)) (Replied (Stand code) result) }
         ensures register { self.new.register ≡ self.old.register }
     {
         stand(self.alloc, &self.register, &mut self.keeper, code)
     }
 
-    /// Judges until nothing is ready: all custodians are looked at by rising code, again and again, until none is.
+    /// Judges until nothing is ready: all custodians are looked at by rising code, again and again,
+    /// until none is.
     pub fn settle(&mut self) -> Result<(), ShelfFault>
-        requires idle { IsNotOpen (K.seen self.old.keeper).progress }
-        ensures steps { Steps (door_of self.old.register) (K.seen self.old.keeper) (K.seen self.new.keeper) (Pose Settle) (Replied Settle (or_not_received result)) }
+        requires idle { IsNotJudging K.seen self.old.keeper }
+        ensures steps { RepliesTo K.seen self.old.register self.old.keeper self.new.keeper
+            Settle (or_not_received result) }
         ensures register { self.new.register ≡ self.old.register }
     {
         settle(self.alloc, &self.register, &mut self.keeper)
@@ -115,29 +127,37 @@ impl<K: Inbox + Drop> Hub<K> {
 
     /// Where a property stands now and how it is addressed; none where it stands with no custodian.
     pub fn lookup(&mut self, uprn: Uprn) -> Result<Option<Found>, Refusal>
-        requires idle { IsNotOpen (K.seen self.old.keeper).progress }
-        ensures steps { Steps (door_of self.old.register) (K.seen self.old.keeper) (K.seen self.new.keeper) (Pose (LookUp uprn)) (Replied (LookUp uprn) result) }
-        ensures door { MeetsDoor (door_of self.old.register) self.old.keeper self.new.keeper (Pose (LookUp uprn)) (Replied (LookUp uprn) result) }
+        requires idle { IsNotJudging K.seen self.old.keeper }
+        ensures steps { RepliesTo K.seen self.old.register self.old.keeper self.new.keeper
+            (LookUp uprn) result }
+        ensures door { MeetsDoor (door_of self.old.register) self.old.keeper self.new.keeper
+            (Pose (LookUp uprn)) (Replied (LookUp uprn) result) }
         ensures register { self.new.register ≡ self.old.register }
     {
         look_up(self.alloc, &self.register, &mut self.keeper, uprn)
     }
 
-    /// A custodian's view after a volume, as the text of an extract; none where the volume isn't reached.
+    /// A custodian's view after a volume, as the text of an extract; none where the volume isn't
+    /// reached.
     pub fn extract(&mut self, code: u64, volume: u64) -> Result<Option<Vec<u8>>, Refusal>
-        requires idle { IsNotOpen (K.seen self.old.keeper).progress }
-        ensures steps { Steps (door_of self.old.register) (K.seen self.old.keeper) (K.seen self.new.keeper) (Pose (Extract code volume)) (Replied (Extract code volume) (told result)) }
-        ensures door { MeetsDoor (door_of self.old.register) self.old.keeper self.new.keeper (Pose (Extract code volume)) (Replied (Extract code volume) (told result)) }
+        requires idle { IsNotJudging K.seen self.old.keeper }
+        ensures steps { RepliesTo K.seen self.old.register self.old.keeper self.new.keeper
+            (Extract code volume) (told result) }
+        ensures door { MeetsDoor (door_of self.old.register) self.old.keeper self.new.keeper
+            (Pose (Extract code volume)) (Replied (Extract code volume) (told result)) }
         ensures register { self.new.register ≡ self.old.register }
     {
         extract_of(self.alloc, &self.register, &mut self.keeper, code, volume)
     }
 
-    /// The approved addresses on streets that other custodians closed, by custodian and then by the LPI's key.
+    /// The approved addresses on streets that other custodians closed, by custodian and then by the
+    /// LPI's key.
     pub fn closed_streets(&mut self) -> Result<Vec<Closed>, Refusal>
-        requires idle { IsNotOpen (K.seen self.old.keeper).progress }
-        ensures steps { Steps (door_of self.old.register) (K.seen self.old.keeper) (K.seen self.new.keeper) (Pose ListClosed) (Replied ListClosed (told_all result)) }
-        ensures door { MeetsDoor (door_of self.old.register) self.old.keeper self.new.keeper (Pose ListClosed) (Replied ListClosed (told_all result)) }
+        requires idle { IsNotJudging K.seen self.old.keeper }
+        ensures steps { RepliesTo K.seen self.old.register self.old.keeper self.new.keeper
+            ListClosed (told_all result) }
+        ensures door { MeetsDoor (door_of self.old.register) self.old.keeper self.new.keeper
+            (Pose ListClosed) (Replied ListClosed (told_all result)) }
         ensures register { self.new.register ≡ self.old.register }
     {
         list_closed(self.alloc, &self.register, &mut self.keeper)

@@ -1,8 +1,11 @@
 //! Laws over the definitions alone: whichever ready file is judged first, whatever commands come.
 ghost use Rattle.gaz_hub.specs.Answers.{EveryAnswer};
-ghost use Rattle.gaz_hub.specs.Laws.{AllSound, CallsMakeRuns, EachIsTold, EveryAnswerOver, EveryRunFromOver, EveryRunOver, EverySettledRunFromOver, EverySettledRunOver};
+ghost use Rattle.gaz_hub.specs.Laws.{AllSound, CallsMakeRuns, EachIsTold, EveryAnswerOver};
+ghost use Rattle.gaz_hub.specs.Laws.{EveryRunFromOver, EveryRunOver, EverySettledRunFromOver};
+ghost use Rattle.gaz_hub.specs.Laws.{EverySettledRunOver};
 ghost use Rattle.gaz_hub.specs.Readings.{EqualAnswers, ExtractsStay, OneHolder};
-ghost use Rattle.gaz_hub.specs.Runs.{EqualReceived, EveryRepeat, EveryRun, EveryRunFrom, EverySettledRun, EverySettledRunFrom, JudgementsStay};
+ghost use Rattle.gaz_hub.specs.Runs.{EqualReceived, EveryRepeat, EveryRun, EveryRunFrom};
+ghost use Rattle.gaz_hub.specs.Runs.{EverySettledRun, EverySettledRunFrom, JudgementsStay};
 ghost use Rattle.gaz_hub.specs.Standing.{AnyOrder, MoreFiles, StandingIsSettled};
 ghost use Rattle.gaz_hub.specs.WorkedAnswers.{WorkedAnswers};
 ghost use Rattle.gaz_hub.specs.WorkedBases.{WorkedBases};
@@ -14,12 +17,14 @@ ghost use Rattle.gaz_hub.specs.WorkedSteps.{WorkedSteps};
 
 use gaz_shelf::Inbox;
 
-/// Every partial board with nothing ready is the standing one, whichever ready file was judged first.
+/// Every partial board with nothing ready is the standing one, whichever ready file was judged
+/// first.
 pub fn any_order()
     ensures { AnyOrder }
 {}
 
-/// The standing board is itself reached by judging ready files one at a time, and nothing is ready on it.
+/// The standing board is itself reached by judging ready files one at a time, and nothing is ready
+/// on it.
 pub fn standing_is_settled()
     ensures { StandingIsSettled }
 {}
@@ -29,8 +34,8 @@ pub fn more_files()
     ensures { MoreFiles }
 {}
 
-/// Whatever commands come to a hub whose board is partial, what is received is what was there and then what came first, and the board
-/// stays partial over it.
+/// Whatever commands come to a hub whose board is partial, what is received is what was there and
+/// then what came first, and the board stays partial over it.
 pub fn every_run_from()
     ensures { EveryRunFrom }
 {}
@@ -40,12 +45,14 @@ pub fn every_settled_run_from()
     ensures { EverySettledRunFrom }
 {}
 
-/// Each response of such a hub that settles is the one read off the standing board of the files that are received by then.
+/// Each response of such a hub that settles is the one read off the standing board of the files
+/// that are received by then.
 pub fn every_answer()
     ensures { EveryAnswer }
 {}
 
-/// Whatever commands come to a hub that begins with nothing, what is received is what came first, and the board is partial over it.
+/// Whatever commands come to a hub that begins with nothing, what is received is what came first,
+/// and the board is partial over it.
 pub fn every_run()
     ensures { EveryRun }
 {}
@@ -65,7 +72,8 @@ pub fn judgements_stay()
     ensures { JudgementsStay }
 {}
 
-/// Two runs that end settled and with equal received sets leave equal boards, whatever came and in whatever order.
+/// Two runs that end settled and with equal received sets leave equal boards, whatever came and in
+/// whatever order.
 pub fn equal_received()
     ensures { EqualReceived }
 {}
@@ -75,13 +83,14 @@ pub fn all_sound()
     ensures { AllSound }
 {}
 
-/// On a board on which nothing is ready each received file has an outcome, and a hub that is asked for one tells nothing only where
-/// nothing was received.
+/// On a board on which nothing is ready each received file has an outcome, and a hub that is asked
+/// for one tells nothing only where nothing was received.
 pub fn each_is_told()
     ensures { EachIsTold }
 {}
 
-/// Two hubs that received the same give the same answer to each question, whatever came and in whatever order.
+/// Two hubs that received the same give the same answer to each question, whatever came and in
+/// whatever order.
 pub fn equal_answers()
     ensures { EqualAnswers }
 {}
@@ -101,7 +110,8 @@ pub fn calls_make_runs<K: Inbox>()
     ensures { CallsMakeRuns K.seen }
 {}
 
-/// Whatever commands come, over any keeper that stood for a partial run of files of known custodians, it stands for one.
+/// Whatever commands come, over any keeper that stood for a partial run of files of known
+/// custodians, it stands for one.
 pub fn every_run_from_over<K: Inbox>()
     ensures { EveryRunFromOver K.seen }
 {}
@@ -111,17 +121,20 @@ pub fn every_settled_run_from_over<K: Inbox>()
     ensures { EverySettledRunFromOver K.seen }
 {}
 
-/// Each response that settles, over any such keeper, is the one read off the standing board of the files that are received by then.
+/// Each response that settles, over any such keeper, is the one read off the standing board of the
+/// files that are received by then.
 pub fn every_answer_over<K: Inbox>()
     ensures { EveryAnswerOver K.seen }
 {}
 
-/// Whatever commands come, over any keeper that began with nothing, it stands for what came first and for a board that is partial over it.
+/// Whatever commands come, over any keeper that began with nothing, it stands for what came first
+/// and for a board that is partial over it.
 pub fn every_run_over<K: Inbox>()
     ensures { EveryRunOver K.seen }
 {}
 
-/// After a response that settles, over any keeper that began with nothing, the board is the standing one.
+/// After a response that settles, over any keeper that began with nothing, the board is the
+/// standing one.
 pub fn every_settled_run_over<K: Inbox>()
     ensures { EverySettledRunOver K.seen }
 {}

@@ -1,10 +1,11 @@
 //! What a custodian's next volume is, and what it waits for.
-ghost use Rattle.std.specs.Prelude.{◌≡◌, ◌≤◌, ◌+◌, IfErr, IfOk};
-ghost use Rattle.gaz_changefile.specs.Reading.{Bad, Good, reading};
+ghost use Rattle.std.specs.Prelude.{◌≡◌, ◌≤◌, ◌+◌};
+ghost use Rattle.gaz_changefile.specs.Reading.{Bad, Good};
 ghost use Rattle.gaz_shelf.specs.Board.{reached};
-ghost use Rattle.gaz_shelf.specs.Keeper.{Seen};
-ghost use Rattle.gaz_hub.specs.Settling.{Looks, IsNext, IsNextFile, IsReadAs, IsWeighed, wanted_by};
+ghost use Rattle.gaz_hub.specs.Settling.{IsNext, IsNextFile, IsReadAs, IsWeighed, wanted_by};
 ghost use Rattle.gaz_hub.specs.Outcomes.{first_unreached, wants};
+ghost use Rattle.gaz_extract.specs.Readings.{LooksAtBoard};
+ghost use Rattle.gaz_hub.specs.Telling.{LooksAtKept};
 
 use gaz_changefile::{Basis, ChangeFile, FileFault, read_file};
 use gaz_ids::{Code, LAST_VOLUME, Volume};
@@ -49,7 +50,8 @@ impl Next {
 
 /// The next volume of a custodian, and its bytes where it was received.
 pub fn next_file<K: Inbox>(keeper: &mut K, code: Code) -> Result<NextFile, ShelfFault>
-    ensures { Looks (K.seen keeper.old) (K.seen keeper.new) result (IsNextFile (K.seen keeper.old).content.files (K.seen keeper.old).content.board code) }
+    ensures { LooksAtKept K.seen keeper.old keeper.new result
+        (λ files board. IsNextFile files board code) }
 {
     let reached = keeper.reached(code)?;
     if reached >= LAST_VOLUME {
@@ -66,7 +68,8 @@ pub fn next_file<K: Inbox>(keeper: &mut K, code: Code) -> Result<NextFile, Shelf
 
 /// The first basis line whose volume isn't reached.
 fn first_unreached<K: Shelf>(keeper: &mut K, bases: &[Basis]) -> Result<Option<Basis>, ShelfFault>
-    ensures { Looks (K.seen keeper.old) (K.seen keeper.new) result (λ basis. basis ≡ first_unreached (K.seen keeper.old).content.board bases.now) }
+    ensures { LooksAtBoard K.seen keeper.old keeper.new result
+        (λ board basis. basis ≡ first_unreached board bases.now) }
 {
     for basis in bases {
         if keeper.reached(basis.custodian)? < basis.volume.number() {
@@ -78,7 +81,8 @@ fn first_unreached<K: Shelf>(keeper: &mut K, bases: &[Basis]) -> Result<Option<B
 
 /// What is to become of a good file.
 fn weigh<K: Shelf>(keeper: &mut K, file: ChangeFile) -> Result<Next, ShelfFault>
-    ensures { Looks (K.seen keeper.old) (K.seen keeper.new) result (IsWeighed (K.seen keeper.old).content.board file) }
+    ensures { LooksAtBoard K.seen keeper.old keeper.new result
+        (λ board. IsWeighed board file) }
 {
     match first_unreached(keeper, &file.bases)? {
         Some(basis) => Ok(Next::Waits(basis.custodian, basis.volume)),
@@ -96,7 +100,8 @@ fn read_next<K: Shelf>(
     volume: Volume,
     bytes: &[u8],
 ) -> Result<Next, ShelfFault>
-    ensures { Looks (K.seen keeper.old) (K.seen keeper.new) result (IsReadAs (K.seen keeper.old).content.board code volume bytes.now) }
+    ensures { LooksAtBoard K.seen keeper.old keeper.new result
+        (λ board. IsReadAs board code volume bytes.now) }
 {
     match read_file(alloc, bytes, code, volume) {
         Ok(file) => weigh(keeper, file),
@@ -107,7 +112,8 @@ fn read_next<K: Shelf>(
 
 /// What is to become of a custodian's next volume.
 pub fn look<K: Inbox>(alloc: Global, keeper: &mut K, code: Code) -> Result<Next, ShelfFault>
-    ensures { Looks (K.seen keeper.old) (K.seen keeper.new) result (IsNext (K.seen keeper.old).content.files (K.seen keeper.old).content.board code) }
+    ensures { LooksAtKept K.seen keeper.old keeper.new result
+        (λ files board. IsNext files board code) }
 {
     match next_file(keeper, code)? {
         NextFile::Past => Ok(Next::Done),
@@ -122,7 +128,8 @@ pub fn wants<K: Inbox>(
     keeper: &mut K,
     code: Code,
 ) -> Result<Option<(Code, Volume)>, ShelfFault>
-    ensures { Looks (K.seen keeper.old) (K.seen keeper.new) result (λ w. w ≡ wants (K.seen keeper.old).content.files (K.seen keeper.old).content.board code) }
+    ensures { LooksAtKept K.seen keeper.old keeper.new result
+        (λ files board w. w ≡ wants files board code) }
 {
     let next = look(alloc, keeper, code)?;
     Ok(next.wanted())

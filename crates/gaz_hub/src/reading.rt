@@ -1,7 +1,9 @@
-//! What is read off a settled board: where a property stands, whole views, and addresses on closed streets.
-ghost use Rattle.gaz_shelf.specs.Keeper.{IsNotOpen, Seen};
-ghost use Rattle.gaz_hub.specs.Hubs.{MeetsDoor, Steps, door_of, told, told_all};
+//! What is read off a settled board: where a property stands, whole views, and addresses on closed
+//! streets.
+ghost use Rattle.gaz_hub.specs.Hubs.{MeetsDoor, door_of, told, told_all};
 ghost use Rattle.gaz_hub.specs.Step.{Extract, ListClosed, LookUp, Pose, Replied};
+ghost use Rattle.gaz_extract.specs.Readings.{IsNotJudging};
+ghost use Rattle.gaz_hub.specs.Telling.{RepliesTo};
 
 use crate::admission::at_door;
 use crate::refusal::Refusal;
@@ -19,9 +21,11 @@ pub fn look_up<K: Inbox>(
     keeper: &mut K,
     uprn: Uprn,
 ) -> Result<Option<Found>, Refusal>
-    requires { IsNotOpen (K.seen keeper.old).progress }
-    ensures steps { Steps (door_of register.now) (K.seen keeper.old) (K.seen keeper.new) (Pose (LookUp uprn)) (Replied (LookUp uprn) result) }
-    ensures door { MeetsDoor (door_of register.now) keeper.old keeper.new (Pose (LookUp uprn)) (Replied (LookUp uprn) result) }
+    requires { IsNotJudging K.seen keeper.old }
+    ensures steps { RepliesTo K.seen register.now keeper.old keeper.new
+        (LookUp uprn) result }
+    ensures door { MeetsDoor (door_of register.now) keeper.old keeper.new
+        (Pose (LookUp uprn)) (Replied (LookUp uprn) result) }
 {
     let read = |keeper: &mut K| lookup(alloc, keeper, register, uprn);
     answered(alloc, register, keeper, read)
@@ -35,9 +39,11 @@ pub fn extract_of<K: Inbox>(
     code: u64,
     volume: u64,
 ) -> Result<Option<Vec<u8>>, Refusal>
-    requires { IsNotOpen (K.seen keeper.old).progress }
-    ensures steps { Steps (door_of register.now) (K.seen keeper.old) (K.seen keeper.new) (Pose (Extract code volume)) (Replied (Extract code volume) (told result)) }
-    ensures door { MeetsDoor (door_of register.now) keeper.old keeper.new (Pose (Extract code volume)) (Replied (Extract code volume) (told result)) }
+    requires { IsNotJudging K.seen keeper.old }
+    ensures steps { RepliesTo K.seen register.now keeper.old keeper.new
+        (Extract code volume) (told result) }
+    ensures door { MeetsDoor (door_of register.now) keeper.old keeper.new
+        (Pose (Extract code volume)) (Replied (Extract code volume) (told result)) }
 {
     let (code, volume) = match at_door(register, code, volume, 0) {
         Ok(pair) => pair,
@@ -53,9 +59,11 @@ pub fn list_closed<K: Inbox>(
     register: &Register,
     keeper: &mut K,
 ) -> Result<Vec<Closed>, Refusal>
-    requires { IsNotOpen (K.seen keeper.old).progress }
-    ensures steps { Steps (door_of register.now) (K.seen keeper.old) (K.seen keeper.new) (Pose ListClosed) (Replied ListClosed (told_all result)) }
-    ensures door { MeetsDoor (door_of register.now) keeper.old keeper.new (Pose ListClosed) (Replied ListClosed (told_all result)) }
+    requires { IsNotJudging K.seen keeper.old }
+    ensures steps { RepliesTo K.seen register.now keeper.old keeper.new
+        ListClosed (told_all result) }
+    ensures door { MeetsDoor (door_of register.now) keeper.old keeper.new
+        (Pose ListClosed) (Replied ListClosed (told_all result)) }
 {
     let read = |keeper: &mut K| closed_streets(alloc, keeper, register);
     answered(alloc, register, keeper, read)

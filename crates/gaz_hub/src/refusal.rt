@@ -1,7 +1,8 @@
 use gaz_shelf::ShelfFault;
 use thiserror::Error;
 
-/// Why the hub didn't do what it was asked. The door's refusals, the first four, are looked for in this order and change nothing.
+/// Why the hub didn't do what it was asked. The door's refusals, the first four, are looked for in
+/// this order and change nothing.
 #[derive(Clone, Copy, Debug, PartialEq, Eq, Error)]
 pub enum Refusal {
     /// 11: the register doesn't hold the code.

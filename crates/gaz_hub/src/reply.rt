@@ -3,7 +3,7 @@ ghost use Rattle.std.specs.Prelude.{◌≡◌, Some, None};
 ghost use Rattle.sha2.specs.Sha256.{sha256};
 ghost use Rattle.gaz_hub.specs.Asked.{IsHeld, IsOutcome};
 ghost use Rattle.gaz_hub.specs.Outcomes.{outcome_of};
-ghost use Rattle.gaz_hub.specs.Settling.{Looks};
+ghost use Rattle.gaz_hub.specs.Telling.{LooksAtKept};
 
 use crate::answer::Digest as FileDigest;
 use crate::looking::wants;
@@ -36,7 +36,8 @@ pub fn tell<K: Inbox>(
     code: Code,
     volume: Volume,
 ) -> Result<Outcome, ShelfFault>
-    ensures { Looks (K.seen keeper.old) (K.seen keeper.new) result (IsOutcome (K.seen keeper.old).content.files (K.seen keeper.old).content.board code volume) }
+    ensures { LooksAtKept K.seen keeper.old keeper.new result
+        (λ files board. IsOutcome files board code volume) }
 {
     // From 1 to 999,999.
     let _number = volume.number();
@@ -53,7 +54,8 @@ fn tell_held<K: Inbox>(
     code: Code,
     volume: Volume,
 ) -> Result<Outcome, ShelfFault>
-    ensures { Looks (K.seen keeper.old) (K.seen keeper.new) result (IsHeld (K.seen keeper.old).content.files (K.seen keeper.old).content.board code) }
+    ensures { LooksAtKept K.seen keeper.old keeper.new result
+        (λ files board. IsHeld files board code) }
 {
     match wants(alloc, keeper, code)? {
         Some((custodian, volume)) => Ok(Outcome::Held { custodian, volume }),

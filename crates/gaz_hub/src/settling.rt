@@ -2,9 +2,9 @@
 ghost use Rattle.std.specs.Prelude.{◌≡◌, ◌≤◌, ⊤, true, IfErr, OnOk};
 ghost use Rattle.std.specs.Fn.{FnOnceReturnsAtMut, FnOnceTakesAtMut};
 ghost use Rattle.gaz_register.specs.Registers.{knows};
-ghost use Rattle.gaz_shelf.specs.Keeper.{IsNotOpen, Seen};
 ghost use Rattle.gaz_hub.specs.Hubs.{door_of};
 ghost use Rattle.gaz_hub.specs.Settling.{AnswersSettled, SettlesAndCalls, TakesIdle, Tells, Tries};
+ghost use Rattle.gaz_extract.specs.Readings.{IsNotJudging};
 
 use crate::looking::{Next, look};
 use crate::refusal::Refusal;
@@ -33,8 +33,9 @@ fn judge_next<K: Inbox>(
     code: Code,
     left: u64,
 ) -> Result<u64, ShelfFault>
-    requires { IsNotOpen (K.seen keeper.old).progress }
-    ensures { Tries (door_of register.now) left (K.seen keeper.old) (K.seen keeper.new) result (λ c. c ≡ code) }
+    requires { IsNotJudging K.seen keeper.old }
+    ensures { Tries (door_of register.now) left (K.seen keeper.old) (K.seen keeper.new) result
+        (λ c. c ≡ code) }
 {
     let next = look(alloc, keeper, code)?;
     match &next {
@@ -52,15 +53,17 @@ fn judge_next<K: Inbox>(
     }
 }
 
-/// Looks at all custodians by rising code, and judges the next volume of each that is ready; how many were judged, of at most `left`.
+/// Looks at all custodians by rising code, and judges the next volume of each that is ready; how
+/// many were judged, of at most `left`.
 fn settle_round<K: Inbox>(
     alloc: Global,
     register: &Register,
     keeper: &mut K,
     left: u64,
 ) -> Result<u64, ShelfFault>
-    requires { IsNotOpen (K.seen keeper.old).progress }
-    ensures { Tries (door_of register.now) left (K.seen keeper.old) (K.seen keeper.new) result (λ c. knows register.now c ≡ true) }
+    requires { IsNotJudging K.seen keeper.old }
+    ensures { Tries (door_of register.now) left (K.seen keeper.old) (K.seen keeper.new) result
+        (λ c. knows register.now c ≡ true) }
 {
     let custodians = register.custodians();
     let mut judged = 0;
@@ -72,15 +75,17 @@ fn settle_round<K: Inbox>(
 
 /// Judges until nothing is ready.
 ///
-/// At most 999,999 volumes of each custodian are judged, 399,999,600 in all; a content with more of them ready isn't lawful, and is answered `Store`.
+/// At most 999,999 volumes of each custodian are judged, 399,999,600 in all; a content with more of
+/// them ready isn't lawful, and is answered `Store`.
 /// Each round but the last judges a file, so that the rounds end by themselves.
 pub fn settle<K: Inbox>(
     alloc: Global,
     register: &Register,
     keeper: &mut K,
 ) -> Result<(), ShelfFault>
-    requires { IsNotOpen (K.seen keeper.old).progress }
-    ensures { Tells (door_of register.now) (K.seen keeper.old) (K.seen keeper.new) result (λ done. ⊤) }
+    requires { IsNotJudging K.seen keeper.old }
+    ensures { Tells (door_of register.now) (K.seen keeper.old) (K.seen keeper.new) result
+        (λ done. ⊤) }
 {
     let most = LAST_VOLUME * register.custodians().len() as u64;
     let mut left = most;
@@ -94,16 +99,19 @@ pub fn settle<K: Inbox>(
     Err(ShelfFault::Store)
 }
 
-/// What a reading tells, once all is settled. It may be any that can be made while no judgement is open.
+/// What a reading tells, once all is settled. It may be any that can be made while no judgement is
+/// open.
 pub fn settled<K: Inbox, T, F: FnOnce(&mut K) -> Result<T, ShelfFault>>(
     alloc: Global,
     register: &Register,
     keeper: &mut K,
     read: F,
 ) -> Result<T, ShelfFault>
-    requires idle { IsNotOpen (K.seen keeper.old).progress }
+    requires idle { IsNotJudging K.seen keeper.old }
     requires callable { TakesIdle K.seen (λ mid. FnOnceTakesAtMut F.FnOnce read mid) }
-    ensures { SettlesAndCalls (door_of register.now) K.seen (λ mid told after. FnOnceReturnsAtMut F.FnOnce read mid told after) keeper.old keeper.new result }
+    ensures { SettlesAndCalls (door_of register.now) K.seen
+        (λ mid told after. FnOnceReturnsAtMut F.FnOnce read mid told after)
+        keeper.old keeper.new result }
 {
     match settle(alloc, register, keeper) {
         Ok(()) => read(keeper),
@@ -111,16 +119,19 @@ pub fn settled<K: Inbox, T, F: FnOnce(&mut K) -> Result<T, ShelfFault>>(
     }
 }
 
-/// What a reading tells, once all is settled, as the reply to a question: a fault is `NotReceived` (51).
+/// What a reading tells, once all is settled, as the reply to a question: a fault is `NotReceived`
+/// (51).
 pub fn answered<K: Inbox, T, F: FnOnce(&mut K) -> Result<T, ShelfFault>>(
     alloc: Global,
     register: &Register,
     keeper: &mut K,
     read: F,
 ) -> Result<T, Refusal>
-    requires idle { IsNotOpen (K.seen keeper.old).progress }
+    requires idle { IsNotJudging K.seen keeper.old }
     requires callable { TakesIdle K.seen (λ mid. FnOnceTakesAtMut F.FnOnce read mid) }
-    ensures { AnswersSettled (door_of register.now) K.seen (λ mid told after. FnOnceReturnsAtMut F.FnOnce read mid told after) keeper.old keeper.new result }
+    ensures { AnswersSettled (door_of register.now) K.seen
+        (λ mid told after. FnOnceReturnsAtMut F.FnOnce read mid told after)
+        keeper.old keeper.new result }
 {
     match settled(alloc, register, keeper, read) {
         Ok(told) => Ok(told),

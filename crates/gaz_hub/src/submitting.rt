@@ -1,10 +1,10 @@
 //! How a submission is answered.
 ghost use Rattle.std.specs.Prelude.{◌≡◌, ◌↔◌, IfOk, IsTrue, Some, None, true, false};
-ghost use Rattle.gaz_shelf.specs.Keeper.{IsNotOpen};
 ghost use Rattle.gaz_hub.specs.Asked.{AnyIsPastDoor, IsAgain, IsOutcome, IsPastDoor, TakesIn};
-ghost use Rattle.gaz_hub.specs.Hubs.{MeetsDoor, Steps, door_of};
-ghost use Rattle.gaz_hub.specs.Settling.{Looks, Tells};
+ghost use Rattle.gaz_hub.specs.Hubs.{MeetsDoor, door_of};
 ghost use Rattle.gaz_hub.specs.Step.{Submit, Submitted, door};
+ghost use Rattle.gaz_extract.specs.Readings.{IsNotJudging};
+ghost use Rattle.gaz_hub.specs.Telling.{LooksAtKept, StepsTo, TellsKept};
 
 use crate::admission::{at_door, names_unknown_profile};
 use crate::answer::Answer;
@@ -31,7 +31,8 @@ fn answer_again<K: Inbox>(
     volume: Volume,
     file: &[u8],
 ) -> Result<Option<Answer>, ShelfFault>
-    ensures looks { Looks (K.seen keeper.old) (K.seen keeper.new) result (IsAgain (K.seen keeper.old).content.files (K.seen keeper.old).content.board code volume file.now) }
+    ensures looks { LooksAtKept K.seen keeper.old keeper.new result
+        (λ files board. IsAgain files board code volume file.now) }
     ensures past_door { IfOk result AnyIsPastDoor }
 {
     let Some(there) = keeper.received(code, volume)? else {
@@ -54,8 +55,9 @@ fn settle_and_answer<K: Inbox>(
     volume: Volume,
     file: &[u8],
 ) -> Result<Option<Answer>, ShelfFault>
-    requires { IsNotOpen (K.seen keeper.old).progress }
-    ensures tells { Tells (door_of register.now) (K.seen keeper.old) (K.seen keeper.new) result (IsAgain (K.seen keeper.new).content.files (K.seen keeper.new).content.board code volume file.now) }
+    requires { IsNotJudging K.seen keeper.old }
+    ensures tells { TellsKept K.seen register.now keeper.old keeper.new result
+        (λ files board. IsAgain files board code volume file.now) }
     ensures past_door { IfOk result AnyIsPastDoor }
 {
     settle(alloc, register, keeper)?;
@@ -70,8 +72,9 @@ fn settle_and_tell<K: Inbox>(
     code: Code,
     volume: Volume,
 ) -> Result<Outcome, ShelfFault>
-    requires { IsNotOpen (K.seen keeper.old).progress }
-    ensures { Tells (door_of register.now) (K.seen keeper.old) (K.seen keeper.new) result (IsOutcome (K.seen keeper.new).content.files (K.seen keeper.new).content.board code volume) }
+    requires { IsNotJudging K.seen keeper.old }
+    ensures { TellsKept K.seen register.now keeper.old keeper.new result
+        (λ files board. IsOutcome files board code volume) }
 {
     settle(alloc, register, keeper)?;
     tell(alloc, keeper, code, volume)
@@ -86,9 +89,10 @@ fn take_in<K: Inbox>(
     volume: Volume,
     file: &[u8],
 ) -> Answer
-    requires idle { IsNotOpen (K.seen keeper.old).progress }
+    requires idle { IsNotJudging K.seen keeper.old }
     requires let_in { door (door_of register.now) code volume file.now ≡ None }
-    ensures takes_in { TakesIn (door_of register.now) (K.seen keeper.old) (K.seen keeper.new) code volume file.now result }
+    ensures takes_in { TakesIn (door_of register.now) (K.seen keeper.old) (K.seen keeper.new)
+        code volume file.now result }
     ensures past_door { IsPastDoor result }
 {
     match keeper.receive(code, volume, file) {
@@ -110,9 +114,10 @@ fn submit_let_in<K: Inbox>(
     volume: Volume,
     file: &[u8],
 ) -> Answer
-    requires idle { IsNotOpen (K.seen keeper.old).progress }
+    requires idle { IsNotJudging K.seen keeper.old }
     requires let_in { door (door_of register.now) code volume file.now ≡ None }
-    ensures steps { Steps (door_of register.now) (K.seen keeper.old) (K.seen keeper.new) (Submit code volume file.now) (Submitted result) }
+    ensures steps { StepsTo K.seen register.now keeper.old keeper.new
+        (Submit code volume file.now) (Submitted result) }
     ensures past_door { IsPastDoor result }
 {
     match settle_and_answer(alloc, register, keeper, code, volume, file) {
@@ -131,9 +136,11 @@ pub fn submit_file<K: Inbox>(
     volume: u64,
     file: &[u8],
 ) -> Answer
-    requires { IsNotOpen (K.seen keeper.old).progress }
-    ensures steps { Steps (door_of register.now) (K.seen keeper.old) (K.seen keeper.new) (Submit code volume file.now) (Submitted result) }
-    ensures door { MeetsDoor (door_of register.now) keeper.old keeper.new (Submit code volume file.now) (Submitted result) }
+    requires { IsNotJudging K.seen keeper.old }
+    ensures steps { StepsTo K.seen register.now keeper.old keeper.new
+        (Submit code volume file.now) (Submitted result) }
+    ensures door { MeetsDoor (door_of register.now) keeper.old keeper.new
+        (Submit code volume file.now) (Submitted result) }
 {
     let (code, volume) = match at_door(register, code, volume, file.len()) {
         Ok(pair) => pair,
