@@ -1,5 +1,6 @@
 -- What a change makes of histories, of marks, of what is known, and of an account.
-use Rattle.std.specs.Prelude.{◌≡◌, ◌⊎◌, ◌-◌, ◌==◌, ◌||◌, ◌&&◌, ◌++◌, ◌∷◌, [], ℕ, Bool, true, false, not, if◌then◌else◌, List}
+use Rattle.std.specs.Prelude.{◌≡◌, ◌⊎◌, ◌-◌, ◌==◌, ◌||◌, ◌&&◌, ◌++◌, ◌∷◌, [], ℕ, Bool, true, false}
+use Rattle.std.specs.Prelude.{not, if◌then◌else◌, List}
 use Rattle.std.specs.Prelude.{Option, None, Some, option_map, slice_get, filter}
 use Rattle.std.specs.Option.{option_map_or}
 use Rattle.std.specs.Ordering.{eq_by_cmp}

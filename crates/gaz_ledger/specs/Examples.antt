@@ -10,7 +10,8 @@ use Rattle.gaz_views.specs.Examples.{blpu, lpi, street}
 use Rattle.gaz_views.specs.Judgements.{judgements}
 use Rattle.gaz_views.specs.View.{was_used}
 use Rattle.gaz_views.specs.declared.verdict.Verdict.TheVariants.{Applied, Rejected}
-use Rattle.gaz_ledger.specs.KeyHistories.{HasJustTheKeysOf, ItemVersions, KeyHistories, view_at, with_versions}
+use Rattle.gaz_ledger.specs.KeyHistories.{HasJustTheKeysOf, ItemVersions, KeyHistories, view_at}
+use Rattle.gaz_ledger.specs.KeyHistories.{with_versions}
 use Rattle.gaz_ledger.specs.Indexes.{marked_item, same_mark}
 use Rattle.gaz_ledger.specs.Properties.{is_address_of, is_blpu}
 use Rattle.gaz_ledger.specs.declared.index.Mark.TheVariants.{AddressOf, PartOf}

@@ -1,5 +1,6 @@
 -- A gazetteer through its volumes.
-use Rattle.std.specs.Prelude.{◌≡◌, ◌&&◌, ℕ, if◌then◌else◌, List, [], map, filter, Option, None, unwrap_or, option_map, is_some}
+use Rattle.std.specs.Prelude.{◌≡◌, ◌&&◌, ℕ, if◌then◌else◌, List, [], map, filter, Option, None}
+use Rattle.std.specs.Prelude.{unwrap_or, option_map, is_some}
 use Rattle.std.specs.FinMap as finite
 use Rattle.std.specs.FinSet as set
 use Rattle.std.specs.List.{filter_map, list_any}

@@ -17,8 +17,8 @@ use gaz_views::{Property, Verdict};
 use std::alloc::{AllocError, Global};
 use std::marker::Model;
 
-/// A custodian's ledger. Properties that have an address, or had one, stand beside it, so that a look-up finds both
-/// items by one search.
+/// A custodian's ledger. Properties that have an address, or had one, stand beside it, so that a
+/// look-up finds both items by one search.
 #[derive(Drop)]
 pub struct CachedLedger {
     ledger: Ledger,

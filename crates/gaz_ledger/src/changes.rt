@@ -88,8 +88,8 @@ fn note(leaving: &mut Vec<Leaving>, key: &Key, marks: &Marks, stays: &Marks)
     note_mark(leaving, key, marks.1, stays);
 }
 
-/// Sets an item at a key, under its marks, or takes the one that stands there, and notes the marks that are left
-/// without an item. Answers the marks of the item that stood there.
+/// Sets an item at a key, under its marks, or takes the one that stands there, and notes the marks
+/// that are left without an item. Answers the marks of the item that stood there.
 pub fn change(
     histories: &mut Histories,
     index: &mut Index,

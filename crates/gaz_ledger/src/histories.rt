@@ -90,8 +90,8 @@ impl Histories {
         Ok(page_of(alloc, &self.order, &self.by_key, volume, kind, after, most)?)
     }
 
-    /// From a volume on this item stands at a key, or none any more. What began there at the volume or after it is
-    /// forgotten. Answers the marks of the item that stood there.
+    /// From a volume on this item stands at a key, or none any more. What began there at the volume
+    /// or after it is forgotten. Answers the marks of the item that stood there.
     pub fn set(
         &mut self,
         volume: u64,
@@ -141,8 +141,8 @@ impl Histories {
     }
 }
 
-// From a volume on this item stands in a history, or none any more. Answers the marks of the item that stood there. The
-// first version of all needs no memory.
+// From a volume on this item stands in a history, or none any more. Answers the marks of the item
+// that stood there. The first version of all needs no memory.
 fn set_in(
     history: &mut History<SharedItem>,
     volume: u64,

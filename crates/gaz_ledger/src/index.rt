@@ -1,7 +1,8 @@
 //! Where a view's items are found beside their keys.
 ghost use Rattle.std.specs.Prelude.{◌≡◌, ◌⊎◌, [], true, OnOk, OnErr, Some};
 ghost use Rattle.std.specs.Option.{IfSome, option_map_or};
-ghost use Rattle.gaz_ledger.specs.Changing.{AddsUnder, IsUnderItsMarks, KeepsUnder, SameUnder, TakesUnder};
+ghost use Rattle.gaz_ledger.specs.Changing.{AddsUnder, IsUnderItsMarks, KeepsUnder, SameUnder};
+ghost use Rattle.gaz_ledger.specs.Changing.{TakesUnder};
 ghost use Rattle.gaz_ledger.specs.Indexes.{has_mark, is_under, keys_under, listed};
 ghost use Rattle.gaz_ledger.specs.declared.index.Mark.{Mark};
 
@@ -126,7 +127,8 @@ impl Index {
         Ok(())
     }
 
-    /// Adds a key under each mark of its item, where there is one. Where memory runs out, it may be under some of them.
+    /// Adds a key under each mark of its item, where there is one. Where memory runs out, it may be
+    /// under some of them.
     pub fn add_marks_of(&mut self, item: &Option<SharedItem>, key: &Key) -> Result<(), AllocError>
         ensures ok { OnOk result (IfSome item.now (IsUnderItsMarks self.new key.now)) }
         ensures kept { KeepsUnder self.old self.new }

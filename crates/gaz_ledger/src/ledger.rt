@@ -1,5 +1,6 @@
 //! One custodian's gazetteer through its volumes.
-ghost use Rattle.std.specs.Prelude.{◌≡◌, ◌<◌, ◌-◌, ◌^◌, ◌++◌, ◌∷◌, [], length, slice_get, IfOk, OnOk, OnErr};
+ghost use Rattle.std.specs.Prelude.{◌≡◌, ◌<◌, ◌-◌, ◌^◌, ◌++◌, ◌∷◌, [], length, slice_get, IfOk};
+ghost use Rattle.std.specs.Prelude.{OnOk, OnErr};
 ghost use Rattle.gaz_records.specs.Keys.{key_of};
 ghost use Rattle.gaz_views.specs.Accounts.{empty_account, last_of};
 ghost use Rattle.gaz_views.specs.View.{with_item, without_key};
@@ -14,8 +15,8 @@ use gaz_views::Verdict;
 use std::alloc::{AllocError, Global};
 use std::marker::Model;
 
-/// A custodian's judgements, those of the volumes 1, 2, 3, .., and the view that the next volume has
-/// made so far.
+/// A custodian's judgements, those of the volumes 1, 2, 3, .., and the view that the next volume
+/// has made so far.
 #[derive(Drop)]
 pub struct Ledger {
     alloc: Global,

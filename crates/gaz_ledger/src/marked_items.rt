@@ -100,8 +100,8 @@ pub fn first_marked<'a>(
     mark: &Mark,
     keys: &Keys,
 ) -> Option<&'a SharedItem>
-    ensures { option_map (λ i. i.now) result ≡ first_of
-        (filter_map (marked_item (entries (view_at histories.now volume)) mark.now) (listed keys.now)) }
+    ensures { option_map (λ i. i.now) result ≡ first_of (filter_map
+        (marked_item (entries (view_at histories.now volume)) mark.now) (listed keys.now)) }
 {
     match keys {
         Keys::One(key) => item_marked(histories, volume, mark, key),

@@ -5,8 +5,8 @@ ghost use Rattle.std.specs.Hash.FoldHasher as folding;
 
 use std::hash::{BuildHasher, FoldHasher, Hasher};
 
-/// Where the hashes of keys begin. Who picks keys and doesn't foresee the number can hardly pick some
-/// that collide; the hasher is a fast one, so that is no promise.
+/// Where the hashes of keys begin. Who picks keys and doesn't foresee the number can hardly pick
+/// some that collide; the hasher is a fast one, so that is no promise.
 #[derive(Clone, Copy)]
 pub struct Seed {
     start: FoldHasher,

@@ -1,7 +1,8 @@
 //! What is asked of a view, over its entries as they stand.
 ghost use Rattle.std.specs.Prelude.{◌≡◌, take, if◌then◌else◌, IfOk, None, option_map};
 ghost use Rattle.std.specs.List.Sorted.{IsStrictlySortedBy};
-ghost use Rattle.gaz_views.specs.Words.{comes_after, is_approved_of, is_approved_on, is_child_of, is_in, is_of};
+ghost use Rattle.gaz_views.specs.Words.{comes_after, is_approved_of, is_approved_on, is_child_of};
+ghost use Rattle.gaz_views.specs.Words.{is_in, is_of};
 ghost use Rattle.gaz_ledger.specs.KeyHistories.{item_of_kind, items_after, rows_at, with_versions};
 ghost use Rattle.gaz_ledger.specs.Ranges.{is_past, number_of, start_after};
 

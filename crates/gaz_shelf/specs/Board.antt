@@ -1,5 +1,6 @@
 -- The judgements of all custodians.
-use Rattle.std.specs.Prelude.{ℕ, zero, suc, ◌==◌, if◌then◌else◌, List, [], ◌∷◌, ◌++◌, length, slice_get, unwrap_or, Option, None, option_map}
+use Rattle.std.specs.Prelude.{ℕ, zero, suc, ◌==◌, if◌then◌else◌, List, [], ◌∷◌, ◌++◌, length}
+use Rattle.std.specs.Prelude.{slice_get, unwrap_or, Option, None, option_map}
 pub use Rattle.gaz_views.specs.Judgements.{Judgement, views}
 use Rattle.gaz_views.specs.View.{View, empty_view}
 use Rattle.gaz_views.specs.declared.verdict.Verdict.{Verdict}

@@ -1,5 +1,6 @@
 -- The calls of a keeper, counted, and the one that is to fail.
-use Rattle.std.specs.Prelude.{◌≡◌, ◌≢◌, ◌+◌, ◌-◌, ◌^◌, ◌==◌, ℕ, min, Bool, false, if◌then◌else◌, Some, None, Result, Err}
+use Rattle.std.specs.Prelude.{◌≡◌, ◌≢◌, ◌+◌, ◌-◌, ◌^◌, ◌==◌, ℕ, min, Bool, false, if◌then◌else◌}
+use Rattle.std.specs.Prelude.{Some, None, Result, Err}
 use Rattle.gaz_shelf.specs.declared.calls.Call.{Call}
 use Rattle.gaz_shelf.specs.declared.calls.Call.TheVariants as call
 use Rattle.gaz_shelf.specs.declared.calls.Calls.{Calls}
@@ -65,7 +66,8 @@ plan_from number = record { calls = no_calls; left = number; failed = None; fail
 abbrev pub failure_of : Plan → ShelfFault
 failure_of p = if p.failures == 2 ^ 64 - 1 then Memory else Store
 
--- a call of this kind is counted, and it fails where its number has come; else nothing fails here, unless its judgement was broken already
+-- a call of this kind is counted, and it fails where its number has come; else nothing fails here,
+-- unless its judgement was broken already
 pub record CountsAs {T : Type 0} (kind : Call) (old new : Plan) (broken : Bool) (result : Result T ShelfFault) : Type 0 where
   pub calls : new.calls ≡ counted kind old.calls
   pub left : new.left ≡ old.left - 1

@@ -1,5 +1,7 @@
 -- A keeper at one moment, and what each of its calls tells.
-use Rattle.std.specs.Prelude.{◌≡◌, ◌≢◌, ◌≤◌, ◌<◌, ◌+◌, ◌-◌, ◌^◌, ◌==◌, ◌⊎◌, ⊤, ℕ, Bool, true, if◌then◌else◌, List, [], Option, None, Some, IsSome, Result, Err, IfOk, IfErr, OnOk, OnErr, fold}
+use Rattle.std.specs.Prelude.{◌≡◌, ◌≢◌, ◌≤◌, ◌<◌, ◌+◌, ◌-◌, ◌^◌, ◌==◌, ◌⊎◌, ⊤, ℕ, Bool, true}
+use Rattle.std.specs.Prelude.{if◌then◌else◌, List, [], Option, None, Some, IsSome, Result, Err}
+use Rattle.std.specs.Prelude.{IfOk, IfErr, OnOk, OnErr, fold}
 use Rattle.std.specs.FinMap as map
 use Rattle.gaz_views.specs.Lawful.{IsLawfulView}
 use Rattle.gaz_views.specs.View.{View, empty_view, with_item}
@@ -14,7 +16,8 @@ use Rattle.gaz_views.specs.declared.verdict.Verdict.TheVariants.{Applied, Reject
 
 -- ---- what is kept
 
--- the files, the board, and the view that the judgement in progress has made so far, which is the empty one while none is
+-- the files, the board, and the view that the judgement in progress has made so far, which is the
+-- empty one while none is
 pub record Content : Type 0 where
   pub files : Received
   pub board : Board
@@ -118,7 +121,8 @@ view_of s c = viewed s.progress s.content c
 abbrev pub IsSound : Seen → Type 0
 IsSound s = s.unharmed → s.stands
 
--- nothing that it couldn't leave before, but for the content that the call commits, where it commits one and was unharmed
+-- nothing that it couldn't leave before, but for the content that the call commits, where it
+-- commits one and was unharmed
 abbrev pub LeavesAtMost : Option Content → Seen → Seen → Type 0
 LeavesAtMost None old new = (k : Content) → new.leaves k → old.leaves k
 LeavesAtMost (Some becomes) old new = (k : Content) → new.leaves k → old.leaves k ⊎ (old.unharmed × (k ≡ after_stop becomes))
@@ -156,7 +160,8 @@ pub record Reads {T : Type 0} (old new : Seen) (result : Result T ShelfFault) (I
   pub cleared : OnOk result (new.progress ≢ Broken)
   pub counts : Counts old new result
 
--- a call of a judgement: where what it asks is so, the content becomes this one; a fault breaks the judgement and undoes it
+-- a call of a judgement: where what it asks is so, the content becomes this one; a fault breaks the
+-- judgement and undoes it
 pub record Goes {T : Type 0} (old new : Seen) (result : Result T ShelfFault) (asked : Type 0) (becomes : Content) (commits : Option Content)
     (after : Progress) : Type 0 where
   pub harm : new.unharmed → old.unharmed
@@ -169,7 +174,8 @@ pub record Goes {T : Type 0} (old new : Seen) (result : Result T ShelfFault) (as
   pub leaves : IsSound old → asked → LeavesAtMost commits old new
   pub committed : old.stands → asked → new.unharmed → OnOk result (LeavesJust commits new)
 
--- a call while no judgement is in progress: where what it asks is so, the content becomes this one; a fault changes nothing
+-- a call while no judgement is in progress: where what it asks is so, the content becomes this one;
+-- a fault changes nothing
 pub record Enters {T : Type 0} (old new : Seen) (result : Result T ShelfFault) (asked : Type 0) (becomes : Content) : Type 0 where
   pub harm : new.unharmed → old.unharmed
   pub stands : old.stands → asked → new.unharmed → new.stands
@@ -185,7 +191,8 @@ pub record Enters {T : Type 0} (old new : Seen) (result : Result T ShelfFault) (
 abbrev pub Sets : {T : Type 0} → Seen → Seen → Result T ShelfFault → View → Type 0
 Sets old new result w = Goes old new result ⊤ (with_working old.content w) None old.progress
 
--- a broken judgement is refused, which is a failure: it is counted unless the count is at its last value
+-- a broken judgement is refused, which is a failure: it is counted unless the count is at its last
+-- value
 abbrev pub Refuses : {T : Type 0} → Seen → Result T ShelfFault → Type 0
 Refuses old result = old.progress ≡ Broken → result ≡ Err (if old.is_full then Memory else Store)
 

@@ -1,5 +1,6 @@
 -- What each call of a keeper tells of it before and after, where `seen` is how it is seen.
-use Rattle.std.specs.Prelude.{◌≡◌, ◌≤◌, ◌++◌, ⊤, ℕ, Bool, List, Option, None, Some, option_map, Result, fold}
+use Rattle.std.specs.Prelude.{◌≡◌, ◌≤◌, ◌++◌, ⊤, ℕ, Bool, List, Option, None, Some, option_map}
+use Rattle.std.specs.Prelude.{Result, fold}
 use Rattle.std.specs.FinMap as map
 use Rattle.std.specs.Global.{Vec}
 use Rattle.gaz_ids.specs.declared.lang.Lang.{Lang}
@@ -8,11 +9,13 @@ use Rattle.gaz_records.specs.declared.item.Kind.{Kind}
 use Rattle.gaz_records.specs.declared.key.Key.{Key}
 use Rattle.gaz_views.specs.Reading.{left_after}
 use Rattle.gaz_views.specs.View.{was_used, with_item, without_key}
-use Rattle.gaz_views.specs.Words.{approved_of, approved_on, has_children, page, property_of, rest_of}
+use Rattle.gaz_views.specs.Words.{approved_of, approved_on, has_children, page, property_of}
+use Rattle.gaz_views.specs.Words.{rest_of}
 use Rattle.gaz_views.specs.declared.property.Property.{Property}
 use Rattle.gaz_views.specs.declared.verdict.Verdict.{Verdict}
 use Rattle.gaz_shelf.specs.Board.{Board, reached, verdict_on, view_after}
-use Rattle.gaz_shelf.specs.Keeper.{Enters, Goes, Idle, IsAtHand, IsNew, Open, Reads, Seen, Sets, after_abandon, after_begin, after_keep, after_skip}
+use Rattle.gaz_shelf.specs.Keeper.{Enters, Goes, Idle, IsAtHand, IsNew, Open, Reads, Seen, Sets}
+use Rattle.gaz_shelf.specs.Keeper.{after_abandon, after_begin, after_keep, after_skip}
 use Rattle.gaz_shelf.specs.Keeper.{committed_by, view_of, with_received, written}
 use Rattle.gaz_shelf.specs.Received.{count_above}
 use Rattle.gaz_shelf.specs.declared.fault.ShelfFault.{ShelfFault}

@@ -88,11 +88,16 @@ impl Accounts {
         Ok(())
     }
 
-    /// Judges the next volume of a custodian that has an account: its working view is the view after it.
+    /// Judges the next volume of a custodian that has an account: its working view is the view
+    /// after it.
     pub fn close(&mut self, code: Code, verdict: Verdict) -> Result<(), AllocError>
-        ensures ok { OnOk result (board_of self.new.by_code.entries ≡ adds (board_of self.old.by_code.entries) code
-            (record { verdict = verdict; view = (account_of self.old.by_code.entries code).working })) }
-        ensures err { OnErr result (board_of self.new.by_code.entries ≡ board_of self.old.by_code.entries) }
+        ensures ok { OnOk result (board_of self.new.by_code.entries
+            ≡ adds (board_of self.old.by_code.entries) code (record {
+              verdict = verdict;
+              view = (account_of self.old.by_code.entries code).working;
+            })) }
+        ensures err { OnErr result (board_of self.new.by_code.entries
+            ≡ board_of self.old.by_code.entries) }
     {
         let Some(account) = self.by_code.get_mut(&code) else {
             return Err(AllocError);

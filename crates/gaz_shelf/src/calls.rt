@@ -149,7 +149,8 @@ impl Plan {
         ensures due { result ≡ (self.old.left == 1) }
         ensures calls { self.new.calls ≡ counted call self.old.calls }
         ensures left { self.new.left ≡ self.old.left - 1 }
-        ensures failed { self.new.failed ≡ (if self.old.left == 1 then Some call else self.old.failed) }
+        ensures failed { self.new.failed
+            ≡ (if self.old.left == 1 then Some call else self.old.failed) }
         ensures failures { self.new.failures ≡ self.old.failures }
     {
         self.calls.add(call);

@@ -1,4 +1,5 @@
-ghost use Rattle.std.specs.Prelude.{◌≡◌, ◌&&◌, ◌==◌, ℕ, nat_le, not, true, OnOk, OnErr, option_map, count_by};
+ghost use Rattle.std.specs.Prelude.{◌≡◌, ◌&&◌, ◌==◌, ℕ, nat_le, not, true, OnOk, OnErr, option_map};
+ghost use Rattle.std.specs.Prelude.{count_by};
 ghost use Rattle.std.specs.FinMap as map;
 ghost use Rattle.std.specs.BTreeMap.{keys};
 ghost use Rattle.std.specs.List.Sorted.{IsStrictlySortedBy};
@@ -36,7 +37,8 @@ impl FileBytes {
 pub struct Files {
     alloc: Global,
     by_pair: BTreeMap<(Code, Volume), FileBytes>,
-    // No file of a custodian is above this volume. Most questions are about files that aren't there yet, and end here.
+    // No file of a custodian is above this volume. Most questions are about files that aren't there
+    // yet, and end here.
     highest: BTreeMap<Code, Volume>,
 }
 
@@ -113,7 +115,8 @@ fn is_below(highest: &BTreeMap<Code, Volume>, code: Code, volume: Volume) -> boo
 // Lets the highest volume of a custodian be this one, if it isn't higher.
 fn raise(highest: &mut BTreeMap<Code, Volume>, code: Code, volume: Volume) -> Result<(), AllocError>
     ensures ok { OnOk result (is_below highest.new.entries code volume ≡ true) }
-    ensures kept { (c v : ℕ) → is_below highest.old.entries c v ≡ true → is_below highest.new.entries c v ≡ true }
+    ensures kept { (c v : ℕ) → is_below highest.old.entries c v ≡ true
+        → is_below highest.new.entries c v ≡ true }
 {
     if is_below(highest, code, volume) {
         return Ok(());
@@ -124,7 +127,8 @@ fn raise(highest: &mut BTreeMap<Code, Volume>, code: Code, volume: Volume) -> Re
 
 // Over the pairs as they stand.
 fn count_keys_above(by_pair: &BTreeMap<(Code, Volume), FileBytes>, code: Code, reached: u64) -> u64
-    ensures count { result ≡ count_by (λ p. (p.0 == code) && not (nat_le p.1 reached)) (keys by_pair.now) }
+    ensures count { result
+        ≡ count_by (λ p. (p.0 == code) && not (nat_le p.1 reached)) (keys by_pair.now) }
     ensures ordered { IsStrictlySortedBy pair_cmp (keys by_pair.now) }
 {
     let _count = by_pair.len();

@@ -88,7 +88,8 @@ impl MemShelf {
     }
 
     pub(crate) fn find_approved(&self, code: Code, uprn: Uprn) -> Result<Vec<Key>, AllocError>
-        ensures { IfOk result (λ keys. keys.items ≡ approved_of (view_of (seen_in self.now) code) uprn) }
+        ensures { IfOk result (λ keys. keys.items
+            ≡ approved_of (view_of (seen_in self.now) code) uprn) }
     {
         match self.seen(code) {
             Some((account, volume)) => Ok(account.ledger().approved_of(self.alloc, volume, uprn)?),
@@ -135,7 +136,8 @@ impl MemShelf {
         after: Option<Key>,
         most: usize,
     ) -> Result<Vec<SharedItem>, AllocError>
-        ensures { IfOk result (λ items. IsPageAt (content_in self.now).board code volume kind after most items.items) }
+        ensures { IfOk result (λ items.
+            IsPageAt (content_in self.now).board code volume kind after most items.items) }
     {
         match self.accounts.get(code) {
             Some(account) => Ok(

@@ -1,5 +1,6 @@
 //! The judgement in progress of a keeper in memory.
-ghost use Rattle.std.specs.Prelude.{◌≡◌, ◌≢◌, ◌≤◌, ◌<◌, ◌==◌, ◌^◌, ◌-◌, ℕ, if◌then◌else◌, MatchOption};
+ghost use Rattle.std.specs.Prelude.{◌≡◌, ◌≢◌, ◌≤◌, ◌<◌, ◌==◌, ◌^◌, ◌-◌, ℕ, if◌then◌else◌};
+ghost use Rattle.std.specs.Prelude.{MatchOption};
 ghost use Rattle.gaz_shelf.specs.Keeper.{Broken, Idle, IsNotOpen, Keeps, Open, Seen, view_of};
 ghost use Rattle.gaz_shelf.specs.Mem.{progress_of, seen_in};
 ghost use Rattle.gaz_shelf.specs.Telling.{Applies, Puts, Takes};
@@ -18,7 +19,8 @@ impl MemShelf {
         ensures board { self.new.accounts ≡ self.old.accounts }
         ensures files { self.new.files ≡ self.old.files }
         ensures cleared { progress_of self.new.judging ≢ Broken }
-        ensures idle { IsNotOpen (progress_of self.old.judging) → progress_of self.new.judging ≡ Idle }
+        ensures idle { IsNotOpen (progress_of self.old.judging)
+            → progress_of self.new.judging ≡ Idle }
         ensures count { self.new.failures ≡ self.old.failures }
     {
         if let Judging::Broken = self.judging {

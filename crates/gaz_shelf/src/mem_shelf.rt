@@ -17,7 +17,8 @@ pub enum Judging {
     Broken,
 }
 
-/// Keeps received files and boards in memory: each custodian's items once, with the volumes at which they changed.
+/// Keeps received files and boards in memory: each custodian's items once, with the volumes at
+/// which they changed.
 ///
 /// It is the plain keeper, with which others are compared.
 #[derive(Drop)]

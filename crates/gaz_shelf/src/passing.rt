@@ -4,7 +4,11 @@ ghost use Rattle.gaz_shelf.specs.Calls.{CountsAs};
 ghost use Rattle.gaz_shelf.specs.Around.{seen_around};
 ghost use Rattle.gaz_shelf.specs.Faulting.{progress_around};
 ghost use Rattle.gaz_shelf.specs.Keeper.{Idle, IsNotOpen, Refuses};
-ghost use Rattle.gaz_shelf.specs.Telling.{Abandons, Applies, Begins, Puts, Receives, Skips, Takes, TellsApprovedOf, TellsApprovedOn, TellsAt, TellsChildren, TellsCurrent, TellsEver, TellsHeld, TellsPage, TellsPropertyOf, TellsReached, TellsReceived, TellsVerdict};
+ghost use Rattle.gaz_shelf.specs.Telling.{Abandons, Applies, Begins, Puts, Receives, Skips, Takes};
+ghost use Rattle.gaz_shelf.specs.Telling.{TellsApprovedOf, TellsApprovedOn, TellsAt, TellsChildren};
+ghost use Rattle.gaz_shelf.specs.Telling.{TellsCurrent, TellsEver, TellsHeld, TellsPage};
+ghost use Rattle.gaz_shelf.specs.Telling.{TellsPropertyOf, TellsReached, TellsReceived};
+ghost use Rattle.gaz_shelf.specs.Telling.{TellsVerdict};
 
 use crate::calls::Call;
 use crate::fault::ShelfFault;
@@ -14,7 +18,8 @@ use gaz_ids::{Code, Lang, Uprn, Usrn, Volume};
 use gaz_records::{Key, Kind, SharedItem};
 use gaz_views::{Property, Verdict};
 
-// What a call says of the content it says as every keeper; beside that it counts as the call that it is.
+// What a call says of the content it says as every keeper; beside that it counts as the call that
+// it is.
 impl<K: Inbox + Drop> Shelf for Faulty<K> {
     ghost seen = { seen_around };
 
@@ -60,7 +65,8 @@ impl<K: Inbox + Drop> Shelf for Faulty<K> {
 
     fn approved_of(&mut self, code: Code, uprn: Uprn) -> Result<Vec<Key>, ShelfFault>
         ensures reads { TellsApprovedOf seen_around self.old self.new result code uprn }
-        ensures counts { CountsAs Call.ApprovedOf self.old.plan self.new.plan self.old.broken result }
+        ensures counts { CountsAs Call.ApprovedOf
+            self.old.plan self.new.plan self.old.broken result }
     {
         self.admit(Call::ApprovedOf)?;
         self.inner.approved_of(code, uprn)
@@ -68,7 +74,8 @@ impl<K: Inbox + Drop> Shelf for Faulty<K> {
 
     fn property_of(&mut self, code: Code, uprn: Uprn) -> Result<Option<Property>, ShelfFault>
         ensures reads { TellsPropertyOf seen_around self.old self.new result code uprn }
-        ensures counts { CountsAs Call.PropertyOf self.old.plan self.new.plan self.old.broken result }
+        ensures counts { CountsAs Call.PropertyOf
+            self.old.plan self.new.plan self.old.broken result }
     {
         self.admit(Call::PropertyOf)?;
         self.inner.property_of(code, uprn)
@@ -81,7 +88,8 @@ impl<K: Inbox + Drop> Shelf for Faulty<K> {
         lang: Option<Lang>,
     ) -> Result<bool, ShelfFault>
         ensures reads { TellsApprovedOn seen_around self.old self.new result code usrn lang }
-        ensures counts { CountsAs Call.ApprovedOn self.old.plan self.new.plan self.old.broken result }
+        ensures counts { CountsAs Call.ApprovedOn
+            self.old.plan self.new.plan self.old.broken result }
     {
         self.admit(Call::ApprovedOn)?;
         self.inner.approved_on(code, usrn, lang)

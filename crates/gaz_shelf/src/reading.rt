@@ -10,7 +10,8 @@ use gaz_ids::Code;
 use gaz_records::{Key, Kind, SharedItem, key_of};
 use std::alloc::Global;
 
-/// All items of a kind after a volume, which is to be reached, in key order, read `most` at a time, which is at least 1.
+/// All items of a kind after a volume, which is to be reached, in key order, read `most` at a time,
+/// which is at least 1.
 ///
 /// `Memory` too where a keeper answers more items than memory holds.
 pub fn read_kind<S: Shelf>(
@@ -43,7 +44,8 @@ fn add_page<S: Shelf>(
     items: &mut Vec<SharedItem>,
 ) -> Result<Option<Key>, ShelfFault>
     requires { 1 ≤ most }
-    ensures reads { AddsPage S.seen shelf.old shelf.new result code volume kind after items.old items.new }
+    ensures reads { AddsPage S.seen shelf.old shelf.new result code volume kind after
+        items.old items.new }
     ensures goes_on { IfOk result (λ next.
         vec_len items.old + (if is_some next then 1 else 0) ≤ vec_len items.new) }
     ensures fits { vec_len items.new < 2 ^ 64 }

@@ -1,7 +1,11 @@
 //! What is asked of a keeper of boards.
 ghost use Rattle.std.specs.Prelude.{◌≢◌};
 ghost use Rattle.gaz_shelf.specs.Keeper.{Idle, IsNotOpen, Refuses, Seen};
-ghost use Rattle.gaz_shelf.specs.Telling.{Abandons, Applies, Begins, Puts, Receives, Skips, Takes, TellsApprovedOf, TellsApprovedOn, TellsAt, TellsChildren, TellsCurrent, TellsEver, TellsHeld, TellsPage, TellsPropertyOf, TellsReached, TellsReceived, TellsVerdict};
+ghost use Rattle.gaz_shelf.specs.Telling.{Abandons, Applies, Begins, Puts, Receives, Skips, Takes};
+ghost use Rattle.gaz_shelf.specs.Telling.{TellsApprovedOf, TellsApprovedOn, TellsAt, TellsChildren};
+ghost use Rattle.gaz_shelf.specs.Telling.{TellsCurrent, TellsEver, TellsHeld, TellsPage};
+ghost use Rattle.gaz_shelf.specs.Telling.{TellsPropertyOf, TellsReached, TellsReceived};
+ghost use Rattle.gaz_shelf.specs.Telling.{TellsVerdict};
 
 use crate::fault::ShelfFault;
 use gaz_ids::{Code, Lang, Uprn, Usrn, Volume};
@@ -10,8 +14,9 @@ use gaz_views::{Property, Verdict};
 
 /// Keeps each custodian's views and verdicts, and at most one judgement in progress.
 ///
-/// Every call may answer a fault: `Memory`, or `Store`, which is counted. What is said of the content is said where the keeper stood for
-/// one before the call and nobody else wrote on it up to the call's end.
+/// Every call may answer a fault: `Memory`, or `Store`, which is counted. What is said of the
+/// content is said where the keeper stood for one before the call and nobody else wrote on it up to
+/// the call's end.
 pub trait Shelf {
     /// What is there at a moment.
     ghost seen: { Self → Seen };
@@ -24,7 +29,8 @@ pub trait Shelf {
     fn verdict(&mut self, code: Code, volume: Volume) -> Result<Option<Verdict>, ShelfFault>
         ensures { TellsVerdict seen self.old self.new result code volume };
 
-    /// The item at a key, in the working view of a custodian that is being judged, else in its last.
+    /// The item at a key, in the working view of a custodian that is being judged, else in its
+    /// last.
     fn current(&mut self, code: Code, key: &Key) -> Result<Option<SharedItem>, ShelfFault>
         ensures { TellsCurrent seen self.old self.new result code key.now };
 
@@ -40,11 +46,13 @@ pub trait Shelf {
     fn approved_of(&mut self, code: Code, uprn: Uprn) -> Result<Vec<Key>, ShelfFault>
         ensures { TellsApprovedOf seen self.old self.new result code uprn };
 
-    /// A BLPU in the view of `current` with its approved LPI: that of the least key, where there are several.
+    /// A BLPU in the view of `current` with its approved LPI: that of the least key, where there
+    /// are several.
     fn property_of(&mut self, code: Code, uprn: Uprn) -> Result<Option<Property>, ShelfFault>
         ensures { TellsPropertyOf seen self.old self.new result code uprn };
 
-    /// Whether an approved LPI in the view of `current` is on a street, and in this language where one is given.
+    /// Whether an approved LPI in the view of `current` is on a street, and in this language where
+    /// one is given.
     fn approved_on(
         &mut self,
         code: Code,
@@ -57,7 +65,8 @@ pub trait Shelf {
     fn children(&mut self, code: Code, uprn: Uprn) -> Result<bool, ShelfFault>
         ensures { TellsChildren seen self.old self.new result code uprn };
 
-    /// The first `most` items of a kind after a key, or from the start, in key order, after a volume, which is to be reached.
+    /// The first `most` items of a kind after a key, or from the start, in key order, after a
+    /// volume, which is to be reached.
     fn page(
         &mut self,
         code: Code,
@@ -96,7 +105,8 @@ pub trait Shelf {
         requires { (seen self.old).progress ≢ Idle }
         ensures { Abandons seen self.old self.new result };
 
-    /// Judges a custodian's next volume, which is to be at hand, as rejected: its last view is its next.
+    /// Judges a custodian's next volume, which is to be at hand, as rejected: its last view is its
+    /// next.
     fn skip(&mut self, code: Code, place: u64, rule: u8) -> Result<(), ShelfFault>
         requires { IsNotOpen (seen self.old).progress }
         ensures { Skips seen self.old self.new result code place rule };

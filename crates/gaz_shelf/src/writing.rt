@@ -29,7 +29,8 @@ pub fn put_all<S: Shelf>(shelf: &mut S, items: Vec<SharedItem>) -> Result<(), Sh
     Ok(())
 }
 
-/// Sets these items on a custodian's last view, as its next volume, which is to be at hand, and ends that judgement.
+/// Sets these items on a custodian's last view, as its next volume, which is to be at hand, and
+/// ends that judgement.
 pub fn write_volume<S: Shelf>(
     shelf: &mut S,
     code: Code,
