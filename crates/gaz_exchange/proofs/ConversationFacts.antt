@@ -1,5 +1,5 @@
 -- A conversation, turn by turn.
-use Rattle.std.proofs.Common.{◌≡◌, ℕ, ◌+◌, ◌-◌, ◌<◌, ◌≤◌, Bool, true, false, List, [], ◌∷◌, ◌++◌, length, Option, Ok, Err, ◌⊎◌, inl, inr, refl, ap, sym, ◌∙◌, arith, append-nil, length-append}
+use Rattle.std.proofs.Common.{◌≡◌, ℕ, ◌+◌, ◌-◌, ◌<◌, ◌≤◌, Bool, true, false, List, [], ◌∷◌, ◌++◌, length, Option, Result, Ok, Err, ◌⊎◌, inl, inr, refl, ap, sym, ◌∙◌, arith, append-nil, length-append}
 use Rattle.std.specs.Prelude.{◌&&◌, ◌||◌, not, nat_lt, ◌==◌, if◌then◌else◌}
 use Rattle.std.specs.Io.KnownBytes.{Appends, Consumes}
 use Rattle.std.proofs.KnownBytes.{Appends-nil, Appends-trans, Consumes-nil, Consumes-trans}
@@ -12,7 +12,9 @@ use Rattle.gaz_hub.specs.Laws.{StandsForRun}
 use Rattle.gaz_hub.specs.Step.{Command, Door, Response}
 use Rattle.gaz_hub.proofs.Answers.{every_answer_holds}
 use Rattle.gaz_hub.proofs.HubRuns.{runs_none, runs_still, runs_then}
-use Rattle.gaz_exchange.specs.Conversing.{Conversation, EndsAnswered, EndsAs, EndsRefused, StopsAs, StopsWaiting, ended_after}
+use Rattle.gaz_exchange.specs.declared.conversation.Served.{Served}
+use Rattle.gaz_exchange.specs.declared.conversation.Stopped.{Stopped}
+use Rattle.gaz_exchange.specs.Conversing.{Conversation, EndsAs, EndsByReply, Passed, StopsAs, StopsWaiting, ended_after}
 use Rattle.gaz_exchange.specs.Exchanges.{Comes, Exchange, all_open, command_in, commands_of, ends_after, goes_on, replies, responses_of}
 use Rattle.gaz_exchange.specs.Framing.{is_closing}
 use Rattle.gaz_exchange.specs.Refusals.{IsTurnedAway}
@@ -21,7 +23,9 @@ use Rattle.gaz_exchange.specs.declared.supply.Cause.{Cause}
 use Rattle.gaz_exchange.specs.declared.supply.Cause.TheVariants.{ReadFault, WriteFault}
 use Rattle.gaz_exchange.specs.declared.conversation.Ended.{Ended}
 use Rattle.gaz_exchange.specs.declared.conversation.Ended.TheVariants as ended
-use Rattle.gaz_exchange.specs.declared.conversation.Turn.TheVariants.{Answered, Closed, Over, Stopped}
+use Rattle.gaz_exchange.specs.declared.conversation.Turn.TheVariants.{Answered, Closed, Over}
+use Rattle.gaz_exchange.specs.declared.conversation.Turn.TheVariants as turn
+use Rattle.gaz_exchange.proofs.EndLaws.{ends_all}
 use Rattle.gaz_exchange.proofs.RoutesKept.{AreFoundBy, found_by_more, found_by_none}
 use Rattle.gaz_exchange.proofs.ExchangeFacts.{both, both_are, comes_more, comes_none, comes_read, goes_on-more, replies-more}
 
@@ -29,11 +33,16 @@ no_input_end : (b : Bool) → (if b then ended.Most else ended.Closed) ≡ ended
 no_input_end true e = cc e
 no_input_end false e = cc e
 
-ends_by : (most : ℕ) (es : List Exchange) (rest : List ℕ) (left : Option (List ℕ)) (n : ℕ) (written : List ℕ) (how : Ended) → ended_after n most ≡ how
-    → EndsAnswered most es n written ⊎ EndsRefused most es rest left n written → EndsAs most es rest left n how written
-ends_by most es rest left n written ended.Most e w = (e, w)
-ends_by most es rest left n written ended.Closed e w = (e, w)
-ends_by most es rest left n written ended.InputEnd e w = absurd (no_input_end (n == most) e)
+abbrev Converses : Door → ℕ → Option (List ℕ) → Option (List ℕ) → Option (List ℕ) → Option (List ℕ) → Seen → Seen → Result Served Stopped → Type 0
+Converses d most had left held holds old new result = Conversation d most (record { had = had; left = left; held = held; holds = holds }) old new result
+
+abbrev passed_in : List Exchange → List ℕ → Option (List ℕ) → List ℕ → Passed
+passed_in es rest left written = record { exchanges = es; rest = rest; left = left; written = written }
+
+ends_by : (most : ℕ) (passed : Passed) (n : ℕ) (how : Ended) → ended_after n most ≡ how → EndsByReply most passed n → EndsAs most passed n how
+ends_by most passed n ended.Most e w = (e, w)
+ends_by most passed n ended.Closed e w = (e, w)
+ends_by most passed n ended.InputEnd e w = absurd (no_input_end (n == most) e)
 
 -- what the answers of a run are read off
 answers_off : (d : Door) (old new : Seen) (commands : List Command) (responses : List Response) → Runs d old new commands responses
@@ -142,55 +151,65 @@ module _ (d : Door) where
 
     closed_by_reply : (t : IsTurn d ((n + 1) == most) was routed inlet rest left later holds after mid new Closed) (e : Exchange) → Exchanges d ((n + 1) == most) routed (inlet ++ t.read) e rest mid new
         → t.written ≡ e.reply → (is_closing e.head || ((n + 1) == most)) ≡ true
-        → Conversation d most had later held after old new (Ok (record { requests = n + 1; ended = ended_after (n + 1) most }))
-    closed_by_reply t e x told ends = record {
-      read = s.read ++ t.read;
-      written = replies (s.exchanges ++ e ∷ []);
-      exchanges = s.exchanges ++ e ∷ [];
-      rest = rest;
-      consumed = all_consumed t.read e t.consumed x t.stay;
-      appended = all_written t.read e t.consumed x t.stay t.written t.appended told;
-      comes = all_come t.read e t.consumed x t.stay;
-      routes = (all_routes t.read e t.consumed x t.stay).stay;
-      runs = all_runs t.read e t.consumed x t.stay;
-      answers = answers_off d old new _ _ (all_runs t.read e t.consumed x t.stay);
-      comes_to = ends_by most (s.exchanges ++ e ∷ []) rest later (n + 1) (replies (s.exchanges ++ e ∷ [])) (ended_after (n + 1) most) refl (inl (record {
-        done = ends_or_not t.read e t.consumed x t.stay ∙ ap not ends;
-        counted = sym (one_more t.read e t.consumed x t.stay);
-        told = refl;
-      }));
-    }
+        → Converses d most had later held after old new (Ok (record { requests = n + 1; ended = ended_after (n + 1) most }))
+    closed_by_reply t e x told ends =
+        let passed = passed_in (s.exchanges ++ e ∷ []) rest later (replies (s.exchanges ++ e ∷ [])) in
+        let by_reply : EndsByReply most passed (n + 1) = inl (record {
+          done = ends_or_not t.read e t.consumed x t.stay ∙ ap not ends;
+          counted = sym (one_more t.read e t.consumed x t.stay);
+          told = refl;
+        }) in
+        let how = ends_by most passed (n + 1) (ended_after (n + 1) most) refl by_reply in record {
+          read = s.read ++ t.read;
+          written = replies (s.exchanges ++ e ∷ []);
+          exchanges = s.exchanges ++ e ∷ [];
+          rest = rest;
+          consumed = all_consumed t.read e t.consumed x t.stay;
+          appended = all_written t.read e t.consumed x t.stay t.written t.appended told;
+          comes = all_come t.read e t.consumed x t.stay;
+          routes = (all_routes t.read e t.consumed x t.stay).stay;
+          runs = all_runs t.read e t.consumed x t.stay;
+          answers = answers_off d old new _ _ (all_runs t.read e t.consumed x t.stay);
+          comes_to = how;
+          answers_all = ends_all most passed (n + 1) (ended_after (n + 1) most) how;
+        }
 
     closed_by_refusal : (t : IsTurn d ((n + 1) == most) was routed inlet rest left later holds after mid new Closed) → IsTurnedAway (inlet ++ t.read) later t.written → Rests d mid new
-        → Conversation d most had later held after old new (Ok (record { requests = n + 1; ended = ended_after (n + 1) most }))
-    closed_by_refusal t away rests = record {
-      read = s.read ++ t.read;
-      written = replies s.exchanges ++ t.written;
-      exchanges = s.exchanges;
-      rest = inlet ++ t.read;
-      consumed = still_consumed t.read t.consumed rests;
-      appended = Appends-trans held holds after (replies s.exchanges) t.written s.appended t.appended;
-      comes = still_come t.read t.consumed rests;
-      routes = s.routes.stay;
-      runs = still_runs t.read t.consumed rests;
-      answers = answers_off d old new _ _ (still_runs t.read t.consumed rests);
-      comes_to = ends_by most s.exchanges (inlet ++ t.read) later (n + 1) (replies s.exchanges ++ t.written) (ended_after (n + 1) most) refl (inr (record {
-        open_yet = open_yet;
-        text = t.written;
-        turned_away = away;
-        counted = ap (λ k. k + 1) (sym s.count);
-        told = refl;
-      }));
-    }
+        → Converses d most had later held after old new (Ok (record { requests = n + 1; ended = ended_after (n + 1) most }))
+    closed_by_refusal t away rests =
+        let passed = passed_in s.exchanges (inlet ++ t.read) later (replies s.exchanges ++ t.written) in
+        let by_reply : EndsByReply most passed (n + 1) = inr (record {
+          open_yet = open_yet;
+          text = t.written;
+          turned_away = away;
+          counted = ap (λ k. k + 1) (sym s.count);
+          told = refl;
+        }) in
+        let how = ends_by most passed (n + 1) (ended_after (n + 1) most) refl by_reply in record {
+          read = s.read ++ t.read;
+          written = replies s.exchanges ++ t.written;
+          exchanges = s.exchanges;
+          rest = inlet ++ t.read;
+          consumed = still_consumed t.read t.consumed rests;
+          appended = Appends-trans held holds after (replies s.exchanges) t.written s.appended t.appended;
+          comes = still_come t.read t.consumed rests;
+          routes = s.routes.stay;
+          runs = still_runs t.read t.consumed rests;
+          answers = answers_off d old new _ _ (still_runs t.read t.consumed rests);
+          comes_to = how;
+          answers_all = ends_all most passed (n + 1) (ended_after (n + 1) most) how;
+        }
 
     pub ends_closed : IsTurn d ((n + 1) == most) was routed inlet rest left later holds after mid new Closed
-        → Conversation d most had later held after old new (Ok (record { requests = n + 1; ended = ended_after (n + 1) most }))
+        → Converses d most had later held after old new (Ok (record { requests = n + 1; ended = ended_after (n + 1) most }))
     ends_closed t = elim t.out [ inl w ↦ closed_by_reply t w.0 w.1 w.2 w.3 | inr w ↦ closed_by_refusal t w.0 w.1 ]
 
     pub ends_over : IsTurn d ((n + 1) == most) was routed inlet rest left later holds after mid new Over
-        → Conversation d most had later held after old new (Ok (record { requests = n; ended = ended.InputEnd }))
+        → Converses d most had later held after old new (Ok (record { requests = n; ended = ended.InputEnd }))
     ends_over t =
         let (over, at_end, rests, none) = t.out in
+        let passed = passed_in s.exchanges (inlet ++ t.read) later (replies s.exchanges) in
+        let how : EndsAs most passed n ended.InputEnd = record { open_yet = open_yet; over = over; at_end = at_end; counted = sym s.count; told = refl } in
         record {
           read = s.read ++ t.read;
           written = replies s.exchanges;
@@ -202,12 +221,13 @@ module _ (d : Door) where
           routes = s.routes.stay;
           runs = still_runs t.read t.consumed rests;
           answers = answers_off d old new _ _ (still_runs t.read t.consumed rests);
-          comes_to = record { open_yet = open_yet; over = over; at_end = at_end; counted = sym s.count; told = refl };
+          comes_to = how;
+          answers_all = ends_all most passed n ended.InputEnd how;
         }
 
-    stops_answering : (t : IsTurn d ((n + 1) == most) was routed inlet rest left later holds after mid new (Stopped WriteFault)) (lost : List ℕ) (e : Exchange)
+    stops_answering : (t : IsTurn d ((n + 1) == most) was routed inlet rest left later holds after mid new (turn.Stopped WriteFault)) (lost : List ℕ) (e : Exchange)
         → Exchanges d ((n + 1) == most) routed (inlet ++ t.read) e rest mid new → e.reply ≡ t.written ++ lost
-        → Conversation d most had later held after old new (Err (record { requests = n; cause = WriteFault }))
+        → Converses d most had later held after old new (Err (record { requests = n; cause = WriteFault }))
     stops_answering t lost e x cut = record {
       read = s.read ++ t.read;
       written = replies s.exchanges ++ t.written;
@@ -220,11 +240,12 @@ module _ (d : Door) where
       runs = all_runs t.read e t.consumed x t.stay;
       answers = answers_off d old new _ _ (all_runs t.read e t.consumed x t.stay);
       comes_to = inr (inl (record { earlier = s.exchanges; in_hand = e; sent = t.written; lost = lost; split = refl; cut = cut; counted = sym s.count; told = refl }));
+      answers_all = tt;
     }
 
-    stops_refusing : (t : IsTurn d ((n + 1) == most) was routed inlet rest left later holds after mid new (Stopped WriteFault)) (lost : List ℕ)
+    stops_refusing : (t : IsTurn d ((n + 1) == most) was routed inlet rest left later holds after mid new (turn.Stopped WriteFault)) (lost : List ℕ)
         → IsTurnedAway (inlet ++ t.read) later (t.written ++ lost) → Rests d mid new
-        → Conversation d most had later held after old new (Err (record { requests = n; cause = WriteFault }))
+        → Converses d most had later held after old new (Err (record { requests = n; cause = WriteFault }))
     stops_refusing t lost away rests = record {
       read = s.read ++ t.read;
       written = replies s.exchanges ++ t.written;
@@ -237,15 +258,16 @@ module _ (d : Door) where
       runs = still_runs t.read t.consumed rests;
       answers = answers_off d old new _ _ (still_runs t.read t.consumed rests);
       comes_to = inr (inr (record { open_yet = open_yet; sent = t.written; lost = lost; turned_away = away; counted = sym s.count; told = refl }));
+      answers_all = tt;
     }
 
     -- the next request isn't whole
     module _ (read written : List ℕ) (consumed : Consumes left later read) (appended : Appends holds after written) (w : Waits d (inlet ++ read) mid new written) where
-      waiting : StopsWaiting most s.exchanges (inlet ++ read) n (replies s.exchanges)
+      waiting : StopsWaiting most (passed_in s.exchanges (inlet ++ read) later (replies s.exchanges)) n
       waiting = record { open_yet = open_yet; unfinished = w.0; counted = sym s.count; told = refl }
 
-      stops_waiting : (cause : Cause) → StopsAs most s.exchanges (inlet ++ read) later n cause (replies s.exchanges)
-          → Conversation d most had later held after old new (Err (record { requests = n; cause = cause }))
+      stops_waiting : (cause : Cause) → StopsAs most (passed_in s.exchanges (inlet ++ read) later (replies s.exchanges)) n cause
+          → Converses d most had later held after old new (Err (record { requests = n; cause = cause }))
       stops_waiting cause how = record {
         read = s.read ++ read;
         written = replies s.exchanges;
@@ -258,10 +280,11 @@ module _ (d : Door) where
         runs = still_runs read consumed w.1;
         answers = answers_off d old new _ _ (still_runs read consumed w.1);
         comes_to = how;
+        answers_all = tt;
       }
 
-    pub stops : (cause : Cause) → IsTurn d ((n + 1) == most) was routed inlet rest left later holds after mid new (Stopped cause)
-        → Conversation d most had later held after old new (Err (record { requests = n; cause = cause }))
+    pub stops : (cause : Cause) → IsTurn d ((n + 1) == most) was routed inlet rest left later holds after mid new (turn.Stopped cause)
+        → Converses d most had later held after old new (Err (record { requests = n; cause = cause }))
     stops ReadFault t = stops_waiting t.read t.written t.consumed t.appended t.out ReadFault (waiting t.read t.written t.consumed t.appended t.out)
     stops WriteFault t =
         elim t.out [
@@ -272,13 +295,16 @@ module _ (d : Door) where
   -- so many were answered as were allowed
   pub ends_most : (most n : ℕ) (routed : Bool) (had left held holds : Option (List ℕ)) (old new : Seen) (inlet : List ℕ)
       → IsSoFar most n routed had left held holds old new inlet → most ≤ n → n ≤ most
-      → Conversation d most had left held holds old new (Ok (record { requests = most; ended = ended.Most }))
+      → Converses d most had left held holds old new (Ok (record { requests = most; ended = ended.Most }))
   ends_most most n routed had left held holds old new inlet s above below =
       let same : n ≡ most = omega arith in
       let full : length s.exchanges ≡ most = s.count ∙ same in
       let none : nat_lt (length s.exchanges) most ≡ false = grind (arith, nat_tests, full) in
       let test : (most == most) ≡ true = grind (arith, nat_tests) in
       let ends : ended_after most most ≡ ended.Most = rw test refl in
+      let passed = passed_in s.exchanges inlet left (replies s.exchanges) in
+      let all : EndsByReply most passed most = inl (record { done = ap (λ b. b && all_open s.exchanges) none; counted = sym full; told = refl }) in
+      let how = ends_by most passed most ended.Most ends all in
       record {
         read = s.read;
         written = replies s.exchanges;
@@ -290,9 +316,6 @@ module _ (d : Door) where
         routes = s.routes.stay;
         runs = s.runs;
         answers = answers_off d old new _ _ s.runs;
-        comes_to = ends_by most s.exchanges inlet left most (replies s.exchanges) ended.Most ends (inl (record {
-          done = ap (λ b. b && all_open s.exchanges) none;
-          counted = sym full;
-          told = refl;
-        }));
+        comes_to = how;
+        answers_all = ends_all most passed most ended.Most how;
       }

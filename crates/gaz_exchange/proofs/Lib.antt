@@ -12,4 +12,5 @@ pub mod RouteFacts
 pub mod WalkFacts
 pub mod BodyFacts
 pub mod StreamLaws
+pub mod EndLaws
 pub mod WorkedStreams

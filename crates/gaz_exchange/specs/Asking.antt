@@ -1,28 +1,35 @@
 -- What the hub is asked by a request.
-use Rattle.std.specs.Prelude.{ℕ, if◌then◌else◌, List, codes, bytes_eq, Option, Some, None, Result, Ok, Err}
+use Rattle.std.specs.Prelude.{ℕ, if◌then◌else◌, List, codes, bytes_eq, Option, Some, None, Result}
+use Rattle.std.specs.Prelude.{Ok, Err}
 use Rattle.httparse.specs.Grammar.{RequestHead}
 use Rattle.gaz_hub.specs.Step.{Command, Pose}
 use Rattle.gaz_hub.specs.Step as hub
-use Rattle.gaz_exchange.specs.Targets.{Target, Volume, Custodian, Extract, Property, Closed, Nowhere, target_of, code_in, volume_in, uprn_in}
+use Rattle.gaz_exchange.specs.Targets.{Target, Volume, Custodian, Extract, Property, Closed}
+use Rattle.gaz_exchange.specs.Targets.{Nowhere, target_of, code_in, volume_in, uprn_in}
 use Rattle.gaz_exchange.specs.declared.fault.Allowed.TheVariants as allowed
 use Rattle.gaz_exchange.specs.declared.fault.Fault.{Fault}
 use Rattle.gaz_exchange.specs.declared.fault.Fault.TheVariants.{NotThere, NoRoute, BadMethod}
 use Rattle.gaz_exchange.specs.declared.route.Call.{Call}
-use Rattle.gaz_exchange.specs.declared.route.Call.TheVariants.{Submit, Ask, Stand, LookUp, ListClosed}
+use Rattle.gaz_exchange.specs.declared.route.Call.TheVariants.{Submit, Ask, Stand, LookUp}
+use Rattle.gaz_exchange.specs.declared.route.Call.TheVariants.{ListClosed}
 use Rattle.gaz_exchange.specs.declared.route.Call.TheVariants as call
 use Rattle.gaz_exchange.specs.declared.route.Method.{Method}
 use Rattle.gaz_exchange.specs.declared.route.Method.TheVariants.{Get, Post, Other}
 
--- methods have case (RFC 9110, section 9.1)
+-- the method that a text names; methods have case (RFC 9110, section 9.1)
 abbrev pub method_of : List ℕ → Method
-method_of text = if bytes_eq text (codes "POST") then Post else if bytes_eq text (codes "GET") then Get else Other
+method_of text =
+    if bytes_eq text (codes "POST") then Post
+    else if bytes_eq text (codes "GET") then Get
+    else Other
 
--- a number that doesn't read is that of no property
+-- a property is looked up by its UPRN; a number that doesn't read is that of no property
 abbrev pub look_up : Option ℕ → Result Call Fault
 look_up (Some uprn) = Ok (LookUp uprn)
 look_up None = Err NotThere
 
--- the target is looked at before the method, and the method before the numbers
+-- what is asked at a target by a method, or why nothing is: the target is looked at before the
+-- method, and the method before the numbers
 abbrev pub call_at : Target → Method → Result Call Fault
 call_at Nowhere m = Err NoRoute
 call_at (Volume c v) Post = Ok (Submit (code_in c) (volume_in v))
@@ -41,6 +48,7 @@ call_at Closed Get = Ok ListClosed
 call_at Closed Post = Err (BadMethod allowed.Get)
 call_at Closed Other = Err (BadMethod allowed.Get)
 
+-- what the hub is asked by a call and a body, which a submission alone takes
 abbrev pub command_of : List ℕ → Call → Command
 command_of body (Submit code volume) = hub.Submit code volume body
 command_of body (Ask code volume) = Pose (hub.Ask code volume)
@@ -49,6 +57,7 @@ command_of body (LookUp uprn) = Pose (hub.LookUp uprn)
 command_of body (call.Extract code volume) = Pose (hub.Extract code volume)
 command_of body ListClosed = Pose hub.ListClosed
 
+-- what it is asked where a call was found
 abbrev pub with_body : List ℕ → Result Call Fault → Result Command Fault
 with_body body (Ok call) = Ok (command_of body call)
 with_body body (Err fault) = Err fault

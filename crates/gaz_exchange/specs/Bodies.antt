@@ -6,13 +6,15 @@ use Rattle.gaz_exchange.specs.declared.body.Body.TheVariants.{Whole, Short, Memo
 use Rattle.gaz_exchange.specs.declared.supply.Supply.{Supply}
 use Rattle.gaz_exchange.specs.declared.supply.Supply.TheVariants as supply
 
--- of the bytes behind the head that were read, those that aren't used, and those that the reader has left
+-- what came of a body of this size: bytes are those behind the head that were pending or read, rest
+-- those that aren't used, left those that the reader has left
 abbrev pub IsBody : List ℕ → ℕ → List ℕ → Option (List ℕ) → Body → Type 0
-IsBody bytes size rest left (Whole v) = (bytes ≡ v.items ++ rest) × (length v.items ≡ size)
+IsBody bytes size rest left (Whole body) = (bytes ≡ body.items ++ rest) × (length body.items ≡ size)
 IsBody bytes size rest left Short = (length bytes < size) × IsAtEnd left
 IsBody bytes size rest left Memory = 0 < size
 IsBody bytes size rest left (Failed cause) = length bytes < size
 
+-- what came of asking for more where nothing was pending
 abbrev pub IsRefill : List ℕ → Option (List ℕ) → Supply → Type 0
 IsRefill pending left supply.Some = 0 < length pending
 IsRefill pending left supply.End = (length pending ≡ 0) × IsAtEnd left

@@ -1,5 +1,6 @@
 -- A conversation: the requests of a stream, answered in turn.
-use Rattle.std.specs.Prelude.{◌≡◌, ℕ, ◌+◌, ◌⊎◌, ◌==◌, true, false, if◌then◌else◌, List, [], ◌∷◌, ◌++◌, length, Option, Result, Ok, Err}
+use Rattle.std.specs.Prelude.{◌≡◌, ⊤, ℕ, ◌+◌, ◌⊎◌, ◌==◌, true, false, if◌then◌else◌, List, [], ◌∷◌}
+use Rattle.std.specs.Prelude.{◌++◌, length, Option, Result, Ok, Err}
 use Rattle.std.specs.Io.KnownBytes.{Appends, Consumes, IsAtEnd}
 use Rattle.gaz_shelf.specs.Keeper.{Seen}
 use Rattle.gaz_hub.specs.Answers.{AllAnswered}
@@ -7,97 +8,149 @@ use Rattle.gaz_hub.specs.Hubs.{Runs}
 use Rattle.gaz_hub.specs.Laws.{StandsForRun}
 use Rattle.gaz_hub.specs.Step.{Door}
 use Rattle.gaz_exchange.specs.Heads.{IsOver}
-use Rattle.gaz_exchange.specs.Exchanges.{Exchange, Comes, RoutesStay, goes_on, replies, commands_of, responses_of}
-use Rattle.gaz_exchange.specs.Refusals.{IsTurnedAway, IsUnfinished}
+use Rattle.gaz_exchange.specs.Exchanges.{Exchange, Comes, RoutesStay, goes_on, replies, commands_of}
+use Rattle.gaz_exchange.specs.Exchanges.{responses_of}
+use Rattle.gaz_exchange.specs.Refusals.{IsRefused, IsTurnedAway, IsUnfinished}
+use Rattle.gaz_exchange.specs.Streams.{AreAll}
 use Rattle.gaz_exchange.specs.declared.conversation.Ended.{Ended}
 use Rattle.gaz_exchange.specs.declared.conversation.Ended.TheVariants.{Most, Closed, InputEnd}
+use Rattle.gaz_exchange.specs.declared.fault.Fault.TheVariants.{NotReceived}
 use Rattle.gaz_exchange.specs.declared.supply.Cause.{Cause}
 use Rattle.gaz_exchange.specs.declared.supply.Cause.TheVariants.{ReadFault, WriteFault}
 use Rattle.gaz_exchange.specs.declared.conversation.Served.{Served}
 use Rattle.gaz_exchange.specs.declared.conversation.Stopped.{Stopped}
 
--- Below, es are the exchanges, rest the bytes that were read and aren't theirs, left what the reader has left, n the replies that count, and written all that was written.
+-- what went through a reader and a writer: what the reader had before and has left, and what the
+-- writer held before and holds, each where that is known
+pub record Transfer : Type 0 where
+  pub had : Option (List ℕ)
+  pub left : Option (List ℕ)
+  pub held : Option (List ℕ)
+  pub holds : Option (List ℕ)
+
+-- what went through a reader and a writer that are seen so
+abbrev pub transfer : {R W : Type 0} → (R → Option (List ℕ)) → (W → Option (List ℕ))
+    → R → R → W → W → Transfer
+transfer remaining contents reader reader_after writer writer_after = record {
+  had = remaining reader;
+  left = remaining reader_after;
+  held = contents writer;
+  holds = contents writer_after;
+}
+
+-- what passed in a conversation up to its end
+pub record Passed : Type 0 where
+  pub exchanges : List Exchange
+  -- the bytes that were read and are none of theirs
+  pub rest : List ℕ
+  -- what the reader has left, where that is known
+  pub left : Option (List ℕ)
+  -- all that was written
+  pub written : List ℕ
+
+-- Below, most is how many requests were allowed, and count how many replies were wholly written.
 
 -- the input ended where another request might have come
-pub record EndsWithInput (most : ℕ) (es : List Exchange) (rest : List ℕ) (left : Option (List ℕ)) (n : ℕ) (written : List ℕ) : Type 0 where
-  pub open_yet : goes_on most es ≡ true
-  pub over : IsOver rest
-  pub at_end : IsAtEnd left
-  pub counted : n ≡ length es
-  pub told : written ≡ replies es
+pub record EndsWithInput (most : ℕ) (passed : Passed) (count : ℕ) : Type 0 where
+  pub open_yet : goes_on most passed.exchanges ≡ true
+  pub over : IsOver passed.rest
+  pub at_end : IsAtEnd passed.left
+  pub counted : count ≡ length passed.exchanges
+  pub told : passed.written ≡ replies passed.exchanges
 
 -- no other request may follow
-pub record EndsAnswered (most : ℕ) (es : List Exchange) (n : ℕ) (written : List ℕ) : Type 0 where
-  pub done : goes_on most es ≡ false
-  pub counted : n ≡ length es
-  pub told : written ≡ replies es
+pub record EndsAnswered (most : ℕ) (passed : Passed) (count : ℕ) : Type 0 where
+  pub done : goes_on most passed.exchanges ≡ false
+  pub counted : count ≡ length passed.exchanges
+  pub told : passed.written ≡ replies passed.exchanges
 
 -- the request that follows was refused, and so the conversation ended
-pub record EndsRefused (most : ℕ) (es : List Exchange) (rest : List ℕ) (left : Option (List ℕ)) (n : ℕ) (written : List ℕ) : Type 0 where
-  pub open_yet : goes_on most es ≡ true
+pub record EndsRefused (most : ℕ) (passed : Passed) (count : ℕ) : Type 0 where
+  pub open_yet : goes_on most passed.exchanges ≡ true
   pub text : List ℕ
-  pub turned_away : IsTurnedAway rest left text
-  pub counted : n ≡ length es + 1
-  pub told : written ≡ replies es ++ text
+  pub turned_away : IsTurnedAway passed.rest passed.left text
+  pub counted : count ≡ length passed.exchanges + 1
+  pub told : passed.written ≡ replies passed.exchanges ++ text
 
 -- the reader failed, or the writer in a flush, before the next request was whole
-pub record StopsWaiting (most : ℕ) (es : List Exchange) (rest : List ℕ) (n : ℕ) (written : List ℕ) : Type 0 where
-  pub open_yet : goes_on most es ≡ true
-  pub unfinished : IsUnfinished rest
-  pub counted : n ≡ length es
-  pub told : written ≡ replies es
+pub record StopsWaiting (most : ℕ) (passed : Passed) (count : ℕ) : Type 0 where
+  pub open_yet : goes_on most passed.exchanges ≡ true
+  pub unfinished : IsUnfinished passed.rest
+  pub counted : count ≡ length passed.exchanges
+  pub told : passed.written ≡ replies passed.exchanges
 
--- the writer failed in the reply to the last exchange: a front of it stands behind the earlier replies
-pub record StopsAnswering (es : List Exchange) (n : ℕ) (written : List ℕ) : Type 0 where
+-- the writer failed in the reply to the last exchange: a front of it stands behind the earlier ones
+pub record StopsAnswering (passed : Passed) (count : ℕ) : Type 0 where
   pub earlier : List Exchange
   pub in_hand : Exchange
   pub sent : List ℕ
   pub lost : List ℕ
-  pub split : es ≡ earlier ++ in_hand ∷ []
+  pub split : passed.exchanges ≡ earlier ++ in_hand ∷ []
   pub cut : in_hand.reply ≡ sent ++ lost
-  pub counted : n ≡ length earlier
-  pub told : written ≡ replies earlier ++ sent
+  pub counted : count ≡ length earlier
+  pub told : passed.written ≡ replies earlier ++ sent
 
 -- the writer failed in the reply that refuses the request that follows
-pub record StopsRefusing (most : ℕ) (es : List Exchange) (rest : List ℕ) (left : Option (List ℕ)) (n : ℕ) (written : List ℕ) : Type 0 where
-  pub open_yet : goes_on most es ≡ true
+pub record StopsRefusing (most : ℕ) (passed : Passed) (count : ℕ) : Type 0 where
+  pub open_yet : goes_on most passed.exchanges ≡ true
   pub sent : List ℕ
   pub lost : List ℕ
-  pub turned_away : IsTurnedAway rest left (sent ++ lost)
-  pub counted : n ≡ length es
-  pub told : written ≡ replies es ++ sent
+  pub turned_away : IsTurnedAway passed.rest passed.left (sent ++ lost)
+  pub counted : count ≡ length passed.exchanges
+  pub told : passed.written ≡ replies passed.exchanges ++ sent
 
 -- Most where so many were answered as were allowed
 abbrev pub ended_after : ℕ → ℕ → Ended
-ended_after n most = if n == most then Most else Closed
+ended_after count most = if count == most then Most else Closed
 
-abbrev pub EndsAs : ℕ → List Exchange → List ℕ → Option (List ℕ) → ℕ → Ended → List ℕ → Type 0
-EndsAs most es rest left n InputEnd written = EndsWithInput most es rest left n written
-EndsAs most es rest left n Most written = (ended_after n most ≡ Most) × (EndsAnswered most es n written ⊎ EndsRefused most es rest left n written)
-EndsAs most es rest left n Closed written = (ended_after n most ≡ Closed) × (EndsAnswered most es n written ⊎ EndsRefused most es rest left n written)
+-- the conversation ended after the last reply, by a request or by its refusal
+abbrev pub EndsByReply : ℕ → Passed → ℕ → Type 0
+EndsByReply most passed count = EndsAnswered most passed count ⊎ EndsRefused most passed count
 
-abbrev pub StopsAs : ℕ → List Exchange → List ℕ → Option (List ℕ) → ℕ → Cause → List ℕ → Type 0
-StopsAs most es rest left n ReadFault written = StopsWaiting most es rest n written
-StopsAs most es rest left n WriteFault written = StopsWaiting most es rest n written ⊎ StopsAnswering es n written ⊎ StopsRefusing most es rest left n written
+-- the conversation ended so
+abbrev pub EndsAs : ℕ → Passed → ℕ → Ended → Type 0
+EndsAs most passed count InputEnd = EndsWithInput most passed count
+EndsAs most passed count Most = (ended_after count most ≡ Most) × EndsByReply most passed count
+EndsAs most passed count Closed = (ended_after count most ≡ Closed) × EndsByReply most passed count
 
--- how it ended
-abbrev pub ComesTo : ℕ → List Exchange → List ℕ → Option (List ℕ) → Result Served Stopped → List ℕ → Type 0
-ComesTo most es rest left (Ok served) written = EndsAs most es rest left served.requests served.ended written
-ComesTo most es rest left (Err stopped) written = StopsAs most es rest left stopped.requests stopped.cause written
+-- the conversation couldn't go on, for this cause
+abbrev pub StopsAs : ℕ → Passed → ℕ → Cause → Type 0
+StopsAs most passed count ReadFault = StopsWaiting most passed count
+StopsAs most passed count WriteFault =
+    StopsWaiting most passed count ⊎ StopsAnswering passed count ⊎ StopsRefusing most passed count
 
--- at a hub with this door, and at most so many requests: from the bytes that the reader had and has left, what the writer held and holds, and the hub's keeper before and after
-pub record Conversation (d : Door) (most : ℕ) (had left held holds : Option (List ℕ)) (old new : Seen) (result : Result Served Stopped) : Type 0 where
+-- how the conversation ended
+abbrev pub ComesTo : ℕ → Passed → Result Served Stopped → Type 0
+ComesTo most passed (Ok served) = EndsAs most passed served.requests served.ended
+ComesTo most passed (Err stopped) = StopsAs most passed stopped.requests stopped.cause
+
+-- where a conversation ended, the exchanges are all that come in what was read, unless there was
+-- no memory for the body of the next request; of one that couldn't go on nothing is said here
+abbrev pub AnswersAll : ℕ → Passed → Result Served Stopped → Type 0
+AnswersAll most passed (Ok served) =
+    AreAll most passed.exchanges passed.rest ⊎ IsRefused passed.rest passed.left NotReceived
+AnswersAll most passed (Err stopped) = ⊤
+
+-- a conversation of a hub with this door, of at most so many requests; old and new are the hub's
+-- keeper before and after
+pub record Conversation (d : Door) (most : ℕ) (through : Transfer) (old new : Seen)
+    (result : Result Served Stopped) : Type 0 where
   pub read : List ℕ
   pub written : List ℕ
   pub exchanges : List Exchange
   pub rest : List ℕ
-  pub consumed : Consumes had left read
-  pub appended : Appends held holds written
+  pub consumed : Consumes through.had through.left read
+  pub appended : Appends through.held through.holds written
   pub comes : Comes most read exchanges rest
   pub routes : RoutesStay exchanges
   pub runs : Runs d old new (commands_of exchanges) (responses_of exchanges)
-  -- where the keeper stood for a partial run before and nobody else wrote on it: what is received is what was there and
-  -- what came first, and each answer is read off the standing board of the files that were received by then
-  pub answers : StandsForRun d old → new.unharmed
-      → AllAnswered d old.content.files (commands_of exchanges) (responses_of exchanges) new.content.files
-  pub comes_to : ComesTo most exchanges rest left result written
+  -- where the keeper stood for a partial run before and nobody else wrote on it: what is received
+  -- is what was there and what came first, and each answer is read off the standing board of the
+  -- files that were received by then
+  pub answers : StandsForRun d old → new.unharmed →
+      AllAnswered d old.content.files (commands_of exchanges) (responses_of exchanges)
+      new.content.files
+  pub comes_to : ComesTo most
+      (record { exchanges = exchanges; rest = rest; left = through.left; written = written }) result
+  pub answers_all : AnswersAll most
+      (record { exchanges = exchanges; rest = rest; left = through.left; written = written }) result

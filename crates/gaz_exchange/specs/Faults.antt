@@ -4,7 +4,11 @@ use Rattle.gaz_hub.specs.declared.refusal.Refusal.{Refusal}
 use Rattle.gaz_hub.specs.declared.refusal.Refusal.TheVariants as hub
 use Rattle.gaz_exchange.specs.declared.fault.Allowed.TheVariants.{Get, GetAndPost}
 use Rattle.gaz_exchange.specs.declared.fault.Fault.{Fault}
-use Rattle.gaz_exchange.specs.declared.fault.Fault.TheVariants.{UnknownCustodian, BadVolume, TooLarge, UnknownProfile, NotThere, BadRequest, NoRoute, BadMethod, LengthRequired, NotReceived, Unsettled}
+use Rattle.gaz_exchange.specs.declared.fault.Fault.TheVariants.{UnknownCustodian, BadVolume}
+use Rattle.gaz_exchange.specs.declared.fault.Fault.TheVariants.{TooLarge, UnknownProfile, NotThere}
+use Rattle.gaz_exchange.specs.declared.fault.Fault.TheVariants.{BadRequest, NoRoute, BadMethod}
+use Rattle.gaz_exchange.specs.declared.fault.Fault.TheVariants.{LengthRequired, NotReceived}
+use Rattle.gaz_exchange.specs.declared.fault.Fault.TheVariants.{Unsettled}
 
 -- a refusal of the hub's, whose cause isn't told
 abbrev pub fault_of : Refusal → Fault

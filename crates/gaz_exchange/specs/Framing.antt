@@ -1,10 +1,13 @@
--- How long a request's body is (RFC 9112, section 6), and whether the conversation ends after it (section 9).
-use Rattle.std.specs.Prelude.{ℕ, ◌==◌, ◌||◌, not, nat_lt, Bool, if◌then◌else◌, List, length, codes, Option, Some, None, bytes_eq}
+-- How long a request's body is (RFC 9112, section 6), and whether the conversation ends after it
+-- (section 9).
+use Rattle.std.specs.Prelude.{ℕ, ◌==◌, ◌||◌, not, nat_lt, Bool, if◌then◌else◌, List, length, codes}
+use Rattle.std.specs.Prelude.{Option, Some, None, bytes_eq}
 use Rattle.std.specs.Str.{all_ascii_digits}
 use Rattle.std.specs.Str.Parse.{digits_value}
 use Rattle.httparse.specs.Grammar.{RequestHead}
 use Rattle.gaz_exchange.specs.Headers.{Header, headers_of, count_of, value_of, asks_close}
-use Rattle.gaz_exchange.specs.declared.fault.Fault.TheVariants.{BadRequest, LengthRequired, TooLarge}
+use Rattle.gaz_exchange.specs.declared.fault.Fault.TheVariants.{BadRequest, LengthRequired}
+use Rattle.gaz_exchange.specs.declared.fault.Fault.TheVariants.{TooLarge}
 use Rattle.gaz_exchange.specs.declared.framing.Framing.{Framing}
 use Rattle.gaz_exchange.specs.declared.framing.Framing.TheVariants.{Length, Refused}
 
@@ -20,16 +23,19 @@ abbrev pub length_by : Bool → Option (List ℕ) → Framing
 length_by is_post (Some value) = size_in value
 length_by is_post None = if is_post then Refused LengthRequired else Length 0
 
--- any transfer coding is refused, and so is a second Content-Length
+-- how long the body is by the headers: any transfer coding is refused, and so is a second
+-- Content-Length
 abbrev pub length_in : Bool → List Header → Framing
 length_in is_post headers =
     if nat_lt 0 (count_of (codes "transfer-encoding") headers) then Refused LengthRequired
     else if nat_lt 1 (count_of (codes "content-length") headers) then Refused BadRequest
     else length_by is_post (value_of (codes "content-length") headers)
 
+-- the method is POST
 abbrev pub is_post_method : List ℕ → Bool
 is_post_method method = bytes_eq method (codes "POST")
 
+-- the head's method is POST
 abbrev pub is_post : RequestHead → Bool
 is_post h = is_post_method h.method
 
@@ -37,7 +43,7 @@ is_post h = is_post_method h.method
 unfoldable pub length_of : RequestHead → Framing
 length_of h = length_in (is_post h) (headers_of h)
 
--- HTTP/1.0, or a Connection header with the element close
+-- HTTP/1.0, or a Connection header with the option close
 abbrev pub closes_in : ℕ → List Header → Bool
 closes_in minor headers = (minor == 0) || asks_close headers
 

@@ -10,6 +10,7 @@ use Rattle.httparse.specs.Spans.{name_and_value}
 abbrev pub Header : Type 0
 Header = List ℕ × List ℕ
 
+-- the headers of a head, in order
 abbrev pub headers_of : RequestHead → List Header
 headers_of h = map name_and_value h.fields
 
@@ -29,16 +30,18 @@ value_of name headers = option_map (λ h. h.1) (find (is_named name) headers)
 abbrev pub elements : List ℕ → List (List ℕ)
 elements value = slice_split (λ b. b == 44) value
 
--- the element is close, whatever its case and the white space around it
+-- the element is the option close, whatever its case and the white space around it
 abbrev pub is_close_option : List ℕ → Bool
 is_close_option element = str_eq_ignore_ascii_case (trim_ows element) (codes "close")
 
+-- one of a value's elements is the option close
 abbrev pub has_close : List ℕ → Bool
 has_close value = list_any is_close_option (elements value)
 
--- a Connection header that has it
+-- the header is a Connection with the option close
 abbrev pub is_close_header : Header → Bool
 is_close_header h = is_named (codes "connection") h && has_close h.1
 
+-- one of the headers is a Connection with the option close
 abbrev pub asks_close : List Header → Bool
 asks_close headers = list_any is_close_header headers

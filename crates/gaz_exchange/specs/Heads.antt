@@ -13,14 +13,15 @@ pub record BeginsWith (bytes : List ℕ) (h : RequestHead) (rest : List ℕ) : T
 abbrev pub NoHead : List ℕ → Type 0
 NoHead bytes = (h : RequestHead) (rest : List ℕ) → BeginsWith bytes h rest → ⊥
 
--- and never do, whatever bytes follow
+-- the bytes begin with no head, whatever bytes follow
 abbrev pub NeverHead : List ℕ → Type 0
 NeverHead bytes = (more : List ℕ) → NoHead (bytes ++ more)
 
+-- CR or LF
 abbrev pub is_line_byte : ℕ → Bool
 is_line_byte b = (b == 13) || (b == 10)
 
--- CR and LF alone
+-- the bytes are CR and LF alone
 abbrev pub is_blank : List ℕ → Bool
 is_blank bytes = list_all is_line_byte bytes
 

@@ -1,5 +1,6 @@
 -- A request as it is read.
-use Rattle.std.specs.Prelude.{◌≡◌, ◌⊎◌, ◌<◌, ◌++◌, ℕ, Bool, true, false, List, length, Option, Result, Err}
+use Rattle.std.specs.Prelude.{◌≡◌, ◌⊎◌, ◌<◌, ◌++◌, ℕ, Bool, true, false, List, length, Option}
+use Rattle.std.specs.Prelude.{Result, Err}
 use Rattle.std.specs.Io.KnownBytes.{IsAtEnd}
 use Rattle.httparse.specs.Grammar.{RequestHead}
 use Rattle.gaz_exchange.specs.Asking.{call_at, method_of}
@@ -23,6 +24,7 @@ abbrev pub IsCallAt : Bool → List ℕ → Method → Result Call Fault → Typ
 IsCallAt true target method call = call ≡ call_at (target_of target) method
 IsCallAt false target method call = call ≡ Err NotReceived
 
+-- what the hub is asked by a head
 abbrev pub IsCall : Bool → RequestHead → Result Call Fault → Type 0
 IsCall routed h call = IsCallAt routed h.target (method_of h.method) call
 
@@ -35,21 +37,26 @@ pub record IsNeeded (routed : Bool) (h : RequestHead) (needed : Needed) : Type 0
 -- why a body can't be read
 abbrev pub CantRead : List ℕ → Framing → Option (List ℕ) → Fault → Type 0
 CantRead after (Length size) left fault =
-    ((fault ≡ BadRequest) × (length after < size) × IsAtEnd left) ⊎ ((fault ≡ NotReceived) × (0 < size))
+    ((fault ≡ BadRequest) × (length after < size) × IsAtEnd left)
+    ⊎ ((fault ≡ NotReceived) × (0 < size))
 CantRead after (Refused why) left fault = why ≡ fault
 
--- whether the routes were found; of the bytes that were pending or read, those that aren't used, and those that the reader has left
+-- what comes next: routed where the routes were found; bytes are those that were pending or read,
+-- rest those that aren't used, left those that the reader has left
 abbrev pub IsIncoming : Bool → List ℕ → List ℕ → Option (List ℕ) → Incoming → Type 0
 IsIncoming routed bytes rest left (incoming.Request q) =
-    (h : RequestHead) × BeginsWithRequest bytes h q.body.items rest × IsCall routed h q.call × (q.closing ≡ is_closing h)
+    (h : RequestHead) × BeginsWithRequest bytes h q.body.items rest × IsCall routed h q.call
+    × (q.closing ≡ is_closing h)
 IsIncoming routed bytes rest left (incoming.Refused fault) = IsRefused bytes left fault
 IsIncoming routed bytes rest left incoming.Over = IsOver bytes × IsAtEnd left
 IsIncoming routed bytes rest left (incoming.Failed cause) = IsUnfinished bytes
 
--- of the bytes behind a head that were pending or read
+-- what comes behind a head: after are the bytes that were pending or read
 abbrev pub IsBehind : List ℕ → Needed → List ℕ → Option (List ℕ) → Incoming → Type 0
 IsBehind after needed rest left (incoming.Request q) =
-    (needed.framing ≡ Length (length q.body.items)) × (after ≡ q.body.items ++ rest) × (q.call ≡ needed.call) × (q.closing ≡ needed.closing)
+    (needed.framing ≡ Length (length q.body.items)) × (after ≡ q.body.items ++ rest)
+    × (q.call ≡ needed.call) × (q.closing ≡ needed.closing)
 IsBehind after needed rest left (incoming.Refused fault) = CantRead after needed.framing left fault
 IsBehind after needed rest left incoming.Over = ⊥
-IsBehind after needed rest left (incoming.Failed cause) = (size : ℕ) × (needed.framing ≡ Length size) × (length after < size)
+IsBehind after needed rest left (incoming.Failed cause) =
+    (size : ℕ) × (needed.framing ≡ Length size) × (length after < size)

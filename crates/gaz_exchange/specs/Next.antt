@@ -14,20 +14,23 @@ use Rattle.gaz_exchange.specs.declared.heads.Next.TheVariants.{Head, Bad, Over, 
 -- the pending bytes begin with a head, which these spans cover
 abbrev pub IsHeadAt : List ℕ → List HeaderSpan → RequestSpans → Type 0
 IsHeadAt pending headers spans = IsRequestWithin pending headers spans
-    × (h : RequestHead) × IsRequestAt pending headers spans h × (length (print_request h) ≤ 8192) × (length h.fields ≤ 32)
+    × (h : RequestHead) × IsRequestAt pending headers spans h
+    × (length (print_request h) ≤ 8192) × (length h.fields ≤ 32)
 
--- they aren't CR and LF alone, in at most 8,192 bytes
+-- the pending bytes aren't CR and LF alone, in at most 8,192 bytes
 abbrev pub IsMore : List ℕ → Type 0
 IsMore pending = (is_blank pending ≡ false) ⊎ (8192 < length pending)
 
+-- what the pending bytes begin with
 abbrev pub IsLook : List ℕ → List HeaderSpan → Look → Type 0
 IsLook pending headers (look.Head spans) = IsHeadAt pending headers spans
 IsLook pending headers look.Open = NoHead pending × (8192 < length pending → NeverHead pending)
 IsLook pending headers look.Never = NeverHead pending × IsMore pending
 
--- of the bytes that were read and not used, and the bytes that the reader has left
+-- what comes next, by the bytes that were read and not used, and those that the reader has left
 abbrev pub IsNext : List ℕ → Option (List ℕ) → List HeaderSpan → Next → Type 0
 IsNext pending left headers (Head spans) = IsHeadAt pending headers spans
-IsNext pending left headers Bad = (NeverHead pending ⊎ (NoHead pending × IsAtEnd left)) × IsMore pending
+IsNext pending left headers Bad =
+    (NeverHead pending ⊎ (NoHead pending × IsAtEnd left)) × IsMore pending
 IsNext pending left headers Over = IsOver pending × IsAtEnd left
 IsNext pending left headers (Failed cause) = NoHead pending

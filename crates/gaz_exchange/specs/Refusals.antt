@@ -25,20 +25,25 @@ pub record HasBadLength (bytes : List ℕ) (fault : Fault) : Type 0 where
 
 -- no head stands whole in the bytes, or not the whole body behind it
 abbrev pub IsUnfinished : List ℕ → Type 0
-IsUnfinished bytes = NoHead bytes ⊎ ((size : ℕ) × (after : List ℕ) × HasHead bytes size after × (length after < size))
+IsUnfinished bytes =
+    NoHead bytes
+    ⊎ ((size : ℕ) × (after : List ℕ) × HasHead bytes size after × (length after < size))
 
 -- why the request at the front of the bytes is refused; left is what the reader has left
 pub data IsRefused (bytes : List ℕ) (left : Option (List ℕ)) : Fault → Type 0 where
   -- it is no head, whatever bytes follow
   no_head : NeverHead bytes → (IsOver bytes → ⊥) → IsRefused bytes left BadRequest
   -- the input ended within the head
-  cut_head : NoHead bytes → (IsOver bytes → ⊥) → IsAtEnd left → IsRefused bytes left BadRequest
+  cut_head : NoHead bytes → (IsOver bytes → ⊥) → IsAtEnd left
+      → IsRefused bytes left BadRequest
   -- the body's length isn't told, or not taken
   bad_length : (fault : Fault) → HasBadLength bytes fault → IsRefused bytes left fault
   -- the input ended within the body
-  cut_body : (size : ℕ) (after : List ℕ) → HasHead bytes size after → length after < size → IsAtEnd left → IsRefused bytes left BadRequest
+  cut_body : (size : ℕ) (after : List ℕ) → HasHead bytes size after → length after < size
+      → IsAtEnd left → IsRefused bytes left BadRequest
   -- there was no memory for the body
-  no_memory : (size : ℕ) (after : List ℕ) → HasHead bytes size after → 0 < size → IsRefused bytes left NotReceived
+  no_memory : (size : ℕ) (after : List ℕ) → HasHead bytes size after → 0 < size
+      → IsRefused bytes left NotReceived
 
 -- the request at the front of the bytes is refused, by a reply with this text
 pub record IsTurnedAway (bytes : List ℕ) (left : Option (List ℕ)) (text : List ℕ) : Type 0 where

@@ -1,5 +1,6 @@
 -- The text of a reply (RFC 9112, section 4; RFC 9110, section 15).
-use Rattle.std.specs.Prelude.{◌≡◌, ◌⊎◌, ℕ, Bool, true, false, if◌then◌else◌, List, [], ◌++◌, length, codes, Option, Some, None, Result, Ok, Err}
+use Rattle.std.specs.Prelude.{◌≡◌, ◌⊎◌, ℕ, Bool, true, false, if◌then◌else◌, List, [], ◌++◌, length}
+use Rattle.std.specs.Prelude.{codes, Option, Some, None, Result, Ok, Err}
 use Rattle.std.specs.List.{join_by}
 use Rattle.std.specs.Fmt.{decimal}
 use Rattle.hex.specs.Hex.{encode_lower}
@@ -8,7 +9,8 @@ use Rattle.serde_json.specs.Written.{compact_text}
 use Rattle.gaz_ids.specs.Codes.{status_number}
 use Rattle.gaz_extract.specs.declared.closed.Closed.{Closed}
 use Rattle.gaz_extract.specs.declared.found.Found.{Found}
-use Rattle.gaz_hub.specs.Step.{Ask, Extract, ListClosed, LookUp, Question, Replied, Response, Settle, Stand, Submitted, Told}
+use Rattle.gaz_hub.specs.Step.{Ask, Extract, ListClosed, LookUp, Question, Replied, Response}
+use Rattle.gaz_hub.specs.Step.{Settle, Stand, Submitted, Told}
 use Rattle.gaz_hub.specs.declared.answer.Answer.{Answer}
 use Rattle.gaz_hub.specs.declared.answer.Answer.TheVariants as answer
 use Rattle.gaz_hub.specs.declared.outcome.Outcome.{Outcome}
@@ -28,30 +30,30 @@ reply_of (answer.Repeat outcome) = reply.Repeat outcome
 reply_of (answer.Taken digest) = reply.Taken digest
 reply_of (answer.Refused refusal) = reply.Refused (fault_of refusal)
 
--- what it says of the outcome of a volume
+-- what a reply says of the outcome of a volume
 abbrev pub reply_told : Result (Option (List ℕ × Outcome)) Refusal → Reply
 reply_told (Ok None) = reply.Refused NotThere
 reply_told (Ok (Some told)) = reply.Told told.0 told.1
 reply_told (Err refusal) = reply.Refused (fault_of refusal)
 
--- what it says of a custodian's standing
+-- what a reply says of a custodian's standing
 abbrev pub reply_stands : Result Standing Refusal → Reply
 reply_stands (Ok standing) = reply.Stands standing
 reply_stands (Err refusal) = reply.Refused (fault_of refusal)
 
--- what it says of where a property stands
+-- what a reply says of where a property stands
 abbrev pub reply_found : Result (Option Found) Refusal → Reply
 reply_found (Ok None) = reply.Refused NotThere
 reply_found (Ok (Some found)) = reply.Found found
 reply_found (Err refusal) = reply.Refused (fault_of refusal)
 
--- what it says of an extract, where the volume is reached
+-- what a reply says of an extract, where the volume is reached
 abbrev pub reply_extracted : Result (Option (List ℕ)) Refusal → Reply
 reply_extracted (Ok None) = reply.Refused NotThere
 reply_extracted (Ok (Some bytes)) = reply.Extract bytes
 reply_extracted (Err refusal) = reply.Refused (fault_of refusal)
 
--- what it says of addresses on closed streets
+-- what a reply says of addresses on closed streets
 abbrev pub reply_listed : Result (List Closed) Refusal → Reply
 reply_listed (Ok closed) = reply.Closed closed
 reply_listed (Err refusal) = reply.Refused (fault_of refusal)
@@ -70,6 +72,7 @@ abbrev pub reply_to : Response → Reply
 reply_to (Submitted answer) = reply_of answer
 reply_to (Replied q told) = reply_on q told
 
+-- the status of a reply and its reason
 abbrev pub status_line : Reply → List ℕ
 status_line (reply.New outcome) = codes "201 Created"
 status_line (reply.Repeat outcome) = codes "200 OK"
@@ -93,8 +96,11 @@ allow_in _ = []
 
 -- a volume that is waited for
 abbrev pub want_text : ℕ → ℕ → List ℕ
-want_text custodian volume = codes "{\"custodian\":" ++ (decimal custodian ++ (codes ",\"volume\":" ++ (decimal volume ++ codes "}")))
+want_text custodian volume =
+    codes "{\"custodian\":" ++ (decimal custodian
+    ++ (codes ",\"volume\":" ++ (decimal volume ++ codes "}")))
 
+-- a volume that is waited for, where there is one
 abbrev pub wants_text : Option (ℕ × ℕ) → List ℕ
 wants_text None = codes "null"
 wants_text (Some want) = want_text want.0 want.1
@@ -102,8 +108,11 @@ wants_text (Some want) = want_text want.0 want.1
 -- the members of an outcome
 abbrev pub outcome_text : Outcome → List ℕ
 outcome_text Applied = codes "\"outcome\":\"applied\""
-outcome_text (Rejected place rule) = codes "\"outcome\":\"rejected\",\"record\":" ++ (decimal place ++ (codes ",\"rule\":" ++ decimal rule))
-outcome_text (Held custodian volume) = codes "\"outcome\":\"held\",\"wants\":" ++ want_text custodian volume
+outcome_text (Rejected place rule) =
+    codes "\"outcome\":\"rejected\",\"record\":" ++ (decimal place
+    ++ (codes ",\"rule\":" ++ decimal rule))
+outcome_text (Held custodian volume) =
+    codes "\"outcome\":\"held\",\"wants\":" ++ want_text custodian volume
 
 -- a line as a string of JSON, where there is one
 abbrev pub line_text : Option (List ℕ) → List ℕ
@@ -113,22 +122,32 @@ line_text (Some line) = compact_text (json.string line)
 -- an address on a closed street
 abbrev pub closed_text : Closed → List ℕ
 closed_text closed =
-    codes "{\"custodian\":" ++ (decimal closed.custodian ++ (codes ",\"lpi\":\"" ++ (closed.lpi ++ (codes "\",\"usrn\":" ++ (decimal closed.usrn ++ codes "}")))))
+    codes "{\"custodian\":" ++ (decimal closed.custodian
+    ++ (codes ",\"lpi\":\"" ++ (closed.lpi
+    ++ (codes "\",\"usrn\":" ++ (decimal closed.usrn ++ codes "}")))))
 
 -- an extract as it is, else compact JSON, its keys in byte order, and a line feed
 abbrev pub body_of : Reply → List ℕ
 body_of (reply.New outcome) = codes "{" ++ (outcome_text outcome ++ codes "}\n")
 body_of (reply.Repeat outcome) = codes "{" ++ (outcome_text outcome ++ codes "}\n")
-body_of (reply.Taken digest) = codes "{\"digest\":\"" ++ (encode_lower digest ++ codes "\",\"outcome\":\"taken\"}\n")
-body_of (reply.Told digest outcome) = codes "{\"digest\":\"" ++ (encode_lower digest ++ (codes "\"," ++ (outcome_text outcome ++ codes "}\n")))
+body_of (reply.Taken digest) =
+    codes "{\"digest\":\"" ++ (encode_lower digest ++ codes "\",\"outcome\":\"taken\"}\n")
+body_of (reply.Told digest outcome) =
+    codes "{\"digest\":\"" ++ (encode_lower digest
+    ++ (codes "\"," ++ (outcome_text outcome ++ codes "}\n")))
 body_of (reply.Stands s) =
-    codes "{\"custodian\":" ++ (decimal s.custodian ++ (codes ",\"held\":" ++ (decimal s.held
-    ++ (codes ",\"judged\":" ++ (decimal s.judged ++ (codes ",\"wants\":" ++ (wants_text s.wants ++ codes "}\n")))))))
+    codes "{\"custodian\":" ++ (decimal s.custodian
+    ++ (codes ",\"held\":" ++ (decimal s.held
+    ++ (codes ",\"judged\":" ++ (decimal s.judged
+    ++ (codes ",\"wants\":" ++ (wants_text s.wants ++ codes "}\n")))))))
 body_of (reply.Found f) =
-    codes "{\"custodian\":" ++ (decimal f.custodian ++ (codes ",\"line\":" ++ (line_text f.line
-    ++ (codes ",\"status\":" ++ (decimal (status_number f.status) ++ (codes ",\"uprn\":" ++ (decimal f.uprn ++ codes "}\n")))))))
+    codes "{\"custodian\":" ++ (decimal f.custodian
+    ++ (codes ",\"line\":" ++ (line_text f.line
+    ++ (codes ",\"status\":" ++ (decimal (status_number f.status)
+    ++ (codes ",\"uprn\":" ++ (decimal f.uprn ++ codes "}\n")))))))
 body_of (reply.Extract bytes) = bytes
-body_of (reply.Closed closed) = codes "{\"closed\":[" ++ (join_by closed_text (codes ",") closed ++ codes "]}\n")
+body_of (reply.Closed closed) =
+    codes "{\"closed\":[" ++ (join_by closed_text (codes ",") closed ++ codes "]}\n")
 body_of (reply.Refused fault) = codes "{\"refusal\":" ++ (decimal (number_of fault) ++ codes "}\n")
 
 -- said where the conversation ends after the reply
@@ -147,9 +166,11 @@ message status content size headers body is_last =
     ++ (codes "\r\nContent-Length: " ++ (decimal size
     ++ (codes "\r\n" ++ (headers ++ (close_of is_last ++ (codes "\r\n" ++ body)))))))))
 
--- the length counts bytes
+-- the whole text of a reply; its length counts bytes
 unfoldable pub reply_text : Reply → Bool → List ℕ
-reply_text reply is_last = message (status_line reply) (content_type reply) (length (body_of reply)) (allow_in reply) (body_of reply) is_last
+reply_text reply is_last =
+    message (status_line reply) (content_type reply) (length (body_of reply)) (allow_in reply)
+    (body_of reply) is_last
 
 -- the request received its file
 abbrev pub is_received : Reply → Bool
@@ -161,7 +182,8 @@ is_received _ = false
 abbrev pub memory_fault : Bool → Fault
 memory_fault received = if received then Unsettled else NotReceived
 
--- the text is made with memory: a refusal's is a constant, and the bytes of an extract are there already
+-- the text is made with memory: a refusal's is a constant, and the bytes of an extract are there
+-- already
 abbrev pub takes_memory : Reply → Bool
 takes_memory (reply.Refused fault) = false
 takes_memory (reply.Extract bytes) = false

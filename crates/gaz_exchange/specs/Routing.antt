@@ -5,7 +5,8 @@ use Rattle.matchit.specs.Router.{RouteOf}
 use Rattle.matchit.specs.Params.{AllText, walk}
 use Rattle.matchit.specs.declared.params.Params.{Params}
 use Rattle.gaz_exchange.specs.declared.route.Place.{Place}
-use Rattle.gaz_exchange.specs.declared.route.Place.TheVariants.{Closed, Custodian, Extract, Uprn, Volume}
+use Rattle.gaz_exchange.specs.declared.route.Place.TheVariants.{Closed, Custodian, Extract, Uprn}
+use Rattle.gaz_exchange.specs.declared.route.Place.TheVariants.{Volume}
 
 -- /custodians/{c}/volumes/{v}
 abbrev pub volume_route : RouteOf Place
@@ -45,7 +46,12 @@ uprn_route = record {
 
 -- /closed
 abbrev pub closed_route : RouteOf Place
-closed_route = record { pattern = codes "/closed"; text = codes "/closed"; names = []; value = Closed }
+closed_route = record {
+  pattern = codes "/closed";
+  text = codes "/closed";
+  names = [];
+  value = Closed;
+}
 
 abbrev pub routes : RowsOf (RouteOf Place)
 routes =

@@ -13,7 +13,9 @@ pub record IsPut (held holds : Option (List ℕ)) (text : List ℕ) (whole : Boo
   pub appended : Appends held holds sent
   pub all : whole ≡ true → lost ≡ []
 
-pub record IsSent (held holds : Option (List ℕ)) (reply : Reply) (is_last whole : Bool) : Type 0 where
+-- the reply's text, or only a front of it, was written
+pub record IsSent (held holds : Option (List ℕ)) (reply : Reply) (is_last whole : Bool)
+    : Type 0 where
   pub text : List ℕ
   pub told : IsReplyText reply is_last text
   pub put : IsPut held holds text whole

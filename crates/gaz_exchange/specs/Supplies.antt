@@ -1,11 +1,27 @@
 -- More bytes of a stream.
-use Rattle.std.specs.Prelude.{◌≡◌, ℕ, ◌<◌, List, [], length, Option}
-use Rattle.std.specs.Io.KnownBytes.{IsAtEnd}
+use Rattle.std.specs.Prelude.{◌≡◌, ℕ, ◌<◌, List, [], ◌++◌, length, Option}
+use Rattle.std.specs.Io.KnownBytes.{Consumes, IsAtEnd}
 use Rattle.gaz_exchange.specs.declared.supply.Supply.{Supply}
 use Rattle.gaz_exchange.specs.declared.supply.Supply.TheVariants.{Some, End, Failed}
 
--- of the bytes that came, and those that the reader has left
+-- the reader gave some bytes, which stand behind those that were pending; they and what it has
+-- left are so
+abbrev pub Supplies : {R : Type 0} → (R → Option (List ℕ)) → R → R → List ℕ → List ℕ
+    → (List ℕ → Option (List ℕ) → Type 0) → Type 0
+Supplies remaining old new was pending AreSo =
+    (bytes : List ℕ) × Consumes (remaining old) (remaining new) bytes × (pending ≡ was ++ bytes)
+    × AreSo bytes (remaining new)
+
+-- the reader gave some bytes; those that were pending with these behind them, and what it has
+-- left, are so
+abbrev pub Reads : {R : Type 0} → (R → Option (List ℕ)) → R → R → List ℕ
+    → (List ℕ → Option (List ℕ) → Type 0) → Type 0
+Reads remaining old new was AreSo =
+    (bytes : List ℕ) × Consumes (remaining old) (remaining new) bytes
+    × AreSo (was ++ bytes) (remaining new)
+
+-- what came of asking for more, by the bytes that came and those that the reader has left
 abbrev pub IsSupply : List ℕ → Option (List ℕ) → Supply → Type 0
-IsSupply bs left Some = 0 < length bs
-IsSupply bs left End = (bs ≡ []) × IsAtEnd left
-IsSupply bs left (Failed cause) = bs ≡ []
+IsSupply bytes left Some = 0 < length bytes
+IsSupply bytes left End = (bytes ≡ []) × IsAtEnd left
+IsSupply bytes left (Failed cause) = bytes ≡ []

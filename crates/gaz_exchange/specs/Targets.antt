@@ -1,15 +1,19 @@
 -- What a request's target names, byte by byte as it stands.
-use Rattle.std.specs.Prelude.{ℕ, ◌==◌, ◌&&◌, nat_lt, Bool, if◌then◌else◌, List, [], ◌∷◌, length, codes, bytes_eq, Option}
+use Rattle.std.specs.Prelude.{ℕ, ◌==◌, ◌&&◌, nat_lt, Bool, if◌then◌else◌, List, [], ◌∷◌, length}
+use Rattle.std.specs.Prelude.{codes, bytes_eq, Option}
 use Rattle.std.specs.List.{slice_split}
 use Rattle.std.specs.Result.{result_ok, result_unwrap_or}
 use Rattle.gaz_ids.specs.Numbers.{read_id}
 
--- a custodian's volume, by the texts of the two numbers; a custodian; the extract of a custodian's volume; a property; the closed streets
+-- what a target names, by the texts of its numbers
 pub data Target : Type 0 where
+  -- a custodian's volume
   Volume : List ℕ → List ℕ → Target
   Custodian : List ℕ → Target
+  -- the extract of a custodian's volume
   Extract : List ℕ → List ℕ → Target
   Property : List ℕ → Target
+  -- the closed streets
   Closed : Target
   Nowhere : Target
 
@@ -17,6 +21,7 @@ pub data Target : Type 0 where
 abbrev pub segments : List ℕ → List (List ℕ)
 segments target = slice_split (λ b. b == 47) target
 
+-- the segment isn't empty
 abbrev pub is_filled : List ℕ → Bool
 is_filled segment = nat_lt 0 (length segment)
 
@@ -32,14 +37,18 @@ of_two first n =
 
 -- /extract/{c}/{v}, where neither {c} nor {v} is empty
 abbrev pub of_three : List ℕ → List ℕ → List ℕ → Target
-of_three first c v = if bytes_eq first (codes "extract") && is_filled c && is_filled v then Extract c v else Nowhere
+of_three first c v =
+    if bytes_eq first (codes "extract") && is_filled c && is_filled v then Extract c v
+    else Nowhere
 
--- /custodians/{c}/volumes/{v}, likewise
+-- /custodians/{c}/volumes/{v}, where neither {c} nor {v} is empty
 abbrev pub of_four : List ℕ → List ℕ → List ℕ → List ℕ → Target
 of_four first c second v =
-    if bytes_eq first (codes "custodians") && bytes_eq second (codes "volumes") && is_filled c && is_filled v
+    if bytes_eq first (codes "custodians") && bytes_eq second (codes "volumes")
+    && is_filled c && is_filled v
     then Volume c v else Nowhere
 
+-- what the segments name, of which the first is empty, since a target begins with a slash
 abbrev pub of_segments : List (List ℕ) → Target
 of_segments ([] ∷ first ∷ []) = of_one first
 of_segments ([] ∷ first ∷ n ∷ []) = of_two first n
@@ -47,6 +56,7 @@ of_segments ([] ∷ first ∷ c ∷ v ∷ []) = of_three first c v
 of_segments ([] ∷ first ∷ c ∷ second ∷ v ∷ []) = of_four first c second v
 of_segments _ = Nowhere
 
+-- what a target names
 unfoldable pub target_of : List ℕ → Target
 target_of target = of_segments (segments target)
 

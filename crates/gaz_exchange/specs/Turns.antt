@@ -1,5 +1,6 @@
 -- One turn of a conversation.
-use Rattle.std.specs.Prelude.{◌≡◌, ◌⊎◌, ◌||◌, ℕ, Bool, true, false, List, [], ◌∷◌, ◌++◌, Option, Result, Ok, Err}
+use Rattle.std.specs.Prelude.{◌≡◌, ◌⊎◌, ◌||◌, ℕ, Bool, true, false, List, [], ◌∷◌, ◌++◌, Option}
+use Rattle.std.specs.Prelude.{Result, Ok, Err}
 use Rattle.std.specs.Io.KnownBytes.{Appends, Consumes, IsAtEnd}
 use Rattle.gaz_shelf.specs.Keeper.{Seen}
 use Rattle.gaz_hub.specs.Hubs.{Runs, Steps}
@@ -13,7 +14,8 @@ use Rattle.gaz_exchange.specs.Replies.{reply_to}
 use Rattle.gaz_exchange.specs.Sending.{IsSent}
 use Rattle.gaz_exchange.specs.declared.supply.Cause.TheVariants.{ReadFault, WriteFault}
 use Rattle.gaz_exchange.specs.declared.conversation.Turn.{Turn}
-use Rattle.gaz_exchange.specs.declared.conversation.Turn.TheVariants.{Answered, Closed, Over, Stopped}
+use Rattle.gaz_exchange.specs.declared.conversation.Turn.TheVariants.{Answered, Closed, Over}
+use Rattle.gaz_exchange.specs.declared.conversation.Turn.TheVariants.{Stopped}
 use Rattle.gaz_exchange.specs.declared.fault.Fault.{Fault}
 use Rattle.gaz_exchange.specs.declared.reply.Reply.{Reply}
 use Rattle.gaz_exchange.specs.declared.reply.Reply.TheVariants.{Refused}
@@ -27,9 +29,11 @@ Rests d old new = Runs d old new [] []
 -- the hub is asked by the call, or rests
 abbrev pub Asks : Door → Result Call Fault → List ℕ → Seen → Seen → Reply → Type 0
 Asks d (Ok call) body old new reply =
-    (response : Response) × Steps d old new (command_of body call) response × (reply ≡ reply_to response)
+    (response : Response) × Steps d old new (command_of body call) response
+    × (reply ≡ reply_to response)
 Asks d (Err fault) body old new reply = Rests d old new × (reply ≡ Refused fault)
 
+-- the hub is asked by a request
 abbrev pub IsAsked : Door → Request → Seen → Seen → Reply → Type 0
 IsAsked d q old new reply = Asks d q.call q.body.items old new reply
 
@@ -40,7 +44,8 @@ turn_of true true = Closed
 turn_of false true = Answered
 
 -- what the hub said to a request is written
-pub record Answers (d : Door) (held holds : Option (List ℕ)) (old new : Seen) (q : Request) (is_last : Bool) (turn : Turn) : Type 0 where
+pub record Answers (d : Door) (held holds : Option (List ℕ)) (old new : Seen) (q : Request)
+    (is_last : Bool) (turn : Turn) : Type 0 where
   pub reply : Reply
   pub whole : Bool
   pub asked : IsAsked d q old new reply
@@ -54,7 +59,8 @@ pub record Refuses (held holds : Option (List ℕ)) (fault : Fault) (turn : Turn
   pub turn_is : turn ≡ turn_of true whole
 
 -- the request at the front of the bytes is answered; routed where the routes were found
-pub record Exchanges (d : Door) (is_last routed : Bool) (bytes : List ℕ) (e : Exchange) (rest : List ℕ) (old new : Seen) : Type 0 where
+pub record Exchanges (d : Door) (is_last routed : Bool) (bytes : List ℕ) (e : Exchange)
+    (rest : List ℕ) (old new : Seen) : Type 0 where
   pub routed_is : e.routed ≡ routed
   pub ends : Bool
   pub ends_is : ends ≡ (is_closing e.head || is_last)
@@ -65,20 +71,32 @@ pub record Exchanges (d : Door) (is_last routed : Bool) (bytes : List ℕ) (e : 
 abbrev pub Waits : Door → List ℕ → Seen → Seen → List ℕ → Type 0
 Waits d bytes old new written = IsUnfinished bytes × Rests d old new × (written ≡ [])
 
-abbrev pub TurnsOut : Door → Bool → Bool → List ℕ → List ℕ → Option (List ℕ) → Seen → Seen → List ℕ → Turn → Type 0
+-- how a turn turned out
+abbrev pub TurnsOut : Door → Bool → Bool → List ℕ → List ℕ → Option (List ℕ) → Seen → Seen
+    → List ℕ → Turn → Type 0
 TurnsOut d is_last routed bytes rest left old new written Answered =
-    (e : Exchange) × Exchanges d is_last routed bytes e rest old new × (written ≡ e.reply) × ((is_closing e.head || is_last) ≡ false)
+    (e : Exchange) × Exchanges d is_last routed bytes e rest old new × (written ≡ e.reply)
+    × ((is_closing e.head || is_last) ≡ false)
 TurnsOut d is_last routed bytes rest left old new written Closed =
-    ((e : Exchange) × Exchanges d is_last routed bytes e rest old new × (written ≡ e.reply) × ((is_closing e.head || is_last) ≡ true))
+    ((e : Exchange) × Exchanges d is_last routed bytes e rest old new × (written ≡ e.reply)
+    × ((is_closing e.head || is_last) ≡ true))
     ⊎ (IsTurnedAway bytes left written × Rests d old new)
-TurnsOut d is_last routed bytes rest left old new written Over = IsOver bytes × IsAtEnd left × Rests d old new × (written ≡ [])
-TurnsOut d is_last routed bytes rest left old new written (Stopped ReadFault) = Waits d bytes old new written
-TurnsOut d is_last routed bytes rest left old new written (Stopped WriteFault) = Waits d bytes old new written
-    ⊎ ((lost : List ℕ) × (((e : Exchange) × Exchanges d is_last routed bytes e rest old new × (e.reply ≡ written ++ lost))
+TurnsOut d is_last routed bytes rest left old new written Over =
+    IsOver bytes × IsAtEnd left × Rests d old new × (written ≡ [])
+TurnsOut d is_last routed bytes rest left old new written (Stopped ReadFault) =
+    Waits d bytes old new written
+TurnsOut d is_last routed bytes rest left old new written (Stopped WriteFault) =
+    Waits d bytes old new written
+    ⊎ ((lost : List ℕ)
+    × (((e : Exchange) × Exchanges d is_last routed bytes e rest old new
+    × (e.reply ≡ written ++ lost))
     ⊎ (IsTurnedAway bytes left (written ++ lost) × Rests d old new)))
 
--- at a hub with this door: whether the routes were found and are, the bytes that were pending and are, the reader's, the writer's, and the hub's keeper before and after
-pub record IsTurn (d : Door) (is_last was routed : Bool) (pending rest : List ℕ) (had left held holds : Option (List ℕ)) (old new : Seen) (turn : Turn) : Type 0 where
+-- one turn at a hub with this door: was and routed say whether the routes were found before and
+-- after, pending and rest are the bytes pending before and after, had and left the reader's, held
+-- and holds the writer's, old and new the hub's keeper
+pub record IsTurn (d : Door) (is_last was routed : Bool) (pending rest : List ℕ)
+    (had left held holds : Option (List ℕ)) (old new : Seen) (turn : Turn) : Type 0 where
   pub read : List ℕ
   pub written : List ℕ
   pub consumed : Consumes had left read

@@ -1,17 +1,27 @@
 -- Worked examples on the requests of a stream.
-use Rattle.std.specs.Prelude.{◌≡◌, ℕ, true, false, List, [], ◌∷◌, ◌++◌, codes, Option, Some, None, Ok}
+use Rattle.std.specs.Prelude.{◌≡◌, ℕ, true, false, List, [], ◌∷◌, ◌++◌, codes, Option, Some, None}
+use Rattle.std.specs.Prelude.{Ok}
 use Rattle.httparse.specs.Grammar.{Field, RequestHead, crlf}
 use Rattle.gaz_hub.specs.Step.{Ask, Command, Pose, Replied, Response, Submit, Submitted}
 use Rattle.gaz_hub.specs.declared.answer.Answer.TheVariants.{New}
 use Rattle.gaz_hub.specs.declared.outcome.Outcome.TheVariants.{Rejected}
-use Rattle.gaz_exchange.specs.Exchanges.{Comes, Exchange, RoutesStay, commands_of, goes_on, replies, responses_of}
+use Rattle.gaz_exchange.specs.Exchanges.{Comes, Exchange, RoutesStay, commands_of, goes_on, replies}
+use Rattle.gaz_exchange.specs.Exchanges.{responses_of}
 use Rattle.gaz_exchange.specs.Refusals.{IsRefused, IsUnfinished}
 use Rattle.gaz_exchange.specs.Streams.{NoRequest}
 use Rattle.gaz_exchange.specs.declared.fault.Fault.TheVariants.{BadRequest}
 
 -- a head of HTTP/1.1, each of whose lines ends in CR and LF
 abbrev pub head : List ℕ → List ℕ → List Field → RequestHead
-head method target fields = record { blank = []; method = method; target = target; minor = 1; line_end = crlf; fields = fields; last = crlf }
+head method target fields = record {
+  blank = [];
+  method = method;
+  target = target;
+  minor = 1;
+  line_end = crlf;
+  fields = fields;
+  last = crlf;
+}
 
 -- a header of such a head
 abbrev pub header : List ℕ → List ℕ → Field
@@ -20,11 +30,14 @@ header name value = record { name = name; raw = 32 ∷ value; end = crlf }
 -- a file of three bytes is posted, and rejected
 abbrev pub posted : Exchange
 posted = record {
-  head = head (codes "POST") (codes "/custodians/1001/volumes/1") (header (codes "Content-Length") (codes "3") ∷ []);
+  head = head (codes "POST") (codes "/custodians/1001/volumes/1")
+      (header (codes "Content-Length") (codes "3") ∷ []);
   body = codes "abc";
   routed = true;
   response = Some (Submitted (New (Rejected 1 2)));
-  reply = codes "HTTP/1.1 201 Created\r\nContent-Type: application/json\r\nContent-Length: 43\r\n\r\n{\"outcome\":\"rejected\",\"record\":1,\"rule\":2}\n";
+  reply =
+      codes "HTTP/1.1 201 Created\r\nContent-Type: application/json\r\n"
+      ++ codes "Content-Length: 43\r\n\r\n{\"outcome\":\"rejected\",\"record\":1,\"rule\":2}\n";
 }
 
 -- a volume is asked for that wasn't received
@@ -34,7 +47,9 @@ asked_for = record {
   body = [];
   routed = true;
   response = Some (Replied (Ask 1001 2) (Ok None));
-  reply = codes "HTTP/1.1 404 Not Found\r\nContent-Type: application/json\r\nContent-Length: 15\r\n\r\n{\"refusal\":17}\n";
+  reply =
+      codes "HTTP/1.1 404 Not Found\r\nContent-Type: application/json\r\n"
+      ++ codes "Content-Length: 15\r\n\r\n{\"refusal\":17}\n";
 }
 
 -- nothing is at the target, and the hub isn't asked
@@ -44,17 +59,21 @@ lost = record {
   body = [];
   routed = true;
   response = None;
-  reply = codes "HTTP/1.1 404 Not Found\r\nContent-Type: application/json\r\nContent-Length: 15\r\n\r\n{\"refusal\":41}\n";
+  reply =
+      codes "HTTP/1.1 404 Not Found\r\nContent-Type: application/json\r\n"
+      ++ codes "Content-Length: 15\r\n\r\n{\"refusal\":41}\n";
 }
 
--- the same, and the request asks for the end
+-- nothing is at the target, the hub isn't asked, and the request asks for the end
 abbrev pub closing : Exchange
 closing = record {
   head = head (codes "GET") (codes "/nowhere") (header (codes "Connection") (codes "close") ∷ []);
   body = [];
   routed = true;
   response = None;
-  reply = codes "HTTP/1.1 404 Not Found\r\nContent-Type: application/json\r\nContent-Length: 15\r\nConnection: close\r\n\r\n{\"refusal\":41}\n";
+  reply =
+      codes "HTTP/1.1 404 Not Found\r\nContent-Type: application/json\r\n"
+      ++ codes "Content-Length: 15\r\nConnection: close\r\n\r\n{\"refusal\":41}\n";
 }
 
 abbrev pub posting_bytes : List ℕ
@@ -69,17 +88,22 @@ lost_bytes = codes "GET /nowhere HTTP/1.1\r\n\r\n"
 abbrev pub closing_bytes : List ℕ
 closing_bytes = codes "GET /nowhere HTTP/1.1\r\nConnection: close\r\n\r\n"
 
+abbrev pub three_bytes : List ℕ
+three_bytes = posting_bytes ++ (asking_bytes ++ lost_bytes)
+
 -- a stream of three requests, the third of which asks nothing
 pub record WorkedThree : Type 0 where
-  pub comes : Comes 4 (posting_bytes ++ (asking_bytes ++ lost_bytes)) (posted ∷ asked_for ∷ lost ∷ []) []
+  pub comes : Comes 4 three_bytes (posted ∷ asked_for ∷ lost ∷ []) []
   pub open_yet : goes_on 4 (posted ∷ asked_for ∷ lost ∷ []) ≡ true
   pub routes : RoutesStay (posted ∷ asked_for ∷ lost ∷ [])
-  pub commands : commands_of (posted ∷ asked_for ∷ lost ∷ []) ≡ Submit 1001 1 (codes "abc") ∷ Pose (Ask 1001 2) ∷ []
-  pub responses : responses_of (posted ∷ asked_for ∷ lost ∷ []) ≡ Submitted (New (Rejected 1 2)) ∷ Replied (Ask 1001 2) (Ok None) ∷ []
+  pub commands : commands_of (posted ∷ asked_for ∷ lost ∷ [])
+      ≡ Submit 1001 1 (codes "abc") ∷ Pose (Ask 1001 2) ∷ []
+  pub responses : responses_of (posted ∷ asked_for ∷ lost ∷ [])
+      ≡ Submitted (New (Rejected 1 2)) ∷ Replied (Ask 1001 2) (Ok None) ∷ []
   pub told : replies (posted ∷ asked_for ∷ []) ≡ posted.reply ++ asked_for.reply
   -- no other request is read there, and none of the three is left out
   pub never_another : (rest : List ℕ) → Comes 4 posting_bytes (asked_for ∷ []) rest → ⊥
-  pub never_out_of_turn : (rest : List ℕ) → Comes 4 (posting_bytes ++ (asking_bytes ++ lost_bytes)) (posted ∷ lost ∷ []) rest → ⊥
+  pub never_out_of_turn : (rest : List ℕ) → Comes 4 three_bytes (posted ∷ lost ∷ []) rest → ⊥
 
 -- the posting, and a second one whose body is cut
 abbrev pub cut_bytes : List ℕ
@@ -97,7 +121,8 @@ pub record WorkedCut : Type 0 where
 pub record WorkedClose : Type 0 where
   pub comes : Comes 4 (closing_bytes ++ posting_bytes) (closing ∷ []) posting_bytes
   pub ends : goes_on 4 (closing ∷ []) ≡ false
-  pub never_more : (e f : Exchange) (rest : List ℕ) → Comes 4 (closing_bytes ++ posting_bytes) (e ∷ f ∷ []) rest → ⊥
+  pub never_more : (e f : Exchange) (rest : List ℕ)
+      → Comes 4 (closing_bytes ++ posting_bytes) (e ∷ f ∷ []) rest → ⊥
   pub never_open : Comes 4 (closing_bytes ++ posting_bytes) (lost ∷ []) posting_bytes → ⊥
 
 pub record WorkedStreams : Type 0 where

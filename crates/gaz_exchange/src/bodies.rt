@@ -1,8 +1,10 @@
 //! The bodies of replies: compact JSON with its keys in byte order, and one line feed.
-ghost use Rattle.std.specs.Prelude.{◌≡◌, ◌≤◌, ◌+◌, ◌++◌, [], codes, decimal, flat_map, length, IfOk, OnOk, string_bytes};
+ghost use Rattle.std.specs.Prelude.{◌≡◌, ◌≤◌, ◌+◌, ◌++◌, [], codes, decimal, flat_map, length};
+ghost use Rattle.std.specs.Prelude.{IfOk, OnOk, string_bytes};
 ghost use Rattle.std.specs.List.{join_by};
 ghost use Rattle.std.specs.Option.{unwrap_or};
-ghost use Rattle.gaz_exchange.specs.Replies.{body_of, closed_text, line_text, outcome_text, want_text, wants_text};
+ghost use Rattle.gaz_exchange.specs.Replies.{body_of, closed_text, line_text, outcome_text};
+ghost use Rattle.gaz_exchange.specs.Replies.{want_text, wants_text};
 ghost use Rattle.gaz_exchange.specs.declared.reply.Reply.TheVariants as Reply;
 
 use gaz_extract::{AddressLine, Closed, Found};
@@ -149,7 +151,8 @@ fn key_text(key: &RecordKey) -> &str
 
 // Adds an address on a closed street.
 fn add_closed(out: &mut String, closed: &Closed) -> Result<(), AllocError>
-    ensures { OnOk result (string_bytes out.new ≡ string_bytes out.old ++ closed_text closed.now) }
+    ensures { OnOk result
+        (string_bytes out.new ≡ string_bytes out.old ++ closed_text closed.now) }
 {
     let custodian = closed.custodian;
     let lpi = key_text(&closed.lpi);
@@ -163,7 +166,8 @@ fn add_closed(out: &mut String, closed: &Closed) -> Result<(), AllocError>
 
 // Adds addresses that follow another, each behind a comma.
 fn add_others(out: &mut String, others: &[Closed]) -> Result<(), AllocError>
-    ensures { OnOk result (string_bytes out.new ≡ string_bytes out.old ++ flat_map (λ c. codes "," ++ closed_text c) others.now) }
+    ensures { OnOk result (string_bytes out.new
+        ≡ string_bytes out.old ++ flat_map (λ c. codes "," ++ closed_text c) others.now) }
 {
     for closed in others {
         out.push_str(",")?;
@@ -174,7 +178,8 @@ fn add_others(out: &mut String, others: &[Closed]) -> Result<(), AllocError>
 
 // Adds addresses, with a comma between each two.
 fn add_all(out: &mut String, closed: &[Closed]) -> Result<(), AllocError>
-    ensures { OnOk result (string_bytes out.new ≡ string_bytes out.old ++ join_by closed_text (codes ",") closed.now) }
+    ensures { OnOk result (string_bytes out.new
+        ≡ string_bytes out.old ++ join_by closed_text (codes ",") closed.now) }
 {
     match closed.split_first() {
         None => Ok(()),

@@ -1,6 +1,6 @@
-ghost use Rattle.std.specs.Prelude.{◌≡◌, ◌++◌, ℕ, List};
-ghost use Rattle.std.specs.Io.KnownBytes.{Consumes, Keeps};
+ghost use Rattle.std.specs.Io.KnownBytes.{Keeps};
 ghost use Rattle.gaz_exchange.specs.Bodies.{IsBody, IsRefill};
+ghost use Rattle.gaz_exchange.specs.Supplies.{Reads, Supplies};
 
 use crate::inlet::Inlet;
 use crate::supply::{Cause, Supply, read_more};
@@ -21,8 +21,8 @@ pub enum Body {
 
 // Asks for more where nothing is pending.
 fn refill<R: Read, W: Write>(r: &mut R, w: &mut W, inlet: &mut Inlet) -> Supply
-    ensures read { (bs : List ℕ) × Consumes (R.remaining r.old) (R.remaining r.new) bs × (inlet.new ≡ inlet.old ++ bs)
-        × IsRefill inlet.new (R.remaining r.new) result }
+    ensures read { Supplies R.remaining r.old r.new inlet.old inlet.new
+        (λ _ left. IsRefill inlet.new left result) }
     ensures written { Keeps (W.contents w.old) (W.contents w.new) }
 {
     if !inlet.pending().is_empty() {
@@ -31,7 +31,14 @@ fn refill<R: Read, W: Write>(r: &mut R, w: &mut W, inlet: &mut Inlet) -> Supply
     read_more(r, w, inlet)
 }
 
-/// Reads a body of `size` bytes. An empty one takes no memory; that a body of 1,048,576 bytes finds it is tested, since no clause can say so.
+/// Reads a body of `size` bytes.
+///
+/// > If the sender closes the connection or the recipient times out before the indicated number of
+/// > octets are received, the recipient MUST consider the message to be incomplete and close the
+/// > connection. (RFC 9112, section 6.3)
+///
+/// An empty one takes no memory; that a body of 1,048,576 bytes finds it is tested, since no clause
+/// can say so.
 pub fn read_body<R: Read, W: Write>(
     alloc: Global,
     r: &mut R,
@@ -39,8 +46,8 @@ pub fn read_body<R: Read, W: Write>(
     inlet: &mut Inlet,
     size: usize,
 ) -> Body
-    ensures read { (bs : List ℕ) × Consumes (R.remaining r.old) (R.remaining r.new) bs
-        × IsBody (inlet.old ++ bs) size inlet.new (R.remaining r.new) result }
+    ensures read { Reads R.remaining r.old r.new inlet.old
+        (λ bytes left. IsBody bytes size inlet.new left result) }
     ensures written { Keeps (W.contents w.old) (W.contents w.new) }
 {
     if size == 0 {

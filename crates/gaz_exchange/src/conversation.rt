@@ -1,7 +1,7 @@
 ghost use Rattle.std.specs.Prelude.{◌≡◌, Ok};
 ghost use Rattle.gaz_shelf.specs.Keeper.{IsNotOpen};
 ghost use Rattle.gaz_hub.specs.Hubs.{door_of};
-ghost use Rattle.gaz_exchange.specs.Conversing.{Conversation, ended_after};
+ghost use Rattle.gaz_exchange.specs.Conversing.{Conversation, ended_after, transfer};
 ghost use Rattle.gaz_exchange.specs.Turns.{Answers, Asks, IsAsked, IsTurn, Refuses, turn_of};
 
 use crate::fault::Fault;
@@ -54,10 +54,11 @@ pub enum Turn {
     Stopped(Cause),
 }
 
-// Asks the hub.
+// Asks the hub by the call.
 fn ask_call<K: Inbox + Drop>(hub: &mut Hub<K>, call: Call, body: &[u8]) -> Reply
     requires idle { IsNotOpen (K.seen hub.old.keeper).progress }
-    ensures asked { Asks (door_of hub.old.register) (Ok call) body.now (K.seen hub.old.keeper) (K.seen hub.new.keeper) result }
+    ensures asked { Asks (door_of hub.old.register) (Ok call) body.now
+        (K.seen hub.old.keeper) (K.seen hub.new.keeper) result }
     ensures register { hub.new.register ≡ hub.old.register }
 {
     match call {
@@ -73,7 +74,8 @@ fn ask_call<K: Inbox + Drop>(hub: &mut Hub<K>, call: Call, body: &[u8]) -> Reply
 // Asks the hub, where the request asks anything of it.
 fn ask<K: Inbox + Drop>(hub: &mut Hub<K>, request: &Request) -> Reply
     requires idle { IsNotOpen (K.seen hub.old.keeper).progress }
-    ensures asked { IsAsked (door_of hub.old.register) request.now (K.seen hub.old.keeper) (K.seen hub.new.keeper) result }
+    ensures asked { IsAsked (door_of hub.old.register) request.now
+        (K.seen hub.old.keeper) (K.seen hub.new.keeper) result }
     ensures register { hub.new.register ≡ hub.old.register }
 {
     match request.call {
@@ -82,6 +84,7 @@ fn ask<K: Inbox + Drop>(hub: &mut Hub<K>, request: &Request) -> Reply
     }
 }
 
+// The turn after a reply; `whole` where it was wholly written.
 fn turn_after(ends: bool, whole: bool) -> Turn
     ensures { result ≡ turn_of ends whole }
 {
@@ -100,8 +103,8 @@ fn answer<W: Write, K: Inbox + Drop>(
     is_last: bool,
 ) -> Turn
     requires idle { IsNotOpen (K.seen hub.old.keeper).progress }
-    ensures answered { Answers (door_of hub.old.register) (W.contents w.old) (W.contents w.new) (K.seen hub.old.keeper) (K.seen hub.new.keeper)
-        request.now is_last result }
+    ensures answered { Answers (door_of hub.old.register) (W.contents w.old) (W.contents w.new)
+        (K.seen hub.old.keeper) (K.seen hub.new.keeper) request.now is_last result }
     ensures register { hub.new.register ≡ hub.old.register }
 {
     let ends = request.closing || is_last;
@@ -126,8 +129,10 @@ fn take_turn<R: Read, W: Write, K: Inbox + Drop>(
     is_last: bool,
 ) -> Turn
     requires idle { IsNotOpen (K.seen hub.old.keeper).progress }
-    ensures turn { IsTurn (door_of hub.old.register) is_last intake.old.routes intake.new.routes intake.old.inlet intake.new.inlet
-        (R.remaining r.old) (R.remaining r.new) (W.contents w.old) (W.contents w.new) (K.seen hub.old.keeper) (K.seen hub.new.keeper) result }
+    ensures turn { IsTurn (door_of hub.old.register) is_last
+        intake.old.routes intake.new.routes intake.old.inlet intake.new.inlet
+        (R.remaining r.old) (R.remaining r.new) (W.contents w.old) (W.contents w.new)
+        (K.seen hub.old.keeper) (K.seen hub.new.keeper) result }
     ensures register { hub.new.register ≡ hub.old.register }
 {
     match next_request(alloc, r, w, intake) {
@@ -152,8 +157,10 @@ fn closed_after(requests: u64, most: u64) -> Served
 
 /// Answers the requests of a stream in turn, at most `most` of them.
 ///
-/// What is written and how the conversation ends is known whatever the hub's keeper does. The hub's answers are a run of its steps where the
-/// keeper stood for a content before, and nobody else wrote on it.
+/// What is written and how the conversation ends is known whatever the hub's keeper does. Where it
+/// ends, no other request may follow those that were answered, or none stands whole in what was
+/// read behind them, unless there was no memory for the body of the next. The hub's answers are a
+/// run of its steps where the keeper stood for a content before, and nobody else wrote on it.
 pub fn converse<R: Read, W: Write, K: Inbox + Drop>(
     alloc: Global,
     r: &mut R,
@@ -162,7 +169,8 @@ pub fn converse<R: Read, W: Write, K: Inbox + Drop>(
     most: u64,
 ) -> Result<Served, Stopped>
     requires idle { IsNotOpen (K.seen hub.old.keeper).progress }
-    ensures conversation { Conversation (door_of hub.old.register) most (R.remaining r.old) (R.remaining r.new) (W.contents w.old) (W.contents w.new)
+    ensures conversation { Conversation (door_of hub.old.register) most
+        (transfer R.remaining W.contents r.old r.new w.old w.new)
         (K.seen hub.old.keeper) (K.seen hub.new.keeper) result }
     ensures register { hub.new.register ≡ hub.old.register }
 {

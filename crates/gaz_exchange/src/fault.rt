@@ -25,7 +25,7 @@ pub enum Fault {
     UnknownProfile,
     /// 17: what is asked for isn't there.
     NotThere,
-    /// 40: no head of a request, no lawful `Content-Length`, or an input that ends within the request.
+    /// 40: no head of a request, no lawful `Content-Length`, or an input that ends within it.
     BadRequest,
     /// 41: nothing is at the target.
     NoRoute,
@@ -100,7 +100,12 @@ impl Allowed {
 }
 
 impl Fault {
-    /// The whole reply (RFC 9110, section 15, on the status and `Allow`), which takes no memory; `is_last` where the conversation ends after it.
+    /// The whole reply, which takes no memory; `is_last` where the conversation ends after it.
+    ///
+    /// > status-line = HTTP-version SP status-code SP [ reason-phrase ] (RFC 9112, section 4)
+    ///
+    /// > The origin server MUST generate an Allow header field in a 405 response containing a list
+    /// > of the target resource's currently supported methods. (RFC 9110, section 15.5.6)
     pub fn text(self, is_last: bool) -> &'static str
         ensures { result.now ≡ reply_text (Reply.Refused self) is_last }
     {

@@ -19,7 +19,8 @@ pub enum Framing {
     Refused(Fault),
 }
 
-// The number that the digits write, where a body may have so many bytes. Any number of leading zeros is fine.
+// The number that the digits write, where a body may have so many bytes. Any number of leading
+// zeros is fine.
 fn limited_value(digits: &[u8]) -> Option<usize>
     requires { all_ascii_digits digits.now ≡ true }
     ensures value { IfSome result (λ n. n ≡ digits_value 10 digits.now) }
@@ -36,7 +37,14 @@ fn limited_value(digits: &[u8]) -> Option<usize>
     Some(value)
 }
 
-// The size that the value of a `Content-Length` tells.
+// The size that the value of a `Content-Length` tells (RFC 9110, section 8.6, and RFC 9112, section
+// 6.3).
+//
+// > Content-Length = 1*DIGIT
+//
+// > If a message is received without Transfer-Encoding and with an invalid Content-Length header
+// > field, then the message framing is invalid and the recipient MUST treat it as an unrecoverable
+// > error
 fn size_of(value: &[u8]) -> Framing
     ensures { result ≡ size_in value.now }
 {
@@ -49,7 +57,24 @@ fn size_of(value: &[u8]) -> Framing
     }
 }
 
-/// How long the body of a request with this method and these headers is (RFC 9112, section 6; our profile takes no transfer coding).
+/// How long the body of a request with this method and these headers is (RFC 9112, section 6.3).
+///
+/// > If a valid Content-Length header field is present without Transfer-Encoding, its decimal value
+/// > defines the expected message body length in octets.
+///
+/// > If this is a request message and none of the above are true, then the message body length is
+/// > zero (no message body is present).
+///
+/// > A server MAY reject a request that contains a message body but not a Content-Length by
+/// > responding with 411 (Length Required).
+///
+/// A POST without a `Content-Length` is refused so. Our profile takes no transfer coding, and
+/// answers 411 to any, where section 6.1 has
+///
+/// > A server that receives a request message with a transfer coding it does not understand SHOULD
+/// > respond with 501 (Not Implemented).
+///
+/// More than one `Content-Length` is refused, whether or not their values are the same.
 pub fn find_framing(buf: &[u8], is_post: bool, headers: &[HeaderSpan]) -> Framing
     requires { All (IsHeaderWithin (length buf.now)) headers.now }
     ensures { result ≡ length_in is_post (map (header_bytes buf.now) headers.now) }
@@ -67,7 +92,7 @@ pub fn find_framing(buf: &[u8], is_post: bool, headers: &[HeaderSpan]) -> Framin
     }
 }
 
-/// Whether the method is POST; methods have case (RFC 9110, section 9.1).
+/// Whether the method is POST, whose case counts, as with each method (RFC 9110, section 9.1).
 pub fn is_post(method: &[u8]) -> bool
     ensures { result ≡ is_post_method method.now }
 {

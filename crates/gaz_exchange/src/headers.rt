@@ -3,11 +3,14 @@ ghost use Rattle.httparse.specs.Spans.{IsHeaderWithin, header_bytes, span_bytes}
 ghost use Rattle.std.specs.Str.{str_eq_ignore_ascii_case};
 ghost use Rattle.httparse.specs.Grammar.{skip_ows};
 ghost use Rattle.gaz_exchange.specs.Framing.{closes_in};
-ghost use Rattle.gaz_exchange.specs.Headers.{count_of, value_of, asks_close, has_close, is_close_header, is_close_option};
+ghost use Rattle.gaz_exchange.specs.Headers.{count_of, value_of, asks_close, has_close};
+ghost use Rattle.gaz_exchange.specs.Headers.{is_close_header, is_close_option};
 
 use httparse::spans::HeaderSpan;
 
 /// How many headers have the name, whatever the case of its letters.
+///
+/// > Field names are case-insensitive (RFC 9110, section 5.1)
 pub fn how_many(buf: &[u8], headers: &[HeaderSpan], name: &[u8]) -> usize
     requires { All (IsHeaderWithin (length buf.now)) headers.now }
     ensures { result ≡ count_of name.now (map (header_bytes buf.now) headers.now) }
@@ -22,7 +25,8 @@ pub fn how_many(buf: &[u8], headers: &[HeaderSpan], name: &[u8]) -> usize
 fn find_header<'h>(buf: &[u8], headers: &'h [HeaderSpan], name: &[u8]) -> Option<&'h HeaderSpan>
     requires { All (IsHeaderWithin (length buf.now)) headers.now }
     ensures found { option_map (λ h. h.now) result
-        ≡ find (λ h. str_eq_ignore_ascii_case (span_bytes buf.now h.name) name.now) headers.entry.now }
+        ≡ find (λ h. str_eq_ignore_ascii_case (span_bytes buf.now h.name) name.now)
+        headers.entry.now }
     ensures within { IfSome result (λ h. IsHeaderWithin (length buf.now) h.now) }
 {
     headers
@@ -33,7 +37,8 @@ fn find_header<'h>(buf: &[u8], headers: &'h [HeaderSpan], name: &[u8]) -> Option
 /// The value of the first header of the name.
 pub fn find_value<'b>(buf: &'b [u8], headers: &[HeaderSpan], name: &[u8]) -> Option<&'b [u8]>
     requires { All (IsHeaderWithin (length buf.now)) headers.now }
-    ensures { option_map (λ v. v.now) result ≡ value_of name.now (map (header_bytes buf.entry.now) headers.now) }
+    ensures { option_map (λ v. v.now) result
+        ≡ value_of name.now (map (header_bytes buf.entry.now) headers.now) }
 {
     match find_header(buf, headers, name) {
         Some(header) => Some(header.value.of(buf)),
@@ -41,7 +46,9 @@ pub fn find_value<'b>(buf: &'b [u8], headers: &[HeaderSpan], name: &[u8]) -> Opt
     }
 }
 
-// Without the SP and TAB at the front.
+// The text without the SP and TAB at its front.
+//
+// > OWS            = *( SP / HTAB ) (RFC 9110, section 5.6.3)
 fn trim_front(text: &[u8]) -> &[u8]
     ensures { result.now ≡ skip_ows text.now }
 {
@@ -52,7 +59,7 @@ fn trim_front(text: &[u8]) -> &[u8]
     text
 }
 
-// Without the SP and TAB at the back.
+// The text without the SP and TAB at its back.
 fn trim_back(text: &[u8]) -> &[u8]
     ensures { result.now ≡ reverse (skip_ows (reverse text.now)) }
 {
@@ -64,21 +71,26 @@ fn trim_back(text: &[u8]) -> &[u8]
 }
 
 #[tactic(auto, unfolding(httparse::specs::Grammar::trim_ows))]
-// Whether an element of a `Connection` header asks for the end.
+// Whether an element of a `Connection` header is `close`.
+//
+// > Connection options are case-insensitive. (RFC 9110, section 7.6.1)
 fn is_close(element: &[u8]) -> bool
     ensures { result ≡ is_close_option element.now }
 {
     trim_back(trim_front(element)).eq_ignore_ascii_case(b"close")
 }
 
-// Whether one of the elements that commas divide does.
+// Whether one of the elements of a `Connection` header is `close`; a comma stands between each two.
+//
+// > Connection        = #connection-option (RFC 9110, section 7.6.1)
+// > #element => [ element ] *( OWS "," OWS [ element ] ) (section 5.6.1.2)
 fn has_close_option(value: &[u8]) -> bool
     ensures { result ≡ has_close value.now }
 {
     value.split(|b| *b == b',').any(|element| is_close(element))
 }
 
-// Whether it is a `Connection` header with such an option.
+// Whether the header is a `Connection` with the option `close`.
 fn is_closing_header(buf: &[u8], header: &HeaderSpan) -> bool
     requires { IsHeaderWithin (length buf.now) header.now }
     ensures { result ≡ is_close_header (header_bytes buf.now header.now) }
@@ -87,7 +99,7 @@ fn is_closing_header(buf: &[u8], header: &HeaderSpan) -> bool
         && has_close_option(header.value.of(buf))
 }
 
-// Whether one of the headers is.
+// Whether one of the headers is a `Connection` with the option `close`.
 fn asks_to_close(buf: &[u8], headers: &[HeaderSpan]) -> bool
     requires { All (IsHeaderWithin (length buf.now)) headers.now }
     ensures { result ≡ asks_close (map (header_bytes buf.now) headers.now) }
@@ -95,7 +107,13 @@ fn asks_to_close(buf: &[u8], headers: &[HeaderSpan]) -> bool
     headers.iter().any(|h| is_closing_header(buf, h))
 }
 
-/// Whether the conversation ends after a request of HTTP/1.`minor` with these headers, by its own word (RFC 9112, section 9).
+/// Whether the conversation ends after a request of HTTP/1.`minor` with these headers, by its own
+/// word.
+///
+/// > If the "close" connection option is present (Section 9.6), the connection will not persist
+/// > after the current response (RFC 9112, section 9.3)
+///
+/// Our profile knows no `keep-alive`, so a request of HTTP/1.0 always ends it.
 pub fn closes(buf: &[u8], minor: u8, headers: &[HeaderSpan]) -> bool
     requires { All (IsHeaderWithin (length buf.now)) headers.now }
     ensures { result ≡ closes_in minor (map (header_bytes buf.now) headers.now) }

@@ -1,7 +1,8 @@
-ghost use Rattle.std.specs.Prelude.{◌≡◌, ◌++◌, ℕ, List};
-ghost use Rattle.std.specs.Io.KnownBytes.{Consumes, Keeps};
+ghost use Rattle.std.specs.Prelude.{◌≡◌};
+ghost use Rattle.std.specs.Io.KnownBytes.{Keeps};
 ghost use Rattle.gaz_exchange.specs.Heads.{is_blank};
 ghost use Rattle.gaz_exchange.specs.Next.{IsLook, IsNext};
+ghost use Rattle.gaz_exchange.specs.Supplies.{Supplies};
 
 use crate::inlet::{INLET_SIZE, Inlet};
 use crate::supply::{Cause, Supply, read_more};
@@ -35,13 +36,22 @@ pub enum Look {
     Never,
 }
 
-// CR and LF alone.
+// Whether the bytes are CR and LF alone: empty lines, which may come before a request.
+//
+// > In the interest of robustness, a server that is expecting to receive and parse a request-line
+// > SHOULD ignore at least one empty line (CRLF) received prior to the request-line.
+// > (RFC 9112, section 2.2)
 fn blank(bytes: &[u8]) -> bool
     ensures { result ≡ is_blank bytes.now }
 {
     bytes.iter().all(|b| *b == b'\r' || *b == b'\n')
 }
 
+// What the bytes begin with. A head is a request line and field lines, each with its end, and an
+// empty line (RFC 9112, sections 3 and 5):
+//
+// > request-line   = method SP request-target SP HTTP-version
+// > field-line   = field-name ":" OWS field-value OWS
 fn parse_head(bytes: &[u8], headers: &mut [HeaderSpan; 32]) -> Look
     ensures { IsLook bytes.now headers.new result }
 {
@@ -69,8 +79,8 @@ pub fn next_head<R: Read, W: Write>(
     inlet: &mut Inlet,
     headers: &mut [HeaderSpan; 32],
 ) -> Next
-    ensures read { (bs : List ℕ) × Consumes (R.remaining r.old) (R.remaining r.new) bs × (inlet.new ≡ inlet.old ++ bs)
-        × IsNext inlet.new (R.remaining r.new) headers.new result }
+    ensures read { Supplies R.remaining r.old r.new inlet.old inlet.new
+        (λ _ left. IsNext inlet.new left headers.new result) }
     ensures written { Keeps (W.contents w.old) (W.contents w.new) }
 {
     'reads: loop {

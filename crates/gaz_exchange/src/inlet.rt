@@ -1,4 +1,5 @@
-ghost use Rattle.std.specs.Prelude.{◌≡◌, ◌≤◌, ◌<◌, ◌++◌, ◌-◌, ℕ, List, [], length, take, drop, MatchResult};
+ghost use Rattle.std.specs.Prelude.{◌≡◌, ◌≤◌, ◌<◌, ◌++◌, ◌-◌, ℕ, List, [], length, take, drop};
+ghost use Rattle.std.specs.Prelude.{MatchResult};
 ghost use Rattle.std.specs.Io.KnownBytes.{Consumes, IsAtEnd, Keeps};
 
 use std::io;
@@ -64,8 +65,8 @@ impl Inlet {
     pub fn fill<R: Read>(&mut self, r: &mut R) -> io::Result<usize>
         requires { length self.old < 8193 }
         ensures read { MatchResult result
-            (λ n. (bs : List ℕ) × Consumes (R.remaining r.old) (R.remaining r.new) bs × (self.new ≡ self.old ++ bs) × (length bs ≡ n)
-            × (n ≡ 0 → IsAtEnd (R.remaining r.new)))
+            (λ n. (bs : List ℕ) × Consumes (R.remaining r.old) (R.remaining r.new) bs
+            × (self.new ≡ self.old ++ bs) × (length bs ≡ n) × (n ≡ 0 → IsAtEnd (R.remaining r.new)))
             (λ _. Keeps (R.remaining r.old) (R.remaining r.new) × (self.new ≡ self.old)) }
     {
         move_to_front(&mut self.bytes, self.start, self.end);

@@ -7,7 +7,8 @@ pub fn bytes_tell_requests()
     ensures { BytesTellRequests }
 {}
 
-/// Which requests come in a stream, how they are answered and where none follows, on worked examples.
+/// Which requests come in a stream, how they are answered and where none follows, on worked
+/// examples.
 pub fn worked_streams()
     ensures { WorkedStreams }
 {}

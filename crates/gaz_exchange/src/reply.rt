@@ -1,6 +1,8 @@
 ghost use Rattle.std.specs.Prelude.{◌≡◌};
 ghost use Rattle.gaz_hub.specs.Hubs.{told, told_all};
-ghost use Rattle.gaz_exchange.specs.Replies.{is_received, memory_fault, reply_extracted, reply_found, reply_listed, reply_of, reply_stands, reply_text, reply_told};
+ghost use Rattle.gaz_exchange.specs.Replies.{is_received, memory_fault, reply_extracted};
+ghost use Rattle.gaz_exchange.specs.Replies.{reply_found, reply_listed, reply_of, reply_stands};
+ghost use Rattle.gaz_exchange.specs.Replies.{reply_text, reply_told};
 
 use crate::fault::Fault;
 use gaz_extract::{Closed, Found};

@@ -1,9 +1,10 @@
-ghost use Rattle.std.specs.Prelude.{◌≡◌, ◌++◌, [], ℕ, List, false, true};
-ghost use Rattle.std.specs.Io.KnownBytes.{Consumes, Keeps};
+ghost use Rattle.std.specs.Prelude.{◌≡◌, [], false, true};
+ghost use Rattle.std.specs.Io.KnownBytes.{Keeps};
 ghost use Rattle.httparse.specs.Grammar.{RequestHead};
 ghost use Rattle.httparse.specs.Spans.{IsRequestAt};
 ghost use Rattle.gaz_exchange.specs.Next.{IsHeadAt};
 ghost use Rattle.gaz_exchange.specs.Incoming.{IsBehind, IsIncoming, IsNeeded};
+ghost use Rattle.gaz_exchange.specs.Supplies.{Reads};
 
 use crate::body::{Body, read_body};
 use crate::fault::Fault;
@@ -68,6 +69,7 @@ impl Intake {
     }
 }
 
+// What is needed of the head that the spans cover.
 fn needed_of(
     alloc: Global,
     bytes: &[u8],
@@ -76,7 +78,8 @@ fn needed_of(
     routes: &mut Routes,
 ) -> Needed
     requires { IsHeadAt bytes.now headers.now spans }
-    ensures needed { (h : RequestHead) → IsRequestAt bytes.now headers.now spans h → IsNeeded routes.new h result }
+    ensures needed { (h : RequestHead) → IsRequestAt bytes.now headers.now spans h
+        → IsNeeded routes.new h result }
     ensures stay { routes.old ≡ true → routes.new ≡ true }
 {
     let headers = &headers[..spans.headers];
@@ -96,8 +99,8 @@ fn with_body<R: Read, W: Write>(
     inlet: &mut Inlet,
     needed: Needed,
 ) -> Incoming
-    ensures read { (bs : List ℕ) × Consumes (R.remaining r.old) (R.remaining r.new) bs
-        × IsBehind (inlet.old ++ bs) needed inlet.new (R.remaining r.new) result }
+    ensures read { Reads R.remaining r.old r.new inlet.old
+        (λ bytes left. IsBehind bytes needed inlet.new left result) }
     ensures written { Keeps (W.contents w.old) (W.contents w.new) }
 {
     let size = match needed.framing {
@@ -123,8 +126,8 @@ pub fn next_request<R: Read, W: Write>(
     w: &mut W,
     intake: &mut Intake,
 ) -> Incoming
-    ensures read { (bs : List ℕ) × Consumes (R.remaining r.old) (R.remaining r.new) bs
-        × IsIncoming intake.new.routes (intake.old.inlet ++ bs) intake.new.inlet (R.remaining r.new) result }
+    ensures read { Reads R.remaining r.old r.new intake.old.inlet
+        (λ bytes left. IsIncoming intake.new.routes bytes intake.new.inlet left result) }
     ensures stay { intake.old.routes ≡ true → intake.new.routes ≡ true }
     ensures written { Keeps (W.contents w.old) (W.contents w.new) }
 {

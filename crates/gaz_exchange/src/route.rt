@@ -30,7 +30,10 @@ pub enum Method {
 }
 
 impl Method {
-    /// The method of a request; methods have case (RFC 9110, section 9.1).
+    /// The method of a request.
+    ///
+    /// > The method token is case-sensitive because it might be used as a gateway to object-based
+    /// > systems with case-sensitive method names. (RFC 9110, section 9.1)
     pub fn of(text: &[u8]) -> Method
         ensures { result ≡ method_of text.now }
     {
@@ -44,7 +47,8 @@ impl Method {
     }
 }
 
-/// What the hub is asked, but for the body. A number that doesn't read stands as 0, which the hub's door refuses.
+/// What the hub is asked, but for the body. A number that doesn't read stands as 0, which the hub's
+/// door refuses.
 #[derive(Clone, Copy, Debug, PartialEq, Eq)]
 pub enum Call {
     Submit { code: u64, volume: u64 },
@@ -55,24 +59,28 @@ pub enum Call {
     ListClosed,
 }
 
+// The code that the text writes, or 0.
 fn code_of(text: &str) -> u64
     ensures { result ≡ code_in text.now }
 {
     Code::read(text.as_bytes()).map_or(0, Code::number)
 }
 
+// The volume that the text writes, or 0.
 fn volume_of(text: &str) -> u64
     ensures { result ≡ volume_in text.now }
 {
     Volume::read(text.as_bytes()).map_or(0, Volume::number)
 }
 
+// The UPRN that the text writes.
 fn uprn_of(text: &str) -> Option<Uprn>
     ensures { result ≡ uprn_in text.now }
 {
     Uprn::read(text.as_bytes()).ok()
 }
 
+// The routes; none where there is no memory for them.
 fn make_router(alloc: Global) -> Option<Router<Place>>
     ensures { IfSome result (λ router. router ≡ routes) }
 {
@@ -101,7 +109,8 @@ fn make_router(alloc: Global) -> Option<Router<Place>>
 
 // The part of the target that the next parameter took.
 fn next_part<'v>(parts: &mut ParamsIter<'_, '_, 'v>) -> &'v str
-    ensures { (name part : List ℕ) (rest : List (List ℕ × List ℕ)) → parts.old ≡ (name, part) ∷ rest → IsUtf8 part → (result.now ≡ part) × (parts.new ≡ rest) }
+    ensures { (name part : List ℕ) (rest : List (List ℕ × List ℕ)) → parts.old ≡ (name, part) ∷ rest
+        → IsUtf8 part → (result.now ≡ part) × (parts.new ≡ rest) }
 {
     match parts.next() {
         Some((_, part)) => part,
@@ -111,7 +120,8 @@ fn next_part<'v>(parts: &mut ParamsIter<'_, '_, 'v>) -> &'v str
 
 // What a request asks of a custodian's volume.
 fn volume_call(params: &Params<'_, '_>, method: Method) -> Result<Call, Fault>
-    ensures { (c v : List ℕ) → Took params.now ((codes "c", c) ∷ (codes "v", v) ∷ []) → result ≡ call_at (seen.Volume c v) method }
+    ensures { (c v : List ℕ) → Took params.now ((codes "c", c) ∷ (codes "v", v) ∷ [])
+        → result ≡ call_at (seen.Volume c v) method }
 {
     let mut parts = params.iter();
     let code = code_of(next_part(&mut parts));
@@ -125,7 +135,8 @@ fn volume_call(params: &Params<'_, '_>, method: Method) -> Result<Call, Fault>
 
 // What a request asks of a custodian.
 fn custodian_call(params: &Params<'_, '_>, method: Method) -> Result<Call, Fault>
-    ensures { (c : List ℕ) → Took params.now ((codes "c", c) ∷ []) → result ≡ call_at (seen.Custodian c) method }
+    ensures { (c : List ℕ) → Took params.now ((codes "c", c) ∷ [])
+        → result ≡ call_at (seen.Custodian c) method }
 {
     let code = code_of(next_part(&mut params.iter()));
     match method {
@@ -136,7 +147,8 @@ fn custodian_call(params: &Params<'_, '_>, method: Method) -> Result<Call, Fault
 
 // What a request asks of an extract.
 fn extract_call(params: &Params<'_, '_>, method: Method) -> Result<Call, Fault>
-    ensures { (c v : List ℕ) → Took params.now ((codes "c", c) ∷ (codes "v", v) ∷ []) → result ≡ call_at (seen.Extract c v) method }
+    ensures { (c v : List ℕ) → Took params.now ((codes "c", c) ∷ (codes "v", v) ∷ [])
+        → result ≡ call_at (seen.Extract c v) method }
 {
     let mut segments = params.iter();
     let code = code_of(next_part(&mut segments));
@@ -149,7 +161,8 @@ fn extract_call(params: &Params<'_, '_>, method: Method) -> Result<Call, Fault>
 
 // What a request asks of a property.
 fn property_call(params: &Params<'_, '_>, method: Method) -> Result<Call, Fault>
-    ensures { (n : List ℕ) → Took params.now ((codes "n", n) ∷ []) → result ≡ call_at (seen.Property n) method }
+    ensures { (n : List ℕ) → Took params.now ((codes "n", n) ∷ [])
+        → result ≡ call_at (seen.Property n) method }
 {
     let uprn = uprn_of(next_part(&mut params.iter()));
     match method {
@@ -195,7 +208,8 @@ fn find_call(router: &Router<Place>, target: &str, method: Method) -> Result<Cal
     }
 }
 
-/// The routes, which are made when they are first asked for, and then kept. A contract sees whether they are there.
+/// The routes, which are made when they are first asked for, and then kept. A contract sees whether
+/// they are there.
 #[derive(Drop)]
 pub struct Routes {
     router: Option<Router<Place>>,
@@ -220,7 +234,8 @@ impl Routes {
         Routes { router: None }
     }
 
-    /// What a request asks of the hub. Where there is no memory for the routes it is refusal 51; once they are there, they stay.
+    /// What a request asks of the hub. Where there is no memory for the routes it is refusal 51;
+    /// once they are there, they stay.
     pub fn call(&mut self, alloc: Global, target: &[u8], method: Method) -> Result<Call, Fault>
         requires { IsUtf8 target.now }
         ensures call { IsCallAt self.new target.now method result }

@@ -10,7 +10,8 @@ use itoa::Buffer;
 use std::alloc::{AllocError, Global};
 use std::io::Write;
 
-/// Writes the text. At `false` the writer failed, or took nothing, and perhaps a front of the text is written.
+/// Writes the text. At `false` the writer failed, or took nothing, and perhaps a front of the text
+/// is written.
 pub fn write_all<W: Write>(w: &mut W, text: &[u8]) -> bool
     ensures { IsPut (W.contents w.old) (W.contents w.new) text.now result }
 {
@@ -27,7 +28,7 @@ pub fn write_all<W: Write>(w: &mut W, text: &[u8]) -> bool
     true
 }
 
-// Writes the text, and flushes the writer where no other follows: before a read the inlet does that.
+// Writes the text, and flushes the writer where no other follows: before a read the inlet does so.
 fn put<W: Write>(w: &mut W, text: &[u8], is_last: bool) -> bool
     ensures { IsPut (W.contents w.old) (W.contents w.new) text.now result }
 {
@@ -84,7 +85,8 @@ fn write_head<W: Write>(w: &mut W, front: &str, size: usize, is_last: bool) -> b
 
 // Writes a body behind the lines before it.
 fn put_message<W: Write>(w: &mut W, front: &str, body: &[u8], is_last: bool) -> bool
-    ensures { IsPut (W.contents w.old) (W.contents w.new) (head_of front.now (length body.now) is_last ++ body.now) result }
+    ensures { IsPut (W.contents w.old) (W.contents w.new)
+        (head_of front.now (length body.now) is_last ++ body.now) result }
 {
     write_head(w, front, body.len(), is_last) && put(w, body, is_last)
 }
@@ -98,7 +100,8 @@ fn put_made<W: Write>(
     is_last: bool,
 ) -> bool
     requires takes { takes_memory reply.now ≡ true }
-    requires whole { IfOk body (λ b. head_of front.now (length b.items) is_last ++ b.items ≡ reply_text reply.now is_last) }
+    requires whole { IfOk body (λ made. head_of front.now (length made.items) is_last ++ made.items
+        ≡ reply_text reply.now is_last) }
     ensures { IsSent (W.contents w.old) (W.contents w.new) reply.now is_last result }
 {
     match body {

@@ -1,6 +1,6 @@
-ghost use Rattle.std.specs.Prelude.{◌++◌, ◌<◌, ◌≡◌, ℕ, List, length};
-ghost use Rattle.std.specs.Io.KnownBytes.{Consumes, Keeps};
-ghost use Rattle.gaz_exchange.specs.Supplies.{IsSupply};
+ghost use Rattle.std.specs.Prelude.{◌<◌, length};
+ghost use Rattle.std.specs.Io.KnownBytes.{Keeps};
+ghost use Rattle.gaz_exchange.specs.Supplies.{IsSupply, Supplies};
 
 use crate::inlet::Inlet;
 use std::io::{Read, Write};
@@ -26,8 +26,8 @@ pub enum Supply {
 /// Flushes the writer and then reads once, so that no reply waits for bytes that it doesn't need.
 pub fn read_more<R: Read, W: Write>(r: &mut R, w: &mut W, inlet: &mut Inlet) -> Supply
     requires { length inlet.old < 8193 }
-    ensures read { (bs : List ℕ) × Consumes (R.remaining r.old) (R.remaining r.new) bs × (inlet.new ≡ inlet.old ++ bs)
-        × IsSupply bs (R.remaining r.new) result }
+    ensures read { Supplies R.remaining r.old r.new inlet.old inlet.new
+        (λ bytes left. IsSupply bytes left result) }
     ensures written { Keeps (W.contents w.old) (W.contents w.new) }
 {
     if w.flush().is_err() {

@@ -28,7 +28,8 @@ fn random_seed(rt: &impl RandomSource) -> io::Result<Seed> {
     Ok(Seed::of(u64::from_le_bytes(bytes)))
 }
 
-// A writer that keeps what it is given until it is flushed, or where there is no memory for that, one that keeps nothing.
+// A writer that keeps what it is given until it is flushed, or where there is no memory for that,
+// one that keeps nothing.
 fn buffered<P: Print>(alloc: Global, rt: &P) -> BufWriter<Printer<'_, P>> {
     if let Ok(w) = BufWriter::new(alloc, io::writer(rt)) {
         return w;

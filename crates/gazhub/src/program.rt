@@ -2,6 +2,7 @@
 ghost use Rattle.std.specs.Prelude.{◌≡◌, IfErr, IfOk, is_some, map, option_map, string_bytes};
 ghost use Rattle.gaz_register.specs.Reading.{register_of};
 ghost use Rattle.gaz_shelf.specs.Keeper.{IsNotOpen};
+ghost use Rattle.gaz_exchange.specs.Conversing.{transfer};
 ghost use Rattle.gaz_shelf.specs.Mem.{seen_in};
 ghost use Rattle.gaz_hub.specs.Hubs.{state_of};
 ghost use Rattle.gaz_hub.specs.Step as step;
@@ -72,7 +73,9 @@ fn new_hub(alloc: Global, seed: Seed) -> Result<Hub<MemShelf>, RegFault>
     Ok(Hub::new(alloc, register, MemShelf::new(alloc, seed)))
 }
 
-/// Answers the requests of a stream, at most 100,000 of them, at a hub of the sample register that begins with nothing.
+/// Answers the requests of a stream, at most 100,000 of them, at a hub of the sample register that
+/// begins with nothing. Where it ends, no other may follow those that were answered, or none stands
+/// whole in what was read behind them, unless there was no memory for the body of the next.
 ///
 /// Without memory for the register nothing is read or written.
 pub fn answer_all<R: Read, W: Write>(
@@ -81,19 +84,23 @@ pub fn answer_all<R: Read, W: Write>(
     r: &mut R,
     w: &mut W,
 ) -> Result<Result<Served, Stopped>, RegFault>
-    ensures plays { IfOk result (Plays SAMPLE.now MOST (R.remaining r.old) (R.remaining r.new) (W.contents w.old) (W.contents w.new)) }
-    ensures rests { IfErr result (λ _. Rests (R.remaining r.old) (R.remaining r.new) (W.contents w.old) (W.contents w.new)) }
+    ensures plays { IfOk result (Plays SAMPLE.now MOST
+        (transfer R.remaining W.contents r.old r.new w.old w.new)) }
+    ensures rests { IfErr result (λ _. Rests
+        (transfer R.remaining W.contents r.old r.new w.old w.new)) }
 {
     let mut hub = new_hub(alloc, seed)?;
     let ended = converse(alloc, r, w, &mut hub, MOST);
-    // The program ends, and the system takes back at once what would take longer to free piece by piece.
+    // The program ends, and the system takes back at once what would take longer to free piece by
+    // piece.
     forget(hub);
     Ok(ended)
 }
 
 // Holds a conversation.
 fn play<R: Read, W: Write>(alloc: Global, seed: Seed, r: &mut R, w: &mut W) -> Ending
-    ensures { Holds SAMPLE.now MOST (R.remaining r.old) (R.remaining r.new) (W.contents w.old) (W.contents w.new) result }
+    ensures { Holds SAMPLE.now MOST
+        (transfer R.remaining W.contents r.old r.new w.old w.new) result }
 {
     match answer_all(alloc, seed, r, w) {
         Ok(Ok(_)) => Ending::Done,
@@ -124,8 +131,9 @@ fn obey<R: Read, W: Write>(
     r: &mut R,
     w: &mut W,
 ) -> Ending
-    ensures { Ends SAMPLE.now MOST (option_map (λ all. map string_bytes all.now) words.entry) (is_some seed)
-        (R.remaining r.old) (R.remaining r.new) (W.contents w.old) (W.contents w.new) result }
+    ensures { Ends SAMPLE.now MOST
+        (option_map (λ all. map string_bytes all.now) words.entry) (is_some seed)
+        (transfer R.remaining W.contents r.old r.new w.old w.new) result }
 {
     let Some(words) = words else {
         return Ending::ReadFault;
@@ -146,9 +154,11 @@ pub fn report<E: Write>(errors: &mut E, ending: Ending)
     let _whole = write_all(errors, ending.line().as_bytes());
 }
 
-/// Does what the words ask: holds a conversation where there are none, or `play` alone. Gives the exit status.
+/// Does what the words ask: holds a conversation where there are none, or `play` alone. Gives the
+/// exit status.
 ///
-/// `words` are those behind the program's name, none where they can't be read; `seed` is none where the system gives no random bytes.
+/// `words` are those behind the program's name, none where they can't be read; `seed` is none where
+/// the system gives no random bytes.
 pub fn command<R: Read, W: Write, E: Write>(
     alloc: Global,
     words: Option<&[String]>,
@@ -157,8 +167,9 @@ pub fn command<R: Read, W: Write, E: Write>(
     w: &mut W,
     errors: &mut E,
 ) -> u8
-    ensures { Commands SAMPLE.now MOST (option_map (λ all. map string_bytes all.now) words.entry) (is_some seed)
-        (R.remaining r.old) (R.remaining r.new) (W.contents w.old) (W.contents w.new)
+    ensures { Commands SAMPLE.now MOST
+        (option_map (λ all. map string_bytes all.now) words.entry) (is_some seed)
+        (transfer R.remaining W.contents r.old r.new w.old w.new)
         (E.contents errors.old) (E.contents errors.new) result }
 {
     let ending = obey(alloc, words, seed, r, w);
