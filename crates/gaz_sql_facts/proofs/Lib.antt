@@ -7,3 +7,5 @@ pub mod Selects
 pub mod Texts
 pub mod Typed
 pub mod Updates
+pub mod Tests
+pub mod Shown

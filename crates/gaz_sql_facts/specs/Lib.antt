@@ -1,4 +1,5 @@
 pub mod Changes
 pub mod Notes
 pub mod Selects
+pub mod Shows
 pub mod Tables

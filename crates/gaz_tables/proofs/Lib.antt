@@ -1,0 +1,3 @@
+pub mod VersionMeanings
+pub mod VersionRows
+pub mod VersionTexts

@@ -1,0 +1,4 @@
+//! The three tables of a store, with one function a statement.
+#![tactic(auto)]
+
+pub mod versions;
