@@ -1,3 +1,4 @@
+pub mod Receiveds
 pub mod Schema
 pub mod Stores
 pub mod Versions

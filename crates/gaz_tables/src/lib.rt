@@ -1,4 +1,5 @@
 //! The three tables of a store, with one function a statement.
 #![tactic(auto)]
 
+pub mod receiveds;
 pub mod versions;

@@ -1,7 +1,7 @@
 use Rattle.sqlite.specs.Held.{state}
-use Rattle.gaz_tables.proofs.VersionMeanings.{newest_found}
-use Rattle.gaz_tables.proofs.VersionTexts.{newest_is}
 use Rattle.gaz_sql_facts.proofs.Texts.{answers, stays, leaves_as_before}
+use Rattle.gaz_tables.proofs.VersionMeanings.{newest_found}
+use Rattle.gaz_tables.proofs.VersionQueries.{newest_is}
 use Rattle.gaz_tables.proofs.versions.newest.Goals as goal
 
 pub returns-clause-found : goal.returns-clause-found

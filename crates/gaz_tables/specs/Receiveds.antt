@@ -1,0 +1,65 @@
+-- The rows of `received`, by their columns, and what its queries find.
+use Rattle.std.specs.Prelude.{◌≡◌, ℕ, ℤ, pos, ◌<ℤ◌, List, [], ◌∷◌}
+use Rattle.sqlite.specs.declared.types.Value.{Value}
+use Rattle.sqlite.specs.declared.types.Value.TheVariants.{Int}
+use Rattle.sqlite.specs.Order.{Row, column}
+use Rattle.gaz_sql_facts.specs.Shows.{ShowsAll, ShowsPage}
+
+-- a row's values: its rowid comes first
+abbrev pub cust_of : Row → Value
+cust_of r = column r 1
+
+abbrev pub volume_of : Row → Value
+volume_of r = column r 2
+
+abbrev pub bytes_of : Row → Value
+bytes_of r = column r 3
+
+abbrev pub state_of : Row → Value
+state_of r = column r 4
+
+abbrev pub place_of : Row → Value
+place_of r = column r 5
+
+abbrev pub rule_of : Row → Value
+rule_of r = column r 6
+
+-- where `volume` stands
+abbrev pub volume_place : ℕ
+volume_place = 2
+
+-- the row is that of a volume
+pub record IsVolume (cust volume : ℕ) (r : Row) : Type 0 where
+  pub of_cust : cust_of r ≡ Int (pos cust)
+  pub of_volume : volume_of r ≡ Int (pos volume)
+
+-- the row is that of a volume above
+pub record IsAbove (cust volume : ℕ) (r : Row) : Type 0 where
+  pub of_cust : cust_of r ≡ Int (pos cust)
+  pub above : (n : ℤ) × (volume_of r ≡ Int n) × (pos volume <ℤ n)
+
+-- what is shown of a row
+abbrev pub file_shown : Row → Row
+file_shown r = bytes_of r ∷ state_of r ∷ place_of r ∷ rule_of r ∷ []
+
+abbrev pub verdict_shown : Row → Row
+verdict_shown r = state_of r ∷ place_of r ∷ rule_of r ∷ []
+
+abbrev pub volume_shown : Row → Row
+volume_shown r = volume_of r ∷ []
+
+-- the bytes of a volume, with its state, place and rule
+abbrev pub FindsFile : ℕ → ℕ → List Row → List Row → Type 0
+FindsFile cust volume rows answer = ShowsAll (IsVolume cust volume) file_shown rows answer
+
+-- the state of a volume, with its place and rule
+abbrev pub FindsVerdict : ℕ → ℕ → List Row → List Row → Type 0
+FindsVerdict cust volume rows answer = ShowsAll (IsVolume cust volume) verdict_shown rows answer
+
+-- the volume itself, where it was received
+abbrev pub FindsVolume : ℕ → ℕ → List Row → List Row → Type 0
+FindsVolume cust volume rows answer = ShowsAll (IsVolume cust volume) volume_shown rows answer
+
+-- the volumes above one, as they rise: the first so many
+abbrev pub FindsAbove : ℕ → ℕ → ℕ → List Row → List Row → Type 0
+FindsAbove cust volume most rows answer = ShowsPage (IsAbove cust volume) volume_place most volume_shown rows answer
