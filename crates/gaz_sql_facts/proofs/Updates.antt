@@ -191,3 +191,9 @@ module _ (schema : Schema) (at tree : ℕ) (name primary : List ℕ) (columns : 
     updated count sound up h =
         let w = runs_as sql params old new schema has (Update at (record { lets = []; body = selecting tree tests project [] every })) text.is text.plain count h in
         (updates old.now has sound up old.step_limit (mode_of old) new.now [] w.tally w.sound w.changed, (w.shown, w.marks))
+
+-- the table's rows are changed just where they fit
+pub changed_to : {P Q : Row → Type 0} (tree : ℕ) (change : Row → Row) (old new : Database) → ((r : Row) → Has (old.trees tree) r → P r → Q r) → ((r : Row) → Has (old.trees tree) r → Q r → P r)
+    → Changes tree (IsChanged P change) old new → Changes tree (IsChanged Q change) old new
+changed_to tree change old new f g h =
+    record { schema_stays = h.schema_stays; sound = h.sound; rows = changed_by (old.trees tree) (new.trees tree) change f g h.rows; shaped = h.shaped; others = h.others }

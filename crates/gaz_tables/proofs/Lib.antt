@@ -5,3 +5,5 @@ pub mod SchemaTexts
 pub mod VersionMeanings
 pub mod VersionQueries
 pub mod VersionRows
+pub mod VersionWrites
+pub mod ReceivedWrites

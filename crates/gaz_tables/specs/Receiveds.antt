@@ -1,8 +1,9 @@
 -- The rows of `received`, by their columns, and what its queries find.
 use Rattle.std.specs.Prelude.{◌≡◌, ℕ, ℤ, pos, ◌<ℤ◌, List, [], ◌∷◌}
 use Rattle.sqlite.specs.declared.types.Value.{Value}
-use Rattle.sqlite.specs.declared.types.Value.TheVariants.{Int}
+use Rattle.sqlite.specs.declared.types.Value.TheVariants.{Int, Blob}
 use Rattle.sqlite.specs.Order.{Row, column}
+use Rattle.gaz_sql_facts.specs.Changes.{IsChanged}
 use Rattle.gaz_sql_facts.specs.Shows.{ShowsAll, ShowsPage}
 
 -- a row's values: its rowid comes first
@@ -63,3 +64,19 @@ FindsVolume cust volume rows answer = ShowsAll (IsVolume cust volume) volume_sho
 -- the volumes above one, as they rise: the first so many
 abbrev pub FindsAbove : ℕ → ℕ → ℕ → List Row → List Row → Type 0
 FindsAbove cust volume most rows answer = ShowsPage (IsAbove cust volume) volume_place most volume_shown rows answer
+
+-- the values of a row that nobody has judged
+abbrev pub unjudged : ℕ → ℕ → List ℕ → Row
+unjudged cust volume bytes = Int (pos cust) ∷ Int (pos volume) ∷ Blob bytes ∷ Int (pos 0) ∷ Int (pos 0) ∷ Int (pos 0) ∷ []
+
+-- the row, judged
+abbrev pub judged : ℕ → ℤ → ℕ → Row → Row
+judged state place rule r = column r 0 ∷ cust_of r ∷ volume_of r ∷ bytes_of r ∷ Int (pos state) ∷ Int place ∷ Int (pos rule) ∷ []
+
+-- the rows, and that of a volume is applied
+abbrev pub Applies : ℕ → ℕ → List Row → List Row → Type 0
+Applies cust volume old new = IsChanged (IsVolume cust volume) (judged 1 (pos 0) 0) old new
+
+-- the rows, and that of a volume is rejected at a place by a rule
+abbrev pub Rejects : ℕ → ℕ → ℤ → ℕ → List Row → List Row → Type 0
+Rejects cust volume place rule old new = IsChanged (IsVolume cust volume) (judged 2 place rule) old new

@@ -1,11 +1,12 @@
 -- The rows of `version`, by their columns, and what its queries find.
-use Rattle.std.specs.Prelude.{◌≡◌, ℕ, ℤ, pos, ◌≤ℤ◌, ◌<ℤ◌, List, [], ◌∷◌}
+use Rattle.std.specs.Prelude.{◌≡◌, ℕ, ℤ, pos, ◌≤ℤ◌, ◌<ℤ◌, Bool, if◌then◌else◌, List, [], ◌∷◌}
 use Rattle.std.specs.Ordering.{nat_cmp}
 use Rattle.std.specs.Cmp.Lexicographic.{slice_cmp}
 use Rattle.std.specs.declared.cmp.Ordering.TheVariants.{Greater}
 use Rattle.sqlite.specs.declared.types.Value.{Value}
 use Rattle.sqlite.specs.declared.types.Value.TheVariants.{Int, Text}
 use Rattle.sqlite.specs.Order.{Row, column}
+use Rattle.gaz_sql_facts.specs.Changes.{IsChanged}
 use Rattle.gaz_sql_facts.specs.Shows.{ShowsAll, ShowsPage, ShowsGreatest}
 
 -- a row's values: its rowid comes first
@@ -141,3 +142,22 @@ FindsApprovedOn cust street after most rows answer = ShowsPage (IsApprovedOn cus
 -- the parts of a BLPU, behind an id and as ids rise: the first so many
 abbrev pub FindsParts : ℕ → ℤ → List ℕ → ℕ → List Row → List Row → Type 0
 FindsParts cust blpu after most rows answer = ShowsPage (IsPartOf cust blpu after) id_place most id_shown rows answer
+
+-- the values of a row
+abbrev pub version_values : ℕ → ℕ → List ℕ → ℤ → ℕ → ℕ → Bool → ℕ → ℕ → List ℕ → Row
+version_values cust kind id blpu street lang live born gone body =
+    Int (pos cust) ∷ Int (pos kind) ∷ Text id ∷ Int blpu ∷ Int (pos street) ∷ Int (pos lang) ∷ Int (if live then pos 1 else pos 0) ∷ Int (pos born) ∷ Int (pos gone) ∷ Text body ∷ []
+
+-- the row of a key that was born in a volume
+pub record IsOfBirth (cust kind : ℕ) (id : List ℕ) (born : ℕ) (r : Row) : Type 0 where
+  pub of_key : IsOfKey cust kind id r
+  pub of_born : born_of r ≡ Int (pos born)
+
+-- the row, gone at a volume
+abbrev pub gone_at : ℕ → Row → Row
+gone_at volume r =
+    column r 0 ∷ cust_of r ∷ kind_of r ∷ id_of r ∷ blpu_of r ∷ street_of r ∷ lang_of r ∷ live_of r ∷ born_of r ∷ Int (pos volume) ∷ body_of r ∷ []
+
+-- the rows, and the one of this birth is gone at a volume
+abbrev pub Closes : ℕ → ℕ → List ℕ → ℕ → ℕ → List Row → List Row → Type 0
+Closes cust kind id born gone old new = IsChanged (IsOfBirth cust kind id born) (gone_at gone) old new

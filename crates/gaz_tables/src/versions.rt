@@ -1,11 +1,13 @@
-//! The queries of the table `version`.
+//! The statements of the table `version`.
 ghost use Rattle.sqlite.specs.Held.{state};
 ghost use Rattle.gaz_tables.specs.Schema.{versions};
-ghost use Rattle.gaz_tables.specs.Stores.{Finds, LeavesAsBefore, Stays};
+ghost use Rattle.std.specs.Prelude.{◌≡◌};
+ghost use Rattle.sqlite.specs.State.{Survives};
+ghost use Rattle.gaz_tables.specs.Stores.{AddsRow, Finds, LeavesAsBefore, SparesInside, Stays, WritesInside};
 ghost use Rattle.gaz_tables.specs.Versions.{FindsApprovedOf, FindsApprovedOn, FindsHolding, FindsNewest};
-ghost use Rattle.gaz_tables.specs.Versions.{FindsNewestUntil, FindsParts};
+ghost use Rattle.gaz_tables.specs.Versions.{Closes, FindsNewestUntil, FindsParts, version_values};
 
-use sqlite::{Alter, Connection, Error, Row, params};
+use sqlite::{Alter, Connection, Error, Row, Transaction, params};
 
 /// `born`, `gone` and `body` of the newest row of a key, or no row.
 pub fn newest<S: Alter>(
@@ -116,5 +118,57 @@ pub fn parts_of<S: Alter>(
     conn.query_all(
         "SELECT id FROM version WHERE cust = ?1 AND kind = 21 AND blpu = ?2 AND gone = 1000000 AND id > ?3 ORDER BY id LIMIT ?4",
         params![cust, blpu, after, most],
+    )
+}
+
+/// Adds a row, within a transaction.
+pub fn insert<S: Alter>(
+    tx: &mut Transaction<'_, S>,
+    cust: u32,
+    kind: u32,
+    id: &str,
+    blpu: &i64,
+    street: u32,
+    lang: u32,
+    live: bool,
+    born: u32,
+    gone: u32,
+    body: &str,
+) -> Result<usize, Error>
+    ensures same_reference { tx.new.conn.ghost_name ≡ tx.old.conn.ghost_name }
+    ensures added { WritesInside (state S.Store tx.old.conn.now) (state S.Store tx.new.conn.now)
+        versions result (AddsRow
+        (version_values cust kind id.now blpu.now street lang live born gone body.now)) }
+    ensures spared { SparesInside (state S.Store tx.old.conn.now) (state S.Store tx.new.conn.now)
+        result }
+    ensures leaves { Survives (state S.Store tx.old.conn.now) (state S.Store tx.new.conn.now)
+        (λ _. ⊥) }
+{
+    tx.execute(
+        "INSERT INTO version VALUES (?1, ?2, ?3, ?4, ?5, ?6, ?7, ?8, ?9, ?10)",
+        params![cust, kind, id, blpu, street, lang, live, born, gone, body],
+    )
+}
+
+/// Sets `gone` of the row of a key that was born in a volume, within a transaction.
+pub fn close<S: Alter>(
+    tx: &mut Transaction<'_, S>,
+    cust: u32,
+    kind: u32,
+    id: &str,
+    born: u32,
+    gone: u32,
+) -> Result<usize, Error>
+    ensures same_reference { tx.new.conn.ghost_name ≡ tx.old.conn.ghost_name }
+    ensures closed { WritesInside (state S.Store tx.old.conn.now) (state S.Store tx.new.conn.now)
+        versions result (Closes cust kind id.now born gone) }
+    ensures spared { SparesInside (state S.Store tx.old.conn.now) (state S.Store tx.new.conn.now)
+        result }
+    ensures leaves { Survives (state S.Store tx.old.conn.now) (state S.Store tx.new.conn.now)
+        (λ _. ⊥) }
+{
+    tx.execute(
+        "UPDATE version SET gone = ?5 WHERE cust = ?1 AND kind = ?2 AND id = ?3 AND born = ?4",
+        params![cust, kind, id, born, gone],
     )
 }
