@@ -14,6 +14,7 @@ use Rattle.sqlite_rules.specs.Edit.{Applies, is_taken}
 use Rattle.sqlite_rules.specs.Lists.{Has}
 use Rattle.sqlite_rules.proofs.ListLemmas.{all_has, some_from}
 use Rattle.sqlite_rules.proofs.TableLemmas.{put_all_has, put_all_keeps, put_all_adds}
+use Rattle.sqlite.specs.declared.types.Value.{Value}
 use Rattle.sqlite.specs.declared.types.Value.TheVariants.{Null, Int}
 use Rattle.sqlite.specs.declared.run.Mode.{Mode}
 use Rattle.sqlite.specs.Cast.{cast_all, cast_row}
@@ -33,7 +34,7 @@ use Rattle.sqlite.specs.Tree.{Trees, rowid}
 use Rattle.sqlite.specs.View.{IsShaped}
 use Rattle.sqlite.proofs.Callers.{runs_as, one_step}
 use Rattle.gaz_sql_facts.specs.Changes.{IsAdded, Changes, InPlace}
-use Rattle.gaz_sql_facts.specs.Tables.{strict, AreOf}
+use Rattle.gaz_sql_facts.specs.Tables.{keyed, strict, AreOf}
 use Rattle.gaz_sql_facts.proofs.Texts.{IsCommand}
 use Rattle.gaz_sql_facts.proofs.Typed.{cast_null, kept_by_cast}
 
@@ -69,25 +70,23 @@ pub others_stay : (schema : Schema) (keys : Keys) (db next : Trees) (edit : Edit
 others_stay schema keys db next edit a t listed = all_has (λ (t : Table). t.tree ≢ edit.table.tree → next t.tree ≡ db t.tree) schema.tables t a.tables listed
 
 -- INSERT INTO the table at this place VALUES (..), one row of them
-module _ (schema : Schema) (at tree : ℕ) (name primary : List ℕ) (columns : List Column) (checks terms : List Term) (width : ℕ) (params values : Row)
-    (listed : slice_get schema.tables at ≡ Some (strict name tree columns primary checks))
+module _ (schema : Schema) (at tree : ℕ) (key : Option ℕ) (name primary : List ℕ) (uniques : List (List ℕ)) (columns : List Column) (checks terms : List Term) (width : ℕ) (params : Row) (id : Value) (values : Row)
+    (listed : slice_get schema.tables at ≡ Some (keyed key name tree columns primary uniques checks))
     (free : (olds news : List Row) (keys : Keys) → works schema keys 0 tree olds news ≡ [])
-    (given : value_rows (stamped (strict name tree columns primary checks) params) width (length terms / width) terms ≡ (Null ∷ values) ∷ [])
-    (fit : AreOf columns values) where
+    (given : value_rows (stamped (keyed key name tree columns primary uniques checks) params) width (length terms / width) terms ≡ (id ∷ values) ∷ [])
+    (kept : cast_row (keyed key name tree columns primary uniques checks) (id ∷ values) ≡ id ∷ values) where
   abbrev table : Table
-  table = strict name tree columns primary checks
+  table = keyed key name tree columns primary uniques checks
 
   -- the row that is written
   abbrev pub row_of : List Row → Row
-  row_of rows = Int (next_rowid rows) ∷ values
+  row_of rows = with_rowid Chosen rows (id ∷ values)
 
   abbrev pub AddsRow : List Row → List Row → Type 0
   AddsRow before after = IsAdded (row_of before) before after
 
   one : (db : Trees) → edit_of db table [] Chosen 0 (value_rows (stamped table params) width (length terms / width) terms) ≡ adding table (row_of (db tree))
-  one db =
-      let cast : cast_row table (Null ∷ values) ≡ Null ∷ values = ap (λ v. v ∷ cast_all columns values) cast_null ∙ ap (λ vs. Null ∷ vs) (kept_by_cast columns values fit) in
-      ap (edit_of db table [] Chosen 0) given ∙ ap (λ r. adding table (with_rowid Chosen (db tree) r)) cast
+  one db = ap (edit_of db table [] Chosen 0) given ∙ ap (λ r. adding table (with_rowid Chosen (db tree) r)) kept
 
   module _ (limit : Option ℕ) (mode : Mode) (db : Trees) (text : List ℕ) where
     pub inserts : (tally : Tally) (after : Database) → Does limit mode params (record { schema = schema; trees = db }) text None (Insert at (Values terms width)) (Ok (tally, after))
@@ -123,7 +122,20 @@ module _ (schema : Schema) (at tree : ℕ) (name primary : List ℕ) (columns : 
       }
 
   module _ (sql : List ℕ) (text : IsCommand schema sql (Insert at (Values terms width))) (old new : State) (has : old.now.schema ≡ schema) where
-    pub inserted : (count : ℕ) → Executes sql params old new (Ok count) → Changes tree AddsRow old.now new.now × InPlace old new
-    inserted count h =
+    pub inserted_as : (count : ℕ) → Executes sql params old new (Ok count) → Changes tree AddsRow old.now new.now × InPlace old new
+    inserted_as count h =
         let w = runs_as sql params old new schema has (Insert at (Values terms width)) text.is text.plain count h in
         (adds old.step_limit (mode_of old) old.now new.now [] w.tally has w.sound w.changed, (w.shown, w.marks))
+
+-- the same of a table whose rowids no statement gives
+module _ (schema : Schema) (at tree : ℕ) (name primary : List ℕ) (columns : List Column) (checks terms : List Term) (width : ℕ) (params values : Row)
+    (listed : slice_get schema.tables at ≡ Some (strict name tree columns primary checks))
+    (free : (olds news : List Row) (keys : Keys) → works schema keys 0 tree olds news ≡ [])
+    (given : value_rows (stamped (strict name tree columns primary checks) params) width (length terms / width) terms ≡ (Null ∷ values) ∷ [])
+    (fit : AreOf columns values) where
+  kept_row : cast_row (strict name tree columns primary checks) (Null ∷ values) ≡ Null ∷ values
+  kept_row = ap (λ v. v ∷ cast_all columns values) cast_null ∙ ap (λ vs. Null ∷ vs) (kept_by_cast columns values fit)
+
+  module _ (sql : List ℕ) (text : IsCommand schema sql (Insert at (Values terms width))) (old new : State) (has : old.now.schema ≡ schema) where
+    pub inserted : (count : ℕ) → Executes sql params old new (Ok count) → Changes tree (λ before after. IsAdded (Int (next_rowid before) ∷ values) before after) old.now new.now × InPlace old new
+    inserted count h = inserted_as schema at tree None name primary (primary ∷ []) columns checks terms width params Null values listed free given kept_row sql text old new has count h

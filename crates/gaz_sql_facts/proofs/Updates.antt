@@ -39,7 +39,7 @@ use Rattle.sqlite.specs.View.{IsShaped, is_int}
 use Rattle.sqlite.proofs.Callers.{runs_as, one_step}
 use Rattle.gaz_sql_facts.specs.Changes.{IsChanged, Changes, InPlace}
 use Rattle.gaz_sql_facts.specs.Selects.{selecting, every, passes, shows, Selects}
-use Rattle.gaz_sql_facts.specs.Tables.{strict, is_required, AreOf, cells}
+use Rattle.gaz_sql_facts.specs.Tables.{keyed, strict, is_required, AreOf, cells}
 use Rattle.gaz_sql_facts.proofs.Inserts.{went, same_value, others_stay}
 use Rattle.gaz_sql_facts.proofs.Selects.{selects, selected, found}
 use Rattle.gaz_sql_facts.proofs.Texts.{IsCommand, overlay_none}
@@ -73,14 +73,13 @@ changed_by old new change f g h = record {
 }
 
 -- UPDATE the table at this place SET .. WHERE tests; `set` are a changed row's values
-module _ (schema : Schema) (at tree : ℕ) (name primary : List ℕ) (columns : List Column) (checks tests project : List Term) (params : Row) (set : Row → Row)
-    (listed : slice_get schema.tables at ≡ Some (strict name tree columns primary checks))
+module _ (schema : Schema) (at tree : ℕ) (key : Option ℕ) (name primary : List ℕ) (uniques : List (List ℕ)) (columns : List Column) (checks tests project : List Term) (params : Row) (set : Row → Row)
+    (listed : slice_get schema.tables at ≡ Some (keyed key name tree columns primary uniques checks))
     (free : (olds news : List Row) (keys : Keys) → works schema keys 0 tree olds news ≡ [])
-    (exact : list_all is_required columns ≡ true)
     (shown : (r : Row) → shows project params r ≡ rowid r ∷ rowid r ∷ set r)
-    (fit : (r : Row) → AreOf columns (cells columns 1 r) → AreOf columns (set r)) where
+    (kept : (db : Database) → db.schema ≡ schema → IsDatabase db → (r : Row) → Has (db.trees tree) r → cast_all columns (set r) ≡ set r) where
   abbrev table : Table
-  table = strict name tree columns primary checks
+  table = keyed key name tree columns primary uniques checks
 
   -- whether a row is changed, and what it becomes
   abbrev pub Passes : Row → Type 0
@@ -90,9 +89,6 @@ module _ (schema : Schema) (at tree : ℕ) (name primary : List ℕ) (columns : 
   change r = rowid r ∷ set r
 
   module _ (db : Database) (has : db.schema ≡ schema) (sound : IsDatabase db) (up : IsShaped shape.Table (db.trees tree)) where
-    there_listed : Has db.schema.tables table
-    there_listed = subst (λ s. Has s.tables table) (sym has) (has_got schema.tables at table listed)
-
     module _ (r : Row) (there : Has (db.trees tree) r) where
       rowid_is_int : is_int (rowid r) ≡ true
       rowid_is_int = all_has (λ x. IsTrue (is_int (rowid x))) (db.trees tree) r up.1 there
@@ -101,7 +97,7 @@ module _ (schema : Schema) (at tree : ℕ) (name primary : List ℕ) (columns : 
       recast =
           let first : cast kind.Integer (rowid r) ≡ rowid r =
           ap (cast kind.Integer) (int_is (rowid r) rowid_is_int) ∙ cast_int (id_in (rowid r)) ∙ sym (int_is (rowid r) rowid_is_int) in
-          let rest : cast_all columns (set r) ≡ set r = kept_by_cast columns (set r) (fit r (typed db r table sound there_listed there refl exact)) in
+          let rest : cast_all columns (set r) ≡ set r = kept db has sound r there in
           ap (λ s. cast_row table (drop 1 s)) (shown r) ∙ ap (λ v. v ∷ cast_all columns (set r)) first ∙ ap (λ vs. rowid r ∷ vs) rest
 
     module _ (rows : List Row) (all : Selects tests project [] None (db.trees tree) params rows) where
@@ -187,10 +183,28 @@ module _ (schema : Schema) (at tree : ℕ) (name primary : List ℕ) (columns : 
         }
 
   module _ (sql : List ℕ) (text : IsCommand schema sql (Update at (record { lets = []; body = selecting tree tests project [] every }))) (old new : State) (has : old.now.schema ≡ schema) where
-    pub updated : (count : ℕ) → IsDatabase old.now → IsShaped shape.Table (old.now.trees tree) → Executes sql params old new (Ok count) → Changes tree (IsChanged Passes change) old.now new.now × InPlace old new
-    updated count sound up h =
+    pub updated_as : (count : ℕ) → IsDatabase old.now → IsShaped shape.Table (old.now.trees tree) → Executes sql params old new (Ok count) → Changes tree (IsChanged Passes change) old.now new.now × InPlace old new
+    updated_as count sound up h =
         let w = runs_as sql params old new schema has (Update at (record { lets = []; body = selecting tree tests project [] every })) text.is text.plain count h in
         (updates old.now has sound up old.step_limit (mode_of old) new.now [] w.tally w.sound w.changed, (w.shown, w.marks))
+
+-- the same of a table whose rowids no statement gives
+module _ (schema : Schema) (at tree : ℕ) (name primary : List ℕ) (columns : List Column) (checks tests project : List Term) (params : Row) (set : Row → Row)
+    (listed : slice_get schema.tables at ≡ Some (strict name tree columns primary checks))
+    (free : (olds news : List Row) (keys : Keys) → works schema keys 0 tree olds news ≡ [])
+    (exact : list_all is_required columns ≡ true)
+    (shown : (r : Row) → shows project params r ≡ rowid r ∷ rowid r ∷ set r)
+    (fit : (r : Row) → AreOf columns (cells columns 1 r) → AreOf columns (set r)) where
+  kept_values : (db : Database) → db.schema ≡ schema → IsDatabase db → (r : Row) → Has (db.trees tree) r → cast_all columns (set r) ≡ set r
+  kept_values db has sound r there =
+      let it = strict name tree columns primary checks in
+      let listed_there : Has db.schema.tables it = subst (λ s. Has s.tables it) (sym has) (has_got schema.tables at it listed) in
+      kept_by_cast columns (set r) (fit r (typed db r it sound listed_there there refl exact))
+
+  module _ (sql : List ℕ) (text : IsCommand schema sql (Update at (record { lets = []; body = selecting tree tests project [] every }))) (old new : State) (has : old.now.schema ≡ schema) where
+    pub updated : (count : ℕ) → IsDatabase old.now → IsShaped shape.Table (old.now.trees tree) → Executes sql params old new (Ok count)
+        → Changes tree (IsChanged (λ r. passes tests params r ≡ true) (λ r. rowid r ∷ set r)) old.now new.now × InPlace old new
+    updated count sound up h = updated_as schema at tree None name primary (primary ∷ []) columns checks tests project params set listed free shown kept_values sql text old new has count sound up h
 
 -- the table's rows are changed just where they fit
 pub changed_to : {P Q : Row → Type 0} (tree : ℕ) (change : Row → Row) (old new : Database) → ((r : Row) → Has (old.trees tree) r → P r → Q r) → ((r : Row) → Has (old.trees tree) r → Q r → P r)

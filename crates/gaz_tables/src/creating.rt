@@ -1,0 +1,64 @@
+//! The tables and indexes of a new store.
+ghost use Rattle.std.specs.Prelude.{◌≡◌, false};
+
+use crate::metas;
+use sqlite::{Alter, Connection, Error, Transaction};
+
+/// Makes the table `version`, within a transaction.
+fn make_version<S: Alter>(tx: &mut Transaction<'_, S>) -> Result<usize, Error>
+    ensures same_reference { tx.new.conn.ghost_name ≡ tx.old.conn.ghost_name }
+{
+    tx.execute(
+        "CREATE TABLE version (cust INTEGER NOT NULL, kind INTEGER NOT NULL CHECK (kind IN (11, 15, 21, 23, 24)), id TEXT NOT NULL, blpu INTEGER NOT NULL, street INTEGER NOT NULL, lang INTEGER NOT NULL, live INTEGER NOT NULL, born INTEGER NOT NULL, gone INTEGER NOT NULL, body TEXT NOT NULL, PRIMARY KEY (cust, kind, id, born)) STRICT",
+        &[],
+    )
+}
+
+/// Makes the index of `blpu`, within a transaction.
+fn make_by_blpu<S: Alter>(tx: &mut Transaction<'_, S>) -> Result<usize, Error>
+    ensures same_reference { tx.new.conn.ghost_name ≡ tx.old.conn.ghost_name }
+{
+    tx.execute("CREATE INDEX by_blpu ON version (cust, kind, blpu, gone)", &[])
+}
+
+/// Makes the index of `street`, within a transaction.
+fn make_by_street<S: Alter>(tx: &mut Transaction<'_, S>) -> Result<usize, Error>
+    ensures same_reference { tx.new.conn.ghost_name ≡ tx.old.conn.ghost_name }
+{
+    tx.execute("CREATE INDEX by_street ON version (cust, kind, street, gone)", &[])
+}
+
+/// Makes the table `received`, within a transaction.
+fn make_received<S: Alter>(tx: &mut Transaction<'_, S>) -> Result<usize, Error>
+    ensures same_reference { tx.new.conn.ghost_name ≡ tx.old.conn.ghost_name }
+{
+    tx.execute(
+        "CREATE TABLE received (cust INTEGER NOT NULL, volume INTEGER NOT NULL, bytes BLOB NOT NULL, state INTEGER NOT NULL, place INTEGER NOT NULL, rule INTEGER NOT NULL, PRIMARY KEY (cust, volume)) STRICT",
+        &[],
+    )
+}
+
+/// Makes the table `meta`, within a transaction.
+fn make_meta<S: Alter>(tx: &mut Transaction<'_, S>) -> Result<usize, Error>
+    ensures same_reference { tx.new.conn.ghost_name ≡ tx.old.conn.ghost_name }
+{
+    tx.execute(
+        "CREATE TABLE meta (id INTEGER NOT NULL PRIMARY KEY, number INTEGER NOT NULL, register TEXT NOT NULL) STRICT",
+        &[],
+    )
+}
+
+/// Makes the three tables, their indexes and the row of `meta`, in one transaction that is over when this returns.
+pub fn create<S: Alter>(conn: &mut Connection<S>, number: u32, register: &str) -> Result<(), Error>
+    requires { conn.old.in_transaction ≡ false }
+    ensures over { conn.new.in_transaction ≡ false }
+{
+    let mut tx = conn.transaction();
+    make_version(&mut tx)?;
+    make_by_blpu(&mut tx)?;
+    make_by_street(&mut tx)?;
+    make_received(&mut tx)?;
+    make_meta(&mut tx)?;
+    metas::insert(&mut tx, number, register)?;
+    tx.commit()
+}
