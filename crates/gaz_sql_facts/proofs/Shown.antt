@@ -10,7 +10,7 @@ use Rattle.sqlite_rules.specs.Lists.{Has}
 use Rattle.sqlite_sql.specs.Term.{Term, col}
 use Rattle.sqlite.specs.declared.error.Error.{Error}
 use Rattle.gaz_sql_facts.specs.Selects.{passes, shows, rising, falling, Selects}
-use Rattle.gaz_sql_facts.specs.Shows.{Picks, ShowsAll, ShowsPage, ShowsGreatest}
+use Rattle.gaz_sql_facts.specs.Shows.{Picks, ShowsAll, ShowsPage, ShowsSome, ShowsGreatest}
 use Rattle.gaz_sql_facts.proofs.Selects.{first_shown, greatest, alone}
 
 -- WHERE takes just the rows that fit
@@ -31,6 +31,9 @@ module _ (tests project : List Term) (params : Row) (rows : List Row) (Fits : Ro
     rising = λ k d low high. sym (alone _) ∙ s.sorted k d low high;
     shown = s.shown;
   }
+
+  pub shows_some : (most : ℕ) (answer : List Row) → Selects tests project [] (Some most) rows params answer → ShowsSome Fits most (shows project params) rows answer
+  shows_some most answer s = record { chosen = s.chosen; picks = picked [] (Some most) answer s; shown = s.shown }
 
   pub shows_greatest : (place : ℕ) → ((r : Row) → Has rows r → Fits r → (n : ℤ) × (column r place ≡ Int n)) → (answer : List Row)
       → Selects tests project ((col 1 place, falling) ∷ []) (Some 1) rows params answer → ShowsGreatest Fits place (shows project params) rows answer

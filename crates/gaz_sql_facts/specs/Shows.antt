@@ -37,3 +37,9 @@ abbrev pub ShowsGreatest : (Row → Type 0) → ℕ → (Row → Row) → List R
 ShowsGreatest Fits place show rows [] = (r : Row) → Has rows r → ¬ Fits r
 ShowsGreatest Fits place show rows (x ∷ []) = (r : Row) × (n : ℤ) × IsGreatest Fits place rows r n × (x ≡ show r)
 ShowsGreatest Fits place show rows (x ∷ y ∷ more) = ⊥
+
+-- what is shown of so many of the rows that fit, or of all where they are no more
+pub record ShowsSome (Fits : Row → Type 0) (most : ℕ) (show : Row → Row) (rows answer : List Row) : Type 0 where
+  pub chosen : List Row
+  pub picks : Picks Fits rows chosen
+  pub shown : answer ≡ map show (take most chosen)

@@ -1,9 +1,10 @@
+pub mod Making
+pub mod MetaTexts
 pub mod ReceivedMeanings
 pub mod ReceivedQueries
 pub mod ReceivedRows
-pub mod SchemaTexts
+pub mod ReceivedWrites
 pub mod VersionMeanings
 pub mod VersionQueries
 pub mod VersionRows
 pub mod VersionWrites
-pub mod ReceivedWrites

@@ -1,3 +1,5 @@
+pub mod Creating
+pub mod Metas
 pub mod Receiveds
 pub mod Schema
 pub mod Stores

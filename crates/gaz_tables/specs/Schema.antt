@@ -11,7 +11,7 @@ use Rattle.sqlite_schema.specs.declared.schema.Column.{Column}
 use Rattle.sqlite_schema.specs.declared.schema.Index.{Index}
 use Rattle.sqlite_resolve.specs.declared.error.CompileError.{CompileError}
 use Rattle.sqlite_catalog.specs.Listing.{automatic}
-use Rattle.gaz_sql_facts.specs.Tables.{required, strict}
+use Rattle.gaz_sql_facts.specs.Tables.{keyed, required, strict}
 
 abbrev pub version_text : List ℕ
 version_text = codes "CREATE TABLE version (cust INTEGER NOT NULL, kind INTEGER NOT NULL CHECK (kind IN (11, 15, 21, 23, 24)), id TEXT NOT NULL, blpu INTEGER NOT NULL, street INTEGER NOT NULL, lang INTEGER NOT NULL, live INTEGER NOT NULL, born INTEGER NOT NULL, gone INTEGER NOT NULL, body TEXT NOT NULL, PRIMARY KEY (cust, kind, id, born)) STRICT"
@@ -63,7 +63,7 @@ received = strict (codes "received") receiveds received_columns (1 ∷ 2 ∷ [])
 
 -- its id is the rowid
 abbrev pub meta : Table
-meta = record (strict (codes "meta") metas meta_columns (0 ∷ []) []) { key = Some 0; uniques = []; orders = [] }
+meta = keyed (Some 0) (codes "meta") metas meta_columns (0 ∷ []) [] []
 
 abbrev pub index_of : List ℕ → ℕ → List ℕ → Index
 index_of name tree columns = record { name = name; tree = tree; table = versions; columns = columns; order = record { digits = 0 }; is_unique = false }

@@ -1,5 +1,10 @@
 //! The tables and indexes of a new store.
 ghost use Rattle.std.specs.Prelude.{◌≡◌, false};
+ghost use Rattle.sqlite.specs.Held.{state};
+ghost use Rattle.sqlite.specs.State.{Survives};
+ghost use Rattle.gaz_tables.specs.Creating.{Grows, no_schema, with_by_blpu, with_by_street, with_received, with_version};
+ghost use Rattle.gaz_tables.specs.Schema.{store_schema};
+ghost use Rattle.gaz_tables.specs.Stores.{SparesInside};
 
 use crate::metas;
 use sqlite::{Alter, Connection, Error, Transaction};
@@ -7,6 +12,12 @@ use sqlite::{Alter, Connection, Error, Transaction};
 /// Makes the table `version`, within a transaction.
 fn make_version<S: Alter>(tx: &mut Transaction<'_, S>) -> Result<usize, Error>
     ensures same_reference { tx.new.conn.ghost_name ≡ tx.old.conn.ghost_name }
+    ensures made { Grows (state S.Store tx.old.conn.now) (state S.Store tx.new.conn.now)
+        no_schema with_version result }
+    ensures spared { SparesInside (state S.Store tx.old.conn.now) (state S.Store tx.new.conn.now)
+        result }
+    ensures leaves { Survives (state S.Store tx.old.conn.now) (state S.Store tx.new.conn.now)
+        (λ _. ⊥) }
 {
     tx.execute(
         "CREATE TABLE version (cust INTEGER NOT NULL, kind INTEGER NOT NULL CHECK (kind IN (11, 15, 21, 23, 24)), id TEXT NOT NULL, blpu INTEGER NOT NULL, street INTEGER NOT NULL, lang INTEGER NOT NULL, live INTEGER NOT NULL, born INTEGER NOT NULL, gone INTEGER NOT NULL, body TEXT NOT NULL, PRIMARY KEY (cust, kind, id, born)) STRICT",
@@ -17,6 +28,12 @@ fn make_version<S: Alter>(tx: &mut Transaction<'_, S>) -> Result<usize, Error>
 /// Makes the index of `blpu`, within a transaction.
 fn make_by_blpu<S: Alter>(tx: &mut Transaction<'_, S>) -> Result<usize, Error>
     ensures same_reference { tx.new.conn.ghost_name ≡ tx.old.conn.ghost_name }
+    ensures made { Grows (state S.Store tx.old.conn.now) (state S.Store tx.new.conn.now)
+        with_version with_by_blpu result }
+    ensures spared { SparesInside (state S.Store tx.old.conn.now) (state S.Store tx.new.conn.now)
+        result }
+    ensures leaves { Survives (state S.Store tx.old.conn.now) (state S.Store tx.new.conn.now)
+        (λ _. ⊥) }
 {
     tx.execute("CREATE INDEX by_blpu ON version (cust, kind, blpu, gone)", &[])
 }
@@ -24,6 +41,12 @@ fn make_by_blpu<S: Alter>(tx: &mut Transaction<'_, S>) -> Result<usize, Error>
 /// Makes the index of `street`, within a transaction.
 fn make_by_street<S: Alter>(tx: &mut Transaction<'_, S>) -> Result<usize, Error>
     ensures same_reference { tx.new.conn.ghost_name ≡ tx.old.conn.ghost_name }
+    ensures made { Grows (state S.Store tx.old.conn.now) (state S.Store tx.new.conn.now)
+        with_by_blpu with_by_street result }
+    ensures spared { SparesInside (state S.Store tx.old.conn.now) (state S.Store tx.new.conn.now)
+        result }
+    ensures leaves { Survives (state S.Store tx.old.conn.now) (state S.Store tx.new.conn.now)
+        (λ _. ⊥) }
 {
     tx.execute("CREATE INDEX by_street ON version (cust, kind, street, gone)", &[])
 }
@@ -31,6 +54,12 @@ fn make_by_street<S: Alter>(tx: &mut Transaction<'_, S>) -> Result<usize, Error>
 /// Makes the table `received`, within a transaction.
 fn make_received<S: Alter>(tx: &mut Transaction<'_, S>) -> Result<usize, Error>
     ensures same_reference { tx.new.conn.ghost_name ≡ tx.old.conn.ghost_name }
+    ensures made { Grows (state S.Store tx.old.conn.now) (state S.Store tx.new.conn.now)
+        with_by_street with_received result }
+    ensures spared { SparesInside (state S.Store tx.old.conn.now) (state S.Store tx.new.conn.now)
+        result }
+    ensures leaves { Survives (state S.Store tx.old.conn.now) (state S.Store tx.new.conn.now)
+        (λ _. ⊥) }
 {
     tx.execute(
         "CREATE TABLE received (cust INTEGER NOT NULL, volume INTEGER NOT NULL, bytes BLOB NOT NULL, state INTEGER NOT NULL, place INTEGER NOT NULL, rule INTEGER NOT NULL, PRIMARY KEY (cust, volume)) STRICT",
@@ -41,6 +70,12 @@ fn make_received<S: Alter>(tx: &mut Transaction<'_, S>) -> Result<usize, Error>
 /// Makes the table `meta`, within a transaction.
 fn make_meta<S: Alter>(tx: &mut Transaction<'_, S>) -> Result<usize, Error>
     ensures same_reference { tx.new.conn.ghost_name ≡ tx.old.conn.ghost_name }
+    ensures made { Grows (state S.Store tx.old.conn.now) (state S.Store tx.new.conn.now)
+        with_received store_schema result }
+    ensures spared { SparesInside (state S.Store tx.old.conn.now) (state S.Store tx.new.conn.now)
+        result }
+    ensures leaves { Survives (state S.Store tx.old.conn.now) (state S.Store tx.new.conn.now)
+        (λ _. ⊥) }
 {
     tx.execute(
         "CREATE TABLE meta (id INTEGER NOT NULL PRIMARY KEY, number INTEGER NOT NULL, register TEXT NOT NULL) STRICT",
