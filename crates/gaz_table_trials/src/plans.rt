@@ -1,11 +1,14 @@
 //! Each statement's least step limit over few and over many rows.
-use gaz_tables::creating::create;
+ghost use Rattle.std.specs.Prelude.{◌≡◌, false, IfOk};
+
+use crate::fixtures::{fill, live_on, on_file, receive};
 use gaz_tables::{metas, receiveds, versions};
-use sqlite::{Alter, Connection, Error, MemStore, Transaction, params};
+use sqlite::{Alter, Connection, Error, FileStore};
+use sqlite_disk::Memory;
 use std::alloc::Global;
 
 /// The statements, each on one key.
-#[derive(Clone, Copy, Debug)]
+#[derive(Clone, Copy, Debug, PartialEq, Eq)]
 enum Call {
     Newest,
     NewestUntil,
@@ -17,47 +20,39 @@ enum Call {
     Verdict,
     IsThere,
     Above,
+    Meta,
     Insert,
     Close,
     Receive,
     Apply,
     Reject,
-    Meta,
     Rewrite,
 }
 
-/// Rows of the keys `first` to `first + count`, each with a BLPU and a street of its own.
-fn fill(alloc: Global, conn: &mut Connection<MemStore>, kind: u32, count: u32) -> Result<(), Error> {
-    let mut tx = conn.transaction();
-    for n in 0..count {
-        let id = format!(in alloc; "9{n:08}")?;
-        let own = i64::from(n) + 1_000;
-        versions::insert(&mut tx, 9, kind, &id, &own, n + 1_000, 1, true, 1, 1_000_000, "body")?;
-    }
-    tx.commit()
-}
+const CALLS: [Call; 17] = [
+    Call::Newest,
+    Call::NewestUntil,
+    Call::Holding,
+    Call::ApprovedOf,
+    Call::ApprovedOn,
+    Call::PartsOf,
+    Call::File,
+    Call::Verdict,
+    Call::IsThere,
+    Call::Above,
+    Call::Meta,
+    Call::Insert,
+    Call::Close,
+    Call::Receive,
+    Call::Apply,
+    Call::Reject,
+    Call::Rewrite,
+];
 
-/// Versions of one key, of BLPU 7 on street 7: so many that are over, and one that is current.
-fn live_on(conn: &mut Connection<MemStore>, kind: u32, dead: u32) -> Result<(), Error> {
-    let mut tx = conn.transaction();
-    for n in 1..dead + 1 {
-        versions::insert(&mut tx, 9, kind, "5", &7, 7, 1, true, n, n + 1, "body")?;
-    }
-    versions::insert(&mut tx, 9, kind, "5", &7, 7, 1, true, dead + 1, 1_000_000, "body")?;
-    tx.commit()
-}
-
-fn receive(conn: &mut Connection<MemStore>, cust: u32, count: u32) -> Result<(), Error> {
-    let mut tx = conn.transaction();
-    for n in 1..count + 1 {
-        receiveds::receive(&mut tx, cust, n, b"bytes")?;
-    }
-    tx.commit()
-}
-
-fn store(alloc: Global, others: u32, dead: u32) -> Result<Connection<MemStore>, Error> {
-    let mut conn = Connection::open_in_memory(alloc)?;
-    create(&mut conn, 1, "register")?;
+fn store(alloc: Global, others: u32, dead: u32) -> Result<Connection<FileStore<Memory>>, Error>
+    ensures { IfOk result (λ conn. conn.in_transaction ≡ false) }
+{
+    let mut conn = on_file(alloc)?;
     live_on(&mut conn, 24, dead)?;
     live_on(&mut conn, 21, dead)?;
     fill(alloc, &mut conn, 24, others)?;
@@ -67,7 +62,10 @@ fn store(alloc: Global, others: u32, dead: u32) -> Result<Connection<MemStore>, 
     Ok(conn)
 }
 
-fn write(conn: &mut Connection<MemStore>, call: Call) -> Result<usize, Error> {
+fn write<S: Alter>(conn: &mut Connection<S>, call: Call) -> Result<usize, Error>
+    requires { conn.old.in_transaction ≡ false }
+    ensures { conn.new.in_transaction ≡ false }
+{
     let mut tx = conn.transaction();
     match call {
         Call::Insert => versions::insert(&mut tx, 9, 24, "6", &7, 7, 1, true, 9_000, 1_000_000, "body"),
@@ -75,11 +73,14 @@ fn write(conn: &mut Connection<MemStore>, call: Call) -> Result<usize, Error> {
         Call::Receive => receiveds::receive(&mut tx, 9, 6, b"bytes"),
         Call::Apply => receiveds::apply(&mut tx, 9, 5),
         Call::Reject => receiveds::reject(&mut tx, 9, 5, &3, 4),
-        _ => metas::rewrite(&mut tx, "another"),
+        _ => metas::rewrite(&mut tx, 1, "another"),
     }
 }
 
-fn perform(conn: &mut Connection<MemStore>, call: Call) -> Result<usize, Error> {
+fn perform<S: Alter>(conn: &mut Connection<S>, call: Call) -> Result<usize, Error>
+    requires { conn.old.in_transaction ≡ false }
+    ensures { conn.new.in_transaction ≡ false }
+{
     let rows = match call {
         Call::Newest => versions::newest(conn, 9, 24, "5")?,
         Call::NewestUntil => versions::newest_until(conn, 9, 24, "5", 3)?,
@@ -97,55 +98,41 @@ fn perform(conn: &mut Connection<MemStore>, call: Call) -> Result<usize, Error> 
     Ok(rows.len())
 }
 
-/// The least step limit at which the call passes.
-fn least(conn: &mut Connection<MemStore>, call: Call) -> u64 {
-    let mut low = 0u64;
-    let mut high = 1_000_000u64;
-    for _ in 0..20u32 {
-        if low + 1 < high {
-            let middle = low + (high - low) / 2;
-            conn.set_step_limit(Some(middle));
-            if perform(conn, call).is_ok() {
-                high = middle;
-            } else {
-                low = middle;
-            }
-        }
-    }
-    conn.set_step_limit(None);
-    high
+fn passes<S: Alter>(conn: &mut Connection<S>, call: Call, limit: u64) -> bool
+    requires { conn.old.in_transaction ≡ false }
+    ensures { conn.new.in_transaction ≡ false }
+{
+    conn.set_step_limit(Some(limit));
+    perform(conn, call).is_ok()
 }
 
-const CALLS: [Call; 17] = [
-    Call::Newest,
-    Call::NewestUntil,
-    Call::Holding,
-    Call::ApprovedOf,
-    Call::ApprovedOn,
-    Call::PartsOf,
-    Call::File,
-    Call::Verdict,
-    Call::IsThere,
-    Call::Above,
-    Call::Insert,
-    Call::Close,
-    Call::Receive,
-    Call::Apply,
-    Call::Reject,
-    Call::Meta,
-    Call::Rewrite,
-];
+/// The least step limit at which the call passes, if it is below 1,024.
+fn least<S: Alter>(conn: &mut Connection<S>, call: Call) -> u64
+    requires { conn.old.in_transaction ≡ false }
+    ensures { conn.new.in_transaction ≡ false }
+{
+    let mut limit = 0u64;
+    for _ in 0..1_024u32 {
+        if passes(conn, call, limit) {
+            return limit;
+        }
+        limit = limit.saturating_add(1);
+    }
+    u64::MAX
+}
 
 #[test]
 fn no_call_walks_other_rows(rt: HostRuntime) {
     let mut few = store(rt.alloc(), 20, 20).unwrap();
-    let mut many = store(rt.alloc(), 2_000, 20).unwrap();
-    let mut old = store(rt.alloc(), 20, 200).unwrap();
+    let mut many = store(rt.alloc(), 20_000, 20).unwrap();
+    let mut old = store(rt.alloc(), 20, 2_000).unwrap();
     for call in CALLS {
-        let rows = perform(&mut few, call);
-        let a = least(&mut few, call);
-        let b = least(&mut many, call);
-        let c = least(&mut old, call);
-        println!(rt; "{call:?} {rows:?} {a} {b} {c}").unwrap();
+        assert_eq!(rt; perform(&mut few, call).is_ok(), true, "{call:?}");
+        let at_best = least(&mut few, call);
+        let among_many = least(&mut many, call);
+        assert!(rt; among_many <= at_best.saturating_mul(3), "{call:?} {at_best} {among_many}");
+        let among_old = least(&mut old, call);
+        assert!(rt; among_old <= at_best.saturating_mul(3), "{call:?} {at_best} {among_old}");
+        few.set_step_limit(None);
     }
 }

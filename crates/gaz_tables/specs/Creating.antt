@@ -52,3 +52,7 @@ module _ (old new : State) where
   -- within a transaction, the empty database gets the next schema
   abbrev pub Grows : Schema → Schema → Result ℕ Error → Type 0
   Grows before after result = HasCleanDisk new → IsTrue old.in_transaction → IsBare before old.now → OnOk result (IsBare after new.now × IsDatabase new.now × InPlace old new)
+
+  -- what the last commit left stays
+  abbrev pub KeepsTheCommit : Type 0
+  KeepsTheCommit = HasCleanDisk new → IsTrue old.in_transaction → IsTrue new.is_open → new.committed ≡ old.committed

@@ -1,5 +1,5 @@
 //! The statements of the table `meta`.
-ghost use Rattle.std.specs.Prelude.{◌≡◌};
+ghost use Rattle.std.specs.Prelude.{◌≡◌, false};
 ghost use Rattle.sqlite.specs.Held.{state};
 ghost use Rattle.sqlite.specs.State.{Survives};
 ghost use Rattle.gaz_tables.specs.Metas.{AddsMeta, FindsTwo, Rewrites};
@@ -13,6 +13,7 @@ pub fn rows<S: Alter>(conn: &mut Connection<S>) -> Result<Vec<Row>, Error>
     ensures found { Finds (state S.Store conn.old) (state S.Store conn.new) metas result FindsTwo }
     ensures stays { Stays (state S.Store conn.old) (state S.Store conn.new) result }
     ensures leaves { LeavesAsBefore (state S.Store conn.old) (state S.Store conn.new) }
+    ensures mode { conn.old.in_transaction ≡ false → conn.new.in_transaction ≡ false }
 {
     conn.query_all("SELECT id, number, register FROM meta LIMIT 2", &[])
 }

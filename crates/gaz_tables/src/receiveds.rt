@@ -1,7 +1,7 @@
 //! The statements of the table `received`.
 ghost use Rattle.sqlite.specs.Held.{state};
 ghost use Rattle.gaz_tables.specs.Schema.{receiveds};
-ghost use Rattle.std.specs.Prelude.{◌≡◌, pos};
+ghost use Rattle.std.specs.Prelude.{◌≡◌, false};
 ghost use Rattle.sqlite.specs.State.{Survives};
 ghost use Rattle.gaz_tables.specs.Stores.{AddsRow, Finds, LeavesAsBefore, SparesInside, Stays, WritesInside};
 ghost use Rattle.gaz_tables.specs.Receiveds.{Applies, FindsAbove, FindsFile, FindsVerdict, FindsVolume, Rejects, unjudged};
@@ -18,6 +18,7 @@ pub fn file<S: Alter>(
         (FindsFile cust volume) }
     ensures stays { Stays (state S.Store conn.old) (state S.Store conn.new) result }
     ensures leaves { LeavesAsBefore (state S.Store conn.old) (state S.Store conn.new) }
+    ensures mode { conn.old.in_transaction ≡ false → conn.new.in_transaction ≡ false }
 {
     conn.query_all(
         "SELECT bytes, state, place, rule FROM received WHERE cust = ?1 AND volume = ?2",
@@ -35,6 +36,7 @@ pub fn verdict<S: Alter>(
         (FindsVerdict cust volume) }
     ensures stays { Stays (state S.Store conn.old) (state S.Store conn.new) result }
     ensures leaves { LeavesAsBefore (state S.Store conn.old) (state S.Store conn.new) }
+    ensures mode { conn.old.in_transaction ≡ false → conn.new.in_transaction ≡ false }
 {
     conn.query_all(
         "SELECT state, place, rule FROM received WHERE cust = ?1 AND volume = ?2",
@@ -52,6 +54,7 @@ pub fn is_there<S: Alter>(
         (FindsVolume cust volume) }
     ensures stays { Stays (state S.Store conn.old) (state S.Store conn.new) result }
     ensures leaves { LeavesAsBefore (state S.Store conn.old) (state S.Store conn.new) }
+    ensures mode { conn.old.in_transaction ≡ false → conn.new.in_transaction ≡ false }
 {
     conn.query_all(
         "SELECT volume FROM received WHERE cust = ?1 AND volume = ?2",
@@ -70,6 +73,7 @@ pub fn above<S: Alter>(
         (FindsAbove cust volume most) }
     ensures stays { Stays (state S.Store conn.old) (state S.Store conn.new) result }
     ensures leaves { LeavesAsBefore (state S.Store conn.old) (state S.Store conn.new) }
+    ensures mode { conn.old.in_transaction ≡ false → conn.new.in_transaction ≡ false }
 {
     conn.query_all(
         "SELECT volume FROM received WHERE cust = ?1 AND volume > ?2 ORDER BY volume LIMIT ?3",

@@ -1,7 +1,7 @@
 //! The statements of the table `version`.
 ghost use Rattle.sqlite.specs.Held.{state};
 ghost use Rattle.gaz_tables.specs.Schema.{versions};
-ghost use Rattle.std.specs.Prelude.{◌≡◌};
+ghost use Rattle.std.specs.Prelude.{◌≡◌, false};
 ghost use Rattle.sqlite.specs.State.{Survives};
 ghost use Rattle.gaz_tables.specs.Stores.{AddsRow, Finds, LeavesAsBefore, SparesInside, Stays, WritesInside};
 ghost use Rattle.gaz_tables.specs.Versions.{FindsApprovedOf, FindsApprovedOn, FindsHolding, FindsNewest};
@@ -20,6 +20,7 @@ pub fn newest<S: Alter>(
         (FindsNewest cust kind id.now) }
     ensures stays { Stays (state S.Store conn.old) (state S.Store conn.new) result }
     ensures leaves { LeavesAsBefore (state S.Store conn.old) (state S.Store conn.new) }
+    ensures mode { conn.old.in_transaction ≡ false → conn.new.in_transaction ≡ false }
 {
     conn.query_all(
         "SELECT born, gone, body FROM version WHERE cust = ?1 AND kind = ?2 AND id = ?3 ORDER BY born DESC LIMIT 1",
@@ -39,6 +40,7 @@ pub fn newest_until<S: Alter>(
         (FindsNewestUntil cust kind id.now volume) }
     ensures stays { Stays (state S.Store conn.old) (state S.Store conn.new) result }
     ensures leaves { LeavesAsBefore (state S.Store conn.old) (state S.Store conn.new) }
+    ensures mode { conn.old.in_transaction ≡ false → conn.new.in_transaction ≡ false }
 {
     conn.query_all(
         "SELECT born, gone, body FROM version WHERE cust = ?1 AND kind = ?2 AND id = ?3 AND born <= ?4 ORDER BY born DESC LIMIT 1",
@@ -59,6 +61,7 @@ pub fn holding<S: Alter>(
         (FindsHolding cust kind after.now volume most) }
     ensures stays { Stays (state S.Store conn.old) (state S.Store conn.new) result }
     ensures leaves { LeavesAsBefore (state S.Store conn.old) (state S.Store conn.new) }
+    ensures mode { conn.old.in_transaction ≡ false → conn.new.in_transaction ≡ false }
 {
     conn.query_all(
         "SELECT id, body FROM version WHERE cust = ?1 AND kind = ?2 AND id > ?3 AND born <= ?4 AND gone > ?4 ORDER BY id LIMIT ?5",
@@ -76,6 +79,7 @@ pub fn approved_of<S: Alter>(
         (FindsApprovedOf cust blpu.now) }
     ensures stays { Stays (state S.Store conn.old) (state S.Store conn.new) result }
     ensures leaves { LeavesAsBefore (state S.Store conn.old) (state S.Store conn.new) }
+    ensures mode { conn.old.in_transaction ≡ false → conn.new.in_transaction ≡ false }
 {
     conn.query_all(
         "SELECT id, body FROM version WHERE cust = ?1 AND kind = 24 AND blpu = ?2 AND live = 1 AND gone = 1000000",
@@ -95,6 +99,7 @@ pub fn approved_on<S: Alter>(
         (FindsApprovedOn cust street after.now most) }
     ensures stays { Stays (state S.Store conn.old) (state S.Store conn.new) result }
     ensures leaves { LeavesAsBefore (state S.Store conn.old) (state S.Store conn.new) }
+    ensures mode { conn.old.in_transaction ≡ false → conn.new.in_transaction ≡ false }
 {
     conn.query_all(
         "SELECT id, lang FROM version WHERE cust = ?1 AND kind = 24 AND street = ?2 AND live = 1 AND gone = 1000000 AND id > ?3 ORDER BY id LIMIT ?4",
@@ -114,6 +119,7 @@ pub fn parts_of<S: Alter>(
         (FindsParts cust blpu.now after.now most) }
     ensures stays { Stays (state S.Store conn.old) (state S.Store conn.new) result }
     ensures leaves { LeavesAsBefore (state S.Store conn.old) (state S.Store conn.new) }
+    ensures mode { conn.old.in_transaction ≡ false → conn.new.in_transaction ≡ false }
 {
     conn.query_all(
         "SELECT id FROM version WHERE cust = ?1 AND kind = 21 AND blpu = ?2 AND gone = 1000000 AND id > ?3 ORDER BY id LIMIT ?4",
