@@ -15,7 +15,7 @@ fn readings<S: Alter>(conn: &mut Connection<S>) -> Result<[Vec<Row>; 11], Error>
     Ok([
         versions::newest(conn, 9, 24, "5")?,
         versions::newest_until(conn, 9, 24, "5", 1)?,
-        versions::holding(conn, 9, 24, "", 2, 10)?,
+        versions::holding(conn, 9, 24, "", 1, 10)?,
         versions::approved_of(conn, 9, &7)?,
         versions::approved_on(conn, 9, 7, "4", 1)?,
         versions::parts_of(conn, 9, &7, "", 10)?,

@@ -8,3 +8,4 @@ pub mod VersionMeanings
 pub mod VersionQueries
 pub mod VersionRows
 pub mod VersionWrites
+pub mod Growing

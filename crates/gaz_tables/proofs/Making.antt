@@ -14,7 +14,6 @@ use Rattle.sqlite.specs.State.{State, mode_of, Writes, Executes, ExecutesInside}
 use Rattle.sqlite.proofs.Callers.{IsPlain, command_of, statement_of, runs_as}
 use Rattle.sqlite_schema.specs.declared.schema.Index.{Index}
 use Rattle.sqlite_catalog.specs.Change.{KeepsRows}
-use Rattle.gaz_sql_facts.specs.Changes.{InPlace}
 use Rattle.gaz_sql_facts.proofs.Inserts.{went, same_value}
 use Rattle.gaz_tables.specs.Schema.{version, version_text, version_checks, received, received_text, meta, meta_text, by_blpu_text, by_street_text, index_of, store_schema}
 use Rattle.gaz_tables.specs.Creating.{no_schema, with_version, with_by_blpu, with_by_street, with_received, IsBare}
@@ -62,7 +61,7 @@ makes_by_street = record { is = refl; text = refl; plain = (refl, refl); defined
 -- CREATE TABLE: the schema grows by the table, whose tree is empty, and the other tables keep their rows
 module _ (schema : Schema) (sql : List ℕ) (table : Table) (it : IsTableText schema sql table) (plain : lacks_sequence (created schema table) ≡ false) (old new : State) (has : old.now.schema ≡ schema) where
   pub made : (count : ℕ) → Executes sql [] old new (Ok count)
-      → (new.now.schema ≡ created schema table) × (new.now.trees (next_tree schema) ≡ []) × KeepsRows schema.tables old.now.trees new.now.trees × IsDatabase new.now × InPlace old new
+      → (new.now.schema ≡ created schema table) × (new.now.trees (next_tree schema) ≡ []) × KeepsRows schema.tables old.now.trees new.now.trees × IsDatabase new.now
   made count h =
       let run = runs_as sql [] old new schema has CreateTable it.is it.plain count h in
       let w = subst (λ t. Writes old new None CreateTable t [] count) it.text run in
@@ -80,13 +79,12 @@ module _ (schema : Schema) (sql : List ℕ) (table : Table) (it : IsTableText sc
         ap (λ (d : Database). d.trees (next_tree schema)) now ∙ empty,
         subst (λ (d : Database). KeepsRows schema.tables old.now.trees d.trees) (sym now) kept,
         w.sound,
-        (w.shown, w.marks),
       )
 
 -- CREATE INDEX on the first table: the schema grows by the index, and the tables keep their rows
 module _ (schema : Schema) (sql : List ℕ) (table : Table) (index : Index) (listed : slice_get schema.tables 0 ≡ Some table) (it : IsIndexText schema sql table index) (old new : State) (has : old.now.schema ≡ schema) where
   pub indexed_by : (count : ℕ) → Executes sql [] old new (Ok count)
-      → (new.now.schema ≡ indexed schema table index) × KeepsRows schema.tables old.now.trees new.now.trees × IsDatabase new.now × InPlace old new
+      → (new.now.schema ≡ indexed schema table index) × KeepsRows schema.tables old.now.trees new.now.trees × IsDatabase new.now
   indexed_by count h =
       let run = runs_as sql [] old new schema has (CreateIndex 0) it.is it.plain count h in
       let w = subst (λ t. Writes old new None (CreateIndex 0) t [] count) it.text run in
@@ -98,31 +96,30 @@ module _ (schema : Schema) (sql : List ℕ) (table : Table) (index : Index) (lis
         ap (λ (d : Database). d.schema) now ∙ m.is ∙ ap (indexed schema table) same,
         subst (λ (d : Database). KeepsRows schema.tables old.now.trees d.trees) (sym now) m.rows,
         w.sound,
-        (w.shown, w.marks),
       )
 
 module _ (old new : State) where
-  pub version_made : IsBare no_schema old.now → (r : Result ℕ Error) → ExecutesInside 0 version_text [] old new r → OnOk r (IsBare with_version new.now × IsDatabase new.now × InPlace old new)
+  pub version_made : IsBare no_schema old.now → (r : Result ℕ Error) → ExecutesInside 0 version_text [] old new r → OnOk r (IsBare with_version new.now × IsDatabase new.now)
   version_made bare (Err e) h = tt
   version_made bare (Ok count) h =
-      let m = made no_schema version_text version makes_version refl old new bare.schema_is count h.0 in (record { schema_is = m.0; empty = (m.1, tt) }, m.3, m.4)
+      let m = made no_schema version_text version makes_version refl old new bare.schema_is count h.0 in (record { schema_is = m.0; empty = (m.1, tt) }, m.3)
 
-  pub by_blpu_made : IsBare with_version old.now → (r : Result ℕ Error) → ExecutesInside 0 by_blpu_text [] old new r → OnOk r (IsBare with_by_blpu new.now × IsDatabase new.now × InPlace old new)
+  pub by_blpu_made : IsBare with_version old.now → (r : Result ℕ Error) → ExecutesInside 0 by_blpu_text [] old new r → OnOk r (IsBare with_by_blpu new.now × IsDatabase new.now)
   by_blpu_made bare (Err e) h = tt
   by_blpu_made bare (Ok count) h =
-      let m = indexed_by with_version by_blpu_text version _ refl makes_by_blpu old new bare.schema_is count h.0 in (record { schema_is = m.0; empty = (m.1.0 ∙ bare.empty.0, tt) }, m.2, m.3)
+      let m = indexed_by with_version by_blpu_text version _ refl makes_by_blpu old new bare.schema_is count h.0 in (record { schema_is = m.0; empty = (m.1.0 ∙ bare.empty.0, tt) }, m.2)
 
-  pub by_street_made : IsBare with_by_blpu old.now → (r : Result ℕ Error) → ExecutesInside 0 by_street_text [] old new r → OnOk r (IsBare with_by_street new.now × IsDatabase new.now × InPlace old new)
+  pub by_street_made : IsBare with_by_blpu old.now → (r : Result ℕ Error) → ExecutesInside 0 by_street_text [] old new r → OnOk r (IsBare with_by_street new.now × IsDatabase new.now)
   by_street_made bare (Err e) h = tt
   by_street_made bare (Ok count) h =
-      let m = indexed_by with_by_blpu by_street_text version _ refl makes_by_street old new bare.schema_is count h.0 in (record { schema_is = m.0; empty = (m.1.0 ∙ bare.empty.0, tt) }, m.2, m.3)
+      let m = indexed_by with_by_blpu by_street_text version _ refl makes_by_street old new bare.schema_is count h.0 in (record { schema_is = m.0; empty = (m.1.0 ∙ bare.empty.0, tt) }, m.2)
 
-  pub received_made : IsBare with_by_street old.now → (r : Result ℕ Error) → ExecutesInside 0 received_text [] old new r → OnOk r (IsBare with_received new.now × IsDatabase new.now × InPlace old new)
+  pub received_made : IsBare with_by_street old.now → (r : Result ℕ Error) → ExecutesInside 0 received_text [] old new r → OnOk r (IsBare with_received new.now × IsDatabase new.now)
   received_made bare (Err e) h = tt
   received_made bare (Ok count) h =
-      let m = made with_by_street received_text (flat received) makes_received refl old new bare.schema_is count h.0 in (record { schema_is = m.0; empty = (m.2.0 ∙ bare.empty.0, (m.1, tt)) }, m.3, m.4)
+      let m = made with_by_street received_text (flat received) makes_received refl old new bare.schema_is count h.0 in (record { schema_is = m.0; empty = (m.2.0 ∙ bare.empty.0, (m.1, tt)) }, m.3)
 
-  pub meta_made : IsBare with_received old.now → (r : Result ℕ Error) → ExecutesInside 0 meta_text [] old new r → OnOk r (IsBare store_schema new.now × IsDatabase new.now × InPlace old new)
+  pub meta_made : IsBare with_received old.now → (r : Result ℕ Error) → ExecutesInside 0 meta_text [] old new r → OnOk r (IsBare store_schema new.now × IsDatabase new.now)
   meta_made bare (Err e) h = tt
   meta_made bare (Ok count) h =
-      let m = made with_received meta_text (flat meta) makes_meta refl old new bare.schema_is count h.0 in (record { schema_is = m.0; empty = (m.2.0 ∙ bare.empty.0, (m.2.1.0 ∙ bare.empty.1.0, (m.1, tt))) }, m.3, m.4)
+      let m = made with_received meta_text (flat meta) makes_meta refl old new bare.schema_is count h.0 in (record { schema_is = m.0; empty = (m.2.0 ∙ bare.empty.0, (m.2.1.0 ∙ bare.empty.1.0, (m.1, tt))) }, m.3)

@@ -1,5 +1,5 @@
 -- How the tables and indexes of a new store are made, one by one.
-use Rattle.std.specs.Prelude.{◌≡◌, ℕ, List, [], ◌∷◌, codes, Result, OnOk, IsTrue}
+use Rattle.std.specs.Prelude.{◌≡◌, ℕ, List, [], ◌∷◌, codes, Result, OnOk, OnErr, IsTrue}
 use Rattle.std.specs.List.{AllByRecursion}
 use Rattle.sqlite.specs.Order.{Row}
 use Rattle.sqlite.specs.declared.error.Error.{Error}
@@ -7,7 +7,7 @@ use Rattle.sqlite.specs.Effect.{Database, IsDatabase}
 use Rattle.sqlite.specs.Schema.{Schema}
 use Rattle.sqlite.specs.State.{State, HasCleanDisk, Survives}
 use Rattle.sqlite_catalog.specs.Listing.{automatic}
-use Rattle.gaz_sql_facts.specs.Changes.{InPlace, IsAdded}
+use Rattle.gaz_sql_facts.specs.Changes.{IsAdded, IsUndone}
 use Rattle.gaz_tables.specs.Metas.{meta_row}
 use Rattle.gaz_tables.specs.Schema.{version, received, index_of, versions, receiveds, metas}
 use Rattle.gaz_tables.specs.Stores.{HasTables}
@@ -50,9 +50,29 @@ pub record IsNewStore (number : ℕ) (register : List ℕ) (db : Database) : Typ
 
 module _ (old new : State) where
   -- within a transaction, the empty database gets the next schema
-  abbrev pub Grows : Schema → Schema → Result ℕ Error → Type 0
-  Grows before after result = HasCleanDisk new → IsTrue old.in_transaction → IsBare before old.now → OnOk result (IsBare after new.now × IsDatabase new.now × InPlace old new)
+  abbrev pub Grows : {A : Type 0} → Schema → Schema → Result A Error → Type 0
+  Grows before after result = HasCleanDisk new → IsTrue old.in_transaction → IsBare before old.now → OnOk result (IsBare after new.now × IsDatabase new.now)
 
-  -- what the last commit left stays
+  -- a statement that is done leaves the transaction open, and commits nothing
+  abbrev pub GoesOn : {A : Type 0} → Result A Error → Type 0
+  GoesOn result = HasCleanDisk new → IsTrue old.in_transaction → OnOk result (IsTrue new.in_transaction × (new.committed ≡ old.committed))
+
+  -- what the last commit left stays, whatever came
   abbrev pub KeepsTheCommit : Type 0
   KeepsTheCommit = HasCleanDisk new → IsTrue old.in_transaction → IsTrue new.is_open → new.committed ≡ old.committed
+
+  -- within a transaction, the empty database becomes a new store
+  abbrev pub Furnishes : {A : Type 0} → ℕ → List ℕ → Result A Error → Type 0
+  Furnishes number register result = HasCleanDisk new → IsTrue old.in_transaction → IsBare no_schema old.now → OnOk result (IsNewStore number register new.now)
+
+  -- in a transaction of its own, the empty database becomes a new store and is committed
+  abbrev pub Creates : {A : Type 0} → ℕ → List ℕ → Result A Error → Type 0
+  Creates number register result = HasCleanDisk new → IsBare no_schema old.now → OnOk result (IsNewStore number register new.now × (new.committed ≡ new.now))
+
+  -- a fault commits nothing
+  abbrev pub Withdraws : {A : Type 0} → Result A Error → Type 0
+  Withdraws result = HasCleanDisk new → OnErr result (IsUndone old new)
+
+  -- a stop leaves what it could before, or the new store
+  abbrev pub MayCreate : ℕ → List ℕ → Type 0
+  MayCreate number register = (HasCleanDisk old → IsBare no_schema old.now) → Survives old new (λ trees. (db : Database) × (trees ≡ db.trees) × IsNewStore number register db)

@@ -1,10 +1,11 @@
 //! The tables and indexes of a new store.
-ghost use Rattle.std.specs.Prelude.{◌≡◌, false};
+ghost use Rattle.std.specs.Prelude.{◌≡◌, false, OnOk};
 ghost use Rattle.sqlite.specs.Held.{state};
 ghost use Rattle.sqlite.specs.State.{Survives};
+ghost use Rattle.gaz_sql_facts.specs.Changes.{LeavesTheCommit};
+ghost use Rattle.gaz_tables.specs.Creating.{Creates, Furnishes, GoesOn, KeepsTheCommit, MayCreate, Withdraws};
 ghost use Rattle.gaz_tables.specs.Creating.{Grows, no_schema, with_by_blpu, with_by_street, with_received, with_version};
 ghost use Rattle.gaz_tables.specs.Schema.{store_schema};
-ghost use Rattle.gaz_tables.specs.Stores.{SparesInside};
 
 use crate::metas;
 use sqlite::{Alter, Connection, Error, Transaction};
@@ -14,8 +15,9 @@ fn make_version<S: Alter>(tx: &mut Transaction<'_, S>) -> Result<usize, Error>
     ensures same_reference { tx.new.conn.ghost_name ≡ tx.old.conn.ghost_name }
     ensures made { Grows (state S.Store tx.old.conn.now) (state S.Store tx.new.conn.now)
         no_schema with_version result }
-    ensures spared { SparesInside (state S.Store tx.old.conn.now) (state S.Store tx.new.conn.now)
+    ensures inside { GoesOn (state S.Store tx.old.conn.now) (state S.Store tx.new.conn.now)
         result }
+    ensures kept { KeepsTheCommit (state S.Store tx.old.conn.now) (state S.Store tx.new.conn.now) }
     ensures leaves { Survives (state S.Store tx.old.conn.now) (state S.Store tx.new.conn.now)
         (λ _. ⊥) }
 {
@@ -30,8 +32,9 @@ fn make_by_blpu<S: Alter>(tx: &mut Transaction<'_, S>) -> Result<usize, Error>
     ensures same_reference { tx.new.conn.ghost_name ≡ tx.old.conn.ghost_name }
     ensures made { Grows (state S.Store tx.old.conn.now) (state S.Store tx.new.conn.now)
         with_version with_by_blpu result }
-    ensures spared { SparesInside (state S.Store tx.old.conn.now) (state S.Store tx.new.conn.now)
+    ensures inside { GoesOn (state S.Store tx.old.conn.now) (state S.Store tx.new.conn.now)
         result }
+    ensures kept { KeepsTheCommit (state S.Store tx.old.conn.now) (state S.Store tx.new.conn.now) }
     ensures leaves { Survives (state S.Store tx.old.conn.now) (state S.Store tx.new.conn.now)
         (λ _. ⊥) }
 {
@@ -43,8 +46,9 @@ fn make_by_street<S: Alter>(tx: &mut Transaction<'_, S>) -> Result<usize, Error>
     ensures same_reference { tx.new.conn.ghost_name ≡ tx.old.conn.ghost_name }
     ensures made { Grows (state S.Store tx.old.conn.now) (state S.Store tx.new.conn.now)
         with_by_blpu with_by_street result }
-    ensures spared { SparesInside (state S.Store tx.old.conn.now) (state S.Store tx.new.conn.now)
+    ensures inside { GoesOn (state S.Store tx.old.conn.now) (state S.Store tx.new.conn.now)
         result }
+    ensures kept { KeepsTheCommit (state S.Store tx.old.conn.now) (state S.Store tx.new.conn.now) }
     ensures leaves { Survives (state S.Store tx.old.conn.now) (state S.Store tx.new.conn.now)
         (λ _. ⊥) }
 {
@@ -56,8 +60,9 @@ fn make_received<S: Alter>(tx: &mut Transaction<'_, S>) -> Result<usize, Error>
     ensures same_reference { tx.new.conn.ghost_name ≡ tx.old.conn.ghost_name }
     ensures made { Grows (state S.Store tx.old.conn.now) (state S.Store tx.new.conn.now)
         with_by_street with_received result }
-    ensures spared { SparesInside (state S.Store tx.old.conn.now) (state S.Store tx.new.conn.now)
+    ensures inside { GoesOn (state S.Store tx.old.conn.now) (state S.Store tx.new.conn.now)
         result }
+    ensures kept { KeepsTheCommit (state S.Store tx.old.conn.now) (state S.Store tx.new.conn.now) }
     ensures leaves { Survives (state S.Store tx.old.conn.now) (state S.Store tx.new.conn.now)
         (λ _. ⊥) }
 {
@@ -72,8 +77,9 @@ fn make_meta<S: Alter>(tx: &mut Transaction<'_, S>) -> Result<usize, Error>
     ensures same_reference { tx.new.conn.ghost_name ≡ tx.old.conn.ghost_name }
     ensures made { Grows (state S.Store tx.old.conn.now) (state S.Store tx.new.conn.now)
         with_received store_schema result }
-    ensures spared { SparesInside (state S.Store tx.old.conn.now) (state S.Store tx.new.conn.now)
+    ensures inside { GoesOn (state S.Store tx.old.conn.now) (state S.Store tx.new.conn.now)
         result }
+    ensures kept { KeepsTheCommit (state S.Store tx.old.conn.now) (state S.Store tx.new.conn.now) }
     ensures leaves { Survives (state S.Store tx.old.conn.now) (state S.Store tx.new.conn.now)
         (λ _. ⊥) }
 {
@@ -83,17 +89,72 @@ fn make_meta<S: Alter>(tx: &mut Transaction<'_, S>) -> Result<usize, Error>
     )
 }
 
+/// Makes the table `version` and its indexes, within a transaction.
+fn make_versions<S: Alter>(tx: &mut Transaction<'_, S>) -> Result<(), Error>
+    ensures same_reference { tx.new.conn.ghost_name ≡ tx.old.conn.ghost_name }
+    ensures made { Grows (state S.Store tx.old.conn.now) (state S.Store tx.new.conn.now)
+        no_schema with_by_street result }
+    ensures kept { KeepsTheCommit (state S.Store tx.old.conn.now) (state S.Store tx.new.conn.now) }
+    ensures inside { GoesOn (state S.Store tx.old.conn.now) (state S.Store tx.new.conn.now)
+        result }
+    ensures leaves { Survives (state S.Store tx.old.conn.now) (state S.Store tx.new.conn.now)
+        (λ _. ⊥) }
+{
+    make_version(tx)?;
+    make_by_blpu(tx)?;
+    make_by_street(tx)?;
+    Ok(())
+}
+
+/// Makes the tables `received` and `meta`, within a transaction.
+fn make_others<S: Alter>(tx: &mut Transaction<'_, S>) -> Result<(), Error>
+    ensures same_reference { tx.new.conn.ghost_name ≡ tx.old.conn.ghost_name }
+    ensures made { Grows (state S.Store tx.old.conn.now) (state S.Store tx.new.conn.now)
+        with_by_street store_schema result }
+    ensures kept { KeepsTheCommit (state S.Store tx.old.conn.now) (state S.Store tx.new.conn.now) }
+    ensures inside { GoesOn (state S.Store tx.old.conn.now) (state S.Store tx.new.conn.now)
+        result }
+    ensures leaves { Survives (state S.Store tx.old.conn.now) (state S.Store tx.new.conn.now)
+        (λ _. ⊥) }
+{
+    make_received(tx)?;
+    make_meta(tx)?;
+    Ok(())
+}
+
+/// Makes the tables, their indexes and the row of `meta`, within a transaction.
+fn furnish<S: Alter>(
+    tx: &mut Transaction<'_, S>,
+    number: u32,
+    register: &str,
+) -> Result<(), Error>
+    ensures same_reference { tx.new.conn.ghost_name ≡ tx.old.conn.ghost_name }
+    ensures made { Furnishes (state S.Store tx.old.conn.now) (state S.Store tx.new.conn.now)
+        number register.now result }
+    ensures kept { KeepsTheCommit (state S.Store tx.old.conn.now) (state S.Store tx.new.conn.now) }
+    ensures inside { GoesOn (state S.Store tx.old.conn.now) (state S.Store tx.new.conn.now)
+        result }
+    ensures leaves { Survives (state S.Store tx.old.conn.now) (state S.Store tx.new.conn.now)
+        (λ _. ⊥) }
+{
+    make_versions(tx)?;
+    make_others(tx)?;
+    metas::insert(tx, number, register)?;
+    Ok(())
+}
+
 /// Makes the three tables, their indexes and the row of `meta`, in one transaction that is over when this returns.
 pub fn create<S: Alter>(conn: &mut Connection<S>, number: u32, register: &str) -> Result<(), Error>
     requires { conn.old.in_transaction ≡ false }
     ensures over { conn.new.in_transaction ≡ false }
+    ensures created { Creates (state S.Store conn.old) (state S.Store conn.new)
+        number register.now result }
+    ensures undone { Withdraws (state S.Store conn.old) (state S.Store conn.new) result }
+    ensures leaves { MayCreate (state S.Store conn.old) (state S.Store conn.new)
+        number register.now }
+    ensures certain { OnOk result (LeavesTheCommit (state S.Store conn.new)) }
 {
     let mut tx = conn.transaction();
-    make_version(&mut tx)?;
-    make_by_blpu(&mut tx)?;
-    make_by_street(&mut tx)?;
-    make_received(&mut tx)?;
-    make_meta(&mut tx)?;
-    metas::insert(&mut tx, number, register)?;
+    furnish(&mut tx, number, register)?;
     tx.commit()
 }

@@ -2,6 +2,7 @@
 ghost use Rattle.std.specs.Prelude.{◌≡◌, false};
 ghost use Rattle.sqlite.specs.Held.{state};
 ghost use Rattle.sqlite.specs.State.{Survives};
+ghost use Rattle.gaz_tables.specs.Creating.{GoesOn, KeepsTheCommit};
 ghost use Rattle.gaz_tables.specs.Metas.{AddsMeta, FindsTwo, Rewrites};
 ghost use Rattle.gaz_tables.specs.Schema.{metas};
 ghost use Rattle.gaz_tables.specs.Stores.{Finds, LeavesAsBefore, SparesInside, Stays, WritesInside};
@@ -29,6 +30,9 @@ pub fn insert<S: Alter>(
         metas result (AddsMeta number register.now) }
     ensures spared { SparesInside (state S.Store tx.old.conn.now) (state S.Store tx.new.conn.now)
         result }
+    ensures inside { GoesOn (state S.Store tx.old.conn.now) (state S.Store tx.new.conn.now)
+        result }
+    ensures kept { KeepsTheCommit (state S.Store tx.old.conn.now) (state S.Store tx.new.conn.now) }
     ensures leaves { Survives (state S.Store tx.old.conn.now) (state S.Store tx.new.conn.now)
         (λ _. ⊥) }
 {
