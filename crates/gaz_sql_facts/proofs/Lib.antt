@@ -9,3 +9,4 @@ pub mod Typed
 pub mod Updates
 pub mod Tests
 pub mod Shown
+pub mod Unique

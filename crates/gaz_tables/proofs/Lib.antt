@@ -9,3 +9,4 @@ pub mod VersionQueries
 pub mod VersionRows
 pub mod VersionWrites
 pub mod Growing
+pub mod ReceivedOnce

@@ -15,6 +15,7 @@ use Rattle.gaz_tables.specs.Schema.{receiveds}
 use Rattle.gaz_tables.specs.Stores.{HasTables}
 use Rattle.gaz_tables.specs.Receiveds.{IsVolume, IsAbove, FindsFile, FindsVerdict, FindsVolume, FindsAbove}
 use Rattle.gaz_tables.proofs.ReceivedRows.{cust_is, volume_is}
+use Rattle.gaz_tables.proofs.ReceivedOnce.{above_rises}
 use Rattle.gaz_tables.proofs.ReceivedQueries.{file_tests, file_terms, verdict_tests, verdict_terms, is_there_tests, is_there_terms, above_tests, above_terms}
 
 module _ (db : Database) (has : HasTables db) where
@@ -78,7 +79,7 @@ module _ (db : Database) (has : HasTables db) where
     above_suits r there = (cust_is db has r there, (volume_is db has r there, tt))
 
     pub above_found : (r : Result (Vec Row Global) Error) → IfOk r (λ rows. Selects above_tests above_terms ((col 1 2, rising) ∷ []) (Some most) (db.trees receiveds) above_params rows.items) → IfOk r (λ rows. FindsAbove cust volume most (db.trees receiveds) rows.items)
-    above_found r h = answered r (λ answer s. shows_page above_tests above_terms above_params (db.trees receiveds) (IsAbove cust volume)
+    above_found r h = answered r (λ answer s. above_rises db has cust volume most answer (shows_page above_tests above_terms above_params (db.trees receiveds) (IsAbove cust volume)
         (λ r there p. let m = means above_wanted r refl (above_suits r there) p in record { of_cust = m.0; above = m.1.0 })
         (λ r there fits. met above_wanted r (above_suits r there) (fits.of_cust, (fits.above, tt)))
-        2 most answer s) h
+        2 most answer s)) h

@@ -1,8 +1,10 @@
 -- The rows of `received`, by their columns, and what its queries find.
-use Rattle.std.specs.Prelude.{◌≡◌, ℕ, ℤ, pos, ◌<ℤ◌, List, [], ◌∷◌}
+use Rattle.std.specs.Prelude.{◌≡◌, ℕ, ℤ, pos, ◌<ℤ◌, ◌≤◌, length, List, [], ◌∷◌}
+use Rattle.std.specs.declared.cmp.Ordering.TheVariants.{Less}
 use Rattle.sqlite.specs.declared.types.Value.{Value}
 use Rattle.sqlite.specs.declared.types.Value.TheVariants.{Int, Blob}
-use Rattle.sqlite.specs.Order.{Row, column}
+use Rattle.sqlite.specs.Order.{Row, column, value_cmp}
+use Rattle.sqlite_trees.specs.Tree.{IsAscending}
 use Rattle.gaz_sql_facts.specs.Changes.{IsChanged}
 use Rattle.gaz_sql_facts.specs.Shows.{ShowsAll, ShowsPage}
 
@@ -61,9 +63,14 @@ FindsVerdict cust volume rows answer = ShowsAll (IsVolume cust volume) verdict_s
 abbrev pub FindsVolume : ℕ → ℕ → List Row → List Row → Type 0
 FindsVolume cust volume rows answer = ShowsAll (IsVolume cust volume) volume_shown rows answer
 
--- the volumes above one, as they rise: the first so many
-abbrev pub FindsAbove : ℕ → ℕ → ℕ → List Row → List Row → Type 0
-FindsAbove cust volume most rows answer = ShowsPage (IsAbove cust volume) volume_place most volume_shown rows answer
+-- the volumes above one, as they rise, each once: the first so many
+pub record FindsAbove (cust volume most : ℕ) (rows answer : List Row) : Type 0 where
+  pub page : ShowsPage (IsAbove cust volume) volume_place most volume_shown rows answer
+  pub strict : IsAscending (λ a b. value_cmp (volume_of a) (volume_of b) ≡ Less) page.chosen
+
+-- the answer is one row or none
+abbrev pub AtMostOne : List Row → List Row → Type 0
+AtMostOne rows answer = length answer ≤ 1
 
 -- the values of a row that nobody has judged
 abbrev pub unjudged : ℕ → ℕ → List ℕ → Row

@@ -4,7 +4,8 @@ ghost use Rattle.gaz_tables.specs.Schema.{receiveds};
 ghost use Rattle.std.specs.Prelude.{◌≡◌, false};
 ghost use Rattle.sqlite.specs.State.{Survives};
 ghost use Rattle.gaz_tables.specs.Stores.{AddsRow, Finds, LeavesAsBefore, SparesInside, Stays, WritesInside};
-ghost use Rattle.gaz_tables.specs.Receiveds.{Applies, FindsAbove, FindsFile, FindsVerdict, FindsVolume, Rejects, unjudged};
+ghost use Rattle.gaz_tables.specs.Receiveds.{Applies, AtMostOne, FindsAbove, FindsFile, FindsVerdict};
+ghost use Rattle.gaz_tables.specs.Receiveds.{FindsVolume, Rejects, unjudged};
 
 use sqlite::{Alter, Connection, Error, Row, Transaction, params};
 
@@ -16,6 +17,7 @@ pub fn file<S: Alter>(
 ) -> Result<Vec<Row>, Error>
     ensures found { Finds (state S.Store conn.old) (state S.Store conn.new) receiveds result
         (FindsFile cust volume) }
+    ensures one { Finds (state S.Store conn.old) (state S.Store conn.new) receiveds result AtMostOne }
     ensures stays { Stays (state S.Store conn.old) (state S.Store conn.new) result }
     ensures leaves { LeavesAsBefore (state S.Store conn.old) (state S.Store conn.new) }
     ensures mode { conn.old.in_transaction ≡ false → conn.new.in_transaction ≡ false }
@@ -34,6 +36,7 @@ pub fn verdict<S: Alter>(
 ) -> Result<Vec<Row>, Error>
     ensures found { Finds (state S.Store conn.old) (state S.Store conn.new) receiveds result
         (FindsVerdict cust volume) }
+    ensures one { Finds (state S.Store conn.old) (state S.Store conn.new) receiveds result AtMostOne }
     ensures stays { Stays (state S.Store conn.old) (state S.Store conn.new) result }
     ensures leaves { LeavesAsBefore (state S.Store conn.old) (state S.Store conn.new) }
     ensures mode { conn.old.in_transaction ≡ false → conn.new.in_transaction ≡ false }
@@ -52,6 +55,7 @@ pub fn is_there<S: Alter>(
 ) -> Result<Vec<Row>, Error>
     ensures found { Finds (state S.Store conn.old) (state S.Store conn.new) receiveds result
         (FindsVolume cust volume) }
+    ensures one { Finds (state S.Store conn.old) (state S.Store conn.new) receiveds result AtMostOne }
     ensures stays { Stays (state S.Store conn.old) (state S.Store conn.new) result }
     ensures leaves { LeavesAsBefore (state S.Store conn.old) (state S.Store conn.new) }
     ensures mode { conn.old.in_transaction ≡ false → conn.new.in_transaction ≡ false }

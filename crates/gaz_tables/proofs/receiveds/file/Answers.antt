@@ -1,6 +1,8 @@
 use Rattle.sqlite.specs.Held.{state}
 use Rattle.gaz_sql_facts.proofs.Texts.{answers, stays, leaves_as_before}
 use Rattle.gaz_tables.proofs.ReceivedMeanings.{file_found}
+use Rattle.gaz_tables.specs.Receiveds.{file_shown}
+use Rattle.gaz_tables.proofs.ReceivedOnce.{volume_alone}
 use Rattle.gaz_tables.proofs.ReceivedQueries.{file_is}
 use Rattle.gaz_tables.proofs.receiveds.file.Goals as goal
 
@@ -17,3 +19,6 @@ returns-clause-stays g c clean has =
 pub returns-clause-leaves : goal.returns-clause-leaves
 returns-clause-leaves g c has =
     leaves_as_before _ _ _ _ _ _ _ _ file_is _ (state g.S.Store c.args.conn.now) (state g.S.Store c.query_all.new.self) (λ early. (has early).schema_is) c.query_all.ensures.survives
+
+pub returns-clause-one : goal.returns-clause-one
+returns-clause-one g c clean has = volume_alone (state g.S.Store c.args.conn.now).now has c.args.cust c.args.volume file_shown c.query_all.result (returns-clause-found g c clean has)
