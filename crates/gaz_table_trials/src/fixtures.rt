@@ -25,7 +25,12 @@ pub fn on_file(alloc: Global) -> Result<Connection<FileStore<Memory>>, Error>
 }
 
 /// Rows of so many keys, each with a BLPU and a street of its own.
-pub fn fill<S: Alter>(alloc: Global, conn: &mut Connection<S>, kind: u32, count: u32) -> Result<(), Error>
+pub fn fill<S: Alter>(
+    alloc: Global,
+    conn: &mut Connection<S>,
+    kind: u32,
+    count: u32,
+) -> Result<(), Error>
     requires { conn.old.in_transaction ≡ false }
     ensures { conn.new.in_transaction ≡ false }
 {
@@ -33,7 +38,19 @@ pub fn fill<S: Alter>(alloc: Global, conn: &mut Connection<S>, kind: u32, count:
     for n in 0..count {
         let id = format!(in alloc; "9{n:08}")?;
         let own = i64::from(n % 1_000_000) + 1_000;
-        versions::insert(&mut tx, 9, kind, &id, &own, n % 1_000_000 + 1_000, 1, true, 1, 1_000_000, "body")?;
+        versions::insert(
+            &mut tx,
+            9,
+            kind,
+            &id,
+            &own,
+            n % 1_000_000 + 1_000,
+            1,
+            true,
+            1,
+            1_000_000,
+            "body",
+        )?;
     }
     tx.commit()
 }
@@ -45,9 +62,23 @@ pub fn live_on<S: Alter>(conn: &mut Connection<S>, kind: u32, dead: u32) -> Resu
 {
     let mut tx = conn.transaction();
     for n in 0..dead {
-        versions::insert(&mut tx, 9, kind, "5", &7, 7, 1, true, n % 10_000 + 1, n % 10_000 + 2, "body")?;
+        versions::insert(
+            &mut tx,
+            9,
+            kind,
+            "5",
+            &7,
+            7,
+            1,
+            true,
+            n % 10_000 + 1,
+            n % 10_000 + 2,
+            "body",
+        )?;
     }
-    versions::insert(&mut tx, 9, kind, "5", &7, 7, 1, true, 10_001, 1_000_000, "body")?;
+    versions::insert(
+        &mut tx, 9, kind, "5", &7, 7, 1, true, 10_001, 1_000_000, "body",
+    )?;
     tx.commit()
 }
 

@@ -68,7 +68,9 @@ fn write<S: Alter>(conn: &mut Connection<S>, call: Call) -> Result<usize, Error>
 {
     let mut tx = conn.transaction();
     match call {
-        Call::Insert => versions::insert(&mut tx, 9, 24, "6", &7, 7, 1, true, 9_000, 1_000_000, "body"),
+        Call::Insert => versions::insert(
+            &mut tx, 9, 24, "6", &7, 7, 1, true, 9_000, 1_000_000, "body",
+        ),
         Call::Close => versions::close(&mut tx, 9, 24, "5", 1, 9_000),
         Call::Receive => receiveds::receive(&mut tx, 9, 6, b"bytes"),
         Call::Apply => receiveds::apply(&mut tx, 9, 5),
@@ -124,14 +126,10 @@ fn least<S: Alter>(conn: &mut Connection<S>, call: Call) -> u64
 #[test]
 fn no_call_walks_other_rows(rt: HostRuntime) {
     let mut few = store(rt.alloc(), 20, 20).unwrap();
-    println!(rt; "few").unwrap();
     let mut old = store(rt.alloc(), 20, 2_000).unwrap();
-    println!(rt; "old").unwrap();
     let mut many = store(rt.alloc(), 20_000, 20).unwrap();
-    println!(rt; "many").unwrap();
     for call in CALLS {
         let limit = least(&mut few, call).saturating_mul(3);
-        println!(rt; "{call:?} {limit}").unwrap();
         assert!(rt; passes(&mut many, call, limit), "{call:?} among many");
         if call != Call::Holding {
             assert!(rt; passes(&mut old, call, limit), "{call:?} among old");

@@ -7,6 +7,10 @@ use gaz_tables::{alone, metas, receiveds, versions};
 use sqlite::{Alter, Connection, Error, Row};
 use std::alloc::Global;
 
+/// One row closed, five refusals, and a row of each reading call: its cells, and the bytes of its texts and blobs.
+const TOLD: &str =
+    "1 [true, true, true, true, true] [[Row { values: Row { cells: [Int(10001), Int(1000000), Text(0, 4)], bytes: [98, 111, 100, 121] }, alloc: Global }], [Row { values: Row { cells: [Int(1), Int(2), Text(0, 4)], bytes: [98, 111, 100, 121] }, alloc: Global }], [Row { values: Row { cells: [Text(0, 1), Text(1, 5)], bytes: [53, 98, 111, 100, 121] }, alloc: Global }], [Row { values: Row { cells: [Text(0, 1), Text(1, 5)], bytes: [53, 98, 111, 100, 121] }, alloc: Global }], [Row { values: Row { cells: [Text(0, 1), Int(1)], bytes: [53] }, alloc: Global }], [Row { values: Row { cells: [Text(0, 1)], bytes: [53] }, alloc: Global }], [Row { values: Row { cells: [Blob(0, 3), Int(1), Int(0), Int(0)], bytes: [111, 110, 101] }, alloc: Global }], [Row { values: Row { cells: [Int(2), Int(3), Int(4)], bytes: [] }, alloc: Global }], [Row { values: Row { cells: [Int(3)], bytes: [] }, alloc: Global }], [Row { values: Row { cells: [Int(2)], bytes: [] }, alloc: Global }], [Row { values: Row { cells: [Int(1), Int(1), Text(0, 7)], bytes: [97, 110, 111, 116, 104, 101, 114] }, alloc: Global }]]";
+
 /// What the reading calls answer, in turn.
 fn readings<S: Alter>(conn: &mut Connection<S>) -> Result<[Vec<Row>; 11], Error>
     requires { conn.old.in_transaction ≡ false }
@@ -81,5 +85,5 @@ fn every_statement_answers(rt: HostRuntime) {
     let of_memory = told(rt.alloc(), &mut memory).unwrap();
     let of_file = told(rt.alloc(), &mut file).unwrap();
     assert_eq!(rt; of_memory, of_file);
-    println!(rt; "{of_memory}").unwrap();
+    assert_eq!(rt; of_memory.as_str(), TOLD);
 }
