@@ -7,6 +7,3 @@ pub mod Selects
 pub mod Texts
 pub mod Typed
 pub mod Updates
-pub mod Tests
-pub mod Shown
-pub mod Unique

@@ -1,5 +1,5 @@
 -- What the texts over `meta` mean and do.
-use Rattle.std.proofs.Common.{◌≡◌, ℕ, ℤ, pos, List, [], ◌∷◌, codes, true, None, Some, Ok, Err, Result, IfOk, OnOk, Vec, refl, sym, ap, subst, ◌∙◌}
+use Rattle.std.proofs.Common.{◌≡◌, ℕ, pos, List, [], ◌∷◌, codes, Some, Ok, Err, Result, IfOk, OnOk, Vec, refl, ap, ◌∙◌}
 use Rattle.std.specs.Prelude.{IsTrue}
 use Rattle.std.specs.declared.alloc.Global.{Global}
 use Rattle.sqlite_tied.specs.Compute.{everything}
@@ -24,12 +24,12 @@ use Rattle.sqlite.specs.View.{is_int}
 use Rattle.gaz_sql_facts.specs.Changes.{Changes, InPlace}
 use Rattle.gaz_sql_facts.specs.Selects.{selecting, every, equals, Selects}
 use Rattle.gaz_sql_facts.proofs.Inserts.{inserted_as}
-use Rattle.gaz_sql_facts.proofs.Shown.{answered, shows_some}
-use Rattle.gaz_sql_facts.proofs.Tests.{Test, SuitsAll, means, met}
+use Rattle.gaz_tables.proofs.Shown.{answered, shows_some}
+use Rattle.gaz_tables.proofs.Tests.{Test, SuitsAll, means, met}
 use Rattle.gaz_sql_facts.proofs.Texts.{IsCommand, IsSelect}
 use Rattle.gaz_sql_facts.proofs.Typed.{cast_null, cast_int}
 use Rattle.gaz_sql_facts.proofs.Updates.{updated_as, changed_to}
-use Rattle.gaz_tables.specs.Metas.{AddsMeta, FindsTwo, IsAny, IsFirst, Rewrites, id_of}
+use Rattle.gaz_tables.specs.Metas.{AddsMeta, FindsTwo, IsAny, Rewrites, id_of}
 use Rattle.gaz_tables.specs.Schema.{store_schema, metas, meta_columns}
 use Rattle.gaz_tables.specs.Stores.{HasTables}
 

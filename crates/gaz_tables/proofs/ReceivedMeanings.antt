@@ -1,16 +1,16 @@
 -- What the queries of `received` answer, by value.
-use Rattle.std.proofs.Common.{◌≡◌, ℕ, ℤ, pos, List, [], ◌∷◌, None, Some, Result, IfOk, Vec, refl}
+use Rattle.std.proofs.Common.{ℕ, pos, List, [], ◌∷◌, None, Some, Result, IfOk, Vec, refl}
 use Rattle.std.specs.declared.alloc.Global.{Global}
 use Rattle.sqlite_rules.specs.Lists.{Has}
-use Rattle.sqlite_sql.specs.declared.ops.CompareOp.TheVariants.{Eq, Le, Gt}
+use Rattle.sqlite_sql.specs.declared.ops.CompareOp.TheVariants.{Eq, Gt}
 use Rattle.sqlite.specs.declared.error.Error.{Error}
-use Rattle.sqlite.specs.declared.types.Value.TheVariants.{Int, Text}
+use Rattle.sqlite.specs.declared.types.Value.TheVariants.{Int}
 use Rattle.sqlite.specs.Effect.{Database}
 use Rattle.sqlite.specs.Order.{Row}
 use Rattle.sqlite.specs.Term.{col}
-use Rattle.gaz_sql_facts.specs.Selects.{rising, falling, Selects}
-use Rattle.gaz_sql_facts.proofs.Shown.{answered, shows_all, shows_page, shows_greatest}
-use Rattle.gaz_sql_facts.proofs.Tests.{Test, SuitsAll, means, met}
+use Rattle.gaz_sql_facts.specs.Selects.{rising, Selects}
+use Rattle.gaz_tables.proofs.Shown.{answered, shows_all, shows_page}
+use Rattle.gaz_tables.proofs.Tests.{Test, SuitsAll, means, met}
 use Rattle.gaz_tables.specs.Schema.{receiveds}
 use Rattle.gaz_tables.specs.Stores.{HasTables}
 use Rattle.gaz_tables.specs.Receiveds.{IsVolume, IsAbove, FindsFile, FindsVerdict, FindsVolume, FindsAbove}

@@ -1,7 +1,6 @@
 -- No volume of a custodian is received twice.
-use Rattle.std.proofs.Common.{◌≡◌, ℕ, ℤ, ◌+◌, List, [], ◌∷◌, inl, inr, Result, IfOk, Vec, true, arith, refl, sym, ap, subst, ◌∙◌}
+use Rattle.std.proofs.Common.{◌≡◌, ℕ, ℤ, List, [], ◌∷◌, inl, inr, Result, IfOk, Vec, true, refl, sym, ap, subst, ◌∙◌}
 use Rattle.std.specs.declared.alloc.Global.{Global}
-use Rattle.std.specs.declared.cmp.Ordering.TheVariants.{Equal}
 use Rattle.std.proofs.lemmas.Bool.{and_from}
 use Rattle.std.proofs.lemmas.Map.Lookups.{exact_signed}
 use Rattle.sqlite_catalog.specs.Listing.{automatic}
@@ -13,11 +12,11 @@ use Rattle.sqlite_value.proofs.OrderLemmas.{value_cmp-Int}
 use Rattle.sqlite.specs.declared.error.Error.{Error}
 use Rattle.sqlite.specs.declared.types.Value.TheVariants.{Int}
 use Rattle.sqlite.specs.Effect.{Database}
-use Rattle.sqlite.specs.Order.{Row, column, value_cmp}
-use Rattle.gaz_sql_facts.specs.Shows.{ShowsAll, ShowsPage}
+use Rattle.sqlite.specs.Order.{Row}
+use Rattle.gaz_tables.specs.Shows.{ShowsAll, ShowsPage}
 use Rattle.gaz_sql_facts.proofs.Equal.{same_int}
-use Rattle.gaz_sql_facts.proofs.Shown.{answered}
-use Rattle.gaz_sql_facts.proofs.Unique.{one_row, page_rises, at_most_one}
+use Rattle.gaz_tables.proofs.Shown.{answered}
+use Rattle.gaz_tables.proofs.Unique.{one_row, page_rises, at_most_one}
 use Rattle.gaz_tables.specs.Receiveds.{AtMostOne, FindsAbove, IsAbove, IsVolume, cust_of, volume_of, volume_place, volume_shown}
 use Rattle.gaz_tables.specs.Schema.{received, receiveds}
 use Rattle.gaz_tables.specs.Stores.{HasTables}

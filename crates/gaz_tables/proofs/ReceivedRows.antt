@@ -1,7 +1,7 @@
 -- A row of `received` has a value of its column's kind in each column.
-use Rattle.std.proofs.Common.{◌≡◌, inl, inr, refl, sym, subst}
+use Rattle.std.proofs.Common.{inl, inr, refl, sym, subst}
 use Rattle.sqlite.specs.Effect.{Database}
-use Rattle.sqlite.specs.Kind.TheVariants.{Integer, Text}
+use Rattle.sqlite.specs.Kind.TheVariants.{Integer}
 use Rattle.sqlite.specs.Order.{Row}
 use Rattle.sqlite_rules.specs.Lists.{Has}
 use Rattle.gaz_sql_facts.specs.Tables.{AreOf, IsOf, cells}

@@ -1,25 +1,25 @@
 -- What the texts that write `received` do.
-use Rattle.std.proofs.Common.{◌≡◌, ℕ, ℤ, pos, Bool, if◌then◌else◌, List, [], ◌∷◌, codes, true, Ok, Err, Result, OnOk, refl}
+use Rattle.std.proofs.Common.{ℕ, ℤ, pos, List, [], ◌∷◌, codes, Ok, Err, Result, OnOk, refl}
 use Rattle.sqlite_tied.specs.Compute.{everything}
 use Rattle.sqlite_rules.specs.Lists.{Has}
 use Rattle.sqlite_sql.specs.declared.ops.CompareOp.TheVariants.{Eq}
 use Rattle.sqlite.specs.Command.TheVariants.{Insert, Update}
 use Rattle.sqlite.specs.declared.error.Error.{Error}
-use Rattle.sqlite.specs.declared.types.Value.TheVariants.{Null, Int, Text, Blob}
+use Rattle.sqlite.specs.declared.types.Value.TheVariants.{Null, Int, Blob}
 use Rattle.sqlite.specs.Listing.{understood}
 use Rattle.sqlite.specs.Order.{Row, column}
 use Rattle.sqlite.specs.Source.TheVariants.{Values}
 use Rattle.sqlite.specs.State.{State, ExecutesInside}
 use Rattle.sqlite.specs.Term.{Term, lit, col}
-use Rattle.gaz_sql_facts.specs.Changes.{Changes, InPlace, IsChanged}
-use Rattle.gaz_sql_facts.specs.Selects.{selecting, every, equals, passes}
+use Rattle.gaz_sql_facts.specs.Changes.{Changes, InPlace}
+use Rattle.gaz_sql_facts.specs.Selects.{selecting, every, equals}
 use Rattle.gaz_sql_facts.proofs.Inserts.{inserted}
-use Rattle.gaz_sql_facts.proofs.Tests.{Test, SuitsAll, means, met}
+use Rattle.gaz_tables.proofs.Tests.{Test, SuitsAll, means, met}
 use Rattle.gaz_sql_facts.proofs.Texts.{IsCommand}
 use Rattle.gaz_sql_facts.proofs.Updates.{updated, changed_to}
 use Rattle.gaz_tables.specs.Schema.{store_schema, receiveds, received_columns}
 use Rattle.gaz_tables.specs.Stores.{HasTables, AddsRow}
-use Rattle.gaz_tables.specs.Receiveds.{unjudged, judged, IsVolume, Applies, Rejects}
+use Rattle.gaz_tables.specs.Receiveds.{unjudged, judged, Applies, Rejects}
 use Rattle.gaz_tables.proofs.ReceivedRows.{cust_is, volume_is}
 
 abbrev pub receive_text : List ℕ

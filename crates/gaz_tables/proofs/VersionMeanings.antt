@@ -1,5 +1,5 @@
 -- What the queries of `version` answer, by value.
-use Rattle.std.proofs.Common.{◌≡◌, ℕ, ℤ, pos, List, [], ◌∷◌, None, Some, Result, IfOk, Vec, refl}
+use Rattle.std.proofs.Common.{ℕ, ℤ, pos, List, [], ◌∷◌, None, Some, Result, IfOk, Vec, refl}
 use Rattle.std.specs.declared.alloc.Global.{Global}
 use Rattle.sqlite_rules.specs.Lists.{Has}
 use Rattle.sqlite_sql.specs.declared.ops.CompareOp.TheVariants.{Eq, Le, Gt}
@@ -9,8 +9,8 @@ use Rattle.sqlite.specs.Effect.{Database}
 use Rattle.sqlite.specs.Order.{Row}
 use Rattle.sqlite.specs.Term.{col}
 use Rattle.gaz_sql_facts.specs.Selects.{rising, falling, Selects}
-use Rattle.gaz_sql_facts.proofs.Shown.{answered, shows_all, shows_page, shows_greatest}
-use Rattle.gaz_sql_facts.proofs.Tests.{Test, SuitsAll, means, met}
+use Rattle.gaz_tables.proofs.Shown.{answered, shows_all, shows_page, shows_greatest}
+use Rattle.gaz_tables.proofs.Tests.{Test, SuitsAll, means, met}
 use Rattle.gaz_tables.specs.Schema.{versions}
 use Rattle.gaz_tables.specs.Stores.{HasTables}
 use Rattle.gaz_tables.specs.Versions.{IsOfKey, IsOfKeyUntil, IsHolding, IsApprovedOf, IsApprovedOn, IsPartOf, FindsNewest, FindsNewestUntil, FindsHolding, FindsApprovedOf, FindsApprovedOn, FindsParts}

@@ -4,7 +4,7 @@ use Rattle.sqlite.specs.declared.types.Value.{Value}
 use Rattle.sqlite.specs.declared.types.Value.TheVariants.{Null, Int, Text}
 use Rattle.sqlite.specs.Order.{Row, column}
 use Rattle.gaz_sql_facts.specs.Changes.{IsAdded, IsChanged}
-use Rattle.gaz_sql_facts.specs.Shows.{ShowsSome}
+use Rattle.gaz_tables.specs.Shows.{ShowsSome}
 
 -- a row's values: its rowid is `id`, whose own place is left NULL
 abbrev pub id_of : Row → Value

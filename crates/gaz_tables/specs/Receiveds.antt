@@ -6,7 +6,7 @@ use Rattle.sqlite.specs.declared.types.Value.TheVariants.{Int, Blob}
 use Rattle.sqlite.specs.Order.{Row, column, value_cmp}
 use Rattle.sqlite_trees.specs.Tree.{IsAscending}
 use Rattle.gaz_sql_facts.specs.Changes.{IsChanged}
-use Rattle.gaz_sql_facts.specs.Shows.{ShowsAll, ShowsPage}
+use Rattle.gaz_tables.specs.Shows.{ShowsAll, ShowsPage}
 
 -- a row's values: its rowid comes first
 abbrev pub cust_of : Row → Value

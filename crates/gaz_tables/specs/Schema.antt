@@ -1,7 +1,5 @@
 -- The three tables and the two further indexes, as their texts read.
-use Rattle.std.specs.Prelude.{true, false, [], ◌∷◌, Some, None, codes, List, ℕ, Result, Ok, Err}
-use Rattle.sqlite.specs.Collation.TheVariants.{Binary}
-use Rattle.sqlite.specs.declared.types.Value.TheVariants.{Null}
+use Rattle.std.specs.Prelude.{false, [], ◌∷◌, Some, codes, List, ℕ, Result, Ok, Err}
 use Rattle.sqlite.specs.Kind.TheVariants.{Integer, Text, Blob}
 use Rattle.sqlite.specs.Table.{Table}
 use Rattle.sqlite.specs.Term.{Term}

@@ -7,7 +7,7 @@ use Rattle.sqlite.specs.declared.types.Value.{Value}
 use Rattle.sqlite.specs.declared.types.Value.TheVariants.{Int, Text}
 use Rattle.sqlite.specs.Order.{Row, column}
 use Rattle.gaz_sql_facts.specs.Changes.{IsChanged}
-use Rattle.gaz_sql_facts.specs.Shows.{ShowsAll, ShowsPage, ShowsGreatest}
+use Rattle.gaz_tables.specs.Shows.{ShowsAll, ShowsPage, ShowsGreatest}
 
 -- a row's values: its rowid comes first
 abbrev pub cust_of : Row → Value

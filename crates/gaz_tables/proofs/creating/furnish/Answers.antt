@@ -1,6 +1,6 @@
 use Rattle.std.proofs.Common.{arith, ◌∙◌}
 use Rattle.sqlite.specs.Held.{state}
-use Rattle.sqlite.specs.State.{State, HasCleanDisk}
+use Rattle.sqlite.specs.State.{HasCleanDisk}
 use Rattle.gaz_tables.proofs.Growing.{bare_tables, new_store}
 use Rattle.gaz_tables.proofs.creating.furnish.Goals as goal
 

@@ -1,6 +1,6 @@
 use Rattle.std.proofs.Common.{arith, ◌∙◌}
 use Rattle.sqlite.specs.Held.{state}
-use Rattle.sqlite.specs.State.{State, HasCleanDisk}
+use Rattle.sqlite.specs.State.{HasCleanDisk}
 use Rattle.gaz_tables.proofs.creating.make_others.Goals as goal
 
 pub returns-in_err-make_meta-clause-kept : goal.returns-in_err-make_meta-clause-kept

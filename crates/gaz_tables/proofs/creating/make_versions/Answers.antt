@@ -1,6 +1,6 @@
 use Rattle.std.proofs.Common.{arith, ◌∙◌}
 use Rattle.sqlite.specs.Held.{state}
-use Rattle.sqlite.specs.State.{State, HasCleanDisk}
+use Rattle.sqlite.specs.State.{HasCleanDisk}
 use Rattle.gaz_tables.proofs.creating.make_versions.Goals as goal
 
 pub returns-in_err-make_by_blpu-clause-kept : goal.returns-in_err-make_by_blpu-clause-kept

@@ -29,7 +29,7 @@ use Rattle.sqlite_trees.proofs.TreeLemmas.{IsShaped-filter}
 use Rattle.sqlite.specs.Edit.{id_in}
 use Rattle.sqlite.specs.Effect.{Database, IsDatabase}
 use Rattle.sqlite.specs.View.{IsShaped, is_int}
-use Rattle.gaz_sql_facts.specs.Shows.{Picks, ShowsAll, ShowsPage}
+use Rattle.gaz_tables.specs.Shows.{Picks, ShowsAll, ShowsPage}
 use Rattle.gaz_sql_facts.proofs.Equal.{compared-Int}
 use Rattle.gaz_sql_facts.proofs.Lists.{first_least, has_permuted}
 use Rattle.gaz_sql_facts.proofs.Typed.{negated}

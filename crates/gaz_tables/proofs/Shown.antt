@@ -8,7 +8,7 @@ use Rattle.sqlite_rules.specs.Lists.{Has}
 use Rattle.sqlite_sql.specs.Term.{Term, col}
 use Rattle.sqlite.specs.declared.error.Error.{Error}
 use Rattle.gaz_sql_facts.specs.Selects.{passes, shows, rising, falling, Selects}
-use Rattle.gaz_sql_facts.specs.Shows.{Picks, ShowsAll, ShowsPage, ShowsSome, ShowsGreatest}
+use Rattle.gaz_tables.specs.Shows.{Picks, ShowsAll, ShowsPage, ShowsSome, ShowsGreatest}
 use Rattle.gaz_sql_facts.proofs.Selects.{first_shown, greatest, alone}
 
 -- WHERE takes just the rows that fit
