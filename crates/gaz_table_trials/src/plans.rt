@@ -113,21 +113,19 @@ fn least<S: Alter>(conn: &mut Connection<S>, call: Call) -> u64
     requires { conn.old.in_transaction ≡ false }
     ensures { conn.new.in_transaction ≡ false }
 {
-    let mut limit = 0u64;
-    for _ in 0..64u32 {
+    for limit in 0..64u64 {
         if passes(conn, call, limit) {
             return limit;
         }
-        limit = limit.saturating_add(1);
     }
-    limit
+    64
 }
 
 #[test]
 fn no_call_walks_other_rows(rt: HostRuntime) {
-    let mut few = store(rt.alloc(), 20, 20).unwrap();
-    let mut old = store(rt.alloc(), 20, 2_000).unwrap();
-    let mut many = store(rt.alloc(), 20_000, 20).unwrap();
+    let mut few = store(rt.alloc(), 20, 20).expect(&rt, "what a test is given");
+    let mut old = store(rt.alloc(), 20, 2_000).expect(&rt, "what a test is given");
+    let mut many = store(rt.alloc(), 20_000, 20).expect(&rt, "what a test is given");
     for call in CALLS {
         let limit = least(&mut few, call).saturating_mul(3);
         assert!(rt; passes(&mut many, call, limit), "{call:?} among many");

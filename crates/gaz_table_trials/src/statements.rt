@@ -78,12 +78,12 @@ fn told<S: Alter>(alloc: Global, conn: &mut Connection<S>) -> Result<String, Err
 
 #[test]
 fn every_statement_answers(rt: HostRuntime) {
-    let mut memory = Connection::open_in_memory(rt.alloc()).unwrap();
+    let mut memory = Connection::open_in_memory(rt.alloc()).expect(&rt, "what a test is given");
     assert!(rt; readings(&mut memory).is_err());
-    create(&mut memory, 1, "register").unwrap();
-    let mut file = on_file(rt.alloc()).unwrap();
-    let of_memory = told(rt.alloc(), &mut memory).unwrap();
-    let of_file = told(rt.alloc(), &mut file).unwrap();
+    create(&mut memory, 1, "register").expect(&rt, "what a test is given");
+    let mut file = on_file(rt.alloc()).expect(&rt, "what a test is given");
+    let of_memory = told(rt.alloc(), &mut memory).expect(&rt, "what a test is given");
+    let of_file = told(rt.alloc(), &mut file).expect(&rt, "what a test is given");
     assert_eq!(rt; of_memory, of_file);
     assert_eq!(rt; of_memory.as_str(), TOLD);
 }
