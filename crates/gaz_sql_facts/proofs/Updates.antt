@@ -15,7 +15,7 @@ use Rattle.sqlite_rules.specs.Action.{works}
 use Rattle.sqlite_rules.specs.Calls.{ids_of}
 use Rattle.sqlite_rules.specs.Edit.{Applies, row_at, taken_by}
 use Rattle.sqlite_rules.specs.Lists.{Has}
-use Rattle.sqlite_rules.proofs.ListLemmas.{all_has, has_filtered, has_got}
+use Rattle.sqlite_rules.proofs.ListLemmas.{all_has, has_filtered}
 use Rattle.sqlite_rules.proofs.PlaceLemmas.{given, row_at_is, left_or_taken}
 use Rattle.sqlite_rules.proofs.ProbeLemmas.{has_mapped, mapped_has}
 use Rattle.sqlite_rules.proofs.TableLemmas.{int_is, put_all_has, put_all_keeps, put_all_adds, without_all_has}
@@ -39,7 +39,7 @@ use Rattle.sqlite.specs.View.{IsShaped, is_int}
 use Rattle.sqlite.proofs.Callers.{runs_as, one_step}
 use Rattle.gaz_sql_facts.specs.Changes.{IsChanged, Changes, InPlace}
 use Rattle.gaz_sql_facts.specs.Selects.{selecting, every, passes, shows, Selects}
-use Rattle.gaz_sql_facts.specs.Tables.{keyed, strict, is_required, AreOf, cells}
+use Rattle.gaz_sql_facts.specs.Tables.{keyed, is_required, AreOf, cells}
 use Rattle.gaz_sql_facts.proofs.Inserts.{went, same_value, others_stay}
 use Rattle.gaz_sql_facts.proofs.Selects.{selects, selected, found}
 use Rattle.gaz_sql_facts.proofs.Texts.{IsCommand, overlay_none}
@@ -183,28 +183,15 @@ module _ (schema : Schema) (at tree : ℕ) (key : Option ℕ) (name primary : Li
         }
 
   module _ (sql : List ℕ) (text : IsCommand schema sql (Update at (record { lets = []; body = selecting tree tests project [] every }))) (old new : State) (has : old.now.schema ≡ schema) where
-    pub updated_as : (count : ℕ) → IsDatabase old.now → IsShaped shape.Table (old.now.trees tree) → Executes sql params old new (Ok count) → Changes tree (IsChanged Passes change) old.now new.now × InPlace old new
-    updated_as count sound up h =
+    pub updated : (count : ℕ) → IsDatabase old.now → IsShaped shape.Table (old.now.trees tree) → Executes sql params old new (Ok count) → Changes tree (IsChanged Passes change) old.now new.now × InPlace old new
+    updated count sound up h =
         let w = runs_as sql params old new schema has (Update at (record { lets = []; body = selecting tree tests project [] every })) text.is text.plain count h in
         (updates old.now has sound up old.step_limit (mode_of old) new.now [] w.tally w.sound w.changed, (w.shown, w.marks))
 
--- the same of a table whose rowids no statement gives
-module _ (schema : Schema) (at tree : ℕ) (name primary : List ℕ) (columns : List Column) (checks tests project : List Term) (params : Row) (set : Row → Row)
-    (listed : slice_get schema.tables at ≡ Some (strict name tree columns primary checks))
-    (free : (olds news : List Row) (keys : Keys) → works schema keys 0 tree olds news ≡ [])
-    (exact : list_all is_required columns ≡ true)
-    (shown : (r : Row) → shows project params r ≡ rowid r ∷ rowid r ∷ set r)
-    (fit : (r : Row) → AreOf columns (cells columns 1 r) → AreOf columns (set r)) where
-  kept_values : (db : Database) → db.schema ≡ schema → IsDatabase db → (r : Row) → Has (db.trees tree) r → cast_all columns (set r) ≡ set r
-  kept_values db has sound r there =
-      let it = strict name tree columns primary checks in
-      let listed_there : Has db.schema.tables it = subst (λ s. Has s.tables it) (sym has) (has_got schema.tables at it listed) in
-      kept_by_cast columns (set r) (fit r (typed db r it sound listed_there there refl exact))
-
-  module _ (sql : List ℕ) (text : IsCommand schema sql (Update at (record { lets = []; body = selecting tree tests project [] every }))) (old new : State) (has : old.now.schema ≡ schema) where
-    pub updated : (count : ℕ) → IsDatabase old.now → IsShaped shape.Table (old.now.trees tree) → Executes sql params old new (Ok count)
-        → Changes tree (IsChanged (λ r. passes tests params r ≡ true) (λ r. rowid r ∷ set r)) old.now new.now × InPlace old new
-    updated count sound up h = updated_as schema at tree None name primary (primary ∷ []) columns checks tests project params set listed free shown kept_values sql text old new has count sound up h
+-- a changed row of a table whose rowids no statement gives is written as it is
+pub kept_values : (schema : Schema) (table : Table) (set : Row → Row) → Has schema.tables table → table.key ≡ None → list_all is_required table.columns ≡ true → ((r : Row) → AreOf table.columns (cells table.columns 1 r) → AreOf table.columns (set r))
+    → (db : Database) → db.schema ≡ schema → IsDatabase db → (r : Row) → Has (db.trees table.tree) r → cast_all table.columns (set r) ≡ set r
+kept_values schema table set listed keyless exact fit db has sound r there = kept_by_cast table.columns (set r) (fit r (typed db r table sound (subst (λ s. Has s.tables table) (sym has) listed) there keyless exact))
 
 -- the table's rows are changed just where they fit
 pub changed_to : {P Q : Row → Type 0} (tree : ℕ) (change : Row → Row) (old new : Database) → ((r : Row) → Has (old.trees tree) r → P r → Q r) → ((r : Row) → Has (old.trees tree) r → Q r → P r)

@@ -73,8 +73,7 @@ module _ (schema : Schema) (sql : List ℕ) (table : Table) (it : IsTableText sc
       let bare : lacks_sequence first.0.schema ≡ false = ap lacks_sequence grown ∙ plain in
       let now : new.now ≡ first.0 = ap (λ (p : Tally × Database). p.1) (same_value all.2) ∙ same_value (rw bare at first.2) in
       let empty : first.0.trees (next_tree schema) ≡ [] = subst (λ s. first.0.trees (next_tree s) ≡ []) has m.empty in
-      let kept : KeepsRows schema.tables old.now.trees first.0.trees = subst (λ s. KeepsRows s.tables old.now.trees first.0.trees) has m.others in
-      (
+      let kept : KeepsRows schema.tables old.now.trees first.0.trees = subst (λ s. KeepsRows s.tables old.now.trees first.0.trees) has m.others in (
         ap (λ (d : Database). d.schema) now ∙ grown,
         ap (λ (d : Database). d.trees (next_tree schema)) now ∙ empty,
         subst (λ (d : Database). KeepsRows schema.tables old.now.trees d.trees) (sym now) kept,
@@ -91,8 +90,7 @@ module _ (schema : Schema) (sql : List ℕ) (table : Table) (index : Index) (lis
       let done = went (rw listed at (subst (λ s. Does old.step_limit (mode_of old) [] (record old.now { schema = s }) sql None (CreateIndex 0) (Ok (w.tally, new.now))) has w.changed)) in
       let m = done.1 in
       let same : m.index ≡ index = same_value (sym m.defined ∙ it.defined) in
-      let now : new.now ≡ done.0 = ap (λ (p : Tally × Database). p.1) (same_value done.2) in
-      (
+      let now : new.now ≡ done.0 = ap (λ (p : Tally × Database). p.1) (same_value done.2) in (
         ap (λ (d : Database). d.schema) now ∙ m.is ∙ ap (indexed schema table) same,
         subst (λ (d : Database). KeepsRows schema.tables old.now.trees d.trees) (sym now) m.rows,
         w.sound,

@@ -23,12 +23,12 @@ use Rattle.sqlite.specs.Term.{Term, lit, col}
 use Rattle.sqlite.specs.View.{is_int}
 use Rattle.gaz_sql_facts.specs.Changes.{Changes, InPlace}
 use Rattle.gaz_sql_facts.specs.Selects.{selecting, every, equals, Selects}
-use Rattle.gaz_sql_facts.proofs.Inserts.{inserted_as}
+use Rattle.gaz_sql_facts.proofs.Inserts.{inserted}
 use Rattle.gaz_tables.proofs.Shown.{answered, shows_some}
 use Rattle.gaz_tables.proofs.Tests.{Test, SuitsAll, means, met}
 use Rattle.gaz_sql_facts.proofs.Texts.{IsCommand, IsSelect}
 use Rattle.gaz_sql_facts.proofs.Typed.{cast_null, cast_int}
-use Rattle.gaz_sql_facts.proofs.Updates.{updated_as, changed_to}
+use Rattle.gaz_sql_facts.proofs.Updates.{updated, changed_to}
 use Rattle.gaz_tables.specs.Metas.{AddsMeta, FindsTwo, IsAny, Rewrites, id_of}
 use Rattle.gaz_tables.specs.Schema.{store_schema, metas, meta_columns}
 use Rattle.gaz_tables.specs.Stores.{HasTables}
@@ -82,7 +82,7 @@ module _ (old new : State) (has : HasTables old.now) (number : ℕ) (register : 
   pub insert_done : (r : Result ℕ Error) → ExecutesInside 0 insert_text meta_params old new r → OnOk r (Changes metas (AddsMeta number register) old.now new.now × InPlace old new)
   insert_done (Err e) h = tt
   insert_done (Ok count) h =
-      inserted_as store_schema 2 metas (Some 0) _ _ [] meta_columns _ insert_terms 4 meta_params (Int (pos 1)) values refl (λ _ _ _. refl) refl
+      inserted store_schema 2 metas (Some 0) _ _ [] meta_columns _ insert_terms 4 meta_params (Int (pos 1)) values refl (λ _ _ _. refl) refl
       (ap (λ v. v ∷ cast_all meta_columns values) (cast_int (pos 1)) ∙ ap (λ vs. Int (pos 1) ∷ vs) (kept_values number register)) insert_text insert_is old new has.schema_is count h.0
 
   abbrev wanted : List Test
@@ -94,6 +94,6 @@ module _ (old new : State) (has : HasTables old.now) (number : ℕ) (register : 
   pub rewrite_done : (r : Result ℕ Error) → ExecutesInside 0 rewrite_text meta_params old new r → OnOk r (Changes metas (Rewrites number register) old.now new.now × InPlace old new)
   rewrite_done (Err e) h = tt
   rewrite_done (Ok count) h =
-      let it = updated_as store_schema 2 metas (Some 0) _ _ [] meta_columns _ first_tests rewrite_terms meta_params (λ r. values) refl (λ _ _ _. refl) (λ r. refl) (λ _ _ _ _ _. kept_values number register)
+      let it = updated store_schema 2 metas (Some 0) _ _ [] meta_columns _ first_tests rewrite_terms meta_params (λ r. values) refl (λ _ _ _. refl) (λ r. refl) (λ _ _ _ _ _. kept_values number register)
       rewrite_text rewrite_is old new has.schema_is count has.sound has.metas_shaped h.0 in
       (changed_to metas (λ r. id_of r ∷ values) old.now new.now (λ r there p. (means wanted r refl (suits r there) p).0) (λ r there fits. met wanted r (suits r there) (fits, tt)) it.0, it.1)

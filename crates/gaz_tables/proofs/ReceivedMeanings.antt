@@ -19,7 +19,6 @@ use Rattle.gaz_tables.proofs.ReceivedOnce.{above_rises}
 use Rattle.gaz_tables.proofs.ReceivedQueries.{file_tests, file_terms, verdict_tests, verdict_terms, is_there_tests, is_there_terms, above_tests, above_terms}
 
 module _ (db : Database) (has : HasTables db) where
-
   module _ (cust : ℕ) (volume : ℕ) where
     abbrev pub file_params : Row
     file_params = Int (pos cust) ∷ Int (pos volume) ∷ []

@@ -1,5 +1,5 @@
 -- What the texts that write `received` do.
-use Rattle.std.proofs.Common.{ℕ, ℤ, pos, List, [], ◌∷◌, codes, Ok, Err, Result, OnOk, refl}
+use Rattle.std.proofs.Common.{ℕ, ℤ, pos, List, [], ◌∷◌, codes, None, inl, inr, Ok, Err, Result, OnOk, refl}
 use Rattle.sqlite_tied.specs.Compute.{everything}
 use Rattle.sqlite_rules.specs.Lists.{Has}
 use Rattle.sqlite_sql.specs.declared.ops.CompareOp.TheVariants.{Eq}
@@ -13,14 +13,17 @@ use Rattle.sqlite.specs.State.{State, ExecutesInside}
 use Rattle.sqlite.specs.Term.{Term, lit, col}
 use Rattle.gaz_sql_facts.specs.Changes.{Changes, InPlace}
 use Rattle.gaz_sql_facts.specs.Selects.{selecting, every, equals}
-use Rattle.gaz_sql_facts.proofs.Inserts.{inserted}
+use Rattle.gaz_sql_facts.proofs.Inserts.{inserted, kept_row}
 use Rattle.gaz_tables.proofs.Tests.{Test, SuitsAll, means, met}
 use Rattle.gaz_sql_facts.proofs.Texts.{IsCommand}
-use Rattle.gaz_sql_facts.proofs.Updates.{updated, changed_to}
-use Rattle.gaz_tables.specs.Schema.{store_schema, receiveds, received_columns}
+use Rattle.gaz_sql_facts.proofs.Updates.{updated, kept_values, changed_to}
+use Rattle.gaz_tables.specs.Schema.{store_schema, receiveds, received, received_columns}
 use Rattle.gaz_tables.specs.Stores.{HasTables, AddsRow}
 use Rattle.gaz_tables.specs.Receiveds.{unjudged, judged, Applies, Rejects}
 use Rattle.gaz_tables.proofs.ReceivedRows.{cust_is, volume_is}
+
+abbrev received_uniques : List (List ℕ)
+received_uniques = (1 ∷ 2 ∷ []) ∷ []
 
 abbrev pub receive_text : List ℕ
 receive_text = codes "INSERT INTO received VALUES (?1, ?2, ?3, 0, 0, 0)"
@@ -39,7 +42,8 @@ module _ (old new : State) (has : HasTables old.now) (cust volume : ℕ) (bytes 
   pub receive_done : (r : Result ℕ Error) → ExecutesInside 0 receive_text receive_params old new r → OnOk r (Changes receiveds (AddsRow (unjudged cust volume bytes)) old.now new.now × InPlace old new)
   receive_done (Err e) h = tt
   receive_done (Ok count) h =
-      inserted store_schema 1 receiveds _ _ received_columns _ receive_terms 7 receive_params (unjudged cust volume bytes) refl (λ _ _ _. refl) refl ((pos cust, refl), ((pos volume, refl), ((bytes, refl), ((pos 0, refl), ((pos 0, refl), ((pos 0, refl), tt)))))) receive_text receive_is old new has.schema_is count h.0
+      inserted store_schema 1 receiveds None _ _ received_uniques received_columns _ receive_terms 7 receive_params Null (unjudged cust volume bytes) refl (λ _ _ _. refl) refl
+      (kept_row received_columns (unjudged cust volume bytes) ((pos cust, refl), ((pos volume, refl), ((bytes, refl), ((pos 0, refl), ((pos 0, refl), ((pos 0, refl), tt))))))) receive_text receive_is old new has.schema_is count h.0
 
 abbrev pub apply_text : List ℕ
 apply_text = codes "UPDATE received SET state = 1, place = 0, rule = 0 WHERE cust = ?1 AND volume = ?2"
@@ -67,11 +71,14 @@ module _ (old new : State) (has : HasTables old.now) (cust volume : ℕ) where
   pub apply_done : (r : Result ℕ Error) → ExecutesInside 0 apply_text apply_params old new r → OnOk r (Changes receiveds (Applies cust volume) old.now new.now × InPlace old new)
   apply_done (Err e) h = tt
   apply_done (Ok count) h =
-      let it = updated store_schema 1 receiveds _ _ received_columns _ apply_tests apply_terms apply_params (λ r. column r 1 ∷ column r 2 ∷ column r 3 ∷ Int (pos 1) ∷ Int (pos 0) ∷ Int (pos 0) ∷ []) refl (λ _ _ _. refl) refl (λ r. refl)
-      (λ r t. (t.0, (t.1.0, (t.1.1.0, ((pos 1, refl), ((pos 0, refl), ((pos 0, refl), tt))))))) apply_text apply_is old new has.schema_is count has.sound has.receiveds_shaped h.0 in
-      (changed_to receiveds (judged 1 (pos 0) 0) old.now new.now
-        (λ r there p. let m = means apply_wanted r refl (apply_suits r there) p in record { of_cust = m.0; of_volume = m.1.0 })
-        (λ r there fits. met apply_wanted r (apply_suits r there) (fits.of_cust, (fits.of_volume, tt))) it.0, it.1)
+      let set = λ (r : Row). column r 1 ∷ column r 2 ∷ column r 3 ∷ Int (pos 1) ∷ Int (pos 0) ∷ Int (pos 0) ∷ [] in
+      let it = updated store_schema 1 receiveds None _ _ received_uniques received_columns _ apply_tests apply_terms apply_params set refl (λ _ _ _. refl) (λ r. refl)
+      (kept_values store_schema received set (inr (inl refl)) refl refl (λ r t. (t.0, (t.1.0, (t.1.1.0, ((pos 1, refl), ((pos 0, refl), ((pos 0, refl), tt)))))))) apply_text apply_is old new has.schema_is count has.sound has.receiveds_shaped h.0 in (
+        changed_to receiveds (judged 1 (pos 0) 0) old.now new.now
+            (λ r there p. let m = means apply_wanted r refl (apply_suits r there) p in record { of_cust = m.0; of_volume = m.1.0 })
+            (λ r there fits. met apply_wanted r (apply_suits r there) (fits.of_cust, (fits.of_volume, tt))) it.0,
+        it.1,
+      )
 
 abbrev pub reject_text : List ℕ
 reject_text = codes "UPDATE received SET state = 2, place = ?3, rule = ?4 WHERE cust = ?1 AND volume = ?2"
@@ -99,8 +106,11 @@ module _ (old new : State) (has : HasTables old.now) (cust volume : ℕ) (place 
   pub reject_done : (r : Result ℕ Error) → ExecutesInside 0 reject_text reject_params old new r → OnOk r (Changes receiveds (Rejects cust volume place rule) old.now new.now × InPlace old new)
   reject_done (Err e) h = tt
   reject_done (Ok count) h =
-      let it = updated store_schema 1 receiveds _ _ received_columns _ reject_tests reject_terms reject_params (λ r. column r 1 ∷ column r 2 ∷ column r 3 ∷ Int (pos 2) ∷ Int place ∷ Int (pos rule) ∷ []) refl (λ _ _ _. refl) refl (λ r. refl)
-      (λ r t. (t.0, (t.1.0, (t.1.1.0, ((pos 2, refl), ((place, refl), ((pos rule, refl), tt))))))) reject_text reject_is old new has.schema_is count has.sound has.receiveds_shaped h.0 in
-      (changed_to receiveds (judged 2 place rule) old.now new.now
-        (λ r there p. let m = means reject_wanted r refl (reject_suits r there) p in record { of_cust = m.0; of_volume = m.1.0 })
-        (λ r there fits. met reject_wanted r (reject_suits r there) (fits.of_cust, (fits.of_volume, tt))) it.0, it.1)
+      let set = λ (r : Row). column r 1 ∷ column r 2 ∷ column r 3 ∷ Int (pos 2) ∷ Int place ∷ Int (pos rule) ∷ [] in
+      let it = updated store_schema 1 receiveds None _ _ received_uniques received_columns _ reject_tests reject_terms reject_params set refl (λ _ _ _. refl) (λ r. refl)
+      (kept_values store_schema received set (inr (inl refl)) refl refl (λ r t. (t.0, (t.1.0, (t.1.1.0, ((pos 2, refl), ((place, refl), ((pos rule, refl), tt)))))))) reject_text reject_is old new has.schema_is count has.sound has.receiveds_shaped h.0 in (
+        changed_to receiveds (judged 2 place rule) old.now new.now
+            (λ r there p. let m = means reject_wanted r refl (reject_suits r there) p in record { of_cust = m.0; of_volume = m.1.0 })
+            (λ r there fits. met reject_wanted r (reject_suits r there) (fits.of_cust, (fits.of_volume, tt))) it.0,
+        it.1,
+      )

@@ -102,7 +102,7 @@ module _ (place : ℕ) where
     all_from (λ y. cmp x y ≡ Less) xs (λ y there.
         let late = first_least (λ a b. is_lt (cmp a b)) (ranks_by value_cmp_total (λ r. column r place)) x xs up y (inr there) in
         less_or (cmp x y) (λ tie. let same : x ≡ y = apart x y (inl refl) (inr there) tie in let not_tied = all_has (λ z. tied x z ≡ false) xs y once.0 there in
-            let is_tied : tied x y ≡ true = subst (λ z. tied x z ≡ true) same (ap is_eq (tied_itself value_cmp_total (rowid x))) in cc)
+        let is_tied : tied x y ≡ true = subst (λ z. tied x z ≡ true) same (ap is_eq (tied_itself value_cmp_total (rowid x))) in cc)
         (ap is_lt (sym (value_cmp_total.antisymm (column y place) (column x place))) ∙ late)),
     strictly xs once.1 (tail_sorted cmp x xs up) (λ r s p q. apart r s (inr p) (inr q)),
   )

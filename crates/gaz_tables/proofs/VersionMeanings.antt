@@ -18,7 +18,6 @@ use Rattle.gaz_tables.proofs.VersionRows.{cust_is, kind_is, id_is, blpu_is, stre
 use Rattle.gaz_tables.proofs.VersionQueries.{newest_tests, newest_terms, newest_until_tests, newest_until_terms, holding_tests, holding_terms, approved_of_tests, approved_of_terms, approved_on_tests, approved_on_terms, parts_of_tests, parts_of_terms}
 
 module _ (db : Database) (has : HasTables db) where
-
   module _ (cust : ℕ) (kind : ℕ) (id : List ℕ) where
     abbrev pub newest_params : Row
     newest_params = Int (pos cust) ∷ Int (pos kind) ∷ Text id ∷ []

@@ -54,11 +54,7 @@ pub fn reject<S: Alter>(
 }
 
 /// Gives the row of `meta` this number and register.
-pub fn rewrite<S: Alter>(
-    conn: &mut Connection<S>,
-    number: u32,
-    register: &str,
-) -> Result<(), Error>
+pub fn rewrite<S: Alter>(conn: &mut Connection<S>, number: u32, register: &str) -> Result<(), Error>
     requires { conn.old.in_transaction ≡ false }
     ensures over { conn.new.in_transaction ≡ false }
     ensures written { Commits (state S.Store conn.old) (state S.Store conn.new) metas result

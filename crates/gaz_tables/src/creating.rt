@@ -38,7 +38,10 @@ fn make_by_blpu<S: Alter>(tx: &mut Transaction<'_, S>) -> Result<usize, Error>
     ensures leaves { Survives (state S.Store tx.old.conn.now) (state S.Store tx.new.conn.now)
         (λ _. ⊥) }
 {
-    tx.execute("CREATE INDEX by_blpu ON version (cust, kind, blpu, gone)", &[])
+    tx.execute(
+        "CREATE INDEX by_blpu ON version (cust, kind, blpu, gone)",
+        &[],
+    )
 }
 
 /// Makes the index of `street`, within a transaction.
@@ -52,7 +55,10 @@ fn make_by_street<S: Alter>(tx: &mut Transaction<'_, S>) -> Result<usize, Error>
     ensures leaves { Survives (state S.Store tx.old.conn.now) (state S.Store tx.new.conn.now)
         (λ _. ⊥) }
 {
-    tx.execute("CREATE INDEX by_street ON version (cust, kind, street, gone)", &[])
+    tx.execute(
+        "CREATE INDEX by_street ON version (cust, kind, street, gone)",
+        &[],
+    )
 }
 
 /// Makes the table `received`, within a transaction.
@@ -123,11 +129,7 @@ fn make_others<S: Alter>(tx: &mut Transaction<'_, S>) -> Result<(), Error>
 }
 
 /// Makes the tables, their indexes and the row of `meta`, within a transaction.
-fn furnish<S: Alter>(
-    tx: &mut Transaction<'_, S>,
-    number: u32,
-    register: &str,
-) -> Result<(), Error>
+fn furnish<S: Alter>(tx: &mut Transaction<'_, S>, number: u32, register: &str) -> Result<(), Error>
     ensures same_reference { tx.new.conn.ghost_name ≡ tx.old.conn.ghost_name }
     ensures made { Furnishes (state S.Store tx.old.conn.now) (state S.Store tx.new.conn.now)
         number register.now result }

@@ -10,11 +10,7 @@ ghost use Rattle.gaz_tables.specs.Receiveds.{FindsVolume, Rejects, unjudged};
 use sqlite::{Alter, Connection, Error, Row, Transaction, params};
 
 /// `bytes`, `state`, `place` and `rule` of a volume, or no row.
-pub fn file<S: Alter>(
-    conn: &mut Connection<S>,
-    cust: u32,
-    volume: u32,
-) -> Result<Vec<Row>, Error>
+pub fn file<S: Alter>(conn: &mut Connection<S>, cust: u32, volume: u32) -> Result<Vec<Row>, Error>
     ensures found { Finds (state S.Store conn.old) (state S.Store conn.new) receiveds result
         (FindsFile cust volume) }
     ensures one { Finds (state S.Store conn.old) (state S.Store conn.new) receiveds result AtMostOne }
@@ -107,11 +103,7 @@ pub fn receive<S: Alter>(
 }
 
 /// Marks a volume applied, within a transaction.
-pub fn apply<S: Alter>(
-    tx: &mut Transaction<'_, S>,
-    cust: u32,
-    volume: u32,
-) -> Result<usize, Error>
+pub fn apply<S: Alter>(tx: &mut Transaction<'_, S>, cust: u32, volume: u32) -> Result<usize, Error>
     ensures same_reference { tx.new.conn.ghost_name ≡ tx.old.conn.ghost_name }
     ensures applied { WritesInside (state S.Store tx.old.conn.now) (state S.Store tx.new.conn.now)
         receiveds result (Applies cust volume) }
