@@ -15,7 +15,7 @@ use Rattle.sqlite_rules.specs.Action.{works}
 use Rattle.sqlite_rules.specs.Calls.{ids_of}
 use Rattle.sqlite_rules.specs.Edit.{Applies, row_at, taken_by}
 use Rattle.sqlite_rules.specs.Lists.{Has}
-use Rattle.sqlite_rules.proofs.ListLemmas.{all_has, has_filtered, has_got}
+use Rattle.sqlite_rules.proofs.ListLemmas.{all_has, has_filtered}
 use Rattle.sqlite_rules.proofs.PlaceLemmas.{given, row_at_is, left_or_taken}
 use Rattle.sqlite_rules.proofs.ProbeLemmas.{has_mapped, mapped_has}
 use Rattle.sqlite_rules.proofs.TableLemmas.{int_is, put_all_has, put_all_keeps, put_all_adds, without_all_has}
@@ -39,7 +39,7 @@ use Rattle.sqlite.specs.View.{IsShaped, is_int}
 use Rattle.sqlite.proofs.Callers.{runs_as, one_step}
 use Rattle.gaz_sql_facts.specs.Changes.{IsChanged, Changes, InPlace}
 use Rattle.gaz_sql_facts.specs.Selects.{selecting, every, passes, shows, Selects}
-use Rattle.gaz_sql_facts.specs.Tables.{strict, is_required, AreOf, cells}
+use Rattle.gaz_sql_facts.specs.Tables.{keyed, is_required, AreOf, cells}
 use Rattle.gaz_sql_facts.proofs.Inserts.{went, same_value, others_stay}
 use Rattle.gaz_sql_facts.proofs.Selects.{selects, selected, found}
 use Rattle.gaz_sql_facts.proofs.Texts.{IsCommand, overlay_none}
@@ -73,14 +73,13 @@ changed_by old new change f g h = record {
 }
 
 -- UPDATE the table at this place SET .. WHERE tests; `set` are a changed row's values
-module _ (schema : Schema) (at tree : ℕ) (name primary : List ℕ) (columns : List Column) (checks tests project : List Term) (params : Row) (set : Row → Row)
-    (listed : slice_get schema.tables at ≡ Some (strict name tree columns primary checks))
+module _ (schema : Schema) (at tree : ℕ) (key : Option ℕ) (name primary : List ℕ) (uniques : List (List ℕ)) (columns : List Column) (checks tests project : List Term) (params : Row) (set : Row → Row)
+    (listed : slice_get schema.tables at ≡ Some (keyed key name tree columns primary uniques checks))
     (free : (olds news : List Row) (keys : Keys) → works schema keys 0 tree olds news ≡ [])
-    (exact : list_all is_required columns ≡ true)
     (shown : (r : Row) → shows project params r ≡ rowid r ∷ rowid r ∷ set r)
-    (fit : (r : Row) → AreOf columns (cells columns 1 r) → AreOf columns (set r)) where
+    (kept : (db : Database) → db.schema ≡ schema → IsDatabase db → (r : Row) → Has (db.trees tree) r → cast_all columns (set r) ≡ set r) where
   abbrev table : Table
-  table = strict name tree columns primary checks
+  table = keyed key name tree columns primary uniques checks
 
   -- whether a row is changed, and what it becomes
   abbrev pub Passes : Row → Type 0
@@ -90,9 +89,6 @@ module _ (schema : Schema) (at tree : ℕ) (name primary : List ℕ) (columns : 
   change r = rowid r ∷ set r
 
   module _ (db : Database) (has : db.schema ≡ schema) (sound : IsDatabase db) (up : IsShaped shape.Table (db.trees tree)) where
-    there_listed : Has db.schema.tables table
-    there_listed = subst (λ s. Has s.tables table) (sym has) (has_got schema.tables at table listed)
-
     module _ (r : Row) (there : Has (db.trees tree) r) where
       rowid_is_int : is_int (rowid r) ≡ true
       rowid_is_int = all_has (λ x. IsTrue (is_int (rowid x))) (db.trees tree) r up.1 there
@@ -101,7 +97,7 @@ module _ (schema : Schema) (at tree : ℕ) (name primary : List ℕ) (columns : 
       recast =
           let first : cast kind.Integer (rowid r) ≡ rowid r =
           ap (cast kind.Integer) (int_is (rowid r) rowid_is_int) ∙ cast_int (id_in (rowid r)) ∙ sym (int_is (rowid r) rowid_is_int) in
-          let rest : cast_all columns (set r) ≡ set r = kept_by_cast columns (set r) (fit r (typed db r table sound there_listed there refl exact)) in
+          let rest : cast_all columns (set r) ≡ set r = kept db has sound r there in
           ap (λ s. cast_row table (drop 1 s)) (shown r) ∙ ap (λ v. v ∷ cast_all columns (set r)) first ∙ ap (λ vs. rowid r ∷ vs) rest
 
     module _ (rows : List Row) (all : Selects tests project [] None (db.trees tree) params rows) where
@@ -191,3 +187,14 @@ module _ (schema : Schema) (at tree : ℕ) (name primary : List ℕ) (columns : 
     updated count sound up h =
         let w = runs_as sql params old new schema has (Update at (record { lets = []; body = selecting tree tests project [] every })) text.is text.plain count h in
         (updates old.now has sound up old.step_limit (mode_of old) new.now [] w.tally w.sound w.changed, (w.shown, w.marks))
+
+-- a changed row of a table whose rowids no statement gives is written as it is
+pub kept_values : (schema : Schema) (table : Table) (set : Row → Row) → Has schema.tables table → table.key ≡ None → list_all is_required table.columns ≡ true → ((r : Row) → AreOf table.columns (cells table.columns 1 r) → AreOf table.columns (set r))
+    → (db : Database) → db.schema ≡ schema → IsDatabase db → (r : Row) → Has (db.trees table.tree) r → cast_all table.columns (set r) ≡ set r
+kept_values schema table set listed keyless exact fit db has sound r there = kept_by_cast table.columns (set r) (fit r (typed db r table sound (subst (λ s. Has s.tables table) (sym has) listed) there keyless exact))
+
+-- the table's rows are changed just where they fit
+pub changed_to : {P Q : Row → Type 0} (tree : ℕ) (change : Row → Row) (old new : Database) → ((r : Row) → Has (old.trees tree) r → P r → Q r) → ((r : Row) → Has (old.trees tree) r → Q r → P r)
+    → Changes tree (IsChanged P change) old new → Changes tree (IsChanged Q change) old new
+changed_to tree change old new f g h =
+    record { schema_stays = h.schema_stays; sound = h.sound; rows = changed_by (old.trees tree) (new.trees tree) change f g h.rows; shaped = h.shaped; others = h.others }

@@ -1,5 +1,5 @@
 -- Strict tables whose columns hold integers, texts and blobs, and never NULL.
-use Rattle.std.specs.Prelude.{◌≡◌, ℕ, ℤ, suc, Bool, true, false, ◌&&◌, List, [], ◌∷◌, None}
+use Rattle.std.specs.Prelude.{◌≡◌, ℕ, ℤ, suc, Bool, true, false, ◌&&◌, List, [], ◌∷◌, map, Option, None}
 use Rattle.sqlite_value.specs.declared.value.Value.{Value}
 use Rattle.sqlite_value.specs.declared.value.Value.TheVariants as value
 use Rattle.sqlite_value.specs.declared.keys.Collation.TheVariants.{Binary}
@@ -13,22 +13,26 @@ use Rattle.sqlite_sql.specs.Term.{Term}
 abbrev pub required : List ℕ → Kind → Column
 required name kind = record { name = name; kind = kind; is_strict = true; not_null = true; default = value.Null; collation = Binary }
 
--- a strict table with rowids that no statement gives
-abbrev pub strict : List ℕ → ℕ → List Column → List ℕ → List Term → Table
-strict name tree columns primary checks = record {
+-- a strict table, whose rowid is the column at `key` where there is one
+abbrev pub keyed : Option ℕ → List ℕ → ℕ → List Column → List ℕ → List (List ℕ) → List Term → Table
+keyed key name tree columns primary uniques checks = record {
   name = name;
   tree = tree;
   columns = columns;
-  key = None;
+  key = key;
   primary = primary;
-  uniques = primary ∷ [];
-  orders = record { digits = 0 } ∷ [];
+  uniques = uniques;
+  orders = map (λ _. record { digits = 0 }) uniques;
   checks = checks;
   references = [];
   computed = [];
   stamps = record { places = []; terms = []; formats = [] };
   is_counted = false;
 }
+
+-- a strict table with rowids that no statement gives
+abbrev pub strict : List ℕ → ℕ → List Column → List ℕ → List Term → Table
+strict name tree columns primary checks = keyed None name tree columns primary (primary ∷ []) checks
 
 -- a kind whose columns keep each value as it is written
 abbrev pub is_exact : Kind → Bool

@@ -1,0 +1,9 @@
+//! The statements of the tables as their callers use them: tests of `gaz_tables`.
+#![tactic(auto)]
+
+#[cfg(test)]
+mod fixtures;
+#[cfg(test)]
+mod plans;
+#[cfg(test)]
+mod statements;

@@ -1,0 +1,15 @@
+pub mod Growing
+pub mod Making
+pub mod MetaTexts
+pub mod ReceivedMeanings
+pub mod ReceivedOnce
+pub mod ReceivedQueries
+pub mod ReceivedRows
+pub mod ReceivedWrites
+pub mod Shown
+pub mod Tests
+pub mod Unique
+pub mod VersionMeanings
+pub mod VersionQueries
+pub mod VersionRows
+pub mod VersionWrites

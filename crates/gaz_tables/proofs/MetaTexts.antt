@@ -1,0 +1,99 @@
+-- What the texts over `meta` mean and do.
+use Rattle.std.proofs.Common.{◌≡◌, ℕ, pos, List, [], ◌∷◌, codes, Some, Ok, Err, Result, IfOk, OnOk, Vec, refl, ap, ◌∙◌}
+use Rattle.std.specs.Prelude.{IsTrue}
+use Rattle.std.specs.declared.alloc.Global.{Global}
+use Rattle.sqlite_tied.specs.Compute.{everything}
+use Rattle.sqlite_rules.specs.Lists.{Has}
+use Rattle.sqlite_rules.proofs.ListLemmas.{all_has}
+use Rattle.sqlite_rules.proofs.TableLemmas.{int_is}
+use Rattle.sqlite_sql.specs.declared.ops.CompareOp.TheVariants.{Eq}
+use Rattle.sqlite_trees.specs.Tree.{rowid}
+use Rattle.sqlite.specs.Cast.{cast, cast_all}
+use Rattle.sqlite.specs.Kind.TheVariants as kind
+use Rattle.sqlite.specs.Command.TheVariants.{Insert, Update}
+use Rattle.sqlite.specs.declared.error.Error.{Error}
+use Rattle.sqlite.specs.declared.types.Value.TheVariants.{Null, Int, Text}
+use Rattle.sqlite.specs.Edit.{id_in}
+use Rattle.sqlite.specs.Effect.{Database}
+use Rattle.sqlite.specs.Listing.{understood}
+use Rattle.sqlite.specs.Order.{Row}
+use Rattle.sqlite.specs.Source.TheVariants.{Values}
+use Rattle.sqlite.specs.State.{State, ExecutesInside}
+use Rattle.sqlite.specs.Term.{Term, lit, col}
+use Rattle.sqlite.specs.View.{is_int}
+use Rattle.gaz_sql_facts.specs.Changes.{Changes, InPlace}
+use Rattle.gaz_sql_facts.specs.Selects.{selecting, every, equals, Selects}
+use Rattle.gaz_sql_facts.proofs.Inserts.{inserted}
+use Rattle.gaz_tables.proofs.Shown.{answered, shows_some}
+use Rattle.gaz_tables.proofs.Tests.{Test, SuitsAll, means, met}
+use Rattle.gaz_sql_facts.proofs.Texts.{IsCommand, IsSelect}
+use Rattle.gaz_sql_facts.proofs.Typed.{cast_null, cast_int}
+use Rattle.gaz_sql_facts.proofs.Updates.{updated, changed_to}
+use Rattle.gaz_tables.specs.Metas.{AddsMeta, FindsTwo, IsAny, Rewrites, id_of}
+use Rattle.gaz_tables.specs.Schema.{store_schema, metas, meta_columns}
+use Rattle.gaz_tables.specs.Stores.{HasTables}
+
+abbrev pub rows_text : List ℕ
+rows_text = codes "SELECT id, number, register FROM meta LIMIT 2"
+
+abbrev pub rows_terms : List Term
+rows_terms = col 1 0 ∷ col 1 2 ∷ col 1 3 ∷ []
+
+pub rows_is : IsSelect store_schema rows_text (selecting metas [] rows_terms [] (lit (Int (pos 2)))) (codes "id" ∷ codes "number" ∷ codes "register" ∷ [])
+unfolding understood everything
+rows_is = record { is = refl; plain = (refl, refl); unlisted = refl }
+
+pub rows_found : (db : Database) (r : Result (Vec Row Global) Error) → IfOk r (λ rows. Selects [] rows_terms [] (Some 2) (db.trees metas) [] rows.items) → IfOk r (λ rows. FindsTwo (db.trees metas) rows.items)
+rows_found db r h = answered r (λ answer s. shows_some [] rows_terms [] (db.trees metas) IsAny (λ r there p. tt) (λ r there fits. refl) 2 answer s) h
+
+abbrev pub insert_text : List ℕ
+insert_text = codes "INSERT INTO meta VALUES (1, ?1, ?2)"
+
+abbrev pub insert_terms : List Term
+insert_terms = lit (Int (pos 1)) ∷ lit Null ∷ col 0 0 ∷ col 0 1 ∷ []
+
+pub insert_is : IsCommand store_schema insert_text (Insert 2 (Values insert_terms 4))
+unfolding understood everything
+insert_is = record { is = refl; plain = (refl, refl) }
+
+abbrev pub rewrite_text : List ℕ
+rewrite_text = codes "UPDATE meta SET number = ?1, register = ?2 WHERE id = 1"
+
+abbrev pub first_tests : List Term
+first_tests = equals (col 1 0) (lit (Int (pos 1))) ∷ []
+
+abbrev pub rewrite_terms : List Term
+rewrite_terms = col 1 0 ∷ col 1 0 ∷ lit Null ∷ col 0 0 ∷ col 0 1 ∷ []
+
+pub rewrite_is : IsCommand store_schema rewrite_text (Update 2 (record { lets = []; body = selecting metas first_tests rewrite_terms [] every }))
+unfolding understood everything
+rewrite_is = record { is = refl; plain = (refl, refl) }
+
+kept_values : (number : ℕ) (register : List ℕ) → cast_all meta_columns (Null ∷ Int (pos number) ∷ Text register ∷ []) ≡ Null ∷ Int (pos number) ∷ Text register ∷ []
+kept_values number register = ap (λ v. v ∷ cast kind.Integer (Int (pos number)) ∷ Text register ∷ []) cast_null ∙ ap (λ v. Null ∷ v ∷ Text register ∷ []) (cast_int (pos number))
+
+module _ (old new : State) (has : HasTables old.now) (number : ℕ) (register : List ℕ) where
+  abbrev pub meta_params : Row
+  meta_params = Int (pos number) ∷ Text register ∷ []
+
+  abbrev values : Row
+  values = Null ∷ Int (pos number) ∷ Text register ∷ []
+
+  pub insert_done : (r : Result ℕ Error) → ExecutesInside 0 insert_text meta_params old new r → OnOk r (Changes metas (AddsMeta number register) old.now new.now × InPlace old new)
+  insert_done (Err e) h = tt
+  insert_done (Ok count) h =
+      inserted store_schema 2 metas (Some 0) _ _ [] meta_columns _ insert_terms 4 meta_params (Int (pos 1)) values refl (λ _ _ _. refl) refl
+      (ap (λ v. v ∷ cast_all meta_columns values) (cast_int (pos 1)) ∙ ap (λ vs. Int (pos 1) ∷ vs) (kept_values number register)) insert_text insert_is old new has.schema_is count h.0
+
+  abbrev wanted : List Test
+  wanted = (0, Eq, Int (pos 1)) ∷ []
+
+  suits : (r : Row) → Has (old.now.trees metas) r → SuitsAll wanted r
+  suits r there = let e = int_is (rowid r) (all_has (λ x. IsTrue (is_int (rowid x))) (old.now.trees metas) r has.metas_shaped.1 there) in ((id_in (rowid r), e), tt)
+
+  pub rewrite_done : (r : Result ℕ Error) → ExecutesInside 0 rewrite_text meta_params old new r → OnOk r (Changes metas (Rewrites number register) old.now new.now × InPlace old new)
+  rewrite_done (Err e) h = tt
+  rewrite_done (Ok count) h =
+      let it = updated store_schema 2 metas (Some 0) _ _ [] meta_columns _ first_tests rewrite_terms meta_params (λ r. values) refl (λ _ _ _. refl) (λ r. refl) (λ _ _ _ _ _. kept_values number register)
+      rewrite_text rewrite_is old new has.schema_is count has.sound has.metas_shaped h.0 in
+      (changed_to metas (λ r. id_of r ∷ values) old.now new.now (λ r there p. (means wanted r refl (suits r there) p).0) (λ r there fits. met wanted r (suits r there) (fits, tt)) it.0, it.1)

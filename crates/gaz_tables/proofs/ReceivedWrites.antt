@@ -1,0 +1,116 @@
+-- What the texts that write `received` do.
+use Rattle.std.proofs.Common.{ℕ, ℤ, pos, List, [], ◌∷◌, codes, None, inl, inr, Ok, Err, Result, OnOk, refl}
+use Rattle.sqlite_tied.specs.Compute.{everything}
+use Rattle.sqlite_rules.specs.Lists.{Has}
+use Rattle.sqlite_sql.specs.declared.ops.CompareOp.TheVariants.{Eq}
+use Rattle.sqlite.specs.Command.TheVariants.{Insert, Update}
+use Rattle.sqlite.specs.declared.error.Error.{Error}
+use Rattle.sqlite.specs.declared.types.Value.TheVariants.{Null, Int, Blob}
+use Rattle.sqlite.specs.Listing.{understood}
+use Rattle.sqlite.specs.Order.{Row, column}
+use Rattle.sqlite.specs.Source.TheVariants.{Values}
+use Rattle.sqlite.specs.State.{State, ExecutesInside}
+use Rattle.sqlite.specs.Term.{Term, lit, col}
+use Rattle.gaz_sql_facts.specs.Changes.{Changes, InPlace}
+use Rattle.gaz_sql_facts.specs.Selects.{selecting, every, equals}
+use Rattle.gaz_sql_facts.proofs.Inserts.{inserted, kept_row}
+use Rattle.gaz_tables.proofs.Tests.{Test, SuitsAll, means, met}
+use Rattle.gaz_sql_facts.proofs.Texts.{IsCommand}
+use Rattle.gaz_sql_facts.proofs.Updates.{updated, kept_values, changed_to}
+use Rattle.gaz_tables.specs.Schema.{store_schema, receiveds, received, received_columns}
+use Rattle.gaz_tables.specs.Stores.{HasTables, AddsRow}
+use Rattle.gaz_tables.specs.Receiveds.{unjudged, judged, Applies, Rejects}
+use Rattle.gaz_tables.proofs.ReceivedRows.{cust_is, volume_is}
+
+abbrev received_uniques : List (List ℕ)
+received_uniques = (1 ∷ 2 ∷ []) ∷ []
+
+abbrev pub receive_text : List ℕ
+receive_text = codes "INSERT INTO received VALUES (?1, ?2, ?3, 0, 0, 0)"
+
+abbrev pub receive_terms : List Term
+receive_terms = lit Null ∷ col 0 0 ∷ col 0 1 ∷ col 0 2 ∷ lit (Int (pos 0)) ∷ lit (Int (pos 0)) ∷ lit (Int (pos 0)) ∷ []
+
+pub receive_is : IsCommand store_schema receive_text (Insert 1 (Values receive_terms 7))
+unfolding understood everything
+receive_is = record { is = refl; plain = (refl, refl) }
+
+module _ (old new : State) (has : HasTables old.now) (cust volume : ℕ) (bytes : List ℕ) where
+  abbrev pub receive_params : Row
+  receive_params = Int (pos cust) ∷ Int (pos volume) ∷ Blob bytes ∷ []
+
+  pub receive_done : (r : Result ℕ Error) → ExecutesInside 0 receive_text receive_params old new r → OnOk r (Changes receiveds (AddsRow (unjudged cust volume bytes)) old.now new.now × InPlace old new)
+  receive_done (Err e) h = tt
+  receive_done (Ok count) h =
+      inserted store_schema 1 receiveds None _ _ received_uniques received_columns _ receive_terms 7 receive_params Null (unjudged cust volume bytes) refl (λ _ _ _. refl) refl
+      (kept_row received_columns (unjudged cust volume bytes) ((pos cust, refl), ((pos volume, refl), ((bytes, refl), ((pos 0, refl), ((pos 0, refl), ((pos 0, refl), tt))))))) receive_text receive_is old new has.schema_is count h.0
+
+abbrev pub apply_text : List ℕ
+apply_text = codes "UPDATE received SET state = 1, place = 0, rule = 0 WHERE cust = ?1 AND volume = ?2"
+
+abbrev pub apply_tests : List Term
+apply_tests = equals (col 1 1) (col 0 0) ∷ equals (col 1 2) (col 0 1) ∷ []
+
+abbrev pub apply_terms : List Term
+apply_terms = col 1 0 ∷ col 1 0 ∷ col 1 1 ∷ col 1 2 ∷ col 1 3 ∷ lit (Int (pos 1)) ∷ lit (Int (pos 0)) ∷ lit (Int (pos 0)) ∷ []
+
+pub apply_is : IsCommand store_schema apply_text (Update 1 (record { lets = []; body = selecting receiveds apply_tests apply_terms [] every }))
+unfolding understood everything
+apply_is = record { is = refl; plain = (refl, refl) }
+
+module _ (old new : State) (has : HasTables old.now) (cust volume : ℕ) where
+  abbrev pub apply_params : Row
+  apply_params = Int (pos cust) ∷ Int (pos volume) ∷ []
+
+  abbrev apply_wanted : List Test
+  apply_wanted = (1, Eq, Int (pos cust)) ∷ (2, Eq, Int (pos volume)) ∷ []
+
+  apply_suits : (r : Row) → Has (old.now.trees receiveds) r → SuitsAll apply_wanted r
+  apply_suits r there = (cust_is old.now has r there, (volume_is old.now has r there, tt))
+
+  pub apply_done : (r : Result ℕ Error) → ExecutesInside 0 apply_text apply_params old new r → OnOk r (Changes receiveds (Applies cust volume) old.now new.now × InPlace old new)
+  apply_done (Err e) h = tt
+  apply_done (Ok count) h =
+      let set = λ (r : Row). column r 1 ∷ column r 2 ∷ column r 3 ∷ Int (pos 1) ∷ Int (pos 0) ∷ Int (pos 0) ∷ [] in
+      let it = updated store_schema 1 receiveds None _ _ received_uniques received_columns _ apply_tests apply_terms apply_params set refl (λ _ _ _. refl) (λ r. refl)
+      (kept_values store_schema received set (inr (inl refl)) refl refl (λ r t. (t.0, (t.1.0, (t.1.1.0, ((pos 1, refl), ((pos 0, refl), ((pos 0, refl), tt)))))))) apply_text apply_is old new has.schema_is count has.sound has.receiveds_shaped h.0 in (
+        changed_to receiveds (judged 1 (pos 0) 0) old.now new.now
+            (λ r there p. let m = means apply_wanted r refl (apply_suits r there) p in record { of_cust = m.0; of_volume = m.1.0 })
+            (λ r there fits. met apply_wanted r (apply_suits r there) (fits.of_cust, (fits.of_volume, tt))) it.0,
+        it.1,
+      )
+
+abbrev pub reject_text : List ℕ
+reject_text = codes "UPDATE received SET state = 2, place = ?3, rule = ?4 WHERE cust = ?1 AND volume = ?2"
+
+abbrev pub reject_tests : List Term
+reject_tests = equals (col 1 1) (col 0 0) ∷ equals (col 1 2) (col 0 1) ∷ []
+
+abbrev pub reject_terms : List Term
+reject_terms = col 1 0 ∷ col 1 0 ∷ col 1 1 ∷ col 1 2 ∷ col 1 3 ∷ lit (Int (pos 2)) ∷ col 0 2 ∷ col 0 3 ∷ []
+
+pub reject_is : IsCommand store_schema reject_text (Update 1 (record { lets = []; body = selecting receiveds reject_tests reject_terms [] every }))
+unfolding understood everything
+reject_is = record { is = refl; plain = (refl, refl) }
+
+module _ (old new : State) (has : HasTables old.now) (cust volume : ℕ) (place : ℤ) (rule : ℕ) where
+  abbrev pub reject_params : Row
+  reject_params = Int (pos cust) ∷ Int (pos volume) ∷ Int place ∷ Int (pos rule) ∷ []
+
+  abbrev reject_wanted : List Test
+  reject_wanted = (1, Eq, Int (pos cust)) ∷ (2, Eq, Int (pos volume)) ∷ []
+
+  reject_suits : (r : Row) → Has (old.now.trees receiveds) r → SuitsAll reject_wanted r
+  reject_suits r there = (cust_is old.now has r there, (volume_is old.now has r there, tt))
+
+  pub reject_done : (r : Result ℕ Error) → ExecutesInside 0 reject_text reject_params old new r → OnOk r (Changes receiveds (Rejects cust volume place rule) old.now new.now × InPlace old new)
+  reject_done (Err e) h = tt
+  reject_done (Ok count) h =
+      let set = λ (r : Row). column r 1 ∷ column r 2 ∷ column r 3 ∷ Int (pos 2) ∷ Int place ∷ Int (pos rule) ∷ [] in
+      let it = updated store_schema 1 receiveds None _ _ received_uniques received_columns _ reject_tests reject_terms reject_params set refl (λ _ _ _. refl) (λ r. refl)
+      (kept_values store_schema received set (inr (inl refl)) refl refl (λ r t. (t.0, (t.1.0, (t.1.1.0, ((pos 2, refl), ((place, refl), ((pos rule, refl), tt)))))))) reject_text reject_is old new has.schema_is count has.sound has.receiveds_shaped h.0 in (
+        changed_to receiveds (judged 2 place rule) old.now new.now
+            (λ r there p. let m = means reject_wanted r refl (reject_suits r there) p in record { of_cust = m.0; of_volume = m.1.0 })
+            (λ r there fits. met reject_wanted r (reject_suits r there) (fits.of_cust, (fits.of_volume, tt))) it.0,
+        it.1,
+      )

@@ -1,0 +1,17 @@
+use Rattle.sqlite.specs.Held.{state}
+use Rattle.gaz_sql_facts.proofs.Texts.{answers, stays, leaves_as_before}
+use Rattle.gaz_tables.proofs.MetaTexts.{rows_is, rows_found}
+use Rattle.gaz_tables.proofs.metas.rows.Goals as goal
+
+pub returns-clause-found : goal.returns-clause-found
+returns-clause-found g c clean has =
+    rows_found (state g.S.Store c.args.conn.now).now c.query_all.result
+    (answers _ _ _ _ _ _ _ _ rows_is _ (state g.S.Store c.args.conn.now) (state g.S.Store c.query_all.new.self) has.schema_is c.query_all.result (c.query_all.ensures.ok clean))
+
+pub returns-clause-stays : goal.returns-clause-stays
+returns-clause-stays g c clean has =
+    stays _ _ _ _ _ _ _ _ rows_is _ (state g.S.Store c.args.conn.now) (state g.S.Store c.query_all.new.self) has.schema_is c.query_all.result (c.query_all.ensures.ok clean)
+
+pub returns-clause-leaves : goal.returns-clause-leaves
+returns-clause-leaves g c has =
+    leaves_as_before _ _ _ _ _ _ _ _ rows_is _ (state g.S.Store c.args.conn.now) (state g.S.Store c.query_all.new.self) (λ early. (has early).schema_is) c.query_all.ensures.survives

@@ -1,0 +1,12 @@
+use Rattle.sqlite.specs.Held.{state}
+use Rattle.gaz_sql_facts.proofs.Texts.{spared_inside}
+use Rattle.gaz_tables.proofs.ReceivedWrites.{reject_done}
+use Rattle.gaz_tables.proofs.receiveds.reject.Goals as goal
+
+pub returns-clause-rejected : goal.returns-clause-rejected
+returns-clause-rejected g c clean inside has =
+    reject_done (state g.S.Store c.args.tx.now.conn.now) (state g.S.Store c.execute.new.self.conn.now) has c.args.cust c.args.volume c.args.place.now c.args.rule c.execute.result
+    (rw (c.params-to_sql.ensures, c.params-to_sql-2.ensures, c.params-to_sql-3.ensures, c.params-to_sql-4.ensures) at (c.execute.ensures.runs clean inside))
+
+pub returns-clause-spared : goal.returns-clause-spared
+returns-clause-spared g c clean inside = spared_inside 0 _ _ (state g.S.Store c.args.tx.now.conn.now) (state g.S.Store c.execute.new.self.conn.now) c.execute.result (c.execute.ensures.runs clean inside)

@@ -1,0 +1,77 @@
+-- How the tables and indexes of a new store are made, one by one.
+use Rattle.std.specs.Prelude.{◌≡◌, ℕ, List, [], ◌∷◌, codes, Result, OnOk, OnErr, IsTrue}
+use Rattle.std.specs.List.{AllByRecursion}
+use Rattle.sqlite.specs.declared.error.Error.{Error}
+use Rattle.sqlite.specs.Effect.{Database, IsDatabase}
+use Rattle.sqlite.specs.Schema.{Schema}
+use Rattle.sqlite.specs.State.{State, HasCleanDisk, Survives}
+use Rattle.sqlite_catalog.specs.Listing.{automatic}
+use Rattle.gaz_sql_facts.specs.Changes.{IsAdded, IsUndone}
+use Rattle.gaz_tables.specs.Metas.{meta_row}
+use Rattle.gaz_tables.specs.Schema.{version, received, index_of, versions, receiveds, metas}
+use Rattle.gaz_tables.specs.Stores.{HasTables}
+
+-- the schema as it grows
+abbrev pub no_schema : Schema
+no_schema = record { tables = []; indexes = []; views = [] }
+
+abbrev pub with_version : Schema
+with_version = record { tables = version ∷ []; indexes = automatic version 0 (1 ∷ 2 ∷ 3 ∷ 8 ∷ []) 1 ∷ []; views = [] }
+
+abbrev pub with_by_blpu : Schema
+with_by_blpu = record { tables = version ∷ []; indexes = automatic version 0 (1 ∷ 2 ∷ 3 ∷ 8 ∷ []) 1 ∷ index_of (codes "by_blpu") 2 (1 ∷ 2 ∷ 4 ∷ 9 ∷ []) ∷ []; views = [] }
+
+abbrev pub with_by_street : Schema
+with_by_street = record {
+  tables = version ∷ [];
+  indexes = automatic version 0 (1 ∷ 2 ∷ 3 ∷ 8 ∷ []) 1 ∷ index_of (codes "by_blpu") 2 (1 ∷ 2 ∷ 4 ∷ 9 ∷ []) ∷ index_of (codes "by_street") 3 (1 ∷ 2 ∷ 5 ∷ 9 ∷ []) ∷ [];
+  views = [];
+}
+
+abbrev pub with_received : Schema
+with_received = record {
+  tables = version ∷ received ∷ [];
+  indexes = automatic version 0 (1 ∷ 2 ∷ 3 ∷ 8 ∷ []) 1 ∷ index_of (codes "by_blpu") 2 (1 ∷ 2 ∷ 4 ∷ 9 ∷ []) ∷ index_of (codes "by_street") 3 (1 ∷ 2 ∷ 5 ∷ 9 ∷ []) ∷ automatic received 0 (1 ∷ 2 ∷ []) 5 ∷ [];
+  views = [];
+}
+
+-- the database has this schema and no row
+pub record IsBare (schema : Schema) (db : Database) : Type 0 where
+  pub schema_is : db.schema ≡ schema
+  pub empty : AllByRecursion (λ t. db.trees t.tree ≡ []) schema.tables
+
+-- a new store: the tables, and the row of `meta` alone
+pub record IsNewStore (number : ℕ) (register : List ℕ) (db : Database) : Type 0 where
+  pub tables : HasTables db
+  pub no_versions : db.trees versions ≡ []
+  pub no_receiveds : db.trees receiveds ≡ []
+  pub meta_alone : IsAdded (meta_row number register) [] (db.trees metas)
+
+module _ (old new : State) where
+  -- within a transaction, the empty database gets the next schema
+  abbrev pub Grows : {A : Type 0} → Schema → Schema → Result A Error → Type 0
+  Grows before after result = HasCleanDisk new → IsTrue old.in_transaction → IsBare before old.now → OnOk result (IsBare after new.now × IsDatabase new.now)
+
+  -- a statement that is done leaves the transaction open, and commits nothing
+  abbrev pub GoesOn : {A : Type 0} → Result A Error → Type 0
+  GoesOn result = HasCleanDisk new → IsTrue old.in_transaction → OnOk result (IsTrue new.in_transaction × (new.committed ≡ old.committed))
+
+  -- what the last commit left stays, whatever came
+  abbrev pub KeepsTheCommit : Type 0
+  KeepsTheCommit = HasCleanDisk new → IsTrue old.in_transaction → IsTrue new.is_open → new.committed ≡ old.committed
+
+  -- within a transaction, the empty database becomes a new store
+  abbrev pub Furnishes : {A : Type 0} → ℕ → List ℕ → Result A Error → Type 0
+  Furnishes number register result = HasCleanDisk new → IsTrue old.in_transaction → IsBare no_schema old.now → OnOk result (IsNewStore number register new.now)
+
+  -- in a transaction of its own, the empty database becomes a new store and is committed
+  abbrev pub Creates : {A : Type 0} → ℕ → List ℕ → Result A Error → Type 0
+  Creates number register result = HasCleanDisk new → IsBare no_schema old.now → OnOk result (IsNewStore number register new.now × (new.committed ≡ new.now))
+
+  -- a fault commits nothing
+  abbrev pub Withdraws : {A : Type 0} → Result A Error → Type 0
+  Withdraws result = HasCleanDisk new → OnErr result (IsUndone old new)
+
+  -- a stop leaves what it could before, or the new store
+  abbrev pub MayCreate : ℕ → List ℕ → Type 0
+  MayCreate number register = (HasCleanDisk old → IsBare no_schema old.now) → Survives old new (λ trees. (db : Database) × (trees ≡ db.trees) × IsNewStore number register db)

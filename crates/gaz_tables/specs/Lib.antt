@@ -1,0 +1,7 @@
+pub mod Creating
+pub mod Metas
+pub mod Receiveds
+pub mod Schema
+pub mod Shows
+pub mod Stores
+pub mod Versions

@@ -1,0 +1,58 @@
+-- A store of the three tables, and what a statement makes of it.
+use Rattle.std.specs.Prelude.{◌≡◌, ℕ, List, ◌∷◌, Result, Vec, IfOk, OnOk, OnErr, IsTrue}
+use Rattle.std.specs.declared.alloc.Global.{Global}
+use Rattle.sqlite.specs.Order.{Row}
+use Rattle.sqlite.specs.declared.types.Value.TheVariants.{Int}
+use Rattle.sqlite.specs.Edit.{next_rowid}
+use Rattle.sqlite.specs.declared.error.Error.{Error}
+use Rattle.sqlite.specs.Effect.{Database, IsDatabase}
+use Rattle.sqlite.specs.State.{State, HasCleanDisk, IsUnchanged, Survives}
+use Rattle.sqlite.specs.View.{IsShaped}
+use Rattle.sqlite_trees.specs.declared.store.Shape.TheVariants as shape
+use Rattle.gaz_sql_facts.specs.Changes.{Changes, InPlace, IsAdded, IsSpared, IsUndone}
+use Rattle.gaz_tables.specs.Schema.{store_schema, versions, receiveds, metas}
+
+-- the database is one of the three tables, in order
+pub record HasTables (db : Database) : Type 0 where
+  pub schema_is : db.schema ≡ store_schema
+  pub sound : IsDatabase db
+  pub versions_shaped : IsShaped shape.Table (db.trees versions)
+  pub receiveds_shaped : IsShaped shape.Table (db.trees receiveds)
+  pub metas_shaped : IsShaped shape.Table (db.trees metas)
+
+-- the rows and one more, of these values, under a new rowid
+abbrev pub AddsRow : Row → List Row → List Row → Type 0
+AddsRow values old new = IsAdded (Int (next_rowid old) ∷ values) old new
+
+module _ (old new : State) where
+  -- the answer is of the rows that the table had
+  abbrev pub Finds : ℕ → Result (Vec Row Global) Error → (List Row → List Row → Type 0) → Type 0
+  Finds table result IsAnswer = HasCleanDisk new → HasTables old.now → IfOk result (λ rows. IsAnswer (old.now.trees table) rows.items)
+
+  -- a statement that only reads changes nothing
+  abbrev pub Stays : Result (Vec Row Global) Error → Type 0
+  Stays result = HasCleanDisk new → HasTables old.now → OnOk result (IsUnchanged old new)
+
+  -- a stop may leave what it could before, or what is named
+  abbrev pub MayLeave : (Database → Type 0) → Type 0
+  MayLeave Also = (HasCleanDisk old → HasTables old.now) → Survives old new (λ trees. (db : Database) × (trees ≡ db.trees) × Also db)
+
+  -- a stop may leave what it could before and nothing else
+  abbrev pub LeavesAsBefore : Type 0
+  LeavesAsBefore = (HasCleanDisk old → HasTables old.now) → Survives old new (λ _. ⊥)
+
+  -- within a transaction the table's rows become others
+  abbrev pub WritesInside : ℕ → Result ℕ Error → (List Row → List Row → Type 0) → Type 0
+  WritesInside table result Becomes = HasCleanDisk new → IsTrue old.in_transaction → HasTables old.now → OnOk result (Changes table Becomes old.now new.now × InPlace old new)
+
+  -- a fault changes nothing or ends the transaction
+  abbrev pub SparesInside : Result ℕ Error → Type 0
+  SparesInside result = HasCleanDisk new → IsTrue old.in_transaction → OnErr result (IsSpared old new)
+
+  -- in a transaction of its own the table's rows become others and are committed
+  abbrev pub Commits : {A : Type 0} → ℕ → Result A Error → (List Row → List Row → Type 0) → Type 0
+  Commits table result Becomes = HasCleanDisk new → HasTables old.now → OnOk result (Changes table Becomes old.now new.now × (new.committed ≡ new.now))
+
+  -- a fault commits nothing
+  abbrev pub Undoes : {A : Type 0} → Result A Error → Type 0
+  Undoes result = HasCleanDisk new → HasTables old.now → OnErr result (IsUndone old new)

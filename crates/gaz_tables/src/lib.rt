@@ -1,0 +1,8 @@
+//! The three tables of a store, with one function a statement.
+#![tactic(auto)]
+
+pub mod alone;
+pub mod creating;
+pub mod metas;
+pub mod receiveds;
+pub mod versions;

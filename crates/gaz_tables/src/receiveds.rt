@@ -1,0 +1,141 @@
+//! The statements of the table `received`.
+ghost use Rattle.sqlite.specs.Held.{state};
+ghost use Rattle.gaz_tables.specs.Schema.{receiveds};
+ghost use Rattle.std.specs.Prelude.{◌≡◌, false};
+ghost use Rattle.sqlite.specs.State.{Survives};
+ghost use Rattle.gaz_tables.specs.Stores.{AddsRow, Finds, LeavesAsBefore, SparesInside, Stays, WritesInside};
+ghost use Rattle.gaz_tables.specs.Receiveds.{Applies, AtMostOne, FindsAbove, FindsFile, FindsVerdict};
+ghost use Rattle.gaz_tables.specs.Receiveds.{FindsVolume, Rejects, unjudged};
+
+use sqlite::{Alter, Connection, Error, Row, Transaction, params};
+
+/// `bytes`, `state`, `place` and `rule` of a volume, or no row.
+pub fn file<S: Alter>(conn: &mut Connection<S>, cust: u32, volume: u32) -> Result<Vec<Row>, Error>
+    ensures found { Finds (state S.Store conn.old) (state S.Store conn.new) receiveds result
+        (FindsFile cust volume) }
+    ensures one { Finds (state S.Store conn.old) (state S.Store conn.new) receiveds result AtMostOne }
+    ensures stays { Stays (state S.Store conn.old) (state S.Store conn.new) result }
+    ensures leaves { LeavesAsBefore (state S.Store conn.old) (state S.Store conn.new) }
+    ensures mode { conn.old.in_transaction ≡ false → conn.new.in_transaction ≡ false }
+{
+    conn.query_all(
+        "SELECT bytes, state, place, rule FROM received WHERE cust = ?1 AND volume = ?2",
+        params![cust, volume],
+    )
+}
+
+/// `state`, `place` and `rule` of a volume, or no row.
+pub fn verdict<S: Alter>(
+    conn: &mut Connection<S>,
+    cust: u32,
+    volume: u32,
+) -> Result<Vec<Row>, Error>
+    ensures found { Finds (state S.Store conn.old) (state S.Store conn.new) receiveds result
+        (FindsVerdict cust volume) }
+    ensures one { Finds (state S.Store conn.old) (state S.Store conn.new) receiveds result AtMostOne }
+    ensures stays { Stays (state S.Store conn.old) (state S.Store conn.new) result }
+    ensures leaves { LeavesAsBefore (state S.Store conn.old) (state S.Store conn.new) }
+    ensures mode { conn.old.in_transaction ≡ false → conn.new.in_transaction ≡ false }
+{
+    conn.query_all(
+        "SELECT state, place, rule FROM received WHERE cust = ?1 AND volume = ?2",
+        params![cust, volume],
+    )
+}
+
+/// The volume itself where it was received, or no row; reads the index alone.
+pub fn is_there<S: Alter>(
+    conn: &mut Connection<S>,
+    cust: u32,
+    volume: u32,
+) -> Result<Vec<Row>, Error>
+    ensures found { Finds (state S.Store conn.old) (state S.Store conn.new) receiveds result
+        (FindsVolume cust volume) }
+    ensures one { Finds (state S.Store conn.old) (state S.Store conn.new) receiveds result AtMostOne }
+    ensures stays { Stays (state S.Store conn.old) (state S.Store conn.new) result }
+    ensures leaves { LeavesAsBefore (state S.Store conn.old) (state S.Store conn.new) }
+    ensures mode { conn.old.in_transaction ≡ false → conn.new.in_transaction ≡ false }
+{
+    conn.query_all(
+        "SELECT volume FROM received WHERE cust = ?1 AND volume = ?2",
+        params![cust, volume],
+    )
+}
+
+/// The volumes above one, rising: at most so many.
+pub fn above<S: Alter>(
+    conn: &mut Connection<S>,
+    cust: u32,
+    volume: u32,
+    most: u32,
+) -> Result<Vec<Row>, Error>
+    ensures found { Finds (state S.Store conn.old) (state S.Store conn.new) receiveds result
+        (FindsAbove cust volume most) }
+    ensures stays { Stays (state S.Store conn.old) (state S.Store conn.new) result }
+    ensures leaves { LeavesAsBefore (state S.Store conn.old) (state S.Store conn.new) }
+    ensures mode { conn.old.in_transaction ≡ false → conn.new.in_transaction ≡ false }
+{
+    conn.query_all(
+        "SELECT volume FROM received WHERE cust = ?1 AND volume > ?2 ORDER BY volume LIMIT ?3",
+        params![cust, volume, most],
+    )
+}
+
+/// Adds the bytes of a volume, which nobody has judged, within a transaction.
+pub fn receive<S: Alter>(
+    tx: &mut Transaction<'_, S>,
+    cust: u32,
+    volume: u32,
+    bytes: &[u8],
+) -> Result<usize, Error>
+    ensures same_reference { tx.new.conn.ghost_name ≡ tx.old.conn.ghost_name }
+    ensures added { WritesInside (state S.Store tx.old.conn.now) (state S.Store tx.new.conn.now)
+        receiveds result (AddsRow (unjudged cust volume bytes.now)) }
+    ensures spared { SparesInside (state S.Store tx.old.conn.now) (state S.Store tx.new.conn.now)
+        result }
+    ensures leaves { Survives (state S.Store tx.old.conn.now) (state S.Store tx.new.conn.now)
+        (λ _. ⊥) }
+{
+    tx.execute(
+        "INSERT INTO received VALUES (?1, ?2, ?3, 0, 0, 0)",
+        params![cust, volume, bytes],
+    )
+}
+
+/// Marks a volume applied, within a transaction.
+pub fn apply<S: Alter>(tx: &mut Transaction<'_, S>, cust: u32, volume: u32) -> Result<usize, Error>
+    ensures same_reference { tx.new.conn.ghost_name ≡ tx.old.conn.ghost_name }
+    ensures applied { WritesInside (state S.Store tx.old.conn.now) (state S.Store tx.new.conn.now)
+        receiveds result (Applies cust volume) }
+    ensures spared { SparesInside (state S.Store tx.old.conn.now) (state S.Store tx.new.conn.now)
+        result }
+    ensures leaves { Survives (state S.Store tx.old.conn.now) (state S.Store tx.new.conn.now)
+        (λ _. ⊥) }
+{
+    tx.execute(
+        "UPDATE received SET state = 1, place = 0, rule = 0 WHERE cust = ?1 AND volume = ?2",
+        params![cust, volume],
+    )
+}
+
+/// Marks a volume rejected at a place by a rule, within a transaction.
+pub fn reject<S: Alter>(
+    tx: &mut Transaction<'_, S>,
+    cust: u32,
+    volume: u32,
+    place: &i64,
+    rule: u32,
+) -> Result<usize, Error>
+    ensures same_reference { tx.new.conn.ghost_name ≡ tx.old.conn.ghost_name }
+    ensures rejected { WritesInside (state S.Store tx.old.conn.now) (state S.Store tx.new.conn.now)
+        receiveds result (Rejects cust volume place.now rule) }
+    ensures spared { SparesInside (state S.Store tx.old.conn.now) (state S.Store tx.new.conn.now)
+        result }
+    ensures leaves { Survives (state S.Store tx.old.conn.now) (state S.Store tx.new.conn.now)
+        (λ _. ⊥) }
+{
+    tx.execute(
+        "UPDATE received SET state = 2, place = ?3, rule = ?4 WHERE cust = ?1 AND volume = ?2",
+        params![cust, volume, place, rule],
+    )
+}

@@ -1,0 +1,180 @@
+//! The statements of the table `version`.
+ghost use Rattle.sqlite.specs.Held.{state};
+ghost use Rattle.gaz_tables.specs.Schema.{versions};
+ghost use Rattle.std.specs.Prelude.{◌≡◌, false};
+ghost use Rattle.sqlite.specs.State.{Survives};
+ghost use Rattle.gaz_tables.specs.Stores.{AddsRow, Finds, LeavesAsBefore, SparesInside, Stays, WritesInside};
+ghost use Rattle.gaz_tables.specs.Versions.{FindsApprovedOf, FindsApprovedOn, FindsHolding, FindsNewest};
+ghost use Rattle.gaz_tables.specs.Versions.{Closes, FindsNewestUntil, FindsParts, version_values};
+
+use sqlite::{Alter, Connection, Error, Row, Transaction, params};
+
+/// `born`, `gone` and `body` of the newest row of a key, or no row.
+pub fn newest<S: Alter>(
+    conn: &mut Connection<S>,
+    cust: u32,
+    kind: u32,
+    id: &str,
+) -> Result<Vec<Row>, Error>
+    ensures found { Finds (state S.Store conn.old) (state S.Store conn.new) versions result
+        (FindsNewest cust kind id.now) }
+    ensures stays { Stays (state S.Store conn.old) (state S.Store conn.new) result }
+    ensures leaves { LeavesAsBefore (state S.Store conn.old) (state S.Store conn.new) }
+    ensures mode { conn.old.in_transaction ≡ false → conn.new.in_transaction ≡ false }
+{
+    conn.query_all(
+        "SELECT born, gone, body FROM version WHERE cust = ?1 AND kind = ?2 AND id = ?3 ORDER BY born DESC LIMIT 1",
+        params![cust, kind, id],
+    )
+}
+
+/// `born`, `gone` and `body` of the newest row of a key that was born in a volume or before, or no row.
+pub fn newest_until<S: Alter>(
+    conn: &mut Connection<S>,
+    cust: u32,
+    kind: u32,
+    id: &str,
+    volume: u32,
+) -> Result<Vec<Row>, Error>
+    ensures found { Finds (state S.Store conn.old) (state S.Store conn.new) versions result
+        (FindsNewestUntil cust kind id.now volume) }
+    ensures stays { Stays (state S.Store conn.old) (state S.Store conn.new) result }
+    ensures leaves { LeavesAsBefore (state S.Store conn.old) (state S.Store conn.new) }
+    ensures mode { conn.old.in_transaction ≡ false → conn.new.in_transaction ≡ false }
+{
+    conn.query_all(
+        "SELECT born, gone, body FROM version WHERE cust = ?1 AND kind = ?2 AND id = ?3 AND born <= ?4 ORDER BY born DESC LIMIT 1",
+        params![cust, kind, id, volume],
+    )
+}
+
+/// `id` and `body` of the rows of a kind that hold after a volume, behind an id, by rising ids: at most so many.
+pub fn holding<S: Alter>(
+    conn: &mut Connection<S>,
+    cust: u32,
+    kind: u32,
+    after: &str,
+    volume: u32,
+    most: u32,
+) -> Result<Vec<Row>, Error>
+    ensures found { Finds (state S.Store conn.old) (state S.Store conn.new) versions result
+        (FindsHolding cust kind after.now volume most) }
+    ensures stays { Stays (state S.Store conn.old) (state S.Store conn.new) result }
+    ensures leaves { LeavesAsBefore (state S.Store conn.old) (state S.Store conn.new) }
+    ensures mode { conn.old.in_transaction ≡ false → conn.new.in_transaction ≡ false }
+{
+    conn.query_all(
+        "SELECT id, body FROM version WHERE cust = ?1 AND kind = ?2 AND id > ?3 AND born <= ?4 AND gone > ?4 ORDER BY id LIMIT ?5",
+        params![cust, kind, after, volume, most],
+    )
+}
+
+/// `id` and `body` of the current rows of kind 24 that are live and have this `blpu`.
+pub fn approved_of<S: Alter>(
+    conn: &mut Connection<S>,
+    cust: u32,
+    blpu: &i64,
+) -> Result<Vec<Row>, Error>
+    ensures found { Finds (state S.Store conn.old) (state S.Store conn.new) versions result
+        (FindsApprovedOf cust blpu.now) }
+    ensures stays { Stays (state S.Store conn.old) (state S.Store conn.new) result }
+    ensures leaves { LeavesAsBefore (state S.Store conn.old) (state S.Store conn.new) }
+    ensures mode { conn.old.in_transaction ≡ false → conn.new.in_transaction ≡ false }
+{
+    conn.query_all(
+        "SELECT id, body FROM version WHERE cust = ?1 AND kind = 24 AND blpu = ?2 AND live = 1 AND gone = 1000000",
+        params![cust, blpu],
+    )
+}
+
+/// `id` and `lang` of the current rows of kind 24 that are live and on this street, behind an id, by rising ids: at most so many.
+pub fn approved_on<S: Alter>(
+    conn: &mut Connection<S>,
+    cust: u32,
+    street: u32,
+    after: &str,
+    most: u32,
+) -> Result<Vec<Row>, Error>
+    ensures found { Finds (state S.Store conn.old) (state S.Store conn.new) versions result
+        (FindsApprovedOn cust street after.now most) }
+    ensures stays { Stays (state S.Store conn.old) (state S.Store conn.new) result }
+    ensures leaves { LeavesAsBefore (state S.Store conn.old) (state S.Store conn.new) }
+    ensures mode { conn.old.in_transaction ≡ false → conn.new.in_transaction ≡ false }
+{
+    conn.query_all(
+        "SELECT id, lang FROM version WHERE cust = ?1 AND kind = 24 AND street = ?2 AND live = 1 AND gone = 1000000 AND id > ?3 ORDER BY id LIMIT ?4",
+        params![cust, street, after, most],
+    )
+}
+
+/// `id` of the current rows of kind 21 that have this `blpu`, behind an id, by rising ids: at most so many.
+pub fn parts_of<S: Alter>(
+    conn: &mut Connection<S>,
+    cust: u32,
+    blpu: &i64,
+    after: &str,
+    most: u32,
+) -> Result<Vec<Row>, Error>
+    ensures found { Finds (state S.Store conn.old) (state S.Store conn.new) versions result
+        (FindsParts cust blpu.now after.now most) }
+    ensures stays { Stays (state S.Store conn.old) (state S.Store conn.new) result }
+    ensures leaves { LeavesAsBefore (state S.Store conn.old) (state S.Store conn.new) }
+    ensures mode { conn.old.in_transaction ≡ false → conn.new.in_transaction ≡ false }
+{
+    conn.query_all(
+        "SELECT id FROM version WHERE cust = ?1 AND kind = 21 AND blpu = ?2 AND gone = 1000000 AND id > ?3 ORDER BY id LIMIT ?4",
+        params![cust, blpu, after, most],
+    )
+}
+
+/// Adds a row, within a transaction.
+pub fn insert<S: Alter>(
+    tx: &mut Transaction<'_, S>,
+    cust: u32,
+    kind: u32,
+    id: &str,
+    blpu: &i64,
+    street: u32,
+    lang: u32,
+    live: bool,
+    born: u32,
+    gone: u32,
+    body: &str,
+) -> Result<usize, Error>
+    ensures same_reference { tx.new.conn.ghost_name ≡ tx.old.conn.ghost_name }
+    ensures added { WritesInside (state S.Store tx.old.conn.now) (state S.Store tx.new.conn.now)
+        versions result (AddsRow
+        (version_values cust kind id.now blpu.now street lang live born gone body.now)) }
+    ensures spared { SparesInside (state S.Store tx.old.conn.now) (state S.Store tx.new.conn.now)
+        result }
+    ensures leaves { Survives (state S.Store tx.old.conn.now) (state S.Store tx.new.conn.now)
+        (λ _. ⊥) }
+{
+    tx.execute(
+        "INSERT INTO version VALUES (?1, ?2, ?3, ?4, ?5, ?6, ?7, ?8, ?9, ?10)",
+        params![cust, kind, id, blpu, street, lang, live, born, gone, body],
+    )
+}
+
+/// Sets `gone` of the row of a key that was born in a volume, within a transaction.
+pub fn close<S: Alter>(
+    tx: &mut Transaction<'_, S>,
+    cust: u32,
+    kind: u32,
+    id: &str,
+    born: u32,
+    gone: u32,
+) -> Result<usize, Error>
+    ensures same_reference { tx.new.conn.ghost_name ≡ tx.old.conn.ghost_name }
+    ensures closed { WritesInside (state S.Store tx.old.conn.now) (state S.Store tx.new.conn.now)
+        versions result (Closes cust kind id.now born gone) }
+    ensures spared { SparesInside (state S.Store tx.old.conn.now) (state S.Store tx.new.conn.now)
+        result }
+    ensures leaves { Survives (state S.Store tx.old.conn.now) (state S.Store tx.new.conn.now)
+        (λ _. ⊥) }
+{
+    tx.execute(
+        "UPDATE version SET gone = ?5 WHERE cust = ?1 AND kind = ?2 AND id = ?3 AND born = ?4",
+        params![cust, kind, id, born, gone],
+    )
+}
