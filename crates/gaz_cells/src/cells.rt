@@ -78,15 +78,30 @@ pub fn links_of(item: &Item) -> Links
     ensures { result ≡ links_of item.now }
 {
     match item {
-        Item::Street(x) => Links { blpu: 0, street: x.usrn.number(), lang: 0, live: 0 },
+        Item::Street(x) => Links {
+            blpu: 0,
+            street: x.usrn.number(),
+            lang: 0,
+            live: 0,
+        },
         Item::Descriptor(x) => Links {
             blpu: 0,
             street: x.usrn.number(),
             lang: x.lang.number(),
             live: 0,
         },
-        Item::Blpu(x) => Links { blpu: parent_number(x.parent), street: 0, lang: 0, live: 0 },
-        Item::Xref(x) => Links { blpu: x.uprn.number(), street: 0, lang: 0, live: 0 },
+        Item::Blpu(x) => Links {
+            blpu: parent_number(x.parent),
+            street: 0,
+            lang: 0,
+            live: 0,
+        },
+        Item::Xref(x) => Links {
+            blpu: x.uprn.number(),
+            street: 0,
+            lang: 0,
+            live: 0,
+        },
         Item::Lpi(x) => Links {
             blpu: x.uprn.number(),
             street: x.usrn.number(),
@@ -97,6 +112,7 @@ pub fn links_of(item: &Item) -> Links
 }
 
 impl Cells {
+    #[tactic(auto, using(crate::proofs::CellsBack::cells_back))]
     /// The columns of an item. Read as a row they say the item again.
     pub fn of(alloc: Global, item: &Item) -> Result<Cells, AllocError>
         ensures cells { IfOk result (λ cells. cells ≡ cells_of item.now) }
@@ -104,10 +120,15 @@ impl Cells {
     {
         item.known();
         let kind = item.kind().number();
+        let body = item_text(alloc, item)?;
         let id = id_of(alloc, &key_of(item))?;
         let links = links_of(item);
-        let body = item_text(alloc, item)?;
-        Ok(Cells { kind, id, links, body })
+        Ok(Cells {
+            kind,
+            id,
+            links,
+            body,
+        })
     }
 
     /// The same columns, as a row that is read.

@@ -1,6 +1,8 @@
 ghost use Rattle.gaz_cells.specs.Examples.{WorkedIds};
 ghost use Rattle.gaz_cells.specs.Laws.{CellsFollow, CellsReadBack, IdsAreApart, IdsAreOrdered, IdsReadBack};
 
+use gaz_records::laws::items_read_back;
+
 /// A key is the one of its kind that its id names.
 pub fn ids_read_back()
     ensures { IdsReadBack }
@@ -19,7 +21,9 @@ pub fn ids_are_ordered()
 /// An item's cells are those of its key, and say the item.
 pub fn cells_read_back()
     ensures { CellsReadBack }
-{}
+{
+    items_read_back();
+}
 
 /// Cells that say an item are the cells of that item.
 pub fn cells_follow()

@@ -96,6 +96,7 @@ impl<'a> Row<'a> {
         }
     }
 
+    #[tactic(auto, unfolding(crate::specs::Reading::read_cells))]
     /// The item that the cells say, or the first cell that disagrees; `Memory` may come in place of either.
     pub fn item(&self, alloc: Global) -> Result<Item, CellFault>
         ensures { OrMemory result (read_cells self.now) }
