@@ -1,0 +1,4 @@
+pub mod Digits
+pub mod Order
+pub mod Ids
+pub mod CellsBack

@@ -1,0 +1,19 @@
+use Rattle.std.proofs.Common.{refl}
+use Rattle.gaz_ids.specs.Numbers.{read_id}
+use Rattle.gaz_cells.specs.Digits.{digits_in}
+use Rattle.gaz_cells.proofs.laws.worked_ids.Goals as goal
+
+pub returns : goal.returns
+unfolding digits_in read_id
+returns c = record {
+  digits = refl;
+  street = refl;
+  name = refl;
+  blpu = refl;
+  lpi = refl;
+  named = refl;
+  too_short = refl;
+  zero = refl;
+  kind = refl;
+  no_kind = refl;
+}

@@ -1,0 +1,6 @@
+pub mod Digits
+pub mod Ids
+pub mod Columns
+pub mod Reading
+pub mod Laws
+pub mod Examples

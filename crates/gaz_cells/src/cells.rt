@@ -1,0 +1,145 @@
+//! The columns of an item.
+ghost use Rattle.std.specs.Prelude.{◌≡◌, IfOk, Ok};
+ghost use Rattle.gaz_cells.specs.Columns.{cells_of, links_of, live_number, parent_number};
+ghost use Rattle.gaz_cells.specs.Reading.{read_cells};
+
+use crate::id::id_of;
+use crate::reading::Row;
+use gaz_ids::{Status, Uprn};
+use gaz_records::{Item, item_text, key_of};
+use std::alloc::{AllocError, Global};
+use std::marker::Model;
+
+/// The numbers by which items are looked for in tables. Each is 0 where an item has none.
+#[derive(Clone, Copy, Debug, PartialEq, Eq)]
+pub struct Links {
+    /// The UPRN of a cross reference or an LPI; of a BLPU that of which it is a part.
+    pub blpu: u64,
+    /// The USRN of a street, a descriptor or an LPI.
+    pub street: u64,
+    /// The language of a descriptor or an LPI: 1 for `ENG`, 2 for `CYM`.
+    pub lang: u8,
+    /// 1 for an approved LPI.
+    pub live: u8,
+}
+
+impl Model for Links {
+    ghost use Rattle.gaz_cells.specs.Columns.{LinksValue};
+
+    ghost Value = { LinksValue };
+
+    ghost view = { λ x. record { blpu = x.blpu; street = x.street; lang = x.lang; live = x.live } };
+
+    ghost inverse = { λ x. record { blpu = x.blpu; street = x.street; lang = x.lang; live = x.live } };
+}
+
+/// The columns of an item.
+#[derive(Debug, Drop)]
+pub struct Cells {
+    /// The record identifier of the kind: 11, 15, 21, 23 or 24.
+    pub kind: u64,
+    /// The text that names the key.
+    pub id: Vec<u8>,
+    pub links: Links,
+    /// The item's row as `csv` writes it, without a line end.
+    pub body: Vec<u8>,
+}
+
+impl Model for Cells {
+    ghost use Rattle.gaz_cells.specs.Columns.{CellsValue};
+
+    ghost Value = { CellsValue };
+
+    ghost view = { λ x. record { kind = x.kind; id = x.id.items; links = x.links; body = x.body.items } };
+}
+
+// The number of the property of which another is a part.
+fn parent_number(parent: Option<Uprn>) -> u64
+    ensures { result ≡ parent_number parent }
+{
+    match parent {
+        Some(uprn) => uprn.number(),
+        None => 0,
+    }
+}
+
+// Whether an LPI of this status is approved.
+fn live_number(status: Status) -> u8
+    ensures { result ≡ live_number status }
+{
+    match status {
+        Status::Approved => 1,
+        Status::Alternative | Status::Provisional | Status::Historical => 0,
+    }
+}
+
+/// The numbers by which an item is looked for.
+pub fn links_of(item: &Item) -> Links
+    ensures { result ≡ links_of item.now }
+{
+    match item {
+        Item::Street(x) => Links {
+            blpu: 0,
+            street: x.usrn.number(),
+            lang: 0,
+            live: 0,
+        },
+        Item::Descriptor(x) => Links {
+            blpu: 0,
+            street: x.usrn.number(),
+            lang: x.lang.number(),
+            live: 0,
+        },
+        Item::Blpu(x) => Links {
+            blpu: parent_number(x.parent),
+            street: 0,
+            lang: 0,
+            live: 0,
+        },
+        Item::Xref(x) => Links {
+            blpu: x.uprn.number(),
+            street: 0,
+            lang: 0,
+            live: 0,
+        },
+        Item::Lpi(x) => Links {
+            blpu: x.uprn.number(),
+            street: x.usrn.number(),
+            lang: x.lang.number(),
+            live: live_number(x.status),
+        },
+    }
+}
+
+impl Cells {
+    #[tactic(auto, using(crate::proofs::CellsBack::cells_back))]
+    /// The columns of an item. Read as a row they say the item again.
+    pub fn of(alloc: Global, item: &Item) -> Result<Cells, AllocError>
+        ensures cells { IfOk result (λ cells. cells ≡ cells_of item.now) }
+        ensures reads_back { read_cells (cells_of item.now) ≡ Ok item.now }
+    {
+        item.known();
+        let kind = item.kind().number();
+        let body = item_text(alloc, item)?;
+        let id = id_of(alloc, &key_of(item))?;
+        let links = links_of(item);
+        Ok(Cells {
+            kind,
+            id,
+            links,
+            body,
+        })
+    }
+
+    /// The same columns, as a row that is read.
+    pub fn as_row(&self) -> Row<'_>
+        ensures { result ≡ self.now }
+    {
+        Row {
+            kind: self.kind,
+            id: &self.id,
+            links: self.links,
+            body: &self.body,
+        }
+    }
+}

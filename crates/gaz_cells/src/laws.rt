@@ -1,0 +1,36 @@
+ghost use Rattle.gaz_cells.specs.Examples.{WorkedIds};
+ghost use Rattle.gaz_cells.specs.Laws.{CellsFollow, CellsReadBack, IdsAreApart, IdsAreOrdered, IdsReadBack};
+
+use gaz_records::laws::items_read_back;
+
+/// A key is the one of its kind that its id names.
+pub fn ids_read_back()
+    ensures { IdsReadBack }
+{}
+
+/// Keys of a kind with one id are one key.
+pub fn ids_are_apart()
+    ensures { IdsAreApart }
+{}
+
+/// Within a kind the bytes of ids are in the order of keys.
+pub fn ids_are_ordered()
+    ensures { IdsAreOrdered }
+{}
+
+/// An item's cells are those of its key, and say the item.
+pub fn cells_read_back()
+    ensures { CellsReadBack }
+{
+    items_read_back();
+}
+
+/// Cells that say an item are the cells of that item.
+pub fn cells_follow()
+    ensures { CellsFollow }
+{}
+
+/// The names of some keys.
+pub fn worked_ids()
+    ensures { WorkedIds }
+{}
