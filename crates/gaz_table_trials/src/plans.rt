@@ -8,7 +8,7 @@ use sqlite_disk::Memory;
 use std::alloc::Global;
 
 /// The statements, each on one key.
-#[derive(Clone, Copy, Debug, PartialEq, Eq)]
+#[derive(Clone, Copy, Debug)]
 enum Call {
     Newest,
     NewestUntil,
@@ -121,6 +121,17 @@ fn least<S: Alter>(conn: &mut Connection<S>, call: Call) -> u64
     64
 }
 
+/// A page passes over the dead versions of its keys; no other call does.
+fn stays_quick<S: Alter>(conn: &mut Connection<S>, call: Call, limit: u64) -> bool
+    requires { conn.old.in_transaction ≡ false }
+    ensures { conn.new.in_transaction ≡ false }
+{
+    match call {
+        Call::Holding => true,
+        _ => passes(conn, call, limit),
+    }
+}
+
 #[test]
 fn no_call_walks_other_rows(rt: HostRuntime) {
     let mut few = store(rt.alloc(), 20, 20).expect(&rt, "what a test is given");
@@ -129,8 +140,6 @@ fn no_call_walks_other_rows(rt: HostRuntime) {
     for call in CALLS {
         let limit = least(&mut few, call).saturating_mul(3);
         assert!(rt; passes(&mut many, call, limit), "{call:?} among many");
-        if call != Call::Holding {
-            assert!(rt; passes(&mut old, call, limit), "{call:?} among old");
-        }
+        assert!(rt; stays_quick(&mut old, call, limit), "{call:?} among old");
     }
 }

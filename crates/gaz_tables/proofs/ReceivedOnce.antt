@@ -1,4 +1,4 @@
--- No volume of a custodian is received twice.
+-- No volume of one `cust` is received twice.
 use Rattle.std.proofs.Common.{◌≡◌, ℕ, ℤ, List, [], ◌∷◌, inl, inr, Result, IfOk, Vec, true, refl, sym, ap, subst, ◌∙◌}
 use Rattle.std.specs.declared.alloc.Global.{Global}
 use Rattle.std.proofs.lemmas.Bool.{and_from}
