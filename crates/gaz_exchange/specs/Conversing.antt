@@ -133,7 +133,7 @@ AnswersAll most passed (Err stopped) = ⊤
 
 -- a conversation of a hub with this door, of at most so many requests; old and new are the hub's
 -- keeper before and after
-pub record Conversation (d : Door) (most : ℕ) (through : Transfer) (old new : Seen)
+pub record Conversation (door : Door) (most : ℕ) (through : Transfer) (old new : Seen)
     (result : Result Served Stopped) : Type 0 where
   pub read : List ℕ
   pub written : List ℕ
@@ -143,12 +143,12 @@ pub record Conversation (d : Door) (most : ℕ) (through : Transfer) (old new : 
   pub appended : Appends through.held through.holds written
   pub comes : Comes most read exchanges rest
   pub routes : RoutesStay exchanges
-  pub runs : Runs d old new (commands_of exchanges) (responses_of exchanges)
+  pub runs : Runs door old new (commands_of exchanges) (responses_of exchanges)
   -- where the keeper stood for a partial run before and nobody else wrote on it: what is received
   -- is what was there and what came first, and each answer is read off the standing board of the
   -- files that were received by then
-  pub answers : StandsForRun d old → new.unharmed →
-      AllAnswered d old.content.files (commands_of exchanges) (responses_of exchanges)
+  pub answers : StandsForRun door old → new.unharmed →
+      AllAnswered door old.content.files (commands_of exchanges) (responses_of exchanges)
       new.content.files
   pub comes_to : ComesTo most
       (record { exchanges = exchanges; rest = rest; left = through.left; written = written }) result

@@ -24,18 +24,18 @@ use Rattle.gaz_exchange.specs.declared.route.Call.{Call}
 
 -- the hub isn't asked, and what its keeper stands for stays
 abbrev pub Rests : Door → Seen → Seen → Type 0
-Rests d old new = Runs d old new [] []
+Rests door old new = Runs door old new [] []
 
 -- the hub is asked by the call, or rests
 abbrev pub Asks : Door → Result Call Fault → List ℕ → Seen → Seen → Reply → Type 0
-Asks d (Ok call) body old new reply =
-    (response : Response) × Steps d old new (command_of body call) response
+Asks door (Ok call) body old new reply =
+    (response : Response) × Steps door old new (command_of body call) response
     × (reply ≡ reply_to response)
-Asks d (Err fault) body old new reply = Rests d old new × (reply ≡ Refused fault)
+Asks door (Err fault) body old new reply = Rests door old new × (reply ≡ Refused fault)
 
 -- the hub is asked by a request
 abbrev pub IsAsked : Door → Request → Seen → Seen → Reply → Type 0
-IsAsked d q old new reply = Asks d q.call q.body.items old new reply
+IsAsked door q old new reply = Asks door q.call q.body.items old new reply
 
 -- the turn after a reply was written, whole or not
 abbrev pub turn_of : Bool → Bool → Turn
@@ -44,11 +44,11 @@ turn_of true true = Closed
 turn_of false true = Answered
 
 -- what the hub said to a request is written
-pub record Answers (d : Door) (held holds : Option (List ℕ)) (old new : Seen) (q : Request)
+pub record Answers (door : Door) (held holds : Option (List ℕ)) (old new : Seen) (q : Request)
     (is_last : Bool) (turn : Turn) : Type 0 where
   pub reply : Reply
   pub whole : Bool
-  pub asked : IsAsked d q old new reply
+  pub asked : IsAsked door q old new reply
   pub sent : IsSent held holds reply (q.closing || is_last) whole
   pub turn_is : turn ≡ turn_of (q.closing || is_last) whole
 
@@ -59,47 +59,47 @@ pub record Refuses (held holds : Option (List ℕ)) (fault : Fault) (turn : Turn
   pub turn_is : turn ≡ turn_of true whole
 
 -- the request at the front of the bytes is answered; routed where the routes were found
-pub record Exchanges (d : Door) (is_last routed : Bool) (bytes : List ℕ) (e : Exchange)
+pub record Exchanges (door : Door) (is_last routed : Bool) (bytes : List ℕ) (e : Exchange)
     (rest : List ℕ) (old new : Seen) : Type 0 where
   pub routed_is : e.routed ≡ routed
   pub ends : Bool
   pub ends_is : ends ≡ (is_closing e.head || is_last)
   pub exchanged : IsExchanged bytes e rest ends
-  pub runs : Runs d old new (commands_of (e ∷ [])) (responses_of (e ∷ []))
+  pub runs : Runs door old new (commands_of (e ∷ [])) (responses_of (e ∷ []))
 
 -- the request isn't whole yet
 abbrev pub Waits : Door → List ℕ → Seen → Seen → List ℕ → Type 0
-Waits d bytes old new written = IsUnfinished bytes × Rests d old new × (written ≡ [])
+Waits door bytes old new written = IsUnfinished bytes × Rests door old new × (written ≡ [])
 
 -- how a turn turned out
 abbrev pub TurnsOut : Door → Bool → Bool → List ℕ → List ℕ → Option (List ℕ) → Seen → Seen
     → List ℕ → Turn → Type 0
-TurnsOut d is_last routed bytes rest left old new written Answered =
-    (e : Exchange) × Exchanges d is_last routed bytes e rest old new × (written ≡ e.reply)
+TurnsOut door is_last routed bytes rest left old new written Answered =
+    (e : Exchange) × Exchanges door is_last routed bytes e rest old new × (written ≡ e.reply)
     × ((is_closing e.head || is_last) ≡ false)
-TurnsOut d is_last routed bytes rest left old new written Closed =
-    ((e : Exchange) × Exchanges d is_last routed bytes e rest old new × (written ≡ e.reply)
+TurnsOut door is_last routed bytes rest left old new written Closed =
+    ((e : Exchange) × Exchanges door is_last routed bytes e rest old new × (written ≡ e.reply)
     × ((is_closing e.head || is_last) ≡ true))
-    ⊎ (IsTurnedAway bytes left written × Rests d old new)
-TurnsOut d is_last routed bytes rest left old new written Over =
-    IsOver bytes × IsAtEnd left × Rests d old new × (written ≡ [])
-TurnsOut d is_last routed bytes rest left old new written (Stopped ReadFault) =
-    Waits d bytes old new written
-TurnsOut d is_last routed bytes rest left old new written (Stopped WriteFault) =
-    Waits d bytes old new written
+    ⊎ (IsTurnedAway bytes left written × Rests door old new)
+TurnsOut door is_last routed bytes rest left old new written Over =
+    IsOver bytes × IsAtEnd left × Rests door old new × (written ≡ [])
+TurnsOut door is_last routed bytes rest left old new written (Stopped ReadFault) =
+    Waits door bytes old new written
+TurnsOut door is_last routed bytes rest left old new written (Stopped WriteFault) =
+    Waits door bytes old new written
     ⊎ ((lost : List ℕ)
-    × (((e : Exchange) × Exchanges d is_last routed bytes e rest old new
+    × (((e : Exchange) × Exchanges door is_last routed bytes e rest old new
     × (e.reply ≡ written ++ lost))
-    ⊎ (IsTurnedAway bytes left (written ++ lost) × Rests d old new)))
+    ⊎ (IsTurnedAway bytes left (written ++ lost) × Rests door old new)))
 
 -- one turn at a hub with this door: was and routed say whether the routes were found before and
 -- after, pending and rest are the bytes pending before and after, had and left the reader's, held
 -- and holds the writer's, old and new the hub's keeper
-pub record IsTurn (d : Door) (is_last was routed : Bool) (pending rest : List ℕ)
+pub record IsTurn (door : Door) (is_last was routed : Bool) (pending rest : List ℕ)
     (had left held holds : Option (List ℕ)) (old new : Seen) (turn : Turn) : Type 0 where
   pub read : List ℕ
   pub written : List ℕ
   pub consumed : Consumes had left read
   pub appended : Appends held holds written
   pub stay : was ≡ true → routed ≡ true
-  pub out : TurnsOut d is_last routed (pending ++ read) rest left old new written turn
+  pub out : TurnsOut door is_last routed (pending ++ read) rest left old new written turn

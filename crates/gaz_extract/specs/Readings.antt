@@ -1,13 +1,9 @@
 -- What calls that only read a keeper tell, one after another, where `seen` is how it is seen.
 use Rattle.std.specs.Prelude.{◌≤◌, ℕ, Result, IfOk}
 use Rattle.gaz_shelf.specs.Board.{Board, last_view, reached, view_after}
-use Rattle.gaz_shelf.specs.Keeper.{Counts, IsNotOpen, Keeps, Seen}
+use Rattle.gaz_shelf.specs.Keeper.{Counts, Keeps, Seen}
 use Rattle.gaz_shelf.specs.declared.fault.ShelfFault.{ShelfFault}
 use Rattle.gaz_views.specs.View.{View}
-
--- no judgement is in progress
-abbrev pub IsNotJudging : {K : Type 0} → (K → Seen) → K → Type 0
-IsNotJudging seen now = IsNotOpen (seen now).progress
 
 -- calls that read: the answer is right, and the content is as it was
 pub record Looks {T : Type 0} (old new : Seen) (result : Result T ShelfFault)

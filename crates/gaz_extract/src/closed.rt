@@ -4,7 +4,8 @@ ghost use Rattle.gaz_shelf.specs.Board.{reached};
 ghost use Rattle.gaz_extract.specs.Closing.{closed_among, closed_at_owner, closed_by, closed_from};
 ghost use Rattle.gaz_extract.specs.Closing.{closed_left, closed_of, closed_streets, is_on_closed};
 ghost use Rattle.gaz_extract.specs.Paging.{pages_left};
-ghost use Rattle.gaz_extract.specs.Readings.{IsNotJudging, LooksAtBoard};
+ghost use Rattle.gaz_extract.specs.Readings.{LooksAtBoard};
+ghost use Rattle.gaz_shelf.specs.Telling.{IsNotJudging};
 
 use crate::find::{has_closed_street, has_street};
 use crate::page::read_page;

@@ -4,7 +4,8 @@ ghost use Rattle.gaz_views.specs.Words.{rest_of};
 ghost use Rattle.gaz_extract.specs.Drafts.{by_kind, with_items};
 ghost use Rattle.gaz_extract.specs.Extracts.{extract};
 ghost use Rattle.gaz_extract.specs.Paging.{pages_left};
-ghost use Rattle.gaz_extract.specs.Readings.{IsNotJudging, LooksAfter, LooksAtBoard};
+ghost use Rattle.gaz_extract.specs.Readings.{LooksAfter, LooksAtBoard};
+ghost use Rattle.gaz_shelf.specs.Telling.{IsNotJudging};
 
 use crate::draft::Draft;
 use crate::page::read_page;

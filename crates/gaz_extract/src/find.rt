@@ -5,7 +5,8 @@ ghost use Rattle.std.specs.Option.{option_and_then};
 ghost use Rattle.gaz_views.specs.Words.{property_of};
 ghost use Rattle.gaz_extract.specs.Finding.{as_descriptor, descriptor_at};
 ghost use Rattle.gaz_extract.specs.Finding.{has_closed_street, street_at};
-ghost use Rattle.gaz_extract.specs.Readings.{IsNotJudging, LooksAtLast};
+ghost use Rattle.gaz_extract.specs.Readings.{LooksAtLast};
+ghost use Rattle.gaz_shelf.specs.Telling.{IsNotJudging};
 
 use crate::lend::street_in;
 use gaz_ids::{Code, Lang, Uprn, Usrn};

@@ -1,7 +1,8 @@
 ghost use Rattle.std.specs.Prelude.{◌≡◌, option_map};
 ghost use Rattle.std.specs.Option.{option_and_then};
 ghost use Rattle.gaz_extract.specs.Finding.{as_descriptor};
-ghost use Rattle.gaz_extract.specs.Readings.{IsNotJudging, LooksAtBoard};
+ghost use Rattle.gaz_extract.specs.Readings.{LooksAtBoard};
+ghost use Rattle.gaz_shelf.specs.Telling.{IsNotJudging};
 ghost use Rattle.gaz_extract.specs.Lookups.{descriptor_now, line_at, lookup, owner_of_street};
 ghost use Rattle.gaz_extract.specs.Lookups.{said_by};
 

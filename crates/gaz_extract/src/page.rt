@@ -5,7 +5,8 @@ ghost use Rattle.gaz_records.specs.SortKeys.{has_label, seven_bytes};
 ghost use Rattle.gaz_views.specs.Reading.{left_after, next_after};
 ghost use Rattle.gaz_views.specs.Words.{comes_after, rest_of};
 ghost use Rattle.gaz_extract.specs.Paging.{pages_left, rising};
-ghost use Rattle.gaz_extract.specs.Readings.{IsNotJudging, LooksAfter};
+ghost use Rattle.gaz_extract.specs.Readings.{LooksAfter};
+ghost use Rattle.gaz_shelf.specs.Telling.{IsNotJudging};
 
 use gaz_ids::Code;
 use gaz_records::{Key, Kind, SharedItem, key_of};

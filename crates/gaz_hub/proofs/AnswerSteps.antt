@@ -14,7 +14,7 @@ use Rattle.gaz_hub.specs.Asked.{IsAgain, IsOutcome, TakesIn}
 use Rattle.gaz_hub.specs.Hubs.{AreKnown, StandsFor, Steps, state_of}
 use Rattle.gaz_hub.specs.Settling.{Tells}
 use Rattle.gaz_hub.specs.Standing.{Follows, Leads}
-use Rattle.gaz_hub.specs.Step.{Door, HubState, NotReceived, Submit, Submits, Submitted, Unsettled, WasNew, blocks, door, or_foreign, turned_away}
+use Rattle.gaz_hub.specs.Step.{Door, HubState, NotReceived, Submit, Submits, Submitted, Unsettled, WasNew, blocks, file_refusal, or_foreign, turned_away}
 use Rattle.gaz_hub.specs.Runs.{same_pair}
 use Rattle.gaz_hub.specs.declared.answer.Answer.{Answer}
 use Rattle.gaz_hub.specs.declared.answer.Answer.TheVariants.{New, Repeat, Taken, Refused}
@@ -32,14 +32,14 @@ or_none foreign None e = refl
 or_none foreign (Some r) e = cc
 
 -- a file that the door lets in passed its first steps
-pub early_let_in : (d : Door) (c volume : ℕ) (bytes : List ℕ) → door d c volume bytes ≡ None → turned_away d c volume (length bytes) ≡ None
+pub early_let_in : (d : Door) (c volume : ℕ) (bytes : List ℕ) → file_refusal d c volume bytes ≡ None → turned_away d c volume (length bytes) ≡ None
 early_let_in d c volume bytes e = or_none (d.is_foreign bytes) (turned_away d c volume (length bytes)) e
 
 known_at : (b : Bool) (o : Option Refusal) → cond (not b) (Some refusal.UnknownCustodian) o ≡ None → b ≡ true
 known_at true o e = refl
 known_at false o e = cc
 
-pub is_known : (d : Door) (c volume : ℕ) (bytes : List ℕ) → door d c volume bytes ≡ None → knows d.register c ≡ true
+pub is_known : (d : Door) (c volume : ℕ) (bytes : List ℕ) → file_refusal d c volume bytes ≡ None → knows d.register c ≡ true
 is_known d c volume bytes e = known_at (knows d.register c) _ (early_let_in d c volume bytes e)
 
 -- ---- what is there
@@ -59,7 +59,7 @@ known_with d F c volume bytes e known p h =
 
 -- ---- a new file
 
-module _ (d : Door) (a b c : Seen) (code volume : ℕ) (bytes : List ℕ) (let_in : door d code volume bytes ≡ None)
+module _ (d : Door) (a b c : Seen) (code volume : ℕ) (bytes : List ℕ) (let_in : file_refusal d code volume bytes ≡ None)
     (came : Enters {T = Unit {0}} a b (Ok tt) (IsNew a.content code volume) (with_received a.content code volume bytes)) where
   stood_then : StandsFor d a → IsNew a.content code volume → b.unharmed → StandsFor d b
   stood_then stood free fine = (
@@ -161,7 +161,7 @@ module _ (d : Door) (old mid new : HubState) (c volume : ℕ) (bytes : List ℕ)
         board = follows_on (blocks d) old.received old.board mid.board new.board before (subst (λ X. Follows (blocks d) X mid.board new.board) same w.board);
       }
 
-  pub submits_from : (answer : Answer) → door d c volume bytes ≡ None → map.get mid.received (c, volume) ≡ None → Submits d mid c volume bytes answer new → Submits d old c volume bytes answer new
+  pub submits_from : (answer : Answer) → file_refusal d c volume bytes ≡ None → map.get mid.received (c, volume) ≡ None → Submits d mid c volume bytes answer new → Submits d old c volume bytes answer new
   submits_from (New told) let_in free w = was_new told w
   submits_from (Repeat told) let_in free w = let no : Some bytes ≡ None = sym w.there ∙ free in cc
   submits_from (Taken digest) let_in free w = let no : Some w.others ≡ None = sym w.there ∙ free in cc
@@ -172,7 +172,7 @@ module _ (d : Door) (old mid new : HubState) (c volume : ℕ) (bytes : List ℕ)
   submits_from (Refused refusal.TooLarge) let_in free w = let no : Some refusal.TooLarge ≡ None = sym w.refused ∙ let_in in cc
   submits_from (Refused refusal.UnknownProfile) let_in free w = let no : Some refusal.UnknownProfile ≡ None = sym w.refused ∙ let_in in cc
 
-pub taken_in : (d : Door) (a b c : Seen) (code volume : ℕ) (bytes : List ℕ) (answer : Answer) → door d code volume bytes ≡ None
+pub taken_in : (d : Door) (a b c : Seen) (code volume : ℕ) (bytes : List ℕ) (answer : Answer) → file_refusal d code volume bytes ≡ None
     → Tells {T = Option Answer} d a b (Ok None) (IsAgain b.content.files b.content.board code volume bytes) → TakesIn d b c code volume bytes answer
     → Steps d a c (Submit code volume bytes) (Submitted answer)
 taken_in d a b c code volume bytes answer let_in first second =

@@ -7,7 +7,7 @@ use Rattle.gaz_hub.specs.Answers.{AllAnswered, AllReadOff, EveryAnswer, IsAnswer
 use Rattle.gaz_hub.specs.Outcomes.{outcome}
 use Rattle.gaz_hub.specs.Runs.{Run, is_settled}
 use Rattle.gaz_hub.specs.Standing.{IsPartial, standing}
-use Rattle.gaz_hub.specs.Step.{Command, Door, HubState, Pose, Question, Refuses, Replied, Response, Step, Submit, Submits, Submitted, answer_to, blocks, door}
+use Rattle.gaz_hub.specs.Step.{Command, Door, HubState, Pose, Question, Refuses, Replied, Response, Step, Submit, Submits, Submitted, answer_to, blocks, file_refusal}
 use Rattle.gaz_hub.specs.declared.answer.Answer.{Answer}
 use Rattle.gaz_hub.specs.declared.answer.Answer.TheVariants.{New, Repeat, Taken, Refused}
 use Rattle.gaz_hub.specs.declared.refusal.Refusal.{Refusal}
@@ -28,17 +28,17 @@ kept_out : (F G K : Received) (a b : Bool) → b ≡ false → K ≡ F → K ≡
 kept_out F G K a b e k = k ∙ sym (ap (λ x. cond (a && x) G F) e ∙ ap (λ x. cond x G F) (and_false a))
 
 module _ (d : Door) (old new : HubState) (c volume : ℕ) (bytes : List ℕ) where
-  shut : (r : Refusal) (b : Bool) → door d c volume bytes ≡ Some r → new ≡ old
-      → new.received ≡ cond (is_none (map.get old.received (c, volume)) && (is_none (door d c volume bytes) && b)) (with_file old.received c volume bytes) old.received
+  shut : (r : Refusal) (b : Bool) → file_refusal d c volume bytes ≡ Some r → new ≡ old
+      → new.received ≡ cond (is_none (map.get old.received (c, volume)) && (is_none (file_refusal d c volume bytes) && b)) (with_file old.received c volume bytes) old.received
   shut r b e same =
-      kept_out old.received (with_file old.received c volume bytes) new.received _ _ (closed_door (door d c volume bytes) r b e) (ap (λ (h : HubState). h.received) same)
+      kept_out old.received (with_file old.received c volume bytes) new.received _ _ (closed_door (file_refusal d c volume bytes) r b e) (ap (λ (h : HubState). h.received) same)
 
   submitted_then : (answer : Answer) → Submits d old c volume bytes answer new → new.received ≡ then_received d old.received (Submit c volume bytes) (Submitted answer)
   submitted_then (New told) s = came old.received (with_file old.received c volume bytes) new.received _ _ true s.free s.let_in refl s.received
   submitted_then (Repeat told) s = was_there old.received (with_file old.received c volume bytes) new.received _ bytes _ s.there s.received
   submitted_then (Taken digest) s = was_there old.received (with_file old.received c volume bytes) new.received _ s.others _ s.there s.received
   submitted_then (Refused (refusal.NotReceived cause)) s =
-      kept_out old.received (with_file old.received c volume bytes) new.received _ _ (and_false (is_none (door d c volume bytes))) s.received
+      kept_out old.received (with_file old.received c volume bytes) new.received _ _ (and_false (is_none (file_refusal d c volume bytes))) s.received
   submitted_then (Refused (refusal.ReceivedUnsettled cause)) s = came old.received (with_file old.received c volume bytes) new.received _ _ true s.free s.let_in refl s.received
   submitted_then (Refused refusal.UnknownCustodian) s = shut _ true s.refused s.same
   submitted_then (Refused refusal.BadVolume) s = shut _ true s.refused s.same

@@ -7,7 +7,7 @@ use Rattle.std.specs.FinMap as map
 use Rattle.gaz_shelf.specs.Board.{Board}
 use Rattle.gaz_shelf.specs.Received.{Received, pair_cmp, with_file}
 use Rattle.gaz_hub.specs.Standing.{HasAllOf, Follows, NothingReady}
-use Rattle.gaz_hub.specs.Step.{Command, Door, HubState, NotReceived, Pose, Question, Refuses, Replied, Response, Settles, Step, Submit, Submits, Submitted, Told, TurnedAway, WasAsked, blocks, door}
+use Rattle.gaz_hub.specs.Step.{Command, Door, HubState, NotReceived, Pose, Question, Refuses, Replied, Response, Settles, Step, Submit, Submits, Submitted, Told, TurnedAway, WasAsked, blocks, file_refusal}
 use Rattle.gaz_hub.specs.Runs.{accepted, is_settled, same_pair, is_answered_51}
 use Rattle.gaz_hub.specs.declared.answer.Answer.{Answer}
 use Rattle.gaz_hub.specs.declared.answer.Answer.TheVariants.{New, Repeat, Taken, Refused}
@@ -111,7 +111,7 @@ from_not_received d old new asked command response n open_still first =
 turned_goes : (d : Door) (old new : HubState) (c volume : ℕ) (bytes : List ℕ) (r : Refusal) → is_answered_51 (Refused r) ≡ false → TurnedAway d old (Submit c volume bytes) r new
     → Goes d old (Submit c volume bytes) (Submitted (Refused r)) new
 turned_goes d old new c volume bytes r is t =
-    from_same d old new _ _ t.same refl (λ p. refused_first old.received new.received p _ _ bytes (closed_door (door d c volume bytes) r (not (is_answered_51 (Refused r))) t.refused) (ap (λ h. h.received) t.same))
+    from_same d old new _ _ t.same refl (λ p. refused_first old.received new.received p _ _ bytes (closed_door (file_refusal d c volume bytes) r (not (is_answered_51 (Refused r))) t.refused) (ap (λ h. h.received) t.same))
 
 still : (d : Door) (old : HubState) (command : Command) (new : HubState) (response : Response) → new ≡ old → is_settled response ≡ false
     → ((p : ℕ × ℕ) → accepted d p command response ≡ None) → Goes d old command response new
@@ -145,7 +145,7 @@ submits_goes d old c volume bytes (Taken digest) new s =
     let x = settles_in d old.received new.received old.board new.board s.received s.settled in
     record { all = has_itself _ _ s.received; board = x.0; settled = λ _. x.1; first = λ p. stays_first old.received new.received p (c, volume) s.others bytes _ s.received s.there }
 submits_goes d old c volume bytes (Refused (refusal.NotReceived cause)) new s =
-    from_not_received d old new _ _ _ s refl (λ p. refused_first old.received new.received p _ _ bytes (and_false (is_none (door d c volume bytes))) s.received)
+    from_not_received d old new _ _ _ s refl (λ p. refused_first old.received new.received p _ _ bytes (and_false (is_none (file_refusal d c volume bytes))) s.received)
 submits_goes d old c volume bytes (Refused (refusal.ReceivedUnsettled cause)) new s =
     record {
       all = subst (λ X. HasAllOf X old.received) (sym s.received) (has_all_with old.received c volume bytes s.free);

@@ -17,37 +17,42 @@ use Rattle.gaz_hub.specs.declared.outcome.Outcome.TheVariants.{Held}
 
 -- the outcome of a received file on a settled board
 abbrev pub IsOutcome : Received → Board → ℕ → ℕ → Outcome → Type 0
-IsOutcome F B c volume told = IsSome (map.get F (c, volume)) → NothingReady F B → outcome F B c volume ≡ Some told
+IsOutcome files board c volume told =
+    IsSome (map.get files (c, volume)) → NothingReady files board
+    → outcome files board c volume ≡ Some told
 
 -- what the next volume waits for is named, where it waits for something
 abbrev pub IsHeld : Received → Board → ℕ → Outcome → Type 0
-IsHeld F B c told = (d volume : ℕ) → wants F B c ≡ Some (d, volume) → told ≡ Held d volume
+IsHeld files board c told =
+    (whom volume : ℕ) → wants files board c ≡ Some (whom, volume) → told ≡ Held whom volume
 
 -- the digest of a received file, and its outcome on a settled board
-pub record IsToldBy (F : Received) (B : Board) (c volume : ℕ) (digest : List ℕ) (told : Outcome) : Type 0 where
+pub record IsToldBy (files : Received) (board : Board) (c volume : ℕ) (digest : List ℕ)
+    (told : Outcome) : Type 0 where
   pub bytes : List ℕ
-  pub there : map.get F (c, volume) ≡ Some bytes
+  pub there : map.get files (c, volume) ≡ Some bytes
   pub digest_is : digest ≡ sha256 bytes
-  pub outcome_is : IsOutcome F B c volume told
+  pub outcome_is : IsOutcome files board c volume told
 
 abbrev pub IsToldNow : Received → Board → ℕ → ℕ → Option (List ℕ × Outcome) → Type 0
-IsToldNow F B c volume None = map.get F (c, volume) ≡ None
-IsToldNow F B c volume (Some told) = IsToldBy F B c volume told.0 told.1
+IsToldNow files board c volume None = map.get files (c, volume) ≡ None
+IsToldNow files board c volume (Some told) = IsToldBy files board c volume told.0 told.1
 
 -- other bytes were received before, with this digest
-pub record IsTaken (F : Received) (c volume : ℕ) (bytes digest : List ℕ) : Type 0 where
+pub record IsTaken (files : Received) (c volume : ℕ) (bytes digest : List ℕ) : Type 0 where
   pub others : List ℕ
-  pub there : map.get F (c, volume) ≡ Some others
+  pub there : map.get files (c, volume) ≡ Some others
   pub differ : others ≢ bytes
   pub digest_is : digest ≡ sha256 others
 
 -- the answer to a file whose pair was received before; none where it wasn't
 abbrev pub IsAgain : Received → Board → ℕ → ℕ → List ℕ → Option Answer → Type 0
-IsAgain F B c volume bytes None = map.get F (c, volume) ≡ None
-IsAgain F B c volume bytes (Some (Repeat told)) = (map.get F (c, volume) ≡ Some bytes) × IsOutcome F B c volume told
-IsAgain F B c volume bytes (Some (Taken digest)) = IsTaken F c volume bytes digest
-IsAgain F B c volume bytes (Some (New told)) = ⊥
-IsAgain F B c volume bytes (Some (Refused r)) = ⊥
+IsAgain files board c volume bytes None = map.get files (c, volume) ≡ None
+IsAgain files board c volume bytes (Some (Repeat told)) =
+    (map.get files (c, volume) ≡ Some bytes) × IsOutcome files board c volume told
+IsAgain files board c volume bytes (Some (Taken digest)) = IsTaken files c volume bytes digest
+IsAgain files board c volume bytes (Some (New told)) = ⊥
+IsAgain files board c volume bytes (Some (Refused r)) = ⊥
 
 -- it is no refusal of the door
 abbrev pub IsPastDoor : Answer → Type 0
@@ -61,10 +66,13 @@ AnyIsPastDoor None = ⊤
 AnyIsPastDoor (Some answer) = IsPastDoor answer
 
 -- a file that is new is received, and all is settled
-pub record TakesIn (d : Door) (old new : Seen) (c volume : ℕ) (bytes : List ℕ) (answer : Answer) : Type 0 where
+pub record TakesIn (door : Door) (old new : Seen) (c volume : ℕ) (bytes : List ℕ)
+    (answer : Answer) : Type 0 where
   pub harm : new.unharmed → old.unharmed
-  pub stands : StandsFor d old → IsNew old.content c volume → new.unharmed → StandsFor d new
-  pub step : StandsFor d old → IsNew old.content c volume → new.unharmed → Submits d (state_of old.content) c volume bytes answer (state_of new.content)
+  pub stands : StandsFor door old → IsNew old.content c volume → new.unharmed → StandsFor door new
+  pub step : StandsFor door old → IsNew old.content c volume → new.unharmed
+      → Submits door (state_of old.content) c volume bytes answer (state_of new.content)
   pub idle : IsNotOpen new.progress
   pub kept : old.failures ≤ new.failures
-  pub cause : StandsFor d old → IsNew old.content c volume → new.unharmed → cause_in_answer answer ≡ Some Store → old.failures < new.failures
+  pub cause : StandsFor door old → IsNew old.content c volume → new.unharmed
+      → cause_in_answer answer ≡ Some Store → old.failures < new.failures

@@ -33,11 +33,11 @@ state_of k = record { received = k.files; board = k.board }
 
 -- each received file is of a custodian that the door knows
 abbrev pub AreKnown : Door → Received → Type 0
-AreKnown d F = (p : ℕ × ℕ) → IsSome (map.get F p) → knows d.register p.0 ≡ true
+AreKnown door files = (p : ℕ × ℕ) → IsSome (map.get files p) → knows door.register p.0 ≡ true
 
 -- the keeper stands for a content that such a hub may have
 abbrev pub StandsFor : Door → Seen → Type 0
-StandsFor d s = s.stands × AreKnown d s.content.files
+StandsFor door s = s.stands × AreKnown door s.content.files
 
 -- ---- what a call tells
 
@@ -87,33 +87,40 @@ or_not_received (Ok x) = Ok x
 or_not_received (Err fault) = Err (refusal.NotReceived fault)
 
 -- a call at the door, of a keeper that was so before and is so after, whatever it stands for
-pub record MeetsDoor {K : Type 0} (d : Door) (old new : K) (command : Command) (response : Response) : Type 0 where
+pub record MeetsDoor {K : Type 0} (door : Door) (old new : K) (command : Command)
+    (response : Response) : Type 0 where
   -- a refusal that takes no memory is told
-  pub early : (r : Refusal) → early_refusal d command ≡ Some r → refusal_of response ≡ Some r
+  pub early : (r : Refusal) → early_refusal door command ≡ Some r → refusal_of response ≡ Some r
   -- one that takes memory (that of a profile) is told, or that there was none
-  pub late : (r : Refusal) → refusal_at_door d command ≡ Some r
+  pub late : (r : Refusal) → refusal_at_door door command ≡ Some r
       → (refusal_of response ≡ Some r) ⊎ (refusal_of response ≡ Some (refusal.NotReceived Memory))
   -- no other is told
-  pub only : (r : Refusal) → refusal_of response ≡ Some r → cause_in r ≡ None → refusal_at_door d command ≡ Some r
+  pub only : (r : Refusal) → refusal_of response ≡ Some r → cause_in r ≡ None
+      → refusal_at_door door command ≡ Some r
   -- nor is the keeper called where the door refuses
-  pub unasked : IsSome (refusal_at_door d command) → new ≡ old
+  pub unasked : IsSome (refusal_at_door door command) → new ≡ old
 
 -- one call: where the keeper stood for a content before and nobody else wrote on it, a step of the
 -- hub on that content
-pub record Steps (d : Door) (old new : Seen) (command : Command) (response : Response) : Type 0 where
+pub record Steps (door : Door) (old new : Seen) (command : Command)
+    (response : Response) : Type 0 where
   pub harm : new.unharmed → old.unharmed
-  pub stands : StandsFor d old → new.unharmed → StandsFor d new
-  pub step : StandsFor d old → new.unharmed → Step d (state_of old.content) command response (state_of new.content)
+  pub stands : StandsFor door old → new.unharmed → StandsFor door new
+  pub step : StandsFor door old → new.unharmed
+      → Step door (state_of old.content) command response (state_of new.content)
   -- no judgement is in progress afterwards
   pub idle : IsNotOpen new.progress
   pub failures : old.failures ≤ new.failures
   -- 51 and 52 carry Store only where the keeper's count of failures rose
-  pub cause : StandsFor d old → new.unharmed → cause_of response ≡ Some Store → old.failures < new.failures
+  pub cause : StandsFor door old → new.unharmed → cause_of response ≡ Some Store
+      → old.failures < new.failures
 
 -- calls one after another: a run of the hub
-pub record Runs (d : Door) (old new : Seen) (commands : List Command) (responses : List Response) : Type 0 where
+pub record Runs (door : Door) (old new : Seen) (commands : List Command)
+    (responses : List Response) : Type 0 where
   pub harm : new.unharmed → old.unharmed
-  pub stands : StandsFor d old → new.unharmed → StandsFor d new
-  pub run : StandsFor d old → new.unharmed → Run d (state_of old.content) commands responses (state_of new.content)
+  pub stands : StandsFor door old → new.unharmed → StandsFor door new
+  pub run : StandsFor door old → new.unharmed
+      → Run door (state_of old.content) commands responses (state_of new.content)
   pub idle : IsNotOpen old.progress → IsNotOpen new.progress
   pub failures : old.failures ≤ new.failures

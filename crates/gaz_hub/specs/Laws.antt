@@ -16,19 +16,23 @@ use Rattle.gaz_hub.specs.Step.{is_volume}
 
 -- every view of a partial board is sound
 abbrev pub AllSound : Type 0
-AllSound = (register : RegisterValue) (F : Received) (B : Board) → IsRegister register → IsPartial (blocks_of register) F B → IsSoundBoard (blocks_of register) B
+AllSound =
+    (register : RegisterValue) (files : Received) (board : Board) → IsRegister register
+    → IsPartial (blocks_of register) files board → IsSoundBoard (blocks_of register) board
 
 -- ---- what is told of a received file
 
 -- on a board on which nothing is ready it has an outcome, at each volume that the door lets in
 abbrev pub HasOutcome : Type 0
-HasOutcome = (F : Received) (B : Board) (c volume : ℕ)
-    → NothingReady F B → is_volume volume ≡ true → IsSome (map.get F (c, volume)) → IsSome (outcome F B c volume)
+HasOutcome = (files : Received) (board : Board) (c volume : ℕ)
+    → NothingReady files board → is_volume volume ≡ true → IsSome (map.get files (c, volume))
+    → IsSome (outcome files board c volume)
 
 -- so a hub that is asked for an outcome tells nothing only where nothing was received
 abbrev pub NothingOfNothing : Type 0
-NothingOfNothing = (d : Door) (old new : HubState) (c volume : ℕ)
-    → Step d old (Pose (Ask c volume)) (Replied (Ask c volume) (Ok None)) new → map.get new.received (c, volume) ≡ None
+NothingOfNothing = (door : Door) (old new : HubState) (c volume : ℕ)
+    → Step door old (Pose (Ask c volume)) (Replied (Ask c volume) (Ok None)) new
+    → map.get new.received (c, volume) ≡ None
 
 pub record EachIsTold : Type 0 where
   pub on_a_board : HasOutcome
@@ -38,60 +42,76 @@ pub record EachIsTold : Type 0 where
 
 -- no call, one, and some after others are runs
 pub record CallsMakeRuns {K : Type 0} (seen : K → Seen) : Type 0 where
-  pub none : (d : Door) (a : K) → Runs d (seen a) (seen a) [] []
-  pub one : (d : Door) (a b : K) (command : Command) (response : Response)
-      → Steps d (seen a) (seen b) command response → Runs d (seen a) (seen b) (command ∷ []) (response ∷ [])
-  pub joined : (d : Door) (a b c : K) (commands others : List Command) (responses replies : List Response)
-      → Runs d (seen a) (seen b) commands responses → Runs d (seen b) (seen c) others replies
-      → Runs d (seen a) (seen c) (commands ++ others) (responses ++ replies)
+  pub none : (door : Door) (a : K) → Runs door (seen a) (seen a) [] []
+  pub one : (door : Door) (a b : K) (command : Command) (response : Response)
+      → Steps door (seen a) (seen b) command response
+      → Runs door (seen a) (seen b) (command ∷ []) (response ∷ [])
+  pub joined : (door : Door) (a b c : K) (commands others : List Command)
+      (responses replies : List Response)
+      → Runs door (seen a) (seen b) commands responses → Runs door (seen b) (seen c) others replies
+      → Runs door (seen a) (seen c) (commands ++ others) (responses ++ replies)
 
 -- ---- over a keeper that stands for a partial run
 
 -- the keeper stands for a partial run of files of custodians that the door knows
-pub record StandsForRun (d : Door) (s : Seen) : Type 0 where
-  pub stands : StandsFor d s
-  pub partial : IsPartial (blocks d) s.content.files s.content.board
+pub record StandsForRun (door : Door) (s : Seen) : Type 0 where
+  pub stands : StandsFor door s
+  pub partial : IsPartial (blocks door) s.content.files s.content.board
 
 -- the keeper still does: of what was there before and then of what came first
-pub record StandsFrom (d : Door) (old : Seen) (commands : List Command) (responses : List Response) (new : Seen) : Type 0 where
-  pub stands : StandsFor d new
-  pub abides : AbidesFrom d (state_of old.content) commands responses (state_of new.content)
+pub record StandsFrom (door : Door) (old : Seen) (commands : List Command)
+    (responses : List Response) (new : Seen) : Type 0 where
+  pub stands : StandsFor door new
+  pub abides : AbidesFrom door (state_of old.content) commands responses (state_of new.content)
 
 -- whatever commands come, where nobody else wrote on what the keeper keeps
 abbrev pub EveryRunFromOver : {K : Type 0} → (K → Seen) → Type 0
-EveryRunFromOver {K} seen = (d : Door) (old new : K) (commands : List Command) (responses : List Response)
-    → StandsForRun d (seen old) → (seen new).unharmed → Runs d (seen old) (seen new) commands responses
-    → StandsFrom d (seen old) commands responses (seen new)
+EveryRunFromOver {K} seen =
+    (door : Door) (old new : K) (commands : List Command) (responses : List Response)
+    → StandsForRun door (seen old) → (seen new).unharmed
+    → Runs door (seen old) (seen new) commands responses
+    → StandsFrom door (seen old) commands responses (seen new)
 
 -- after a response that settles, the board is the standing one
 abbrev pub EverySettledRunFromOver : {K : Type 0} → (K → Seen) → Type 0
 EverySettledRunFromOver {K} seen =
-    (d : Door) (old new : K) (commands : List Command) (responses : List Response) (command : Command) (response : Response)
-    → StandsForRun d (seen old) → (seen new).unharmed
-    → Runs d (seen old) (seen new) (commands ++ command ∷ []) (responses ++ response ∷ []) → is_settled response ≡ true
-    → (seen new).content.board ≡ standing (blocks d) (seen new).content.files
+    (door : Door) (old new : K) (commands : List Command) (responses : List Response)
+        (command : Command) (response : Response)
+    → StandsForRun door (seen old) → (seen new).unharmed
+    → Runs door (seen old) (seen new) (commands ++ command ∷ []) (responses ++ response ∷ [])
+    → is_settled response ≡ true
+    → (seen new).content.board ≡ standing (blocks door) (seen new).content.files
 
 -- each answer is read off the standing board of the files that are received by then
 abbrev pub EveryAnswerOver : {K : Type 0} → (K → Seen) → Type 0
-EveryAnswerOver {K} seen = (d : Door) (old new : K) (commands : List Command) (responses : List Response)
-    → StandsForRun d (seen old) → (seen new).unharmed → Runs d (seen old) (seen new) commands responses
-    → AllAnswered d (seen old).content.files commands responses (seen new).content.files
+EveryAnswerOver {K} seen =
+    (door : Door) (old new : K) (commands : List Command) (responses : List Response)
+    → StandsForRun door (seen old) → (seen new).unharmed
+    → Runs door (seen old) (seen new) commands responses
+    → AllAnswered door (seen old).content.files commands responses (seen new).content.files
 
 -- ---- over a keeper that begins with nothing
 
 -- the keeper stands for what came first, and for a board that is partial over it
-pub record StandsAfter (d : Door) (commands : List Command) (responses : List Response) (new : Seen) : Type 0 where
+pub record StandsAfter (door : Door) (commands : List Command) (responses : List Response)
+    (new : Seen) : Type 0 where
   pub stands : new.stands
-  pub abides : Abides d commands responses (state_of new.content)
+  pub abides : Abides door commands responses (state_of new.content)
 
 -- whatever commands come, where nobody else wrote on what the keeper keeps
 abbrev pub EveryRunOver : {K : Type 0} → (K → Seen) → Type 0
-EveryRunOver {K} seen = (d : Door) (old new : K) (commands : List Command) (responses : List Response) → (seen old).stands → (seen old).content ≡ empty_content → (seen new).unharmed
-    → Runs d (seen old) (seen new) commands responses → StandsAfter d commands responses (seen new)
+EveryRunOver {K} seen =
+    (door : Door) (old new : K) (commands : List Command) (responses : List Response)
+    → (seen old).stands → (seen old).content ≡ empty_content → (seen new).unharmed
+    → Runs door (seen old) (seen new) commands responses
+    → StandsAfter door commands responses (seen new)
 
 -- after a response that settles, the board is the standing one
 abbrev pub EverySettledRunOver : {K : Type 0} → (K → Seen) → Type 0
-EverySettledRunOver {K} seen = (d : Door) (old new : K) (commands : List Command) (responses : List Response) (command : Command) (response : Response)
+EverySettledRunOver {K} seen =
+    (door : Door) (old new : K) (commands : List Command) (responses : List Response)
+    (command : Command) (response : Response)
     → (seen old).stands → (seen old).content ≡ empty_content → (seen new).unharmed
-    → Runs d (seen old) (seen new) (commands ++ command ∷ []) (responses ++ response ∷ []) → is_settled response ≡ true
-    → (seen new).content.board ≡ standing (blocks d) (seen new).content.files
+    → Runs door (seen old) (seen new) (commands ++ command ∷ []) (responses ++ response ∷ [])
+    → is_settled response ≡ true
+    → (seen new).content.board ≡ standing (blocks door) (seen new).content.files

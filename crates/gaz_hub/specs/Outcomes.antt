@@ -18,17 +18,21 @@ use Rattle.gaz_hub.specs.declared.outcome.Outcome.TheVariants.{Applied, Rejected
 
 -- the first basis line whose volume isn't reached
 abbrev pub first_unreached : Board → List Basis → Option Basis
-first_unreached B bases = find (λ d. not (nat_le d.volume (reached B d.custodian))) bases
+first_unreached board bases =
+    find (λ basis. not (nat_le basis.volume (reached board basis.custodian))) bases
 
 -- what a custodian's next volume waits for: itself where it wasn't received, else the first basis
 -- line that isn't reached
 abbrev pub wants_as : Board → ℕ → Option Reading → Option (ℕ × ℕ)
-wants_as B c None = Some (c, reached B c + 1)
-wants_as B c (Some r) = option_map (λ d. (d.custodian, d.volume)) (first_unreached B (bases_of r))
+wants_as board c None = Some (c, reached board c + 1)
+wants_as board c (Some r) =
+    option_map (λ basis. (basis.custodian, basis.volume)) (first_unreached board (bases_of r))
 
 -- what a custodian's next volume waits for, by how it reads; nothing after volume 999,999
 abbrev pub wants : Received → Board → ℕ → Option (ℕ × ℕ)
-wants F B c = if nat_le (reached B c + 1) 999999 then wants_as B c (next_reading F B c) else None
+wants files board c =
+    if nat_le (reached board c + 1) 999999 then wants_as board c (next_reading files board c)
+    else None
 
 abbrev pub outcome_of : Verdict → Outcome
 outcome_of verdict.Applied = Applied
@@ -37,12 +41,20 @@ outcome_of (verdict.Rejected place rule) = Rejected place rule
 -- the outcome of a received file: its verdict where it is judged, else what its custodian's next
 -- volume waits for
 abbrev pub outcome : Received → Board → ℕ → ℕ → Option Outcome
-outcome F B c volume =
-    option_map_or (λ v. Some (outcome_of v)) (verdict_on B c volume) (option_map (λ w. Held w.0 w.1) (wants F B c))
+outcome files board c volume =
+    option_map_or (λ v. Some (outcome_of v)) (verdict_on board c volume)
+        (option_map (λ w. Held w.0 w.1) (wants files board c))
 
 -- how many files of a custodian were received and aren't judged
 abbrev pub held_count : Received → Board → ℕ → ℕ
-held_count F B c = count_by (λ p. (p.0 == c) && not (nat_le p.1 (reached B c))) (map.keys F)
+held_count files board c =
+    count_by (λ p. (p.0 == c) && not (nat_le p.1 (reached board c))) (map.keys files)
 
 abbrev pub status : Received → Board → ℕ → Standing
-status F B c = record { custodian = c; held = held_count F B c; judged = reached B c; wants = wants F B c }
+status files board c =
+    record {
+      custodian = c;
+      held = held_count files board c;
+      judged = reached board c;
+      wants = wants files board c;
+    }

@@ -14,19 +14,27 @@ use Rattle.gaz_hub.specs.Step.{Told, new_hub}
 -- whatever came before, and in whatever order: two hubs with equal received sets answer a question
 -- equally, wherever both answer it
 abbrev pub EqualAnswers : Type 0
-EqualAnswers = (d : Door) (one other : HubState) (commands others : List Command) (responses replies : List Response) (q : Question) (told heard : Told q)
-    → Run d new_hub (commands ++ Pose q ∷ []) (responses ++ Replied q (Ok told) ∷ []) one
-    → Run d new_hub (others ++ Pose q ∷ []) (replies ++ Replied q (Ok heard) ∷ []) other
+EqualAnswers =
+    (door : Door) (one other : HubState) (commands others : List Command)
+    (responses replies : List Response) (q : Question) (told heard : Told q)
+    → Run door new_hub (commands ++ Pose q ∷ []) (responses ++ Replied q (Ok told) ∷ []) one
+    → Run door new_hub (others ++ Pose q ∷ []) (replies ++ Replied q (Ok heard) ∷ []) other
     → other.received ≡ one.received → heard ≡ told
 
 -- the extract of a volume that is reached stays: with more files, and whatever is asked next
 pub record ExtractsStay : Type 0 where
-  pub with_more_files : (G : Register) (F bigger : Received) → HasAllOf bigger F
-      → (c volume : ℕ) → volume ≤ reached (standing G F) c → extract (standing G bigger) c volume ≡ extract (standing G F) c volume
-  pub after_a_step : (d : Door) (old new : HubState) (command : Command) (response : Response) → Step d old command response new
-      → (c volume : ℕ) → volume ≤ reached old.board c → extract new.board c volume ≡ extract old.board c volume
+  pub with_more_files : (register : Register) (files bigger : Received) → HasAllOf bigger files
+      → (c volume : ℕ) → volume ≤ reached (standing register files) c
+      → extract (standing register bigger) c volume ≡ extract (standing register files) c volume
+  pub after_a_step : (door : Door) (old new : HubState) (command : Command) (response : Response)
+      → Step door old command response new
+      → (c volume : ℕ) → volume ≤ reached old.board c
+      → extract new.board c volume ≡ extract old.board c volume
 
 -- where blocks alone decide, a property stands in the last view of one custodian at most
 abbrev pub OneHolder : Type 0
-OneHolder = (register : RegisterValue) (F : Received) (B : Board) → IsRegister register → IsPartial (blocks_of register) F B
-    → (c d uprn : ℕ) → holds (last_view B c) (key.Blpu uprn) ≡ true → holds (last_view B d) (key.Blpu uprn) ≡ true → c ≡ d
+OneHolder =
+    (register : RegisterValue) (files : Received) (board : Board) → IsRegister register
+    → IsPartial (blocks_of register) files board
+    → (c other uprn : ℕ) → holds (last_view board c) (key.Blpu uprn) ≡ true
+    → holds (last_view board other) (key.Blpu uprn) ≡ true → c ≡ other

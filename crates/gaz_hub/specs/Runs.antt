@@ -8,7 +8,7 @@ use Rattle.gaz_shelf.specs.Received.{pair_cmp}
 use Rattle.gaz_hub.specs.Standing.{IsPartial, IsPrefixOf, NothingReady, standing}
 use Rattle.gaz_hub.specs.Outcomes.{outcome}
 use Rattle.gaz_hub.specs.Step.{Command, Door, HubState, Replied, Response, Step, Submit, Submitted}
-use Rattle.gaz_hub.specs.Step.{blocks, door, new_hub}
+use Rattle.gaz_hub.specs.Step.{blocks, file_refusal, new_hub}
 use Rattle.gaz_hub.specs.declared.answer.Answer.{Answer}
 use Rattle.gaz_hub.specs.declared.answer.Answer.TheVariants.{New, Repeat, Taken, Refused}
 use Rattle.gaz_hub.specs.declared.outcome.Outcome.{Outcome}
@@ -17,10 +17,11 @@ use Rattle.gaz_hub.specs.declared.refusal.Refusal.TheVariants as refusal
 
 -- these responses to these commands, one step after another
 abbrev pub Run : Door → HubState → List Command → List Response → HubState → Type 0
-Run d old [] [] new = new ≡ old
-Run d old (command ∷ commands) (response ∷ responses) new = (mid : HubState) × Step d old command response mid × Run d mid commands responses new
-Run d old [] (response ∷ responses) new = ⊥
-Run d old (command ∷ commands) [] new = ⊥
+Run door old [] [] new = new ≡ old
+Run door old (command ∷ commands) (response ∷ responses) new =
+    (mid : HubState) × Step door old command response mid × Run door mid commands responses new
+Run door old [] (response ∷ responses) new = ⊥
+Run door old (command ∷ commands) [] new = ⊥
 
 -- after such a response all is settled
 abbrev pub is_settled_answer : Answer → Bool
@@ -53,71 +54,95 @@ is_answered_51 (Refused r) = is_not_received r
 
 -- the bytes of a submission of the pair that passed the door and wasn't answered 51
 abbrev pub accepted : Door → ℕ × ℕ → Command → Response → Option (List ℕ)
-accepted d p (Submit c volume bytes) (Submitted answer) =
-    if same_pair p (c, volume) && (is_none (door d c volume bytes) && not (is_answered_51 answer)) then Some bytes else None
-accepted d p _ _ = None
+accepted door p (Submit c volume bytes) (Submitted answer) =
+    if same_pair p (c, volume)
+        && (is_none (file_refusal door c volume bytes) && not (is_answered_51 answer))
+        then Some bytes else None
+accepted door p _ _ = None
 
 -- the bytes of the first such submission
 abbrev pub first_received : Door → ℕ × ℕ → List Command → List Response → Option (List ℕ)
-first_received d p (command ∷ commands) (response ∷ responses) = option_or (accepted d p command response) (first_received d p commands responses)
-first_received d p _ _ = None
+first_received door p (command ∷ commands) (response ∷ responses) =
+    option_or (accepted door p command response) (first_received door p commands responses)
+first_received door p _ _ = None
 
 -- ---- the laws of whole runs
 
 -- what is received is what was there before and then what came first, and the board is partial over
 -- it
-pub record AbidesFrom (d : Door) (old : HubState) (commands : List Command) (responses : List Response) (hub : HubState) : Type 0 where
-  pub first : (p : ℕ × ℕ) → map.get hub.received p ≡ option_or (map.get old.received p) (first_received d p commands responses)
-  pub partial : IsPartial (blocks d) hub.received hub.board
+pub record AbidesFrom (door : Door) (old : HubState) (commands : List Command)
+    (responses : List Response) (hub : HubState) : Type 0 where
+  pub first : (p : ℕ × ℕ)
+      → map.get hub.received p
+      ≡ option_or (map.get old.received p) (first_received door p commands responses)
+  pub partial : IsPartial (blocks door) hub.received hub.board
 
 -- whatever commands come to a hub whose board is partial, in whatever order
 abbrev pub EveryRunFrom : Type 0
-EveryRunFrom = (d : Door) (old hub : HubState) (commands : List Command) (responses : List Response)
-    → IsPartial (blocks d) old.received old.board → Run d old commands responses hub → AbidesFrom d old commands responses hub
+EveryRunFrom =
+    (door : Door) (old hub : HubState) (commands : List Command) (responses : List Response)
+    → IsPartial (blocks door) old.received old.board → Run door old commands responses hub
+    → AbidesFrom door old commands responses hub
 
 -- a run from a partial board to this hub, whose last response settles
-pub record SettledRun (d : Door) (hub : HubState) : Type 0 where
+pub record SettledRun (door : Door) (hub : HubState) : Type 0 where
   pub old : HubState
-  pub partial : IsPartial (blocks d) old.received old.board
+  pub partial : IsPartial (blocks door) old.received old.board
   pub commands : List Command
   pub responses : List Response
   pub command : Command
   pub response : Response
-  pub run : Run d old (commands ++ command ∷ []) (responses ++ response ∷ []) hub
+  pub run : Run door old (commands ++ command ∷ []) (responses ++ response ∷ []) hub
   pub settles : is_settled response ≡ true
 
 -- after it the board is the standing one
 abbrev pub EverySettledRunFrom : Type 0
-EverySettledRunFrom = (d : Door) (hub : HubState) → SettledRun d hub → hub.board ≡ standing (blocks d) hub.received
+EverySettledRunFrom =
+    (door : Door) (hub : HubState) → SettledRun door hub
+    → hub.board ≡ standing (blocks door) hub.received
 
 -- what was received is what came first, and the board is partial over it
-pub record Abides (d : Door) (commands : List Command) (responses : List Response) (hub : HubState) : Type 0 where
-  pub first : (p : ℕ × ℕ) → map.get hub.received p ≡ first_received d p commands responses
-  pub partial : IsPartial (blocks d) hub.received hub.board
+pub record Abides (door : Door) (commands : List Command) (responses : List Response)
+    (hub : HubState) : Type 0 where
+  pub first : (p : ℕ × ℕ) → map.get hub.received p ≡ first_received door p commands responses
+  pub partial : IsPartial (blocks door) hub.received hub.board
 
 -- what is received comes first and the board is partial, whatever commands come to a hub that
 -- begins with nothing
 abbrev pub EveryRun : Type 0
-EveryRun = (d : Door) (commands : List Command) (responses : List Response) (hub : HubState) → Run d new_hub commands responses hub → Abides d commands responses hub
+EveryRun =
+    (door : Door) (commands : List Command) (responses : List Response) (hub : HubState)
+    → Run door new_hub commands responses hub → Abides door commands responses hub
 
 abbrev pub EverySettledRun : Type 0
-EverySettledRun = (d : Door) (commands : List Command) (responses : List Response) (command : Command) (response : Response) (hub : HubState) →
-    Run d new_hub (commands ++ command ∷ []) (responses ++ response ∷ []) hub → is_settled response ≡ true → hub.board ≡ standing (blocks d) hub.received
+EverySettledRun =
+    (door : Door) (commands : List Command) (responses : List Response) (command : Command)
+    (response : Response) (hub : HubState)
+    → Run door new_hub (commands ++ command ∷ []) (responses ++ response ∷ []) hub
+        → is_settled response ≡ true → hub.board ≡ standing (blocks door) hub.received
 
 -- a repeat changes nothing where all was settled, and is answered by the outcome then standing
-pub record ChangesNothing (d : Door) (old : HubState) (c volume : ℕ) (told : Outcome) (new : HubState) : Type 0 where
+pub record ChangesNothing (door : Door) (old : HubState) (c volume : ℕ) (told : Outcome)
+    (new : HubState) : Type 0 where
   pub same : new ≡ old
-  pub outcome_is : outcome old.received (standing (blocks d) old.received) c volume ≡ Some told
+  pub outcome_is : outcome old.received (standing (blocks door) old.received) c volume ≡ Some told
 
 abbrev pub EveryRepeat : Type 0
-EveryRepeat = (d : Door) (old new : HubState) (c volume : ℕ) (bytes : List ℕ) (told : Outcome) → IsPartial (blocks d) old.received old.board → NothingReady old.received old.board →
-    Step d old (Submit c volume bytes) (Submitted (Repeat told)) new → ChangesNothing d old c volume told new
+EveryRepeat =
+    (door : Door) (old new : HubState) (c volume : ℕ) (bytes : List ℕ) (told : Outcome)
+    → IsPartial (blocks door) old.received old.board → NothingReady old.received old.board
+    → Step door old (Submit c volume bytes) (Submitted (Repeat told)) new
+        → ChangesNothing door old c volume told new
 
 -- a judgement once on the board is on every later board at its place
 abbrev pub JudgementsStay : Type 0
-JudgementsStay = (d : Door) (old new : HubState) (command : Command) (response : Response) → Step d old command response new → (c : ℕ) → IsPrefixOf (old.board c) (new.board c)
+JudgementsStay =
+    (door : Door) (old new : HubState) (command : Command) (response : Response)
+    → Step door old command response new → (c : ℕ) → IsPrefixOf (old.board c) (new.board c)
 
 -- two runs that end settled and with equal received sets leave equal hubs, whatever came and in
 -- whatever order
 abbrev pub EqualReceived : Type 0
-EqualReceived = (d : Door) (one other : HubState) → SettledRun d one → SettledRun d other → other.received ≡ one.received → other ≡ one
+EqualReceived =
+    (door : Door) (one other : HubState) → SettledRun door one → SettledRun door other
+    → other.received ≡ one.received → other ≡ one

@@ -35,4 +35,4 @@ sample_door = record { register = sample_custodians; is_foreign = λ bytes. fals
 
 -- the hub that has received this and settled all
 abbrev pub state_of : Received → HubState
-state_of F = record { received = F; board = standing sample_register F }
+state_of files = record { received = files; board = standing sample_register files }

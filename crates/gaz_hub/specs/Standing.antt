@@ -20,62 +20,71 @@ Register = ℕ → Blocks
 
 -- how a custodian's next file reads, where it was received
 abbrev pub next_reading : Received → Board → ℕ → Option Reading
-next_reading F B c =
-    let volume = reached B c + 1 in
-    option_map (λ bytes. reading bytes c volume) (map.get F (c, volume))
+next_reading files board c =
+    let volume = reached board c + 1 in
+    option_map (λ bytes. reading bytes c volume) (map.get files (c, volume))
 
 -- the next volume is in the range, it was received, and all that it rests on is reached
 abbrev pub ready : Received → Board → ℕ → Bool
-ready F B c = nat_le (reached B c + 1) 999999 && option_map_or (λ r. are_reached B (bases_of r)) (next_reading F B c) false
+ready files board c =
+    nat_le (reached board c + 1) 999999
+    && option_map_or (λ r. are_reached board (bases_of r)) (next_reading files board c) false
 
 -- the judgement of a file that reads so and comes after this volume of its custodian
 abbrev pub judgement_after : Register → Board → ℕ → ℕ → Reading → Judgement
-judgement_after G B c volume r = judge (G c) (view_after B c volume) (basis_views B (bases_of r)) r
+judgement_after register board c volume r =
+    judge (register c) (view_after board c volume) (basis_views board (bases_of r)) r
 
 -- a custodian's judgements with that of its next file
 abbrev pub with_next : Register → Received → Board → ℕ → List Judgement
-with_next G F B c = option_map_or (λ r. B c ++ judgement_after G B c (reached B c) r ∷ []) (next_reading F B c) (B c)
+with_next register files board c =
+    option_map_or (λ r. board c ++ judgement_after register board c (reached board c) r ∷ [])
+    (next_reading files board c) (board c)
 
 -- the next file of one custodian is judged
 abbrev pub judge_one : Register → Received → Board → ℕ → Board
-judge_one G F B c = λ d. if d == c then with_next G F B d else B d
+judge_one register files board c =
+    λ other. if other == c then with_next register files board other else board other
 
--- every custodian that is ready gets its next file judged, all on the views of B
+-- every custodian that is ready gets its next file judged, all on the views of that board
 abbrev pub round : Register → Received → Board → Board
-round G F B = λ c. if ready F B c then with_next G F B c else B c
+round register files board =
+    λ c. if ready files board c then with_next register files board c else board c
 
 abbrev pub rounds : Register → Received → ℕ → Board → Board
-rounds G F zero B = B
-rounds G F (suc n) B = round G F (rounds G F n B)
+rounds register files zero board = board
+rounds register files (suc n) board = round register files (rounds register files n board)
 
 -- as many rounds as there are files
 unfoldable pub standing : Register → Received → Board
-standing G F = rounds G F (map.len F) empty_board
+standing register files = rounds register files (map.len files) empty_board
 
 -- ---- runs
 
--- judging the next files of these custodians, one at a time and each when it is ready, leads from B
--- to C
+-- judging the next files of these custodians, one at a time and each when it is ready, leads from
+-- a board to a later one
 abbrev pub Leads : Register → Received → Board → List ℕ → Board → Type 0
-Leads G F B [] C = C ≡ B
-Leads G F B (c ∷ cs) C = IsTrue (ready F B c) × Leads G F (judge_one G F B c) cs C
+Leads register files board [] later = later ≡ board
+Leads register files board (c ∷ cs) later =
+    IsTrue (ready files board c) × Leads register files (judge_one register files board c) cs later
 
-pub record Follows (G : Register) (F : Received) (B C : Board) : Type 0 where
+pub record Follows (register : Register) (files : Received) (board later : Board) : Type 0 where
   pub order : List ℕ
-  pub leads : Leads G F B order C
+  pub leads : Leads register files board order later
 
 -- the board is reached from the empty one
 abbrev pub IsPartial : Register → Received → Board → Type 0
-IsPartial G F B = Follows G F empty_board B
+IsPartial register files board = Follows register files empty_board board
 
 abbrev pub NothingReady : Received → Board → Type 0
-NothingReady F B = (c : ℕ) → ready F B c ≡ false
+NothingReady files board = (c : ℕ) → ready files board c ≡ false
 
 -- ---- the laws of order
 
 -- each file of the smaller set is in the bigger one, with the same bytes
 abbrev pub HasAllOf : Received → Received → Type 0
-HasAllOf bigger smaller = (p : ℕ × ℕ) (bytes : List ℕ) → map.get smaller p ≡ Some bytes → map.get bigger p ≡ Some bytes
+HasAllOf bigger smaller =
+    (p : ℕ × ℕ) (bytes : List ℕ) → map.get smaller p ≡ Some bytes → map.get bigger p ≡ Some bytes
 
 -- one list begins another
 abbrev pub IsPrefixOf : {X : Type 0} → List X → List X → Type 0
@@ -83,16 +92,20 @@ IsPrefixOf {X} xs ys = (rest : List X) × (xs ++ rest ≡ ys)
 
 -- every partial board with nothing ready is the standing one
 abbrev pub AnyOrder : Type 0
-AnyOrder = (G : Register) (F : Received) (B : Board) → IsPartial G F B → NothingReady F B → B ≡ standing G F
+AnyOrder =
+    (register : Register) (files : Received) (board : Board) → IsPartial register files board
+    → NothingReady files board → board ≡ standing register files
 
 -- the standing board is partial, and nothing is ready on it
-pub record StandsSettled (G : Register) (F : Received) : Type 0 where
-  pub partial : IsPartial G F (standing G F)
-  pub settled : NothingReady F (standing G F)
+pub record StandsSettled (register : Register) (files : Received) : Type 0 where
+  pub partial : IsPartial register files (standing register files)
+  pub settled : NothingReady files (standing register files)
 
 abbrev pub StandingIsSettled : Type 0
-StandingIsSettled = (G : Register) (F : Received) → StandsSettled G F
+StandingIsSettled = (register : Register) (files : Received) → StandsSettled register files
 
 -- with more files each custodian's judgements go on from where they were
 abbrev pub MoreFiles : Type 0
-MoreFiles = (G : Register) (F bigger : Received) → HasAllOf bigger F → (c : ℕ) → IsPrefixOf (standing G F c) (standing G bigger c)
+MoreFiles =
+    (register : Register) (files bigger : Received) → HasAllOf bigger files → (c : ℕ)
+    → IsPrefixOf (standing register files c) (standing register bigger c)

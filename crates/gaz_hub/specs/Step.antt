@@ -28,7 +28,7 @@ pub record Door : Type 0 where
 
 -- the blocks of each code
 abbrev pub blocks : Door → Register
-blocks d = blocks_of d.register
+blocks door = blocks_of door.register
 
 -- what was received, and how far it is judged
 pub record HubState : Type 0 where
@@ -64,7 +64,9 @@ Told ListClosed = List Closed
 -- the digest and the outcome of a volume, where it was received
 abbrev pub told_of : HubState → ℕ → ℕ → Option (List ℕ × Outcome)
 told_of s c volume =
-    option_and_then (λ bytes. option_map (λ o. (sha256 bytes, o)) (outcome s.received s.board c volume)) (map.get s.received (c, volume))
+    option_and_then
+        (λ bytes. option_map (λ o. (sha256 bytes, o)) (outcome s.received s.board c volume))
+        (map.get s.received (c, volume))
 
 -- the answer that a settled hub over this register reads off its state
 abbrev pub answer_to : (q : Question) → RegisterValue → HubState → Told q
@@ -92,8 +94,8 @@ is_volume v = nat_le 1 v && nat_le v 999999
 
 -- the refusals of the door that take no memory: the first that applies
 abbrev pub turned_away : Door → ℕ → ℕ → ℕ → Option Refusal
-turned_away d c volume size =
-    if not (knows d.register c) then Some refusal.UnknownCustodian
+turned_away door c volume size =
+    if not (knows door.register c) then Some refusal.UnknownCustodian
     else (if not (is_volume volume) then Some refusal.BadVolume
     else (if not (nat_le size 1048576) then Some refusal.TooLarge else None))
 
@@ -103,111 +105,129 @@ or_foreign foreign None = if foreign then Some refusal.UnknownProfile else None
 
 -- all refusals of the door: the first that applies
 abbrev pub door : Door → ℕ → ℕ → List ℕ → Option Refusal
-door d c volume bytes = or_foreign (d.is_foreign bytes) (turned_away d c volume (length bytes))
+file_refusal door c volume bytes =
+    or_foreign (door.is_foreign bytes) (turned_away door c volume (length bytes))
 
 -- the refusal of a question at the door
 abbrev pub question_refusal : Door → Question → Option Refusal
-question_refusal d (Ask c volume) = turned_away d c volume 0
-question_refusal d (Stand c) = if not (knows d.register c) then Some refusal.UnknownCustodian else None
-question_refusal d Settle = None
-question_refusal d (LookUp uprn) = None
-question_refusal d (Extract c volume) = turned_away d c volume 0
-question_refusal d ListClosed = None
+question_refusal door (Ask c volume) = turned_away door c volume 0
+question_refusal door (Stand c) =
+    if not (knows door.register c) then Some refusal.UnknownCustodian else None
+question_refusal door Settle = None
+question_refusal door (LookUp uprn) = None
+question_refusal door (Extract c volume) = turned_away door c volume 0
+question_refusal door ListClosed = None
 
 -- the refusal of a command at the door, but for that of an unknown profile
 abbrev pub early_refusal : Door → Command → Option Refusal
-early_refusal d (Submit c volume bytes) = turned_away d c volume (length bytes)
-early_refusal d (Pose q) = question_refusal d q
+early_refusal door (Submit c volume bytes) = turned_away door c volume (length bytes)
+early_refusal door (Pose q) = question_refusal door q
 
 -- the refusal of a command at the door
 abbrev pub refusal_at_door : Door → Command → Option Refusal
-refusal_at_door d (Submit c volume bytes) = door d c volume bytes
-refusal_at_door d (Pose q) = question_refusal d q
+refusal_at_door door (Submit c volume bytes) = file_refusal door c volume bytes
+refusal_at_door door (Pose q) = question_refusal door q
 
 -- ---- the cases of a step
 
 -- the board after follows the board before, and nothing is ready on it
-pub record Settles (d : Door) (F : Received) (before after : Board) : Type 0 where
-  pub follows : Follows (blocks d) F before after
-  pub settled : NothingReady F after
+pub record Settles (door : Door) (files : Received) (before after : Board) : Type 0 where
+  pub follows : Follows (blocks door) files before after
+  pub settled : NothingReady files after
 
 -- a refusal at the door changes nothing
-pub record TurnedAway (d : Door) (old : HubState) (command : Command) (r : Refusal) (new : HubState) : Type 0 where
-  pub refused : refusal_at_door d command ≡ Some r
+pub record TurnedAway (door : Door) (old : HubState) (command : Command) (r : Refusal)
+    (new : HubState) : Type 0 where
+  pub refused : refusal_at_door door command ≡ Some r
   pub same : new ≡ old
 
 -- 51: nothing was received, and some earlier files may have been judged
-pub record NotReceived (d : Door) (old : HubState) (command : Command) (new : HubState) : Type 0 where
-  pub let_in : early_refusal d command ≡ None
+pub record NotReceived (door : Door) (old : HubState) (command : Command)
+    (new : HubState) : Type 0 where
+  pub let_in : early_refusal door command ≡ None
   pub received : new.received ≡ old.received
-  pub board : Follows (blocks d) old.received old.board new.board
+  pub board : Follows (blocks door) old.received old.board new.board
 
 -- 52: the file was received, and perhaps not all that is ready was judged
-pub record Unsettled (d : Door) (old : HubState) (c volume : ℕ) (bytes : List ℕ) (new : HubState) : Type 0 where
-  pub let_in : door d c volume bytes ≡ None
+pub record Unsettled (door : Door) (old : HubState) (c volume : ℕ) (bytes : List ℕ)
+    (new : HubState) : Type 0 where
+  pub let_in : file_refusal door c volume bytes ≡ None
   pub free : map.get old.received (c, volume) ≡ None
   pub received : new.received ≡ with_file old.received c volume bytes
-  pub board : Follows (blocks d) new.received old.board new.board
+  pub board : Follows (blocks door) new.received old.board new.board
 
 -- the pair was free: the file is received and all is settled
-pub record WasNew (d : Door) (old : HubState) (c volume : ℕ) (bytes : List ℕ) (told : Outcome) (new : HubState) : Type 0 where
-  pub let_in : door d c volume bytes ≡ None
+pub record WasNew (door : Door) (old : HubState) (c volume : ℕ) (bytes : List ℕ) (told : Outcome)
+    (new : HubState) : Type 0 where
+  pub let_in : file_refusal door c volume bytes ≡ None
   pub free : map.get old.received (c, volume) ≡ None
   pub received : new.received ≡ with_file old.received c volume bytes
-  pub settled : Settles d new.received old.board new.board
+  pub settled : Settles door new.received old.board new.board
   pub answer : outcome new.received new.board c volume ≡ Some told
 
 -- the same bytes stand there: nothing is received, and all is settled
-pub record WasRepeated (d : Door) (old : HubState) (c volume : ℕ) (bytes : List ℕ) (told : Outcome) (new : HubState) : Type 0 where
-  pub let_in : door d c volume bytes ≡ None
+pub record WasRepeated (door : Door) (old : HubState) (c volume : ℕ) (bytes : List ℕ)
+    (told : Outcome) (new : HubState) : Type 0 where
+  pub let_in : file_refusal door c volume bytes ≡ None
   pub there : map.get old.received (c, volume) ≡ Some bytes
   pub received : new.received ≡ old.received
-  pub settled : Settles d old.received old.board new.board
+  pub settled : Settles door old.received old.board new.board
   pub answer : outcome new.received new.board c volume ≡ Some told
 
 -- other bytes stand there: their digest is told
-pub record WasTaken (d : Door) (old : HubState) (c volume : ℕ) (bytes digest : List ℕ) (new : HubState) : Type 0 where
-  pub let_in : door d c volume bytes ≡ None
+pub record WasTaken (door : Door) (old : HubState) (c volume : ℕ) (bytes digest : List ℕ)
+    (new : HubState) : Type 0 where
+  pub let_in : file_refusal door c volume bytes ≡ None
   pub others : List ℕ
   pub there : map.get old.received (c, volume) ≡ Some others
   pub differ : others ≢ bytes
   pub digest_is : digest ≡ sha256 others
   pub received : new.received ≡ old.received
-  pub settled : Settles d old.received old.board new.board
+  pub settled : Settles door old.received old.board new.board
 
 -- a question: nothing is received, all is settled, and the answer is read off the state then
-pub record WasAsked (d : Door) (old : HubState) (q : Question) (told : Told q) (new : HubState) : Type 0 where
-  pub let_in : question_refusal d q ≡ None
+pub record WasAsked (door : Door) (old : HubState) (q : Question) (told : Told q)
+    (new : HubState) : Type 0 where
+  pub let_in : question_refusal door q ≡ None
   pub received : new.received ≡ old.received
-  pub settled : Settles d old.received old.board new.board
-  pub answer : told ≡ answer_to q d.register new
+  pub settled : Settles door old.received old.board new.board
+  pub answer : told ≡ answer_to q door.register new
 
 abbrev pub Submits : Door → HubState → ℕ → ℕ → List ℕ → Answer → HubState → Type 0
-Submits d old c volume bytes (New told) new = WasNew d old c volume bytes told new
-Submits d old c volume bytes (Repeat told) new = WasRepeated d old c volume bytes told new
-Submits d old c volume bytes (Taken digest) new = WasTaken d old c volume bytes digest new
-Submits d old c volume bytes (Refused (refusal.NotReceived cause)) new = NotReceived d old (Submit c volume bytes) new
-Submits d old c volume bytes (Refused (refusal.ReceivedUnsettled cause)) new = Unsettled d old c volume bytes new
-Submits d old c volume bytes (Refused refusal.UnknownCustodian) new = TurnedAway d old (Submit c volume bytes) refusal.UnknownCustodian new
-Submits d old c volume bytes (Refused refusal.BadVolume) new = TurnedAway d old (Submit c volume bytes) refusal.BadVolume new
-Submits d old c volume bytes (Refused refusal.TooLarge) new = TurnedAway d old (Submit c volume bytes) refusal.TooLarge new
-Submits d old c volume bytes (Refused refusal.UnknownProfile) new = TurnedAway d old (Submit c volume bytes) refusal.UnknownProfile new
+Submits door old c volume bytes (New told) new = WasNew door old c volume bytes told new
+Submits door old c volume bytes (Repeat told) new = WasRepeated door old c volume bytes told new
+Submits door old c volume bytes (Taken digest) new = WasTaken door old c volume bytes digest new
+Submits door old c volume bytes (Refused (refusal.NotReceived cause)) new =
+    NotReceived door old (Submit c volume bytes) new
+Submits door old c volume bytes (Refused (refusal.ReceivedUnsettled cause)) new =
+    Unsettled door old c volume bytes new
+Submits door old c volume bytes (Refused refusal.UnknownCustodian) new =
+    TurnedAway door old (Submit c volume bytes) refusal.UnknownCustodian new
+Submits door old c volume bytes (Refused refusal.BadVolume) new =
+    TurnedAway door old (Submit c volume bytes) refusal.BadVolume new
+Submits door old c volume bytes (Refused refusal.TooLarge) new =
+    TurnedAway door old (Submit c volume bytes) refusal.TooLarge new
+Submits door old c volume bytes (Refused refusal.UnknownProfile) new =
+    TurnedAway door old (Submit c volume bytes) refusal.UnknownProfile new
 
 -- a refusal of a question
 abbrev pub Refuses : Door → HubState → Question → Refusal → HubState → Type 0
-Refuses d old q (refusal.NotReceived cause) new = NotReceived d old (Pose q) new
-Refuses d old q (refusal.ReceivedUnsettled cause) new = ⊥
-Refuses d old q refusal.UnknownCustodian new = TurnedAway d old (Pose q) refusal.UnknownCustodian new
-Refuses d old q refusal.BadVolume new = TurnedAway d old (Pose q) refusal.BadVolume new
-Refuses d old q refusal.TooLarge new = TurnedAway d old (Pose q) refusal.TooLarge new
-Refuses d old q refusal.UnknownProfile new = TurnedAway d old (Pose q) refusal.UnknownProfile new
+Refuses door old q (refusal.NotReceived cause) new = NotReceived door old (Pose q) new
+Refuses door old q (refusal.ReceivedUnsettled cause) new = ⊥
+Refuses door old q refusal.UnknownCustodian new =
+    TurnedAway door old (Pose q) refusal.UnknownCustodian new
+Refuses door old q refusal.BadVolume new = TurnedAway door old (Pose q) refusal.BadVolume new
+Refuses door old q refusal.TooLarge new = TurnedAway door old (Pose q) refusal.TooLarge new
+Refuses door old q refusal.UnknownProfile new =
+    TurnedAway door old (Pose q) refusal.UnknownProfile new
 
 abbrev pub Replies : Door → HubState → (q : Question) → Result (Told q) Refusal → HubState → Type 0
-Replies d old q (Ok told) new = WasAsked d old q told new
-Replies d old q (Err r) new = Refuses d old q r new
+Replies door old q (Ok told) new = WasAsked door old q told new
+Replies door old q (Err r) new = Refuses door old q r new
 
 -- from old the hub may give this response to the command and go on to new
 abbrev pub Step : Door → HubState → Command → Response → HubState → Type 0
-Step d old (Submit c volume bytes) (Submitted answer) new = Submits d old c volume bytes answer new
-Step d old (Pose q) (Replied p reply) new = (p ≡ q) × Replies d old p reply new
-Step d old _ _ new = ⊥
+Step door old (Submit c volume bytes) (Submitted answer) new =
+    Submits door old c volume bytes answer new
+Step door old (Pose q) (Replied p reply) new = (p ≡ q) × Replies door old p reply new
+Step door old _ _ new = ⊥

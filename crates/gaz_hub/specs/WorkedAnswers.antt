@@ -17,11 +17,13 @@ pub record WorkedOutcomes : Type 0 where
   pub wants_the_missing : wants sent one_judged 1003 ≡ Some (1003, 2)
   pub wants_the_first : wants sent one_judged 1002 ≡ Some (1002, 1)
   pub wants_nothing_when_ready : wants sent empty_board 1003 ≡ None
-  pub wants_nothing_after_the_last : (B : Board) → reached B 1003 ≡ 999_999 → wants sent B 1003 ≡ None
+  pub wants_nothing_after_the_last : (board : Board) → reached board 1003 ≡ 999_999
+      → wants sent board 1003 ≡ None
   pub holds_one : held_count sent one_judged 1003 ≡ 1
   pub held_before : held_count sent empty_board 1003 ≡ 2
   pub holds_no_others : held_count sent one_judged 1002 ≡ 0
-  pub stands : status sent one_judged 1003 ≡ record { custodian = 1003; held = 1; judged = 1; wants = Some (1003, 2) }
+  pub stands : status sent one_judged 1003
+      ≡ record { custodian = 1003; held = 1; judged = 1; wants = Some (1003, 2) }
 
 pub record WorkedSample : Type 0 where
   pub first_code : knows sample_custodians 1001 ≡ true

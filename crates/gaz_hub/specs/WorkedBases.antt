@@ -20,14 +20,20 @@ line text = text ++ (10 ∷ [])
 
 -- volume 1 of custodian 1001 inserts street 101
 unfoldable pub street_text : List ℕ
-street_text = line (codes "10,1,1001,1,2024-01-02") ++ (line (codes "11,I,1,101,1,2001-04-01,") ++ line (codes "99,1"))
+street_text =
+    line (codes "10,1,1001,1,2024-01-02")
+    ++ (line (codes "11,I,1,101,1,2001-04-01,") ++ line (codes "99,1"))
 
 -- volume 1 of custodian 1002 has no change, and rests on that
 unfoldable pub resting_text : List ℕ
-resting_text = line (codes "10,1,1002,1,2024-01-10") ++ (line (codes "90,1001,1") ++ line (codes "99,0"))
+resting_text =
+    line (codes "10,1,1002,1,2024-01-10") ++ (line (codes "90,1001,1") ++ line (codes "99,0"))
 
 abbrev pub resting_file : Reading
-resting_file = Good (record { date = record { year = 2024; month = 1; day = 10 }; bases = basis 1001 1 ∷ []; changes = [] })
+resting_file =
+    Good
+    (record
+    { date = record { year = 2024; month = 1; day = 10 }; bases = basis 1001 1 ∷ []; changes = [] })
 
 abbrev pub resting_sent : Received
 resting_sent = with_file map.empty 1002 1 resting_text
@@ -45,7 +51,8 @@ abbrev pub street_board : Board
 street_board = λ c. if c == 1001 then street_judged ∷ [] else []
 
 abbrev pub both_board : Board
-both_board = λ c. if c == 1001 then street_judged ∷ [] else (if c == 1002 then resting_judged ∷ [] else [])
+both_board =
+    λ c. if c == 1001 then street_judged ∷ [] else (if c == 1002 then resting_judged ∷ [] else [])
 
 pub record WorkedBases : Type 0 where
   pub street_reads : reading street_text 1001 1 ≡ file_of (insertion ∷ [])

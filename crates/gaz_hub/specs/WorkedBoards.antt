@@ -43,19 +43,24 @@ pub record WorkedReadiness : Type 0 where
   pub first_is_ready : ready sent empty_board 1003 ≡ true
   pub gap_is_not : ready sent one_judged 1003 ≡ false
   pub others_are_not : ready sent empty_board 1002 ≡ false
-  pub none_after_the_last : (B : Board) → reached B 1003 ≡ 999_999 → ready sent B 1003 ≡ false
+  pub none_after_the_last : (board : Board) → reached board 1003 ≡ 999_999
+      → ready sent board 1003 ≡ false
   pub nothing_is : NothingReady sent one_judged
   pub something_is : NothingReady sent empty_board → ⊥
 
 -- one file and one round
 pub record WorkedJudging : Type 0 where
-  pub bases_seen : basis_views two_judged (basis 1001 0 ∷ basis 1001 1 ∷ basis 1002 0 ∷ []) ≡ (1001, empty_view) ∷ (1001, one_street) ∷ (1002, empty_view) ∷ []
-  pub judged_first : judgement_after sample_register two_judged 1001 0 (file_of (insertion ∷ [])) ≡ record { verdict = Applied; view = one_street }
-  pub judged_later : judgement_after sample_register two_judged 1001 1 (file_of (insertion ∷ [])) ≡ record { verdict = Rejected 2 21; view = one_street }
+  pub bases_seen : basis_views two_judged (basis 1001 0 ∷ basis 1001 1 ∷ basis 1002 0 ∷ [])
+      ≡ (1001, empty_view) ∷ (1001, one_street) ∷ (1002, empty_view) ∷ []
+  pub judged_first : judgement_after sample_register two_judged 1001 0 (file_of (insertion ∷ []))
+      ≡ record { verdict = Applied; view = one_street }
+  pub judged_later : judgement_after sample_register two_judged 1001 1 (file_of (insertion ∷ []))
+      ≡ record { verdict = Rejected 2 21; view = one_street }
   pub next_added : with_next sample_register sent empty_board 1003 ≡ no_text_judged ∷ []
   pub none_added : with_next sample_register sent one_judged 1003 ≡ no_text_judged ∷ []
   pub one_at_a_time : judge_one sample_register sent_by_two empty_board 1003 ≡ one_judged
-  pub both_in_a_round : round sample_register sent_by_two empty_board 1002 ≡ round sample_register sent_by_two empty_board 1003
+  pub both_in_a_round : round sample_register sent_by_two empty_board 1002
+      ≡ round sample_register sent_by_two empty_board 1003
   pub in_a_round : round sample_register sent_by_two empty_board 1003 ≡ no_text_judged ∷ []
 
 -- the board after all rounds
@@ -66,21 +71,25 @@ pub record WorkedStanding : Type 0 where
   pub without_files : standing sample_register map.empty ≡ empty_board
   pub up_to_the_gap : standing sample_register sent ≡ one_judged
   pub without_gap : standing sample_register all_sent ≡ three_judged
-  pub goes_on_with_more : IsPrefixOf (standing sample_register sent 1003) (standing sample_register all_sent 1003)
+  pub goes_on_with_more : IsPrefixOf (standing sample_register sent 1003)
+      (standing sample_register all_sent 1003)
   pub is_settled : StandsSettled sample_register sent
 
 -- which boards lead to which
 pub record WorkedOrders : Type 0 where
   pub one_leads : Leads sample_register sent empty_board (1003 ∷ []) one_judged
   pub none_leads : Leads sample_register sent one_judged [] one_judged
-  pub never_over_a_gap : (B : Board) → Leads sample_register sent empty_board (1003 ∷ 1003 ∷ []) B → ⊥
-  pub never_of_another : (B : Board) → Leads sample_register sent empty_board (1002 ∷ []) B → ⊥
+  pub never_over_a_gap : (board : Board)
+      → Leads sample_register sent empty_board (1003 ∷ 1003 ∷ []) board → ⊥
+  pub never_of_another : (board : Board) → Leads sample_register sent empty_board (1002 ∷ []) board
+      → ⊥
   pub never_by_itself : Leads sample_register sent empty_board [] one_judged → ⊥
   pub goes_on : Follows sample_register all_sent one_judged three_judged
   pub never_back : Follows sample_register all_sent three_judged one_judged → ⊥
   pub partial : IsPartial sample_register all_sent one_judged
   pub never_unreceived : IsPartial sample_register sent three_judged → ⊥
-  pub never_otherwise : IsPartial sample_register sent (of_1003 (record { verdict = Applied; view = empty_view } ∷ [])) → ⊥
+  pub never_otherwise : IsPartial sample_register sent
+      (of_1003 (record { verdict = Applied; view = empty_view } ∷ [])) → ⊥
   pub begins : IsPrefixOf {X = ℕ} (1 ∷ []) (1 ∷ 2 ∷ [])
   pub begins_with_another : IsPrefixOf {X = ℕ} (2 ∷ []) (1 ∷ 2 ∷ []) → ⊥
   pub is_longer : IsPrefixOf {X = ℕ} (1 ∷ 2 ∷ []) (1 ∷ []) → ⊥

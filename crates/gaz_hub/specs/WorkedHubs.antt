@@ -24,8 +24,16 @@ use Rattle.gaz_hub.specs.declared.refusal.Refusal.TheVariants.{ReceivedUnsettled
 -- a register of two custodians
 abbrev pub upper_and_lower : RegisterValue
 upper_and_lower =
-    record { code = 1001; name = codes "Upper County"; own = record { uprn = []; usrn = (100, 199) ∷ [] } }
-    ∷ record { code = 1002; name = codes "Lower District"; own = record { uprn = []; usrn = (200, 299) ∷ [] } }
+    record {
+      code = 1001;
+      name = codes "Upper County";
+      own = record { uprn = []; usrn = (100, 199) ∷ [] };
+    }
+    ∷ record {
+      code = 1002;
+      name = codes "Lower District";
+      own = record { uprn = []; usrn = (200, 299) ∷ [] };
+    }
     ∷ []
 
 -- what the door of a hub is made of
@@ -49,7 +57,8 @@ pub record WorkedCauses : Type 0 where
   pub of_51 : cause_of (Submitted (Refused (NotReceived fault.Store))) ≡ Some fault.Store
   pub of_52 : cause_of (Submitted (Refused (ReceivedUnsettled fault.Memory))) ≡ Some fault.Memory
   pub of_the_door : cause_of (Replied (Ask 1003 0) (Err BadVolume)) ≡ None
-  pub of_standing : cause_of (Replied (Stand 1003) (Err (NotReceived fault.Memory))) ≡ Some fault.Memory
+  pub of_standing : cause_of (Replied (Stand 1003) (Err (NotReceived fault.Memory)))
+      ≡ Some fault.Memory
   pub of_settling : cause_of (Replied Settle (Err (NotReceived fault.Store))) ≡ Some fault.Store
   pub of_settled : cause_of (Replied Settle (Ok tt)) ≡ None
 
@@ -59,7 +68,8 @@ Finds n = IsNext sent one_judged 1003 n
 
 -- what a custodian's next volume is found to be
 pub record WorkedLooks : Type 0 where
-  pub second_unreached : first_unreached one_judged (basis 1003 1 ∷ basis 1002 2 ∷ basis 1003 2 ∷ []) ≡ Some (basis 1002 2)
+  pub second_unreached : first_unreached one_judged
+      (basis 1003 1 ∷ basis 1002 2 ∷ basis 1003 2 ∷ []) ≡ Some (basis 1002 2)
   pub all_reached : first_unreached one_judged (basis 1003 1 ∷ []) ≡ None
   pub waits_for_itself : Finds (Waits 1003 2)
   pub never_for_the_later : Finds (Waits 1003 3) → ⊥

@@ -24,27 +24,45 @@ of_nothing = lines_of (header 1003 1 ∷ trailer 0 ∷ [])
 -- volume 1 of custodian 1003 was rejected, and volume 2 is missing: nobody has a property
 pub record WorkedReadings : Type 0 where
   pub not_found : Reads gap_hub (Pose (LookUp 42)) (Replied (LookUp 42) (Ok None)) gap_hub
-  pub never_found : (found : Found) → Reads gap_hub (Pose (LookUp 42)) (Replied (LookUp 42) (Ok (Some found))) gap_hub → ⊥
-  pub look_up_faults : Reads late_hub (Pose (LookUp 42)) (Replied (LookUp 42) (Err (refusal.NotReceived fault.Memory))) late_hub
-  pub never_refused_at_the_door : Reads gap_hub (Pose (LookUp 42)) (Replied (LookUp 42) (Err refusal.UnknownCustodian)) gap_hub → ⊥
-  pub extracted : Reads gap_hub (Pose (Extract 1003 1)) (Replied (Extract 1003 1) (Ok (Some of_nothing))) gap_hub
-  pub settled_first : Reads late_hub (Pose (Extract 1003 1)) (Replied (Extract 1003 1) (Ok (Some of_nothing))) gap_hub
-  pub never_from_before : Reads late_hub (Pose (Extract 1003 1)) (Replied (Extract 1003 1) (Ok None)) gap_hub → ⊥
-  pub never_unsettled : Reads late_hub (Pose (Extract 1003 1)) (Replied (Extract 1003 1) (Ok None)) late_hub → ⊥
-  pub not_reached : Reads gap_hub (Pose (Extract 1003 2)) (Replied (Extract 1003 2) (Ok None)) gap_hub
-  pub never_the_last_view : (text : List ℕ) → Reads gap_hub (Pose (Extract 1003 2)) (Replied (Extract 1003 2) (Ok (Some text))) gap_hub → ⊥
-  pub unknown_first : Reads gap_hub (Pose (Extract 9998 0)) (Replied (Extract 9998 0) (Err refusal.UnknownCustodian)) gap_hub
-  pub no_volume : Reads gap_hub (Pose (Extract 1003 0)) (Replied (Extract 1003 0) (Err refusal.BadVolume)) gap_hub
-  pub never_received : Reads gap_hub (Pose (Extract 1003 1)) (Replied (Extract 1003 1) (Err (refusal.ReceivedUnsettled fault.Memory))) gap_hub → ⊥
+  pub never_found : (found : Found)
+      → Reads gap_hub (Pose (LookUp 42)) (Replied (LookUp 42) (Ok (Some found))) gap_hub → ⊥
+  pub look_up_faults : Reads late_hub (Pose (LookUp 42))
+      (Replied (LookUp 42) (Err (refusal.NotReceived fault.Memory))) late_hub
+  pub never_refused_at_the_door : Reads gap_hub (Pose (LookUp 42))
+      (Replied (LookUp 42) (Err refusal.UnknownCustodian)) gap_hub → ⊥
+  pub extracted : Reads gap_hub (Pose (Extract 1003 1))
+      (Replied (Extract 1003 1) (Ok (Some of_nothing))) gap_hub
+  pub settled_first : Reads late_hub (Pose (Extract 1003 1))
+      (Replied (Extract 1003 1) (Ok (Some of_nothing))) gap_hub
+  pub never_from_before : Reads late_hub (Pose (Extract 1003 1))
+      (Replied (Extract 1003 1) (Ok None)) gap_hub → ⊥
+  pub never_unsettled : Reads late_hub (Pose (Extract 1003 1))
+      (Replied (Extract 1003 1) (Ok None)) late_hub → ⊥
+  pub not_reached : Reads gap_hub (Pose (Extract 1003 2))
+      (Replied (Extract 1003 2) (Ok None)) gap_hub
+  pub never_the_last_view : (text : List ℕ)
+      → Reads gap_hub (Pose (Extract 1003 2)) (Replied (Extract 1003 2) (Ok (Some text))) gap_hub
+      → ⊥
+  pub unknown_first : Reads gap_hub (Pose (Extract 9998 0))
+      (Replied (Extract 9998 0) (Err refusal.UnknownCustodian)) gap_hub
+  pub no_volume : Reads gap_hub (Pose (Extract 1003 0))
+      (Replied (Extract 1003 0) (Err refusal.BadVolume)) gap_hub
+  pub never_received : Reads gap_hub (Pose (Extract 1003 1))
+      (Replied (Extract 1003 1) (Err (refusal.ReceivedUnsettled fault.Memory))) gap_hub → ⊥
   pub listed : Reads gap_hub (Pose ListClosed) (Replied ListClosed (Ok [])) gap_hub
-  pub never_listed : (closed : Closed) → Reads gap_hub (Pose ListClosed) (Replied ListClosed (Ok (closed ∷ []))) gap_hub → ⊥
-  pub never_answered_otherwise : Reads gap_hub (Pose ListClosed) (Replied (LookUp 42) (Ok None)) gap_hub → ⊥
+  pub never_listed : (closed : Closed)
+      → Reads gap_hub (Pose ListClosed) (Replied ListClosed (Ok (closed ∷ []))) gap_hub → ⊥
+  pub never_answered_otherwise : Reads gap_hub (Pose ListClosed)
+      (Replied (LookUp 42) (Ok None)) gap_hub → ⊥
   pub looking_let_in : early_refusal sample_door (Pose (LookUp 0)) ≡ None
   pub listing_let_in : early_refusal sample_door (Pose ListClosed) ≡ None
-  pub cause_of_a_reading : cause_of (Replied (Extract 1003 1) (Err (refusal.NotReceived fault.Store))) ≡ Some fault.Store
+  pub cause_of_a_reading : cause_of
+      (Replied (Extract 1003 1) (Err (refusal.NotReceived fault.Store))) ≡ Some fault.Store
   pub no_cause : cause_of (Replied (LookUp 42) (Ok None)) ≡ None
   pub told_settles : is_settled (Replied ListClosed (Ok [])) ≡ true
-  pub fault_settles_not : is_settled (Replied (LookUp 42) (Err (refusal.NotReceived fault.Memory))) ≡ false
-  pub done_told : or_not_received {T = Unit {0}} (Err fault.Store) ≡ Err (refusal.NotReceived fault.Store)
+  pub fault_settles_not : is_settled (Replied (LookUp 42) (Err (refusal.NotReceived fault.Memory)))
+      ≡ false
+  pub done_told : or_not_received {T = Unit {0}} (Err fault.Store)
+      ≡ Err (refusal.NotReceived fault.Store)
   pub nothing_told : told (Ok None) ≡ Ok None
   pub refusal_told : told_all (Err refusal.BadVolume) ≡ Err refusal.BadVolume

@@ -21,9 +21,11 @@ pub record WorkedResponses : Type 0 where
   pub refused_settles_nothing : is_settled_answer (Refused refusal.BadVolume) ≡ false
   pub submitted_settles : is_settled (Submitted (Repeat (Rejected 1 1))) ≡ true
   pub told_settles : is_settled (Replied (Ask 1003 1) (Ok None)) ≡ true
-  pub stands_settles_nothing : is_settled (Replied (Stand 9999) (Err refusal.UnknownCustodian)) ≡ false
+  pub stands_settles_nothing : is_settled (Replied (Stand 9999) (Err refusal.UnknownCustodian))
+      ≡ false
   pub settled_settles : is_settled (Replied Settle (Ok tt)) ≡ true
-  pub given_up_settles_nothing : is_settled (Replied Settle (Err (refusal.NotReceived fault.Memory))) ≡ false
+  pub given_up_settles_nothing : is_settled
+      (Replied Settle (Err (refusal.NotReceived fault.Memory))) ≡ false
   pub for_51 : is_not_received (refusal.NotReceived fault.Memory) ≡ true
   pub for_52 : is_not_received (refusal.ReceivedUnsettled fault.Memory) ≡ false
   pub answered_51 : is_answered_51 (Refused (refusal.NotReceived fault.Memory)) ≡ true
@@ -39,16 +41,24 @@ abbrev pub commands : List Command
 commands = Submit 1003 1 (97 ∷ []) ∷ Submit 1003 1 (98 ∷ []) ∷ Submit 1003 1 (99 ∷ []) ∷ []
 
 abbrev pub responses : List Response
-responses = Submitted (Refused (refusal.NotReceived fault.Memory)) ∷ Submitted (New (Rejected 1 2)) ∷ Submitted (Taken []) ∷ []
+responses =
+    Submitted (Refused (refusal.NotReceived fault.Memory)) ∷ Submitted (New (Rejected 1 2))
+    ∷ Submitted (Taken []) ∷ []
 
 -- which bytes are received
 pub record WorkedFirsts : Type 0 where
-  pub received : accepted sample_door (1003, 1) (Submit 1003 1 []) (Submitted (New (Rejected 1 1))) ≡ Some []
-  pub received_unsettled : accepted sample_door (1003, 1) (Submit 1003 1 []) (Submitted (Refused (refusal.ReceivedUnsettled fault.Memory))) ≡ Some []
-  pub not_received : accepted sample_door (1003, 1) (Submit 1003 1 []) (Submitted (Refused (refusal.NotReceived fault.Memory))) ≡ None
-  pub turned_away : accepted sample_door (1003, 0) (Submit 1003 0 []) (Submitted (Refused refusal.BadVolume)) ≡ None
-  pub another_pair : accepted sample_door (1003, 2) (Submit 1003 1 []) (Submitted (New (Rejected 1 1))) ≡ None
-  pub asked : accepted sample_door (1003, 1) (Pose (Ask 1003 1)) (Replied (Ask 1003 1) (Ok None)) ≡ None
+  pub received : accepted sample_door (1003, 1) (Submit 1003 1 []) (Submitted (New (Rejected 1 1)))
+      ≡ Some []
+  pub received_unsettled : accepted sample_door (1003, 1) (Submit 1003 1 [])
+      (Submitted (Refused (refusal.ReceivedUnsettled fault.Memory))) ≡ Some []
+  pub not_received : accepted sample_door (1003, 1) (Submit 1003 1 [])
+      (Submitted (Refused (refusal.NotReceived fault.Memory))) ≡ None
+  pub turned_away : accepted sample_door (1003, 0) (Submit 1003 0 [])
+      (Submitted (Refused refusal.BadVolume)) ≡ None
+  pub another_pair : accepted sample_door (1003, 2) (Submit 1003 1 [])
+      (Submitted (New (Rejected 1 1))) ≡ None
+  pub asked : accepted sample_door (1003, 1) (Pose (Ask 1003 1)) (Replied (Ask 1003 1) (Ok None))
+      ≡ None
   pub second_stays : first_received sample_door (1003, 1) commands responses ≡ Some (98 ∷ [])
   pub nothing_else : first_received sample_door (1003, 2) commands responses ≡ None
 
@@ -57,22 +67,32 @@ abbrev pub sending : List Command
 sending = Submit 1003 1 no_text ∷ Submit 1003 3 no_text ∷ Submit 1003 1 no_text ∷ []
 
 abbrev pub answers : List Response
-answers = Submitted (New (Rejected 1 1)) ∷ Submitted (New (Held 1003 2)) ∷ Submitted (Repeat (Rejected 1 1)) ∷ []
+answers =
+    Submitted (New (Rejected 1 1)) ∷ Submitted (New (Held 1003 2))
+    ∷ Submitted (Repeat (Rejected 1 1)) ∷ []
 
 abbrev pub wrong_answers : List Response
-wrong_answers = Submitted (New (Rejected 1 1)) ∷ Submitted (New (Held 1003 2)) ∷ Submitted (New (Rejected 1 1)) ∷ []
+wrong_answers =
+    Submitted (New (Rejected 1 1)) ∷ Submitted (New (Held 1003 2)) ∷ Submitted (New (Rejected 1 1))
+    ∷ []
 
 -- what is received by then, and what answers are read off
 pub record WorkedReadOff : Type 0 where
-  pub received : then_received sample_door map.empty (Submit 1003 1 no_text) (Submitted (New (Rejected 1 1))) ≡ first_sent
-  pub not_after_51 : then_received sample_door first_sent (Submit 1003 3 no_text) (Submitted (Refused (refusal.NotReceived fault.Memory))) ≡ first_sent
-  pub never_replaced : then_received sample_door first_sent (Submit 1003 1 []) (Submitted (Taken [])) ≡ first_sent
+  pub received : then_received sample_door map.empty (Submit 1003 1 no_text)
+      (Submitted (New (Rejected 1 1))) ≡ first_sent
+  pub not_after_51 : then_received sample_door first_sent (Submit 1003 3 no_text)
+      (Submitted (Refused (refusal.NotReceived fault.Memory))) ≡ first_sent
+  pub never_replaced : then_received sample_door first_sent (Submit 1003 1 [])
+      (Submitted (Taken [])) ≡ first_sent
   pub one_by_one : received_by sample_door map.empty sending answers ≡ sent
   pub read_off : AllReadOff sample_door map.empty sending answers
   pub never_new_twice : AllReadOff sample_door map.empty sending wrong_answers → ⊥
-  pub never_held_for_good : IsReadOff sample_door sent (Submit 1003 2 no_text) (Submitted (New (Held 1003 2))) → ⊥
-  pub never_nothing : IsReadOff sample_door sent (Pose (Ask 1003 1)) (Replied (Ask 1003 1) (Ok None)) → ⊥
-  pub never_answered_otherwise : IsReadOff sample_door sent (Pose (Ask 1003 1)) (Replied Settle (Ok tt)) → ⊥
+  pub never_held_for_good : IsReadOff sample_door sent (Submit 1003 2 no_text)
+      (Submitted (New (Held 1003 2))) → ⊥
+  pub never_nothing : IsReadOff sample_door sent (Pose (Ask 1003 1))
+      (Replied (Ask 1003 1) (Ok None)) → ⊥
+  pub never_answered_otherwise : IsReadOff sample_door sent (Pose (Ask 1003 1))
+      (Replied Settle (Ok tt)) → ⊥
 
 -- whole runs, and what holds after them
 pub record WorkedWholes : Type 0 where
@@ -86,7 +106,8 @@ pub record WorkedWholes : Type 0 where
   pub never_with_more : Abides sample_door sending answers whole_hub → ⊥
   pub repeat_changes_nothing : ChangesNothing sample_door gap_hub 1003 1 (Rejected 1 1) gap_hub
   pub repeat_never_adds : ChangesNothing sample_door gap_hub 1003 1 (Rejected 1 1) whole_hub → ⊥
-  pub repeat_never_tells_another : ChangesNothing sample_door gap_hub 1003 1 (Held 1003 2) gap_hub → ⊥
+  pub repeat_never_tells_another : ChangesNothing sample_door gap_hub 1003 1 (Held 1003 2) gap_hub
+      → ⊥
 
 pub record WorkedRuns : Type 0 where
   pub on_responses : WorkedResponses

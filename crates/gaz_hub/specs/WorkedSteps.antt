@@ -4,7 +4,8 @@ use Rattle.sha2.specs.Sha256.{sha256}
 use Rattle.gaz_shelf.specs.Board.{empty_board}
 use Rattle.gaz_shelf.specs.declared.fault.ShelfFault.TheVariants as fault
 use Rattle.gaz_hub.specs.Step.{Ask, Command, HubState, Pose, Replied, Response, Settle, Settles}
-use Rattle.gaz_hub.specs.Step.{Stand, Step, Submit, Submitted, door, early_refusal, is_volume}
+use Rattle.gaz_hub.specs.Step.{Stand, Step, Submit, Submitted, early_refusal, file_refusal}
+use Rattle.gaz_hub.specs.Step.{is_volume}
 use Rattle.gaz_hub.specs.Step.{new_hub, or_foreign, refusal_at_door, turned_away}
 use Rattle.gaz_hub.specs.Sample.{sample_door}
 use Rattle.gaz_hub.specs.declared.answer.Answer.TheVariants.{New, Repeat, Taken, Refused}
@@ -26,17 +27,19 @@ pub record WorkedDoor : Type 0 where
   pub others_go_before_profile : or_foreign true (Some refusal.TooLarge) ≡ Some refusal.TooLarge
   pub profile_at_last : or_foreign true None ≡ Some refusal.UnknownProfile
   pub no_foreign_profile : or_foreign false None ≡ None
-  pub profile_turned_away : door foreign_door 1003 1 [] ≡ Some refusal.UnknownProfile
-  pub volume_before_profile : door foreign_door 1003 0 [] ≡ Some refusal.BadVolume
-  pub let_in : door sample_door 1003 1 [] ≡ None
+  pub profile_turned_away : file_refusal foreign_door 1003 1 [] ≡ Some refusal.UnknownProfile
+  pub volume_before_profile : file_refusal foreign_door 1003 0 [] ≡ Some refusal.BadVolume
+  pub let_in : file_refusal sample_door 1003 1 [] ≡ None
 
 -- which commands are turned away
 pub record WorkedCommands : Type 0 where
   pub profile_not_early : early_refusal foreign_door (Submit 1003 1 []) ≡ None
-  pub profile_at_door : refusal_at_door foreign_door (Submit 1003 1 []) ≡ Some refusal.UnknownProfile
+  pub profile_at_door : refusal_at_door foreign_door (Submit 1003 1 [])
+      ≡ Some refusal.UnknownProfile
   pub no_profile_asked : refusal_at_door foreign_door (Pose (Ask 1003 1)) ≡ None
   pub no_volume_asked : refusal_at_door sample_door (Pose (Ask 1003 0)) ≡ Some refusal.BadVolume
-  pub unknown_asked : refusal_at_door sample_door (Pose (Stand 9999)) ≡ Some refusal.UnknownCustodian
+  pub unknown_asked : refusal_at_door sample_door (Pose (Stand 9999))
+      ≡ Some refusal.UnknownCustodian
   pub known_asked : early_refusal sample_door (Pose (Stand 1003)) ≡ None
   pub settling_let_in : refusal_at_door sample_door (Pose Settle) ≡ None
 
@@ -48,49 +51,79 @@ Goes old command response new = Step sample_door old command response new
 pub record WorkedSubmissions : Type 0 where
   pub new : Goes new_hub (Submit 1003 1 no_text) (Submitted (New (Rejected 1 1))) first_hub
   pub new_and_held : Goes first_hub (Submit 1003 3 no_text) (Submitted (New (Held 1003 2))) gap_hub
-  pub new_in_the_gap : Goes gap_hub (Submit 1003 2 no_text) (Submitted (New (Rejected 1 1))) whole_hub
-  pub never_held_for_good : (B : HubState) → Goes gap_hub (Submit 1003 2 no_text) (Submitted (New (Held 1003 2))) B → ⊥
-  pub never_unreceived : Goes new_hub (Submit 1003 1 no_text) (Submitted (New (Rejected 1 1))) new_hub → ⊥
-  pub never_unjudged : Goes first_hub (Submit 1003 3 no_text) (Submitted (New (Held 1003 2))) late_hub → ⊥
-  pub received_unjudged : Goes (record { received = first_hub.received; board = empty_board }) (Submit 1003 3 no_text) (Submitted (Refused (refusal.ReceivedUnsettled fault.Memory))) late_hub
-  pub never_twice : Goes gap_hub (Submit 1003 3 no_text) (Submitted (Refused (refusal.ReceivedUnsettled fault.Memory))) gap_hub → ⊥
+  pub new_in_the_gap : Goes gap_hub (Submit 1003 2 no_text)
+      (Submitted (New (Rejected 1 1))) whole_hub
+  pub never_held_for_good : (board : HubState)
+      → Goes gap_hub (Submit 1003 2 no_text) (Submitted (New (Held 1003 2))) board → ⊥
+  pub never_unreceived : Goes new_hub (Submit 1003 1 no_text)
+      (Submitted (New (Rejected 1 1))) new_hub → ⊥
+  pub never_unjudged : Goes first_hub (Submit 1003 3 no_text)
+      (Submitted (New (Held 1003 2))) late_hub → ⊥
+  pub received_unjudged : Goes (record { received = first_hub.received; board = empty_board })
+      (Submit 1003 3 no_text)
+      (Submitted (Refused (refusal.ReceivedUnsettled fault.Memory))) late_hub
+  pub never_twice : Goes gap_hub (Submit 1003 3 no_text)
+      (Submitted (Refused (refusal.ReceivedUnsettled fault.Memory))) gap_hub → ⊥
 
 -- a file that comes again, and other bytes for its volume
 pub record WorkedRepeats : Type 0 where
   pub repeated : Goes gap_hub (Submit 1003 1 no_text) (Submitted (Repeat (Rejected 1 1))) gap_hub
-  pub repeated_held : Goes gap_hub (Submit 1003 3 no_text) (Submitted (Repeat (Held 1003 2))) gap_hub
-  pub never_the_first_outcome : Goes whole_hub (Submit 1003 3 no_text) (Submitted (Repeat (Held 1003 2))) whole_hub → ⊥
-  pub never_new_again : Goes gap_hub (Submit 1003 1 no_text) (Submitted (New (Rejected 1 1))) gap_hub → ⊥
-  pub never_lost : Goes gap_hub (Submit 1003 1 no_text) (Submitted (Repeat (Rejected 1 1))) new_hub → ⊥
+  pub repeated_held : Goes gap_hub (Submit 1003 3 no_text)
+      (Submitted (Repeat (Held 1003 2))) gap_hub
+  pub never_the_first_outcome : Goes whole_hub (Submit 1003 3 no_text)
+      (Submitted (Repeat (Held 1003 2))) whole_hub → ⊥
+  pub never_new_again : Goes gap_hub (Submit 1003 1 no_text)
+      (Submitted (New (Rejected 1 1))) gap_hub → ⊥
+  pub never_lost : Goes gap_hub (Submit 1003 1 no_text) (Submitted (Repeat (Rejected 1 1))) new_hub
+      → ⊥
   pub taken : Goes gap_hub (Submit 1003 1 []) (Submitted (Taken (sha256 no_text))) gap_hub
-  pub no_other_digest : (digest : List ℕ) → Goes gap_hub (Submit 1003 1 []) (Submitted (Taken digest)) gap_hub → digest ≡ sha256 no_text
-  pub never_by_volume_alone : Goes gap_hub (Submit 1003 1 []) (Submitted (Repeat (Rejected 1 1))) gap_hub → ⊥
-  pub never_taken_by_itself : Goes gap_hub (Submit 1003 1 no_text) (Submitted (Taken (sha256 no_text))) gap_hub → ⊥
+  pub no_other_digest : (digest : List ℕ)
+      → Goes gap_hub (Submit 1003 1 []) (Submitted (Taken digest)) gap_hub → digest ≡ sha256 no_text
+  pub never_by_volume_alone : Goes gap_hub (Submit 1003 1 [])
+      (Submitted (Repeat (Rejected 1 1))) gap_hub → ⊥
+  pub never_taken_by_itself : Goes gap_hub (Submit 1003 1 no_text)
+      (Submitted (Taken (sha256 no_text))) gap_hub → ⊥
 
 -- refusals
 pub record WorkedRefusals : Type 0 where
   pub refused : Goes gap_hub (Submit 1003 0 no_text) (Submitted (Refused refusal.BadVolume)) gap_hub
-  pub never_for_another_reason : Goes gap_hub (Submit 1003 0 no_text) (Submitted (Refused refusal.TooLarge)) gap_hub → ⊥
-  pub never_with_a_change : Goes gap_hub (Submit 1003 0 no_text) (Submitted (Refused refusal.BadVolume)) new_hub → ⊥
-  pub asked_in_vain : Goes gap_hub (Pose (Ask 1003 0)) (Replied (Ask 1003 0) (Err refusal.BadVolume)) gap_hub
-  pub stands_in_vain : Goes gap_hub (Pose (Stand 9999)) (Replied (Stand 9999) (Err refusal.UnknownCustodian)) gap_hub
-  pub not_received : Goes gap_hub (Submit 1003 2 no_text) (Submitted (Refused (refusal.NotReceived fault.Memory))) gap_hub
-  pub some_judged : Goes late_hub (Submit 1003 2 no_text) (Submitted (Refused (refusal.NotReceived fault.Memory))) gap_hub
-  pub never_received : Goes gap_hub (Submit 1003 2 no_text) (Submitted (Refused (refusal.NotReceived fault.Memory))) whole_hub → ⊥
-  pub never_received_by_asking : Goes gap_hub (Pose (Ask 1003 1)) (Replied (Ask 1003 1) (Err (refusal.ReceivedUnsettled fault.Memory))) gap_hub → ⊥
+  pub never_for_another_reason : Goes gap_hub (Submit 1003 0 no_text)
+      (Submitted (Refused refusal.TooLarge)) gap_hub → ⊥
+  pub never_with_a_change : Goes gap_hub (Submit 1003 0 no_text)
+      (Submitted (Refused refusal.BadVolume)) new_hub → ⊥
+  pub asked_in_vain : Goes gap_hub (Pose (Ask 1003 0))
+      (Replied (Ask 1003 0) (Err refusal.BadVolume)) gap_hub
+  pub stands_in_vain : Goes gap_hub (Pose (Stand 9999))
+      (Replied (Stand 9999) (Err refusal.UnknownCustodian)) gap_hub
+  pub not_received : Goes gap_hub (Submit 1003 2 no_text)
+      (Submitted (Refused (refusal.NotReceived fault.Memory))) gap_hub
+  pub some_judged : Goes late_hub (Submit 1003 2 no_text)
+      (Submitted (Refused (refusal.NotReceived fault.Memory))) gap_hub
+  pub never_received : Goes gap_hub (Submit 1003 2 no_text)
+      (Submitted (Refused (refusal.NotReceived fault.Memory))) whole_hub → ⊥
+  pub never_received_by_asking : Goes gap_hub (Pose (Ask 1003 1))
+      (Replied (Ask 1003 1) (Err (refusal.ReceivedUnsettled fault.Memory))) gap_hub → ⊥
 
 -- questions, and settling
 pub record WorkedQuestions : Type 0 where
-  pub told : Goes gap_hub (Pose (Ask 1003 1)) (Replied (Ask 1003 1) (Ok (Some (sha256 no_text, Rejected 1 1)))) gap_hub
+  pub told : Goes gap_hub (Pose (Ask 1003 1))
+      (Replied (Ask 1003 1) (Ok (Some (sha256 no_text, Rejected 1 1)))) gap_hub
   pub told_of_nothing : Goes gap_hub (Pose (Ask 1003 2)) (Replied (Ask 1003 2) (Ok None)) gap_hub
   pub never_nothing : Goes gap_hub (Pose (Ask 1003 1)) (Replied (Ask 1003 1) (Ok None)) gap_hub → ⊥
-  pub never_another_outcome : Goes gap_hub (Pose (Ask 1003 1)) (Replied (Ask 1003 1) (Ok (Some (sha256 no_text, Held 1003 2)))) gap_hub → ⊥
-  pub stands : Goes gap_hub (Pose (Stand 1003)) (Replied (Stand 1003) (Ok (record { custodian = 1003; held = 1; judged = 1; wants = Some (1003, 2) }))) gap_hub
-  pub never_judged_as_held : Goes gap_hub (Pose (Stand 1003)) (Replied (Stand 1003) (Ok (record { custodian = 1003; held = 2; judged = 1; wants = Some (1003, 2) }))) gap_hub → ⊥
+  pub never_another_outcome : Goes gap_hub (Pose (Ask 1003 1))
+      (Replied (Ask 1003 1) (Ok (Some (sha256 no_text, Held 1003 2)))) gap_hub → ⊥
+  pub stands : Goes gap_hub (Pose (Stand 1003))
+      (Replied (Stand 1003)
+      (Ok (record { custodian = 1003; held = 1; judged = 1; wants = Some (1003, 2) }))) gap_hub
+  pub never_judged_as_held : Goes gap_hub (Pose (Stand 1003))
+      (Replied (Stand 1003)
+      (Ok (record { custodian = 1003; held = 2; judged = 1; wants = Some (1003, 2) }))) gap_hub → ⊥
   pub settled : Goes late_hub (Pose Settle) (Replied Settle (Ok tt)) gap_hub
   pub never_half_settled : Goes late_hub (Pose Settle) (Replied Settle (Ok tt)) late_hub → ⊥
-  pub gives_up : Goes late_hub (Pose Settle) (Replied Settle (Err (refusal.NotReceived fault.Memory))) late_hub
-  pub never_answered_otherwise : Goes gap_hub (Pose Settle) (Replied (Ask 1003 2) (Ok None)) gap_hub → ⊥
+  pub gives_up : Goes late_hub (Pose Settle)
+      (Replied Settle (Err (refusal.NotReceived fault.Memory))) late_hub
+  pub never_answered_otherwise : Goes gap_hub (Pose Settle) (Replied (Ask 1003 2) (Ok None)) gap_hub
+      → ⊥
   pub settles : Settles sample_door sent empty_board one_judged
   pub settles_too_little : Settles sample_door sent empty_board empty_board → ⊥
 

@@ -5,7 +5,7 @@ ghost use Rattle.gaz_hub.specs.Asked.{IsToldNow};
 ghost use Rattle.gaz_hub.specs.Hubs.{MeetsDoor, door_of};
 ghost use Rattle.gaz_hub.specs.Outcomes.{held_count, status};
 ghost use Rattle.gaz_hub.specs.Step.{Ask, Pose, Replied, Stand};
-ghost use Rattle.gaz_extract.specs.Readings.{IsNotJudging};
+ghost use Rattle.gaz_shelf.specs.Telling.{IsNotJudging};
 ghost use Rattle.gaz_hub.specs.Telling.{LooksAtKept, RepliesTo};
 
 use crate::admission::{at_door, known_code};

@@ -2,7 +2,7 @@ ghost use Rattle.std.specs.Prelude.{◌≡◌};
 ghost use Rattle.gaz_hub.specs.Hubs.{MeetsDoor, door_of, told, told_all, or_not_received};
 ghost use Rattle.gaz_hub.specs.Step.{Ask, Extract, ListClosed, LookUp, Pose, Replied, Settle};
 ghost use Rattle.gaz_hub.specs.Step.{Stand, Submit, Submitted};
-ghost use Rattle.gaz_extract.specs.Readings.{IsNotJudging};
+ghost use Rattle.gaz_shelf.specs.Telling.{IsNotJudging};
 ghost use Rattle.gaz_hub.specs.Telling.{RepliesTo, StepsTo};
 
 use crate::answer::{Answer, Digest};

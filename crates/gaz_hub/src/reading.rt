@@ -2,7 +2,7 @@
 //! streets.
 ghost use Rattle.gaz_hub.specs.Hubs.{MeetsDoor, door_of, told, told_all};
 ghost use Rattle.gaz_hub.specs.Step.{Extract, ListClosed, LookUp, Pose, Replied};
-ghost use Rattle.gaz_extract.specs.Readings.{IsNotJudging};
+ghost use Rattle.gaz_shelf.specs.Telling.{IsNotJudging};
 ghost use Rattle.gaz_hub.specs.Telling.{RepliesTo};
 
 use crate::admission::at_door;

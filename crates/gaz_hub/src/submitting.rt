@@ -2,8 +2,8 @@
 ghost use Rattle.std.specs.Prelude.{◌≡◌, ◌↔◌, IfOk, IsTrue, Some, None, true, false};
 ghost use Rattle.gaz_hub.specs.Asked.{AnyIsPastDoor, IsAgain, IsOutcome, IsPastDoor, TakesIn};
 ghost use Rattle.gaz_hub.specs.Hubs.{MeetsDoor, door_of};
-ghost use Rattle.gaz_hub.specs.Step.{Submit, Submitted, door};
-ghost use Rattle.gaz_extract.specs.Readings.{IsNotJudging};
+ghost use Rattle.gaz_hub.specs.Step.{Submit, Submitted, file_refusal};
+ghost use Rattle.gaz_shelf.specs.Telling.{IsNotJudging};
 ghost use Rattle.gaz_hub.specs.Telling.{LooksAtKept, StepsTo, TellsKept};
 
 use crate::admission::{at_door, names_unknown_profile};
@@ -90,7 +90,7 @@ fn take_in<K: Inbox>(
     file: &[u8],
 ) -> Answer
     requires idle { IsNotJudging K.seen keeper.old }
-    requires let_in { door (door_of register.now) code volume file.now ≡ None }
+    requires let_in { file_refusal (door_of register.now) code volume file.now ≡ None }
     ensures takes_in { TakesIn (door_of register.now) (K.seen keeper.old) (K.seen keeper.new)
         code volume file.now result }
     ensures past_door { IsPastDoor result }
@@ -115,7 +115,7 @@ fn submit_let_in<K: Inbox>(
     file: &[u8],
 ) -> Answer
     requires idle { IsNotJudging K.seen keeper.old }
-    requires let_in { door (door_of register.now) code volume file.now ≡ None }
+    requires let_in { file_refusal (door_of register.now) code volume file.now ≡ None }
     ensures steps { StepsTo K.seen register.now keeper.old keeper.new
         (Submit code volume file.now) (Submitted result) }
     ensures past_door { IsPastDoor result }

@@ -6,7 +6,7 @@ use Rattle.gaz_changefile.specs.Contents.{Contents}
 use Rattle.gaz_changefile.specs.declared.change.Basis.{Basis}
 use Rattle.gaz_changefile.specs.declared.change.Change.{Change}
 use Rattle.gaz_register.specs.Registers.{Blocks}
-use Rattle.gaz_shelf.specs.Keeper.{Content, IsNotOpen, Open, Reads, Seen, with_working}
+use Rattle.gaz_shelf.specs.Keeper.{Content, Open, Reads, Seen, with_working}
 use Rattle.gaz_shelf.specs.declared.fault.ShelfFault.{ShelfFault}
 use Rattle.gaz_views.specs.View.{View}
 use Rattle.gaz_rules.specs.Bases.{are_reached, basis_views}
@@ -20,10 +20,6 @@ use Rattle.gaz_rules.specs.declared.judging.Fault as found
 -- a judgement of this custodian is in progress
 abbrev pub IsJudging : {K : Type 0} → (K → Seen) → K → ℕ → Type 0
 IsJudging seen now code = (seen now).progress ≡ Open code
-
--- no judgement is in progress
-abbrev pub IsNotJudging : {K : Type 0} → (K → Seen) → K → Type 0
-IsNotJudging seen now = IsNotOpen (seen now).progress
 
 -- ---- one call
 

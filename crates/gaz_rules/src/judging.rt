@@ -6,7 +6,8 @@ ghost use Rattle.gaz_views.specs.View.{with_item};
 ghost use Rattle.gaz_rules.specs.Phases.{Concludes, GivesUp};
 ghost use Rattle.gaz_rules.specs.Rules.{effect};
 ghost use Rattle.gaz_rules.specs.Working.{DoesPhases, DoesRecords, FindsEndFault, IsJudging};
-ghost use Rattle.gaz_rules.specs.Working.{IsNotJudging, MakesView};
+ghost use Rattle.gaz_rules.specs.Working.{MakesView};
+ghost use Rattle.gaz_shelf.specs.Telling.{IsNotJudging};
 ghost use Rattle.gaz_rules.specs.Judges.{JudgesFile};
 
 use crate::known::Known;

@@ -19,7 +19,8 @@ board_of es = λ c. (account_of es c).judged
 
 -- each view of a custodian is lawful
 pub record IsLawfulAccount (a : Account) : Type 0 where
-  pub judged : (volume : ℕ) → IsLawfulView (unwrap_or (slice_get (views a.judged) volume) empty_view)
+  pub judged : (volume : ℕ)
+      → IsLawfulView (unwrap_or (slice_get (views a.judged) volume) empty_view)
   pub working : IsLawfulView a.working
 
 abbrev pub AreLawful : List (ℕ × Account) → Type 0

@@ -14,24 +14,24 @@ empty_board = λ c. []
 
 -- how many volumes of a custodian are judged
 abbrev pub reached : Board → ℕ → ℕ
-reached B c = length (B c)
+reached board c = length (board c)
 
 -- the view of a custodian after a volume that it has reached
 abbrev pub view_after : Board → ℕ → ℕ → View
-view_after B c volume = unwrap_or (slice_get (views (B c)) volume) empty_view
+view_after board c volume = unwrap_or (slice_get (views (board c)) volume) empty_view
 
 -- the last one
 abbrev pub last_view : Board → ℕ → View
-last_view B c = view_after B c (reached B c)
+last_view board c = view_after board c (reached board c)
 
 -- the judgement of a volume, where it is judged; the first is volume 1
 abbrev pub judgement_on : Board → ℕ → ℕ → Option Judgement
-judgement_on B c zero = None
-judgement_on B c (suc n) = slice_get (B c) n
+judgement_on board c zero = None
+judgement_on board c (suc n) = slice_get (board c) n
 
 abbrev pub verdict_on : Board → ℕ → ℕ → Option Verdict
-verdict_on B c volume = option_map (λ j. j.verdict) (judgement_on B c volume)
+verdict_on board c volume = option_map (λ j. j.verdict) (judgement_on board c volume)
 
 -- the board with one more judgement of a custodian
 abbrev pub adds : Board → ℕ → Judgement → Board
-adds B c j = λ d. if d == c then B d ++ j ∷ [] else B d
+adds board c j = λ other. if other == c then board other ++ j ∷ [] else board other

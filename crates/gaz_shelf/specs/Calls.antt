@@ -68,7 +68,8 @@ failure_of p = if p.failures == 2 ^ 64 - 1 then Memory else Store
 
 -- a call of this kind is counted, and it fails where its number has come; else nothing fails here,
 -- unless its judgement was broken already
-pub record CountsAs {T : Type 0} (kind : Call) (old new : Plan) (broken : Bool) (result : Result T ShelfFault) : Type 0 where
+pub record CountsAs {T : Type 0} (kind : Call) (old new : Plan) (broken : Bool)
+    (result : Result T ShelfFault) : Type 0 where
   pub calls : new.calls ≡ counted kind old.calls
   pub left : new.left ≡ old.left - 1
   pub failed : new.failed ≡ (if old.left == 1 then Some kind else old.failed)

@@ -24,7 +24,8 @@ lawful_around (Open c) k all = all
 lawful_around Broken k all = record { views = all.views; working = all.views 0 0 }
 
 pub full_around : (inner own : ℕ) → (own == 2 ^ 64 - 1) ≡ true → 2 ^ 64 - 1 ≤ inner + own
-full_around inner own full = le_trans (le_of_eq (sym (eqb-true own (2 ^ 64 - 1) full))) (le-add_left own inner)
+full_around inner own full =
+    le_trans (le_of_eq (sym (eqb-true own (2 ^ 64 - 1) full))) (le-add_left own inner)
 
 -- the keeper around another, that holds a judgement as broken or not and failed so often itself
 abbrev pub around : Seen → Bool → ℕ → Seen

@@ -82,10 +82,12 @@ after_keep Broken k = k
 
 -- a custodian's next volume is rejected, and its view stays as it was
 abbrev pub after_skip : Content → ℕ → ℕ → ℕ → Content
-after_skip k c place rule = with_judgement k c (record { verdict = Rejected place rule; view = last_view k.board c })
+after_skip k c place rule =
+    with_judgement k c (record { verdict = Rejected place rule; view = last_view k.board c })
 
 abbrev pub with_received : Content → ℕ → ℕ → List ℕ → Content
-with_received k c volume bytes = record { files = with_file k.files c volume bytes; board = k.board; working = k.working }
+with_received k c volume bytes =
+    record { files = with_file k.files c volume bytes; board = k.board; working = k.working }
 
 -- a stop leaves no working view
 abbrev pub after_stop : Content → Content
@@ -108,7 +110,7 @@ IsNotOpen p = (c : ℕ) → p ≢ Open c
 
 abbrev pub viewed : Progress → Content → ℕ → View
 viewed Idle k c = last_view k.board c
-viewed (Open d) k c = if c == d then k.working else last_view k.board c
+viewed (Open whom) k c = if c == whom then k.working else last_view k.board c
 viewed Broken k c = last_view k.board c
 
 -- a custodian's view: the working one while it is being judged, else its last
@@ -125,7 +127,8 @@ IsSound s = s.unharmed → s.stands
 -- commits one and was unharmed
 abbrev pub LeavesAtMost : Option Content → Seen → Seen → Type 0
 LeavesAtMost None old new = (k : Content) → new.leaves k → old.leaves k
-LeavesAtMost (Some becomes) old new = (k : Content) → new.leaves k → old.leaves k ⊎ (old.unharmed × (k ≡ after_stop becomes))
+LeavesAtMost (Some becomes) old new =
+    (k : Content) → new.leaves k → old.leaves k ⊎ (old.unharmed × (k ≡ after_stop becomes))
 
 -- what is committed, and nothing else
 abbrev pub LeavesJust : Option Content → Seen → Type 0
@@ -154,7 +157,8 @@ pub record Keeps (old new : Seen) : Type 0 where
   pub leaves : IsSound old → LeavesAtMost None old new
 
 -- a call that reads: its answer is right, and after it no judgement is broken
-pub record Reads {T : Type 0} (old new : Seen) (result : Result T ShelfFault) (IsRight : T → Type 0) : Type 0 where
+pub record Reads {T : Type 0} (old new : Seen) (result : Result T ShelfFault)
+    (IsRight : T → Type 0) : Type 0 where
   pub keeps : Keeps old new
   pub right : old.stands → new.unharmed → IfOk result IsRight
   pub cleared : OnOk result (new.progress ≢ Broken)
@@ -162,12 +166,14 @@ pub record Reads {T : Type 0} (old new : Seen) (result : Result T ShelfFault) (I
 
 -- a call of a judgement: where what it asks is so, the content becomes this one; a fault breaks the
 -- judgement and undoes it
-pub record Goes {T : Type 0} (old new : Seen) (result : Result T ShelfFault) (asked : Type 0) (becomes : Content) (commits : Option Content)
+pub record Goes {T : Type 0} (old new : Seen) (result : Result T ShelfFault) (asked : Type 0)
+    (becomes : Content) (commits : Option Content)
     (after : Progress) : Type 0 where
   pub harm : new.unharmed → old.unharmed
   pub stands : old.stands → asked → new.unharmed → new.stands
   pub done : old.stands → asked → new.unharmed → OnOk result (new.content ≡ becomes)
-  pub undone : old.stands → asked → new.unharmed → OnErr result (new.content ≡ after_abandon old.content)
+  pub undone : old.stands → asked → new.unharmed
+      → OnErr result (new.content ≡ after_abandon old.content)
   pub on : OnOk result (new.progress ≡ after)
   pub broken : OnErr result (new.progress ≡ Broken)
   pub counts : Counts old new result
@@ -176,7 +182,8 @@ pub record Goes {T : Type 0} (old new : Seen) (result : Result T ShelfFault) (as
 
 -- a call while no judgement is in progress: where what it asks is so, the content becomes this one;
 -- a fault changes nothing
-pub record Enters {T : Type 0} (old new : Seen) (result : Result T ShelfFault) (asked : Type 0) (becomes : Content) : Type 0 where
+pub record Enters {T : Type 0} (old new : Seen) (result : Result T ShelfFault) (asked : Type 0)
+    (becomes : Content) : Type 0 where
   pub harm : new.unharmed → old.unharmed
   pub stands : old.stands → asked → new.unharmed → new.stands
   pub done : old.stands → asked → new.unharmed → OnOk result (new.content ≡ becomes)

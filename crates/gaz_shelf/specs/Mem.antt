@@ -29,7 +29,8 @@ content_in s = record {
 }
 
 -- it is lawful, since each account is
-lawful_working : (j : Judging) (es : List (ℕ × Account)) → AreLawful es → IsLawfulView (working_of j es)
+lawful_working : (j : Judging) (es : List (ℕ × Account)) → AreLawful es
+    → IsLawfulView (working_of j es)
 lawful_working judging.Idle es all = (all 0).judged 0
 lawful_working (judging.Open c) es all = (all c).working
 lawful_working judging.Broken es all = (all 0).judged 0

@@ -21,12 +21,13 @@ abbrev pub is_below : List (ℕ × ℕ) → ℕ → ℕ → Bool
 is_below highest c volume = option_map_or (nat_le volume) (lookup (is_at (nat_cmp c)) highest) false
 
 abbrev pub with_file : Received → ℕ → ℕ → List ℕ → Received
-with_file F c volume bytes = map.insert F (c, volume) bytes
+with_file files c volume bytes = map.insert files (c, volume) bytes
 
 -- each file of a custodian that was received is at or below the highest of its volumes
 abbrev pub AreBelow : List (ℕ × ℕ) → Received → Type 0
-AreBelow highest F = (c volume : ℕ) → is_some (map.get F (c, volume)) ≡ true → is_below highest c volume ≡ true
+AreBelow highest files =
+    (c volume : ℕ) → is_some (map.get files (c, volume)) ≡ true → is_below highest c volume ≡ true
 
 -- how many of a custodian's files are above a volume
 abbrev pub count_above : Received → ℕ → ℕ → ℕ
-count_above F c volume = count_by (λ p. (p.0 == c) && not (nat_le p.1 volume)) (map.keys F)
+count_above files c volume = count_by (λ p. (p.0 == c) && not (nat_le p.1 volume)) (map.keys files)

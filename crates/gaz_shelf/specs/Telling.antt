@@ -14,84 +14,120 @@ use Rattle.gaz_views.specs.Words.{rest_of}
 use Rattle.gaz_views.specs.declared.property.Property.{Property}
 use Rattle.gaz_views.specs.declared.verdict.Verdict.{Verdict}
 use Rattle.gaz_shelf.specs.Board.{Board, reached, verdict_on, view_after}
-use Rattle.gaz_shelf.specs.Keeper.{Enters, Goes, Idle, IsAtHand, IsNew, Open, Reads, Seen, Sets}
+use Rattle.gaz_shelf.specs.Keeper.{Enters, Goes, Idle, IsAtHand, IsNew, IsNotOpen, Open, Reads}
+use Rattle.gaz_shelf.specs.Keeper.{Seen, Sets}
 use Rattle.gaz_shelf.specs.Keeper.{after_abandon, after_begin, after_keep, after_skip}
 use Rattle.gaz_shelf.specs.Keeper.{committed_by, view_of, with_received, written}
 use Rattle.gaz_shelf.specs.Received.{count_above}
 use Rattle.gaz_shelf.specs.declared.fault.ShelfFault.{ShelfFault}
 use Rattle.gaz_shelf.specs.declared.writing.Ending.{Ending}
 
+-- no judgement is in progress
+abbrev pub IsNotJudging : {K : Type 0} → (K → Seen) → K → Type 0
+IsNotJudging seen now = IsNotOpen (seen now).progress
+
 -- ---- after a volume that is reached
 
 -- the item at a key
 abbrev pub IsItemAt : Board → ℕ → ℕ → Key → Option Item → Type 0
-IsItemAt B c volume key i = volume ≤ reached B c → i ≡ map.get (view_after B c volume).items key
+IsItemAt board c volume key i =
+    volume ≤ reached board c → i ≡ map.get (view_after board c volume).items key
 
 -- a page
 abbrev pub IsPageAt : Board → ℕ → ℕ → Kind → Option Key → ℕ → List Item → Type 0
-IsPageAt B c volume kind after most items = volume ≤ reached B c → items ≡ page (view_after B c volume) kind after most
+IsPageAt board c volume kind after most items =
+    volume ≤ reached board c → items ≡ page (view_after board c volume) kind after most
 
 -- all items of a kind
 abbrev pub IsAllAt : Board → ℕ → ℕ → Kind → List Item → Type 0
-IsAllAt B c volume kind items = volume ≤ reached B c → items ≡ rest_of (view_after B c volume) kind None
+IsAllAt board c volume kind items =
+    volume ≤ reached board c → items ≡ rest_of (view_after board c volume) kind None
 
 -- these items and those that are left come to what there was before and what was to be read
-abbrev pub IsReadOn : Board → ℕ → ℕ → Kind → Option Key → List Item → List Item → Option Key → Type 0
-IsReadOn B c volume kind after before items next =
-    volume ≤ reached B c → items ++ left_after (view_after B c volume) kind next ≡ before ++ rest_of (view_after B c volume) kind after
+abbrev pub IsReadOn : Board → ℕ → ℕ → Kind → Option Key → List Item → List Item → Option Key
+    → Type 0
+IsReadOn board c volume kind after before items next =
+    volume ≤ reached board c
+        → items ++ left_after (view_after board c volume) kind next ≡ before
+        ++ rest_of (view_after board c volume) kind after
 
 -- ---- the calls that read
 
 abbrev pub TellsReached : {K : Type 0} → (K → Seen) → K → K → Result ℕ ShelfFault → ℕ → Type 0
-TellsReached seen old new result c = Reads (seen old) (seen new) result (λ n. n ≡ reached (seen old).content.board c)
+TellsReached seen old new result c =
+    Reads (seen old) (seen new) result (λ n. n ≡ reached (seen old).content.board c)
 
-abbrev pub TellsVerdict : {K : Type 0} → (K → Seen) → K → K → Result (Option Verdict) ShelfFault → ℕ → ℕ → Type 0
-TellsVerdict seen old new result c volume = Reads (seen old) (seen new) result (λ v. v ≡ verdict_on (seen old).content.board c volume)
+abbrev pub TellsVerdict : {K : Type 0} → (K → Seen) → K → K → Result (Option Verdict) ShelfFault → ℕ
+    → ℕ → Type 0
+TellsVerdict seen old new result c volume =
+    Reads (seen old) (seen new) result (λ v. v ≡ verdict_on (seen old).content.board c volume)
 
-abbrev pub TellsCurrent : {K : Type 0} → (K → Seen) → K → K → Result (Option Item) ShelfFault → ℕ → Key → Type 0
-TellsCurrent seen old new result c key = Reads (seen old) (seen new) result (λ i. i ≡ map.get (view_of (seen old) c).items key)
+abbrev pub TellsCurrent : {K : Type 0} → (K → Seen) → K → K → Result (Option Item) ShelfFault → ℕ
+    → Key → Type 0
+TellsCurrent seen old new result c key =
+    Reads (seen old) (seen new) result (λ i. i ≡ map.get (view_of (seen old) c).items key)
 
-abbrev pub TellsAt : {K : Type 0} → (K → Seen) → K → K → Result (Option Item) ShelfFault → ℕ → ℕ → Key → Type 0
-TellsAt seen old new result c volume key = Reads (seen old) (seen new) result (λ i. IsItemAt (seen old).content.board c volume key i)
+abbrev pub TellsAt : {K : Type 0} → (K → Seen) → K → K → Result (Option Item) ShelfFault → ℕ → ℕ
+    → Key → Type 0
+TellsAt seen old new result c volume key =
+    Reads (seen old) (seen new) result (λ i. IsItemAt (seen old).content.board c volume key i)
 
 abbrev pub TellsEver : {K : Type 0} → (K → Seen) → K → K → Result Bool ShelfFault → ℕ → Key → Type 0
-TellsEver seen old new result c key = Reads (seen old) (seen new) result (λ b. b ≡ was_used (view_of (seen old) c) key)
+TellsEver seen old new result c key =
+    Reads (seen old) (seen new) result (λ b. b ≡ was_used (view_of (seen old) c) key)
 
-abbrev pub TellsApprovedOf : {K : Type 0} → (K → Seen) → K → K → Result (Vec Key) ShelfFault → ℕ → ℕ → Type 0
-TellsApprovedOf seen old new result c uprn = Reads (seen old) (seen new) result (λ keys. keys.items ≡ approved_of (view_of (seen old) c) uprn)
+abbrev pub TellsApprovedOf : {K : Type 0} → (K → Seen) → K → K → Result (Vec Key) ShelfFault → ℕ → ℕ
+    → Type 0
+TellsApprovedOf seen old new result c uprn =
+    Reads (seen old) (seen new) result
+    (λ keys. keys.items ≡ approved_of (view_of (seen old) c) uprn)
 
-abbrev pub TellsPropertyOf : {K : Type 0} → (K → Seen) → K → K → Result (Option Property) ShelfFault → ℕ → ℕ → Type 0
-TellsPropertyOf seen old new result c uprn = Reads (seen old) (seen new) result (λ p. p ≡ property_of (view_of (seen old) c) uprn)
+abbrev pub TellsPropertyOf : {K : Type 0} → (K → Seen) → K → K → Result (Option Property) ShelfFault
+    → ℕ → ℕ → Type 0
+TellsPropertyOf seen old new result c uprn =
+    Reads (seen old) (seen new) result (λ p. p ≡ property_of (view_of (seen old) c) uprn)
 
-abbrev pub TellsApprovedOn : {K : Type 0} → (K → Seen) → K → K → Result Bool ShelfFault → ℕ → ℕ → Option Lang → Type 0
-TellsApprovedOn seen old new result c usrn lang = Reads (seen old) (seen new) result (λ b. b ≡ approved_on (view_of (seen old) c) usrn lang)
+abbrev pub TellsApprovedOn : {K : Type 0} → (K → Seen) → K → K → Result Bool ShelfFault → ℕ → ℕ
+    → Option Lang → Type 0
+TellsApprovedOn seen old new result c usrn lang =
+    Reads (seen old) (seen new) result (λ b. b ≡ approved_on (view_of (seen old) c) usrn lang)
 
-abbrev pub TellsChildren : {K : Type 0} → (K → Seen) → K → K → Result Bool ShelfFault → ℕ → ℕ → Type 0
-TellsChildren seen old new result c uprn = Reads (seen old) (seen new) result (λ b. b ≡ has_children (view_of (seen old) c) uprn)
+abbrev pub TellsChildren : {K : Type 0} → (K → Seen) → K → K → Result Bool ShelfFault → ℕ → ℕ
+    → Type 0
+TellsChildren seen old new result c uprn =
+    Reads (seen old) (seen new) result (λ b. b ≡ has_children (view_of (seen old) c) uprn)
 
-abbrev pub TellsPage : {K : Type 0} → (K → Seen) → K → K → Result (Vec Item) ShelfFault → ℕ → ℕ → Kind → Option Key → ℕ → Type 0
+abbrev pub TellsPage : {K : Type 0} → (K → Seen) → K → K → Result (Vec Item) ShelfFault → ℕ → ℕ
+    → Kind → Option Key → ℕ → Type 0
 TellsPage seen old new result c volume kind after most =
-    Reads (seen old) (seen new) result (λ items. IsPageAt (seen old).content.board c volume kind after most items.items)
+    Reads (seen old) (seen new) result
+        (λ items. IsPageAt (seen old).content.board c volume kind after most items.items)
 
-abbrev pub TellsReceived : {K : Type 0} → (K → Seen) → K → K → Result (Option (Vec ℕ)) ShelfFault → ℕ → ℕ → Type 0
+abbrev pub TellsReceived : {K : Type 0} → (K → Seen) → K → K → Result (Option (Vec ℕ)) ShelfFault
+    → ℕ → ℕ → Type 0
 TellsReceived seen old new result c volume =
-    Reads (seen old) (seen new) result (λ bytes. option_map (λ b. b.items) bytes ≡ map.get (seen old).content.files (c, volume))
+    Reads (seen old) (seen new) result
+        (λ bytes. option_map (λ b. b.items) bytes ≡ map.get (seen old).content.files (c, volume))
 
 abbrev pub TellsHeld : {K : Type 0} → (K → Seen) → K → K → Result ℕ ShelfFault → ℕ → Type 0
 TellsHeld seen old new result c =
-    Reads (seen old) (seen new) result (λ n. n ≡ count_above (seen old).content.files c (reached (seen old).content.board c))
+    Reads (seen old) (seen new) result
+        (λ n. n ≡ count_above (seen old).content.files c (reached (seen old).content.board c))
 
 -- ---- the calls of a judgement, and those outside one
 
 abbrev pub Begins : {K T : Type 0} → (K → Seen) → K → K → Result T ShelfFault → ℕ → Type 0
 Begins seen old new result c =
-    Goes (seen old) (seen new) result (IsAtHand (seen old).content c) (after_begin (seen old).content c) None (Open c)
+    Goes (seen old) (seen new) result (IsAtHand (seen old).content c)
+        (after_begin (seen old).content c) None (Open c)
 
 abbrev pub Puts : {K T : Type 0} → (K → Seen) → K → K → Result T ShelfFault → Item → Type 0
-Puts seen old new result item = Sets (seen old) (seen new) result (with_item (seen old).content.working item)
+Puts seen old new result item =
+    Sets (seen old) (seen new) result (with_item (seen old).content.working item)
 
 abbrev pub Takes : {K T : Type 0} → (K → Seen) → K → K → Result T ShelfFault → Key → Type 0
-Takes seen old new result key = Sets (seen old) (seen new) result (without_key (seen old).content.working key)
+Takes seen old new result key =
+    Sets (seen old) (seen new) result (without_key (seen old).content.working key)
 
 abbrev pub Applies : {K T : Type 0} → (K → Seen) → K → K → Result T ShelfFault → Type 0
 Applies seen old new result =
@@ -99,31 +135,43 @@ Applies seen old new result =
     (Some (after_keep (seen old).progress (seen old).content)) Idle
 
 abbrev pub Abandons : {K T : Type 0} → (K → Seen) → K → K → Result T ShelfFault → Type 0
-Abandons seen old new result = Goes (seen old) (seen new) result ⊤ (after_abandon (seen old).content) None Idle
+Abandons seen old new result =
+    Goes (seen old) (seen new) result ⊤ (after_abandon (seen old).content) None Idle
 
 abbrev pub Skips : {K T : Type 0} → (K → Seen) → K → K → Result T ShelfFault → ℕ → ℕ → ℕ → Type 0
 Skips seen old new result c place rule =
-    Enters (seen old) (seen new) result (IsAtHand (seen old).content c) (after_skip (seen old).content c place rule)
+    Enters (seen old) (seen new) result (IsAtHand (seen old).content c)
+        (after_skip (seen old).content c place rule)
 
-abbrev pub Receives : {K T : Type 0} → (K → Seen) → K → K → Result T ShelfFault → ℕ → ℕ → List ℕ → Type 0
+abbrev pub Receives : {K T : Type 0} → (K → Seen) → K → K → Result T ShelfFault → ℕ → ℕ → List ℕ
+    → Type 0
 Receives seen old new result c volume bytes =
-    Enters (seen old) (seen new) result (IsNew (seen old).content c volume) (with_received (seen old).content c volume bytes)
+    Enters (seen old) (seen new) result (IsNew (seen old).content c volume)
+        (with_received (seen old).content c volume bytes)
 
 -- ---- over any keeper
 
-abbrev pub TellsAll : {K : Type 0} → (K → Seen) → K → K → Result (Vec Item) ShelfFault → ℕ → ℕ → Kind → Type 0
+abbrev pub TellsAll : {K : Type 0} → (K → Seen) → K → K → Result (Vec Item) ShelfFault → ℕ → ℕ
+    → Kind → Type 0
 TellsAll seen old new result c volume kind =
-    Reads (seen old) (seen new) result (λ items. IsAllAt (seen old).content.board c volume kind items.items)
+    Reads (seen old) (seen new) result
+        (λ items. IsAllAt (seen old).content.board c volume kind items.items)
 
 -- a page is added to these items
-abbrev pub AddsPage : {K : Type 0} → (K → Seen) → K → K → Result (Option Key) ShelfFault → ℕ → ℕ → Kind → Option Key → Vec Item → Vec Item → Type 0
+abbrev pub AddsPage : {K : Type 0} → (K → Seen) → K → K → Result (Option Key) ShelfFault → ℕ → ℕ
+    → Kind → Option Key → Vec Item → Vec Item → Type 0
 AddsPage seen old new result c volume kind after before items =
-    Reads (seen old) (seen new) result (λ next. IsReadOn (seen old).content.board c volume kind after before.items items.items next)
+    Reads (seen old) (seen new) result
+        (λ next. IsReadOn
+        (seen old).content.board c volume kind after before.items items.items next)
 
 abbrev pub PutsAll : {K T : Type 0} → (K → Seen) → K → K → Result T ShelfFault → List Item → Type 0
-PutsAll seen old new result items = Sets (seen old) (seen new) result (fold with_item (seen old).content.working items)
+PutsAll seen old new result items =
+    Sets (seen old) (seen new) result (fold with_item (seen old).content.working items)
 
-abbrev pub Writes : {K T : Type 0} → (K → Seen) → K → K → Result T ShelfFault → ℕ → List Item → Ending → Type 0
+abbrev pub Writes : {K T : Type 0} → (K → Seen) → K → K → Result T ShelfFault → ℕ → List Item
+    → Ending → Type 0
 Writes seen old new result c items ending =
-    Goes (seen old) (seen new) result (IsAtHand (seen old).content c) (written (seen old).content c items ending)
+    Goes (seen old) (seen new) result (IsAtHand (seen old).content c)
+        (written (seen old).content c items ending)
     (committed_by ending (written (seen old).content c items ending)) Idle

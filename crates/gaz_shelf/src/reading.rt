@@ -16,26 +16,26 @@ use std::alloc::Global;
 /// `Memory` too where a keeper answers more items than memory holds.
 pub fn read_kind<S: Shelf>(
     alloc: Global,
-    shelf: &mut S,
+    keeper: &mut S,
     code: Code,
     volume: u64,
     kind: Kind,
     most: usize,
 ) -> Result<Vec<SharedItem>, ShelfFault>
     requires { 1 ≤ most }
-    ensures { TellsAll S.seen shelf.old shelf.new result code volume kind }
+    ensures { TellsAll S.seen keeper.old keeper.new result code volume kind }
 {
     let mut items = Vec::new(alloc);
-    let mut next = add_page(shelf, code, volume, kind, None, most, &mut items)?;
+    let mut next = add_page(keeper, code, volume, kind, None, most, &mut items)?;
     while let Some(after) = next {
-        next = add_page(shelf, code, volume, kind, Some(after), most, &mut items)?;
+        next = add_page(keeper, code, volume, kind, Some(after), most, &mut items)?;
     }
     Ok(items)
 }
 
 // Adds a page, and answers the key after which the next page begins, or none after the last page.
 fn add_page<S: Shelf>(
-    shelf: &mut S,
+    keeper: &mut S,
     code: Code,
     volume: u64,
     kind: Kind,
@@ -44,13 +44,13 @@ fn add_page<S: Shelf>(
     items: &mut Vec<SharedItem>,
 ) -> Result<Option<Key>, ShelfFault>
     requires { 1 ≤ most }
-    ensures reads { AddsPage S.seen shelf.old shelf.new result code volume kind after
+    ensures reads { AddsPage S.seen keeper.old keeper.new result code volume kind after
         items.old items.new }
     ensures goes_on { IfOk result (λ next.
         vec_len items.old + (if is_some next then 1 else 0) ≤ vec_len items.new) }
     ensures fits { vec_len items.new < 2 ^ 64 }
 {
-    let mut page = shelf.page(code, volume, kind, after, most)?;
+    let mut page = keeper.page(code, volume, kind, after, most)?;
     let next = next_after(page.as_slice(), most);
     items.append(&mut page)?;
     let _count = items.len();

@@ -18,13 +18,13 @@ pub enum Ending {
 }
 
 /// Sets these items in the working view, one after another, up to a fault.
-pub fn put_all<S: Shelf>(shelf: &mut S, items: Vec<SharedItem>) -> Result<(), ShelfFault>
-    requires { (S.seen shelf.old).progress ≢ Idle }
-    ensures sets { PutsAll S.seen shelf.old shelf.new result items.items }
-    ensures refuses { items.items ≢ [] → Refuses (S.seen shelf.old) result }
+pub fn put_all<S: Shelf>(keeper: &mut S, items: Vec<SharedItem>) -> Result<(), ShelfFault>
+    requires { (S.seen keeper.old).progress ≢ Idle }
+    ensures sets { PutsAll S.seen keeper.old keeper.new result items.items }
+    ensures refuses { items.items ≢ [] → Refuses (S.seen keeper.old) result }
 {
     for item in items {
-        shelf.put(item)?;
+        keeper.put(item)?;
     }
     Ok(())
 }
@@ -32,18 +32,18 @@ pub fn put_all<S: Shelf>(shelf: &mut S, items: Vec<SharedItem>) -> Result<(), Sh
 /// Sets these items on a custodian's last view, as its next volume, which is to be at hand, and
 /// ends that judgement.
 pub fn write_volume<S: Shelf>(
-    shelf: &mut S,
+    keeper: &mut S,
     code: Code,
     items: Vec<SharedItem>,
     ending: Ending,
 ) -> Result<(), ShelfFault>
-    requires { IsNotOpen (S.seen shelf.old).progress }
-    ensures { Writes S.seen shelf.old shelf.new result code items.items ending }
+    requires { IsNotOpen (S.seen keeper.old).progress }
+    ensures { Writes S.seen keeper.old keeper.new result code items.items ending }
 {
-    shelf.begin(code)?;
-    put_all(shelf, items)?;
+    keeper.begin(code)?;
+    put_all(keeper, items)?;
     match ending {
-        Ending::Keep => shelf.keep(),
-        Ending::Abandon => shelf.abandon(),
+        Ending::Keep => keeper.keep(),
+        Ending::Abandon => keeper.abandon(),
     }
 }

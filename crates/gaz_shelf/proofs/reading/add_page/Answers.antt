@@ -7,7 +7,7 @@ use Rattle.gaz_shelf.proofs.reading.add_page.Goals as goal
 pub returns-clause-reads : goal.returns-clause-reads
 returns-clause-reads g c =
     let read = c.in_ok-page.ensures in
-    let was = g.S.Shelf.seen c.args.shelf.now in
+    let was = g.S.Shelf.seen c.args.keeper.now in
     let v = view_after was.content.board c.args.code c.args.volume in
     let next = c.next_after-next.ensures ∙ ap (next_after c.args.most) c.as_slice.ensures.value in
     record {

@@ -8,8 +8,8 @@ use Rattle.gaz_shelf.proofs.reading.read_kind.Given as goal
 
 abbrev pub invariant-loop-next : goal.invariant-loop-next
 invariant-loop-next g l =
-    let was = g.S.Shelf.seen l.fn.shelf in
-    let now = g.S.Shelf.seen l.shelf in
+    let was = g.S.Shelf.seen l.fn.keeper in
+    let now = g.S.Shelf.seen l.keeper in
     let view = view_after was.content.board l.code l.volume in
     record {
       keeps : Keeps was now;

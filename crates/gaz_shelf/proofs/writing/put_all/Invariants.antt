@@ -8,8 +8,8 @@ use Rattle.gaz_shelf.proofs.writing.put_all.Given as goal
 
 abbrev pub invariant-loop-item : goal.invariant-loop-item
 invariant-loop-item g l =
-    let now = g.S.Shelf.seen l.shelf in
-    let was = g.S.Shelf.seen l.fn.shelf in
+    let now = g.S.Shelf.seen l.keeper in
+    let was = g.S.Shelf.seen l.fn.keeper in
     record {
       harm : now.unharmed → was.unharmed;
       stands : was.stands → now.unharmed → now.stands;
