@@ -1,6 +1,7 @@
 ghost use Rattle.std.specs.Prelude.{◌≡◌, Ok};
 ghost use Rattle.gaz_shelf.specs.Keeper.{IsNotOpen};
 ghost use Rattle.gaz_hub.specs.Hubs.{door_of};
+ghost use Rattle.gaz_hub.specs.Seen.{hub_seen};
 ghost use Rattle.gaz_exchange.specs.Conversing.{Conversation, ended_after, transfer};
 ghost use Rattle.gaz_exchange.specs.Turns.{Answers, Asks, IsAsked, IsTurn, Refuses, turn_of};
 
@@ -58,7 +59,7 @@ pub enum Turn {
 fn ask_call<K: Inbox + Drop>(hub: &mut Hub<K>, call: Call, body: &[u8]) -> Reply
     requires idle { IsNotOpen (K.seen hub.old.keeper).progress }
     ensures asked { Asks (door_of hub.old.register) (Ok call) body.now
-        (K.seen hub.old.keeper) (K.seen hub.new.keeper) result }
+        (hub_seen K.seen hub.old) (hub_seen K.seen hub.new) result }
     ensures register { hub.new.register ≡ hub.old.register }
 {
     match call {
@@ -75,7 +76,7 @@ fn ask_call<K: Inbox + Drop>(hub: &mut Hub<K>, call: Call, body: &[u8]) -> Reply
 fn ask<K: Inbox + Drop>(hub: &mut Hub<K>, request: &Request) -> Reply
     requires idle { IsNotOpen (K.seen hub.old.keeper).progress }
     ensures asked { IsAsked (door_of hub.old.register) request.now
-        (K.seen hub.old.keeper) (K.seen hub.new.keeper) result }
+        (hub_seen K.seen hub.old) (hub_seen K.seen hub.new) result }
     ensures register { hub.new.register ≡ hub.old.register }
 {
     match request.call {
@@ -104,7 +105,7 @@ fn answer<W: Write, K: Inbox + Drop>(
 ) -> Turn
     requires idle { IsNotOpen (K.seen hub.old.keeper).progress }
     ensures answered { Answers (door_of hub.old.register) (W.contents w.old) (W.contents w.new)
-        (K.seen hub.old.keeper) (K.seen hub.new.keeper) request.now is_last result }
+        (hub_seen K.seen hub.old) (hub_seen K.seen hub.new) request.now is_last result }
     ensures register { hub.new.register ≡ hub.old.register }
 {
     let ends = request.closing || is_last;
@@ -132,7 +133,7 @@ fn take_turn<R: Read, W: Write, K: Inbox + Drop>(
     ensures turn { IsTurn (door_of hub.old.register) is_last
         intake.old.routes intake.new.routes intake.old.inlet intake.new.inlet
         (R.remaining r.old) (R.remaining r.new) (W.contents w.old) (W.contents w.new)
-        (K.seen hub.old.keeper) (K.seen hub.new.keeper) result }
+        (hub_seen K.seen hub.old) (hub_seen K.seen hub.new) result }
     ensures register { hub.new.register ≡ hub.old.register }
 {
     match next_request(alloc, r, w, intake) {
@@ -171,7 +172,7 @@ pub fn converse<R: Read, W: Write, K: Inbox + Drop>(
     requires idle { IsNotOpen (K.seen hub.old.keeper).progress }
     ensures conversation { Conversation (door_of hub.old.register) most
         (transfer R.remaining W.contents r.old r.new w.old w.new)
-        (K.seen hub.old.keeper) (K.seen hub.new.keeper) result }
+        (hub_seen K.seen hub.old) (hub_seen K.seen hub.new) result }
     ensures register { hub.new.register ≡ hub.old.register }
 {
     let mut intake = Intake::new();

@@ -21,13 +21,14 @@ use Rattle.gaz_rules.specs.Judges.{IsReady, Judges}
 use Rattle.gaz_rules.specs.Judging.{bases_of, judge}
 use Rattle.gaz_extract.specs.Readings.{Looks}
 use Rattle.gaz_hub.specs.Hubs.{AreKnown, StandsFor, door_of}
-use Rattle.gaz_hub.specs.Settling.{Advances, IsAll, IsNext, Tells, Tries}
+use Rattle.gaz_hub.specs.Settling.{Advances, IsAll, IsNext, IsReadyAs, Tells, Tries}
 use Rattle.gaz_hub.specs.Standing.{Follows, Leads, NothingReady, Register, judge_one, judgement_after, next_reading, ready, with_next}
 use Rattle.gaz_hub.specs.Step.{Door, blocks}
+use Rattle.gaz_hub.specs.Waiting.{Remembered, RestAfter, is_among, remembering}
 use Rattle.gaz_hub.specs.declared.looking.Next.{Next}
 use Rattle.gaz_hub.proofs.Bounds.{all_then, not_all}
 use Rattle.gaz_hub.proofs.Leading.{follows_itself, leads_on}
-use Rattle.gaz_hub.proofs.Looks.{counts_then, left_not_open}
+use Rattle.gaz_hub.proofs.Looks.{counts_then, left_not_open, looks_nowhere}
 use Rattle.gaz_hub.proofs.Prefixes.{both_parts, joined}
 use Rattle.gaz_hub.proofs.Orders.{ready_gives}
 
@@ -156,7 +157,7 @@ added_is G F B c r e =
 
 -- a custodian's next file is ready and reads so
 abbrev pub IsNow : Content → ℕ → Reading → Type 0
-IsNow k c r = (ready k.files k.board c ≡ true) × (next_reading k.files k.board c ≡ Some r)
+IsNow k c r = IsReadyAs k.files k.board c r
 
 pub asks_good : (k : Content) (c : ℕ) (f : Contents) → IsNow k c (Good f) → IsReady k c f.bases
 asks_good k c f now = record { at_hand = is_at_hand k c (Good f) now.1; reached = ready_rests k.files k.board c (Good f) now.0 now.1 }
@@ -234,6 +235,17 @@ module _ {T : Type 0} (d : Door) (a c : Seen) (code : ℕ) (rd : Reading) (met :
         cause = λ stood fine all. tt;
       }
 
+  -- it was, and then a call failed that isn't the keeper's
+  pub tries_forgotten : (x : T) (e : ShelfFault) (left : ℕ) (IsAmong : ℕ → Type 0) → (e ≡ Store → ⊥) → Adds a c (Ok x) code (IsNow a.content code rd) (judged_on ((blocks d) code) a.content.board code rd) → Tries d left a c (Err e) IsAmong
+  tries_forgotten x e left IsAmong no g =
+      record {
+        advances = advances_less d 1 0 a c (omega arith) (advances_judged x g);
+        within = tt;
+        same = λ stood fine. tt;
+        rests = λ stood fine. tt;
+        cause = λ stood fine all is. absurd (no is);
+      }
+
   pub tries_broken : (e : ShelfFault) (left : ℕ) (IsAmong : ℕ → Type 0) → Adds {T = T} a c (Err e) code (IsNow a.content code rd) (judged_on ((blocks d) code) a.content.board code rd) → Tries d left a c (Err e) IsAmong
   tries_broken e left IsAmong g =
       record {
@@ -258,65 +270,50 @@ tries_past reg a b code left e n rd IsAmong none l idle now =
           absurd (not_all reg a.content.files a.content.board code stood.1 (now (l.right stood.0 fine)).0 (subst (IsAll (door_of reg) a.content.board) none all));
     }
 
--- ---- a round
+-- ---- one call after another
 
-neither : (m n : ℕ) → m + n ≡ 0 → (m ≡ 0) × (n ≡ 0)
+-- a look after which a call failed that isn't the keeper's
+pub tries_looked : {T : Type 0} (d : Door) (left : ℕ) (a b : Seen) (r : Result T ShelfFault) (P : T → Type 0) (e : ShelfFault) (IsAmong : ℕ → Type 0) → (e ≡ Store → ⊥) → Looks a b r P → IsNotOpen a.progress → Tries d left a b (Err e) IsAmong
+tries_looked d left a b r P e IsAmong no l idle =
+    record {
+      advances = advances_looking d a b r P l idle;
+      within = tt;
+      same = λ stood fine. tt;
+      rests = λ stood fine. tt;
+      cause = λ stood fine all is. absurd (no is);
+    }
+
+pub neither : (m n : ℕ) → m + n ≡ 0 → (m ≡ 0) × (n ≡ 0)
 neither m n e = (omega arith, omega arith)
 
--- each of the custodians is known, and each known one is among them
-pub all_rest : (reg : RegisterValue) (p : ℕ → Bool) → list_all (λ k. not (p k.code)) reg ≡ true → (c : ℕ) → knows reg c ≡ true → p c ≡ false
-all_rest [] p h c e = absurd (true≢false (sym e))
-all_rest (k ∷ reg) p h c e =
-    elim (eqb k.code c) as (λ b. eqb k.code c ≡ b → is_some (cond b (Some k) (find (λ (x : CustodianValue). eqb x.code c) reg)) ≡ true → p c ≡ false) [
-      | true ↦ λ t _. subst (λ x. p x ≡ false) (eqb-true k.code c t) (un_not (p k.code) (both_parts _ _ h).0)
-      | false ↦ λ _ rest. all_rest reg p (both_parts _ _ h).1 c rest
-    ] refl e
-  where
-    un_not : (b : Bool) → not b ≡ true → b ≡ false
-    un_not true e = cc
-    un_not false e = refl
-
--- so many custodians were looked at: all is as before and none of them is ready, or so many files were judged
-pub record Looked (d : Door) (reg : RegisterValue) (i judged left : ℕ) (a b : Seen) : Type 0 where
-  pub within : judged ≤ left
-  pub advances : Advances d judged a b
-  pub same : StandsFor d a → b.unharmed → judged ≡ 0 → b.content.board ≡ a.content.board
-  pub rests : StandsFor d a → b.unharmed → judged ≡ 0 → list_all (λ k. not (ready a.content.files a.content.board k.code)) (take i reg) ≡ true
-
-pub looked_on : (d : Door) (reg : RegisterValue) (i m n left : ℕ) (a b c : Seen) (k : CustodianValue) → i < length reg → k ≡ get_or reg i k
-    → Looked d reg i m left a b → Tries d (left - m) b c (Ok n) (λ x. x ≡ k.code) → Looked d reg (i + 1) (m + n) left a c
-looked_on d reg i m n left a b c k below is first second =
+-- nothing was done yet
+pub tries_nothing : (d : Door) (left : ℕ) (a : Seen) (IsAmong : ℕ → Type 0) → IsNotOpen a.progress → ((c : ℕ) → IsAmong c → ⊥) → Tries d left a a (Ok 0) IsAmong
+tries_nothing d left a IsAmong idle nobody =
     record {
-      within = let few = first.within in let fewer : n ≤ left - m = second.within in omega arith;
+      advances = advances_looking d a a (Ok tt) (λ _. ⊤) (looks_nowhere a tt (λ _. ⊤) tt) idle;
+      within = omega arith;
+      same = λ stood fine e. refl;
+      rests = λ stood fine e c among. absurd (nobody c among);
+      cause = λ stood fine all. tt;
+    }
+
+-- a call after another; of nobody it is told that he rests
+pub tries_on : (d : Door) (m n left : ℕ) (a b c : Seen) (P Q : ℕ → Type 0) → Tries d left a b (Ok m) P → Tries d (left - m) b c (Ok n) Q → Tries d left a c (Ok (m + n)) (λ _. ⊥)
+tries_on d m n left a b c P Q first second =
+    record {
       advances = advances_then d m n a b c first.advances second.advances;
+      within = let few : m ≤ left = first.within in let fewer : n ≤ left - m = second.within in omega arith;
       same = λ stood fine e.
           let mid = second.advances.harm fine in
           let no = neither m n e in
           second.same (first.advances.stands stood mid) fine no.1 ∙ first.same stood mid no.0;
-      rests = λ stood fine e.
-          let mid = second.advances.harm fine in
-          let no = neither m n e in
-          let stays = ap (λ (x : Received × Board). ready x.0 x.1 k.code) (λ j. (first.advances.files stood mid j, first.same stood mid no.0 j)) in
-          let rest = sym stays ∙ second.rests (first.advances.stands stood mid) fine no.1 k.code refl in
-          list_all_more (λ (x : CustodianValue). not (ready a.content.files a.content.board x.code)) reg i k below
-          ∙ joined _ _ (first.rests stood mid no.0) (ap (λ (x : CustodianValue). not (ready a.content.files a.content.board x.code)) (sym is) ∙ ap not rest);
-    }
-
-pub looked_all : (d : Door) (reg : RegisterValue) (i m left : ℕ) (a b : Seen) → length reg ≤ i → Looked d reg i m left a b → Tries d left a b (Ok m) (λ c. knows reg c ≡ true)
-looked_all d reg i m left a b past l =
-    record {
-      advances = l.advances;
-      within = l.within;
-      same = l.same;
-      rests = λ stood fine e c known.
-          all_rest reg (ready a.content.files a.content.board)
-          (ap (list_all (λ (k : CustodianValue). not (ready a.content.files a.content.board k.code))) (sym (take_all i reg past)) ∙ l.rests stood fine e) c known;
+      rests = λ stood fine e k no. absurd no;
       cause = λ stood fine all. tt;
     }
 
-pub looked_stopped : (reg some : RegisterValue) (i m left : ℕ) (a b c : Seen) (e : ShelfFault) (P Q : ℕ → Type 0) → Looked (door_of reg) some i m left a b
-    → Tries (door_of reg) (left - m) b c (Err e) P → Tries (door_of reg) left a c (Err e) Q
-looked_stopped reg some i m left a b c e P Q first second =
+pub tries_stopped : (reg : RegisterValue) (m left : ℕ) (a b c : Seen) (e : ShelfFault) (P Q S : ℕ → Type 0) → Tries (door_of reg) left a b (Ok m) P
+    → Tries (door_of reg) (left - m) b c (Err e) Q → Tries (door_of reg) left a c (Err e) S
+tries_stopped reg m left a b c e P Q S first second =
     record {
       advances = advances_less (door_of reg) _ 0 a c (omega arith) (advances_then (door_of reg) m 0 a b c first.advances second.advances);
       within = tt;
@@ -324,11 +321,17 @@ looked_stopped reg some i m left a b c e P Q first second =
       rests = λ stood fine. tt;
       cause = λ stood fine all is.
           let mid = second.advances.harm fine in
-          let left_then = all_then reg m left (left - m) a b (omega (arith, first.within)) first.advances stood mid all in
+          let few : m ≤ left = first.within in
+          let left_then = all_then reg m left (left - m) a b (omega (arith, few)) first.advances stood mid all in
           let more = second.cause (first.advances.stands stood mid) fine left_then is in
           let kept = first.advances.kept in
           omega arith;
     }
+
+-- the same of fewer
+pub tries_of : (d : Door) (left : ℕ) (a b : Seen) (r : Result ℕ ShelfFault) (P Q : ℕ → Type 0) → ((c : ℕ) → Q c → P c) → Tries d left a b r P → Tries d left a b r Q
+tries_of d left a b (Ok n) P Q sub l = record { advances = l.advances; within = l.within; same = l.same; rests = λ stood fine e c among. l.rests stood fine e c (sub c among); cause = l.cause }
+tries_of d left a b (Err e) P Q sub l = record { advances = l.advances; within = l.within; same = l.same; rests = l.rests; cause = l.cause }
 
 -- ---- settling
 
@@ -340,15 +343,26 @@ nothing_ready d F B known rest c =
       | false ↦ λ _. refl
     ] refl
 
--- a round that judged nothing ends it
-pub settled_now : (d : Door) (m left : ℕ) (a b c : Seen) → Advances d m a b → Tries d left b c (Ok 0) (λ x. knows d.register x ≡ true) → Tells {T = Unit {0}} d a c (Ok tt) (λ _. ⊤)
-settled_now d m left a b c first second =
+-- a round that judged nothing, after which all rest, ends it
+pub settled_now : (register : RegisterValue) (m left : ℕ) (w v : Remembered) (a b c : Seen) (P : ℕ → Type 0) → Advances (door_of register) m a b → Tries (door_of register) left b c (Ok 0) P
+    → RestAfter [] (door_of register) w a v c → v.0 ≡ [] → Tells {T = Unit {0}} (door_of register) (remembering register (Some w) a) c (Ok tt) (λ _. ⊤)
+settled_now register m left w v a b c P first second rest nobody =
+    let d = door_of register in
+    let l = advances_less d _ 0 a c (omega arith) (advances_then d m 0 a b c first second.advances) in
     record {
-      advances = advances_less d _ 0 a c (omega arith) (advances_then d m 0 a b c first second.advances);
+      advances = record {
+        harm = l.harm;
+        stands = λ stood fine. l.stands (stood.0.0, stood.1) fine;
+        files = λ stood fine. l.files (stood.0.0, stood.1) fine;
+        board = λ stood fine. l.board (stood.0.0, stood.1) fine;
+        many = λ stood fine. l.many (stood.0.0, stood.1) fine;
+        idle = l.idle;
+        kept = l.kept;
+      };
       settled = λ stood fine.
-          let mid = first.stands stood (second.advances.harm fine) in
-          subst (λ (x : Received × Board). NothingReady x.0 x.1) (λ i. (sym (second.advances.files mid fine) i, sym (second.same mid fine refl) i))
-          (nothing_ready d b.content.files b.content.board mid.1 (second.rests mid fine refl));
+          let now = l.stands (stood.0.0, stood.1) fine in
+          let all = rest (stood.0.0, stood.1) fine [] stood.0.1 in
+          nothing_ready d c.content.files c.content.board now.1 (λ k known. (all k known (ap (λ xs. is_among xs k) nobody) refl).unready);
       right = λ stood fine. tt;
       cause = λ stood fine. tt;
     }

@@ -5,8 +5,10 @@ pub mod Steps
 pub mod Runs
 pub mod Answers
 pub mod Looks
+pub mod Waiting
 pub mod Bounds
 pub mod Advancing
+pub mod Remembering
 pub mod Telling
 pub mod Told
 pub mod Replying

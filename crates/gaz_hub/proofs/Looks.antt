@@ -138,12 +138,12 @@ file_as F B c volume bytes r is within came reads =
 
 pub next_here : (F : Received) (B : Board) (c volume : ℕ) (bytes : List ℕ) (n : Next) → volume ≡ reached B c + 1 → volume ≤ 999999 → map.get F (c, volume) ≡ Some bytes
     → IsReadAs B c volume bytes n → IsNext F B c n
-next_here F B c volume bytes (next.Good contents) is within came h =
-    let file = file_as F B c volume bytes (Good contents) is within came (h.1 ∙ ap Good (sym h.2.0)) in
-    (ready_as F B c _ file ∙ all_reached B contents.bases (ap (λ (x : Contents). first_unreached B x.bases) h.2.0 ∙ h.2.1), file.reads)
-next_here F B c volume bytes (next.Bad place rule) is within came h =
-    let file = file_as F B c volume bytes (Bad place rule) is within came h in
-    (ready_as F B c _ file, file.reads)
+next_here F B c volume bytes (next.Good v contents) is within came h =
+    let file = file_as F B c volume bytes (Good contents) is within came (h.1 ∙ ap Good (sym h.2.1.0)) in
+    (h.2.0 ∙ is, ready_as F B c _ file ∙ all_reached B contents.bases (ap (λ (x : Contents). first_unreached B x.bases) h.2.1.0 ∙ h.2.1.1), file.reads)
+next_here F B c volume bytes (next.Bad v place rule) is within came h =
+    let file = file_as F B c volume bytes (Bad place rule) is within came h.1 in
+    (h.0 ∙ is, ready_as F B c _ file, file.reads)
 next_here F B c volume bytes (next.Waits d w) is within came h =
     let file = file_as F B c volume bytes (Good h.0) is within came h.1 in
     (ready_as F B c _ file ∙ not_all_reached B h.0.bases _ h.2, wants_for F B c _ file ∙ ap (option_map (λ (x : Basis). (x.custodian, x.volume))) h.2)
@@ -160,7 +160,7 @@ ready_wants F B c r h e =
     first_part false b e = cc
 
 pub wanted_as : (F : Received) (B : Board) (c : ℕ) (n : Next) → IsNext F B c n → wanted_by n ≡ wants F B c
-wanted_as F B c (next.Good contents) h = sym (ready_wants F B c _ h.0 h.1)
-wanted_as F B c (next.Bad place rule) h = sym (ready_wants F B c _ h.0 h.1)
+wanted_as F B c (next.Good volume contents) h = sym (ready_wants F B c _ h.1.0 h.1.1)
+wanted_as F B c (next.Bad volume place rule) h = sym (ready_wants F B c _ h.1.0 h.1.1)
 wanted_as F B c (next.Waits d volume) h = sym h.1
 wanted_as F B c next.Done h = sym h.1

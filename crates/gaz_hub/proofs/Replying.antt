@@ -83,6 +83,6 @@ module _ {T : Type 0} (d : Door) (q : Question) (say : T → Told q) (reply : Re
         unasked = λ h. absurd (true≢false (sym h ∙ ap is_some let_in));
       })
 
-  pub answered_door : {K : Type 0} (seen : K → Seen) (Calls : K → Result T ShelfFault → K → Type 0) (old new : K) (result : Result T Refusal) → AnswersSettled d seen Calls old new result
-      → MeetsDoor d old new (Pose q) (Replied q (reply result))
-  answered_door seen Calls old new result a = subst (λ k. MeetsDoor d old new (Pose q) (Replied q (reply k))) (sym a.told) (door_read old new a.read)
+  pub answered_door : {K L : Type 0} (seen : K → Seen) (Calls : K → Result T ShelfFault → K → Type 0) (old new : K) (was now : L) (result : Result T Refusal) → AnswersSettled d seen Calls old new result
+      → MeetsDoor d was now (Pose q) (Replied q (reply result))
+  answered_door seen Calls old new was now result a = subst (λ k. MeetsDoor d was now (Pose q) (Replied q (reply k))) (sym a.told) (door_read was now a.read)

@@ -1,6 +1,6 @@
 -- What is told of a file, read off a board.
 use Rattle.std.proofs.Common.{◌≡◌, ◌≤◌, ◌<◌, ◌+◌, ℕ, zero, suc, true, false, cond, not, ◌&&◌, List, [], ◌∷◌, length, refl, sym, ap, ◌∙◌, subst, arith, le-leb, inl, inr}
-use Rattle.std.specs.Prelude.{nat_le, slice_get, Option, Some, None, Result, Ok, Err, IfErr, OnOk}
+use Rattle.std.specs.Prelude.{nat_le, slice_get, Option, Some, None, Result, Ok, Err, IfErr, IfOk, OnOk}
 use Rattle.std.specs.Option.{option_map, option_map_or}
 use Rattle.std.specs.FinMap as map
 use Rattle.gaz_changefile.specs.Reading.{reading}
@@ -102,6 +102,12 @@ tells_settled d seen Calls old new r Q (inl x) looks = tells_looks d (seen old) 
 tells_settled d seen Calls old new r Q (inr x) looks =
     subst (λ k. Tells d (seen old) (seen new) k (Q (seen new).content)) (sym x.told)
     (record { advances = x.failed.advances; settled = λ stood fine. tt; right = λ stood fine. tt; cause = x.failed.cause })
+
+-- where settling failed nothing is told, so that what a call tells is right of each answer
+pub calls_tell : {K T : Type 0} (d : Door) (seen : K → Seen) (Calls : K → Result T ShelfFault → K → Type 0) (old new : K) (r : Result T ShelfFault) (P : T → Type 0)
+    → SettlesAndCalls d seen Calls old new r → ((mid : K) → Calls mid r new → IfOk r P) → IfOk r P
+calls_tell d seen Calls old new r P (inl x) tells = tells x.mid x.called
+calls_tell d seen Calls old new r P (inr x) tells = subst (λ k. IfOk k P) (sym x.told) tt
 
 -- what isn't judged is held
 pub looks_held : (a b c : Seen) (code volume : ℕ) (r : Result Outcome ShelfFault) → 1 ≤ volume → volume ≤ 999999

@@ -43,9 +43,10 @@ on_looks = record {
   all_reached = refl;
   waits_for_itself = (closed_sent 1003, wanted_is);
   never_for_the_later = λ h. let e : 2 ≡ 3 = ap (λ o. option_map_or (λ (p : ℕ × ℕ). p.1) o 0) (sym wanted_is ∙ h.1) in cc;
-  never_ready = λ h. true≢false (sym h.0 ∙ closed_sent 1003);
+  never_ready = λ h. true≢false (sym h.1.0 ∙ closed_sent 1003);
   never_at_the_end = λ h. let e : Some (1003, 2) ≡ None = sym wanted_is ∙ h.1 in cc;
-  is_ready = (first_ready sent (get_sent (1003, 1)), rw (get_sent (1003, 1), reads 1003 1) refl);
+  is_ready = (refl, first_ready sent (get_sent (1003, 1)), rw (get_sent (1003, 1), reads 1003 1) refl);
+  never_as_another_volume = λ h. let e : 2 ≡ 1 = h.0 in cc;
   never_held = λ h. true≢false (sym (first_ready sent (get_sent (1003, 1))) ∙ h.0);
   missing = (refl, omega arith, get_sent (1003, 2));
   never_past = λ h. let few : 999999 ≤ 1 = h in omega arith;

@@ -9,6 +9,8 @@ pub mod Laws
 pub mod Readings
 pub mod Settling
 pub mod Telling
+pub mod Waiting
+pub mod Seen
 pub mod Asked
 pub mod Examples
 pub mod WorkedBoards

@@ -4,7 +4,7 @@ use Rattle.std.specs.Prelude.{false, length, List, [], ◌∷◌, Option, Some, 
 use Rattle.std.specs.Prelude.{OnOk, IfOk, IfErr}
 use Rattle.std.specs.FinMap as map
 use Rattle.gaz_changefile.specs.Contents.{Contents}
-use Rattle.gaz_changefile.specs.Reading.{Good, Bad, reading}
+use Rattle.gaz_changefile.specs.Reading.{Good, Bad, Reading, reading}
 use Rattle.gaz_register.specs.Registers.{RegisterValue}
 use Rattle.gaz_shelf.specs.Board.{Board, reached}
 use Rattle.gaz_shelf.specs.Keeper.{IsNotOpen, Seen}
@@ -32,26 +32,32 @@ IsNextFile files board c (file.Here volume bytes) =
     (volume ≡ reached board c + 1) × (volume ≤ 999_999)
     × (map.get files (c, volume) ≡ Some bytes.items)
 
--- a good file, or what it waits for
-abbrev pub IsWeighed : Board → Contents → Next → Type 0
-IsWeighed board f (next.Good contents) = (contents ≡ f) × (first_unreached board f.bases ≡ None)
-IsWeighed board f (next.Waits whom volume) =
-    first_unreached board f.bases ≡ Some (record { custodian = whom; volume = volume })
-IsWeighed board f (next.Bad place rule) = ⊥
-IsWeighed board f next.Done = ⊥
+-- a good file that came as a volume, or what it waits for
+abbrev pub IsWeighed : Board → ℕ → Contents → Next → Type 0
+IsWeighed board volume f (next.Good v contents) =
+    (v ≡ volume) × (contents ≡ f) × (first_unreached board f.bases ≡ None)
+IsWeighed board volume f (next.Waits whom v) =
+    first_unreached board f.bases ≡ Some (record { custodian = whom; volume = v })
+IsWeighed board volume f (next.Bad v place rule) = ⊥
+IsWeighed board volume f next.Done = ⊥
 
 -- what is to become of bytes that came as a custodian's volume
 abbrev pub IsReadAs : Board → ℕ → ℕ → List ℕ → Next → Type 0
-IsReadAs board c volume bytes (next.Bad place rule) = reading bytes c volume ≡ Bad place rule
+IsReadAs board c volume bytes (next.Bad v place rule) =
+    (v ≡ volume) × (reading bytes c volume ≡ Bad place rule)
 IsReadAs board c volume bytes other =
-    (f : Contents) × (reading bytes c volume ≡ Good f) × IsWeighed board f other
+    (f : Contents) × (reading bytes c volume ≡ Good f) × IsWeighed board volume f other
+
+-- a custodian's next volume is ready and reads so
+abbrev pub IsReadyAs : Received → Board → ℕ → Reading → Type 0
+IsReadyAs files board c r = (ready files board c ≡ true) × (next_reading files board c ≡ Some r)
 
 -- it is ready and reads so, or it isn't and waits for this
 abbrev pub IsNext : Received → Board → ℕ → Next → Type 0
-IsNext files board c (next.Good contents) =
-    (ready files board c ≡ true) × (next_reading files board c ≡ Some (Good contents))
-IsNext files board c (next.Bad place rule) =
-    (ready files board c ≡ true) × (next_reading files board c ≡ Some (Bad place rule))
+IsNext files board c (next.Good volume contents) =
+    (volume ≡ reached board c + 1) × IsReadyAs files board c (Good contents)
+IsNext files board c (next.Bad volume place rule) =
+    (volume ≡ reached board c + 1) × IsReadyAs files board c (Bad place rule)
 IsNext files board c (next.Waits whom volume) =
     (ready files board c ≡ false) × (wants files board c ≡ Some (whom, volume))
 IsNext files board c next.Done = (ready files board c ≡ false) × (wants files board c ≡ None)
@@ -59,8 +65,8 @@ IsNext files board c next.Done = (ready files board c ≡ false) × (wants files
 -- what it waits for, if anything
 abbrev pub wanted_by : Next → Option (ℕ × ℕ)
 wanted_by (next.Waits whom volume) = Some (whom, volume)
-wanted_by (next.Good contents) = None
-wanted_by (next.Bad place rule) = None
+wanted_by (next.Good volume contents) = None
+wanted_by (next.Bad volume place rule) = None
 wanted_by next.Done = None
 
 -- ---- judging

@@ -73,14 +73,15 @@ pub record WorkedLooks : Type 0 where
   pub all_reached : first_unreached one_judged (basis 1003 1 ∷ []) ≡ None
   pub waits_for_itself : Finds (Waits 1003 2)
   pub never_for_the_later : Finds (Waits 1003 3) → ⊥
-  pub never_ready : Finds (Bad 1 1) → ⊥
+  pub never_ready : Finds (Bad 2 1 1) → ⊥
   pub never_at_the_end : Finds Done → ⊥
-  pub is_ready : IsNext sent empty_board 1003 (Bad 1 1)
+  pub is_ready : IsNext sent empty_board 1003 (Bad 1 1 1)
+  pub never_as_another_volume : IsNext sent empty_board 1003 (Bad 2 1 1) → ⊥
   pub never_held : IsNext sent empty_board 1003 (Waits 1003 1) → ⊥
   pub missing : IsNextFile sent one_judged 1003 (Missing 2)
   pub never_past : IsNextFile sent one_judged 1003 Past → ⊥
   pub wanted : wanted_by (Waits 1003 2) ≡ Some (1003, 2)
-  pub none_wanted : wanted_by (Bad 1 1) ≡ None
+  pub none_wanted : wanted_by (Bad 1 1 1) ≡ None
 
 pub record WorkedHubs : Type 0 where
   pub on_doors : WorkedDoors

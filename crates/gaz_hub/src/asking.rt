@@ -4,20 +4,21 @@ ghost use Rattle.gaz_shelf.specs.Board.{reached};
 ghost use Rattle.gaz_hub.specs.Asked.{IsToldNow};
 ghost use Rattle.gaz_hub.specs.Hubs.{MeetsDoor, door_of};
 ghost use Rattle.gaz_hub.specs.Outcomes.{held_count, status};
+ghost use Rattle.gaz_hub.specs.Seen.{hub_seen};
 ghost use Rattle.gaz_hub.specs.Step.{Ask, Pose, Replied, Stand};
 ghost use Rattle.gaz_shelf.specs.Telling.{IsNotJudging};
 ghost use Rattle.gaz_hub.specs.Telling.{LooksAtKept, RepliesTo};
 
 use crate::admission::{at_door, known_code};
 use crate::answer::Digest as FileDigest;
+use crate::hub::Hub;
 use crate::looking::wants;
 use crate::outcome::Outcome;
 use crate::refusal::Refusal;
+use crate::remembering::answered;
 use crate::reply::{digest_of, tell};
-use crate::settling::answered;
 use crate::standing::Standing;
 use gaz_ids::{Code, Volume};
-use gaz_register::Register;
 use gaz_shelf::{Inbox, ShelfFault};
 use std::alloc::Global;
 
@@ -36,28 +37,6 @@ fn tell_of<K: Inbox>(
     };
     let told = tell(alloc, keeper, code, volume)?;
     Ok(Some((digest_of(&there), told)))
-}
-
-/// The digest and the outcome of a volume, where it was received.
-pub fn ask<K: Inbox>(
-    alloc: Global,
-    register: &Register,
-    keeper: &mut K,
-    code: u64,
-    volume: u64,
-) -> Result<Option<(FileDigest, Outcome)>, Refusal>
-    requires { IsNotJudging K.seen keeper.old }
-    ensures steps { RepliesTo K.seen register.now keeper.old keeper.new
-        (Ask code volume) result }
-    ensures door { MeetsDoor (door_of register.now) keeper.old keeper.new
-        (Pose (Ask code volume)) (Replied (Ask code volume) result) }
-{
-    let (code, volume) = match at_door(register, code, volume, 0) {
-        Ok(pair) => pair,
-        Err(refusal) => return Err(refusal),
-    };
-    let read = |keeper: &mut K| tell_of(alloc, keeper, code, volume);
-    answered(alloc, register, keeper, read)
 }
 
 // How many files of a custodian are judged, and how many aren't.
@@ -89,23 +68,56 @@ fn status_of<K: Inbox>(
     })
 }
 
-/// How far a custodian's files are judged.
-pub fn stand<K: Inbox>(
-    alloc: Global,
-    register: &Register,
-    keeper: &mut K,
-    code: u64,
-) -> Result<Standing, Refusal>
-    requires { IsNotJudging K.seen keeper.old }
-    ensures steps { RepliesTo K.seen register.now keeper.old keeper.new
-        (Stand code) result }
-    ensures door { MeetsDoor (door_of register.now) keeper.old keeper.new
-        (Pose (Stand code)) (Replied (Stand code) result) }
-{
-    let custodian = match known_code(register, code) {
-        Ok(custodian) => custodian,
-        Err(refusal) => return Err(refusal),
-    };
-    let read = |keeper: &mut K| status_of(alloc, keeper, custodian);
-    answered(alloc, register, keeper, read)
+impl<K: Inbox + Drop> Hub<K> {
+    /// The digest and the outcome of a volume, where it was received.
+    pub fn outcome(
+        &mut self,
+        code: u64,
+        volume: u64,
+    ) -> Result<Option<(FileDigest, Outcome)>, Refusal>
+        requires idle { IsNotJudging K.seen self.old.keeper }
+        ensures steps { RepliesTo (hub_seen K.seen) self.old.register self.old self.new
+            (Ask code volume) result }
+        ensures door { MeetsDoor (door_of self.old.register) self.old.keeper self.new.keeper
+            (Pose (Ask code volume)) (Replied (Ask code volume) result) }
+        ensures register { self.new.register ≡ self.old.register }
+    {
+        let (code, volume) = match at_door(&self.register, code, volume, 0) {
+            Ok(pair) => pair,
+            Err(refusal) => return Err(refusal),
+        };
+        let alloc = self.alloc;
+        let read = |keeper: &mut K| tell_of(alloc, keeper, code, volume);
+        answered(
+            alloc,
+            &self.register,
+            &mut self.keeper,
+            &mut self.waiters,
+            read,
+        )
+    }
+
+    /// How far a custodian's files are judged.
+    pub fn status(&mut self, code: u64) -> Result<Standing, Refusal>
+        requires idle { IsNotJudging K.seen self.old.keeper }
+        ensures steps { RepliesTo (hub_seen K.seen) self.old.register self.old self.new
+            (Stand code) result }
+        ensures door { MeetsDoor (door_of self.old.register) self.old.keeper self.new.keeper
+            (Pose (Stand code)) (Replied (Stand code) result) }
+        ensures register { self.new.register ≡ self.old.register }
+    {
+        let custodian = match known_code(&self.register, code) {
+            Ok(custodian) => custodian,
+            Err(refusal) => return Err(refusal),
+        };
+        let alloc = self.alloc;
+        let read = |keeper: &mut K| status_of(alloc, keeper, custodian);
+        answered(
+            alloc,
+            &self.register,
+            &mut self.keeper,
+            &mut self.waiters,
+            read,
+        )
+    }
 }

@@ -10,10 +10,12 @@ mod looking;
 mod outcome;
 mod reading;
 mod refusal;
+mod remembering;
 mod reply;
 mod settling;
 mod standing;
 mod submitting;
+mod waiters;
 
 pub use answer::{Answer, Digest};
 pub use hub::Hub;

@@ -26,10 +26,10 @@ pub enum NextFile {
 /// What is to become of a custodian's next volume.
 #[derive(Drop)]
 pub enum Next {
-    /// It is ready: a good file.
-    Good(ChangeFile),
-    /// It is ready: a file with this first fault.
-    Bad { place: u64, rule: u8 },
+    /// It is ready: a good file as this volume.
+    Good(Volume, ChangeFile),
+    /// It is ready: a file with this first fault, as this volume.
+    Bad { volume: Volume, place: u64, rule: u8 },
     /// It waits for this custodian's volume.
     Waits(Code, Volume),
     /// There is none.
@@ -43,7 +43,7 @@ impl Next {
     {
         match self {
             Next::Waits(custodian, volume) => Some((*custodian, *volume)),
-            Next::Good(_) | Next::Bad { .. } | Next::Done => None,
+            Next::Good(..) | Next::Bad { .. } | Next::Done => None,
         }
     }
 }
@@ -79,14 +79,18 @@ fn first_unreached<K: Shelf>(keeper: &mut K, bases: &[Basis]) -> Result<Option<B
     Ok(None)
 }
 
-/// What is to become of a good file.
-fn weigh<K: Shelf>(keeper: &mut K, file: ChangeFile) -> Result<Next, ShelfFault>
+/// What is to become of a good file that came as this volume.
+fn weigh<K: Shelf>(
+    keeper: &mut K,
+    volume: Volume,
+    file: ChangeFile,
+) -> Result<Next, ShelfFault>
     ensures { LooksAtBoard K.seen keeper.old keeper.new result
-        (λ board. IsWeighed board file) }
+        (λ board. IsWeighed board volume file) }
 {
     match first_unreached(keeper, &file.bases)? {
         Some(basis) => Ok(Next::Waits(basis.custodian, basis.volume)),
-        None => Ok(Next::Good(file)),
+        None => Ok(Next::Good(volume, file)),
     }
 }
 
@@ -104,8 +108,12 @@ fn read_next<K: Shelf>(
         (λ board. IsReadAs board code volume bytes.now) }
 {
     match read_file(alloc, bytes, code, volume) {
-        Ok(file) => weigh(keeper, file),
-        Err(FileFault::Bad { place, rule }) => Ok(Next::Bad { place, rule }),
+        Ok(file) => weigh(keeper, volume, file),
+        Err(FileFault::Bad { place, rule }) => Ok(Next::Bad {
+            volume,
+            place,
+            rule,
+        }),
         Err(FileFault::Memory) => Err(ShelfFault::Memory),
     }
 }

@@ -1,70 +1,84 @@
 //! What is read off a settled board: where a property stands, whole views, and addresses on closed
 //! streets.
+ghost use Rattle.std.specs.Prelude.{◌≡◌};
 ghost use Rattle.gaz_hub.specs.Hubs.{MeetsDoor, door_of, told, told_all};
+ghost use Rattle.gaz_hub.specs.Seen.{hub_seen};
 ghost use Rattle.gaz_hub.specs.Step.{Extract, ListClosed, LookUp, Pose, Replied};
 ghost use Rattle.gaz_shelf.specs.Telling.{IsNotJudging};
 ghost use Rattle.gaz_hub.specs.Telling.{RepliesTo};
 
 use crate::admission::at_door;
+use crate::hub::Hub;
 use crate::refusal::Refusal;
-use crate::settling::answered;
+use crate::remembering::answered;
 use gaz_extract::{Closed, Found, closed_streets, extract, lookup};
 use gaz_ids::Uprn;
-use gaz_register::Register;
 use gaz_shelf::Inbox;
-use std::alloc::Global;
 
-/// Where a property stands and how it is addressed.
-pub fn look_up<K: Inbox>(
-    alloc: Global,
-    register: &Register,
-    keeper: &mut K,
-    uprn: Uprn,
-) -> Result<Option<Found>, Refusal>
-    requires { IsNotJudging K.seen keeper.old }
-    ensures steps { RepliesTo K.seen register.now keeper.old keeper.new
-        (LookUp uprn) result }
-    ensures door { MeetsDoor (door_of register.now) keeper.old keeper.new
-        (Pose (LookUp uprn)) (Replied (LookUp uprn) result) }
-{
-    let read = |keeper: &mut K| lookup(alloc, keeper, register, uprn);
-    answered(alloc, register, keeper, read)
-}
+impl<K: Inbox + Drop> Hub<K> {
+    /// Where a property stands now and how it is addressed; none where it stands with no custodian.
+    pub fn lookup(&mut self, uprn: Uprn) -> Result<Option<Found>, Refusal>
+        requires idle { IsNotJudging K.seen self.old.keeper }
+        ensures steps { RepliesTo (hub_seen K.seen) self.old.register self.old self.new
+            (LookUp uprn) result }
+        ensures door { MeetsDoor (door_of self.old.register) self.old.keeper self.new.keeper
+            (Pose (LookUp uprn)) (Replied (LookUp uprn) result) }
+        ensures register { self.new.register ≡ self.old.register }
+    {
+        let (alloc, register) = (self.alloc, &self.register);
+        let read = |keeper: &mut K| lookup(alloc, keeper, register, uprn);
+        answered(
+            alloc,
+            register,
+            &mut self.keeper,
+            &mut self.waiters,
+            read,
+        )
+    }
 
-/// A custodian's view after a volume, as the text of an extract.
-pub fn extract_of<K: Inbox>(
-    alloc: Global,
-    register: &Register,
-    keeper: &mut K,
-    code: u64,
-    volume: u64,
-) -> Result<Option<Vec<u8>>, Refusal>
-    requires { IsNotJudging K.seen keeper.old }
-    ensures steps { RepliesTo K.seen register.now keeper.old keeper.new
-        (Extract code volume) (told result) }
-    ensures door { MeetsDoor (door_of register.now) keeper.old keeper.new
-        (Pose (Extract code volume)) (Replied (Extract code volume) (told result)) }
-{
-    let (code, volume) = match at_door(register, code, volume, 0) {
-        Ok(pair) => pair,
-        Err(refusal) => return Err(refusal),
-    };
-    let read = |keeper: &mut K| extract(alloc, keeper, code, volume);
-    answered(alloc, register, keeper, read)
-}
+    /// A custodian's view after a volume, as the text of an extract; none where the volume isn't
+    /// reached.
+    pub fn extract(&mut self, code: u64, volume: u64) -> Result<Option<Vec<u8>>, Refusal>
+        requires idle { IsNotJudging K.seen self.old.keeper }
+        ensures steps { RepliesTo (hub_seen K.seen) self.old.register self.old self.new
+            (Extract code volume) (told result) }
+        ensures door { MeetsDoor (door_of self.old.register) self.old.keeper self.new.keeper
+            (Pose (Extract code volume)) (Replied (Extract code volume) (told result)) }
+        ensures register { self.new.register ≡ self.old.register }
+    {
+        let (code, volume) = match at_door(&self.register, code, volume, 0) {
+            Ok(pair) => pair,
+            Err(refusal) => return Err(refusal),
+        };
+        let alloc = self.alloc;
+        let read = |keeper: &mut K| extract(alloc, keeper, code, volume);
+        answered(
+            alloc,
+            &self.register,
+            &mut self.keeper,
+            &mut self.waiters,
+            read,
+        )
+    }
 
-/// The approved addresses on streets that other custodians closed.
-pub fn list_closed<K: Inbox>(
-    alloc: Global,
-    register: &Register,
-    keeper: &mut K,
-) -> Result<Vec<Closed>, Refusal>
-    requires { IsNotJudging K.seen keeper.old }
-    ensures steps { RepliesTo K.seen register.now keeper.old keeper.new
-        ListClosed (told_all result) }
-    ensures door { MeetsDoor (door_of register.now) keeper.old keeper.new
-        (Pose ListClosed) (Replied ListClosed (told_all result)) }
-{
-    let read = |keeper: &mut K| closed_streets(alloc, keeper, register);
-    answered(alloc, register, keeper, read)
+    /// The approved addresses on streets that other custodians closed, by custodian and then by the
+    /// LPI's key.
+    pub fn closed_streets(&mut self) -> Result<Vec<Closed>, Refusal>
+        requires idle { IsNotJudging K.seen self.old.keeper }
+        ensures steps { RepliesTo (hub_seen K.seen) self.old.register self.old self.new
+            ListClosed (told_all result) }
+        ensures door { MeetsDoor (door_of self.old.register) self.old.keeper self.new.keeper
+            (Pose ListClosed) (Replied ListClosed (told_all result)) }
+        ensures register { self.new.register ≡ self.old.register }
+    {
+        let (alloc, register) = (self.alloc, &self.register);
+        let read = |keeper: &mut K| closed_streets(alloc, keeper, register);
+        answered(
+            alloc,
+            register,
+            &mut self.keeper,
+            &mut self.waiters,
+            read,
+        )
+    }
 }

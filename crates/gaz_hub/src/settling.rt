@@ -1,13 +1,12 @@
 //! Judging what is ready, until nothing is.
-ghost use Rattle.std.specs.Prelude.{◌≡◌, ◌≤◌, ⊤, true, IfErr, OnOk};
-ghost use Rattle.std.specs.Fn.{FnOnceReturnsAtMut, FnOnceTakesAtMut};
-ghost use Rattle.gaz_register.specs.Registers.{knows};
+ghost use Rattle.std.specs.Prelude.{◌≡◌, ◌≤◌, [], ⊤, ⊥, Some, IfErr, IfOk, OnOk};
 ghost use Rattle.gaz_hub.specs.Hubs.{door_of};
-ghost use Rattle.gaz_hub.specs.Settling.{AnswersSettled, SettlesAndCalls, TakesIdle, Tells, Tries};
+ghost use Rattle.gaz_hub.specs.Settling.{Tells, Tries};
+ghost use Rattle.gaz_hub.specs.Waiting.{RestAfter, remembering};
 ghost use Rattle.gaz_shelf.specs.Telling.{IsNotJudging};
 
 use crate::looking::{Next, look};
-use crate::refusal::Refusal;
+use crate::waiters::Waiters;
 use gaz_ids::{Code, LAST_VOLUME};
 use gaz_register::Register;
 use gaz_rules::judge;
@@ -25,55 +24,95 @@ fn ask_room(left: u64) -> Result<(), ShelfFault>
     Ok(())
 }
 
-/// Judges a custodian's next volume, where it is ready; how many were judged, of at most `left`.
+/// Judges a custodian's next volume, where it is ready, and remembers what it waits for, where it
+/// waits; how many were judged, of at most `left`.
 fn judge_next<K: Inbox>(
     alloc: Global,
     register: &Register,
     keeper: &mut K,
+    waiters: &mut Waiters,
     code: Code,
     left: u64,
 ) -> Result<u64, ShelfFault>
     requires { IsNotJudging K.seen keeper.old }
-    ensures { Tries (door_of register.now) left (K.seen keeper.old) (K.seen keeper.new) result
+    ensures tries { Tries (door_of register.now) left (K.seen keeper.old) (K.seen keeper.new) result
         (λ c. c ≡ code) }
+    ensures rest { OnOk result (RestAfter (code ∷ []) (door_of register.now)
+        waiters.old (K.seen keeper.old) waiters.new (K.seen keeper.new)) }
+    ensures ahead { IfOk result (λ n. n ≡ 0 → waiters.new.0 ≡ waiters.old.0) }
 {
     let next = look(alloc, keeper, code)?;
     match &next {
-        Next::Good(file) => {
+        Next::Good(volume, file) => {
             ask_room(left)?;
             judge(alloc, keeper, register, code, file)?;
+            waiters.wake(code, *volume)?;
             Ok(1)
         }
-        Next::Bad { place, rule } => {
+        Next::Bad {
+            volume,
+            place,
+            rule,
+        } => {
             ask_room(left)?;
             keeper.skip(code, *place, *rule)?;
+            waiters.wake(code, *volume)?;
             Ok(1)
         }
-        Next::Waits(..) | Next::Done => Ok(0),
+        Next::Waits(custodian, volume) => {
+            waiters.wait(code, *custodian, *volume)?;
+            Ok(0)
+        }
+        Next::Done => Ok(0),
     }
 }
 
-/// Looks at all custodians by rising code, and judges the next volume of each that is ready; how
-/// many were judged, of at most `left`.
-fn settle_round<K: Inbox>(
+/// Looks at these custodians one after another, and judges the next volume of each that is ready;
+/// how many were judged, of at most `left`.
+fn judge_each<K: Inbox>(
     alloc: Global,
     register: &Register,
     keeper: &mut K,
+    waiters: &mut Waiters,
+    codes: &[Code],
     left: u64,
 ) -> Result<u64, ShelfFault>
     requires { IsNotJudging K.seen keeper.old }
-    ensures { Tries (door_of register.now) left (K.seen keeper.old) (K.seen keeper.new) result
-        (λ c. knows register.now c ≡ true) }
+    ensures tries { Tries (door_of register.now) left (K.seen keeper.old) (K.seen keeper.new) result
+        (λ c. ⊥) }
+    ensures rest { OnOk result (RestAfter codes.now (door_of register.now)
+        waiters.old (K.seen keeper.old) waiters.new (K.seen keeper.new)) }
+    ensures ahead { IfOk result (λ n. n ≡ 0 → waiters.new.0 ≡ waiters.old.0) }
 {
-    let custodians = register.custodians();
     let mut judged = 0;
-    for custodian in custodians {
-        judged += judge_next(alloc, register, keeper, custodian.code(), left - judged)?;
+    for code in codes {
+        judged += judge_next(alloc, register, keeper, waiters, *code, left - judged)?;
     }
     Ok(judged)
 }
 
-/// Judges until nothing is ready.
+/// Looks at all who are to be looked at, and judges the next volume of each that is ready; how many
+/// were judged, of at most `left`. Where none was, nobody is to be looked at any more.
+fn settle_round<K: Inbox>(
+    alloc: Global,
+    register: &Register,
+    keeper: &mut K,
+    waiters: &mut Waiters,
+    left: u64,
+) -> Result<u64, ShelfFault>
+    requires { IsNotJudging K.seen keeper.old }
+    ensures tries { Tries (door_of register.now) left (K.seen keeper.old) (K.seen keeper.new) result
+        (λ c. ⊥) }
+    ensures rest { OnOk result (RestAfter [] (door_of register.now)
+        waiters.old (K.seen keeper.old) waiters.new (K.seen keeper.new)) }
+    ensures ahead { IfOk result (λ n. n ≡ 0 → waiters.new.0 ≡ []) }
+{
+    let codes = waiters.take_ahead();
+    judge_each(alloc, register, keeper, waiters, codes.as_slice(), left)
+}
+
+/// Judges until nothing is ready. Only they are looked at who are to be, and who waited for a volume
+/// that was judged.
 ///
 /// At most 999,999 volumes of each custodian are judged, 399,999,600 in all; a content with more of
 /// them ready isn't lawful, and is answered `Store`.
@@ -82,59 +121,23 @@ pub fn settle<K: Inbox>(
     alloc: Global,
     register: &Register,
     keeper: &mut K,
+    waiters: &mut Waiters,
 ) -> Result<(), ShelfFault>
     requires { IsNotJudging K.seen keeper.old }
-    ensures { Tells (door_of register.now) (K.seen keeper.old) (K.seen keeper.new) result
+    ensures tells { Tells (door_of register.now)
+        (remembering register.now (Some waiters.old) (K.seen keeper.old)) (K.seen keeper.new) result
         (λ done. ⊤) }
+    ensures rest { OnOk result (RestAfter [] (door_of register.now)
+        waiters.old (K.seen keeper.old) waiters.new (K.seen keeper.new)) }
 {
     let most = LAST_VOLUME * register.custodians().len() as u64;
     let mut left = most;
     for _round in 0..most + 1 {
-        let judged = settle_round(alloc, register, keeper, left)?;
+        let judged = settle_round(alloc, register, keeper, waiters, left)?;
         if judged == 0 {
             return Ok(());
         }
         left -= judged;
     }
     Err(ShelfFault::Store)
-}
-
-/// What a reading tells, once all is settled. It may be any that can be made while no judgement is
-/// open.
-pub fn settled<K: Inbox, T, F: FnOnce(&mut K) -> Result<T, ShelfFault>>(
-    alloc: Global,
-    register: &Register,
-    keeper: &mut K,
-    read: F,
-) -> Result<T, ShelfFault>
-    requires idle { IsNotJudging K.seen keeper.old }
-    requires callable { TakesIdle K.seen (λ mid. FnOnceTakesAtMut F.FnOnce read mid) }
-    ensures { SettlesAndCalls (door_of register.now) K.seen
-        (λ mid told after. FnOnceReturnsAtMut F.FnOnce read mid told after)
-        keeper.old keeper.new result }
-{
-    match settle(alloc, register, keeper) {
-        Ok(()) => read(keeper),
-        Err(fault) => Err(fault),
-    }
-}
-
-/// What a reading tells, once all is settled, as the reply to a question: a fault is `NotReceived`
-/// (51).
-pub fn answered<K: Inbox, T, F: FnOnce(&mut K) -> Result<T, ShelfFault>>(
-    alloc: Global,
-    register: &Register,
-    keeper: &mut K,
-    read: F,
-) -> Result<T, Refusal>
-    requires idle { IsNotJudging K.seen keeper.old }
-    requires callable { TakesIdle K.seen (λ mid. FnOnceTakesAtMut F.FnOnce read mid) }
-    ensures { AnswersSettled (door_of register.now) K.seen
-        (λ mid told after. FnOnceReturnsAtMut F.FnOnce read mid told after)
-        keeper.old keeper.new result }
-{
-    match settled(alloc, register, keeper, read) {
-        Ok(told) => Ok(told),
-        Err(fault) => Err(Refusal::NotReceived(fault)),
-    }
 }

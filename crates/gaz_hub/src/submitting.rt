@@ -2,6 +2,7 @@
 ghost use Rattle.std.specs.Prelude.{◌≡◌, ◌↔◌, IfOk, IsTrue, Some, None, true, false};
 ghost use Rattle.gaz_hub.specs.Asked.{AnyIsPastDoor, IsAgain, IsOutcome, IsPastDoor, TakesIn};
 ghost use Rattle.gaz_hub.specs.Hubs.{MeetsDoor, door_of};
+ghost use Rattle.gaz_hub.specs.Seen.{hub_seen};
 ghost use Rattle.gaz_hub.specs.Step.{Submit, Submitted, file_refusal};
 ghost use Rattle.gaz_shelf.specs.Telling.{IsNotJudging};
 ghost use Rattle.gaz_hub.specs.Telling.{LooksAtKept, StepsTo, TellsKept};
@@ -9,11 +10,11 @@ ghost use Rattle.gaz_hub.specs.Telling.{LooksAtKept, StepsTo, TellsKept};
 use crate::admission::{at_door, names_unknown_profile};
 use crate::answer::Answer;
 use crate::outcome::Outcome;
+use crate::hub::Hub;
 use crate::refusal::Refusal;
+use crate::remembering::{receive, settled};
 use crate::reply::{digest_of, tell};
-use crate::settling::settle;
 use gaz_ids::{Code, Volume};
-use gaz_register::Register;
 use gaz_shelf::{Inbox, ShelfFault};
 use std::alloc::Global;
 
@@ -46,109 +47,114 @@ fn answer_again<K: Inbox>(
     Ok(Some(Answer::Repeat(tell(alloc, keeper, code, volume)?)))
 }
 
-// The answer to a file whose pair was received before, once all is settled; none where it wasn't.
-fn settle_and_answer<K: Inbox>(
-    alloc: Global,
-    register: &Register,
-    keeper: &mut K,
-    code: Code,
-    volume: Volume,
-    file: &[u8],
-) -> Result<Option<Answer>, ShelfFault>
-    requires { IsNotJudging K.seen keeper.old }
-    ensures tells { TellsKept K.seen register.now keeper.old keeper.new result
-        (λ files board. IsAgain files board code volume file.now) }
-    ensures past_door { IfOk result AnyIsPastDoor }
-{
-    settle(alloc, register, keeper)?;
-    answer_again(alloc, keeper, code, volume, file)
-}
-
-// The outcome of a received file once all is settled.
-fn settle_and_tell<K: Inbox>(
-    alloc: Global,
-    register: &Register,
-    keeper: &mut K,
-    code: Code,
-    volume: Volume,
-) -> Result<Outcome, ShelfFault>
-    requires { IsNotJudging K.seen keeper.old }
-    ensures { TellsKept K.seen register.now keeper.old keeper.new result
-        (λ files board. IsOutcome files board code volume) }
-{
-    settle(alloc, register, keeper)?;
-    tell(alloc, keeper, code, volume)
-}
-
-// The answer to a file whose pair wasn't received before.
-fn take_in<K: Inbox>(
-    alloc: Global,
-    register: &Register,
-    keeper: &mut K,
-    code: Code,
-    volume: Volume,
-    file: &[u8],
-) -> Answer
-    requires idle { IsNotJudging K.seen keeper.old }
-    requires let_in { file_refusal (door_of register.now) code volume file.now ≡ None }
-    ensures takes_in { TakesIn (door_of register.now) (K.seen keeper.old) (K.seen keeper.new)
-        code volume file.now result }
-    ensures past_door { IsPastDoor result }
-{
-    match keeper.receive(code, volume, file) {
-        Ok(()) => {}
-        Err(fault) => return Answer::Refused(Refusal::NotReceived(fault)),
+impl<K: Inbox + Drop> Hub<K> {
+    // The answer to a file whose pair was received before, once all is settled; none where it
+    // wasn't.
+    fn settle_and_answer(
+        &mut self,
+        code: Code,
+        volume: Volume,
+        file: &[u8],
+    ) -> Result<Option<Answer>, ShelfFault>
+        requires { IsNotJudging K.seen self.old.keeper }
+        ensures tells { TellsKept (hub_seen K.seen) self.old.register self.old self.new result
+            (λ files board. IsAgain files board code volume file.now) }
+        ensures past_door { IfOk result AnyIsPastDoor }
+        ensures register { self.new.register ≡ self.old.register }
+    {
+        let alloc = self.alloc;
+        let read = |keeper: &mut K| answer_again(alloc, keeper, code, volume, file);
+        settled(
+            alloc,
+            &self.register,
+            &mut self.keeper,
+            &mut self.waiters,
+            read,
+        )
     }
-    match settle_and_tell(alloc, register, keeper, code, volume) {
-        Ok(told) => Answer::New(told),
-        Err(fault) => Answer::Refused(Refusal::ReceivedUnsettled(fault)),
-    }
-}
 
-// The answer to a file that the door lets in.
-fn submit_let_in<K: Inbox>(
-    alloc: Global,
-    register: &Register,
-    keeper: &mut K,
-    code: Code,
-    volume: Volume,
-    file: &[u8],
-) -> Answer
-    requires idle { IsNotJudging K.seen keeper.old }
-    requires let_in { file_refusal (door_of register.now) code volume file.now ≡ None }
-    ensures steps { StepsTo K.seen register.now keeper.old keeper.new
-        (Submit code volume file.now) (Submitted result) }
-    ensures past_door { IsPastDoor result }
-{
-    match settle_and_answer(alloc, register, keeper, code, volume, file) {
-        Ok(Some(answer)) => answer,
-        Ok(None) => take_in(alloc, register, keeper, code, volume, file),
-        Err(fault) => Answer::Refused(Refusal::NotReceived(fault)),
+    // The outcome of a received file once all is settled.
+    fn settle_and_tell(&mut self, code: Code, volume: Volume) -> Result<Outcome, ShelfFault>
+        requires { IsNotJudging K.seen self.old.keeper }
+        ensures tells { TellsKept (hub_seen K.seen) self.old.register self.old self.new result
+            (λ files board. IsOutcome files board code volume) }
+        ensures register { self.new.register ≡ self.old.register }
+    {
+        let alloc = self.alloc;
+        let read = |keeper: &mut K| tell(alloc, keeper, code, volume);
+        settled(
+            alloc,
+            &self.register,
+            &mut self.keeper,
+            &mut self.waiters,
+            read,
+        )
     }
-}
 
-/// The answer to a submission.
-pub fn submit_file<K: Inbox>(
-    alloc: Global,
-    register: &Register,
-    keeper: &mut K,
-    code: u64,
-    volume: u64,
-    file: &[u8],
-) -> Answer
-    requires { IsNotJudging K.seen keeper.old }
-    ensures steps { StepsTo K.seen register.now keeper.old keeper.new
-        (Submit code volume file.now) (Submitted result) }
-    ensures door { MeetsDoor (door_of register.now) keeper.old keeper.new
-        (Submit code volume file.now) (Submitted result) }
-{
-    let (code, volume) = match at_door(register, code, volume, file.len()) {
-        Ok(pair) => pair,
-        Err(refusal) => return Answer::Refused(refusal),
-    };
-    match names_unknown_profile(alloc, file) {
-        Ok(false) => submit_let_in(alloc, register, keeper, code, volume, file),
-        Ok(true) => Answer::Refused(Refusal::UnknownProfile),
-        Err(_) => Answer::Refused(Refusal::NotReceived(ShelfFault::Memory)),
+    // The answer to a file whose pair wasn't received before.
+    fn take_in(&mut self, code: Code, volume: Volume, file: &[u8]) -> Answer
+        requires idle { IsNotJudging K.seen self.old.keeper }
+        requires let_in { file_refusal (door_of self.old.register) code volume file.now ≡ None }
+        ensures takes_in { TakesIn (door_of self.old.register) (hub_seen K.seen self.old)
+            (hub_seen K.seen self.new) code volume file.now result }
+        ensures past_door { IsPastDoor result }
+        ensures register { self.new.register ≡ self.old.register }
+    {
+        let received = receive(
+            &self.register,
+            &mut self.keeper,
+            &mut self.waiters,
+            code,
+            volume,
+            file,
+        );
+        match received {
+            Ok(()) => {}
+            Err(fault) => return Answer::Refused(Refusal::NotReceived(fault)),
+        }
+        match self.settle_and_tell(code, volume) {
+            Ok(told) => Answer::New(told),
+            Err(fault) => Answer::Refused(Refusal::ReceivedUnsettled(fault)),
+        }
+    }
+
+    // The answer to a file that the door lets in.
+    fn submit_let_in(&mut self, code: Code, volume: Volume, file: &[u8]) -> Answer
+        requires idle { IsNotJudging K.seen self.old.keeper }
+        requires let_in { file_refusal (door_of self.old.register) code volume file.now ≡ None }
+        ensures steps { StepsTo (hub_seen K.seen) self.old.register self.old self.new
+            (Submit code volume file.now) (Submitted result) }
+        ensures past_door { IsPastDoor result }
+        ensures register { self.new.register ≡ self.old.register }
+    {
+        match self.settle_and_answer(code, volume, file) {
+            Ok(Some(answer)) => answer,
+            Ok(None) => self.take_in(code, volume, file),
+            Err(fault) => Answer::Refused(Refusal::NotReceived(fault)),
+        }
+    }
+
+    /// Submits a file as a volume of a custodian.
+    ///
+    /// The first file of a pair that passes the door is received, whatever it holds, and stays. A
+    /// file has at most 1,048,576 bytes, and names no profile but 1. `NotReceived` and
+    /// `ReceivedUnsettled` carry the keeper's fault, or want of memory.
+    pub fn submit(&mut self, code: u64, volume: u64, file: &[u8]) -> Answer
+        requires idle { IsNotJudging K.seen self.old.keeper }
+        ensures steps { StepsTo (hub_seen K.seen) self.old.register self.old self.new
+            (Submit code volume file.now) (Submitted result) }
+        ensures door { MeetsDoor (door_of self.old.register) self.old.keeper self.new.keeper
+            (Submit code volume file.now) (Submitted result) }
+        ensures register { self.new.register ≡ self.old.register }
+    {
+        let (code, volume) = match at_door(&self.register, code, volume, file.len()) {
+            Ok(pair) => pair,
+            Err(refusal) => return Answer::Refused(refusal),
+        };
+        match names_unknown_profile(self.alloc, file) {
+            Ok(false) => self.submit_let_in(code, volume, file),
+            Ok(true) => Answer::Refused(Refusal::UnknownProfile),
+            Err(_) => Answer::Refused(Refusal::NotReceived(ShelfFault::Memory)),
+        }
     }
 }

@@ -12,7 +12,7 @@ use Rattle.gaz_shelf.specs.Received.{Received, count_above, is_below, with_file}
 abbrev pub two_judged : Board
 two_judged = λ c. if c == 1001
     then record { verdict = Applied; view = one_street }
-        ∷ record { verdict = Rejected 2 21; view = one_street } ∷ []
+    ∷ record { verdict = Rejected 2 21; view = one_street } ∷ []
     else []
 
 -- how far custodians are judged, and their verdicts and views there

@@ -48,8 +48,8 @@ abbrev pub IsReadOn : Board → ℕ → ℕ → Kind → Option Key → List Ite
     → Type 0
 IsReadOn board c volume kind after before items next =
     volume ≤ reached board c
-        → items ++ left_after (view_after board c volume) kind next ≡ before
-        ++ rest_of (view_after board c volume) kind after
+    → items ++ left_after (view_after board c volume) kind next ≡ before
+    ++ rest_of (view_after board c volume) kind after
 
 -- ---- the calls that read
 
@@ -101,25 +101,25 @@ abbrev pub TellsPage : {K : Type 0} → (K → Seen) → K → K → Result (Vec
     → Kind → Option Key → ℕ → Type 0
 TellsPage seen old new result c volume kind after most =
     Reads (seen old) (seen new) result
-        (λ items. IsPageAt (seen old).content.board c volume kind after most items.items)
+    (λ items. IsPageAt (seen old).content.board c volume kind after most items.items)
 
 abbrev pub TellsReceived : {K : Type 0} → (K → Seen) → K → K → Result (Option (Vec ℕ)) ShelfFault
     → ℕ → ℕ → Type 0
 TellsReceived seen old new result c volume =
     Reads (seen old) (seen new) result
-        (λ bytes. option_map (λ b. b.items) bytes ≡ map.get (seen old).content.files (c, volume))
+    (λ bytes. option_map (λ b. b.items) bytes ≡ map.get (seen old).content.files (c, volume))
 
 abbrev pub TellsHeld : {K : Type 0} → (K → Seen) → K → K → Result ℕ ShelfFault → ℕ → Type 0
 TellsHeld seen old new result c =
     Reads (seen old) (seen new) result
-        (λ n. n ≡ count_above (seen old).content.files c (reached (seen old).content.board c))
+    (λ n. n ≡ count_above (seen old).content.files c (reached (seen old).content.board c))
 
 -- ---- the calls of a judgement, and those outside one
 
 abbrev pub Begins : {K T : Type 0} → (K → Seen) → K → K → Result T ShelfFault → ℕ → Type 0
 Begins seen old new result c =
     Goes (seen old) (seen new) result (IsAtHand (seen old).content c)
-        (after_begin (seen old).content c) None (Open c)
+    (after_begin (seen old).content c) None (Open c)
 
 abbrev pub Puts : {K T : Type 0} → (K → Seen) → K → K → Result T ShelfFault → Item → Type 0
 Puts seen old new result item =
@@ -141,13 +141,13 @@ Abandons seen old new result =
 abbrev pub Skips : {K T : Type 0} → (K → Seen) → K → K → Result T ShelfFault → ℕ → ℕ → ℕ → Type 0
 Skips seen old new result c place rule =
     Enters (seen old) (seen new) result (IsAtHand (seen old).content c)
-        (after_skip (seen old).content c place rule)
+    (after_skip (seen old).content c place rule)
 
 abbrev pub Receives : {K T : Type 0} → (K → Seen) → K → K → Result T ShelfFault → ℕ → ℕ → List ℕ
     → Type 0
 Receives seen old new result c volume bytes =
     Enters (seen old) (seen new) result (IsNew (seen old).content c volume)
-        (with_received (seen old).content c volume bytes)
+    (with_received (seen old).content c volume bytes)
 
 -- ---- over any keeper
 
@@ -155,15 +155,15 @@ abbrev pub TellsAll : {K : Type 0} → (K → Seen) → K → K → Result (Vec 
     → Kind → Type 0
 TellsAll seen old new result c volume kind =
     Reads (seen old) (seen new) result
-        (λ items. IsAllAt (seen old).content.board c volume kind items.items)
+    (λ items. IsAllAt (seen old).content.board c volume kind items.items)
 
 -- a page is added to these items
 abbrev pub AddsPage : {K : Type 0} → (K → Seen) → K → K → Result (Option Key) ShelfFault → ℕ → ℕ
     → Kind → Option Key → Vec Item → Vec Item → Type 0
 AddsPage seen old new result c volume kind after before items =
     Reads (seen old) (seen new) result
-        (λ next. IsReadOn
-        (seen old).content.board c volume kind after before.items items.items next)
+    (λ next. IsReadOn
+    (seen old).content.board c volume kind after before.items items.items next)
 
 abbrev pub PutsAll : {K T : Type 0} → (K → Seen) → K → K → Result T ShelfFault → List Item → Type 0
 PutsAll seen old new result items =
@@ -173,5 +173,5 @@ abbrev pub Writes : {K T : Type 0} → (K → Seen) → K → K → Result T She
     → Ending → Type 0
 Writes seen old new result c items ending =
     Goes (seen old) (seen new) result (IsAtHand (seen old).content c)
-        (written (seen old).content c items ending)
+    (written (seen old).content c items ending)
     (committed_by ending (written (seen old).content c items ending)) Idle

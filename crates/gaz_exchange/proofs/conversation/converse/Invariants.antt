@@ -1,9 +1,10 @@
 use Rattle.std.proofs.Common.{◌≡◌}
 use Rattle.gaz_hub.specs.Hubs.{door_of}
+use Rattle.gaz_hub.specs.Seen.{hub_seen}
 use Rattle.gaz_exchange.proofs.ConversationFacts.{IsSoFar}
 use Rattle.gaz_exchange.proofs.conversation.converse.Given as goal
 
 abbrev pub invariant-loop-n : goal.invariant-loop-n
 invariant-loop-n g l =
     IsSoFar (door_of l.fn.hub.register) l.most l.n l.intake.routes (g.R.Read.remaining l.fn.r) (g.R.Read.remaining l.r) (g.W.Write.contents l.fn.w) (g.W.Write.contents l.w)
-    (g.K.Shelf.seen l.fn.hub.keeper) (g.K.Shelf.seen l.hub.keeper) l.intake.inlet × (l.hub.register ≡ l.fn.hub.register)
+    (hub_seen g.K.Shelf.seen l.fn.hub) (hub_seen g.K.Shelf.seen l.hub) l.intake.inlet × (l.hub.register ≡ l.fn.hub.register)

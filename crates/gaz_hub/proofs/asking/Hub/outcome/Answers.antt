@@ -1,0 +1,23 @@
+-- What is told is read off the settled board.
+use Rattle.std.proofs.Common.{rules, refl, ap, ◌∙◌, ℕ}
+use Rattle.gaz_hub.specs.Hubs.{door_of, state_of}
+use Rattle.gaz_hub.specs.Seen.{kept_seen}
+use Rattle.gaz_hub.specs.Step.{Ask, told_of}
+use Rattle.gaz_hub.proofs.Replying.{answered_door, answered_steps}
+use Rattle.gaz_hub.proofs.Looks.{looks_as}
+use Rattle.gaz_hub.proofs.Remembering.{looks_kept}
+use Rattle.gaz_hub.proofs.Told.{told_is}
+use Rattle.gaz_hub.proofs.asking.Hub.outcome.Goals as goal
+
+pub returns-clause-steps : goal.returns-clause-steps
+returns-clause-steps g c =
+    let hub = c.args.self.now in
+    answered_steps (door_of hub.register) (Ask c.args.code c.args.volume) (λ x. x) (λ r. r) (record { ok = λ x. refl; err = λ r. refl }) c.in-Ok.ensures.let_in.0
+    (kept_seen g.K.Shelf.seen hub.register) _ (hub.keeper, hub.waiters) (c.answered.new.keeper, c.answered.new.waiters) c.answered.result c.answered.ensures
+    (λ mid r called. looks_kept hub.register _ _ _ _ _ _ called.1 (rw (← called.0.shows, ← called.0.leaves) (looks_as _ _ _ _ _ (λ x is closed. told_is (state_of (g.K.Shelf.seen called.0.shown.now).content) _ _ x is closed ∙ ap (λ (p : ℕ × ℕ). told_of (state_of (g.K.Shelf.seen called.0.shown.now).content) p.0 p.1) c.in-Ok.ensures.let_in.1) (search rules))))
+
+pub returns-clause-door : goal.returns-clause-door
+returns-clause-door g c =
+    let hub = c.args.self.now in
+    answered_door (door_of hub.register) (Ask c.args.code c.args.volume) (λ x. x) (λ r. r) (record { ok = λ x. refl; err = λ r. refl }) c.in-Ok.ensures.let_in.0
+    (kept_seen g.K.Shelf.seen hub.register) _ (hub.keeper, hub.waiters) (c.answered.new.keeper, c.answered.new.waiters) hub.keeper c.answered.new.keeper c.answered.result c.answered.ensures

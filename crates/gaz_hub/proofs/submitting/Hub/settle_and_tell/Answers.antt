@@ -1,0 +1,15 @@
+-- The outcome is read off the settled board.
+use Rattle.std.proofs.Common.{rules}
+use Rattle.gaz_hub.specs.Asked.{IsOutcome}
+use Rattle.gaz_hub.specs.Hubs.{door_of}
+use Rattle.gaz_hub.specs.Seen.{kept_seen}
+use Rattle.gaz_hub.proofs.Remembering.{looks_kept}
+use Rattle.gaz_hub.proofs.Telling.{tells_settled}
+use Rattle.gaz_hub.proofs.submitting.Hub.settle_and_tell.Goals as goal
+
+pub returns-clause-tells : goal.returns-clause-tells
+returns-clause-tells g c =
+    let hub = c.args.self.now in
+    tells_settled (door_of hub.register) (kept_seen g.K.Shelf.seen hub.register) _ (hub.keeper, hub.waiters) (c.settled.new.keeper, c.settled.new.waiters) c.settled.result
+    (λ k x. IsOutcome k.files k.board c.args.code c.args.volume x) c.settled.ensures
+    (λ mid called. looks_kept hub.register _ _ _ _ _ _ called.1 (rw (← called.0.shows, ← called.0.leaves) (search rules)))

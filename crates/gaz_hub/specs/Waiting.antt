@@ -1,0 +1,86 @@
+-- Whom a hub remembers to wait for which volume, and whose next volume it is to look at.
+use Rattle.std.specs.Prelude.{◌≡◌, ⊤, ℕ, ◌==◌, not, Bool, true, false, if◌then◌else◌, List, [], ◌∷◌}
+use Rattle.std.specs.Prelude.{◌++◌, filter, map, Option, Some, None}
+use Rattle.std.specs.List.{list_any}
+use Rattle.std.specs.Option.{unwrap_or}
+use Rattle.std.specs.FinMap as finmap
+use Rattle.gaz_register.specs.Registers.{RegisterValue, knows}
+use Rattle.gaz_shelf.specs.Board.{Board}
+use Rattle.gaz_shelf.specs.Keeper.{Content, Seen}
+use Rattle.gaz_shelf.specs.Received.{Received, pair_cmp}
+use Rattle.gaz_hub.specs.Hubs.{StandsFor}
+use Rattle.gaz_hub.specs.Outcomes.{wants}
+use Rattle.gaz_hub.specs.Standing.{ready}
+use Rattle.gaz_hub.specs.Step.{Door}
+
+-- the custodians whose next volume is to be looked at, and for each volume those who wait for it
+abbrev pub Remembered : Type 0
+Remembered = List ℕ × finmap.FinMap pair_cmp (List ℕ)
+
+abbrev pub is_among : List ℕ → ℕ → Bool
+is_among codes c = list_any (λ x. x == c) codes
+
+-- those who wait for a volume of a custodian
+abbrev pub waiting_for : Remembered → ℕ × ℕ → List ℕ
+waiting_for m p = unwrap_or (finmap.get m.1 p) []
+
+-- ---- what becomes of it
+
+-- all custodians of a register are to be looked at, and nobody is known to wait
+abbrev pub all_ahead : RegisterValue → Remembered
+all_ahead register = (map (λ k. k.code) register, finmap.empty)
+
+-- a custodian waits for a volume
+abbrev pub with_waiter : Remembered → ℕ × ℕ → ℕ → Remembered
+with_waiter m p c = (m.0, finmap.insert m.1 p (waiting_for m p ++ c ∷ []))
+
+-- a volume was judged: its custodian is to be looked at, and so are the others who waited for it
+abbrev pub with_judged : Remembered → ℕ × ℕ → Remembered
+with_judged m p =
+    (m.0 ++ p.0 ∷ filter (λ c. not (c == p.0)) (waiting_for m p), finmap.remove m.1 p)
+
+-- a file came: its custodian is to be looked at, where it waited for it
+abbrev pub with_coming : Remembered → ℕ × ℕ → Remembered
+with_coming m p = if is_among (waiting_for m p) p.0 then (m.0 ++ p.0 ∷ [], m.1) else m
+
+-- ---- when it is right
+
+-- a custodian's next volume isn't ready, and it is among those who wait for what it waits for
+pub record Rests (m : Remembered) (files : Received) (board : Board) (c : ℕ) : Type 0 where
+  pub unready : ready files board c ≡ false
+  pub waits : (p : ℕ × ℕ) → wants files board c ≡ Some p → is_among (waiting_for m p) c ≡ true
+
+-- each custodian of the register that is neither to be looked at nor among these others rests
+abbrev pub RestBut : List ℕ → RegisterValue → Remembered → Content → Type 0
+RestBut others register m k =
+    (c : ℕ) → knows register c ≡ true → is_among m.0 c ≡ false → is_among others c ≡ false
+    → Rests m k.files k.board c
+
+-- what is remembered is right of what is kept; where nothing is, everyone is to be looked at
+abbrev pub IsRight : RegisterValue → Option Remembered → Content → Type 0
+IsRight register None k = ⊤
+IsRight register (Some m) k = RestBut [] register m k
+
+-- who rested, but for these, rests afterwards too, also with others left out
+abbrev pub RestAfter : List ℕ → Door → Remembered → Seen → Remembered → Seen → Type 0
+RestAfter these door before old after new =
+    StandsFor door old → new.unharmed → (others : List ℕ)
+    → RestBut (these ++ others) door.register before old.content
+    → RestBut others door.register after new.content
+
+-- ---- a hub as it is seen
+
+-- a keeper with what is remembered of it: it stands for a content where the keeper does and what is
+-- remembered is right
+abbrev pub remembering : RegisterValue → Option Remembered → Seen → Seen
+remembering register waiters s = record {
+  content = s.content;
+  stands = s.stands × IsRight register waiters s.content;
+  lawful = λ stood. s.lawful stood.0;
+  unharmed = s.unharmed;
+  progress = s.progress;
+  failures = s.failures;
+  is_full = s.is_full;
+  full = s.full;
+  leaves = s.leaves;
+}

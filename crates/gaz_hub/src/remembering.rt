@@ -1,0 +1,144 @@
+//! What is done with a keeper while it is remembered who waits for what.
+ghost use Rattle.std.specs.Prelude.{◌≡◌, ⊤, None, IfOk};
+ghost use Rattle.std.specs.Fn.{FnOnceReturnsAtMut, FnOnceTakesAtMut};
+ghost use Rattle.std.specs.Option.{unwrap_or};
+ghost use Rattle.gaz_shelf.specs.Keeper.{Enters, IsNew, with_received};
+ghost use Rattle.gaz_shelf.specs.Telling.{IsNotJudging};
+ghost use Rattle.gaz_hub.specs.Hubs.{door_of};
+ghost use Rattle.gaz_hub.specs.Seen.{CallsKeeper, IsAfterComing, kept_seen};
+ghost use Rattle.gaz_hub.specs.Settling.{AnswersSettled, SettlesAndCalls, TakesIdle, Tells};
+ghost use Rattle.gaz_hub.specs.Waiting.{all_ahead};
+
+use crate::refusal::Refusal;
+use crate::settling::settle;
+use crate::waiters::Waiters;
+use gaz_ids::{Code, Volume};
+use gaz_register::Register;
+use gaz_shelf::{Inbox, ShelfFault};
+use std::alloc::{AllocError, Global};
+
+// What was remembered, and else that everyone is to be looked at. It is remembered no more.
+fn recall(
+    alloc: Global,
+    register: &Register,
+    waiters: &mut Option<Waiters>,
+) -> Result<Waiters, AllocError>
+    ensures recalled { IfOk result (λ w. w ≡ unwrap_or waiters.old (all_ahead register.now)) }
+    ensures left { waiters.new ≡ None }
+{
+    match waiters.take() {
+        Some(waiters) => Ok(waiters),
+        None => Waiters::of(alloc, register),
+    }
+}
+
+// Remembers that a file came as this volume. Where memory runs out, all is forgotten.
+fn remember_coming(waiters: &mut Option<Waiters>, code: Code, volume: Volume)
+    ensures { IsAfterComing (code, volume) waiters.old waiters.new }
+{
+    let Some(mut known) = waiters.take() else {
+        return;
+    };
+    if known.come(code, volume).is_ok() {
+        *waiters = Some(known);
+    }
+}
+
+/// Receives a file. After a fault nothing is remembered.
+pub fn receive<K: Inbox>(
+    register: &Register,
+    keeper: &mut K,
+    waiters: &mut Option<Waiters>,
+    code: Code,
+    volume: Volume,
+    file: &[u8],
+) -> Result<(), ShelfFault>
+    ensures { Enters (kept_seen K.seen register.now (keeper.old, waiters.old))
+        (kept_seen K.seen register.now (keeper.new, waiters.new)) result
+        (IsNew (K.seen keeper.old).content code volume)
+        (with_received (K.seen keeper.old).content code volume file.now) }
+{
+    let received = keeper.receive(code, volume, file);
+    match &received {
+        Ok(()) => remember_coming(waiters, code, volume),
+        Err(_) => *waiters = None,
+    }
+    received
+}
+
+/// Judges until nothing is ready. After a fault nothing is remembered.
+pub fn settle_all<K: Inbox>(
+    alloc: Global,
+    register: &Register,
+    keeper: &mut K,
+    waiters: &mut Option<Waiters>,
+) -> Result<(), ShelfFault>
+    requires { IsNotJudging K.seen keeper.old }
+    ensures { Tells (door_of register.now)
+        (kept_seen K.seen register.now (keeper.old, waiters.old))
+        (kept_seen K.seen register.now (keeper.new, waiters.new)) result (λ done. ⊤) }
+{
+    let mut known = recall(alloc, register, waiters)?;
+    settle(alloc, register, keeper, &mut known)?;
+    *waiters = Some(known);
+    Ok(())
+}
+
+/// What a reading tells, once all is settled. It may be any that can be made while no judgement is
+/// open. After a fault nothing is remembered.
+pub fn settled<K: Inbox, T, F: FnOnce(&mut K) -> Result<T, ShelfFault>>(
+    alloc: Global,
+    register: &Register,
+    keeper: &mut K,
+    waiters: &mut Option<Waiters>,
+    read: F,
+) -> Result<T, ShelfFault>
+    requires idle { IsNotJudging K.seen keeper.old }
+    requires callable { TakesIdle K.seen (λ mid. FnOnceTakesAtMut F.FnOnce read mid) }
+    ensures { SettlesAndCalls (door_of register.now) (kept_seen K.seen register.now)
+        (CallsKeeper (λ mid told after. FnOnceReturnsAtMut F.FnOnce read mid told after))
+        (keeper.old, waiters.old) (keeper.new, waiters.new) result }
+{
+    match settle_all(alloc, register, keeper, waiters) {
+        Ok(()) => read_kept(keeper, waiters, read),
+        Err(fault) => Err(fault),
+    }
+}
+
+// What a reading tells. After a fault nothing is remembered.
+fn read_kept<K: Inbox, T, F: FnOnce(&mut K) -> Result<T, ShelfFault>>(
+    keeper: &mut K,
+    waiters: &mut Option<Waiters>,
+    read: F,
+) -> Result<T, ShelfFault>
+    requires callable { FnOnceTakesAtMut F.FnOnce read keeper.old }
+    ensures { CallsKeeper (λ mid told after. FnOnceReturnsAtMut F.FnOnce read mid told after)
+        (keeper.old, waiters.old) result (keeper.new, waiters.new) }
+{
+    let told = read(keeper);
+    if told.is_err() {
+        *waiters = None;
+    }
+    told
+}
+
+/// What a reading tells, once all is settled, as the reply to a question: a fault is `NotReceived`
+/// (51).
+pub fn answered<K: Inbox, T, F: FnOnce(&mut K) -> Result<T, ShelfFault>>(
+    alloc: Global,
+    register: &Register,
+    keeper: &mut K,
+    waiters: &mut Option<Waiters>,
+    read: F,
+) -> Result<T, Refusal>
+    requires idle { IsNotJudging K.seen keeper.old }
+    requires callable { TakesIdle K.seen (λ mid. FnOnceTakesAtMut F.FnOnce read mid) }
+    ensures { AnswersSettled (door_of register.now) (kept_seen K.seen register.now)
+        (CallsKeeper (λ mid told after. FnOnceReturnsAtMut F.FnOnce read mid told after))
+        (keeper.old, waiters.old) (keeper.new, waiters.new) result }
+{
+    match settled(alloc, register, keeper, waiters, read) {
+        Ok(told) => Ok(told),
+        Err(fault) => Err(Refusal::NotReceived(fault)),
+    }
+}

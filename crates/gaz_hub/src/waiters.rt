@@ -1,0 +1,162 @@
+//! Who waits for which volume.
+ghost use Rattle.std.specs.Prelude.{◌≡◌, ◌++◌, ◌==◌, ◌∷◌, [], not, filter, map, IfOk, OnOk};
+ghost use Rattle.gaz_hub.specs.Waiting.{all_ahead, with_coming};
+ghost use Rattle.gaz_hub.specs.Waiting.{with_judged, with_waiter};
+
+use gaz_ids::{Code, Volume};
+use gaz_register::{Custodian, Register};
+use std::alloc::{AllocError, Global};
+use std::collections::BTreeMap;
+use std::marker::Model;
+use std::mem::replace;
+
+/// Custodians by their codes.
+#[derive(Drop)]
+struct Codes {
+    codes: Vec<Code>,
+}
+
+impl Model for Codes {
+    ghost use Rattle.std.specs.Prelude.{List, ℕ};
+
+    ghost Value = { List ℕ };
+
+    ghost view = { λ c. c.codes.items };
+}
+
+impl Codes {
+    // None.
+    fn new(alloc: Global) -> Codes
+        ensures { result ≡ [] }
+    {
+        Codes {
+            codes: Vec::new(alloc),
+        }
+    }
+
+    fn as_slice(&self) -> &[Code]
+        ensures { result.now ≡ self.now }
+    {
+        self.codes.as_slice()
+    }
+
+    // One more.
+    fn push(&mut self, code: Code) -> Result<(), AllocError>
+        ensures { OnOk result (self.new ≡ self.old ++ code ∷ []) }
+    {
+        self.codes.push(code)
+    }
+}
+
+/// The custodians whose next volume is to be looked at, and for each volume those who wait for it.
+///
+/// Only what a hub needs in order to look at nobody in vain: it can be built anew at any time, by
+/// looking at everyone.
+#[derive(Drop)]
+pub struct Waiters {
+    alloc: Global,
+    ahead: Vec<Code>,
+    by_volume: BTreeMap<(Code, Volume), Codes>,
+}
+
+impl Model for Waiters {
+    ghost use Rattle.std.specs.FinMap as map;
+    ghost use Rattle.std.specs.Coded.{coded_list, coded_ℕ, coded×};
+    ghost use Rattle.gaz_hub.specs.Waiting.{Remembered};
+
+    ghost Value = { Remembered };
+
+    ghost coded = { coded× (coded_list coded_ℕ) (map.code (coded× coded_ℕ coded_ℕ) (coded_list coded_ℕ)) };
+
+    ghost view = { λ w. (w.ahead.items, map.from_entries w.by_volume.entries) };
+}
+
+impl Waiters {
+    /// Everyone is to be looked at.
+    pub fn of(alloc: Global, register: &Register) -> Result<Waiters, AllocError>
+        ensures { IfOk result (λ w. w ≡ all_ahead register.now) }
+    {
+        Ok(Waiters {
+            alloc,
+            ahead: codes_of(alloc, register.custodians())?,
+            by_volume: BTreeMap::new(alloc),
+        })
+    }
+
+    /// Those who are to be looked at; afterwards nobody is.
+    pub fn take_ahead(&mut self) -> Vec<Code>
+        ensures taken { result.items ≡ self.old.0 }
+        ensures left { self.new ≡ ([], self.old.1) }
+    {
+        replace(&mut self.ahead, Vec::new(self.alloc))
+    }
+
+    /// A custodian waits for a volume.
+    pub fn wait(
+        &mut self,
+        waiter: Code,
+        custodian: Code,
+        volume: Volume,
+    ) -> Result<(), AllocError>
+        ensures { OnOk result (self.new ≡ with_waiter self.old (custodian, volume) waiter) }
+    {
+        let waiting = self.by_volume.remove(&(custodian, volume));
+        let mut codes = match waiting {
+            Some(codes) => codes,
+            None => Codes::new(self.alloc),
+        };
+        codes.push(waiter)?;
+        self.by_volume.insert((custodian, volume), codes)?;
+        Ok(())
+    }
+
+    /// A volume was judged: its custodian is to be looked at, and so are the others who waited for
+    /// it.
+    pub fn wake(&mut self, custodian: Code, volume: Volume) -> Result<(), AllocError>
+        ensures { OnOk result (self.new ≡ with_judged self.old (custodian, volume)) }
+    {
+        self.ahead.push(custodian)?;
+        match self.by_volume.remove(&(custodian, volume)) {
+            Some(codes) => push_others(&mut self.ahead, codes.as_slice(), custodian),
+            None => Ok(()),
+        }
+    }
+
+    /// A file came: its custodian is to be looked at, where it waited for it.
+    pub fn come(&mut self, custodian: Code, volume: Volume) -> Result<(), AllocError>
+        ensures { OnOk result (self.new ≡ with_coming self.old (custodian, volume)) }
+    {
+        let waits = match self.by_volume.get(&(custodian, volume)) {
+            Some(codes) => codes.as_slice().contains(&custodian),
+            None => false,
+        };
+        if waits {
+            self.ahead.push(custodian)?;
+        }
+        Ok(())
+    }
+}
+
+// The codes of some custodians.
+fn codes_of(alloc: Global, custodians: &[Custodian]) -> Result<Vec<Code>, AllocError>
+    ensures { IfOk result (λ codes. codes.items ≡ map (λ k. k.code) custodians.now) }
+{
+    let mut codes = Vec::new(alloc);
+    for custodian in custodians {
+        codes.push(custodian.code())?;
+    }
+    Ok(codes)
+}
+
+// Adds all but one.
+fn push_others(ahead: &mut Vec<Code>, codes: &[Code], but: Code) -> Result<(), AllocError>
+    ensures { OnOk result (ahead.new.items
+        ≡ ahead.old.items ++ filter (λ c. not (c == but)) codes.now) }
+{
+    for code in codes {
+        if *code != but {
+            ahead.push(*code)?;
+        }
+    }
+    Ok(())
+}
