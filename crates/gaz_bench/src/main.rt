@@ -3,12 +3,14 @@
 //! `gaz_bench judge ITEMS` times the judgement of a file of 1,000 changes into a gazetteer of so many items, and beside it that of a file
 //! without changes; `gaz_bench calls ITEMS` prints how often the keeper was called before that judgement and after it.
 //! `gaz_bench keeping VOLUMES` times how the keeper in memory keeps so many volumes of 1,000 items.
+//! `gaz_bench play REGISTER` answers the requests on standard input at a hub of the register in a file, over a keeper in memory.
 //! `gaz_bench IDENTIFIER FILE ROUNDS` takes a record identifier and a file of rows of that kind, which begin behind the order field. It prints a
 //! line with the least time in nanoseconds of reading all items and that of writing all rows, and then the rows.
 #![tactic(auto)]
 
 mod judging;
 mod keeping;
+mod playing;
 mod records;
 
 use anyhow::{Context, Result, ensure};
@@ -18,6 +20,7 @@ use gaz_records::Kind;
 use gaz_register::Register;
 use judging::{judging_calls, judging_micros};
 use keeping::keeping_micros;
+use playing::play;
 use records::records_nanos;
 use std::time::Instant;
 use std::{env, fs};
@@ -122,6 +125,7 @@ fn main(rt: HostRuntime) -> Result<()> {
     match word.as_str() {
         "judge" => print_judging(&rt, &given),
         "calls" => print_calls(&rt, &given),
+        "play" => play(&rt, &given),
         "keeping" => {
             println!(rt; "{}", keeping_micros(&rt, given.parse::<u64>()?)?)?;
             Ok(())

@@ -19,3 +19,5 @@ mod questions;
 mod readings;
 #[cfg(test)]
 mod streams;
+#[cfg(test)]
+mod waiting;

@@ -1,0 +1,125 @@
+//! Who is looked at when a file comes: the keeper's calls at a hub of 400 custodians, counted.
+ghost use Rattle.std.specs.Prelude.{IfOk, OnOk};
+ghost use Rattle.gaz_shelf.specs.Faulting.{progress_around};
+ghost use Rattle.gaz_shelf.specs.Keeper.{IsNotOpen};
+ghost use Rattle.gaz_shelf.specs.Mem.{seen_in};
+
+use crate::hubs::held;
+use gaz_hub::{Answer, Hub, Outcome};
+use gaz_register::Register;
+use gaz_shelf::{Faulty, Inbox, MemShelf, Seed};
+use std::alloc::Global;
+use std::fmt::Write;
+use std::process::Abort;
+use std::test::Fail;
+
+/// As many custodians as a register may have.
+const CUSTODIANS: u64 = 400;
+
+const APPLIED: Answer = Answer::New(Outcome::Applied);
+
+// A hub of 400 custodians, whose keeper counts its calls.
+fn hub_of_400(alloc: Global) -> Result<Hub<Faulty<MemShelf>>, Fail>
+    ensures { IfOk result (λ hub.
+        IsNotOpen (progress_around hub.keeper.broken (seen_in hub.keeper.inner).progress)) }
+{
+    let mut text = String::new(alloc);
+    for code in 1..=CUSTODIANS {
+        write!(
+            text,
+            "[[custodian]]\ncode = {code}\nname = \"A\"\nuprn = []\nusrn = [[{code}, {code}]]\n"
+        )?;
+    }
+    let register = Register::read(alloc, text.as_bytes())?;
+    let keeper = Faulty::new(MemShelf::new(alloc, Seed::of(1)), 0);
+    Ok(Hub::new(alloc, register, keeper))
+}
+
+// How often the keeper was asked what is judged or received.
+fn asked(hub: &Hub<Faulty<MemShelf>>) -> u64 {
+    let calls = hub.shelf().counted();
+    calls.reached.saturating_add(calls.received)
+}
+
+// A file of a custodian without changes, which rests on these volumes.
+fn file_on(alloc: Global, code: u64, volume: u64, bases: &[(u64, u64)]) -> Result<String, Fail> {
+    let mut file = format!(in alloc; "10,1,{code},{volume},2024-01-02\n")?;
+    for (custodian, basis) in bases {
+        write!(file, "90,{custodian},{basis}\n")?;
+    }
+    write!(file, "99,0\n")?;
+    Ok(file)
+}
+
+// Submits a file of a custodian; how often it was asked for that what is judged or received.
+fn submits<K: Inbox + Drop>(
+    rt: &(impl Abort + AllocGlobal),
+    hub: &mut Hub<K>,
+    pair: (u64, u64),
+    bases: &[(u64, u64)],
+    answer: Answer,
+) -> Result<(), Fail>
+    requires { IsNotOpen (K.seen hub.old.keeper).progress }
+    ensures { OnOk result (IsNotOpen (K.seen hub.new.keeper).progress) }
+{
+    let file = file_on(rt.alloc(), pair.0, pair.1, bases)?;
+    assert_eq!(rt; hub.submit(pair.0, pair.1, file.as_bytes()), answer, "{pair:?}");
+    Ok(())
+}
+
+#[test]
+fn nobody_is_looked_at_in_vain(rt: HostRuntime) -> Result<(), Fail> {
+    let mut hub = hub_of_400(rt.alloc())?;
+    let _settled = hub.status(1)?;
+    let before = asked(&hub);
+    assert!(rt; before >= CUSTODIANS, "everyone is looked at once");
+    let _settled = hub.status(2)?;
+    assert_eq!(rt; asked(&hub).saturating_sub(before), 3, "what is told of 2, and nothing else");
+    let before = asked(&hub);
+    submits(&rt, &mut hub, (7, 1), &[], APPLIED)?;
+    assert!(rt; asked(&hub).saturating_sub(before) <= 12, "nobody waits");
+    Ok(())
+}
+
+#[test]
+fn who_waits_is_looked_at_once(rt: HostRuntime) -> Result<(), Fail> {
+    let mut hub = hub_of_400(rt.alloc())?;
+    for code in [10, 200, 400] {
+        submits(&rt, &mut hub, (code, 1), &[(7, 1)], Answer::New(held(7, 1)?))?;
+    }
+    let before = asked(&hub);
+    submits(&rt, &mut hub, (7, 1), &[], APPLIED)?;
+    assert!(rt; asked(&hub).saturating_sub(before) <= 48, "three wait");
+    for code in [10, 200, 400] {
+        assert_eq!(rt; hub.status(code)?.judged, 1);
+    }
+    Ok(())
+}
+
+#[test]
+fn who_waits_for_two_volumes_is_looked_at_for_each(rt: HostRuntime) -> Result<(), Fail> {
+    let mut hub = hub_of_400(rt.alloc())?;
+    let on_both: &[(u64, u64)] = &[(7, 1), (8, 1)];
+    submits(&rt, &mut hub, (9, 1), on_both, Answer::New(held(7, 1)?))?;
+    submits(&rt, &mut hub, (7, 1), &[], APPLIED)?;
+    assert_eq!(rt; hub.status(9)?.judged, 0);
+    submits(&rt, &mut hub, (8, 1), &[], APPLIED)?;
+    assert_eq!(rt; hub.status(9)?.judged, 1);
+    Ok(())
+}
+
+#[test]
+fn three_hundred_and_ninety_nine_wait_for_one(rt: HostRuntime) -> Result<(), Fail> {
+    let mut hub = hub_of_400(rt.alloc())?;
+    let waits = Answer::New(held(CUSTODIANS, 1)?);
+    for code in 1..CUSTODIANS {
+        submits(&rt, &mut hub, (code, 1), &[(CUSTODIANS, 1)], waits)?;
+    }
+    let before = asked(&hub);
+    submits(&rt, &mut hub, (CUSTODIANS, 1), &[], APPLIED)?;
+    assert!(rt; asked(&hub).saturating_sub(before) <= 6 * CUSTODIANS, "each is looked at");
+    for code in 1..=CUSTODIANS {
+        assert_eq!(rt; hub.status(code)?.judged, 1);
+    }
+    Ok(())
+}
