@@ -15,6 +15,7 @@ use Rattle.gaz_shelf.specs.Board.{Board, Judgement, adds, reached}
 use Rattle.gaz_shelf.specs.Keeper.{Content, Counts, Enters, IsAtHand, IsNotOpen, Seen, after_abandon, after_skip, with_judgement}
 use Rattle.gaz_shelf.specs.Received.{Received}
 use Rattle.gaz_shelf.specs.declared.fault.ShelfFault.{ShelfFault}
+use Rattle.gaz_shelf.specs.declared.fault.ShelfFault.TheVariants.{Store}
 use Rattle.gaz_views.specs.declared.verdict.Verdict.{Verdict}
 use Rattle.gaz_rules.specs.Bases.{are_reached, judged_on}
 use Rattle.gaz_rules.specs.Judges.{IsReady, Judges}
@@ -28,7 +29,7 @@ use Rattle.gaz_hub.specs.Waiting.{Remembered, RestAfter, is_among, remembering}
 use Rattle.gaz_hub.specs.declared.looking.Next.{Next}
 use Rattle.gaz_hub.proofs.Bounds.{all_then, not_all}
 use Rattle.gaz_hub.proofs.Leading.{follows_itself, leads_on}
-use Rattle.gaz_hub.proofs.Looks.{counts_then, left_not_open, looks_nowhere}
+use Rattle.gaz_hub.proofs.Looks.{counts_then, left_not_open}
 use Rattle.gaz_hub.proofs.Prefixes.{both_parts, joined}
 use Rattle.gaz_hub.proofs.Orders.{ready_gives}
 
@@ -237,13 +238,13 @@ module _ {T : Type 0} (d : Door) (a c : Seen) (code : ℕ) (rd : Reading) (met :
 
   -- it was, and then a call failed that isn't the keeper's
   pub tries_forgotten : (x : T) (e : ShelfFault) (left : ℕ) (IsAmong : ℕ → Type 0) → (e ≡ Store → ⊥) → Adds a c (Ok x) code (IsNow a.content code rd) (judged_on ((blocks d) code) a.content.board code rd) → Tries d left a c (Err e) IsAmong
-  tries_forgotten x e left IsAmong no g =
+  tries_forgotten x e left IsAmong never g =
       record {
         advances = advances_less d 1 0 a c (omega arith) (advances_judged x g);
         within = tt;
         same = λ stood fine. tt;
         rests = λ stood fine. tt;
-        cause = λ stood fine all is. absurd (no is);
+        cause = λ stood fine all is. absurd (never is);
       }
 
   pub tries_broken : (e : ShelfFault) (left : ℕ) (IsAmong : ℕ → Type 0) → Adds {T = T} a c (Err e) code (IsNow a.content code rd) (judged_on ((blocks d) code) a.content.board code rd) → Tries d left a c (Err e) IsAmong
@@ -274,13 +275,13 @@ tries_past reg a b code left e n rd IsAmong none l idle now =
 
 -- a look after which a call failed that isn't the keeper's
 pub tries_looked : {T : Type 0} (d : Door) (left : ℕ) (a b : Seen) (r : Result T ShelfFault) (P : T → Type 0) (e : ShelfFault) (IsAmong : ℕ → Type 0) → (e ≡ Store → ⊥) → Looks a b r P → IsNotOpen a.progress → Tries d left a b (Err e) IsAmong
-tries_looked d left a b r P e IsAmong no l idle =
+tries_looked d left a b r P e IsAmong never l idle =
     record {
       advances = advances_looking d a b r P l idle;
       within = tt;
       same = λ stood fine. tt;
       rests = λ stood fine. tt;
-      cause = λ stood fine all is. absurd (no is);
+      cause = λ stood fine all is. absurd (never is);
     }
 
 pub neither : (m n : ℕ) → m + n ≡ 0 → (m ≡ 0) × (n ≡ 0)
@@ -290,7 +291,15 @@ neither m n e = (omega arith, omega arith)
 pub tries_nothing : (d : Door) (left : ℕ) (a : Seen) (IsAmong : ℕ → Type 0) → IsNotOpen a.progress → ((c : ℕ) → IsAmong c → ⊥) → Tries d left a a (Ok 0) IsAmong
 tries_nothing d left a IsAmong idle nobody =
     record {
-      advances = advances_looking d a a (Ok tt) (λ _. ⊤) (looks_nowhere a tt (λ _. ⊤) tt) idle;
+      advances = record {
+        harm = λ fine. fine;
+        stands = λ stood fine. stood;
+        files = λ stood fine. refl;
+        board = λ stood fine. follows_itself (blocks d) _ _ _ refl;
+        many = λ stood fine. omega arith;
+        idle = idle;
+        kept = omega arith;
+      };
       within = omega arith;
       same = λ stood fine e. refl;
       rests = λ stood fine e c among. absurd (nobody c among);

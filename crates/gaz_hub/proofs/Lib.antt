@@ -8,7 +8,7 @@ pub mod Looks
 pub mod Waiting
 pub mod Bounds
 pub mod Advancing
-pub mod Remembering
+pub mod Memory
 pub mod Telling
 pub mod Told
 pub mod Replying
@@ -26,3 +26,4 @@ pub mod WorkedSteps
 pub mod WorkedRuns
 pub mod WorkedReadings
 pub mod WorkedHubs
+pub mod WorkedWaiting

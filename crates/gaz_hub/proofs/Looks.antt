@@ -139,11 +139,11 @@ file_as F B c volume bytes r is within came reads =
 pub next_here : (F : Received) (B : Board) (c volume : ℕ) (bytes : List ℕ) (n : Next) → volume ≡ reached B c + 1 → volume ≤ 999999 → map.get F (c, volume) ≡ Some bytes
     → IsReadAs B c volume bytes n → IsNext F B c n
 next_here F B c volume bytes (next.Good v contents) is within came h =
-    let file = file_as F B c volume bytes (Good contents) is within came (h.1 ∙ ap Good (sym h.2.1.0)) in
-    (h.2.0 ∙ is, ready_as F B c _ file ∙ all_reached B contents.bases (ap (λ (x : Contents). first_unreached B x.bases) h.2.1.0 ∙ h.2.1.1), file.reads)
+    let file = file_as F B c volume bytes (Good contents) is within came (h.1 ∙ ap Good (sym h.2.1)) in
+    (h.2.0 ∙ is, (ready_as F B c _ file ∙ all_reached B contents.bases (ap (λ (x : Contents). first_unreached B x.bases) h.2.1 ∙ h.2.2), file.reads))
 next_here F B c volume bytes (next.Bad v place rule) is within came h =
     let file = file_as F B c volume bytes (Bad place rule) is within came h.1 in
-    (h.0 ∙ is, ready_as F B c _ file, file.reads)
+    (h.0 ∙ is, (ready_as F B c _ file, file.reads))
 next_here F B c volume bytes (next.Waits d w) is within came h =
     let file = file_as F B c volume bytes (Good h.0) is within came h.1 in
     (ready_as F B c _ file ∙ not_all_reached B h.0.bases _ h.2, wants_for F B c _ file ∙ ap (option_map (λ (x : Basis). (x.custodian, x.volume))) h.2)

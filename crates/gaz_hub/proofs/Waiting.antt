@@ -1,21 +1,26 @@
 -- What is remembered of who waits for what stays right while files come and are judged.
-use Rattle.std.proofs.Common.{◌≡◌, ◌≤◌, ◌+◌, ℕ, suc, Bool, true, false, cond, not, ◌&&◌, ◌||◌, eqb, eqb-true, eq-eqb, List, [], ◌∷◌, ◌++◌, filter, map, refl, sym, ap, ◌∙◌, subst, arith, true≢false, leb-true, le-leb}
+use Rattle.std.proofs.Common.{◌≡◌, ◌≤◌, ◌+◌, ℕ, suc, Bool, true, false, cond, not, ◌&&◌, ◌||◌, eqb, eqb-true, eq-eqb, List, [], ◌∷◌, ◌++◌, filter, take, get_or, append_assoc, append-nil, ◌<◌, map, refl, sym, ap, ◌∙◌, subst, arith, true≢false, leb-true, le-leb, inl, inr}
 use Rattle.std.proofs.lemmas.Bool.Decides.{leb_tells}
+use Rattle.std.proofs.lemmas.List.Elements.{filter_more}
 use Rattle.std.proofs.lemmas.List.Folds.{list_any-append}
 use Rattle.std.proofs.lemmas.List.{length_push}
 use Rattle.std.specs.Cmp.{eq_by_cmp_equiv}
 use Rattle.std.specs.Prelude.{nat_le, is_some, is_none, length, Option, Some, None}
 use Rattle.std.specs.List.{list_any, find}
 use Rattle.std.specs.Option.{option_map, option_map_or, unwrap_or}
+use Rattle.std.specs.BTreeMap.{is_at}
 use Rattle.std.specs.FinMap as finmap
+use Rattle.std.specs.Map.{lookup}
+use Rattle.std.specs.Ordering.{eq_by_cmp}
+use Rattle.gaz_views.proofs.Trees.{get_tree}
 use Rattle.gaz_changefile.specs.Reading.{Reading, reading}
 use Rattle.gaz_changefile.specs.declared.change.Basis.{Basis}
 use Rattle.gaz_register.specs.Registers.{CustodianValue, RegisterValue, knows}
 use Rattle.gaz_rules.specs.Bases.{are_reached}
 use Rattle.gaz_rules.specs.Judging.{bases_of}
-use Rattle.gaz_shelf.proofs.Pairs.{pairs_total}
+use Rattle.gaz_shelf.proofs.Pairs.{pairs_exact, pairs_total}
 use Rattle.gaz_shelf.specs.Board.{Board, reached}
-use Rattle.gaz_shelf.specs.Received.{Received, with_file}
+use Rattle.gaz_shelf.specs.Received.{Received, pair_cmp, with_file}
 use Rattle.gaz_hub.specs.Outcomes.{first_unreached, wants, wants_as}
 use Rattle.gaz_hub.specs.Runs.{same_pair}
 use Rattle.gaz_hub.specs.Standing.{Register, judge_one, next_reading, ready, with_next}
@@ -52,6 +57,20 @@ in_others (x ∷ xs) a c apart e =
       | false ↦ λ _ both. let no = either_no _ _ both in ap (λ b. b || is_among xs c) no.0 ∙ in_others xs a c apart no.1
     ] refl e
 
+-- the others of the first of a list, with the next one where it is one
+pub pushed_if : (but : ℕ) (base xs : List ℕ) (i x : ℕ) → i < length xs → x ≡ get_or xs i x
+    → base ++ filter (λ y. not (eqb y but)) (take (i + 1) xs)
+    ≡ cond (not (eqb x but)) ((base ++ filter (λ y. not (eqb y but)) (take i xs)) ++ x ∷ []) (base ++ filter (λ y. not (eqb y but)) (take i xs))
+pushed_if but base xs i x below is =
+    ap (λ ys. base ++ ys) (filter_more (λ y. not (eqb y but)) xs i x below)
+    ∙ ap (λ y. base ++ (filter (λ z. not (eqb z but)) (take i xs) ++ cond (not (eqb y but)) (y ∷ []) [])) (sym is)
+    ∙ either (not (eqb x but))
+  where
+    either : (b : Bool) → base ++ (filter (λ y. not (eqb y but)) (take i xs) ++ cond b (x ∷ []) [])
+        ≡ cond b ((base ++ filter (λ y. not (eqb y but)) (take i xs)) ++ x ∷ []) (base ++ filter (λ y. not (eqb y but)) (take i xs))
+    either true = sym (append_assoc base (filter (λ y. not (eqb y but)) (take i xs)) (x ∷ []))
+    either false = ap (λ ys. base ++ ys) (append-nil (filter (λ y. not (eqb y but)) (take i xs)))
+
 -- each custodian that a register knows is among its codes
 pub known_among : (register : RegisterValue) (c : ℕ) → knows register c ≡ true → is_among (map (λ (k : CustodianValue). k.code) register) c ≡ true
 known_among [] c e = absurd (true≢false (sym e))
@@ -67,7 +86,7 @@ itself : (p : ℕ × ℕ) → same_pair p p ≡ true
 itself p = (eq_by_cmp_equiv pairs_total).refl p
 
 -- who waits after one more does
-waiting_with : (m : Remembered) (p q : ℕ × ℕ) (a : ℕ) → waiting_for (with_waiter m p a) q ≡ unwrap_or (cond (same_pair q p) (Some (waiting_for m p ++ a ∷ [])) (finmap.get m.1 q)) []
+pub waiting_with : (m : Remembered) (p q : ℕ × ℕ) (a : ℕ) → waiting_for (with_waiter m p a) q ≡ unwrap_or (cond (same_pair q p) (Some (waiting_for m p ++ a ∷ [])) (finmap.get m.1 q)) []
 waiting_with m p q a = ap (λ o. unwrap_or o []) (finmap.get-insert pairs_total m.1 p (waiting_for m p ++ a ∷ []) q)
 
 pub still_waits : (m : Remembered) (p q : ℕ × ℕ) (a c : ℕ) → is_among (waiting_for m q) c ≡ true → is_among (waiting_for (with_waiter m p a) q) c ≡ true
@@ -84,10 +103,28 @@ now_waits m p a =
     ∙ in_pushed (waiting_for m p) a
 
 -- those who wait for another volume than the judged one are the same
-others_wait : (m : Remembered) (p q : ℕ × ℕ) → same_pair q p ≡ false → waiting_for (with_judged m p) q ≡ waiting_for m q
+pub others_wait : (m : Remembered) (p q : ℕ × ℕ) → same_pair q p ≡ false → waiting_for (with_judged m p) q ≡ waiting_for m q
 others_wait m p q e =
     ap (λ o. unwrap_or o []) (finmap.get-remove pairs_total m.1 p q)
     ∙ ap (λ b. unwrap_or (cond b None (finmap.get m.1 q)) []) e
+
+-- what a tree map without a key is as a finite map
+pub removed : {X : Type 0} (es fs : List ((ℕ × ℕ) × X)) (p : ℕ × ℕ) → ((q : ℕ × ℕ) → lookup (is_at (pair_cmp q)) fs ≡ cond (is_at (pair_cmp p) q) None (lookup (is_at (pair_cmp q)) es))
+    → finmap.from_entries {R = pair_cmp} fs ≡ finmap.remove (finmap.from_entries es) p
+removed es fs p h = finmap.same_map pairs_total pairs_exact _ _ (λ q.
+    get_tree {S = pair_cmp} (λ a b. refl) pairs_total fs q ∙ h q
+    ∙ ap (λ b. cond b None (lookup (is_at (pair_cmp q)) es)) ((eq_by_cmp_equiv pairs_total).symm p q)
+    ∙ sym (finmap.get-remove pairs_total (finmap.from_entries es) p q ∙ ap (cond (eq_by_cmp pair_cmp q p) None) (get_tree {S = pair_cmp} (λ a b. refl) pairs_total es q)))
+
+-- what is put back over what was taken
+pub put_back : {X : Type 0} (m : finmap.FinMap pair_cmp X) (p : ℕ × ℕ) (v : X) → finmap.insert (finmap.remove m p) p v ≡ finmap.insert m p v
+put_back m p v = finmap.same_map pairs_total pairs_exact _ _ (λ q.
+    finmap.get-insert pairs_total (finmap.remove m p) p v q ∙ ap (cond (eq_by_cmp pair_cmp q p) (Some v)) (finmap.get-remove pairs_total m p q)
+    ∙ twice (eq_by_cmp pair_cmp q p) (finmap.get m q) ∙ sym (finmap.get-insert pairs_total m p v q))
+  where
+    twice : (b : Bool) (o : Option _) → cond b (Some v) (cond b None o) ≡ cond b (Some v) o
+    twice true o = refl
+    twice false o = refl
 
 -- ---- a file is judged
 
@@ -121,8 +158,8 @@ module _ (board later : Board) (c : ℕ) (more : reached later c ≡ reached boa
       ] refl
 
   still_below : (b : Basis) → nat_le b.volume (reached board b.custodian) ≡ false → (b.custodian ≡ c → b.volume ≡ reached board c + 1 → ⊥) → nat_le b.volume (reached later b.custodian) ≡ false
-  still_below b below no =
-      elim (leb_tells b.volume (reached later b.custodian)) as _ [
+  still_below b below never =
+      elim (leb_tells b.volume (reached later b.custodian)) [
         | inl t ↦ absurd (there t.1)
         | inr t ↦ t.0
       ]
@@ -137,27 +174,27 @@ module _ (board later : Board) (c : ℕ) (more : reached later c ≡ reached boa
                 let is = eqb-true b.custodian c t in
                 let now : reached later b.custodian ≡ reached board c + 1 = ap (reached later) is ∙ more in
                 let was : reached board b.custodian ≡ reached board c = ap (reached board) is in
-                no is (omega (arith, now, was, above, h))
+                never is (omega (arith, now, was, above, h))
             | false ↦ λ t. let e = same b.custodian t in omega (arith, e, above, h)
           ] refl
 
   pub first_stays : (bases : List Basis) → ((b : Basis) → first_unreached board bases ≡ Some b → b.custodian ≡ c → b.volume ≡ reached board c + 1 → ⊥)
       → first_unreached later bases ≡ first_unreached board bases
-  first_stays [] no = refl
-  first_stays (b ∷ bases) no =
+  first_stays [] never = refl
+  first_stays (b ∷ bases) never =
       elim (nat_le b.volume (reached board b.custodian))
       as (λ x. nat_le b.volume (reached board b.custodian) ≡ x
-          → ((y : Basis) → cond (not x) (Some b) (first_unreached board bases) ≡ Some y → y.custodian ≡ c → y.volume ≡ reached board c + 1 → ⊥)
-          → first_unreached later (b ∷ bases) ≡ cond (not x) (Some b) (first_unreached board bases)) [
+      → ((y : Basis) → cond (not x) (Some b) (first_unreached board bases) ≡ Some y → y.custodian ≡ c → y.volume ≡ reached board c + 1 → ⊥)
+      → first_unreached later (b ∷ bases) ≡ cond (not x) (Some b) (first_unreached board bases)) [
         | true ↦ λ t here.
             let now : nat_le b.volume (reached later b.custodian) ≡ true = le-leb _ _ (let h = leb-true _ _ t in let g = up b.custodian in omega arith) in
             ap (λ x. cond (not x) (Some b) (first_unreached later bases)) now ∙ first_stays bases here
         | false ↦ λ t here. ap (λ x. cond (not x) (Some b) (first_unreached later bases)) (still_below b t (here b refl))
-      ] refl no
+      ] refl never
 
 -- the board after the next file of a custodian that is ready was judged
 module _ (register : Register) (files : Received) (board : Board) (c : ℕ) (is_ready : ready files board c ≡ true) where
-  later : Board
+  abbrev pub later : Board
   later = judge_one register files board c
 
   pub one_more : reached later c ≡ reached board c + 1
@@ -173,15 +210,15 @@ module _ (register : Register) (files : Received) (board : Board) (c : ℕ) (is_
   next_as_before d e = ap (λ n. option_map (λ bytes. reading bytes d (n + 1)) (finmap.get files (d, n + 1))) (as_before d e)
 
   -- what a file of another custodian waits for stays, where that isn't the judged volume
-  module _ (d : ℕ) (apart : eqb d c ≡ false) (no : wants files board d ≡ Some (c, reached board c + 1) → ⊥) where
+  module _ (d : ℕ) (apart : eqb d c ≡ false) (never : wants files board d ≡ Some (c, reached board c + 1) → ⊥) where
     -- where its next file reads so
     first_then : (r : Reading) → nat_le (reached board d + 1) 999999 ≡ true → next_reading files board d ≡ Some r
         → first_unreached later (bases_of r) ≡ first_unreached board (bases_of r)
     first_then r within reads =
         first_stays board later c one_more as_before (bases_of r)
-        (λ b is who what. no (
-            (λ i. cond (within i) (wants_as board d (reads i)) None)
-            ∙ ap (option_map (λ (x : Basis). (x.custodian, x.volume))) is ∙ (λ i. Some (who i, what i))))
+        (λ b is who what. never (
+        (λ i. cond (within i) (wants_as board d (reads i)) None)
+        ∙ ap (option_map (λ (x : Basis). (x.custodian, x.volume))) is ∙ (λ i. Some (who i, what i))))
 
     wants_in : (within : Bool) (next : Option Reading) → nat_le (reached board d + 1) 999999 ≡ within → next_reading files board d ≡ next
         → cond within (wants_as later d next) None ≡ cond within (wants_as board d next) None
@@ -209,9 +246,9 @@ module _ (register : Register) (files : Received) (board : Board) (c : ℕ) (is_
   pub rests_on : (m : Remembered) (d : ℕ) → Unwoken m (c, reached board c + 1) d → Rests m files board d → Rests (with_judged m (c, reached board c + 1)) files later d
   rests_on m d un rests =
       record {
-        unready = ready_stays d apart no ∙ rests.unready;
+        unready = ready_stays d apart never ∙ rests.unready;
         waits = λ q w.
-            let was = sym (wants_stays d apart no) ∙ w in
+            let was = sym (wants_stays d apart never) ∙ w in
             ap (λ xs. is_among xs d) (others_wait m p q (differs q was)) ∙ rests.waits q was;
       }
     where
@@ -224,20 +261,20 @@ module _ (register : Register) (files : Received) (board : Board) (c : ℕ) (is_
         | false ↦ λ _. refl
       ] refl
 
-      no : wants files board d ≡ Some p → ⊥
-      no w = true≢false (sym (rests.waits p w) ∙ un.waits_not)
+      never : wants files board d ≡ Some p → ⊥
+      never w = true≢false (sym (rests.waits p w) ∙ un.waits_not)
 
       differs : (q : ℕ × ℕ) → wants files board d ≡ Some q → same_pair q p ≡ false
       differs q w =
           elim (same_pair q p) as (λ b. same_pair q p ≡ b → b ≡ false) [
-            | true ↦ λ t. absurd (no (w ∙ ap Some (pairs_same q p t)))
+            | true ↦ λ t. absurd (never (w ∙ ap Some (pairs_same q p t)))
             | false ↦ λ _. refl
           ] refl
 
 -- ---- a file comes
 
 module _ (files : Received) (board : Board) (p : ℕ × ℕ) (bytes : List ℕ) where
-  bigger : Received
+  abbrev pub bigger : Received
   bigger = with_file files p.0 p.1 bytes
 
   there_as : (d : ℕ) → same_pair (d, reached board d + 1) p ≡ false → next_reading bigger board d ≡ next_reading files board d

@@ -34,7 +34,7 @@ on_causes = record {
   of_settled = refl;
 }
 
-wanted_is : wants sent one_judged 1003 ≡ Some (1003, 2)
+pub wanted_is : wants sent one_judged 1003 ≡ Some (1003, 2)
 wanted_is = rw (get_sent (1003, 2)) refl
 
 on_looks : WorkedLooks
@@ -45,7 +45,7 @@ on_looks = record {
   never_for_the_later = λ h. let e : 2 ≡ 3 = ap (λ o. option_map_or (λ (p : ℕ × ℕ). p.1) o 0) (sym wanted_is ∙ h.1) in cc;
   never_ready = λ h. true≢false (sym h.1.0 ∙ closed_sent 1003);
   never_at_the_end = λ h. let e : Some (1003, 2) ≡ None = sym wanted_is ∙ h.1 in cc;
-  is_ready = (refl, first_ready sent (get_sent (1003, 1)), rw (get_sent (1003, 1), reads 1003 1) refl);
+  is_ready = (refl, (first_ready sent (get_sent (1003, 1)), rw (get_sent (1003, 1), reads 1003 1) refl));
   never_as_another_volume = λ h. let e : 2 ≡ 1 = h.0 in cc;
   never_held = λ h. true≢false (sym (first_ready sent (get_sent (1003, 1))) ∙ h.0);
   missing = (refl, omega arith, get_sent (1003, 2));

@@ -21,7 +21,7 @@ use Rattle.gaz_hub.specs.declared.refusal.Refusal.{Refusal}
 abbrev pub then_received : Door → Received → Command → Response → Received
 then_received door files (Submit c volume bytes) (Submitted answer) =
     if is_none (map.get files (c, volume))
-        && (is_none (file_refusal door c volume bytes) && not (is_answered_51 answer))
+    && (is_none (file_refusal door c volume bytes) && not (is_answered_51 answer))
     then with_file files c volume bytes
     else files
 then_received door files _ _ = files
@@ -42,7 +42,7 @@ standing_outcome door files c volume = outcome files (standing (blocks door) fil
 abbrev pub IsAnswerOff : Door → Received → ℕ → ℕ → List ℕ → Answer → Type 0
 IsAnswerOff door files c volume bytes (New told) =
     (map.get files (c, volume) ≡ None)
-        × (standing_outcome door (with_file files c volume bytes) c volume ≡ Some told)
+    × (standing_outcome door (with_file files c volume bytes) c volume ≡ Some told)
 IsAnswerOff door files c volume bytes (Repeat told) =
     (map.get files (c, volume) ≡ Some bytes) × (standing_outcome door files c volume ≡ Some told)
 IsAnswerOff door files c volume bytes (Taken digest) = IsTaken files c volume bytes digest
@@ -70,7 +70,7 @@ abbrev pub AllReadOff : Door → Received → List Command → List Response →
 AllReadOff door files [] [] = ⊤
 AllReadOff door files (command ∷ commands) (response ∷ responses) =
     IsReadOff door files command response
-        × AllReadOff door (then_received door files command response) commands responses
+    × AllReadOff door (then_received door files command response) commands responses
 AllReadOff door files [] (response ∷ responses) = ⊥
 AllReadOff door files (command ∷ commands) [] = ⊥
 

@@ -76,7 +76,7 @@ EveryRunFromOver {K} seen =
 abbrev pub EverySettledRunFromOver : {K : Type 0} → (K → Seen) → Type 0
 EverySettledRunFromOver {K} seen =
     (door : Door) (old new : K) (commands : List Command) (responses : List Response)
-        (command : Command) (response : Response)
+    (command : Command) (response : Response)
     → StandsForRun door (seen old) → (seen new).unharmed
     → Runs door (seen old) (seen new) (commands ++ command ∷ []) (responses ++ response ∷ [])
     → is_settled response ≡ true

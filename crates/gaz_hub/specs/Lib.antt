@@ -20,3 +20,4 @@ pub mod WorkedSteps
 pub mod WorkedRuns
 pub mod WorkedReadings
 pub mod WorkedHubs
+pub mod WorkedWaiting

@@ -43,7 +43,7 @@ outcome_of (verdict.Rejected place rule) = Rejected place rule
 abbrev pub outcome : Received → Board → ℕ → ℕ → Option Outcome
 outcome files board c volume =
     option_map_or (λ v. Some (outcome_of v)) (verdict_on board c volume)
-        (option_map (λ w. Held w.0 w.1) (wants files board c))
+    (option_map (λ w. Held w.0 w.1) (wants files board c))
 
 -- how many files of a custodian were received and aren't judged
 abbrev pub held_count : Received → Board → ℕ → ℕ

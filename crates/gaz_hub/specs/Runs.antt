@@ -56,8 +56,8 @@ is_answered_51 (Refused r) = is_not_received r
 abbrev pub accepted : Door → ℕ × ℕ → Command → Response → Option (List ℕ)
 accepted door p (Submit c volume bytes) (Submitted answer) =
     if same_pair p (c, volume)
-        && (is_none (file_refusal door c volume bytes) && not (is_answered_51 answer))
-        then Some bytes else None
+    && (is_none (file_refusal door c volume bytes) && not (is_answered_51 answer))
+    then Some bytes else None
 accepted door p _ _ = None
 
 -- the bytes of the first such submission
@@ -119,7 +119,7 @@ EverySettledRun =
     (door : Door) (commands : List Command) (responses : List Response) (command : Command)
     (response : Response) (hub : HubState)
     → Run door new_hub (commands ++ command ∷ []) (responses ++ response ∷ []) hub
-        → is_settled response ≡ true → hub.board ≡ standing (blocks door) hub.received
+    → is_settled response ≡ true → hub.board ≡ standing (blocks door) hub.received
 
 -- a repeat changes nothing where all was settled, and is answered by the outcome then standing
 pub record ChangesNothing (door : Door) (old : HubState) (c volume : ℕ) (told : Outcome)
@@ -132,7 +132,7 @@ EveryRepeat =
     (door : Door) (old new : HubState) (c volume : ℕ) (bytes : List ℕ) (told : Outcome)
     → IsPartial (blocks door) old.received old.board → NothingReady old.received old.board
     → Step door old (Submit c volume bytes) (Submitted (Repeat told)) new
-        → ChangesNothing door old c volume told new
+    → ChangesNothing door old c volume told new
 
 -- a judgement once on the board is on every later board at its place
 abbrev pub JudgementsStay : Type 0

@@ -14,6 +14,10 @@ kept_seen seen register kept = remembering register kept.1 (seen kept.0)
 abbrev pub hub_seen : {K : Type 0} → (K → Seen) → Hub K → Seen
 hub_seen seen hub = kept_seen seen hub.register (hub.keeper, hub.waiters)
 
+-- a hub that looks at everyone when it settles next
+abbrev pub RemembersNothing : {K : Type 0} → Hub K → Type 0
+RemembersNothing hub = hub.waiters ≡ None
+
 -- all is remembered, or nothing
 abbrev pub IsKeptOrLost : Option Remembered → Option Remembered → Type 0
 IsKeptOrLost old new = (new ≡ old) ⊎ (new ≡ None)

@@ -65,8 +65,8 @@ Told ListClosed = List Closed
 abbrev pub told_of : HubState → ℕ → ℕ → Option (List ℕ × Outcome)
 told_of s c volume =
     option_and_then
-        (λ bytes. option_map (λ o. (sha256 bytes, o)) (outcome s.received s.board c volume))
-        (map.get s.received (c, volume))
+    (λ bytes. option_map (λ o. (sha256 bytes, o)) (outcome s.received s.board c volume))
+    (map.get s.received (c, volume))
 
 -- the answer that a settled hub over this register reads off its state
 abbrev pub answer_to : (q : Question) → RegisterValue → HubState → Told q
@@ -104,7 +104,7 @@ or_foreign foreign (Some r) = Some r
 or_foreign foreign None = if foreign then Some refusal.UnknownProfile else None
 
 -- all refusals of the door: the first that applies
-abbrev pub door : Door → ℕ → ℕ → List ℕ → Option Refusal
+abbrev pub file_refusal : Door → ℕ → ℕ → List ℕ → Option Refusal
 file_refusal door c volume bytes =
     or_foreign (door.is_foreign bytes) (turned_away door c volume (length bytes))
 

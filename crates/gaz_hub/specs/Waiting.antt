@@ -30,6 +30,10 @@ waiting_for m p = unwrap_or (finmap.get m.1 p) []
 abbrev pub all_ahead : RegisterValue → Remembered
 all_ahead register = (map (λ k. k.code) register, finmap.empty)
 
+-- nobody waits for a volume any more
+abbrev pub without_waiters : Remembered → ℕ × ℕ → Remembered
+without_waiters m p = (m.0, finmap.remove m.1 p)
+
 -- a custodian waits for a volume
 abbrev pub with_waiter : Remembered → ℕ × ℕ → ℕ → Remembered
 with_waiter m p c = (m.0, finmap.insert m.1 p (waiting_for m p ++ c ∷ []))

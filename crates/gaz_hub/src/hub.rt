@@ -1,10 +1,9 @@
-ghost use Rattle.std.specs.Prelude.{◌≡◌, None};
+ghost use Rattle.std.specs.Prelude.{◌≡◌};
 ghost use Rattle.gaz_shelf.specs.Telling.{IsNotJudging};
-ghost use Rattle.gaz_hub.specs.Seen.{hub_seen};
+ghost use Rattle.gaz_hub.specs.Seen.{RemembersNothing, hub_seen};
 ghost use Rattle.gaz_hub.specs.Hubs.{or_not_received};
 ghost use Rattle.gaz_hub.specs.Step.{Settle};
 ghost use Rattle.gaz_hub.specs.Telling.{RepliesTo};
-ghost use Rattle.gaz_hub.specs.Waiting.{remembering};
 
 use crate::remembering::settle_all;
 use crate::waiters::Waiters;
@@ -36,7 +35,7 @@ impl<K: Inbox + Drop> Hub<K> {
         requires { IsNotJudging K.seen keeper }
         ensures register { result.register ≡ register }
         ensures keeper { result.keeper ≡ keeper }
-        ensures seen { hub_seen K.seen result ≡ remembering register None (K.seen keeper) }
+        ensures remembers { RemembersNothing result }
     {
         Hub {
             alloc,

@@ -29,7 +29,11 @@ pub enum Next {
     /// It is ready: a good file as this volume.
     Good(Volume, ChangeFile),
     /// It is ready: a file with this first fault, as this volume.
-    Bad { volume: Volume, place: u64, rule: u8 },
+    Bad {
+        volume: Volume,
+        place: u64,
+        rule: u8,
+    },
     /// It waits for this custodian's volume.
     Waits(Code, Volume),
     /// There is none.
@@ -80,11 +84,7 @@ fn first_unreached<K: Shelf>(keeper: &mut K, bases: &[Basis]) -> Result<Option<B
 }
 
 /// What is to become of a good file that came as this volume.
-fn weigh<K: Shelf>(
-    keeper: &mut K,
-    volume: Volume,
-    file: ChangeFile,
-) -> Result<Next, ShelfFault>
+fn weigh<K: Shelf>(keeper: &mut K, volume: Volume, file: ChangeFile) -> Result<Next, ShelfFault>
     ensures { LooksAtBoard K.seen keeper.old keeper.new result
         (λ board. IsWeighed board volume file) }
 {

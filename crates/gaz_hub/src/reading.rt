@@ -27,13 +27,7 @@ impl<K: Inbox + Drop> Hub<K> {
     {
         let (alloc, register) = (self.alloc, &self.register);
         let read = |keeper: &mut K| lookup(alloc, keeper, register, uprn);
-        answered(
-            alloc,
-            register,
-            &mut self.keeper,
-            &mut self.waiters,
-            read,
-        )
+        answered(alloc, register, &mut self.keeper, &mut self.waiters, read)
     }
 
     /// A custodian's view after a volume, as the text of an extract; none where the volume isn't
@@ -73,12 +67,6 @@ impl<K: Inbox + Drop> Hub<K> {
     {
         let (alloc, register) = (self.alloc, &self.register);
         let read = |keeper: &mut K| closed_streets(alloc, keeper, register);
-        answered(
-            alloc,
-            register,
-            &mut self.keeper,
-            &mut self.waiters,
-            read,
-        )
+        answered(alloc, register, &mut self.keeper, &mut self.waiters, read)
     }
 }

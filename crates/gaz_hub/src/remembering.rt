@@ -53,6 +53,7 @@ pub fn receive<K: Inbox>(
     volume: Volume,
     file: &[u8],
 ) -> Result<(), ShelfFault>
+    requires { IsNotJudging K.seen keeper.old }
     ensures { Enters (kept_seen K.seen register.now (keeper.old, waiters.old))
         (kept_seen K.seen register.now (keeper.new, waiters.new)) result
         (IsNew (K.seen keeper.old).content code volume)

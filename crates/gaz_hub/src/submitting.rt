@@ -9,8 +9,8 @@ ghost use Rattle.gaz_hub.specs.Telling.{LooksAtKept, StepsTo, TellsKept};
 
 use crate::admission::{at_door, names_unknown_profile};
 use crate::answer::Answer;
-use crate::outcome::Outcome;
 use crate::hub::Hub;
+use crate::outcome::Outcome;
 use crate::refusal::Refusal;
 use crate::remembering::{receive, settled};
 use crate::reply::{digest_of, tell};

@@ -1,7 +1,7 @@
 //! Who waits for which volume.
 ghost use Rattle.std.specs.Prelude.{◌≡◌, ◌++◌, ◌==◌, ◌∷◌, [], not, filter, map, IfOk, OnOk};
-ghost use Rattle.gaz_hub.specs.Waiting.{all_ahead, with_coming};
-ghost use Rattle.gaz_hub.specs.Waiting.{with_judged, with_waiter};
+ghost use Rattle.gaz_hub.specs.Waiting.{all_ahead, is_among, waiting_for, with_coming};
+ghost use Rattle.gaz_hub.specs.Waiting.{with_judged, with_waiter, without_waiters};
 
 use gaz_ids::{Code, Volume};
 use gaz_register::{Custodian, Register};
@@ -44,7 +44,8 @@ impl Codes {
     fn push(&mut self, code: Code) -> Result<(), AllocError>
         ensures { OnOk result (self.new ≡ self.old ++ code ∷ []) }
     {
-        self.codes.push(code)
+        self.codes.push(code)?;
+        Ok(())
     }
 }
 
@@ -91,6 +92,17 @@ impl Waiters {
         replace(&mut self.ahead, Vec::new(self.alloc))
     }
 
+    // Those who wait for a volume; afterwards nobody does.
+    fn take_waiting(&mut self, custodian: Code, volume: Volume) -> Codes
+        ensures codes { result ≡ waiting_for self.old (custodian, volume) }
+        ensures left { self.new ≡ without_waiters self.old (custodian, volume) }
+    {
+        match self.by_volume.remove(&(custodian, volume)) {
+            Some(codes) => codes,
+            None => Codes::new(self.alloc),
+        }
+    }
+
     /// A custodian waits for a volume.
     pub fn wait(
         &mut self,
@@ -100,11 +112,7 @@ impl Waiters {
     ) -> Result<(), AllocError>
         ensures { OnOk result (self.new ≡ with_waiter self.old (custodian, volume) waiter) }
     {
-        let waiting = self.by_volume.remove(&(custodian, volume));
-        let mut codes = match waiting {
-            Some(codes) => codes,
-            None => Codes::new(self.alloc),
-        };
+        let mut codes = self.take_waiting(custodian, volume);
         codes.push(waiter)?;
         self.by_volume.insert((custodian, volume), codes)?;
         Ok(())
@@ -115,25 +123,29 @@ impl Waiters {
     pub fn wake(&mut self, custodian: Code, volume: Volume) -> Result<(), AllocError>
         ensures { OnOk result (self.new ≡ with_judged self.old (custodian, volume)) }
     {
+        let codes = self.take_waiting(custodian, volume);
         self.ahead.push(custodian)?;
-        match self.by_volume.remove(&(custodian, volume)) {
-            Some(codes) => push_others(&mut self.ahead, codes.as_slice(), custodian),
-            None => Ok(()),
-        }
+        push_others(&mut self.ahead, codes.as_slice(), custodian)
     }
 
     /// A file came: its custodian is to be looked at, where it waited for it.
     pub fn come(&mut self, custodian: Code, volume: Volume) -> Result<(), AllocError>
         ensures { OnOk result (self.new ≡ with_coming self.old (custodian, volume)) }
     {
-        let waits = match self.by_volume.get(&(custodian, volume)) {
-            Some(codes) => codes.as_slice().contains(&custodian),
-            None => false,
-        };
-        if waits {
+        if self.is_waiting(custodian, custodian, volume) {
             self.ahead.push(custodian)?;
         }
         Ok(())
+    }
+
+    // Whether a custodian is among those who wait for a volume.
+    fn is_waiting(&self, waiter: Code, custodian: Code, volume: Volume) -> bool
+        ensures { result ≡ is_among (waiting_for self.now (custodian, volume)) waiter }
+    {
+        match self.by_volume.get(&(custodian, volume)) {
+            Some(codes) => codes.as_slice().contains(&waiter),
+            None => false,
+        }
     }
 }
 

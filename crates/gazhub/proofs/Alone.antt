@@ -21,10 +21,10 @@ module _ (d : Door) (register other : RegisterValue) (waiters : Option Remembere
         failures = l.failures;
       }
 
-  pub alone : (most : ℕ) (through : Transfer) (result : Result Served Stopped) (s : Seen) → s ≡ remembering register None a
-      → Conversation d most through s (remembering other waiters c) result → Conversation d most through a c result
-  alone most through result s fresh told =
-      let l = subst (λ (x : Seen). Conversation d most through x (remembering other waiters c) result) fresh told in
+  pub alone : (most : ℕ) (through : Transfer) (result : Result Served Stopped) (before : Option Remembered) → before ≡ None
+      → Conversation d most through (remembering register before a) (remembering other waiters c) result → Conversation d most through a c result
+  alone most through result before fresh told =
+      let l = subst (λ (x : Option Remembered). Conversation d most through (remembering register x a) (remembering other waiters c) result) fresh told in
       record {
         read = l.read;
         written = l.written;

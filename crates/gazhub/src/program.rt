@@ -1,14 +1,13 @@
 //! What the program does, over a reader and two writers that are lent.
-ghost use Rattle.std.specs.Prelude.{◌≡◌, IfErr, IfOk, None, is_some, map, option_map};
+ghost use Rattle.std.specs.Prelude.{◌≡◌, IfErr, IfOk, is_some, map, option_map};
 ghost use Rattle.std.specs.Prelude.{string_bytes};
 ghost use Rattle.gaz_register.specs.Reading.{register_of};
 ghost use Rattle.gaz_shelf.specs.Keeper.{IsNotOpen};
 ghost use Rattle.gaz_exchange.specs.Conversing.{transfer};
 ghost use Rattle.gaz_shelf.specs.Mem.{seen_in};
 ghost use Rattle.gaz_hub.specs.Hubs.{state_of};
-ghost use Rattle.gaz_hub.specs.Seen.{hub_seen};
+ghost use Rattle.gaz_hub.specs.Seen.{RemembersNothing};
 ghost use Rattle.gaz_hub.specs.Step as step;
-ghost use Rattle.gaz_hub.specs.Waiting.{remembering};
 ghost use Rattle.gazhub.specs.Commands.{Commands, Ends, Holds, Reports, Rests, line_of, status_of};
 ghost use Rattle.gazhub.specs.Commands as said;
 ghost use Rattle.gazhub.specs.Playing.{Plays};
@@ -71,8 +70,7 @@ fn new_hub(alloc: Global, seed: Seed) -> Result<Hub<MemShelf>, RegFault>
     ensures register { IfOk result (λ hub. register_of SAMPLE.now ≡ Ok hub.register) }
     ensures idle { IfOk result (λ hub. IsNotOpen (seen_in hub.keeper).progress) }
     ensures empty { IfOk result (λ hub. state_of (seen_in hub.keeper).content ≡ step.new_hub) }
-    ensures fresh { IfOk result (λ hub. hub_seen seen_in hub
-        ≡ remembering hub.register None (seen_in hub.keeper)) }
+    ensures fresh { IfOk result (λ hub. RemembersNothing hub) }
 {
     let register = Register::read(alloc, SAMPLE.as_bytes())?;
     Ok(Hub::new(alloc, register, MemShelf::new(alloc, seed)))

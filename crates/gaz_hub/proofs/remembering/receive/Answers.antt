@@ -1,6 +1,9 @@
--- A file comes, or doesn't.
-use Rattle.gaz_hub.proofs.Remembering.{enters_failed, enters_kept}
+-- A file came.
+use Rattle.gaz_hub.proofs.Memory.{enters_kept}
 use Rattle.gaz_hub.proofs.remembering.receive.Goals as goal
 
-pub returns : goal.returns
-returns g c = search
+pub returns-in-Ok : goal.returns-in-Ok
+returns-in-Ok g c =
+    rw c.in-Ok.is
+    (enters_kept c.args.register.now c.args.waiters.now c.remember_coming.new.waiters (g.K.Shelf.seen c.args.keeper.now) (g.K.Shelf.seen c.receive-received.new.self)
+    c.args.code c.args.volume c.args.file.now c.in-Ok.field-0 c.remember_coming.ensures (rw c.in-Ok.is at c.receive-received.ensures))

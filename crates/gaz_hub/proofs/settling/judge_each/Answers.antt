@@ -1,24 +1,24 @@
 -- One custodian after another.
-use Rattle.std.proofs.Common.{◌≡◌, ◌-◌, ◌∙◌, ℕ, sym, subst}
+use Rattle.std.proofs.Common.{◌≡◌, ◌-◌, ◌∙◌, ℕ, refl, sym, subst}
 use Rattle.std.specs.Prelude.{Ok}
 use Rattle.gaz_hub.specs.Hubs.{door_of}
 use Rattle.gaz_hub.specs.Settling.{Tries}
 use Rattle.gaz_hub.proofs.Advancing.{is_err, neither, tries_nothing, tries_on, tries_stopped}
-use Rattle.gaz_hub.proofs.Remembering.{rest_all, rest_more, rest_still}
+use Rattle.gaz_hub.proofs.Memory.{rest_all, rest_more, rest_still}
 use Rattle.gaz_hub.proofs.settling.judge_each.Goals as goal
 
 pub loop-code-init : goal.loop-code-init
 loop-code-init g c =
     let a = g.K.Shelf.seen c.args.keeper.now in
-    record { tries = tries_nothing (door_of c.args.register.now) c.args.left a (λ c. ⊥) c.requires; rest = rest_still (door_of c.args.register.now) c.args.waiters.now a; ahead = λ _. refl }
+    record { tries = tries_nothing (door_of c.args.register.now) c.args.left a (λ c. ⊥) c.requires (λ c h. h); rest = rest_still (door_of c.args.register.now) c.args.waiters.now a; ahead = λ _. refl }
 
-pub returns-in_err-judge_next-clause-tries : goal.returns-in_err-judge_next-clause-tries
-returns-in_err-judge_next-clause-tries g c =
+pub returns-in_err-judged-clause-tries : goal.returns-in_err-judged-clause-tries
+returns-in_err-judged-clause-tries g c =
     let d = door_of c.args.register.now in
     let a = g.K.Shelf.seen c.args.keeper.now in
-    let e = c.in_err-judge_next.field-0.0 in
+    let e = c.in_err-judged.field-0.0 in
     subst (λ r. Tries d c.args.left a (g.K.Shelf.seen c.judge_next.new.keeper) r (λ x. ⊥)) (sym (is_err c.from_residual.result e c.from_residual.ensures.1))
-    (tries_stopped c.args.register.now _ c.args.left a (g.K.Shelf.seen c.loop-code.keeper) _ e _ _ _ c.loop-code.invariant.tries c.in_err-judge_next.ensures.tries)
+    (tries_stopped c.args.register.now _ c.args.left a (g.K.Shelf.seen c.loop-code.keeper) _ e _ _ _ c.loop-code.invariant.tries c.in_err-judged.ensures.tries)
 
 pub loop-code-preserved : goal.loop-code-preserved
 loop-code-preserved g c =
@@ -27,7 +27,7 @@ loop-code-preserved g c =
     let b = g.K.Shelf.seen c.loop-code.keeper in
     let e = g.K.Shelf.seen c.judge_next.new.keeper in
     let inv = c.loop-code.invariant in
-    let next = c.in_ok-judge_next.ensures in
+    let next = c.in_ok-judged.ensures in
     record {
       tries = tries_on d _ _ c.args.left a b e _ _ inv.tries next.tries;
       rest = rest_more d c.args.codes.now _ _ _ a b e _ _ _ c.loop-code-test.true c.code-item.is inv.tries.advances next.tries.advances.harm inv.rest next.rest;

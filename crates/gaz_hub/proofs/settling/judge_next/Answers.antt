@@ -2,11 +2,12 @@
 use Rattle.std.proofs.Common.{◌≡◌, rules, refl, sym, subst}
 use Rattle.gaz_changefile.specs.Reading.{Bad, Good}
 use Rattle.gaz_register.specs.Registers.{blocks_of}
+use Rattle.gaz_shelf.specs.declared.fault.ShelfFault.TheVariants.{Memory}
 use Rattle.gaz_hub.specs.Hubs.{door_of}
 use Rattle.gaz_hub.specs.Settling.{Tries}
 use Rattle.gaz_hub.specs.declared.looking.Next.TheVariants as next
 use Rattle.gaz_hub.proofs.Advancing.{Adds, IsNow, adds_after, adds_judged, adds_skipped, asks_bad, asks_good, is_err, tries_broken, tries_forgotten, tries_judged, tries_looked, tries_past}
-use Rattle.gaz_hub.proofs.Remembering.{rest_done, rest_judged, rest_waiting}
+use Rattle.gaz_hub.proofs.Memory.{rest_done, rest_judged, rest_waiting}
 use Rattle.gaz_hub.proofs.Looks.{left_not_open}
 use Rattle.gaz_hub.proofs.settling.judge_next.Goals as goal
 
@@ -88,9 +89,30 @@ returns-in-Bad-clause-rest g c =
 pub returns-in-Waits-clause-rest : goal.returns-in-Waits-clause-rest
 returns-in-Waits-clause-rest g c =
     let looked = rw c.in-Waits.is at c.in_ok-next.ensures in
-    rest_waiting c.args.register.now (g.K.Shelf.seen c.args.keeper.now) (g.K.Shelf.seen c.look.new.keeper) _ c.args.code _ _ _ _ looked c.in_ok-wait-in-Waits.ensures
+    rest_waiting c.args.register.now (g.K.Shelf.seen c.args.keeper.now) (g.K.Shelf.seen c.look.new.keeper) c.args.code c.in-Waits.custodian c.in-Waits.volume _ _ looked c.in_ok-wait-in-Waits.ensures
 
-pub returns-in-Done-clause-rest : goal.returns-in-Done-clause-rest
-returns-in-Done-clause-rest g c =
-    let looked = rw c.in-Done.is at c.in_ok-next.ensures in
-    rest_done c.args.register.now (g.K.Shelf.seen c.args.keeper.now) (g.K.Shelf.seen c.look.new.keeper) _ c.args.code _ looked
+pub returns-in_err-wake-in-Good-clause-tries : goal.returns-in_err-wake-in-Good-clause-tries
+returns-in_err-wake-in-Good-clause-tries g c =
+    let d = door_of c.args.register.now in
+    let a = g.K.Shelf.seen c.args.keeper.now in
+    let b = g.K.Shelf.seen c.look.new.keeper in
+    let own = blocks_of c.args.register.now c.args.code in
+    let looked = rw c.in-Good.is at c.in_ok-next.ensures in
+    subst (λ r. Tries d c.args.left a (g.K.Shelf.seen c.judge.new.keeper) r (λ k. k ≡ c.args.code)) (sym (is_err c.from_residual-in_err-wake-in-Good.result Memory c.from_residual-in_err-wake-in-Good.ensures.1))
+    (tries_forgotten d a (g.K.Shelf.seen c.judge.new.keeper) c.args.code (Good c.in-Good.file)
+    (λ stood fine. (looked.right stood (c.in_ok-judge-in-Good.ensures.harm fine)).1) _ Memory c.args.left _ (λ e. cc)
+    (adds_after a b _ _ _ c.args.code (Good c.in-Good.file) own _ _ looked (asks_good b.content c.args.code c.in-Good.file) (adds_judged b _ _ _ _ _ c.in_ok-judge-in-Good.ensures)))
+
+pub returns-in_err-wake-in-Bad-clause-tries : goal.returns-in_err-wake-in-Bad-clause-tries
+returns-in_err-wake-in-Bad-clause-tries g c =
+    let d = door_of c.args.register.now in
+    let a = g.K.Shelf.seen c.args.keeper.now in
+    let b = g.K.Shelf.seen c.look.new.keeper in
+    let own = blocks_of c.args.register.now c.args.code in
+    let rd = Bad c.in-Bad.place c.in-Bad.rule in
+    let looked = rw c.in-Bad.is at c.in_ok-next.ensures in
+    subst (λ r. Tries d c.args.left a (g.K.Shelf.seen c.skip.new.self) r (λ k. k ≡ c.args.code)) (sym (is_err c.from_residual-in_err-wake-in-Bad.result Memory c.from_residual-in_err-wake-in-Bad.ensures.1))
+    (tries_forgotten d a (g.K.Shelf.seen c.skip.new.self) c.args.code rd
+    (λ stood fine. (looked.right stood (c.in_ok-skip-in-Bad.ensures.harm fine)).1) _ Memory c.args.left _ (λ e. cc)
+    (adds_after a b _ _ _ c.args.code rd own _ _ looked (asks_bad b.content c.args.code c.in-Bad.place c.in-Bad.rule)
+    (adds_skipped b _ _ c.args.code own c.in-Bad.place c.in-Bad.rule (left_not_open a.progress b.progress looked.keeps.progress c.requires) c.in_ok-skip-in-Bad.ensures)))

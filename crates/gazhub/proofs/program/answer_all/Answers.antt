@@ -1,5 +1,4 @@
 use Rattle.gaz_hub.specs.Hubs.{door_of}
-use Rattle.gaz_hub.specs.Seen.{hub_seen}
 use Rattle.gaz_shelf.specs.Mem.{seen_in}
 use Rattle.gazhub.proofs.Alone.{alone}
 use Rattle.gazhub.proofs.Beginning.{answers_read_off, first_files_count}
@@ -9,7 +8,7 @@ pub returns-clause-plays : goal.returns-clause-plays
 returns-clause-plays g c =
     let first = c.in_ok-hub.hub in
     let last = c.converse-ended.new.hub in
-    let told = alone (door_of first.register) first.register last.register last.waiters (seen_in first.keeper) (seen_in last.keeper) _ _ _ (hub_seen seen_in first)
+    let told = alone (door_of first.register) first.register last.register last.waiters (seen_in first.keeper) (seen_in last.keeper) _ _ _ first.waiters
         c.in_ok-hub.ensures.fresh c.converse-ended.ensures.conversation in
     record {
       register = first.register;

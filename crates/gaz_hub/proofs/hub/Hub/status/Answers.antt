@@ -7,8 +7,8 @@ use Rattle.gaz_hub.specs.Step.{Stand}
 use Rattle.gaz_hub.specs.declared.refusal.Refusal.TheVariants as refusal
 use Rattle.gaz_hub.proofs.Replying.{answered_door, answered_steps}
 use Rattle.gaz_hub.proofs.Looks.{looks_as}
-use Rattle.gaz_hub.proofs.Remembering.{looks_kept}
-use Rattle.gaz_hub.proofs.asking.Hub.status.Goals as goal
+use Rattle.gaz_hub.proofs.Memory.{looks_kept}
+use Rattle.gaz_hub.proofs.hub.Hub.status.Goals as goal
 
 pub returns-clause-steps : goal.returns-clause-steps
 returns-clause-steps g c =

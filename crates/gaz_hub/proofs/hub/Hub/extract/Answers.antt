@@ -9,8 +9,8 @@ use Rattle.gaz_hub.specs.Step.{Extract}
 use Rattle.gaz_hub.specs.Seen.{kept_seen}
 use Rattle.gaz_hub.proofs.Replying.{answered_door, answered_steps}
 use Rattle.gaz_hub.proofs.Readings.{looks_read}
-use Rattle.gaz_hub.proofs.Remembering.{looks_kept}
-use Rattle.gaz_hub.proofs.reading.Hub.extract.Goals as goal
+use Rattle.gaz_hub.proofs.Memory.{looks_kept}
+use Rattle.gaz_hub.proofs.hub.Hub.extract.Goals as goal
 
 pub returns-clause-steps : goal.returns-clause-steps
 returns-clause-steps g c =

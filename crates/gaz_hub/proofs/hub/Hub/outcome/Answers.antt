@@ -5,9 +5,9 @@ use Rattle.gaz_hub.specs.Seen.{kept_seen}
 use Rattle.gaz_hub.specs.Step.{Ask, told_of}
 use Rattle.gaz_hub.proofs.Replying.{answered_door, answered_steps}
 use Rattle.gaz_hub.proofs.Looks.{looks_as}
-use Rattle.gaz_hub.proofs.Remembering.{looks_kept}
+use Rattle.gaz_hub.proofs.Memory.{looks_kept}
 use Rattle.gaz_hub.proofs.Told.{told_is}
-use Rattle.gaz_hub.proofs.asking.Hub.outcome.Goals as goal
+use Rattle.gaz_hub.proofs.hub.Hub.outcome.Goals as goal
 
 pub returns-clause-steps : goal.returns-clause-steps
 returns-clause-steps g c =

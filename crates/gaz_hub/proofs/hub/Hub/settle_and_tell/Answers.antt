@@ -3,9 +3,9 @@ use Rattle.std.proofs.Common.{rules}
 use Rattle.gaz_hub.specs.Asked.{IsOutcome}
 use Rattle.gaz_hub.specs.Hubs.{door_of}
 use Rattle.gaz_hub.specs.Seen.{kept_seen}
-use Rattle.gaz_hub.proofs.Remembering.{looks_kept}
+use Rattle.gaz_hub.proofs.Memory.{looks_kept}
 use Rattle.gaz_hub.proofs.Telling.{tells_settled}
-use Rattle.gaz_hub.proofs.submitting.Hub.settle_and_tell.Goals as goal
+use Rattle.gaz_hub.proofs.hub.Hub.settle_and_tell.Goals as goal
 
 pub returns-clause-tells : goal.returns-clause-tells
 returns-clause-tells g c =

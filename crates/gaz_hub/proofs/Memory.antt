@@ -1,5 +1,5 @@
 -- A hub's calls, with what it remembers.
-use Rattle.std.proofs.Common.{◌≡◌, ◌≤◌, ◌+◌, ℕ, Bool, true, false, cond, eqb, eqb-true, ◌<◌, List, [], ◌∷◌, ◌++◌, take, length, get_or, refl, sym, ap, ◌∙◌, subst, arith, true≢false, append-assoc, inl, inr}
+use Rattle.std.proofs.Common.{◌≡◌, ◌≤◌, ◌+◌, ℕ, Bool, true, false, cond, ◌||◌, eqb, eqb-true, ◌<◌, List, [], ◌∷◌, ◌++◌, take, length, get_or, refl, sym, ap, ◌∙◌, subst, arith, true≢false, append_assoc, inl, inr}
 use Rattle.std.proofs.lemmas.List.{take_all, take_more}
 use Rattle.std.specs.Prelude.{⊤, Option, Some, None, Result, Ok, Err, OnOk, IfOk}
 use Rattle.std.specs.Option.{option_map, unwrap_or}
@@ -9,6 +9,7 @@ use Rattle.gaz_register.specs.Registers.{RegisterValue, blocks_of}
 use Rattle.gaz_rules.specs.Bases.{judged_on}
 use Rattle.gaz_shelf.specs.Board.{Board, reached}
 use Rattle.gaz_shelf.specs.Keeper.{Content, Enters, IsNew, IsNotOpen, IsSound, Keeps, LeavesAtMost, Seen, with_judgement, with_received}
+use Rattle.gaz_shelf.specs.Received.{Received}
 use Rattle.gaz_shelf.specs.declared.fault.ShelfFault.{ShelfFault}
 use Rattle.gaz_shelf.specs.declared.fault.ShelfFault.TheVariants.{Store}
 use Rattle.gaz_extract.specs.Readings.{Looks}
@@ -19,6 +20,7 @@ use Rattle.gaz_hub.specs.Step.{Door, blocks}
 use Rattle.gaz_hub.specs.Waiting.{IsRight, Remembered, RestAfter, RestBut, Rests, all_ahead, is_among, remembering, with_coming, with_judged, with_waiter}
 use Rattle.gaz_hub.specs.declared.looking.Next.TheVariants as next
 use Rattle.gaz_hub.proofs.Advancing.{Adds, IsNow, added_is}
+use Rattle.gaz_hub.proofs.Leading.{follows_itself}
 use Rattle.gaz_hub.proofs.Waiting.{in_neither, known_among, now_waits, rests_on, rests_with, still_waits, unwoken}
 
 -- ---- one custodian
@@ -37,19 +39,19 @@ rest_judged register a c x code volume rd m k adds met woke stood fine others re
     let w = with_judged m (code, reached a.content.board code + 1) in
     let same : k ≡ w = woke ∙ ap (λ v. with_judged m (code, v)) now.0 in
     let un = unwoken m (code, reached a.content.board code + 1) d (ap (λ (y : Remembered). is_among y.0 d) (sym same) ∙ ahead) in
-    let was = rest d known un.before (ap (λ b. cond b true (is_among others d)) un.another ∙ among) in
+    let was = rest d known un.before (ap (λ b. b || is_among others d) un.another ∙ among) in
     let is = rests_on (blocks_of register) a.content.files a.content.board code now.1.0 m d un was in
     let e : c.content ≡ with_judgement a.content code (judged_on (blocks_of register code) a.content.board code rd) = adds.done stood.0 now.1 fine in
     let board : c.content.board ≡ _ = ap (λ (y : Content). y.board) e ∙ added_is (blocks_of register) a.content.files a.content.board code rd now.1.1 in
     let files : c.content.files ≡ a.content.files = ap (λ (y : Content). y.files) e in
     subst (λ (y : Remembered). Rests y c.content.files c.content.board d) (sym same)
-    (subst (λ (y : _). Rests w y.0 y.1 d) (λ i. (sym files i, sym board i)) is)
+    (subst (λ (y : Received × Board). Rests w y.0 y.1 d) (λ i. (sym files i, sym board i)) is)
 
 -- a custodian waits
-pub rest_waiting : {T : Type 0} (register : RegisterValue) (a b : Seen) (x : T) (code whom volume : ℕ) (m k : Remembered)
-    → Looks a b (Ok x) (λ _. IsNext a.content.files a.content.board code (next.Waits whom volume))
+pub rest_waiting : (register : RegisterValue) (a b : Seen) (code whom volume : ℕ) (m k : Remembered)
+    → Looks a b (Ok (next.Waits whom volume)) (IsNext a.content.files a.content.board code)
     → k ≡ with_waiter m (whom, volume) code → RestAfter (code ∷ []) (door_of register) m a k b
-rest_waiting register a b x code whom volume m k looked noted stood fine others rest d known ahead among =
+rest_waiting register a b code whom volume m k looked noted stood fine others rest d known ahead among =
     let found = looked.right stood.0 fine in
     let same = looked.keeps.content stood.0 fine in
     let w = with_waiter m (whom, volume) code in
@@ -59,10 +61,14 @@ rest_waiting register a b x code whom volume m k looked noted stood fine others 
     (elim (eqb code d) as (λ t. eqb code d ≡ t → Rests w a.content.files a.content.board d) [
       | true ↦ λ t. itself (eqb-true code d t) found
       | false ↦ λ t.
-          let was = rest d known unahead (ap (λ y. cond y true (is_among others d)) t ∙ among) in
+          let was = rest d known unahead (ap (λ y. y || is_among others d) t ∙ among) in
           record { unready = was.unready; waits = λ p want. still_waits m (whom, volume) p code d (was.waits p want) }
     ] refl))
   where
+    waiting_at : Option (ℕ × ℕ) → List ℕ
+    waiting_at None = []
+    waiting_at (Some q) = unwrap_or (finmap.get (with_waiter m (whom, volume) code).1 q) []
+
     itself : code ≡ d → IsNext a.content.files a.content.board code (next.Waits whom volume) → Rests (with_waiter m (whom, volume) code) a.content.files a.content.board d
     itself is found =
         subst (λ e. Rests (with_waiter m (whom, volume) code) a.content.files a.content.board e) is
@@ -73,22 +79,18 @@ rest_waiting register a b x code whom volume m k looked noted stood fine others 
               subst (λ (q : Option (ℕ × ℕ)). is_among (waiting_at q) code ≡ true) e (now_waits m (whom, volume) code);
         })
 
-    waiting_at : Option (ℕ × ℕ) → List ℕ
-    waiting_at None = []
-    waiting_at (Some q) = unwrap_or (finmap.get (with_waiter m (whom, volume) code).1 q) []
-
 -- a custodian has no next volume
-pub rest_done : {T : Type 0} (register : RegisterValue) (a b : Seen) (x : T) (code : ℕ) (m : Remembered)
-    → Looks a b (Ok x) (λ _. IsNext a.content.files a.content.board code next.Done)
+pub rest_done : (register : RegisterValue) (a b : Seen) (code : ℕ) (m : Remembered)
+    → Looks a b (Ok next.Done) (IsNext a.content.files a.content.board code)
     → RestAfter (code ∷ []) (door_of register) m a m b
-rest_done register a b x code m looked stood fine others rest d known ahead among =
+rest_done register a b code m looked stood fine others rest d known ahead among =
     let found = looked.right stood.0 fine in
     rests_in m a.content b.content d (looked.keeps.content stood.0 fine)
     (elim (eqb code d) as (λ t. eqb code d ≡ t → Rests m a.content.files a.content.board d) [
       | true ↦ λ t.
           subst (λ e. Rests m a.content.files a.content.board e) (eqb-true code d t)
           (record { unready = found.0; waits = λ p want. let no : None ≡ Some p = sym found.1 ∙ want in cc })
-      | false ↦ λ t. rest d known ahead (ap (λ y. cond y true (is_among others d)) t ∙ among)
+      | false ↦ λ t. rest d known ahead (ap (λ y. y || is_among others d) t ∙ among)
     ] refl)
 
 -- ---- one after another
@@ -103,7 +105,7 @@ pub rest_more : (door : Door) (codes : List ℕ) (i n : ℕ) (code : ℕ) (a b c
 rest_more door codes i n code a b c m k l below is first harm before then stood fine others rest =
     let mid = harm fine in
     let e : take (i + 1) codes ++ others ≡ take i codes ++ code ∷ others =
-        ap (λ xs. xs ++ others) (take_more codes i code below ∙ ap (λ y. take i codes ++ y ∷ []) (sym is)) ∙ append-assoc (take i codes) (code ∷ []) others in
+    ap (λ xs. xs ++ others) (take_more codes i code below ∙ ap (λ y. take i codes ++ y ∷ []) (sym is)) ∙ append_assoc (take i codes) (code ∷ []) others in
     then (first.stands stood mid) fine others
     (before stood mid (code ∷ others) (subst (λ xs. RestBut xs door.register m a.content) e rest))
 
@@ -114,10 +116,10 @@ rest_all door codes i a b m k past = subst (λ xs. RestAfter xs door m a k b) (t
 pub rest_taken : (door : Door) (codes : List ℕ) (a c : Seen) (m k l : Remembered) → codes ≡ m.0 → k ≡ ([], m.1) → RestAfter codes door k a l c → RestAfter [] door m a l c
 rest_taken door codes a c m k l is left after stood fine others rest =
     after stood fine others (λ d known ahead among.
-        let parts = in_neither codes others d among in
-        let r = rest d known (ap (λ xs. is_among xs d) (sym is) ∙ parts.0) parts.1 in
-        subst (λ (y : Remembered). Rests y a.content.files a.content.board d) (sym left)
-        (record { unready = r.unready; waits = r.waits }))
+    let parts = in_neither codes others d among in
+    let r = rest d known (ap (λ xs. is_among xs d) (sym is) ∙ parts.0) parts.1 in
+    subst (λ (y : Remembered). Rests y a.content.files a.content.board d) (sym left)
+    (record { unready = r.unready; waits = r.waits }))
 
 -- round after round
 pub rest_then : (door : Door) (n : ℕ) (a b c : Seen) (m k l : Remembered) → Advances door n a b → (c.unharmed → b.unharmed) → RestAfter [] door m a k b → RestAfter [] door k b l c → RestAfter [] door m a l c
@@ -173,17 +175,41 @@ tells_over door register was a c r P l =
       cause = λ stood fine. l.cause (stood.0.0, stood.1) fine;
     }
 
--- everyone is ahead where nothing is remembered
-pub recalled : (register : RegisterValue) (old : Option Remembered) (k : Content) → IsRight register old k → RestBut [] register (unwrap_or old (all_ahead register)) k
-recalled register None k h c known ahead among = absurd (true≢false (sym (known_among register c known) ∙ ahead))
-recalled register (Some m) k h = h
-
+-- nothing is right of everything
 pub forgotten : (register : RegisterValue) (new : Option Remembered) (k : Content) → new ≡ None → IsRight register new k
 forgotten register new k e = subst (λ (w : Option Remembered). IsRight register w k) (sym e) tt
 
+-- a settling that didn't begin, after which nothing is remembered
+pub tells_unsettled : {T : Type 0} (door : Door) (register : RegisterValue) (old new : Option Remembered) (a : Seen) (e : ShelfFault) (P : T → Type 0)
+    → IsNotOpen a.progress → (e ≡ Store → ⊥) → new ≡ None → Tells door (remembering register old a) (remembering register new a) (Err e) P
+tells_unsettled door register old new a e P idle never lost =
+    record {
+      advances = record {
+        harm = λ fine. fine;
+        stands = λ stood fine. ((stood.0.0, forgotten register new a.content lost), stood.1);
+        files = λ stood fine. refl;
+        board = λ stood fine. follows_itself (blocks door) _ _ _ refl;
+        many = λ stood fine. omega arith;
+        idle = idle;
+        kept = omega arith;
+      };
+      settled = λ stood fine. tt;
+      right = λ stood fine. tt;
+      cause = λ stood fine is. absurd (never is);
+    }
+
+-- everyone is ahead where nothing is remembered
+pub recalled : (register : RegisterValue) (old : Option Remembered) (k : Content) → IsRight register old k → RestBut [] register (unwrap_or old (all_ahead register)) k
+recalled register None k h = λ c known ahead among. absurd (true≢false (sym (known_among register c known) ∙ ahead))
+recalled register (Some m) k h = h
+
+pub recalled_as : (register : RegisterValue) (old : Option Remembered) (known : Remembered) (k : Content) → known ≡ unwrap_or old (all_ahead register) → IsRight register old k
+    → IsRight register (Some known) k
+recalled_as register old known k e h = subst (λ (m : Remembered). RestBut [] register m k) (sym e) (recalled register old k h)
+
 -- what was right stays so where the content does
 pub right_in : (register : RegisterValue) (old new : Option Remembered) (k l : Content) → l ≡ k → IsKeptOrLost old new → IsRight register old k → IsRight register new l
-right_in register old new k l e (inl same) h = subst (λ (x : _). IsRight register x.0 x.1) (λ i. (sym same i, sym e i)) h
+right_in register old new k l e (inl same) h = subst (λ (x : Option Remembered × Content). IsRight register x.0 x.1) (λ i. (sym same i, sym e i)) h
 right_in register old new k l e (inr lost) h = forgotten register new l lost
 
 -- a look at a keeper, of which something is remembered
@@ -199,7 +225,7 @@ looks_kept register old new b c r P kept l =
         leaves = λ sound. l.keeps.leaves (λ fine. (sound fine).0);
       };
       right = λ stood fine. l.right stood.0 fine;
-      counts = l.counts;
+      counts = record { kept = l.counts.kept; store = l.counts.store };
     }
 
 -- ---- a file comes
@@ -208,11 +234,11 @@ module _ (register : RegisterValue) (old new : Option Remembered) (a b : Seen) (
   -- what is remembered is right of the files with the one that came
   coming : IsAfterComing (c, volume) old new → IsNew a.content c volume → b.content ≡ with_received a.content c volume bytes → IsRight register old a.content → IsRight register new b.content
   coming (inr lost) free e h = forgotten register new b.content lost
-  coming (inl is) free e h = subst (λ (x : _). IsRight register x.0 x.1) (λ i. (sym is i, sym e i)) (come old h)
+  coming (inl is) free e h = subst (λ (x : Option Remembered × Content). IsRight register x.0 x.1) (λ i. (sym is i, sym e i)) (come old h)
     where
       come : (w : Option Remembered) → IsRight register w a.content → IsRight register (option_map (λ m. with_coming m (c, volume)) w) (with_received a.content c volume bytes)
       come None h = tt
-      come (Some m) h d known ahead among = rests_with a.content.files a.content.board (c, volume) bytes m d free ahead (λ before. h d known before among)
+      come (Some m) h = λ d known ahead among. rests_with a.content.files a.content.board (c, volume) bytes m d free ahead (λ before. h d known before among)
 
   pub enters_kept : {T : Type 0} (x : T) → IsAfterComing (c, volume) old new → Enters a b (Ok x) (IsNew a.content c volume) (with_received a.content c volume bytes)
       → Enters (remembering register old a) (remembering register new b) (Ok x) (IsNew a.content c volume) (with_received a.content c volume bytes)
@@ -224,7 +250,7 @@ module _ (register : RegisterValue) (old new : Option Remembered) (a b : Seen) (
         undone = λ stood free fine. tt;
         progress = l.progress;
         cleared = l.cleared;
-        counts = l.counts;
+        counts = record { kept = l.counts.kept; store = l.counts.store };
         leaves = λ sound free. l.leaves (λ fine. (sound fine).0) free;
         committed = λ stood free fine. l.committed stood.0 free fine;
       }
@@ -239,7 +265,7 @@ module _ (register : RegisterValue) (old new : Option Remembered) (a b : Seen) (
         undone = λ stood free fine. l.undone stood.0 free fine;
         progress = l.progress;
         cleared = l.cleared;
-        counts = l.counts;
+        counts = record { kept = l.counts.kept; store = l.counts.store };
         leaves = λ sound free. l.leaves (λ fine. (sound fine).0) free;
         committed = λ stood free fine. tt;
       }
