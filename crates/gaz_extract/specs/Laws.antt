@@ -1,5 +1,5 @@
 -- What holds of every extract.
-use Rattle.std.specs.Prelude.{◌≡◌, ◌∷◌, ℕ, List, [], codes, fold, Option, Some, None, true}
+use Rattle.std.specs.Prelude.{◌≡◌, ◌∷◌, ℕ, List, codes, fold, Option, Some, None, true}
 use Rattle.std.specs.Prelude.{if◌then◌else◌}
 use Rattle.std.specs.List.{All, filter_map}
 use Rattle.std.specs.Option.{option_and_then}

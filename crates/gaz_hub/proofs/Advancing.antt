@@ -1,16 +1,13 @@
 -- How judging goes on over a keeper.
-use Rattle.std.proofs.Common.{◌≡◌, ◌≤◌, ◌<◌, ◌+◌, ◌-◌, ◌*◌, ℕ, Bool, true, false, cond, not, eqb, eqb-true, List, [], ◌∷◌, ◌++◌, take, length, get_or, refl, sym, ap, ◌∙◌, subst, arith, length-append, true≢false}
+use Rattle.std.proofs.Common.{◌≡◌, ◌≤◌, ◌+◌, ◌-◌, ◌*◌, ℕ, true, false, cond, eqb, eqb-true, List, [], ◌∷◌, ◌++◌, length, refl, sym, ap, ◌∙◌, subst, arith, length-append}
 use Rattle.std.proofs.Math.Path.{fun_ext}
-use Rattle.std.proofs.lemmas.List.{take_all}
-use Rattle.std.proofs.lemmas.List.Folds.{list_all_more}
 use Rattle.std.specs.Prelude.{⊤, Option, Some, None, IsSome, IsErrAnd, Result, Ok, Err, OnOk, OnErr, is_some}
 use Rattle.std.specs.Option.{option_map, option_map_or}
-use Rattle.std.specs.List.{find, list_all}
 use Rattle.std.specs.FinMap as map
 use Rattle.gaz_changefile.specs.Contents.{Contents}
 use Rattle.gaz_changefile.specs.Reading.{Good, Bad, Reading, reading}
 use Rattle.gaz_changefile.specs.declared.change.Basis.{Basis}
-use Rattle.gaz_register.specs.Registers.{Blocks, CustodianValue, RegisterValue, knows}
+use Rattle.gaz_register.specs.Registers.{Blocks, RegisterValue, knows}
 use Rattle.gaz_shelf.specs.Board.{Board, Judgement, adds, reached}
 use Rattle.gaz_shelf.specs.Keeper.{Content, Counts, Enters, IsAtHand, IsNotOpen, Seen, after_abandon, after_skip, with_judgement}
 use Rattle.gaz_shelf.specs.Received.{Received}
@@ -21,7 +18,7 @@ use Rattle.gaz_rules.specs.Bases.{are_reached, judged_on}
 use Rattle.gaz_rules.specs.Judges.{IsReady, Judges}
 use Rattle.gaz_rules.specs.Judging.{bases_of, judge}
 use Rattle.gaz_extract.specs.Readings.{Looks}
-use Rattle.gaz_hub.specs.Hubs.{AreKnown, StandsFor, door_of}
+use Rattle.gaz_hub.specs.Hubs.{AreKnown, door_of}
 use Rattle.gaz_hub.specs.Settling.{Advances, IsAll, IsNext, IsReadyAs, Tells, Tries}
 use Rattle.gaz_hub.specs.Standing.{Follows, Leads, NothingReady, Register, judge_one, judgement_after, next_reading, ready, with_next}
 use Rattle.gaz_hub.specs.Step.{Door, blocks}
@@ -30,7 +27,7 @@ use Rattle.gaz_hub.specs.declared.looking.Next.{Next}
 use Rattle.gaz_hub.proofs.Bounds.{all_then, not_all}
 use Rattle.gaz_hub.proofs.Leading.{follows_itself, leads_on}
 use Rattle.gaz_hub.proofs.Looks.{counts_then, left_not_open}
-use Rattle.gaz_hub.proofs.Prefixes.{both_parts, joined}
+use Rattle.gaz_hub.proofs.Prefixes.{both_parts}
 use Rattle.gaz_hub.proofs.Orders.{ready_gives}
 
 -- ---- one after another

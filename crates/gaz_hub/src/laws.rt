@@ -11,6 +11,7 @@ ghost use Rattle.gaz_hub.specs.WorkedAnswers.{WorkedAnswers};
 ghost use Rattle.gaz_hub.specs.WorkedBases.{WorkedBases};
 ghost use Rattle.gaz_hub.specs.WorkedBoards.{WorkedBoards};
 ghost use Rattle.gaz_hub.specs.WorkedHubs.{WorkedHubs};
+ghost use Rattle.gaz_hub.specs.WorkedWaiting.{WorkedWaiting};
 ghost use Rattle.gaz_hub.specs.WorkedReadings.{WorkedReadings};
 ghost use Rattle.gaz_hub.specs.WorkedRuns.{WorkedRuns};
 ghost use Rattle.gaz_hub.specs.WorkedSteps.{WorkedSteps};
@@ -172,4 +173,9 @@ pub fn worked_readings()
 /// The door and the blocks of a hub over a register, on worked examples.
 pub fn worked_hubs()
     ensures { WorkedHubs }
+{}
+
+/// Who is remembered to wait for what, and when that is right, on worked examples.
+pub fn worked_waiting()
+    ensures { WorkedWaiting }
 {}

@@ -104,12 +104,7 @@ impl Waiters {
     }
 
     /// A custodian waits for a volume.
-    pub fn wait(
-        &mut self,
-        waiter: Code,
-        custodian: Code,
-        volume: Volume,
-    ) -> Result<(), AllocError>
+    pub fn wait(&mut self, waiter: Code, custodian: Code, volume: Volume) -> Result<(), AllocError>
         ensures { OnOk result (self.new ≡ with_waiter self.old (custodian, volume) waiter) }
     {
         let mut codes = self.take_waiting(custodian, volume);

@@ -1,5 +1,4 @@
 use Rattle.std.proofs.Common.{◌≡◌, ◌≤◌, ◌<◌, ◌∙◌, ap, subst, ◌++◌, List, length, get_or, arith}
-use Rattle.gaz_shelf.specs.Board.{last_view}
 use Rattle.gaz_shelf.specs.Keeper.{Content}
 use Rattle.gaz_shelf.proofs.Keeping.{keeps_then}
 use Rattle.gaz_register.specs.Registers.{CustodianValue}

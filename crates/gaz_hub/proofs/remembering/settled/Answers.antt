@@ -1,5 +1,5 @@
 -- All is settled, and then the reading is called.
-use Rattle.std.proofs.Common.{rules, inl, inr}
+use Rattle.std.proofs.Common.{inl}
 use Rattle.gaz_hub.proofs.remembering.settled.Goals as goal
 
 pub read_kept-requires : goal.read_kept-requires

@@ -1,13 +1,13 @@
 -- The next file is judged where it is ready.
-use Rattle.std.proofs.Common.{◌≡◌, rules, refl, sym, subst}
+use Rattle.std.proofs.Common.{◌≡◌, sym, subst}
 use Rattle.gaz_changefile.specs.Reading.{Bad, Good}
 use Rattle.gaz_register.specs.Registers.{blocks_of}
 use Rattle.gaz_shelf.specs.declared.fault.ShelfFault.TheVariants.{Memory}
 use Rattle.gaz_hub.specs.Hubs.{door_of}
 use Rattle.gaz_hub.specs.Settling.{Tries}
 use Rattle.gaz_hub.specs.declared.looking.Next.TheVariants as next
-use Rattle.gaz_hub.proofs.Advancing.{Adds, IsNow, adds_after, adds_judged, adds_skipped, asks_bad, asks_good, is_err, tries_broken, tries_forgotten, tries_judged, tries_looked, tries_past}
-use Rattle.gaz_hub.proofs.Memory.{rest_done, rest_judged, rest_waiting}
+use Rattle.gaz_hub.proofs.Advancing.{adds_after, adds_judged, adds_skipped, asks_bad, asks_good, is_err, tries_broken, tries_forgotten, tries_judged, tries_past}
+use Rattle.gaz_hub.proofs.Memory.{rest_judged, rest_waiting}
 use Rattle.gaz_hub.proofs.Looks.{left_not_open}
 use Rattle.gaz_hub.proofs.settling.judge_next.Goals as goal
 

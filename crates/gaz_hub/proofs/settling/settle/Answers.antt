@@ -1,5 +1,5 @@
 -- Round after round.
-use Rattle.std.proofs.Common.{◌≡◌, ℕ, sym, ap, subst, true, arith, length}
+use Rattle.std.proofs.Common.{◌≡◌, ℕ, sym, ap, subst, arith, length}
 use Rattle.std.specs.Prelude.{⊤, Ok, Some}
 use Rattle.gaz_hub.specs.Hubs.{door_of}
 use Rattle.gaz_hub.specs.Settling.{Tells, Tries}

@@ -1,5 +1,5 @@
 -- One custodian after another.
-use Rattle.std.proofs.Common.{◌≡◌, ◌∷◌, [], ◌++◌, ◌∙◌, ap, sym, map, ℕ, take}
+use Rattle.std.proofs.Common.{◌∷◌, [], ◌++◌, ◌∙◌, ap, sym, map, ℕ, take}
 use Rattle.std.proofs.lemmas.List.{map_more, take_all}
 use Rattle.gaz_register.specs.Registers.{CustodianValue}
 use Rattle.gaz_hub.proofs.waiters.codes_of.Goals as goal

@@ -1,5 +1,5 @@
 -- One after another.
-use Rattle.std.proofs.Common.{◌≡◌, ℕ, List, [], ◌∷◌, ◌++◌, ◌∙◌, ap, sym, cond, eqb, filter, not, append-nil, rules}
+use Rattle.std.proofs.Common.{[], ◌∷◌, ◌++◌, ◌∙◌, ap, sym, cond, eqb, filter, not, append-nil}
 use Rattle.std.proofs.lemmas.List.{take_all}
 use Rattle.gaz_hub.proofs.Waiting.{pushed_if}
 use Rattle.gaz_hub.proofs.waiters.push_others.Goals.{then-ne+in_ok-push, else-ne}

@@ -1,5 +1,5 @@
 -- The list is read off the settled board.
-use Rattle.std.proofs.Common.{rules, refl, ap, ◌∙◌}
+use Rattle.std.proofs.Common.{rules, refl}
 use Rattle.std.specs.Global.{Vec}
 use Rattle.gaz_extract.specs.declared.closed.Closed.{Closed}
 use Rattle.gaz_hub.specs.Hubs.{door_of, told_all}

@@ -1,5 +1,5 @@
 -- The look-up is read off the settled board.
-use Rattle.std.proofs.Common.{rules, refl, ap, ◌∙◌}
+use Rattle.std.proofs.Common.{rules, refl}
 use Rattle.gaz_hub.specs.Hubs.{door_of}
 use Rattle.gaz_hub.specs.Step.{LookUp}
 use Rattle.gaz_hub.specs.Seen.{kept_seen}

@@ -1,5 +1,5 @@
 -- One more waits.
-use Rattle.std.proofs.Common.{◌∙◌, ◌++◌, ◌∷◌, ap, refl, ℕ, List, []}
+use Rattle.std.proofs.Common.{◌∙◌, ◌++◌, ◌∷◌, ap, refl, ℕ, []}
 use Rattle.std.specs.FinMap as finmap
 use Rattle.gaz_views.proofs.Trees.{inserted}
 use Rattle.gaz_shelf.specs.Received.{pair_cmp}
