@@ -5,14 +5,15 @@ use Rattle.std.specs.Global.{Vec}
 use Rattle.std.specs.Option.{option_and_then, option_map, option_map_or}
 use Rattle.std.specs.FinMap as map
 use Rattle.gaz_changefile.specs.Profile.{profile_of}
-use Rattle.gaz_register.specs.Registers.{RegisterValue, blocks_of, knows}
+use Rattle.gaz_register.specs.Registers.{RegisterValue, knows}
 use Rattle.gaz_extract.specs.declared.closed.Closed.{Closed}
+use Rattle.gaz_rules.specs.Sound.{AllHoldOwn}
 use Rattle.gaz_shelf.specs.Received.{Received}
 use Rattle.gaz_shelf.specs.Keeper.{Content, IsNotOpen, Seen}
 use Rattle.gaz_shelf.specs.declared.fault.ShelfFault.{ShelfFault}
 use Rattle.gaz_shelf.specs.declared.fault.ShelfFault.TheVariants.{Memory, Store}
 use Rattle.gaz_hub.specs.Step.{Command, Door, HubState, Replied, Response, Step, Submitted}
-use Rattle.gaz_hub.specs.Step.{early_refusal, refusal_at_door}
+use Rattle.gaz_hub.specs.Step.{blocks, early_refusal, refusal_at_door}
 use Rattle.gaz_hub.specs.Runs.{Run}
 use Rattle.gaz_hub.specs.declared.answer.Answer.{Answer}
 use Rattle.gaz_hub.specs.declared.answer.Answer.TheVariants.{New, Repeat, Taken, Refused}
@@ -35,9 +36,15 @@ state_of k = record { received = k.files; board = k.board }
 abbrev pub AreKnown : Door → Received → Type 0
 AreKnown d F = (p : ℕ × ℕ) → IsSome (map.get F p) → knows d.register p.0 ≡ true
 
--- the keeper stands for a content that such a hub may have
+-- a content that such a hub may have
+pub record MayHave (d : Door) (k : Content) : Type 0 where
+  pub known : AreKnown d k.files
+  -- nobody has a property whose number it doesn't hold
+  pub own : AllHoldOwn (blocks d) k.board
+
+-- the keeper stands for such a content
 abbrev pub StandsFor : Door → Seen → Type 0
-StandsFor d s = s.stands × AreKnown d s.content.files
+StandsFor d s = s.stands × MayHave d s.content
 
 -- ---- what a call tells
 

@@ -7,6 +7,7 @@ pub mod Hubs
 pub mod Answers
 pub mod Laws
 pub mod Readings
+pub mod Owners
 pub mod Settling
 pub mod Telling
 pub mod Asked
@@ -17,4 +18,5 @@ pub mod WorkedAnswers
 pub mod WorkedSteps
 pub mod WorkedRuns
 pub mod WorkedReadings
+pub mod WorkedOwners
 pub mod WorkedHubs

@@ -1,5 +1,5 @@
 -- The custodians of the worked examples, and a hub over them.
-use Rattle.std.specs.Prelude.{ℕ, false, [], ◌∷◌, codes}
+use Rattle.std.specs.Prelude.{false, [], ◌∷◌, codes}
 use Rattle.gaz_register.specs.Registers.{RegisterValue, blocks_of}
 use Rattle.gaz_shelf.specs.Received.{Received}
 use Rattle.gaz_hub.specs.Standing.{Register, standing}
