@@ -1,6 +1,6 @@
 -- What the definitions come to on worked examples.
-use Rattle.std.proofs.Common.{◌≡◌, ◌∙◌, ◌<◌, ◌^◌, ℕ, true, ap, refl, arith, lit<, List, [], ◌∷◌, length, get_or}
-use Rattle.std.specs.Prelude.{Some, fold, codes, decimal}
+use Rattle.std.proofs.Common.{◌≡◌, ◌∙◌, ◌<◌, ◌^◌, ℕ, Bool, true, false, cond, true≢false, ap, sym, refl, arith, lit<, List, [], ◌∷◌, length, get_or}
+use Rattle.std.specs.Prelude.{Some, None, fold, codes, decimal}
 use Rattle.std.proofs.lemmas.Fmt.{decimal-digits_value}
 use Rattle.std.specs.Str.{all_ascii_digits}
 use Rattle.std.specs.Str.Parse.{digits_value}
@@ -16,7 +16,13 @@ use Rattle.gaz_records.specs.declared.key.Key.{Key}
 use Rattle.gaz_views.specs.View.{View, empty_view, with_item}
 use Rattle.gaz_views.specs.Words.{entries}
 use Rattle.gaz_views.proofs.Trees.{no_entries}
-use Rattle.gaz_extract.specs.Examples.{WorkedClosings, WorkedExamples, WorkedExtracts, WorkedLines, WorkedLookups}
+use Rattle.std.proofs.lemmas.Map.Lookups.{exact_unsigned}
+use Rattle.std.specs.declared.cmp.Ordering.{Ordering}
+use Rattle.std.specs.declared.cmp.Ordering.TheVariants.{Less, Equal, Greater}
+use Rattle.std.specs.Ordering.{is_eq, nat_cmp}
+use Rattle.gaz_extract.specs.Closing.{is_closed_elsewhere}
+use Rattle.gaz_extract.specs.Examples.{WorkedClosings, WorkedExamples, WorkedExtracts, WorkedLines, WorkedLookups, two_custodians, two_in_register}
+use Rattle.gaz_extract.specs.Remembering.{AreRight}
 
 -- the entries that putting these items one after another leaves
 abbrev entries_put : List (Key × Item) → List Item → List (Key × Item)
@@ -31,10 +37,10 @@ no_entries_yet : entries empty_view ≡ []
 unfolding empty_view
 no_entries_yet = no_entries _ _
 
-these : (is : List Item) → entries (fold with_item empty_view is) ≡ entries_put [] is
+pub these : (is : List Item) → entries (fold with_item empty_view is) ≡ entries_put [] is
 these = entries_after empty_view [] no_entries_yet
 
-found : (is : List Item) (k : Key) → map.get (fold with_item empty_view is).items k ≡ map.find key_cmp k (entries_put [] is)
+pub found : (is : List Item) (k : Key) → map.get (fold with_item empty_view is).items k ≡ map.find key_cmp k (entries_put [] is)
 found is k = map.get-entries (fold with_item empty_view is).items k ∙ ap (map.find key_cmp k) (these is)
 
 -- what digits say is written as those digits
@@ -84,8 +90,35 @@ on_lookups = record {
   nowhere = simp (found, these);
 }
 
+shut : is_closed_elsewhere two_custodians two_in_register 1002 150 ≡ true
+shut = simp (found, these)
+
+stays : is_closed_elsewhere two_custodians two_in_register 1001 150 ≡ false
+stays = simp (found, these)
+
+told_right : AreRight two_custodians two_in_register 1002 ((150, true) ∷ [])
+told_right usrn told e = here (nat_cmp usrn 150) refl e
+  where
+    here : (o : Ordering) → nat_cmp usrn 150 ≡ o → cond (is_eq o) (Some true) None ≡ Some told → told ≡ is_closed_elsewhere two_custodians two_in_register 1002 usrn
+    here Less is e = cc
+    here Equal is e =
+        let same : usrn ≡ 150 = exact_unsigned usrn 150 is in
+        let said : told ≡ true = cc in
+        said ∙ sym shut ∙ ap (is_closed_elsewhere two_custodians two_in_register 1002) (sym same)
+    here Greater is e = cc
+
 on_closings : WorkedClosings
-on_closings = record { one_address = simp (found, these) }
+on_closings = record {
+  one_address = simp (found, these);
+  county_road_shut = shut;
+  own_street_stays = stays;
+  high_street_open = simp (found, these);
+  nobodys_street = simp (found, these);
+  nothing_asked = λ usrn told e. cc;
+  asked_by_the_district = told_right;
+  never_open = λ right. true≢false (sym shut ∙ sym (right 150 false refl));
+  never_for_the_county = λ right. true≢false (right 150 true refl ∙ stays);
+}
 
 on_extracts : WorkedExtracts
 unfolding fields_text escaped is_blank lines_of

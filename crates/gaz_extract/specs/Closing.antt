@@ -21,12 +21,15 @@ closed_at_owner board register usrn =
     option_map_or (λ owner. has_closed_street (last_view board owner) usrn)
     (owner_of_usrn register usrn) false
 
--- an approved address whose street isn't in the own last view, and is closed in its owner's
+-- a street isn't in the own last view, and is closed in its owner's
+abbrev pub is_closed_elsewhere : Board → RegisterValue → ℕ → ℕ → Bool
+is_closed_elsewhere board register c usrn =
+    not (is_some (street_at (last_view board c) usrn)) && closed_at_owner board register usrn
+
+-- an approved address on a street that is closed elsewhere
 abbrev pub is_on_closed : Board → RegisterValue → ℕ → LpiValue → Bool
 is_on_closed board register c lpi =
-    is_approved lpi.status
-    && not (is_some (street_at (last_view board c) lpi.usrn))
-    && closed_at_owner board register lpi.usrn
+    is_approved lpi.status && is_closed_elsewhere board register c lpi.usrn
 
 -- what is told of an item
 abbrev pub closed_by : Board → RegisterValue → ℕ → Item → Option Closed

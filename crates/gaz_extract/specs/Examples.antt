@@ -1,6 +1,6 @@
 -- Worked examples, computed from the definitions.
 use Rattle.std.specs.Prelude.{◌≡◌, ℕ, ◌==◌, List, [], ◌∷◌, ◌++◌, fold, Option, Some, None}
-use Rattle.std.specs.Prelude.{if◌then◌else◌, codes}
+use Rattle.std.specs.Prelude.{if◌then◌else◌, codes, true, false}
 use Rattle.gaz_ids.specs.declared.lang.Lang.TheVariants.{Eng}
 use Rattle.gaz_ids.specs.declared.status.Status.{Status}
 use Rattle.gaz_ids.specs.declared.status.Status.TheVariants.{Approved, Historical, Provisional}
@@ -16,10 +16,11 @@ use Rattle.gaz_register.specs.Registers.{RegisterValue}
 use Rattle.gaz_shelf.specs.Board.{Board}
 use Rattle.gaz_views.specs.View.{View, empty_view, with_item}
 use Rattle.gaz_views.specs.declared.verdict.Verdict.TheVariants.{Applied}
-use Rattle.gaz_extract.specs.Closing.{closed_streets}
+use Rattle.gaz_extract.specs.Closing.{closed_streets, is_closed_elsewhere}
 use Rattle.gaz_extract.specs.Extracts.{extract}
 use Rattle.gaz_extract.specs.Lines.{line_text}
 use Rattle.gaz_extract.specs.Lookups.{lookup}
+use Rattle.gaz_extract.specs.Remembering.{AreRight}
 
 abbrev pub spring : CivilDay
 spring = record { year = 2001; month = 4; day = 1 }
@@ -182,6 +183,15 @@ pub record WorkedLookups : Type 0 where
 pub record WorkedClosings : Type 0 where
   pub one_address : closed_streets two_custodians two_in_register
       ≡ record { custodian = 1002; lpi = codes "K1"; usrn = 150 } ∷ []
+  pub county_road_shut : is_closed_elsewhere two_custodians two_in_register 1002 150 ≡ true
+  pub own_street_stays : is_closed_elsewhere two_custodians two_in_register 1001 150 ≡ false
+  pub high_street_open : is_closed_elsewhere two_custodians two_in_register 1002 101 ≡ false
+  pub nobodys_street : is_closed_elsewhere two_custodians two_in_register 1002 300 ≡ false
+  -- what is remembered for the district isn't right of the county
+  pub nothing_asked : AreRight two_custodians two_in_register 1002 []
+  pub asked_by_the_district : AreRight two_custodians two_in_register 1002 ((150, true) ∷ [])
+  pub never_open : AreRight two_custodians two_in_register 1002 ((150, false) ∷ []) → ⊥
+  pub never_for_the_county : AreRight two_custodians two_in_register 1001 ((150, true) ∷ []) → ⊥
 
 -- each line with its end
 abbrev pub line : List ℕ → List ℕ

@@ -7,5 +7,6 @@ pub mod Extracts
 pub mod Drafts
 pub mod Paging
 pub mod Closing
+pub mod Remembering
 pub mod Examples
 pub mod Laws

@@ -1,19 +1,22 @@
 ghost use Rattle.std.specs.Prelude.{◌≡◌, ◌≤◌, ◌<◌, ◌++◌, ◌∷◌, [], ℕ, true, is_some, IfOk, OnOk};
 ghost use Rattle.std.specs.List.{cons_option};
-ghost use Rattle.gaz_shelf.specs.Board.{reached};
-ghost use Rattle.gaz_extract.specs.Closing.{closed_among, closed_at_owner, closed_by, closed_from};
-ghost use Rattle.gaz_extract.specs.Closing.{closed_left, closed_of, closed_streets, is_on_closed};
+ghost use Rattle.gaz_register.specs.Registers.{RegisterValue};
+ghost use Rattle.gaz_shelf.specs.Board.{Board, reached};
+ghost use Rattle.gaz_extract.specs.Closing.{closed_among, closed_by, closed_from, closed_left};
+ghost use Rattle.gaz_extract.specs.Closing.{closed_of, closed_streets, is_on_closed};
 ghost use Rattle.gaz_extract.specs.Paging.{pages_left};
 ghost use Rattle.gaz_extract.specs.Readings.{LooksAtBoard};
+ghost use Rattle.gaz_extract.specs.Remembering.{AreRight, Recalls};
 ghost use Rattle.gaz_shelf.specs.Telling.{IsNotJudging};
 
-use crate::find::{has_closed_street, has_street};
 use crate::page::read_page;
+use crate::streets::is_closed_elsewhere;
 use gaz_ids::{Code, Status, Usrn};
 use gaz_records::{Item, Key, Kind, Lpi, RecordKey, SharedItem};
 use gaz_register::Register;
 use gaz_shelf::{Shelf, ShelfFault};
 use std::alloc::{AllocError, Global};
+use std::collections::BTreeMap;
 
 /// An approved address of a custodian on a street that another custodian closed.
 #[derive(Clone, Copy, Debug)]
@@ -23,43 +26,44 @@ pub struct Closed {
     pub usrn: Usrn,
 }
 
-// Whether a street is closed in the last view of the custodian whose block holds it.
-fn closed_at_owner<K: Shelf>(
-    keeper: &mut K,
-    register: &Register,
-    usrn: Usrn,
-) -> Result<bool, ShelfFault>
-    requires { IsNotJudging K.seen keeper.old }
-    ensures tells { LooksAtBoard K.seen keeper.old keeper.new result
-        (λ board b. b ≡ closed_at_owner board register.now usrn) }
-    ensures not_open { IsNotJudging K.seen keeper.new }
-{
-    match register.owner_usrn(usrn) {
-        Some(owner) => has_closed_street(keeper, owner, usrn),
-        None => Ok(false),
+// What a walk over the addresses of custodians found, and the streets that were asked for the one
+// at hand.
+#[derive(Drop)]
+struct Walk {
+    closed: Vec<Closed>,
+    asked: BTreeMap<Usrn, bool>,
+}
+
+impl Walk {
+    // Forgets the streets that were asked.
+    #[tactic(auto, using(crate::proofs::Remembering::nothing_asked))]
+    fn forget(&mut self)
+        ensures closed { self.new.closed ≡ self.old.closed }
+        ensures asked { (board : Board) (register : RegisterValue) (c : ℕ)
+            → AreRight board register c self.new.asked.entries }
+    {
+        self.asked.clear();
     }
 }
 
-// Whether an address is approved, and its street isn't in the own last view and closed in its
-// owner's.
+// Whether an address is approved, and its street closed elsewhere.
 fn is_on_closed<K: Shelf>(
     keeper: &mut K,
     register: &Register,
     code: Code,
     lpi: &Lpi,
+    asked: &mut BTreeMap<Usrn, bool>,
 ) -> Result<bool, ShelfFault>
     requires { IsNotJudging K.seen keeper.old }
     ensures tells { LooksAtBoard K.seen keeper.old keeper.new result
-        (λ board b. b ≡ is_on_closed board register.now code lpi.now) }
+        (λ board b. Recalls board register.now code asked.old.entries asked.new.entries
+        (b ≡ is_on_closed board register.now code lpi.now)) }
     ensures not_open { IsNotJudging K.seen keeper.new }
 {
     if !matches!(lpi.status, Status::Approved) {
         return Ok(false);
     }
-    if has_street(keeper, code, lpi.usrn)? {
-        return Ok(false);
-    }
-    closed_at_owner(keeper, register, lpi.usrn)
+    is_closed_elsewhere(keeper, register, code, lpi.usrn, asked)
 }
 
 // What is told of an item.
@@ -68,16 +72,18 @@ fn closed_by<K: Shelf>(
     register: &Register,
     code: Code,
     item: &Item,
+    asked: &mut BTreeMap<Usrn, bool>,
 ) -> Result<Option<Closed>, ShelfFault>
     requires { IsNotJudging K.seen keeper.old }
     ensures tells { LooksAtBoard K.seen keeper.old keeper.new result
-        (λ board x. x ≡ closed_by board register.now code item.now) }
+        (λ board x. Recalls board register.now code asked.old.entries asked.new.entries
+        (x ≡ closed_by board register.now code item.now)) }
     ensures not_open { IsNotJudging K.seen keeper.new }
 {
     let Item::Lpi(lpi) = item else {
         return Ok(None);
     };
-    if !is_on_closed(keeper, register, code, lpi)? {
+    if !is_on_closed(keeper, register, code, lpi, asked)? {
         return Ok(None);
     }
     Ok(Some(Closed {
@@ -103,16 +109,17 @@ fn add_item<K: Shelf>(
     register: &Register,
     code: Code,
     item: &Item,
-    closed: &mut Vec<Closed>,
+    walk: &mut Walk,
 ) -> Result<(), ShelfFault>
     requires { IsNotJudging K.seen keeper.old }
     ensures tells { LooksAtBoard K.seen keeper.old keeper.new result
-        (λ board _. closed.new.items
-        ≡ closed.old.items ++ closed_among board register.now code (item.now ∷ [])) }
+        (λ board _. Recalls board register.now code walk.old.asked.entries walk.new.asked.entries
+        (walk.new.closed.items
+        ≡ walk.old.closed.items ++ closed_among board register.now code (item.now ∷ []))) }
     ensures not_open { IsNotJudging K.seen keeper.new }
 {
-    let found = closed_by(keeper, register, code, item)?;
-    add_found(closed, found)?;
+    let found = closed_by(keeper, register, code, item, &mut walk.asked)?;
+    add_found(&mut walk.closed, found)?;
     Ok(())
 }
 
@@ -122,16 +129,17 @@ fn add_items<K: Shelf>(
     register: &Register,
     code: Code,
     items: &[SharedItem],
-    closed: &mut Vec<Closed>,
+    walk: &mut Walk,
 ) -> Result<(), ShelfFault>
     requires { IsNotJudging K.seen keeper.old }
     ensures tells { LooksAtBoard K.seen keeper.old keeper.new result
-        (λ board _. closed.new.items
-        ≡ closed.old.items ++ closed_among board register.now code items.now) }
+        (λ board _. Recalls board register.now code walk.old.asked.entries walk.new.asked.entries
+        (walk.new.closed.items
+        ≡ walk.old.closed.items ++ closed_among board register.now code items.now)) }
     ensures not_open { IsNotJudging K.seen keeper.new }
 {
     for item in items {
-        add_item(keeper, register, code, item, closed)?;
+        add_item(keeper, register, code, item, walk)?;
     }
     Ok(())
 }
@@ -143,19 +151,20 @@ fn add_page<K: Shelf>(
     code: Code,
     volume: u64,
     after: Option<Key>,
-    closed: &mut Vec<Closed>,
+    walk: &mut Walk,
 ) -> Result<Option<Key>, ShelfFault>
     requires { IsNotJudging K.seen keeper.old }
     ensures tells { LooksAtBoard K.seen keeper.old keeper.new result
         (λ board next. volume ≤ reached board code
-        → closed.new.items ++ closed_left board register.now code volume next
-        ≡ closed.old.items ++ closed_from board register.now code volume after) }
+        → Recalls board register.now code walk.old.asked.entries walk.new.asked.entries
+        (walk.new.closed.items ++ closed_left board register.now code volume next
+        ≡ walk.old.closed.items ++ closed_from board register.now code volume after)) }
     ensures fewer { is_some after ≡ true
         → IfOk result (λ next. pages_left next < pages_left after) }
     ensures not_open { IsNotJudging K.seen keeper.new }
 {
     let page = read_page(keeper, code, volume, Kind::Lpi, after)?;
-    add_items(keeper, register, code, page.items.as_slice(), closed)?;
+    add_items(keeper, register, code, page.items.as_slice(), walk)?;
     Ok(page.next)
 }
 
@@ -164,20 +173,22 @@ fn add_custodian<K: Shelf>(
     keeper: &mut K,
     register: &Register,
     code: Code,
-    closed: &mut Vec<Closed>,
+    walk: &mut Walk,
 ) -> Result<(), ShelfFault>
     requires { IsNotJudging K.seen keeper.old }
     ensures tells { LooksAtBoard K.seen keeper.old keeper.new result
-        (λ board _. closed.new.items ≡ closed.old.items ++ closed_of board register.now code) }
+        (λ board _. walk.new.closed.items
+        ≡ walk.old.closed.items ++ closed_of board register.now code) }
     ensures not_open { IsNotJudging K.seen keeper.new }
 {
+    walk.forget();
     let volume = keeper.reached(code)?;
-    let mut next = add_page(keeper, register, code, volume, None, closed)?;
+    let mut next = add_page(keeper, register, code, volume, None, walk)?;
     'pages: loop {
         if next.is_none() {
             return Ok(());
         }
-        next = add_page(keeper, register, code, volume, next, closed)?;
+        next = add_page(keeper, register, code, volume, next, walk)?;
     }
 }
 
@@ -193,9 +204,13 @@ pub fn closed_streets<K: Shelf>(
     ensures { LooksAtBoard K.seen keeper.old keeper.new result
         (λ board closed. closed.items ≡ closed_streets board register.now) }
 {
-    let mut closed = Vec::new(alloc);
+    let mut walk = Walk {
+        closed: Vec::new(alloc),
+        asked: BTreeMap::new(alloc),
+    };
     for custodian in register.custodians() {
-        add_custodian(keeper, register, custodian.code(), &mut closed)?;
+        add_custodian(keeper, register, custodian.code(), &mut walk)?;
     }
+    let Walk { closed, .. } = walk;
     Ok(closed)
 }

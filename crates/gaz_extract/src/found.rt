@@ -89,13 +89,16 @@ fn line_at<K: Shelf>(
     Ok(Some(line(alloc, lpi, descriptor, blpu)?))
 }
 
-// What a custodian's last view says of a property.
-fn said_by<K: Shelf>(
+/// Where a property stands now with one custodian: what that one's last view says of it, whoever
+/// else has it in theirs.
+///
+/// None where the BLPU isn't in that view. The line is as in `lookup`, and so are the faults.
+pub fn lookup_with<K: Shelf>(
     alloc: Global,
     keeper: &mut K,
     register: &Register,
-    uprn: Uprn,
     code: Code,
+    uprn: Uprn,
 ) -> Result<Option<Found>, ShelfFault>
     requires { IsNotJudging K.seen keeper.old }
     ensures tells { LooksAtBoard K.seen keeper.old keeper.new result
@@ -136,7 +139,7 @@ pub fn lookup<K: Shelf>(
         (λ board f. f ≡ lookup board register.now uprn) }
 {
     for custodian in register.custodians() {
-        let found = said_by(alloc, keeper, register, uprn, custodian.code())?;
+        let found = lookup_with(alloc, keeper, register, custodian.code(), uprn)?;
         if found.is_some() {
             return Ok(found);
         }

@@ -10,8 +10,9 @@ mod found;
 pub mod laws;
 mod lend;
 mod page;
+mod streets;
 
 pub use address::{AddressLine, line};
 pub use closed::{Closed, closed_streets};
 pub use extracts::extract;
-pub use found::{Found, lookup};
+pub use found::{Found, lookup, lookup_with};

@@ -17,8 +17,10 @@ use Rattle.gaz_views.specs.declared.verdict.Verdict.{Verdict}
 use Rattle.gaz_rules.specs.Bases.{are_reached, judged_on}
 use Rattle.gaz_rules.specs.Judges.{IsReady, Judges}
 use Rattle.gaz_rules.specs.Judging.{bases_of, judge}
+use Rattle.gaz_rules.specs.Sound.{AllHoldOwn}
+use Rattle.gaz_rules.proofs.OwnNumbers.{own_numbers_stay_holds}
 use Rattle.gaz_extract.specs.Readings.{Looks}
-use Rattle.gaz_hub.specs.Hubs.{AreKnown, door_of}
+use Rattle.gaz_hub.specs.Hubs.{AreKnown, MayHave, StandsFor, door_of}
 use Rattle.gaz_hub.specs.Settling.{Advances, IsAll, IsNext, IsReadyAs, Tells, Tries}
 use Rattle.gaz_hub.specs.Standing.{Follows, Leads, NothingReady, Register, judge_one, judgement_after, next_reading, ready, with_next}
 use Rattle.gaz_hub.specs.Step.{Door, blocks}
@@ -32,8 +34,9 @@ use Rattle.gaz_hub.proofs.Orders.{ready_gives}
 
 -- ---- one after another
 
-pub known_in : (d : Door) (F K : Received) → F ≡ K → AreKnown d F → AreKnown d K
-known_in d F K e h = subst (AreKnown d) e h
+-- with the same files and board a hub may have a content too
+pub may_keep : (d : Door) (k m : Content) → m.files ≡ k.files → m.board ≡ k.board → MayHave d k → MayHave d m
+may_keep d k m files board was = record { known = subst (AreKnown d) (sym files) was.known; own = subst (AllHoldOwn (blocks d)) (sym board) was.own }
 
 -- a look judges nothing
 pub advances_looking : {T : Type 0} (d : Door) (a b : Seen) (r : Result T ShelfFault) (P : T → Type 0) → Looks a b r P → IsNotOpen a.progress → Advances d 0 a b
@@ -42,7 +45,7 @@ advances_looking d a b r P l idle =
       harm = l.keeps.harm;
       stands = λ stood fine.
           let same = l.keeps.content stood.0 fine in
-          (l.keeps.stands stood.0 fine, known_in d _ _ (sym (ap (λ (k : Content). k.files) same)) stood.1);
+          (l.keeps.stands stood.0 fine, may_keep d a.content _ (ap (λ (k : Content). k.files) same) (ap (λ (k : Content). k.board) same) stood.1);
       files = λ stood fine. ap (λ (k : Content). k.files) (l.keeps.content stood.0 fine);
       board = λ stood fine. follows_itself (blocks d) _ _ _ (ap (λ (k : Content). k.board) (l.keeps.content stood.0 fine));
       many = λ stood fine. omega arith;
@@ -191,6 +194,14 @@ abbrev follows_judged : (d : Door) (k m : Content) (code : ℕ) (rd : Reading) �
 follows_judged d k m code rd now e =
     record { order = code ∷ []; leads = (now.0, ap (λ (x : Content). x.board) e ∙ added_is (blocks d) k.files k.board code rd now.1) }
 
+-- nor does judging a file give anybody the property of another
+may_judge : (d : Door) (k m : Content) (code : ℕ) (rd : Reading) → m ≡ with_judgement k code (judged_on ((blocks d) code) k.board code rd) → MayHave d k → MayHave d m
+may_judge d k m code rd e was =
+    record {
+      known = subst (AreKnown d) (sym (ap (λ (x : Content). x.files) e)) was.known;
+      own = subst (AllHoldOwn (blocks d)) (sym (ap (λ (x : Content). x.board) e)) (own_numbers_stay_holds.after_judgement (blocks d) k.board code rd was.own);
+    }
+
 module _ {T : Type 0} (d : Door) (a c : Seen) (code : ℕ) (rd : Reading) (met : a.stands → c.unharmed → IsNow a.content code rd) where
   -- the file was judged
   pub advances_judged : (x : T) → Adds a c (Ok x) code (IsNow a.content code rd) (judged_on ((blocks d) code) a.content.board code rd) → Advances d 1 a c
@@ -199,7 +210,7 @@ module _ {T : Type 0} (d : Door) (a c : Seen) (code : ℕ) (rd : Reading) (met :
         harm = g.harm;
         stands = λ stood fine.
             let now = met stood.0 fine in
-            (g.stands stood.0 now fine, known_in d _ _ (sym (ap (λ (k : Content). k.files) (g.done stood.0 now fine))) stood.1);
+            (g.stands stood.0 now fine, may_judge d a.content c.content code rd (g.done stood.0 now fine) stood.1);
         files = λ stood fine. ap (λ (k : Content). k.files) (g.done stood.0 (met stood.0 fine) fine);
         board = λ stood fine. let now = met stood.0 fine in follows_judged d a.content c.content code rd now (g.done stood.0 now fine);
         many = λ stood fine. omega arith;
@@ -215,7 +226,7 @@ module _ {T : Type 0} (d : Door) (a c : Seen) (code : ℕ) (rd : Reading) (met :
         stands = λ stood fine.
             let now = met stood.0 fine in
             let same = g.undone stood.0 now fine in
-            (g.stands stood.0 now fine, known_in d _ _ (sym (ap (λ (k : Content). k.files) same)) stood.1);
+            (g.stands stood.0 now fine, may_keep d a.content _ (ap (λ (k : Content). k.files) same) (ap (λ (k : Content). k.board) same) stood.1);
         files = λ stood fine. ap (λ (k : Content). k.files) (g.undone stood.0 (met stood.0 fine) fine);
         board = λ stood fine. follows_itself (blocks d) _ _ _ (ap (λ (k : Content). k.board) (g.undone stood.0 (met stood.0 fine) fine));
         many = λ stood fine. omega arith;
@@ -265,7 +276,7 @@ tries_past reg a b code left e n rd IsAmong none l idle now =
       same = λ stood fine. tt;
       rests = λ stood fine. tt;
       cause = λ stood fine all is.
-          absurd (not_all reg a.content.files a.content.board code stood.1 (now (l.right stood.0 fine)).0 (subst (IsAll (door_of reg) a.content.board) none all));
+          absurd (not_all reg a.content.files a.content.board code stood.1.known (now (l.right stood.0 fine)).0 (subst (IsAll (door_of reg) a.content.board) none all));
     }
 
 -- ---- one call after another
@@ -368,7 +379,7 @@ settled_now register m left w v a b c P first second rest nobody =
       settled = λ stood fine.
           let now = l.stands (stood.0.0, stood.1) fine in
           let all = rest (stood.0.0, stood.1) fine [] stood.0.1 in
-          nothing_ready d c.content.files c.content.board now.1 (λ k known. (all k known (ap (λ xs. is_among xs k) nobody) refl).unready);
+          nothing_ready d c.content.files c.content.board now.1.known (λ k known. (all k known (ap (λ xs. is_among xs k) nobody) refl).unready);
       right = λ stood fine. tt;
       cause = λ stood fine. tt;
     }

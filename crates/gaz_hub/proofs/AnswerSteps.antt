@@ -21,7 +21,7 @@ use Rattle.gaz_hub.specs.declared.answer.Answer.TheVariants.{New, Repeat, Taken,
 use Rattle.gaz_hub.specs.declared.outcome.Outcome.{Outcome}
 use Rattle.gaz_hub.specs.declared.refusal.Refusal.{Refusal}
 use Rattle.gaz_hub.specs.declared.refusal.Refusal.TheVariants as refusal
-use Rattle.gaz_hub.proofs.Advancing.{known_in}
+use Rattle.gaz_hub.proofs.Advancing.{may_keep}
 use Rattle.gaz_hub.proofs.Leading.{follows_more, follows_on}
 use Rattle.gaz_hub.proofs.Steps.{has_all_with, pairs_same}
 
@@ -62,10 +62,12 @@ known_with d F c volume bytes e known p h =
 module _ (d : Door) (a b c : Seen) (code volume : ℕ) (bytes : List ℕ) (let_in : file_refusal d code volume bytes ≡ None)
     (came : Enters {T = Unit {0}} a b (Ok tt) (IsNew a.content code volume) (with_received a.content code volume bytes)) where
   stood_then : StandsFor d a → IsNew a.content code volume → b.unharmed → StandsFor d b
-  stood_then stood free fine = (
-    came.stands stood.0 free fine,
-    known_in d _ _ (sym (ap (λ (k : Content). k.files) (came.done stood.0 free fine))) (known_with d a.content.files code volume bytes (is_known d code volume bytes let_in) stood.1),
-  )
+  stood_then stood free fine =
+      let done = came.done stood.0 free fine in (
+        came.stands stood.0 free fine,
+        may_keep d (with_received a.content code volume bytes) b.content (ap (λ (k : Content). k.files) done) (ap (λ (k : Content). k.board) done)
+            (record { known = known_with d a.content.files code volume bytes (is_known d code volume bytes let_in) stood.1.known; own = stood.1.own }),
+      )
 
   -- what was received at the end
   files_then : {T : Type 0} (r : _) (P : T → Type 0) → Tells d b c r P → StandsFor d a → IsNew a.content code volume → c.unharmed → c.content.files ≡ with_file a.content.files code volume bytes

@@ -73,5 +73,5 @@ pub all_then : (reg : RegisterValue) (n left rest : ℕ) (a b : Seen) → n + re
     → IsAll (door_of reg) a.content.board left → IsAll (door_of reg) b.content.board rest
 all_then reg n left rest a b sum l stood fine all =
     let f = l.board stood fine in
-    let up = leads_total reg _ a.content.files stood.1 a.content.board f.order b.content.board f.leads in
+    let up = leads_total reg _ a.content.files stood.1.known a.content.board f.order b.content.board f.leads in
     omega (arith, sum, up, l.many stood fine, all)

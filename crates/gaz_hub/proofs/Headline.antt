@@ -7,11 +7,12 @@ use Rattle.gaz_changefile.proofs.Orderly.{bases-rise}
 use Rattle.gaz_changefile.specs.Reading.{Reading, Good, Bad, reading}
 use Rattle.gaz_register.specs.Registers.{blocks_of}
 use Rattle.gaz_rules.proofs.SoundBoards.{boards_stay_sound_holds}
-use Rattle.gaz_rules.specs.Sound.{AreDisjoint, IsSoundBoard, NamesOthers}
+use Rattle.gaz_rules.proofs.OwnNumbers.{own_numbers_stay_holds}
+use Rattle.gaz_rules.specs.Sound.{AllHoldOwn, AreDisjoint, IsSoundBoard, NamesOthers}
 use Rattle.gaz_shelf.specs.Board.{Board, empty_board, reached}
 use Rattle.gaz_shelf.specs.Keeper.{Content, Seen, empty_content}
 use Rattle.gaz_shelf.specs.Received.{Received, pair_cmp}
-use Rattle.gaz_hub.specs.Hubs.{AreKnown, StandsFor, state_of}
+use Rattle.gaz_hub.specs.Hubs.{MayHave, StandsFor, state_of}
 use Rattle.gaz_hub.specs.Laws.{AllSound, EveryAnswerOver, EveryRunFromOver, EveryRunOver, EverySettledRunFromOver, EverySettledRunOver, StandsForRun}
 use Rattle.gaz_hub.specs.Standing.{Leads, Register, judge_one, ready}
 use Rattle.gaz_hub.specs.Step.{Door, blocks}
@@ -23,11 +24,16 @@ use Rattle.gaz_hub.proofs.Runs.{abides_after, every_run_from_holds, every_settle
 
 -- ---- over any keeper
 
-none_known : (d : Door) (k : Content) → k ≡ empty_content → AreKnown d k.files
-none_known d k e p h = absurd (true≢false (sym h ∙ ap (λ (m : Content). is_some (map.get m.files p)) e ∙ ap is_some (map.get-empty pair_cmp p)))
+-- a hub may begin with nothing
+pub may_begin : (d : Door) (k : Content) → k.files ≡ map.empty → k.board ≡ empty_board → MayHave d k
+may_begin d k files board =
+    record {
+      known = λ p h. absurd (true≢false (sym h ∙ ap (λ (F : Received). is_some (map.get F p)) files ∙ ap is_some (map.get-empty pair_cmp p)));
+      own = subst (AllHoldOwn (blocks d)) (sym board) (own_numbers_stay_holds.of_no_file (blocks d));
+    }
 
 begins_so : (d : Door) (old : Seen) → old.stands → old.content ≡ empty_content → StandsFor d old
-begins_so d old stood e = (stood, none_known d old.content e)
+begins_so d old stood e = (stood, may_begin d old.content (ap (λ (k : Content). k.files) e) (ap (λ (k : Content). k.board) e))
 
 begins_run : (d : Door) (old : Seen) → old.stands → old.content ≡ empty_content → StandsForRun d old
 begins_run d old stood e =

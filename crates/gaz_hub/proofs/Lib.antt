@@ -12,11 +12,13 @@ pub mod Memory
 pub mod Telling
 pub mod Told
 pub mod Replying
+pub mod AskingOwner
 pub mod AnswerSteps
 pub mod Readings
 pub mod HubRuns
 pub mod Headline
 pub mod OwnNumbers
+pub mod Owners
 pub mod ReadingLaws
 pub mod Examples
 pub mod WorkedBoards
@@ -25,5 +27,6 @@ pub mod WorkedAnswers
 pub mod WorkedSteps
 pub mod WorkedRuns
 pub mod WorkedReadings
+pub mod WorkedOwners
 pub mod WorkedHubs
 pub mod WorkedWaiting

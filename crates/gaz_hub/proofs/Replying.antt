@@ -24,7 +24,7 @@ module _ {T : Type 0} (d : Door) (q : Question) (say : T → Told q) (reply : Re
   abbrev pub IsSaid : Content → T → Type 0
   IsSaid k x = NothingReady k.files k.board → say x ≡ answer_to q d.register (state_of k)
 
-  steps_read : (a c : Seen) (r : Result T ShelfFault) → Tells d a c r (IsSaid c.content) → Steps d a c (Pose q) (Replied q (reply (or_not_received r)))
+  pub steps_read : (a c : Seen) (r : Result T ShelfFault) → Tells d a c r (IsSaid c.content) → Steps d a c (Pose q) (Replied q (reply (or_not_received r)))
   steps_read a c (Ok x) l =
       subst (λ k. Steps d a c (Pose q) (Replied q k)) (sym (says.ok x))
       (record {

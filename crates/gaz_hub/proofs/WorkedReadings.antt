@@ -18,7 +18,7 @@ use Rattle.gaz_hub.proofs.Examples.{first_ready, get_sent}
 use Rattle.gaz_hub.proofs.Leading.{follows_itself}
 use Rattle.gaz_hub.proofs.WorkedSteps.{gap_settled, late_settled}
 
-none_at : (k : Key) → map.get empty_view.items k ≡ None
+pub none_at : (k : Key) → map.get empty_view.items k ≡ None
 unfolding empty_view
 none_at k = map.get-empty key_cmp k
 

@@ -7,12 +7,13 @@ use Rattle.std.specs.FinMap as map
 use Rattle.gaz_changefile.specs.Profile.{profile_of}
 use Rattle.gaz_register.specs.Registers.{RegisterValue, knows}
 use Rattle.gaz_extract.specs.declared.closed.Closed.{Closed}
+use Rattle.gaz_rules.specs.Sound.{AllHoldOwn}
 use Rattle.gaz_shelf.specs.Received.{Received}
 use Rattle.gaz_shelf.specs.Keeper.{Content, IsNotOpen, Seen}
 use Rattle.gaz_shelf.specs.declared.fault.ShelfFault.{ShelfFault}
 use Rattle.gaz_shelf.specs.declared.fault.ShelfFault.TheVariants.{Memory, Store}
 use Rattle.gaz_hub.specs.Step.{Command, Door, HubState, Replied, Response, Step, Submitted}
-use Rattle.gaz_hub.specs.Step.{early_refusal, refusal_at_door}
+use Rattle.gaz_hub.specs.Step.{blocks, early_refusal, refusal_at_door}
 use Rattle.gaz_hub.specs.Runs.{Run}
 use Rattle.gaz_hub.specs.declared.answer.Answer.{Answer}
 use Rattle.gaz_hub.specs.declared.answer.Answer.TheVariants.{New, Repeat, Taken, Refused}
@@ -35,9 +36,15 @@ state_of k = record { received = k.files; board = k.board }
 abbrev pub AreKnown : Door → Received → Type 0
 AreKnown door files = (p : ℕ × ℕ) → IsSome (map.get files p) → knows door.register p.0 ≡ true
 
--- the keeper stands for a content that such a hub may have
+-- a content that such a hub may have
+pub record MayHave (door : Door) (k : Content) : Type 0 where
+  pub known : AreKnown door k.files
+  -- nobody has a property whose number it doesn't hold
+  pub own : AllHoldOwn (blocks door) k.board
+
+-- the keeper stands for such a content
 abbrev pub StandsFor : Door → Seen → Type 0
-StandsFor door s = s.stands × AreKnown door s.content.files
+StandsFor door s = s.stands × MayHave door s.content
 
 -- ---- what a call tells
 

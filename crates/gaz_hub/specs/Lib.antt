@@ -7,6 +7,7 @@ pub mod Hubs
 pub mod Answers
 pub mod Laws
 pub mod Readings
+pub mod Owners
 pub mod Settling
 pub mod Telling
 pub mod Waiting
@@ -19,5 +20,6 @@ pub mod WorkedAnswers
 pub mod WorkedSteps
 pub mod WorkedRuns
 pub mod WorkedReadings
+pub mod WorkedOwners
 pub mod WorkedHubs
 pub mod WorkedWaiting

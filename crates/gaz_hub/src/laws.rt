@@ -3,6 +3,7 @@ ghost use Rattle.gaz_hub.specs.Answers.{EveryAnswer};
 ghost use Rattle.gaz_hub.specs.Laws.{AllSound, CallsMakeRuns, EachIsTold, EveryAnswerOver};
 ghost use Rattle.gaz_hub.specs.Laws.{EveryRunFromOver, EveryRunOver, EverySettledRunFromOver};
 ghost use Rattle.gaz_hub.specs.Laws.{EverySettledRunOver};
+ghost use Rattle.gaz_hub.specs.Owners.{OwnersAlone};
 ghost use Rattle.gaz_hub.specs.Readings.{EqualAnswers, ExtractsStay, OneHolder};
 ghost use Rattle.gaz_hub.specs.Runs.{EqualReceived, EveryRepeat, EveryRun, EveryRunFrom};
 ghost use Rattle.gaz_hub.specs.Runs.{EverySettledRun, EverySettledRunFrom, JudgementsStay};
@@ -12,6 +13,7 @@ ghost use Rattle.gaz_hub.specs.WorkedBases.{WorkedBases};
 ghost use Rattle.gaz_hub.specs.WorkedBoards.{WorkedBoards};
 ghost use Rattle.gaz_hub.specs.WorkedHubs.{WorkedHubs};
 ghost use Rattle.gaz_hub.specs.WorkedWaiting.{WorkedWaiting};
+ghost use Rattle.gaz_hub.specs.WorkedOwners.{WorkedOwners};
 ghost use Rattle.gaz_hub.specs.WorkedReadings.{WorkedReadings};
 ghost use Rattle.gaz_hub.specs.WorkedRuns.{WorkedRuns};
 ghost use Rattle.gaz_hub.specs.WorkedSteps.{WorkedSteps};
@@ -106,6 +108,12 @@ pub fn one_holder()
     ensures { OneHolder }
 {}
 
+/// On every partial board only the custodian in whose blocks the number of a property lies has it,
+/// and what that one says is what a look-up finds.
+pub fn owners_alone()
+    ensures { OwnersAlone }
+{}
+
 /// Calls one after another are runs.
 pub fn calls_make_runs<K: Inbox>()
     ensures { CallsMakeRuns K.seen }
@@ -168,6 +176,11 @@ pub fn worked_runs()
 /// What is looked up, extracted and listed, and what isn't, on worked examples.
 pub fn worked_readings()
     ensures { WorkedReadings }
+{}
+
+/// Who can have a property, and which content a hub may have, on worked examples.
+pub fn worked_owners()
+    ensures { WorkedOwners }
 {}
 
 /// The door and the blocks of a hub over a register, on worked examples.

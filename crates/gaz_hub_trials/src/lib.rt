@@ -2,6 +2,8 @@
 #![tactic(auto)]
 
 #[cfg(test)]
+mod asked_owners;
+#[cfg(test)]
 mod conversations_in_turn;
 #[cfg(test)]
 mod hub_faults;

@@ -2,6 +2,8 @@
 #![tactic(auto)]
 
 #[cfg(test)]
+mod asked_streets;
+#[cfg(test)]
 mod cases;
 #[cfg(test)]
 mod extracts;

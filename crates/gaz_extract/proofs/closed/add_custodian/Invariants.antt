@@ -7,6 +7,7 @@ use Rattle.gaz_shelf.specs.Keeper.{IsNotOpen, Keeps}
 use Rattle.gaz_views.specs.Reading.{left_after}
 use Rattle.gaz_extract.specs.Closing.{closed_by, closed_of}
 use Rattle.gaz_extract.specs.Paging.{pages_left}
+use Rattle.gaz_extract.specs.Remembering.{AreRight}
 use Rattle.gaz_extract.proofs.closed.add_custodian.Given as goal
 
 abbrev pub invariant-pages : goal.invariant-pages
@@ -19,7 +20,8 @@ invariant-pages g l =
       not_open : IsNotOpen now.progress;
       counted : was.failures ≤ now.failures;
       volume : was.stands → now.unharmed → l.volume ≡ reached B l.code;
-      left : was.stands → now.unharmed → l.closed.items ++ filter_map (closed_by B l.register l.code) (left_after (last_view B l.code) kind.Lpi l.next) ≡ l.fn.closed.items ++ closed_of B l.register l.code;
+      right : was.stands → now.unharmed → AreRight B l.register l.code l.walk.asked.entries;
+      left : was.stands → now.unharmed → l.walk.closed.items ++ filter_map (closed_by B l.register l.code) (left_after (last_view B l.code) kind.Lpi l.next) ≡ l.fn.walk.closed.items ++ closed_of B l.register l.code;
     }
 
 abbrev pub decreases-pages : goal.decreases-pages

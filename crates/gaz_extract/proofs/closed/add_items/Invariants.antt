@@ -3,6 +3,7 @@ use Rattle.std.proofs.Common.{◌≡◌, ◌≤◌, ◌++◌, drop}
 use Rattle.std.specs.List.{filter_map}
 use Rattle.gaz_shelf.specs.Keeper.{IsNotOpen, Keeps}
 use Rattle.gaz_extract.specs.Closing.{closed_by}
+use Rattle.gaz_extract.specs.Remembering.{Recalls}
 use Rattle.gaz_extract.proofs.closed.add_items.Given as goal
 
 abbrev pub invariant-loop-item : goal.invariant-loop-item
@@ -14,5 +15,6 @@ invariant-loop-item g l =
       keeps : Keeps was now;
       not_open : IsNotOpen now.progress;
       counted : was.failures ≤ now.failures;
-      left : was.stands → now.unharmed → l.closed.items ++ filter_map told (drop l.item-index l.items) ≡ l.fn.closed.items ++ filter_map told l.items;
+      left : was.stands → now.unharmed → Recalls was.content.board l.register l.code l.fn.walk.asked.entries l.walk.asked.entries
+          (l.walk.closed.items ++ filter_map told (drop l.item-index l.items) ≡ l.fn.walk.closed.items ++ filter_map told l.items);
     }

@@ -14,8 +14,8 @@ loop-custodian-preserved g c =
     let B = (g.K.Shelf.seen c.args.keeper.now).content.board in
     let i = c.loop-custodian.custodian-index in
     let custodian = c.custodian-item.result in
-    let old = c.loop-custodian.closed.items in
-    let new = c.add_custodian.new.closed.items in
+    let old = c.loop-custodian.walk.closed.items in
+    let new = c.add_custodian.new.walk.closed.items in
     let all = c.custodians-custodian-items.ensures.value in
     record {
       keeps = keeps_then _ _ _ so_far.keeps more.keeps;
@@ -39,6 +39,6 @@ returns g c =
     let past = subst (λ (xs : List CustodianValue). length xs ≤ c.loop-custodian.custodian-index) c.custodians-custodian-items.ensures.value c.loop-custodian-test.false in
     record {
       keeps = so_far.keeps;
-      right = λ stood fine. told_all (λ (x : CustodianValue). closed_of B register x.code) c.loop-custodian.closed.items _ register c.loop-custodian.custodian-index past (so_far.left stood fine);
+      right = λ stood fine. told_all (λ (x : CustodianValue). closed_of B register x.code) c.loop-custodian.walk.closed.items _ register c.loop-custodian.custodian-index past (so_far.left stood fine);
       counts = record { kept = so_far.counted; store = tt };
     }

@@ -6,7 +6,7 @@ use Rattle.gaz_shelf.proofs.Keeping.{keeps_then}
 use Rattle.gaz_shelf.specs.Keeper.{Content}
 use Rattle.gaz_extract.proofs.Telling.{line_there, nothing_there}
 use Rattle.gaz_extract.specs.Lookups.{line_at}
-use Rattle.gaz_extract.proofs.found.said_by.Goals as goal
+use Rattle.gaz_extract.proofs.found.lookup_with.Goals as goal
 
 pub returns-in_default-as_item-clause-tells : goal.returns-in_default-as_item-clause-tells
 returns-in_default-as_item-clause-tells g c =

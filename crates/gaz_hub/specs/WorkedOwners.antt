@@ -1,0 +1,30 @@
+-- Worked examples on who can have a property, and on what a hub's content may be.
+use Rattle.std.specs.Prelude.{◌≡◌, ◌==◌, true, false, [], ◌∷◌, None, IsSome, if◌then◌else◌}
+use Rattle.gaz_extract.specs.Examples.{county, two_custodians, two_in_register}
+use Rattle.gaz_extract.specs.Lookups.{lookup, said_by}
+use Rattle.gaz_shelf.specs.Board.{Board}
+use Rattle.gaz_shelf.specs.Keeper.{Content, empty_content}
+use Rattle.gaz_views.specs.declared.verdict.Verdict.TheVariants.{Applied}
+use Rattle.gaz_hub.specs.Hubs.{MayHave, door_of}
+use Rattle.gaz_hub.specs.Owners.{can_have, told_by_owner}
+
+-- the county's view stands as the district's, with a property of the county's block
+abbrev pub strayed : Board
+strayed = λ c. if c == 1002 then record { verdict = Applied; view = county } ∷ [] else []
+
+abbrev pub strayed_content : Content
+strayed_content =
+    record { files = empty_content.files; board = strayed; working = empty_content.working }
+
+pub record WorkedOwners : Type 0 where
+  pub county_can : can_have two_custodians two_in_register 42 1001 ≡ true
+  pub district_cannot : can_have two_custodians two_in_register 42 1002 ≡ false
+  pub nobody_unknown_can : can_have two_custodians two_in_register 42 9998 ≡ false
+  pub county_tells : told_by_owner two_custodians two_in_register 42
+      ≡ said_by two_custodians two_in_register 42 1001
+  pub in_no_block : told_by_owner two_custodians two_in_register 200000 ≡ None
+  -- on a board that isn't partial another may have it
+  pub owner_silent : told_by_owner strayed two_in_register 42 ≡ None
+  pub found_elsewhere : IsSome (lookup strayed two_in_register 42)
+  pub may_be_empty : MayHave (door_of two_in_register) empty_content
+  pub never_strayed : MayHave (door_of two_in_register) strayed_content → ⊥

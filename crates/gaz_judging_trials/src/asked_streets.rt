@@ -1,0 +1,95 @@
+//! How often a keeper is asked for closed streets and for a property, by one that counts.
+ghost use Rattle.std.specs.Prelude.{OnOk};
+ghost use Rattle.gaz_shelf.specs.Keeper.{IsNotOpen};
+
+use crate::cases::{Row, custodian, item, volume, writes};
+use gaz_extract::{closed_streets, lookup_with};
+use gaz_ids::Uprn;
+use gaz_records::{Kind, SharedItem};
+use gaz_register::Register;
+use gaz_samples::REGISTER;
+use gaz_shelf::{Ending, Faulty, Inbox, MemShelf, Seed, write_volume};
+use std::alloc::Global;
+use std::test::Fail;
+
+const SHUT: Row = (Kind::Street, "150,1,1990-01-01,2024-04-30");
+
+const HOUSE: Row = (Kind::Blpu, "100001,1,455000,255000,,,2020-01-01,");
+
+// A hundred approved addresses on the street that shut.
+fn addresses(alloc: Global) -> Result<Vec<SharedItem>, Fail> {
+    let mut items = Vec::new(alloc);
+    for n in 1000_u64..1100 {
+        let row = format!(in alloc; "A{n},{n},ENG,1,150,,,,,,7,,,,,2020-01-01,")?;
+        items.push(item(alloc, Kind::Lpi, row.as_str())?)?;
+    }
+    Ok(items)
+}
+
+// A volume of a custodian adds them to its view.
+fn adds_addresses<K: Inbox>(
+    alloc: Global,
+    shelf: &mut K,
+    code: u64,
+    number: u64,
+) -> Result<(), Fail>
+    requires { IsNotOpen (K.seen shelf.old).progress }
+    ensures { OnOk result (IsNotOpen (K.seen shelf.new).progress) }
+{
+    shelf.receive(custodian(code)?, volume(number)?, b"a file")?;
+    write_volume(
+        shelf,
+        custodian(code)?,
+        addresses(alloc)?,
+        Ending::Keep,
+    )?;
+    Ok(())
+}
+
+#[test]
+fn a_street_is_asked_for_once_by_a_custodian(rt: HostRuntime) -> Result<(), Fail> {
+    let alloc = rt.alloc();
+    let register = Register::read(alloc, REGISTER)?;
+    let mut shelf = Faulty::new(MemShelf::new(alloc, Seed::of(1)), 0);
+    writes(alloc, &mut shelf, custodian(1001)?, &[SHUT])?;
+    adds_addresses(alloc, &mut shelf, 1002, 1)?;
+    let before = shelf.counted().current;
+    let closed = closed_streets(alloc, &mut shelf, &register)?;
+    assert_eq!(rt; closed.len(), 100);
+    // In its own last view, and in the owner's.
+    assert_eq!(rt; shelf.counted().current, before.saturating_add(2));
+    Ok(())
+}
+
+#[test]
+fn each_custodian_asks_for_itself(rt: HostRuntime) -> Result<(), Fail> {
+    let alloc = rt.alloc();
+    let register = Register::read(alloc, REGISTER)?;
+    let mut shelf = Faulty::new(MemShelf::new(alloc, Seed::of(1)), 0);
+    writes(alloc, &mut shelf, custodian(1001)?, &[SHUT])?;
+    adds_addresses(alloc, &mut shelf, 1001, 2)?;
+    adds_addresses(alloc, &mut shelf, 1002, 1)?;
+    adds_addresses(alloc, &mut shelf, 1003, 1)?;
+    let before = shelf.counted().current;
+    let closed = closed_streets(alloc, &mut shelf, &register)?;
+    // Those of its owner are on a street of the own view.
+    assert_eq!(rt; closed.len(), 200);
+    assert_eq!(rt; shelf.counted().current, before.saturating_add(5));
+    Ok(())
+}
+
+#[test]
+fn one_custodian_is_asked_for_a_property(rt: HostRuntime) -> Result<(), Fail> {
+    let alloc = rt.alloc();
+    let register = Register::read(alloc, REGISTER)?;
+    let uprn = Uprn::of(100_001).ok_or("a UPRN")?;
+    let mut shelf = Faulty::new(MemShelf::new(alloc, Seed::of(1)), 0);
+    writes(alloc, &mut shelf, custodian(1002)?, &[HOUSE])?;
+    let owner = lookup_with(alloc, &mut shelf, &register, custodian(1002)?, uprn)?;
+    assert!(rt; owner.is_some_and(|found| found.uprn == uprn));
+    assert_eq!(rt; shelf.counted().property_of, 1);
+    let other = lookup_with(alloc, &mut shelf, &register, custodian(1001)?, uprn)?;
+    assert!(rt; other.is_none());
+    assert_eq!(rt; shelf.counted().property_of, 2);
+    Ok(())
+}
