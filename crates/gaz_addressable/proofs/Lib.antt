@@ -2,4 +2,3 @@ pub mod Characters
 pub mod Reading
 pub mod Rounds
 pub mod HouseOrder
-pub mod Undoing

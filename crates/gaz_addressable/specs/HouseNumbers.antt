@@ -27,9 +27,9 @@ is_house_number x = nat_le 1 x.n && nat_le x.n 9999 && is_suffix x.suffix
 -- no suffix comes before A, and A before B
 abbrev pub suffix_cmp : Option ℕ → Option ℕ → Ordering
 suffix_cmp None None = Equal
-suffix_cmp None (Some d) = Less
-suffix_cmp (Some c) None = Greater
-suffix_cmp (Some c) (Some d) = nat_cmp c d
+suffix_cmp None (Some b) = Less
+suffix_cmp (Some a) None = Greater
+suffix_cmp (Some a) (Some b) = nat_cmp a b
 
 -- the order of house numbers: by the number, then by the suffix
 abbrev pub house_cmp : HouseNumberValue → HouseNumberValue → Ordering
@@ -61,7 +61,7 @@ is_range r = is_house_number r.from && is_number_or_none r.to && rises r
 -- ---- reading
 
 -- the value of a reading that went well
-abbrev pub ok_of : {A F : Type 0} → Result A F → Option A
+abbrev pub ok_of : {A E : Type 0} → Result A E → Option A
 ok_of (Ok x) = Some x
 ok_of (Err e) = None
 
@@ -71,7 +71,7 @@ optional read t = if length t == 0 then Some None else option_map Some (read t)
 
 -- up to four digits that say 1 to 9999
 abbrev pub house_of : List ℕ → Option (Option ℕ)
-house_of t = optional (λ d. ok_of (read_id 4 1 9999 d)) t
+house_of t = optional (λ digits. ok_of (read_id 4 1 9999 digits)) t
 
 -- one letter from A to Z
 abbrev pub letter_in : List ℕ → Option ℕ

@@ -1,12 +1,10 @@
-ghost use Rattle.std.specs.Prelude.{◌≡◌, ◌++◌, ◌∷◌, OnErr, OnOk, true};
+ghost use Rattle.std.specs.Prelude.{◌≡◌, Some, true};
 ghost use Rattle.gaz_addressable.specs.HouseNumbers.{house_cmp, is_before, is_house_number};
 ghost use Rattle.gaz_addressable.specs.HouseNumbers.{is_range, number_text, range_text};
-ghost use Rattle.gaz_addressable.specs.HouseNumbers.{suffix_text};
 
 use gaz_ids::Number;
-use itoa::Buffer;
-use std::alloc::AllocError;
 use std::cmp::Ordering;
+use std::fmt;
 use std::marker::Model;
 
 /// The number of a house, 1 to 9999 (our profile).
@@ -70,49 +68,6 @@ impl HouseNumber {
     {
         self.compare(other).is_lt()
     }
-
-    /// Adds the suffix, if there is one. After want of memory `out` is as it was.
-    pub fn write_suffix(&self, out: &mut Vec<u8>) -> Result<(), AllocError>
-        ensures text { OnOk result (out.new.items ≡ out.old.items ++ suffix_text self.now.suffix) }
-        ensures undone { OnErr result (out.new.items ≡ out.old.items) }
-    {
-        match self.suffix {
-            Some(letter) => Ok(out.push(letter)?),
-            None => Ok(()),
-        }
-    }
-
-    #[tactic(auto, using(crate::proofs::Undoing::undoing))]
-    /// Adds the number and its suffix, as `12A`. After want of memory `out` is as it was.
-    pub fn write(&self, out: &mut Vec<u8>) -> Result<(), AllocError>
-        ensures text { OnOk result (out.new.items ≡ out.old.items ++ number_text self.now) }
-        ensures undone { OnErr result (out.new.items ≡ out.old.items) }
-    {
-        let was = out.len();
-        let mut buffer = Buffer::new();
-        let digits = buffer.format(self.n.number());
-        out.extend_from_slice(digits.as_bytes())?;
-        if let Err(fault) = self.write_suffix(out) {
-            out.truncate(was);
-            return Err(fault);
-        }
-        Ok(())
-    }
-
-    #[tactic(auto, using(crate::proofs::Undoing::undoing))]
-    // Adds a dash and the number. After want of memory `out` is as it was.
-    fn write_end(&self, out: &mut Vec<u8>) -> Result<(), AllocError>
-        ensures text { OnOk result (out.new.items ≡ out.old.items ++ 45 ∷ number_text self.now) }
-        ensures undone { OnErr result (out.new.items ≡ out.old.items) }
-    {
-        let was = out.len();
-        out.push(b'-')?;
-        if let Err(fault) = self.write(out) {
-            out.truncate(was);
-            return Err(fault);
-        }
-        Ok(())
-    }
 }
 
 impl Range {
@@ -125,22 +80,30 @@ impl Range {
             let _ = to.n.number();
         }
     }
+}
 
-    #[tactic(auto, using(crate::proofs::Undoing::undoing))]
-    /// Adds the numbers, as `12A-14`, or as `12A` where there is one. After want of memory `out` is
-    /// as it was.
-    pub fn write(&self, out: &mut Vec<u8>) -> Result<(), AllocError>
-        ensures text { OnOk result (out.new.items ≡ out.old.items ++ range_text self.now) }
-        ensures undone { OnErr result (out.new.items ≡ out.old.items) }
-    {
-        let was = out.len();
-        self.from.write(out)?;
-        if let Some(to) = &self.to {
-            if let Err(fault) = to.write_end(out) {
-                out.truncate(was);
-                return Err(fault);
-            }
+/// The number and its suffix, as `12A`.
+impl fmt::Display for HouseNumber {
+    ghost output = { λ x. Some (number_text x) };
+
+    fn fmt<W: fmt::Write>(&self, f: &mut fmt::Formatter<W>) -> fmt::Result {
+        write!(f, "{}", self.n)?;
+        match self.suffix {
+            Some(letter) => write!(f, "{}", char::from(letter)),
+            None => Ok(()),
         }
-        Ok(())
+    }
+}
+
+/// The numbers, as `12A-14`, or as `12A` where there is one.
+impl fmt::Display for Range {
+    ghost output = { λ r. Some (range_text r) };
+
+    fn fmt<W: fmt::Write>(&self, f: &mut fmt::Formatter<W>) -> fmt::Result {
+        write!(f, "{}", self.from)?;
+        match &self.to {
+            Some(to) => write!(f, "-{to}"),
+            None => Ok(()),
+        }
     }
 }

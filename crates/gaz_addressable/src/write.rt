@@ -1,9 +1,9 @@
-ghost use Rattle.std.specs.Prelude.{◌≡◌, ◌++◌, IfOk, OnErr, OnOk, Ok, map, option_map, true};
+ghost use Rattle.std.specs.Prelude.{◌≡◌, IfOk, Ok, map, true};
 ghost use Rattle.gaz_addressable.specs.HouseNumbers.{numbers_text};
 ghost use Rattle.gaz_addressable.specs.Objects.{digits_text, from_of, is_object, letter_text};
 ghost use Rattle.gaz_addressable.specs.Objects.{object_of_fields, or_empty, texts_of, to_of};
 
-use crate::number::{HouseNumber, Range};
+use crate::number::HouseNumber;
 use crate::object::Object;
 use crate::text::Text;
 use itoa::Buffer;
@@ -26,11 +26,10 @@ fn digits(alloc: Global, number: Option<HouseNumber>) -> Result<Vec<u8>, AllocEr
 fn letter(alloc: Global, number: Option<HouseNumber>) -> Result<Vec<u8>, AllocError>
     ensures { IfOk result (λ t. t.items ≡ letter_text number) }
 {
-    let mut out = Vec::new(alloc);
-    if let Some(number) = number {
-        number.write_suffix(&mut out)?;
+    match number.and_then(|number| number.suffix) {
+        Some(letter) => Vec::from_slice(alloc, &[letter]),
+        None => Ok(Vec::new(alloc)),
     }
-    Ok(out)
 }
 
 fn text_bytes(alloc: Global, text: &Option<Text<90>>) -> Result<Vec<u8>, AllocError>
@@ -69,25 +68,14 @@ impl Object {
         }
     }
 
-    /// Adds the house numbers, as `12A-14`, and nothing where there are none. After want of memory
-    /// `out` is as it was.
-    pub fn write_numbers(&self, out: &mut Vec<u8>) -> Result<(), AllocError>
-        ensures text { OnOk result (out.new.items ≡ out.old.items ++ numbers_text self.now.range) }
-        ensures undone { OnErr result (out.new.items ≡ out.old.items) }
-    {
-        match &self.range {
-            Some(range) => range.write(out),
-            None => Ok(()),
-        }
-    }
-
     /// The house numbers, as `12A-14`, and no byte where there are none.
     pub fn numbers_text(&self, alloc: Global) -> Result<Vec<u8>, AllocError>
         ensures { IfOk result (λ t. t.items ≡ numbers_text self.now.range) }
     {
-        let mut out = Vec::new(alloc);
-        self.write_numbers(&mut out)?;
-        Ok(out)
+        match &self.range {
+            Some(range) => Ok(format!(in alloc; "{range}")?.into_bytes()),
+            None => Ok(Vec::new(alloc)),
+        }
     }
 
     #[tactic(auto, using(crate::proofs::Rounds::object_back))]

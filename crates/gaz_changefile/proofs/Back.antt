@@ -15,8 +15,9 @@ use Rattle.csv.specs.Writing.{fields_text, is_blank}
 use Rattle.gaz_ids.specs.Limits.{last_volume}
 use Rattle.gaz_ids.specs.Numbers.{read_id}
 use Rattle.gaz_ids.proofs.Numerals.{read_decimal}
-use Rattle.gaz_rows.specs.Rows.{AllFilled, Fields, lines_of, rows_of}
+use Rattle.gaz_rows.specs.Rows.{AllFilled, AreTextRows, AreTexts, Fields, lines_of, rows_of}
 use Rattle.gaz_rows.proofs.Back.{rows-read-back}
+use Rattle.gaz_rows.proofs.Utf8.{decimal-utf8, lines-utf8, rows-append}
 use Rattle.gaz_records.specs.Days.{CivilDay, is_day}
 use Rattle.gaz_records.specs.Items.{is_item, item_texts, kind_of, read_item}
 use Rattle.gaz_records.specs.declared.item.Item.{Item}
@@ -40,7 +41,7 @@ use Rattle.gaz_changefile.specs.declared.line.Line.{Line}
 use Rattle.gaz_changefile.specs.declared.line.Line.TheVariants as line
 use Rattle.gaz_changefile.proofs.Orderly.{last_at}
 use Rattle.gaz_changefile.proofs.Runs.{any_push, count_push, last_push, no_fault, not_here, read_text, rules_end, rules_next}
-use Rattle.gaz_changefile.proofs.Texts.{AreTextRows, AreTexts, date_utf8, item_are, lines_utf8, number_utf8, rows_append}
+use Rattle.gaz_changefile.proofs.Texts.{date_utf8, item_are}
 
 -- ---- numbers, dates and codes
 
@@ -335,7 +336,7 @@ unfolding is_utf8 chars lib.Utf8.encode
 bases_are [] t = tt
 bases_are (b ∷ bs) t =
     let h = head_all IsBasis b bs t in
-    (omega arith, (IsUtf8-from_is_utf8 (codes "90") refl, (number_utf8 b.custodian (omega (arith, h.code_to)), (number_utf8 b.volume (omega (arith, h.volume_to)), tt))), bases_are bs (tail_all IsBasis b bs t))
+    ((IsUtf8-from_is_utf8 (codes "90") refl, (decimal-utf8 b.custodian (omega (arith, h.code_to)), (decimal-utf8 b.volume (omega (arith, h.volume_to)), tt))), bases_are bs (tail_all IsBasis b bs t))
 
 identifier_utf8 : (k : Kind) → IsUtf8 (identifier k)
 unfolding is_utf8 chars lib.Utf8.encode
@@ -354,8 +355,7 @@ action_utf8 Delete = IsUtf8-from_is_utf8 (action_text Delete) refl
 changes_are : (n : ℕ) (xs : List Change) → n + length xs ≤ 5001 → All (λ x. is_item x.item ≡ true) xs → AreTextRows (change_rows n xs)
 changes_are n [] few t = tt
 changes_are n (x ∷ xs) few t = (
-  omega arith,
-  (identifier_utf8 (kind_of x.item), (action_utf8 x.action, (number_utf8 n (omega arith), item_are x.item (head_all (λ x. is_item x.item ≡ true) x xs t)))),
+  (identifier_utf8 (kind_of x.item), (action_utf8 x.action, (decimal-utf8 n (omega arith), item_are x.item (head_all (λ x. is_item x.item ≡ true) x xs t)))),
   changes_are (n + 1) xs (omega arith) (tail_all (λ x. is_item x.item ≡ true) x xs t),
 )
 
@@ -363,10 +363,10 @@ file_utf8 : (c v : ℕ) (f : Contents) → c ≤ 9999 → v ≤ last_volume → 
 unfolding is_utf8 chars lib.Utf8.encode
 file_utf8 c v f c2 v2 t p =
     let few : length f.changes ≤ 5000 = p.few in
-    let header : AreTexts (header_row c v f.date) = (IsUtf8-from_is_utf8 (codes "10") refl, (number_utf8 known_profile (omega arith), (number_utf8 c (omega arith), (number_utf8 v (omega arith), (date_utf8 f.date t.date, tt))))) in
-    let trailer : AreTextRows (trailer_row (length f.changes) ∷ []) = (omega arith, (IsUtf8-from_is_utf8 (codes "99") refl, (number_utf8 (length f.changes) (omega arith), tt)), tt) in
-    lines_utf8 (file_rows c v f)
-    (omega arith, header, rows_append (map basis_row f.bases) _ (bases_are f.bases t.bases) (rows_append (change_rows 1 f.changes) _ (changes_are 1 f.changes (omega arith) t.items) trailer))
+    let header : AreTexts (header_row c v f.date) = (IsUtf8-from_is_utf8 (codes "10") refl, (decimal-utf8 known_profile (omega arith), (decimal-utf8 c (omega arith), (decimal-utf8 v (omega arith), (date_utf8 f.date t.date, tt))))) in
+    let trailer : AreTextRows (trailer_row (length f.changes) ∷ []) = ((IsUtf8-from_is_utf8 (codes "99") refl, (decimal-utf8 (length f.changes) (omega arith), tt)), tt) in
+    lines-utf8 (file_rows c v f)
+    (header, rows-append (map basis_row f.bases) _ (bases_are f.bases t.bases) (rows-append (change_rows 1 f.changes) _ (changes_are 1 f.changes (omega arith) t.items) trailer))
 
 -- a file reads back from its bytes
 pub file-back : FilesReadBack

@@ -1,21 +1,18 @@
--- What a file writes is UTF-8.
-use Rattle.std.proofs.Common.{◌≡◌, ℕ, suc, ◌^◌, ◌<◌, ◌≤◌, true, false, List, [], ◌∷◌, ◌++◌, length, get_or, refl, arith, Option, Some, None, inl, inr, sym, ◌∙◌, lit<}
-use Rattle.std.specs.Prelude.{IsUtf8, ◌==◌, ◌&&◌, nat_le, decimal}
+-- The texts of items' fields are UTF-8.
+use Rattle.std.proofs.Common.{◌≡◌, ℕ, ◌^◌, ◌<◌, ◌≤◌, true, List, [], ◌∷◌, ◌++◌, length, refl, arith, Option, Some, None, lit<}
+use Rattle.std.specs.Prelude.{IsUtf8, ◌&&◌, nat_le, decimal}
 use Rattle.std.specs.Str.{IsAscii, chars, is_utf8}
-use Rattle.std.proofs.Math.Utf8.{encode, encodes, scalar, scalars}
-use Rattle.std.proofs.lemmas.Bool.{cases_Bool, cases_eq}
+use Rattle.std.proofs.Math.Utf8.{encode}
 use Rattle.std.proofs.lemmas.Bool.Decides.{nat_tests}
-use Rattle.std.proofs.lemmas.Fmt.{IsAscii-decimal}
-use Rattle.std.proofs.lemmas.List.{append-nil}
-use Rattle.std.proofs.lemmas.Str.{IsUtf8-append, IsUtf8-encode, IsUtf8-from_ascii, IsUtf8-from_is_utf8, IsUtf8-nil, encode_ascii, inside_one}
+use Rattle.std.proofs.lemmas.Str.{IsUtf8-from_ascii, IsUtf8-from_is_utf8, IsUtf8-nil}
 use Rattle.std.proofs.lemmas.Str.Ascii.{IsAscii-cons, IsAscii-nil}
-use Rattle.csv.specs.Writing.{default_writer, escaped, field_text, fields_text, is_blank, needs_quotes}
 use Rattle.gaz_ids.specs.Codes.{lang_text, status_text}
 use Rattle.gaz_ids.specs.declared.lang.Lang.{Lang}
 use Rattle.gaz_ids.specs.declared.lang.Lang.TheVariants.{Cym, Eng}
 use Rattle.gaz_ids.specs.declared.status.Status.{Status}
 use Rattle.gaz_ids.specs.declared.status.Status.TheVariants.{Approved, Alternative, Provisional, Historical}
-use Rattle.gaz_rows.specs.Rows.{Fields, line_of, lines_of}
+use Rattle.gaz_rows.specs.Rows.{AreTexts}
+use Rattle.gaz_rows.proofs.Utf8.{decimal-utf8, texts-append}
 use Rattle.gaz_addressable.specs.HouseNumbers.{HouseNumberValue, RangeValue, is_before_end, is_house_number, is_number_or_none, is_suffix}
 use Rattle.gaz_addressable.specs.Objects.{ObjectValue, digits_text, from_of, is_object, is_range_or_none, is_text_or_none, is_there, letter_text, texts_of, to_of}
 use Rattle.gaz_addressable.specs.Texts.{char_count, is_plain, is_text}
@@ -33,99 +30,13 @@ use Rattle.gaz_records.specs.declared.item.Item.{Item}
 use Rattle.gaz_records.specs.declared.item.Item.TheVariants as item
 use Rattle.gaz_records.proofs.Both.{and-left, and-right}
 
--- ---- a field, a row and all rows of texts
-
--- a character that is no quote has no byte of one
-no_quote : (c : ℕ) → (c ≡ 34 → ⊥) → (k : ℕ) → k < length (encode c) → get_or (encode c) k 0 ≡ 34 → ⊥
-no_quote c n k h e = n (inside_one c [] (encode c) k (sym (append-nil (encode c))) h (rw e (lit< tt)) ∙ e)
-
-is_other : (a b : ℕ) → (a ≡ b → ⊥) → (a == b) ≡ false
-is_other a b n = grind (arith, nat_tests)
-
-escaped_plain : (a rest : List ℕ) → ((k : ℕ) → k < length a → get_or a k 0 ≡ 34 → ⊥) → escaped default_writer (a ++ rest) ≡ a ++ escaped default_writer rest
-unfolding escaped
-escaped_plain [] rest h = refl
-escaped_plain (b ∷ bs) rest h =
-    let no : (b == 34) ≡ false = is_other b 34 (h 0 (omega arith)) in
-    rw (no, escaped_plain bs rest (λ k l. h (suc k) (omega arith))) refl
-
--- a quote mark, a comma and a line feed
-one_byte : (c : ℕ) → c < 128 → scalar c ≡ true → IsUtf8 (c ∷ [])
-one_byte c h e = rw (← encode_ascii c h) (IsUtf8-encode c e)
-
-escaped_utf8 : (cs : List ℕ) → scalars cs ≡ true → IsUtf8 (escaped default_writer (encodes cs))
-unfolding escaped
-escaped_utf8 [] h = IsUtf8-nil
-escaped_utf8 (c ∷ cs) h =
-    let here : scalar c ≡ true = and-left (scalar c) (scalars cs) h in
-    let more : scalars cs ≡ true = and-right (scalar c) (scalars cs) h in
-    elim (cases_eq c 34) [
-      | inl quote ↦
-          rw (quote, encode_ascii 34 (lit< tt))
-          (IsUtf8-append (34 ∷ 34 ∷ []) (escaped default_writer (encodes cs)) (IsUtf8-append (34 ∷ []) (34 ∷ []) (one_byte 34 (lit< tt) refl) (one_byte 34 (lit< tt) refl)) (escaped_utf8 cs more))
-      | inr other ↦
-          rw (escaped_plain (encode c) (encodes cs) (no_quote c other))
-          (IsUtf8-append (encode c) (escaped default_writer (encodes cs)) (IsUtf8-encode c here) (escaped_utf8 cs more))
-    ]
-
-quoted_utf8 : (x : List ℕ) → IsUtf8 x → IsUtf8 (34 ∷ (escaped default_writer x ++ (34 ∷ [])))
-quoted_utf8 x (cs, (are, spell)) =
-    IsUtf8-append (34 ∷ []) (escaped default_writer x ++ (34 ∷ [])) (one_byte 34 (lit< tt) refl)
-    (IsUtf8-append (escaped default_writer x) (34 ∷ []) (rw (← spell) (escaped_utf8 cs are)) (one_byte 34 (lit< tt) refl))
-
-field_utf8 : (x : List ℕ) → IsUtf8 x → IsUtf8 (field_text default_writer x)
-field_utf8 x u = elim (cases_Bool (needs_quotes default_writer x)) [
-  | inl needs ↦ rw needs (quoted_utf8 x u)
-  | inr plain ↦ rw plain u
-]
-
--- each field is UTF-8
-abbrev pub AreTexts : Fields → Type 0
-AreTexts [] = Unit {0}
-AreTexts (x ∷ xs) = IsUtf8 x × AreTexts xs
-
-texts_append : (xs ys : Fields) → AreTexts xs → AreTexts ys → AreTexts (xs ++ ys)
-texts_append [] ys h k = k
-texts_append (x ∷ xs) ys h k = (h.0, texts_append xs ys h.1 k)
-
-fields_utf8 : (xs : Fields) → AreTexts xs → IsUtf8 (fields_text default_writer xs)
-unfolding fields_text
-fields_utf8 [] h = IsUtf8-nil
-fields_utf8 (x ∷ xs) h =
-    IsUtf8-append (44 ∷ []) (field_text default_writer x ++ fields_text default_writer xs) (one_byte 44 (lit< tt) refl)
-    (IsUtf8-append (field_text default_writer x) (fields_text default_writer xs) (field_utf8 x h.0) (fields_utf8 xs h.1))
-
--- rows of two fields or more
-abbrev pub AreTextRows : List Fields → Type 0
-AreTextRows [] = Unit {0}
-AreTextRows (row ∷ rows) = (2 ≤ length row) × AreTexts row × AreTextRows rows
-
-pub rows_append : (xs ys : List Fields) → AreTextRows xs → AreTextRows ys → AreTextRows (xs ++ ys)
-rows_append [] ys h k = k
-rows_append (x ∷ xs) ys h k = (h.0, h.1, rows_append xs ys h.2 k)
-
-pub lines_utf8 : (rows : List Fields) → AreTextRows rows → IsUtf8 (lines_of rows)
-unfolding lines_of is_blank
-lines_utf8 [] h = IsUtf8-nil
-lines_utf8 ([] ∷ rows) h = absurd (omega (arith, h.0))
-lines_utf8 ((x ∷ []) ∷ rows) h = absurd (omega (arith, h.0))
-lines_utf8 ((x ∷ y ∷ ys) ∷ rows) h =
-    IsUtf8-append (line_of (x ∷ y ∷ ys) ++ (10 ∷ [])) (lines_of rows)
-    (IsUtf8-append (line_of (x ∷ y ∷ ys)) (10 ∷ [])
-    (IsUtf8-append (field_text default_writer x) (fields_text default_writer (y ∷ ys)) (field_utf8 x h.1.0) (fields_utf8 (y ∷ ys) h.1.1))
-    (one_byte 10 (lit< tt) refl))
-    (lines_utf8 rows h.2)
-
 -- ---- what stands in the fields
 
-pub number_utf8 : (n : ℕ) → n < 2 ^ 64 → IsUtf8 (decimal n)
-number_utf8 n h = IsUtf8-from_ascii (decimal n) (IsAscii-decimal n h)
-
 up_to : (low high n : ℕ) → high < 2 ^ 64 → (nat_le low n && nat_le n high) ≡ true → IsUtf8 (decimal n)
-up_to low high n h e = let k : n ≤ high = grind (arith, nat_tests, e) in number_utf8 n (omega arith)
+up_to low high n h e = let k : n ≤ high = grind (arith, nat_tests, e) in decimal-utf8 n (omega arith)
 
 from_nought : (high n : ℕ) → high < 2 ^ 64 → nat_le n high ≡ true → IsUtf8 (decimal n)
-from_nought high n h e = let k : n ≤ high = grind (arith, nat_tests, e) in number_utf8 n (omega arith)
+from_nought high n h e = let k : n ≤ high = grind (arith, nat_tests, e) in decimal-utf8 n (omega arith)
 
 -- each byte is ASCII
 abbrev AllLow : List ℕ → Type 0
@@ -273,8 +184,8 @@ lpi_are x h =
     let h6 = and-left _ _ h5 in
     let dates : AreTexts (date_text x.start ∷ end_text x.end ∷ []) = (date_utf8 x.start (and-right _ _ h2), (end_utf8 x.end (and-right _ _ h1), tt)) in
     let objects =
-    texts_append (secondary_texts x.secondary) (texts_of x.primary ++ (date_text x.start ∷ end_text x.end ∷ [])) (secondary_texts_are x.secondary (and-right _ _ h4))
-    (texts_append (texts_of x.primary) (date_text x.start ∷ end_text x.end ∷ []) (object_texts x.primary (and-right _ _ h3)) dates) in (
+    texts-append (secondary_texts x.secondary) (texts_of x.primary ++ (date_text x.start ∷ end_text x.end ∷ [])) (secondary_texts_are x.secondary (and-right _ _ h4))
+    (texts-append (texts_of x.primary) (date_text x.start ∷ end_text x.end ∷ []) (object_texts x.primary (and-right _ _ h3)) dates) in (
       label_utf8 14 x.key (and-left _ _ h6),
       (up_to 1 999_999_999_999 x.uprn (lit< tt) (and-right _ _ h6), (lang_utf8 x.lang, (status_utf8 x.status, (up_to 1 99_999_999 x.usrn (lit< tt) (and-right _ _ h5), objects)))),
     )

@@ -30,8 +30,9 @@ date_in (row ∷ rows) = value_or no_day (date_of (field row 4))
 -- a basis, where its custodian and its volume were read
 abbrev pub basis_from : Option ℕ → Option ℕ → Option Basis
 basis_from None volume = None
-basis_from (Some d) None = None
-basis_from (Some d) (Some w) = Some (record { custodian = d; volume = w })
+basis_from (Some custodian) None = None
+basis_from (Some custodian) (Some volume) =
+    Some (record { custodian = custodian; volume = volume })
 
 -- the basis that three fields say: behind the first a custodian and a volume
 abbrev pub basis_in : Fields → Option Basis

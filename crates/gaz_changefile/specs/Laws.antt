@@ -58,7 +58,7 @@ ChangesArePlaced =
     (bytes : List ℕ) (c v : ℕ) (contents : Contents) → reading bytes c v ≡ Good contents
     → ArePlaced contents.bases contents.changes
 
--- what is written of an orderly file of a custodian and volume says the same file
+-- what is written of an orderly file of a custodian and volume says that file
 abbrev pub FilesReadBack : Type 0
 FilesReadBack =
     (c v : ℕ) (f : Contents) → 1 ≤ c → c ≤ 9999 → 1 ≤ v → v ≤ last_volume

@@ -26,11 +26,11 @@ listed (Some x) = x ∷ []
 
 -- what stands before the next record of a file that was read so far
 abbrev pub before_in : Draft → Before
-before_in d = record {
-  bases = length d.bases.items;
-  changes = length d.changes.items;
-  last = d.last;
-  ended = d.ended;
+before_in draft = record {
+  bases = length draft.bases.items;
+  changes = length draft.changes.items;
+  last = draft.last;
+  ended = draft.ended;
 }
 
 -- a record that breaks no rule was read: its basis or its change stands last, and the file ends

@@ -1,13 +1,11 @@
 ghost use Rattle.std.specs.Prelude.{◌≡◌, ◌++◌, codes, IfOk, OnOk, option_map};
 ghost use Rattle.std.specs.String.{string_bytes};
-ghost use Rattle.gaz_addressable.specs.HouseNumbers.{number_text, range_text};
 ghost use Rattle.gaz_extract.specs.Lines.{area_of, is_town, line_text, numbers_of, on_street};
 ghost use Rattle.gaz_extract.specs.Lines.{text_of};
 ghost use Rattle.gaz_extract.specs.Pieces.{after, before};
 
-use gaz_addressable::{HouseNumber, Object, Range, Text};
+use gaz_addressable::{Object, Range, Text};
 use gaz_records::{Blpu, Descriptor, Lpi};
-use itoa::Buffer;
 use std::alloc::{AllocError, Global};
 use std::marker::Model;
 
@@ -46,30 +44,6 @@ impl AddressLine {
     }
 }
 
-// Adds a house number, as `12A`.
-fn add_number(out: &mut String, number: &HouseNumber) -> Result<(), AllocError>
-    ensures { OnOk result (string_bytes out.new ≡ string_bytes out.old ++ number_text number.now) }
-{
-    let mut digits = Buffer::new();
-    out.push_str(digits.format(number.n.number()))?;
-    if let Some(letter) = number.suffix {
-        out.push(char::from(letter))?;
-    }
-    Ok(())
-}
-
-// Adds house numbers, as `12A-14`.
-fn add_range(out: &mut String, range: &Range) -> Result<(), AllocError>
-    ensures { OnOk result (string_bytes out.new ≡ string_bytes out.old ++ range_text range.now) }
-{
-    add_number(out, &range.from)?;
-    if let Some(to) = &range.to {
-        out.push('-')?;
-        add_number(out, to)?;
-    }
-    Ok(())
-}
-
 // Adds a part that another follows.
 fn add_before<const MOST: u64>(
     out: &mut String,
@@ -105,8 +79,7 @@ fn add_secondary(out: &mut String, object: &Option<Object>) -> Result<(), AllocE
     };
     add_before(out, &object.text)?;
     if let Some(range) = &object.range {
-        add_range(out, range)?;
-        out.push_str(", ")?;
+        write!(out, "{range}, ")?;
     }
     Ok(())
 }
@@ -117,8 +90,7 @@ fn add_street(out: &mut String, range: &Option<Range>, description: &str) -> Res
         ++ on_street range.now description.now) }
 {
     if let Some(range) = range {
-        add_range(out, range)?;
-        out.push(' ')?;
+        write!(out, "{range} ")?;
     }
     out.push_str(description)
 }

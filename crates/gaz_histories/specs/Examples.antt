@@ -2,7 +2,8 @@
 use Rattle.std.specs.Prelude.{◌≡◌, ℕ, true, false, [], ◌∷◌, ◌++◌, Some, None}
 use Rattle.gaz_histories.specs.Histories.{Versions, before, standing_at, was_used_at}
 
--- a number for what stands at the key: inserted by volume 2, updated by volume 3, and deleted by volume 5
+-- a number for what stands at the key: inserted by volume 2, updated by volume 3, and deleted by
+-- volume 5
 abbrev pub three : Versions ℕ
 three = (2, Some 10) ∷ (3, Some 20) ∷ (5, None) ∷ []
 

@@ -10,6 +10,7 @@ abbrev pub versions_of : {T : Type 0} → List (declared.Version T) → Versions
 versions_of vs = map version_in vs
 
 -- the earlier ones and then the latest, where there is one
-abbrev pub kept : {T : Type 0} → List (declared.Version T) → Option (declared.Version T) → Versions T
+abbrev pub kept :
+    {T : Type 0} → List (declared.Version T) → Option (declared.Version T) → Versions T
 kept earlier None = versions_of earlier
 kept earlier (Some v) = versions_of earlier ++ version_in v ∷ []

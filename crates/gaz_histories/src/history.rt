@@ -1,7 +1,9 @@
 //! The versions of one key.
-ghost use Rattle.std.specs.Prelude.{◌≡◌, ◌++◌, ◌∷◌, [], ◌≤◌, take, length, nat_le, nat_lt, false, OnOk, OnErr, IfOk, IsOk, option_map};
+ghost use Rattle.std.specs.Prelude.{◌≡◌, ◌++◌, ◌∷◌, [], ◌≤◌, take, length, nat_le, nat_lt, false};
+ghost use Rattle.std.specs.Prelude.{OnOk, OnErr, IfOk, IsOk, option_map};
 ghost use Rattle.std.specs.Option.{option_map_or};
-ghost use Rattle.gaz_histories.specs.Histories.{Ascends, before, is_empty, standing_at, until, was_used_at};
+ghost use Rattle.gaz_histories.specs.Histories.{Ascends, before, is_empty, standing_at, until};
+ghost use Rattle.gaz_histories.specs.Histories.{was_used_at};
 ghost use Rattle.gaz_histories.specs.Kept.{kept, version_in, versions_of};
 
 use std::alloc::{AllocError, Global};
@@ -72,8 +74,8 @@ impl<T: Drop> History<T> {
         }
     }
 
-    /// From a volume on this stands at the key, or nothing. What began at the volume or after it is forgotten. The
-    /// first version of all needs no memory.
+    /// From a volume on this stands at the key, or nothing. What began at the volume or after it is
+    /// forgotten. The first version of all needs no memory.
     pub fn set(&mut self, volume: u64, standing: Option<T>) -> Result<(), AllocError>
         ensures ok { OnOk result (self.new ≡ before self.old volume ++ (volume, standing) ∷ []) }
         ensures err { OnErr result (self.new ≡ self.old) }
@@ -114,7 +116,8 @@ fn begins_before<T>(version: &Option<Version<T>>, volume: u64) -> bool
     }
 }
 
-// Puts a version in the place of the latest, which is one of the earlier then. Where memory runs out, nothing changes.
+// Puts a version in the place of the latest, which is one of the earlier then. Where memory runs
+// out, nothing changes.
 fn put_latest<T: Drop>(
     earlier: &mut Vec<Version<T>>,
     latest: &mut Option<Version<T>>,

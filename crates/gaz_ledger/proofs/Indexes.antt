@@ -73,7 +73,7 @@ one_less es fs m o key h less q k = ap (λ (ks : List Key). has_key ks k) (chang
     at_mark true is = less k ∙ ap (λ (p : Mark). not (eq_by_cmp key_cmp key k) && under es p k) (marks_exact m q is)
     at_mark false is = refl
 
--- the same keys
+-- the keys under each mark are those that were there
 pub none_more : (es fs : Sets) (m : Mark) (o : Option Keys) → Changes es fs m o → kept_keys o ≡ keys_in es m → (q : Mark) (k : Key) → under fs q k ≡ under es q k
 none_more es fs m o h same q k = ap (λ (ks : List Key). has_key ks k) (changed es fs m o h q ∙ at_mark (same_mark m q) refl)
   where

@@ -1,4 +1,4 @@
--- Marks of which the test says that they are one are the same, and a derived test is this one.
+-- Marks of which the test says that they are one are equal, and a derived test is this one.
 use Rattle.std.proofs.Common.{◌≡◌, true, refl, ap, eqb-true, eq-eqb}
 use Rattle.gaz_ledger.specs.Indexes.{same_mark}
 use Rattle.gaz_ledger.specs.contracts.index.MarkPartialEq.TheImpl.{eq-value}

@@ -57,7 +57,7 @@ stores_none g es fs key is h none k =
     by_same true at = sym none ∙ ap (versions_at g) (same_key key k at)
     by_same false at = refl
 
--- the same history again
+-- where its versions are again those that the key had, the histories are as they were
 stores_same : (g : KeyHistories) (es fs : Rows) (key : Key) (vs : ItemVersions) → finite.from_entries es ≡ g → Writes es fs key (Some vs) → Some vs ≡ stored es key → finite.from_entries fs ≡ g
 stores_same g es fs key vs is h same =
     finite.same_map keys_total keys_exact (finite.from_entries {R = key_cmp} fs) (finite.from_entries {R = key_cmp} es) (λ q. get_tree (λ a b. refl) keys_total fs q ∙ h q ∙ by_same q (eq_by_cmp key_cmp key q) refl ∙ sym (get_tree (λ a b. refl) keys_total es q)) ∙ is
@@ -78,7 +78,7 @@ module _ (g : KeyHistories) (es : Rows) (key : Key) (is : finite.from_entries es
   pub stores_now : (fs hs : Rows) (vs ws : ItemVersions) → fs ≡ hs → Writes es hs key (Some vs) → vs ≡ ws → ChangesAt g (finite.from_entries fs) key ws
   stores_now fs hs vs ws new h same k = ap (λ (l : Rows). versions_at (finite.from_entries l) k) new ∙ stores g es hs key vs ws is h same k
 
-  -- the same history again
+  -- where the versions that stand there are those that the key had, the histories are as they were
   pub stores_again : (fs hs : Rows) (vs ws : ItemVersions) → fs ≡ hs → Writes es hs key (Some vs) → vs ≡ ws → stored es key ≡ Some ws → finite.from_entries fs ≡ g
   stores_again fs hs vs ws new h same there = ap (λ (l : Rows). finite.from_entries l) new ∙ stores_same g es hs key vs is h (ap Some same ∙ sym there)
 

@@ -34,13 +34,15 @@ with_verdict a verdict = record {
 
 -- the verdict on a volume, from 1
 abbrev pub verdict_in : Account → ℕ → Option Verdict
-verdict_in a volume = if volume == 0 then None else option_map (λ j. j.verdict) (slice_get a.judged (volume - 1))
+verdict_in a volume =
+    if volume == 0 then None else option_map (λ j. j.verdict) (slice_get a.judged (volume - 1))
 
 -- ---- what stood at a key
 
 -- from a volume on this item stands at the key, or none
 abbrev pub SetsAt : KeyHistories → KeyHistories → ℕ → Key → Option Item → Type 0
-SetsAt old new volume key item = ChangesAt old new key (before (versions_at old key) volume ++ (volume, item) ∷ [])
+SetsAt old new volume key item =
+    ChangesAt old new key (before (versions_at old key) volume ++ (volume, item) ∷ [])
 
 -- what began at a volume or after it is forgotten at the key
 abbrev pub CutsAt : KeyHistories → KeyHistories → ℕ → Key → Type 0
@@ -55,13 +57,19 @@ entries_with mark view = filter (λ e. has_mark mark e.1) (entries view)
 abbrev pub Pair : Type 0
 Pair = Option Mark × Option Mark
 
+-- the mark is one of these two
+abbrev pub IsOneOf : Pair → Mark → Type 0
+IsOneOf marks m = (marks.0 ≡ Some m) ⊎ (marks.1 ≡ Some m)
+
 -- each mark of the item, where there is one, is one of these
 abbrev pub HasMarksIn : Option Item → Pair → Type 0
-HasMarksIn item marks = (m : Mark) → option_map_or (has_mark m) item false ≡ true → (marks.0 ≡ Some m) ⊎ (marks.1 ≡ Some m)
+HasMarksIn item marks =
+    (m : Mark) → option_map_or (has_mark m) item false ≡ true → IsOneOf marks m
 
 -- each mark of the item that stands at a key is one of these
 abbrev pub AreMarksAt : View → Key → Pair → Type 0
-AreMarksAt view key marks = (m : Mark) → marked_at (entries view) m key ≡ true → (marks.0 ≡ Some m) ⊎ (marks.1 ≡ Some m)
+AreMarksAt view key marks =
+    (m : Mark) → marked_at (entries view) m key ≡ true → IsOneOf marks m
 
 -- ---- keys under marks
 
@@ -71,13 +79,15 @@ is_pair mark key m k = same_mark mark m && eq_by_cmp key_cmp key k
 
 -- the key is under the mark too, and all else is as it was
 abbrev pub AddsUnder : Index → Index → Mark → Key → Type 0
-AddsUnder old new mark key = (m : Mark) → (k : Key) → is_under new m k ≡ (is_pair mark key m k || is_under old m k)
+AddsUnder old new mark key =
+    (m : Mark) → (k : Key) → is_under new m k ≡ (is_pair mark key m k || is_under old m k)
 
 -- the key is no more under the mark, and all else is as it was
 abbrev pub TakesUnder : Index → Index → Mark → Key → Type 0
-TakesUnder old new mark key = (m : Mark) → (k : Key) → is_under new m k ≡ (not (is_pair mark key m k) && is_under old m k)
+TakesUnder old new mark key =
+    (m : Mark) → (k : Key) → is_under new m k ≡ (not (is_pair mark key m k) && is_under old m k)
 
--- just the same keys are under each mark
+-- the keys under each mark are those that were there
 abbrev pub SameUnder : Index → Index → Type 0
 SameUnder old new = (m : Mark) → (k : Key) → is_under new m k ≡ is_under old m k
 
@@ -103,7 +113,8 @@ TakesKey old new key = (k : Key) → has_key new k ≡ (not (eq_by_cmp key_cmp k
 
 -- this is known of the property, or it isn't known, and of others what was known
 abbrev pub KnowsOf : Properties → Properties → ℕ → Option Property → Type 0
-KnowsOf old new uprn known = (n : ℕ) → known_in new n ≡ (if uprn == n then known else known_in old n)
+KnowsOf old new uprn known =
+    (n : ℕ) → known_in new n ≡ (if uprn == n then known else known_in old n)
 
 -- these properties aren't known any more, and of others what was known
 abbrev pub Forgets : Properties → Properties → (ℕ → Bool) → Type 0

@@ -9,6 +9,7 @@ use Rattle.gaz_records.specs.declared.key.Key.TheVariants as key
 use Rattle.gaz_views.specs.Examples.{blpu, lpi, street}
 use Rattle.gaz_views.specs.Judgements.{judgements}
 use Rattle.gaz_views.specs.View.{was_used}
+use Rattle.gaz_views.specs.declared.verdict.Verdict.{Verdict}
 use Rattle.gaz_views.specs.declared.verdict.Verdict.TheVariants.{Applied, Rejected}
 use Rattle.gaz_ledger.specs.KeyHistories.{HasJustTheKeysOf, ItemVersions, KeyHistories, view_at}
 use Rattle.gaz_ledger.specs.KeyHistories.{with_versions}
@@ -18,9 +19,16 @@ use Rattle.gaz_ledger.specs.declared.index.Mark.TheVariants.{AddressOf, PartOf}
 
 -- ---- a gazetteer through its volumes
 
+-- the first volume is applied, the second rejected at its record 2 by rule 21
+abbrev pub two_verdicts : List Verdict
+two_verdicts = Applied ∷ Rejected 2 21 ∷ []
+
 -- street 101 came with volume 1 and went with volume 3, street 102 came with volume 2
 abbrev pub three_volumes : KeyHistories
-three_volumes = map.insert (map.insert map.empty (key.Street 101) ((1, Some (street 101)) ∷ (3, None) ∷ [])) (key.Street 102) ((2, Some (street 102)) ∷ [])
+three_volumes =
+    map.insert
+    (map.insert map.empty (key.Street 101) ((1, Some (street 101)) ∷ (3, None) ∷ []))
+    (key.Street 102) ((2, Some (street 102)) ∷ [])
 
 pub record WorkedGazetteers : Type 0 where
   pub not_yet : map.get (view_at three_volumes 0).items (key.Street 101) ≡ None
@@ -31,27 +39,38 @@ pub record WorkedGazetteers : Type 0 where
   pub other_came : map.get (view_at three_volumes 2).items (key.Street 102) ≡ Some (street 102)
   pub not_used_yet : was_used (view_at three_volumes 1) (key.Street 102) ≡ false
   pub stays_used : was_used (view_at three_volumes 3) (key.Street 101) ≡ true
-  pub second_judged : slice_get (judgements (Applied ∷ Rejected 2 21 ∷ []) (view_at three_volumes)) 1 ≡ Some (record { verdict = Rejected 2 21; view = view_at three_volumes 2 })
-  pub third_not_judged : slice_get (judgements (Applied ∷ Rejected 2 21 ∷ []) (view_at three_volumes)) 2 ≡ None
+  pub second_judged :
+      slice_get (judgements two_verdicts (view_at three_volumes)) 1
+      ≡ Some (record { verdict = Rejected 2 21; view = view_at three_volumes 2 })
+  pub third_not_judged : slice_get (judgements two_verdicts (view_at three_volumes)) 2 ≡ None
 
 -- ---- as it is kept
 
 -- streets 101 and 102 in no order of keys
 abbrev pub second_first : List (Key × ItemVersions)
-second_first = (key.Street 102, (2, Some (street 102)) ∷ []) ∷ (key.Street 101, (1, Some (street 101)) ∷ []) ∷ []
+second_first =
+    (key.Street 102, (2, Some (street 102)) ∷ [])
+    ∷ (key.Street 101, (1, Some (street 101)) ∷ []) ∷ []
 
 -- property 1002, which is a part of 1001, and its address
 abbrev pub part_and_address : List (Key × Item)
-part_and_address = (key.Blpu 1002, blpu 1002 (Some 1001)) ∷ (key.Lpi (codes "L4"), lpi (codes "L4") 1002 Eng Approved 101) ∷ []
+part_and_address =
+    (key.Blpu 1002, blpu 1002 (Some 1001))
+    ∷ (key.Lpi (codes "L4"), lpi (codes "L4") 1002 Eng Approved 101) ∷ []
 
 pub record WorkedKeeping : Type 0 where
   pub its_keys : HasJustTheKeysOf (key.Street 101 ∷ key.Street 102 ∷ []) second_first
-  pub in_order : with_versions (key.Street 101 ∷ key.Street 102 ∷ []) second_first ≡ (key.Street 101, (1, Some (street 101)) ∷ []) ∷ (key.Street 102, (2, Some (street 102)) ∷ []) ∷ []
+  pub in_order :
+      with_versions (key.Street 101 ∷ key.Street 102 ∷ []) second_first
+      ≡ (key.Street 101, (1, Some (street 101)) ∷ [])
+      ∷ (key.Street 102, (2, Some (street 102)) ∷ []) ∷ []
   pub never_used : with_versions (key.Street 103 ∷ []) second_first ≡ (key.Street 103, []) ∷ []
   pub one_mark : same_mark (AddressOf 1001) (AddressOf 1001) ≡ true
   pub of_another : same_mark (AddressOf 1001) (AddressOf 1002) ≡ false
   pub another_mark : same_mark (AddressOf 1001) (PartOf 1001) ≡ false
-  pub marked : marked_item part_and_address (AddressOf 1002) (key.Lpi (codes "L4")) ≡ Some (lpi (codes "L4") 1002 Eng Approved 101)
+  pub marked :
+      marked_item part_and_address (AddressOf 1002) (key.Lpi (codes "L4"))
+      ≡ Some (lpi (codes "L4") 1002 Eng Approved 101)
   pub not_marked : marked_item part_and_address (AddressOf 1001) (key.Lpi (codes "L4")) ≡ None
   pub not_there : marked_item part_and_address (AddressOf 1002) (key.Lpi (codes "L5")) ≡ None
   pub its_address : is_address_of 1001 (Some (AddressOf 1001)) ≡ true

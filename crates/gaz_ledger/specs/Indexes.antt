@@ -50,11 +50,14 @@ is_under x m k = has_key (keys_under x m) k
 
 -- each item that has a mark is found under it; what else is there is passed over
 abbrev pub FindsAll : Index → List (Key × Item) → Type 0
-FindsAll x es = (m : Mark) → (k : Key) → IfSome (find key_cmp k es) (λ i. has_mark m i ≡ true → is_under x m k ≡ true)
+FindsAll x es =
+    (m : Mark) → (k : Key)
+    → IfSome (find key_cmp k es) (λ i. has_mark m i ≡ true → is_under x m k ≡ true)
 
 -- the item under the key, where it has the mark
 abbrev pub marked_item : List (Key × Item) → Mark → Key → Option Item
-marked_item es m k = option_and_then (λ i. if has_mark m i then Some i else None) (find key_cmp k es)
+marked_item es m k =
+    option_and_then (λ i. if has_mark m i then Some i else None) (find key_cmp k es)
 
 -- whether an item with the mark stands under the key
 abbrev pub marked_at : List (Key × Item) → Mark → Key → Bool

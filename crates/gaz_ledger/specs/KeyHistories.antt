@@ -31,7 +31,8 @@ versions_at g k = unwrap_or (finite.get g k) []
 
 -- these are the versions of a key now, and all others are as they were
 abbrev pub ChangesAt : KeyHistories → KeyHistories → Key → ItemVersions → Type 0
-ChangesAt old new key vs = (k : Key) → versions_at new k ≡ (if eq_by_cmp key_cmp key k then vs else versions_at old k)
+ChangesAt old new key vs =
+    (k : Key) → versions_at new k ≡ (if eq_by_cmp key_cmp key k then vs else versions_at old k)
 
 -- ---- as it is kept: entries in any order, and their keys in order beside them
 
@@ -45,7 +46,9 @@ with_versions ks es = map (λ k. (k, versions_among es k)) ks
 
 -- a key is among these just where there is an entry of it
 abbrev pub HasJustTheKeysOf : List Key → List (Key × ItemVersions) → Type 0
-HasJustTheKeysOf ks es = (k : Key) → list_any (eq_by_cmp key_cmp k) ks ≡ is_some (lookup (eq_by_cmp key_cmp k) es)
+HasJustTheKeysOf ks es =
+    (k : Key)
+    → list_any (eq_by_cmp key_cmp k) ks ≡ is_some (lookup (eq_by_cmp key_cmp k) es)
 
 -- ---- the view after a volume
 
@@ -55,11 +58,13 @@ rows_at es volume = filter_map (λ e. option_map (λ i. (e.0, i)) (standing_at e
 
 -- the items of a kind among such rows that come after a key
 abbrev pub items_after : Kind → Option Key → List (Key × Item) → List Item
-items_after kind after rows = map (λ e. e.1) (filter (λ e. is_of kind e.0 && comes_after after e.0) rows)
+items_after kind after rows =
+    map (λ e. e.1) (filter (λ e. is_of kind e.0 && comes_after after e.0) rows)
 
 -- what stands at a key of the kind after a volume; nothing at keys of other kinds
 abbrev pub item_of_kind : Kind → List (Key × ItemVersions) → Key → ℕ → Option Item
-item_of_kind kind es k volume = if is_of kind k then standing_at (versions_among es k) volume else None
+item_of_kind kind es k volume =
+    if is_of kind k then standing_at (versions_among es k) volume else None
 
 -- the keys that were used until then
 abbrev pub used_at : List (Key × ItemVersions) → ℕ → List Key

@@ -6,4 +6,5 @@ use Rattle.gaz_records.specs.contracts.key.Key as key
 use Rattle.gaz_ledger.specs.KeyHistories.{KeyHistories}
 
 abbrev pub key_histories_code : Coded KeyHistories
-key_histories_code = map.code key.the_row.coded (coded_list (coded× coded_ℕ (coded_option item.the_row.coded)))
+key_histories_code =
+    map.code key.the_row.coded (coded_list (coded× coded_ℕ (coded_option item.the_row.coded)))

@@ -14,7 +14,10 @@ use Rattle.gaz_ledger.specs.declared.index.Index.{Index}
 
 -- the account of a gazetteer whose volumes have these verdicts
 abbrev pub account_at : List Verdict → KeyHistories → Account
-account_at verdicts g = record { judged = judgements verdicts (view_at g); working = view_at g (length verdicts + 1) }
+account_at verdicts g = record {
+  judged = judgements verdicts (view_at g);
+  working = view_at g (length verdicts + 1);
+}
 
 -- ---- what holds of a ledger that has reached a volume
 
@@ -28,4 +31,5 @@ pub record IsLedger (reached : ℕ) (g : KeyHistories) (x : Index) (changed : Li
   -- each version began at a volume that is judged or is being judged
   pub within : (k : Key) → All (λ v. (0 < v.0) × (v.0 ≤ reached + 1)) (versions_at g k)
   -- and at the latter only where the key was changed
-  pub touched : (k : Key) → list_any (eq_by_cmp key_cmp k) changed ≡ false → All (λ v. v.0 ≤ reached) (versions_at g k)
+  pub touched : (k : Key) → list_any (eq_by_cmp key_cmp k) changed ≡ false
+      → All (λ v. v.0 ≤ reached) (versions_at g k)

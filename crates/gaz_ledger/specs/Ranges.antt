@@ -1,19 +1,11 @@
 -- Where a page begins and ends in the order of keys.
-use Rattle.std.specs.Prelude.{ℕ, nat_lt, Bool, Option, Some, None}
+use Rattle.std.specs.Prelude.{nat_lt, Bool, Option, Some, None}
 use Rattle.std.specs.declared.ops.Bound.{Bound}
 use Rattle.std.specs.declared.ops.Bound.TheVariants.{Excluded, Unbounded}
 use Rattle.gaz_records.specs.Keys.{kind_number}
+use Rattle.gaz_records.specs.Kinds.{number_of}
 use Rattle.gaz_records.specs.declared.item.Kind.{Kind}
-use Rattle.gaz_records.specs.declared.item.Kind.TheVariants as kind
 use Rattle.gaz_records.specs.declared.key.Key.{Key}
-
--- the record identifier of a kind
-abbrev pub number_of : Kind → ℕ
-number_of kind.Street = 11
-number_of kind.Descriptor = 15
-number_of kind.Blpu = 21
-number_of kind.Xref = 23
-number_of kind.Lpi = 24
 
 -- a key, and so each one after it, is of a later kind
 abbrev pub is_past : Kind → Key → Bool

@@ -22,7 +22,7 @@ use std::marker::Model;
 #[derive(Drop)]
 pub struct CachedLedger {
     ledger: Ledger,
-    // They are the same in the last view and in the working one.
+    // Each of them is so in the last view and in the working one.
     // What isn't known is read off the ledger.
     known: Properties,
     // The BLPUs of those that the next volume has changed.

@@ -38,7 +38,8 @@ fn forget_mark(
     }
 }
 
-// The same of two marks.
+// Forgets each of two marks of a key where its item has it neither in the last view nor in the
+// working one.
 fn forget(histories: &Histories, index: &mut Index, reached: u64, key: &Key, marks: Marks)
     requires { reached < 2 ^ 64 - 1 }
     ensures { Finds index.old histories.now reached → Finds index.new histories.now reached }

@@ -22,7 +22,7 @@ use std::marker::Model;
 pub struct Histories {
     alloc: Global,
     by_key: HashMap<SortKey, History<SharedItem>, Seed>,
-    // The same keys, in their order: pages go by it, and all else by the hashes.
+    // The keys of `by_key`, in their order: pages go by it, and all else by the hashes.
     order: BTreeSet<SortKey>,
 }
 
@@ -128,7 +128,8 @@ impl Histories {
         }
     }
 
-    // The same, and answers whether a history without versions is left.
+    // Forgets what began at a key at a volume or after it, and answers whether a history without
+    // versions is left.
     fn cut_there(&mut self, volume: u64, key: &Key) -> bool
         ensures changes { CutsAt self.old self.new volume key.now }
         ensures empty { OnTrue result (versions_at self.new key.now ≡ []) }

@@ -41,7 +41,8 @@ impl Model for Ledger {
 
     ghost view = { λ l. account_at l.verdicts.items l.histories };
 
-    ghost invariant = { λ l. IsLedger (length l.verdicts.items) l.histories l.index l.touched.items };
+    ghost invariant = { λ l.
+        IsLedger (length l.verdicts.items) l.histories l.index l.touched.items };
 }
 
 impl Ledger {

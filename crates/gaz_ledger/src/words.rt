@@ -4,7 +4,7 @@ ghost use Rattle.std.specs.List.Sorted.{IsStrictlySortedBy};
 ghost use Rattle.gaz_views.specs.Words.{comes_after, is_approved_of, is_approved_on, is_child_of};
 ghost use Rattle.gaz_views.specs.Words.{is_in, is_of};
 ghost use Rattle.gaz_ledger.specs.KeyHistories.{item_of_kind, items_after, rows_at, with_versions};
-ghost use Rattle.gaz_ledger.specs.Ranges.{is_past, number_of, start_after};
+ghost use Rattle.gaz_ledger.specs.Ranges.{is_past, start_after};
 
 use crate::seed::Seed;
 use gaz_histories::History;
@@ -56,7 +56,7 @@ pub fn is_child_of(uprn: Uprn, item: &Item) -> bool
 fn is_of(kind: Kind, key: &SortKey) -> bool
     ensures { result ≡ is_of kind key.now }
 {
-    key.kind_number() == number_of(kind)
+    key.kind_number() == kind.number()
 }
 
 /// These keys stand in their order.
@@ -66,24 +66,11 @@ pub fn in_order(order: &BTreeSet<SortKey>)
     let _count = order.len();
 }
 
-// The record identifier of a kind.
-fn number_of(kind: Kind) -> u64
-    ensures { result ≡ number_of kind }
-{
-    match kind {
-        Kind::Street => 11,
-        Kind::Descriptor => 15,
-        Kind::Blpu => 21,
-        Kind::Xref => 23,
-        Kind::Lpi => 24,
-    }
-}
-
 // Whether all keys from this one on are of later kinds.
 fn is_past(kind: Kind, key: &SortKey) -> bool
     ensures { result ≡ is_past kind key.now }
 {
-    number_of(kind) < key.kind_number()
+    kind.number() < key.kind_number()
 }
 
 // Where a page begins.

@@ -5,8 +5,7 @@ use Rattle.std.specs.declared.cmp.Ordering.{Ordering}
 use Rattle.std.specs.declared.cmp.Ordering.TheVariants.{Less, Equal, Greater}
 use Rattle.gaz_ids.specs.declared.lang.Lang.TheVariants.{Cym, Eng}
 use Rattle.gaz_records.specs.Keys.{key_cmp}
-pub use Rattle.gaz_records.specs.KeyTies.{keys_exact}
-pub use Rattle.gaz_records.specs.SortKeys.{keys_total}
+pub use Rattle.gaz_records.specs.KeyTies.{keys_exact, keys_total}
 use Rattle.gaz_records.specs.declared.key.Key.{Key}
 use Rattle.gaz_records.specs.contracts.key.KeyOrd.TheImpl.{cmp-value}
 use Rattle.gaz_records.specs.declared.key.Key.TheVariants as key

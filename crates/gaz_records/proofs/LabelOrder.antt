@@ -92,7 +92,7 @@ by_word (suc n) (x ∷ xs) (y ∷ ys) e h k =
     (λ o l. rw (o, l, behind (y * p) (word n xs) (word n ys)) (by_word n xs ys (omega arith) (rest_bytes x xs h) (rest_bytes y ys k)))
     (λ o l. rw (o, greater _ _ (ahead y x p _ (word n xs) there l)) refl))
 
--- the same from one word on
+-- bytes from a word on compare by that word, and then by the bytes behind it
 pub by_word_at : (i : ℕ) (xs ys : List ℕ) → length xs ≡ length ys → AreBytes xs → AreBytes ys → slice_cmp nat_cmp (drop (4 * i) xs) (drop (4 * i) ys) ≡ ordering_then (nat_cmp (word 4 (drop (4 * i) xs)) (word 4 (drop (4 * i) ys))) (slice_cmp nat_cmp (drop (4 * (i + 1)) xs) (drop (4 * (i + 1)) ys))
 by_word_at i xs ys e h k =
     let size : length (drop (4 * i) xs) ≡ length (drop (4 * i) ys) = rw (length-drop (4 * i) xs, length-drop (4 * i) ys, e) refl in

@@ -14,10 +14,10 @@ pub record CivilDay : Type 0 where
 
 -- the calendar has it, from the year 1
 abbrev pub is_day : CivilDay → Bool
-is_day d =
-    nat_le 1 d.year && nat_le d.year 9999 && nat_le 1 d.month && nat_le d.month 12
-    && nat_le 1 d.day && nat_le d.day 31
-    && nat_le d.day (days_in_month (pos d.year) d.month)
+is_day date =
+    nat_le 1 date.year && nat_le date.year 9999 && nat_le 1 date.month && nat_le date.month 12
+    && nat_le 1 date.day && nat_le date.day 31
+    && nat_le date.day (days_in_month (pos date.year) date.month)
 
 -- no date, for where there is none to tell
 abbrev pub no_day : CivilDay
@@ -25,7 +25,7 @@ no_day = record { year = 0; month = 0; day = 0 }
 
 abbrev pub are_days : Option CivilDay → Bool
 are_days None = true
-are_days (Some d) = is_day d
+are_days (Some date) = is_day date
 
 abbrev pub day_of : ℕ → ℕ → ℕ → Option CivilDay
 day_of year month day =
@@ -51,15 +51,15 @@ abbrev pub four : ℕ → List ℕ
 four n = (48 + n / 1000) ∷ (48 + n / 100 % 10) ∷ (48 + n / 10 % 10) ∷ (48 + n % 10) ∷ []
 
 abbrev pub date_text : CivilDay → List ℕ
-date_text d = four d.year ++ (45 ∷ (two d.month ++ (45 ∷ two d.day)))
+date_text date = four date.year ++ (45 ∷ (two date.month ++ (45 ∷ two date.day)))
 
 abbrev pub end_text : Option CivilDay → List ℕ
 end_text None = []
-end_text (Some d) = date_text d
+end_text (Some date) = date_text date
 
 -- one date isn't after another
 abbrev pub stamp : CivilDay → ℕ
-stamp d = (d.year * 100 + d.month) * 100 + d.day
+stamp date = (date.year * 100 + date.month) * 100 + date.day
 
 abbrev pub day_le : CivilDay → CivilDay → Bool
 day_le a b = nat_le (stamp a) (stamp b)

@@ -20,8 +20,8 @@ ok_of (Err e) = None
 
 -- the value, which is there where all forms fit
 abbrev pub value_or : {A : Type 0} → A → Option A → A
-value_or d None = d
-value_or d (Some x) = x
+value_or otherwise None = otherwise
+value_or otherwise (Some x) = x
 
 -- the fields, where there are so many
 abbrev pub counted : ℕ → List (List ℕ) → Result (List (List ℕ)) FieldFault
@@ -32,7 +32,7 @@ abbrev pub TellsField : {A : Type 0} → Result A FieldFault → ℕ → Option 
 TellsField (Ok x) i said = said ≡ Some x
 TellsField (Err e) i said = (said ≡ None) × (e ≡ fault.Form (i + 1))
 
--- the same, or want of memory
+-- what the field at a place says, or that it has a wrong form, or want of memory
 abbrev pub TellsFieldOrMemory : {A : Type 0} → Result A FieldFault → ℕ → Option A → Type 0
 TellsFieldOrMemory (Ok x) i said = said ≡ Some x
 TellsFieldOrMemory (Err e) i said = (e ≡ fault.Memory) ⊎ ((said ≡ None) × (e ≡ fault.Form (i + 1)))

@@ -1,9 +1,11 @@
--- Keys that tie are one, and so are hashed alike.
-use Rattle.std.proofs.Common.{◌≡◌, ℕ, Bool, true, List, [], ◌∷◌, ◌++◌, refl, sym, ap, ◌∙◌, cond}
+-- Lemmas, and nothing to believe: the order of keys is total; keys that tie are one, and so are
+-- hashed alike. The impls of `SortKey` cite them, and may cite of their own crate specs/ alone.
+use Rattle.std.proofs.Common.{◌≡◌, ℕ, true, List, [], ◌∷◌, refl, sym, ap, ◌∙◌, cond}
 use Rattle.std.proofs.Common.{eqb}
+use Rattle.std.proofs.lemmas.Cmp.{on_total, then_total, nat_list_cmp_total}
 use Rattle.std.proofs.lemmas.Map.Lookups.{exact_bytes, exact_unsigned}
-use Rattle.std.specs.Hash as fed
-use Rattle.std.specs.Hash.{Alike, HashWrites}
+use Rattle.std.specs.Cmp.{IsTotalOrder, nat_cmp_total}
+use Rattle.std.specs.Hash.{Alike}
 use Rattle.std.specs.Ordering.{eq_by_cmp, is_eq, nat_cmp, ordering_then}
 use Rattle.std.specs.declared.cmp.Ordering.{Ordering}
 use Rattle.std.specs.declared.cmp.Ordering.TheVariants.{Less, Equal, Greater}
@@ -11,7 +13,7 @@ use Rattle.gaz_ids.specs.declared.lang.Lang.{Lang}
 use Rattle.gaz_ids.specs.declared.lang.Lang.TheVariants.{Cym, Eng}
 use Rattle.gaz_records.specs.Keys.{key_cmp, kind_number, number_in, text_in}
 use Rattle.gaz_records.specs.Kinds.{number_of}
-use Rattle.gaz_records.specs.SortKeys.{high_of, low_of}
+use Rattle.gaz_records.specs.SortKeys.{written}
 use Rattle.gaz_records.specs.declared.item.Kind.TheVariants as kinds
 use Rattle.gaz_records.specs.declared.key.Key.{Key}
 use Rattle.gaz_records.specs.declared.key.Key.TheVariants as key
@@ -51,14 +53,16 @@ keys_exact a b e =
     let texts = exact_bytes _ _ second.1 in
     sym (made-parts a) ∙ (λ i. made (kinds i) (numbers i) (texts i)) ∙ made-parts b
 
+-- the order of keys is total
+pub keys_total : IsTotalOrder key_cmp
+keys_total =
+    then_total (on_total kind_number nat_cmp_total)
+    (then_total (on_total number_in nat_cmp_total) (on_total text_in nat_list_cmp_total))
+
 tied : (o : Ordering) → is_eq o ≡ true → o ≡ Equal
 tied Less e = cc
 tied Equal e = refl
 tied Greater e = cc
-
--- what a hasher of a key takes: its two numbers
-abbrev pub written : Key → HashWrites
-written k = fed.u64 (high_of k) ++ fed.u64 (low_of k)
 
 pub keys_alike : Alike (eq_by_cmp key_cmp) written
 keys_alike = record { fed = λ a b h. ap written (keys_exact a b (tied (key_cmp a b) h)) }

@@ -3,20 +3,14 @@ use Rattle.std.specs.Prelude.{◌≡◌, codes, ℕ, zero, suc, ◌+◌, ◌*◌
 use Rattle.std.specs.Prelude.{if◌then◌else◌, Bool, true, List, [], ◌∷◌, ◌++◌, take, drop}
 use Rattle.gaz_ids.specs.declared.lang.Lang.{Lang}
 use Rattle.gaz_ids.specs.declared.lang.Lang.TheVariants.{Cym, Eng}
-use Rattle.std.proofs.lemmas.Cmp.{on_total, then_total, nat_list_cmp_total}
-use Rattle.std.specs.Cmp.{IsTotalOrder, nat_cmp_total}
-use Rattle.gaz_records.specs.Keys.{key_cmp, kind_number, number_in, text_in}
+use Rattle.std.specs.Hash as fed
+use Rattle.std.specs.Hash.{HashWrites}
+use Rattle.gaz_records.specs.Keys.{kind_number, number_in}
 use Rattle.gaz_records.specs.Kinds.{number_of}
 use Rattle.gaz_records.specs.Labels.{before_zero, is_label, padded, word}
 use Rattle.gaz_records.specs.declared.item.Kind.TheVariants as kinds
 use Rattle.gaz_records.specs.declared.key.Key.{Key}
 use Rattle.gaz_records.specs.declared.key.Key.TheVariants as key
-
--- the order of keys is total
-pub keys_total : IsTotalOrder key_cmp
-keys_total =
-    then_total (on_total kind_number nat_cmp_total)
-    (then_total (on_total number_in nat_cmp_total) (on_total text_in nat_list_cmp_total))
 
 -- numbers of 7 bytes
 abbrev pub seven_bytes : ℕ
@@ -51,6 +45,10 @@ low_of (key.Descriptor n l) = lang_rank l
 low_of (key.Blpu n) = 0
 low_of (key.Xref t) = second_half t
 low_of (key.Lpi t) = second_half t
+
+-- what a hasher of a key takes: its two numbers
+abbrev pub written : Key → HashWrites
+written k = fed.u64 (high_of k) ++ fed.u64 (low_of k)
 
 -- a text in a key is a label
 abbrev pub has_label : Key → Bool

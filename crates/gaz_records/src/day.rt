@@ -20,10 +20,10 @@ impl Model for Day {
 
     ghost Value = { CivilDay };
 
-    ghost view = { λ d. record { year = d.year; month = d.month; day = d.day } };
+    ghost view = { λ date. record { year = date.year; month = date.month; day = date.day } };
 
-    ghost invariant = { λ d.
-        is_day (record { year = d.year; month = d.month; day = d.day }) ≡ true };
+    ghost invariant = { λ date.
+        is_day (record { year = date.year; month = date.month; day = date.day }) ≡ true };
 
     ghost inverse = { λ v. record { year = v.year; month = v.month; day = v.day } };
 }

@@ -13,6 +13,8 @@ mod label;
 pub mod laws;
 mod lpi;
 mod reading;
+mod reading_codes;
+mod reading_texts;
 mod row;
 mod shared;
 mod sort_key;

@@ -30,7 +30,7 @@ impl SharedItem {
         Ok(SharedItem { item })
     }
 
-    /// The same item for one more; a fault where nobody can count them any more.
+    /// This item for one more sharer; a fault where no more of them can be counted.
     pub fn share(&self) -> Result<SharedItem, AllocError>
         ensures { IfOk result (λ s. s ≡ self.now) }
     {

@@ -1,0 +1,120 @@
+//! What a field says that is a number, a language, a status or a date.
+ghost use Rattle.std.specs.Prelude.{◌≡◌, ◌≤◌, ◌-◌, is_some, IfOk, Some, true};
+ghost use Rattle.gaz_records.specs.Days.{ends_by};
+ghost use Rattle.gaz_records.specs.Fields.{TellsField};
+ghost use Rattle.gaz_records.specs.Forms.{BlpuStatus, Date, Digits, EndDate, Language, LpiStatus};
+ghost use Rattle.gaz_records.specs.Forms.{Opt, of_blpu, says};
+
+use crate::day::Day;
+use crate::fields::FieldFault;
+use crate::reading::{Fields, bad};
+use gaz_ids::{Lang, Number, Status};
+
+impl<'a> Fields<'a> {
+    #[tactic(auto, unfolding(crate::specs::Forms::says))]
+    /// A number.
+    pub fn number<const KIND: u64, const WIDTH: u64, const LOW: u64, const HIGH: u64>(
+        &self,
+        i: usize,
+    ) -> Result<Number<KIND, WIDTH, LOW, HIGH>, FieldFault>
+        requires width { WIDTH ≤ 18 }
+        requires place { i ≤ 16 }
+        ensures { TellsField result i (says (Digits WIDTH LOW HIGH) self.now i) }
+    {
+        match Number::read(self.get(i)) {
+            Ok(n) => Ok(n),
+            Err(_) => Err(bad(i)),
+        }
+    }
+
+    #[tactic(auto, unfolding(crate::specs::Forms::says))]
+    /// A number that may be left out.
+    pub fn opt_number<const KIND: u64, const WIDTH: u64, const LOW: u64, const HIGH: u64>(
+        &self,
+        i: usize,
+    ) -> Result<Option<Number<KIND, WIDTH, LOW, HIGH>>, FieldFault>
+        requires width { WIDTH ≤ 18 }
+        requires place { i ≤ 16 }
+        ensures { TellsField result i (says (Opt (Digits WIDTH LOW HIGH)) self.now i) }
+    {
+        if self.get(i).is_empty() {
+            return Ok(None);
+        }
+        match Number::read(self.get(i)) {
+            Ok(n) => Ok(Some(n)),
+            Err(_) => Err(bad(i)),
+        }
+    }
+
+    #[tactic(auto, unfolding(crate::specs::Forms::says))]
+    /// A language.
+    pub fn lang(&self, i: usize) -> Result<Lang, FieldFault>
+        requires { i ≤ 16 }
+        ensures { TellsField result i (says Language self.now i) }
+    {
+        match Lang::read(self.get(i)) {
+            Some(lang) => Ok(lang),
+            None => Err(bad(i)),
+        }
+    }
+
+    #[tactic(auto, unfolding(crate::specs::Forms::says))]
+    /// The status of an LPI.
+    pub fn lpi_status(&self, i: usize) -> Result<Status, FieldFault>
+        requires { i ≤ 16 }
+        ensures { TellsField result i (says LpiStatus self.now i) }
+    {
+        match Status::read(self.get(i)) {
+            Some(status) => Ok(status),
+            None => Err(bad(i)),
+        }
+    }
+
+    #[tactic(auto, unfolding(crate::specs::Forms::says))]
+    /// The status of a BLPU.
+    pub fn blpu_status(&self, i: usize) -> Result<Status, FieldFault>
+        requires { i ≤ 16 }
+        ensures tells { TellsField result i (says BlpuStatus self.now i) }
+        ensures kept { IfOk result (λ status. is_some (of_blpu status) ≡ true) }
+    {
+        match Status::read(self.get(i)) {
+            Some(Status::Alternative) | None => Err(bad(i)),
+            Some(status) => Ok(status),
+        }
+    }
+
+    #[tactic(auto, unfolding(crate::specs::Forms::says))]
+    /// A date.
+    pub fn day(&self, i: usize) -> Result<Day, FieldFault>
+        requires { i ≤ 16 }
+        ensures { TellsField result i (says Date self.now i) }
+    {
+        match Day::read(self.get(i)) {
+            Some(day) => Ok(day),
+            None => Err(bad(i)),
+        }
+    }
+
+    #[tactic(auto, unfolding(crate::specs::Forms::says))]
+    /// An end date that may be left out, not before the start date in the field before.
+    pub fn end_day(&self, i: usize, start: &Day) -> Result<Option<Day>, FieldFault>
+        requires place { i ≤ 16 }
+        requires start { says Date self.now (i - 1) ≡ Some start.now }
+        ensures tells { TellsField result i (says (Opt EndDate) self.now i) }
+        ensures order { IfOk result (λ end. ends_by start.now end ≡ true) }
+    {
+        if self.get(i).is_empty() {
+            return Ok(None);
+        }
+        match Day::read(self.get(i)) {
+            Some(end) => {
+                if start.is_by(&end) {
+                    Ok(Some(end))
+                } else {
+                    Err(bad(i))
+                }
+            }
+            None => Err(bad(i)),
+        }
+    }
+}
