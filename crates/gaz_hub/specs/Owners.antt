@@ -25,7 +25,7 @@ pub record OwnersAlone : Type 0 where
   -- on a partial board only who can have a property has it
   pub have : (register : RegisterValue) (files : Received) (board : Board) (c uprn : ℕ)
       → IsPartial (blocks_of register) files board
-          → holds (last_view board c) (key.Blpu uprn) ≡ true
+      → holds (last_view board c) (key.Blpu uprn) ≡ true
       → can_have board register uprn c ≡ true
   -- that is the custodian in whose blocks its number lies
   pub can : (register : RegisterValue) (board : Board) (c uprn : ℕ) → IsRegister register
