@@ -1,5 +1,5 @@
 -- What the definitions come to on worked examples.
-use Rattle.std.proofs.Common.{◌≡◌, ◌∙◌, ◌<◌, ◌^◌, ℕ, Bool, true, false, cond, true≢false, ap, sym, refl, arith, lit<, List, [], ◌∷◌, length, get_or}
+use Rattle.std.proofs.Common.{◌≡◌, ◌∙◌, ◌<◌, ◌^◌, ℕ, true, false, cond, true≢false, ap, sym, refl, arith, lit<, List, [], ◌∷◌, length, get_or}
 use Rattle.std.specs.Prelude.{Some, None, fold, codes, decimal}
 use Rattle.std.proofs.lemmas.Fmt.{decimal-digits_value}
 use Rattle.std.specs.Str.{all_ascii_digits}

@@ -20,7 +20,7 @@ use Rattle.gaz_rules.specs.Judging.{bases_of, judge}
 use Rattle.gaz_rules.specs.Sound.{AllHoldOwn}
 use Rattle.gaz_rules.proofs.OwnNumbers.{own_numbers_stay_holds}
 use Rattle.gaz_extract.specs.Readings.{Looks}
-use Rattle.gaz_hub.specs.Hubs.{AreKnown, MayHave, StandsFor, door_of}
+use Rattle.gaz_hub.specs.Hubs.{AreKnown, MayHave, door_of}
 use Rattle.gaz_hub.specs.Settling.{Advances, IsAll, IsNext, IsReadyAs, Tells, Tries}
 use Rattle.gaz_hub.specs.Standing.{Follows, Leads, NothingReady, Register, judge_one, judgement_after, next_reading, ready, with_next}
 use Rattle.gaz_hub.specs.Step.{Door, blocks}

@@ -26,7 +26,10 @@ fn is_asked(
         Err(_) => return Err(Fail::from("a fault")),
     };
     assert_eq!(rt; found.map(|found| found.custodian.number()), custodian);
-    assert_eq!(rt; hub.shelf().counted().property_of, before.saturating_add(asked));
+    assert_eq!(rt;
+        hub.shelf().counted().property_of,
+        before.saturating_add(asked)
+    );
     Ok(())
 }
 

@@ -63,7 +63,11 @@ fn submits<K: Inbox + Drop>(
     ensures { OnOk result (IsNotOpen (K.seen hub.new.keeper).progress) }
 {
     let file = file_on(rt.alloc(), pair.0, pair.1, bases)?;
-    assert_eq!(rt; hub.submit(pair.0, pair.1, file.as_bytes()), answer, "{pair:?}");
+    assert_eq!(rt;
+        hub.submit(pair.0, pair.1, file.as_bytes()),
+        answer,
+        "{pair:?}"
+    );
     Ok(())
 }
 
@@ -74,7 +78,11 @@ fn nobody_is_looked_at_in_vain(rt: HostRuntime) -> Result<(), Fail> {
     let before = asked(&hub);
     assert!(rt; before >= CUSTODIANS, "everyone is looked at once");
     let _settled = hub.status(2)?;
-    assert_eq!(rt; asked(&hub).saturating_sub(before), 3, "what is told of 2, and nothing else");
+    assert_eq!(rt;
+        asked(&hub).saturating_sub(before),
+        3,
+        "what is told of 2, and nothing else"
+    );
     let before = asked(&hub);
     submits(&rt, &mut hub, (7, 1), &[], APPLIED)?;
     assert!(rt; asked(&hub).saturating_sub(before) <= 12, "nobody waits");
@@ -85,7 +93,13 @@ fn nobody_is_looked_at_in_vain(rt: HostRuntime) -> Result<(), Fail> {
 fn who_waits_is_looked_at_once(rt: HostRuntime) -> Result<(), Fail> {
     let mut hub = hub_of_400(rt.alloc())?;
     for code in [10, 200, 400] {
-        submits(&rt, &mut hub, (code, 1), &[(7, 1)], Answer::New(held(7, 1)?))?;
+        submits(
+            &rt,
+            &mut hub,
+            (code, 1),
+            &[(7, 1)],
+            Answer::New(held(7, 1)?),
+        )?;
     }
     let before = asked(&hub);
     submits(&rt, &mut hub, (7, 1), &[], APPLIED)?;
@@ -117,7 +131,10 @@ fn three_hundred_and_ninety_nine_wait_for_one(rt: HostRuntime) -> Result<(), Fai
     }
     let before = asked(&hub);
     submits(&rt, &mut hub, (CUSTODIANS, 1), &[], APPLIED)?;
-    assert!(rt; asked(&hub).saturating_sub(before) <= 6 * CUSTODIANS, "each is looked at");
+    assert!(rt;
+        asked(&hub).saturating_sub(before) <= 6 * CUSTODIANS,
+        "each is looked at"
+    );
     for code in 1..=CUSTODIANS {
         assert_eq!(rt; hub.status(code)?.judged, 1);
     }

@@ -2,7 +2,6 @@ use Rattle.std.proofs.Common.{◌≡◌, ◌∙◌, ap, sym, true, Bool, cond}
 use Rattle.std.specs.Prelude.{Some, None}
 use Rattle.gaz_records.specs.Lpis.{LpiValue}
 use Rattle.gaz_extract.specs.Closing.{closed_by, is_on_closed}
-use Rattle.gaz_extract.specs.declared.closed.Closed.{Closed}
 use Rattle.gaz_extract.proofs.closed.closed_by.Goals as goal
 
 pub returns-clause-tells : goal.returns-clause-tells
