@@ -1,0 +1,5 @@
+pub mod Laid
+pub mod Questions
+pub mod Making
+pub mod Rows
+pub mod Kept

@@ -1,0 +1,38 @@
+-- What is asked of a view, answered for a laid view from answers for the last one and for the changes.
+use Rattle.std.specs.Prelude.{◌≡◌, ◌||◌, ◌++◌, ℕ, Bool, List, map, filter, Option, option_map, if◌then◌else◌}
+use Rattle.std.specs.FinMap as finite
+use Rattle.std.specs.List.{list_any}
+use Rattle.gaz_ids.specs.declared.lang.Lang.{Lang}
+use Rattle.gaz_records.specs.Keys.{key_cmp}
+use Rattle.gaz_records.specs.declared.item.Item.{Item}
+use Rattle.gaz_records.specs.declared.key.Key.{Key}
+use Rattle.gaz_views.specs.Lawful.{IsLawfulView}
+use Rattle.gaz_views.specs.View.{View}
+use Rattle.gaz_views.specs.Words.{approved_of, approved_on, entries, has_children, is_approved_on, is_child_of}
+use Rattle.gaz_overlay.specs.Laid.{laid, untouched}
+
+-- these keys, each once, in their order
+abbrev pub in_order : List Key → List Key
+in_order ks = finite.keys (finite.from_entries {X = Unit {0}} {R = key_cmp} (map (λ k. (k, tt)) ks))
+
+-- the keys of the items that pass a test, in the order of keys
+abbrev pub keys_with : (Item → Bool) → View → List Key
+keys_with p v = map (λ e. e.0) (filter (λ e. p e.1) (entries v))
+
+-- an item passes a test
+abbrev pub any_with : (Item → Bool) → View → Bool
+any_with p v = list_any (λ e. p e.1) (entries v)
+
+-- those of the view's keys that the changes haven't used, and those of the changes
+abbrev pub both : View → List Key → List Key → List Key
+both s last own = in_order (filter (untouched s) last ++ own)
+
+pub record LaidAnswers (v s : View) : Type 0 where
+  pub approved_of : (uprn : ℕ) → approved_of (laid v s) uprn ≡ both s (approved_of v uprn) (approved_of s uprn)
+  pub approved_on : (usrn : ℕ) (lang : Option Lang)
+      → approved_on (laid v s) usrn lang ≡ (list_any (untouched s) (keys_with (is_approved_on usrn lang) v) || approved_on s usrn lang)
+  pub has_children : (uprn : ℕ) → has_children (laid v s) uprn ≡ (list_any (untouched s) (keys_with (is_child_of uprn) v) || has_children s uprn)
+
+-- each question of a laid view is answered from what the last view and the changes answer
+abbrev pub LaidQuestions : Type 0
+LaidQuestions = (v s : View) → IsLawfulView s → LaidAnswers v s
