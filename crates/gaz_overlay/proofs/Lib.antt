@@ -3,3 +3,4 @@ pub mod Questions
 pub mod Making
 pub mod Rows
 pub mod Kept
+pub mod Examples

@@ -26,16 +26,16 @@ use Rattle.gaz_overlay.specs.declared.touch.Writing.{Writing}
 use Rattle.gaz_overlay.proofs.Laid.{at_key, besides, same_view, tie, used_at}
 use Rattle.gaz_overlay.proofs.Making.{unused}
 
-abbrev Rows : Type 0
+abbrev pub Rows : Type 0
 Rows = List HistoryRow
 
 -- ---- what stands at a key, by the rows in turn
 
-abbrev stands : ℕ → Key → Rows → Option Item
+abbrev pub stands : ℕ → Key → Rows → Option Item
 stands t q [] = None
 stands t q (r ∷ rows) = cond (holds_after t r && tie q r.key) (Some r.item) (stands t q rows)
 
-abbrev uses : ℕ → Key → Rows → Bool
+abbrev pub uses : ℕ → Key → Rows → Bool
 uses t q [] = false
 uses t q (r ∷ rows) = (is_born_by t r && tie q r.key) || uses t q rows
 
@@ -55,11 +55,11 @@ uses_is t q (r ∷ rows) =
       | false ↦ uses_is t q rows
     ]
 
-item_after : (rows : Rows) (t : ℕ) (q : Key) → finite.get (view_after rows t).items q ≡ stands t q rows
+pub item_after : (rows : Rows) (t : ℕ) (q : Key) → finite.get (view_after rows t).items q ≡ stands t q rows
 unfolding view_after
 item_after rows t q = finite.get-from_entries keys_total (map (λ r. (r.key, r.item)) (filter (holds_after t) rows)) q ∙ stands_is t q rows
 
-used_after : (rows : Rows) (t : ℕ) (q : Key) → was_used (view_after rows t) q ≡ uses t q rows
+pub used_after : (rows : Rows) (t : ℕ) (q : Key) → was_used (view_after rows t) q ≡ uses t q rows
 unfolding view_after
 used_after rows t q = set.contains-from_list keys_total (map (λ r. r.key) (filter (is_born_by t) rows)) q ∙ uses_is t q rows
 
@@ -320,22 +320,22 @@ last_stands b i p y w empty used one = ap (λ o. besides o (cond (is_some y) (So
     is_one None h = refl
     is_one (Some z) h = sym (h refl)
 
-after_item : (b : Option ℕ) (last : Option Item) (k : Key) (p : Option Item) (u : Bool) (y : Option Item) (w : Bool) → (b ≡ None → p ≡ None) → (is_some b ≡ true → w ≡ true)
+item_written : (b : Option ℕ) (last : Option Item) (k : Key) (p : Option Item) (u : Bool) (y : Option Item) (w : Bool) → (b ≡ None → p ≡ None) → (is_some b ≡ true → w ≡ true)
     → IsLast last k (record { item = p; used = u }) (record { item = y; used = w })
     → besides (cond (is_some (cond (is_some last || not (is_some y)) b None)) None p) (current_item (option_map (λ i. record { item = i; current = is_some y }) last)) ≡ cond w y p
-after_item None None k None u None w empty copied h = none_either w
-after_item None None k (Some x) u None w empty copied h = let none : Some x ≡ None = empty refl in cc
-after_item (Some b) None k p u None true empty copied h = refl
-after_item (Some b) None k p u None false empty copied h = absurd (true≢false (sym (copied refl)))
-after_item b None k p u (Some y) w empty copied h = copied_stays p y w (h.1 refl)
-after_item b (Some i) k p u y w empty copied h = last_stands b i p y w empty h.0 h.1
+item_written None None k None u None w empty copied h = none_either w
+item_written None None k (Some x) u None w empty copied h = let none : Some x ≡ None = empty refl in cc
+item_written (Some b) None k p u None true empty copied h = refl
+item_written (Some b) None k p u None false empty copied h = absurd (true≢false (sym (copied refl)))
+item_written b None k p u (Some y) w empty copied h = copied_stays p y w (h.1 refl)
+item_written b (Some i) k p u y w empty copied h = last_stands b i p y w empty h.0 h.1
 
-after_used : (last : Option Item) (k : Key) (p : Option Item) (u : Bool) (y : Option Item) (w : Bool) → IsLast last k (record { item = p; used = u }) (record { item = y; used = w })
+use_written : (last : Option Item) (k : Key) (p : Option Item) (u : Bool) (y : Option Item) (w : Bool) → IsLast last k (record { item = p; used = u }) (record { item = y; used = w })
     → (u || is_some (option_map (λ i. let r : NewRow = record { item = i; current = is_some y } in r) last)) ≡ (u || w)
-after_used None k p true y w h = refl
-after_used None k p false y true h = absurd (true≢false (sym (h.0 refl)))
-after_used None k p false y false h = refl
-after_used (Some i) k p u y w h = ap (λ b. u || b) (sym h.0)
+use_written None k p true y w h = refl
+use_written None k p false y true h = absurd (true≢false (sym (h.0 refl)))
+use_written None k p false y false h = refl
+use_written (Some i) k p u y w h = ap (λ b. u || b) (sym h.0)
 
 no_row : (stood : Stood) (before : KeyView) → IsStood stood before → born_in stood ≡ None → before.item ≡ None
 no_row Never before h e = h.0
@@ -381,7 +381,7 @@ module _ (rows : Rows) (n : ℕ) (c : Changes) (w : View) (h : AreHistories n c 
       by_touch None is = besides_none (finite.get last.items q) ∙ ap (λ b. cond b (finite.get c.view.items q) (finite.get last.items q)) (sym (untouched_here q is))
       by_touch (Some t) is =
           let it = made.over.each q t is in
-          after_item (born_in t.stood) t.last q (finite.get last.items q) (was_used last q) (finite.get c.view.items q) (was_used c.view q)
+          item_written (born_in t.stood) t.last q (finite.get last.items q) (was_used last q) (finite.get c.view.items q) (was_used c.view q)
           (no_row t.stood (key_view last q) it.stood) (copied_here q t it t.stood refl) it.last
 
   next_used : (q : Key) → uses (n + 1) q (map (closed (n + 1) c) rows ++ filter_map (added (n + 1) c) ks) ≡ (was_used last q || was_used c.view q)
@@ -392,7 +392,7 @@ module _ (rows : Rows) (n : ℕ) (c : Changes) (w : View) (h : AreHistories n c 
     where
       by_touch : (o : Option Touch) → finite.get c.touched q ≡ o → (was_used last q || (is_some o && is_some (writing_in q o).adds)) ≡ (was_used last q || was_used c.view q)
       by_touch None is = ap (λ b. was_used last q || b) (sym (untouched_here q is))
-      by_touch (Some t) is = after_used t.last q (finite.get last.items q) (was_used last q) (finite.get c.view.items q) (was_used c.view q) (made.over.each q t is).last
+      by_touch (Some t) is = use_written t.last q (finite.get last.items q) (was_used last q) (finite.get c.view.items q) (was_used c.view q) (made.over.each q t is).last
 
   next_view : view_after (written (n + 1) c rows) (n + 1) ≡ w
   unfolding written

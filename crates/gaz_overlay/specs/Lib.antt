@@ -7,3 +7,4 @@ pub mod Making
 pub mod Rows
 pub mod Laws
 pub mod Questions
+pub mod Examples

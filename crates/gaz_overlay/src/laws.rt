@@ -1,4 +1,5 @@
 //! What a reader of the definitions may rely on.
+ghost use Rattle.gaz_overlay.specs.Examples.{WorkedExamples};
 ghost use Rattle.gaz_overlay.specs.Laws.{LaidViews};
 ghost use Rattle.gaz_overlay.specs.Making.{ChangesMake};
 ghost use Rattle.gaz_overlay.specs.Questions.{LaidQuestions};
@@ -25,4 +26,9 @@ pub fn changes_make()
 /// the views after all volumes before it.
 pub fn writings_keep()
     ensures { WritingsKeep }
+{}
+
+/// What the definitions come to on worked examples.
+pub fn worked_examples()
+    ensures { WorkedExamples }
 {}
