@@ -2,7 +2,7 @@
 use Rattle.std.proofs.Common.{◌≡◌, ◌∙◌, Bool, true, false, cond, List, map, refl, sym, ap, is_some, true≢false}
 use Rattle.std.specs.Prelude.{Option, Some, None}
 use Rattle.std.specs.BTreeMap.{is_at}
-use Rattle.std.specs.Cmp.{eq_by_cmp_equiv}
+use Rattle.std.specs.Cmp.{eq_by_cmp_equiv, tied_itself}
 use Rattle.std.specs.FinMap as finite
 use Rattle.std.specs.List.Sorted.{IsStrictlySortedBy}
 use Rattle.std.specs.Map.{keys_of, lookup}
@@ -53,6 +53,10 @@ forgotten m k x fresh = finite.same_map keys_total keys_exact (finite.remove (fi
     by_tie : (q : Key) (b : Bool) → tie q k ≡ b → cond b None (cond b (Some x) (finite.get m q)) ≡ finite.get m q
     by_tie q true is = none_of (finite.get m q) (ap (finite.contains_key m) (same_key q k is) ∙ fresh)
     by_tie q false is = refl
+
+-- a key that is noted is there
+pub noted_there : (m : Touched) (k : Key) (x : Touch) → finite.contains_key (finite.insert m k x) k ≡ true
+noted_there m k x = ap is_some (finite.get-insert keys_total m k x k) ∙ ap (λ b. is_some (cond b (Some x) (finite.get m k))) (ap is_eq (tied_itself keys_total k))
 
 -- the keys in their order
 pub keys_in_order : (m : Touched) (es : Kept) → touched_of es ≡ m → IsStrictlySortedBy key-value.it (keys_of es) → keys_of es ≡ finite.keys m

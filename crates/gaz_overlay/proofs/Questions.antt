@@ -1,28 +1,30 @@
 -- Questions of laid views.
-use Rattle.std.proofs.Common.{◌≡◌, ◌∙◌, ◌++◌, ◌||◌, ◌&&◌, Bool, true, false, not, cond, sym, ap, refl, subst, is_some, List, [], ◌∷◌, map, true≢false}
-use Rattle.std.specs.Prelude.{Option, Some, None, filter}
-use Rattle.std.specs.Cmp.{tied_itself}
+use Rattle.std.proofs.Common.{◌≡◌, ◌<◌, ◌+◌, ◌∙◌, ◌++◌, length, get_or, drop, drop-cons, add-one, ◌||◌, ◌&&◌, Bool, true, false, not, cond, sym, ap, refl, subst, ℕ, is_some, List, [], ◌∷◌, map, true≢false}
+use Rattle.std.specs.Prelude.{Option, Some, None, filter, option_map}
+use Rattle.std.specs.Cmp.{eq_by_cmp_equiv, tied_itself}
 use Rattle.std.specs.FinMap as finite
 use Rattle.std.specs.FinMap.{find}
 use Rattle.std.specs.List.{AllByRecursion, list_any}
 use Rattle.std.specs.List.Sorted.{IsStrictlySortedBy}
 use Rattle.std.specs.Map.{keys_of}
-use Rattle.std.specs.Option.{option_map_or}
+use Rattle.std.specs.Option.{option_and_then, option_map_or}
 use Rattle.std.specs.Ordering.{eq_by_cmp, is_eq}
 use Rattle.std.specs.declared.cmp.Ordering.TheVariants.{Less}
 use Rattle.gaz_ledger.proofs.KeyHistories.{view_ascends}
-use Rattle.gaz_ledger.proofs.Marked.{Ascends, rows_ascend}
+use Rattle.gaz_ledger.proofs.Marked.{Ascends, in_key_order, rows_ascend}
+use Rattle.gaz_records.specs.contracts.key.KeyOrd.TheImpl.{cmp-value as key-value}
 use Rattle.gaz_records.proofs.KeyOrder.{keys_exact, keys_total}
 use Rattle.gaz_records.specs.Keys.{key_cmp}
 use Rattle.gaz_records.specs.declared.item.Item.{Item}
 use Rattle.gaz_records.specs.declared.key.Key.{Key}
+use Rattle.gaz_records.specs.declared.key.Key.TheVariants as key
 use Rattle.gaz_views.proofs.SameKeys.{same_key}
 use Rattle.gaz_views.proofs.Trees.{entries_tree}
 use Rattle.gaz_views.specs.Lawful.{IsLawfulView}
 use Rattle.gaz_views.specs.View.{View, was_used}
-use Rattle.gaz_views.specs.Words.{entries, is_approved_of, is_approved_on, is_child_of}
+use Rattle.gaz_views.specs.Words.{address_of, approved_of, entries, first_of, property_of, is_approved_of, is_approved_on, is_child_of}
 use Rattle.gaz_overlay.specs.Laid.{laid, untouched}
-use Rattle.gaz_overlay.specs.Questions.{LaidQuestions, any_with, both, in_order, keys_with}
+use Rattle.gaz_overlay.specs.Questions.{LaidQuestions, any_with, both, in_order, keys_with, property_at}
 use Rattle.gaz_overlay.proofs.Laid.{at_key}
 
 abbrev Row : Type 0
@@ -58,6 +60,45 @@ same_order xs ys same =
 missing : (k : Key) (es : List Row) → AllByRecursion (λ y. key_cmp k y ≡ Less) (keys_of es) → find key_cmp k es ≡ None
 missing k [] h = refl
 missing k (e ∷ es) h = ap (λ r. cond (is_eq r) (Some e.1) (find key_cmp k es)) h.0 ∙ missing k es h.1
+
+-- the first of keys that come later isn't found at an earlier one
+passed_over : (e : Row) (es : List Row) (ks : List Key) → AllByRecursion (λ y. key_cmp e.0 y ≡ Less) ks → option_and_then (λ k. find key_cmp k (e ∷ es)) (first_of ks) ≡ option_and_then (λ k. find key_cmp k es) (first_of ks)
+passed_over e es [] h = refl
+passed_over e es (k ∷ ks) h = by_test (eq_by_cmp key_cmp k e.0) refl
+  where
+    by_test : (b : Bool) → eq_by_cmp key_cmp k e.0 ≡ b → cond b (Some e.1) (find key_cmp k es) ≡ find key_cmp k es
+    by_test true at =
+        let later : is_eq (key_cmp k k) ≡ false = ap (λ (q : Key). is_eq (key_cmp q k)) (same_key k e.0 at) ∙ ap is_eq h.0 in
+        let tied : true ≡ false = sym (ap is_eq (tied_itself keys_total k)) ∙ later in
+        cc
+    by_test false at = refl
+
+kept_later : (e : Row) (p : Row → Bool) (es : List Row) → AllByRecursion (λ y. key_cmp e.0 y ≡ Less) (keys_of es) → AllByRecursion (λ y. key_cmp e.0 y ≡ Less) (keys_of (filter p es))
+kept_later e p [] h = tt
+kept_later e p (f ∷ es) h =
+    elim (p f) as (λ b. AllByRecursion (λ y. key_cmp e.0 y ≡ Less) (keys_of (cond b (f ∷ filter p es) (filter p es)))) [ true ↦ (h.0, kept_later e p es h.1) | false ↦ kept_later e p es h.1 ]
+
+-- the first item that passes is the one at the first key of one that does
+first_item : (p : Row → Bool) (es : List Row) → Ascends (keys_of es) → option_map (λ e. e.1) (first_of (filter p es)) ≡ option_and_then (λ k. find key_cmp k es) (first_of (keys_of (filter p es)))
+unfolding IsStrictlySortedBy
+first_item p [] h = refl
+first_item p (e ∷ es) h =
+    elim (p e) as (λ b. option_map (λ x. x.1) (first_of (cond b (e ∷ filter p es) (filter p es))) ≡ option_and_then (λ k. find key_cmp k (e ∷ es)) (first_of (keys_of (cond b (e ∷ filter p es) (filter p es))))) [
+      | true ↦ sym (ap (λ o. cond (is_eq o) (Some e.1) (find key_cmp e.0 es)) (tied_itself keys_total e.0))
+      | false ↦ first_item p es h.1 ∙ sym (passed_over e es (keys_of (filter p es)) (kept_later e p es h.0))
+    ]
+
+address_by_key : (v : View) (uprn : ℕ) → address_of v uprn ≡ option_and_then (finite.get v.items) (first_of (approved_of v uprn))
+address_by_key v uprn = first_item (λ e. is_approved_of uprn e.1) (entries v) (view_ascends v) ∙ at_first (first_of (approved_of v uprn))
+  where
+    at_first : (o : Option Key) → option_and_then (λ k. find key_cmp k (entries v)) o ≡ option_and_then (finite.get v.items) o
+    at_first None = refl
+    at_first (Some k) = sym (finite.get-entries v.items k)
+
+property_by_key : (v : View) (uprn : ℕ) (ks : List Key) → approved_of v uprn ≡ ks → property_of v uprn ≡ property_at v uprn ks
+property_by_key v uprn ks is =
+    let address : address_of v uprn ≡ option_and_then (finite.get v.items) (first_of ks) = address_by_key v uprn ∙ ap (λ (l : List Key). option_and_then (finite.get v.items) (first_of l)) is in
+    λ i. option_map (λ blpu. record { blpu = blpu; address = address i }) (finite.get v.items (key.Blpu uprn))
 
 -- ---- lists with the keys of two
 
@@ -172,6 +213,25 @@ module _ (p : Item → Bool) where
 pub laid_questions : LaidQuestions
 laid_questions v s lawful = record {
   approved_of = λ uprn. keys_laid (is_approved_of uprn) v s lawful;
+  property_of = λ uprn. property_by_key (laid v s) uprn (both s (approved_of v uprn) (approved_of s uprn)) (keys_laid (is_approved_of uprn) v s lawful);
   approved_on = λ usrn lang. any_laid (is_approved_on usrn lang) v s lawful;
   has_children = λ uprn. any_laid (is_child_of uprn) v s lawful;
 }
+
+-- ---- keys of two lists as they are merged
+
+pub in_turn : (none mid ks xs ys : List Key) → none ≡ [] → ((q : Key) → has mid q ≡ (has none q || has xs q)) → ((q : Key) → has ks q ≡ (has mid q || has ys q)) → IsStrictlySortedBy key-value.it ks → ks ≡ in_order (xs ++ ys)
+in_turn none mid ks xs ys empty first second sorted =
+    sym (ordered ks (in_key_order ks sorted)) ∙ same_order ks (xs ++ ys) (λ q. second q ∙ ap (λ b. b || has ys q) (first q ∙ ap (λ (l : List Key). has l q || has xs q) empty) ∙ sym (has_both (eq_by_cmp key_cmp q) xs ys))
+
+turned : (a b c : Bool) → ((a || b) || c) ≡ (b || (a || c))
+turned true true c = refl
+turned true false c = refl
+turned false b c = refl
+
+-- one more key is added, and those that are left
+pub added_next : (old new xs : List Key) (i : ℕ) (x : Key) → i < length xs → x ≡ get_or xs i x → (q : Key) → has new q ≡ (eq_by_cmp key_cmp x q || has old q)
+    → (has new q || has (drop (i + 1) xs) q) ≡ (has old q || has (drop i xs) q)
+added_next old new xs i x short is q adds =
+    let next : drop i xs ≡ x ∷ drop (i + 1) xs = rw (add-one, drop-cons xs i x short, ← is) refl in
+    ap (λ b. b || has (drop (i + 1) xs) q) (adds ∙ ap (λ b. b || has old q) ((eq_by_cmp_equiv keys_total).symm x q)) ∙ turned (eq_by_cmp key_cmp q x) (has old q) (has (drop (i + 1) xs) q) ∙ ap (λ (l : List Key). has old q || has l q) (sym next)

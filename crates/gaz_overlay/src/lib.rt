@@ -3,6 +3,7 @@
 #![tactic(auto)]
 
 pub mod laws;
+mod merging;
 mod overlay;
 mod touch;
 mod touches;

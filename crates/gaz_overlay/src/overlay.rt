@@ -1,5 +1,5 @@
 //! The changes that a judgement has made so far.
-ghost use Rattle.std.specs.Prelude.{◌≡◌, ◌||◌, true, false, IfOk, OnErr, OnOk, length, option_map};
+ghost use Rattle.std.specs.Prelude.{◌≡◌, ◌||◌, true, false, IfOk, OnErr, OnOk, filter, length, option_map};
 ghost use Rattle.std.specs.FinMap as map;
 ghost use Rattle.std.specs.List.{list_any};
 ghost use Rattle.gaz_records.specs.Keys.{key_of};
@@ -8,8 +8,10 @@ ghost use Rattle.gaz_views.specs.Words.{approved_of, approved_on, has_children};
 ghost use Rattle.gaz_overlay.specs.Changes.{is_touched, no_changes, was_used_in, with_put};
 ghost use Rattle.gaz_overlay.specs.Changes.{with_taken, with_touched};
 ghost use Rattle.gaz_overlay.specs.Laid.{untouched, with_some};
+ghost use Rattle.gaz_overlay.specs.Questions.{both};
 ghost use Rattle.gaz_overlay.specs.Writings.{writing_at};
 
+use crate::merging::merged;
 use crate::touch::{Stood, Writing};
 use crate::touches::Touches;
 use gaz_ids::{Lang, Uprn, Usrn};
@@ -74,6 +76,7 @@ impl Overlay {
     ) -> Result<(), AllocError>
         requires { is_touched self.old key.now ≡ false }
         ensures ok { OnOk result (self.new ≡ with_touched self.old key.now stood item) }
+        ensures touched { OnOk result (is_touched self.new key.now ≡ true) }
         ensures err { OnErr result (self.new ≡ self.old) }
     {
         self.touches.note(key, stood)?;
@@ -146,11 +149,33 @@ impl Overlay {
         keys.iter().any(|key| !self.hides(key))
     }
 
-    /// The keys of the BLPU's approved LPIs that the changes have, in key order.
-    pub fn approved_of(&self, alloc: Global, uprn: Uprn) -> Result<Vec<Key>, AllocError>
-        ensures { IfOk result (λ keys. keys.items ≡ approved_of self.now.view uprn) }
+    // Those of these keys at which the last view has a say.
+    fn spared(&self, alloc: Global, keys: &[Key]) -> Result<Vec<Key>, AllocError>
+        ensures { IfOk result (λ spared. spared.items
+            ≡ filter (untouched self.now.view) keys.now) }
     {
-        self.ledger.ledger().approved_of(alloc, WORKING, uprn)
+        let mut spared = Vec::new(alloc);
+        for key in keys {
+            if !self.hides(key) {
+                spared.push(*key)?;
+            }
+        }
+        Ok(spared)
+    }
+
+    /// The keys of the BLPU's approved LPIs, in key order; `last` are those of the last view.
+    pub fn approved_of(
+        &self,
+        alloc: Global,
+        last: &[Key],
+        uprn: Uprn,
+    ) -> Result<Vec<Key>, AllocError>
+        ensures { IfOk result (λ keys. keys.items
+            ≡ both self.now.view last.now (approved_of self.now.view uprn)) }
+    {
+        let spared = self.spared(alloc, last)?;
+        let own = self.ledger.ledger().approved_of(alloc, WORKING, uprn)?;
+        Ok(merged(alloc, &spared, &own)?)
     }
 
     /// Whether an approved LPI is on the street, in this language where one is given; `last` are
