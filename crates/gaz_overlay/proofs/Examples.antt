@@ -1,5 +1,5 @@
 -- What the definitions come to on worked examples.
-use Rattle.std.proofs.Common.{◌≡◌, ◌∙◌, ◌||◌, Bool, true, false, cond, ap, refl, sym, is_some, List, [], ◌∷◌, ◌++◌, map}
+use Rattle.std.proofs.Common.{◌≡◌, ◌∙◌, ◌||◌, Bool, true, false, cond, ap, refl, is_some, [], ◌∷◌, ◌++◌, map}
 use Rattle.std.specs.Prelude.{Option, Some, None, option_map}
 use Rattle.std.specs.FinMap as finite
 use Rattle.std.specs.FinSet as set
@@ -17,8 +17,8 @@ use Rattle.gaz_views.proofs.Trees.{no_entries}
 use Rattle.gaz_views.specs.Examples.{one_street, street}
 use Rattle.gaz_views.specs.Lawful.{IsLawfulView}
 use Rattle.gaz_views.specs.View.{View, empty_view, was_used, with_item, without_key}
-use Rattle.gaz_overlay.specs.Changes.{Changes, Touched, no_changes, stood_in, was_there, with_put, with_touched}
-use Rattle.gaz_overlay.specs.Examples.{WorkedChanges, WorkedExamples, WorkedRows, WorkedViews, WorkedWritings, first_taken, row, second_street, three_streets, two_touched}
+use Rattle.gaz_overlay.specs.Changes.{Changes, Touched, no_changes, was_there, with_put, with_touched}
+use Rattle.gaz_overlay.specs.Examples.{WorkedChanges, WorkedExamples, WorkedRows, WorkedViews, WorkedWritings, row, three_streets, two_touched}
 use Rattle.gaz_overlay.specs.Laid.{laid, with_copied}
 use Rattle.gaz_overlay.specs.Rows.{HistoryRow, closed, added, is_of_birth, new_row, written}
 use Rattle.gaz_overlay.specs.Writings.{writing_at, writing_of}
@@ -62,7 +62,7 @@ in_turn =
 views_hold : WorkedViews
 views_hold =
     let none = laid_at (without_key (with_item empty_view (street 101)) (key.Street 101)) (lawful_taken (with_item empty_view (street 101)) (key.Street 101) (lawful_put empty_view (street 101) lawful_empty)) (key.Street 101) true None
-        (one_used (key.Street 101) (street 101)) (finite.get-remove keys_total (with_item empty_view (street 101)).items (key.Street 101) (key.Street 101)) in
+    (one_used (key.Street 101) (street 101)) (finite.get-remove keys_total (with_item empty_view (street 101)).items (key.Street 101) (key.Street 101)) in
     let used = laid_used (without_key (with_item empty_view (street 101)) (key.Street 101)) (key.Street 101) true (one_used (key.Street 101) (street 101)) in
     record {
       stays = laid_at (with_item empty_view (street 102)) (lawful_put empty_view (street 102) lawful_empty) (key.Street 101) false None (one_used (key.Street 101) (street 102)) (one (key.Street 101) (street 102));

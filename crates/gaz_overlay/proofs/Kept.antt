@@ -1,5 +1,5 @@
 -- The touched keys as they are kept: by key, in a tree.
-use Rattle.std.proofs.Common.{◌≡◌, ◌∙◌, Bool, true, false, cond, List, map, refl, sym, ap, is_some, true≢false}
+use Rattle.std.proofs.Common.{◌≡◌, ◌∙◌, Bool, true, false, cond, List, refl, sym, ap, is_some, true≢false}
 use Rattle.std.specs.Prelude.{Option, Some, None}
 use Rattle.std.specs.BTreeMap.{is_at}
 use Rattle.std.specs.Cmp.{eq_by_cmp_equiv, tied_itself}
@@ -8,7 +8,6 @@ use Rattle.std.specs.List.Sorted.{IsStrictlySortedBy}
 use Rattle.std.specs.Map.{keys_of, lookup}
 use Rattle.std.specs.Ordering.{is_eq}
 use Rattle.gaz_records.proofs.KeyOrder.{keys_exact, keys_same, keys_total}
-use Rattle.gaz_records.specs.Keys.{key_cmp}
 use Rattle.gaz_records.specs.contracts.key.KeyOrd.TheImpl.{cmp-value as key-value}
 use Rattle.gaz_records.specs.declared.key.Key.{Key}
 use Rattle.gaz_views.proofs.SameKeys.{same_key}

@@ -1,5 +1,5 @@
 -- What each change makes of the working view.
-use Rattle.std.proofs.Common.{◌≡◌, ◌∙◌, ◌||◌, ℕ, Bool, true, false, cond, sym, ap, refl, subst, is_some, true≢false}
+use Rattle.std.proofs.Common.{◌≡◌, ◌∙◌, ◌||◌, Bool, true, false, cond, sym, ap, refl, subst, is_some, true≢false}
 use Rattle.std.specs.Prelude.{Option, Some, None}
 use Rattle.std.specs.Cmp.{tied_itself}
 use Rattle.std.specs.FinMap as finite
@@ -14,11 +14,11 @@ use Rattle.gaz_views.proofs.Emptiness.{used_none}
 use Rattle.gaz_views.proofs.Lawful.{lawful_empty, lawful_put, lawful_taken}
 use Rattle.gaz_views.proofs.SameKeys.{same_key}
 use Rattle.gaz_views.specs.Lawful.{IsLawfulView}
-use Rattle.gaz_views.specs.View.{View, holds, was_used, with_item, without_key}
-use Rattle.gaz_overlay.specs.Changes.{Changes, is_touched, no_changes, stood_in, was_there, was_used_in, with_put, with_taken, with_touched}
-use Rattle.gaz_overlay.specs.Laid.{laid, with_copied, with_some}
+use Rattle.gaz_views.specs.View.{View, was_used, with_item, without_key}
+use Rattle.gaz_overlay.specs.Changes.{Changes, is_touched, no_changes, stood_in, was_there, with_put, with_taken, with_touched}
+use Rattle.gaz_overlay.specs.Laid.{laid, with_some}
 use Rattle.gaz_overlay.specs.Making.{ChangesMake, told}
-use Rattle.gaz_overlay.specs.Over.{IsLast, IsStood, IsTouch, KeyView, LieOver, Make, key_view}
+use Rattle.gaz_overlay.specs.Over.{IsLast, IsStood, IsTouch, KeyView, LieOver, key_view}
 use Rattle.gaz_overlay.specs.declared.touch.Stood.{Stood}
 use Rattle.gaz_overlay.specs.declared.touch.Stood.TheVariants.{Never, Past, Since}
 use Rattle.gaz_overlay.specs.declared.touch.Touch.{Touch}

@@ -1,5 +1,5 @@
 -- The rows of histories once a volume is kept.
-use Rattle.std.proofs.Common.{◌≡◌, ◌≢◌, ◌≤◌, ◌<◌, ◌+◌, ◌==◌, ◌∙◌, ◌++◌, ◌||◌, ◌&&◌, ◌⊎◌, inl, inr, ℕ, Bool, true, false, not, cond, nat_le, nat_lt, sym, ap, refl, subst, is_some, List, [], ◌∷◌, map, true≢false, arith}
+use Rattle.std.proofs.Common.{◌≡◌, ◌≤◌, ◌<◌, ◌+◌, ◌==◌, ◌∙◌, ◌++◌, ◌||◌, ◌&&◌, ◌⊎◌, inl, inr, ℕ, Bool, true, false, not, cond, nat_le, nat_lt, sym, ap, refl, is_some, List, [], ◌∷◌, map, true≢false, arith}
 use Rattle.std.proofs.lemmas.Bool.Decides.{nat_tests}
 use Rattle.std.specs.Prelude.{Option, Some, None, filter, option_map}
 use Rattle.std.specs.FinMap as finite
@@ -15,8 +15,8 @@ use Rattle.gaz_views.proofs.SameKeys.{same_key}
 use Rattle.gaz_views.specs.View.{View, was_used}
 use Rattle.gaz_overlay.specs.Changes.{Changes, stood_in}
 use Rattle.gaz_overlay.specs.Laid.{laid}
-use Rattle.gaz_overlay.specs.Over.{IsLast, IsStood, IsTouch, KeyView, LieOver, Make, key_view}
-use Rattle.gaz_overlay.specs.Rows.{AreHistories, HistoryRow, IsNoted, IsUntil, KeepVolume, WritingsKeep, added, closed, holds_after, is_born_by, is_of_birth, never, new_row, view_after, written}
+use Rattle.gaz_overlay.specs.Over.{IsLast, IsStood, IsTouch, KeyView, Make, key_view}
+use Rattle.gaz_overlay.specs.Rows.{AreHistories, HistoryRow, IsNoted, IsUntil, WritingsKeep, added, closed, holds_after, is_born_by, is_of_birth, never, new_row, view_after, written}
 use Rattle.gaz_overlay.specs.Writings.{born_in, writing_at, writing_of}
 use Rattle.gaz_overlay.specs.declared.touch.NewRow.{NewRow}
 use Rattle.gaz_overlay.specs.declared.touch.Stood.{Stood}

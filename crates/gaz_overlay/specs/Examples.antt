@@ -2,7 +2,6 @@
 use Rattle.std.specs.Prelude.{◌≡◌, ℕ, Bool, true, false, List, [], ◌∷◌, Option, Some, None}
 use Rattle.std.specs.FinMap as map
 use Rattle.gaz_records.specs.declared.item.Item.{Item}
-use Rattle.gaz_records.specs.declared.key.Key.{Key}
 use Rattle.gaz_records.specs.declared.key.Key.TheVariants as key
 use Rattle.gaz_views.specs.Examples.{one_street, street}
 use Rattle.gaz_views.specs.View.{View, empty_view, was_used, with_item, without_key}
@@ -12,10 +11,8 @@ use Rattle.gaz_overlay.specs.Questions.{in_order}
 use Rattle.gaz_overlay.specs.Rows.{HistoryRow, closed, added, holds_after, is_born_by, view_after, written}
 use Rattle.gaz_overlay.specs.Writings.{writing_at, writing_of}
 use Rattle.gaz_overlay.specs.declared.touch.NewRow.{NewRow}
-use Rattle.gaz_overlay.specs.declared.touch.Stood.{Stood}
 use Rattle.gaz_overlay.specs.declared.touch.Stood.TheVariants.{Never, Past, Since}
 use Rattle.gaz_overlay.specs.declared.touch.Touch.{Touch}
-use Rattle.gaz_overlay.specs.declared.touch.Writing.{Writing}
 
 -- ---- views
 

@@ -9,4 +9,4 @@ mod touch;
 mod touches;
 
 pub use overlay::Overlay;
-pub use touch::{NewRow, Stood, Touch, Writing};
+pub use touch::{NewRow, Stood, Writing};

@@ -1,6 +1,7 @@
 //! Numbers that look random.
 
 /// Numbers that look random, from a fixed one on.
+#[derive(Drop)]
 pub struct Dice {
     pub state: u64,
 }

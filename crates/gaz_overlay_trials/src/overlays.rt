@@ -13,6 +13,7 @@ use std::test::Fail;
 
 /// The same judgement three times: what it makes in a keeper's memory, the changes that it gathers
 /// beside a table, and the table as the last volume left it.
+#[derive(Drop)]
 struct Trial {
     last: u64,
     book: CachedLedger,
@@ -107,14 +108,13 @@ fn kept_at(rt: &(impl Abort + AllocGlobal), trial: &Trial, key: &Key) -> Result<
 }
 
 // The keys of the last view's approved LPIs on a street.
-fn last_on(
-    alloc: Global,
-    trial: &Trial,
-    usrn: Usrn,
-    lang: Option<Lang>,
-) -> Result<Vec<Key>, Fail> {
+fn last_on(alloc: Global, trial: &Trial, usrn: Usrn, lang: Option<Lang>) -> Result<Vec<Key>, Fail> {
     let mut keys = Vec::new(alloc);
-    for item in &trial.book.ledger().page(alloc, trial.last, Kind::Lpi, None, 99)? {
+    for item in &trial
+        .book
+        .ledger()
+        .page(alloc, trial.last, Kind::Lpi, None, 99)?
+    {
         if let Item::Lpi(lpi) = item.as_item() {
             let fits = lang.is_none() || lang == Some(lpi.lang);
             if lpi.status == Status::Approved && lpi.usrn == usrn && fits {
@@ -177,11 +177,7 @@ fn same_property(rt: &(impl Abort + AllocGlobal), trial: &Trial, uprn: Uprn) -> 
     Ok(())
 }
 
-fn all_the_same(
-    rt: &(impl Abort + AllocGlobal),
-    trial: &Trial,
-    keys: &[Key],
-) -> Result<(), Fail> {
+fn all_the_same(rt: &(impl Abort + AllocGlobal), trial: &Trial, keys: &[Key]) -> Result<(), Fail> {
     for key in keys {
         same_at(rt, trial, key)?;
     }

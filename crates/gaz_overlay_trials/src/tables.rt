@@ -40,7 +40,9 @@ impl Table {
 
     /// Whether a key was used until a volume.
     pub fn was_used(&self, volume: u64, key: &Key) -> bool {
-        self.rows.iter().any(|row| row.key == *key && row.born <= volume)
+        self.rows
+            .iter()
+            .any(|row| row.key == *key && row.born <= volume)
     }
 
     /// What the table has at a key.

@@ -1,6 +1,5 @@
 use Rattle.std.proofs.Common.{◌≡◌, ◌∙◌, ap}
 use Rattle.std.specs.FinMap as finite
-use Rattle.gaz_views.specs.View.{View}
 use Rattle.gaz_overlay.specs.Changes.{Changes, Touched, is_touched}
 use Rattle.gaz_overlay.proofs.Kept.{forgotten, noted_there}
 use Rattle.gaz_overlay.proofs.overlay.Overlay.touch.Goals as goal
@@ -12,7 +11,7 @@ returns-in-Err-clause-err c =
     let touches : c.self-2.inside.touches ≡ c.note.new.self = ap (λ (a : Changes). a.touched) c.self-2.view_is ∙ c.in-Err.ensures.touched in
     let fresh = ap (λ (a : Changes). is_touched a k) c.self.view_is ∙ c.requires in
     let again : c.forget.new.self ≡ c.self.inside.touches =
-        c.forget.ensures ∙ ap (λ (m : Touched). finite.remove m k) (touches ∙ c.in_ok-note.ensures.ok) ∙ forgotten c.self.inside.touches k (record { stood = c.args.stood; last = _ }) fresh in
+    c.forget.ensures ∙ ap (λ (m : Touched). finite.remove m k) (touches ∙ c.in_ok-note.ensures.ok) ∙ forgotten c.self.inside.touches k (record { stood = c.args.stood; last = _ }) fresh in
     (λ i. record { view = views i; touched = again i }) ∙ c.self.view_is
 
 pub returns-clause-touched : goal.returns-clause-touched
