@@ -4,3 +4,4 @@ pub mod Making
 pub mod Rows
 pub mod Kept
 pub mod Examples
+pub mod Apart

@@ -1,5 +1,5 @@
 -- The rows of histories once a volume is kept.
-use Rattle.std.proofs.Common.{◌≡◌, ◌≤◌, ◌<◌, ◌+◌, ◌==◌, ◌∙◌, ◌++◌, ◌||◌, ◌&&◌, ◌⊎◌, inl, inr, ℕ, Bool, true, false, not, cond, nat_le, nat_lt, sym, ap, refl, is_some, List, [], ◌∷◌, map, true≢false, arith}
+use Rattle.std.proofs.Common.{◌≡◌, ◌↔◌, ◌≤◌, ◌<◌, ◌+◌, ◌==◌, ◌∙◌, ◌++◌, ◌||◌, ◌&&◌, ◌⊎◌, inl, inr, ℕ, Bool, true, false, not, cond, nat_le, nat_lt, sym, ap, refl, is_some, List, [], ◌∷◌, map, true≢false, arith}
 use Rattle.std.proofs.lemmas.Bool.Decides.{nat_tests}
 use Rattle.std.specs.Prelude.{Option, Some, None, filter, option_map}
 use Rattle.std.specs.FinMap as finite
@@ -16,7 +16,7 @@ use Rattle.gaz_views.specs.View.{View, was_used}
 use Rattle.gaz_overlay.specs.Changes.{Changes, stood_in}
 use Rattle.gaz_overlay.specs.Laid.{laid}
 use Rattle.gaz_overlay.specs.Over.{IsLast, IsStood, IsTouch, KeyView, Make, key_view}
-use Rattle.gaz_overlay.specs.Rows.{AreHistories, HistoryRow, IsNoted, IsUntil, WritingsKeep, added, closed, holds_after, is_born_by, is_of_birth, never, new_row, view_after, written}
+use Rattle.gaz_overlay.specs.Rows.{HistoryRow, IsUntil, added, closed, holds_after, is_born_by, is_of_birth, never, new_row, view_after, written}
 use Rattle.gaz_overlay.specs.Writings.{born_in, writing_at, writing_of}
 use Rattle.gaz_overlay.specs.declared.touch.NewRow.{NewRow}
 use Rattle.gaz_overlay.specs.declared.touch.Stood.{Stood}
@@ -79,18 +79,29 @@ uses_both t q (r ∷ a) b =
       | false ↦ uses_both t q a b
     ]
 
+-- ---- what is given
+
+-- where the changes say that a current row was born in a volume, it is the one that was
+pub record IsNoted (c : Changes) (r : HistoryRow) : Type 0 where
+  pub noted : (volume : ℕ) → stood_in c.touched r.key ≡ Since volume → (r.gone ≡ never) ↔ (r.born ≡ volume)
+
+pub record Given (n : ℕ) (c : Changes) (rows : Rows) : Type 0 where
+  pub room : n + 1 < never
+  pub until : AllByRecursion (IsUntil n) rows
+  pub noted : AllByRecursion (IsNoted c) rows
+
 -- ---- tests
 
-le_so : (a b : ℕ) → a ≤ b → nat_le a b ≡ true
+pub le_so : (a b : ℕ) → a ≤ b → nat_le a b ≡ true
 le_so a b h = grind (arith, nat_tests)
 
-le_no : (a b : ℕ) → b < a → nat_le a b ≡ false
+pub le_no : (a b : ℕ) → b < a → nat_le a b ≡ false
 le_no a b h = grind (arith, nat_tests)
 
-lt_so : (a b : ℕ) → a < b → nat_lt a b ≡ true
+pub lt_so : (a b : ℕ) → a < b → nat_lt a b ≡ true
 lt_so a b h = grind (arith, nat_tests)
 
-lt_no : (a b : ℕ) → b ≤ a → nat_lt a b ≡ false
+pub lt_no : (a b : ℕ) → b ≤ a → nat_lt a b ≡ false
 lt_no a b h = grind (arith, nat_tests)
 
 skips : {A : Type 0} (h : Bool) (x y : A) → cond (h && false) x y ≡ y
@@ -133,7 +144,7 @@ born_next n r h = let le = h.born in le_so r.born (n + 1) (omega arith) ∙ sym 
 closed_now : (m : ℕ) (r : HistoryRow) → holds_after m (record r { gone = m }) ≡ false
 closed_now m r = ap (λ b. nat_le r.born m && b) (lt_no m m (omega arith)) ∙ and_none (nat_le r.born m)
 
-closes_since : (c : Changes) (k : Key) (born : ℕ) → (writing_at c k).closes ≡ Some born → stood_in c.touched k ≡ Since born
+pub closes_since : (c : Changes) (k : Key) (born : ℕ) → (writing_at c k).closes ≡ Some born → stood_in c.touched k ≡ Since born
 closes_since c k born is = by_touch (finite.get c.touched k) is
   where
     of_stood : (stood : Stood) → born_in stood ≡ Some born → stood ≡ Since born
@@ -348,7 +359,7 @@ besides_none : (p : Option Item) → besides p None ≡ p
 besides_none None = refl
 besides_none (Some x) = refl
 
-module _ (rows : Rows) (n : ℕ) (c : Changes) (w : View) (h : AreHistories n c rows) (made : Make (view_after rows n) c w) where
+module _ (rows : Rows) (n : ℕ) (c : Changes) (w : View) (h : Given n c rows) (made : Make (view_after rows n) c w) where
   abbrev last : View
   last = view_after rows n
 
@@ -394,7 +405,7 @@ module _ (rows : Rows) (n : ℕ) (c : Changes) (w : View) (h : AreHistories n c 
       by_touch None is = ap (λ b. was_used last q || b) (sym (untouched_here q is))
       by_touch (Some t) is = use_written t.last q (finite.get last.items q) (was_used last q) (finite.get c.view.items q) (was_used c.view q) (made.over.each q t is).last
 
-  next_view : view_after (written (n + 1) c rows) (n + 1) ≡ w
+  pub next_view : view_after (written (n + 1) c rows) (n + 1) ≡ w
   unfolding written
   next_view =
       same_view (view_after (written (n + 1) c rows) (n + 1)) (laid last c.view)
@@ -402,7 +413,7 @@ module _ (rows : Rows) (n : ℕ) (c : Changes) (w : View) (h : AreHistories n c 
       (λ q. used_after (written (n + 1) c rows) (n + 1) q ∙ next_used q ∙ sym (used_at last c.view q))
       ∙ sym made.is_laid
 
-  past_view : (t : ℕ) → t ≤ n → view_after (written (n + 1) c rows) t ≡ view_after rows t
+  pub past_view : (t : ℕ) → t ≤ n → view_after (written (n + 1) c rows) t ≡ view_after rows t
   unfolding written
   past_view t le =
       same_view (view_after (written (n + 1) c rows) t) (view_after rows t)
@@ -410,44 +421,3 @@ module _ (rows : Rows) (n : ℕ) (c : Changes) (w : View) (h : AreHistories n c 
       ∙ (λ i. besides (past_stands n c q h.room t le rows h.noted i) (new_none (n + 1) c q t (omega arith) ks i)) ∙ besides_none (stands t q rows) ∙ sym (item_after rows t q))
       (λ q. used_after (written (n + 1) c rows) t q ∙ uses_both t q (map (closed (n + 1) c) rows) (filter_map (added (n + 1) c) ks)
       ∙ (λ i. old_uses t (n + 1) c q rows i || new_unused (n + 1) c q t (omega arith) ks i) ∙ or_none (uses t q rows) ∙ sym (used_after rows t q))
-
--- ---- the rows are those of the histories through one volume more
-
-all_both : {A : Type 0} (P : A → Type 0) (a b : List A) → AllByRecursion P a → AllByRecursion P b → AllByRecursion P (a ++ b)
-all_both P [] b ha hb = hb
-all_both P (x ∷ a) b ha hb = (ha.0, all_both P a b ha.1 hb)
-
-closed_until : (n : ℕ) (c : Changes) (rows : Rows) → AllByRecursion (IsUntil n) rows → AllByRecursion (IsUntil (n + 1)) (map (closed (n + 1) c) rows)
-closed_until n c [] h = tt
-closed_until n c (r ∷ rows) h = (by_birth (is_of_birth (writing_at c r.key).closes r), closed_until n c rows h.1)
-  where
-    born : r.born ≤ n + 1
-    born = let le = h.0.born in omega arith
-
-    gone : (r.gone ≤ n) ⊎ (r.gone ≡ never) → (r.gone ≤ n + 1) ⊎ (r.gone ≡ never)
-    gone (inl le) = inl (omega arith)
-    gone (inr current) = inr current
-
-    by_birth : (b : Bool) → IsUntil (n + 1) (cond b (record r { gone = n + 1 }) r)
-    by_birth true = record { born = born; gone = inl (omega arith) }
-    by_birth false = record { born = born; gone = gone h.0.gone }
-
-added_until : (m : ℕ) (c : Changes) (keys : List Key) → AllByRecursion (IsUntil m) (filter_map (added m c) keys)
-added_until m c [] = tt
-added_until m c (k ∷ keys) = by_row (added_until m c keys) (writing_at c k).adds
-  where
-    gone : (b : Bool) → (cond b never m ≤ m) ⊎ (cond b never m ≡ never)
-    gone true = inr refl
-    gone false = inl (omega arith)
-
-    by_row : AllByRecursion (IsUntil m) (filter_map (added m c) keys) → (o : Option NewRow) → AllByRecursion (IsUntil m) (cons_option (option_map (new_row m k) o) (filter_map (added m c) keys))
-    by_row behind None = behind
-    by_row behind (Some r) = (record { born = omega arith; gone = gone r.current }, behind)
-
-pub writings_keep : WritingsKeep
-unfolding written
-writings_keep rows n c w h made = record {
-  next = next_view rows n c w h made;
-  past = past_view rows n c w h made;
-  until = all_both (IsUntil (n + 1)) (map (closed (n + 1) c) rows) (filter_map (added (n + 1) c) (finite.keys c.touched)) (closed_until n c rows h.until) (added_until (n + 1) c (finite.keys c.touched));
-}

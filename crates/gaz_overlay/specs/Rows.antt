@@ -1,6 +1,6 @@
 -- The rows in which tables keep a custodian's histories, and what becomes of them when a volume is kept.
-use Rattle.std.specs.Prelude.{◌≡◌, ◌≤◌, ◌<◌, ◌+◌, ◌==◌, ◌&&◌, ◌⊎◌, ◌↔◌, ◌++◌, ℕ, false, Bool, nat_le, nat_lt}
-use Rattle.std.specs.Prelude.{List, map, filter, Option, option_map, if◌then◌else◌}
+use Rattle.std.specs.Prelude.{◌≡◌, ◌≤◌, ◌<◌, ◌+◌, ◌==◌, ◌&&◌, ◌⊎◌, ◌++◌, ℕ, false, Bool, nat_le, nat_lt}
+use Rattle.std.specs.Prelude.{List, [], ◌∷◌, map, filter, Option, option_map, if◌then◌else◌}
 use Rattle.std.specs.FinMap as finite
 use Rattle.std.specs.FinSet as set
 use Rattle.std.specs.List.{AllByRecursion, filter_map}
@@ -62,30 +62,55 @@ added volume c k = option_map (new_row volume k) (writing_at c k).adds
 unfoldable pub written : ℕ → Changes → List HistoryRow → List HistoryRow
 written volume c rows = map (closed volume c) rows ++ filter_map (added volume c) (finite.keys c.touched)
 
--- ---- what it comes to
+-- ---- histories through a volume
 
 -- the row was born in a volume up to n, and was gone by then or is current
 pub record IsUntil (n : ℕ) (r : HistoryRow) : Type 0 where
   pub born : r.born ≤ n
   pub gone : (r.gone ≤ n) ⊎ (r.gone ≡ never)
 
--- where the changes say that a current row was born in a volume, it is the one that was
-pub record IsNoted (c : Changes) (r : HistoryRow) : Type 0 where
-  pub noted : (volume : ℕ) → stood_in c.touched r.key ≡ Since volume → (r.gone ≡ never) ↔ (r.born ≡ volume)
+-- the row is gone when a later one is born
+pub record IsBefore (a b : HistoryRow) : Type 0 where
+  pub born : a.born < b.born
+  pub gone : a.gone ≤ b.born
 
--- the rows of the histories through volume n, with what the next volume has changed
-pub record AreHistories (n : ℕ) (c : Changes) (rows : List HistoryRow) : Type 0 where
-  pub room : n + 1 < never
+-- of two rows of a key one is before the other
+abbrev pub AreApart : HistoryRow → HistoryRow → Type 0
+AreApart a b = a.key ≡ b.key → IsBefore a b ⊎ IsBefore b a
+
+-- so it is of each two
+abbrev pub AllApart : List HistoryRow → Type 0
+AllApart [] = Unit {0}
+AllApart (r ∷ rows) = AllByRecursion (AreApart r) rows × AllApart rows
+
+pub record AreHistories (n : ℕ) (rows : List HistoryRow) : Type 0 where
   pub until : AllByRecursion (IsUntil n) rows
-  pub noted : AllByRecursion (IsNoted c) rows
+  pub apart : AllApart rows
 
--- these rows keep a volume: the working view is the view after it, and the views before it stay
+-- ---- what it comes to
+
+-- the row is the current one of a key, born in this volume
+pub record IsCurrent (k : Key) (volume : ℕ) (r : HistoryRow) : Type 0 where
+  pub of_key : r.key ≡ k
+  pub of_birth : r.born ≡ volume
+  pub is_current : r.gone ≡ never
+
+abbrev pub HasCurrent : List HistoryRow → Key → ℕ → Type 0
+HasCurrent [] k volume = ⊥
+HasCurrent (r ∷ rows) k volume = IsCurrent k volume r ⊎ HasCurrent rows k volume
+
+-- the rows have the current rows that were told when keys were touched
+pub record AreTold (c : Changes) (rows : List HistoryRow) : Type 0 where
+  pub told : (k : Key) (volume : ℕ) → stood_in c.touched k ≡ Since volume → HasCurrent rows k volume
+
+-- these rows keep a volume: the working view is the view after it, the views before it stay, and the
+-- rows are those of histories again
 pub record KeepVolume (old : List HistoryRow) (n : ℕ) (working : View) (new : List HistoryRow) : Type 0 where
   pub next : view_after new (n + 1) ≡ working
   pub past : (t : ℕ) → t ≤ n → view_after new t ≡ view_after old t
-  pub until : AllByRecursion (IsUntil (n + 1)) new
+  pub histories : AreHistories (n + 1) new
 
 -- what is written for the touched keys keeps the volume
 abbrev pub WritingsKeep : Type 0
-WritingsKeep = (rows : List HistoryRow) (n : ℕ) (c : Changes) (w : View) → AreHistories n c rows → Make (view_after rows n) c w
-    → KeepVolume rows n w (written (n + 1) c rows)
+WritingsKeep = (rows : List HistoryRow) (n : ℕ) (c : Changes) (w : View) → n + 1 < never → AreHistories n rows → AreTold c rows
+    → Make (view_after rows n) c w → KeepVolume rows n w (written (n + 1) c rows)

@@ -57,8 +57,8 @@ fn lpi_row(
 
 /// Some item at a key.
 pub fn item_at(alloc: Global, dice: &mut Dice, key: &Key) -> Result<SharedItem, Fail> {
-    let on = dice.below(STREETS) + 1;
-    let of = dice.below(PROPERTIES) + 1;
+    let on = dice.below(STREETS).saturating_add(1);
+    let of = dice.below(PROPERTIES).saturating_add(1);
     let (kind, row) = match key {
         Key::Street(usrn) => (Kind::Street, format!(in alloc; "{usrn},{on},2001-04-01,")?),
         Key::Descriptor(usrn, _) => (

@@ -1,4 +1,4 @@
-use Rattle.gaz_overlay.proofs.Rows.{writings_keep}
+use Rattle.gaz_overlay.proofs.Apart.{writings_keep}
 use Rattle.gaz_overlay.proofs.laws.writings_keep.Goals as goal
 
 pub returns : goal.returns
