@@ -1,7 +1,8 @@
 -- A view with changes laid over it.
-use Rattle.std.specs.Prelude.{not, Bool, ◌++◌, Option, Some, None, if◌then◌else◌}
+use Rattle.std.specs.Prelude.{not, Bool, ◌++◌, List, Option, Some, None, if◌then◌else◌}
 use Rattle.std.specs.FinMap as map
 use Rattle.std.specs.FinSet as set
+use Rattle.std.specs.List.{list_any}
 use Rattle.gaz_records.specs.declared.item.Item.{Item}
 use Rattle.gaz_records.specs.declared.key.Key.{Key}
 use Rattle.gaz_views.specs.View.{View, was_used, with_item}
@@ -9,6 +10,10 @@ use Rattle.gaz_views.specs.View.{View, was_used, with_item}
 -- the changes have nothing to say of the key
 abbrev pub untouched : View → Key → Bool
 untouched s k = not (was_used s k)
+
+-- or of one of these
+abbrev pub any_untouched : View → List Key → Bool
+any_untouched s keys = list_any (untouched s) keys
 
 -- at a key that the changes have used what they have, else what the view has; used is what either has used
 unfoldable pub laid : View → View → View

@@ -13,7 +13,7 @@ use Rattle.gaz_views.specs.Lawful.{IsLawfulView}
 use Rattle.gaz_views.specs.View.{View}
 use Rattle.gaz_views.specs.Words.{approved_of, approved_on, entries, has_children, first_of, is_approved_on, is_child_of, property_of}
 use Rattle.gaz_views.specs.declared.property.Property.{Property}
-use Rattle.gaz_overlay.specs.Laid.{laid, untouched}
+use Rattle.gaz_overlay.specs.Laid.{any_untouched, laid, untouched}
 
 -- these keys, each once, in their order
 abbrev pub in_order : List Key → List Key
@@ -46,8 +46,8 @@ pub record LaidAnswers (v s : View) : Type 0 where
   pub property_of : (uprn : ℕ) → property_of (laid v s) uprn ≡ property_at (laid v s) uprn (both s (approved_of v uprn) (approved_of s uprn))
   pub approved_of : (uprn : ℕ) → approved_of (laid v s) uprn ≡ both s (approved_of v uprn) (approved_of s uprn)
   pub approved_on : (usrn : ℕ) (lang : Option Lang)
-      → approved_on (laid v s) usrn lang ≡ (list_any (untouched s) (keys_with (is_approved_on usrn lang) v) || approved_on s usrn lang)
-  pub has_children : (uprn : ℕ) → has_children (laid v s) uprn ≡ (list_any (untouched s) (keys_with (is_child_of uprn) v) || has_children s uprn)
+      → approved_on (laid v s) usrn lang ≡ (any_untouched s (keys_with (is_approved_on usrn lang) v) || approved_on s usrn lang)
+  pub has_children : (uprn : ℕ) → has_children (laid v s) uprn ≡ (any_untouched s (keys_with (is_child_of uprn) v) || has_children s uprn)
 
 -- each question of a laid view is answered from what the last view and the changes answer
 abbrev pub LaidQuestions : Type 0

@@ -2,6 +2,7 @@
 //! makes stand beside it, and each touched key says what is to be written for it.
 #![tactic(auto)]
 
+mod answers;
 pub mod laws;
 mod merging;
 mod overlay;

@@ -1,20 +1,15 @@
 //! The changes that a judgement has made so far.
-ghost use Rattle.std.specs.Prelude.{◌≡◌, ◌||◌, true, false, IfOk, OnErr, OnOk, filter, length, option_map};
+ghost use Rattle.std.specs.Prelude.{◌≡◌, true, false, length, IfOk, OnErr, OnOk, option_map};
 ghost use Rattle.std.specs.FinMap as map;
-ghost use Rattle.std.specs.List.{list_any};
 ghost use Rattle.gaz_records.specs.Keys.{key_of};
 ghost use Rattle.gaz_views.specs.View.{was_used};
-ghost use Rattle.gaz_views.specs.Words.{approved_of, approved_on, has_children};
 ghost use Rattle.gaz_overlay.specs.Changes.{is_touched, no_changes, was_used_in, with_put};
 ghost use Rattle.gaz_overlay.specs.Changes.{with_taken, with_touched};
-ghost use Rattle.gaz_overlay.specs.Laid.{untouched, with_some};
-ghost use Rattle.gaz_overlay.specs.Questions.{both};
+ghost use Rattle.gaz_overlay.specs.Laid.{with_some};
 ghost use Rattle.gaz_overlay.specs.Writings.{writing_at};
 
-use crate::merging::merged;
 use crate::touch::{Stood, Writing};
 use crate::touches::Touches;
-use gaz_ids::{Lang, Uprn, Usrn};
 use gaz_ledger::{CachedLedger, Seed};
 use gaz_records::{Key, SharedItem, key_of};
 use std::alloc::{AllocError, Global};
@@ -22,7 +17,7 @@ use std::marker::Model;
 
 // Where the ledger has its working view: behind the volumes that it has judged, of which there are
 // none.
-const WORKING: u64 = 1;
+pub const WORKING: u64 = 1;
 
 /// What a judgement has put and taken, to be laid over a last view that stays where it is, and what
 /// is to be written for each key when it is kept.
@@ -32,7 +27,7 @@ const WORKING: u64 = 1;
 /// those of the laid view.
 #[derive(Drop)]
 pub struct Overlay {
-    ledger: CachedLedger,
+    pub(crate) ledger: CachedLedger,
     touches: Touches,
     ghost none_judged: { length ledger.judged ≡ 0 },
 }
@@ -122,7 +117,7 @@ impl Overlay {
     }
 
     // Whether the last view has no say at a key any more.
-    fn hides(&self, key: &Key) -> bool
+    pub(crate) fn hides(&self, key: &Key) -> bool
         ensures { result ≡ was_used self.now.view key.now }
     {
         self.ledger.ledger().was_used(WORKING, key)
@@ -140,59 +135,6 @@ impl Overlay {
         ensures { result ≡ was_used_in self.now key.now }
     {
         self.hides(key) || self.touches.stood(key) != Stood::Never
-    }
-
-    // Whether the last view has a say at one of these keys.
-    fn spares_any(&self, keys: &[Key]) -> bool
-        ensures { result ≡ list_any (untouched self.now.view) keys.now }
-    {
-        keys.iter().any(|key| !self.hides(key))
-    }
-
-    // Those of these keys at which the last view has a say.
-    fn spared(&self, alloc: Global, keys: &[Key]) -> Result<Vec<Key>, AllocError>
-        ensures { IfOk result (λ spared. spared.items
-            ≡ filter (untouched self.now.view) keys.now) }
-    {
-        let mut spared = Vec::new(alloc);
-        for key in keys {
-            if !self.hides(key) {
-                spared.push(*key)?;
-            }
-        }
-        Ok(spared)
-    }
-
-    /// The keys of the BLPU's approved LPIs, in key order; `last` are those of the last view.
-    pub fn approved_of(
-        &self,
-        alloc: Global,
-        last: &[Key],
-        uprn: Uprn,
-    ) -> Result<Vec<Key>, AllocError>
-        ensures { IfOk result (λ keys. keys.items
-            ≡ both self.now.view last.now (approved_of self.now.view uprn)) }
-    {
-        let spared = self.spared(alloc, last)?;
-        let own = self.ledger.ledger().approved_of(alloc, WORKING, uprn)?;
-        Ok(merged(alloc, &spared, &own)?)
-    }
-
-    /// Whether an approved LPI is on the street, in this language where one is given; `last` are
-    /// the keys of those of the last view.
-    pub fn approved_on(&self, last: &[Key], usrn: Usrn, lang: Option<Lang>) -> bool
-        ensures { result ≡ (list_any (untouched self.now.view) last.now
-            || approved_on self.now.view usrn lang) }
-    {
-        self.spares_any(last) || self.ledger.ledger().approved_on(WORKING, usrn, lang)
-    }
-
-    /// Whether the BLPU has parts; `last` are the keys of those of the last view.
-    pub fn has_children(&self, last: &[Key], uprn: Uprn) -> bool
-        ensures { result ≡ (list_any (untouched self.now.view) last.now
-            || has_children self.now.view uprn) }
-    {
-        self.spares_any(last) || self.ledger.ledger().has_children(WORKING, uprn)
     }
 
     /// The touched keys, each once, in key order.
