@@ -1,6 +1,6 @@
 -- What each change makes of the working view.
 use Rattle.std.proofs.Common.{◌≡◌, ◌∙◌, ◌||◌, Bool, true, false, cond, sym, ap, refl, subst, is_some, true≢false}
-use Rattle.std.specs.Prelude.{Option, Some, None}
+use Rattle.std.specs.Prelude.{Option, Some, None, option_map}
 use Rattle.std.specs.Cmp.{tied_itself}
 use Rattle.std.specs.FinMap as finite
 use Rattle.std.specs.FinSet as set
@@ -19,6 +19,8 @@ use Rattle.gaz_overlay.specs.Changes.{Changes, is_touched, no_changes, stood_in,
 use Rattle.gaz_overlay.specs.Laid.{laid, with_some}
 use Rattle.gaz_overlay.specs.Making.{ChangesMake, told}
 use Rattle.gaz_overlay.specs.Over.{IsLast, IsStood, IsTouch, KeyView, LieOver, key_view}
+use Rattle.gaz_overlay.specs.Writings.{writing_at, writing_of}
+use Rattle.gaz_overlay.specs.declared.touch.NewRow.{NewRow}
 use Rattle.gaz_overlay.specs.declared.touch.Stood.{Stood}
 use Rattle.gaz_overlay.specs.declared.touch.Stood.TheVariants.{Never, Past, Since}
 use Rattle.gaz_overlay.specs.declared.touch.Touch.{Touch}
@@ -212,6 +214,23 @@ module _ (v : View) (c : Changes) (over : LieOver v c) (k : Key) where
       let uses = ap (λ b. was_used v k || b) none ∙ either (was_used v k) false in
       laid_view ∙ (λ i. record { item = items i; used = uses i })
 
+-- ---- what is written
+
+own_row : (v : View) (c : Changes) → LieOver v c → (k : Key) (r : NewRow) → (writing_at c k).adds ≡ Some r → key_of r.item ≡ k
+own_row v c over k r is = by_touch (finite.get c.touched k) refl is
+  where
+    by_last : (t : Touch) → finite.get c.touched k ≡ Some t → (b : Bool) (o : Option Item) → t.last ≡ o → option_map (λ i. let x : NewRow = record { item = i; current = b } in x) o ≡ Some r → key_of r.item ≡ k
+    by_last t there b None last h = let none : None ≡ Some r = h in cc
+    by_last t there b (Some i) last h =
+        let so : IsLast (Some i) k (key_view v k) (key_view c.view k) = subst (λ (o : Option Item). IsLast o k (key_view v k) (key_view c.view k)) last (over.each k t there).last in
+        let row : NewRow = record { item = i; current = b } in
+        let same : row ≡ r = cc in
+        ap (λ (x : NewRow). key_of x.item) (sym same) ∙ so.2
+
+    by_touch : (o : Option Touch) → finite.get c.touched k ≡ o → (option_map_or (λ t. writing_of t (is_some (finite.get c.view.items k))) o (record { closes = None; adds = None })).adds ≡ Some r → key_of r.item ≡ k
+    by_touch None there h = let none : None ≡ Some r = h in cc
+    by_touch (Some t) there h = by_last t there (is_some (finite.get c.view.items k)) t.last refl h
+
 -- ---- all together
 
 nothing_over : (v : View) → LieOver v no_changes
@@ -232,4 +251,5 @@ changes_make = record {
       record { over = taken_over v c made.over k; is_laid = ap (λ (u : View). without_key u k) made.is_laid ∙ taken v c.view made.over.lawful k (none_there v c made.over k noted) };
   there = λ v c w made k noted. ap (λ (u : View). key_view u k) made.is_laid ∙ told_there v c made.over k noted;
   elsewhere = λ v c w made k fresh. ap (λ (u : View). key_view u k) made.is_laid ∙ told_elsewhere v c made.over k fresh;
+  own = λ v c w made k r is. own_row v c made.over k r is;
 }
