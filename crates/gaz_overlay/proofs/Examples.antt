@@ -1,5 +1,5 @@
 -- What the definitions come to on worked examples.
-use Rattle.std.proofs.Common.{◌≡◌, ◌∙◌, ◌||◌, Bool, true, false, cond, ap, refl, is_some, [], ◌∷◌, ◌++◌, map}
+use Rattle.std.proofs.Common.{◌≡◌, ◌∙◌, ◌||◌, Bool, true, false, not, cond, inl, inr, lit≤, lit<, ap, refl, is_some, List, [], ◌∷◌, ◌++◌, map}
 use Rattle.std.specs.Prelude.{Option, Some, None, option_map}
 use Rattle.std.specs.FinMap as finite
 use Rattle.std.specs.FinSet as set
@@ -20,6 +20,7 @@ use Rattle.gaz_views.specs.View.{View, empty_view, was_used, with_item, without_
 use Rattle.gaz_overlay.specs.Changes.{Changes, Touched, no_changes, was_there, with_put, with_touched}
 use Rattle.gaz_overlay.specs.Examples.{WorkedChanges, WorkedExamples, WorkedRows, WorkedViews, WorkedWritings, row, three_streets, two_touched}
 use Rattle.gaz_overlay.specs.Laid.{laid, with_copied}
+use Rattle.gaz_overlay.specs.Questions.{in_order}
 use Rattle.gaz_overlay.specs.Rows.{HistoryRow, closed, added, is_of_birth, new_row, written}
 use Rattle.gaz_overlay.specs.Writings.{writing_at, writing_of}
 use Rattle.gaz_overlay.specs.declared.touch.Stood.TheVariants.{Never, Past, Since}
@@ -52,6 +53,16 @@ laid_used s q u used = used_at one_street s q ∙ (λ i. one_used q (street 101)
 copy_is : with_copied empty_view (key.Street 101) (Some (street 101)) ≡ with_item empty_view (street 101)
 copy_is = ap (λ b. cond b empty_view (with_item empty_view (street 101))) (used_none (key.Street 101))
 
+two_in_order : finite.keys (finite.from_entries {X = Unit {0}} {R = key_cmp} ((key.Street 101, tt) ∷ (key.Street 102, tt) ∷ [])) ≡ key.Street 101 ∷ key.Street 102 ∷ []
+two_in_order =
+    let none = no_entries (Unit {0}) key_cmp in
+    let last = finite.entries-insert keys_total (finite.empty {X = Unit {0}} {R = key_cmp}) (key.Street 102) tt ∙ ap (finite.put key_cmp (key.Street 102) tt) none in
+    ap keys_of (finite.entries-insert keys_total (finite.insert (finite.empty {X = Unit {0}} {R = key_cmp}) (key.Street 102) tt) (key.Street 101) tt ∙ ap (finite.put key_cmp (key.Street 101) tt) last)
+
+-- those of 101 and 102 that aren't used
+abbrev spared : Bool → Bool → List Key
+spared u v = cond (not u) (key.Street 101 ∷ cond (not v) (key.Street 102 ∷ []) []) (cond (not v) (key.Street 102 ∷ []) [])
+
 in_turn : finite.keys (finite.from_entries {X = Unit {0}} {R = key_cmp} ((key.Street 102, tt) ∷ (key.Street 101, tt) ∷ (key.Street 102, tt) ∷ [])) ≡ key.Street 101 ∷ key.Street 102 ∷ []
 in_turn =
     let none = no_entries (Unit {0}) key_cmp in
@@ -71,6 +82,9 @@ views_hold =
       third_not_used = laid_used (with_item empty_view (street 102)) (key.Street 103) false (one_used (key.Street 103) (street 102));
       goes = ap (λ (s : View). finite.get (laid one_street (without_key s (key.Street 101))).items (key.Street 101)) copy_is ∙ none;
       still_used = ap (λ (s : View). was_used (laid one_street (without_key s (key.Street 101))) (key.Street 101)) copy_is ∙ used;
+      stands_there = (ap is_some (one (key.Street 101) (street 101)), one_used (key.Street 101) (street 101));
+      never_stood = (one (key.Street 102) (street 101), one_used (key.Street 102) (street 101));
+      merged = (λ i. in_order (spared (one_used (key.Street 101) (street 102) i) (one_used (key.Street 102) (street 102) i) ++ key.Street 102 ∷ [])) ∙ two_in_order;
       once_each = in_turn;
     }
 
@@ -180,6 +194,11 @@ all_rows =
 
 rows_hold : WorkedRows
 rows_hold = record {
+  through_three = record {
+    until = (record { born = lit≤ tt; gone = inl (lit≤ tt) }, (record { born = lit≤ tt; gone = inr refl }, tt));
+    apart = ((λ same. inl (record { born = lit< tt; gone = lit≤ tt }), tt), (tt, tt));
+  };
+  current_since = inr (inl (record { of_key = refl; of_birth = refl; is_current = refl }));
   not_born = refl;
   holds = refl;
   gone = refl;

@@ -7,8 +7,9 @@ use Rattle.gaz_views.specs.Examples.{one_street, street}
 use Rattle.gaz_views.specs.View.{View, empty_view, was_used, with_item, without_key}
 use Rattle.gaz_overlay.specs.Changes.{Changes, is_touched, no_changes, stood_in, was_used_in, with_put, with_taken, with_touched}
 use Rattle.gaz_overlay.specs.Laid.{laid, with_copied}
-use Rattle.gaz_overlay.specs.Questions.{in_order}
-use Rattle.gaz_overlay.specs.Rows.{HistoryRow, closed, added, holds_after, is_born_by, view_after, written}
+use Rattle.gaz_overlay.specs.Over.{IsStood, key_view}
+use Rattle.gaz_overlay.specs.Questions.{both, in_order}
+use Rattle.gaz_overlay.specs.Rows.{AreHistories, HasCurrent, HistoryRow, closed, added, holds_after, is_born_by, view_after, written}
 use Rattle.gaz_overlay.specs.Writings.{writing_at, writing_of}
 use Rattle.gaz_overlay.specs.declared.touch.NewRow.{NewRow}
 use Rattle.gaz_overlay.specs.declared.touch.Stood.TheVariants.{Never, Past, Since}
@@ -31,6 +32,9 @@ pub record WorkedViews : Type 0 where
   pub third_not_used : was_used second_street (key.Street 103) ≡ false
   pub goes : map.get first_taken.items (key.Street 101) ≡ None
   pub still_used : was_used first_taken (key.Street 101) ≡ true
+  pub stands_there : IsStood (Since 1) (key_view one_street (key.Street 101))
+  pub never_stood : IsStood Never (key_view one_street (key.Street 102))
+  pub merged : both (with_item empty_view (street 102)) (key.Street 101 ∷ key.Street 102 ∷ []) (key.Street 102 ∷ []) ≡ key.Street 101 ∷ key.Street 102 ∷ []
   pub once_each : in_order (key.Street 102 ∷ key.Street 101 ∷ key.Street 102 ∷ []) ≡ key.Street 101 ∷ key.Street 102 ∷ []
 
 -- ---- changes
@@ -82,7 +86,13 @@ row usrn born gone = record { key = key.Street usrn; born = born; gone = gone; i
 abbrev pub three_streets : List HistoryRow
 three_streets = row 101 1 1000000 ∷ row 102 2 2 ∷ row 103 1 2 ∷ []
 
+-- street 101 was put again in volume 3
+abbrev pub put_again : List HistoryRow
+put_again = row 101 1 3 ∷ row 101 3 1000000 ∷ []
+
 pub record WorkedRows : Type 0 where
+  pub through_three : AreHistories 3 put_again
+  pub current_since : HasCurrent put_again (key.Street 101) 3
   pub not_born : holds_after 0 (row 103 1 2) ≡ false
   pub holds : holds_after 1 (row 103 1 2) ≡ true
   pub gone : holds_after 2 (row 103 1 2) ≡ false
