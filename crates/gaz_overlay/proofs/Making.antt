@@ -1,0 +1,255 @@
+-- What each change makes of the working view.
+use Rattle.std.proofs.Common.{◌≡◌, ◌∙◌, ◌||◌, Bool, true, false, cond, sym, ap, refl, subst, is_some, true≢false}
+use Rattle.std.specs.Prelude.{Option, Some, None, option_map}
+use Rattle.std.specs.Cmp.{tied_itself}
+use Rattle.std.specs.FinMap as finite
+use Rattle.std.specs.FinSet as set
+use Rattle.std.specs.Option.{option_map_or}
+use Rattle.std.specs.Ordering.{is_eq}
+use Rattle.gaz_records.proofs.KeyOrder.{keys_total}
+use Rattle.gaz_records.specs.Keys.{key_cmp, key_of}
+use Rattle.gaz_records.specs.declared.item.Item.{Item}
+use Rattle.gaz_records.specs.declared.key.Key.{Key}
+use Rattle.gaz_views.proofs.Emptiness.{used_none}
+use Rattle.gaz_views.proofs.Lawful.{lawful_empty, lawful_put, lawful_taken}
+use Rattle.gaz_views.proofs.SameKeys.{same_key}
+use Rattle.gaz_views.specs.Lawful.{IsLawfulView}
+use Rattle.gaz_views.specs.View.{View, was_used, with_item, without_key}
+use Rattle.gaz_overlay.specs.Changes.{Changes, is_touched, no_changes, stood_in, was_there, with_put, with_taken, with_touched}
+use Rattle.gaz_overlay.specs.Laid.{laid, with_some}
+use Rattle.gaz_overlay.specs.Making.{ChangesMake, told}
+use Rattle.gaz_overlay.specs.Over.{IsLast, IsStood, IsTouch, KeyView, LieOver, key_view}
+use Rattle.gaz_overlay.specs.Writings.{writing_at, writing_of}
+use Rattle.gaz_overlay.specs.declared.touch.NewRow.{NewRow}
+use Rattle.gaz_overlay.specs.declared.touch.Stood.{Stood}
+use Rattle.gaz_overlay.specs.declared.touch.Stood.TheVariants.{Never, Past, Since}
+use Rattle.gaz_overlay.specs.declared.touch.Touch.{Touch}
+use Rattle.gaz_overlay.proofs.Laid.{at_key, key_copied, nothing, put, taken, tie, used_at}
+
+-- ---- what changes of a view at keys
+
+item_else : (s : View) (i : Item) (q : Key) → tie q (key_of i) ≡ false → key_view (with_item s i) q ≡ key_view s q
+item_else s i q is =
+    let gets = finite.get-insert keys_total s.items (key_of i) i q ∙ ap (λ b. cond b (Some i) (finite.get s.items q)) is in
+    let uses = set.contains-insert keys_total s.used (key_of i) q ∙ ap (λ b. b || was_used s q) is in
+    λ j. record { item = gets j; used = uses j }
+
+itself : (k : Key) → tie k k ≡ true
+itself k = ap is_eq (tied_itself keys_total k)
+
+item_here : (s : View) (i : Item) → key_view (with_item s i) (key_of i) ≡ record { item = Some i; used = true }
+item_here s i =
+    let k = key_of i in
+    let gets = finite.get-insert keys_total s.items k i k ∙ ap (λ b. cond b (Some i) (finite.get s.items k)) (itself k) in
+    let uses = set.contains-insert keys_total s.used k k ∙ ap (λ b. b || was_used s k) (itself k) in
+    λ j. record { item = gets j; used = uses j }
+
+taken_at : (s : View) (k q : Key) (b : Bool) → tie q k ≡ b → key_view (without_key s k) q ≡ record { item = cond b None (finite.get s.items q); used = was_used s q }
+taken_at s k q b is =
+    let gets = finite.get-remove keys_total s.items k q ∙ ap (λ t. cond t None (finite.get s.items q)) is in
+    λ j. record { item = gets j; used = was_used s q }
+
+-- ---- what is kept of touched keys
+
+module _ (v : View) (c : Changes) (over : LieOver v c) where
+  -- a key that isn't touched isn't used
+  pub unused : (k : Key) → is_touched c k ≡ false → was_used c.view k ≡ false
+  unused k fresh = by_use (was_used c.view k) refl
+    where
+      by_use : (b : Bool) → was_used c.view k ≡ b → b ≡ false
+      by_use true is = absurd (true≢false (sym (over.touched k is) ∙ fresh))
+      by_use false is = refl
+
+  pub stood_so : (k : Key) → is_touched c k ≡ true → IsStood (stood_in c.touched k) (key_view v k)
+  stood_so k noted = by_touch (finite.get c.touched k) refl noted
+    where
+      by_touch : (o : Option Touch) → finite.get c.touched k ≡ o → is_some o ≡ true → IsStood (option_map_or (λ t. t.stood) o Never) (key_view v k)
+      by_touch None is h = absurd (true≢false (sym h))
+      by_touch (Some t) is h = (over.each k t is).stood
+
+  -- where the changes haven't used a touched key the last view has nothing there
+  pub none_there : (k : Key) → is_touched c k ≡ true → was_used c.view k ≡ false → finite.get v.items k ≡ None
+  none_there k noted fresh = by_touch (finite.get c.touched k) refl noted
+    where
+      by_stood : (t : Touch) → IsTouch k t (key_view v k) (key_view c.view k) → (stood : Stood) → t.stood ≡ stood → IsStood stood (key_view v k) → finite.get v.items k ≡ None
+      by_stood t h Never is so = so.0
+      by_stood t h Past is so = so.0
+      by_stood t h (Since b) is so = absurd (true≢false (sym (h.copied b is) ∙ fresh))
+
+      by_touch : (o : Option Touch) → finite.get c.touched k ≡ o → is_some o ≡ true → finite.get v.items k ≡ None
+      by_touch None is h = absurd (true≢false (sym h))
+      by_touch (Some t) is h = by_stood t (over.each k t is) t.stood refl (over.each k t is).stood
+
+  module _ (k : Key) (x : Touch) (s : View) where
+    -- where the changes differ at one key, what is kept of the others is so still
+    each_then : ((q : Key) → tie q k ≡ false → key_view s q ≡ key_view c.view q) → IsTouch k x (key_view v k) (key_view s k)
+        → (q : Key) (t : Touch) → finite.get (finite.insert c.touched k x) q ≡ Some t → IsTouch q t (key_view v q) (key_view s q)
+    each_then same here q t there = by_tie (tie q k) refl (sym (finite.get-insert keys_total c.touched k x q) ∙ there)
+      where
+        by_tie : (b : Bool) → tie q k ≡ b → cond b (Some x) (finite.get c.touched q) ≡ Some t → IsTouch q t (key_view v q) (key_view s q)
+        by_tie true is eq =
+            let one : x ≡ t = cc in
+            let key : q ≡ k = same_key q k is in
+            subst (λ (p : Key × Touch). IsTouch p.0 p.1 (key_view v p.0) (key_view s p.0)) (λ i. (sym key i, one i)) here
+        by_tie false is eq = subst (λ (a : KeyView). IsTouch q t (key_view v q) a) (sym (same q is)) (over.each q t eq)
+
+    touched_then : ((q : Key) → tie q k ≡ false → key_view s q ≡ key_view c.view q) → (q : Key) → was_used s q ≡ true → is_some (finite.get (finite.insert c.touched k x) q) ≡ true
+    touched_then same q used = ap is_some (finite.get-insert keys_total c.touched k x q) ∙ by_tie (tie q k) refl
+      where
+        by_tie : (b : Bool) → tie q k ≡ b → is_some (cond b (Some x) (finite.get c.touched q)) ≡ true
+        by_tie true is = refl
+        by_tie false is = over.touched q (sym (ap (λ (a : KeyView). a.used) (same q is)) ∙ used)
+
+    over_then : IsLawfulView s → ((q : Key) → tie q k ≡ false → key_view s q ≡ key_view c.view q) → IsTouch k x (key_view v k) (key_view s k) → LieOver v (record { view = s; touched = finite.insert c.touched k x })
+    over_then lawful same here = record { lawful = lawful; touched = touched_then same; each = each_then same here }
+
+-- ---- a key is touched
+
+module _ (v : View) (c : Changes) (last : IsLawfulView v) (over : LieOver v c) (k : Key) (stood : Stood) (fresh : is_touched c k ≡ false) (so : IsStood stood (key_view v k)) where
+  abbrev first : Touch
+  first = record { stood = stood; last = None }
+
+  touched_over : (o : Option Item) → finite.get v.items k ≡ o → LieOver v (with_touched c k stood o)
+  touched_over None is = over_then v c over k first c.view over.lawful (λ q fresh. refl) here
+    where
+      here : IsTouch k first (key_view v k) (key_view c.view k)
+      here = record {
+        stood = so;
+        copied = λ b since. let both : IsStood (Since b) (key_view v k) = subst (λ (d : Stood). IsStood d (key_view v k)) since so in absurd (true≢false (sym both.0 ∙ ap is_some is));
+        last = (λ used. absurd (true≢false (sym used ∙ unused v c over k fresh)), λ there. absurd (true≢false (sym (over.lawful.used k there) ∙ unused v c over k fresh)));
+      }
+  touched_over (Some i) is = over_then v c over k first (with_item c.view i) (lawful_put c.view i over.lawful) (λ q other. item_else c.view i q (ap (tie q) key ∙ other)) here
+    where
+      key : key_of i ≡ k
+      key = last.keyed k i is
+
+      now : key_view (with_item c.view i) k ≡ record { item = Some i; used = true }
+      now = subst (λ (q : Key). key_view (with_item c.view i) q ≡ record { item = Some i; used = true }) key (item_here c.view i)
+
+      copy : IsTouch k first (key_view v k) (record { item = Some i; used = true })
+      copy = record { stood = so; copied = λ b since. refl; last = (λ used. last.used k (ap is_some is), λ there. sym is) }
+
+      here : IsTouch k first (key_view v k) (key_view (with_item c.view i) k)
+      here = subst (λ (a : KeyView). IsTouch k first (key_view v k) a) (sym now) copy
+
+  touched_laid : laid v c.view ≡ laid v (with_some c.view (finite.get v.items k))
+  touched_laid =
+      sym (key_copied v c.view last over.lawful k) ∙ ap (λ b. laid v (cond b c.view (with_some c.view (finite.get v.items k)))) (unused v c over k fresh)
+
+-- ---- an item is put
+
+put_over : (v : View) (c : Changes) → LieOver v c → (i : Item) → is_touched c (key_of i) ≡ true → LieOver v (with_put c i)
+put_over v c over i noted = over_then v c over k x (with_item c.view i) (lawful_put c.view i over.lawful) (item_else c.view i) (subst (λ (a : KeyView). IsTouch k x (key_view v k) a) (sym (item_here c.view i)) here)
+  where
+    k : Key
+    k = key_of i
+
+    x : Touch
+    x = record { stood = stood_in c.touched (key_of i); last = Some i }
+
+    here : IsTouch (key_of i) (record { stood = stood_in c.touched (key_of i); last = Some i }) (key_view v (key_of i)) (record { item = Some i; used = true })
+    here = record { stood = stood_so v c over (key_of i) noted; copied = λ b since. refl; last = (refl, λ there. refl, refl) }
+
+-- ---- an item is taken
+
+dropped : (o : Option Item) (k : Key) (before now : KeyView) → IsLast o k before now → IsLast o k before (record { item = None; used = now.used })
+dropped None k before now h = (h.0, λ some. absurd (true≢false (sym some)))
+dropped (Some i) k before now h = (h.0, λ some. absurd (true≢false (sym some)), h.2)
+
+taken_over : (v : View) (c : Changes) → LieOver v c → (k : Key) → LieOver v (with_taken c k)
+taken_over v c over k = record { lawful = lawful_taken c.view k over.lawful; touched = over.touched; each = each }
+  where
+    each : (q : Key) (t : Touch) → finite.get c.touched q ≡ Some t → IsTouch q t (key_view v q) (key_view (without_key c.view k) q)
+    each q t there = by_tie (tie q k) refl
+      where
+        was : IsTouch q t (key_view v q) (key_view c.view q)
+        was = over.each q t there
+
+        by_tie : (b : Bool) → tie q k ≡ b → IsTouch q t (key_view v q) (key_view (without_key c.view k) q)
+        by_tie true is =
+            let none : IsTouch q t (key_view v q) (record { item = None; used = was_used c.view q }) =
+            record { stood = was.stood; copied = was.copied; last = dropped t.last q (key_view v q) (key_view c.view q) was.last } in
+            subst (λ (a : KeyView). IsTouch q t (key_view v q) a) (sym (taken_at c.view k q true is)) none
+        by_tie false is = subst (λ (a : KeyView). IsTouch q t (key_view v q) a) (sym (taken_at c.view k q false is)) was
+
+-- ---- what the working view has
+
+either : (a b : Bool) → (a || b) ≡ (b || a)
+either true true = refl
+either true false = refl
+either false true = refl
+either false false = refl
+
+or_true : (b : Bool) → true ≡ (b || true)
+or_true true = refl
+or_true false = refl
+
+module _ (v : View) (c : Changes) (over : LieOver v c) (k : Key) where
+  laid_view : key_view (laid v c.view) k ≡ record { item = cond (was_used c.view k) (finite.get c.view.items k) (finite.get v.items k); used = was_used v k || was_used c.view k }
+  laid_view = λ i. record { item = at_key v c.view over.lawful k i; used = used_at v c.view k i }
+
+  there_item : is_touched c k ≡ true → (b : Bool) → was_used c.view k ≡ b → cond b (finite.get c.view.items k) (finite.get v.items k) ≡ finite.get c.view.items k
+  there_item noted true is = refl
+  there_item noted false is = none_there v c over k noted is ∙ sym (no_item (finite.get c.view.items k) refl)
+    where
+      no_item : (o : Option Item) → finite.get c.view.items k ≡ o → o ≡ None
+      no_item None there = refl
+      no_item (Some i) there = absurd (true≢false (sym (over.lawful.used k (ap is_some there)) ∙ is))
+
+  there_used : (stood : Stood) → IsStood stood (key_view v k) → (was_used v k || was_used c.view k) ≡ (was_used c.view k || was_there stood)
+  there_used Never so = ap (λ b. b || was_used c.view k) so.1 ∙ either false (was_used c.view k)
+  there_used Past so = ap (λ b. b || was_used c.view k) so.1 ∙ or_true (was_used c.view k)
+  there_used (Since b) so = ap (λ b. b || was_used c.view k) so.1 ∙ or_true (was_used c.view k)
+
+  told_there : is_touched c k ≡ true → key_view (laid v c.view) k ≡ told c k
+  told_there noted =
+      let items = there_item noted (was_used c.view k) refl in
+      let uses = there_used (stood_in c.touched k) (stood_so v c over k noted) in
+      laid_view ∙ (λ i. record { item = items i; used = uses i })
+
+  told_elsewhere : is_touched c k ≡ false → key_view (laid v c.view) k ≡ key_view v k
+  told_elsewhere fresh =
+      let none = unused v c over k fresh in
+      let items = ap (λ b. cond b (finite.get c.view.items k) (finite.get v.items k)) none in
+      let uses = ap (λ b. was_used v k || b) none ∙ either (was_used v k) false in
+      laid_view ∙ (λ i. record { item = items i; used = uses i })
+
+-- ---- what is written
+
+own_row : (v : View) (c : Changes) → LieOver v c → (k : Key) (r : NewRow) → (writing_at c k).adds ≡ Some r → key_of r.item ≡ k
+own_row v c over k r is = by_touch (finite.get c.touched k) refl is
+  where
+    by_last : (t : Touch) → finite.get c.touched k ≡ Some t → (b : Bool) (o : Option Item) → t.last ≡ o → option_map (λ i. let x : NewRow = record { item = i; current = b } in x) o ≡ Some r → key_of r.item ≡ k
+    by_last t there b None last h = let none : None ≡ Some r = h in cc
+    by_last t there b (Some i) last h =
+        let so : IsLast (Some i) k (key_view v k) (key_view c.view k) = subst (λ (o : Option Item). IsLast o k (key_view v k) (key_view c.view k)) last (over.each k t there).last in
+        let row : NewRow = record { item = i; current = b } in
+        let same : row ≡ r = cc in
+        ap (λ (x : NewRow). key_of x.item) (sym same) ∙ so.2
+
+    by_touch : (o : Option Touch) → finite.get c.touched k ≡ o → (option_map_or (λ t. writing_of t (is_some (finite.get c.view.items k))) o (record { closes = None; adds = None })).adds ≡ Some r → key_of r.item ≡ k
+    by_touch None there h = let none : None ≡ Some r = h in cc
+    by_touch (Some t) there h = by_last t there (is_some (finite.get c.view.items k)) t.last refl h
+
+-- ---- all together
+
+nothing_over : (v : View) → LieOver v no_changes
+nothing_over v = record {
+  lawful = lawful_empty;
+  touched = λ k used. absurd (true≢false (sym used ∙ used_none k));
+  each = λ k t there. let none : Some t ≡ None = sym there ∙ finite.get-empty key_cmp k in cc;
+}
+
+pub changes_make : ChangesMake
+changes_make = record {
+  nothing = λ v. record { over = nothing_over v; is_laid = sym (nothing v) };
+  touched = λ v c w last made k stood fresh so.
+      record { over = touched_over v c last made.over k stood fresh so (finite.get v.items k) refl; is_laid = made.is_laid ∙ touched_laid v c last made.over k stood fresh so };
+  put = λ v c w made i noted.
+      record { over = put_over v c made.over i noted; is_laid = ap (λ (u : View). with_item u i) made.is_laid ∙ put v c.view made.over.lawful i };
+  taken = λ v c w made k noted.
+      record { over = taken_over v c made.over k; is_laid = ap (λ (u : View). without_key u k) made.is_laid ∙ taken v c.view made.over.lawful k (none_there v c made.over k noted) };
+  there = λ v c w made k noted. ap (λ (u : View). key_view u k) made.is_laid ∙ told_there v c made.over k noted;
+  elsewhere = λ v c w made k fresh. ap (λ (u : View). key_view u k) made.is_laid ∙ told_elsewhere v c made.over k fresh;
+  own = λ v c w made k r is. own_row v c made.over k r is;
+}

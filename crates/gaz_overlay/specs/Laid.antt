@@ -1,0 +1,31 @@
+-- A view with changes laid over it.
+use Rattle.std.specs.Prelude.{not, Bool, ◌++◌, List, Option, Some, None, if◌then◌else◌}
+use Rattle.std.specs.FinMap as map
+use Rattle.std.specs.FinSet as set
+use Rattle.std.specs.List.{list_any}
+use Rattle.gaz_records.specs.declared.item.Item.{Item}
+use Rattle.gaz_records.specs.declared.key.Key.{Key}
+use Rattle.gaz_views.specs.View.{View, was_used, with_item}
+
+-- the changes have nothing to say of the key
+abbrev pub untouched : View → Key → Bool
+untouched s k = not (was_used s k)
+
+-- or of one of these
+abbrev pub any_untouched : View → List Key → Bool
+any_untouched s keys = list_any (untouched s) keys
+
+-- at a key that the changes have used what they have, else what the view has; used is what either has used
+unfoldable pub laid : View → View → View
+laid v s = record {
+  items = map.from_entries (map.entries s.items ++ map.entries (map.retain_keys v.items (untouched s)));
+  used = set.union v.used s.used;
+}
+
+abbrev pub with_some : View → Option Item → View
+with_some s None = s
+with_some s (Some i) = with_item s i
+
+-- the changes with the item that the view has at a key, where they haven't used it
+abbrev pub with_copied : View → Key → Option Item → View
+with_copied s k item = if was_used s k then s else with_some s item

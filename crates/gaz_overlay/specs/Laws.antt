@@ -1,0 +1,25 @@
+-- What laid views keep to.
+use Rattle.std.specs.Prelude.{◌≡◌, ◌||◌, false, if◌then◌else◌, None}
+use Rattle.std.specs.FinMap as map
+use Rattle.gaz_records.specs.declared.item.Item.{Item}
+use Rattle.gaz_records.specs.declared.key.Key.{Key}
+use Rattle.gaz_views.specs.Lawful.{IsLawfulView}
+use Rattle.gaz_views.specs.View.{View, empty_view, was_used, with_item, without_key}
+use Rattle.gaz_overlay.specs.Laid.{laid, with_copied}
+
+-- what a laid view has at a key
+pub record LaidAt (v s : View) (k : Key) : Type 0 where
+  pub item : map.get (laid v s).items k ≡ (if was_used s k then map.get s.items k else map.get v.items k)
+  pub used : was_used (laid v s) k ≡ (was_used v k || was_used s k)
+
+-- a change of the laid view is one of the changes; where there are none the view is as it was
+pub record LaidViews : Type 0 where
+  pub at : (v s : View) → IsLawfulView s → (k : Key) → LaidAt v s k
+  pub nothing : (v : View) → laid v empty_view ≡ v
+  pub lawful : (v s : View) → IsLawfulView v → IsLawfulView s → IsLawfulView (laid v s)
+  pub put : (v s : View) → IsLawfulView s → (i : Item) → with_item (laid v s) i ≡ laid v (with_item s i)
+  -- a key that the changes have used, or at which the view has nothing, is taken
+  pub taken : (v s : View) → IsLawfulView s → (k : Key) → (was_used s k ≡ false → map.get v.items k ≡ None) → without_key (laid v s) k ≡ laid v (without_key s k)
+  -- to copy what the view has at a key alters nothing, and the key can be taken then
+  pub copied : (v s : View) → IsLawfulView v → IsLawfulView s → (k : Key) → laid v (with_copied s k (map.get v.items k)) ≡ laid v s
+  pub ready : (v s : View) → IsLawfulView v → (k : Key) → was_used (with_copied s k (map.get v.items k)) k ≡ false → map.get v.items k ≡ None

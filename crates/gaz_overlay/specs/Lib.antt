@@ -1,0 +1,10 @@
+pub mod Laid
+pub mod Changes
+pub mod ChangesCode
+pub mod Writings
+pub mod Over
+pub mod Making
+pub mod Rows
+pub mod Laws
+pub mod Questions
+pub mod Examples

@@ -1,0 +1,30 @@
+-- What each change makes of the working view.
+use Rattle.std.specs.Prelude.{◌≡◌, true, false, Some}
+use Rattle.std.specs.FinMap as map
+use Rattle.gaz_records.specs.Keys.{key_of}
+use Rattle.gaz_records.specs.declared.item.Item.{Item}
+use Rattle.gaz_records.specs.declared.key.Key.{Key}
+use Rattle.gaz_views.specs.Lawful.{IsLawfulView}
+use Rattle.gaz_views.specs.View.{View, with_item, without_key}
+use Rattle.gaz_overlay.specs.Changes.{Changes, is_touched, no_changes, was_used_in, with_put, with_taken, with_touched}
+use Rattle.gaz_overlay.specs.Over.{IsStood, KeyView, Make, key_view}
+use Rattle.gaz_overlay.specs.Writings.{writing_at}
+use Rattle.gaz_overlay.specs.declared.touch.NewRow.{NewRow}
+use Rattle.gaz_overlay.specs.declared.touch.Stood.{Stood}
+
+-- what the working view has at a touched key
+abbrev pub told : Changes → Key → KeyView
+told c k = record { item = map.get c.view.items k; used = was_used_in c k }
+
+-- no changes make the last view; to touch a key alters nothing, to put and to take do just that; and
+-- the changes alone say what the working view has at touched keys, the last view what it has at others;
+-- what is to be written for a key is an item of that key
+pub record ChangesMake : Type 0 where
+  pub nothing : (v : View) → Make v no_changes v
+  pub touched : (v : View) (c : Changes) (w : View) → IsLawfulView v → Make v c w → (k : Key) (stood : Stood) → is_touched c k ≡ false
+      → IsStood stood (key_view v k) → Make v (with_touched c k stood (map.get v.items k)) w
+  pub put : (v : View) (c : Changes) (w : View) → Make v c w → (i : Item) → is_touched c (key_of i) ≡ true → Make v (with_put c i) (with_item w i)
+  pub taken : (v : View) (c : Changes) (w : View) → Make v c w → (k : Key) → is_touched c k ≡ true → Make v (with_taken c k) (without_key w k)
+  pub there : (v : View) (c : Changes) (w : View) → Make v c w → (k : Key) → is_touched c k ≡ true → key_view w k ≡ told c k
+  pub elsewhere : (v : View) (c : Changes) (w : View) → Make v c w → (k : Key) → is_touched c k ≡ false → key_view w k ≡ key_view v k
+  pub own : (v : View) (c : Changes) (w : View) → Make v c w → (k : Key) (r : NewRow) → (writing_at c k).adds ≡ Some r → key_of r.item ≡ k

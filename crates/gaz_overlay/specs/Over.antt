@@ -1,0 +1,50 @@
+-- Changes that lie over a last view and make a working one of it.
+use Rattle.std.specs.Prelude.{◌≡◌, true, false, ℕ, Bool, Option, Some, None, is_some}
+use Rattle.std.specs.FinMap as map
+use Rattle.gaz_records.specs.Keys.{key_of}
+use Rattle.gaz_records.specs.declared.item.Item.{Item}
+use Rattle.gaz_records.specs.declared.key.Key.{Key}
+use Rattle.gaz_views.specs.Lawful.{IsLawfulView}
+use Rattle.gaz_views.specs.View.{View, was_used}
+use Rattle.gaz_overlay.specs.Changes.{Changes, is_touched}
+use Rattle.gaz_overlay.specs.Laid.{laid}
+use Rattle.gaz_overlay.specs.declared.touch.Stood.{Stood}
+use Rattle.gaz_overlay.specs.declared.touch.Stood.TheVariants.{Never, Past, Since}
+use Rattle.gaz_overlay.specs.declared.touch.Touch.{Touch}
+
+-- what a view has at a key
+pub record KeyView : Type 0 where
+  pub item : Option Item
+  pub used : Bool
+
+abbrev pub key_view : View → Key → KeyView
+key_view v k = record { item = map.get v.items k; used = was_used v k }
+
+-- it stood so at a key of the last view
+abbrev pub IsStood : Stood → KeyView → Type 0
+IsStood Never before = (before.item ≡ None) × (before.used ≡ false)
+IsStood Past before = (before.item ≡ None) × (before.used ≡ true)
+IsStood (Since volume) before = (is_some before.item ≡ true) × (before.used ≡ true)
+
+-- this item was put last at a key, so that no other stands there; where none was put, only what
+-- stood there before may stand
+abbrev pub IsLast : Option Item → Key → KeyView → KeyView → Type 0
+IsLast None k before now = (now.used ≡ true → before.used ≡ true) × (is_some now.item ≡ true → now.item ≡ before.item)
+IsLast (Some i) k before now = (now.used ≡ true) × (is_some now.item ≡ true → now.item ≡ Some i) × (key_of i ≡ k)
+
+-- what is kept of a touched key is so, and an item that stood there before is copied
+pub record IsTouch (k : Key) (t : Touch) (before now : KeyView) : Type 0 where
+  pub stood : IsStood t.stood before
+  pub copied : (volume : ℕ) → t.stood ≡ Since volume → now.used ≡ true
+  pub last : IsLast t.last k before now
+
+-- the changes were made on a view, touched keys alone
+pub record LieOver (v : View) (c : Changes) : Type 0 where
+  pub lawful : IsLawfulView c.view
+  pub touched : (k : Key) → was_used c.view k ≡ true → is_touched c k ≡ true
+  pub each : (k : Key) (t : Touch) → map.get c.touched k ≡ Some t → IsTouch k t (key_view v k) (key_view c.view k)
+
+-- they make this working view of it
+pub record Make (v : View) (c : Changes) (working : View) : Type 0 where
+  pub over : LieOver v c
+  pub is_laid : working ≡ laid v c.view

@@ -1,0 +1,13 @@
+//! A view with changes laid over it: the last view stays where it is, the changes that a judgement
+//! makes stand beside it, and each touched key says what is to be written for it.
+#![tactic(auto)]
+
+mod answers;
+pub mod laws;
+mod merging;
+mod overlay;
+mod touch;
+mod touches;
+
+pub use overlay::Overlay;
+pub use touch::{NewRow, Stood, Writing};
