@@ -1,3 +1,4 @@
+pub mod Examples
 pub mod Growing
 pub mod Making
 pub mod MetaTexts

@@ -1,4 +1,5 @@
 pub mod Creating
+pub mod Examples
 pub mod Metas
 pub mod Receiveds
 pub mod Schema
