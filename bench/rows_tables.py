@@ -70,6 +70,7 @@ class Floor:
             places = (scattered(turn, self.count) for turn in range(first, min(first + VOLUME, self.count)))
             self.write(self.versions["insert"], ((CUST, ADDRESS, f"{k:012}", k, k // 50, 1, 1, 1, 1_000_000, BODY) for k in places))
         self.tell("insert", self.count, self.count, start)
+        self.conn.execute("ANALYZE")  # without it sqlite3 walks all rows of a kind for the first on a street
 
     def page(self):
         pages, rows, after, start = 0, 0, "", time.perf_counter_ns()

@@ -1,7 +1,7 @@
 -- What the definitions come to on worked examples.
 use Rattle.std.proofs.Common.{◌≡◌, ◌⊎◌, ◌∙◌, inl, inr, ℕ, ◌<◌, ◌+◌, ◌≤◌, zero, suc, ℤ, pos, ◌≤ℤ◌, ◌<ℤ◌, Bool, true, false, List, [], ◌∷◌, refl, sym, ap, subst, arith, codes}
 use Rattle.std.specs.Prelude.{◌==◌, ◌||◌, slice_index_or}
-use Rattle.std.specs.Ordering.{is_lt, nat_cmp, on}
+use Rattle.std.specs.Ordering.{is_lt, nat_cmp}
 use Rattle.std.specs.Cmp.Lexicographic.{slice_cmp}
 use Rattle.std.specs.declared.cmp.Ordering.TheVariants.{Greater}
 use Rattle.sqlite_value.proofs.OrderLemmas.{value_cmp-Text}
@@ -9,10 +9,10 @@ use Rattle.sqlite.specs.Order.{Row, column, value_cmp}
 use Rattle.sqlite.specs.declared.types.Value.{Value}
 use Rattle.sqlite.specs.declared.types.Value.TheVariants.{Int, Text}
 use Rattle.sqlite_rules.specs.Lists.{Has}
-use Rattle.gaz_tables.specs.Shows.{Picks, ShowsPage}
+use Rattle.gaz_tables.specs.Shows.{Picks}
 use Rattle.gaz_tables.specs.Examples.{WorkedVersions, WorkedReceiveds, WorkedExamples, flat_2, flat_3, shop, house, four_rows, rejected_1, held_3, of_1002, three_files}
-use Rattle.gaz_tables.specs.Receiveds.{IsVolume, IsAbove, volume_shown}
-use Rattle.gaz_tables.specs.Versions.{IsOfKey, IsOfKeyUntil, IsApprovedOf, IsHolding, IsOfBirth, Closes, FindsNewest, FindsNewestUntil, body_shown, gone_at, id_place, life_shown}
+use Rattle.gaz_tables.specs.Receiveds.{IsVolume, IsAbove}
+use Rattle.gaz_tables.specs.Versions.{IsOfKey, IsOfKeyUntil, IsApprovedOf, IsHolding, IsOfBirth, Closes, FindsNewest, FindsNewestUntil, gone_at, id_place, life_shown}
 
 -- the row of this rowid
 abbrev numbered : ℕ → Row → Bool

@@ -17,6 +17,7 @@ use Rattle.gaz_tables.specs.Shows.{ShowsAll, ShowsPage}
 use Rattle.gaz_sql_facts.proofs.Equal.{same_int}
 use Rattle.gaz_tables.proofs.Shown.{answered}
 use Rattle.gaz_tables.proofs.Unique.{one_row, page_rises, at_most_one}
+use Rattle.gaz_tables.specs.Laws.{ReceivedOnce}
 use Rattle.gaz_tables.specs.Receiveds.{AtMostOne, FindsAbove, IsAbove, IsVolume, cust_of, volume_of, volume_place, volume_shown}
 use Rattle.gaz_tables.specs.Schema.{received, receiveds}
 use Rattle.gaz_tables.specs.Stores.{HasTables}
@@ -47,3 +48,6 @@ module _ (db : Database) (has : HasTables db) where
         let same : fr.above.0 ≡ fs.above.0 = exact_signed fr.above.0 fs.above.0 (sym (value_cmp-Int fr.above.0 fs.above.0) ∙ (rw (m, n) at tie)) in
         once s r here there _ fr.above.0 fs.of_cust fr.of_cust (n ∙ ap Int (sym same)) m) h;
   }
+
+pub received_once : ReceivedOnce
+received_once db cust volume r s has there here fr fs = once db has r s there here _ _ fr.of_cust fs.of_cust fr.of_volume fs.of_volume

@@ -3,8 +3,8 @@ use Rattle.std.specs.Prelude.{◌≡◌, pos, List, [], ◌∷◌, codes, true, 
 use Rattle.sqlite.specs.Order.{Row}
 use Rattle.sqlite.specs.declared.types.Value.TheVariants.{Int, Text, Blob}
 use Rattle.gaz_tables.specs.Metas.{meta_row, meta_shown}
-use Rattle.gaz_tables.specs.Receiveds.{FindsAbove, FindsVerdict, file_shown, judged, unjudged, verdict_shown}
-use Rattle.gaz_tables.specs.Versions.{Closes, FindsApprovedOf, FindsHolding, FindsNewest, FindsNewestUntil, body_shown, gone_at, life_shown, version_values}
+use Rattle.gaz_tables.specs.Receiveds.{FindsAbove, FindsVerdict, file_shown, judged, unjudged}
+use Rattle.gaz_tables.specs.Versions.{Closes, FindsApprovedOf, FindsHolding, FindsNewest, FindsNewestUntil, gone_at, version_values}
 
 -- an address of 1001 that was changed at volume 3, a historical one of the same BLPU, and one of 1002
 abbrev pub flat_2 : Row
