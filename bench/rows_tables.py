@@ -132,7 +132,7 @@ def count_rows(folder, count, rounds):
             before = best.get(name, (ours[name][2], theirs[name][2]))
             best[name] = min(before[0], ours[name][2]), min(before[1], theirs[name][2])
     for name, (ours, theirs) in best.items():
-        yield f"{TITLES[name]}, {count:,} rows", f"{ours / 1e3:,.1f} µs, sqlite3 {theirs / 1e3:,.1f} µs", f"{ours / theirs:.1f} times its time"
+        yield f"{TITLES[name]}, {count:,} rows", f"{ours / 1e3:,.1f} µs, sqlite3 {theirs / 1e3:,.1f} µs", f"{ours / theirs:.1f} times sqlite3's time"
 
 
 def rows(folder):
