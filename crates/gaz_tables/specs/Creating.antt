@@ -1,31 +1,16 @@
 -- How the tables and indexes of a new store are made, one by one.
-use Rattle.std.specs.Prelude.{◌≡◌, ℕ, List, [], ◌∷◌, codes, Result, OnOk, OnErr, IsTrue}
+use Rattle.std.specs.Prelude.{◌≡◌, ℕ, List, [], ◌∷◌, Result, OnOk, OnErr, IsTrue}
 use Rattle.std.specs.List.{AllByRecursion}
 use Rattle.sqlite.specs.declared.error.Error.{Error}
 use Rattle.sqlite.specs.Effect.{Database, IsDatabase}
 use Rattle.sqlite.specs.Schema.{Schema}
 use Rattle.sqlite.specs.Held.{Held, state}
 use Rattle.sqlite.specs.State.{State, HasCleanDisk, Survives}
-use Rattle.sqlite_schema.specs.declared.schema.Index.{Index}
 use Rattle.sqlite_trees.specs.declared.store.Store.{Ghosts}
-use Rattle.sqlite_catalog.specs.Listing.{automatic}
 use Rattle.gaz_sql_facts.specs.Changes.{IsAdded, IsUndone}
 use Rattle.gaz_tables.specs.Metas.{meta_row}
-use Rattle.gaz_tables.specs.Schema.{version, received, index_of, versions, receiveds, metas}
+use Rattle.gaz_tables.specs.Schema.{version, received, of_keys, by_blpu, by_street, of_volumes, versions, receiveds, metas}
 use Rattle.gaz_tables.specs.Stores.{HasTables}
-
--- the indexes, in the order in which they are made
-abbrev of_keys : Index
-of_keys = automatic version 0 (1 ∷ 2 ∷ 3 ∷ 8 ∷ []) 1
-
-abbrev by_blpu : Index
-by_blpu = index_of (codes "by_blpu") 2 (1 ∷ 2 ∷ 4 ∷ 9 ∷ [])
-
-abbrev by_street : Index
-by_street = index_of (codes "by_street") 3 (1 ∷ 2 ∷ 5 ∷ 9 ∷ [])
-
-abbrev of_volumes : Index
-of_volumes = automatic received 0 (1 ∷ 2 ∷ []) 5
 
 -- the schema as it grows
 abbrev pub no_schema : Schema
