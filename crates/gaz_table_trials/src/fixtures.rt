@@ -1,26 +1,32 @@
 //! Stores to try statements on.
 ghost use Rattle.std.specs.Prelude.{◌≡◌, false, IfOk};
 
-use gaz_tables::creating::create;
 use gaz_tables::{receiveds, versions};
-use sqlite::{Alter, Connection, Error, ErrorCode, FileStore, Files, Options};
-use sqlite_disk::Memory;
+use sqlite::{Alter, Connection, Error, ErrorCode, File, FileStore};
 use std::alloc::Global;
+use std::hash::{BuildHasher, RandomState};
+use std::{env, fs, io};
 
-/// A store of the tables on a file, which is in memory.
-pub fn on_file(alloc: Global) -> Result<Connection<FileStore<Memory>>, Error>
+/// The path of a new folder for files, in that of the system for what passes.
+pub fn new_folder(rt: &HostRuntime) -> io::Result<String> {
+    let number = RandomState::new(rt)?.hash_one(&0u8);
+    let passing = env::temp_dir(rt)?;
+    let folder = format!(in rt.alloc(); "{}/gaz-tables-{number}", passing.as_str())?;
+    fs::create_dir(rt, folder.as_str())?;
+    Ok(folder)
+}
+
+/// A connection to a file in this folder, which is made where there is none.
+pub fn on_file(
+    rt: &HostRuntime,
+    folder: &str,
+    name: &str,
+) -> Result<Connection<FileStore<File>>, Error>
     ensures { IfOk result (λ conn. conn.in_transaction ≡ false) }
 {
-    let files = Files {
-        log: Memory::new(alloc),
-        db: Memory::new(alloc),
-    };
-    match Connection::open_files(alloc, files, Options::new(1)) {
-        Ok(mut conn) => {
-            create(&mut conn, 1, "register")?;
-            Ok(conn)
-        }
-        Err(_) => Err(Error::SqliteFailure(ErrorCode::CannotOpen)),
+    match format!(in rt.alloc(); "{folder}/{name}") {
+        Ok(path) => Connection::open(rt, path.as_str()),
+        Err(_) => Err(Error::SqliteFailure(ErrorCode::OutOfMemory)),
     }
 }
 

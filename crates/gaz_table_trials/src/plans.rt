@@ -1,11 +1,12 @@
 //! Each statement's least step limit over few and over many rows.
-ghost use Rattle.std.specs.Prelude.{◌≡◌, false, IfOk};
+ghost use Rattle.std.specs.Prelude.{◌≡◌, false};
 
-use crate::fixtures::{fill, live_on, on_file, receive};
+use crate::fixtures::{fill, live_on, new_folder, on_file, receive};
+use gaz_tables::creating::create;
 use gaz_tables::{metas, receiveds, versions};
-use sqlite::{Alter, Connection, Error, FileStore};
-use sqlite_disk::Memory;
+use sqlite::{Alter, Connection, Error};
 use std::alloc::Global;
+use std::fs;
 
 /// The statements, each on one key.
 #[derive(Clone, Copy, Debug)]
@@ -49,17 +50,23 @@ const CALLS: [Call; 17] = [
     Call::Rewrite,
 ];
 
-fn store(alloc: Global, others: u32, dead: u32) -> Result<Connection<FileStore<Memory>>, Error>
-    ensures { IfOk result (λ conn. conn.in_transaction ≡ false) }
+/// Makes the tables with so many rows of other keys and so many dead versions of the key.
+fn stock<S: Alter>(
+    alloc: Global,
+    conn: &mut Connection<S>,
+    others: u32,
+    dead: u32,
+) -> Result<(), Error>
+    requires { conn.old.in_transaction ≡ false }
+    ensures { conn.new.in_transaction ≡ false }
 {
-    let mut conn = on_file(alloc)?;
-    live_on(&mut conn, 24, dead)?;
-    live_on(&mut conn, 21, dead)?;
-    fill(alloc, &mut conn, 24, others)?;
-    fill(alloc, &mut conn, 21, others)?;
-    receive(&mut conn, 8, others)?;
-    receive(&mut conn, 9, 5)?;
-    Ok(conn)
+    create(conn, 1, "register")?;
+    live_on(conn, 24, dead)?;
+    live_on(conn, 21, dead)?;
+    fill(alloc, conn, 24, others)?;
+    fill(alloc, conn, 21, others)?;
+    receive(conn, 8, others)?;
+    receive(conn, 9, 5)
 }
 
 fn write<S: Alter>(conn: &mut Connection<S>, call: Call) -> Result<usize, Error>
@@ -134,12 +141,17 @@ fn stays_quick<S: Alter>(conn: &mut Connection<S>, call: Call, limit: u64) -> bo
 
 #[test]
 fn no_call_walks_other_rows(rt: HostRuntime) {
-    let mut few = store(rt.alloc(), 20, 20).expect(&rt, "what a test is given");
-    let mut old = store(rt.alloc(), 20, 2_000).expect(&rt, "what a test is given");
-    let mut many = store(rt.alloc(), 20_000, 20).expect(&rt, "what a test is given");
+    let folder = new_folder(&rt).expect(&rt, "what a test is given");
+    let mut few = on_file(&rt, &folder, "few").expect(&rt, "what a test is given");
+    let mut old = on_file(&rt, &folder, "old").expect(&rt, "what a test is given");
+    let mut many = on_file(&rt, &folder, "many").expect(&rt, "what a test is given");
+    stock(rt.alloc(), &mut few, 20, 20).expect(&rt, "what a test is given");
+    stock(rt.alloc(), &mut old, 20, 2_000).expect(&rt, "what a test is given");
+    stock(rt.alloc(), &mut many, 20_000, 20).expect(&rt, "what a test is given");
     for call in CALLS {
         let limit = least(&mut few, call).saturating_mul(3);
         assert!(rt; passes(&mut many, call, limit), "{call:?} among many");
         assert!(rt; stays_quick(&mut old, call, limit), "{call:?} among old");
     }
+    fs::remove_dir_all(&rt, &folder).expect(&rt, "what a test is given");
 }

@@ -1,11 +1,12 @@
 //! Each statement on its happy path, and each refusal, on a store in memory and on a file.
 ghost use Rattle.std.specs.Prelude.{◌≡◌, false};
 
-use crate::fixtures::{live_on, on_file};
+use crate::fixtures::{live_on, new_folder, on_file};
 use gaz_tables::creating::create;
 use gaz_tables::{alone, metas, receiveds, versions};
 use sqlite::{Alter, Connection, Error, Row};
 use std::alloc::Global;
+use std::fs;
 
 /// One row closed, five refusals, and a row of each reading call: its cells, and the bytes of its texts and blobs.
 const TOLD: &str =
@@ -61,29 +62,47 @@ fn refusals<S: Alter>(conn: &mut Connection<S>) -> [bool; 5]
     [key, kind, received, meta, second]
 }
 
-/// What is written of all that a store is asked.
+/// What is written of the rows that the reading calls answer.
+fn shown<S: Alter>(alloc: Global, conn: &mut Connection<S>) -> Result<String, Error>
+    requires { conn.old.in_transaction ≡ false }
+    ensures { conn.new.in_transaction ≡ false }
+{
+    Ok(format!(in alloc; "{:?}", readings(conn)?)?)
+}
+
+/// What is written of all that a new store is asked.
 fn told<S: Alter>(alloc: Global, conn: &mut Connection<S>) -> Result<String, Error>
     requires { conn.old.in_transaction ≡ false }
     ensures { conn.new.in_transaction ≡ false }
 {
+    create(conn, 1, "register")?;
     live_on(conn, 24, 2)?;
     live_on(conn, 21, 2)?;
     let closed = writings(conn)?;
     alone::reject(conn, 9, 2, &3, 4)?;
     alone::rewrite(conn, 1, "another")?;
     let refused = refusals(conn);
-    let rows = readings(conn)?;
-    Ok(format!(in alloc; "{closed} {refused:?} {rows:?}")?)
+    let rows = shown(alloc, conn)?;
+    Ok(format!(in alloc; "{closed} {refused:?} {rows}")?)
 }
 
 #[test]
 fn every_statement_answers(rt: HostRuntime) {
     let mut memory = Connection::open_in_memory(rt.alloc()).expect(&rt, "what a test is given");
     assert!(rt; readings(&mut memory).is_err());
-    create(&mut memory, 1, "register").expect(&rt, "what a test is given");
-    let mut file = on_file(rt.alloc()).expect(&rt, "what a test is given");
     let of_memory = told(rt.alloc(), &mut memory).expect(&rt, "what a test is given");
-    let of_file = told(rt.alloc(), &mut file).expect(&rt, "what a test is given");
-    assert_eq!(rt; of_memory, of_file);
     assert_eq!(rt; of_memory.as_str(), TOLD);
+}
+
+#[test]
+fn a_file_answers_and_is_found_again(rt: HostRuntime) {
+    let folder = new_folder(&rt).expect(&rt, "what a test is given");
+    let mut file = on_file(&rt, &folder, "store").expect(&rt, "what a test is given");
+    let of_file = told(rt.alloc(), &mut file).expect(&rt, "what a test is given");
+    assert_eq!(rt; of_file.as_str(), TOLD);
+    drop(file);
+    let mut again = on_file(&rt, &folder, "store").expect(&rt, "what a test is given");
+    let rows = shown(rt.alloc(), &mut again).expect(&rt, "what a test is given");
+    assert!(rt; TOLD.ends_with(rows.as_str()), "{rows}");
+    fs::remove_dir_all(&rt, &folder).expect(&rt, "what a test is given");
 }

@@ -1,3 +1,4 @@
+pub mod Examples
 pub mod Growing
 pub mod Making
 pub mod MetaTexts
@@ -7,9 +8,12 @@ pub mod ReceivedQueries
 pub mod ReceivedRows
 pub mod ReceivedWrites
 pub mod Shown
+pub mod Staying
+pub mod Steps
 pub mod Tests
 pub mod Unique
 pub mod VersionMeanings
+pub mod VersionOnce
 pub mod VersionQueries
 pub mod VersionRows
 pub mod VersionWrites

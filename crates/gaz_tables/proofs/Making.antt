@@ -1,5 +1,5 @@
 -- What the texts that make the tables and indexes do.
-use Rattle.std.proofs.Common.{◌≡◌, ℕ, List, [], ◌∷◌, codes, false, None, Some, slice_get, Ok, Err, Result, OnOk, refl, sym, ap, subst, ◌∙◌}
+use Rattle.std.proofs.Common.{◌≡◌, ℕ, List, [], false, None, Some, slice_get, Ok, Err, Result, OnOk, refl, sym, ap, subst, ◌∙◌}
 use Rattle.sqlite_tied.specs.Compute.{everything}
 use Rattle.sqlite.specs.Compile.{table_defined_by, index_defined_by}
 use Rattle.sqlite.specs.Table.{Table}
@@ -15,7 +15,7 @@ use Rattle.sqlite.proofs.Callers.{IsPlain, command_of, statement_of, runs_as}
 use Rattle.sqlite_schema.specs.declared.schema.Index.{Index}
 use Rattle.sqlite_catalog.specs.Change.{KeepsRows}
 use Rattle.gaz_sql_facts.proofs.Inserts.{went, same_value}
-use Rattle.gaz_tables.specs.Schema.{version, version_text, version_checks, received, received_text, meta, meta_text, by_blpu_text, by_street_text, index_of, store_schema}
+use Rattle.gaz_tables.specs.Schema.{version, version_text, version_checks, received, received_text, meta, meta_text, by_blpu_text, by_street_text, by_blpu, by_street, store_schema}
 use Rattle.gaz_tables.specs.Creating.{no_schema, with_version, with_by_blpu, with_by_street, with_received, IsBare}
 
 -- the text makes this table of a database of this schema
@@ -50,11 +50,11 @@ pub makes_meta : IsTableText with_received meta_text (flat meta)
 unfolding understood everything
 makes_meta = record { is = refl; text = refl; plain = (refl, refl); defined = refl }
 
-pub makes_by_blpu : IsIndexText with_version by_blpu_text version (loose (index_of (codes "by_blpu") 2 (1 ∷ 2 ∷ 4 ∷ 9 ∷ [])))
+pub makes_by_blpu : IsIndexText with_version by_blpu_text version (loose by_blpu)
 unfolding understood everything
 makes_by_blpu = record { is = refl; text = refl; plain = (refl, refl); defined = refl }
 
-pub makes_by_street : IsIndexText with_by_blpu by_street_text version (loose (index_of (codes "by_street") 3 (1 ∷ 2 ∷ 5 ∷ 9 ∷ [])))
+pub makes_by_street : IsIndexText with_by_blpu by_street_text version (loose by_street)
 unfolding understood everything
 makes_by_street = record { is = refl; text = refl; plain = (refl, refl); defined = refl }
 

@@ -7,64 +7,36 @@ use Rattle.sqlite.specs.declared.error.Error.{Error}
 use Rattle.sqlite.specs.declared.types.Value.TheVariants.{Int}
 use Rattle.sqlite.specs.Effect.{Database}
 use Rattle.sqlite.specs.Order.{Row}
-use Rattle.sqlite.specs.Term.{col}
-use Rattle.gaz_sql_facts.specs.Selects.{rising, Selects}
+use Rattle.sqlite.specs.Term.{Term, col}
+use Rattle.gaz_sql_facts.specs.Selects.{rising, shows, Selects}
 use Rattle.gaz_tables.proofs.Shown.{answered, shows_all, shows_page}
 use Rattle.gaz_tables.proofs.Tests.{Test, SuitsAll, means, met}
 use Rattle.gaz_tables.specs.Schema.{receiveds}
+use Rattle.gaz_tables.specs.Shows.{ShowsAll}
 use Rattle.gaz_tables.specs.Stores.{HasTables}
-use Rattle.gaz_tables.specs.Receiveds.{IsVolume, IsAbove, FindsFile, FindsVerdict, FindsVolume, FindsAbove}
+use Rattle.gaz_tables.specs.Receiveds.{IsVolume, IsAbove, FindsAbove}
 use Rattle.gaz_tables.proofs.ReceivedRows.{cust_is, volume_is}
 use Rattle.gaz_tables.proofs.ReceivedOnce.{above_rises}
-use Rattle.gaz_tables.proofs.ReceivedQueries.{file_tests, file_terms, verdict_tests, verdict_terms, is_there_tests, is_there_terms, above_tests, above_terms}
+use Rattle.gaz_tables.proofs.ReceivedQueries.{volume_tests, above_tests, above_terms}
 
 module _ (db : Database) (has : HasTables db) where
-  module _ (cust : ℕ) (volume : ℕ) where
-    abbrev pub file_params : Row
-    file_params = Int (pos cust) ∷ Int (pos volume) ∷ []
+  module _ (cust volume : ℕ) where
+    abbrev volume_params : Row
+    volume_params = Int (pos cust) ∷ Int (pos volume) ∷ []
 
-    abbrev file_wanted : List Test
-    file_wanted = (1, Eq, Int (pos cust)) ∷ (2, Eq, Int (pos volume)) ∷ []
+    abbrev volume_wanted : List Test
+    volume_wanted = (1, Eq, Int (pos cust)) ∷ (2, Eq, Int (pos volume)) ∷ []
 
-    file_suits : (r : Row) → Has (db.trees receiveds) r → SuitsAll file_wanted r
-    file_suits r there = (cust_is db has r there, (volume_is db has r there, tt))
+    volume_suits : (r : Row) → Has (db.trees receiveds) r → SuitsAll volume_wanted r
+    volume_suits r there = (cust_is db has r there, (volume_is db has r there, tt))
 
-    pub file_found : (r : Result (Vec Row Global) Error) → IfOk r (λ rows. Selects file_tests file_terms [] None (db.trees receiveds) file_params rows.items) → IfOk r (λ rows. FindsFile cust volume (db.trees receiveds) rows.items)
-    file_found r h = answered r (λ answer s. shows_all file_tests file_terms file_params (db.trees receiveds) (IsVolume cust volume)
-        (λ r there p. let m = means file_wanted r refl (file_suits r there) p in record { of_cust = m.0; of_volume = m.1.0 })
-        (λ r there fits. met file_wanted r (file_suits r there) (fits.of_cust, (fits.of_volume, tt)))
-        answer s) h
-
-  module _ (cust : ℕ) (volume : ℕ) where
-    abbrev pub verdict_params : Row
-    verdict_params = Int (pos cust) ∷ Int (pos volume) ∷ []
-
-    abbrev verdict_wanted : List Test
-    verdict_wanted = (1, Eq, Int (pos cust)) ∷ (2, Eq, Int (pos volume)) ∷ []
-
-    verdict_suits : (r : Row) → Has (db.trees receiveds) r → SuitsAll verdict_wanted r
-    verdict_suits r there = (cust_is db has r there, (volume_is db has r there, tt))
-
-    pub verdict_found : (r : Result (Vec Row Global) Error) → IfOk r (λ rows. Selects verdict_tests verdict_terms [] None (db.trees receiveds) verdict_params rows.items) → IfOk r (λ rows. FindsVerdict cust volume (db.trees receiveds) rows.items)
-    verdict_found r h = answered r (λ answer s. shows_all verdict_tests verdict_terms verdict_params (db.trees receiveds) (IsVolume cust volume)
-        (λ r there p. let m = means verdict_wanted r refl (verdict_suits r there) p in record { of_cust = m.0; of_volume = m.1.0 })
-        (λ r there fits. met verdict_wanted r (verdict_suits r there) (fits.of_cust, (fits.of_volume, tt)))
-        answer s) h
-
-  module _ (cust : ℕ) (volume : ℕ) where
-    abbrev pub is_there_params : Row
-    is_there_params = Int (pos cust) ∷ Int (pos volume) ∷ []
-
-    abbrev is_there_wanted : List Test
-    is_there_wanted = (1, Eq, Int (pos cust)) ∷ (2, Eq, Int (pos volume)) ∷ []
-
-    is_there_suits : (r : Row) → Has (db.trees receiveds) r → SuitsAll is_there_wanted r
-    is_there_suits r there = (cust_is db has r there, (volume_is db has r there, tt))
-
-    pub is_there_found : (r : Result (Vec Row Global) Error) → IfOk r (λ rows. Selects is_there_tests is_there_terms [] None (db.trees receiveds) is_there_params rows.items) → IfOk r (λ rows. FindsVolume cust volume (db.trees receiveds) rows.items)
-    is_there_found r h = answered r (λ answer s. shows_all is_there_tests is_there_terms is_there_params (db.trees receiveds) (IsVolume cust volume)
-        (λ r there p. let m = means is_there_wanted r refl (is_there_suits r there) p in record { of_cust = m.0; of_volume = m.1.0 })
-        (λ r there fits. met is_there_wanted r (is_there_suits r there) (fits.of_cust, (fits.of_volume, tt)))
+    -- a query of one volume shows of its row what it names
+    pub volume_found : (terms : List Term) (r : Result (Vec Row Global) Error)
+        → IfOk r (λ rows. Selects volume_tests terms [] None (db.trees receiveds) volume_params rows.items)
+        → IfOk r (λ rows. ShowsAll (IsVolume cust volume) (shows terms volume_params) (db.trees receiveds) rows.items)
+    volume_found terms r h = answered r (λ answer s. shows_all volume_tests terms volume_params (db.trees receiveds) (IsVolume cust volume)
+        (λ r there p. let m = means volume_wanted r refl (volume_suits r there) p in record { of_cust = m.0; of_volume = m.1.0 })
+        (λ r there fits. met volume_wanted r (volume_suits r there) (fits.of_cust, (fits.of_volume, tt)))
         answer s) h
 
   module _ (cust : ℕ) (volume : ℕ) (most : ℕ) where

@@ -1,11 +1,9 @@
 -- No volume of one `cust` is received twice.
-use Rattle.std.proofs.Common.{◌≡◌, ℕ, ℤ, List, [], ◌∷◌, inl, inr, Result, IfOk, Vec, true, refl, sym, ap, subst, ◌∙◌}
+use Rattle.std.proofs.Common.{◌≡◌, ℕ, ℤ, List, inl, inr, Result, IfOk, Vec, true, refl, sym, ap, subst, ◌∙◌}
 use Rattle.std.specs.declared.alloc.Global.{Global}
 use Rattle.std.proofs.lemmas.Bool.{and_from}
 use Rattle.std.proofs.lemmas.Map.Lookups.{exact_signed}
-use Rattle.sqlite_catalog.specs.Listing.{automatic}
 use Rattle.sqlite_rules.specs.Lists.{Has}
-use Rattle.sqlite_schema.specs.declared.schema.Index.{Index}
 use Rattle.sqlite_schema.specs.Rules.{agree}
 use Rattle.sqlite_value.specs.Keys.{first_key}
 use Rattle.sqlite_value.proofs.OrderLemmas.{value_cmp-Int}
@@ -17,21 +15,19 @@ use Rattle.gaz_tables.specs.Shows.{ShowsAll, ShowsPage}
 use Rattle.gaz_sql_facts.proofs.Equal.{same_int}
 use Rattle.gaz_tables.proofs.Shown.{answered}
 use Rattle.gaz_tables.proofs.Unique.{one_row, page_rises, at_most_one}
+use Rattle.gaz_tables.specs.Laws.{ReceivedOnce}
 use Rattle.gaz_tables.specs.Receiveds.{AtMostOne, FindsAbove, IsAbove, IsVolume, cust_of, volume_of, volume_place, volume_shown}
-use Rattle.gaz_tables.specs.Schema.{received, receiveds}
+use Rattle.gaz_tables.specs.Schema.{received, of_volumes, receiveds}
 use Rattle.gaz_tables.specs.Stores.{HasTables}
 
-abbrev by_volume : Index
-by_volume = automatic received 0 (1 ∷ 2 ∷ []) 5
-
-agreed : (r s : Row) (c v : ℤ) → cust_of r ≡ Int c → cust_of s ≡ Int c → volume_of r ≡ Int v → volume_of s ≡ Int v → agree by_volume.order by_volume.columns s by_volume.columns r ≡ true
+agreed : (r s : Row) (c v : ℤ) → cust_of r ≡ Int c → cust_of s ≡ Int c → volume_of r ≡ Int v → volume_of s ≡ Int v → agree of_volumes.order of_volumes.columns s of_volumes.columns r ≡ true
 unfolding first_key
 agreed r s c v cr cs vr vs = rw (cr, vr) (and_from _ _ (same_int (cust_of s) c cs) (and_from _ _ (same_int (volume_of s) v vs) refl))
 
 module _ (db : Database) (has : HasTables db) where
   pub once : (r s : Row) → Has (db.trees receiveds) r → Has (db.trees receiveds) s → (c v : ℤ) → cust_of r ≡ Int c → cust_of s ≡ Int c → volume_of r ≡ Int v → volume_of s ≡ Int v → s ≡ r
   once r s there here c v cr cs vr vs =
-      one_row db has.sound received by_volume (subst (λ t. Has t.tables received) (sym has.schema_is) (inr (inl refl))) (subst (λ t. Has t.indexes by_volume) (sym has.schema_is) (inr (inr (inr (inl refl))))) refl
+      one_row db has.sound received of_volumes (subst (λ t. Has t.tables received) (sym has.schema_is) (inr (inl refl))) (subst (λ t. Has t.indexes of_volumes) (sym has.schema_is) (inr (inr (inr (inl refl))))) refl
       has.receiveds_shaped r s there here (agreed r s c v cr cs vr vs)
 
   pub volume_alone : (cust volume : ℕ) (show : Row → Row) (r : Result (Vec Row Global) Error) → IfOk r (λ rows. ShowsAll (IsVolume cust volume) show (db.trees receiveds) rows.items) → IfOk r (λ rows. AtMostOne (db.trees receiveds) rows.items)
@@ -47,3 +43,6 @@ module _ (db : Database) (has : HasTables db) where
         let same : fr.above.0 ≡ fs.above.0 = exact_signed fr.above.0 fs.above.0 (sym (value_cmp-Int fr.above.0 fs.above.0) ∙ (rw (m, n) at tie)) in
         once s r here there _ fr.above.0 fs.of_cust fr.of_cust (n ∙ ap Int (sym same)) m) h;
   }
+
+pub received_once : ReceivedOnce
+received_once db cust volume r s has there here fr fs = once db has r s there here _ _ fr.of_cust fs.of_cust fr.of_volume fs.of_volume

@@ -10,42 +10,37 @@ use Rattle.gaz_sql_facts.specs.Selects.{selecting, every, equals, rising}
 use Rattle.gaz_sql_facts.proofs.Texts.{IsSelect}
 use Rattle.gaz_tables.specs.Schema.{store_schema, receiveds}
 
+-- WHERE cust = ?1 AND volume = ?2
+abbrev pub volume_tests : List Term
+volume_tests = equals (col 1 1) (col 0 0) ∷ equals (col 1 2) (col 0 1) ∷ []
+
 abbrev pub file_text : List ℕ
 file_text = codes "SELECT bytes, state, place, rule FROM received WHERE cust = ?1 AND volume = ?2"
-
-abbrev pub file_tests : List Term
-file_tests = equals (col 1 1) (col 0 0) ∷ equals (col 1 2) (col 0 1) ∷ []
 
 abbrev pub file_terms : List Term
 file_terms = col 1 3 ∷ col 1 4 ∷ col 1 5 ∷ col 1 6 ∷ []
 
-pub file_is : IsSelect store_schema file_text (selecting receiveds file_tests file_terms [] every) (codes "bytes" ∷ codes "state" ∷ codes "place" ∷ codes "rule" ∷ [])
+pub file_is : IsSelect store_schema file_text (selecting receiveds volume_tests file_terms [] every) (codes "bytes" ∷ codes "state" ∷ codes "place" ∷ codes "rule" ∷ [])
 unfolding understood everything
 file_is = record { is = refl; plain = (refl, refl); unlisted = refl }
 
 abbrev pub verdict_text : List ℕ
 verdict_text = codes "SELECT state, place, rule FROM received WHERE cust = ?1 AND volume = ?2"
 
-abbrev pub verdict_tests : List Term
-verdict_tests = equals (col 1 1) (col 0 0) ∷ equals (col 1 2) (col 0 1) ∷ []
-
 abbrev pub verdict_terms : List Term
 verdict_terms = col 1 4 ∷ col 1 5 ∷ col 1 6 ∷ []
 
-pub verdict_is : IsSelect store_schema verdict_text (selecting receiveds verdict_tests verdict_terms [] every) (codes "state" ∷ codes "place" ∷ codes "rule" ∷ [])
+pub verdict_is : IsSelect store_schema verdict_text (selecting receiveds volume_tests verdict_terms [] every) (codes "state" ∷ codes "place" ∷ codes "rule" ∷ [])
 unfolding understood everything
 verdict_is = record { is = refl; plain = (refl, refl); unlisted = refl }
 
 abbrev pub is_there_text : List ℕ
 is_there_text = codes "SELECT volume FROM received WHERE cust = ?1 AND volume = ?2"
 
-abbrev pub is_there_tests : List Term
-is_there_tests = equals (col 1 1) (col 0 0) ∷ equals (col 1 2) (col 0 1) ∷ []
-
 abbrev pub is_there_terms : List Term
 is_there_terms = col 1 2 ∷ []
 
-pub is_there_is : IsSelect store_schema is_there_text (selecting receiveds is_there_tests is_there_terms [] every) (codes "volume" ∷ [])
+pub is_there_is : IsSelect store_schema is_there_text (selecting receiveds volume_tests is_there_terms [] every) (codes "volume" ∷ [])
 unfolding understood everything
 is_there_is = record { is = refl; plain = (refl, refl); unlisted = refl }
 

@@ -1,14 +1,15 @@
 -- How the tables and indexes of a new store are made, one by one.
-use Rattle.std.specs.Prelude.{◌≡◌, ℕ, List, [], ◌∷◌, codes, Result, OnOk, OnErr, IsTrue}
+use Rattle.std.specs.Prelude.{◌≡◌, ℕ, List, [], ◌∷◌, Result, OnOk, OnErr, IsTrue}
 use Rattle.std.specs.List.{AllByRecursion}
 use Rattle.sqlite.specs.declared.error.Error.{Error}
 use Rattle.sqlite.specs.Effect.{Database, IsDatabase}
 use Rattle.sqlite.specs.Schema.{Schema}
+use Rattle.sqlite.specs.Held.{Held, state}
 use Rattle.sqlite.specs.State.{State, HasCleanDisk, Survives}
-use Rattle.sqlite_catalog.specs.Listing.{automatic}
+use Rattle.sqlite_trees.specs.declared.store.Store.{Ghosts}
 use Rattle.gaz_sql_facts.specs.Changes.{IsAdded, IsUndone}
 use Rattle.gaz_tables.specs.Metas.{meta_row}
-use Rattle.gaz_tables.specs.Schema.{version, received, index_of, versions, receiveds, metas}
+use Rattle.gaz_tables.specs.Schema.{version, received, of_keys, by_blpu, by_street, of_volumes, versions, receiveds, metas}
 use Rattle.gaz_tables.specs.Stores.{HasTables}
 
 -- the schema as it grows
@@ -16,24 +17,16 @@ abbrev pub no_schema : Schema
 no_schema = record { tables = []; indexes = []; views = [] }
 
 abbrev pub with_version : Schema
-with_version = record { tables = version ∷ []; indexes = automatic version 0 (1 ∷ 2 ∷ 3 ∷ 8 ∷ []) 1 ∷ []; views = [] }
+with_version = record { tables = version ∷ []; indexes = of_keys ∷ []; views = [] }
 
 abbrev pub with_by_blpu : Schema
-with_by_blpu = record { tables = version ∷ []; indexes = automatic version 0 (1 ∷ 2 ∷ 3 ∷ 8 ∷ []) 1 ∷ index_of (codes "by_blpu") 2 (1 ∷ 2 ∷ 4 ∷ 9 ∷ []) ∷ []; views = [] }
+with_by_blpu = record { tables = version ∷ []; indexes = of_keys ∷ by_blpu ∷ []; views = [] }
 
 abbrev pub with_by_street : Schema
-with_by_street = record {
-  tables = version ∷ [];
-  indexes = automatic version 0 (1 ∷ 2 ∷ 3 ∷ 8 ∷ []) 1 ∷ index_of (codes "by_blpu") 2 (1 ∷ 2 ∷ 4 ∷ 9 ∷ []) ∷ index_of (codes "by_street") 3 (1 ∷ 2 ∷ 5 ∷ 9 ∷ []) ∷ [];
-  views = [];
-}
+with_by_street = record { tables = version ∷ []; indexes = of_keys ∷ by_blpu ∷ by_street ∷ []; views = [] }
 
 abbrev pub with_received : Schema
-with_received = record {
-  tables = version ∷ received ∷ [];
-  indexes = automatic version 0 (1 ∷ 2 ∷ 3 ∷ 8 ∷ []) 1 ∷ index_of (codes "by_blpu") 2 (1 ∷ 2 ∷ 4 ∷ 9 ∷ []) ∷ index_of (codes "by_street") 3 (1 ∷ 2 ∷ 5 ∷ 9 ∷ []) ∷ automatic received 0 (1 ∷ 2 ∷ []) 5 ∷ [];
-  views = [];
-}
+with_received = record { tables = version ∷ received ∷ []; indexes = of_keys ∷ by_blpu ∷ by_street ∷ of_volumes ∷ []; views = [] }
 
 -- the database has this schema and no row
 pub record IsBare (schema : Schema) (db : Database) : Type 0 where
@@ -47,7 +40,14 @@ pub record IsNewStore (number : ℕ) (register : List ℕ) (db : Database) : Typ
   pub no_receiveds : db.trees receiveds ≡ []
   pub meta_alone : IsAdded (meta_row number register) [] (db.trees metas)
 
-module _ (old new : State) where
+-- a call on a connection, whose state `g` shows
+module _ {S : Type 0} (g : Ghosts S) (before after : Held S) where
+  abbrev old : State
+  old = state g before
+
+  abbrev new : State
+  new = state g after
+
   -- within a transaction, the empty database gets the next schema
   abbrev pub Grows : {A : Type 0} → Schema → Schema → Result A Error → Type 0
   Grows before after result = HasCleanDisk new → IsTrue old.in_transaction → IsBare before old.now → OnOk result (IsBare after new.now × IsDatabase new.now)

@@ -1,4 +1,6 @@
 pub mod Creating
+pub mod Examples
+pub mod Laws
 pub mod Metas
 pub mod Receiveds
 pub mod Schema

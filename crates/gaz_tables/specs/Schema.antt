@@ -66,13 +66,23 @@ meta = keyed (Some 0) (codes "meta") metas meta_columns (0 ∷ []) [] []
 abbrev pub index_of : List ℕ → ℕ → List ℕ → Index
 index_of name tree columns = record { name = name; tree = tree; table = versions; columns = columns; order = record { digits = 0 }; is_unique = false }
 
+-- the indexes, in the order in which they are made
+abbrev pub of_keys : Index
+of_keys = automatic version 0 (1 ∷ 2 ∷ 3 ∷ 8 ∷ []) 1
+
+abbrev pub by_blpu : Index
+by_blpu = index_of (codes "by_blpu") 2 (1 ∷ 2 ∷ 4 ∷ 9 ∷ [])
+
+abbrev pub by_street : Index
+by_street = index_of (codes "by_street") 3 (1 ∷ 2 ∷ 5 ∷ 9 ∷ [])
+
+abbrev pub of_volumes : Index
+of_volumes = automatic received 0 (1 ∷ 2 ∷ []) 5
+
 -- what reads as the three tables and nothing else
 abbrev pub store_schema : Schema
 store_schema = record {
   tables = version ∷ received ∷ meta ∷ [];
-  indexes = automatic version 0 (1 ∷ 2 ∷ 3 ∷ 8 ∷ []) 1
-      ∷ index_of (codes "by_blpu") 2 (1 ∷ 2 ∷ 4 ∷ 9 ∷ [])
-      ∷ index_of (codes "by_street") 3 (1 ∷ 2 ∷ 5 ∷ 9 ∷ [])
-      ∷ automatic received 0 (1 ∷ 2 ∷ []) 5 ∷ [];
+  indexes = of_keys ∷ by_blpu ∷ by_street ∷ of_volumes ∷ [];
   views = [];
 }

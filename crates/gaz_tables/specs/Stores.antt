@@ -6,8 +6,10 @@ use Rattle.sqlite.specs.declared.types.Value.TheVariants.{Int}
 use Rattle.sqlite.specs.Edit.{next_rowid}
 use Rattle.sqlite.specs.declared.error.Error.{Error}
 use Rattle.sqlite.specs.Effect.{Database, IsDatabase}
+use Rattle.sqlite.specs.Held.{Held, state}
 use Rattle.sqlite.specs.State.{State, HasCleanDisk, IsUnchanged, Survives}
 use Rattle.sqlite.specs.View.{IsShaped}
+use Rattle.sqlite_trees.specs.declared.store.Store.{Ghosts}
 use Rattle.sqlite_trees.specs.declared.store.Shape.TheVariants as shape
 use Rattle.gaz_sql_facts.specs.Changes.{Changes, InPlace, IsAdded, IsSpared, IsUndone}
 use Rattle.gaz_tables.specs.Schema.{store_schema, versions, receiveds, metas}
@@ -24,7 +26,14 @@ pub record HasTables (db : Database) : Type 0 where
 abbrev pub AddsRow : Row → List Row → List Row → Type 0
 AddsRow values old new = IsAdded (Int (next_rowid old) ∷ values) old new
 
-module _ (old new : State) where
+-- a call on a connection, whose state `g` shows
+module _ {S : Type 0} (g : Ghosts S) (before after : Held S) where
+  abbrev old : State
+  old = state g before
+
+  abbrev new : State
+  new = state g after
+
   -- the answer is of the rows that the table had
   abbrev pub Finds : ℕ → Result (Vec Row Global) Error → (List Row → List Row → Type 0) → Type 0
   Finds table result IsAnswer = HasCleanDisk new → HasTables old.now → IfOk result (λ rows. IsAnswer (old.now.trees table) rows.items)
@@ -33,17 +42,23 @@ module _ (old new : State) where
   abbrev pub Stays : Result (Vec Row Global) Error → Type 0
   Stays result = HasCleanDisk new → HasTables old.now → OnOk result (IsUnchanged old new)
 
-  -- a stop may leave what it could before, or what is named
-  abbrev pub MayLeave : (Database → Type 0) → Type 0
-  MayLeave Also = (HasCleanDisk old → HasTables old.now) → Survives old new (λ trees. (db : Database) × (trees ≡ db.trees) × Also db)
+  -- a stop may leave what it could before, or the table with other rows
+  abbrev pub MayLeave : ℕ → (List Row → List Row → Type 0) → Type 0
+  MayLeave table Becomes =
+      (HasCleanDisk old → HasTables old.now) → Survives old new (λ trees. (db : Database) × (trees ≡ db.trees) × Changes table Becomes old.now db)
 
   -- a stop may leave what it could before and nothing else
   abbrev pub LeavesAsBefore : Type 0
   LeavesAsBefore = (HasCleanDisk old → HasTables old.now) → Survives old new (λ _. ⊥)
 
+  -- within a transaction nothing is committed, so a stop leaves what it could before and nothing else
+  abbrev pub LeavesNothing : Type 0
+  LeavesNothing = Survives old new (λ _. ⊥)
+
   -- within a transaction the table's rows become others
   abbrev pub WritesInside : ℕ → Result ℕ Error → (List Row → List Row → Type 0) → Type 0
-  WritesInside table result Becomes = HasCleanDisk new → IsTrue old.in_transaction → HasTables old.now → OnOk result (Changes table Becomes old.now new.now × InPlace old new)
+  WritesInside table result Becomes =
+      HasCleanDisk new → IsTrue old.in_transaction → HasTables old.now → OnOk result (Changes table Becomes old.now new.now × InPlace old new)
 
   -- a fault changes nothing or ends the transaction
   abbrev pub SparesInside : Result ℕ Error → Type 0
@@ -51,7 +66,8 @@ module _ (old new : State) where
 
   -- in a transaction of its own the table's rows become others and are committed
   abbrev pub Commits : {A : Type 0} → ℕ → Result A Error → (List Row → List Row → Type 0) → Type 0
-  Commits table result Becomes = HasCleanDisk new → HasTables old.now → OnOk result (Changes table Becomes old.now new.now × (new.committed ≡ new.now))
+  Commits table result Becomes =
+      HasCleanDisk new → HasTables old.now → OnOk result (Changes table Becomes old.now new.now × (new.committed ≡ new.now))
 
   -- a fault commits nothing
   abbrev pub Undoes : {A : Type 0} → Result A Error → Type 0

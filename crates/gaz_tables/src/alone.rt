@@ -1,7 +1,7 @@
-//! Single statements that write, each in a transaction of its own, which is over when the call returns.
+//! Single statements that write, each in a transaction of its own. It is over when the call returns.
 ghost use Rattle.std.specs.Prelude.{◌≡◌, false, OnOk};
 ghost use Rattle.sqlite.specs.Held.{state};
-ghost use Rattle.gaz_sql_facts.specs.Changes.{Changes, LeavesTheCommit};
+ghost use Rattle.gaz_sql_facts.specs.Changes.{LeavesTheCommit};
 ghost use Rattle.gaz_tables.specs.Metas.{Rewrites};
 ghost use Rattle.gaz_tables.specs.Receiveds.{Rejects, unjudged};
 ghost use Rattle.gaz_tables.specs.Schema.{metas, receiveds};
@@ -19,11 +19,11 @@ pub fn receive<S: Alter>(
 ) -> Result<(), Error>
     requires { conn.old.in_transaction ≡ false }
     ensures over { conn.new.in_transaction ≡ false }
-    ensures written { Commits (state S.Store conn.old) (state S.Store conn.new) receiveds result
+    ensures written { Commits S.Store conn.old conn.new receiveds result
         (AddsRow (unjudged cust volume bytes.now)) }
-    ensures undone { Undoes (state S.Store conn.old) (state S.Store conn.new) result }
-    ensures leaves { MayLeave (state S.Store conn.old) (state S.Store conn.new)
-        (Changes receiveds (AddsRow (unjudged cust volume bytes.now)) (state S.Store conn.old).now) }
+    ensures undone { Undoes S.Store conn.old conn.new result }
+    ensures leaves { MayLeave S.Store conn.old conn.new receiveds
+        (AddsRow (unjudged cust volume bytes.now)) }
     ensures certain { OnOk result (LeavesTheCommit (state S.Store conn.new)) }
 {
     let mut tx = conn.transaction();
@@ -41,11 +41,11 @@ pub fn reject<S: Alter>(
 ) -> Result<(), Error>
     requires { conn.old.in_transaction ≡ false }
     ensures over { conn.new.in_transaction ≡ false }
-    ensures written { Commits (state S.Store conn.old) (state S.Store conn.new) receiveds result
+    ensures written { Commits S.Store conn.old conn.new receiveds result
         (Rejects cust volume place.now rule) }
-    ensures undone { Undoes (state S.Store conn.old) (state S.Store conn.new) result }
-    ensures leaves { MayLeave (state S.Store conn.old) (state S.Store conn.new)
-        (Changes receiveds (Rejects cust volume place.now rule) (state S.Store conn.old).now) }
+    ensures undone { Undoes S.Store conn.old conn.new result }
+    ensures leaves { MayLeave S.Store conn.old conn.new receiveds
+        (Rejects cust volume place.now rule) }
     ensures certain { OnOk result (LeavesTheCommit (state S.Store conn.new)) }
 {
     let mut tx = conn.transaction();
@@ -57,11 +57,10 @@ pub fn reject<S: Alter>(
 pub fn rewrite<S: Alter>(conn: &mut Connection<S>, number: u32, register: &str) -> Result<(), Error>
     requires { conn.old.in_transaction ≡ false }
     ensures over { conn.new.in_transaction ≡ false }
-    ensures written { Commits (state S.Store conn.old) (state S.Store conn.new) metas result
+    ensures written { Commits S.Store conn.old conn.new metas result
         (Rewrites number register.now) }
-    ensures undone { Undoes (state S.Store conn.old) (state S.Store conn.new) result }
-    ensures leaves { MayLeave (state S.Store conn.old) (state S.Store conn.new)
-        (Changes metas (Rewrites number register.now) (state S.Store conn.old).now) }
+    ensures undone { Undoes S.Store conn.old conn.new result }
+    ensures leaves { MayLeave S.Store conn.old conn.new metas (Rewrites number register.now) }
     ensures certain { OnOk result (LeavesTheCommit (state S.Store conn.new)) }
 {
     let mut tx = conn.transaction();

@@ -1,11 +1,12 @@
 //! The tables and indexes of a new store.
 ghost use Rattle.std.specs.Prelude.{◌≡◌, false, OnOk};
 ghost use Rattle.sqlite.specs.Held.{state};
-ghost use Rattle.sqlite.specs.State.{Survives};
 ghost use Rattle.gaz_sql_facts.specs.Changes.{LeavesTheCommit};
-ghost use Rattle.gaz_tables.specs.Creating.{Creates, Furnishes, GoesOn, KeepsTheCommit, MayCreate, Withdraws};
-ghost use Rattle.gaz_tables.specs.Creating.{Grows, no_schema, with_by_blpu, with_by_street, with_received, with_version};
+ghost use Rattle.gaz_tables.specs.Creating.{Creates, Furnishes, GoesOn, Grows, KeepsTheCommit};
+ghost use Rattle.gaz_tables.specs.Creating.{MayCreate, Withdraws, no_schema, with_by_blpu};
+ghost use Rattle.gaz_tables.specs.Creating.{with_by_street, with_received, with_version};
 ghost use Rattle.gaz_tables.specs.Schema.{store_schema};
+ghost use Rattle.gaz_tables.specs.Stores.{LeavesNothing};
 
 use crate::metas;
 use sqlite::{Alter, Connection, Error, Transaction};
@@ -13,13 +14,10 @@ use sqlite::{Alter, Connection, Error, Transaction};
 /// Makes the table `version`, within a transaction.
 fn make_version<S: Alter>(tx: &mut Transaction<'_, S>) -> Result<usize, Error>
     ensures same_reference { tx.new.conn.ghost_name ≡ tx.old.conn.ghost_name }
-    ensures made { Grows (state S.Store tx.old.conn.now) (state S.Store tx.new.conn.now)
-        no_schema with_version result }
-    ensures inside { GoesOn (state S.Store tx.old.conn.now) (state S.Store tx.new.conn.now)
-        result }
-    ensures kept { KeepsTheCommit (state S.Store tx.old.conn.now) (state S.Store tx.new.conn.now) }
-    ensures leaves { Survives (state S.Store tx.old.conn.now) (state S.Store tx.new.conn.now)
-        (λ _. ⊥) }
+    ensures made { Grows S.Store tx.old.conn.now tx.new.conn.now no_schema with_version result }
+    ensures inside { GoesOn S.Store tx.old.conn.now tx.new.conn.now result }
+    ensures kept { KeepsTheCommit S.Store tx.old.conn.now tx.new.conn.now }
+    ensures leaves { LeavesNothing S.Store tx.old.conn.now tx.new.conn.now }
 {
     tx.execute(
         "CREATE TABLE version (cust INTEGER NOT NULL, kind INTEGER NOT NULL CHECK (kind IN (11, 15, 21, 23, 24)), id TEXT NOT NULL, blpu INTEGER NOT NULL, street INTEGER NOT NULL, lang INTEGER NOT NULL, live INTEGER NOT NULL, born INTEGER NOT NULL, gone INTEGER NOT NULL, body TEXT NOT NULL, PRIMARY KEY (cust, kind, id, born)) STRICT",
@@ -30,13 +28,10 @@ fn make_version<S: Alter>(tx: &mut Transaction<'_, S>) -> Result<usize, Error>
 /// Makes the index of `blpu`, within a transaction.
 fn make_by_blpu<S: Alter>(tx: &mut Transaction<'_, S>) -> Result<usize, Error>
     ensures same_reference { tx.new.conn.ghost_name ≡ tx.old.conn.ghost_name }
-    ensures made { Grows (state S.Store tx.old.conn.now) (state S.Store tx.new.conn.now)
-        with_version with_by_blpu result }
-    ensures inside { GoesOn (state S.Store tx.old.conn.now) (state S.Store tx.new.conn.now)
-        result }
-    ensures kept { KeepsTheCommit (state S.Store tx.old.conn.now) (state S.Store tx.new.conn.now) }
-    ensures leaves { Survives (state S.Store tx.old.conn.now) (state S.Store tx.new.conn.now)
-        (λ _. ⊥) }
+    ensures made { Grows S.Store tx.old.conn.now tx.new.conn.now with_version with_by_blpu result }
+    ensures inside { GoesOn S.Store tx.old.conn.now tx.new.conn.now result }
+    ensures kept { KeepsTheCommit S.Store tx.old.conn.now tx.new.conn.now }
+    ensures leaves { LeavesNothing S.Store tx.old.conn.now tx.new.conn.now }
 {
     tx.execute(
         "CREATE INDEX by_blpu ON version (cust, kind, blpu, gone)",
@@ -47,13 +42,11 @@ fn make_by_blpu<S: Alter>(tx: &mut Transaction<'_, S>) -> Result<usize, Error>
 /// Makes the index of `street`, within a transaction.
 fn make_by_street<S: Alter>(tx: &mut Transaction<'_, S>) -> Result<usize, Error>
     ensures same_reference { tx.new.conn.ghost_name ≡ tx.old.conn.ghost_name }
-    ensures made { Grows (state S.Store tx.old.conn.now) (state S.Store tx.new.conn.now)
+    ensures made { Grows S.Store tx.old.conn.now tx.new.conn.now
         with_by_blpu with_by_street result }
-    ensures inside { GoesOn (state S.Store tx.old.conn.now) (state S.Store tx.new.conn.now)
-        result }
-    ensures kept { KeepsTheCommit (state S.Store tx.old.conn.now) (state S.Store tx.new.conn.now) }
-    ensures leaves { Survives (state S.Store tx.old.conn.now) (state S.Store tx.new.conn.now)
-        (λ _. ⊥) }
+    ensures inside { GoesOn S.Store tx.old.conn.now tx.new.conn.now result }
+    ensures kept { KeepsTheCommit S.Store tx.old.conn.now tx.new.conn.now }
+    ensures leaves { LeavesNothing S.Store tx.old.conn.now tx.new.conn.now }
 {
     tx.execute(
         "CREATE INDEX by_street ON version (cust, kind, street, gone)",
@@ -64,13 +57,11 @@ fn make_by_street<S: Alter>(tx: &mut Transaction<'_, S>) -> Result<usize, Error>
 /// Makes the table `received`, within a transaction.
 fn make_received<S: Alter>(tx: &mut Transaction<'_, S>) -> Result<usize, Error>
     ensures same_reference { tx.new.conn.ghost_name ≡ tx.old.conn.ghost_name }
-    ensures made { Grows (state S.Store tx.old.conn.now) (state S.Store tx.new.conn.now)
+    ensures made { Grows S.Store tx.old.conn.now tx.new.conn.now
         with_by_street with_received result }
-    ensures inside { GoesOn (state S.Store tx.old.conn.now) (state S.Store tx.new.conn.now)
-        result }
-    ensures kept { KeepsTheCommit (state S.Store tx.old.conn.now) (state S.Store tx.new.conn.now) }
-    ensures leaves { Survives (state S.Store tx.old.conn.now) (state S.Store tx.new.conn.now)
-        (λ _. ⊥) }
+    ensures inside { GoesOn S.Store tx.old.conn.now tx.new.conn.now result }
+    ensures kept { KeepsTheCommit S.Store tx.old.conn.now tx.new.conn.now }
+    ensures leaves { LeavesNothing S.Store tx.old.conn.now tx.new.conn.now }
 {
     tx.execute(
         "CREATE TABLE received (cust INTEGER NOT NULL, volume INTEGER NOT NULL, bytes BLOB NOT NULL, state INTEGER NOT NULL, place INTEGER NOT NULL, rule INTEGER NOT NULL, PRIMARY KEY (cust, volume)) STRICT",
@@ -81,13 +72,10 @@ fn make_received<S: Alter>(tx: &mut Transaction<'_, S>) -> Result<usize, Error>
 /// Makes the table `meta`, within a transaction.
 fn make_meta<S: Alter>(tx: &mut Transaction<'_, S>) -> Result<usize, Error>
     ensures same_reference { tx.new.conn.ghost_name ≡ tx.old.conn.ghost_name }
-    ensures made { Grows (state S.Store tx.old.conn.now) (state S.Store tx.new.conn.now)
-        with_received store_schema result }
-    ensures inside { GoesOn (state S.Store tx.old.conn.now) (state S.Store tx.new.conn.now)
-        result }
-    ensures kept { KeepsTheCommit (state S.Store tx.old.conn.now) (state S.Store tx.new.conn.now) }
-    ensures leaves { Survives (state S.Store tx.old.conn.now) (state S.Store tx.new.conn.now)
-        (λ _. ⊥) }
+    ensures made { Grows S.Store tx.old.conn.now tx.new.conn.now with_received store_schema result }
+    ensures inside { GoesOn S.Store tx.old.conn.now tx.new.conn.now result }
+    ensures kept { KeepsTheCommit S.Store tx.old.conn.now tx.new.conn.now }
+    ensures leaves { LeavesNothing S.Store tx.old.conn.now tx.new.conn.now }
 {
     tx.execute(
         "CREATE TABLE meta (id INTEGER NOT NULL PRIMARY KEY, number INTEGER NOT NULL, register TEXT NOT NULL) STRICT",
@@ -98,13 +86,10 @@ fn make_meta<S: Alter>(tx: &mut Transaction<'_, S>) -> Result<usize, Error>
 /// Makes the table `version` and its indexes, within a transaction.
 fn make_versions<S: Alter>(tx: &mut Transaction<'_, S>) -> Result<(), Error>
     ensures same_reference { tx.new.conn.ghost_name ≡ tx.old.conn.ghost_name }
-    ensures made { Grows (state S.Store tx.old.conn.now) (state S.Store tx.new.conn.now)
-        no_schema with_by_street result }
-    ensures kept { KeepsTheCommit (state S.Store tx.old.conn.now) (state S.Store tx.new.conn.now) }
-    ensures inside { GoesOn (state S.Store tx.old.conn.now) (state S.Store tx.new.conn.now)
-        result }
-    ensures leaves { Survives (state S.Store tx.old.conn.now) (state S.Store tx.new.conn.now)
-        (λ _. ⊥) }
+    ensures made { Grows S.Store tx.old.conn.now tx.new.conn.now no_schema with_by_street result }
+    ensures kept { KeepsTheCommit S.Store tx.old.conn.now tx.new.conn.now }
+    ensures inside { GoesOn S.Store tx.old.conn.now tx.new.conn.now result }
+    ensures leaves { LeavesNothing S.Store tx.old.conn.now tx.new.conn.now }
 {
     make_version(tx)?;
     make_by_blpu(tx)?;
@@ -115,13 +100,11 @@ fn make_versions<S: Alter>(tx: &mut Transaction<'_, S>) -> Result<(), Error>
 /// Makes the tables `received` and `meta`, within a transaction.
 fn make_others<S: Alter>(tx: &mut Transaction<'_, S>) -> Result<(), Error>
     ensures same_reference { tx.new.conn.ghost_name ≡ tx.old.conn.ghost_name }
-    ensures made { Grows (state S.Store tx.old.conn.now) (state S.Store tx.new.conn.now)
+    ensures made { Grows S.Store tx.old.conn.now tx.new.conn.now
         with_by_street store_schema result }
-    ensures kept { KeepsTheCommit (state S.Store tx.old.conn.now) (state S.Store tx.new.conn.now) }
-    ensures inside { GoesOn (state S.Store tx.old.conn.now) (state S.Store tx.new.conn.now)
-        result }
-    ensures leaves { Survives (state S.Store tx.old.conn.now) (state S.Store tx.new.conn.now)
-        (λ _. ⊥) }
+    ensures kept { KeepsTheCommit S.Store tx.old.conn.now tx.new.conn.now }
+    ensures inside { GoesOn S.Store tx.old.conn.now tx.new.conn.now result }
+    ensures leaves { LeavesNothing S.Store tx.old.conn.now tx.new.conn.now }
 {
     make_received(tx)?;
     make_meta(tx)?;
@@ -131,13 +114,10 @@ fn make_others<S: Alter>(tx: &mut Transaction<'_, S>) -> Result<(), Error>
 /// Makes the tables, their indexes and the row of `meta`, within a transaction.
 fn furnish<S: Alter>(tx: &mut Transaction<'_, S>, number: u32, register: &str) -> Result<(), Error>
     ensures same_reference { tx.new.conn.ghost_name ≡ tx.old.conn.ghost_name }
-    ensures made { Furnishes (state S.Store tx.old.conn.now) (state S.Store tx.new.conn.now)
-        number register.now result }
-    ensures kept { KeepsTheCommit (state S.Store tx.old.conn.now) (state S.Store tx.new.conn.now) }
-    ensures inside { GoesOn (state S.Store tx.old.conn.now) (state S.Store tx.new.conn.now)
-        result }
-    ensures leaves { Survives (state S.Store tx.old.conn.now) (state S.Store tx.new.conn.now)
-        (λ _. ⊥) }
+    ensures made { Furnishes S.Store tx.old.conn.now tx.new.conn.now number register.now result }
+    ensures kept { KeepsTheCommit S.Store tx.old.conn.now tx.new.conn.now }
+    ensures inside { GoesOn S.Store tx.old.conn.now tx.new.conn.now result }
+    ensures leaves { LeavesNothing S.Store tx.old.conn.now tx.new.conn.now }
 {
     make_versions(tx)?;
     make_others(tx)?;
@@ -145,15 +125,13 @@ fn furnish<S: Alter>(tx: &mut Transaction<'_, S>, number: u32, register: &str) -
     Ok(())
 }
 
-/// Makes the three tables, their indexes and the row of `meta`, in one transaction that is over when this returns.
+/// Makes the three tables, their indexes and the row of `meta`, in a transaction of its own.
 pub fn create<S: Alter>(conn: &mut Connection<S>, number: u32, register: &str) -> Result<(), Error>
     requires { conn.old.in_transaction ≡ false }
     ensures over { conn.new.in_transaction ≡ false }
-    ensures created { Creates (state S.Store conn.old) (state S.Store conn.new)
-        number register.now result }
-    ensures undone { Withdraws (state S.Store conn.old) (state S.Store conn.new) result }
-    ensures leaves { MayCreate (state S.Store conn.old) (state S.Store conn.new)
-        number register.now }
+    ensures created { Creates S.Store conn.old conn.new number register.now result }
+    ensures undone { Withdraws S.Store conn.old conn.new result }
+    ensures leaves { MayCreate S.Store conn.old conn.new number register.now }
     ensures certain { OnOk result (LeavesTheCommit (state S.Store conn.new)) }
 {
     let mut tx = conn.transaction();

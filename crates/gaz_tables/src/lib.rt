@@ -3,6 +3,7 @@
 
 pub mod alone;
 pub mod creating;
+pub mod laws;
 pub mod metas;
 pub mod receiveds;
 pub mod versions;

@@ -1,9 +1,8 @@
 //! The statements of the table `received`.
-ghost use Rattle.sqlite.specs.Held.{state};
 ghost use Rattle.gaz_tables.specs.Schema.{receiveds};
 ghost use Rattle.std.specs.Prelude.{◌≡◌, false};
-ghost use Rattle.sqlite.specs.State.{Survives};
-ghost use Rattle.gaz_tables.specs.Stores.{AddsRow, Finds, LeavesAsBefore, SparesInside, Stays, WritesInside};
+ghost use Rattle.gaz_tables.specs.Stores.{AddsRow, Finds, LeavesAsBefore, LeavesNothing, SparesInside};
+ghost use Rattle.gaz_tables.specs.Stores.{Stays, WritesInside};
 ghost use Rattle.gaz_tables.specs.Receiveds.{Applies, AtMostOne, FindsAbove, FindsFile, FindsVerdict};
 ghost use Rattle.gaz_tables.specs.Receiveds.{FindsVolume, Rejects, unjudged};
 
@@ -11,11 +10,10 @@ use sqlite::{Alter, Connection, Error, Row, Transaction, params};
 
 /// `bytes`, `state`, `place` and `rule` of a volume, or no row.
 pub fn file<S: Alter>(conn: &mut Connection<S>, cust: u32, volume: u32) -> Result<Vec<Row>, Error>
-    ensures found { Finds (state S.Store conn.old) (state S.Store conn.new) receiveds result
-        (FindsFile cust volume) }
-    ensures one { Finds (state S.Store conn.old) (state S.Store conn.new) receiveds result AtMostOne }
-    ensures stays { Stays (state S.Store conn.old) (state S.Store conn.new) result }
-    ensures leaves { LeavesAsBefore (state S.Store conn.old) (state S.Store conn.new) }
+    ensures found { Finds S.Store conn.old conn.new receiveds result (FindsFile cust volume) }
+    ensures one { Finds S.Store conn.old conn.new receiveds result AtMostOne }
+    ensures stays { Stays S.Store conn.old conn.new result }
+    ensures leaves { LeavesAsBefore S.Store conn.old conn.new }
     ensures mode { conn.old.in_transaction ≡ false → conn.new.in_transaction ≡ false }
 {
     conn.query_all(
@@ -30,11 +28,10 @@ pub fn verdict<S: Alter>(
     cust: u32,
     volume: u32,
 ) -> Result<Vec<Row>, Error>
-    ensures found { Finds (state S.Store conn.old) (state S.Store conn.new) receiveds result
-        (FindsVerdict cust volume) }
-    ensures one { Finds (state S.Store conn.old) (state S.Store conn.new) receiveds result AtMostOne }
-    ensures stays { Stays (state S.Store conn.old) (state S.Store conn.new) result }
-    ensures leaves { LeavesAsBefore (state S.Store conn.old) (state S.Store conn.new) }
+    ensures found { Finds S.Store conn.old conn.new receiveds result (FindsVerdict cust volume) }
+    ensures one { Finds S.Store conn.old conn.new receiveds result AtMostOne }
+    ensures stays { Stays S.Store conn.old conn.new result }
+    ensures leaves { LeavesAsBefore S.Store conn.old conn.new }
     ensures mode { conn.old.in_transaction ≡ false → conn.new.in_transaction ≡ false }
 {
     conn.query_all(
@@ -49,11 +46,10 @@ pub fn is_there<S: Alter>(
     cust: u32,
     volume: u32,
 ) -> Result<Vec<Row>, Error>
-    ensures found { Finds (state S.Store conn.old) (state S.Store conn.new) receiveds result
-        (FindsVolume cust volume) }
-    ensures one { Finds (state S.Store conn.old) (state S.Store conn.new) receiveds result AtMostOne }
-    ensures stays { Stays (state S.Store conn.old) (state S.Store conn.new) result }
-    ensures leaves { LeavesAsBefore (state S.Store conn.old) (state S.Store conn.new) }
+    ensures found { Finds S.Store conn.old conn.new receiveds result (FindsVolume cust volume) }
+    ensures one { Finds S.Store conn.old conn.new receiveds result AtMostOne }
+    ensures stays { Stays S.Store conn.old conn.new result }
+    ensures leaves { LeavesAsBefore S.Store conn.old conn.new }
     ensures mode { conn.old.in_transaction ≡ false → conn.new.in_transaction ≡ false }
 {
     conn.query_all(
@@ -69,10 +65,9 @@ pub fn above<S: Alter>(
     volume: u32,
     most: u32,
 ) -> Result<Vec<Row>, Error>
-    ensures found { Finds (state S.Store conn.old) (state S.Store conn.new) receiveds result
-        (FindsAbove cust volume most) }
-    ensures stays { Stays (state S.Store conn.old) (state S.Store conn.new) result }
-    ensures leaves { LeavesAsBefore (state S.Store conn.old) (state S.Store conn.new) }
+    ensures found { Finds S.Store conn.old conn.new receiveds result (FindsAbove cust volume most) }
+    ensures stays { Stays S.Store conn.old conn.new result }
+    ensures leaves { LeavesAsBefore S.Store conn.old conn.new }
     ensures mode { conn.old.in_transaction ≡ false → conn.new.in_transaction ≡ false }
 {
     conn.query_all(
@@ -89,12 +84,10 @@ pub fn receive<S: Alter>(
     bytes: &[u8],
 ) -> Result<usize, Error>
     ensures same_reference { tx.new.conn.ghost_name ≡ tx.old.conn.ghost_name }
-    ensures added { WritesInside (state S.Store tx.old.conn.now) (state S.Store tx.new.conn.now)
+    ensures added { WritesInside S.Store tx.old.conn.now tx.new.conn.now
         receiveds result (AddsRow (unjudged cust volume bytes.now)) }
-    ensures spared { SparesInside (state S.Store tx.old.conn.now) (state S.Store tx.new.conn.now)
-        result }
-    ensures leaves { Survives (state S.Store tx.old.conn.now) (state S.Store tx.new.conn.now)
-        (λ _. ⊥) }
+    ensures spared { SparesInside S.Store tx.old.conn.now tx.new.conn.now result }
+    ensures leaves { LeavesNothing S.Store tx.old.conn.now tx.new.conn.now }
 {
     tx.execute(
         "INSERT INTO received VALUES (?1, ?2, ?3, 0, 0, 0)",
@@ -105,12 +98,10 @@ pub fn receive<S: Alter>(
 /// Marks a volume applied, within a transaction.
 pub fn apply<S: Alter>(tx: &mut Transaction<'_, S>, cust: u32, volume: u32) -> Result<usize, Error>
     ensures same_reference { tx.new.conn.ghost_name ≡ tx.old.conn.ghost_name }
-    ensures applied { WritesInside (state S.Store tx.old.conn.now) (state S.Store tx.new.conn.now)
+    ensures applied { WritesInside S.Store tx.old.conn.now tx.new.conn.now
         receiveds result (Applies cust volume) }
-    ensures spared { SparesInside (state S.Store tx.old.conn.now) (state S.Store tx.new.conn.now)
-        result }
-    ensures leaves { Survives (state S.Store tx.old.conn.now) (state S.Store tx.new.conn.now)
-        (λ _. ⊥) }
+    ensures spared { SparesInside S.Store tx.old.conn.now tx.new.conn.now result }
+    ensures leaves { LeavesNothing S.Store tx.old.conn.now tx.new.conn.now }
 {
     tx.execute(
         "UPDATE received SET state = 1, place = 0, rule = 0 WHERE cust = ?1 AND volume = ?2",
@@ -127,12 +118,10 @@ pub fn reject<S: Alter>(
     rule: u32,
 ) -> Result<usize, Error>
     ensures same_reference { tx.new.conn.ghost_name ≡ tx.old.conn.ghost_name }
-    ensures rejected { WritesInside (state S.Store tx.old.conn.now) (state S.Store tx.new.conn.now)
+    ensures rejected { WritesInside S.Store tx.old.conn.now tx.new.conn.now
         receiveds result (Rejects cust volume place.now rule) }
-    ensures spared { SparesInside (state S.Store tx.old.conn.now) (state S.Store tx.new.conn.now)
-        result }
-    ensures leaves { Survives (state S.Store tx.old.conn.now) (state S.Store tx.new.conn.now)
-        (λ _. ⊥) }
+    ensures spared { SparesInside S.Store tx.old.conn.now tx.new.conn.now result }
+    ensures leaves { LeavesNothing S.Store tx.old.conn.now tx.new.conn.now }
 {
     tx.execute(
         "UPDATE received SET state = 2, place = ?3, rule = ?4 WHERE cust = ?1 AND volume = ?2",

@@ -1,9 +1,8 @@
 //! The statements of the table `version`.
-ghost use Rattle.sqlite.specs.Held.{state};
 ghost use Rattle.gaz_tables.specs.Schema.{versions};
 ghost use Rattle.std.specs.Prelude.{◌≡◌, false};
-ghost use Rattle.sqlite.specs.State.{Survives};
-ghost use Rattle.gaz_tables.specs.Stores.{AddsRow, Finds, LeavesAsBefore, SparesInside, Stays, WritesInside};
+ghost use Rattle.gaz_tables.specs.Stores.{AddsRow, Finds, LeavesAsBefore, LeavesNothing, SparesInside};
+ghost use Rattle.gaz_tables.specs.Stores.{Stays, WritesInside};
 ghost use Rattle.gaz_tables.specs.Versions.{FindsApprovedOf, FindsApprovedOn, FindsHolding, FindsNewest};
 ghost use Rattle.gaz_tables.specs.Versions.{Closes, FindsNewestUntil, FindsParts, version_values};
 
@@ -16,10 +15,9 @@ pub fn newest<S: Alter>(
     kind: u32,
     id: &str,
 ) -> Result<Vec<Row>, Error>
-    ensures found { Finds (state S.Store conn.old) (state S.Store conn.new) versions result
-        (FindsNewest cust kind id.now) }
-    ensures stays { Stays (state S.Store conn.old) (state S.Store conn.new) result }
-    ensures leaves { LeavesAsBefore (state S.Store conn.old) (state S.Store conn.new) }
+    ensures found { Finds S.Store conn.old conn.new versions result (FindsNewest cust kind id.now) }
+    ensures stays { Stays S.Store conn.old conn.new result }
+    ensures leaves { LeavesAsBefore S.Store conn.old conn.new }
     ensures mode { conn.old.in_transaction ≡ false → conn.new.in_transaction ≡ false }
 {
     conn.query_all(
@@ -36,10 +34,10 @@ pub fn newest_until<S: Alter>(
     id: &str,
     volume: u32,
 ) -> Result<Vec<Row>, Error>
-    ensures found { Finds (state S.Store conn.old) (state S.Store conn.new) versions result
+    ensures found { Finds S.Store conn.old conn.new versions result
         (FindsNewestUntil cust kind id.now volume) }
-    ensures stays { Stays (state S.Store conn.old) (state S.Store conn.new) result }
-    ensures leaves { LeavesAsBefore (state S.Store conn.old) (state S.Store conn.new) }
+    ensures stays { Stays S.Store conn.old conn.new result }
+    ensures leaves { LeavesAsBefore S.Store conn.old conn.new }
     ensures mode { conn.old.in_transaction ≡ false → conn.new.in_transaction ≡ false }
 {
     conn.query_all(
@@ -57,10 +55,10 @@ pub fn holding<S: Alter>(
     volume: u32,
     most: u32,
 ) -> Result<Vec<Row>, Error>
-    ensures found { Finds (state S.Store conn.old) (state S.Store conn.new) versions result
+    ensures found { Finds S.Store conn.old conn.new versions result
         (FindsHolding cust kind after.now volume most) }
-    ensures stays { Stays (state S.Store conn.old) (state S.Store conn.new) result }
-    ensures leaves { LeavesAsBefore (state S.Store conn.old) (state S.Store conn.new) }
+    ensures stays { Stays S.Store conn.old conn.new result }
+    ensures leaves { LeavesAsBefore S.Store conn.old conn.new }
     ensures mode { conn.old.in_transaction ≡ false → conn.new.in_transaction ≡ false }
 {
     conn.query_all(
@@ -75,10 +73,10 @@ pub fn approved_of<S: Alter>(
     cust: u32,
     blpu: &i64,
 ) -> Result<Vec<Row>, Error>
-    ensures found { Finds (state S.Store conn.old) (state S.Store conn.new) versions result
+    ensures found { Finds S.Store conn.old conn.new versions result
         (FindsApprovedOf cust blpu.now) }
-    ensures stays { Stays (state S.Store conn.old) (state S.Store conn.new) result }
-    ensures leaves { LeavesAsBefore (state S.Store conn.old) (state S.Store conn.new) }
+    ensures stays { Stays S.Store conn.old conn.new result }
+    ensures leaves { LeavesAsBefore S.Store conn.old conn.new }
     ensures mode { conn.old.in_transaction ≡ false → conn.new.in_transaction ≡ false }
 {
     conn.query_all(
@@ -95,10 +93,10 @@ pub fn approved_on<S: Alter>(
     after: &str,
     most: u32,
 ) -> Result<Vec<Row>, Error>
-    ensures found { Finds (state S.Store conn.old) (state S.Store conn.new) versions result
+    ensures found { Finds S.Store conn.old conn.new versions result
         (FindsApprovedOn cust street after.now most) }
-    ensures stays { Stays (state S.Store conn.old) (state S.Store conn.new) result }
-    ensures leaves { LeavesAsBefore (state S.Store conn.old) (state S.Store conn.new) }
+    ensures stays { Stays S.Store conn.old conn.new result }
+    ensures leaves { LeavesAsBefore S.Store conn.old conn.new }
     ensures mode { conn.old.in_transaction ≡ false → conn.new.in_transaction ≡ false }
 {
     conn.query_all(
@@ -115,10 +113,10 @@ pub fn parts_of<S: Alter>(
     after: &str,
     most: u32,
 ) -> Result<Vec<Row>, Error>
-    ensures found { Finds (state S.Store conn.old) (state S.Store conn.new) versions result
+    ensures found { Finds S.Store conn.old conn.new versions result
         (FindsParts cust blpu.now after.now most) }
-    ensures stays { Stays (state S.Store conn.old) (state S.Store conn.new) result }
-    ensures leaves { LeavesAsBefore (state S.Store conn.old) (state S.Store conn.new) }
+    ensures stays { Stays S.Store conn.old conn.new result }
+    ensures leaves { LeavesAsBefore S.Store conn.old conn.new }
     ensures mode { conn.old.in_transaction ≡ false → conn.new.in_transaction ≡ false }
 {
     conn.query_all(
@@ -142,13 +140,11 @@ pub fn insert<S: Alter>(
     body: &str,
 ) -> Result<usize, Error>
     ensures same_reference { tx.new.conn.ghost_name ≡ tx.old.conn.ghost_name }
-    ensures added { WritesInside (state S.Store tx.old.conn.now) (state S.Store tx.new.conn.now)
+    ensures added { WritesInside S.Store tx.old.conn.now tx.new.conn.now
         versions result (AddsRow
         (version_values cust kind id.now blpu.now street lang live born gone body.now)) }
-    ensures spared { SparesInside (state S.Store tx.old.conn.now) (state S.Store tx.new.conn.now)
-        result }
-    ensures leaves { Survives (state S.Store tx.old.conn.now) (state S.Store tx.new.conn.now)
-        (λ _. ⊥) }
+    ensures spared { SparesInside S.Store tx.old.conn.now tx.new.conn.now result }
+    ensures leaves { LeavesNothing S.Store tx.old.conn.now tx.new.conn.now }
 {
     tx.execute(
         "INSERT INTO version VALUES (?1, ?2, ?3, ?4, ?5, ?6, ?7, ?8, ?9, ?10)",
@@ -166,12 +162,10 @@ pub fn close<S: Alter>(
     gone: u32,
 ) -> Result<usize, Error>
     ensures same_reference { tx.new.conn.ghost_name ≡ tx.old.conn.ghost_name }
-    ensures closed { WritesInside (state S.Store tx.old.conn.now) (state S.Store tx.new.conn.now)
+    ensures closed { WritesInside S.Store tx.old.conn.now tx.new.conn.now
         versions result (Closes cust kind id.now born gone) }
-    ensures spared { SparesInside (state S.Store tx.old.conn.now) (state S.Store tx.new.conn.now)
-        result }
-    ensures leaves { Survives (state S.Store tx.old.conn.now) (state S.Store tx.new.conn.now)
-        (λ _. ⊥) }
+    ensures spared { SparesInside S.Store tx.old.conn.now tx.new.conn.now result }
+    ensures leaves { LeavesNothing S.Store tx.old.conn.now tx.new.conn.now }
 {
     tx.execute(
         "UPDATE version SET gone = ?5 WHERE cust = ?1 AND kind = ?2 AND id = ?3 AND born = ?4",

@@ -1,45 +1,28 @@
-use Rattle.std.proofs.Common.{arith, ◌∙◌}
-use Rattle.sqlite.specs.Held.{state}
-use Rattle.sqlite.specs.State.{HasCleanDisk}
+use Rattle.gaz_tables.proofs.Steps.{keeps_then, makes_then, open_then}
+use Rattle.gaz_tables.specs.Creating.{no_schema, with_version, with_by_blpu, with_by_street}
 use Rattle.gaz_tables.proofs.creating.make_versions.Goals as goal
 
 pub returns-in_err-make_by_blpu-clause-kept : goal.returns-in_err-make_by_blpu-clause-kept
-returns-in_err-make_by_blpu-clause-kept g c clean inside is_open =
-    let clean_0 : HasCleanDisk (state g.S.Store c.make_version.new.tx.conn.now) = omega (arith, c.make_by_blpu.ensures.leaves.clean, clean) in
-    let on_0 = c.in_ok-make_version.ensures.inside clean_0 inside in
-    c.make_by_blpu.ensures.kept clean on_0.0 is_open ∙ on_0.1
+returns-in_err-make_by_blpu-clause-kept g c = keeps_then g.S.Store c.args.tx.now.conn.now c.make_version.new.tx.conn.now c.make_by_blpu.new.tx.conn.now c.make_by_blpu.ensures.leaves c.in_ok-make_version.ensures.inside c.make_by_blpu.ensures.kept
 
 pub returns-in_err-make_by_street-clause-kept : goal.returns-in_err-make_by_street-clause-kept
-returns-in_err-make_by_street-clause-kept g c clean inside is_open =
-    let clean_1 : HasCleanDisk (state g.S.Store c.make_by_blpu.new.tx.conn.now) = omega (arith, c.make_by_street.ensures.leaves.clean, clean) in
-    let clean_0 : HasCleanDisk (state g.S.Store c.make_version.new.tx.conn.now) = omega (arith, c.make_by_blpu.ensures.leaves.clean, clean_1) in
-    let on_0 = c.in_ok-make_version.ensures.inside clean_0 inside in
-    let on_1 = c.in_ok-make_by_blpu.ensures.inside clean_1 on_0.0 in
-    c.make_by_street.ensures.kept clean on_1.0 is_open ∙ on_1.1 ∙ on_0.1
+returns-in_err-make_by_street-clause-kept g c =
+    let two = open_then g.S.Store c.args.tx.now.conn.now c.make_version.new.tx.conn.now c.make_by_blpu.new.tx.conn.now c.make_by_blpu.ensures.leaves c.in_ok-make_version.ensures.inside c.in_ok-make_by_blpu.ensures.inside in
+    keeps_then g.S.Store c.args.tx.now.conn.now c.make_by_blpu.new.tx.conn.now c.make_by_street.new.tx.conn.now c.make_by_street.ensures.leaves two c.make_by_street.ensures.kept
 
 pub returns-clause-kept : goal.returns-clause-kept
-returns-clause-kept g c clean inside is_open =
-    let clean_1 : HasCleanDisk (state g.S.Store c.make_by_blpu.new.tx.conn.now) = omega (arith, c.make_by_street.ensures.leaves.clean, clean) in
-    let clean_0 : HasCleanDisk (state g.S.Store c.make_version.new.tx.conn.now) = omega (arith, c.make_by_blpu.ensures.leaves.clean, clean_1) in
-    let on_0 = c.in_ok-make_version.ensures.inside clean_0 inside in
-    let on_1 = c.in_ok-make_by_blpu.ensures.inside clean_1 on_0.0 in
-    c.make_by_street.ensures.kept clean on_1.0 is_open ∙ on_1.1 ∙ on_0.1
+returns-clause-kept g c =
+    let two = open_then g.S.Store c.args.tx.now.conn.now c.make_version.new.tx.conn.now c.make_by_blpu.new.tx.conn.now c.make_by_blpu.ensures.leaves c.in_ok-make_version.ensures.inside c.in_ok-make_by_blpu.ensures.inside in
+    keeps_then g.S.Store c.args.tx.now.conn.now c.make_by_blpu.new.tx.conn.now c.make_by_street.new.tx.conn.now c.make_by_street.ensures.leaves two c.make_by_street.ensures.kept
 
 pub returns-clause-inside : goal.returns-clause-inside
-returns-clause-inside g c clean inside =
-    let clean_1 : HasCleanDisk (state g.S.Store c.make_by_blpu.new.tx.conn.now) = omega (arith, c.make_by_street.ensures.leaves.clean, clean) in
-    let clean_0 : HasCleanDisk (state g.S.Store c.make_version.new.tx.conn.now) = omega (arith, c.make_by_blpu.ensures.leaves.clean, clean_1) in
-    let on_0 = c.in_ok-make_version.ensures.inside clean_0 inside in
-    let on_1 = c.in_ok-make_by_blpu.ensures.inside clean_1 on_0.0 in
-    let last = c.in_ok-make_by_street.ensures.inside clean on_1.0 in
-    (last.0, last.1 ∙ on_1.1 ∙ on_0.1)
+returns-clause-inside g c =
+    let two = open_then g.S.Store c.args.tx.now.conn.now c.make_version.new.tx.conn.now c.make_by_blpu.new.tx.conn.now c.make_by_blpu.ensures.leaves c.in_ok-make_version.ensures.inside c.in_ok-make_by_blpu.ensures.inside in
+    open_then g.S.Store c.args.tx.now.conn.now c.make_by_blpu.new.tx.conn.now c.make_by_street.new.tx.conn.now c.make_by_street.ensures.leaves two c.in_ok-make_by_street.ensures.inside
 
 pub returns-clause-made : goal.returns-clause-made
-returns-clause-made g c clean inside bare =
-    let clean_1 : HasCleanDisk (state g.S.Store c.make_by_blpu.new.tx.conn.now) = omega (arith, c.make_by_street.ensures.leaves.clean, clean) in
-    let clean_0 : HasCleanDisk (state g.S.Store c.make_version.new.tx.conn.now) = omega (arith, c.make_by_blpu.ensures.leaves.clean, clean_1) in
-    let on_0 = c.in_ok-make_version.ensures.inside clean_0 inside in
-    let on_1 = c.in_ok-make_by_blpu.ensures.inside clean_1 on_0.0 in
-    let one = c.in_ok-make_version.ensures.made clean_0 inside bare in
-    let two = c.in_ok-make_by_blpu.ensures.made clean_1 on_0.0 one.0 in
-    c.in_ok-make_by_street.ensures.made clean on_1.0 two.0
+returns-clause-made g c =
+    let one = c.in_ok-make_version.ensures.inside in
+    let two = open_then g.S.Store c.args.tx.now.conn.now c.make_version.new.tx.conn.now c.make_by_blpu.new.tx.conn.now c.make_by_blpu.ensures.leaves one c.in_ok-make_by_blpu.ensures.inside in
+    let made = makes_then g.S.Store c.args.tx.now.conn.now c.make_version.new.tx.conn.now c.make_by_blpu.new.tx.conn.now c.make_by_blpu.ensures.leaves one no_schema with_version with_by_blpu c.in_ok-make_version.ensures.made c.in_ok-make_by_blpu.ensures.made in
+    makes_then g.S.Store c.args.tx.now.conn.now c.make_by_blpu.new.tx.conn.now c.make_by_street.new.tx.conn.now c.make_by_street.ensures.leaves two no_schema with_by_blpu with_by_street made c.in_ok-make_by_street.ensures.made

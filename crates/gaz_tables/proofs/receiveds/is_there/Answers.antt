@@ -1,14 +1,14 @@
 use Rattle.sqlite.specs.Held.{state}
 use Rattle.gaz_sql_facts.proofs.Texts.{answers, stays, leaves_as_before}
-use Rattle.gaz_tables.proofs.ReceivedMeanings.{is_there_found}
+use Rattle.gaz_tables.proofs.ReceivedMeanings.{volume_found}
 use Rattle.gaz_tables.specs.Receiveds.{volume_shown}
 use Rattle.gaz_tables.proofs.ReceivedOnce.{volume_alone}
-use Rattle.gaz_tables.proofs.ReceivedQueries.{is_there_is}
+use Rattle.gaz_tables.proofs.ReceivedQueries.{is_there_is, is_there_terms}
 use Rattle.gaz_tables.proofs.receiveds.is_there.Goals as goal
 
 pub returns-clause-found : goal.returns-clause-found
 returns-clause-found g c clean has =
-    is_there_found (state g.S.Store c.args.conn.now).now has c.args.cust c.args.volume c.query_all.result
+    volume_found (state g.S.Store c.args.conn.now).now has c.args.cust c.args.volume is_there_terms c.query_all.result
     (answers _ _ _ _ _ _ _ _ is_there_is _ (state g.S.Store c.args.conn.now) (state g.S.Store c.query_all.new.self) has.schema_is c.query_all.result
     (rw (c.params-to_sql.ensures, c.params-to_sql-2.ensures) at (c.query_all.ensures.ok clean)))
 

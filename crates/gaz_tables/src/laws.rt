@@ -1,0 +1,23 @@
+//! What whoever keeps something in the tables may rest on.
+ghost use Rattle.gaz_tables.specs.Examples.{WorkedExamples};
+ghost use Rattle.gaz_tables.specs.Laws.{BornOnce, ReceivedOnce, TablesStay};
+
+/// What the definitions come to on worked examples.
+pub fn worked_examples()
+    ensures { WorkedExamples }
+{}
+
+/// No two rows of one key are born in one volume.
+pub fn born_once()
+    ensures { BornOnce }
+{}
+
+/// No volume is received twice.
+pub fn received_once()
+    ensures { ReceivedOnce }
+{}
+
+/// A write leaves the database one of the three tables, and the other two as they were.
+pub fn tables_stay()
+    ensures { TablesStay }
+{}
