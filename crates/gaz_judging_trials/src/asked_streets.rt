@@ -37,12 +37,7 @@ fn adds_addresses<K: Inbox>(
     ensures { OnOk result (IsNotOpen (K.seen shelf.new).progress) }
 {
     shelf.receive(custodian(code)?, volume(number)?, b"a file")?;
-    write_volume(
-        shelf,
-        custodian(code)?,
-        addresses(alloc)?,
-        Ending::Keep,
-    )?;
+    write_volume(shelf, custodian(code)?, addresses(alloc)?, Ending::Keep)?;
     Ok(())
 }
 

@@ -9,7 +9,7 @@ returns-clause-plays g c =
     let first = c.in_ok-hub.hub in
     let last = c.converse-ended.new.hub in
     let told = alone (door_of first.register) first.register last.register last.waiters (seen_in first.keeper) (seen_in last.keeper) _ _ _ first.waiters
-        c.in_ok-hub.ensures.fresh c.converse-ended.ensures.conversation in
+    c.in_ok-hub.ensures.fresh c.converse-ended.ensures.conversation in
     record {
       register = first.register;
       described = c.in_ok-hub.ensures.register;
