@@ -1,5 +1,5 @@
 -- What holds after the calls of a hub that begins with nothing, over a keeper of whole maps.
-use Rattle.std.proofs.Common.{List, ap, subst}
+use Rattle.std.proofs.Common.{◌≡◌, List, ap, subst}
 use Rattle.std.specs.FinMap as map
 use Rattle.gaz_shelf.specs.Mem.{content_in, seen_in}
 use Rattle.gaz_shelf.specs.declared.mem_shelf.MemShelf.{MemShelf}
