@@ -71,6 +71,33 @@ fn submits<K: Inbox + Drop>(
     Ok(())
 }
 
+// Each of these submits a file that waits for volume 1 of a custodian.
+fn all_wait<K: Inbox + Drop>(
+    rt: &(impl Abort + AllocGlobal),
+    hub: &mut Hub<K>,
+    codes: &[u64],
+    whom: u64,
+) -> Result<(), Fail>
+    requires { IsNotOpen (K.seen hub.old.keeper).progress }
+    ensures { OnOk result (IsNotOpen (K.seen hub.new.keeper).progress) }
+{
+    for code in codes {
+        let waits = Answer::New(held(whom, 1)?);
+        submits(rt, hub, (*code, 1), &[(whom, 1)], waits)?;
+    }
+    Ok(())
+}
+
+// Volume 1 of each of these is judged.
+fn are_judged<K: Inbox + Drop>(rt: &impl Abort, hub: &mut Hub<K>, codes: &[u64]) -> Result<(), Fail>
+    requires { IsNotOpen (K.seen hub.old.keeper).progress }
+{
+    for code in codes {
+        assert_eq!(rt; hub.status(*code)?.judged, 1);
+    }
+    Ok(())
+}
+
 #[test]
 fn nobody_is_looked_at_in_vain(rt: HostRuntime) -> Result<(), Fail> {
     let mut hub = hub_of_400(rt.alloc())?;
@@ -92,22 +119,12 @@ fn nobody_is_looked_at_in_vain(rt: HostRuntime) -> Result<(), Fail> {
 #[test]
 fn who_waits_is_looked_at_once(rt: HostRuntime) -> Result<(), Fail> {
     let mut hub = hub_of_400(rt.alloc())?;
-    for code in [10, 200, 400] {
-        submits(
-            &rt,
-            &mut hub,
-            (code, 1),
-            &[(7, 1)],
-            Answer::New(held(7, 1)?),
-        )?;
-    }
+    let codes: &[u64] = &[10, 200, 400];
+    all_wait(&rt, &mut hub, codes, 7)?;
     let before = asked(&hub);
     submits(&rt, &mut hub, (7, 1), &[], APPLIED)?;
     assert!(rt; asked(&hub).saturating_sub(before) <= 48, "three wait");
-    for code in [10, 200, 400] {
-        assert_eq!(rt; hub.status(code)?.judged, 1);
-    }
-    Ok(())
+    are_judged(&rt, &mut hub, codes)
 }
 
 #[test]
@@ -124,19 +141,17 @@ fn who_waits_for_two_volumes_is_looked_at_for_each(rt: HostRuntime) -> Result<()
 
 #[test]
 fn three_hundred_and_ninety_nine_wait_for_one(rt: HostRuntime) -> Result<(), Fail> {
-    let mut hub = hub_of_400(rt.alloc())?;
-    let waits = Answer::New(held(CUSTODIANS, 1)?);
+    let mut codes = Vec::new(rt.alloc());
     for code in 1..CUSTODIANS {
-        submits(&rt, &mut hub, (code, 1), &[(CUSTODIANS, 1)], waits)?;
+        codes.push(code)?;
     }
+    let mut hub = hub_of_400(rt.alloc())?;
+    all_wait(&rt, &mut hub, codes.as_slice(), CUSTODIANS)?;
     let before = asked(&hub);
     submits(&rt, &mut hub, (CUSTODIANS, 1), &[], APPLIED)?;
     assert!(rt;
         asked(&hub).saturating_sub(before) <= 6 * CUSTODIANS,
         "each is looked at"
     );
-    for code in 1..=CUSTODIANS {
-        assert_eq!(rt; hub.status(code)?.judged, 1);
-    }
-    Ok(())
+    are_judged(&rt, &mut hub, codes.as_slice())
 }
