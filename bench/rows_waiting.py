@@ -5,7 +5,7 @@ import registers
 import streams
 from measure import in_file, program, seconds
 
-LOOK_UPS, SUBMISSIONS, ROUNDS = 50_000, 2_000, 9
+LOOK_UPS, REQUESTS, SUBMISSIONS, ROUNDS = 50_000, 400_000, 20_000, 5
 SIZE = 300_000_000  # of a block of UPRNs; those of USRNs have 30,000
 
 
@@ -48,21 +48,26 @@ def held_rows(folder):
         yield title, f"{spent / base:.2f} times those while nothing waits", f"{LOOK_UPS / spent:,.0f} look-ups/s"
 
 
-def requests_of(custodians):
-    """Look-ups, standings and repeats all over the custodians, and small files of the first for which nobody waits."""
-    code = lambda k: 1 + k % custodians  # noqa: E731
-    small = [streams.post((1, v), streams.file_with(1, v, [f"11,I,{2 + v},1,2001-04-01,"])) for v in range(2, SUBMISSIONS + 2)]
-    yield "look-ups", LOOK_UPS, 1.3, b"".join(streams.get(f"/uprn/{first_number(code(k))[0] + k % 499}") for k in range(LOOK_UPS))
-    yield "standings", LOOK_UPS, 1.3, b"".join(streams.get(f"/custodians/{code(k)}") for k in range(LOOK_UPS))
-    yield "repeats", SUBMISSIONS, 1.3, b"".join(streams.post((1 + k % 3, 1), thousand_items(1 + k % 3)) for k in range(SUBMISSIONS))
-    yield "files that nobody waits for", SUBMISSIONS, 1.2, b"".join(small)
+def requests_of():
+    """Look-ups, standings and repeats of three custodians, and small files of the first for which nobody waits."""
+    def small(volume):
+        return streams.post((1, volume), streams.file_with(1, volume, [f"11,I,{2 + volume},1,2001-04-01,"]))
+
+    def code(k):
+        return 1 + k % 3
+
+    asked = b"".join(streams.get(f"/uprn/{first_number(code(k))[0] + k % 499}") for k in range(REQUESTS))
+    yield "look-ups", REQUESTS, 1.3, asked
+    yield "standings", REQUESTS, 1.3, b"".join(streams.get(f"/custodians/{code(k)}") for k in range(REQUESTS))
+    yield "repeats", REQUESTS, 1.3, small(2) * REQUESTS
+    yield "files that nobody waits for", SUBMISSIONS, 1.2, b"".join(small(v) for v in range(2, SUBMISSIONS + 2))
 
 
 def times_of(folder, custodians):
     register = in_file(folder, f"register{custodians}", registers.register_of(custodians).encode())
     load = b"".join(streams.post((code, 1), thousand_items(code)) for code in range(1, custodians + 1))
     loading = in_file(folder, "loading", load)
-    for title, count, most, asked in requests_of(custodians):
+    for title, count, most, asked in requests_of():
         spent, replies = beyond([program("gaz_bench"), "play", register], loading, in_file(folder, "stream", load + asked))
         assert b'"rejected"' not in replies and b'"refused"' not in replies, title
         yield title, count, most, spent
