@@ -131,8 +131,8 @@ AnswersAll most passed (Ok served) =
     AreAll most passed.exchanges passed.rest ⊎ IsRefused passed.rest passed.left NotReceived
 AnswersAll most passed (Err stopped) = ⊤
 
--- a conversation of a hub with this door, of at most so many requests; old and new are the hub's
--- keeper before and after
+-- a conversation of a hub with this door, of at most so many requests; old and new are the hub
+-- before and after, as it is seen with what it remembers
 pub record Conversation (door : Door) (most : ℕ) (through : Transfer) (old new : Seen)
     (result : Result Served Stopped) : Type 0 where
   pub read : List ℕ
