@@ -1,10 +1,11 @@
 -- What the definitions come to on worked examples.
-use Rattle.std.proofs.Common.{◌≡◌, ◌∙◌, ◌&&◌, ℕ, List, [], ◌∷◌, map, not, refl, ap}
+use Rattle.std.proofs.Common.{◌≡◌, ◌∙◌, ◌&&◌, inl, inr, ℕ, false, true, List, [], ◌∷◌, map, not, refl, sym, ap, is_some}
 use Rattle.std.specs.Prelude.{◌==◌, count_by, nat_le}
 use Rattle.std.specs.FinMap as finite
 use Rattle.gaz_views.proofs.Trees.{no_entries}
 use Rattle.gaz_shelf.proofs.Pairs.{pairs_total}
-use Rattle.gaz_shelf.specs.Examples.{WorkedBoards, WorkedContents, WorkedExamples, WorkedFiles, three_files}
+use Rattle.gaz_shelf.specs.Examples.{WorkedBoards, WorkedContents, WorkedExamples, WorkedFiles, WorkedStops, first_received, three_files}
+use Rattle.gaz_shelf.specs.Keeper.{Content, after_stop, empty_content}
 use Rattle.gaz_shelf.specs.Received.{Received, count_above, pair_cmp, with_file}
 
 abbrev Entries : Type 0
@@ -20,8 +21,16 @@ three_entries = with_one _ _ 1001 1 (with_one _ _ 1002 2 (with_one _ _ 1001 3 (n
 counted : (c volume : ℕ) → count_above three_files c volume ≡ count_by {X = ℕ × ℕ} (λ p. (p.0 == c) && not (nat_le p.1 volume)) ((1001, 1) ∷ (1001, 3) ∷ (1002, 2) ∷ [])
 counted c volume = ap (λ (es : Entries). count_by {X = ℕ × ℕ} (λ p. (p.0 == c) && not (nat_le p.1 volume)) (map (λ e. e.0) es)) three_entries
 
+-- a file tells them apart
+not_the_same : ¬ (after_stop empty_content ≡ after_stop first_received)
+not_the_same same =
+    let none : is_some (finite.get empty_content.files (1001, 1)) ≡ false = ap is_some (finite.get-empty pair_cmp (1001, 1)) in
+    let there : is_some (finite.get first_received.files (1001, 1)) ≡ true = ap is_some (finite.get-insert pairs_total (finite.empty {X = List ℕ} {R = pair_cmp}) (1001, 1) [] (1001, 1)) in
+    let clash : false ≡ true = sym none ∙ ap (λ (k : Content). is_some (finite.get k.files (1001, 1))) same ∙ there in
+    absurd (cc)
+
 pub worked_examples_hold : WorkedExamples
-worked_examples_hold = record { on_boards = on_boards; on_contents = on_contents; on_files = on_files }
+worked_examples_hold = record { on_boards = on_boards; on_contents = on_contents; on_files = on_files; on_stops = on_stops }
   where
     on_boards : WorkedBoards
     on_boards = record {
@@ -66,4 +75,14 @@ worked_examples_hold = record { on_boards = on_boards; on_contents = on_contents
       above_3 = counted 1001 3;
       of_another = counted 1002 1;
       of_none = counted 1003 0;
+    }
+
+    on_stops : WorkedStops
+    on_stops = record {
+      read = λ k left. left;
+      received = λ k left. inr (tt, left);
+      refused = λ k left. inl left;
+      committed = λ k left. left;
+      lost = λ just. not_the_same (just (after_stop empty_content) refl);
+      read_more = λ more. not_the_same (sym (more (after_stop first_received) refl));
     }

@@ -7,3 +7,4 @@ pub mod Highest
 pub mod Mem
 pub mod Faulting
 pub mod Written
+pub mod Counting

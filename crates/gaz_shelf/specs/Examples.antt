@@ -1,11 +1,13 @@
 -- Worked examples, computed from the definitions.
-use Rattle.std.specs.Prelude.{◌≡◌, ◌==◌, true, false, [], ◌∷◌, if◌then◌else◌, Some, None}
+use Rattle.std.specs.Prelude.{◌≡◌, ◌≤◌, ◌-◌, ◌^◌, ◌==◌, true, false, [], ◌∷◌, if◌then◌else◌, Some, None}
 use Rattle.std.specs.FinMap as map
 use Rattle.gaz_views.specs.Examples.{no_more, one_street}
 use Rattle.gaz_views.specs.View.{empty_view}
 use Rattle.gaz_views.specs.declared.verdict.Verdict.TheVariants.{Applied, Rejected}
 use Rattle.gaz_shelf.specs.Board.{Board, empty_board, last_view, reached, verdict_on, view_after}
-use Rattle.gaz_shelf.specs.Keeper.{Broken, Content, Idle, Open, after_keep, after_skip}
+use Rattle.gaz_shelf.specs.Keeper.{Broken, Content, Idle, IsLawful, LeavesAtMost, LeavesJust, Open}
+use Rattle.gaz_shelf.specs.Keeper.{Seen, after_keep, after_skip, after_stop, empty_content}
+use Rattle.gaz_shelf.specs.Keeper.{with_received}
 use Rattle.gaz_shelf.specs.Received.{Received, count_above, is_below, with_file}
 
 -- custodian 1001 has applied volume 1, and its volume 2 was rejected
@@ -76,7 +78,40 @@ pub record WorkedFiles : Type 0 where
   pub of_another : count_above three_files 1002 1 ≡ 1
   pub of_none : count_above three_files 1003 0 ≡ 0
 
+pub not_full : false ≡ true → 2 ^ 64 - 1 ≤ 0
+not_full is = absurd (cc)
+
+-- a keeper of this content that a stop leaves as it is
+abbrev pub kept_safe : Content → Seen
+kept_safe k = record {
+  content = k;
+  stands = IsLawful k;
+  lawful = λ stands. stands;
+  unharmed = Unit {0};
+  progress = Idle;
+  failures = 0;
+  is_full = false;
+  full = not_full;
+  leaves = λ left. left ≡ after_stop k;
+}
+
+-- volume 1 of 1001 was received, and nothing else
+abbrev pub first_received : Content
+first_received = with_received empty_content 1001 1 []
+
+-- what a stop may leave of a file that was received
+pub record WorkedStops : Type 0 where
+  pub read : LeavesAtMost None (kept_safe empty_content) (kept_safe empty_content)
+  pub received : LeavesAtMost (Some first_received) (kept_safe empty_content)
+      (kept_safe first_received)
+  pub refused : LeavesAtMost (Some first_received) (kept_safe empty_content)
+      (kept_safe empty_content)
+  pub committed : LeavesJust (Some first_received) (kept_safe first_received)
+  pub lost : ¬ LeavesJust (Some first_received) (kept_safe empty_content)
+  pub read_more : ¬ LeavesAtMost None (kept_safe empty_content) (kept_safe first_received)
+
 pub record WorkedExamples : Type 0 where
   pub on_boards : WorkedBoards
   pub on_contents : WorkedContents
   pub on_files : WorkedFiles
+  pub on_stops : WorkedStops

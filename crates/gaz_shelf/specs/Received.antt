@@ -4,6 +4,8 @@ use Rattle.std.specs.Prelude.{is_some}
 use Rattle.std.specs.BTreeMap.{is_at}
 use Rattle.std.specs.declared.cmp.Ordering.{Ordering}
 use Rattle.std.specs.Ordering.{nat_cmp, ordering_then}
+use Rattle.std.specs.BTreeMap.Range.{entries_between}
+use Rattle.std.specs.declared.ops.Bound.TheVariants.{Included}
 use Rattle.std.specs.FinMap as map
 use Rattle.std.specs.Map.{lookup}
 use Rattle.std.specs.Option.{option_map_or}
@@ -31,3 +33,11 @@ AreBelow highest files =
 -- how many of a custodian's files are above a volume
 abbrev pub count_above : Received → ℕ → ℕ → ℕ
 count_above files c volume = count_by (λ p. (p.0 == c) && not (nat_le p.1 volume)) (map.keys files)
+
+-- a pair is of a custodian, above a volume and up to another
+abbrev pub is_between : ℕ → ℕ → ℕ → ℕ × ℕ → Bool
+is_between c reached highest p = (p.0 == c) && (not (nat_le p.1 reached) && nat_le p.1 highest)
+
+-- the files from a pair to another
+abbrev pub files_between : {X : Type 0} → ℕ × ℕ → ℕ × ℕ → List ((ℕ × ℕ) × X) → List ((ℕ × ℕ) × X)
+files_between first last files = entries_between pair_cmp (Included first) (Included last) files

@@ -1,9 +1,10 @@
-ghost use Rattle.std.specs.Prelude.{◌≡◌, ◌&&◌, ◌==◌, ℕ, nat_le, not, true, OnOk, OnErr, option_map};
+ghost use Rattle.std.specs.Prelude.{◌≡◌, ◌≤◌, ℕ, true, OnOk, OnErr, length, option_map};
 ghost use Rattle.std.specs.Prelude.{count_by};
 ghost use Rattle.std.specs.FinMap as map;
 ghost use Rattle.std.specs.BTreeMap.{keys};
 ghost use Rattle.std.specs.List.Sorted.{IsStrictlySortedBy};
-ghost use Rattle.gaz_shelf.specs.Received.{count_above, is_below, pair_cmp, with_file};
+ghost use Rattle.gaz_shelf.specs.Received.{count_above, files_between, is_below, is_between};
+ghost use Rattle.gaz_shelf.specs.Received.{pair_cmp, with_file};
 
 use gaz_ids::{Code, Volume};
 use std::alloc::{AllocError, Global};
@@ -98,7 +99,11 @@ impl Files {
     pub fn count_above(&self, code: Code, reached: u64) -> u64
         ensures { result ≡ count_above self.now code reached }
     {
-        count_keys_above(&self.by_pair, code, reached)
+        let _count = self.by_pair.len();
+        match self.highest.get(&code) {
+            Some(highest) => count_between(&self.by_pair, code, reached, *highest),
+            None => 0,
+        }
     }
 }
 
@@ -125,15 +130,33 @@ fn raise(highest: &mut BTreeMap<Code, Volume>, code: Code, volume: Volume) -> Re
     Ok(())
 }
 
-// Over the pairs as they stand.
-fn count_keys_above(by_pair: &BTreeMap<(Code, Volume), FileBytes>, code: Code, reached: u64) -> u64
-    ensures count { result
-        ≡ count_by (λ p. (p.0 == code) && not (nat_le p.1 reached)) (keys by_pair.now) }
-    ensures ordered { IsStrictlySortedBy pair_cmp (keys by_pair.now) }
+// How many files of a custodian are above a volume, where none is above the highest.
+fn count_between(
+    by_pair: &BTreeMap<(Code, Volume), FileBytes>,
+    code: Code,
+    reached: u64,
+    highest: Volume,
+) -> u64
+    ensures { result ≡ count_by (is_between code reached highest) (keys by_pair.now) }
 {
-    let _count = by_pair.len();
-    by_pair
-        .keys()
-        .filter(|pair| pair.0 == code && pair.1.number() > reached)
-        .count() as u64
+    if highest.number() <= reached {
+        return 0;
+    }
+    let Some(first) = Volume::of(reached + 1) else {
+        return 0;
+    };
+    count_from(by_pair, code, first, highest)
+}
+
+// How many files of a custodian there are from a volume to another.
+fn count_from(
+    by_pair: &BTreeMap<(Code, Volume), FileBytes>,
+    code: Code,
+    first: Volume,
+    last: Volume,
+) -> u64
+    requires { first ≤ last }
+    ensures { result ≡ length (files_between (code, first) (code, last) by_pair.now.entries) }
+{
+    by_pair.range((code, first)..=(code, last)).count() as u64
 }
