@@ -22,8 +22,9 @@ use Rattle.gaz_views.specs.Words.{address_of, entries, first_of, property_of}
 use Rattle.gaz_views.specs.declared.property.Property.{Property}
 use Rattle.gaz_views.specs.declared.verdict.Verdict.{Verdict}
 use Rattle.gaz_ledger.proofs.KeyHistories.{view_ascends}
-use Rattle.gaz_ledger.proofs.Marked.{Row, first_marked, has, held, passes, rows_ascend}
+use Rattle.gaz_ledger.proofs.Marked.{first_marked, passes}
 use Rattle.gaz_ledger.proofs.Marks.{mark_itself}
+use Rattle.gaz_ledger.proofs.Passing.{Row, has, held, rows_ascend}
 use Rattle.gaz_ledger.specs.Indexes.{has_mark, marked_at, marked_item}
 use Rattle.gaz_ledger.specs.Properties.{AreSo, is_address_of, is_blpu, known_in}
 use Rattle.gaz_ledger.specs.declared.index.Mark.{Mark}
@@ -45,7 +46,7 @@ module _ (m : Mark) (v w : View) (same : (k : Key) → marked_item (entries w) m
   keys = keys_of (filter (passes m) (entries v))
 
   kept : (k : Key) → has keys k ≡ marked_at (entries v) m k
-  kept k = held m (entries v) (view_ascends v) k
+  kept k = held (has_mark m) (entries v) (view_ascends v) k
 
   found : (es : List Row) (k : Key) → has keys k ≡ marked_at es m k → IfSome (find key_cmp k es) (λ i. has_mark m i ≡ true → has keys k ≡ true)
   found es k is = by_item (find key_cmp k es) is

@@ -6,6 +6,7 @@ pub mod Judgements
 pub mod Marks
 pub mod KeySets
 pub mod Indexes
+pub mod Passing
 pub mod Marked
 pub mod Known
 pub mod Ranges

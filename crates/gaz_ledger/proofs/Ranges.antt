@@ -24,7 +24,7 @@ use Rattle.gaz_records.specs.declared.key.Key.{Key}
 use Rattle.gaz_records.specs.declared.key.Key.TheVariants as key
 use Rattle.gaz_views.proofs.Pages.{passes}
 use Rattle.gaz_views.specs.Words.{comes_after, is_of}
-use Rattle.gaz_ledger.proofs.Marked.{Ascends}
+use Rattle.gaz_ledger.proofs.Passing.{Ascends}
 use Rattle.gaz_ledger.specs.KeyHistories.{ItemVersions, rows_at, versions_among, with_versions}
 use Rattle.gaz_ledger.specs.Ranges.{is_past, start_after}
 

@@ -1,25 +1,22 @@
 -- Questions of laid views.
-use Rattle.std.proofs.Common.{◌≡◌, ◌<◌, ◌+◌, ◌∙◌, ◌++◌, length, get_or, drop, drop-cons, add-one, ◌||◌, ◌&&◌, Bool, true, false, not, cond, sym, ap, refl, subst, ℕ, is_some, List, [], ◌∷◌, map, true≢false}
+use Rattle.std.proofs.Common.{◌≡◌, ◌<◌, ◌+◌, ◌∙◌, ◌++◌, length, get_or, drop, drop-cons, add-one, ◌||◌, ◌&&◌, Bool, true, false, not, cond, sym, ap, refl, ℕ, is_some, List, [], ◌∷◌, true≢false}
 use Rattle.std.specs.Prelude.{Option, Some, None, filter, option_map}
 use Rattle.std.specs.Cmp.{eq_by_cmp_equiv, tied_itself}
 use Rattle.std.specs.FinMap as finite
 use Rattle.std.specs.FinMap.{find}
-use Rattle.std.specs.List.{AllByRecursion, list_any}
+use Rattle.std.specs.List.{list_any}
 use Rattle.std.specs.List.Sorted.{IsStrictlySortedBy}
-use Rattle.std.specs.Map.{keys_of}
 use Rattle.std.specs.Option.{option_and_then, option_map_or}
 use Rattle.std.specs.Ordering.{eq_by_cmp, is_eq}
-use Rattle.std.specs.declared.cmp.Ordering.TheVariants.{Less}
 use Rattle.gaz_ledger.proofs.KeyHistories.{view_ascends}
-use Rattle.gaz_ledger.proofs.Marked.{Ascends, in_key_order, rows_ascend}
+use Rattle.gaz_ledger.proofs.Passing.{Ascends, first_row, has, held, in_key_order, is_cons, keys_back, rows_ascend, same_maps, some_keys, some_kept}
 use Rattle.gaz_records.specs.contracts.key.KeyOrd.TheImpl.{cmp-value as key-value}
-use Rattle.gaz_records.proofs.KeyOrder.{keys_exact, keys_total}
+use Rattle.gaz_records.proofs.KeyOrder.{keys_total}
 use Rattle.gaz_records.specs.Keys.{key_cmp}
 use Rattle.gaz_records.specs.declared.item.Item.{Item}
 use Rattle.gaz_records.specs.declared.key.Key.{Key}
 use Rattle.gaz_records.specs.declared.key.Key.TheVariants as key
 use Rattle.gaz_views.proofs.SameKeys.{same_key}
-use Rattle.gaz_views.proofs.Trees.{entries_tree}
 use Rattle.gaz_views.specs.Lawful.{IsLawfulView}
 use Rattle.gaz_views.specs.View.{View, was_used}
 use Rattle.gaz_views.specs.Words.{address_of, approved_of, entries, first_of, property_of, is_approved_of, is_approved_on, is_child_of}
@@ -27,69 +24,17 @@ use Rattle.gaz_overlay.specs.Laid.{laid, untouched}
 use Rattle.gaz_overlay.specs.Questions.{LaidQuestions, any_with, both, in_order, keys_with, property_at}
 use Rattle.gaz_overlay.proofs.Laid.{at_key}
 
-abbrev Row : Type 0
-Row = Key × Item
-
-abbrev has : List Key → Key → Bool
-has ks q = list_any (eq_by_cmp key_cmp q) ks
-
--- ---- lists of keys that ascend and have the same keys are one
-
-abbrev alone : List Key → List (Key × Unit {0})
-alone ks = map (λ k. (k, tt)) ks
-
-keys_alone : (ks : List Key) → keys_of (alone ks) ≡ ks
-keys_alone [] = refl
-keys_alone (k ∷ ks) = ap (λ l. k ∷ l) (keys_alone ks)
-
-find_alone : (q : Key) (ks : List Key) → find key_cmp q (alone ks) ≡ cond (has ks q) (Some tt) None
-find_alone q [] = refl
-find_alone q (k ∷ ks) = elim (eq_by_cmp key_cmp q k) as (λ b. cond b (Some tt) (find key_cmp q (alone ks)) ≡ cond (b || has ks q) (Some tt) None) [ true ↦ refl | false ↦ find_alone q ks ]
-
 -- the keys of an ascending list in order are the list
 ordered : (ks : List Key) → Ascends ks → in_order ks ≡ ks
-ordered ks h = ap keys_of (entries_tree (λ a b. refl) keys_total (alone ks) (subst Ascends (sym (keys_alone ks)) h)) ∙ keys_alone ks
+ordered ks h = keys_back ks h
 
 same_order : (xs ys : List Key) → ((q : Key) → has xs q ≡ has ys q) → in_order xs ≡ in_order ys
-same_order xs ys same =
-    ap finite.keys (finite.same_map keys_total keys_exact (finite.from_entries {R = key_cmp} (alone xs)) (finite.from_entries {R = key_cmp} (alone ys)) (λ q.
-    finite.get-from_entries keys_total (alone xs) q ∙ find_alone q xs ∙ ap (λ b. cond b (Some tt) None) (same q) ∙ sym (find_alone q ys) ∙ sym (finite.get-from_entries keys_total (alone ys) q)))
+same_order xs ys same = ap finite.keys (same_maps xs ys same)
 
--- ---- the keys of the items that pass a test
-
-missing : (k : Key) (es : List Row) → AllByRecursion (λ y. key_cmp k y ≡ Less) (keys_of es) → find key_cmp k es ≡ None
-missing k [] h = refl
-missing k (e ∷ es) h = ap (λ r. cond (is_eq r) (Some e.1) (find key_cmp k es)) h.0 ∙ missing k es h.1
-
--- the first of keys that come later isn't found at an earlier one
-passed_over : (e : Row) (es : List Row) (ks : List Key) → AllByRecursion (λ y. key_cmp e.0 y ≡ Less) ks → option_and_then (λ k. find key_cmp k (e ∷ es)) (first_of ks) ≡ option_and_then (λ k. find key_cmp k es) (first_of ks)
-passed_over e es [] h = refl
-passed_over e es (k ∷ ks) h = by_test (eq_by_cmp key_cmp k e.0) refl
-  where
-    by_test : (b : Bool) → eq_by_cmp key_cmp k e.0 ≡ b → cond b (Some e.1) (find key_cmp k es) ≡ find key_cmp k es
-    by_test true at =
-        let later : is_eq (key_cmp k k) ≡ false = ap (λ (q : Key). is_eq (key_cmp q k)) (same_key k e.0 at) ∙ ap is_eq h.0 in
-        let tied : true ≡ false = sym (ap is_eq (tied_itself keys_total k)) ∙ later in
-        cc
-    by_test false at = refl
-
-kept_later : (e : Row) (p : Row → Bool) (es : List Row) → AllByRecursion (λ y. key_cmp e.0 y ≡ Less) (keys_of es) → AllByRecursion (λ y. key_cmp e.0 y ≡ Less) (keys_of (filter p es))
-kept_later e p [] h = tt
-kept_later e p (f ∷ es) h =
-    elim (p f) as (λ b. AllByRecursion (λ y. key_cmp e.0 y ≡ Less) (keys_of (cond b (f ∷ filter p es) (filter p es)))) [ true ↦ (h.0, kept_later e p es h.1) | false ↦ kept_later e p es h.1 ]
-
--- the first item that passes is the one at the first key of one that does
-first_item : (p : Row → Bool) (es : List Row) → Ascends (keys_of es) → option_map (λ e. e.1) (first_of (filter p es)) ≡ option_and_then (λ k. find key_cmp k es) (first_of (keys_of (filter p es)))
-unfolding IsStrictlySortedBy
-first_item p [] h = refl
-first_item p (e ∷ es) h =
-    elim (p e) as (λ b. option_map (λ x. x.1) (first_of (cond b (e ∷ filter p es) (filter p es))) ≡ option_and_then (λ k. find key_cmp k (e ∷ es)) (first_of (keys_of (cond b (e ∷ filter p es) (filter p es))))) [
-      | true ↦ sym (ap (λ o. cond (is_eq o) (Some e.1) (find key_cmp e.0 es)) (tied_itself keys_total e.0))
-      | false ↦ first_item p es h.1 ∙ sym (passed_over e es (keys_of (filter p es)) (kept_later e p es h.0))
-    ]
+-- ---- the property of a number
 
 address_by_key : (v : View) (uprn : ℕ) → address_of v uprn ≡ option_and_then (finite.get v.items) (first_of (approved_of v uprn))
-address_by_key v uprn = first_item (λ e. is_approved_of uprn e.1) (entries v) (view_ascends v) ∙ at_first (first_of (approved_of v uprn))
+address_by_key v uprn = sym (first_row (λ e. is_approved_of uprn e.1) (entries v) (view_ascends v)) ∙ at_first (first_of (approved_of v uprn))
   where
     at_first : (o : Option Key) → option_and_then (λ k. find key_cmp k (entries v)) o ≡ option_and_then (finite.get v.items) o
     at_first None = refl
@@ -120,20 +65,6 @@ has_kept f q (x ∷ xs) = by_test (has_kept f q xs) (eq_by_cmp key_cmp q x) refl
     by_test rest false at true is = ap (λ t. t || has (filter f xs) q) at ∙ rest
     by_test rest false at false is = rest
 
-is_cons : {X : Type 0} → List X → Bool
-is_cons [] = false
-is_cons (x ∷ xs) = true
-
-some_kept : {X : Type 0} (f : X → Bool) (xs : List X) → list_any f xs ≡ is_cons (filter f xs)
-unfolding is_cons
-some_kept f [] = refl
-some_kept f (x ∷ xs) = elim (f x) as (λ b. (b || list_any f xs) ≡ is_cons (cond b (x ∷ filter f xs) (filter f xs))) [ true ↦ refl | false ↦ some_kept f xs ]
-
-some_keys : (es : List Row) → is_cons es ≡ is_cons (keys_of es)
-unfolding is_cons
-some_keys [] = refl
-some_keys (e ∷ es) = refl
-
 some_both : (xs ys : List Key) → is_cons (xs ++ ys) ≡ (is_cons xs || is_cons ys)
 unfolding is_cons
 some_both [] ys = refl
@@ -156,29 +87,14 @@ or_none false = refl
 -- ---- the items that pass a test
 
 module _ (p : Item → Bool) where
-  abbrev passing : List Row → List Key
-  passing es = keys_of (filter (λ e. p e.1) es)
-
   abbrev passes : Option Item → Bool
   passes o = option_map_or p o false
 
-  held : (es : List Row) → Ascends (keys_of es) → (q : Key) → has (passing es) q ≡ passes (find key_cmp q es)
-  unfolding IsStrictlySortedBy
-  held [] h q = refl
-  held (e ∷ es) h q = by_test (held es h.1 q) (p e.1) refl (eq_by_cmp key_cmp q e.0) refl
-    where
-      by_test : has (passing es) q ≡ passes (find key_cmp q es) → (b : Bool) → p e.1 ≡ b → (c : Bool) → eq_by_cmp key_cmp q e.0 ≡ c
-          → has (keys_of (cond b (e ∷ filter (λ e. p e.1) es) (filter (λ e. p e.1) es))) q ≡ passes (cond c (Some e.1) (find key_cmp q es))
-      by_test rest true is true at = ap (λ b. b || has (passing es) q) at ∙ sym is
-      by_test rest true is false at = ap (λ b. b || has (passing es) q) at ∙ rest
-      by_test rest false is true at = rest ∙ ap (λ (k : Key). passes (find key_cmp k es)) (same_key q e.0 at) ∙ ap passes (missing e.0 es h.0) ∙ sym is
-      by_test rest false is false at = rest
-
   held_in : (v : View) (q : Key) → has (keys_with p v) q ≡ passes (finite.get v.items q)
-  held_in v q = held (entries v) (view_ascends v) q ∙ ap passes (sym (finite.get-entries v.items q))
+  held_in v q = held p (entries v) (view_ascends v) q ∙ ap passes (sym (finite.get-entries v.items q))
 
   any_is : (v : View) → any_with p v ≡ is_cons (keys_with p v)
-  any_is v = some_kept (λ e. p e.1) (entries v) ∙ some_keys (filter (λ e. p e.1) (entries v))
+  any_is v = some_kept (λ e. p e.1) (entries v) ∙ sym (some_keys (filter (λ e. p e.1) (entries v)))
 
   module _ (v s : View) (lawful : IsLawfulView s) where
     -- a key that the changes haven't used has no item there

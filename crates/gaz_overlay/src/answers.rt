@@ -1,6 +1,6 @@
 //! What is asked of the laid view, of the last view's answers and the changes.
 ghost use Rattle.std.specs.Prelude.{◌≡◌, ◌||◌, filter, IfOk};
-ghost use Rattle.gaz_views.specs.Words.{approved_of, approved_on, has_children};
+ghost use Rattle.gaz_views.specs.Words.{approved_of, approved_on, first_of, has_children};
 ghost use Rattle.gaz_overlay.specs.Laid.{any_untouched, untouched};
 ghost use Rattle.gaz_overlay.specs.Questions.{both};
 
@@ -45,6 +45,22 @@ impl Overlay {
         let spared = self.spared(alloc, last)?;
         let own = self.ledger.ledger().approved_of(alloc, WORKING, uprn)?;
         Ok(merged(alloc, &spared, &own)?)
+    }
+
+    /// The key of the address that the BLPU's property has, the first of its approved LPIs; `last`
+    /// are the keys of those of the last view. The property has the items that the laid view has
+    /// there and at the BLPU's own key, as `laid_questions` says.
+    pub fn address_of(
+        &self,
+        alloc: Global,
+        last: &[Key],
+        uprn: Uprn,
+    ) -> Result<Option<Key>, AllocError>
+        ensures { IfOk result (λ key. key
+            ≡ first_of (both self.now.view last.now (approved_of self.now.view uprn))) }
+    {
+        let keys = self.approved_of(alloc, last, uprn)?;
+        Ok(keys.first().copied())
     }
 
     /// Whether an approved LPI is on the street, in this language where one is given; `last` are

@@ -3,7 +3,7 @@ use Rattle.std.proofs.Common.{◌≡◌, ◌≤◌, ◌++◌, map, length}
 use Rattle.std.specs.Prelude.{◌&&◌, filter}
 use Rattle.gaz_views.specs.Words.{comes_after, is_of}
 use Rattle.gaz_ledger.specs.KeyHistories.{rows_at, with_versions}
-use Rattle.gaz_ledger.proofs.Marked.{Ascends}
+use Rattle.gaz_ledger.proofs.Passing.{Ascends}
 use Rattle.gaz_ledger.proofs.words.page_of.Given as goal
 
 abbrev pub invariant-loop-key : goal.invariant-loop-key

@@ -3,8 +3,8 @@ use Rattle.std.specs.List.{list_any}
 use Rattle.gaz_views.specs.View.{View}
 use Rattle.gaz_views.specs.Words.{entries}
 use Rattle.gaz_ledger.proofs.KeyHistories.{view_ascends}
-use Rattle.gaz_ledger.proofs.Marked.{in_key_order}
 use Rattle.gaz_ledger.proofs.Marked.{any_under, none_under}
+use Rattle.gaz_ledger.proofs.Passing.{in_key_order}
 use Rattle.gaz_ledger.proofs.Ledgers.{finds_from, seen}
 use Rattle.gaz_ledger.specs.KeyHistories.{view_at}
 use Rattle.gaz_ledger.specs.Indexes.{has_mark, listed}
