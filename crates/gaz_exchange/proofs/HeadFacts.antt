@@ -16,14 +16,8 @@ prefix (x ∷ a) b (y ∷ c) d e h =
     let more = prefix a b c d tail (omega arith) in
     let s : x ∷ a ≡ y ∷ (c ++ drop (length c) a) = cc (head, more) in s
 
-pub never_from_overflow : (buf : List ℕ) → RequestOverflows 32 buf → NeverHead buf
-never_from_overflow buf o more h rest b = omega (arith, o more h rest b.reads, b.few)
-
 pub no_from_none : (buf : List ℕ) → HasNoRequest buf → NoHead buf
 no_from_none buf n h rest b = n h rest b.reads
-
-pub no_from_never : (buf : List ℕ) → NeverHead buf → NoHead buf
-no_from_never buf n h rest b = n [] h rest (rw (append-nil buf) b)
 
 pub never_from_long : (buf : List ℕ) → HasNoRequest buf → 8192 < length buf → NeverHead buf
 never_from_long buf n long more h rest b =

@@ -43,13 +43,3 @@ put_behind held mid holds text behind whole a b =
       appended = Appends-trans held mid holds text b.sent (subst (λ l. Appends held mid l) (sym none) a.appended) b.appended;
       all = b.all;
     }
-
--- a text that was cut, and nothing of what is behind it
-pub put_cut : (held mid : Option (List ℕ)) (text behind : List ℕ) → IsPut held mid text false → IsPut held mid (text ++ behind) false
-put_cut held mid text behind a = record {
-  sent = a.sent;
-  lost = a.lost ++ behind;
-  cut = ap (λ l. l ++ behind) a.cut ∙ append_assoc a.sent a.lost behind;
-  appended = a.appended;
-  all = λ e. cc;
-}

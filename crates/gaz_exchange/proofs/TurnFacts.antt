@@ -23,7 +23,7 @@ use Rattle.gaz_exchange.specs.declared.fault.Fault.TheVariants.{NotReceived}
 use Rattle.gaz_exchange.specs.declared.reply.Reply.{Reply}
 use Rattle.gaz_exchange.specs.declared.reply.Reply.TheVariants.{Refused}
 use Rattle.gaz_exchange.specs.declared.request.Request.{Request}
-use Rattle.gaz_exchange.specs.declared.route.Call.{Call}
+use Rattle.gaz_exchange.specs.declared.calls.Call.{Call}
 use Rattle.gaz_exchange.proofs.StreamFacts.{kept_appends, kept_appends_none}
 
 -- a refusal's text takes no memory

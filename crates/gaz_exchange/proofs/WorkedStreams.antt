@@ -115,18 +115,6 @@ closing_exchanged : (rest : List ℕ) → IsExchanged (closing_bytes ++ rest) cl
 unfolding asked target_of reply_text message digits
 closing_exchanged rest = record { request = closing_request rest; answered = refl }
 
-posted_goes : is_closing posted.head ≡ false
-unfolding is_closing httparse_on_literals
-posted_goes = refl
-
-asked_goes : is_closing asked_for.head ≡ false
-unfolding is_closing
-asked_goes = refl
-
-lost_goes : is_closing lost.head ≡ false
-unfolding is_closing
-lost_goes = refl
-
 closing_ends : is_closing closing.head ≡ true
 unfolding is_closing httparse_on_literals
 closing_ends = refl

@@ -9,12 +9,12 @@ use Rattle.gaz_exchange.specs.Targets.{Nowhere, target_of, code_in, volume_in, u
 use Rattle.gaz_exchange.specs.declared.fault.Allowed.TheVariants as allowed
 use Rattle.gaz_exchange.specs.declared.fault.Fault.{Fault}
 use Rattle.gaz_exchange.specs.declared.fault.Fault.TheVariants.{NotThere, NoRoute, BadMethod}
-use Rattle.gaz_exchange.specs.declared.route.Call.{Call}
-use Rattle.gaz_exchange.specs.declared.route.Call.TheVariants.{Submit, Ask, Stand, LookUp}
-use Rattle.gaz_exchange.specs.declared.route.Call.TheVariants.{ListClosed}
-use Rattle.gaz_exchange.specs.declared.route.Call.TheVariants as call
-use Rattle.gaz_exchange.specs.declared.route.Method.{Method}
-use Rattle.gaz_exchange.specs.declared.route.Method.TheVariants.{Get, Post, Other}
+use Rattle.gaz_exchange.specs.declared.calls.Call.{Call}
+use Rattle.gaz_exchange.specs.declared.calls.Call.TheVariants.{Submit, Ask, Stand, LookUp}
+use Rattle.gaz_exchange.specs.declared.calls.Call.TheVariants.{ListClosed}
+use Rattle.gaz_exchange.specs.declared.calls.Call.TheVariants as call
+use Rattle.gaz_exchange.specs.declared.calls.Method.{Method}
+use Rattle.gaz_exchange.specs.declared.calls.Method.TheVariants.{Get, Post, Other}
 
 -- the method that a text names; methods have case (RFC 9110, section 9.1)
 abbrev pub method_of : List ℕ → Method

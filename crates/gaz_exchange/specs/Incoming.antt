@@ -13,8 +13,8 @@ use Rattle.gaz_exchange.specs.declared.fault.Fault.{Fault}
 use Rattle.gaz_exchange.specs.declared.fault.Fault.TheVariants.{BadRequest, NotReceived}
 use Rattle.gaz_exchange.specs.declared.framing.Framing.{Framing}
 use Rattle.gaz_exchange.specs.declared.framing.Framing.TheVariants.{Length, Refused}
-use Rattle.gaz_exchange.specs.declared.route.Call.{Call}
-use Rattle.gaz_exchange.specs.declared.route.Method.{Method}
+use Rattle.gaz_exchange.specs.declared.calls.Call.{Call}
+use Rattle.gaz_exchange.specs.declared.calls.Method.{Method}
 use Rattle.gaz_exchange.specs.declared.request.Incoming.{Incoming}
 use Rattle.gaz_exchange.specs.declared.request.Incoming.TheVariants as incoming
 use Rattle.gaz_exchange.specs.declared.request.Needed.{Needed}

@@ -20,7 +20,7 @@ use Rattle.gaz_exchange.specs.declared.fault.Fault.{Fault}
 use Rattle.gaz_exchange.specs.declared.reply.Reply.{Reply}
 use Rattle.gaz_exchange.specs.declared.reply.Reply.TheVariants.{Refused}
 use Rattle.gaz_exchange.specs.declared.request.Request.{Request}
-use Rattle.gaz_exchange.specs.declared.route.Call.{Call}
+use Rattle.gaz_exchange.specs.declared.calls.Call.{Call}
 
 -- the hub isn't asked, and what its keeper stands for stays
 abbrev pub Rests : Door → Seen → Seen → Type 0

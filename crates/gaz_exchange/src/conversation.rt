@@ -5,10 +5,10 @@ ghost use Rattle.gaz_hub.specs.Seen.{hub_seen};
 ghost use Rattle.gaz_exchange.specs.Conversing.{Conversation, ended_after, transfer};
 ghost use Rattle.gaz_exchange.specs.Turns.{Answers, Asks, IsAsked, IsTurn, Refuses, turn_of};
 
+use crate::calls::Call;
 use crate::fault::Fault;
 use crate::reply::Reply;
 use crate::request::{Incoming, Intake, Request, next_request};
-use crate::route::Call;
 use crate::send::send;
 use crate::supply::Cause;
 use gaz_hub::Hub;

@@ -37,14 +37,13 @@ fn limited_value(digits: &[u8]) -> Option<usize>
     Some(value)
 }
 
-// The size that the value of a `Content-Length` tells (RFC 9110, section 8.6, and RFC 9112, section
-// 6.3).
+// The size that the value of a `Content-Length` tells (RFC 9110, section 8.6):
 //
 // > Content-Length = 1*DIGIT
 //
-// > If a message is received without Transfer-Encoding and with an invalid Content-Length header
-// > field, then the message framing is invalid and the recipient MUST treat it as an unrecoverable
-// > error
+// Another value makes the framing of a request invalid, an error that can't be recovered from, and
+// is answered 400 (RFC 9112, section 6.3). A recipient may take one value repeated with commas
+// between as that value; ours takes digits alone, as section 8.6 of RFC 9110 lets it.
 fn size_of(value: &[u8]) -> Framing
     ensures { result ≡ size_in value.now }
 {
@@ -74,7 +73,8 @@ fn size_of(value: &[u8]) -> Framing
 /// > A server that receives a request message with a transfer coding it does not understand SHOULD
 /// > respond with 501 (Not Implemented).
 ///
-/// More than one `Content-Length` is refused, whether or not their values are the same.
+/// More than one `Content-Length` is refused, whether or not their values are the same, which
+/// section 8.6 of RFC 9110 leaves open for the same value.
 pub fn find_framing(buf: &[u8], is_post: bool, headers: &[HeaderSpan]) -> Framing
     requires { All (IsHeaderWithin (length buf.now)) headers.now }
     ensures { result ≡ length_in is_post (map (header_bytes buf.now) headers.now) }

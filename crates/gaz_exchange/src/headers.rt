@@ -113,7 +113,9 @@ fn asks_to_close(buf: &[u8], headers: &[HeaderSpan]) -> bool
 /// > If the "close" connection option is present (Section 9.6), the connection will not persist
 /// > after the current response (RFC 9112, section 9.3)
 ///
-/// Our profile knows no `keep-alive`, so a request of HTTP/1.0 always ends it.
+/// Without it the connection persists after a request of HTTP/1.1. After one of HTTP/1.0 that names
+/// `keep-alive` a server may let it persist (the same section); ours knows no `keep-alive`, so such
+/// a request always ends the conversation.
 pub fn closes(buf: &[u8], minor: u8, headers: &[HeaderSpan]) -> bool
     requires { All (IsHeaderWithin (length buf.now)) headers.now }
     ensures { result ≡ closes_in minor (map (header_bytes buf.now) headers.now) }

@@ -48,7 +48,7 @@ fn blank(bytes: &[u8]) -> bool
 }
 
 // What the bytes begin with. A head is a request line and field lines, each with its end, and an
-// empty line (RFC 9112, sections 3 and 5):
+// empty line (RFC 9112, section 2.1); in sections 3 and 5
 //
 // > request-line   = method SP request-target SP HTTP-version
 // > field-line   = field-name ":" OWS field-value OWS

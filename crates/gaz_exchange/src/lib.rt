@@ -3,6 +3,7 @@
 
 mod bodies;
 mod body;
+mod calls;
 mod conversation;
 mod fault;
 mod framing;

@@ -7,12 +7,13 @@ ghost use Rattle.gaz_exchange.specs.Incoming.{IsBehind, IsIncoming, IsNeeded};
 ghost use Rattle.gaz_exchange.specs.Supplies.{Reads};
 
 use crate::body::{Body, read_body};
+use crate::calls::{Call, Method};
 use crate::fault::Fault;
 use crate::framing::{Framing, find_framing, is_post};
 use crate::headers::closes;
 use crate::heads::{Next, next_head};
 use crate::inlet::Inlet;
-use crate::route::{Call, Method, Routes};
+use crate::route::Routes;
 use crate::supply::Cause;
 use httparse::spans::{EMPTY_HEADER_SPAN, HeaderSpan, RequestSpans};
 use std::alloc::Global;

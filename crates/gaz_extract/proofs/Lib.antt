@@ -3,6 +3,7 @@ pub mod Telling
 pub mod Rows
 pub mod Lists
 pub mod Turns
+pub mod Readings
 pub mod Remembering
 pub mod Ranks
 pub mod Rising

@@ -1,17 +1,14 @@
 -- What was told of streets stays right.
 use Rattle.std.proofs.Common.{◌≡◌, ℕ, Bool, true, false, cond, refl, sym, ◌∙◌, subst, ap, []}
-use Rattle.std.specs.Prelude.{Some, Result, Ok, Err, IfOk}
+use Rattle.std.specs.Prelude.{Some}
 use Rattle.std.specs.BTreeMap.{BTreeMap, Updates, get, is_at}
 use Rattle.std.specs.Cmp.{Equal-is}
 use Rattle.std.specs.Ordering.{nat_cmp}
 use Rattle.std.proofs.lemmas.Map.Lookups.{exact_unsigned}
 use Rattle.gaz_register.specs.Registers.{RegisterValue}
 use Rattle.gaz_shelf.specs.Board.{Board}
-use Rattle.gaz_shelf.specs.Keeper.{Broken, Idle, IsLeft, Keeps, Open, Progress, Seen}
 use Rattle.gaz_extract.specs.Closing.{is_closed_elsewhere}
-use Rattle.gaz_extract.specs.Readings.{Looks}
 use Rattle.gaz_extract.specs.Remembering.{AreRight, AskedStreets}
-use Rattle.gaz_shelf.specs.declared.fault.ShelfFault.{ShelfFault}
 
 -- of no street anything was told
 pub nothing_asked : (board : Board) (register : RegisterValue) (c : ℕ) (asked : AskedStreets) → asked ≡ [] → AreRight board register c asked
@@ -28,20 +25,3 @@ one_more board register c old new usrn closed up is right n told there =
           sym said ∙ is ∙ ap (is_closed_elsewhere board register c) same
       | false ↦ λ _ e. right n told e
     ] refl (sym (up.0 n) ∙ there)
-
-left_itself : (p : Progress) → IsLeft p p
-left_itself Idle = refl
-left_itself (Open c) = refl
-left_itself Broken = λ c e. cc
-
--- where the keeper isn't called
-pub keeps_itself : (a : Seen) → Keeps a a
-keeps_itself a = record { harm = λ fine. fine; stands = λ stood _. stood; content = λ _ _. refl; progress = left_itself a.progress; leaves = λ _ k left. left }
-
-if_ok : {T : Type 0} (r : Result T ShelfFault) (P Q : T → Type 0) → ((x : T) → P x → Q x) → IfOk r P → IfOk r Q
-if_ok (Ok x) P Q f h = f x h
-if_ok (Err e) P Q f h = tt
-
--- what is right is right in other words too
-pub looks_as : {T : Type 0} (a b : Seen) (r : Result T ShelfFault) (P Q : T → Type 0) → ((x : T) → P x → Q x) → Looks a b r P → Looks a b r Q
-looks_as a b r P Q f l = record { keeps = l.keeps; right = λ stood fine. if_ok r P Q f (l.right stood fine); counts = l.counts }

@@ -61,8 +61,3 @@ pages_rise v kind after most items keyed is =
     let last = last_of (nat_le most (length items)) (slice_get items (length items - 1)) k e in
     let later = taken_at (IsLater after) most (rest_of v kind after) (length items - 1) last.0 (rows_later kind after (entries v) (rows_keyed v keyed)) (ap (λ (xs : List Item). slice_get xs (length items - 1)) (sym is) ∙ last.1) in
     subst (λ (q : Key). comes_after after q ≡ true) last.2 later)
-
--- a key that is there
-pub some_key : (o : Option Key) → is_some o ≡ true → (k : Key) × (o ≡ Some k)
-some_key None e = cc
-some_key (Some k) e = (k, refl)

@@ -3,16 +3,16 @@ ghost use Rattle.std.specs.List.{cons_option};
 ghost use Rattle.gaz_register.specs.Registers.{RegisterValue};
 ghost use Rattle.gaz_shelf.specs.Board.{Board, reached};
 ghost use Rattle.gaz_extract.specs.Closing.{closed_among, closed_by, closed_from, closed_left};
-ghost use Rattle.gaz_extract.specs.Closing.{closed_of, closed_streets, is_on_closed};
+ghost use Rattle.gaz_extract.specs.Closing.{closed_of, closed_streets};
 ghost use Rattle.gaz_extract.specs.Paging.{pages_left};
 ghost use Rattle.gaz_extract.specs.Readings.{LooksAtBoard};
 ghost use Rattle.gaz_extract.specs.Remembering.{AreRight, Recalls};
 ghost use Rattle.gaz_shelf.specs.Telling.{IsNotJudging};
 
 use crate::page::read_page;
-use crate::streets::is_closed_elsewhere;
-use gaz_ids::{Code, Status, Usrn};
-use gaz_records::{Item, Key, Kind, Lpi, RecordKey, SharedItem};
+use crate::streets::is_on_closed;
+use gaz_ids::{Code, Usrn};
+use gaz_records::{Item, Key, Kind, RecordKey, SharedItem};
 use gaz_register::Register;
 use gaz_shelf::{Shelf, ShelfFault};
 use std::alloc::{AllocError, Global};
@@ -44,26 +44,6 @@ impl Walk {
     {
         self.asked.clear();
     }
-}
-
-// Whether an address is approved, and its street closed elsewhere.
-fn is_on_closed<K: Shelf>(
-    keeper: &mut K,
-    register: &Register,
-    code: Code,
-    lpi: &Lpi,
-    asked: &mut BTreeMap<Usrn, bool>,
-) -> Result<bool, ShelfFault>
-    requires { IsNotJudging K.seen keeper.old }
-    ensures tells { LooksAtBoard K.seen keeper.old keeper.new result
-        (λ board b. Recalls board register.now code asked.old.entries asked.new.entries
-        (b ≡ is_on_closed board register.now code lpi.now)) }
-    ensures not_open { IsNotJudging K.seen keeper.new }
-{
-    if !matches!(lpi.status, Status::Approved) {
-        return Ok(false);
-    }
-    is_closed_elsewhere(keeper, register, code, lpi.usrn, asked)
 }
 
 // What is told of an item.

@@ -2,13 +2,14 @@
 ghost use Rattle.std.specs.Prelude.{◌≡◌, Some, OnOk};
 ghost use Rattle.std.specs.BTreeMap.{Updates};
 ghost use Rattle.std.specs.Ordering.{nat_cmp};
-ghost use Rattle.gaz_extract.specs.Closing.{closed_at_owner, is_closed_elsewhere};
+ghost use Rattle.gaz_extract.specs.Closing.{closed_at_owner, is_closed_elsewhere, is_on_closed};
 ghost use Rattle.gaz_extract.specs.Readings.{LooksAtBoard};
 ghost use Rattle.gaz_extract.specs.Remembering.{Recalls};
 ghost use Rattle.gaz_shelf.specs.Telling.{IsNotJudging};
 
 use crate::find::{has_closed_street, has_street};
-use gaz_ids::{Code, Usrn};
+use gaz_ids::{Code, Status, Usrn};
+use gaz_records::Lpi;
 use gaz_register::Register;
 use gaz_shelf::{Shelf, ShelfFault};
 use std::alloc::AllocError;
@@ -57,9 +58,9 @@ fn remember(asked: &mut BTreeMap<Usrn, bool>, usrn: Usrn, closed: bool) -> Resul
     Ok(())
 }
 
-/// Whether a street isn't in the own last view and is closed in its owner's: as it is remembered,
-/// else as the keeper tells, and remembered from then on.
-pub fn is_closed_elsewhere<K: Shelf>(
+// Whether a street isn't in the own last view and is closed in its owner's: as it is remembered,
+// else as the keeper tells, and remembered from then on.
+fn is_closed_elsewhere<K: Shelf>(
     keeper: &mut K,
     register: &Register,
     code: Code,
@@ -78,4 +79,24 @@ pub fn is_closed_elsewhere<K: Shelf>(
     let closed = ask_street(keeper, register, code, usrn)?;
     remember(asked, usrn, closed)?;
     Ok(closed)
+}
+
+/// Whether an address is approved, and its street closed elsewhere.
+pub fn is_on_closed<K: Shelf>(
+    keeper: &mut K,
+    register: &Register,
+    code: Code,
+    lpi: &Lpi,
+    asked: &mut BTreeMap<Usrn, bool>,
+) -> Result<bool, ShelfFault>
+    requires { IsNotJudging K.seen keeper.old }
+    ensures tells { LooksAtBoard K.seen keeper.old keeper.new result
+        (λ board b. Recalls board register.now code asked.old.entries asked.new.entries
+        (b ≡ is_on_closed board register.now code lpi.now)) }
+    ensures not_open { IsNotJudging K.seen keeper.new }
+{
+    if !matches!(lpi.status, Status::Approved) {
+        return Ok(false);
+    }
+    is_closed_elsewhere(keeper, register, code, lpi.usrn, asked)
 }

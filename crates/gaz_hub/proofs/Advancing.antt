@@ -281,17 +281,6 @@ tries_past reg a b code left e n rd IsAmong none l idle now =
 
 -- ---- one call after another
 
--- a look after which a call failed that isn't the keeper's
-pub tries_looked : {T : Type 0} (d : Door) (left : ℕ) (a b : Seen) (r : Result T ShelfFault) (P : T → Type 0) (e : ShelfFault) (IsAmong : ℕ → Type 0) → (e ≡ Store → ⊥) → Looks a b r P → IsNotOpen a.progress → Tries d left a b (Err e) IsAmong
-tries_looked d left a b r P e IsAmong never l idle =
-    record {
-      advances = advances_looking d a b r P l idle;
-      within = tt;
-      same = λ stood fine. tt;
-      rests = λ stood fine. tt;
-      cause = λ stood fine all is. absurd (never is);
-    }
-
 pub neither : (m n : ℕ) → m + n ≡ 0 → (m ≡ 0) × (n ≡ 0)
 neither m n e = (omega arith, omega arith)
 
@@ -344,11 +333,6 @@ tries_stopped reg m left a b c e P Q S first second =
           let kept = first.advances.kept in
           omega arith;
     }
-
--- the same of fewer
-pub tries_of : (d : Door) (left : ℕ) (a b : Seen) (r : Result ℕ ShelfFault) (P Q : ℕ → Type 0) → ((c : ℕ) → Q c → P c) → Tries d left a b r P → Tries d left a b r Q
-tries_of d left a b (Ok n) P Q sub l = record { advances = l.advances; within = l.within; same = l.same; rests = λ stood fine e c among. l.rests stood fine e c (sub c among); cause = l.cause }
-tries_of d left a b (Err e) P Q sub l = record { advances = l.advances; within = l.within; same = l.same; rests = l.rests; cause = l.cause }
 
 -- ---- settling
 

@@ -4,6 +4,7 @@ use Rattle.std.specs.Prelude.{Option, Result}
 use Rattle.gaz_extract.specs.Lookups.{lookup}
 use Rattle.gaz_extract.specs.Readings.{Looks}
 use Rattle.gaz_extract.specs.declared.found.Found.{Found}
+use Rattle.gaz_extract.proofs.Readings.{if_ok}
 use Rattle.gaz_register.specs.Registers.{IsRegister, RegisterValue}
 use Rattle.gaz_shelf.specs.Keeper.{Content, Seen}
 use Rattle.gaz_shelf.specs.declared.fault.ShelfFault.{ShelfFault}
@@ -13,7 +14,6 @@ use Rattle.gaz_hub.specs.Settling.{AnswersSettled, Tells}
 use Rattle.gaz_hub.specs.Standing.{NothingReady}
 use Rattle.gaz_hub.specs.Step.{Door, LookUp, Pose, Replied}
 use Rattle.gaz_hub.specs.declared.refusal.Refusal.{Refusal}
-use Rattle.gaz_hub.proofs.Looks.{if_ok}
 use Rattle.gaz_hub.proofs.Owners.{owner_tells}
 use Rattle.gaz_hub.proofs.Replying.{steps_read}
 use Rattle.gaz_hub.proofs.Telling.{tells_settled}

@@ -14,7 +14,6 @@ pub mod Told
 pub mod Replying
 pub mod AskingOwner
 pub mod AnswerSteps
-pub mod Readings
 pub mod HubRuns
 pub mod Headline
 pub mod OwnNumbers

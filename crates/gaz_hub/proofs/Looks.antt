@@ -2,14 +2,14 @@
 use Rattle.std.proofs.Common.{◌≡◌, ◌≤◌, ◌<◌, ◌+◌, ℕ, suc, Bool, true, false, cond, not, ◌&&◌, List, [], ◌∷◌, drop, length, get_or, refl, sym, ap, ◌∙◌, subst, arith, leb-true, le-leb}
 use Rattle.std.proofs.Math.Seq.{drop-cons}
 use Rattle.std.proofs.lemmas.List.{drop_all}
-use Rattle.std.specs.Prelude.{nat_le, Some, None, Result, Ok, Err, IfOk, IfErr}
+use Rattle.std.specs.Prelude.{nat_le, Some, None, Result, Ok, Err, IfErr}
 use Rattle.std.specs.Option.{option_map, option_map_or}
 use Rattle.std.specs.FinMap as map
 use Rattle.gaz_changefile.specs.Contents.{Contents}
 use Rattle.gaz_changefile.specs.Reading.{Good, Bad, Reading, reading}
 use Rattle.gaz_changefile.specs.declared.change.Basis.{Basis}
 use Rattle.gaz_shelf.specs.Board.{Board, reached}
-use Rattle.gaz_shelf.specs.Keeper.{Counts, IsLeft, IsNotOpen, Keeps, Progress, Idle, Open, Broken, Seen}
+use Rattle.gaz_shelf.specs.Keeper.{Counts, IsLeft, IsNotOpen, Progress, Idle, Open, Broken, Seen}
 use Rattle.gaz_shelf.specs.Received.{Received}
 use Rattle.gaz_shelf.specs.declared.fault.ShelfFault.{ShelfFault}
 use Rattle.gaz_shelf.specs.declared.fault.ShelfFault.TheVariants.{Store}
@@ -17,28 +17,17 @@ use Rattle.gaz_shelf.proofs.Keeping.{keeps_then}
 use Rattle.gaz_rules.specs.Bases.{are_reached}
 use Rattle.gaz_rules.specs.Judging.{bases_of}
 use Rattle.gaz_extract.specs.Readings.{Looks}
+use Rattle.gaz_extract.proofs.Readings.{if_ok, keeps_itself}
 use Rattle.gaz_hub.specs.Outcomes.{first_unreached, wants, wants_as}
 use Rattle.gaz_hub.specs.Settling.{IsNext, IsReadAs, wanted_by}
 use Rattle.gaz_hub.specs.Standing.{next_reading, ready}
 use Rattle.gaz_hub.specs.declared.looking.Next.{Next}
 use Rattle.gaz_hub.specs.declared.looking.Next.TheVariants as next
 
-pub if_ok : {T : Type 0} (r : Result T ShelfFault) (P Q : T → Type 0) → ((x : T) → P x → Q x) → IfOk r P → IfOk r Q
-if_ok (Ok x) P Q f h = f x h
-if_ok (Err e) P Q f h = tt
-
 pub left_not_open : (p q : Progress) → IsLeft p q → IsNotOpen p → IsNotOpen q
 left_not_open Idle q e h = subst IsNotOpen (sym e) h
 left_not_open (Open c) q e h = absurd (h c refl)
 left_not_open Broken q e h = e
-
-left_itself : (p : Progress) → IsLeft p p
-left_itself Idle = refl
-left_itself (Open c) = refl
-left_itself Broken = λ c e. cc
-
-pub keeps_itself : (a : Seen) → Keeps a a
-keeps_itself a = record { harm = λ fine. fine; stands = λ stood _. stood; content = λ _ _. refl; progress = left_itself a.progress; leaves = λ _ k left. left }
 
 -- an answer without a call
 pub looks_nowhere : {T : Type 0} (a : Seen) (x : T) (P : T → Type 0) → P x → Looks a a (Ok x) P
@@ -62,10 +51,6 @@ looks_then a b c x r P Q R first second both =
           if_ok r Q R (both (first.keeps.content stood mid) (first.right stood mid)) (second.right (first.keeps.stands stood mid) fine);
       counts = counts_then a b c r first.counts.kept second.counts;
     }
-
--- what is right is right in other words too
-pub looks_as : {T : Type 0} (a b : Seen) (r : Result T ShelfFault) (P Q : T → Type 0) → ((x : T) → P x → Q x) → Looks a b r P → Looks a b r Q
-looks_as a b r P Q f l = record { keeps = l.keeps; right = λ stood fine. if_ok r P Q f (l.right stood fine); counts = l.counts }
 
 -- an answer that is made of what was read
 pub looks_to : {T U : Type 0} (a b : Seen) (x : T) (y : U) (P : T → Type 0) (Q : U → Type 0) → Looks a b (Ok x) P → (P x → Q y) → Looks a b (Ok y) Q

@@ -79,20 +79,6 @@ rest_waiting register a b code whom volume m k looked noted stood fine others re
               subst (λ (q : Option (ℕ × ℕ)). is_among (waiting_at q) code ≡ true) e (now_waits m (whom, volume) code);
         })
 
--- a custodian has no next volume
-pub rest_done : (register : RegisterValue) (a b : Seen) (code : ℕ) (m : Remembered)
-    → Looks a b (Ok next.Done) (IsNext a.content.files a.content.board code)
-    → RestAfter (code ∷ []) (door_of register) m a m b
-rest_done register a b code m looked stood fine others rest d known ahead among =
-    let found = looked.right stood.0 fine in
-    rests_in m a.content b.content d (looked.keeps.content stood.0 fine)
-    (elim (eqb code d) as (λ t. eqb code d ≡ t → Rests m a.content.files a.content.board d) [
-      | true ↦ λ t.
-          subst (λ e. Rests m a.content.files a.content.board e) (eqb-true code d t)
-          (record { unready = found.0; waits = λ p want. let no : None ≡ Some p = sym found.1 ∙ want in cc })
-      | false ↦ λ t. rest d known ahead (ap (λ y. y || is_among others d) t ∙ among)
-    ] refl)
-
 -- ---- one after another
 
 pub rest_still : (door : Door) (m : Remembered) (a : Seen) → RestAfter [] door m a m a
@@ -111,15 +97,6 @@ rest_more door codes i n code a b c m k l below is first harm before then stood 
 
 pub rest_all : (door : Door) (codes : List ℕ) (i : ℕ) (a b : Seen) (m k : Remembered) → length codes ≤ i → RestAfter (take i codes) door m a k b → RestAfter codes door m a k b
 rest_all door codes i a b m k past = subst (λ xs. RestAfter xs door m a k b) (take_all i codes past)
-
--- those who were ahead are looked at
-pub rest_taken : (door : Door) (codes : List ℕ) (a c : Seen) (m k l : Remembered) → codes ≡ m.0 → k ≡ ([], m.1) → RestAfter codes door k a l c → RestAfter [] door m a l c
-rest_taken door codes a c m k l is left after stood fine others rest =
-    after stood fine others (λ d known ahead among.
-    let parts = in_neither codes others d among in
-    let r = rest d known (ap (λ xs. is_among xs d) (sym is) ∙ parts.0) parts.1 in
-    subst (λ (y : Remembered). Rests y a.content.files a.content.board d) (sym left)
-    (record { unready = r.unready; waits = r.waits }))
 
 -- round after round
 pub rest_then : (door : Door) (n : ℕ) (a b c : Seen) (m k l : Remembered) → Advances door n a b → (c.unharmed → b.unharmed) → RestAfter [] door m a k b → RestAfter [] door k b l c → RestAfter [] door m a l c
@@ -178,25 +155,6 @@ tells_over door register was a c r P l =
 -- nothing is right of everything
 pub forgotten : (register : RegisterValue) (new : Option Remembered) (k : Content) → new ≡ None → IsRight register new k
 forgotten register new k e = subst (λ (w : Option Remembered). IsRight register w k) (sym e) tt
-
--- a settling that didn't begin, after which nothing is remembered
-pub tells_unsettled : {T : Type 0} (door : Door) (register : RegisterValue) (old new : Option Remembered) (a : Seen) (e : ShelfFault) (P : T → Type 0)
-    → IsNotOpen a.progress → (e ≡ Store → ⊥) → new ≡ None → Tells door (remembering register old a) (remembering register new a) (Err e) P
-tells_unsettled door register old new a e P idle never lost =
-    record {
-      advances = record {
-        harm = λ fine. fine;
-        stands = λ stood fine. ((stood.0.0, forgotten register new a.content lost), stood.1);
-        files = λ stood fine. refl;
-        board = λ stood fine. follows_itself (blocks door) _ _ _ refl;
-        many = λ stood fine. omega arith;
-        idle = idle;
-        kept = omega arith;
-      };
-      settled = λ stood fine. tt;
-      right = λ stood fine. tt;
-      cause = λ stood fine is. absurd (never is);
-    }
 
 -- everyone is ahead where nothing is remembered
 pub recalled : (register : RegisterValue) (old : Option Remembered) (k : Content) → IsRight register old k → RestBut [] register (unwrap_or old (all_ahead register)) k

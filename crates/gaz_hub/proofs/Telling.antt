@@ -12,6 +12,7 @@ use Rattle.gaz_shelf.specs.declared.fault.ShelfFault.{ShelfFault}
 use Rattle.gaz_shelf.specs.declared.fault.ShelfFault.TheVariants.{Store}
 use Rattle.gaz_rules.specs.Bases.{are_reached}
 use Rattle.gaz_extract.specs.Readings.{Looks}
+use Rattle.gaz_extract.proofs.Readings.{if_ok}
 use Rattle.gaz_hub.specs.Asked.{IsHeld, IsOutcome}
 use Rattle.gaz_hub.specs.Outcomes.{first_unreached, outcome_of, wants, wants_as}
 use Rattle.gaz_hub.specs.Settling.{SettlesAndCalls, Tells}
@@ -20,7 +21,7 @@ use Rattle.gaz_hub.specs.Step.{Door}
 use Rattle.gaz_hub.specs.declared.outcome.Outcome.{Outcome}
 use Rattle.gaz_hub.specs.declared.outcome.Outcome.TheVariants.{Held}
 use Rattle.gaz_hub.proofs.Advancing.{advances_looking, advances_then}
-use Rattle.gaz_hub.proofs.Looks.{IsFile, if_ok, looks_then, ready_as, wants_for}
+use Rattle.gaz_hub.proofs.Looks.{IsFile, looks_then, ready_as, wants_for}
 
 -- ---- outcomes
 

@@ -1,5 +1,6 @@
 use Rattle.std.proofs.Common.{sym, arith}
-use Rattle.gaz_extract.proofs.Remembering.{keeps_itself, one_more}
+use Rattle.gaz_extract.proofs.Readings.{keeps_itself}
+use Rattle.gaz_extract.proofs.Remembering.{one_more}
 use Rattle.gaz_extract.proofs.streets.is_closed_elsewhere.Goals as goal
 
 pub returns-in-Some-clause-tells : goal.returns-in-Some-clause-tells

@@ -1,10 +1,10 @@
 -- What is told is read off the settled board.
 use Rattle.std.proofs.Common.{rules, refl, ap, ◌∙◌, ℕ}
+use Rattle.gaz_extract.proofs.Readings.{looks_as}
 use Rattle.gaz_hub.specs.Hubs.{door_of, state_of}
 use Rattle.gaz_hub.specs.Seen.{kept_seen}
 use Rattle.gaz_hub.specs.Step.{Ask, told_of}
 use Rattle.gaz_hub.proofs.Replying.{answered_door, answered_steps}
-use Rattle.gaz_hub.proofs.Looks.{looks_as}
 use Rattle.gaz_hub.proofs.Memory.{looks_kept}
 use Rattle.gaz_hub.proofs.Told.{told_is}
 use Rattle.gaz_hub.proofs.hub.Hub.outcome.Goals as goal

@@ -1,12 +1,12 @@
 -- The standing is read off the settled board.
 use Rattle.std.proofs.Common.{rules, refl, ap, ◌∙◌, cond, not, Some, None}
+use Rattle.gaz_extract.proofs.Readings.{looks_as}
 use Rattle.gaz_hub.specs.Hubs.{door_of}
 use Rattle.gaz_hub.specs.Outcomes.{status}
 use Rattle.gaz_hub.specs.Seen.{kept_seen}
 use Rattle.gaz_hub.specs.Step.{Stand}
 use Rattle.gaz_hub.specs.declared.refusal.Refusal.TheVariants as refusal
 use Rattle.gaz_hub.proofs.Replying.{answered_door, answered_steps}
-use Rattle.gaz_hub.proofs.Looks.{looks_as}
 use Rattle.gaz_hub.proofs.Memory.{looks_kept}
 use Rattle.gaz_hub.proofs.hub.Hub.status.Goals as goal
 

@@ -3,9 +3,9 @@ use Rattle.std.specs.Prelude.{◌&&◌}
 use Rattle.gaz_records.specs.Lpis.{LpiValue}
 use Rattle.gaz_views.specs.Words.{is_approved}
 use Rattle.gaz_extract.specs.Closing.{is_closed_elsewhere}
-use Rattle.gaz_extract.proofs.Remembering.{looks_as}
-use Rattle.gaz_extract.proofs.closed.is_on_closed.Goals.{in-Approved, in_default}
-use Rattle.gaz_extract.proofs.closed.is_on_closed.Goals as goal
+use Rattle.gaz_extract.proofs.Readings.{looks_as}
+use Rattle.gaz_extract.proofs.streets.is_on_closed.Goals.{in-Approved, in_default}
+use Rattle.gaz_extract.proofs.streets.is_on_closed.Goals as goal
 
 pub returns-clause-tells : goal.returns-clause-tells
 returns-clause-tells g c =

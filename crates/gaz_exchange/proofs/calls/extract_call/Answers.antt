@@ -1,6 +1,6 @@
 use Rattle.std.proofs.Common.{◌≡◌, ◌∙◌, ap, refl}
 use Rattle.gaz_exchange.specs.Targets.{code_in, volume_in}
-use Rattle.gaz_exchange.proofs.route.extract_call.Goals as goal
+use Rattle.gaz_exchange.proofs.calls.extract_call.Goals as goal
 
 pub returns-in-Get : goal.returns-in-Get
 returns-in-Get c = λ code volume took.

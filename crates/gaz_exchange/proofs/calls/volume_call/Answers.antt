@@ -1,6 +1,6 @@
 use Rattle.std.proofs.Common.{◌≡◌, ◌∙◌, ap, refl}
 use Rattle.gaz_exchange.specs.Targets.{code_in, volume_in}
-use Rattle.gaz_exchange.proofs.route.volume_call.Goals as goal
+use Rattle.gaz_exchange.proofs.calls.volume_call.Goals as goal
 
 pub returns-in-Post : goal.returns-in-Post
 returns-in-Post c = λ code volume took.

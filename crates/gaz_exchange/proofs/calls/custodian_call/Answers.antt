@@ -1,6 +1,6 @@
 use Rattle.std.proofs.Common.{◌≡◌, ◌∙◌, ap, refl}
 use Rattle.gaz_exchange.specs.Targets.{code_in}
-use Rattle.gaz_exchange.proofs.route.custodian_call.Goals as goal
+use Rattle.gaz_exchange.proofs.calls.custodian_call.Goals as goal
 
 pub returns-in-Get : goal.returns-in-Get
 returns-in-Get c = λ code took.
