@@ -42,6 +42,14 @@ module _ {S : Type 0} (g : Ghosts S) (before after : Held S) where
   abbrev pub Stays : Result (Vec Row Global) Error → Type 0
   Stays result = HasCleanDisk new → HasTables old.now → OnOk result (IsUnchanged old new)
 
+  -- an answer tells that the connection was open and is; whatever tables there are
+  abbrev pub WasOpen : Result (Vec Row Global) Error → Type 0
+  WasOpen result = HasCleanDisk new → OnOk result (IsTrue old.is_open × IsTrue new.is_open)
+
+  -- a query that fails changes nothing, or ends the transaction; whatever tables there are
+  abbrev pub Spares : Result (Vec Row Global) Error → Type 0
+  Spares result = HasCleanDisk new → OnErr result (IsSpared old new)
+
   -- a stop may leave what it could before, or the table with other rows
   abbrev pub MayLeave : ℕ → (List Row → List Row → Type 0) → Type 0
   MayLeave table Becomes =

@@ -4,7 +4,7 @@ ghost use Rattle.gaz_tables.specs.Creating.{GoesOn, KeepsTheCommit};
 ghost use Rattle.gaz_tables.specs.Metas.{AddsMeta, FindsTwo, Rewrites};
 ghost use Rattle.gaz_tables.specs.Schema.{metas};
 ghost use Rattle.gaz_tables.specs.Stores.{Finds, LeavesAsBefore, LeavesNothing, SparesInside};
-ghost use Rattle.gaz_tables.specs.Stores.{Stays, WritesInside};
+ghost use Rattle.gaz_tables.specs.Stores.{Spares, Stays, WasOpen, WritesInside};
 
 use sqlite::{Alter, Connection, Error, Row, Transaction, params};
 
@@ -12,6 +12,8 @@ use sqlite::{Alter, Connection, Error, Row, Transaction, params};
 pub fn rows<S: Alter>(conn: &mut Connection<S>) -> Result<Vec<Row>, Error>
     ensures found { Finds S.Store conn.old conn.new metas result FindsTwo }
     ensures stays { Stays S.Store conn.old conn.new result }
+    ensures open { WasOpen S.Store conn.old conn.new result }
+    ensures spared { Spares S.Store conn.old conn.new result }
     ensures leaves { LeavesAsBefore S.Store conn.old conn.new }
     ensures mode { conn.old.in_transaction ≡ false → conn.new.in_transaction ≡ false }
 {

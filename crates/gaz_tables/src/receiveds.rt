@@ -2,7 +2,7 @@
 ghost use Rattle.gaz_tables.specs.Schema.{receiveds};
 ghost use Rattle.std.specs.Prelude.{◌≡◌, false};
 ghost use Rattle.gaz_tables.specs.Stores.{AddsRow, Finds, LeavesAsBefore, LeavesNothing, SparesInside};
-ghost use Rattle.gaz_tables.specs.Stores.{Stays, WritesInside};
+ghost use Rattle.gaz_tables.specs.Stores.{Spares, Stays, WasOpen, WritesInside};
 ghost use Rattle.gaz_tables.specs.Receiveds.{Applies, AtMostOne, FindsAbove, FindsFile, FindsVerdict};
 ghost use Rattle.gaz_tables.specs.Receiveds.{FindsVolume, Rejects, unjudged};
 
@@ -13,6 +13,8 @@ pub fn file<S: Alter>(conn: &mut Connection<S>, cust: u32, volume: u32) -> Resul
     ensures found { Finds S.Store conn.old conn.new receiveds result (FindsFile cust volume) }
     ensures one { Finds S.Store conn.old conn.new receiveds result AtMostOne }
     ensures stays { Stays S.Store conn.old conn.new result }
+    ensures open { WasOpen S.Store conn.old conn.new result }
+    ensures spared { Spares S.Store conn.old conn.new result }
     ensures leaves { LeavesAsBefore S.Store conn.old conn.new }
     ensures mode { conn.old.in_transaction ≡ false → conn.new.in_transaction ≡ false }
 {
@@ -31,6 +33,8 @@ pub fn verdict<S: Alter>(
     ensures found { Finds S.Store conn.old conn.new receiveds result (FindsVerdict cust volume) }
     ensures one { Finds S.Store conn.old conn.new receiveds result AtMostOne }
     ensures stays { Stays S.Store conn.old conn.new result }
+    ensures open { WasOpen S.Store conn.old conn.new result }
+    ensures spared { Spares S.Store conn.old conn.new result }
     ensures leaves { LeavesAsBefore S.Store conn.old conn.new }
     ensures mode { conn.old.in_transaction ≡ false → conn.new.in_transaction ≡ false }
 {
@@ -49,6 +53,8 @@ pub fn is_there<S: Alter>(
     ensures found { Finds S.Store conn.old conn.new receiveds result (FindsVolume cust volume) }
     ensures one { Finds S.Store conn.old conn.new receiveds result AtMostOne }
     ensures stays { Stays S.Store conn.old conn.new result }
+    ensures open { WasOpen S.Store conn.old conn.new result }
+    ensures spared { Spares S.Store conn.old conn.new result }
     ensures leaves { LeavesAsBefore S.Store conn.old conn.new }
     ensures mode { conn.old.in_transaction ≡ false → conn.new.in_transaction ≡ false }
 {
@@ -67,6 +73,8 @@ pub fn above<S: Alter>(
 ) -> Result<Vec<Row>, Error>
     ensures found { Finds S.Store conn.old conn.new receiveds result (FindsAbove cust volume most) }
     ensures stays { Stays S.Store conn.old conn.new result }
+    ensures open { WasOpen S.Store conn.old conn.new result }
+    ensures spared { Spares S.Store conn.old conn.new result }
     ensures leaves { LeavesAsBefore S.Store conn.old conn.new }
     ensures mode { conn.old.in_transaction ≡ false → conn.new.in_transaction ≡ false }
 {

@@ -2,7 +2,7 @@
 ghost use Rattle.gaz_tables.specs.Schema.{versions};
 ghost use Rattle.std.specs.Prelude.{◌≡◌, false};
 ghost use Rattle.gaz_tables.specs.Stores.{AddsRow, Finds, LeavesAsBefore, LeavesNothing, SparesInside};
-ghost use Rattle.gaz_tables.specs.Stores.{Stays, WritesInside};
+ghost use Rattle.gaz_tables.specs.Stores.{Spares, Stays, WasOpen, WritesInside};
 ghost use Rattle.gaz_tables.specs.Versions.{FindsApprovedOf, FindsApprovedOn, FindsHolding, FindsNewest};
 ghost use Rattle.gaz_tables.specs.Versions.{Closes, FindsNewestUntil, FindsParts, version_values};
 
@@ -17,6 +17,8 @@ pub fn newest<S: Alter>(
 ) -> Result<Vec<Row>, Error>
     ensures found { Finds S.Store conn.old conn.new versions result (FindsNewest cust kind id.now) }
     ensures stays { Stays S.Store conn.old conn.new result }
+    ensures open { WasOpen S.Store conn.old conn.new result }
+    ensures spared { Spares S.Store conn.old conn.new result }
     ensures leaves { LeavesAsBefore S.Store conn.old conn.new }
     ensures mode { conn.old.in_transaction ≡ false → conn.new.in_transaction ≡ false }
 {
@@ -37,6 +39,8 @@ pub fn newest_until<S: Alter>(
     ensures found { Finds S.Store conn.old conn.new versions result
         (FindsNewestUntil cust kind id.now volume) }
     ensures stays { Stays S.Store conn.old conn.new result }
+    ensures open { WasOpen S.Store conn.old conn.new result }
+    ensures spared { Spares S.Store conn.old conn.new result }
     ensures leaves { LeavesAsBefore S.Store conn.old conn.new }
     ensures mode { conn.old.in_transaction ≡ false → conn.new.in_transaction ≡ false }
 {
@@ -58,6 +62,8 @@ pub fn holding<S: Alter>(
     ensures found { Finds S.Store conn.old conn.new versions result
         (FindsHolding cust kind after.now volume most) }
     ensures stays { Stays S.Store conn.old conn.new result }
+    ensures open { WasOpen S.Store conn.old conn.new result }
+    ensures spared { Spares S.Store conn.old conn.new result }
     ensures leaves { LeavesAsBefore S.Store conn.old conn.new }
     ensures mode { conn.old.in_transaction ≡ false → conn.new.in_transaction ≡ false }
 {
@@ -76,6 +82,8 @@ pub fn approved_of<S: Alter>(
     ensures found { Finds S.Store conn.old conn.new versions result
         (FindsApprovedOf cust blpu.now) }
     ensures stays { Stays S.Store conn.old conn.new result }
+    ensures open { WasOpen S.Store conn.old conn.new result }
+    ensures spared { Spares S.Store conn.old conn.new result }
     ensures leaves { LeavesAsBefore S.Store conn.old conn.new }
     ensures mode { conn.old.in_transaction ≡ false → conn.new.in_transaction ≡ false }
 {
@@ -96,6 +104,8 @@ pub fn approved_on<S: Alter>(
     ensures found { Finds S.Store conn.old conn.new versions result
         (FindsApprovedOn cust street after.now most) }
     ensures stays { Stays S.Store conn.old conn.new result }
+    ensures open { WasOpen S.Store conn.old conn.new result }
+    ensures spared { Spares S.Store conn.old conn.new result }
     ensures leaves { LeavesAsBefore S.Store conn.old conn.new }
     ensures mode { conn.old.in_transaction ≡ false → conn.new.in_transaction ≡ false }
 {
@@ -116,6 +126,8 @@ pub fn parts_of<S: Alter>(
     ensures found { Finds S.Store conn.old conn.new versions result
         (FindsParts cust blpu.now after.now most) }
     ensures stays { Stays S.Store conn.old conn.new result }
+    ensures open { WasOpen S.Store conn.old conn.new result }
+    ensures spared { Spares S.Store conn.old conn.new result }
     ensures leaves { LeavesAsBefore S.Store conn.old conn.new }
     ensures mode { conn.old.in_transaction ≡ false → conn.new.in_transaction ≡ false }
 {
