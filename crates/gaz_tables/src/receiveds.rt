@@ -1,10 +1,10 @@
 //! The statements of the table `received`.
 ghost use Rattle.gaz_tables.specs.Schema.{receiveds};
 ghost use Rattle.std.specs.Prelude.{◌≡◌, false};
-ghost use Rattle.gaz_tables.specs.Stores.{AddsRow, Finds, LeavesAsBefore, LeavesNothing, SparesInside};
-ghost use Rattle.gaz_tables.specs.Stores.{Spares, Stays, WasOpen, WritesInside};
-ghost use Rattle.gaz_tables.specs.Receiveds.{Applies, AtMostOne, FindsAbove, FindsFile, FindsVerdict};
-ghost use Rattle.gaz_tables.specs.Receiveds.{FindsVolume, Rejects, unjudged};
+ghost use Rattle.gaz_tables.specs.Stores.{AddsRow, Finds, LeavesAsBefore, Spares, SparesInside};
+ghost use Rattle.gaz_tables.specs.Stores.{Stays, StaysInside, WasOpen, WritesInside};
+ghost use Rattle.gaz_tables.specs.Receiveds.{Applies, AtMostOne, FindsAbove, FindsFile};
+ghost use Rattle.gaz_tables.specs.Receiveds.{FindsVerdict, FindsVolume, Rejects, unjudged};
 
 use sqlite::{Alter, Connection, Error, Row, Transaction, params};
 
@@ -95,7 +95,8 @@ pub fn receive<S: Alter>(
     ensures added { WritesInside S.Store tx.old.conn.now tx.new.conn.now
         receiveds result (AddsRow (unjudged cust volume bytes.now)) }
     ensures spared { SparesInside S.Store tx.old.conn.now tx.new.conn.now result }
-    ensures leaves { LeavesNothing S.Store tx.old.conn.now tx.new.conn.now }
+    ensures open { WasOpen S.Store tx.old.conn.now tx.new.conn.now result }
+    ensures inside { StaysInside S.Store tx.old.conn.now tx.new.conn.now result }
 {
     tx.execute(
         "INSERT INTO received VALUES (?1, ?2, ?3, 0, 0, 0)",
@@ -109,7 +110,8 @@ pub fn apply<S: Alter>(tx: &mut Transaction<'_, S>, cust: u32, volume: u32) -> R
     ensures applied { WritesInside S.Store tx.old.conn.now tx.new.conn.now
         receiveds result (Applies cust volume) }
     ensures spared { SparesInside S.Store tx.old.conn.now tx.new.conn.now result }
-    ensures leaves { LeavesNothing S.Store tx.old.conn.now tx.new.conn.now }
+    ensures open { WasOpen S.Store tx.old.conn.now tx.new.conn.now result }
+    ensures inside { StaysInside S.Store tx.old.conn.now tx.new.conn.now result }
 {
     tx.execute(
         "UPDATE received SET state = 1, place = 0, rule = 0 WHERE cust = ?1 AND volume = ?2",
@@ -129,7 +131,8 @@ pub fn reject<S: Alter>(
     ensures rejected { WritesInside S.Store tx.old.conn.now tx.new.conn.now
         receiveds result (Rejects cust volume place.now rule) }
     ensures spared { SparesInside S.Store tx.old.conn.now tx.new.conn.now result }
-    ensures leaves { LeavesNothing S.Store tx.old.conn.now tx.new.conn.now }
+    ensures open { WasOpen S.Store tx.old.conn.now tx.new.conn.now result }
+    ensures inside { StaysInside S.Store tx.old.conn.now tx.new.conn.now result }
 {
     tx.execute(
         "UPDATE received SET state = 2, place = ?3, rule = ?4 WHERE cust = ?1 AND volume = ?2",

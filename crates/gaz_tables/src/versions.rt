@@ -1,10 +1,10 @@
 //! The statements of the table `version`.
 ghost use Rattle.gaz_tables.specs.Schema.{versions};
 ghost use Rattle.std.specs.Prelude.{◌≡◌, false};
-ghost use Rattle.gaz_tables.specs.Stores.{AddsRow, Finds, LeavesAsBefore, LeavesNothing, SparesInside};
-ghost use Rattle.gaz_tables.specs.Stores.{Spares, Stays, WasOpen, WritesInside};
-ghost use Rattle.gaz_tables.specs.Versions.{FindsApprovedOf, FindsApprovedOn, FindsHolding, FindsNewest};
-ghost use Rattle.gaz_tables.specs.Versions.{Closes, FindsNewestUntil, FindsParts, version_values};
+ghost use Rattle.gaz_tables.specs.Stores.{AddsRow, Finds, LeavesAsBefore, Spares, SparesInside};
+ghost use Rattle.gaz_tables.specs.Stores.{Stays, StaysInside, WasOpen, WritesInside};
+ghost use Rattle.gaz_tables.specs.Versions.{Closes, FindsApprovedOf, FindsApprovedOn, FindsHolding};
+ghost use Rattle.gaz_tables.specs.Versions.{FindsNewest, FindsNewestUntil, FindsParts, version_values};
 
 use sqlite::{Alter, Connection, Error, Row, Transaction, params};
 
@@ -156,7 +156,8 @@ pub fn insert<S: Alter>(
         versions result (AddsRow
         (version_values cust kind id.now blpu.now street lang live born gone body.now)) }
     ensures spared { SparesInside S.Store tx.old.conn.now tx.new.conn.now result }
-    ensures leaves { LeavesNothing S.Store tx.old.conn.now tx.new.conn.now }
+    ensures open { WasOpen S.Store tx.old.conn.now tx.new.conn.now result }
+    ensures inside { StaysInside S.Store tx.old.conn.now tx.new.conn.now result }
 {
     tx.execute(
         "INSERT INTO version VALUES (?1, ?2, ?3, ?4, ?5, ?6, ?7, ?8, ?9, ?10)",
@@ -177,7 +178,8 @@ pub fn close<S: Alter>(
     ensures closed { WritesInside S.Store tx.old.conn.now tx.new.conn.now
         versions result (Closes cust kind id.now born gone) }
     ensures spared { SparesInside S.Store tx.old.conn.now tx.new.conn.now result }
-    ensures leaves { LeavesNothing S.Store tx.old.conn.now tx.new.conn.now }
+    ensures open { WasOpen S.Store tx.old.conn.now tx.new.conn.now result }
+    ensures inside { StaysInside S.Store tx.old.conn.now tx.new.conn.now result }
 {
     tx.execute(
         "UPDATE version SET gone = ?5 WHERE cust = ?1 AND kind = ?2 AND id = ?3 AND born = ?4",
