@@ -34,9 +34,11 @@ pub record Changes (tree : ℕ) (Becomes : List Row → List Row → Type 0) (ol
 abbrev pub InPlace : State → State → Type 0
 InPlace old new = Shows old new new.now (if old.in_transaction then old.committed else new.now) old.in_transaction × (new.marks ≡ old.marks)
 
--- what the last commit left is there again, and nothing was committed
+-- where the connection is open it was before, what the last commit left is there again, and nothing
+-- was committed
 abbrev pub IsUndone : State → State → Type 0
-IsUndone old new = IsTrue new.is_open → (new.now ≡ old.committed) × (new.committed ≡ old.committed)
+IsUndone old new = IsTrue new.is_open
+    → IsTrue old.is_open × (new.now ≡ old.committed) × (new.committed ≡ old.committed)
 
 -- a stop leaves the last commit and nothing else
 abbrev pub LeavesTheCommit : State → Type 0

@@ -1,4 +1,4 @@
--- What a transaction keeps while its statements run, and what a new store is made of.
+-- What a new store is made of.
 use Rattle.std.proofs.Common.{◌≡◌, ◌⊎◌, inl, inr, ℕ, List, [], Ok, Err, Result, OnOk, arith, refl, sym, subst, ◌∙◌}
 use Rattle.std.specs.Prelude.{IsTrue}
 use Rattle.sqlite_rules.specs.Lists.{Has}
@@ -13,19 +13,6 @@ use Rattle.gaz_tables.specs.Creating.{IsBare, IsNewStore}
 use Rattle.gaz_tables.specs.Metas.{AddsMeta, meta_row}
 use Rattle.gaz_tables.specs.Schema.{store_schema, version, received, versions, receiveds, metas}
 use Rattle.gaz_tables.specs.Stores.{HasTables}
-
-pub goes_on : (held : ℕ) (sql : List ℕ) (params : Row) (old new : State) (r : Result ℕ Error) → ExecutesInside held sql params old new r → OnOk r (IsTrue new.in_transaction × (new.committed ≡ old.committed))
-goes_on held sql params old new (Err e) h = tt
-goes_on held sql params old new (Ok count) h = (h.1.mode, h.1.committed_is)
-
-spared_keeps : (old new : State) → IsUnchanged old new ⊎ IsRolledBack old new → IsTrue new.is_open → new.committed ≡ old.committed
-spared_keeps old new (inl same) is_open = same.0.committed_is
-spared_keeps old new (inr back) is_open = (back.undone is_open).1
-
-pub keeps_the_commit : (held : ℕ) (sql : List ℕ) (params : Row) (old new : State) (r : Result ℕ Error) → ExecutesInside held sql params old new r → IsTrue new.is_open → new.committed ≡ old.committed
-keeps_the_commit held sql params old new (Ok count) h is_open = h.1.committed_is
-keeps_the_commit held sql params old new (Err e) (inl ran) is_open = spared_keeps old new ran.1 is_open
-keeps_the_commit held sql params old new (Err e) (inr late) is_open = spared_keeps old new (inl late.2) is_open
 
 empty_is_shaped : (rows : List Row) → rows ≡ [] → IsShaped shape.Table rows
 empty_is_shaped rows none = subst (IsShaped shape.Table) (sym none) (tt, tt)

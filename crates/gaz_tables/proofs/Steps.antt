@@ -1,43 +1,91 @@
--- One step after another within a transaction.
-use Rattle.std.proofs.Common.{◌≡◌, ◌∙◌, arith}
+-- A statement within a transaction, and one call after another.
+use Rattle.std.proofs.Common.{◌≡◌, ◌∙◌, ℕ, Bool, true, false, List, Result, Ok, Err, OnOk, arith, refl, sym, subst}
 use Rattle.std.specs.Prelude.{IsTrue}
+use Rattle.std.specs.Result.{IsErr}
+use Rattle.sqlite.proofs.InsideLemmas.{inside_keeps, keeps_then}
+use Rattle.sqlite.proofs.StateLemmas.{survives_then}
 use Rattle.sqlite.specs.Effect.{IsDatabase}
 use Rattle.sqlite.specs.Held.{Held, state}
+use Rattle.sqlite.specs.Order.{Row}
 use Rattle.sqlite.specs.Schema.{Schema}
-use Rattle.sqlite.specs.State.{State, HasCleanDisk, Survives}
+use Rattle.sqlite.specs.State.{HasCleanDisk, ExecutesInside, KeepsCommit, Survives}
+use Rattle.sqlite.specs.declared.error.Error.{Error}
 use Rattle.sqlite_trees.specs.declared.store.Store.{Ghosts}
-use Rattle.gaz_tables.specs.Creating.{IsBare}
+use Rattle.sqlite_trees.specs.Tree.{Trees}
+use Rattle.gaz_tables.specs.Creating.{Grows, IsBare}
+use Rattle.gaz_tables.specs.Stores.{StaysInside, WasOpen}
 
--- the step is done, and the transaction open
-abbrev Open : State → State → Type 0
-Open old new = HasCleanDisk new → IsTrue old.in_transaction → IsTrue new.in_transaction × (new.committed ≡ old.committed)
+-- ---- a statement
 
--- whatever came of it, nothing is committed
-abbrev Keeps : State → State → Type 0
-Keeps old new = HasCleanDisk new → IsTrue old.in_transaction → IsTrue new.is_open → new.committed ≡ old.committed
+module _ {S : Type 0} (g : Ghosts S) (old new : Held S) (sql : List ℕ) (params : Row) (r : Result ℕ Error) (refusal : Error)
+    (ended : old.in_transaction ≡ false → (r ≡ Err refusal) × (new ≡ old))
+    (runs : HasCleanDisk (state g new) → IsTrue old.in_transaction → ExecutesInside 0 sql params (state g old) (state g new) r) where
+  -- once the transaction has ended, nothing is done
+  pub done_inside : (P : Type 0) → (IsTrue old.in_transaction → OnOk r P) → OnOk r P
+  done_inside P done = by_mode old.in_transaction refl
+    where
+      by_mode : (b : Bool) → old.in_transaction ≡ b → OnOk r P
+      by_mode true inside = done inside
+      by_mode false over = subst (λ q. OnOk q P) (sym (ended over).0) tt
 
--- the empty database gets another schema
-abbrev Makes : Schema → Schema → State → State → Type 0
-Makes before after old new = HasCleanDisk new → IsTrue old.in_transaction → IsBare before old.now → IsBare after new.now × IsDatabase new.now
+  open_after : (r : Result ℕ Error) → ExecutesInside 0 sql params (state g old) (state g new) r → OnOk r (IsTrue (state g old).is_open × IsTrue (state g new).is_open)
+  open_after (Err e) h = tt
+  open_after (Ok count) h = (h.1.was_open, h.1.is_open)
 
-module _ {S : Type 0} (g : Ghosts S) where
-  pub clean_before : (old new : Held S) → Survives (state g old) (state g new) (λ _. ⊥) → HasCleanDisk (state g new) → HasCleanDisk (state g old)
-  clean_before old new leaves clean = omega (arith, leaves.clean, clean)
+  pub was_open : WasOpen g old new r
+  was_open clean = done_inside _ (λ inside. open_after r (runs clean inside))
 
-  module _ (old between new : Held S) (leaves : Survives (state g between) (state g new) (λ _. ⊥)) (first : Open (state g old) (state g between)) where
-    pub open_then : Open (state g between) (state g new) → Open (state g old) (state g new)
-    open_then second clean inside =
-        let one = first (clean_before between new leaves clean) inside in
-        let two = second clean one.0 in
-        (two.0, two.1 ∙ one.1)
+  mode_after : (r : Result ℕ Error) → ExecutesInside 0 sql params (state g old) (state g new) r → IsTrue old.in_transaction → OnOk r (new.in_transaction ≡ old.in_transaction)
+  mode_after (Err e) h inside = tt
+  mode_after (Ok count) h inside = h.1.mode ∙ sym inside
 
-    pub keeps_then : Keeps (state g between) (state g new) → Keeps (state g old) (state g new)
-    keeps_then second clean inside is_open =
-        let one = first (clean_before between new leaves clean) inside in
-        second clean one.0 is_open ∙ one.1
+  kept_by : HasCleanDisk (state g new) → (b : Bool) → old.in_transaction ≡ b → KeepsCommit (state g old) (state g new)
+  kept_by clean true inside = inside_keeps (state g old) (state g new) 0 false sql params r (runs clean inside)
+  kept_by clean false over = subst (λ h. KeepsCommit (state g old) (state g h)) (sym (ended over).1) (record { was_open = λ h. h; committed = λ h. refl })
 
-    pub makes_then : (before middle after : Schema) → Makes before middle (state g old) (state g between) → Makes middle after (state g between) (state g new)
-        → Makes before after (state g old) (state g new)
-    makes_then before middle after made second clean inside bare =
-        let before_it = clean_before between new leaves clean in
-        second clean (first before_it inside).0 (made before_it inside bare).0
+  pub stays_inside : Survives (state g old) (state g new) (λ _. ⊥) → StaysInside g old new r
+  stays_inside leaves = record {
+    goes_on = λ clean. done_inside _ (λ inside. mode_after r (runs clean inside) inside);
+    kept = λ clean. kept_by clean old.in_transaction refl;
+    leaves = leaves;
+  }
+
+-- ---- one call after another
+
+module _ {S A B : Type 0} (g : Ghosts S) (old mid new : Held S) (x : A) (r : Result B Error) (first : StaysInside g old mid (Ok x)) (second : StaysInside g mid new r) where
+  pub clean_before : HasCleanDisk (state g new) → HasCleanDisk (state g mid)
+  clean_before clean = let le = second.leaves.clean in omega (arith, le, clean)
+
+  mode_then : (r : Result B Error) → mid.in_transaction ≡ old.in_transaction → OnOk r (new.in_transaction ≡ mid.in_transaction) → OnOk r (new.in_transaction ≡ old.in_transaction)
+  mode_then (Err e) one two = tt
+  mode_then (Ok y) one two = two ∙ one
+
+  pub inside_then : StaysInside g old new r
+  inside_then = record {
+    goes_on = λ clean. mode_then r (first.goes_on (clean_before clean)) (second.goes_on clean);
+    kept = λ clean. keeps_then (state g old) (state g mid) (state g new) (first.kept (clean_before clean)) (second.kept clean);
+    leaves = survives_then (state g old) (state g mid) (state g new) (λ _. ⊥) (λ _. ⊥) (λ _. ⊥) (λ clean db never. never) (λ clean db never. never) first.leaves second.leaves;
+  }
+
+  pub grows_then : (has between gets : Schema) → Grows g old mid has between (Ok x) → Grows g mid new between gets r → Grows g old new has gets r
+  grows_then has between gets one two clean bare = two clean (one (clean_before clean) bare).0
+
+none_done : {B : Type 0} (P : Type 0) (q : Result B Error) → IsErr q → OnOk q P
+none_done P (Err e) failed = tt
+none_done P (Ok y) failed = absurd (let no = failed in cc)
+
+module _ {S A B : Type 0} (g : Ghosts S) (old new : Held S) where
+  -- what is done answers another value, or a fault
+  pub inside_done : (x : A) (y : B) → StaysInside g old new (Ok x) → StaysInside g old new (Ok y)
+  inside_done x y h = record { goes_on = h.goes_on; kept = h.kept; leaves = h.leaves }
+
+  pub inside_failed : (r : Result A Error) (q : Result B Error) → IsErr q → StaysInside g old new r → StaysInside g old new q
+  inside_failed r q failed h = record { goes_on = λ clean. none_done _ q failed; kept = h.kept; leaves = h.leaves }
+
+-- ---- a transaction of its own
+
+-- while a store is open, a stop leaves the last commit and nothing else
+pub leaves_the_commit : {S A : Type 0} (g : Ghosts S) (s : S) → ((s : S) (db : Trees) → IsTrue (g.view s).is_open → g.recovers s db → db ≡ (g.view s).committed)
+    → (r : Result A Error) → OnOk r (IsTrue (g.view s).is_open → (db : Trees) → g.recovers s db → db ≡ (g.view s).committed)
+leaves_the_commit g s settled (Err e) = tt
+leaves_the_commit g s settled (Ok x) = λ is_open db left. settled s db is_open left

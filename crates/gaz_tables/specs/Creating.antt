@@ -1,5 +1,5 @@
 -- How the tables and indexes of a new store are made, one by one.
-use Rattle.std.specs.Prelude.{◌≡◌, ℕ, List, [], ◌∷◌, Result, OnOk, OnErr, IsTrue}
+use Rattle.std.specs.Prelude.{◌≡◌, ℕ, List, [], ◌∷◌, Result, OnOk}
 use Rattle.std.specs.List.{AllByRecursion}
 use Rattle.sqlite.specs.declared.error.Error.{Error}
 use Rattle.sqlite.specs.Effect.{Database, IsDatabase}
@@ -7,10 +7,11 @@ use Rattle.sqlite.specs.Schema.{Schema}
 use Rattle.sqlite.specs.Held.{Held, state}
 use Rattle.sqlite.specs.State.{State, HasCleanDisk, Survives}
 use Rattle.sqlite_trees.specs.declared.store.Store.{Ghosts}
-use Rattle.gaz_sql_facts.specs.Changes.{IsAdded, IsUndone}
+use Rattle.gaz_sql_facts.specs.Changes.{IsAdded}
 use Rattle.gaz_tables.specs.Metas.{meta_row}
-use Rattle.gaz_tables.specs.Schema.{version, received, of_keys, by_blpu, by_street, of_volumes, versions, receiveds, metas}
-use Rattle.gaz_tables.specs.Stores.{HasTables}
+use Rattle.gaz_tables.specs.Schema.{version, received, of_keys, by_blpu, by_street, of_volumes}
+use Rattle.gaz_tables.specs.Schema.{versions, receiveds, metas}
+use Rattle.gaz_tables.specs.Stores.{AreTreesOf, HasTables}
 
 -- the schema as it grows
 abbrev pub no_schema : Schema
@@ -23,10 +24,18 @@ abbrev pub with_by_blpu : Schema
 with_by_blpu = record { tables = version ∷ []; indexes = of_keys ∷ by_blpu ∷ []; views = [] }
 
 abbrev pub with_by_street : Schema
-with_by_street = record { tables = version ∷ []; indexes = of_keys ∷ by_blpu ∷ by_street ∷ []; views = [] }
+with_by_street = record {
+  tables = version ∷ [];
+  indexes = of_keys ∷ by_blpu ∷ by_street ∷ [];
+  views = [];
+}
 
 abbrev pub with_received : Schema
-with_received = record { tables = version ∷ received ∷ []; indexes = of_keys ∷ by_blpu ∷ by_street ∷ of_volumes ∷ []; views = [] }
+with_received = record {
+  tables = version ∷ received ∷ [];
+  indexes = of_keys ∷ by_blpu ∷ by_street ∷ of_volumes ∷ [];
+  views = [];
+}
 
 -- the database has this schema and no row
 pub record IsBare (schema : Schema) (db : Database) : Type 0 where
@@ -50,28 +59,20 @@ module _ {S : Type 0} (g : Ghosts S) (before after : Held S) where
 
   -- within a transaction, the empty database gets the next schema
   abbrev pub Grows : {A : Type 0} → Schema → Schema → Result A Error → Type 0
-  Grows before after result = HasCleanDisk new → IsTrue old.in_transaction → IsBare before old.now → OnOk result (IsBare after new.now × IsDatabase new.now)
-
-  -- a statement that is done leaves the transaction open, and commits nothing
-  abbrev pub GoesOn : {A : Type 0} → Result A Error → Type 0
-  GoesOn result = HasCleanDisk new → IsTrue old.in_transaction → OnOk result (IsTrue new.in_transaction × (new.committed ≡ old.committed))
-
-  -- what the last commit left stays, whatever came
-  abbrev pub KeepsTheCommit : Type 0
-  KeepsTheCommit = HasCleanDisk new → IsTrue old.in_transaction → IsTrue new.is_open → new.committed ≡ old.committed
+  Grows has gets result =
+      HasCleanDisk new → IsBare has old.now → OnOk result (IsBare gets new.now × IsDatabase new.now)
 
   -- within a transaction, the empty database becomes a new store
   abbrev pub Furnishes : {A : Type 0} → ℕ → List ℕ → Result A Error → Type 0
-  Furnishes number register result = HasCleanDisk new → IsTrue old.in_transaction → IsBare no_schema old.now → OnOk result (IsNewStore number register new.now)
+  Furnishes number register result =
+      HasCleanDisk new → IsBare no_schema old.now → OnOk result (IsNewStore number register new.now)
 
   -- in a transaction of its own, the empty database becomes a new store and is committed
   abbrev pub Creates : {A : Type 0} → ℕ → List ℕ → Result A Error → Type 0
-  Creates number register result = HasCleanDisk new → IsBare no_schema old.now → OnOk result (IsNewStore number register new.now × (new.committed ≡ new.now))
-
-  -- a fault commits nothing
-  abbrev pub Withdraws : {A : Type 0} → Result A Error → Type 0
-  Withdraws result = HasCleanDisk new → OnErr result (IsUndone old new)
+  Creates number register result = HasCleanDisk new → IsBare no_schema old.now
+      → OnOk result (IsNewStore number register new.now × (new.committed ≡ new.now))
 
   -- a stop leaves what it could before, or the new store
   abbrev pub MayCreate : ℕ → List ℕ → Type 0
-  MayCreate number register = (HasCleanDisk old → IsBare no_schema old.now) → Survives old new (λ trees. (db : Database) × (trees ≡ db.trees) × IsNewStore number register db)
+  MayCreate number register = (HasCleanDisk old → IsBare no_schema old.now)
+      → Survives old new (AreTreesOf (IsNewStore number register))

@@ -7,8 +7,9 @@ use Rattle.sqlite.specs.Edit.{next_rowid}
 use Rattle.sqlite.specs.declared.error.Error.{Error}
 use Rattle.sqlite.specs.Effect.{Database, IsDatabase}
 use Rattle.sqlite.specs.Held.{Held, state}
-use Rattle.sqlite.specs.State.{State, HasCleanDisk, IsUnchanged, Survives}
+use Rattle.sqlite.specs.State.{State, HasCleanDisk, IsUnchanged, KeepsCommit, Survives}
 use Rattle.sqlite.specs.View.{IsShaped}
+use Rattle.sqlite_trees.specs.Tree.{Trees}
 use Rattle.sqlite_trees.specs.declared.store.Store.{Ghosts}
 use Rattle.sqlite_trees.specs.declared.store.Shape.TheVariants as shape
 use Rattle.gaz_sql_facts.specs.Changes.{Changes, InPlace, IsAdded, IsSpared, IsUndone}
@@ -26,6 +27,19 @@ pub record HasTables (db : Database) : Type 0 where
 abbrev pub AddsRow : Row → List Row → List Row → Type 0
 AddsRow values old new = IsAdded (Int (next_rowid old) ∷ values) old new
 
+-- the trees are those of such a database
+abbrev pub AreTreesOf : (Database → Type 0) → Trees → Type 0
+AreTreesOf Is trees = (db : Database) × (trees ≡ db.trees) × Is db
+
+-- a call within a transaction, whatever tables there are; `g` shows the state of its connection
+pub record StaysInside {S A : Type 0} (g : Ghosts S) (before after : Held S) (result : Result A Error) : Type 0 where
+  -- one that is done leaves the transaction open
+  pub goes_on : HasCleanDisk (state g after) → OnOk result (after.in_transaction ≡ before.in_transaction)
+  -- whatever came, nothing is committed
+  pub kept : HasCleanDisk (state g after) → KeepsCommit (state g before) (state g after)
+  -- so a stop may leave what it could before and nothing else
+  pub leaves : Survives (state g before) (state g after) (λ _. ⊥)
+
 -- a call on a connection, whose state `g` shows
 module _ {S : Type 0} (g : Ghosts S) (before after : Held S) where
   abbrev old : State
@@ -34,41 +48,54 @@ module _ {S : Type 0} (g : Ghosts S) (before after : Held S) where
   abbrev new : State
   new = state g after
 
+  -- ---- whatever tables there are
+
+  -- an Ok tells that the connection was open and is
+  abbrev pub WasOpen : {A : Type 0} → Result A Error → Type 0
+  WasOpen result = HasCleanDisk new → OnOk result (IsTrue old.is_open × IsTrue new.is_open)
+
+  -- a query that fails changes nothing, or ends the transaction
+  abbrev pub Spares : Result (Vec Row Global) Error → Type 0
+  Spares result = HasCleanDisk new → OnErr result (IsSpared old new)
+
+  -- ---- a query
+
   -- the answer is of the rows that the table had
   abbrev pub Finds : ℕ → Result (Vec Row Global) Error → (List Row → List Row → Type 0) → Type 0
-  Finds table result IsAnswer = HasCleanDisk new → HasTables old.now → IfOk result (λ rows. IsAnswer (old.now.trees table) rows.items)
+  Finds table result IsAnswer = HasCleanDisk new → HasTables old.now
+      → IfOk result (λ rows. IsAnswer (old.now.trees table) rows.items)
 
-  -- a statement that only reads changes nothing
+  -- a query that answers changes nothing
   abbrev pub Stays : Result (Vec Row Global) Error → Type 0
   Stays result = HasCleanDisk new → HasTables old.now → OnOk result (IsUnchanged old new)
-
-  -- a stop may leave what it could before, or the table with other rows
-  abbrev pub MayLeave : ℕ → (List Row → List Row → Type 0) → Type 0
-  MayLeave table Becomes =
-      (HasCleanDisk old → HasTables old.now) → Survives old new (λ trees. (db : Database) × (trees ≡ db.trees) × Changes table Becomes old.now db)
 
   -- a stop may leave what it could before and nothing else
   abbrev pub LeavesAsBefore : Type 0
   LeavesAsBefore = (HasCleanDisk old → HasTables old.now) → Survives old new (λ _. ⊥)
 
-  -- within a transaction nothing is committed, so a stop leaves what it could before and nothing else
-  abbrev pub LeavesNothing : Type 0
-  LeavesNothing = Survives old new (λ _. ⊥)
-
-  -- within a transaction the table's rows become others
-  abbrev pub WritesInside : ℕ → Result ℕ Error → (List Row → List Row → Type 0) → Type 0
-  WritesInside table result Becomes =
-      HasCleanDisk new → IsTrue old.in_transaction → HasTables old.now → OnOk result (Changes table Becomes old.now new.now × InPlace old new)
+  -- ---- within a transaction
 
   -- a fault changes nothing or ends the transaction
   abbrev pub SparesInside : Result ℕ Error → Type 0
   SparesInside result = HasCleanDisk new → IsTrue old.in_transaction → OnErr result (IsSpared old new)
 
-  -- in a transaction of its own the table's rows become others and are committed
-  abbrev pub Commits : {A : Type 0} → ℕ → Result A Error → (List Row → List Row → Type 0) → Type 0
-  Commits table result Becomes =
-      HasCleanDisk new → HasTables old.now → OnOk result (Changes table Becomes old.now new.now × (new.committed ≡ new.now))
+  -- the table's rows become others
+  abbrev pub WritesInside : ℕ → Result ℕ Error → (List Row → List Row → Type 0) → Type 0
+  WritesInside table result Becomes = HasCleanDisk new → HasTables old.now
+      → OnOk result (Changes table Becomes old.now new.now × InPlace old new)
 
-  -- a fault commits nothing
+  -- ---- in a transaction of its own
+
+  -- the table's rows become others and are committed
+  abbrev pub Commits : {A : Type 0} → ℕ → Result A Error → (List Row → List Row → Type 0) → Type 0
+  Commits table result Becomes = HasCleanDisk new → HasTables old.now
+      → OnOk result (Changes table Becomes old.now new.now × (new.committed ≡ new.now))
+
+  -- a fault commits nothing, whatever tables there are
   abbrev pub Undoes : {A : Type 0} → Result A Error → Type 0
-  Undoes result = HasCleanDisk new → HasTables old.now → OnErr result (IsUndone old new)
+  Undoes result = HasCleanDisk new → OnErr result (IsUndone old new)
+
+  -- a stop may leave what it could before, or the table with other rows
+  abbrev pub MayLeave : ℕ → (List Row → List Row → Type 0) → Type 0
+  MayLeave table Becomes = (HasCleanDisk old → HasTables old.now)
+      → Survives old new (AreTreesOf (Changes table Becomes old.now))

@@ -5,7 +5,7 @@ ghost use Rattle.gaz_sql_facts.specs.Changes.{LeavesTheCommit};
 ghost use Rattle.gaz_tables.specs.Metas.{Rewrites};
 ghost use Rattle.gaz_tables.specs.Receiveds.{Rejects, unjudged};
 ghost use Rattle.gaz_tables.specs.Schema.{metas, receiveds};
-ghost use Rattle.gaz_tables.specs.Stores.{AddsRow, Commits, MayLeave, Undoes};
+ghost use Rattle.gaz_tables.specs.Stores.{AddsRow, Commits, MayLeave, Undoes, WasOpen};
 
 use crate::{metas, receiveds};
 use sqlite::{Alter, Connection, Error};
@@ -19,6 +19,7 @@ pub fn receive<S: Alter>(
 ) -> Result<(), Error>
     requires { conn.old.in_transaction ≡ false }
     ensures over { conn.new.in_transaction ≡ false }
+    ensures open { WasOpen S.Store conn.old conn.new result }
     ensures written { Commits S.Store conn.old conn.new receiveds result
         (AddsRow (unjudged cust volume bytes.now)) }
     ensures undone { Undoes S.Store conn.old conn.new result }
@@ -41,6 +42,7 @@ pub fn reject<S: Alter>(
 ) -> Result<(), Error>
     requires { conn.old.in_transaction ≡ false }
     ensures over { conn.new.in_transaction ≡ false }
+    ensures open { WasOpen S.Store conn.old conn.new result }
     ensures written { Commits S.Store conn.old conn.new receiveds result
         (Rejects cust volume place.now rule) }
     ensures undone { Undoes S.Store conn.old conn.new result }
@@ -57,6 +59,7 @@ pub fn reject<S: Alter>(
 pub fn rewrite<S: Alter>(conn: &mut Connection<S>, number: u32, register: &str) -> Result<(), Error>
     requires { conn.old.in_transaction ≡ false }
     ensures over { conn.new.in_transaction ≡ false }
+    ensures open { WasOpen S.Store conn.old conn.new result }
     ensures written { Commits S.Store conn.old conn.new metas result
         (Rewrites number register.now) }
     ensures undone { Undoes S.Store conn.old conn.new result }

@@ -2,11 +2,10 @@
 ghost use Rattle.std.specs.Prelude.{◌≡◌, false, OnOk};
 ghost use Rattle.sqlite.specs.Held.{state};
 ghost use Rattle.gaz_sql_facts.specs.Changes.{LeavesTheCommit};
-ghost use Rattle.gaz_tables.specs.Creating.{Creates, Furnishes, GoesOn, Grows, KeepsTheCommit};
-ghost use Rattle.gaz_tables.specs.Creating.{MayCreate, Withdraws, no_schema, with_by_blpu};
-ghost use Rattle.gaz_tables.specs.Creating.{with_by_street, with_received, with_version};
+ghost use Rattle.gaz_tables.specs.Creating.{Creates, Furnishes, Grows, MayCreate, no_schema};
+ghost use Rattle.gaz_tables.specs.Creating.{with_by_blpu, with_by_street, with_received, with_version};
 ghost use Rattle.gaz_tables.specs.Schema.{store_schema};
-ghost use Rattle.gaz_tables.specs.Stores.{LeavesNothing};
+ghost use Rattle.gaz_tables.specs.Stores.{StaysInside, Undoes, WasOpen};
 
 use crate::metas;
 use sqlite::{Alter, Connection, Error, Transaction};
@@ -15,9 +14,7 @@ use sqlite::{Alter, Connection, Error, Transaction};
 fn make_version<S: Alter>(tx: &mut Transaction<'_, S>) -> Result<usize, Error>
     ensures same_reference { tx.new.conn.ghost_name ≡ tx.old.conn.ghost_name }
     ensures made { Grows S.Store tx.old.conn.now tx.new.conn.now no_schema with_version result }
-    ensures inside { GoesOn S.Store tx.old.conn.now tx.new.conn.now result }
-    ensures kept { KeepsTheCommit S.Store tx.old.conn.now tx.new.conn.now }
-    ensures leaves { LeavesNothing S.Store tx.old.conn.now tx.new.conn.now }
+    ensures inside { StaysInside S.Store tx.old.conn.now tx.new.conn.now result }
 {
     tx.execute(
         "CREATE TABLE version (cust INTEGER NOT NULL, kind INTEGER NOT NULL CHECK (kind IN (11, 15, 21, 23, 24)), id TEXT NOT NULL, blpu INTEGER NOT NULL, street INTEGER NOT NULL, lang INTEGER NOT NULL, live INTEGER NOT NULL, born INTEGER NOT NULL, gone INTEGER NOT NULL, body TEXT NOT NULL, PRIMARY KEY (cust, kind, id, born)) STRICT",
@@ -29,9 +26,7 @@ fn make_version<S: Alter>(tx: &mut Transaction<'_, S>) -> Result<usize, Error>
 fn make_by_blpu<S: Alter>(tx: &mut Transaction<'_, S>) -> Result<usize, Error>
     ensures same_reference { tx.new.conn.ghost_name ≡ tx.old.conn.ghost_name }
     ensures made { Grows S.Store tx.old.conn.now tx.new.conn.now with_version with_by_blpu result }
-    ensures inside { GoesOn S.Store tx.old.conn.now tx.new.conn.now result }
-    ensures kept { KeepsTheCommit S.Store tx.old.conn.now tx.new.conn.now }
-    ensures leaves { LeavesNothing S.Store tx.old.conn.now tx.new.conn.now }
+    ensures inside { StaysInside S.Store tx.old.conn.now tx.new.conn.now result }
 {
     tx.execute(
         "CREATE INDEX by_blpu ON version (cust, kind, blpu, gone)",
@@ -44,9 +39,7 @@ fn make_by_street<S: Alter>(tx: &mut Transaction<'_, S>) -> Result<usize, Error>
     ensures same_reference { tx.new.conn.ghost_name ≡ tx.old.conn.ghost_name }
     ensures made { Grows S.Store tx.old.conn.now tx.new.conn.now
         with_by_blpu with_by_street result }
-    ensures inside { GoesOn S.Store tx.old.conn.now tx.new.conn.now result }
-    ensures kept { KeepsTheCommit S.Store tx.old.conn.now tx.new.conn.now }
-    ensures leaves { LeavesNothing S.Store tx.old.conn.now tx.new.conn.now }
+    ensures inside { StaysInside S.Store tx.old.conn.now tx.new.conn.now result }
 {
     tx.execute(
         "CREATE INDEX by_street ON version (cust, kind, street, gone)",
@@ -59,9 +52,7 @@ fn make_received<S: Alter>(tx: &mut Transaction<'_, S>) -> Result<usize, Error>
     ensures same_reference { tx.new.conn.ghost_name ≡ tx.old.conn.ghost_name }
     ensures made { Grows S.Store tx.old.conn.now tx.new.conn.now
         with_by_street with_received result }
-    ensures inside { GoesOn S.Store tx.old.conn.now tx.new.conn.now result }
-    ensures kept { KeepsTheCommit S.Store tx.old.conn.now tx.new.conn.now }
-    ensures leaves { LeavesNothing S.Store tx.old.conn.now tx.new.conn.now }
+    ensures inside { StaysInside S.Store tx.old.conn.now tx.new.conn.now result }
 {
     tx.execute(
         "CREATE TABLE received (cust INTEGER NOT NULL, volume INTEGER NOT NULL, bytes BLOB NOT NULL, state INTEGER NOT NULL, place INTEGER NOT NULL, rule INTEGER NOT NULL, PRIMARY KEY (cust, volume)) STRICT",
@@ -73,9 +64,7 @@ fn make_received<S: Alter>(tx: &mut Transaction<'_, S>) -> Result<usize, Error>
 fn make_meta<S: Alter>(tx: &mut Transaction<'_, S>) -> Result<usize, Error>
     ensures same_reference { tx.new.conn.ghost_name ≡ tx.old.conn.ghost_name }
     ensures made { Grows S.Store tx.old.conn.now tx.new.conn.now with_received store_schema result }
-    ensures inside { GoesOn S.Store tx.old.conn.now tx.new.conn.now result }
-    ensures kept { KeepsTheCommit S.Store tx.old.conn.now tx.new.conn.now }
-    ensures leaves { LeavesNothing S.Store tx.old.conn.now tx.new.conn.now }
+    ensures inside { StaysInside S.Store tx.old.conn.now tx.new.conn.now result }
 {
     tx.execute(
         "CREATE TABLE meta (id INTEGER NOT NULL PRIMARY KEY, number INTEGER NOT NULL, register TEXT NOT NULL) STRICT",
@@ -87,9 +76,7 @@ fn make_meta<S: Alter>(tx: &mut Transaction<'_, S>) -> Result<usize, Error>
 fn make_versions<S: Alter>(tx: &mut Transaction<'_, S>) -> Result<(), Error>
     ensures same_reference { tx.new.conn.ghost_name ≡ tx.old.conn.ghost_name }
     ensures made { Grows S.Store tx.old.conn.now tx.new.conn.now no_schema with_by_street result }
-    ensures kept { KeepsTheCommit S.Store tx.old.conn.now tx.new.conn.now }
-    ensures inside { GoesOn S.Store tx.old.conn.now tx.new.conn.now result }
-    ensures leaves { LeavesNothing S.Store tx.old.conn.now tx.new.conn.now }
+    ensures inside { StaysInside S.Store tx.old.conn.now tx.new.conn.now result }
 {
     make_version(tx)?;
     make_by_blpu(tx)?;
@@ -102,9 +89,7 @@ fn make_others<S: Alter>(tx: &mut Transaction<'_, S>) -> Result<(), Error>
     ensures same_reference { tx.new.conn.ghost_name ≡ tx.old.conn.ghost_name }
     ensures made { Grows S.Store tx.old.conn.now tx.new.conn.now
         with_by_street store_schema result }
-    ensures kept { KeepsTheCommit S.Store tx.old.conn.now tx.new.conn.now }
-    ensures inside { GoesOn S.Store tx.old.conn.now tx.new.conn.now result }
-    ensures leaves { LeavesNothing S.Store tx.old.conn.now tx.new.conn.now }
+    ensures inside { StaysInside S.Store tx.old.conn.now tx.new.conn.now result }
 {
     make_received(tx)?;
     make_meta(tx)?;
@@ -115,9 +100,7 @@ fn make_others<S: Alter>(tx: &mut Transaction<'_, S>) -> Result<(), Error>
 fn furnish<S: Alter>(tx: &mut Transaction<'_, S>, number: u32, register: &str) -> Result<(), Error>
     ensures same_reference { tx.new.conn.ghost_name ≡ tx.old.conn.ghost_name }
     ensures made { Furnishes S.Store tx.old.conn.now tx.new.conn.now number register.now result }
-    ensures kept { KeepsTheCommit S.Store tx.old.conn.now tx.new.conn.now }
-    ensures inside { GoesOn S.Store tx.old.conn.now tx.new.conn.now result }
-    ensures leaves { LeavesNothing S.Store tx.old.conn.now tx.new.conn.now }
+    ensures inside { StaysInside S.Store tx.old.conn.now tx.new.conn.now result }
 {
     make_versions(tx)?;
     make_others(tx)?;
@@ -129,8 +112,9 @@ fn furnish<S: Alter>(tx: &mut Transaction<'_, S>, number: u32, register: &str) -
 pub fn create<S: Alter>(conn: &mut Connection<S>, number: u32, register: &str) -> Result<(), Error>
     requires { conn.old.in_transaction ≡ false }
     ensures over { conn.new.in_transaction ≡ false }
+    ensures open { WasOpen S.Store conn.old conn.new result }
     ensures created { Creates S.Store conn.old conn.new number register.now result }
-    ensures undone { Withdraws S.Store conn.old conn.new result }
+    ensures undone { Undoes S.Store conn.old conn.new result }
     ensures leaves { MayCreate S.Store conn.old conn.new number register.now }
     ensures certain { OnOk result (LeavesTheCommit (state S.Store conn.new)) }
 {

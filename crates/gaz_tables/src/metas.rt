@@ -1,10 +1,9 @@
 //! The statements of the table `meta`.
 ghost use Rattle.std.specs.Prelude.{◌≡◌, false};
-ghost use Rattle.gaz_tables.specs.Creating.{GoesOn, KeepsTheCommit};
 ghost use Rattle.gaz_tables.specs.Metas.{AddsMeta, FindsTwo, Rewrites};
 ghost use Rattle.gaz_tables.specs.Schema.{metas};
-ghost use Rattle.gaz_tables.specs.Stores.{Finds, LeavesAsBefore, LeavesNothing, SparesInside};
-ghost use Rattle.gaz_tables.specs.Stores.{Stays, WritesInside};
+ghost use Rattle.gaz_tables.specs.Stores.{Finds, LeavesAsBefore, Spares, SparesInside};
+ghost use Rattle.gaz_tables.specs.Stores.{Stays, StaysInside, WasOpen, WritesInside};
 
 use sqlite::{Alter, Connection, Error, Row, Transaction, params};
 
@@ -12,6 +11,8 @@ use sqlite::{Alter, Connection, Error, Row, Transaction, params};
 pub fn rows<S: Alter>(conn: &mut Connection<S>) -> Result<Vec<Row>, Error>
     ensures found { Finds S.Store conn.old conn.new metas result FindsTwo }
     ensures stays { Stays S.Store conn.old conn.new result }
+    ensures open { WasOpen S.Store conn.old conn.new result }
+    ensures spared { Spares S.Store conn.old conn.new result }
     ensures leaves { LeavesAsBefore S.Store conn.old conn.new }
     ensures mode { conn.old.in_transaction ≡ false → conn.new.in_transaction ≡ false }
 {
@@ -28,9 +29,8 @@ pub fn insert<S: Alter>(
     ensures added { WritesInside S.Store tx.old.conn.now tx.new.conn.now
         metas result (AddsMeta number register.now) }
     ensures spared { SparesInside S.Store tx.old.conn.now tx.new.conn.now result }
-    ensures inside { GoesOn S.Store tx.old.conn.now tx.new.conn.now result }
-    ensures kept { KeepsTheCommit S.Store tx.old.conn.now tx.new.conn.now }
-    ensures leaves { LeavesNothing S.Store tx.old.conn.now tx.new.conn.now }
+    ensures open { WasOpen S.Store tx.old.conn.now tx.new.conn.now result }
+    ensures inside { StaysInside S.Store tx.old.conn.now tx.new.conn.now result }
 {
     tx.execute(
         "INSERT INTO meta VALUES (1, ?1, ?2)",
@@ -48,7 +48,8 @@ pub fn rewrite<S: Alter>(
     ensures rewritten { WritesInside S.Store tx.old.conn.now tx.new.conn.now
         metas result (Rewrites number register.now) }
     ensures spared { SparesInside S.Store tx.old.conn.now tx.new.conn.now result }
-    ensures leaves { LeavesNothing S.Store tx.old.conn.now tx.new.conn.now }
+    ensures open { WasOpen S.Store tx.old.conn.now tx.new.conn.now result }
+    ensures inside { StaysInside S.Store tx.old.conn.now tx.new.conn.now result }
 {
     tx.execute(
         "UPDATE meta SET number = ?1, register = ?2 WHERE id = 1",

@@ -1,10 +1,10 @@
 //! The statements of the table `received`.
 ghost use Rattle.gaz_tables.specs.Schema.{receiveds};
 ghost use Rattle.std.specs.Prelude.{◌≡◌, false};
-ghost use Rattle.gaz_tables.specs.Stores.{AddsRow, Finds, LeavesAsBefore, LeavesNothing, SparesInside};
-ghost use Rattle.gaz_tables.specs.Stores.{Stays, WritesInside};
-ghost use Rattle.gaz_tables.specs.Receiveds.{Applies, AtMostOne, FindsAbove, FindsFile, FindsVerdict};
-ghost use Rattle.gaz_tables.specs.Receiveds.{FindsVolume, Rejects, unjudged};
+ghost use Rattle.gaz_tables.specs.Stores.{AddsRow, Finds, LeavesAsBefore, Spares, SparesInside};
+ghost use Rattle.gaz_tables.specs.Stores.{Stays, StaysInside, WasOpen, WritesInside};
+ghost use Rattle.gaz_tables.specs.Receiveds.{Applies, AtMostOne, FindsAbove, FindsFile};
+ghost use Rattle.gaz_tables.specs.Receiveds.{FindsVerdict, FindsVolume, Rejects, unjudged};
 
 use sqlite::{Alter, Connection, Error, Row, Transaction, params};
 
@@ -13,6 +13,8 @@ pub fn file<S: Alter>(conn: &mut Connection<S>, cust: u32, volume: u32) -> Resul
     ensures found { Finds S.Store conn.old conn.new receiveds result (FindsFile cust volume) }
     ensures one { Finds S.Store conn.old conn.new receiveds result AtMostOne }
     ensures stays { Stays S.Store conn.old conn.new result }
+    ensures open { WasOpen S.Store conn.old conn.new result }
+    ensures spared { Spares S.Store conn.old conn.new result }
     ensures leaves { LeavesAsBefore S.Store conn.old conn.new }
     ensures mode { conn.old.in_transaction ≡ false → conn.new.in_transaction ≡ false }
 {
@@ -31,6 +33,8 @@ pub fn verdict<S: Alter>(
     ensures found { Finds S.Store conn.old conn.new receiveds result (FindsVerdict cust volume) }
     ensures one { Finds S.Store conn.old conn.new receiveds result AtMostOne }
     ensures stays { Stays S.Store conn.old conn.new result }
+    ensures open { WasOpen S.Store conn.old conn.new result }
+    ensures spared { Spares S.Store conn.old conn.new result }
     ensures leaves { LeavesAsBefore S.Store conn.old conn.new }
     ensures mode { conn.old.in_transaction ≡ false → conn.new.in_transaction ≡ false }
 {
@@ -49,6 +53,8 @@ pub fn is_there<S: Alter>(
     ensures found { Finds S.Store conn.old conn.new receiveds result (FindsVolume cust volume) }
     ensures one { Finds S.Store conn.old conn.new receiveds result AtMostOne }
     ensures stays { Stays S.Store conn.old conn.new result }
+    ensures open { WasOpen S.Store conn.old conn.new result }
+    ensures spared { Spares S.Store conn.old conn.new result }
     ensures leaves { LeavesAsBefore S.Store conn.old conn.new }
     ensures mode { conn.old.in_transaction ≡ false → conn.new.in_transaction ≡ false }
 {
@@ -67,6 +73,8 @@ pub fn above<S: Alter>(
 ) -> Result<Vec<Row>, Error>
     ensures found { Finds S.Store conn.old conn.new receiveds result (FindsAbove cust volume most) }
     ensures stays { Stays S.Store conn.old conn.new result }
+    ensures open { WasOpen S.Store conn.old conn.new result }
+    ensures spared { Spares S.Store conn.old conn.new result }
     ensures leaves { LeavesAsBefore S.Store conn.old conn.new }
     ensures mode { conn.old.in_transaction ≡ false → conn.new.in_transaction ≡ false }
 {
@@ -87,7 +95,8 @@ pub fn receive<S: Alter>(
     ensures added { WritesInside S.Store tx.old.conn.now tx.new.conn.now
         receiveds result (AddsRow (unjudged cust volume bytes.now)) }
     ensures spared { SparesInside S.Store tx.old.conn.now tx.new.conn.now result }
-    ensures leaves { LeavesNothing S.Store tx.old.conn.now tx.new.conn.now }
+    ensures open { WasOpen S.Store tx.old.conn.now tx.new.conn.now result }
+    ensures inside { StaysInside S.Store tx.old.conn.now tx.new.conn.now result }
 {
     tx.execute(
         "INSERT INTO received VALUES (?1, ?2, ?3, 0, 0, 0)",
@@ -101,7 +110,8 @@ pub fn apply<S: Alter>(tx: &mut Transaction<'_, S>, cust: u32, volume: u32) -> R
     ensures applied { WritesInside S.Store tx.old.conn.now tx.new.conn.now
         receiveds result (Applies cust volume) }
     ensures spared { SparesInside S.Store tx.old.conn.now tx.new.conn.now result }
-    ensures leaves { LeavesNothing S.Store tx.old.conn.now tx.new.conn.now }
+    ensures open { WasOpen S.Store tx.old.conn.now tx.new.conn.now result }
+    ensures inside { StaysInside S.Store tx.old.conn.now tx.new.conn.now result }
 {
     tx.execute(
         "UPDATE received SET state = 1, place = 0, rule = 0 WHERE cust = ?1 AND volume = ?2",
@@ -121,7 +131,8 @@ pub fn reject<S: Alter>(
     ensures rejected { WritesInside S.Store tx.old.conn.now tx.new.conn.now
         receiveds result (Rejects cust volume place.now rule) }
     ensures spared { SparesInside S.Store tx.old.conn.now tx.new.conn.now result }
-    ensures leaves { LeavesNothing S.Store tx.old.conn.now tx.new.conn.now }
+    ensures open { WasOpen S.Store tx.old.conn.now tx.new.conn.now result }
+    ensures inside { StaysInside S.Store tx.old.conn.now tx.new.conn.now result }
 {
     tx.execute(
         "UPDATE received SET state = 2, place = ?3, rule = ?4 WHERE cust = ?1 AND volume = ?2",

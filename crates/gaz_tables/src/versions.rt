@@ -1,10 +1,10 @@
 //! The statements of the table `version`.
 ghost use Rattle.gaz_tables.specs.Schema.{versions};
 ghost use Rattle.std.specs.Prelude.{◌≡◌, false};
-ghost use Rattle.gaz_tables.specs.Stores.{AddsRow, Finds, LeavesAsBefore, LeavesNothing, SparesInside};
-ghost use Rattle.gaz_tables.specs.Stores.{Stays, WritesInside};
-ghost use Rattle.gaz_tables.specs.Versions.{FindsApprovedOf, FindsApprovedOn, FindsHolding, FindsNewest};
-ghost use Rattle.gaz_tables.specs.Versions.{Closes, FindsNewestUntil, FindsParts, version_values};
+ghost use Rattle.gaz_tables.specs.Stores.{AddsRow, Finds, LeavesAsBefore, Spares, SparesInside};
+ghost use Rattle.gaz_tables.specs.Stores.{Stays, StaysInside, WasOpen, WritesInside};
+ghost use Rattle.gaz_tables.specs.Versions.{Closes, FindsApprovedOf, FindsApprovedOn, FindsHolding};
+ghost use Rattle.gaz_tables.specs.Versions.{FindsNewest, FindsNewestUntil, FindsParts, version_values};
 
 use sqlite::{Alter, Connection, Error, Row, Transaction, params};
 
@@ -17,6 +17,8 @@ pub fn newest<S: Alter>(
 ) -> Result<Vec<Row>, Error>
     ensures found { Finds S.Store conn.old conn.new versions result (FindsNewest cust kind id.now) }
     ensures stays { Stays S.Store conn.old conn.new result }
+    ensures open { WasOpen S.Store conn.old conn.new result }
+    ensures spared { Spares S.Store conn.old conn.new result }
     ensures leaves { LeavesAsBefore S.Store conn.old conn.new }
     ensures mode { conn.old.in_transaction ≡ false → conn.new.in_transaction ≡ false }
 {
@@ -37,6 +39,8 @@ pub fn newest_until<S: Alter>(
     ensures found { Finds S.Store conn.old conn.new versions result
         (FindsNewestUntil cust kind id.now volume) }
     ensures stays { Stays S.Store conn.old conn.new result }
+    ensures open { WasOpen S.Store conn.old conn.new result }
+    ensures spared { Spares S.Store conn.old conn.new result }
     ensures leaves { LeavesAsBefore S.Store conn.old conn.new }
     ensures mode { conn.old.in_transaction ≡ false → conn.new.in_transaction ≡ false }
 {
@@ -58,6 +62,8 @@ pub fn holding<S: Alter>(
     ensures found { Finds S.Store conn.old conn.new versions result
         (FindsHolding cust kind after.now volume most) }
     ensures stays { Stays S.Store conn.old conn.new result }
+    ensures open { WasOpen S.Store conn.old conn.new result }
+    ensures spared { Spares S.Store conn.old conn.new result }
     ensures leaves { LeavesAsBefore S.Store conn.old conn.new }
     ensures mode { conn.old.in_transaction ≡ false → conn.new.in_transaction ≡ false }
 {
@@ -76,6 +82,8 @@ pub fn approved_of<S: Alter>(
     ensures found { Finds S.Store conn.old conn.new versions result
         (FindsApprovedOf cust blpu.now) }
     ensures stays { Stays S.Store conn.old conn.new result }
+    ensures open { WasOpen S.Store conn.old conn.new result }
+    ensures spared { Spares S.Store conn.old conn.new result }
     ensures leaves { LeavesAsBefore S.Store conn.old conn.new }
     ensures mode { conn.old.in_transaction ≡ false → conn.new.in_transaction ≡ false }
 {
@@ -96,6 +104,8 @@ pub fn approved_on<S: Alter>(
     ensures found { Finds S.Store conn.old conn.new versions result
         (FindsApprovedOn cust street after.now most) }
     ensures stays { Stays S.Store conn.old conn.new result }
+    ensures open { WasOpen S.Store conn.old conn.new result }
+    ensures spared { Spares S.Store conn.old conn.new result }
     ensures leaves { LeavesAsBefore S.Store conn.old conn.new }
     ensures mode { conn.old.in_transaction ≡ false → conn.new.in_transaction ≡ false }
 {
@@ -116,6 +126,8 @@ pub fn parts_of<S: Alter>(
     ensures found { Finds S.Store conn.old conn.new versions result
         (FindsParts cust blpu.now after.now most) }
     ensures stays { Stays S.Store conn.old conn.new result }
+    ensures open { WasOpen S.Store conn.old conn.new result }
+    ensures spared { Spares S.Store conn.old conn.new result }
     ensures leaves { LeavesAsBefore S.Store conn.old conn.new }
     ensures mode { conn.old.in_transaction ≡ false → conn.new.in_transaction ≡ false }
 {
@@ -144,7 +156,8 @@ pub fn insert<S: Alter>(
         versions result (AddsRow
         (version_values cust kind id.now blpu.now street lang live born gone body.now)) }
     ensures spared { SparesInside S.Store tx.old.conn.now tx.new.conn.now result }
-    ensures leaves { LeavesNothing S.Store tx.old.conn.now tx.new.conn.now }
+    ensures open { WasOpen S.Store tx.old.conn.now tx.new.conn.now result }
+    ensures inside { StaysInside S.Store tx.old.conn.now tx.new.conn.now result }
 {
     tx.execute(
         "INSERT INTO version VALUES (?1, ?2, ?3, ?4, ?5, ?6, ?7, ?8, ?9, ?10)",
@@ -165,7 +178,8 @@ pub fn close<S: Alter>(
     ensures closed { WritesInside S.Store tx.old.conn.now tx.new.conn.now
         versions result (Closes cust kind id.now born gone) }
     ensures spared { SparesInside S.Store tx.old.conn.now tx.new.conn.now result }
-    ensures leaves { LeavesNothing S.Store tx.old.conn.now tx.new.conn.now }
+    ensures open { WasOpen S.Store tx.old.conn.now tx.new.conn.now result }
+    ensures inside { StaysInside S.Store tx.old.conn.now tx.new.conn.now result }
 {
     tx.execute(
         "UPDATE version SET gone = ?5 WHERE cust = ?1 AND kind = ?2 AND id = ?3 AND born = ?4",

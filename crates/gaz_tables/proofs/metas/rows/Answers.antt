@@ -1,5 +1,5 @@
 use Rattle.sqlite.specs.Held.{state}
-use Rattle.gaz_sql_facts.proofs.Texts.{answers, stays, leaves_as_before}
+use Rattle.gaz_sql_facts.proofs.Texts.{answers, stays, leaves_as_before, open_query, spared_query}
 use Rattle.gaz_tables.proofs.MetaTexts.{rows_is, rows_found}
 use Rattle.gaz_tables.proofs.metas.rows.Goals as goal
 
@@ -15,3 +15,9 @@ returns-clause-stays g c clean has =
 pub returns-clause-leaves : goal.returns-clause-leaves
 returns-clause-leaves g c has =
     leaves_as_before _ _ _ _ _ _ _ _ rows_is _ (state g.S.Store c.args.conn.now) (state g.S.Store c.query_all.new.self) (λ early. (has early).schema_is) c.query_all.ensures.survives
+
+pub returns-clause-spared : goal.returns-clause-spared
+returns-clause-spared g c clean = spared_query _ _ (state g.S.Store c.args.conn.now) (state g.S.Store c.query_all.new.self) c.query_all.result (c.query_all.ensures.err clean)
+
+pub returns-clause-open : goal.returns-clause-open
+returns-clause-open g c clean = open_query _ _ (state g.S.Store c.args.conn.now) (state g.S.Store c.query_all.new.self) c.query_all.result (c.query_all.ensures.ok clean)

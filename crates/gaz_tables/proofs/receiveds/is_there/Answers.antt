@@ -1,5 +1,5 @@
 use Rattle.sqlite.specs.Held.{state}
-use Rattle.gaz_sql_facts.proofs.Texts.{answers, stays, leaves_as_before}
+use Rattle.gaz_sql_facts.proofs.Texts.{answers, stays, leaves_as_before, open_query, spared_query}
 use Rattle.gaz_tables.proofs.ReceivedMeanings.{volume_found}
 use Rattle.gaz_tables.specs.Receiveds.{volume_shown}
 use Rattle.gaz_tables.proofs.ReceivedOnce.{volume_alone}
@@ -22,3 +22,9 @@ returns-clause-leaves g c has =
 
 pub returns-clause-one : goal.returns-clause-one
 returns-clause-one g c clean has = volume_alone (state g.S.Store c.args.conn.now).now has c.args.cust c.args.volume volume_shown c.query_all.result (returns-clause-found g c clean has)
+
+pub returns-clause-spared : goal.returns-clause-spared
+returns-clause-spared g c clean = spared_query _ _ (state g.S.Store c.args.conn.now) (state g.S.Store c.query_all.new.self) c.query_all.result (c.query_all.ensures.err clean)
+
+pub returns-clause-open : goal.returns-clause-open
+returns-clause-open g c clean = open_query _ _ (state g.S.Store c.args.conn.now) (state g.S.Store c.query_all.new.self) c.query_all.result (c.query_all.ensures.ok clean)
