@@ -10,3 +10,5 @@ mod overlays;
 mod samples;
 #[cfg(test)]
 mod tables;
+#[cfg(test)]
+mod trial;

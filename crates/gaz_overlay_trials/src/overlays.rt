@@ -1,123 +1,63 @@
 //! Random changes over random views.
 use crate::dice::Dice;
-use crate::samples::{PROPERTIES, STREETS, all_keys, item_at, uprn, usrn};
-use crate::tables::Table;
+use crate::samples::{PROPERTIES, STREETS, all_keys, uprn, usrn};
+use crate::trial::{Trial, text_of};
 use gaz_ids::{Lang, Status, Uprn, Usrn};
-use gaz_ledger::{CachedLedger, Seed};
-use gaz_overlay::Overlay;
-use gaz_records::{Item, Key, Kind, SharedItem, item_text};
-use gaz_views::{Verdict, share_found};
+use gaz_records::{Item, Key, Kind, Lpi};
 use std::alloc::Global;
-use std::process::Abort;
 use std::test::Fail;
 
-/// The same judgement three times: what it makes in a keeper's memory, the changes that it gathers
-/// beside a table, and the table as the last volume left it.
-#[derive(Drop)]
-struct Trial {
-    last: u64,
-    book: CachedLedger,
-    changes: Overlay,
-    table: Table,
-}
-
-impl Trial {
-    // Puts an item at a key or takes it.
-    fn change(&mut self, alloc: Global, dice: &mut Dice, key: &Key) -> Result<(), Fail> {
-        if !self.changes.is_touched(key) {
-            let item = share_found(self.table.item(self.last, key))?;
-            self.changes.touch(key, self.table.stood(key), item)?;
-        }
-        if dice.falls() {
-            self.put(item_at(alloc, dice, key)?)
-        } else {
-            self.take(key)
-        }
-    }
-
-    fn put(&mut self, item: SharedItem) -> Result<(), Fail> {
-        if !self.changes.is_touched(&gaz_records::key_of(&item)) {
-            return Err(Fail::from("an item of another key"));
-        }
-        self.changes.put(item.share()?)?;
-        Ok(self.book.put(item)?)
-    }
-
-    fn take(&mut self, key: &Key) -> Result<(), Fail> {
-        if !self.changes.is_touched(key) {
-            return Err(Fail::from("a key that was never touched"));
-        }
-        self.changes.take(key)?;
-        Ok(self.book.take(key)?)
-    }
-
-    // The item that the laid view has at a key.
-    fn laid_item(&self, key: &Key) -> Option<&SharedItem> {
-        if self.changes.is_touched(key) {
-            self.changes.item(key)
-        } else {
-            self.table.item(self.last, key)
-        }
-    }
-
-    fn laid_use(&self, key: &Key) -> bool {
-        if self.changes.is_touched(key) {
-            self.changes.was_used(key)
-        } else {
-            self.table.was_used(self.last, key)
-        }
-    }
-
-    // The volume is kept, and the next one begins.
-    fn keep(&mut self, alloc: Global) -> Result<(), Fail> {
-        let volume = self.last.saturating_add(1);
-        self.table.keep(alloc, volume, &self.changes)?;
-        self.book.close(Verdict::Applied)?;
-        self.changes = Overlay::new(alloc, Seed::of(11));
-        self.last = volume;
+// What was compared is the same.
+fn agree(is_same: bool, what: &str) -> Result<(), Fail> {
+    if is_same {
         Ok(())
-    }
-}
-
-fn text_of(alloc: Global, item: Option<&SharedItem>) -> Result<Vec<u8>, Fail> {
-    match item {
-        Some(item) => Ok(item_text(alloc, item)?),
-        None => Ok(Vec::new(alloc)),
+    } else {
+        Err(Fail::from(what))
     }
 }
 
 // The laid view has at a key what the working one has.
-fn same_at(rt: &(impl Abort + AllocGlobal), trial: &Trial, key: &Key) -> Result<(), Fail> {
-    let working = trial.last.saturating_add(1);
-    let laid = text_of(rt.alloc(), trial.laid_item(key))?;
-    let want = text_of(rt.alloc(), trial.book.ledger().item(working, key))?;
-    assert!(rt; laid.as_slice() == want.as_slice());
-    assert!(rt; trial.laid_use(key) == trial.book.ledger().was_used(working, key));
+fn same_at(alloc: Global, trial: &Trial, key: &Key) -> Result<(), Fail> {
+    let working = trial.working()?;
+    let laid = text_of(alloc, trial.laid_item(key))?;
+    let want = text_of(alloc, trial.item(working, key))?;
+    agree(laid.as_slice() == want.as_slice(), "the item at a key")?;
+    agree(
+        trial.laid_use(key) == trial.was_used(working, key),
+        "whether a key was used",
+    )
+}
+
+// After this volume the table has at a key what the keeper in memory has.
+fn kept_after(alloc: Global, trial: &Trial, volume: u64, key: &Key) -> Result<(), Fail> {
+    let kept = text_of(alloc, trial.table.item(volume, key))?;
+    let want = text_of(alloc, trial.item(volume, key))?;
+    agree(kept.as_slice() == want.as_slice(), "the item that is kept")?;
+    agree(
+        trial.table.was_used(volume, key) == trial.was_used(volume, key),
+        "whether a key is kept as used",
+    )
+}
+
+// So it is after each volume.
+fn kept_at(alloc: Global, trial: &Trial, key: &Key) -> Result<(), Fail> {
+    for volume in 0..trial.last.saturating_add(1) {
+        kept_after(alloc, trial, volume, key)?;
+    }
     Ok(())
 }
 
-// After each volume the table has at a key what the keeper in memory has.
-fn kept_at(rt: &(impl Abort + AllocGlobal), trial: &Trial, key: &Key) -> Result<(), Fail> {
-    for volume in 0..trial.last.saturating_add(1) {
-        let kept = text_of(rt.alloc(), trial.table.item(volume, key))?;
-        let want = text_of(rt.alloc(), trial.book.ledger().item(volume, key))?;
-        assert!(rt; kept.as_slice() == want.as_slice());
-        assert!(rt; trial.table.was_used(volume, key) == trial.book.ledger().was_used(volume, key));
-    }
-    Ok(())
+fn is_on(lpi: &Lpi, usrn: Usrn, lang: Option<Lang>) -> bool {
+    let fits = lang.is_none() || lang == Some(lpi.lang);
+    lpi.status == Status::Approved && lpi.usrn == usrn && fits
 }
 
 // The keys of the last view's approved LPIs on a street.
 fn last_on(alloc: Global, trial: &Trial, usrn: Usrn, lang: Option<Lang>) -> Result<Vec<Key>, Fail> {
     let mut keys = Vec::new(alloc);
-    for item in &trial
-        .book
-        .ledger()
-        .page(alloc, trial.last, Kind::Lpi, None, 99)?
-    {
+    for item in &trial.last_items(alloc, Kind::Lpi)? {
         if let Item::Lpi(lpi) = item.as_item() {
-            let fits = lang.is_none() || lang == Some(lpi.lang);
-            if lpi.status == Status::Approved && lpi.usrn == usrn && fits {
+            if is_on(lpi, usrn, lang) {
                 keys.push(Key::Lpi(lpi.key))?;
             }
         }
@@ -125,67 +65,108 @@ fn last_on(alloc: Global, trial: &Trial, usrn: Usrn, lang: Option<Lang>) -> Resu
     Ok(keys)
 }
 
-// The keys of the last view's parts and addresses of a property.
+// The key of an item that is a part or an approved address of a property.
+fn key_under(item: &Item, uprn: Uprn) -> Option<Key> {
+    match item {
+        Item::Blpu(blpu) if blpu.parent == Some(uprn) => Some(Key::Blpu(blpu.uprn)),
+        Item::Lpi(lpi) if lpi.status == Status::Approved && lpi.uprn == uprn => {
+            Some(Key::Lpi(lpi.key))
+        }
+        _ => None,
+    }
+}
+
+// The keys of the last view's parts or addresses of a property.
 fn last_of(alloc: Global, trial: &Trial, uprn: Uprn, kind: Kind) -> Result<Vec<Key>, Fail> {
     let mut keys = Vec::new(alloc);
-    for item in &trial.book.ledger().page(alloc, trial.last, kind, None, 99)? {
-        match item.as_item() {
-            Item::Blpu(blpu) if blpu.parent == Some(uprn) => keys.push(Key::Blpu(blpu.uprn))?,
-            Item::Lpi(lpi) if lpi.status == Status::Approved && lpi.uprn == uprn => {
-                keys.push(Key::Lpi(lpi.key))?;
-            }
-            _ => {}
+    for item in &trial.last_items(alloc, kind)? {
+        if let Some(key) = key_under(item.as_item(), uprn) {
+            keys.push(key)?;
         }
     }
     Ok(keys)
 }
 
 // A street's question is answered alike.
-fn same_street(rt: &(impl Abort + AllocGlobal), trial: &Trial, usrn: Usrn) -> Result<(), Fail> {
-    let working = trial.last.saturating_add(1);
-    for lang in [None, Some(Lang::Cym), Some(Lang::Eng)] {
-        let last = last_on(rt.alloc(), trial, usrn, lang)?;
-        let laid = trial.changes.approved_on(&last, usrn, lang);
-        let Some(want) = on_street(trial, working, usrn, lang) else {
-            return Err(Fail::from("a past volume"));
-        };
-        assert!(rt; laid == want);
-    }
-    Ok(())
+fn same_street(alloc: Global, trial: &Trial, usrn: Usrn, lang: Option<Lang>) -> Result<(), Fail> {
+    let last = last_on(alloc, trial, usrn, lang)?;
+    let laid = trial.changes.approved_on(&last, usrn, lang);
+    agree(
+        laid == trial.approved_on(usrn, lang)?,
+        "whether an approved address is on a street",
+    )
 }
 
-fn on_street(trial: &Trial, working: u64, usrn: Usrn, lang: Option<Lang>) -> Option<bool> {
-    if trial.book.ledger().reached() > working {
-        return None;
-    }
-    Some(trial.book.ledger().approved_on(working, usrn, lang))
+// Whether a property has parts is answered alike.
+fn same_parts(alloc: Global, trial: &Trial, uprn: Uprn) -> Result<(), Fail> {
+    let last = last_of(alloc, trial, uprn, Kind::Blpu)?;
+    let laid = trial.changes.has_children(&last, uprn);
+    agree(laid == trial.has_children(uprn)?, "whether there are parts")
 }
 
-// A property's questions are answered alike.
-fn same_property(rt: &(impl Abort + AllocGlobal), trial: &Trial, uprn: Uprn) -> Result<(), Fail> {
-    let working = trial.last.saturating_add(1);
-    let ledger = trial.book.ledger();
-    if ledger.reached() > working {
-        return Err(Fail::from("a past volume"));
-    }
-    let parts = last_of(rt.alloc(), trial, uprn, Kind::Blpu)?;
-    assert!(rt; trial.changes.has_children(&parts, uprn) == ledger.has_children(working, uprn));
-    let last = last_of(rt.alloc(), trial, uprn, Kind::Lpi)?;
-    let laid = trial.changes.approved_of(rt.alloc(), &last, uprn)?;
-    let want = ledger.approved_of(rt.alloc(), working, uprn)?;
-    assert!(rt; laid.as_slice() == want.as_slice());
-    Ok(())
+// What its addresses are, and what the property is, is answered alike.
+fn same_addresses(alloc: Global, trial: &Trial, uprn: Uprn) -> Result<(), Fail> {
+    let last = last_of(alloc, trial, uprn, Kind::Lpi)?;
+    let laid = trial.changes.approved_of(alloc, &last, uprn)?;
+    let want = trial.approved_of(alloc, uprn)?;
+    agree(laid.as_slice() == want.as_slice(), "the addresses")?;
+    let laid = trial.laid_property(alloc, &last, uprn)?;
+    let want = trial.property(alloc, uprn)?;
+    agree(laid.as_slice() == want.as_slice(), "the property")
 }
 
-fn all_the_same(rt: &(impl Abort + AllocGlobal), trial: &Trial, keys: &[Key]) -> Result<(), Fail> {
-    for key in keys {
-        same_at(rt, trial, key)?;
-    }
+fn all_streets_same(alloc: Global, trial: &Trial) -> Result<(), Fail> {
     for number in 1..STREETS + 1 {
-        same_street(rt, trial, usrn(number)?)?;
+        let usrn = usrn(number)?;
+        same_street(alloc, trial, usrn, None)?;
+        same_street(alloc, trial, usrn, Some(Lang::Cym))?;
+        same_street(alloc, trial, usrn, Some(Lang::Eng))?;
     }
+    Ok(())
+}
+
+fn all_properties_same(alloc: Global, trial: &Trial) -> Result<(), Fail> {
     for number in 1..PROPERTIES + 1 {
-        same_property(rt, trial, uprn(number)?)?;
+        let uprn = uprn(number)?;
+        same_parts(alloc, trial, uprn)?;
+        same_addresses(alloc, trial, uprn)?;
+    }
+    Ok(())
+}
+
+fn all_the_same(alloc: Global, trial: &Trial, keys: &[Key]) -> Result<(), Fail> {
+    for key in keys {
+        same_at(alloc, trial, key)?;
+    }
+    all_streets_same(alloc, trial)?;
+    all_properties_same(alloc, trial)
+}
+
+// A volume of changes, after each of which all is the same.
+fn play(alloc: Global, trial: &mut Trial, dice: &mut Dice, keys: &[Key]) -> Result<(), Fail> {
+    for _ in 0..9 {
+        let at = dice.below(keys.len() as u64) as usize;
+        trial.change(alloc, dice, keys.get(at).ok_or("a key")?)?;
+        all_the_same(alloc, trial, keys)?;
+    }
+    Ok(())
+}
+
+// The volume is kept, and so were all before it.
+fn keep(alloc: Global, trial: &mut Trial, keys: &[Key]) -> Result<(), Fail> {
+    trial.keep(alloc)?;
+    for key in keys {
+        kept_at(alloc, trial, key)?;
+    }
+    Ok(())
+}
+
+fn play_all(alloc: Global, keys: &[Key]) -> Result<(), Fail> {
+    let mut dice = Dice { state: 20_240_102 };
+    let mut trial = Trial::new(alloc);
+    for _ in 0..12 {
+        play(alloc, &mut trial, &mut dice, keys)?;
+        keep(alloc, &mut trial, keys)?;
     }
     Ok(())
 }
@@ -193,24 +174,5 @@ fn all_the_same(rt: &(impl Abort + AllocGlobal), trial: &Trial, keys: &[Key]) ->
 #[test]
 fn random_changes_give_the_working_view(rt: HostRuntime) -> Result<(), Fail> {
     let keys = all_keys(rt.alloc())?;
-    let mut dice = Dice { state: 20_240_102 };
-    let mut trial = Trial {
-        last: 0,
-        book: CachedLedger::new(rt.alloc(), Seed::of(7)),
-        changes: Overlay::new(rt.alloc(), Seed::of(11)),
-        table: Table::new(rt.alloc()),
-    };
-    for _ in 0..12 {
-        for _ in 0..9 {
-            let at = dice.below(keys.len() as u64) as usize;
-            let key = keys.get(at).ok_or("a key")?;
-            trial.change(rt.alloc(), &mut dice, key)?;
-            all_the_same(&rt, &trial, &keys)?;
-        }
-        trial.keep(rt.alloc())?;
-        for key in &keys {
-            kept_at(&rt, &trial, key)?;
-        }
-    }
-    Ok(())
+    play_all(rt.alloc(), &keys)
 }
