@@ -1,12 +1,9 @@
 -- What a new store is made of.
-use Rattle.std.proofs.Common.{◌≡◌, ◌⊎◌, inl, inr, ℕ, List, [], Ok, Err, Result, OnOk, arith, refl, sym, subst, ◌∙◌}
-use Rattle.std.specs.Prelude.{IsTrue}
+use Rattle.std.proofs.Common.{◌≡◌, inl, inr, ℕ, List, [], arith, refl, sym, subst, ◌∙◌}
 use Rattle.sqlite_rules.specs.Lists.{Has}
 use Rattle.sqlite_trees.specs.declared.store.Shape.TheVariants as shape
-use Rattle.sqlite.specs.declared.error.Error.{Error}
 use Rattle.sqlite.specs.Effect.{Database, IsDatabase}
 use Rattle.sqlite.specs.Order.{Row}
-use Rattle.sqlite.specs.State.{State, ExecutesInside, IsUnchanged, IsRolledBack}
 use Rattle.sqlite.specs.View.{IsShaped}
 use Rattle.gaz_sql_facts.specs.Changes.{Changes, IsAdded}
 use Rattle.gaz_tables.specs.Creating.{IsBare, IsNewStore}

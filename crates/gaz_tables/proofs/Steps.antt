@@ -1,10 +1,9 @@
 -- A statement within a transaction, and one call after another.
-use Rattle.std.proofs.Common.{◌≡◌, ◌∙◌, ℕ, Bool, true, false, List, Result, Ok, Err, OnOk, arith, refl, sym, subst}
+use Rattle.std.proofs.Common.{◌≡◌, inl, le_refl, ◌∙◌, ℕ, Bool, true, false, List, Result, Ok, Err, OnOk, arith, refl, sym, subst}
 use Rattle.std.specs.Prelude.{IsTrue}
 use Rattle.std.specs.Result.{IsErr}
 use Rattle.sqlite.proofs.InsideLemmas.{inside_keeps, keeps_then}
 use Rattle.sqlite.proofs.StateLemmas.{survives_then}
-use Rattle.sqlite.specs.Effect.{IsDatabase}
 use Rattle.sqlite.specs.Held.{Held, state}
 use Rattle.sqlite.specs.Order.{Row}
 use Rattle.sqlite.specs.Schema.{Schema}
@@ -12,8 +11,10 @@ use Rattle.sqlite.specs.State.{HasCleanDisk, ExecutesInside, KeepsCommit, Surviv
 use Rattle.sqlite.specs.declared.error.Error.{Error}
 use Rattle.sqlite_trees.specs.declared.store.Store.{Ghosts}
 use Rattle.sqlite_trees.specs.Tree.{Trees}
-use Rattle.gaz_tables.specs.Creating.{Grows, IsBare}
-use Rattle.gaz_tables.specs.Stores.{StaysInside, WasOpen}
+use Rattle.gaz_sql_facts.specs.Changes.{Changes, InPlace}
+use Rattle.gaz_tables.specs.Creating.{Grows}
+use Rattle.gaz_tables.specs.Stores.{HasTables, KeepsTables, StaysInside, WasOpen, WritesInside}
+use Rattle.gaz_tables.proofs.Staying.{stays}
 
 -- ---- a statement
 
@@ -67,12 +68,24 @@ module _ {S A B : Type 0} (g : Ghosts S) (old mid new : Held S) (x : A) (r : Res
     leaves = survives_then (state g old) (state g mid) (state g new) (λ _. ⊥) (λ _. ⊥) (λ _. ⊥) (λ clean db never. never) (λ clean db never. never) first.leaves second.leaves;
   }
 
+  pub tables_then : KeepsTables g old mid (Ok x) → KeepsTables g mid new r → KeepsTables g old new r
+  tables_then one two clean has = two clean (one (clean_before clean) has)
+
   pub grows_then : (has between gets : Schema) → Grows g old mid has between (Ok x) → Grows g mid new between gets r → Grows g old new has gets r
   grows_then has between gets one two clean bare = two clean (one (clean_before clean) bare).0
 
-none_done : {B : Type 0} (P : Type 0) (q : Result B Error) → IsErr q → OnOk q P
+pub none_done : {B : Type 0} (P : Type 0) (q : Result B Error) → IsErr q → OnOk q P
 none_done P (Err e) failed = tt
 none_done P (Ok y) failed = absurd (let no = failed in cc)
+
+-- a statement leaves the tables there
+pub keeps_tables : {S : Type 0} (g : Ghosts S) (old new : Held S) (table : ℕ) (Becomes : List Row → List Row → Type 0) (r : Result ℕ Error)
+    → WritesInside g old new table r Becomes → KeepsTables g old new r
+keeps_tables g old new table Becomes r writes clean has = by_result r (writes clean has)
+  where
+    by_result : (r : Result ℕ Error) → OnOk r (Changes table Becomes (state g old).now (state g new).now × InPlace (state g old) (state g new)) → OnOk r (HasTables (state g new).now)
+    by_result (Err e) h = tt
+    by_result (Ok count) h = (stays table Becomes (state g old).now (state g new).now has h.0).0
 
 module _ {S A B : Type 0} (g : Ghosts S) (old new : Held S) where
   -- what is done answers another value, or a fault
@@ -81,6 +94,21 @@ module _ {S A B : Type 0} (g : Ghosts S) (old new : Held S) where
 
   pub inside_failed : (r : Result A Error) (q : Result B Error) → IsErr q → StaysInside g old new r → StaysInside g old new q
   inside_failed r q failed h = record { goes_on = λ clean. none_done _ q failed; kept = h.kept; leaves = h.leaves }
+
+-- no call is one that is done
+pub inside_still : {S A : Type 0} (g : Ghosts S) (h : Held S) (x : A) → StaysInside g h h (Ok x)
+inside_still g h x = record {
+  goes_on = λ clean. refl;
+  kept = λ clean. record { was_open = λ is_open. is_open; committed = λ is_open. refl };
+  leaves = record {
+    clean = le_refl _;
+    shield = λ same. same;
+    counts = le_refl _;
+    limit = refl;
+    closes = λ clean is_open. inl is_open;
+    crash = λ clean db left. inl left;
+  };
+}
 
 -- ---- a transaction of its own
 

@@ -7,11 +7,11 @@ use Rattle.sqlite.specs.Schema.{Schema}
 use Rattle.sqlite.specs.Held.{Held, state}
 use Rattle.sqlite.specs.State.{State, HasCleanDisk, Survives}
 use Rattle.sqlite_trees.specs.declared.store.Store.{Ghosts}
-use Rattle.gaz_sql_facts.specs.Changes.{IsAdded}
+use Rattle.gaz_sql_facts.specs.Changes.{AreTreesOf, IsAdded}
 use Rattle.gaz_tables.specs.Metas.{meta_row}
 use Rattle.gaz_tables.specs.Schema.{version, received, of_keys, by_blpu, by_street, of_volumes}
 use Rattle.gaz_tables.specs.Schema.{versions, receiveds, metas}
-use Rattle.gaz_tables.specs.Stores.{AreTreesOf, HasTables}
+use Rattle.gaz_tables.specs.Stores.{HasTables}
 
 -- the schema as it grows
 abbrev pub no_schema : Schema

@@ -1,39 +1,64 @@
--- Worked examples: what is found among four rows of `version` and three of `received`, and what a write makes of a row.
-use Rattle.std.specs.Prelude.{◌≡◌, pos, List, [], ◌∷◌, codes, true, false}
+-- Worked examples: what is found among four rows of `version` and three of `received`, and what a
+-- write makes of a row.
+use Rattle.std.specs.Prelude.{◌≡◌, ℕ, ℤ, pos, List, [], ◌∷◌, codes, true, false}
 use Rattle.sqlite.specs.Order.{Row}
 use Rattle.sqlite.specs.declared.types.Value.TheVariants.{Int, Text, Blob}
 use Rattle.gaz_tables.specs.Metas.{meta_row, meta_shown}
 use Rattle.gaz_tables.specs.Receiveds.{FindsAbove, FindsVerdict, file_shown, judged, unjudged}
-use Rattle.gaz_tables.specs.Versions.{Closes, FindsApprovedOf, FindsHolding, FindsNewest, FindsNewestUntil, gone_at, version_values}
+use Rattle.gaz_tables.specs.Versions.{Closes, FindsApprovedOf, FindsHolding, FindsNewest}
+use Rattle.gaz_tables.specs.Versions.{FindsNewestUntil, gone_at, version_values}
 
--- an address of 1001 that was changed at volume 3, a historical one of the same BLPU, and one of 1002
+-- an address of 1001 that was changed at volume 3, a historical one of the same BLPU, and one that
+-- is 1002's
 abbrev pub flat_2 : Row
 flat_2 = Int (pos 1) ∷ version_values 1001 24 (codes "K1") (pos 42) 101 1 true 1 3 (codes "flat 2")
 
 abbrev pub flat_3 : Row
-flat_3 = Int (pos 2) ∷ version_values 1001 24 (codes "K1") (pos 42) 101 1 true 3 1000000 (codes "flat 3")
+flat_3 = Int (pos 2)
+    ∷ version_values 1001 24 (codes "K1") (pos 42) 101 1 true 3 1000000 (codes "flat 3")
 
 abbrev pub shop : Row
-shop = Int (pos 3) ∷ version_values 1001 24 (codes "K2") (pos 42) 101 2 false 2 1000000 (codes "shop")
+shop = Int (pos 3)
+    ∷ version_values 1001 24 (codes "K2") (pos 42) 101 2 false 2 1000000 (codes "shop")
 
 abbrev pub house : Row
-house = Int (pos 4) ∷ version_values 1002 24 (codes "K1") (pos 42) 101 1 true 1 1000000 (codes "house")
+house = Int (pos 4)
+    ∷ version_values 1002 24 (codes "K1") (pos 42) 101 1 true 1 1000000 (codes "house")
 
 abbrev pub four_rows : List Row
 four_rows = flat_2 ∷ flat_3 ∷ shop ∷ house ∷ []
 
-pub record WorkedVersions : Type 0 where
-  pub newest : FindsNewest 1001 24 (codes "K1") four_rows ((Int (pos 3) ∷ Int (pos 1000000) ∷ Text (codes "flat 3") ∷ []) ∷ [])
-  pub not_the_oldest : ¬ FindsNewest 1001 24 (codes "K1") four_rows ((Int (pos 1) ∷ Int (pos 3) ∷ Text (codes "flat 2") ∷ []) ∷ [])
-  pub until_2 : FindsNewestUntil 1001 24 (codes "K1") 2 four_rows ((Int (pos 1) ∷ Int (pos 3) ∷ Text (codes "flat 2") ∷ []) ∷ [])
-  pub of_no_key : FindsNewest 1001 24 (codes "K3") four_rows []
-  pub approved : FindsApprovedOf 1001 (pos 42) four_rows ((Text (codes "K1") ∷ Text (codes "flat 3") ∷ []) ∷ [])
-  pub first_of_two : FindsHolding 1001 24 [] 2 1 four_rows ((Text (codes "K1") ∷ Text (codes "flat 2") ∷ []) ∷ [])
-  pub behind_the_first : FindsHolding 1001 24 (codes "K1") 2 1 four_rows ((Text (codes "K2") ∷ Text (codes "shop") ∷ []) ∷ [])
-  pub closed : Closes 1001 24 (codes "K1") 3 5 (flat_3 ∷ house ∷ []) (gone_at 5 flat_3 ∷ house ∷ [])
-  pub closed_row : gone_at 5 flat_3 ≡ Int (pos 2) ∷ version_values 1001 24 (codes "K1") (pos 42) 101 1 true 3 5 (codes "flat 3")
+-- what is answered: one row of these values
+abbrev pub one : Row → List Row
+one values = values ∷ []
 
--- volumes 1 and 3 of 1001, of which the first is rejected at record 4 by rule 22, and volume 1 of 1002
+abbrev pub as_life : ℤ → ℤ → List ℕ → Row
+as_life born gone body = Int born ∷ Int gone ∷ Text body ∷ []
+
+abbrev pub as_body : List ℕ → List ℕ → Row
+as_body id body = Text id ∷ Text body ∷ []
+
+pub record WorkedVersions : Type 0 where
+  pub newest : FindsNewest 1001 24 (codes "K1") four_rows
+      (one (as_life (pos 3) (pos 1000000) (codes "flat 3")))
+  pub not_the_oldest : ¬ FindsNewest 1001 24 (codes "K1") four_rows
+      (one (as_life (pos 1) (pos 3) (codes "flat 2")))
+  pub until_2 : FindsNewestUntil 1001 24 (codes "K1") 2 four_rows
+      (one (as_life (pos 1) (pos 3) (codes "flat 2")))
+  pub of_no_key : FindsNewest 1001 24 (codes "K3") four_rows []
+  pub approved : FindsApprovedOf 1001 (pos 42) four_rows
+      (one (as_body (codes "K1") (codes "flat 3")))
+  pub first_of_two : FindsHolding 1001 24 [] 2 1 four_rows
+      (one (as_body (codes "K1") (codes "flat 2")))
+  pub behind_the_first : FindsHolding 1001 24 (codes "K1") 2 1 four_rows
+      (one (as_body (codes "K2") (codes "shop")))
+  pub closed : Closes 1001 24 (codes "K1") 3 5
+      (flat_3 ∷ house ∷ []) (gone_at 5 flat_3 ∷ house ∷ [])
+  pub closed_row : gone_at 5 flat_3
+      ≡ Int (pos 2) ∷ version_values 1001 24 (codes "K1") (pos 42) 101 1 true 3 5 (codes "flat 3")
+
+-- volumes 1 and 3 of 1001, of which the first is rejected at record 4 by rule 22, and volume 2 of
+-- 1002
 abbrev pub rejected_1 : Row
 rejected_1 = judged 2 (pos 4) 22 (Int (pos 1) ∷ unjudged 1001 1 (codes "one"))
 
@@ -47,11 +72,13 @@ abbrev pub three_files : List Row
 three_files = rejected_1 ∷ held_3 ∷ of_1002 ∷ []
 
 pub record WorkedReceiveds : Type 0 where
-  pub verdict : FindsVerdict 1001 1 three_files ((Int (pos 2) ∷ Int (pos 4) ∷ Int (pos 22) ∷ []) ∷ [])
+  pub verdict : FindsVerdict 1001 1 three_files
+      (one (Int (pos 2) ∷ Int (pos 4) ∷ Int (pos 22) ∷ []))
   pub of_no_volume : FindsVerdict 1001 2 three_files []
   pub above_1 : FindsAbove 1001 1 9 three_files ((Int (pos 3) ∷ []) ∷ [])
   pub file : file_shown held_3 ≡ Blob (codes "three") ∷ Int (pos 0) ∷ Int (pos 0) ∷ Int (pos 0) ∷ []
-  pub meta : meta_shown (meta_row 1 (codes "register")) ≡ Int (pos 1) ∷ Int (pos 1) ∷ Text (codes "register") ∷ []
+  pub meta : meta_shown (meta_row 1 (codes "register"))
+      ≡ Int (pos 1) ∷ Int (pos 1) ∷ Text (codes "register") ∷ []
 
 pub record WorkedExamples : Type 0 where
   pub on_versions : WorkedVersions

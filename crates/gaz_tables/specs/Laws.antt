@@ -13,18 +13,23 @@ use Rattle.gaz_tables.specs.Versions.{IsOfBirth}
 -- no two rows of one key are born in one volume
 abbrev pub BornOnce : Type 0
 BornOnce = (db : Database) (cust kind : ℕ) (id : List ℕ) (born : ℕ) (r s : Row) → HasTables db
-    → Has (db.trees versions) r → Has (db.trees versions) s → IsOfBirth cust kind id born r → IsOfBirth cust kind id born s → s ≡ r
+    → Has (db.trees versions) r → Has (db.trees versions) s → IsOfBirth cust kind id born r
+    → IsOfBirth cust kind id born s → s ≡ r
 
 -- no volume is received twice
 abbrev pub ReceivedOnce : Type 0
 ReceivedOnce = (db : Database) (cust volume : ℕ) (r s : Row) → HasTables db
-    → Has (db.trees receiveds) r → Has (db.trees receiveds) s → IsVolume cust volume r → IsVolume cust volume s → s ≡ r
+    → Has (db.trees receiveds) r → Has (db.trees receiveds) s → IsVolume cust volume r
+    → IsVolume cust volume s → s ≡ r
 
 -- the table becomes any rows
 abbrev pub BecomesAny : List Row → List Row → Type 0
 BecomesAny old new = Unit {0}
 
--- where a table's rows become others, the database still is of the three tables, and the other two have the same rows
+-- where a table's rows become others, the database still is of the three tables, and the other two
+-- have the same rows
 abbrev pub TablesStay : Type 0
 TablesStay = (tree : ℕ) (old new : Database) → HasTables old → Changes tree BecomesAny old new
-    → HasTables new × ((t : Table) → Has store_schema.tables t → t.tree ≢ tree → new.trees t.tree ≡ old.trees t.tree)
+    → HasTables new
+    × ((t : Table) → Has store_schema.tables t → t.tree ≢ tree
+    → new.trees t.tree ≡ old.trees t.tree)

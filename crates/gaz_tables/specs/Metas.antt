@@ -40,4 +40,5 @@ AddsMeta number register old new = IsAdded (meta_row number register) old new
 
 -- the rows, with this number and register in that of id 1
 abbrev pub Rewrites : ℕ → List ℕ → List Row → List Row → Type 0
-Rewrites number register old new = IsChanged IsFirst (λ r. id_of r ∷ Null ∷ Int (pos number) ∷ Text register ∷ []) old new
+Rewrites number register old new =
+    IsChanged IsFirst (λ r. id_of r ∷ Null ∷ Int (pos number) ∷ Text register ∷ []) old new

@@ -74,11 +74,13 @@ AtMostOne rows answer = length answer ≤ 1
 
 -- the values of a row that nobody has judged
 abbrev pub unjudged : ℕ → ℕ → List ℕ → Row
-unjudged cust volume bytes = Int (pos cust) ∷ Int (pos volume) ∷ Blob bytes ∷ Int (pos 0) ∷ Int (pos 0) ∷ Int (pos 0) ∷ []
+unjudged cust volume bytes =
+    Int (pos cust) ∷ Int (pos volume) ∷ Blob bytes ∷ Int (pos 0) ∷ Int (pos 0) ∷ Int (pos 0) ∷ []
 
 -- the row, judged
 abbrev pub judged : ℕ → ℤ → ℕ → Row → Row
-judged state place rule r = column r 0 ∷ cust_of r ∷ volume_of r ∷ bytes_of r ∷ Int (pos state) ∷ Int place ∷ Int (pos rule) ∷ []
+judged state place rule r = column r 0 ∷ cust_of r ∷ volume_of r ∷ bytes_of r ∷ Int (pos state)
+    ∷ Int place ∷ Int (pos rule) ∷ []
 
 -- the rows, and that of a volume is applied
 abbrev pub Applies : ℕ → ℕ → List Row → List Row → Type 0
@@ -86,4 +88,5 @@ Applies cust volume old new = IsChanged (IsVolume cust volume) (judged 1 (pos 0)
 
 -- the rows, and that of a volume is rejected at a place by a rule
 abbrev pub Rejects : ℕ → ℕ → ℤ → ℕ → List Row → List Row → Type 0
-Rejects cust volume place rule old new = IsChanged (IsVolume cust volume) (judged 2 place rule) old new
+Rejects cust volume place rule old new =
+    IsChanged (IsVolume cust volume) (judged 2 place rule) old new

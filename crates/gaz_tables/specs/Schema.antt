@@ -35,13 +35,20 @@ unfoldable pub version_checks : List Term
 version_checks = checks_of (table_defined_by version_text)
 
 abbrev pub version_columns : List Column
-version_columns = required (codes "cust") Integer ∷ required (codes "kind") Integer ∷ required (codes "id") Text ∷ required (codes "blpu") Integer ∷ required (codes "street") Integer ∷ required (codes "lang") Integer ∷ required (codes "live") Integer ∷ required (codes "born") Integer ∷ required (codes "gone") Integer ∷ required (codes "body") Text ∷ []
+version_columns = required (codes "cust") Integer ∷ required (codes "kind") Integer
+    ∷ required (codes "id") Text ∷ required (codes "blpu") Integer
+    ∷ required (codes "street") Integer ∷ required (codes "lang") Integer
+    ∷ required (codes "live") Integer ∷ required (codes "born") Integer
+    ∷ required (codes "gone") Integer ∷ required (codes "body") Text ∷ []
 
 abbrev pub received_columns : List Column
-received_columns = required (codes "cust") Integer ∷ required (codes "volume") Integer ∷ required (codes "bytes") Blob ∷ required (codes "state") Integer ∷ required (codes "place") Integer ∷ required (codes "rule") Integer ∷ []
+received_columns = required (codes "cust") Integer ∷ required (codes "volume") Integer
+    ∷ required (codes "bytes") Blob ∷ required (codes "state") Integer
+    ∷ required (codes "place") Integer ∷ required (codes "rule") Integer ∷ []
 
 abbrev pub meta_columns : List Column
-meta_columns = required (codes "id") Integer ∷ required (codes "number") Integer ∷ required (codes "register") Text ∷ []
+meta_columns = required (codes "id") Integer ∷ required (codes "number") Integer
+    ∷ required (codes "register") Text ∷ []
 
 -- where the tables stand
 abbrev pub versions : ℕ
@@ -64,7 +71,14 @@ abbrev pub meta : Table
 meta = keyed (Some 0) (codes "meta") metas meta_columns (0 ∷ []) [] []
 
 abbrev pub index_of : List ℕ → ℕ → List ℕ → Index
-index_of name tree columns = record { name = name; tree = tree; table = versions; columns = columns; order = record { digits = 0 }; is_unique = false }
+index_of name tree columns = record {
+  name = name;
+  tree = tree;
+  table = versions;
+  columns = columns;
+  order = record { digits = 0 };
+  is_unique = false;
+}
 
 -- the indexes, in the order in which they are made
 abbrev pub of_keys : Index

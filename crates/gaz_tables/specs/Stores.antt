@@ -9,10 +9,9 @@ use Rattle.sqlite.specs.Effect.{Database, IsDatabase}
 use Rattle.sqlite.specs.Held.{Held, state}
 use Rattle.sqlite.specs.State.{State, HasCleanDisk, IsUnchanged, KeepsCommit, Survives}
 use Rattle.sqlite.specs.View.{IsShaped}
-use Rattle.sqlite_trees.specs.Tree.{Trees}
 use Rattle.sqlite_trees.specs.declared.store.Store.{Ghosts}
 use Rattle.sqlite_trees.specs.declared.store.Shape.TheVariants as shape
-use Rattle.gaz_sql_facts.specs.Changes.{Changes, InPlace, IsAdded, IsSpared, IsUndone}
+use Rattle.gaz_sql_facts.specs.Changes.{AreTreesOf, Changes, InPlace, IsAdded, IsSpared, IsUndone}
 use Rattle.gaz_tables.specs.Schema.{store_schema, versions, receiveds, metas}
 
 -- the database is one of the three tables, in order
@@ -27,14 +26,12 @@ pub record HasTables (db : Database) : Type 0 where
 abbrev pub AddsRow : Row → List Row → List Row → Type 0
 AddsRow values old new = IsAdded (Int (next_rowid old) ∷ values) old new
 
--- the trees are those of such a database
-abbrev pub AreTreesOf : (Database → Type 0) → Trees → Type 0
-AreTreesOf Is trees = (db : Database) × (trees ≡ db.trees) × Is db
-
 -- a call within a transaction, whatever tables there are; `g` shows the state of its connection
-pub record StaysInside {S A : Type 0} (g : Ghosts S) (before after : Held S) (result : Result A Error) : Type 0 where
+pub record StaysInside {S A : Type 0} (g : Ghosts S) (before after : Held S)
+    (result : Result A Error) : Type 0 where
   -- one that is done leaves the transaction open
-  pub goes_on : HasCleanDisk (state g after) → OnOk result (after.in_transaction ≡ before.in_transaction)
+  pub goes_on : HasCleanDisk (state g after)
+      → OnOk result (after.in_transaction ≡ before.in_transaction)
   -- whatever came, nothing is committed
   pub kept : HasCleanDisk (state g after) → KeepsCommit (state g before) (state g after)
   -- so a stop may leave what it could before and nothing else
@@ -77,12 +74,17 @@ module _ {S : Type 0} (g : Ghosts S) (before after : Held S) where
 
   -- a fault changes nothing or ends the transaction
   abbrev pub SparesInside : Result ℕ Error → Type 0
-  SparesInside result = HasCleanDisk new → IsTrue old.in_transaction → OnErr result (IsSpared old new)
+  SparesInside result =
+      HasCleanDisk new → IsTrue old.in_transaction → OnErr result (IsSpared old new)
 
   -- the table's rows become others
   abbrev pub WritesInside : ℕ → Result ℕ Error → (List Row → List Row → Type 0) → Type 0
   WritesInside table result Becomes = HasCleanDisk new → HasTables old.now
       → OnOk result (Changes table Becomes old.now new.now × InPlace old new)
+
+  -- the database stays one of the three tables
+  abbrev pub KeepsTables : {A : Type 0} → Result A Error → Type 0
+  KeepsTables result = HasCleanDisk new → HasTables old.now → OnOk result (HasTables new.now)
 
   -- ---- in a transaction of its own
 

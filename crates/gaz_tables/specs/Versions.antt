@@ -121,15 +121,18 @@ id_shown r = id_of r ∷ []
 
 -- the key's row that was born last, or nothing
 abbrev pub FindsNewest : ℕ → ℕ → List ℕ → List Row → List Row → Type 0
-FindsNewest cust kind id rows answer = ShowsGreatest (IsOfKey cust kind id) born_place life_shown rows answer
+FindsNewest cust kind id rows answer =
+    ShowsGreatest (IsOfKey cust kind id) born_place life_shown rows answer
 
 -- the key's row that was born last until a volume, or nothing
 abbrev pub FindsNewestUntil : ℕ → ℕ → List ℕ → ℕ → List Row → List Row → Type 0
-FindsNewestUntil cust kind id volume rows answer = ShowsGreatest (IsOfKeyUntil cust kind id volume) born_place life_shown rows answer
+FindsNewestUntil cust kind id volume rows answer =
+    ShowsGreatest (IsOfKeyUntil cust kind id volume) born_place life_shown rows answer
 
 -- the rows of a kind that hold after a volume, behind an id and as ids rise: the first so many
 abbrev pub FindsHolding : ℕ → ℕ → List ℕ → ℕ → ℕ → List Row → List Row → Type 0
-FindsHolding cust kind after volume most rows answer = ShowsPage (IsHolding cust kind after volume) id_place most body_shown rows answer
+FindsHolding cust kind after volume most rows answer =
+    ShowsPage (IsHolding cust kind after volume) id_place most body_shown rows answer
 
 -- the approved rows of a BLPU
 abbrev pub FindsApprovedOf : ℕ → ℤ → List Row → List Row → Type 0
@@ -137,16 +140,19 @@ FindsApprovedOf cust blpu rows answer = ShowsAll (IsApprovedOf cust blpu) body_s
 
 -- the approved rows on a street, behind an id and as ids rise: the first so many
 abbrev pub FindsApprovedOn : ℕ → ℕ → List ℕ → ℕ → List Row → List Row → Type 0
-FindsApprovedOn cust street after most rows answer = ShowsPage (IsApprovedOn cust street after) id_place most lang_shown rows answer
+FindsApprovedOn cust street after most rows answer =
+    ShowsPage (IsApprovedOn cust street after) id_place most lang_shown rows answer
 
 -- the parts of a BLPU, behind an id and as ids rise: the first so many
 abbrev pub FindsParts : ℕ → ℤ → List ℕ → ℕ → List Row → List Row → Type 0
-FindsParts cust blpu after most rows answer = ShowsPage (IsPartOf cust blpu after) id_place most id_shown rows answer
+FindsParts cust blpu after most rows answer =
+    ShowsPage (IsPartOf cust blpu after) id_place most id_shown rows answer
 
 -- the values of a row
 abbrev pub version_values : ℕ → ℕ → List ℕ → ℤ → ℕ → ℕ → Bool → ℕ → ℕ → List ℕ → Row
 version_values cust kind id blpu street lang live born gone body =
-    Int (pos cust) ∷ Int (pos kind) ∷ Text id ∷ Int blpu ∷ Int (pos street) ∷ Int (pos lang) ∷ Int (if live then pos 1 else pos 0) ∷ Int (pos born) ∷ Int (pos gone) ∷ Text body ∷ []
+    Int (pos cust) ∷ Int (pos kind) ∷ Text id ∷ Int blpu ∷ Int (pos street) ∷ Int (pos lang)
+    ∷ Int (if live then pos 1 else pos 0) ∷ Int (pos born) ∷ Int (pos gone) ∷ Text body ∷ []
 
 -- the row of a key that was born in a volume
 pub record IsOfBirth (cust kind : ℕ) (id : List ℕ) (born : ℕ) (r : Row) : Type 0 where
@@ -156,8 +162,10 @@ pub record IsOfBirth (cust kind : ℕ) (id : List ℕ) (born : ℕ) (r : Row) : 
 -- the row, gone at a volume
 abbrev pub gone_at : ℕ → Row → Row
 gone_at volume r =
-    column r 0 ∷ cust_of r ∷ kind_of r ∷ id_of r ∷ blpu_of r ∷ street_of r ∷ lang_of r ∷ live_of r ∷ born_of r ∷ Int (pos volume) ∷ body_of r ∷ []
+    column r 0 ∷ cust_of r ∷ kind_of r ∷ id_of r ∷ blpu_of r ∷ street_of r ∷ lang_of r ∷ live_of r
+    ∷ born_of r ∷ Int (pos volume) ∷ body_of r ∷ []
 
 -- the rows, and the one of this birth is gone at a volume
 abbrev pub Closes : ℕ → ℕ → List ℕ → ℕ → ℕ → List Row → List Row → Type 0
-Closes cust kind id born gone old new = IsChanged (IsOfBirth cust kind id born) (gone_at gone) old new
+Closes cust kind id born gone old new =
+    IsChanged (IsOfBirth cust kind id born) (gone_at gone) old new

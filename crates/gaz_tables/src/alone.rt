@@ -1,4 +1,5 @@
-//! Single statements that write, each in a transaction of its own. It is over when the call returns.
+//! Single statements that write, each in a transaction of its own, which is over when the call
+//! returns.
 ghost use Rattle.std.specs.Prelude.{◌≡◌, false, OnOk};
 ghost use Rattle.sqlite.specs.Held.{state};
 ghost use Rattle.gaz_sql_facts.specs.Changes.{LeavesTheCommit};

@@ -3,7 +3,8 @@ ghost use Rattle.std.specs.Prelude.{◌≡◌, false, OnOk};
 ghost use Rattle.sqlite.specs.Held.{state};
 ghost use Rattle.gaz_sql_facts.specs.Changes.{LeavesTheCommit};
 ghost use Rattle.gaz_tables.specs.Creating.{Creates, Furnishes, Grows, MayCreate, no_schema};
-ghost use Rattle.gaz_tables.specs.Creating.{with_by_blpu, with_by_street, with_received, with_version};
+ghost use Rattle.gaz_tables.specs.Creating.{with_by_blpu, with_by_street, with_received};
+ghost use Rattle.gaz_tables.specs.Creating.{with_version};
 ghost use Rattle.gaz_tables.specs.Schema.{store_schema};
 ghost use Rattle.gaz_tables.specs.Stores.{StaysInside, Undoes, WasOpen};
 

@@ -4,7 +4,8 @@ ghost use Rattle.std.specs.Prelude.{◌≡◌, false};
 ghost use Rattle.gaz_tables.specs.Stores.{AddsRow, Finds, LeavesAsBefore, Spares, SparesInside};
 ghost use Rattle.gaz_tables.specs.Stores.{Stays, StaysInside, WasOpen, WritesInside};
 ghost use Rattle.gaz_tables.specs.Versions.{Closes, FindsApprovedOf, FindsApprovedOn, FindsHolding};
-ghost use Rattle.gaz_tables.specs.Versions.{FindsNewest, FindsNewestUntil, FindsParts, version_values};
+ghost use Rattle.gaz_tables.specs.Versions.{FindsNewest, FindsNewestUntil, FindsParts};
+ghost use Rattle.gaz_tables.specs.Versions.{version_values};
 
 use sqlite::{Alter, Connection, Error, Row, Transaction, params};
 
@@ -28,7 +29,8 @@ pub fn newest<S: Alter>(
     )
 }
 
-/// `born`, `gone` and `body` of the newest row of a key that was born in a volume or before, or no row.
+/// `born`, `gone` and `body` of the newest row of a key that was born in a volume or before, or no
+/// row.
 pub fn newest_until<S: Alter>(
     conn: &mut Connection<S>,
     cust: u32,
@@ -50,7 +52,8 @@ pub fn newest_until<S: Alter>(
     )
 }
 
-/// `id` and `body` of the rows of a kind that hold after a volume, behind an id, by rising ids: at most so many.
+/// `id` and `body` of the rows of a kind that hold after a volume, behind an id, by rising ids: at
+/// most so many.
 pub fn holding<S: Alter>(
     conn: &mut Connection<S>,
     cust: u32,
@@ -93,7 +96,8 @@ pub fn approved_of<S: Alter>(
     )
 }
 
-/// `id` and `lang` of the current rows of kind 24 that are live and on this street, behind an id, by rising ids: at most so many.
+/// `id` and `lang` of the current rows of kind 24 that are live and on this street, behind an id,
+/// by rising ids: at most so many.
 pub fn approved_on<S: Alter>(
     conn: &mut Connection<S>,
     cust: u32,
@@ -115,7 +119,8 @@ pub fn approved_on<S: Alter>(
     )
 }
 
-/// `id` of the current rows of kind 21 that have this `blpu`, behind an id, by rising ids: at most so many.
+/// `id` of the current rows of kind 21 that have this `blpu`, behind an id, by rising ids: at most
+/// so many.
 pub fn parts_of<S: Alter>(
     conn: &mut Connection<S>,
     cust: u32,
