@@ -1,5 +1,4 @@
 //! Times how rows are found: by key, by what they name, and page by page.
-ghost use Rattle.std.specs.Prelude.{◌≡◌, false};
 
 use crate::timing::{ADDRESS, CUST, scattered, tell};
 use anyhow::Result;
@@ -27,10 +26,7 @@ fn found<S: Alter>(
     conn: &mut Connection<S>,
     by: By,
     place: u32,
-) -> Result<usize, Error>
-    requires { conn.old.in_transaction ≡ false }
-    ensures { conn.new.in_transaction ≡ false }
-{
+) -> Result<usize, Error> {
     let id = format!(in alloc; "{place:012}")?;
     let blpu = i64::from(place);
     let rows = match by {
@@ -48,10 +44,7 @@ fn time_by<S: Alter>(
     name: &str,
     by: By,
     count: u32,
-) -> Result<()>
-    requires { conn.old.in_transaction ≡ false }
-    ensures { conn.new.in_transaction ≡ false }
-{
+) -> Result<()> {
     let mut rows = 0u64;
     let start = Instant::now(rt)?;
     for turn in 0..CALLS {
@@ -62,19 +55,13 @@ fn time_by<S: Alter>(
 }
 
 /// Times how the rows of keys are found.
-pub fn time_keys<S: Alter>(rt: &HostRuntime, conn: &mut Connection<S>, count: u32) -> Result<()>
-    requires { conn.old.in_transaction ≡ false }
-    ensures { conn.new.in_transaction ≡ false }
-{
+pub fn time_keys<S: Alter>(rt: &HostRuntime, conn: &mut Connection<S>, count: u32) -> Result<()> {
     time_by(rt, conn, "newest", By::Newest, count)?;
     time_by(rt, conn, "newest_until", By::NewestUntil, count)
 }
 
 /// Times how the rows of BLPUs and streets are found.
-pub fn time_links<S: Alter>(rt: &HostRuntime, conn: &mut Connection<S>, count: u32) -> Result<()>
-    requires { conn.old.in_transaction ≡ false }
-    ensures { conn.new.in_transaction ≡ false }
-{
+pub fn time_links<S: Alter>(rt: &HostRuntime, conn: &mut Connection<S>, count: u32) -> Result<()> {
     time_by(rt, conn, "approved_of", By::Blpu, count)?;
     time_by(rt, conn, "approved_on", By::Street, count)
 }
@@ -88,10 +75,7 @@ fn last_id(rows: &[Row]) -> Result<Option<String>, Error> {
 }
 
 /// Times a page after another, to the end.
-pub fn time_pages<S: Alter>(rt: &HostRuntime, conn: &mut Connection<S>, count: u32) -> Result<()>
-    requires { conn.old.in_transaction ≡ false }
-    ensures { conn.new.in_transaction ≡ false }
-{
+pub fn time_pages<S: Alter>(rt: &HostRuntime, conn: &mut Connection<S>, count: u32) -> Result<()> {
     let (mut pages, mut rows, mut after) = (0u32, 0u64, String::new(rt.alloc()));
     let start = Instant::now(rt)?;
     for _ in 0..=count / PAGE {

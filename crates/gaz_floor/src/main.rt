@@ -3,11 +3,10 @@
 //! nanoseconds of all. The file is a new one, or an empty database, whose page size then counts.
 #![tactic(auto)]
 
-ghost use Rattle.std.specs.Prelude.{◌≡◌, false, IfOk};
-
 mod asking;
 mod filling;
 mod marking;
+mod resting;
 mod timing;
 
 use anyhow::{Context, Result};
@@ -16,9 +15,7 @@ use sqlite::{Alter, Connection, Error, ErrorCode, File, FileStore, Options, Unkn
 use std::env;
 
 // A connection to the file at this path, with a cache of so many pages.
-fn open(rt: &HostRuntime, path: &str, pages: usize) -> Result<Connection<FileStore<File>>, Error>
-    ensures { IfOk result (λ conn. conn.in_transaction ≡ false) }
-{
+fn open(rt: &HostRuntime, path: &str, pages: usize) -> Result<Connection<FileStore<File>>, Error> {
     let Ok(files) = sqlite_std_file::open(rt, path, Unknown) else {
         return Err(Error::SqliteFailure(ErrorCode::CannotOpen));
     };
@@ -30,17 +27,31 @@ fn open(rt: &HostRuntime, path: &str, pages: usize) -> Result<Connection<FileSto
     }
 }
 
+// Makes the tables.
+fn furnish<S: Alter>(conn: &mut Connection<S>) -> Result<(), Error> {
+    resting::rests(conn)?;
+    create(conn, 1, "register")
+}
+
 // Times each statement over so many rows.
-fn time_all<S: Alter>(rt: &HostRuntime, conn: &mut Connection<S>, count: u32) -> Result<()>
-    requires { conn.old.in_transaction ≡ false }
-{
-    create(conn, 1, "register")?;
+fn time_all<S: Alter>(rt: &HostRuntime, conn: &mut Connection<S>, count: u32) -> Result<()> {
+    furnish(conn)?;
     filling::time_inserts(rt, conn, count)?;
     asking::time_keys(rt, conn, count)?;
     asking::time_links(rt, conn, count)?;
     asking::time_pages(rt, conn, count)?;
     filling::time_closes(rt, conn, count)?;
     marking::time_files(rt, conn)
+}
+
+fn time_over<S: Alter + Drop>(rt: &HostRuntime, mut conn: Connection<S>, count: u32) -> Result<()> {
+    time_all(rt, &mut conn, count)
+}
+
+// The one function that names the kind of the store: each such costs the proof a minute.
+fn time_file(rt: &HostRuntime, path: &str, count: u32, pages: usize) -> Result<()> {
+    let conn = open(rt, path, pages)?;
+    time_over(rt, conn, count)
 }
 
 fn main(rt: HostRuntime) -> Result<()> {
@@ -50,6 +61,5 @@ fn main(rt: HostRuntime) -> Result<()> {
     };
     let count = words.next().context("a number of rows")?.parse::<u32>()?;
     let pages = words.next().context("a number of pages")?.parse::<usize>()?;
-    let mut conn = open(&rt, &path, pages)?;
-    time_all(&rt, &mut conn, count)
+    time_file(&rt, &path, count, pages)
 }

@@ -1,42 +1,43 @@
 //! Times how files are received and marked, each in a transaction of its own.
-ghost use Rattle.std.specs.Prelude.{◌≡◌, false};
 
+use crate::resting::rests;
 use crate::timing::{CUST, tell};
 use anyhow::Result;
 use gaz_tables::{alone, receiveds};
-use sqlite::{Alter, Connection};
+use sqlite::{Alter, Connection, Error};
 use std::time::Instant;
 
 const FILES: u32 = 200;
 
 const BYTES: &[u8; 100] = &[b'A'; 100];
 
-fn time_receiving<S: Alter>(rt: &HostRuntime, conn: &mut Connection<S>) -> Result<()>
-    requires { conn.old.in_transaction ≡ false }
-    ensures { conn.new.in_transaction ≡ false }
-{
+fn receive<S: Alter>(conn: &mut Connection<S>, volume: u32) -> Result<(), Error> {
+    rests(conn)?;
+    alone::receive(conn, CUST, volume, BYTES)
+}
+
+fn reject<S: Alter>(conn: &mut Connection<S>, volume: u32) -> Result<(), Error> {
+    rests(conn)?;
+    alone::reject(conn, CUST, volume, &3, 4)
+}
+
+fn time_receiving<S: Alter>(rt: &HostRuntime, conn: &mut Connection<S>) -> Result<()> {
     let start = Instant::now(rt)?;
     for turn in 0..FILES {
-        alone::receive(conn, CUST, turn, BYTES)?;
+        receive(conn, turn)?;
     }
     tell(rt, "receive", FILES, u64::from(FILES), start)
 }
 
-fn time_marking<S: Alter>(rt: &HostRuntime, conn: &mut Connection<S>) -> Result<()>
-    requires { conn.old.in_transaction ≡ false }
-    ensures { conn.new.in_transaction ≡ false }
-{
+fn time_marking<S: Alter>(rt: &HostRuntime, conn: &mut Connection<S>) -> Result<()> {
     let start = Instant::now(rt)?;
     for turn in 0..FILES {
-        alone::reject(conn, CUST, turn, &3, 4)?;
+        reject(conn, turn)?;
     }
     tell(rt, "reject", FILES, u64::from(FILES), start)
 }
 
-fn time_verdicts<S: Alter>(rt: &HostRuntime, conn: &mut Connection<S>) -> Result<()>
-    requires { conn.old.in_transaction ≡ false }
-    ensures { conn.new.in_transaction ≡ false }
-{
+fn time_verdicts<S: Alter>(rt: &HostRuntime, conn: &mut Connection<S>) -> Result<()> {
     let mut rows = 0u64;
     let start = Instant::now(rt)?;
     for turn in 0..FILES {
@@ -47,9 +48,7 @@ fn time_verdicts<S: Alter>(rt: &HostRuntime, conn: &mut Connection<S>) -> Result
 }
 
 /// Times how files are received, rejected and asked for.
-pub fn time_files<S: Alter>(rt: &HostRuntime, conn: &mut Connection<S>) -> Result<()>
-    requires { conn.old.in_transaction ≡ false }
-{
+pub fn time_files<S: Alter>(rt: &HostRuntime, conn: &mut Connection<S>) -> Result<()> {
     time_receiving(rt, conn)?;
     time_marking(rt, conn)?;
     time_verdicts(rt, conn)
