@@ -2,7 +2,11 @@
 #![tactic(auto)]
 
 #[cfg(test)]
+mod asking;
+#[cfg(test)]
 mod fixtures;
+#[cfg(test)]
+mod on_files;
 #[cfg(test)]
 mod plans;
 #[cfg(test)]
