@@ -33,7 +33,7 @@ use Rattle.gaz_store.proofs.Statements.{not_none, read_from, read_in, some_same,
 abbrev entries : List Row → List ((ℕ × ℕ) × List ℕ)
 entries rows = map file_in rows
 
-single_files : (rows : List Row) → AreFiles rows → AreSingle (entries rows)
+pub single_files : (rows : List Row) → AreFiles rows → AreSingle (entries rows)
 single_files rows are k x y hx hy =
     let r = has_mapped file_in rows (k, x) hx in
     let s = has_mapped file_in rows (k, y) hy in
@@ -45,12 +45,12 @@ abbrev beside : ℕ → Verdict → ℕ × Verdict
 beside n v = (n, v)
 
 -- a judged volume and its row
-record Said (c : ℕ) (r : Row) (k : ℕ) (x : Verdict) : Type 0 where
-  custodian : custodian_in r ≡ c
-  volume : volume_in r ≡ k
-  verdict : verdict_in r ≡ Some x
+pub record Said (c : ℕ) (r : Row) (k : ℕ) (x : Verdict) : Type 0 where
+  pub custodian : custodian_in r ≡ c
+  pub volume : volume_in r ≡ k
+  pub verdict : verdict_in r ≡ Some x
 
-said_by : (c : ℕ) (r : Row) (k : ℕ) (x : Verdict) → judged_in c r ≡ Some (k, x) → Said c r k x
+pub said_by : (c : ℕ) (r : Row) (k : ℕ) (x : Verdict) → judged_in c r ≡ Some (k, x) → Said c r k x
 said_by c r k x is = by_test (custodian_in r == c) refl is
   where
     by_verdict : (custodian_in r == c) ≡ true → (o : Option Verdict) → verdict_in r ≡ o → option_map (beside (volume_in r)) o ≡ Some (k, x) → Said c r k x
@@ -63,7 +63,7 @@ said_by c r k x is = by_test (custodian_in r == c) refl is
     by_test true t e = by_verdict t (verdict_in r) refl e
     by_test false t e = not_none (k, x) e refl
 
-said_as : (c : ℕ) (r : Row) (k : ℕ) (x : Verdict) → Said c r k x → judged_in c r ≡ Some (k, x)
+pub said_as : (c : ℕ) (r : Row) (k : ℕ) (x : Verdict) → Said c r k x → judged_in c r ≡ Some (k, x)
 said_as c r k x s =
     ap (λ b. cond b (option_map (beside (volume_in r)) (verdict_in r)) None) (eq-eqb (custodian_in r) c s.custodian)
     ∙ (λ i. option_map (beside (s.volume i)) (s.verdict i))
@@ -72,7 +72,7 @@ said_as c r k x s =
 abbrev judgements_of : ℕ → List Row → List (ℕ × Verdict)
 judgements_of c rows = filter_map (judged_in c) rows
 
-single_judged : (rows : List Row) → AreFiles rows → (c : ℕ) → AreSingle (judgements_of c rows)
+pub single_judged : (rows : List Row) → AreFiles rows → (c : ℕ) → AreSingle (judgements_of c rows)
 single_judged rows are c k x y hx hy =
     let r = read_from (judged_in c) rows (k, x) hx in
     let s = read_from (judged_in c) rows (k, y) hy in

@@ -59,7 +59,7 @@ module _ {K : Type 0} {R : K → K → Ordering} (o : IsTotalOrder R) (same : Is
         by_tie behind true t is = let v : e.1 ≡ x = cc in inl (λ i. (tied q e.0 t i, sym v i))
         by_tie behind false t is = inr (behind is)
 
-    listed : (q : K) (es : List (K × X)) (x : X) → Has es (q, x) → (y : X) × (find R q es ≡ Some y)
+    pub listed : (q : K) (es : List (K × X)) (x : X) → Has es (q, x) → (y : X) × (find R q es ≡ Some y)
     listed q [] x h = absurd h
     listed q (e ∷ es) x (inl is) = (e.1, ap (λ b. cond b (Some e.1) (find R q es)) (ties q e.0 (ap (λ p. p.0) is)))
     listed q (e ∷ es) x (inr later) = by_tie (listed q es x later) (eq_by_cmp R q e.0)
@@ -116,11 +116,17 @@ module _ {K : Type 0} {R : K → K → Ordering} (o : IsTotalOrder R) (same : Is
 
   -- ---- sets
 
-  has_tied : (q : K) (ks : List K) → list_any (eq_by_cmp R q) ks ≡ true → Has ks q
+  pub has_tied : (q : K) (ks : List K) → list_any (eq_by_cmp R q) ks ≡ true → Has ks q
   has_tied q ks e = let k = some_has (eq_by_cmp R q) ks e in subst (Has ks) (sym (tied q k.0 k.2)) k.1
 
-  ties_has : (q : K) (ks : List K) → Has ks q → list_any (eq_by_cmp R q) ks ≡ true
+  pub ties_has : (q : K) (ks : List K) → Has ks q → list_any (eq_by_cmp R q) ks ≡ true
   ties_has q ks h = some_from (eq_by_cmp R q) ks q h (ties q q refl)
+
+  pub in_set : (q : K) (ks : List K) → Has ks q → set.contains (set.from_list {R = R} ks) q ≡ true
+  in_set q ks h = set.contains-from_list o ks q ∙ ties_has q ks h
+
+  pub not_in_set : (q : K) (ks : List K) → ¬ Has ks q → set.contains (set.from_list {R = R} ks) q ≡ false
+  not_in_set q ks none = set.contains-from_list o ks q ∙ same_test _ false (λ e. absurd (none (has_tied q ks e))) (λ e. absurd (true≢false (sym e)))
 
   pub alike_set : (a b : List K) → ((q : K) → Has a q → Has b q) → ((q : K) → Has b q → Has a q) → set.from_list {R = R} a ≡ set.from_list b
   alike_set a b to from = set.same_set o same _ _ (λ q. set.contains-from_list o a q

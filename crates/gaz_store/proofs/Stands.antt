@@ -73,7 +73,7 @@ create_stands number register db new = record {
 
 -- ---- what the tables hold
 
-are_files : (db : Database) → IsKept db → AreFiles (db.trees receiveds)
+pub are_files : (db : Database) → IsKept db → AreFiles (db.trees receiveds)
 are_files db kept = record { each = kept.files; once = λ r s hr hs same. once_each r s hr hs same.0 same.1 }
   where
     once_each : (r s : Row) → Has (db.trees receiveds) r → Has (db.trees receiveds) s → custodian_in r ≡ custodian_in s → volume_in r ≡ volume_in s → r ≡ s
@@ -115,12 +115,12 @@ receive_stands c volume bytes working old new first last kept is_new changes = r
 -- ---- a volume is rejected
 
 -- the row of a file that is there
-record IsThere (c volume : ℕ) (rows : List Row) : Type 0 where
-  row : Row
-  there : Has rows row
-  is : IsVolume c volume row
+pub record IsThere (c volume : ℕ) (rows : List Row) : Type 0 where
+  pub row : Row
+  pub there : Has rows row
+  pub is : IsVolume c volume row
 
-row_of : (rows : List Row) → AreFiles rows → (c volume : ℕ) → IsSome (finite.get (files_in rows) (c, volume)) → IsThere c volume rows
+pub row_of : (rows : List Row) → AreFiles rows → (c volume : ℕ) → IsSome (finite.get (files_in rows) (c, volume)) → IsThere c volume rows
 row_of rows are c volume some = by_answer (finite.get (files_in rows) (c, volume)) refl some
   where
     by_answer : (o : Option (List ℕ)) → finite.get (files_in rows) (c, volume) ≡ o → IsSome o → IsThere c volume rows
@@ -162,11 +162,11 @@ module _ (c place rule : ℕ) (old new : Database) (small : rule ≤ 255) (kept 
   is_verdict : IsVerdict 2 place rule (Rejected place rule)
   is_verdict = record { verdict = refl; states = omega arith; rules = small; no_place = λ other. absurd (other refl); no_rule = λ other. absurd (other refl) }
 
-  j : IsJudged c (n + 1) (Rejected place rule) (old.trees receiveds) (new.trees receiveds)
-  j = files_change.update c 2 place rule (Rejected place rule) (old.trees receiveds) (new.trees receiveds) is_verdict (are_files old kept) (kept.first c) its_row.row its_row.there its_row.is changes.rows
+  pub judges : IsJudged c (n + 1) (Rejected place rule) (old.trees receiveds) (new.trees receiveds)
+  judges = files_change.update c 2 place rule (Rejected place rule) (old.trees receiveds) (new.trees receiveds) is_verdict (are_files old kept) (kept.first c) its_row.row its_row.there its_row.is changes.rows
 
   reached_now : reached_in (new.trees receiveds) c ≡ n + 1
-  reached_now = ap length j.verdicts ∙ length-append (verdicts_in (old.trees receiveds) c) (Rejected place rule ∷ [])
+  reached_now = ap length judges.verdicts ∙ length-append (verdicts_in (old.trees receiveds) c) (Rejected place rule ∷ [])
 
   room : n + 1 < never
   room =
@@ -177,8 +177,8 @@ module _ (c place rule : ℕ) (old new : Database) (small : rule ≤ 255) (kept 
 
   skip_first : (d : ℕ) → AreFirst (new.trees receiveds) d
   skip_first d = elim (cases_eq d c) [
-    | inl same ↦ subst (AreFirst (new.trees receiveds)) (sym same) j.first
-    | inr other ↦ subst (λ (m : Judged). finite.keys m ≡ range_with_len 1 (length (finite.values m))) (sym (j.others d other)) (kept.first d)
+    | inl same ↦ subst (AreFirst (new.trees receiveds)) (sym same) judges.first
+    | inr other ↦ subst (λ (m : Judged). finite.keys m ≡ range_with_len 1 (length (finite.values m))) (sym (judges.others d other)) (kept.first d)
   ]
 
   skip_through : (d : ℕ) → AreThrough (reached_in (new.trees receiveds) d) (histories_in (new.trees versions) d)
@@ -188,12 +188,12 @@ module _ (c place rule : ℕ) (old new : Database) (small : rule ≤ 255) (kept 
       by_custodian (inl same) =
           subst (λ e. AreThrough (reached_in (new.trees receiveds) e) (histories_in (old.trees versions) e)) (sym same)
           (subst (λ m. AreThrough m (histories_in (old.trees versions) c)) (sym reached_now) (through_next n (histories_in (old.trees versions) c) (kept.histories c)))
-      by_custodian (inr other) = subst (λ (m : Judged). AreThrough (length (finite.values m)) (histories_in (old.trees versions) d)) (sym (j.others d other)) (kept.histories d)
+      by_custodian (inr other) = subst (λ (m : Judged). AreThrough (length (finite.values m)) (histories_in (old.trees versions) d)) (sym (judges.others d other)) (kept.histories d)
 
   skip_kept : IsKept new
   skip_kept = record {
     tables = skip_tables.0;
-    files = j.are_files.each;
+    files = judges.are_files.each;
     first = skip_first;
     rows = still_rows _ old new kept changes;
     histories = skip_through;
@@ -213,8 +213,8 @@ module _ (c place rule : ℕ) (old new : Database) (small : rule ≤ 255) (kept 
 
   skip_board : board_in (new.trees receiveds) (new.trees versions) ≡ adds board c (record { verdict = Rejected place rule; view = last_view board c })
   skip_board =
-      board_adds (old.trees receiveds) (new.trees receiveds) (old.trees versions) (new.trees versions) c (Rejected place rule) j.verdicts
-      (λ d other. ap finite.values (j.others d other))
+      board_adds (old.trees receiveds) (new.trees receiveds) (old.trees versions) (new.trees versions) c (Rejected place rule) judges.verdicts
+      (λ d other. ap finite.values (judges.others d other))
       (λ t le. ap (λ l. view_in l c t) skip_tables.1)
       (λ d other t. ap (λ l. view_in l d t) skip_tables.1)
       ∙ ap (λ v. adds board c (record { verdict = Rejected place rule; view = v })) (ap (λ l. view_in l c (n + 1)) skip_tables.1 ∙ last_is)
@@ -225,7 +225,7 @@ skip_stands c place rule working old new small kept at_hand changes =
     let there = subst (λ m. IsSome (finite.get (files_in (old.trees receiveds)) (c, m + 1))) reads.reached at_hand in
     record {
       kept = skip_kept c place rule old new small kept there changes;
-      content = λ i. record { files = (j c place rule old new small kept there changes).files i; board = skip_board c place rule old new small kept there changes i; working = empty_view };
+      content = λ i. record { files = (judges c place rule old new small kept there changes).files i; board = skip_board c place rule old new small kept there changes i; working = empty_view };
     }
 
 pub tables_stand : TablesStand

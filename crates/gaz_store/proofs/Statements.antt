@@ -65,21 +65,21 @@ not_none x some none = let e : None ≡ Some x = sym none ∙ some in absurd (cc
 items_read_back : ItemsReadBack
 items_read_back x h = (fields-back x h, text-back x h)
 
-fits : (x : Item) → is_item x ≡ true → CellsFit x
+pub fits : (x : Item) → is_item x ≡ true → CellsFit x
 fits x h = cells_fit items_read_back x h
 
 -- the item of a row
-record Says (r : Row) : Type 0 where
-  item : Item
-  known : is_item item ≡ true
-  said : item_in r ≡ Some item
-  cells : cells_of item ≡ cells_in r
+pub record Says (r : Row) : Type 0 where
+  pub item : Item
+  pub known : is_item item ≡ true
+  pub said : item_in r ≡ Some item
+  pub cells : cells_of item ≡ cells_in r
 
 ok_is : (a : Result Item CellFault) (x : Item) → ok_of a ≡ Some x → a ≡ Ok x
 ok_is (Ok y) x e = let same : y ≡ x = cc in ap Ok same
 ok_is (Err f) x e = let none : None ≡ Some x = e in absurd (cc)
 
-item_of : (r : Row) → IsVersion r → Says r
+pub item_of : (r : Row) → IsVersion r → Says r
 item_of r v = by_item (item_in r) refl v.item
   where
     by_item : (o : Option Item) → item_in r ≡ o → IsSomeAnd o (λ x. is_item x ≡ true) → Says r
@@ -87,34 +87,34 @@ item_of r v = by_item (item_in r) refl v.item
     by_item (Some x) is known = record { item = x; known = known; said = is; cells = cells_follow (cells_in r) x (ok_is (read_cells (cells_in r)) x is) }
 
 -- the history of a row
-history_of : (c : ℕ) (r : Row) (s : Says r) → number_in (table.cust_of r) ≡ c → history_in c r ≡ Some (living (number_in (table.born_of r)) (number_in (table.gone_of r)) s.item)
+pub history_of : (c : ℕ) (r : Row) (s : Says r) → number_in (table.cust_of r) ≡ c → history_in c r ≡ Some (living (number_in (table.born_of r)) (number_in (table.gone_of r)) s.item)
 history_of c r s cust =
     let born = number_in (table.born_of r) in
     let gone = number_in (table.gone_of r) in
     ap (λ b. cond b (option_map (living born gone) (item_in r)) None) (eq-eqb (number_in (table.cust_of r)) c cust) ∙ ap (option_map (living born gone)) s.said
 
-its_custodian : (c : ℕ) (r : Row) (y : HistoryRow) → history_in c r ≡ Some y → number_in (table.cust_of r) ≡ c
+pub its_custodian : (c : ℕ) (r : Row) (y : HistoryRow) → history_in c r ≡ Some y → number_in (table.cust_of r) ≡ c
 its_custodian c r y is = by_test (number_in (table.cust_of r) == c) refl is
   where
     by_test : (b : Bool) → (number_in (table.cust_of r) == c) ≡ b → cond b (option_map (living (number_in (table.born_of r)) (number_in (table.gone_of r))) (item_in r)) None ≡ Some y → number_in (table.cust_of r) ≡ c
     by_test true t e = eqb-true (number_in (table.cust_of r)) c t
     by_test false t e = not_none y e refl
 
-not_of : (c : ℕ) (r : Row) → number_in (table.cust_of r) ≢ c → history_in c r ≡ None
+pub not_of : (c : ℕ) (r : Row) → number_in (table.cust_of r) ≢ c → history_in c r ≡ None
 not_of c r other = ap (λ b. cond b (option_map (living (number_in (table.born_of r)) (number_in (table.gone_of r))) (item_in r)) None) (ne_eqb (number_in (table.cust_of r)) c other)
 
 -- ---- a row's columns and its key
 
-same_kind : (k l : Kind) → number_of k ≡ number_of l → k ≡ l
+pub same_kind : (k l : Kind) → number_of k ≡ number_of l → k ≡ l
 same_kind k l e = some_same k l (numbered k) (ap kind_numbered e ∙ numbered l)
 
-abbrev IsBirthOf : ℕ → Key → ℕ → Row → Type 0
+abbrev pub IsBirthOf : ℕ → Key → ℕ → Row → Type 0
 IsBirthOf c k born r = IsOfBirth c (number_of (kind_in k)) (id_of k) born r
 
 pub whole : (v : Value) (n : ℕ) → v ≡ Int (pos (number_in v)) → number_in v ≡ n → v ≡ Int (pos n)
 whole v n is e = is ∙ ap (λ m. Int (pos m)) e
 
-birth_of : (c : ℕ) (r : Row) → IsVersion r → (y : HistoryRow) → history_in c r ≡ Some y → IsBirthOf c y.key y.born r
+pub birth_of : (c : ℕ) (r : Row) → IsVersion r → (y : HistoryRow) → history_in c r ≡ Some y → IsBirthOf c y.key y.born r
 birth_of c r v y is =
     let s = item_of r v in
     let fit = fits s.item s.known in
@@ -131,13 +131,13 @@ birth_of c r v y is =
     })
 
 -- the row of a birth has the history of that key and birth
-record Born (c : ℕ) (k : Key) (born : ℕ) (r : Row) : Type 0 where
-  row : HistoryRow
-  is : history_in c r ≡ Some row
-  key : row.key ≡ k
-  birth : row.born ≡ born
+pub record Born (c : ℕ) (k : Key) (born : ℕ) (r : Row) : Type 0 where
+  pub row : HistoryRow
+  pub is : history_in c r ≡ Some row
+  pub key : row.key ≡ k
+  pub birth : row.born ≡ born
 
-born_as : (c : ℕ) (k : Key) (born : ℕ) (r : Row) → IsVersion r → is_key k ≡ true → IsBirthOf c k born r → Born c k born r
+pub born_as : (c : ℕ) (k : Key) (born : ℕ) (r : Row) → IsVersion r → is_key k ≡ true → IsBirthOf c k born r → Born c k born r
 born_as c k born r v is b =
     let s = item_of r v in
     let fit = fits s.item s.known in

@@ -33,10 +33,10 @@ pub record Holds (t : ℕ) (r : HistoryRow) : Type 0 where
   pub born : r.born ≤ t
   pub gone : t < r.gone
 
-le_is : (a b : ℕ) → nat_le a b ≡ true → a ≤ b
+pub le_is : (a b : ℕ) → nat_le a b ≡ true → a ≤ b
 le_is a b h = grind (arith, nat_tests)
 
-lt_is : (a b : ℕ) → nat_lt a b ≡ true → a < b
+pub lt_is : (a b : ℕ) → nat_lt a b ≡ true → a < b
 lt_is a b h = grind (arith, nat_tests)
 
 le_no : (a b : ℕ) → b < a → nat_le a b ≡ false
@@ -56,51 +56,51 @@ passes t r h = and_from (nat_le r.born t) (nat_lt t r.gone) (le_so r.born t h.bo
 
 -- ---- the entries and the used keys of a view
 
-abbrev entries_at : ℕ → Rows → List (Key × Item)
+abbrev pub entries_at : ℕ → Rows → List (Key × Item)
 entries_at t rows = map (λ r. (r.key, r.item)) (filter (holds_after t) rows)
 
-abbrev used_at : ℕ → Rows → List Key
+abbrev pub used_at : ℕ → Rows → List Key
 used_at t rows = map (λ r. r.key) (filter (is_born_by t) rows)
 
 -- an entry comes from a row that holds
-record IsEntry (t : ℕ) (rows : Rows) (q : Key) (x : Item) : Type 0 where
-  row : HistoryRow
-  there : Has rows row
-  held : Holds t row
-  key : row.key ≡ q
-  item : row.item ≡ x
+pub record IsEntry (t : ℕ) (rows : Rows) (q : Key) (x : Item) : Type 0 where
+  pub row : HistoryRow
+  pub there : Has rows row
+  pub held : Holds t row
+  pub key : row.key ≡ q
+  pub item : row.item ≡ x
 
-entry : (t : ℕ) (rows : Rows) (q : Key) (x : Item) → Has (entries_at t rows) (q, x) → IsEntry t rows q x
+pub entry : (t : ℕ) (rows : Rows) (q : Key) (x : Item) → Has (entries_at t rows) (q, x) → IsEntry t rows q x
 entry t rows q x h =
     let r = has_mapped (λ (r : HistoryRow). (r.key, r.item)) (filter (holds_after t) rows) (q, x) h in
     let f = has_filtered (holds_after t) rows r.0 r.1 in
     record { row = r.0; there = f.0; held = holds t r.0 f.1; key = ap (λ p. p.0) (sym r.2); item = ap (λ p. p.1) (sym r.2) }
 
-entered : (t : ℕ) (rows : Rows) (r : HistoryRow) → Has rows r → Holds t r → Has (entries_at t rows) (r.key, r.item)
+pub entered : (t : ℕ) (rows : Rows) (r : HistoryRow) → Has rows r → Holds t r → Has (entries_at t rows) (r.key, r.item)
 entered t rows r h held = mapped_has (λ (r : HistoryRow). (r.key, r.item)) (filter (holds_after t) rows) r (has_kept (holds_after t) rows r h (passes t r held))
 
-entered_as : (t : ℕ) (rows : Rows) (q : Key) (x : Item) → IsEntry t rows q x → Has (entries_at t rows) (q, x)
+pub entered_as : (t : ℕ) (rows : Rows) (q : Key) (x : Item) → IsEntry t rows q x → Has (entries_at t rows) (q, x)
 entered_as t rows q x e = subst (λ p. Has (entries_at t rows) p) (λ i. (e.key i, e.item i)) (entered t rows e.row e.there e.held)
 
-record IsUse (t : ℕ) (rows : Rows) (q : Key) : Type 0 where
-  row : HistoryRow
-  there : Has rows row
-  born : row.born ≤ t
-  key : row.key ≡ q
+pub record IsUse (t : ℕ) (rows : Rows) (q : Key) : Type 0 where
+  pub row : HistoryRow
+  pub there : Has rows row
+  pub born : row.born ≤ t
+  pub key : row.key ≡ q
 
-use_of : (t : ℕ) (rows : Rows) (q : Key) → Has (used_at t rows) q → IsUse t rows q
+pub use_of : (t : ℕ) (rows : Rows) (q : Key) → Has (used_at t rows) q → IsUse t rows q
 use_of t rows q h =
     let r = has_mapped (λ (r : HistoryRow). r.key) (filter (is_born_by t) rows) q h in
     let f = has_filtered (is_born_by t) rows r.0 r.1 in
     record { row = r.0; there = f.0; born = le_is r.0.born t f.1; key = sym r.2 }
 
-used_as : (t : ℕ) (rows : Rows) (q : Key) → IsUse t rows q → Has (used_at t rows) q
+pub used_as : (t : ℕ) (rows : Rows) (q : Key) → IsUse t rows q → Has (used_at t rows) q
 used_as t rows q u = subst (λ k. Has (used_at t rows) k) u.key
     (mapped_has (λ (r : HistoryRow). r.key) (filter (is_born_by t) rows) u.row (has_kept (is_born_by t) rows u.row u.there (le_so u.row.born t u.born)))
 
 -- ---- at no key two rows hold
 
-one_holds : (rows : Rows) → AreInTurn rows → (t : ℕ) (a b : HistoryRow) → Has rows a → Has rows b → a.key ≡ b.key → Holds t a → Holds t b → a ≡ b
+pub one_holds : (rows : Rows) → AreInTurn rows → (t : ℕ) (a b : HistoryRow) → Has rows a → Has rows b → a.key ≡ b.key → Holds t a → Holds t b → a ≡ b
 one_holds rows apart t a b ha hb key la lb = by_birth (cases_lt a.born b.born) (cases_lt b.born a.born)
   where
     by_birth : (a.born < b.born) ⊎ (b.born ≤ a.born) → (b.born < a.born) ⊎ (a.born ≤ b.born) → a ≡ b
@@ -108,7 +108,7 @@ one_holds rows apart t a b ha hb key la lb = by_birth (cases_lt a.born b.born) (
     by_birth (inr le) (inl less) = let g = apart.in_turn b a hb ha (sym key) less in let u = lb.gone in let w = la.born in absurd (omega arith)
     by_birth (inr le) (inr ge) = let e : a.born ≡ b.born = omega arith in apart.once a b ha hb key e
 
-single_at : (rows : Rows) → AreInTurn rows → (t : ℕ) → AreSingle (entries_at t rows)
+pub single_at : (rows : Rows) → AreInTurn rows → (t : ℕ) → AreSingle (entries_at t rows)
 single_at rows apart t k x y hx hy =
     let a = entry t rows k x hx in
     let b = entry t rows k y hy in

@@ -1,5 +1,6 @@
 -- The content for which the tables stand.
 use Rattle.std.specs.Prelude.{List}
+use Rattle.sqlite.specs.Effect.{Database}
 use Rattle.sqlite.specs.Order.{Row}
 use Rattle.sqlite_trees.specs.Tree.{Trees}
 use Rattle.gaz_views.specs.Judgements.{judgements}
@@ -13,6 +14,9 @@ use Rattle.gaz_store.specs.Versions.{view_in}
 -- each custodian's verdicts, and its views after their volumes
 abbrev pub board_in : List Row → List Row → Board
 board_in files rows = λ c. judgements (verdicts_in files c) (view_in rows c)
+
+abbrev pub board_of : Database → Board
+board_of db = board_in (db.trees receiveds) (db.trees versions)
 
 -- the tables hold files and board; the working view stands beside them
 abbrev pub content_in : Trees → View → Content

@@ -1,0 +1,14 @@
+use Rattle.std.proofs.Common.{IfOk, pos, subst}
+use Rattle.gaz_tables.specs.Schema.{versions}
+use Rattle.gaz_tables.specs.Versions.{FindsApprovedOf}
+use Rattle.gaz_store.specs.Addresses.{SaysKeys}
+use Rattle.gaz_store.proofs.Composing.{answered}
+use Rattle.gaz_store.proofs.KeysTold.{approved_of_told}
+use Rattle.gaz_store.proofs.tables.Tables.approved_of.Goals as goal
+
+pub returns-in-Ok : goal.returns-in-Ok
+returns-in-Ok g c =
+    answered _ _ _ _ _ _ c.approved_rows.ensures (λ db kept found.
+    approved_of_told db c.args.code c.args.uprn c.in_ok-rows.rows.items kept
+    (subst (λ r. IfOk r (λ rows. FindsApprovedOf c.args.code (pos c.args.uprn) (db.trees versions) rows.items)) c.in_ok-rows.was found)
+    c.in-Ok.keys.items (subst (λ l. SaysKeys l c.in-Ok.keys.items) c.deref.ensures.value c.in-Ok.ensures))

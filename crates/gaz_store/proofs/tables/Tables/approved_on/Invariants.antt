@@ -1,0 +1,10 @@
+use Rattle.std.proofs.Common.{Ok}
+use Rattle.std.specs.String.{string_bytes}
+use Rattle.gaz_store.specs.Asking.{AsksTables}
+use Rattle.gaz_store.specs.LastViews.{last_in}
+use Rattle.gaz_store.specs.Streets.{AreBehind}
+use Rattle.gaz_store.proofs.tables.Tables.approved_on.Given as goal
+
+-- what is asked for comes behind the id at which the next page begins
+abbrev pub invariant-pages : goal.invariant-pages
+invariant-pages g l = AsksTables l.fn.self l.self (Ok l.start) (λ db start. AreBehind (last_in db l.code) l.usrn l.lang (string_bytes start))

@@ -1,0 +1,13 @@
+use Rattle.std.proofs.Common.{◌∙◌, IfOk, subst}
+use Rattle.gaz_tables.specs.Schema.{versions}
+use Rattle.gaz_store.specs.Newest.{IsNewest}
+use Rattle.gaz_store.specs.Versions.{histories_in}
+use Rattle.gaz_store.proofs.Composing.{answered}
+use Rattle.gaz_store.proofs.KeysTold.{current_told}
+use Rattle.gaz_store.proofs.tables.Tables.current.Goals as goal
+
+pub returns : goal.returns
+returns g c =
+    answered _ _ _ _ _ _ c.newest.ensures (λ db kept found.
+    c.current_in.ensures ∙ current_told db c.args.code c.args.key.now c.in_ok-life.life kept
+    (subst (λ r. IfOk r (IsNewest (histories_in (db.trees versions) c.args.code) c.args.key.now)) c.in_ok-life.was found))

@@ -1,0 +1,13 @@
+use Rattle.std.proofs.Common.{refl}
+use Rattle.gaz_records.specs.Kinds.{number_of}
+use Rattle.gaz_tables.specs.Schema.{versions}
+use Rattle.gaz_tables.specs.Versions.{FindsNewest}
+use Rattle.gaz_store.proofs.Composing.{query_asks}
+use Rattle.gaz_store.proofs.tables.Tables.newest_rows.Goals as goal
+
+pub returns : goal.returns
+returns g c =
+    query_asks _ _ _ _ _ _ _ (λ db rows. FindsNewest c.args.code (number_of c.args.kind) c.args.id.now (db.trees versions) rows.items)
+    c.make_sure.ensures.asks (c.make_sure.new.self.is_open c.in_ok-make_sure.ensures.sure) c.known.ensures
+    (rw (c.number-cust.ensures.value, c.number-kind.ensures) at c.newest-found.ensures.found) c.newest-found.ensures.stays c.newest-found.ensures.spared c.newest-found.ensures.leaves
+    refl refl c.told.ensures.tells

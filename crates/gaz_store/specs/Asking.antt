@@ -1,0 +1,68 @@
+-- What a call tells that asks the tables and writes nothing.
+use Rattle.std.specs.Prelude.{◌≡◌, ◌≤◌, ◌<◌, ⊤, ℕ, Result, Ok, IfOk, IfErr, OnOk, OnErr}
+use Rattle.sqlite.specs.declared.error.Error.{Error}
+use Rattle.sqlite.specs.Effect.{Database}
+use Rattle.sqlite.specs.Held.{state}
+use Rattle.sqlite.specs.State.{State, Survives}
+use Rattle.sqlite_trees.specs.declared.store.Store.{Ghosts}
+use Rattle.gaz_shelf.specs.declared.fault.ShelfFault.{ShelfFault}
+use Rattle.gaz_shelf.specs.declared.fault.ShelfFault.TheVariants.{Store}
+use Rattle.gaz_tables.specs.Schema.{receiveds}
+use Rattle.gaz_tables.specs.Stores.{HasTables}
+use Rattle.gaz_store.specs.Kept.{IsKept}
+use Rattle.gaz_store.specs.Remembered.{AreSo}
+use Rattle.gaz_store.specs.Seen.{IsUnharmed}
+use Rattle.gaz_store.specs.declared.tables.Tables.{Tables}
+
+-- no failure is forgotten, and one of the store is counted
+pub record Tallies {T : Type 0} (before after : ℕ) (result : Result T ShelfFault) : Type 0 where
+  pub kept : before ≤ after
+  pub store : IfErr result (λ e. e ≡ Store → before < after)
+
+-- the answer is right of what the tables hold, nothing changes, and a stop leaves nothing more
+pub record Asks {T : Type 0} (old new : State) (result : Result T ShelfFault)
+    (IsRight : Database → T → Type 0) : Type 0 where
+  pub harm : IsUnharmed new → IsUnharmed old
+  pub rests : IsUnharmed new → HasTables old.now → new.now ≡ old.now
+  pub right : IsUnharmed new → IsKept old.now → IfOk result (IsRight old.now)
+  pub leaves : (IsUnharmed old → HasTables old.now) → Survives old new (λ _. ⊥)
+
+-- whatever the answer
+abbrev pub IsAnyway : {T : Type 0} → Database → T → Type 0
+IsAnyway db x = ⊤
+
+-- a call on tables that only asks them
+pub record AsksTables {S : Type 0} {store : Ghosts S} {T : Type 0} (old new : Tables S store)
+    (result : Result T ShelfFault) (IsRight : Database → T → Type 0) : Type 0 where
+  pub asks : Asks (state store old.conn) (state store new.conn) result IsRight
+  pub tallies : Tallies old.failures new.failures result
+  pub at_hand : new.at_hand ≡ old.at_hand
+
+-- a call that answers from what is at hand, or asks the tables and may have the answer at hand then
+pub record Recalls {S : Type 0} {store : Ghosts S} {T : Type 0} (old new : Tables S store)
+    (result : Result T ShelfFault) (IsRight : Database → T → Type 0) : Type 0 where
+  pub asks : Asks (state store old.conn) (state store new.conn) result
+      (λ db x. AreSo old.at_hand (db.trees receiveds) → IsRight db x)
+  pub tallies : Tallies old.failures new.failures result
+  pub at_hand : IsUnharmed (state store new.conn) → IsKept (state store old.conn).now
+      → AreSo old.at_hand ((state store old.conn).now.trees receiveds)
+      → AreSo new.at_hand ((state store old.conn).now.trees receiveds)
+
+-- ---- within a call
+
+-- a fault, and the tables but for the count
+pub record Fails {S : Type 0} {store : Ghosts S} (old new : Tables S store) (fault : ShelfFault)
+    : Type 0 where
+  pub conn : new.conn ≡ old.conn
+  pub at_hand : new.at_hand ≡ old.at_hand
+  pub kept : old.failures ≤ new.failures
+  pub counted : fault ≡ Store → old.failures < new.failures
+
+-- what the connection answered, or the fault that its error is
+pub record Tells {S : Type 0} {store : Ghosts S} {T : Type 0} (old new : Tables S store)
+    (answer : Result T Error) (result : Result T ShelfFault) : Type 0 where
+  pub conn : new.conn ≡ old.conn
+  pub at_hand : new.at_hand ≡ old.at_hand
+  pub same : IfOk result (λ x. answer ≡ Ok x)
+  pub fault : OnErr result (OnOk answer ⊥)
+  pub tallies : Tallies old.failures new.failures result

@@ -1,0 +1,60 @@
+-- How the tables of a store are seen.
+use Rattle.std.specs.Prelude.{◌≡◌, ◌≤◌, ◌-◌, ◌^◌, ◌==◌, ℕ, true, IsTrue}
+use Rattle.std.proofs.Common.{eqb-true, le_of_eq, sym}
+use Rattle.sqlite_trees.specs.Tree.{Trees}
+use Rattle.sqlite.specs.State.{HasCleanDisk, State}
+use Rattle.gaz_views.specs.View.{View, empty_view}
+use Rattle.gaz_shelf.specs.Keeper.{Content, Idle, IsLawful, Progress, Seen}
+use Rattle.gaz_tables.specs.Schema.{receiveds}
+use Rattle.gaz_store.specs.Contents.{content_in}
+use Rattle.gaz_store.specs.Kept.{IsKept}
+use Rattle.gaz_store.specs.Remembered.{AreSo, Remembered}
+
+-- the tables are those of a store, what is at hand is so of them, and what they stand for is lawful
+pub record StandsFor (s : State) (at_hand : Remembered) (working : View) : Type 0 where
+  pub kept : IsKept s.now
+  pub so : AreSo at_hand (s.now.trees receiveds)
+  pub lawful : IsLawful (content_in s.now.trees working)
+
+-- the disk returned what was written, and nothing has shut the connection
+pub record IsUnharmed (s : State) : Type 0 where
+  pub clean : HasCleanDisk s
+  pub is_open : IsTrue s.is_open
+
+-- what a crash may leave, said of a disk that returns what was written
+pub record MayLeave (s : State) (k : Content) : Type 0 where
+  pub clean : HasCleanDisk s
+  pub trees : Trees
+  pub left : s.may_leave trees
+  pub content : k ≡ content_in trees empty_view
+
+pub full_at : (failures : ℕ) → (failures == 2 ^ 64 - 1) ≡ true → 2 ^ 64 - 1 ≤ failures
+full_at failures full = le_of_eq (sym (eqb-true failures (2 ^ 64 - 1) full))
+
+-- a connection with what is at hand and a judgement beside it, and so many failures
+abbrev pub seen_of : State → Remembered → Progress → View → ℕ → Seen
+seen_of s at_hand progress working failures = record {
+  content = content_in s.now.trees working;
+  stands = StandsFor s at_hand working;
+  lawful = λ stood. stood.lawful;
+  unharmed = IsUnharmed s;
+  progress = progress;
+  failures = failures;
+  is_full = failures == 2 ^ 64 - 1;
+  full = full_at failures;
+  leaves = MayLeave s;
+}
+
+-- no judgement is in progress
+abbrev pub seen_idle : State → Remembered → ℕ → Seen
+seen_idle s at_hand failures = seen_of s at_hand Idle empty_view failures
+
+-- ---- what a call leaves of what is seen
+
+-- the connection shows what it showed, and was open if it is
+abbrev pub Rests : State → State → Type 0
+Rests old new = HasCleanDisk new → IsTrue new.is_open → IsTrue old.is_open × (new.now ≡ old.now)
+
+-- outside a transaction a connection shows what was committed
+abbrev pub IsSettled : State → Type 0
+IsSettled s = IsTrue s.is_open → s.now ≡ s.committed

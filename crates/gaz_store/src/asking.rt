@@ -1,0 +1,71 @@
+//! What each call on the tables begins and ends with.
+ghost use Rattle.std.specs.Prelude.{◌≡◌, true, IfOk, IsTrue, Ok, OnOk};
+ghost use Rattle.sqlite.specs.Held.{state};
+ghost use Rattle.sqlite.specs.State.{HasCleanDisk};
+ghost use Rattle.gaz_store.specs.Asking.{AsksTables, Fails, IsAnyway, Tells};
+ghost use Rattle.gaz_store.specs.Seen.{IsSettled};
+
+use crate::probing::probe;
+use crate::tables::Tables;
+use gaz_shelf::ShelfFault;
+use sqlite::{Alter, Error, ErrorCode};
+
+impl<S: Alter> Tables<S> {
+    /// Counts a failure, where the count isn't at its last value.
+    pub(crate) fn fail(&mut self) -> ShelfFault
+        ensures { Fails self.old self.new result }
+    {
+        if self.failures == u64::MAX {
+            return ShelfFault::Memory;
+        }
+        self.failures += 1;
+        ShelfFault::Store
+    }
+
+    /// The fault that an error of the connection is.
+    pub(crate) fn fault(&mut self, error: Error) -> ShelfFault
+        ensures { Fails self.old self.new result }
+    {
+        match error {
+            Error::SqliteFailure(ErrorCode::OutOfMemory) => ShelfFault::Memory,
+            _ => self.fail(),
+        }
+    }
+
+    /// Outside a transaction a connection shows what was committed.
+    pub(crate) fn known(&self)
+        ensures { IsSettled (state S.Store self.now.conn) }
+    {
+        let _ = self.conn.is_autocommit();
+    }
+
+    /// Asks whether the connection is open, where that isn't known since it answered last.
+    pub(crate) fn make_sure(&mut self) -> Result<(), ShelfFault>
+        ensures asks { AsksTables self.old self.new result IsAnyway }
+        ensures sure { OnOk result (self.new.sure ≡ true) }
+    {
+        if self.sure {
+            return Ok(());
+        }
+        self.known();
+        let answer = probe(&mut self.conn);
+        self.told(answer)?;
+        Ok(())
+    }
+
+    /// The answer of the connection, which is open where it gave one, or the fault that its error is.
+    pub(crate) fn told<T>(&mut self, answer: Result<T, Error>) -> Result<T, ShelfFault>
+        requires { HasCleanDisk (state S.Store self.old.conn)
+            → OnOk answer (IsTrue (state S.Store self.old.conn).is_open) }
+        ensures tells { Tells self.old self.new answer result }
+        ensures sure { OnOk result (self.new.sure ≡ true) }
+    {
+        match answer {
+            Ok(found) => {
+                self.sure = true;
+                Ok(found)
+            }
+            Err(error) => Err(self.fault(error)),
+        }
+    }
+}

@@ -1,0 +1,95 @@
+//! What is read of received files.
+ghost use Rattle.std.specs.Prelude.{◌≡◌, pos, IfSome};
+ghost use Rattle.sqlite.specs.Order.{column};
+ghost use Rattle.sqlite.specs.declared.types.Value.TheVariants.{Int};
+ghost use Rattle.gaz_shelf.specs.Board.{verdict_on};
+ghost use Rattle.gaz_tables.specs.Receiveds.{FindsVerdict};
+ghost use Rattle.gaz_tables.specs.Schema.{receiveds};
+ghost use Rattle.gaz_store.specs.Answers.{SaysVerdict};
+ghost use Rattle.gaz_store.specs.Asking.{AsksTables};
+ghost use Rattle.gaz_store.specs.Contents.{board_of};
+ghost use Rattle.gaz_store.specs.Files.{verdict_of};
+
+use crate::tables::Tables;
+use gaz_ids::{Code, Volume};
+use gaz_shelf::ShelfFault;
+use gaz_tables::receiveds;
+use gaz_views::Verdict;
+use sqlite::types::ValueRef;
+use sqlite::{Alter, Row};
+
+impl<S: Alter> Tables<S> {
+    /// The state of a volume with its place and rule, where it was received.
+    pub(crate) fn verdict_rows(
+        &mut self,
+        code: Code,
+        volume: Volume,
+    ) -> Result<Vec<Row>, ShelfFault>
+        ensures { AsksTables self.old self.new result
+            (λ db rows. FindsVerdict code volume (db.trees receiveds) rows.items) }
+    {
+        self.make_sure()?;
+        self.known();
+        self.sure = false;
+        let found = receiveds::verdict(
+            &mut self.conn,
+            code.number() as u32,
+            volume.number() as u32,
+        );
+        self.told(found)
+    }
+
+    /// The verdict on a volume, where it is judged.
+    pub fn verdict(&mut self, code: Code, volume: Volume) -> Result<Option<Verdict>, ShelfFault>
+        ensures { AsksTables self.old self.new result
+            (λ db v. v ≡ verdict_on (board_of db) code volume) }
+    {
+        let rows = self.verdict_rows(code, volume)?;
+        match said(&rows) {
+            Some(verdict) => Ok(verdict),
+            None => Err(self.fail()),
+        }
+    }
+}
+
+// The whole number in a column, where one stands there.
+fn whole(row: &Row, at: usize) -> Option<u64>
+    ensures { IfSome result (λ n. column row.now at ≡ Int (pos n)) }
+{
+    match row.get_ref(at) {
+        Ok(ValueRef::Int(n)) if n >= 0 => Some(n as u64),
+        _ => None,
+    }
+}
+
+// The verdict of a state with its place and rule, or none where no store writes such a row.
+fn verdict_of(state: u64, place: u64, rule: u64) -> Option<Option<Verdict>>
+    ensures { IfSome result (λ v. v ≡ verdict_of state place rule) }
+{
+    if state == 0 {
+        return Some(None);
+    }
+    if state == 1 {
+        return Some(Some(Verdict::Applied));
+    }
+    if state != 2 || rule > 255 {
+        return None;
+    }
+    Some(Some(Verdict::Rejected {
+        place,
+        rule: rule as u8,
+    }))
+}
+
+// What the first row says, of state, place and rule.
+fn said(rows: &[Row]) -> Option<Option<Verdict>>
+    ensures { IfSome result (SaysVerdict rows.now) }
+{
+    let Some(row) = rows.first() else {
+        return Some(None);
+    };
+    let state = whole(row, 0)?;
+    let place = whole(row, 1)?;
+    let rule = whole(row, 2)?;
+    verdict_of(state, place, rule)
+}

@@ -1,0 +1,150 @@
+//! What stands at a key.
+ghost use Rattle.std.specs.Prelude.{◌≡◌, ◌≤◌};
+ghost use Rattle.std.specs.FinMap as map;
+ghost use Rattle.gaz_cells.specs.Ids.{id_of, kind_in};
+ghost use Rattle.gaz_records.specs.Kinds.{number_of};
+ghost use Rattle.gaz_tables.specs.Schema.{receiveds, versions};
+ghost use Rattle.gaz_tables.specs.Versions.{FindsNewest, FindsNewestUntil};
+ghost use Rattle.gaz_views.specs.View.{was_used};
+ghost use Rattle.gaz_store.specs.Asking.{AsksTables};
+ghost use Rattle.gaz_store.specs.Files.{reached_in};
+ghost use Rattle.gaz_store.specs.LastViews.{last_in};
+ghost use Rattle.gaz_store.specs.Newest.{IsNewest, IsNewestUntil, TellsStood};
+ghost use Rattle.gaz_store.specs.Versions.{histories_in, view_in};
+
+use crate::decoding::{kind_in, name_of};
+use crate::newest::{Life, current_in, item_after, newest_said, stood_by};
+use crate::tables::Tables;
+use gaz_ids::{Code, LAST_VOLUME};
+use gaz_overlay::Stood;
+use gaz_records::{Key, Kind, SharedItem};
+use gaz_shelf::ShelfFault;
+use gaz_tables::versions;
+use sqlite::{Alter, Row};
+
+impl<S: Alter> Tables<S> {
+    // The newest row of a key of this kind and id.
+    fn newest_rows(&mut self, code: Code, kind: Kind, id: &str) -> Result<Vec<Row>, ShelfFault>
+        ensures { AsksTables self.old self.new result
+            (λ db rows. FindsNewest code (number_of kind) id.now (db.trees versions) rows.items) }
+    {
+        self.make_sure()?;
+        self.known();
+        self.sure = false;
+        let cust = code.number() as u32;
+        let kind = kind.number() as u32;
+        let found = versions::newest(&mut self.conn, cust, kind, id);
+        self.told(found)
+    }
+
+    // Of those that were born in this volume or before, the newest.
+    fn newest_rows_until(
+        &mut self,
+        code: Code,
+        volume: u32,
+        kind: Kind,
+        id: &str,
+    ) -> Result<Vec<Row>, ShelfFault>
+        ensures { AsksTables self.old self.new result (λ db rows. FindsNewestUntil
+            code (number_of kind) id.now volume (db.trees versions) rows.items) }
+    {
+        self.make_sure()?;
+        self.known();
+        self.sure = false;
+        let cust = code.number() as u32;
+        let kind = kind.number() as u32;
+        let found = versions::newest_until(&mut self.conn, cust, kind, id, volume);
+        self.told(found)
+    }
+
+    /// The newest row of a key, where it has one.
+    pub fn newest(&mut self, code: Code, key: &Key) -> Result<Option<Life>, ShelfFault>
+        ensures { AsksTables self.old self.new result
+            (λ db life. IsNewest (histories_in (db.trees versions) code) key.now life) }
+    {
+        let name = match name_of(self.alloc, key) {
+            Ok(name) => name,
+            Err(fault) => return Err(self.row_fault(fault)),
+        };
+        let rows = self.newest_rows(code, kind_in(key), &name)?;
+        match newest_said(self.alloc, key, &rows) {
+            Ok(life) => Ok(life),
+            Err(fault) => Err(self.row_fault(fault)),
+        }
+    }
+
+    /// The newest row of a key that was born in a volume or before, where it has one.
+    pub fn newest_until(
+        &mut self,
+        code: Code,
+        volume: u32,
+        key: &Key,
+    ) -> Result<Option<Life>, ShelfFault>
+        ensures { AsksTables self.old self.new result (λ db life. IsNewestUntil
+            volume (histories_in (db.trees versions) code) key.now life) }
+    {
+        let name = match name_of(self.alloc, key) {
+            Ok(name) => name,
+            Err(fault) => return Err(self.row_fault(fault)),
+        };
+        let rows = self.newest_rows_until(code, volume, kind_in(key), &name)?;
+        match newest_said(self.alloc, key, &rows) {
+            Ok(life) => Ok(life),
+            Err(fault) => Err(self.row_fault(fault)),
+        }
+    }
+
+    /// The item at a key in a custodian's last view.
+    pub fn current(&mut self, code: Code, key: &Key) -> Result<Option<SharedItem>, ShelfFault>
+        ensures { AsksTables self.old self.new result
+            (λ db i. i ≡ map.get (last_in db code).items key.now) }
+    {
+        let life = self.newest(code, key)?;
+        Ok(current_in(life))
+    }
+
+    /// Whether a key was used in a custodian's last view or before it.
+    pub fn was_used(&mut self, code: Code, key: &Key) -> Result<bool, ShelfFault>
+        ensures { AsksTables self.old self.new result
+            (λ db b. b ≡ was_used (last_in db code) key.now) }
+    {
+        let life = self.newest(code, key)?;
+        Ok(life.is_some())
+    }
+
+    /// What the tables have at a key for an overlay that touches it, with the item of the current
+    /// row.
+    pub fn stood(
+        &mut self,
+        code: Code,
+        key: &Key,
+    ) -> Result<(Stood, Option<SharedItem>), ShelfFault>
+        ensures { AsksTables self.old self.new result (λ db s. TellsStood
+            (histories_in (db.trees versions) code) (last_in db code) key.now s.0 s.1) }
+    {
+        let life = self.newest(code, key)?;
+        Ok((stood_by(&life), current_in(life)))
+    }
+
+    /// The item at a key after a volume, which is to be reached; after volume 0 there is none.
+    pub fn at(
+        &mut self,
+        code: Code,
+        volume: u64,
+        key: &Key,
+    ) -> Result<Option<SharedItem>, ShelfFault>
+        ensures { AsksTables self.old self.new result
+            (λ db i. volume ≤ reached_in (db.trees receiveds) code
+            → i ≡ map.get (view_in (db.trees versions) code volume).items key.now) }
+    {
+        let life = self.newest_until(code, capped(volume), key)?;
+        Ok(item_after(volume, life))
+    }
+}
+
+// The volume, or the last that a custodian can send: none behind it is reached.
+fn capped(volume: u64) -> u32
+    ensures { volume ≤ LAST_VOLUME → result ≡ volume }
+{
+    volume.min(LAST_VOLUME) as u32
+}

@@ -1,0 +1,7 @@
+//! A store's tables as their callers use them: tests of `gaz_store`.
+#![tactic(auto)]
+
+#[cfg(test)]
+mod asked;
+#[cfg(test)]
+mod fixtures;
