@@ -1,10 +1,10 @@
 //! What the tables answer.
+use crate::asking::Asked;
 use crate::fixtures::{FLAT, FORMER_FLAT, HOUSE, NUMBER_14, NUMBER_16, STREET, damaged, furnished};
 use gaz_ids::{Code, Lang, Uprn, Usrn, Volume};
 use gaz_overlay::Stood;
 use gaz_records::{Key, Kind, RecordKey, SharedItem, item_text};
 use gaz_shelf::ShelfFault;
-use gaz_store::Tables;
 use gaz_views::Verdict;
 use sqlite::{Alter, Connection};
 use std::alloc::Global;
@@ -47,7 +47,7 @@ fn is_row(alloc: Global, item: &Option<SharedItem>, row: &str) -> Result<bool, F
 
 fn keys_are_asked<S: Alter>(
     rt: &(impl Abort + AllocGlobal),
-    tables: &mut Tables<S>,
+    tables: &mut Asked<S>,
 ) -> Result<(), Fail> {
     let (own, other) = (custodian(1001)?, custodian(1002)?);
     let (flat, gone) = (lpi("L1")?, Key::Blpu(uprn(11)?));
@@ -70,7 +70,7 @@ fn keys_are_asked<S: Alter>(
 
 fn places_are_asked<S: Alter>(
     rt: &(impl Abort + AllocGlobal),
-    tables: &mut Tables<S>,
+    tables: &mut Asked<S>,
 ) -> Result<(), Fail> {
     let own = custodian(1001)?;
     let (house, street) = (uprn(42)?, usrn(101)?);
@@ -92,7 +92,7 @@ fn places_are_asked<S: Alter>(
 
 fn pages_are_asked<S: Alter>(
     rt: &(impl Abort + AllocGlobal),
-    tables: &mut Tables<S>,
+    tables: &mut Asked<S>,
 ) -> Result<(), Fail> {
     let (alloc, own) = (rt.alloc(), custodian(1001)?);
     let first = tables.page(own, 1, Kind::Lpi, None, 10)?;
@@ -110,7 +110,7 @@ fn pages_are_asked<S: Alter>(
 
 fn verdicts_are_asked<S: Alter>(
     rt: &(impl Abort + AllocGlobal),
-    tables: &mut Tables<S>,
+    tables: &mut Asked<S>,
 ) -> Result<(), Fail> {
     let own = custodian(1001)?;
     let applied = Some(Verdict::Applied);
@@ -126,7 +126,7 @@ fn verdicts_are_asked<S: Alter>(
 // Each call on its happy path, and the count of failures.
 fn all_are_asked<S: Alter>(
     rt: &(impl Abort + AllocGlobal),
-    tables: &mut Tables<S>,
+    tables: &mut Asked<S>,
 ) -> Result<(), Fail> {
     keys_are_asked(rt, tables)?;
     places_are_asked(rt, tables)?;
@@ -139,7 +139,7 @@ fn all_are_asked<S: Alter>(
 // A row that no store writes is a counted failure, and the other keys are answered.
 fn damage_is_counted<S: Alter>(
     rt: &(impl Abort + AllocGlobal),
-    tables: &mut Tables<S>,
+    tables: &mut Asked<S>,
 ) -> Result<(), Fail> {
     let own = custodian(1001)?;
     assert!(rt; tables.current(own, &lpi("L9")?).err() == Some(ShelfFault::Store));

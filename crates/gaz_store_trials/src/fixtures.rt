@@ -1,6 +1,7 @@
 //! The tables of a custodian with two volumes applied, one rejected and one held.
 ghost use Rattle.std.specs.Prelude.{◌≡◌, false, OnOk};
 
+use crate::asking::Asked;
 use gaz_cells::Cells;
 use gaz_records::{Kind, item_of_text};
 use gaz_store::Tables;
@@ -50,6 +51,11 @@ fn rests<S: Alter>(conn: &Connection<S>) -> Result<(), Error>
     }
 }
 
+fn cells_in(alloc: Global, kind: Kind, body: &str) -> Result<Cells, Fail> {
+    let item = item_of_text(alloc, kind, body.as_bytes())?;
+    Ok(Cells::of(alloc, &item)?)
+}
+
 // Adds an item of custodian 1001 with its cells.
 fn add<S: Alter>(
     alloc: Global,
@@ -57,8 +63,7 @@ fn add<S: Alter>(
     version: &Version,
 ) -> Result<(), Fail> {
     let (kind, born, gone, body) = *version;
-    let item = item_of_text(alloc, kind, body.as_bytes())?;
-    let cells = Cells::of(alloc, &item)?;
+    let cells = cells_in(alloc, kind, body)?;
     versions::insert(
         tx,
         1001,
@@ -98,27 +103,43 @@ fn fill<S: Alter>(alloc: Global, conn: &mut Connection<S>) -> Result<(), Fail> {
     Ok(())
 }
 
+// The tables behind the connection.
+fn over<S: Alter + Drop>(alloc: Global, conn: Connection<S>) -> Result<Asked<S>, Error> {
+    rests(&conn)?;
+    Ok(Asked {
+        tables: Tables::over(alloc, conn),
+    })
+}
+
+// Makes the tables.
+fn furnish<S: Alter>(conn: &mut Connection<S>) -> Result<(), Error> {
+    rests(conn)?;
+    create(conn, 1, "register")
+}
+
 /// Makes the tables over a connection, with their rows.
 pub fn furnished<S: Alter + Drop>(
     alloc: Global,
     mut conn: Connection<S>,
-) -> Result<Tables<S>, Fail> {
-    rests(&conn)?;
-    create(&mut conn, 1, "register")?;
+) -> Result<Asked<S>, Fail> {
+    furnish(&mut conn)?;
     fill(alloc, &mut conn)?;
-    rests(&conn)?;
-    Ok(Tables::over(alloc, conn))
+    Ok(over(alloc, conn)?)
 }
 
-/// The same tables, where the body of an LPI is another's.
-pub fn damaged<S: Alter + Drop>(alloc: Global, tables: Tables<S>) -> Result<Tables<S>, Fail> {
-    let mut conn = tables.into_connection();
-    rests(&conn)?;
+// Adds an LPI whose body is another's.
+fn damage<S: Alter>(conn: &mut Connection<S>) -> Result<(), Error> {
+    rests(conn)?;
     let mut tx = conn.transaction();
     versions::insert(
         &mut tx, 1001, 24, "L9", &42, 101, 1, true, 2, NEVER, NUMBER_14,
     )?;
-    tx.commit()?;
-    rests(&conn)?;
-    Ok(Tables::over(alloc, conn))
+    tx.commit()
+}
+
+/// The same tables, where the body of an LPI is another's.
+pub fn damaged<S: Alter + Drop>(alloc: Global, tables: Asked<S>) -> Result<Asked<S>, Fail> {
+    let mut conn = tables.into_connection();
+    damage(&mut conn)?;
+    Ok(over(alloc, conn)?)
 }

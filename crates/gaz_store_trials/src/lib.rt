@@ -4,4 +4,6 @@
 #[cfg(test)]
 mod asked;
 #[cfg(test)]
+mod asking;
+#[cfg(test)]
 mod fixtures;
