@@ -1,5 +1,5 @@
 -- How long a request's body is (RFC 9112, section 6), and whether the conversation ends after it
--- (section 9).
+-- (RFC 9112, section 9).
 use Rattle.std.specs.Prelude.{ℕ, ◌==◌, ◌||◌, not, nat_lt, Bool, if◌then◌else◌, List, length, codes}
 use Rattle.std.specs.Prelude.{Option, Some, None, bytes_eq}
 use Rattle.std.specs.Str.{all_ascii_digits}

@@ -68,7 +68,7 @@ fn size_of(value: &[u8]) -> Framing
 /// > responding with 411 (Length Required).
 ///
 /// A POST without a `Content-Length` is refused so. Our profile takes no transfer coding, and
-/// answers 411 to any, where section 6.1 has
+/// answers 411 to any, where RFC 9112, section 6.1, has
 ///
 /// > A server that receives a request message with a transfer coding it does not understand SHOULD
 /// > respond with 501 (Not Implemented).

@@ -83,7 +83,7 @@ fn is_close(element: &[u8]) -> bool
 // Whether one of the elements of a `Connection` header is `close`; a comma stands between each two.
 //
 // > Connection        = #connection-option (RFC 9110, section 7.6.1)
-// > #element => [ element ] *( OWS "," OWS [ element ] ) (section 5.6.1.2)
+// > #element => [ element ] *( OWS "," OWS [ element ] ) (RFC 9110, section 5.6.1.2)
 fn has_close_option(value: &[u8]) -> bool
     ensures { result ≡ has_close value.now }
 {
