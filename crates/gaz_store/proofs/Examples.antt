@@ -1,6 +1,6 @@
 -- What the definitions come to on worked examples.
 use Rattle.std.proofs.Common.{◌≡◌, ◌∙◌, ◌≤◌, ◌<◌, ◌+◌, ◌⊎◌, ℕ, suc, pos, true, List, [], ◌∷◌, inl, inr, refl, sym, ap, subst, arith, slice_get}
-use Rattle.std.specs.Prelude.{IsSomeAnd, Some, Ok, length, map, slice_index_or, unwrap_or}
+use Rattle.std.specs.Prelude.{IsSomeAnd, Some, None, Ok, length, map, slice_index_or, unwrap_or}
 use Rattle.std.specs.Cmp.{IsTotalOrder, nat_cmp_total}
 use Rattle.std.specs.FinMap as finite
 use Rattle.std.specs.FinMap.{find, put}
@@ -29,13 +29,14 @@ use Rattle.gaz_cells.specs.Reading.{read_cells}
 use Rattle.gaz_overlay.proofs.Rows.{item_after, stands, used_after, uses}
 use Rattle.gaz_overlay.specs.Rows.{HistoryRow, view_after}
 use Rattle.gaz_tables.specs.Receiveds.{judged}
-use Rattle.gaz_store.specs.Examples.{WorkedBoard, WorkedExamples, WorkedFiles, WorkedTables, WorkedViews, changed, changed_101, four_rows, held_6, overlapping, rejected_3, six_files, with_a_gap, worked_board}
+use Rattle.gaz_store.specs.Examples.{WorkedBoard, WorkedExamples, WorkedFiles, WorkedNewest, WorkedTables, WorkedViews, changed, changed_101_life, inserted_101, changed_101, four_rows, held_6, overlapping, rejected_3, six_files, with_a_gap, worked_board}
 use Rattle.gaz_shelf.specs.Board.{verdict_on}
 use Rattle.gaz_shelf.specs.Board as board
 use Rattle.gaz_shelf.specs.Received.{pair_cmp}
 use Rattle.gaz_shelf.proofs.Pairs.{pairs_total}
 use Rattle.gaz_store.specs.Files.{file_in, files_in, judged_in, judged_volumes, verdicts_in}
 use Rattle.gaz_store.specs.Kept.{AreInTurn, AreFirst, IsFile, IsVersion}
+use Rattle.gaz_store.specs.Newest.{IsNewest, IsNewestUntil}
 use Rattle.gaz_store.specs.Versions.{histories_in, history_in, item_in, living, values_of, view_in}
 use Rattle.gaz_store.proofs.Said.{cells_same, not_another, says}
 
@@ -310,5 +311,42 @@ tables_hold = record {
   overlap = no_overlap;
 }
 
+-- ---- the newest row of a key
+
+abbrev BornBy : Key → ℕ → HistoryRow → Type 0
+BornBy k n r = r.key ≡ k → r.born ≤ n
+
+newest_101 : IsNewest three (key.Street 101) (Some changed_101_life)
+newest_101 = record {
+  there = inr (inl refl);
+  of_key = refl;
+  passes = tt;
+  last = λ r there same any. all_has (BornBy (key.Street 101) 2) three r ((λ e. omega arith), ((λ e. omega arith), ((λ e. omega arith), tt))) there same;
+}
+
+newest_until_1 : IsNewestUntil 1 three (key.Street 101) (Some inserted_101)
+newest_until_1 = record { there = inl refl; of_key = refl; passes = omega arith; last = λ r there same early. early }
+
+not_103 : (n : ℕ) → (n ≡ 103 → ⊥) → ◌≡◌ {A = Key} (key.Street n) (key.Street 103) → ⊥
+unfolding usrn_of
+not_103 n other e = other (ap usrn_of e)
+
+none_of_103 : IsNewest three (key.Street 103) None
+none_of_103 = λ r there same any. all_has (λ (s : HistoryRow). s.key ≡ key.Street 103 → ⊥) three r (not_103 101 (λ e. absurd (omega arith)), (not_103 101 (λ e. absurd (omega arith)), (not_103 102 (λ e. absurd (omega arith)), tt))) there same
+
+newest_holds : WorkedNewest
+newest_holds = record {
+  newest = subst (λ hs. IsNewest hs (key.Street 101) (Some changed_101_life)) (sym histories_1001) newest_101;
+  until_1 = subst (λ hs. IsNewestUntil 1 hs (key.Street 101) (Some inserted_101)) (sym histories_1001) newest_until_1;
+  of_nobody = subst (λ hs. IsNewest hs (key.Street 103) None) (sym histories_1001) none_of_103;
+  after_3 = refl;
+  after_4 = refl;
+  gone = refl;
+  current = refl;
+  past = refl;
+  since = refl;
+  never = refl;
+}
+
 pub worked_examples_hold : WorkedExamples
-worked_examples_hold = record { on_views = views_hold; on_files = files_hold; on_boards = boards_hold; on_tables = tables_hold }
+worked_examples_hold = record { on_views = views_hold; on_files = files_hold; on_boards = boards_hold; on_tables = tables_hold; on_newest = newest_holds }

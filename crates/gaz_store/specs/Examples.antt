@@ -10,11 +10,14 @@ use Rattle.gaz_views.specs.Examples.{spring, street}
 use Rattle.gaz_views.specs.View.{was_used}
 use Rattle.gaz_views.specs.declared.verdict.Verdict.TheVariants.{Applied, Rejected}
 use Rattle.gaz_shelf.specs.Board.{Board, reached, verdict_on, view_after}
+use Rattle.gaz_overlay.specs.declared.touch.Stood.TheVariants.{Never, Past, Since}
 use Rattle.gaz_tables.specs.Receiveds.{judged, unjudged}
 use Rattle.gaz_store.specs.Contents.{board_in}
 use Rattle.gaz_store.specs.Files.{files_in, judged_in, reached_in, verdicts_in}
 use Rattle.gaz_store.specs.Kept.{AreInTurn, AreFirst, IsFile, IsVersion}
+use Rattle.gaz_store.specs.Newest.{IsNewest, IsNewestUntil, current_in, item_after, stood_by}
 use Rattle.gaz_store.specs.Versions.{histories_in, history_in, living, values_of, view_in}
+use Rattle.gaz_store.specs.declared.newest.Life.{Life}
 
 -- street 101, of another sort
 abbrev pub changed : Item
@@ -108,8 +111,31 @@ pub record WorkedTables : Type 0 where
   pub apart : AreInTurn (histories_in four_rows 1001)
   pub overlap : ¬ AreInTurn (histories_in overlapping 1001)
 
+-- what the rows say of the two that street 101 of 1001 had, and of that of 1002
+abbrev pub inserted_101 : Life
+inserted_101 = record { born = 1; gone = 2; item = street 101 }
+
+abbrev pub changed_101_life : Life
+changed_101_life = record { born = 2; gone = 4; item = changed }
+
+abbrev pub current_life : Life
+current_life = record { born = 1; gone = 1000000; item = street 101 }
+
+pub record WorkedNewest : Type 0 where
+  pub newest : IsNewest (histories_in four_rows 1001) (key.Street 101) (Some changed_101_life)
+  pub until_1 : IsNewestUntil 1 (histories_in four_rows 1001) (key.Street 101) (Some inserted_101)
+  pub of_nobody : IsNewest (histories_in four_rows 1001) (key.Street 103) None
+  pub after_3 : item_after 3 (Some changed_101_life) ≡ Some changed
+  pub after_4 : item_after 4 (Some changed_101_life) ≡ None
+  pub gone : current_in (Some changed_101_life) ≡ None
+  pub current : current_in (Some current_life) ≡ Some (street 101)
+  pub past : stood_by (Some changed_101_life) ≡ Past
+  pub since : stood_by (Some current_life) ≡ Since 1
+  pub never : stood_by None ≡ Never
+
 pub record WorkedExamples : Type 0 where
   pub on_views : WorkedViews
   pub on_files : WorkedFiles
   pub on_boards : WorkedBoard
   pub on_tables : WorkedTables
+  pub on_newest : WorkedNewest
