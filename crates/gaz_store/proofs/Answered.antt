@@ -4,7 +4,7 @@ use Rattle.sqlite.specs.Effect.{Database}
 use Rattle.sqlite_trees.specs.declared.store.Store.{Ghosts}
 use Rattle.gaz_shelf.specs.declared.fault.ShelfFault.{ShelfFault}
 use Rattle.gaz_store.specs.Asking.{AsksTables, Fails, IsAnyway, Tallies}
-use Rattle.gaz_store.specs.Kept.{IsKept}
+use Rattle.gaz_kept.specs.Kept.{IsKept}
 use Rattle.gaz_store.specs.declared.tables.Tables.{Tables}
 use Rattle.gaz_store.proofs.Composing.{answered, asked_nothing, asked_then, failed}
 use Rattle.gaz_store.proofs.Seeing.{asks_as}

@@ -10,7 +10,7 @@ use Rattle.gaz_shelf.specs.declared.fault.ShelfFault.{ShelfFault}
 use Rattle.gaz_sql_facts.specs.Changes.{IsSpared}
 use Rattle.gaz_tables.specs.Stores.{HasTables}
 use Rattle.gaz_store.specs.Asking.{Asks, AsksTables, Fails, IsAnyway, Tallies, Tells}
-use Rattle.gaz_store.specs.Kept.{IsKept}
+use Rattle.gaz_kept.specs.Kept.{IsKept}
 use Rattle.gaz_store.specs.Seen.{IsSettled}
 use Rattle.gaz_store.specs.declared.tables.Tables.{Tables}
 use Rattle.gaz_store.proofs.Seeing.{asks_as, asks_nothing, asks_probe, asks_query, asks_then, tallies_then}

@@ -32,14 +32,14 @@ use Rattle.gaz_overlay.specs.Rows.{HistoryRow, never}
 use Rattle.gaz_tables.specs.Schema.{receiveds, versions}
 use Rattle.gaz_tables.specs.Versions as table
 use Rattle.gaz_tables.specs.Versions.{IsApproved, IsApprovedOn, IsBehind, IsHolding, IsPartOf}
-use Rattle.gaz_store.specs.Files.{reached_in}
-use Rattle.gaz_store.specs.Kept.{IsKept, IsVersion}
+use Rattle.gaz_kept.specs.Files.{reached_in}
+use Rattle.gaz_kept.specs.Kept.{IsKept, IsVersion}
 use Rattle.gaz_store.specs.Paging.{IsStart, is_behind}
-use Rattle.gaz_store.specs.Versions.{history_in, item_in, living, number_in}
+use Rattle.gaz_kept.specs.Versions.{history_in, item_in, living, number_in}
 use Rattle.gaz_store.proofs.Chosen.{FitJust}
 use Rattle.gaz_store.proofs.Holding.{HoldsItem, said_cells, said_history, said_key, said_known, said_text}
-use Rattle.gaz_store.proofs.Reached.{reached_room}
-use Rattle.gaz_store.proofs.Statements.{fits, item_of, read_in, same_kind, whole}
+use Rattle.gaz_kept.proofs.Reached.{reached_room}
+use Rattle.gaz_kept.proofs.Statements.{fits, item_of, read_in, same_kind, whole}
 
 -- ---- ids behind a text
 

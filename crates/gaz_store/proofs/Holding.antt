@@ -25,11 +25,11 @@ use Rattle.gaz_overlay.specs.Rows.{HistoryRow, view_after}
 use Rattle.gaz_tables.proofs.VersionOnce.{born_once}
 use Rattle.gaz_tables.specs.Schema.{versions}
 use Rattle.gaz_tables.specs.Versions as table
-use Rattle.gaz_store.specs.Kept.{IsKept, IsVersion}
-use Rattle.gaz_store.specs.Versions.{cells_in, histories_in, history_in, item_in, living, number_in, text_in, view_in}
-use Rattle.gaz_store.proofs.Sorted.{map_from, map_has}
-use Rattle.gaz_store.proofs.Statements.{birth_of, fits, history_of, item_of, its_custodian, read_from, read_in, some_same}
-use Rattle.gaz_store.proofs.Views.{Holds, entered, entries_at, entry, one_holds, single_at}
+use Rattle.gaz_kept.specs.Kept.{IsKept, IsVersion}
+use Rattle.gaz_kept.specs.Versions.{cells_in, histories_in, history_in, item_in, living, number_in, text_in, view_in}
+use Rattle.gaz_kept.proofs.Sorted.{map_from, map_has}
+use Rattle.gaz_kept.proofs.Statements.{birth_of, fits, history_of, item_of, its_custodian, read_from, read_in, some_same}
+use Rattle.gaz_kept.proofs.Views.{Holds, entered, entries_at, entry, one_holds, single_at}
 
 -- a row says an item of a custodian, which holds after a volume
 pub record HoldsItem (c t : ℕ) (r : Row) (x : Item) : Type 0 where

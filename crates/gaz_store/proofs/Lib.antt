@@ -1,21 +1,7 @@
-pub mod Pairs
-pub mod Said
-pub mod Views
-pub mod Statements
-pub mod AtKeys
-pub mod NewestRows
-pub mod Rising
-pub mod Approved
-pub mod KeysNamed
-pub mod Judging
-pub mod Reached
-pub mod KeysTold
-pub mod Boards
 pub mod Asked
 pub mod Seeing
 pub mod Composing
 pub mod Answered
-pub mod Sorted
 pub mod Holding
 pub mod Chosen
 pub mod Fits
@@ -23,5 +9,3 @@ pub mod PageRows
 pub mod StreetRows
 pub mod Saying
 pub mod Verdicts
-pub mod Stands
-pub mod Examples

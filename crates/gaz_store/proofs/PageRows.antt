@@ -32,17 +32,17 @@ use Rattle.gaz_tables.specs.Shows.{ShowsPage}
 use Rattle.gaz_tables.specs.Versions as table
 use Rattle.gaz_tables.specs.Versions.{FindsHolding, IsHolding, body_shown, id_place}
 use Rattle.gaz_shelf.specs.Board.{reached}
-use Rattle.gaz_store.specs.Contents.{board_of}
-use Rattle.gaz_store.specs.Files.{reached_in}
-use Rattle.gaz_store.specs.Kept.{IsKept}
+use Rattle.gaz_kept.specs.Contents.{board_of}
+use Rattle.gaz_kept.specs.Files.{reached_in}
+use Rattle.gaz_kept.specs.Kept.{IsKept}
 use Rattle.gaz_store.specs.Paging.{IsPageFrom, IsStart, SayItems, is_behind, item_said}
-use Rattle.gaz_store.specs.Versions.{text_in, view_in}
-use Rattle.gaz_store.proofs.Boards.{board_reads}
+use Rattle.gaz_kept.specs.Versions.{text_in, view_in}
+use Rattle.gaz_kept.proofs.Boards.{board_reads}
 use Rattle.gaz_store.proofs.Chosen.{page_read}
 use Rattle.gaz_store.proofs.Fits.{comes_in, holding_just}
 use Rattle.gaz_store.proofs.Holding.{HoldsItem, by_ids, said_cells, said_known}
-use Rattle.gaz_store.proofs.Reached.{reached_room}
-use Rattle.gaz_store.proofs.Statements.{born_later, fits}
+use Rattle.gaz_kept.proofs.Reached.{reached_room}
+use Rattle.gaz_kept.proofs.Statements.{born_later, fits}
 
 -- ---- where a page begins
 

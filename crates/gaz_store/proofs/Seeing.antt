@@ -15,8 +15,8 @@ use Rattle.gaz_sql_facts.specs.Changes.{IsSpared}
 use Rattle.gaz_tables.specs.Schema.{receiveds}
 use Rattle.gaz_tables.specs.Stores.{HasTables}
 use Rattle.gaz_store.specs.Asking.{Asks, Tallies}
-use Rattle.gaz_store.specs.Contents.{content_in}
-use Rattle.gaz_store.specs.Kept.{IsKept}
+use Rattle.gaz_kept.specs.Contents.{content_in}
+use Rattle.gaz_kept.specs.Kept.{IsKept}
 use Rattle.gaz_store.specs.Remembered.{AreSo, Remembered}
 use Rattle.gaz_store.specs.Seen.{IsSettled, IsUnharmed, Rests, StandsFor, seen_of}
 

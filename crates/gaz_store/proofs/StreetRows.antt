@@ -30,14 +30,14 @@ use Rattle.gaz_cells.specs.Ids.{id_of}
 use Rattle.gaz_tables.specs.Schema.{receiveds, versions}
 use Rattle.gaz_tables.specs.Versions as table
 use Rattle.gaz_tables.specs.Versions.{FindsApprovedOn, FindsParts, IsApprovedOn, IsPartOf, id_place, id_shown, lang_shown}
-use Rattle.gaz_store.specs.Files.{reached_in}
-use Rattle.gaz_store.specs.Kept.{IsKept}
-use Rattle.gaz_store.specs.LastViews.{last_in}
+use Rattle.gaz_kept.specs.Files.{reached_in}
+use Rattle.gaz_kept.specs.Kept.{IsKept}
+use Rattle.gaz_kept.specs.LastViews.{last_in}
 use Rattle.gaz_store.specs.Paging.{is_behind, says_lang}
 use Rattle.gaz_store.specs.Streets.{AreBehind, IsStep, IsStepOf}
 use Rattle.gaz_store.specs.declared.streets.Step.{Step}
 use Rattle.gaz_store.specs.declared.streets.Step.TheVariants.{Told, Behind}
-use Rattle.gaz_store.specs.Versions.{number_in}
+use Rattle.gaz_kept.specs.Versions.{number_in}
 use Rattle.gaz_store.proofs.Chosen.{chosen_fits, chosen_rises, fit_chosen}
 use Rattle.gaz_store.proofs.Fits.{approved_just, in_lang, left_on, part_left, parts_just}
 use Rattle.gaz_store.proofs.Holding.{HoldsItem, entry_in_view, entry_of, row_of, said_cells, said_key, said_text}

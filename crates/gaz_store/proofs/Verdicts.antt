@@ -18,16 +18,16 @@ use Rattle.gaz_tables.specs.Receiveds as table
 use Rattle.gaz_tables.specs.Receiveds.{FindsVerdict, IsVolume, verdict_shown}
 use Rattle.gaz_tables.specs.Schema.{receiveds, versions}
 use Rattle.gaz_store.specs.Answers.{SaysVerdict}
-use Rattle.gaz_store.specs.Contents.{board_in}
-use Rattle.gaz_store.specs.Files.{custodian_in, judged_in, judged_volumes, verdict_in, volume_in}
-use Rattle.gaz_store.specs.Judging.{AreFiles}
-use Rattle.gaz_store.specs.Kept.{IsKept}
-use Rattle.gaz_store.specs.Versions.{number_in}
-use Rattle.gaz_store.proofs.Boards.{board_reads}
-use Rattle.gaz_store.proofs.Judging.{said_as, said_by, single_judged}
-use Rattle.gaz_store.proofs.Pairs.{at_one, missing}
-use Rattle.gaz_store.proofs.Stands.{are_files}
-use Rattle.gaz_store.proofs.Statements.{not_none, read_from, read_in, whole}
+use Rattle.gaz_kept.specs.Contents.{board_in}
+use Rattle.gaz_kept.specs.Files.{custodian_in, judged_in, judged_volumes, verdict_in, volume_in}
+use Rattle.gaz_kept.specs.Judging.{AreFiles}
+use Rattle.gaz_kept.specs.Kept.{IsKept}
+use Rattle.gaz_kept.specs.Versions.{number_in}
+use Rattle.gaz_kept.proofs.Boards.{board_reads}
+use Rattle.gaz_kept.proofs.Judging.{said_as, said_by, single_judged}
+use Rattle.gaz_kept.proofs.Pairs.{at_one, missing}
+use Rattle.gaz_kept.proofs.Stands.{are_files}
+use Rattle.gaz_kept.proofs.Statements.{not_none, read_from, read_in, whole}
 
 module _ (c v : ℕ) (rows answer : List Row) (are : AreFiles rows) (found : FindsVerdict c v rows answer) where
   abbrev entries : List (ℕ × Verdict)

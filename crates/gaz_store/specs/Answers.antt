@@ -2,8 +2,8 @@
 use Rattle.std.specs.Prelude.{◌≡◌, ℕ, List, [], ◌∷◌, Option, None}
 use Rattle.sqlite.specs.Order.{Row, column}
 use Rattle.gaz_views.specs.declared.verdict.Verdict.{Verdict}
-use Rattle.gaz_store.specs.Files.{verdict_of}
-use Rattle.gaz_store.specs.Versions.{number_in}
+use Rattle.gaz_kept.specs.Files.{verdict_of}
+use Rattle.gaz_kept.specs.Versions.{number_in}
 
 -- the verdict of the first row, of state, place and rule
 abbrev pub SaysVerdict : List Row → Option Verdict → Type 0

@@ -8,7 +8,7 @@ use Rattle.sqlite_trees.specs.declared.store.Store.{Ghosts}
 use Rattle.gaz_shelf.specs.declared.fault.ShelfFault.{ShelfFault}
 use Rattle.gaz_shelf.specs.declared.fault.ShelfFault.TheVariants.{Store}
 use Rattle.gaz_tables.specs.Stores.{HasTables}
-use Rattle.gaz_store.specs.Kept.{IsKept}
+use Rattle.gaz_kept.specs.Kept.{IsKept}
 use Rattle.gaz_store.specs.Seen.{IsUnharmed}
 use Rattle.gaz_store.specs.declared.tables.Tables.{Tables}
 

@@ -1,13 +1,3 @@
-pub mod Versions
-pub mod Files
-pub mod Contents
-pub mod Kept
-pub mod Decoding
-pub mod Newest
-pub mod LastViews
-pub mod Addresses
-pub mod Histories
-pub mod Judging
 pub mod Answers
 pub mod Remembered
 pub mod Seen
@@ -15,5 +5,3 @@ pub mod Tables
 pub mod Asking
 pub mod Paging
 pub mod Streets
-pub mod Stands
-pub mod Examples

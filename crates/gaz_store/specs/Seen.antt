@@ -6,8 +6,8 @@ use Rattle.sqlite.specs.State.{HasCleanDisk, State}
 use Rattle.gaz_views.specs.View.{View, empty_view}
 use Rattle.gaz_shelf.specs.Keeper.{Content, Idle, IsLawful, Progress, Seen}
 use Rattle.gaz_tables.specs.Schema.{receiveds}
-use Rattle.gaz_store.specs.Contents.{content_in}
-use Rattle.gaz_store.specs.Kept.{IsKept}
+use Rattle.gaz_kept.specs.Contents.{content_in}
+use Rattle.gaz_kept.specs.Kept.{IsKept}
 use Rattle.gaz_store.specs.Remembered.{AreSo, Remembered}
 
 -- the tables are those of a store, what is at hand is so of them, and what they stand for is lawful

@@ -7,6 +7,7 @@ ghost use Rattle.gaz_store.specs.Seen.{IsSettled};
 
 use crate::probing::probe;
 use crate::tables::Tables;
+use gaz_kept::decoding::RowFault;
 use gaz_shelf::ShelfFault;
 use sqlite::{Alter, Error, ErrorCode};
 
@@ -66,6 +67,16 @@ impl<S: Alter> Tables<S> {
                 Ok(found)
             }
             Err(error) => Err(self.fault(error)),
+        }
+    }
+
+    /// Want of memory, or a failure, which is counted: the row is one that no store writes.
+    pub(crate) fn row_fault(&mut self, fault: RowFault) -> ShelfFault
+        ensures { Fails self.old self.new result }
+    {
+        match fault {
+            RowFault::Memory => ShelfFault::Memory,
+            RowFault::Wrong => self.fail(),
         }
     }
 }

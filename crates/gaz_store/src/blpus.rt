@@ -4,11 +4,11 @@ ghost use Rattle.gaz_tables.specs.Schema.{versions};
 ghost use Rattle.gaz_tables.specs.Versions.{FindsApprovedOf};
 ghost use Rattle.gaz_views.specs.Words.{address_of, approved_of, property_of};
 ghost use Rattle.gaz_store.specs.Asking.{AsksTables};
-ghost use Rattle.gaz_store.specs.LastViews.{last_in};
+ghost use Rattle.gaz_kept.specs.LastViews.{last_in};
 
-use crate::addresses::{keys_said, least_said};
 use crate::tables::Tables;
 use gaz_ids::{Code, Uprn};
+use gaz_kept::addresses::{keys_said, least_said};
 use gaz_records::{Key, SharedItem};
 use gaz_shelf::ShelfFault;
 use gaz_tables::versions;

@@ -7,8 +7,8 @@ ghost use Rattle.gaz_tables.specs.Receiveds.{FindsVerdict};
 ghost use Rattle.gaz_tables.specs.Schema.{receiveds};
 ghost use Rattle.gaz_store.specs.Answers.{SaysVerdict};
 ghost use Rattle.gaz_store.specs.Asking.{AsksTables};
-ghost use Rattle.gaz_store.specs.Contents.{board_of};
-ghost use Rattle.gaz_store.specs.Files.{verdict_of};
+ghost use Rattle.gaz_kept.specs.Contents.{board_of};
+ghost use Rattle.gaz_kept.specs.Files.{verdict_of};
 
 use crate::tables::Tables;
 use gaz_ids::{Code, Volume};

@@ -6,12 +6,12 @@ ghost use Rattle.gaz_records.specs.Kinds.{number_of};
 ghost use Rattle.gaz_tables.specs.Schema.{versions};
 ghost use Rattle.gaz_tables.specs.Versions.{FindsHolding};
 ghost use Rattle.gaz_store.specs.Asking.{AsksTables};
-ghost use Rattle.gaz_store.specs.Contents.{board_of};
+ghost use Rattle.gaz_kept.specs.Contents.{board_of};
 ghost use Rattle.gaz_store.specs.Paging.{IsPageFrom, IsStart, SayItems, item_said};
 
-use crate::decoding::{RowFault, item_in, key_in, kind_in, name_of};
 use crate::tables::Tables;
 use gaz_ids::{Code, LAST_VOLUME};
+use gaz_kept::decoding::{RowFault, item_in, key_in, kind_in, name_of};
 use gaz_records::{Key, Kind, SharedItem};
 use gaz_shelf::ShelfFault;
 use gaz_tables::versions;

@@ -6,13 +6,13 @@ ghost use Rattle.gaz_tables.specs.Schema.{versions};
 ghost use Rattle.gaz_tables.specs.Versions.{FindsApprovedOn, FindsParts};
 ghost use Rattle.gaz_views.specs.Words.{approved_on, has_children};
 ghost use Rattle.gaz_store.specs.Asking.{AsksTables};
-ghost use Rattle.gaz_store.specs.LastViews.{last_in};
+ghost use Rattle.gaz_kept.specs.LastViews.{last_in};
 ghost use Rattle.gaz_store.specs.Paging.{says_lang};
 ghost use Rattle.gaz_store.specs.Streets.{IsIdOf, IsStep, IsStepOf};
 
-use crate::decoding::{RowFault, number, text};
 use crate::tables::Tables;
 use gaz_ids::{Code, Lang, Uprn, Usrn};
+use gaz_kept::decoding::{RowFault, number, text};
 use gaz_shelf::ShelfFault;
 use gaz_tables::versions;
 use sqlite::{Alter, Row};

@@ -1,9 +1,9 @@
 use Rattle.std.proofs.Common.{IfOk, pos, subst}
 use Rattle.gaz_tables.specs.Schema.{versions}
 use Rattle.gaz_tables.specs.Versions.{FindsApprovedOf}
-use Rattle.gaz_store.specs.Addresses.{SaysLeast}
+use Rattle.gaz_kept.specs.Addresses.{SaysLeast}
 use Rattle.gaz_store.proofs.Composing.{answered}
-use Rattle.gaz_store.proofs.KeysTold.{address_of_told}
+use Rattle.gaz_kept.proofs.KeysTold.{address_of_told}
 use Rattle.gaz_store.proofs.tables.Tables.address_of.Goals as goal
 
 pub returns-in-Ok : goal.returns-in-Ok

@@ -1,5 +1,5 @@
 use Rattle.std.proofs.Common.{subst, sym}
-use Rattle.gaz_store.specs.LastViews.{last_in}
+use Rattle.gaz_kept.specs.LastViews.{last_in}
 use Rattle.gaz_store.specs.Streets.{AreBehind, IsStep}
 use Rattle.gaz_store.proofs.Answered.{asked_fault, asked_step}
 use Rattle.gaz_store.proofs.Composing.{asked_nothing, failed}

@@ -1,7 +1,7 @@
 use Rattle.std.proofs.Common.{Ok}
 use Rattle.std.specs.String.{string_bytes}
 use Rattle.gaz_store.specs.Asking.{AsksTables}
-use Rattle.gaz_store.specs.LastViews.{last_in}
+use Rattle.gaz_kept.specs.LastViews.{last_in}
 use Rattle.gaz_store.specs.Streets.{AreBehind}
 use Rattle.gaz_store.proofs.tables.Tables.approved_on.Given as goal
 

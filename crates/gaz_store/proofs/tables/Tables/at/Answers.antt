@@ -1,10 +1,10 @@
 use Rattle.std.proofs.Common.{◌≤◌, ◌∙◌, IfOk, arith, subst}
 use Rattle.gaz_tables.specs.Schema.{receiveds, versions}
-use Rattle.gaz_store.specs.Newest.{IsNewestUntil}
-use Rattle.gaz_store.specs.Versions.{histories_in}
+use Rattle.gaz_kept.specs.Newest.{IsNewestUntil}
+use Rattle.gaz_kept.specs.Versions.{histories_in}
 use Rattle.gaz_store.proofs.Composing.{answered}
-use Rattle.gaz_store.proofs.KeysTold.{at_told}
-use Rattle.gaz_store.proofs.Reached.{reached_most}
+use Rattle.gaz_kept.proofs.KeysTold.{at_told}
+use Rattle.gaz_kept.proofs.Reached.{reached_most}
 use Rattle.gaz_store.proofs.tables.Tables.at.Goals as goal
 
 pub returns : goal.returns

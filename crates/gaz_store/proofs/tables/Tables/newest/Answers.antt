@@ -2,9 +2,9 @@ use Rattle.std.proofs.Common.{◌∙◌, IfOk, subst}
 use Rattle.gaz_records.specs.Kinds.{number_of}
 use Rattle.gaz_tables.specs.Schema.{versions}
 use Rattle.gaz_tables.specs.Versions.{FindsNewest}
-use Rattle.gaz_store.specs.Newest.{SaysNewest}
+use Rattle.gaz_kept.specs.Newest.{SaysNewest}
 use Rattle.gaz_store.proofs.Composing.{answered, failed}
-use Rattle.gaz_store.proofs.KeysTold.{newest_of}
+use Rattle.gaz_kept.proofs.KeysTold.{newest_of}
 use Rattle.gaz_store.proofs.tables.Tables.newest.Goals as goal
 
 pub returns-in-Ok-newest_said : goal.returns-in-Ok-newest_said

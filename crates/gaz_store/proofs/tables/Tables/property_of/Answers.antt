@@ -2,10 +2,10 @@ use Rattle.std.proofs.Common.{◌≡◌, ◌∙◌, IfOk, sym, subst}
 use Rattle.std.specs.FinMap as map
 use Rattle.gaz_records.specs.declared.key.Key.TheVariants as key
 use Rattle.gaz_views.specs.Words.{address_of}
-use Rattle.gaz_store.specs.LastViews.{last_in}
+use Rattle.gaz_kept.specs.LastViews.{last_in}
 use Rattle.gaz_store.proofs.Answered.{asked_fault}
 use Rattle.gaz_store.proofs.Composing.{asked_then}
-use Rattle.gaz_store.proofs.KeysTold.{its_property}
+use Rattle.gaz_kept.proofs.KeysTold.{its_property}
 use Rattle.gaz_store.proofs.tables.Tables.property_of.Goals as goal
 
 pub returns-in-Err : goal.returns-in-Err

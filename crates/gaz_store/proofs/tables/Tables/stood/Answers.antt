@@ -1,10 +1,10 @@
 use Rattle.std.proofs.Common.{IfOk, subst, sym}
 use Rattle.gaz_tables.specs.Schema.{versions}
-use Rattle.gaz_store.specs.LastViews.{last_in}
-use Rattle.gaz_store.specs.Newest.{IsNewest, TellsStood, current_in}
-use Rattle.gaz_store.specs.Versions.{histories_in}
+use Rattle.gaz_kept.specs.LastViews.{last_in}
+use Rattle.gaz_kept.specs.Newest.{IsNewest, TellsStood, current_in}
+use Rattle.gaz_kept.specs.Versions.{histories_in}
 use Rattle.gaz_store.proofs.Composing.{answered}
-use Rattle.gaz_store.proofs.KeysTold.{stood_told}
+use Rattle.gaz_kept.proofs.KeysTold.{stood_told}
 use Rattle.gaz_store.proofs.tables.Tables.stood.Goals as goal
 
 pub returns : goal.returns

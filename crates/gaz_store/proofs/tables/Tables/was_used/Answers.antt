@@ -1,9 +1,9 @@
 use Rattle.std.proofs.Common.{◌∙◌, IfOk, subst}
 use Rattle.gaz_tables.specs.Schema.{versions}
-use Rattle.gaz_store.specs.Newest.{IsNewest}
-use Rattle.gaz_store.specs.Versions.{histories_in}
+use Rattle.gaz_kept.specs.Newest.{IsNewest}
+use Rattle.gaz_kept.specs.Versions.{histories_in}
 use Rattle.gaz_store.proofs.Composing.{answered}
-use Rattle.gaz_store.proofs.KeysTold.{used_told}
+use Rattle.gaz_kept.proofs.KeysTold.{used_told}
 use Rattle.gaz_store.proofs.tables.Tables.was_used.Goals as goal
 
 pub returns : goal.returns

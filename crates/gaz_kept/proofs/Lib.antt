@@ -1,0 +1,16 @@
+pub mod Pairs
+pub mod Said
+pub mod Views
+pub mod Statements
+pub mod AtKeys
+pub mod NewestRows
+pub mod Rising
+pub mod Approved
+pub mod KeysNamed
+pub mod Judging
+pub mod Reached
+pub mod KeysTold
+pub mod Boards
+pub mod Sorted
+pub mod Stands
+pub mod Examples

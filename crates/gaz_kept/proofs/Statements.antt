@@ -1,0 +1,320 @@
+-- What an INSERT and an UPDATE make of the histories.
+use Rattle.std.proofs.Common.{◌≡◌, ◌≢◌, ◌∙◌, ◌≤◌, ◌==◌, ◌⊎◌, inl, inr, ℕ, pos, Bool, true, false, cond, List, [], ◌∷◌, refl, sym, ap, subst, eq-eqb, ne_eqb, eqb-true}
+use Rattle.std.specs.Prelude.{Option, Some, None, Ok, Err, Result, IsSomeAnd, option_map}
+use Rattle.std.specs.List.{cons_option, filter_map}
+use Rattle.sqlite.specs.declared.types.Value.{Value}
+use Rattle.sqlite.specs.declared.types.Value.TheVariants.{Int, Text}
+use Rattle.sqlite.specs.Order.{Row}
+use Rattle.sqlite_rules.specs.Lists.{Has}
+use Rattle.gaz_records.proofs.ItemsBack.{fields-back, text-back}
+use Rattle.gaz_records.specs.Fields.{ok_of}
+use Rattle.gaz_records.specs.Items.{ItemsReadBack, is_item}
+use Rattle.gaz_records.specs.Keys.{key_of}
+use Rattle.gaz_records.specs.Kinds.{number_of}
+use Rattle.gaz_records.specs.declared.item.Item.{Item}
+use Rattle.gaz_records.specs.declared.item.Kind.{Kind}
+use Rattle.gaz_records.specs.declared.key.Key.{Key}
+use Rattle.gaz_cells.proofs.CellsBack.{cells_back, cells_fit, cells_follow, numbered}
+use Rattle.gaz_cells.proofs.Ids.{ids_apart}
+use Rattle.gaz_cells.specs.Columns.{CellsValue, cells_of, live_of}
+use Rattle.gaz_cells.specs.Ids.{id_of, is_key, kind_in}
+use Rattle.gaz_cells.specs.Laws.{CellsFit}
+use Rattle.gaz_cells.specs.Reading.{kind_numbered, read_cells}
+use Rattle.gaz_cells.specs.declared.fault.CellFault.{CellFault}
+use Rattle.gaz_overlay.specs.Rows.{HistoryRow}
+use Rattle.gaz_tables.specs.Versions as table
+use Rattle.gaz_tables.specs.Versions.{Closes, IsOfBirth, gone_at}
+use Rattle.gaz_kept.specs.Histories.{AreVersions, ClosesVersion, InsertAdds, StatementsChange, gone_with}
+use Rattle.gaz_kept.specs.Judging.{AreBornLater}
+use Rattle.gaz_kept.specs.Kept.{AreInTurn, IsVersion}
+use Rattle.gaz_kept.specs.Versions.{cells_in, histories_in, history_in, item_in, living, number_in, text_in, values_of}
+use Rattle.gaz_kept.proofs.Said.{cells_same, not_another, says}
+
+-- ---- lists that are read
+
+module _ {X Y : Type 0} (f : X → Option Y) where
+  pub read_from : (xs : List X) (y : Y) → Has (filter_map f xs) y → (x : X) × Has xs x × (f x ≡ Some y)
+  read_from [] y h = absurd h
+  read_from (x ∷ xs) y h = by_read (read_from xs y) (f x) refl h
+    where
+      later : ((z : X) × Has xs z × (f z ≡ Some y)) → (z : X) × Has (x ∷ xs) z × (f z ≡ Some y)
+      later z = (z.0, inr z.1, z.2)
+
+      by_read : (Has (filter_map f xs) y → (z : X) × Has xs z × (f z ≡ Some y)) → (o : Option Y) → f x ≡ o → Has (cons_option o (filter_map f xs)) y → (z : X) × Has (x ∷ xs) z × (f z ≡ Some y)
+      by_read behind None is h = later (behind h)
+      by_read behind (Some z) is (inl same) = (x, inl refl, is ∙ ap Some (sym same))
+      by_read behind (Some z) is (inr h) = later (behind h)
+
+  pub read_in : (xs : List X) (x : X) (y : Y) → Has xs x → f x ≡ Some y → Has (filter_map f xs) y
+  read_in [] x y h is = absurd h
+  read_in (z ∷ xs) x y (inl same) is = subst (λ o. Has (cons_option o (filter_map f xs)) y) (sym (ap f (sym same) ∙ is)) (inl refl)
+  read_in (z ∷ xs) x y (inr later) is = by_read (read_in xs x y later is) (f z)
+    where
+      by_read : Has (filter_map f xs) y → (o : Option Y) → Has (cons_option o (filter_map f xs)) y
+      by_read h None = h
+      by_read h (Some w) = inr h
+
+pub some_same : {X : Type 0} {o : Option X} (x y : X) → o ≡ Some x → o ≡ Some y → x ≡ y
+some_same x y a b = let e : Some x ≡ Some y = sym a ∙ b in cc
+
+pub not_none : {X A : Type 0} {o : Option X} (x : X) → o ≡ Some x → o ≡ None → A
+not_none x some none = let e : None ≡ Some x = sym none ∙ some in absurd (cc)
+
+-- ---- a row and its item
+
+items_read_back : ItemsReadBack
+items_read_back x h = (fields-back x h, text-back x h)
+
+pub fits : (x : Item) → is_item x ≡ true → CellsFit x
+fits x h = cells_fit items_read_back x h
+
+-- the item of a row
+pub record Says (r : Row) : Type 0 where
+  pub item : Item
+  pub known : is_item item ≡ true
+  pub said : item_in r ≡ Some item
+  pub cells : cells_of item ≡ cells_in r
+
+ok_is : (a : Result Item CellFault) (x : Item) → ok_of a ≡ Some x → a ≡ Ok x
+ok_is (Ok y) x e = let same : y ≡ x = cc in ap Ok same
+ok_is (Err f) x e = let none : None ≡ Some x = e in absurd (cc)
+
+pub item_of : (r : Row) → IsVersion r → Says r
+item_of r v = by_item (item_in r) refl v.item
+  where
+    by_item : (o : Option Item) → item_in r ≡ o → IsSomeAnd o (λ x. is_item x ≡ true) → Says r
+    by_item None is known = absurd known
+    by_item (Some x) is known = record { item = x; known = known; said = is; cells = cells_follow (cells_in r) x (ok_is (read_cells (cells_in r)) x is) }
+
+-- the history of a row
+pub history_of : (c : ℕ) (r : Row) (s : Says r) → number_in (table.cust_of r) ≡ c → history_in c r ≡ Some (living (number_in (table.born_of r)) (number_in (table.gone_of r)) s.item)
+history_of c r s cust =
+    let born = number_in (table.born_of r) in
+    let gone = number_in (table.gone_of r) in
+    ap (λ b. cond b (option_map (living born gone) (item_in r)) None) (eq-eqb (number_in (table.cust_of r)) c cust) ∙ ap (option_map (living born gone)) s.said
+
+pub its_custodian : (c : ℕ) (r : Row) (y : HistoryRow) → history_in c r ≡ Some y → number_in (table.cust_of r) ≡ c
+its_custodian c r y is = by_test (number_in (table.cust_of r) == c) refl is
+  where
+    by_test : (b : Bool) → (number_in (table.cust_of r) == c) ≡ b → cond b (option_map (living (number_in (table.born_of r)) (number_in (table.gone_of r))) (item_in r)) None ≡ Some y → number_in (table.cust_of r) ≡ c
+    by_test true t e = eqb-true (number_in (table.cust_of r)) c t
+    by_test false t e = not_none y e refl
+
+pub not_of : (c : ℕ) (r : Row) → number_in (table.cust_of r) ≢ c → history_in c r ≡ None
+not_of c r other = ap (λ b. cond b (option_map (living (number_in (table.born_of r)) (number_in (table.gone_of r))) (item_in r)) None) (ne_eqb (number_in (table.cust_of r)) c other)
+
+-- ---- a row's columns and its key
+
+pub same_kind : (k l : Kind) → number_of k ≡ number_of l → k ≡ l
+same_kind k l e = some_same k l (numbered k) (ap kind_numbered e ∙ numbered l)
+
+abbrev pub IsBirthOf : ℕ → Key → ℕ → Row → Type 0
+IsBirthOf c k born r = IsOfBirth c (number_of (kind_in k)) (id_of k) born r
+
+pub whole : (v : Value) (n : ℕ) → v ≡ Int (pos (number_in v)) → number_in v ≡ n → v ≡ Int (pos n)
+whole v n is e = is ∙ ap (λ m. Int (pos m)) e
+
+pub birth_of : (c : ℕ) (r : Row) → IsVersion r → (y : HistoryRow) → history_in c r ≡ Some y → IsBirthOf c y.key y.born r
+birth_of c r v y is =
+    let s = item_of r v in
+    let fit = fits s.item s.known in
+    let h = some_same (living (number_in (table.born_of r)) (number_in (table.gone_of r)) s.item) y (history_of c r s (its_custodian c r y is)) is in
+    let kind : number_in (table.kind_of r) ≡ number_of (kind_in (key_of s.item)) = ap (λ (d : CellsValue). d.kind) (sym s.cells) ∙ ap number_of (sym fit.kind) in
+    let id : text_in (table.id_of r) ≡ id_of (key_of s.item) = ap (λ (d : CellsValue). d.id) (sym s.cells) in
+    subst (λ (z : HistoryRow). IsBirthOf c z.key z.born r) h (record {
+      of_key = record {
+        of_cust = whole (table.cust_of r) c v.cust (its_custodian c r y is);
+        of_kind = whole (table.kind_of r) _ v.kind kind;
+        of_id = v.id ∙ ap Text id;
+      };
+      of_born = v.born;
+    })
+
+-- the row of a birth has the history of that key and birth
+pub record Born (c : ℕ) (k : Key) (born : ℕ) (r : Row) : Type 0 where
+  pub row : HistoryRow
+  pub is : history_in c r ≡ Some row
+  pub key : row.key ≡ k
+  pub birth : row.born ≡ born
+
+pub born_as : (c : ℕ) (k : Key) (born : ℕ) (r : Row) → IsVersion r → is_key k ≡ true → IsBirthOf c k born r → Born c k born r
+born_as c k born r v is b =
+    let s = item_of r v in
+    let fit = fits s.item s.known in
+    let kind : number_of (kind_in (key_of s.item)) ≡ number_of (kind_in k) = ap number_of fit.kind ∙ ap (λ (d : CellsValue). d.kind) s.cells ∙ ap number_in b.of_key.of_kind in
+    let id : id_of (key_of s.item) ≡ id_of k = ap (λ (d : CellsValue). d.id) s.cells ∙ ap text_in b.of_key.of_id in
+    record {
+      row = living (number_in (table.born_of r)) (number_in (table.gone_of r)) s.item;
+      is = history_of c r s (ap number_in b.of_key.of_cust);
+      key = ids_apart (key_of s.item) k fit.key is (same_kind _ _ kind) id;
+      birth = ap number_in b.of_born;
+    }
+
+-- ---- a row that is gone with a volume
+
+gone_history : (c volume : ℕ) (r : Row) (y : HistoryRow) → IsVersion r → history_in c r ≡ Some y → history_in c (gone_at volume r) ≡ Some (gone_with volume y)
+gone_history c volume r y v is =
+    let s = item_of r v in
+    let cust = its_custodian c r y is in
+    let born = number_in (table.born_of r) in
+    let h = some_same (living born (number_in (table.gone_of r)) s.item) y (history_of c r s cust) is in
+    ap (λ b. cond b (option_map (living born volume) (item_in r)) None) (eq-eqb (number_in (table.cust_of r)) c cust)
+    ∙ ap (option_map (living born volume)) s.said
+    ∙ ap (λ (z : HistoryRow). Some (gone_with volume z)) h
+
+gone_version : (volume : ℕ) (r : Row) → IsVersion r → number_in (table.born_of r) ≤ volume → IsVersion (gone_at volume r)
+gone_version volume r v le = record {
+  cust = v.cust;
+  kind = v.kind;
+  id = v.id;
+  blpu = v.blpu;
+  street = v.street;
+  lang = v.lang;
+  live = v.live;
+  body = v.body;
+  born = v.born;
+  gone = refl;
+  item = v.item;
+  first = v.first;
+  in_turn = le;
+}
+
+-- no row was born before the first volume
+pub born_later : (c : ℕ) (rows : List Row) → AreVersions rows → AreBornLater (histories_in rows c)
+born_later c rows all y there =
+    let r = read_from (history_in c) rows y there in
+    let birth : number_in (table.born_of r.0) ≡ y.born = ap number_in (birth_of c r.0 (all r.0 r.1) y r.2).of_born in
+    subst (λ n. 1 ≤ n) birth (all r.0 r.1).first
+
+-- ---- INSERT
+
+written_version : (id : Value) (c born gone : ℕ) (x : Item) → is_item x ≡ true → 1 ≤ born → born ≤ gone → IsVersion (id ∷ values_of c born gone x)
+written_version id c born gone x known first in_turn = record {
+  cust = refl;
+  kind = refl;
+  id = refl;
+  blpu = refl;
+  street = refl;
+  lang = refl;
+  live = by_test (live_of x == 1);
+  body = refl;
+  born = refl;
+  gone = refl;
+  item = subst (λ o. IsSomeAnd o (λ y. is_item y ≡ true)) (sym said) known;
+  first = first;
+  in_turn = in_turn;
+}
+  where
+    by_test : (b : Bool) → Int (cond b (pos 1) (pos 0)) ≡ Int (pos (number_in (Int (cond b (pos 1) (pos 0)))))
+    by_test true = refl
+    by_test false = refl
+
+    said : item_in (id ∷ values_of c born gone x) ≡ Some x
+    said = ap (λ d. ok_of (read_cells d)) (cells_same id c born gone x) ∙ ap ok_of (cells_back x (text-back x known))
+
+pub insert_adds : InsertAdds
+insert_adds id c born gone x old new known first in_turn all added = record {
+  gain = record {
+    only = λ y there. let r = read_from (history_in c) new y there in only_here y r.0 r.2 (added.only r.0 r.1);
+    there = read_in (history_in c) new row h added.there said;
+    kept = λ y there. let r = read_from (history_in c) old y there in read_in (history_in c) new r.0 y (added.kept r.0 r.1) r.2;
+  };
+  others = λ d other. record {
+    only = λ y there. let r = read_from (history_in d) new y there in only_there d other y r.0 r.2 (added.only r.0 r.1);
+    kept = λ y there. let r = read_from (history_in d) old y there in read_in (history_in d) new r.0 y (added.kept r.0 r.1) r.2;
+  };
+  rows = λ r there. is_row r (added.only r there);
+}
+  where
+    row : Row
+    row = id ∷ values_of c born gone x
+
+    h : HistoryRow
+    h = living born gone x
+
+    said : history_in c row ≡ Some h
+    said = says id c born gone x (cells_back x (text-back x known))
+
+    only_here : (y : HistoryRow) (r : Row) → history_in c r ≡ Some y → (r ≡ row) ⊎ Has old r → (y ≡ h) ⊎ Has (histories_in old c) y
+    only_here y r is (inl same) = inl (some_same y h is (ap (history_in c) same ∙ said))
+    only_here y r is (inr was) = inr (read_in (history_in c) old r y was is)
+
+    only_there : (d : ℕ) → d ≢ c → (y : HistoryRow) (r : Row) → history_in d r ≡ Some y → (r ≡ row) ⊎ Has old r → Has (histories_in old d) y
+    only_there d other y r is (inl same) = not_none y is (ap (history_in d) same ∙ not_another id c d born gone x (λ e. other (sym e)))
+    only_there d other y r is (inr was) = read_in (history_in d) old r y was is
+
+    is_row : (r : Row) → (r ≡ row) ⊎ Has old r → IsVersion r
+    is_row r (inl same) = subst IsVersion (sym same) (written_version id c born gone x known first in_turn)
+    is_row r (inr was) = all r was
+
+-- ---- UPDATE
+
+module _ (c volume : ℕ) (h : HistoryRow) (old new : List Row) (le : h.born ≤ volume) (all : AreVersions old) (apart : AreInTurn (histories_in old c))
+    (there : Has (histories_in old c) h) (closes : Closes c (number_of (kind_in h.key)) (id_of h.key) h.born volume old new) where
+  -- the row of the history
+  its : (r : Row) × Has old r × (history_in c r ≡ Some h)
+  its = read_from (history_in c) old h there
+
+  is_its_key : is_key h.key ≡ true
+  is_its_key =
+      let s = item_of its.0 (all its.0 its.1) in
+      let born = number_in (table.born_of its.0) in
+      let same = some_same (living born (number_in (table.gone_of its.0)) s.item) h (history_of c its.0 s (its_custodian c its.0 h its.2)) its.2 in
+      subst (λ (z : HistoryRow). is_key z.key ≡ true) same (fits s.item s.known).key
+
+  its_birth : IsBirthOf c h.key h.born its.0
+  its_birth = birth_of c its.0 (all its.0 its.1) h its.2
+
+  -- a row that passes is the history's
+  only_its : (r : Row) → Has old r → IsBirthOf c h.key h.born r → history_in c r ≡ Some h
+  only_its r was b =
+      let z = born_as c h.key h.born r (all r was) is_its_key b in
+      z.is ∙ ap Some (apart.once z.row h (read_in (history_in c) old r z.row was z.is) there z.key z.birth)
+
+  closed_now : (r : Row) → Has old r → IsBirthOf c h.key h.born r → history_in c (gone_at volume r) ≡ Some (gone_with volume h)
+  closed_now r was b = gone_history c volume r h (all r was) (only_its r was b)
+
+  closed_only : (y : HistoryRow) (r : Row) → history_in c r ≡ Some y
+      → (Has old r × ¬ IsBirthOf c h.key h.born r) ⊎ ((s : Row) × Has old s × IsBirthOf c h.key h.born s × (r ≡ gone_at volume s))
+      → (Has (histories_in old c) y × (y ≢ h)) ⊎ (y ≡ gone_with volume h)
+  closed_only y r is (inl was) = inl (
+    read_in (history_in c) old r y was.0 is,
+    λ same. was.1 (subst (λ (z : HistoryRow). IsBirthOf c z.key z.born r) same (birth_of c r (all r was.0) y is)),
+  )
+  closed_only y r is (inr s) = inr (some_same y (gone_with volume h) is (ap (history_in c) s.3 ∙ closed_now s.0 s.1 s.2))
+
+  closed_kept : (y : HistoryRow) → Has (histories_in old c) y → y ≢ h → Has (histories_in new c) y
+  closed_kept y was other =
+      let r = read_from (history_in c) old y was in
+      read_in (history_in c) new r.0 y (closes.kept r.0 r.1 (λ b. other (some_same y h r.2 (only_its r.0 r.1 b)))) r.2
+
+  -- a row of another custodian doesn't pass
+  not_passing : (d : ℕ) → d ≢ c → (r : Row) (y : HistoryRow) → history_in d r ≡ Some y → ¬ IsBirthOf c h.key h.born r
+  not_passing d other r y is b = other (sym (its_custodian d r y is) ∙ ap number_in b.of_key.of_cust)
+
+  only_there : (d : ℕ) → d ≢ c → (y : HistoryRow) (r : Row) → history_in d r ≡ Some y
+      → (Has old r × ¬ IsBirthOf c h.key h.born r) ⊎ ((s : Row) × Has old s × IsBirthOf c h.key h.born s × (r ≡ gone_at volume s))
+      → Has (histories_in old d) y
+  only_there d other y r is (inl was) = read_in (history_in d) old r y was.0 is
+  only_there d other y r is (inr s) = absurd (other (sym (its_custodian d r y is) ∙ ap (λ (t : Row). number_in (table.cust_of t)) s.3 ∙ ap number_in s.2.of_key.of_cust))
+
+  still_rows : (r : Row) → (Has old r × ¬ IsBirthOf c h.key h.born r) ⊎ ((s : Row) × Has old s × IsBirthOf c h.key h.born s × (r ≡ gone_at volume s)) → IsVersion r
+  still_rows r (inl was) = all r was.0
+  still_rows r (inr s) = subst IsVersion (sym s.3) (gone_version volume s.0 (all s.0 s.1) (subst (λ n. n ≤ volume) (sym (ap number_in s.2.of_born)) le))
+
+  closes_version : ClosesVersion c volume h old new
+  closes_version = record {
+    close = record {
+      only = λ y here. let r = read_from (history_in c) new y here in closed_only y r.0 r.2 (closes.only r.0 r.1);
+      there = read_in (history_in c) new (gone_at volume its.0) (gone_with volume h) (closes.done its.0 its.1 its_birth) (closed_now its.0 its.1 its_birth);
+      kept = closed_kept;
+    };
+    others = λ d other. record {
+      only = λ y here. let r = read_from (history_in d) new y here in only_there d other y r.0 r.2 (closes.only r.0 r.1);
+      kept = λ y was. let r = read_from (history_in d) old y was in read_in (history_in d) new r.0 y (closes.kept r.0 r.1 (not_passing d other r.0 y r.2)) r.2;
+    };
+    rows = λ r here. still_rows r (closes.only r here);
+  }
+
+pub statements_change : StatementsChange
+statements_change = record { insert = insert_adds; update = closes_version }

@@ -1,0 +1,5 @@
+use Rattle.gaz_kept.proofs.Views.{histories_change}
+use Rattle.gaz_kept.proofs.laws.histories_change.Goals as goal
+
+pub returns : goal.returns
+returns c = histories_change

@@ -1,0 +1,91 @@
+-- What the tables must be for their content to be what was judged.
+use Rattle.std.specs.Prelude.{◌≡◌, ◌≢◌, ◌≤◌, ◌<◌, ℕ, pos, true, List, IsSomeAnd}
+use Rattle.sqlite.specs.declared.types.Value.{Value}
+use Rattle.sqlite.specs.declared.types.Value.TheVariants.{Int, Text, Blob}
+use Rattle.sqlite.specs.Effect.{Database}
+use Rattle.sqlite.specs.Order.{Row}
+use Rattle.sqlite_rules.specs.Lists.{Has}
+use Rattle.std.specs.FinMap as finite
+use Rattle.std.specs.List.{range_with_len}
+use Rattle.gaz_records.specs.Items.{is_item}
+use Rattle.gaz_overlay.specs.Rows.{HistoryRow, IsUntil}
+use Rattle.gaz_tables.specs.Receiveds as file
+use Rattle.gaz_tables.specs.Schema.{receiveds, versions}
+use Rattle.gaz_tables.specs.Stores.{HasTables}
+use Rattle.gaz_tables.specs.Versions.{blpu_of, body_of, born_of, cust_of, gone_of, id_of, kind_of, lang_of, live_of, street_of}
+use Rattle.gaz_kept.specs.Files.{bytes_in, judged_volumes, reached_in, volume_in}
+use Rattle.gaz_kept.specs.Versions.{histories_in, item_in, number_in, text_in}
+
+-- ---- values
+
+abbrev pub IsWhole : Value → Type 0
+IsWhole v = v ≡ Int (pos (number_in v))
+
+abbrev pub IsText : Value → Type 0
+IsText v = v ≡ Text (text_in v)
+
+abbrev pub IsBytes : Value → Type 0
+IsBytes v = v ≡ Blob (bytes_in v)
+
+-- ---- the rows of `received`
+
+-- a file that was received, and what became of it
+pub record IsFile (r : Row) : Type 0 where
+  pub cust : IsWhole (file.cust_of r)
+  pub volume : IsWhole (file.volume_of r)
+  pub bytes : IsBytes (file.bytes_of r)
+  pub state : IsWhole (file.state_of r)
+  pub place : IsWhole (file.place_of r)
+  pub rule : IsWhole (file.rule_of r)
+  pub first : 1 ≤ volume_in r
+  pub last : volume_in r ≤ 999_999
+  pub states : number_in (file.state_of r) ≤ 2
+  pub rules : number_in (file.rule_of r) ≤ 255
+  pub no_place : number_in (file.state_of r) ≢ 2 → file.place_of r ≡ Int (pos 0)
+  pub no_rule : number_in (file.state_of r) ≢ 2 → file.rule_of r ≡ Int (pos 0)
+
+-- the judged volumes of a custodian are just 1 to n
+abbrev pub AreFirst : List Row → ℕ → Type 0
+AreFirst rows c = finite.keys (judged_volumes rows c) ≡ range_with_len 1 (reached_in rows c)
+
+-- ---- the rows of `version`
+
+-- an item of a custodian, from one volume until another
+pub record IsVersion (r : Row) : Type 0 where
+  pub cust : IsWhole (cust_of r)
+  pub kind : IsWhole (kind_of r)
+  pub id : IsText (id_of r)
+  pub blpu : IsWhole (blpu_of r)
+  pub street : IsWhole (street_of r)
+  pub lang : IsWhole (lang_of r)
+  pub live : IsWhole (live_of r)
+  pub body : IsText (body_of r)
+  pub born : IsWhole (born_of r)
+  pub gone : IsWhole (gone_of r)
+  pub item : IsSomeAnd (item_in r) (λ x. is_item x ≡ true)
+  pub first : 1 ≤ number_in (born_of r)
+  pub in_turn : number_in (born_of r) ≤ number_in (gone_of r)
+
+-- ---- histories
+
+-- at no key two rows were born in one volume, and each is gone when the next is born
+pub record AreInTurn (rows : List HistoryRow) : Type 0 where
+  pub once : (a b : HistoryRow) → Has rows a → Has rows b → a.key ≡ b.key → a.born ≡ b.born → a ≡ b
+  pub in_turn : (a b : HistoryRow) → Has rows a → Has rows b → a.key ≡ b.key → a.born < b.born
+      → a.gone ≤ b.born
+
+-- the histories of a custodian through volume n
+pub record AreThrough (n : ℕ) (rows : List HistoryRow) : Type 0 where
+  pub until : (r : HistoryRow) → Has rows r → IsUntil n r
+  pub apart : AreInTurn rows
+
+-- ---- the tables
+
+-- the database is what a store keeps
+pub record IsKept (db : Database) : Type 0 where
+  pub tables : HasTables db
+  pub files : (r : Row) → Has (db.trees receiveds) r → IsFile r
+  pub first : (c : ℕ) → AreFirst (db.trees receiveds) c
+  pub rows : (r : Row) → Has (db.trees versions) r → IsVersion r
+  pub histories : (c : ℕ)
+      → AreThrough (reached_in (db.trees receiveds) c) (histories_in (db.trees versions) c)

@@ -1,0 +1,12 @@
+pub mod Versions
+pub mod Files
+pub mod Contents
+pub mod Kept
+pub mod Decoding
+pub mod Newest
+pub mod LastViews
+pub mod Addresses
+pub mod Histories
+pub mod Judging
+pub mod Stands
+pub mod Examples

@@ -1,0 +1,114 @@
+//! What the cells of a found row say: keys by their ids, and items by their bodies.
+ghost use Rattle.std.specs.Prelude.{◌≡◌, ◌≤◌, ◌<◌, pos, true, IfOk, IfSome, Some};
+ghost use Rattle.std.specs.String.{string_bytes};
+ghost use Rattle.sqlite.specs.Order.{column};
+ghost use Rattle.sqlite.specs.declared.types.Value.TheVariants.{Int, Text};
+ghost use Rattle.gaz_cells.specs.Ids.{id_of, is_key, key_named, kind_in};
+ghost use Rattle.gaz_kept.specs.Decoding.{IsBodyOf, IsItemAt};
+ghost use Rattle.gaz_kept.specs.Versions.{text_in};
+
+use gaz_cells::{id_of, key_named};
+use gaz_records::{FieldFault, Item, Key, Kind, SharedItem, item_of_text, key_of};
+use sqlite::types::ValueRef;
+use sqlite::Row;
+use std::alloc::Global;
+
+/// Why a row isn't read.
+#[derive(Clone, Copy, Debug, PartialEq, Eq)]
+pub enum RowFault {
+    /// Out of memory.
+    Memory,
+    /// No store writes such a row.
+    Wrong,
+}
+
+/// The kind of a key.
+pub fn kind_in(key: &Key) -> Kind
+    ensures { result ≡ kind_in key.now }
+{
+    match key {
+        Key::Street(_) => Kind::Street,
+        Key::Descriptor(_, _) => Kind::Descriptor,
+        Key::Blpu(_) => Kind::Blpu,
+        Key::Xref(_) => Kind::Xref,
+        Key::Lpi(_) => Kind::Lpi,
+    }
+}
+
+/// The text by which the tables name a key among those of its kind.
+pub fn name_of(alloc: Global, key: &Key) -> Result<String, RowFault>
+    ensures name { IfOk result (λ t. string_bytes t ≡ id_of key.now) }
+    ensures form { is_key key.now ≡ true }
+{
+    let Ok(id) = id_of(alloc, key) else {
+        return Err(RowFault::Memory);
+    };
+    match String::from_utf8(id) {
+        Ok(name) => Ok(name),
+        Err(_) => Err(RowFault::Wrong),
+    }
+}
+
+/// The whole number in a column, where one stands there.
+pub fn number(row: &Row, at: usize) -> Result<u64, RowFault>
+    ensures { IfOk result (λ n. column row.now at ≡ Int (pos n)) }
+{
+    match row.get_ref(at) {
+        Ok(ValueRef::Int(n)) if n >= 0 => Ok(n as u64),
+        _ => Err(RowFault::Wrong),
+    }
+}
+
+/// The text in a column, where one stands there.
+pub fn text(row: &Row, at: usize) -> Result<&[u8], RowFault>
+    ensures { IfOk result (λ t. column row.now at ≡ Text t.now) }
+{
+    match row.get_ref(at) {
+        Ok(ValueRef::Text(text)) => Ok(text),
+        _ => Err(RowFault::Wrong),
+    }
+}
+
+/// The key of a kind that the id in a column names.
+pub fn key_in(kind: Kind, row: &Row, at: usize) -> Result<Key, RowFault>
+    ensures { IfOk result (λ k. key_named kind (text_in (column row.now at)) ≡ Some k) }
+{
+    match key_named(kind, text(row, at)?) {
+        Some(key) => Ok(key),
+        None => Err(RowFault::Wrong),
+    }
+}
+
+/// Whether two keys are one.
+pub fn are_one(a: &Key, b: &Key) -> bool
+    ensures { result ≡ true → a.now ≡ b.now }
+{
+    a.compare(b).is_eq()
+}
+
+// The item of a body, where it stands at the key.
+fn item_of(alloc: Global, key: &Key, body: &[u8]) -> Result<Item, RowFault>
+    ensures { IfOk result (IsBodyOf key.now body.now) }
+{
+    match item_of_text(alloc, kind_in(key), body) {
+        Ok(item) if are_one(&key_of(&item), key) => Ok(item),
+        Err(FieldFault::Memory) => Err(RowFault::Memory),
+        _ => Err(RowFault::Wrong),
+    }
+}
+
+/// The item at a key that the body in a column says.
+pub fn item_in(
+    alloc: Global,
+    key: &Key,
+    row: &Row,
+    at: usize,
+) -> Result<SharedItem, RowFault>
+    ensures { IfOk result (IsItemAt row.now at key.now) }
+{
+    let item = item_of(alloc, key, text(row, at)?)?;
+    match SharedItem::new(alloc, item) {
+        Ok(item) => Ok(item),
+        Err(_) => Err(RowFault::Memory),
+    }
+}

@@ -1,0 +1,40 @@
+//! What a reader of the definitions may rely on.
+ghost use Rattle.gaz_kept.specs.Examples.{WorkedExamples};
+ghost use Rattle.gaz_kept.specs.Histories.{HistoriesChange, StatementsChange};
+ghost use Rattle.gaz_kept.specs.Judging.{BoardChanges, FilesChange};
+ghost use Rattle.gaz_kept.specs.Stands.{TablesStand};
+
+/// What the definitions come to on worked examples.
+pub fn worked_examples()
+    ensures { WorkedExamples }
+{}
+
+/// A row that comes under a key sets its item in the views that have it, a row that goes takes it
+/// from those after, and no earlier view changes.
+pub fn histories_change()
+    ensures { HistoriesChange }
+{}
+
+/// An INSERT brings one row to its custodian's histories, an UPDATE of `gone` ends one, and no
+/// other custodian's change.
+pub fn statements_change()
+    ensures { StatementsChange }
+{}
+
+/// An INSERT into `received` brings a file, and an UPDATE of its state the custodian's next
+/// verdict.
+pub fn files_change()
+    ensures { FilesChange }
+{}
+
+/// The board that the rows make is read off them, and has one more judgement where the custodian
+/// has one more verdict.
+pub fn board_changes()
+    ensures { BoardChanges }
+{}
+
+/// A new store stands for nothing; a file that comes, and a volume that is rejected, make of what the
+/// tables stand for what a keeper's calls say.
+pub fn tables_stand()
+    ensures { TablesStand }
+{}

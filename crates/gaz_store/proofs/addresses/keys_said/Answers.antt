@@ -1,7 +1,0 @@
-use Rattle.std.proofs.Common.{subst}
-use Rattle.gaz_store.specs.Addresses.{AreInOrder}
-use Rattle.gaz_store.proofs.KeysNamed.{keys_named}
-use Rattle.gaz_store.proofs.addresses.keys_said.Goals as goal
-
-pub returns-in-Ok : goal.returns-in-Ok
-returns-in-Ok c = keys_named c.args.rows.now c.in_ok-named.named.items c.in-Ok.keys.items c.in_ok-named.ensures (subst (λ l. AreInOrder l c.in-Ok.keys.items) c.deref.ensures.value c.in-Ok.ensures)

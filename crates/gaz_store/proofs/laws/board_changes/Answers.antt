@@ -1,5 +1,0 @@
-use Rattle.gaz_store.proofs.Boards.{board_changes}
-use Rattle.gaz_store.proofs.laws.board_changes.Goals as goal
-
-pub returns : goal.returns
-returns c = board_changes

@@ -1,5 +1,0 @@
-use Rattle.gaz_store.proofs.Judging.{files_change}
-use Rattle.gaz_store.proofs.laws.files_change.Goals as goal
-
-pub returns : goal.returns
-returns c = files_change

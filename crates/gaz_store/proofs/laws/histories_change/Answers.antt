@@ -1,5 +1,0 @@
-use Rattle.gaz_store.proofs.Views.{histories_change}
-use Rattle.gaz_store.proofs.laws.histories_change.Goals as goal
-
-pub returns : goal.returns
-returns c = histories_change

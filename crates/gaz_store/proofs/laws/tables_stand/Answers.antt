@@ -1,5 +1,0 @@
-use Rattle.gaz_store.proofs.Stands.{tables_stand}
-use Rattle.gaz_store.proofs.laws.tables_stand.Goals as goal
-
-pub returns : goal.returns
-returns c = tables_stand

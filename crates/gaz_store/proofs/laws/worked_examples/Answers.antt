@@ -1,5 +1,0 @@
-use Rattle.gaz_store.proofs.Examples.{worked_examples_hold}
-use Rattle.gaz_store.proofs.laws.worked_examples.Goals as goal
-
-pub returns : goal.returns
-returns c = worked_examples_hold
