@@ -50,3 +50,15 @@ module _ {S : Type 0} {store : Ghosts S} where
       asked_then old mid new one two (Err e) P Q R before after
       (record { kept = after.tallies.kept; store = (subst (λ (r : Result B ShelfFault). Tallies mid.failures new.failures r) is after.tallies).store })
       (λ db kept was now. tt)
+
+  -- what is told of a later answer, by what came before
+  pub asked_more : {A T : Type 0} (old mid new : Tables S store) (one : Result A ShelfFault) (two : Result T ShelfFault) (a : A)
+      (P : Database → A → Type 0) (Q R : Database → T → Type 0)
+      → AsksTables old mid one P → AsksTables mid new two Q → one ≡ Ok a
+      → ((db : Database) → IsKept db → P db a → (x : T) → Q db x → R db x) → AsksTables old new two R
+  asked_more {A} {T} old mid new one two a P Q R before after is goes =
+      asked_then old mid new one two two P Q R before after after.tallies (λ db kept was now. by_result db kept (subst (λ (r : Result A ShelfFault). IfOk r (P db)) is was) two now)
+    where
+      by_result : (db : Database) → IsKept db → P db a → (r : Result T ShelfFault) → IfOk r (Q db) → IfOk r (R db)
+      by_result db kept was (Ok x) now = goes db kept was x now
+      by_result db kept was (Err e) now = tt

@@ -9,3 +9,5 @@ pub mod PageRows
 pub mod StreetRows
 pub mod Saying
 pub mod Verdicts
+pub mod LawfulViews
+pub mod Turning

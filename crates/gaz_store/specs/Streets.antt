@@ -1,5 +1,6 @@
--- What a page of a street tells.
-use Rattle.std.specs.Prelude.{◌≡◌, ◌<◌, ℕ, true, false, List, Option, length}
+-- What a page of a street, or of the parts of a BLPU, tells.
+use Rattle.std.specs.Prelude.{◌≡◌, ◌<◌, ◌&&◌, ℕ, Bool, true, false, not, List, length}
+use Rattle.std.specs.Prelude.{Option, None, Some}
 use Rattle.std.specs.List.{list_any}
 use Rattle.std.specs.String.{string_bytes}
 use Rattle.sqlite.specs.Order.{Row, column}
@@ -7,36 +8,68 @@ use Rattle.sqlite.specs.declared.types.Value.TheVariants.{Text}
 use Rattle.sqlite_rules.specs.Lists.{Has}
 use Rattle.gaz_ids.specs.declared.lang.Lang.{Lang}
 use Rattle.gaz_records.specs.declared.item.Item.{Item}
+use Rattle.gaz_records.specs.declared.item.Kind.TheVariants as kind
 use Rattle.gaz_records.specs.declared.key.Key.{Key}
 use Rattle.gaz_views.specs.View.{View}
-use Rattle.gaz_views.specs.Words.{approved_on, entries, is_approved_on}
+use Rattle.gaz_views.specs.Words.{entries, is_approved_on, is_child_of}
+use Rattle.gaz_cells.specs.Ids.{key_named}
+use Rattle.gaz_overlay.specs.Changes.{Changes, is_touched}
+use Rattle.gaz_kept.specs.Versions.{text_in}
 use Rattle.gaz_store.specs.Paging.{is_behind, says_lang}
-use Rattle.gaz_store.specs.declared.streets.Step.{Step}
-use Rattle.gaz_store.specs.declared.streets.Step.TheVariants.{Told, Behind}
+use Rattle.gaz_store.specs.declared.steps.Step.{Step}
+use Rattle.gaz_store.specs.declared.steps.Step.TheVariants.{Told, Behind}
 
--- each approved LPI on it, in this language where one is given, comes behind an id
-abbrev pub AreBehind : View → ℕ → Option Lang → List ℕ → Type 0
-AreBehind v usrn lang start =
-    (e : Key × Item) → Has (entries v) e → is_approved_on usrn lang e.1 ≡ true
-    → is_behind start e.0 ≡ true
+-- ---- what is looked for
+
+-- keys that changes have touched are passed over; without changes none is
+abbrev pub leaves : Option Changes → Option Key → Bool
+leaves None k = true
+leaves (Some c) None = true
+leaves (Some c) (Some k) = not (is_touched c k)
+
+-- an approved LPI on the street, in this language where one is given, that isn't passed over
+abbrev pub is_left_on : ℕ → Option Lang → Option Changes → Key × Item → Bool
+is_left_on usrn lang passed e = is_approved_on usrn lang e.1 && leaves passed (Some e.0)
+
+-- a part of the BLPU that isn't passed over
+abbrev pub is_left_part : ℕ → Option Changes → Key × Item → Bool
+is_left_part uprn passed e = is_child_of uprn e.1 && leaves passed (Some e.0)
+
+-- what a row of a street, of id and language, and one of a part, of id, say of it
+abbrev pub says_left : Option Lang → Option Changes → Row → Bool
+says_left lang passed r =
+    says_lang lang r && leaves passed (key_named kind.Lpi (text_in (column r 0)))
+
+abbrev pub names_left : Option Changes → Row → Bool
+names_left passed r = leaves passed (key_named kind.Blpu (text_in (column r 0)))
+
+-- ---- how it is looked for
+
+-- each entry that passes comes behind an id
+abbrev pub AreBehind : (Key × Item → Bool) → View → List ℕ → Type 0
+AreBehind passes v start =
+    (e : Key × Item) → Has (entries v) e → passes e ≡ true → is_behind start e.0 ≡ true
 
 -- a row of id and more has this id
 abbrev pub IsIdOf : List Row → List ℕ → Type 0
 IsIdOf rows id = (r : Row) × Has rows r × (column r 0 ≡ Text id)
 
--- what is told of the rows of a page: a row in the language, none on a page that isn't full, or none
--- up to the id of one
-abbrev pub IsStepOf : ℕ → List Row → Option Lang → Step → Type 0
-IsStepOf most rows lang (Told true) = list_any (says_lang lang) rows ≡ true
-IsStepOf most rows lang (Told false) =
-    (list_any (says_lang lang) rows ≡ false) × (length rows < most)
-IsStepOf most rows lang (Behind id) =
-    (list_any (says_lang lang) rows ≡ false) × IsIdOf rows (string_bytes id)
+-- what is told of the rows of a page: a row says it, none on a page that isn't full, or none up to
+-- the id of one
+abbrev pub IsStepOf : ℕ → List Row → (Row → Bool) → Step → Type 0
+IsStepOf most rows says (Told true) = list_any says rows ≡ true
+IsStepOf most rows says (Told false) = (list_any says rows ≡ false) × (length rows < most)
+IsStepOf most rows says (Behind id) = (list_any says rows ≡ false) × IsIdOf rows (string_bytes id)
 
--- what is told of the street, of which all that is asked for comes behind an id
-abbrev pub Steps : View → ℕ → Option Lang → Step → Type 0
-Steps v usrn lang (Told found) = found ≡ approved_on v usrn lang
-Steps v usrn lang (Behind id) = AreBehind v usrn lang (string_bytes id)
+-- so it is of whatever rows say, where one says it or none does
+abbrev pub Decides : ℕ → List Row → Bool → Step → Type 0
+Decides most rows found step =
+    (says : Row → Bool) → found ≡ list_any says rows → IsStepOf most rows says step
 
-abbrev pub IsStep : View → ℕ → Option Lang → List ℕ → Step → Type 0
-IsStep v usrn lang start step = AreBehind v usrn lang start → Steps v usrn lang step
+-- what is told of the view, of which all that passes comes behind an id
+abbrev pub Steps : (Key × Item → Bool) → View → Step → Type 0
+Steps passes v (Told found) = found ≡ list_any passes (entries v)
+Steps passes v (Behind id) = AreBehind passes v (string_bytes id)
+
+abbrev pub IsStep : (Key × Item → Bool) → View → List ℕ → Step → Type 0
+IsStep passes v start step = AreBehind passes v start → Steps passes v step

@@ -3,11 +3,14 @@
 
 mod asking;
 mod at_hand;
+mod beside;
 mod blpus;
 mod files;
+mod judgement;
 mod keys;
 mod pages;
 mod probing;
+mod steps;
 mod streets;
 mod tables;
 

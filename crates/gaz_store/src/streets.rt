@@ -1,72 +1,20 @@
 //! What stands on a street, and the parts of a BLPU, in a custodian's last view.
-ghost use Rattle.std.specs.Prelude.{◌≡◌, ◌≤◌, IfOk, pos};
+ghost use Rattle.std.specs.Prelude.{◌≡◌, ◌≤◌, option_map, pos};
 ghost use Rattle.std.specs.List.{list_any};
-ghost use Rattle.std.specs.String.{string_bytes};
 ghost use Rattle.gaz_tables.specs.Schema.{versions};
 ghost use Rattle.gaz_tables.specs.Versions.{FindsApprovedOn, FindsParts};
-ghost use Rattle.gaz_views.specs.Words.{approved_on, has_children};
-ghost use Rattle.gaz_store.specs.Asking.{AsksTables};
+ghost use Rattle.gaz_views.specs.Words.{approved_on, entries, has_children};
 ghost use Rattle.gaz_kept.specs.LastViews.{last_in};
-ghost use Rattle.gaz_store.specs.Paging.{says_lang};
-ghost use Rattle.gaz_store.specs.Streets.{IsIdOf, IsStep, IsStepOf};
+ghost use Rattle.gaz_store.specs.Asking.{AsksTables};
+ghost use Rattle.gaz_store.specs.Streets.{IsStep, is_left_on, is_left_part};
 
+use crate::steps::{PAGE, Step, parts_told, street_told};
 use crate::tables::Tables;
 use gaz_ids::{Code, Lang, Uprn, Usrn};
-use gaz_kept::decoding::{RowFault, number, text};
+use gaz_overlay::Overlay;
 use gaz_shelf::ShelfFault;
 use gaz_tables::versions;
 use sqlite::{Alter, Row};
-use std::alloc::Global;
-
-// How many rows of a street are read at a time.
-const PAGE: u32 = 64;
-
-/// What a page of a street tells.
-pub(crate) enum Step {
-    /// Whether there is one.
-    Told(bool),
-    /// None up to this id.
-    Behind(String),
-}
-
-// Whether a row of id and language says this language, or any where none is given.
-fn says_lang(row: &Row, lang: Option<Lang>) -> Result<bool, RowFault>
-    ensures { IfOk result (λ b. b ≡ says_lang lang row.now) }
-{
-    let said = number(row, 1)?;
-    match lang {
-        Some(lang) => Ok(said == lang.number() as u64),
-        None => Ok(true),
-    }
-}
-
-// Whether one of these rows says it.
-fn any_says(rows: &[Row], lang: Option<Lang>) -> Result<bool, RowFault>
-    ensures { IfOk result (λ b. b ≡ list_any (says_lang lang) rows.now) }
-{
-    for row in rows {
-        if says_lang(row, lang)? {
-            return Ok(true);
-        }
-    }
-    Ok(false)
-}
-
-// The id of the last row.
-fn last_id(alloc: Global, rows: &[Row]) -> Result<String, RowFault>
-    ensures { IfOk result (λ id. IsIdOf rows.now (string_bytes id)) }
-{
-    let Some(row) = rows.last() else {
-        return Err(RowFault::Wrong);
-    };
-    let Ok(id) = Vec::from_slice(alloc, text(row, 0)?) else {
-        return Err(RowFault::Memory);
-    };
-    match String::from_utf8(id) {
-        Ok(id) => Ok(id),
-        Err(_) => Err(RowFault::Wrong),
-    }
-}
 
 impl<S: Alter> Tables<S> {
     // Id and language of the approved rows on a street, behind an id: the first so many.
@@ -116,16 +64,42 @@ impl<S: Alter> Tables<S> {
         code: Code,
         usrn: Usrn,
         lang: Option<Lang>,
+        passed: Option<&Overlay>,
         start: &str,
     ) -> Result<Step, ShelfFault>
-        ensures { AsksTables self.old self.new result
-            (λ db step. IsStep (last_in db code) usrn lang start.now step) }
+        ensures { AsksTables self.old self.new result (λ db step. IsStep (is_left_on usrn lang
+            (option_map (λ c. c.now) passed.entry)) (last_in db code) start.now step) }
     {
         let rows = self.street_rows(code, usrn, start, PAGE)?;
-        match step_of(self.alloc, &rows, lang) {
+        match street_told(self.alloc, &rows, lang, passed) {
             Ok(step) => Ok(step),
             Err(fault) => Err(self.row_fault(fault)),
         }
+    }
+
+    /// Whether an approved LPI is on a street, and in this language where one is given, whose key
+    /// isn't passed over: one that these changes haven't touched.
+    pub(crate) fn left_on(
+        &mut self,
+        code: Code,
+        usrn: Usrn,
+        lang: Option<Lang>,
+        passed: Option<&Overlay>,
+    ) -> Result<bool, ShelfFault>
+        ensures { AsksTables self.old self.new result (λ db found. found ≡ list_any (is_left_on
+            usrn lang (option_map (λ c. c.now) passed.entry)) (entries (last_in db code))) }
+    {
+        let mut start = String::new(self.alloc);
+        'pages: for _page in 0..u64::MAX {
+            match self.street_step(code, usrn, lang, passed, start.as_str()) {
+                Ok(step) => match step {
+                    Step::Told(found) => return Ok(found),
+                    Step::Behind(id) => start = id,
+                },
+                Err(fault) => return Err(fault),
+            }
+        }
+        Err(self.fail())
     }
 
     /// Whether an approved LPI is on a street, and in this language where one is given.
@@ -138,9 +112,41 @@ impl<S: Alter> Tables<S> {
         ensures { AsksTables self.old self.new result
             (λ db found. found ≡ approved_on (last_in db code) usrn lang) }
     {
+        self.left_on(code, usrn, lang, None)
+    }
+
+    // What the page behind an id tells of the parts of a BLPU.
+    fn part_step(
+        &mut self,
+        code: Code,
+        uprn: Uprn,
+        passed: Option<&Overlay>,
+        start: &str,
+    ) -> Result<Step, ShelfFault>
+        ensures { AsksTables self.old self.new result (λ db step. IsStep (is_left_part uprn
+            (option_map (λ c. c.now) passed.entry)) (last_in db code) start.now step) }
+    {
+        let rows = self.part_rows(code, uprn, start, PAGE)?;
+        match parts_told(self.alloc, &rows, passed) {
+            Ok(step) => Ok(step),
+            Err(fault) => Err(self.row_fault(fault)),
+        }
+    }
+
+    /// Whether a BLPU is a part of this one whose key isn't passed over: one that these changes
+    /// haven't touched.
+    pub(crate) fn left_part(
+        &mut self,
+        code: Code,
+        uprn: Uprn,
+        passed: Option<&Overlay>,
+    ) -> Result<bool, ShelfFault>
+        ensures { AsksTables self.old self.new result (λ db found. found ≡ list_any (is_left_part
+            uprn (option_map (λ c. c.now) passed.entry)) (entries (last_in db code))) }
+    {
         let mut start = String::new(self.alloc);
         'pages: for _page in 0..u64::MAX {
-            match self.street_step(code, usrn, lang, start.as_str()) {
+            match self.part_step(code, uprn, passed, start.as_str()) {
                 Ok(step) => match step {
                     Step::Told(found) => return Ok(found),
                     Step::Behind(id) => start = id,
@@ -156,23 +162,6 @@ impl<S: Alter> Tables<S> {
         ensures { AsksTables self.old self.new result
             (λ db found. found ≡ has_children (last_in db code) uprn) }
     {
-        let rows = self.part_rows(code, uprn, "", 1)?;
-        match rows.first() {
-            Some(_) => Ok(true),
-            None => Ok(false),
-        }
+        self.left_part(code, uprn, None)
     }
-}
-
-// What a page of a street tells, of at most `PAGE` rows.
-fn step_of(alloc: Global, rows: &[Row], lang: Option<Lang>) -> Result<Step, RowFault>
-    ensures { IfOk result (IsStepOf PAGE rows.now lang) }
-{
-    if any_says(rows, lang)? {
-        return Ok(Step::Told(true));
-    }
-    if rows.len() < PAGE as usize {
-        return Ok(Step::Told(false));
-    }
-    Ok(Step::Behind(last_id(alloc, rows)?))
 }

@@ -1,32 +1,9 @@
-use Rattle.std.proofs.Common.{subst, sym}
+use Rattle.std.proofs.Common.{◌∙◌}
 use Rattle.gaz_kept.specs.LastViews.{last_in}
-use Rattle.gaz_store.specs.Streets.{AreBehind, IsStep}
-use Rattle.gaz_store.proofs.Answered.{asked_fault, asked_step}
-use Rattle.gaz_store.proofs.Composing.{asked_nothing, failed}
-use Rattle.gaz_store.proofs.StreetRows.{street_begins}
+use Rattle.gaz_views.specs.Words.{entries, is_approved_on}
+use Rattle.gaz_store.proofs.Answered.{asked_as}
+use Rattle.gaz_store.proofs.StreetRows.{all_left}
 use Rattle.gaz_store.proofs.tables.Tables.approved_on.Goals as goal
 
-pub pages-init : goal.pages-init
-pages-init g c =
-    asked_nothing _ c.new-start.result _ (λ db kept.
-    subst (AreBehind (last_in db c.args.code) c.args.usrn c.args.lang) (sym c.new-start.ensures.bytes) (street_begins db kept c.args.code c.args.usrn c.args.lang))
-
-pub pages-preserved : goal.pages-preserved
-pages-preserved g c =
-    asked_step _ _ _ _ c.street_step.result c.in-Ok.step c.in-Behind.id _ _ _ c.pages.invariant c.street_step.ensures c.in-Ok.is
-    (λ db kept was step.
-    subst (IsStep (last_in db c.args.code) c.args.usrn c.args.lang c.as_str.result.now) c.in-Behind.is step
-    (subst (AreBehind (last_in db c.args.code) c.args.usrn c.args.lang) (sym c.as_str.ensures.value) was))
-
-pub returns-in-Told : goal.returns-in-Told
-returns-in-Told g c =
-    asked_step _ _ _ _ c.street_step.result c.in-Ok.step c.in-Told.found _ _ _ c.pages.invariant c.street_step.ensures c.in-Ok.is
-    (λ db kept was step.
-    subst (IsStep (last_in db c.args.code) c.args.usrn c.args.lang c.as_str.result.now) c.in-Told.is step
-    (subst (AreBehind (last_in db c.args.code) c.args.usrn c.args.lang) (sym c.as_str.ensures.value) was))
-
-pub returns-in-Err : goal.returns-in-Err
-returns-in-Err g c = asked_fault _ _ _ _ _ _ _ _ _ c.pages.invariant c.street_step.ensures c.in-Err.is
-
 pub returns : goal.returns
-returns g c = failed _ _ _ _ _ _ _ c.pages.invariant c.fail.ensures
+returns g c = asked_as _ _ _ _ _ c.left_on.ensures (λ db kept found is. is ∙ all_left (λ e. is_approved_on c.args.usrn c.args.lang e.1) (entries (last_in db c.args.code)))

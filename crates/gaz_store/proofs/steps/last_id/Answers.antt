@@ -1,7 +1,7 @@
 use Rattle.std.proofs.Common.{◌-◌, ◌∙◌, length, ap, sym}
 use Rattle.sqlite.specs.declared.types.Value.TheVariants.{Text}
 use Rattle.sqlite_rules.proofs.ListLemmas.{has_got}
-use Rattle.gaz_store.proofs.streets.last_id.Goals as goal
+use Rattle.gaz_store.proofs.steps.last_id.Goals as goal
 
 pub returns-in-Ok-from_utf8 : goal.returns-in-Ok-from_utf8
 returns-in-Ok-from_utf8 c = (

@@ -1,0 +1,196 @@
+-- What a judgement beside the tables makes of its custodian's last view, and answers of it.
+use Rattle.std.proofs.Common.{◌≡◌, ◌∙◌, ◌⊎◌, ℕ, Bool, true, false, cond, not, ◌&&◌, ◌||◌, List, [], ◌∷◌, filter, map as map_of, refl, sym, ap, subst}
+use Rattle.std.specs.Prelude.{Option, Some, None, option_map}
+use Rattle.std.specs.FinMap as map
+use Rattle.std.specs.Option.{option_and_then, option_map_or}
+use Rattle.std.specs.Ordering.{eq_by_cmp, is_eq}
+use Rattle.std.specs.declared.cmp.Ordering.{Ordering}
+use Rattle.std.specs.declared.cmp.Ordering.TheVariants.{Less, Equal, Greater}
+use Rattle.sqlite.specs.Effect.{Database}
+use Rattle.gaz_records.proofs.KeyOrder.{keys_exact, keys_total}
+use Rattle.gaz_records.specs.Keys.{key_cmp, key_of}
+use Rattle.gaz_records.specs.declared.item.Item.{Item}
+use Rattle.gaz_records.specs.declared.key.Key.{Key}
+use Rattle.gaz_records.specs.declared.key.Key.TheVariants as key
+use Rattle.gaz_views.specs.View.{View, was_used, with_item, without_key}
+use Rattle.gaz_views.specs.Lawful.{IsLawfulView}
+use Rattle.gaz_views.specs.Words.{approved_of, approved_on, entries, first_of, has_children, is_approved_on, is_child_of, property_of}
+use Rattle.gaz_views.specs.declared.property.Property.{Property}
+use Rattle.gaz_overlay.specs.Changes.{Changes, Touched, is_touched, stood_in, was_used_in, with_put, with_taken, with_touched}
+use Rattle.gaz_overlay.specs.Laid.{any_untouched, laid, untouched}
+use Rattle.gaz_overlay.proofs.Making.{none_there, unused}
+use Rattle.gaz_ids.specs.declared.lang.Lang.{Lang}
+use Rattle.sqlite_rules.specs.Lists.{Has}
+use Rattle.std.specs.List.{list_any}
+use Rattle.gaz_kept.proofs.Rising.{entry_is}
+use Rattle.gaz_store.proofs.StreetRows.{any_same}
+use Rattle.gaz_store.specs.Streets.{is_left_on, is_left_part, leaves}
+use Rattle.gaz_overlay.specs.Over.{KeyView, Make}
+use Rattle.gaz_overlay.specs.Questions.{LaidAnswers, both, keys_with, property_at}
+use Rattle.gaz_overlay.specs.Rows.{AreTold, HasCurrent, HistoryRow}
+use Rattle.gaz_overlay.specs.declared.touch.Stood.{Stood}
+use Rattle.gaz_overlay.specs.declared.touch.Stood.TheVariants.{Never, Since}
+use Rattle.gaz_overlay.specs.declared.touch.Touch.{Touch}
+use Rattle.gaz_overlay.proofs.Making.{changes_make}
+use Rattle.gaz_overlay.proofs.Questions.{laid_questions}
+use Rattle.gaz_tables.specs.Schema.{receiveds, versions}
+use Rattle.gaz_kept.specs.Files.{reached_in}
+use Rattle.gaz_kept.specs.Kept.{IsKept}
+use Rattle.gaz_kept.specs.LastViews.{last_in}
+use Rattle.gaz_kept.specs.Newest.{TellsStood}
+use Rattle.gaz_kept.specs.Versions.{histories_in}
+use Rattle.gaz_store.specs.Beside.{Beside, Makes, Turns}
+use Rattle.gaz_store.specs.declared.judgement.Judgement.{Judgement}
+use Rattle.gaz_store.proofs.LawfulViews.{view_lawful}
+
+abbrev pub with_changes : Judgement → Changes → Judgement
+with_changes j c = record { code = j.code; changes = c }
+
+-- ---- what stood at a key
+
+abbrev tie : Key → Key → Bool
+tie q k = eq_by_cmp key_cmp q k
+
+-- what stood at a key once another is noted
+noted_at : (touched : Touched) (k q : Key) (x : Touch) (b : Bool) → tie q k ≡ b → stood_in (map.insert touched k x) q ≡ cond b x.stood (stood_in touched q)
+noted_at touched k q x b is = ap (λ o. option_map_or (λ (t : Touch). t.stood) o Never) (map.get-insert keys_total touched k x q ∙ ap (λ c. cond c (Some x) (map.get touched q)) is) ∙ by_test b
+  where
+    by_test : (b : Bool) → option_map_or (λ (t : Touch). t.stood) (cond b (Some x) (map.get touched q)) Never ≡ cond b x.stood (stood_in touched q)
+    by_test true = refl
+    by_test false = refl
+
+tied_is : (q k : Key) → tie q k ≡ true → q ≡ k
+tied_is q k is = keys_exact q k (equal (key_cmp q k) is)
+  where
+    equal : (o : Ordering) → is_eq o ≡ true → o ≡ Equal
+    equal Less e = cc
+    equal Equal e = refl
+    equal Greater e = cc
+
+told_touched : (rows : List HistoryRow) (c : Changes) (k : Key) (stood : Stood) (item : Option Item) → AreTold c rows → ((volume : ℕ) → stood ≡ Since volume → HasCurrent rows k volume) → AreTold (with_touched c k stood item) rows
+told_touched rows c k stood item was now = record { told = λ q volume is. by_test q volume (tie q k) refl is }
+  where
+    by_test : (q : Key) (volume : ℕ) (b : Bool) → tie q k ≡ b → stood_in (map.insert c.touched k (record { stood = stood; last = None })) q ≡ Since volume → HasCurrent rows q volume
+    by_test q volume true t is = subst (λ (p : Key). HasCurrent rows p volume) (sym (tied_is q k t)) (now volume (sym (noted_at c.touched k q (record { stood = stood; last = None }) true t) ∙ is))
+    by_test q volume false t is = was.told q volume (sym (noted_at c.touched k q (record { stood = stood; last = None }) false t) ∙ is)
+
+told_put : (rows : List HistoryRow) (c : Changes) (i : Item) → AreTold c rows → AreTold (with_put c i) rows
+told_put rows c i was = record { told = λ q volume is. by_test q volume (tie q (key_of i)) refl is }
+  where
+    x : Touch
+    x = record { stood = stood_in c.touched (key_of i); last = Some i }
+
+    by_test : (q : Key) (volume : ℕ) (b : Bool) → tie q (key_of i) ≡ b → stood_in (map.insert c.touched (key_of i) x) q ≡ Since volume → HasCurrent rows q volume
+    by_test q volume true t is = was.told q volume (ap (stood_in c.touched) (tied_is q (key_of i) t) ∙ sym (noted_at c.touched (key_of i) q x true t) ∙ is)
+    by_test q volume false t is = was.told q volume (sym (noted_at c.touched (key_of i) q x false t) ∙ is)
+
+-- ---- how the changes turn
+
+module _ (db : Database) (kept : IsKept db) (j : Judgement) where
+  abbrev last : View
+  last = last_in db j.code
+
+  abbrev rows : List HistoryRow
+  rows = histories_in (db.trees versions) j.code
+
+  pub touched_turns : (k : Key) (stood : Stood) (item : Option Item) → is_touched j.changes k ≡ false → TellsStood rows last k stood item → Turns db j (with_changes j (with_touched j.changes k stood item)) (λ w. w)
+  touched_turns k stood item fresh tells w makes = record {
+    made = subst (λ o. Make last (with_touched j.changes k stood o) w) (sym tells.is_item)
+        (changes_make.touched last j.changes w (view_lawful db kept j.code (reached_in (db.trees receiveds) j.code)) makes.made k stood fresh tells.is_stood);
+    told = told_touched rows j.changes k stood item makes.told tells.current;
+  }
+
+  pub put_turns : (i : Item) → is_touched j.changes (key_of i) ≡ true → Turns db j (with_changes j (with_put j.changes i)) (λ w. with_item w i)
+  put_turns i noted w makes = record { made = changes_make.put last j.changes w makes.made i noted; told = told_put rows j.changes i makes.told }
+
+  pub taken_turns : (k : Key) → is_touched j.changes k ≡ true → Turns db j (with_changes j (with_taken j.changes k)) (λ w. without_key w k)
+  taken_turns k noted w makes = record { made = changes_make.taken last j.changes w makes.made k noted; told = record { told = makes.told.told } }
+
+-- ---- what it answers
+
+module _ (db : Database) (j : Judgement) (w : View) (makes : Makes db j w) where
+  abbrev v : View
+  v = last_in db j.code
+
+  abbrev s : View
+  s = j.changes.view
+
+  pub item_beside : (k : Key) → is_touched j.changes k ≡ true → map.get s.items k ≡ map.get w.items k
+  item_beside k noted = sym (ap (λ (x : KeyView). x.item) (changes_make.there v j.changes w makes.made k noted))
+
+  pub used_beside : (k : Key) → is_touched j.changes k ≡ true → was_used_in j.changes k ≡ was_used w k
+  used_beside k noted = sym (ap (λ (x : KeyView). x.used) (changes_make.there v j.changes w makes.made k noted))
+
+  pub item_elsewhere : (k : Key) → is_touched j.changes k ≡ false → map.get v.items k ≡ map.get w.items k
+  item_elsewhere k fresh = sym (ap (λ (x : KeyView). x.item) (changes_make.elsewhere v j.changes w makes.made k fresh))
+
+  pub used_elsewhere : (k : Key) → is_touched j.changes k ≡ false → was_used v k ≡ was_used w k
+  used_elsewhere k fresh = sym (ap (λ (x : KeyView). x.used) (changes_make.elsewhere v j.changes w makes.made k fresh))
+
+  answers : LaidAnswers v s
+  answers = laid_questions v s makes.made.over.lawful
+
+  pub approved_beside : (uprn : ℕ) → both s (approved_of v uprn) (approved_of s uprn) ≡ approved_of w uprn
+  approved_beside uprn = sym (answers.approved_of uprn) ∙ ap (λ (u : View). approved_of u uprn) (sym makes.made.is_laid)
+
+  unlaid : laid v s ≡ w
+  unlaid = sym makes.made.is_laid
+
+  pub property_beside : (uprn : ℕ) → property_of w uprn ≡ property_at w uprn (approved_of w uprn)
+  property_beside uprn =
+      ap (λ (u : View). property_of u uprn) makes.made.is_laid ∙ answers.property_of uprn
+      ∙ (λ i. property_at (unlaid i) uprn (approved_beside uprn i))
+
+  pub no_property_beside : (uprn : ℕ) → None ≡ map.get w.items (key.Blpu uprn) → None ≡ property_of w uprn
+  no_property_beside uprn none = ap (option_map (λ blpu. record { blpu = blpu; address = option_and_then (map.get w.items) (first_of (approved_of w uprn)) })) none ∙ sym (property_beside uprn)
+
+  pub its_property_beside : (uprn : ℕ) (blpu : Item) (address : Option Item) → Some blpu ≡ map.get w.items (key.Blpu uprn) → address ≡ option_and_then (map.get w.items) (first_of (approved_of w uprn))
+      → Some (record { blpu = blpu; address = address }) ≡ property_of w uprn
+  its_property_beside uprn blpu address is at = by_some ∙ sym (property_beside uprn)
+    where
+      a : Option Item
+      a = option_and_then (map.get w.items) (first_of (approved_of w uprn))
+
+      by_some : Some (record { blpu = blpu; address = address }) ≡ property_at w uprn (approved_of w uprn)
+      by_some = ap (λ (x : Option Item). Some (record { blpu = blpu; address = x })) at ∙ ap (option_map (λ (b : Item). record { blpu = b; address = a })) is
+
+  -- of the last view's entries, those at touched keys are the ones that the changes have used
+  left_alone : IsLawfulView v → (e : Key × Item) → Has (entries v) e → leaves (Some j.changes) (Some e.0) ≡ untouched s e.0
+  left_alone lawful e there = by_test (is_touched j.changes e.0) refl
+    where
+      by_test : (b : Bool) → is_touched j.changes e.0 ≡ b → not (is_touched j.changes e.0) ≡ not (was_used s e.0)
+      by_test false fresh = ap not (fresh ∙ sym (unused v j.changes makes.made.over e.0 fresh))
+      by_test true noted = by_use (was_used s e.0) refl
+        where
+          by_use : (u : Bool) → was_used s e.0 ≡ u → not (is_touched j.changes e.0) ≡ not (was_used s e.0)
+          by_use true used = ap not (noted ∙ sym used)
+          by_use false fresh =
+              let none : Some e.1 ≡ None = sym (entry_is v e.0 e.1 there) ∙ none_there v j.changes makes.made.over e.0 noted fresh in
+              cc
+
+  -- what of the last view passes a test and isn't passed over
+  left_with : IsLawfulView v → (p : Item → Bool) → list_any (λ e. p e.1 && leaves (Some j.changes) (Some e.0)) (entries v) ≡ any_untouched s (keys_with p v)
+  left_with lawful p = any_same _ _ (entries v) (λ e there. ap (λ b. p e.1 && b) (left_alone lawful e there)) ∙ by_entries (entries v)
+    where
+      by_entries : (es : List (Key × Item)) → list_any (λ e. p e.1 && untouched s e.0) es ≡ list_any (untouched s) (map_of (λ e. e.0) (filter (λ e. p e.1) es))
+      by_entries [] = refl
+      by_entries (e ∷ es) = by_test (p e.1) refl
+        where
+          by_test : (b : Bool) → p e.1 ≡ b → ((p e.1 && untouched s e.0) || list_any (λ e. p e.1 && untouched s e.0) es) ≡ list_any (untouched s) (map_of (λ e. e.0) (filter (λ e. p e.1) (e ∷ es)))
+          by_test true is =
+              (λ i. (is i && untouched s e.0) || by_entries es i)
+              ∙ sym (ap (λ b. list_any (untouched s) (map_of (λ (f : Key × Item). f.0) (cond b (e ∷ filter (λ f. p f.1) es) (filter (λ f. p f.1) es)))) is)
+          by_test false is =
+              (λ i. (is i && untouched s e.0) || by_entries es i)
+              ∙ sym (ap (λ b. list_any (untouched s) (map_of (λ (f : Key × Item). f.0) (cond b (e ∷ filter (λ f. p f.1) es) (filter (λ f. p f.1) es)))) is)
+
+  pub approved_on_beside : IsLawfulView v → (usrn : ℕ) (lang : Option Lang) → approved_on w usrn lang
+      ≡ (list_any (is_left_on usrn lang (Some j.changes)) (entries v) || approved_on s usrn lang)
+  approved_on_beside lawful usrn lang =
+      ap (λ (u : View). approved_on u usrn lang) makes.made.is_laid ∙ answers.approved_on usrn lang
+      ∙ ap (λ b. b || approved_on s usrn lang) (sym (left_with lawful (is_approved_on usrn lang)))
+
+  pub children_beside : IsLawfulView v → (uprn : ℕ) → has_children w uprn ≡ (list_any (is_left_part uprn (Some j.changes)) (entries v) || has_children s uprn)
+  children_beside lawful uprn =
+      ap (λ (u : View). has_children u uprn) makes.made.is_laid ∙ answers.has_children uprn
+      ∙ ap (λ b. b || has_children s uprn) (sym (left_with lawful (is_child_of uprn)))

@@ -1,0 +1,6 @@
+use Rattle.std.proofs.Common.{subst, sym}
+use Rattle.gaz_store.proofs.Composing.{asked_nothing}
+use Rattle.gaz_store.proofs.judgement.Judgement.touch.Goals as goal
+
+pub returns-then-is_touched-clause-asks : goal.returns-then-is_touched-clause-asks
+returns-then-is_touched-clause-asks g c = asked_nothing _ _ _ (λ db kept w makes. makes)

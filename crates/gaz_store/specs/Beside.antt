@@ -1,0 +1,22 @@
+-- A judgement beside the tables.
+use Rattle.sqlite.specs.Effect.{Database}
+use Rattle.gaz_views.specs.View.{View}
+use Rattle.gaz_overlay.specs.Over.{Make}
+use Rattle.gaz_overlay.specs.Rows.{AreTold}
+use Rattle.gaz_tables.specs.Schema.{versions}
+use Rattle.gaz_kept.specs.LastViews.{last_in}
+use Rattle.gaz_kept.specs.Versions.{histories_in}
+use Rattle.gaz_store.specs.declared.judgement.Judgement.{Judgement}
+
+-- its changes make this working view of the custodian's last, and were told which rows are current
+pub record Makes (db : Database) (j : Judgement) (working : View) : Type 0 where
+  pub made : Make (last_in db j.code) j.changes working
+  pub told : AreTold j.changes (histories_in (db.trees versions) j.code)
+
+-- after a call the changes make another working view of the same last one
+abbrev pub Turns : Database → Judgement → Judgement → (View → View) → Type 0
+Turns db old new becomes = (w : View) → Makes db old w → Makes db new (becomes w)
+
+-- so it is of the working view
+abbrev pub Beside : Database → Judgement → (View → Type 0) → Type 0
+Beside db j IsSo = (w : View) → Makes db j w → IsSo w
