@@ -9,3 +9,9 @@ pub mod PageRows
 pub mod StreetRows
 pub mod Saying
 pub mod Verdicts
+pub mod Counts
+pub mod Waiting
+pub mod Bytes
+pub mod Recalling
+pub mod Halving
+pub mod Numbering

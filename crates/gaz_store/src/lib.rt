@@ -4,6 +4,7 @@
 mod asking;
 mod at_hand;
 mod blpus;
+mod counting;
 mod files;
 mod keys;
 mod pages;
