@@ -15,3 +15,9 @@ pub mod Bytes
 pub mod Recalling
 pub mod Halving
 pub mod Numbering
+pub mod Altering
+pub mod Lawful
+pub mod Recounting
+pub mod Entering
+pub mod Receiving
+pub mod Noting

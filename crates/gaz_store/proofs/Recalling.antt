@@ -28,7 +28,7 @@ use Rattle.gaz_store.proofs.Seeing.{asks_as, asks_nothing}
 pub if_some_at : {X : Type 0} (o : Option X) (x : X) (P : X → Type 0) → o ≡ Some x → IfSome o P → P x
 if_some_at o x P is h = subst (λ p. IfSome p P) is h
 
-is_equal : (o : Ordering) → is_eq o ≡ true → o ≡ Equal
+pub is_equal : (o : Ordering) → is_eq o ≡ true → o ≡ Equal
 is_equal Less e = cc
 is_equal Equal e = refl
 is_equal Greater e = cc

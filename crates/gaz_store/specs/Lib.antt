@@ -5,3 +5,5 @@ pub mod Tables
 pub mod Asking
 pub mod Paging
 pub mod Streets
+pub mod Altering
+pub mod Writing

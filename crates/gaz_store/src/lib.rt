@@ -11,5 +11,6 @@ mod pages;
 mod probing;
 mod streets;
 mod tables;
+mod writing;
 
 pub use tables::Tables;
