@@ -11,3 +11,15 @@ pub mod Saying
 pub mod Verdicts
 pub mod LawfulViews
 pub mod Turning
+pub mod Counts
+pub mod Waiting
+pub mod Bytes
+pub mod Recalling
+pub mod Halving
+pub mod Numbering
+pub mod Altering
+pub mod Lawful
+pub mod Recounting
+pub mod Entering
+pub mod Receiving
+pub mod Noting

@@ -1,5 +1,7 @@
 -- What the rows of an answer say.
-use Rattle.std.specs.Prelude.{◌≡◌, ℕ, List, [], ◌∷◌, Option, None}
+use Rattle.std.specs.Prelude.{◌≡◌, ℕ, List, [], ◌∷◌, Option, Some, None}
+use Rattle.std.specs.Global.{Vec}
+use Rattle.sqlite.specs.declared.types.Value.TheVariants.{Blob}
 use Rattle.sqlite.specs.Order.{Row, column}
 use Rattle.gaz_views.specs.declared.verdict.Verdict.{Verdict}
 use Rattle.gaz_kept.specs.Files.{verdict_of}
@@ -10,3 +12,8 @@ abbrev pub SaysVerdict : List Row → Option Verdict → Type 0
 SaysVerdict [] v = v ≡ None
 SaysVerdict (r ∷ rows) v =
     v ≡ verdict_of (number_in (column r 0)) (number_in (column r 1)) (number_in (column r 2))
+
+-- the bytes of the first row
+abbrev pub SaysBytes : List Row → Option (Vec ℕ) → Type 0
+SaysBytes [] b = b ≡ None
+SaysBytes (r ∷ rows) b = (v : Vec ℕ) × (b ≡ Some v) × (column r 0 ≡ Blob v.items)

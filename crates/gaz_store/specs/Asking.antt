@@ -7,8 +7,10 @@ use Rattle.sqlite.specs.State.{State, Survives}
 use Rattle.sqlite_trees.specs.declared.store.Store.{Ghosts}
 use Rattle.gaz_shelf.specs.declared.fault.ShelfFault.{ShelfFault}
 use Rattle.gaz_shelf.specs.declared.fault.ShelfFault.TheVariants.{Store}
+use Rattle.gaz_tables.specs.Schema.{receiveds}
 use Rattle.gaz_tables.specs.Stores.{HasTables}
 use Rattle.gaz_kept.specs.Kept.{IsKept}
+use Rattle.gaz_store.specs.Remembered.{AreSo}
 use Rattle.gaz_store.specs.Seen.{IsUnharmed}
 use Rattle.gaz_store.specs.declared.tables.Tables.{Tables}
 
@@ -35,6 +37,16 @@ pub record AsksTables {S : Type 0} {store : Ghosts S} {T : Type 0} (old new : Ta
   pub asks : Asks (state store old.conn) (state store new.conn) result IsRight
   pub tallies : Tallies old.failures new.failures result
   pub at_hand : new.at_hand ≡ old.at_hand
+
+-- a call that answers from what is at hand, or asks the tables and may have the answer at hand then
+pub record Recalls {S : Type 0} {store : Ghosts S} {T : Type 0} (old new : Tables S store)
+    (result : Result T ShelfFault) (IsRight : Database → T → Type 0) : Type 0 where
+  pub asks : Asks (state store old.conn) (state store new.conn) result
+      (λ db x. AreSo old.at_hand (db.trees receiveds) → IsRight db x)
+  pub tallies : Tallies old.failures new.failures result
+  pub at_hand : IsUnharmed (state store new.conn) → IsKept (state store old.conn).now
+      → AreSo old.at_hand ((state store old.conn).now.trees receiveds)
+      → AreSo new.at_hand ((state store old.conn).now.trees receiveds)
 
 -- ---- within a call
 

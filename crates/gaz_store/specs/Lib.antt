@@ -6,3 +6,5 @@ pub mod Asking
 pub mod Beside
 pub mod Paging
 pub mod Streets
+pub mod Altering
+pub mod Writing

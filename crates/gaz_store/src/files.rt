@@ -1,14 +1,15 @@
 //! What is read of received files.
-ghost use Rattle.std.specs.Prelude.{◌≡◌, pos, IfSome};
+ghost use Rattle.std.specs.Prelude.{◌≡◌, pos, IfOk, IfSome, option_map};
+ghost use Rattle.std.specs.FinMap as map;
 ghost use Rattle.sqlite.specs.Order.{column};
 ghost use Rattle.sqlite.specs.declared.types.Value.TheVariants.{Int};
 ghost use Rattle.gaz_shelf.specs.Board.{verdict_on};
-ghost use Rattle.gaz_tables.specs.Receiveds.{FindsVerdict};
+ghost use Rattle.gaz_tables.specs.Receiveds.{FindsFile, FindsVerdict};
 ghost use Rattle.gaz_tables.specs.Schema.{receiveds};
-ghost use Rattle.gaz_store.specs.Answers.{SaysVerdict};
+ghost use Rattle.gaz_store.specs.Answers.{SaysBytes, SaysVerdict};
 ghost use Rattle.gaz_store.specs.Asking.{AsksTables};
 ghost use Rattle.gaz_kept.specs.Contents.{board_of};
-ghost use Rattle.gaz_kept.specs.Files.{verdict_of};
+ghost use Rattle.gaz_kept.specs.Files.{files_in, verdict_of};
 
 use crate::tables::Tables;
 use gaz_ids::{Code, Volume};
@@ -16,7 +17,7 @@ use gaz_shelf::ShelfFault;
 use gaz_tables::receiveds;
 use gaz_views::Verdict;
 use sqlite::types::ValueRef;
-use sqlite::{Alter, Row};
+use sqlite::{Alter, Error, Row};
 
 impl<S: Alter> Tables<S> {
     /// The state of a volume with its place and rule, where it was received.
@@ -48,6 +49,31 @@ impl<S: Alter> Tables<S> {
         match said(&rows) {
             Some(verdict) => Ok(verdict),
             None => Err(self.fail()),
+        }
+    }
+
+    /// The bytes of a volume with its state, place and rule, where it was received.
+    pub(crate) fn file_rows(&mut self, code: Code, volume: Volume) -> Result<Vec<Row>, ShelfFault>
+        ensures { AsksTables self.old self.new result
+            (λ db rows. FindsFile code volume (db.trees receiveds) rows.items) }
+    {
+        self.make_sure()?;
+        self.known();
+        self.sure = false;
+        let found = receiveds::file(&mut self.conn, code.number() as u32, volume.number() as u32);
+        self.told(found)
+    }
+
+    /// The bytes of a volume, where it was received.
+    pub fn received(&mut self, code: Code, volume: Volume) -> Result<Option<Vec<u8>>, ShelfFault>
+        ensures { AsksTables self.old self.new result
+            (λ db bytes. option_map (λ b. b.items) bytes
+            ≡ map.get (files_in (db.trees receiveds)) (code, volume)) }
+    {
+        let rows = self.file_rows(code, volume)?;
+        match first_bytes(&rows) {
+            Ok(bytes) => Ok(bytes),
+            Err(error) => Err(self.fault(error)),
         }
     }
 }
@@ -92,4 +118,14 @@ fn said(rows: &[Row]) -> Option<Option<Verdict>>
     let place = whole(row, 1)?;
     let rule = whole(row, 2)?;
     verdict_of(state, place, rule)
+}
+
+// The bytes of the first row, where there is one.
+fn first_bytes(rows: &[Row]) -> Result<Option<Vec<u8>>, Error>
+    ensures { IfOk result (SaysBytes rows.now) }
+{
+    match rows.first() {
+        Some(row) => Ok(Some(row.get::<Vec<u8>>(0)?)),
+        None => Ok(None),
+    }
 }

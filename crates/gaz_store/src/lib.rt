@@ -5,6 +5,7 @@ mod asking;
 mod at_hand;
 mod beside;
 mod blpus;
+mod counting;
 mod files;
 mod judgement;
 mod keys;
@@ -13,5 +14,6 @@ mod probing;
 mod steps;
 mod streets;
 mod tables;
+mod writing;
 
 pub use tables::Tables;

@@ -1,6 +1,7 @@
 //! What the tables answer.
 use crate::asking::Asked;
-use crate::fixtures::{FLAT, FORMER_FLAT, HOUSE, NUMBER_14, NUMBER_16, STREET, damaged, furnished};
+use crate::fixtures::{FLAT, FORMER_FLAT, HOUSE, NUMBER_14, NUMBER_16, STREET, damaged, forgetful,
+    furnished};
 use gaz_ids::{Code, Lang, Uprn, Usrn, Volume};
 use gaz_overlay::Stood;
 use gaz_records::{Key, Kind, RecordKey, SharedItem, item_text};
@@ -123,6 +124,24 @@ fn verdicts_are_asked<S: Alter>(
     Ok(())
 }
 
+fn volume(number: u64) -> Result<Volume, Fail> {
+    Ok(Volume::of(number).ok_or("a volume")?)
+}
+
+fn files_are_asked<S: Alter>(
+    rt: &(impl Abort + AllocGlobal),
+    tables: &mut Asked<S>,
+) -> Result<(), Fail> {
+    let (own, other) = (custodian(1001)?, custodian(1002)?);
+    let bytes = tables.received(own, volume(4)?)?.ok_or("a file")?;
+    assert!(rt; bytes.as_slice() == b"bytes");
+    assert!(rt; tables.received(own, volume(5)?)?.is_none());
+    assert!(rt; tables.received(other, volume(4)?)?.is_none());
+    assert!(rt; tables.held(own)? == 1 && tables.reached(own)? == 3);
+    assert!(rt; tables.held(other)? == 0 && tables.reached(other)? == 0);
+    Ok(())
+}
+
 // Each call on its happy path, and the count of failures.
 fn all_are_asked<S: Alter>(
     rt: &(impl Abort + AllocGlobal),
@@ -132,6 +151,7 @@ fn all_are_asked<S: Alter>(
     places_are_asked(rt, tables)?;
     pages_are_asked(rt, tables)?;
     verdicts_are_asked(rt, tables)?;
+    files_are_asked(rt, tables)?;
     assert!(rt; tables.failures() == 0);
     Ok(())
 }
@@ -147,6 +167,44 @@ fn damage_is_counted<S: Alter>(
     assert!(rt; is_row(rt.alloc(), &tables.current(own, &lpi("L2")?)?, NUMBER_14)?);
     assert!(rt; tables.failures() == 1);
     Ok(())
+}
+
+// A file comes and the next volume is rejected; a place beyond 63 bits is a failure.
+fn files_are_written<S: Alter>(
+    rt: &(impl Abort + AllocGlobal),
+    tables: &mut Asked<S>,
+) -> Result<(), Fail> {
+    let own = custodian(1001)?;
+    assert!(rt; tables.held(own)? == 1);
+    tables.receive(own, volume(6)?, b"sixth")?;
+    assert!(rt; tables.held(own)? == 2 && tables.reached(own)? == 3);
+    assert!(rt; tables.skip(own, 1 << 63, 21).err() == Some(ShelfFault::Store));
+    assert!(rt; tables.failures() == 1 && tables.verdict(own, volume(4)?)?.is_none());
+    tables.skip(own, 7, 21)?;
+    let rejected = Some(Verdict::Rejected { place: 7, rule: 21 });
+    assert!(rt; tables.verdict(own, volume(4)?)? == rejected);
+    assert!(rt; tables.held(own)? == 1 && tables.reached(own)? == 4);
+    Ok(())
+}
+
+// What was at hand is what is counted anew.
+fn counts_are_kept<S: Alter>(
+    rt: &(impl Abort + AllocGlobal),
+    tables: &mut Asked<S>,
+) -> Result<(), Fail> {
+    let own = custodian(1001)?;
+    assert!(rt; tables.reached(own)? == 4 && tables.held(own)? == 1);
+    let bytes = tables.received(own, volume(6)?)?.ok_or("a file")?;
+    assert!(rt; bytes.as_slice() == b"sixth");
+    Ok(())
+}
+
+#[test]
+fn what_is_written_is_counted(rt: HostRuntime) -> Result<(), Fail> {
+    let mut tables = furnished(rt.alloc(), Connection::open_in_memory(rt.alloc())?)?;
+    files_are_written(&rt, &mut tables)?;
+    let mut tables = forgetful(rt.alloc(), tables)?;
+    counts_are_kept(&rt, &mut tables)
 }
 
 #[test]

@@ -24,6 +24,26 @@ impl<S: Alter> Asked<S> {
         self.tables.verdict(code, volume)
     }
 
+    pub fn received(&mut self, code: Code, volume: Volume) -> Result<Option<Vec<u8>>, ShelfFault> {
+        self.tables.received(code, volume)
+    }
+
+    pub fn reached(&mut self, code: Code) -> Result<u64, ShelfFault> {
+        self.tables.reached(code)
+    }
+
+    pub fn held(&mut self, code: Code) -> Result<u64, ShelfFault> {
+        self.tables.held(code)
+    }
+
+    pub fn receive(&mut self, code: Code, volume: Volume, bytes: &[u8]) -> Result<(), ShelfFault> {
+        self.tables.receive(code, volume, bytes)
+    }
+
+    pub fn skip(&mut self, code: Code, place: u64, rule: u8) -> Result<(), ShelfFault> {
+        self.tables.skip(code, place, rule)
+    }
+
     pub fn current(&mut self, code: Code, key: &Key) -> Result<Option<SharedItem>, ShelfFault> {
         self.tables.current(code, key)
     }

@@ -127,6 +127,11 @@ pub fn furnished<S: Alter + Drop>(
     Ok(over(alloc, conn)?)
 }
 
+/// The same tables, with nothing at hand.
+pub fn forgetful<S: Alter + Drop>(alloc: Global, tables: Asked<S>) -> Result<Asked<S>, Error> {
+    over(alloc, tables.into_connection())
+}
+
 // Adds an LPI whose body is another's.
 fn damage<S: Alter>(conn: &mut Connection<S>) -> Result<(), Error> {
     rests(conn)?;

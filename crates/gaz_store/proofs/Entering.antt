@@ -1,0 +1,118 @@
+-- What a call that writes the tables tells of them as they are seen.
+use Rattle.std.proofs.Common.{◌≡◌, ◌≢◌, ◌⊎◌, ◌∙◌, ◌≤◌, ◌+◌, inl, inr, ℕ, List, Result, Ok, Err, OnErr, OnOk, arith, sym, ap, subst}
+use Rattle.std.specs.Prelude.{IsSome}
+use Rattle.std.specs.FinMap as finite
+use Rattle.sqlite.specs.Effect.{Database}
+use Rattle.sqlite.specs.Held.{state}
+use Rattle.sqlite.specs.State.{State}
+use Rattle.sqlite_trees.specs.Tree.{Trees}
+use Rattle.sqlite_trees.specs.declared.store.Store.{Ghosts}
+use Rattle.gaz_views.specs.View.{View, empty_view}
+use Rattle.gaz_shelf.specs.Board.{reached}
+use Rattle.gaz_shelf.specs.Keeper.{Broken, Content, Enters, IsAtHand, IsLawful, IsLeft, IsNew, Progress, after_skip, after_stop, with_received}
+use Rattle.gaz_shelf.specs.declared.fault.ShelfFault.{ShelfFault}
+use Rattle.gaz_tables.specs.Schema.{receiveds, versions}
+use Rattle.gaz_kept.specs.Contents.{board_of, content_in}
+use Rattle.gaz_kept.specs.Files.{files_in, reached_in}
+use Rattle.gaz_kept.specs.Kept.{IsKept}
+use Rattle.gaz_kept.specs.Stands.{Stands}
+use Rattle.gaz_kept.proofs.Boards.{board_reads}
+use Rattle.gaz_kept.proofs.Stands.{tables_stand}
+use Rattle.gaz_store.specs.Altering.{Alters, Writes}
+use Rattle.gaz_store.specs.Asking.{Tallies}
+use Rattle.gaz_store.specs.Remembered.{AreSo, Remembered}
+use Rattle.gaz_store.specs.Seen.{IsUnharmed, MayLeave, StandsFor, seen_of}
+use Rattle.gaz_store.specs.Writing.{Comes, IsNewIn, IsNextIn, RejectsNext, WhereSo}
+use Rattle.gaz_store.specs.declared.tables.Tables.{Tables}
+use Rattle.gaz_store.proofs.Lawful.{received_lawful, skipped_lawful}
+
+module _ {T : Type 0} (old new : State) (before after : Remembered) (p q : Progress) (w : View) (f g : ℕ) (r : Result T ShelfFault) (Becomes : Database → Database → Type 0)
+    (asked : Type 0) (becomes : Content)
+    (alters : Alters old new r Becomes) (tallies : Tallies f g r)
+    (goes : StandsFor old before w → asked → (db : Database) → Becomes old.now db → Stands db w becomes × IsLawful becomes)
+    (at_hand : IsUnharmed new → StandsFor old before w → asked → AreSo after (new.now.trees receiveds))
+    (left : IsLeft p q) (cleared : OnOk r (q ≢ Broken)) where
+  by_result : {P Q : Type 0} (R : Type 0) (r : Result T ShelfFault) → OnOk r P → OnErr r Q → (P → R) → (Q → R) → R
+  by_result R (Ok x) a b f g = f a
+  by_result R (Err e) a b f g = g b
+
+  on_ok : {P Q : Type 0} (r : Result T ShelfFault) → (P → Q) → OnOk r P → OnOk r Q
+  on_ok (Ok x) f h = f h
+  on_ok (Err e) f h = tt
+
+  on_err : {P Q : Type 0} (r : Result T ShelfFault) → (P → Q) → OnErr r P → OnErr r Q
+  on_err (Ok x) f h = tt
+  on_err (Err e) f h = f h
+
+  abbrev content : Database → Content
+  content db = content_in db.trees w
+
+  pub enters : Enters (seen_of old before p w f) (seen_of new after q w g) r asked becomes
+  enters = record {
+    harm = alters.harm;
+    stands = λ stood ask h. by_result (StandsFor new after w) r (alters.done h stood.kept.tables) (alters.undone h stood.kept.tables)
+        (λ c. let s = goes stood ask new.now c in record { kept = s.0.kept; so = at_hand h stood ask; lawful = subst IsLawful (sym s.0.content) s.1 })
+        (λ same. record { kept = subst IsKept (sym same) stood.kept; so = at_hand h stood ask; lawful = subst (λ (db : Database). IsLawful (content db)) (sym same) stood.lawful });
+    done = λ stood ask h. on_ok r (λ c. (goes stood ask new.now c).0.content) (alters.done h stood.kept.tables);
+    undone = λ stood ask h. on_err r (λ same. ap content same) (alters.undone h stood.kept.tables);
+    progress = left;
+    cleared = cleared;
+    counts = record { kept = tallies.kept; store = tallies.store };
+    leaves = λ sound ask k l. by_trees sound ask k l;
+    committed = λ stood ask h. commits stood ask h r (alters.done h stood.kept.tables) (alters.committed h stood.kept.tables);
+  }
+    where
+      by_trees : (IsUnharmed old → StandsFor old before w) → asked → (k : Content) → MayLeave new k → MayLeave old k ⊎ (IsUnharmed old × (k ≡ after_stop becomes))
+      by_trees sound ask k l =
+          let s = alters.leaves (λ h. (sound h).kept.tables) in
+          elim (s.crash l.clean l.trees l.left) [
+            | inl was ↦ inl (record { clean = omega (arith, s.clean, l.clean); trees = l.trees; left = was; content = l.content })
+            | inr made ↦ inr (made.unharmed, l.content ∙ ap (λ t. content_in t empty_view) made.shown ∙ ap after_stop (goes (sound made.unharmed) ask made.db made.becomes).0.content)
+          ]
+
+      commits : StandsFor old before w → asked → IsUnharmed new → (r : Result T ShelfFault) → OnOk r (Becomes old.now new.now) → OnOk r ((trees : Trees) → new.may_leave trees → trees ≡ new.now.trees)
+          → OnOk r ((k : Content) → MayLeave new k → k ≡ after_stop becomes)
+      commits stood ask h (Err e) c just = tt
+      commits stood ask h (Ok x) c just = λ k l. l.content ∙ ap (λ t. content_in t empty_view) (just l.trees l.left) ∙ ap after_stop (goes stood ask new.now c).0.content
+
+-- ---- the calls
+
+module _ {S : Type 0} {store : Ghosts S} where
+  abbrev at : Tables S store → State
+  at t = state store t.conn
+
+  -- whatever is judged beside the tables
+  pub writes_enter : {T : Type 0} (old new : Tables S store) (p q : Progress) (w : View) (r : Result T ShelfFault) (IsAsked : Database → Type 0) (Becomes : Database → Database → Type 0) (asked : Type 0) (becomes : Content)
+      → Writes old new r IsAsked Becomes
+      → (StandsFor (at old) old.at_hand w → asked → IsAsked (at old).now)
+      → (StandsFor (at old) old.at_hand w → asked → (db : Database) → Becomes (at old).now db → Stands db w becomes × IsLawful becomes)
+      → IsLeft p q → OnOk r (q ≢ Broken)
+      → Enters (seen_of (at old) old.at_hand p w old.failures) (seen_of (at new) new.at_hand q w new.failures) r asked becomes
+  writes_enter old new p q w r IsAsked Becomes asked becomes writes asks goes left cleared =
+      enters (at old) (at new) old.at_hand new.at_hand p q w old.failures new.failures r Becomes asked becomes writes.alters writes.tallies goes
+      (λ h stood ask. writes.at_hand h stood.kept stood.so (asks stood ask)) left cleared
+
+  -- a file comes
+  pub receive_enters : {T : Type 0} (old new : Tables S store) (p q : Progress) (w : View) (r : Result T ShelfFault) (c v : ℕ) (bytes : List ℕ) → 1 ≤ v → v ≤ 999_999
+      → Writes old new r (IsNewIn c v) (Comes c v bytes) → IsLeft p q → OnOk r (q ≢ Broken)
+      → Enters (seen_of (at old) old.at_hand p w old.failures) (seen_of (at new) new.at_hand q w new.failures) r
+      (IsNew (content_in (at old).now.trees w) c v) (with_received (content_in (at old).now.trees w) c v bytes)
+  receive_enters old new p q w r c v bytes first last writes left cleared =
+      writes_enter old new p q w r (IsNewIn c v) (Comes c v bytes) (IsNew (content_in (at old).now.trees w) c v) (with_received (content_in (at old).now.trees w) c v bytes) writes
+      (λ stood fresh. fresh)
+      (λ stood fresh db comes. (tables_stand.receive c v bytes w (at old).now db first last stood.kept fresh comes, received_lawful (content_in (at old).now.trees w) c v bytes stood.lawful))
+      left cleared
+
+  -- a custodian's next volume is rejected
+  pub skip_enters : {T : Type 0} (old new : Tables S store) (p q : Progress) (r : Result T ShelfFault) (c place rule : ℕ) → rule ≤ 255
+      → Writes old new r (IsNextIn c) (WhereSo old.at_hand (RejectsNext c place rule)) → IsLeft p q → OnOk r (q ≢ Broken)
+      → Enters (seen_of (at old) old.at_hand p empty_view old.failures) (seen_of (at new) new.at_hand q empty_view new.failures) r
+      (IsAtHand (content_in (at old).now.trees empty_view) c) (after_skip (content_in (at old).now.trees empty_view) c place rule)
+  skip_enters old new p q r c place rule small writes left cleared =
+      writes_enter old new p q empty_view r (IsNextIn c) (WhereSo old.at_hand (RejectsNext c place rule)) (IsAtHand (content_in (at old).now.trees empty_view) c) (after_skip (content_in (at old).now.trees empty_view) c place rule) writes
+      (λ stood there. subst (λ n. IsSome (finite.get (files_in ((at old).now.trees receiveds)) (c, n + 1))) (reads (at old).now) there)
+      (λ stood there db rejects. (tables_stand.skip c place rule empty_view (at old).now db small stood.kept there (rejects stood.kept stood.so), skipped_lawful (content_in (at old).now.trees empty_view) c place rule stood.lawful))
+      left cleared
+    where
+      reads : (db : Database) → reached (board_of db) c ≡ reached_in (db.trees receiveds) c
+      reads db = (board_reads (db.trees receiveds) (db.trees versions) c).reached

@@ -1,0 +1,160 @@
+-- What a store's call tells of it as a keeper, where it asks the tables.
+use Rattle.std.proofs.Common.{◌≡◌, ◌≢◌, ◌∙◌, ◌==◌, ◌⊎◌, inl, inr, ℕ, Bool, true, false, cond, Result, Ok, Err, IfOk, OnOk, arith, refl, sym, ap, subst, eq-eqb}
+use Rattle.std.specs.Prelude.{⊤}
+use Rattle.std.proofs.lemmas.Bool.{ne_eqb}
+use Rattle.sqlite.specs.Effect.{Database}
+use Rattle.sqlite.specs.Held.{state}
+use Rattle.sqlite.specs.State.{State}
+use Rattle.sqlite_trees.specs.declared.store.Store.{Ghosts}
+use Rattle.gaz_views.specs.View.{View}
+use Rattle.gaz_shelf.specs.Keeper as keeper
+use Rattle.gaz_shelf.specs.Keeper.{IsLawful, IsLeft, Reads, view_of, viewed}
+use Rattle.gaz_shelf.specs.declared.fault.ShelfFault.{ShelfFault}
+use Rattle.gaz_tables.specs.Schema.{receiveds}
+use Rattle.gaz_kept.specs.Contents.{content_in}
+use Rattle.gaz_kept.specs.Kept.{IsKept}
+use Rattle.gaz_kept.specs.LastViews.{last_in}
+use Rattle.gaz_store.specs.Asking.{Asks, AsksTables, Recalls, Tallies}
+use Rattle.gaz_store.specs.Beside.{Beside}
+use Rattle.gaz_store.specs.Remembered.{AreSo, Remembered}
+use Rattle.gaz_store.specs.Seen.{IsUnharmed, StandsFor}
+use Rattle.gaz_store.specs.Store.{IsElsewhere, IsUnderWay, StandsBeside, StoreStands, cleared, progress_of, seen_beside, seen_in, view_made, working_of}
+use Rattle.gaz_store.specs.declared.judgement.Judgement.{Judgement}
+use Rattle.gaz_store.specs.declared.progress.Judging.{Judging}
+use Rattle.gaz_store.specs.declared.progress.Judging.TheVariants.{Idle, Open, Broken}
+use Rattle.gaz_store.specs.declared.store.Store.{Store}
+use Rattle.gaz_store.specs.declared.tables.Tables.{Tables}
+use Rattle.gaz_store.proofs.LawfulViews.{last_is}
+
+-- ---- a cleared judgement
+
+pub left_cleared : (j : Judging) → IsLeft (progress_of j) (progress_of (cleared j))
+left_cleared Idle = refl
+left_cleared (Open m) = refl
+left_cleared Broken = λ c e. cc
+
+pub not_broken : (j : Judging) → progress_of (cleared j) ≢ keeper.Broken
+not_broken Idle e = cc
+not_broken (Open m) e = cc
+not_broken Broken e = cc
+
+pub working_cleared : (db : Database) (j : Judging) → working_of db (cleared j) ≡ working_of db j
+working_cleared db Idle = refl
+working_cleared db (Open m) = refl
+working_cleared db Broken = refl
+
+pub beside_cleared : (db : Database) (j : Judging) → StandsBeside db j → StandsBeside db (cleared j)
+beside_cleared db Idle stands = stands
+beside_cleared db (Open m) stands = stands
+beside_cleared db Broken stands = tt
+
+open_still : (j : Judging) (m : Judgement) → cleared j ≡ Open m → j ≡ Open m
+open_still Idle m is = cc
+open_still (Open n) m is = is
+open_still Broken m is = cc
+
+elsewhere_still : (j : Judging) (c : ℕ) → IsElsewhere (cleared j) c → IsElsewhere j c
+elsewhere_still Idle c is = tt
+elsewhere_still (Open n) c is = is
+elsewhere_still Broken c is = tt
+
+if_ok : {T E : Type 0} (r : Result T E) (P Q : T → Type 0) → ((x : T) → P x → Q x) → IfOk r P → IfOk r Q
+if_ok (Ok x) P Q f h = f x h
+if_ok (Err e) P Q f h = tt
+
+on_ok_all : {T E : Type 0} {P : Type 0} (r : Result T E) → P → OnOk r P
+on_ok_all (Ok x) h = h
+on_ok_all (Err e) h = tt
+
+-- ---- a call that asks is one that reads
+
+module _ {T : Type 0} (old new : State) (before after : Remembered) (j : Judging) (f g : ℕ) (r : Result T ShelfFault)
+    (IsRight : Database → T → Type 0) (Q : T → Type 0) (asks : Asks old new r IsRight) (tallies : Tallies f g r)
+    (at_hand : IsUnharmed new → IsKept old.now → AreSo before (old.now.trees receiveds) → AreSo after (old.now.trees receiveds))
+    (goes : (x : T) → StoreStands old before j → IsRight old.now x → Q x) where
+  still : StoreStands old before j → IsUnharmed new → new.now ≡ old.now
+  still stood h = asks.rests h stood.tables.kept.tables
+
+  stands_then : StoreStands old before j → IsUnharmed new → (db : Database) → old.now ≡ db → (IsKept db) × (AreSo after (db.trees receiveds)) × (IsLawful (content_in db.trees (working_of db (cleared j)))) × (StandsBeside db (cleared j))
+  stands_then stood h db same = subst (λ (d : Database). (IsKept d) × (AreSo after (d.trees receiveds)) × (IsLawful (content_in d.trees (working_of d (cleared j)))) × (StandsBeside d (cleared j))) same
+      (stood.tables.kept, at_hand h stood.tables.kept stood.tables.so, subst (λ w. IsLawful (content_in old.now.trees w)) (sym (working_cleared old.now j)) stood.tables.lawful, beside_cleared old.now j stood.beside)
+
+  pub store_reads : Reads (seen_beside old before j f) (seen_beside new after (cleared j) g) r Q
+  store_reads = record {
+    keeps = record {
+      harm = asks.harm;
+      stands = λ stood h.
+          let s = stands_then stood h new.now (sym (still stood h)) in
+          record { tables = record { kept = s.0; so = s.1; lawful = s.2 }; beside = s.3 };
+      content = λ stood h.
+          ap (λ w. content_in new.now.trees w) (working_cleared new.now j)
+          ∙ ap (λ (db : Database). content_in db.trees (working_of db j)) (still stood h);
+      progress = left_cleared j;
+      leaves = λ sound k l.
+          let s = asks.leaves (λ h. (sound h).tables.kept.tables) in
+          record {
+            clean = omega (arith, s.clean, l.clean);
+            trees = l.trees;
+            left = elim (s.crash l.clean l.trees l.left) [ inl was ↦ was | inr never ↦ absurd never ];
+            content = l.content;
+          };
+    };
+    right = λ stood h. if_ok r (IsRight old.now) Q (λ x is. goes x stood is) (asks.right h stood.tables.kept);
+    cleared = on_ok_all r (not_broken j);
+    counts = record { kept = tallies.kept; store = tallies.store };
+  }
+
+-- ---- what is seen of a custodian
+
+-- elsewhere, its last view
+viewed_last : (db : Database) → IsKept db → (j : Judging) (c : ℕ) → IsElsewhere j c → viewed (progress_of j) (content_in db.trees (working_of db j)) c ≡ last_in db c
+viewed_last db kept Idle c other = last_is db kept c
+viewed_last db kept (Open m) c other =
+    ap (λ b. cond b (view_made db m) (keeper.viewed keeper.Idle (content_in db.trees (view_made db m)) c)) (ne_eqb c m.code (λ e. other (sym e)))
+    ∙ last_is db kept c
+viewed_last db kept Broken c other = last_is db kept c
+
+-- where its volume is judged, the view that the changes make
+viewed_here : (db : Database) (m : Judgement) (c : ℕ) → m.code ≡ c → viewed (keeper.Open m.code) (content_in db.trees (view_made db m)) c ≡ view_made db m
+viewed_here db m c is = ap (λ b. cond b (view_made db m) (keeper.viewed keeper.Idle (content_in db.trees (view_made db m)) c)) (eq-eqb c m.code (sym is))
+
+-- ---- calls of a store
+
+module _ {S : Type 0} {store : Ghosts S} {T : Type 0} (old : Store S store) (tables : Tables S store) (seed : _) (r : Result T ShelfFault) where
+  abbrev db : Database
+  db = (state store old.tables.conn).now
+
+  abbrev now : Store S store
+  now = record old { tables = tables; judging = cleared old.judging }
+
+  -- what is asked of the board
+  pub tells : (P : Database → T → Type 0) (Q : T → Type 0) → AsksTables old.tables tables r P → ((x : T) → IsKept db → P db x → Q x) → Reads (seen_in old) (seen_in now) r Q
+  tells P Q asks goes =
+      store_reads _ _ _ _ old.judging _ _ r P Q asks.asks asks.tallies (λ h kept so. subst (λ m. AreSo m (db.trees receiveds)) (sym asks.at_hand) so)
+      (λ x stood is. goes x stood.tables.kept is)
+
+  -- what is at hand, or asked
+  pub tells_recalled : (P : Database → T → Type 0) (Q : T → Type 0) → Recalls old.tables tables r P → ((x : T) → IsKept db → P db x → Q x) → Reads (seen_in old) (seen_in now) r Q
+  tells_recalled P Q recalls goes =
+      store_reads _ _ _ _ old.judging _ _ r (λ d x. AreSo old.tables.at_hand (d.trees receiveds) → P d x) Q recalls.asks recalls.tallies recalls.at_hand
+      (λ x stood is. goes x stood.tables.kept (is stood.tables.so))
+
+  -- what is asked of a custodian's last view, while its volume isn't judged
+  pub tells_last : (P : View → T → Type 0) (c : ℕ) → IsElsewhere (cleared old.judging) c → AsksTables old.tables tables r (λ d x. P (last_in d c) x)
+      → Reads (seen_in old) (seen_in now) r (λ x. P (view_of (seen_in old) c) x)
+  tells_last P c other asks =
+      tells (λ d x. P (last_in d c) x) (λ x. P (view_of (seen_in old) c) x) asks
+      (λ x kept is. subst (λ v. P v x) (sym (viewed_last db kept old.judging c (elsewhere_still old.judging c other))) is)
+
+  -- and of its working view, while it is
+  pub tells_beside : (P : View → T → Type 0) (c : ℕ) (m : Judgement) → cleared old.judging ≡ Open m → m.code ≡ c → AsksTables old.tables tables r (λ d x. Beside d m (λ w. P w x))
+      → Reads (seen_in old) (seen_in now) r (λ x. P (view_of (seen_in old) c) x)
+  tells_beside P c m is own asks =
+      store_reads _ _ _ _ old.judging _ _ r (λ d x. Beside d m (λ w. P w x)) (λ x. P (view_of (seen_in old) c) x) asks.asks asks.tallies
+      (λ h kept so. subst (λ a. AreSo a (db.trees receiveds)) (sym asks.at_hand) so)
+      (λ x stood right. by_judging old.judging (open_still old.judging m is) stood.beside x right)
+    where
+      by_judging : (j : Judging) → j ≡ Open m → StandsBeside db j → (x : T) → Beside db m (λ w. P w x) → P (viewed (progress_of j) (content_in db.trees (working_of db j)) c) x
+      by_judging j same beside x right =
+          subst (λ k. P (viewed (progress_of k) (content_in db.trees (working_of db k)) c) x) (sym same)
+          (subst (λ v. P v x) (sym (viewed_here db m c own)) (right (view_made db m) (subst (StandsBeside db) same beside).makes))

@@ -1,0 +1,16 @@
+use Rattle.std.proofs.Common.{◌≡◌, refl, arith, w64}
+use Rattle.std.proofs.lemmas.Int.{ints}
+use mir.Val.{to_z, of_z}
+use Rattle.gaz_tables.specs.Receiveds.{Rejects}
+use Rattle.gaz_tables.specs.Schema.{receiveds}
+use Rattle.gaz_sql_facts.specs.Changes.{Changes}
+use Rattle.gaz_store.proofs.Altering.{statement_alters}
+use Rattle.gaz_store.proofs.tables.Tables.reject.Goals as goal
+
+pub returns : goal.returns
+returns g c =
+    let place : to_z w64 (of_z w64 c.args.place) ≡ c.args.place = omega (arith, ints, c.ranges.place.sfits) in
+    statement_alters _ _ _ _ _ _ _ (Changes receiveds (Rejects c.args.cust c.args.volume c.args.place c.args.rule))
+    c.make_sure.ensures.asks (c.make_sure.new.self.is_open c.in_ok-make_sure.ensures.sure) c.known.ensures
+    (rw place at c.reject-done.ensures.written) c.reject-done.ensures.undone (rw place at c.reject-done.ensures.leaves) c.reject-done.ensures.certain
+    refl refl c.told.ensures.tells

@@ -1,0 +1,28 @@
+use Rattle.std.proofs.Common.{◌≡◌, ◌∙◌, ◌+◌, ◌≤◌, ap, arith, min, pos, w64, ℕ}
+use Rattle.std.proofs.Math.Facts.{to_z-of_z}
+use mir.Val.{to_z, of_z}
+use Rattle.gaz_store.proofs.Numbering.{numbered}
+use Rattle.gaz_store.proofs.Receiving.{skipped_err, skipped_ok}
+use Rattle.gaz_store.proofs.tables.Tables.skip.Goals as goal
+
+is_next : (n sum next : ℕ) → sum ≡ min (n + 1) 18446744073709551615 → next ≡ sum → next ≤ 999_999 → next ≡ n + 1
+is_next n sum next is same most = omega arith
+
+pub returns-in-Ok-reject : goal.returns-in-Ok-reject
+returns-in-Ok-reject g c =
+    let range = rw c.number-2.ensures.value at c.number-2.ensures.range in
+    let next = is_next c.in-Ok.reached c.saturating_add.result c.in-Some.next c.saturating_add.ensures (numbered 1 999_999 c.saturating_add.result c.in-Some.next c.in-Some.ensures) range.1 in
+    let place : to_z w64 (of_z w64 c.in-Ok-try_from.place) ≡ pos c.args.place = ap (λ z. to_z w64 (of_z w64 z)) c.in-Ok-try_from.ensures.1 ∙ to_z-of_z c.in-Ok-try_from.ensures.0 in
+    let small : c.args.rule ≤ 255 = omega (arith, c.ranges.rule.fits) in
+    skipped_ok _ _ c.reject.new.self _ c.reached.result c.reject.result _ c.args.code c.in-Ok.reached c.in-Some.next c.args.place c.args.rule small next
+    c.reached.ensures c.in-Ok.is (rw (c.number.ensures.value, c.number-2.ensures.value, place) at c.reject.ensures) c.in-Ok-reject.is
+    c.was_judged.ensures.conn c.was_judged.ensures.failures c.was_judged.ensures.at_hand
+
+pub returns-in-Err-reject : goal.returns-in-Err-reject
+returns-in-Err-reject g c =
+    let range = rw c.number-2.ensures.value at c.number-2.ensures.range in
+    let next = is_next c.in-Ok.reached c.saturating_add.result c.in-Some.next c.saturating_add.ensures (numbered 1 999_999 c.saturating_add.result c.in-Some.next c.in-Some.ensures) range.1 in
+    let place : to_z w64 (of_z w64 c.in-Ok-try_from.place) ≡ pos c.args.place = ap (λ z. to_z w64 (of_z w64 z)) c.in-Ok-try_from.ensures.1 ∙ to_z-of_z c.in-Ok-try_from.ensures.0 in
+    let small : c.args.rule ≤ 255 = omega (arith, c.ranges.rule.fits) in
+    skipped_err _ _ _ c.reached.result c.reject.result c.in-Err-reject.fault c.args.code c.in-Ok.reached c.in-Some.next c.args.place c.args.rule small next
+    c.reached.ensures c.in-Ok.is (rw (c.number.ensures.value, c.number-2.ensures.value, place) at c.reject.ensures) c.in-Err-reject.is

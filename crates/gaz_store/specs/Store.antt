@@ -1,0 +1,82 @@
+-- A store as it is seen: its tables, and a judgement beside them.
+use Rattle.std.specs.Prelude.{◌≡◌, ◌≢◌, ◌-◌, ◌^◌, ◌==◌, ⊤, ℕ}
+use Rattle.sqlite.specs.Effect.{Database}
+use Rattle.sqlite.specs.Held.{state}
+use Rattle.sqlite.specs.State.{State}
+use Rattle.sqlite_trees.specs.declared.store.Store.{Ghosts}
+use Rattle.gaz_views.specs.View.{View, empty_view}
+use Rattle.gaz_shelf.specs.Keeper as keeper
+use Rattle.gaz_shelf.specs.Keeper.{IsAtHand, Progress, Seen}
+use Rattle.gaz_overlay.specs.Laid.{laid}
+use Rattle.gaz_kept.specs.Contents.{content_in}
+use Rattle.gaz_kept.specs.LastViews.{last_in}
+use Rattle.gaz_store.specs.Beside.{Makes}
+use Rattle.gaz_store.specs.Remembered.{Remembered}
+use Rattle.gaz_store.specs.Seen.{IsUnharmed, MayLeave, StandsFor, full_at}
+use Rattle.gaz_store.specs.declared.judgement.Judgement.{Judgement}
+use Rattle.gaz_store.specs.declared.progress.Judging.{Judging}
+use Rattle.gaz_store.specs.declared.progress.Judging.TheVariants.{Idle, Open, Broken}
+use Rattle.gaz_store.specs.declared.store.Store.{Store}
+
+-- ---- the judgement
+
+-- a broken judgement is cleared
+abbrev pub cleared : Judging → Judging
+cleared Idle = Idle
+cleared (Open j) = Open j
+cleared Broken = Idle
+
+-- no judgement of this custodian is in progress
+abbrev pub IsElsewhere : Judging → ℕ → Type 0
+IsElsewhere Idle c = ⊤
+IsElsewhere (Open j) c = j.code ≢ c
+IsElsewhere Broken c = ⊤
+
+abbrev pub progress_of : Judging → Progress
+progress_of Idle = keeper.Idle
+progress_of (Open j) = keeper.Open j.code
+progress_of Broken = keeper.Broken
+
+-- the view that it has made of its custodian's last
+abbrev pub view_made : Database → Judgement → View
+view_made db j = laid (last_in db j.code) j.changes.view
+
+-- the working view, which is the empty one unless a judgement is open
+abbrev pub working_of : Database → Judging → View
+working_of db Idle = empty_view
+working_of db (Open j) = view_made db j
+working_of db Broken = empty_view
+
+-- it judges a volume that is at hand, and its changes make that view
+pub record IsUnderWay (db : Database) (j : Judgement) : Type 0 where
+  pub at_hand : IsAtHand (content_in db.trees empty_view) j.code
+  pub makes : Makes db j (view_made db j)
+
+abbrev pub StandsBeside : Database → Judging → Type 0
+StandsBeside db Idle = ⊤
+StandsBeside db (Open j) = IsUnderWay db j
+StandsBeside db Broken = ⊤
+
+-- ---- the store
+
+-- the tables are a store's, and so is what stands beside them
+pub record StoreStands (s : State) (at_hand : Remembered) (judging : Judging) : Type 0 where
+  pub tables : StandsFor s at_hand (working_of s.now judging)
+  pub beside : StandsBeside s.now judging
+
+abbrev pub seen_beside : State → Remembered → Judging → ℕ → Seen
+seen_beside s at_hand judging failures = record {
+  content = content_in s.now.trees (working_of s.now judging);
+  stands = StoreStands s at_hand judging;
+  lawful = λ stood. stood.tables.lawful;
+  unharmed = IsUnharmed s;
+  progress = progress_of judging;
+  failures = failures;
+  is_full = failures == 2 ^ 64 - 1;
+  full = full_at failures;
+  leaves = MayLeave s;
+}
+
+abbrev pub seen_in : {S : Type 0} → {store : Ghosts S} → Store S store → Seen
+seen_in {S} {store} t =
+    seen_beside (state store t.tables.conn) t.tables.at_hand t.judging t.tables.failures

@@ -1,0 +1,154 @@
+//! What a store answers and makes as a keeper of boards.
+ghost use Rattle.std.specs.Prelude.{◌≢◌};
+ghost use Rattle.gaz_shelf.specs.Keeper.{Idle, IsNotOpen, Refuses};
+ghost use Rattle.gaz_shelf.specs.Telling.{Abandons, Applies, Begins, Puts, Skips, Takes};
+ghost use Rattle.gaz_store.specs.Store.{seen_in};
+
+use crate::judgement::Judgement;
+use crate::progress::Judging;
+use crate::store::Store;
+use gaz_ids::{Code, Lang, Uprn, Usrn, Volume};
+use gaz_records::{Key, Kind, SharedItem};
+use gaz_shelf::{Shelf, ShelfFault};
+use gaz_views::{Property, Verdict};
+use sqlite::Alter;
+use std::mem::replace;
+
+impl<S: Alter> Shelf for Store<S> {
+    ghost seen: { seen_in };
+
+    fn reached(&mut self, code: Code) -> Result<u64, ShelfFault> {
+        self.judging.clear();
+        self.tables.reached(code)
+    }
+
+    fn verdict(&mut self, code: Code, volume: Volume) -> Result<Option<Verdict>, ShelfFault> {
+        self.judging.clear();
+        self.tables.verdict(code, volume)
+    }
+
+    fn current(&mut self, code: Code, key: &Key) -> Result<Option<SharedItem>, ShelfFault> {
+        self.judging.clear();
+        match self.judging.of(code) {
+            Some(judgement) => judgement.item(&mut self.tables, key),
+            None => self.tables.current(code, key),
+        }
+    }
+
+    fn at(&mut self, code: Code, volume: u64, key: &Key) -> Result<Option<SharedItem>, ShelfFault> {
+        self.judging.clear();
+        self.tables.at(code, volume, key)
+    }
+
+    fn ever(&mut self, code: Code, key: &Key) -> Result<bool, ShelfFault> {
+        self.judging.clear();
+        match self.judging.of(code) {
+            Some(judgement) => judgement.was_used(&mut self.tables, key),
+            None => self.tables.was_used(code, key),
+        }
+    }
+
+    fn approved_of(&mut self, code: Code, uprn: Uprn) -> Result<Vec<Key>, ShelfFault> {
+        self.judging.clear();
+        match self.judging.of(code) {
+            Some(judgement) => judgement.approved_of(&mut self.tables, uprn),
+            None => self.tables.approved_of(code, uprn),
+        }
+    }
+
+    fn property_of(&mut self, code: Code, uprn: Uprn) -> Result<Option<Property>, ShelfFault> {
+        self.judging.clear();
+        match self.judging.of(code) {
+            Some(judgement) => judgement.property_of(&mut self.tables, uprn),
+            None => self.tables.property_of(code, uprn),
+        }
+    }
+
+    fn approved_on(
+        &mut self,
+        code: Code,
+        usrn: Usrn,
+        lang: Option<Lang>,
+    ) -> Result<bool, ShelfFault> {
+        self.judging.clear();
+        match self.judging.of(code) {
+            Some(judgement) => judgement.approved_on(&mut self.tables, usrn, lang),
+            None => self.tables.approved_on(code, usrn, lang),
+        }
+    }
+
+    fn children(&mut self, code: Code, uprn: Uprn) -> Result<bool, ShelfFault> {
+        self.judging.clear();
+        match self.judging.of(code) {
+            Some(judgement) => judgement.children(&mut self.tables, uprn),
+            None => self.tables.children(code, uprn),
+        }
+    }
+
+    fn page(
+        &mut self,
+        code: Code,
+        volume: u64,
+        kind: Kind,
+        after: Option<Key>,
+        most: usize,
+    ) -> Result<Vec<SharedItem>, ShelfFault> {
+        self.judging.clear();
+        self.tables.page(code, volume, kind, after, most)
+    }
+
+    fn begin(&mut self, code: Code) -> Result<(), ShelfFault> {
+        let judgement = Judgement::new(self.tables.alloc, self.seed, code);
+        self.judging = Judging::Open(judgement);
+        Ok(())
+    }
+
+    fn put(&mut self, item: SharedItem) -> Result<(), ShelfFault> {
+        match replace(&mut self.judging, Judging::Broken) {
+            Judging::Open(mut judgement) => match judgement.put(&mut self.tables, item) {
+                Ok(()) => {
+                    self.judging = Judging::Open(judgement);
+                    Ok(())
+                }
+                Err(fault) => Err(fault),
+            },
+            _ => Err(self.tables.fail()),
+        }
+    }
+
+    fn take(&mut self, key: &Key) -> Result<(), ShelfFault> {
+        match replace(&mut self.judging, Judging::Broken) {
+            Judging::Open(mut judgement) => match judgement.take(&mut self.tables, key) {
+                Ok(()) => {
+                    self.judging = Judging::Open(judgement);
+                    Ok(())
+                }
+                Err(fault) => Err(fault),
+            },
+            _ => Err(self.tables.fail()),
+        }
+    }
+
+    fn keep(&mut self) -> Result<(), ShelfFault> {
+        match replace(&mut self.judging, Judging::Broken) {
+            Judging::Open(judgement) => match self.tables.apply(&judgement) {
+                Ok(()) => {
+                    self.judging = Judging::Idle;
+                    Ok(())
+                }
+                Err(fault) => Err(fault),
+            },
+            _ => Err(self.tables.fail()),
+        }
+    }
+
+    fn abandon(&mut self) -> Result<(), ShelfFault> {
+        self.judging = Judging::Idle;
+        Ok(())
+    }
+
+    fn skip(&mut self, code: Code, place: u64, rule: u8) -> Result<(), ShelfFault> {
+        self.judging.clear();
+        self.tables.skip(code, place, rule)
+    }
+}
