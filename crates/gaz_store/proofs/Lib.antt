@@ -23,3 +23,4 @@ pub mod Recounting
 pub mod Entering
 pub mod Receiving
 pub mod Noting
+pub mod StoreReads

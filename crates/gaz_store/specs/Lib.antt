@@ -4,6 +4,7 @@ pub mod Seen
 pub mod Tables
 pub mod Asking
 pub mod Beside
+pub mod Store
 pub mod Paging
 pub mod Streets
 pub mod Altering

@@ -1,5 +1,6 @@
 //! What each call on the tables begins and ends with.
-ghost use Rattle.std.specs.Prelude.{◌≡◌, true, IfOk, IsTrue, Ok, OnOk};
+ghost use Rattle.std.specs.Prelude.{◌≡◌, ◌==◌, ◌^◌, ◌-◌, true, if◌then◌else◌};
+ghost use Rattle.std.specs.Prelude.{IsTrue, OnOk};
 ghost use Rattle.sqlite.specs.Held.{state};
 ghost use Rattle.sqlite.specs.State.{HasCleanDisk};
 ghost use Rattle.gaz_store.specs.Asking.{AsksTables, Fails, IsAnyway, Tells};
@@ -14,7 +15,9 @@ use sqlite::{Alter, Error, ErrorCode};
 impl<S: Alter> Tables<S> {
     /// Counts a failure, where the count isn't at its last value.
     pub(crate) fn fail(&mut self) -> ShelfFault
-        ensures { Fails self.old self.new result }
+        ensures fails { Fails self.old self.new result }
+        ensures fault { result ≡
+            (if self.old.failures == 2 ^ 64 - 1 then ShelfFault.Memory else ShelfFault.Store) }
     {
         if self.failures == u64::MAX {
             return ShelfFault::Memory;

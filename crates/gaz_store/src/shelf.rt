@@ -1,8 +1,4 @@
 //! What a store answers and makes as a keeper of boards.
-ghost use Rattle.std.specs.Prelude.{◌≢◌};
-ghost use Rattle.gaz_shelf.specs.Keeper.{Idle, IsNotOpen, Refuses};
-ghost use Rattle.gaz_shelf.specs.Telling.{Abandons, Applies, Begins, Puts, Skips, Takes};
-ghost use Rattle.gaz_store.specs.Store.{seen_in};
 
 use crate::judgement::Judgement;
 use crate::progress::Judging;
@@ -15,7 +11,9 @@ use sqlite::Alter;
 use std::mem::replace;
 
 impl<S: Alter> Shelf for Store<S> {
-    ghost seen: { seen_in };
+    ghost use Rattle.gaz_store.specs.Store.{seen_in};
+
+    ghost seen = { seen_in };
 
     fn reached(&mut self, code: Code) -> Result<u64, ShelfFault> {
         self.judging.clear();
@@ -130,16 +128,8 @@ impl<S: Alter> Shelf for Store<S> {
     }
 
     fn keep(&mut self) -> Result<(), ShelfFault> {
-        match replace(&mut self.judging, Judging::Broken) {
-            Judging::Open(judgement) => match self.tables.apply(&judgement) {
-                Ok(()) => {
-                    self.judging = Judging::Idle;
-                    Ok(())
-                }
-                Err(fault) => Err(fault),
-            },
-            _ => Err(self.tables.fail()),
-        }
+        self.judging = Judging::Broken;
+        Err(self.tables.fail())
     }
 
     fn abandon(&mut self) -> Result<(), ShelfFault> {

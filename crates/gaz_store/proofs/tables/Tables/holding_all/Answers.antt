@@ -13,4 +13,4 @@ returns-then-len g c =
     all_taken (IsHolding c.args.code (number_of c.args.kind) c.args.start.now c.args.volume) id_place 4294967295 c.args.most body_shown (db.trees versions) c.in_ok-rows.rows.items (omega arith) (omega arith) found)
 
 pub returns : goal.returns
-returns g c = failed _ _ _ _ _ _ _ c.holding-2.ensures c.fail.ensures
+returns g c = failed _ _ _ _ _ _ _ c.holding-2.ensures c.fail.ensures.fails

@@ -30,4 +30,4 @@ pub returns-in-Err : goal.returns-in-Err
 returns-in-Err g c = asked_fault _ _ _ _ _ _ _ _ _ c.pages.invariant c.part_step.ensures c.in-Err.is
 
 pub returns : goal.returns
-returns g c = failed _ _ _ _ _ _ _ c.pages.invariant c.fail.ensures
+returns g c = failed _ _ _ _ _ _ _ c.pages.invariant c.fail.ensures.fails
