@@ -16,5 +16,6 @@ pub mod Stands
 pub mod Written
 pub mod Singly
 pub mod Walking
-pub mod Keeping
+pub mod KeepStands
+pub mod Writes
 pub mod Examples

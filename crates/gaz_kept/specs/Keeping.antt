@@ -1,10 +1,16 @@
 -- What is written when a judgement is kept, and what the tables stand for then.
-use Rattle.std.specs.Prelude.{◌≡◌, true, ℕ, if◌then◌else◌, List, [], ◌∷◌, Option, Some, None}
+use Rattle.std.specs.Prelude.{◌≡◌, true, ℕ, if◌then◌else◌, List, [], ◌∷◌, Option, Some, None, Result, OnOk}
 use Rattle.std.specs.FinMap as finite
+use Rattle.std.specs.String.{string_bytes}
 use Rattle.sqlite.specs.Effect.{Database}
+use Rattle.sqlite.specs.Held.{Held, state}
 use Rattle.sqlite.specs.Order.{Row}
+use Rattle.sqlite.specs.State.{State, HasCleanDisk, Survives}
+use Rattle.sqlite.specs.declared.error.Error.{Error}
+use Rattle.sqlite_trees.specs.declared.store.Store.{Ghosts}
 use Rattle.gaz_records.specs.Items.{is_item}
 use Rattle.gaz_records.specs.Kinds.{number_of}
+use Rattle.gaz_records.specs.declared.item.Item.{Item}
 use Rattle.gaz_records.specs.declared.key.Key.{Key}
 use Rattle.gaz_views.specs.View.{View, empty_view}
 use Rattle.gaz_views.specs.declared.verdict.Verdict.TheVariants as verdict
@@ -19,13 +25,14 @@ use Rattle.gaz_overlay.specs.declared.touch.Writing.{Writing}
 use Rattle.gaz_sql_facts.specs.Changes as table
 use Rattle.gaz_tables.specs.Receiveds.{Applies}
 use Rattle.gaz_tables.specs.Schema.{receiveds, versions}
-use Rattle.gaz_tables.specs.Stores.{AddsRow}
-use Rattle.gaz_tables.specs.Versions.{Closes}
+use Rattle.gaz_tables.specs.Stores.{AddsRow, HasTables}
+use Rattle.gaz_tables.specs.Versions.{Closes, version_values}
 use Rattle.gaz_kept.specs.Contents.{content_in}
 use Rattle.gaz_kept.specs.Kept.{IsKept}
 use Rattle.gaz_kept.specs.LastViews.{last_in}
 use Rattle.gaz_kept.specs.Stands.{Stands, next_in}
 use Rattle.gaz_kept.specs.Versions.{histories_in, values_of}
+use Rattle.gaz_kept.specs.declared.keeping.RowCells.{RowCells}
 
 -- ---- what is written
 
@@ -86,3 +93,46 @@ abbrev pub KeepStands : Type 0
 KeepStands = (c volume : ℕ) (changes : Changes) (working : View) (old new : Database)
     → IsToKeep old c volume changes working → KeepsVolume c volume changes old new
     → Applied c working old new
+
+-- ---- the cells of a row
+
+-- the values of a row of a custodian's, with these cells
+abbrev pub row_values : ℕ → ℕ → ℕ → RowCells → Row
+row_values c born gone cells = version_values c cells.kind (string_bytes cells.id) cells.blpu
+    cells.street cells.lang cells.live born gone (string_bytes cells.body)
+
+-- they are an item's
+abbrev pub AreCellsOf : Item → RowCells → Type 0
+AreCellsOf x cells =
+    (c born gone : ℕ) → row_values c born gone cells ≡ values_of c born gone x
+
+-- ---- a call on a connection, whose state `g` shows
+
+module _ {S : Type 0} (g : Ghosts S) (before after : Held S) where
+  abbrev old : State
+  old = state g before
+
+  abbrev new : State
+  new = state g after
+
+  -- within a transaction, the rows of `version` become others
+  abbrev pub WritesVersions : {A : Type 0} → Result A Error → (List Row → List Row → Type 0) → Type 0
+  WritesVersions result Becomes = HasCleanDisk new → HasTables old.now
+      → OnOk result (table.Changes versions Becomes old.now new.now)
+
+  -- within a transaction, a volume is written and marked applied
+  abbrev pub WritesVolume : {A : Type 0} → Result A Error → ℕ → ℕ → Changes → Type 0
+  WritesVolume result c volume changes = HasCleanDisk new → HasTables old.now
+      → OnOk result (KeepsVolume c volume changes old.now new.now)
+
+  -- in a transaction of its own, a judgement is kept and committed
+  abbrev pub Keeps : {A : Type 0} → Result A Error → ℕ → ℕ → Changes → Type 0
+  Keeps result c volume changes = (working : View) → HasCleanDisk new
+      → IsToKeep old.now c volume changes working
+      → OnOk result (Applied c working old.now new.now × (new.committed ≡ new.now))
+
+  -- a stop leaves what it could before, or the judgement kept
+  abbrev pub MayKeep : ℕ → ℕ → Changes → Type 0
+  MayKeep c volume changes = (working : View)
+      → (HasCleanDisk old → IsToKeep old.now c volume changes working)
+      → Survives old new (table.AreTreesOf (Applied c working old.now))

@@ -1,4 +1,4 @@
-use Rattle.gaz_kept.proofs.Keeping.{keep_stands}
+use Rattle.gaz_kept.proofs.KeepStands.{keep_stands}
 use Rattle.gaz_kept.proofs.laws.volumes_are_kept.Goals as goal
 
 pub returns : goal.returns
