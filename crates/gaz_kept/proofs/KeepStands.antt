@@ -6,7 +6,6 @@ use Rattle.std.proofs.lemmas.List.{length-append}
 use Rattle.std.specs.FinMap as finite
 use Rattle.std.specs.List.{range_with_len}
 use Rattle.sqlite.specs.Effect.{Database}
-use Rattle.sqlite.specs.Order.{Row}
 use Rattle.sqlite_rules.specs.Lists.{Has}
 use Rattle.gaz_records.specs.Keys.{key_of}
 use Rattle.gaz_records.specs.declared.key.Key.{Key}
@@ -15,7 +14,7 @@ use Rattle.gaz_views.specs.declared.verdict.Verdict.TheVariants.{Applied}
 use Rattle.gaz_shelf.specs.Board.{adds}
 use Rattle.gaz_overlay.specs.Changes.{Changes}
 use Rattle.gaz_overlay.specs.Over.{Make}
-use Rattle.gaz_overlay.specs.Rows.{HistoryRow, KeepVolume, never, view_after, written}
+use Rattle.gaz_overlay.specs.Rows.{KeepVolume, never, view_after, written}
 use Rattle.gaz_overlay.specs.Writings.{writing_at}
 use Rattle.gaz_overlay.specs.declared.touch.NewRow.{NewRow}
 use Rattle.gaz_overlay.proofs.Apart.{writings_keep}
@@ -25,7 +24,7 @@ use Rattle.gaz_tables.specs.Receiveds.{Applies}
 use Rattle.gaz_tables.specs.Schema.{received, receiveds, version, versions}
 use Rattle.gaz_tables.specs.Stores.{HasTables}
 use Rattle.gaz_kept.specs.Contents.{board_in}
-use Rattle.gaz_kept.specs.Files.{Judged, files_in, judged_volumes, reached_in, verdicts_in, volume_in}
+use Rattle.gaz_kept.specs.Files.{Judged, files_in, reached_in, verdicts_in, volume_in}
 use Rattle.gaz_kept.specs.Histories.{AreSame}
 use Rattle.gaz_kept.specs.Judging.{IsJudged, IsVerdict}
 use Rattle.gaz_kept.specs.Keeping.{IsToKeep, KeepStands, KeepsVolume, WritesAll}

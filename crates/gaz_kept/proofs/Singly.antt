@@ -1,5 +1,5 @@
 -- Histories as a list in which no row stands twice.
-use Rattle.std.proofs.Common.{◌≡◌, ◌≢◌, ◌∙◌, ◌≤◌, ◌<◌, ◌+◌, ◌==◌, ◌&&◌, ◌⊎◌, inl, inr, ℕ, Bool, true, false, cond, List, [], ◌∷◌, refl, sym, ap, subst, arith, eq-eqb, eqb-true, true≢false}
+use Rattle.std.proofs.Common.{◌≡◌, ◌≢◌, ◌∙◌, ◌≤◌, ◌<◌, ◌==◌, ◌&&◌, ◌⊎◌, inl, inr, ℕ, Bool, true, false, cond, List, [], ◌∷◌, refl, sym, ap, subst, arith, eq-eqb, eqb-true, true≢false}
 use Rattle.std.proofs.lemmas.Bool.{and_from, and_parts, cases_lt}
 use Rattle.std.specs.Cmp.{tied_itself}
 use Rattle.std.specs.List.{AllByRecursion, list_any}
@@ -10,9 +10,8 @@ use Rattle.gaz_records.proofs.KeyOrder.{keys_total}
 use Rattle.gaz_records.specs.Keys.{key_cmp}
 use Rattle.gaz_records.specs.declared.key.Key.{Key}
 use Rattle.gaz_views.proofs.SameKeys.{same_key}
-use Rattle.gaz_overlay.specs.Changes.{Changes, stood_in}
+use Rattle.gaz_overlay.specs.Changes.{Changes}
 use Rattle.gaz_overlay.specs.Rows.{AllApart, AreApart, AreHistories, AreTold, HasCurrent, HistoryRow, IsBefore, IsCurrent, IsUntil}
-use Rattle.gaz_overlay.specs.declared.touch.Stood.TheVariants.{Since}
 use Rattle.gaz_kept.specs.Histories.{AreSame}
 use Rattle.gaz_kept.specs.Kept.{AreInTurn, AreThrough}
 use Rattle.gaz_kept.proofs.Statements.{AreOnce}

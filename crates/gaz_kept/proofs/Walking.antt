@@ -8,7 +8,7 @@ use Rattle.std.specs.FinMap.Entries.{below_all}
 use Rattle.std.specs.List.{filter_map}
 use Rattle.std.specs.Map.{keys_of}
 use Rattle.std.specs.Option.{option_map_or}
-use Rattle.std.specs.Ordering.{is_eq, is_lt}
+use Rattle.std.specs.Ordering.{is_lt}
 use Rattle.std.specs.declared.cmp.Ordering.{Ordering}
 use Rattle.std.specs.declared.cmp.Ordering.TheVariants.{Less, Equal, Greater}
 use Rattle.sqlite.specs.declared.types.Value.TheVariants.{Int}
@@ -24,7 +24,7 @@ use Rattle.gaz_records.specs.declared.key.Key.{Key}
 use Rattle.gaz_views.specs.View.{holds}
 use Rattle.gaz_cells.specs.Ids.{id_of, kind_in}
 use Rattle.gaz_overlay.specs.Changes.{Changes}
-use Rattle.gaz_overlay.specs.Rows.{AreTold, HistoryRow, IsCurrent, added, closed, is_of_birth, never, new_row, written}
+use Rattle.gaz_overlay.specs.Rows.{AreTold, HistoryRow, added, closed, is_of_birth, never, new_row, written}
 use Rattle.gaz_overlay.specs.Writings.{nothing, writing_at, writing_of}
 use Rattle.gaz_overlay.specs.declared.touch.NewRow.{NewRow}
 use Rattle.gaz_overlay.specs.declared.touch.Touch.{Touch}
@@ -37,7 +37,7 @@ use Rattle.gaz_kept.specs.Versions.{histories_in, living}
 use Rattle.gaz_kept.proofs.Pairs.{missing, ties_has}
 use Rattle.gaz_kept.proofs.Singly.{Current, current_of, singly, singly_kept, singly_only}
 use Rattle.gaz_kept.proofs.Statements.{AreOnce, closes_version, insert_adds, read_from, read_in}
-use Rattle.gaz_kept.proofs.Written.{Comes, IsWritten, Rows, WasThere, adds_none, adds_row, among, before_here, closed_in, closes_none, closes_row, not_among, once_now}
+use Rattle.gaz_kept.proofs.Written.{Comes, IsWritten, Rows, WasThere, adds_none, adds_row, among, before_here, closed_in, closes_none, closes_row, once_now}
 
 -- ---- keys in turn
 

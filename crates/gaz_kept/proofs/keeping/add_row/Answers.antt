@@ -6,7 +6,6 @@ use Rattle.gaz_sql_facts.specs.Changes.{Changes}
 use Rattle.gaz_tables.specs.Schema.{versions}
 use Rattle.gaz_tables.specs.Stores.{AddsRow}
 use Rattle.gaz_tables.specs.Versions.{version_values}
-use Rattle.gaz_kept.specs.Versions.{values_of}
 use Rattle.gaz_kept.proofs.keeping.add_row.Goals as goal
 
 pub returns-clause-added : goal.returns-clause-added

@@ -1,5 +1,4 @@
 use Rattle.std.proofs.Common.{subst}
-use Rattle.gaz_overlay.specs.Writings.{writing_at}
 use Rattle.gaz_kept.specs.Keeping.{AddsItem, ClosesRow, WritesKey, WritesVersions}
 use Rattle.gaz_kept.proofs.Writes.{writes_then}
 use Rattle.gaz_kept.proofs.keeping.write_key.Goals as goal

@@ -1,4 +1,4 @@
-use Rattle.std.proofs.Common.{◌≡◌, ◌∙◌, subst, sym}
+use Rattle.std.proofs.Common.{◌∙◌, subst}
 use Rattle.sqlite.specs.Held.{state}
 use Rattle.gaz_sql_facts.specs.Changes.{Changes}
 use Rattle.gaz_tables.proofs.Staying.{stays}
