@@ -14,6 +14,7 @@ use Rattle.gaz_overlay.specs.Changes.{Changes}
 use Rattle.gaz_overlay.specs.Rows.{AllApart, AreApart, AreHistories, AreTold, HasCurrent, HistoryRow, IsBefore, IsCurrent, IsUntil}
 use Rattle.gaz_kept.specs.Histories.{AreSame}
 use Rattle.gaz_kept.specs.Kept.{AreInTurn, AreThrough}
+use Rattle.gaz_kept.proofs.AtKeys.{has_current}
 use Rattle.gaz_kept.proofs.Statements.{AreOnce}
 use Rattle.gaz_kept.proofs.Written.{Rows}
 
@@ -156,11 +157,6 @@ pub current_of : (rows : Rows) (k : Key) (volume : ℕ) → HasCurrent rows k vo
 current_of [] k volume h = absurd h
 current_of (r ∷ rows) k volume (inl is) = record { row = r; there = inl refl; is = is }
 current_of (r ∷ rows) k volume (inr h) = let x = current_of rows k volume h in record { row = x.row; there = inr x.there; is = x.is }
-
-has_current : (rows : Rows) (k : Key) (volume : ℕ) (h : HistoryRow) → Has rows h → IsCurrent k volume h → HasCurrent rows k volume
-has_current [] k volume h there is = absurd there
-has_current (r ∷ rows) k volume h (inl same) is = inl (subst (IsCurrent k volume) same is)
-has_current (r ∷ rows) k volume h (inr there) is = inr (has_current rows k volume h there is)
 
 pub told_singly : (c : Changes) (rows : Rows) → AreInTurn rows → AreTold c rows → AreTold c (singly rows)
 told_singly c rows turn told = record {

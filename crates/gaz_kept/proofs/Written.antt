@@ -1,9 +1,8 @@
 -- A custodian's histories while keys are written, by what rows there are.
 use Rattle.std.proofs.Common.{◌≡◌, ◌≢◌, ◌∙◌, ◌<◌, ◌==◌, ◌⊎◌, ◌||◌, inl, inr, ℕ, Bool, true, false, cond, List, ◌∷◌, refl, sym, ap, subst, arith, eq-eqb, eqb-true, true≢false}
 use Rattle.std.specs.Prelude.{Option, Some, None, option_map}
-use Rattle.std.specs.Cmp.{tied_itself}
 use Rattle.std.specs.List.{list_any}
-use Rattle.std.specs.Ordering.{eq_by_cmp, is_eq}
+use Rattle.std.specs.Ordering.{eq_by_cmp}
 use Rattle.sqlite_rules.specs.Lists.{Has}
 use Rattle.gaz_records.proofs.KeyOrder.{keys_exact, keys_total}
 use Rattle.gaz_records.specs.Keys.{key_cmp}
@@ -16,6 +15,7 @@ use Rattle.gaz_overlay.specs.declared.touch.NewRow.{NewRow}
 use Rattle.gaz_kept.specs.Histories.{Close, Gain, gone_with}
 use Rattle.gaz_kept.proofs.Pairs.{has_tied}
 use Rattle.gaz_kept.proofs.Statements.{AreOnce}
+use Rattle.gaz_kept.proofs.Views.{ties}
 
 abbrev pub Rows : Type 0
 Rows = List HistoryRow
@@ -92,9 +92,6 @@ once_now m c ended begun old now once before w a b ha hb key born = by_origin (w
         cc
 
 -- ---- one key more is closed
-
-ties : (q k : Key) → q ≡ k → eq_by_cmp key_cmp q k ≡ true
-ties q k is = subst (λ x. eq_by_cmp key_cmp q x ≡ true) is (ap is_eq (tied_itself keys_total q))
 
 pub not_among : (keys : List Key) (k : Key) → ¬ Has keys k → among keys k ≡ false
 not_among keys k none = by_test (among keys k) refl

@@ -15,6 +15,7 @@ use Rattle.gaz_records.specs.declared.key.Key.{Key}
 use Rattle.gaz_views.specs.View.{View, empty_view}
 use Rattle.gaz_views.specs.declared.verdict.Verdict.TheVariants as verdict
 use Rattle.gaz_cells.specs.Ids.{id_of, kind_in}
+use Rattle.gaz_shelf.specs.Board.{Judgement}
 use Rattle.gaz_shelf.specs.Keeper.{IsAtHand, with_judgement}
 use Rattle.gaz_overlay.specs.Changes.{Changes}
 use Rattle.gaz_overlay.specs.Over.{Make}
@@ -32,7 +33,7 @@ use Rattle.gaz_kept.specs.Kept.{IsKept}
 use Rattle.gaz_kept.specs.LastViews.{last_in}
 use Rattle.gaz_kept.specs.Stands.{Stands, next_in}
 use Rattle.gaz_kept.specs.Versions.{histories_in, values_of}
-use Rattle.gaz_kept.specs.declared.keeping.RowCells.{RowCells}
+use Rattle.gaz_kept.specs.declared.row_cells.RowCells.{RowCells}
 
 -- ---- what is written
 
@@ -76,7 +77,8 @@ pub record KeepsVolume (c volume : ℕ) (changes : Changes) (old new : Database)
 
 -- a store's tables, and beside them changes that make a working view of a custodian's last, which
 -- is to be that of its next volume
-pub record IsToKeep (db : Database) (c volume : ℕ) (changes : Changes) (working : View) : Type 0 where
+pub record IsToKeep (db : Database) (c volume : ℕ) (changes : Changes)
+    (working : View) : Type 0 where
   pub kept : IsKept db
   pub next : volume ≡ next_in db c
   pub at_hand : IsAtHand (content_in db.trees empty_view) c
@@ -85,8 +87,9 @@ pub record IsToKeep (db : Database) (c volume : ℕ) (changes : Changes) (workin
 
 -- the board has one more judgement of the custodian: applied, with this view
 abbrev pub Applied : ℕ → View → Database → Database → Type 0
-Applied c working old new = Stands new empty_view (with_judgement (content_in old.trees empty_view) c
-    (record { verdict = verdict.Applied; view = working }))
+Applied c working old new =
+    let judgement : Judgement = record { verdict = verdict.Applied; view = working } in
+    Stands new empty_view (with_judgement (content_in old.trees empty_view) c judgement)
 
 -- what is written makes just that of what the tables stand for
 abbrev pub KeepStands : Type 0
@@ -116,7 +119,8 @@ module _ {S : Type 0} (g : Ghosts S) (before after : Held S) where
   new = state g after
 
   -- within a transaction, the rows of `version` become others
-  abbrev pub WritesVersions : {A : Type 0} → Result A Error → (List Row → List Row → Type 0) → Type 0
+  abbrev pub WritesVersions : {A : Type 0} → Result A Error → (List Row → List Row → Type 0)
+      → Type 0
   WritesVersions result Becomes = HasCleanDisk new → HasTables old.now
       → OnOk result (table.Changes versions Becomes old.now new.now)
 

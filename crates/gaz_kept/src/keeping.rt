@@ -1,99 +1,27 @@
 //! A judgement's changes, written into the tables as a custodian's next volume.
-ghost use Rattle.std.specs.Prelude.{◌≡◌, pos, false, true, IfErr, IfOk, OnOk, if◌then◌else◌};
-ghost use Rattle.std.specs.String.{string_bytes};
+ghost use Rattle.std.specs.Prelude.{◌≡◌, false, OnOk, if◌then◌else◌};
 ghost use Rattle.sqlite.specs.Held.{state};
-ghost use Rattle.gaz_records.specs.Items.{is_item};
 ghost use Rattle.gaz_overlay.specs.Rows.{never};
 ghost use Rattle.gaz_overlay.specs.Writings.{writing_at};
 ghost use Rattle.gaz_sql_facts.specs.Changes.{LeavesTheCommit};
-ghost use Rattle.gaz_tables.specs.Stores.{AddsRow, StaysInside, Undoes, WasOpen};
-ghost use Rattle.gaz_kept.specs.Keeping.{AddsItem, AreCellsOf, ClosesRow, Keeps, MayKeep};
-ghost use Rattle.gaz_kept.specs.Keeping.{WritesKey, WritesKeys, WritesVersions, WritesVolume};
+ghost use Rattle.gaz_tables.specs.Receiveds.{Applies};
+ghost use Rattle.gaz_tables.specs.Schema.{receiveds};
+ghost use Rattle.gaz_tables.specs.Stores.{AddsRow, StaysInside, Undoes, WasOpen, WritesInside};
+ghost use Rattle.gaz_kept.specs.Keeping.{AddsItem, ClosesRow, Keeps, MayKeep, WritesKey};
+ghost use Rattle.gaz_kept.specs.Keeping.{WritesKeys, WritesVersions, WritesVolume};
 ghost use Rattle.gaz_kept.specs.Versions.{values_of};
 
-use crate::decoding::{RowFault, kind_in, name_of};
-use gaz_cells::Cells;
+use crate::decoding::{kind_in, name_of};
+use crate::row_cells::{cells_of, error_of, narrow};
 use gaz_ids::{Code, Volume};
 use gaz_overlay::{NewRow, Overlay};
 use gaz_records::{Item, Key};
 use gaz_tables::{receiveds, versions};
-use sqlite::{Alter, Connection, Error, ErrorCode, Transaction};
+use sqlite::{Alter, Connection, Error, Transaction};
 use std::alloc::Global;
 
 // `gone` of a row that is current.
 const NEVER: u32 = 1_000_000;
-
-// The cells of an item's row, as the statement takes them.
-#[derive(Drop)]
-pub(crate) struct RowCells {
-    kind: u32,
-    id: String,
-    blpu: i64,
-    street: u32,
-    lang: u32,
-    live: bool,
-    body: String,
-}
-
-// A number as the tables take it, which each of a row's is.
-fn narrow(number: u64) -> Result<u32, Error>
-    ensures { IfOk result (λ n. n ≡ number) }
-{
-    match u32::try_from(number) {
-        Ok(n) => Ok(n),
-        Err(_) => Err(Error::IntegralValueOutOfRange(0)),
-    }
-}
-
-// A property's number as the tables take it.
-fn signed(number: u64) -> Result<i64, Error>
-    ensures { IfOk result (λ n. n ≡ pos number) }
-{
-    if number > i64::MAX as u64 {
-        return Err(Error::IntegralValueOutOfRange(0));
-    }
-    Ok(number as i64)
-}
-
-// The bytes as text, which those of a row are.
-fn as_text(bytes: Vec<u8>) -> Result<String, Error>
-    ensures { IfOk result (λ t. string_bytes t ≡ bytes.items) }
-{
-    match String::from_utf8(bytes) {
-        Ok(text) => Ok(text),
-        Err(_) => Err(Error::Utf8Error(0)),
-    }
-}
-
-// The error that a fault of a row is.
-fn error_of(fault: RowFault) -> Error {
-    match fault {
-        RowFault::Memory => Error::SqliteFailure(ErrorCode::OutOfMemory),
-        RowFault::Wrong => Error::Utf8Error(0),
-    }
-}
-
-// The cells of an item's row.
-fn row_cells(alloc: Global, item: &Item) -> Result<RowCells, Error>
-    ensures { IfOk result (AreCellsOf item.now) }
-{
-    let cells = Cells::of(alloc, item)?;
-    let Cells {
-        kind,
-        id,
-        links,
-        body,
-    } = cells;
-    Ok(RowCells {
-        kind: narrow(kind)?,
-        id: as_text(id)?,
-        blpu: signed(links.blpu)?,
-        street: narrow(links.street)?,
-        lang: u32::from(links.lang),
-        live: links.live == 1,
-        body: as_text(body)?,
-    })
-}
 
 // Adds an item's row, within a transaction.
 fn add_row<S: Alter>(
@@ -109,7 +37,7 @@ fn add_row<S: Alter>(
         (AddsRow (values_of code born gone item.now)) }
     ensures inside { StaysInside S.Store tx.old.conn.now tx.new.conn.now result }
 {
-    let cells = row_cells(alloc, item)?;
+    let cells = cells_of(alloc, item)?;
     let cust = code.number() as u32;
     let born = born.number() as u32;
     versions::insert(
@@ -227,6 +155,20 @@ fn write_keys<S: Alter>(
     Ok(())
 }
 
+// Marks the volume applied, within a transaction.
+fn mark_applied<S: Alter>(
+    tx: &mut Transaction<'_, S>,
+    code: Code,
+    volume: Volume,
+) -> Result<usize, Error>
+    ensures same_reference { tx.new.conn.ghost_name ≡ tx.old.conn.ghost_name }
+    ensures applied { WritesInside S.Store tx.old.conn.now tx.new.conn.now
+        receiveds result (Applies code volume) }
+    ensures inside { StaysInside S.Store tx.old.conn.now tx.new.conn.now result }
+{
+    receiveds::apply(tx, code.number() as u32, volume.number() as u32)
+}
+
 // Writes what has become of each touched key, and marks the volume applied, within a transaction.
 fn write_volume<S: Alter>(
     tx: &mut Transaction<'_, S>,
@@ -242,7 +184,7 @@ fn write_volume<S: Alter>(
 {
     let keys = changes.touched(alloc)?;
     write_keys(tx, alloc, code, volume, &keys, changes)?;
-    receiveds::apply(tx, code.number() as u32, volume.number() as u32)?;
+    mark_applied(tx, code, volume)?;
     Ok(())
 }
 

@@ -7,3 +7,4 @@ pub mod keeping;
 mod key_order;
 pub mod laws;
 pub mod newest;
+mod row_cells;

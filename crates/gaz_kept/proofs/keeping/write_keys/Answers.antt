@@ -20,9 +20,9 @@ loop-key-preserved g c =
     let more : take (i + 1) all ≡ keys ++ k ∷ [] = take_more all i k c.loop-key-test.true ∙ ap (λ x. keys ++ x ∷ []) (sym c.key-item.is) in
     record {
       same = one.same_reference ∙ inv.same;
-      inside = inside_done g.S.Store _ _ _ _ (inside_then g.S.Store _ _ _ _ _ inv.inside one.inside);
+      inside = inside_done g.S.Store c.args.tx.now.conn.now c.write_key.new.tx.conn.now _ _ (inside_then g.S.Store c.args.tx.now.conn.now c.loop-key.tx.conn.now c.write_key.new.tx.conn.now _ _ inv.inside one.inside);
       written = subst (λ l. WritesVersions g.S.Store c.args.tx.now.conn.now c.write_key.new.tx.conn.now done (WritesKeys c.args.code c.args.volume c.args.changes.now l)) (sym more)
-          (writes_then g.S.Store _ c.loop-key.tx.conn.now _ _ _ inv.inside one.inside
+          (writes_then g.S.Store c.args.tx.now.conn.now c.loop-key.tx.conn.now c.write_key.new.tx.conn.now _ _ inv.inside one.inside
           (WritesKeys c.args.code c.args.volume c.args.changes.now keys) (WritesKey c.args.code c.args.volume k (writing_at c.args.changes.now k)) (WritesKeys c.args.code c.args.volume c.args.changes.now (keys ++ k ∷ []))
           (one_more c.args.code c.args.volume c.args.changes.now keys k) inv.written one.written);
     }

@@ -11,5 +11,5 @@ invariant-loop-key g l =
     record {
       same : l.tx.conn.ghost_name ≡ l.initial.tx.conn.ghost_name;
       inside : StaysInside g.S.Store l.initial.tx.conn.now l.tx.conn.now done;
-      written : WritesVersions g.S.Store l.initial.tx.conn.now l.tx.conn.now done (WritesKeys l.code l.volume l.changes (take l.key-index l.keys))
+      written : WritesVersions g.S.Store l.initial.tx.conn.now l.tx.conn.now done (WritesKeys l.code l.volume l.changes (take l.key-index l.keys));
     }
