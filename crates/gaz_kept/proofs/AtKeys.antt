@@ -19,7 +19,7 @@ use Rattle.gaz_kept.specs.declared.newest.Life.{Life}
 use Rattle.gaz_kept.proofs.Pairs.{at_one, found, in_set, missing, not_in_set}
 use Rattle.gaz_kept.proofs.Views.{Holds, IsEntry, entered_as, entries_at, entry, lt_is, single_at, use_of, used_as, used_at}
 
-has_current : (rows : List HistoryRow) (k : Key) (volume : ℕ) (h : HistoryRow) → Has rows h → IsCurrent k volume h → HasCurrent rows k volume
+pub has_current : (rows : List HistoryRow) (k : Key) (volume : ℕ) (h : HistoryRow) → Has rows h → IsCurrent k volume h → HasCurrent rows k volume
 has_current [] k volume h there is = absurd there
 has_current (r ∷ rows) k volume h (inl same) is = inl (subst (IsCurrent k volume) same is)
 has_current (r ∷ rows) k volume h (inr there) is = inr (has_current rows k volume h there is)

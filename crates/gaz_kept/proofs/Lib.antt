@@ -13,4 +13,9 @@ pub mod KeysTold
 pub mod Boards
 pub mod Sorted
 pub mod Stands
+pub mod Written
+pub mod Singly
+pub mod Walking
+pub mod KeepStands
+pub mod Writes
 pub mod Examples

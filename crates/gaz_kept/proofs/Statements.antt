@@ -26,7 +26,7 @@ use Rattle.gaz_tables.specs.Versions as table
 use Rattle.gaz_tables.specs.Versions.{Closes, IsOfBirth, gone_at}
 use Rattle.gaz_kept.specs.Histories.{AreVersions, ClosesVersion, InsertAdds, StatementsChange, gone_with}
 use Rattle.gaz_kept.specs.Judging.{AreBornLater}
-use Rattle.gaz_kept.specs.Kept.{AreInTurn, IsVersion}
+use Rattle.gaz_kept.specs.Kept.{IsVersion}
 use Rattle.gaz_kept.specs.Versions.{cells_in, histories_in, history_in, item_in, living, number_in, text_in, values_of}
 use Rattle.gaz_kept.proofs.Said.{cells_same, not_another, says}
 
@@ -249,7 +249,11 @@ insert_adds id c born gone x old new known first in_turn all added = record {
 
 -- ---- UPDATE
 
-module _ (c volume : ℕ) (h : HistoryRow) (old new : List Row) (le : h.born ≤ volume) (all : AreVersions old) (apart : AreInTurn (histories_in old c))
+-- no two rows of a key are born in one volume
+abbrev pub AreOnce : List HistoryRow → Type 0
+AreOnce rows = (a b : HistoryRow) → Has rows a → Has rows b → a.key ≡ b.key → a.born ≡ b.born → a ≡ b
+
+module _ (c volume : ℕ) (h : HistoryRow) (old new : List Row) (le : h.born ≤ volume) (all : AreVersions old) (once : AreOnce (histories_in old c))
     (there : Has (histories_in old c) h) (closes : Closes c (number_of (kind_in h.key)) (id_of h.key) h.born volume old new) where
   -- the row of the history
   its : (r : Row) × Has old r × (history_in c r ≡ Some h)
@@ -269,7 +273,7 @@ module _ (c volume : ℕ) (h : HistoryRow) (old new : List Row) (le : h.born ≤
   only_its : (r : Row) → Has old r → IsBirthOf c h.key h.born r → history_in c r ≡ Some h
   only_its r was b =
       let z = born_as c h.key h.born r (all r was) is_its_key b in
-      z.is ∙ ap Some (apart.once z.row h (read_in (history_in c) old r z.row was z.is) there z.key z.birth)
+      z.is ∙ ap Some (once z.row h (read_in (history_in c) old r z.row was z.is) there z.key z.birth)
 
   closed_now : (r : Row) → Has old r → IsBirthOf c h.key h.born r → history_in c (gone_at volume r) ≡ Some (gone_with volume h)
   closed_now r was b = gone_history c volume r h (all r was) (only_its r was b)
@@ -302,7 +306,7 @@ module _ (c volume : ℕ) (h : HistoryRow) (old new : List Row) (le : h.born ≤
   still_rows r (inl was) = all r was.0
   still_rows r (inr s) = subst IsVersion (sym s.3) (gone_version volume s.0 (all s.0 s.1) (subst (λ n. n ≤ volume) (sym (ap number_in s.2.of_born)) le))
 
-  closes_version : ClosesVersion c volume h old new
+  pub closes_version : ClosesVersion c volume h old new
   closes_version = record {
     close = record {
       only = λ y here. let r = read_from (history_in c) new y here in closed_only y r.0 r.2 (closes.only r.0 r.1);
@@ -317,4 +321,4 @@ module _ (c volume : ℕ) (h : HistoryRow) (old new : List Row) (le : h.born ≤
   }
 
 pub statements_change : StatementsChange
-statements_change = record { insert = insert_adds; update = closes_version }
+statements_change = record { insert = insert_adds; update = λ c volume h old new le all apart. closes_version c volume h old new le all apart.once }

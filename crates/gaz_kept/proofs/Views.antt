@@ -21,7 +21,7 @@ use Rattle.gaz_kept.specs.Kept.{AreInTurn, AreThrough}
 use Rattle.gaz_kept.specs.Judging.{AreBornLater}
 use Rattle.gaz_kept.proofs.Pairs.{AreSingle, IsWith, IsWithout, alike, alike_set, inserted, inserted_set, removed}
 
-ties : (q k : Key) → q ≡ k → eq_by_cmp key_cmp q k ≡ true
+pub ties : (q k : Key) → q ≡ k → eq_by_cmp key_cmp q k ≡ true
 ties q k is = subst (λ x. eq_by_cmp key_cmp q x ≡ true) is (ap is_eq (tied_itself keys_total q))
 
 abbrev Rows : Type 0

@@ -9,4 +9,5 @@ pub mod Addresses
 pub mod Histories
 pub mod Judging
 pub mod Stands
+pub mod Keeping
 pub mod Examples

@@ -9,8 +9,8 @@ ghost use Rattle.gaz_kept.specs.Versions.{text_in};
 
 use gaz_cells::{id_of, key_named};
 use gaz_records::{FieldFault, Item, Key, Kind, SharedItem, item_of_text, key_of};
-use sqlite::types::ValueRef;
 use sqlite::Row;
+use sqlite::types::ValueRef;
 use std::alloc::Global;
 
 /// Why a row isn't read.
@@ -98,12 +98,7 @@ fn item_of(alloc: Global, key: &Key, body: &[u8]) -> Result<Item, RowFault>
 }
 
 /// The item at a key that the body in a column says.
-pub fn item_in(
-    alloc: Global,
-    key: &Key,
-    row: &Row,
-    at: usize,
-) -> Result<SharedItem, RowFault>
+pub fn item_in(alloc: Global, key: &Key, row: &Row, at: usize) -> Result<SharedItem, RowFault>
     ensures { IfOk result (IsItemAt row.now at key.now) }
 {
     let item = item_of(alloc, key, text(row, at)?)?;

@@ -2,6 +2,7 @@
 ghost use Rattle.gaz_kept.specs.Examples.{WorkedExamples};
 ghost use Rattle.gaz_kept.specs.Histories.{HistoriesChange, StatementsChange};
 ghost use Rattle.gaz_kept.specs.Judging.{BoardChanges, FilesChange};
+ghost use Rattle.gaz_kept.specs.Keeping.{KeepStands};
 ghost use Rattle.gaz_kept.specs.Stands.{TablesStand};
 
 /// What the definitions come to on worked examples.
@@ -37,4 +38,9 @@ pub fn board_changes()
 /// tables stand for what a keeper's calls say.
 pub fn tables_stand()
     ensures { TablesStand }
+{}
+
+/// What is written when a judgement is kept makes of what the tables stand for one judgement more.
+pub fn volumes_are_kept()
+    ensures { KeepStands }
 {}

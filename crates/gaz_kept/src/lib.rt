@@ -3,6 +3,8 @@
 
 pub mod addresses;
 pub mod decoding;
+pub mod keeping;
 mod key_order;
 pub mod laws;
 pub mod newest;
+mod row_cells;

@@ -12,19 +12,19 @@ use std::alloc::Global;
 use std::process::Abort;
 use std::test::Fail;
 
-fn custodian(code: u64) -> Result<Code, Fail> {
+pub fn custodian(code: u64) -> Result<Code, Fail> {
     Ok(Code::of(code).ok_or("a custodian")?)
 }
 
-fn uprn(number: u64) -> Result<Uprn, Fail> {
+pub fn uprn(number: u64) -> Result<Uprn, Fail> {
     Ok(Uprn::of(number).ok_or("a UPRN")?)
 }
 
-fn usrn(number: u64) -> Result<Usrn, Fail> {
+pub fn usrn(number: u64) -> Result<Usrn, Fail> {
     Ok(Usrn::of(number).ok_or("a USRN")?)
 }
 
-fn lpi(text: &str) -> Result<Key, Fail> {
+pub fn lpi(text: &str) -> Result<Key, Fail> {
     Ok(Key::Lpi(RecordKey::read(text.as_bytes()).ok_or("a key")?))
 }
 
@@ -38,8 +38,8 @@ fn lines(alloc: Global, items: &[SharedItem]) -> Result<Vec<u8>, Fail> {
     Ok(text)
 }
 
-// Whether an item is there, whose row this is.
-fn is_row(alloc: Global, item: &Option<SharedItem>, row: &str) -> Result<bool, Fail> {
+/// Whether an item is there, whose row this is.
+pub fn is_row(alloc: Global, item: &Option<SharedItem>, row: &str) -> Result<bool, Fail> {
     match item {
         Some(item) => Ok(item_text(alloc, item)?.as_slice() == row.as_bytes()),
         None => Ok(false),

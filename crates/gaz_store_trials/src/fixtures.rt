@@ -40,8 +40,8 @@ const VERSIONS: [Version; 8] = [
     (Kind::Lpi, 2, NEVER, NUMBER_14),
 ];
 
-// The connection is in no transaction, or an error.
-fn rests<S: Alter>(conn: &Connection<S>) -> Result<(), Error>
+/// The connection is in no transaction, or an error.
+pub fn rests<S: Alter>(conn: &Connection<S>) -> Result<(), Error>
     ensures { OnOk result (conn.now.in_transaction ≡ false) }
 {
     if conn.is_autocommit() {
@@ -103,8 +103,8 @@ fn fill<S: Alter>(alloc: Global, conn: &mut Connection<S>) -> Result<(), Fail> {
     Ok(())
 }
 
-// The tables behind the connection.
-fn over<S: Alter + Drop>(alloc: Global, conn: Connection<S>) -> Result<Asked<S>, Error> {
+/// The tables behind the connection.
+pub fn over<S: Alter + Drop>(alloc: Global, conn: Connection<S>) -> Result<Asked<S>, Error> {
     rests(&conn)?;
     Ok(Asked {
         tables: Tables::over(alloc, conn),

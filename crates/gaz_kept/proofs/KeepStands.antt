@@ -1,0 +1,177 @@
+-- What is written when a judgement is kept makes one judgement more.
+use Rattle.std.proofs.Common.{◌≡◌, ◌≢◌, ◌∙◌, ◌≤◌, ◌<◌, ◌+◌, ◌⊎◌, inl, inr, ℕ, List, [], ◌∷◌, length, refl, sym, ap, subst, arith}
+use Rattle.std.specs.Prelude.{IsSome, Some}
+use Rattle.std.proofs.lemmas.Bool.{cases_eq}
+use Rattle.std.proofs.lemmas.List.{length-append}
+use Rattle.std.specs.FinMap as finite
+use Rattle.std.specs.List.{range_with_len}
+use Rattle.sqlite.specs.Effect.{Database}
+use Rattle.sqlite_rules.specs.Lists.{Has}
+use Rattle.gaz_records.specs.Keys.{key_of}
+use Rattle.gaz_records.specs.declared.key.Key.{Key}
+use Rattle.gaz_views.specs.View.{View, empty_view}
+use Rattle.gaz_views.specs.declared.verdict.Verdict.TheVariants.{Applied}
+use Rattle.gaz_shelf.specs.Board.{adds}
+use Rattle.gaz_overlay.specs.Changes.{Changes}
+use Rattle.gaz_overlay.specs.Over.{Make}
+use Rattle.gaz_overlay.specs.Rows.{KeepVolume, never, view_after, written}
+use Rattle.gaz_overlay.specs.Writings.{writing_at}
+use Rattle.gaz_overlay.specs.declared.touch.NewRow.{NewRow}
+use Rattle.gaz_overlay.proofs.Apart.{writings_keep}
+use Rattle.gaz_overlay.proofs.Making.{changes_make}
+use Rattle.gaz_tables.proofs.Staying.{stays}
+use Rattle.gaz_tables.specs.Receiveds.{Applies}
+use Rattle.gaz_tables.specs.Schema.{received, receiveds, version, versions}
+use Rattle.gaz_tables.specs.Stores.{HasTables}
+use Rattle.gaz_kept.specs.Contents.{board_in}
+use Rattle.gaz_kept.specs.Files.{Judged, files_in, reached_in, verdicts_in, volume_in}
+use Rattle.gaz_kept.specs.Histories.{AreSame}
+use Rattle.gaz_kept.specs.Judging.{IsJudged, IsVerdict}
+use Rattle.gaz_kept.specs.Keeping.{IsToKeep, KeepStands, KeepsVolume, WritesAll}
+use Rattle.gaz_kept.specs.Kept.{AreFirst, AreThrough, IsKept}
+use Rattle.gaz_kept.specs.Versions.{histories_in, number_in, view_in}
+use Rattle.gaz_kept.proofs.Boards.{board_adds, board_reads}
+use Rattle.gaz_kept.proofs.Judging.{files_change}
+use Rattle.gaz_kept.proofs.Singly.{histories_of, singly, singly_same, through_of, through_same, told_singly}
+use Rattle.gaz_kept.proofs.Stands.{IsThere, are_files, row_of}
+use Rattle.gaz_kept.proofs.Views.{same_rows}
+use Rattle.gaz_kept.proofs.Walking.{IsUnderWay, are_new, nothing_yet, onto, onto_has, onto_only, same_written, write_keys}
+use Rattle.gaz_kept.proofs.Written.{Rows}
+
+module _ (c volume : ℕ) (changes : Changes) (working : View) (old new : Database) (it : IsToKeep old c volume changes working) (keeps : KeepsVolume c volume changes old new) where
+  abbrev n : ℕ
+  n = reached_in (old.trees receiveds) c
+
+  abbrev mid : Database
+  mid = keeps.between
+
+  -- ---- the tables
+
+  rows_written : HasTables mid × (mid.trees receiveds ≡ old.trees receiveds)
+  rows_written =
+      let s = stays versions _ old mid it.kept.tables keeps.rows in
+      (s.0, s.1 received (inr (inl refl)) (λ e. absurd (omega (arith, e))))
+
+  marked : HasTables new × (new.trees versions ≡ mid.trees versions)
+  marked =
+      let s = stays receiveds _ mid new rows_written.0 keeps.mark in
+      (s.0, s.1 version (inl refl) (λ e. absurd (omega (arith, e))))
+
+  -- ---- the mark
+
+  at_hand : IsSome (finite.get (files_in (old.trees receiveds)) (c, n + 1))
+  at_hand = subst (λ m. IsSome (finite.get (files_in (old.trees receiveds)) (c, m + 1))) (board_reads (old.trees receiveds) (old.trees versions) c).reached it.at_hand
+
+  its_row : IsThere c (n + 1) (old.trees receiveds)
+  its_row = row_of (old.trees receiveds) (are_files old it.kept) c (n + 1) at_hand
+
+  is_verdict : IsVerdict 1 0 0 Applied
+  is_verdict = record { verdict = refl; states = omega arith; rules = omega arith; no_place = λ other. refl; no_rule = λ other. refl }
+
+  applies : Applies c (n + 1) (old.trees receiveds) (new.trees receiveds)
+  applies = subst (λ l. Applies c (n + 1) l (new.trees receiveds)) rows_written.1 (subst (λ v. Applies c v (mid.trees receiveds) (new.trees receiveds)) it.next keeps.mark.rows)
+
+  judges : IsJudged c (n + 1) Applied (old.trees receiveds) (new.trees receiveds)
+  judges = files_change.update c 1 0 0 Applied (old.trees receiveds) (new.trees receiveds) is_verdict (are_files old it.kept) (it.kept.first c) its_row.row its_row.there its_row.is applies
+
+  reached_now : reached_in (new.trees receiveds) c ≡ n + 1
+  reached_now = ap length judges.verdicts ∙ length-append (verdicts_in (old.trees receiveds) c) (Applied ∷ [])
+
+  room : n + 1 < never
+  room =
+      let f = it.kept.files its_row.row its_row.there in
+      let vol : volume_in its_row.row ≡ n + 1 = ap number_in its_row.is.of_volume in
+      let last = f.last in
+      omega arith
+
+  -- ---- the rows
+
+  abbrev was : Rows
+  was = histories_in (old.trees versions) c
+
+  abbrev now : Rows
+  now = histories_in (mid.trees versions) c
+
+  through : AreThrough n was
+  through = it.kept.histories c
+
+  own : (k : Key) (r : NewRow) → (writing_at changes k).adds ≡ Some r → key_of r.item ≡ k
+  own = changes_make.own (view_after was n) changes working it.made
+
+  abbrev keys : List Key
+  keys = finite.keys changes.touched
+
+  all_written : WritesAll c (n + 1) changes (old.trees versions) (mid.trees versions)
+  all_written = subst (λ v. WritesAll c v changes (old.trees versions) (mid.trees versions)) it.next keeps.rows.rows
+
+  done : IsUnderWay c (n + 1) changes (onto keys []) (onto keys []) (old.trees versions) (mid.trees versions)
+  done =
+      write_keys c n room changes (old.trees versions) through it.told own keys [] (old.trees versions) (mid.trees versions)
+      (are_new [] (finite.entries changes.touched) (finite.entries_sorted changes.touched) (λ d none. absurd none))
+      (nothing_yet c (n + 1) changes (old.trees versions) it.kept.rows) all_written
+
+  listed_only : (q : Key) → Has (onto keys []) q → Has keys q
+  listed_only q there = elim (onto_only keys [] q there) [ inl h ↦ h | inr none ↦ absurd none ]
+
+  same_now : AreSame (written (n + 1) changes (singly was)) now
+  same_now = same_written (n + 1) changes (onto keys []) (λ q there. onto_has keys [] q there) listed_only was now through.apart.once done.written
+
+  volume_kept : KeepVolume (singly was) n working (written (n + 1) changes (singly was))
+  volume_kept = writings_keep (singly was) n changes working room (histories_of n was through) (told_singly changes was through.apart it.told)
+      (subst (λ v. Make v changes working) (sym (same_rows was (singly was) through.apart (singly_same was through.apart) n)) it.made)
+
+  written_through : AreThrough (n + 1) (written (n + 1) changes (singly was))
+  written_through = through_of (n + 1) (written (n + 1) changes (singly was)) volume_kept.histories
+
+  view_now : (t : ℕ) → view_after now t ≡ view_after (written (n + 1) changes (singly was)) t
+  view_now t = same_rows (written (n + 1) changes (singly was)) now written_through.apart same_now t
+
+  next_is : view_in (new.trees versions) c (n + 1) ≡ working
+  next_is = ap (λ l. view_in l c (n + 1)) marked.1 ∙ view_now (n + 1) ∙ volume_kept.next
+
+  past_is : (t : ℕ) → t ≤ n → view_in (new.trees versions) c t ≡ view_in (old.trees versions) c t
+  past_is t le = ap (λ l. view_in l c t) marked.1 ∙ view_now t ∙ volume_kept.past t le ∙ same_rows was (singly was) through.apart (singly_same was through.apart) t
+
+  others_are : (d : ℕ) → d ≢ c → (t : ℕ) → view_in (new.trees versions) d t ≡ view_in (old.trees versions) d t
+  others_are d other t =
+      ap (λ l. view_in l d t) marked.1
+      ∙ same_rows (histories_in (old.trees versions) d) (histories_in (mid.trees versions) d) (it.kept.histories d).apart (done.others d other) t
+
+  -- ---- the tables are a store's again
+
+  first_now : (d : ℕ) → AreFirst (new.trees receiveds) d
+  first_now d = elim (cases_eq d c) [
+    | inl same ↦ subst (AreFirst (new.trees receiveds)) (sym same) judges.first
+    | inr other ↦ subst (λ (m : Judged). finite.keys m ≡ range_with_len 1 (length (finite.values m))) (sym (judges.others d other)) (it.kept.first d)
+  ]
+
+  through_now : (d : ℕ) → AreThrough (reached_in (new.trees receiveds) d) (histories_in (new.trees versions) d)
+  through_now d = subst (λ l. AreThrough (reached_in (new.trees receiveds) d) (histories_in l d)) (sym marked.1) (by_custodian (cases_eq d c))
+    where
+      by_custodian : (d ≡ c) ⊎ ((d ≡ c) → ⊥) → AreThrough (reached_in (new.trees receiveds) d) (histories_in (mid.trees versions) d)
+      by_custodian (inl same) =
+          subst (λ e. AreThrough (reached_in (new.trees receiveds) e) (histories_in (mid.trees versions) e)) (sym same)
+          (subst (λ m. AreThrough m now) (sym reached_now) (through_same (n + 1) (written (n + 1) changes (singly was)) now same_now written_through))
+      by_custodian (inr other) = subst (λ (m : Judged). AreThrough (length (finite.values m)) (histories_in (mid.trees versions) d)) (sym (judges.others d other))
+          (through_same (reached_in (old.trees receiveds) d) (histories_in (old.trees versions) d) (histories_in (mid.trees versions) d) (done.others d other) (it.kept.histories d))
+
+  kept_now : IsKept new
+  kept_now = record {
+    tables = marked.0;
+    files = judges.are_files.each;
+    first = first_now;
+    rows = λ r there. done.rows r (subst (λ l. Has l r) marked.1 there);
+    histories = through_now;
+  }
+
+  board_now : board_in (new.trees receiveds) (new.trees versions) ≡ adds (board_in (old.trees receiveds) (old.trees versions)) c (record { verdict = Applied; view = working })
+  board_now =
+      board_adds (old.trees receiveds) (new.trees receiveds) (old.trees versions) (new.trees versions) c Applied judges.verdicts
+      (λ d other. ap finite.values (judges.others d other)) past_is others_are
+      ∙ ap (λ v. adds (board_in (old.trees receiveds) (old.trees versions)) c (record { verdict = Applied; view = v })) next_is
+
+pub keep_stands : KeepStands
+keep_stands c volume changes working old new it keeps = record {
+  kept = kept_now c volume changes working old new it keeps;
+  content = λ i. record { files = (judges c volume changes working old new it keeps).files i; board = board_now c volume changes working old new it keeps i; working = empty_view };
+}
