@@ -14,3 +14,4 @@ pub mod Boards
 pub mod Sorted
 pub mod Stands
 pub mod Examples
+pub mod MetaRows

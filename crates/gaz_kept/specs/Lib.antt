@@ -10,3 +10,4 @@ pub mod Histories
 pub mod Judging
 pub mod Stands
 pub mod Examples
+pub mod Opening

@@ -2,6 +2,7 @@
 ghost use Rattle.gaz_kept.specs.Examples.{WorkedExamples};
 ghost use Rattle.gaz_kept.specs.Histories.{HistoriesChange, StatementsChange};
 ghost use Rattle.gaz_kept.specs.Judging.{BoardChanges, FilesChange};
+ghost use Rattle.gaz_kept.specs.Opening.{CreateOpens};
 ghost use Rattle.gaz_kept.specs.Stands.{TablesStand};
 
 /// What the definitions come to on worked examples.
@@ -37,4 +38,9 @@ pub fn board_changes()
 /// tables stand for what a keeper's calls say.
 pub fn tables_stand()
     ensures { TablesStand }
+{}
+
+/// A new store is one of its register, so that it is opened for that one and refused to another.
+pub fn create_opens()
+    ensures { CreateOpens }
 {}

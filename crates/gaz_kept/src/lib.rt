@@ -6,3 +6,7 @@ pub mod decoding;
 mod key_order;
 pub mod laws;
 pub mod newest;
+pub mod opening;
+mod refusal;
+
+pub use refusal::StoreRefusal;

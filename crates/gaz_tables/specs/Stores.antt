@@ -72,6 +72,10 @@ module _ {S : Type 0} (g : Ghosts S) (before after : Held S) where
 
   -- ---- within a transaction
 
+  -- nothing is committed, whatever tables there are
+  abbrev pub KeepsInside : Type 0
+  KeepsInside = HasCleanDisk new → IsTrue old.in_transaction → KeepsCommit old new
+
   -- a fault changes nothing or ends the transaction
   abbrev pub SparesInside : Result ℕ Error → Type 0
   SparesInside result =
