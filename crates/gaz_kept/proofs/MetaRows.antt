@@ -1,20 +1,25 @@
 -- What the rows of `meta` tell, from what is shown of them.
-use Rattle.std.proofs.Common.{◌≡◌, ◌≢◌, ◌∙◌, inl, inr, ℕ, pos, Bool, true, cond, List, [], ◌∷◌, filter, map, take, Ok, Err, Result, IsPermutation, refl, sym, ap, subst}
+use Rattle.std.proofs.Common.{◌≡◌, ◌≢◌, ◌∙◌, ◌⊎◌, inl, inr, ℕ, pos, Bool, true, cond, List, [], ◌∷◌, filter, map, take, Ok, Err, Result, IfOk, Vec, IsPermutation, refl, sym, ap, subst}
+use Rattle.std.specs.declared.alloc.Global.{Global}
 use Rattle.std.proofs.lemmas.List.Sorted.{IsPermutation-sym}
 use Rattle.sqlite.proofs.Callers.{one_permutation}
 use Rattle.sqlite.specs.Effect.{Database}
+use Rattle.sqlite.specs.Held.{Held, state}
 use Rattle.sqlite.specs.Order.{Row, column, value_cmp}
+use Rattle.sqlite.specs.State.{Shown}
+use Rattle.sqlite.specs.declared.error.Error.{Error}
 use Rattle.sqlite.specs.declared.types.Value.TheVariants.{Int, Text}
 use Rattle.sqlite_rules.specs.Lists.{Has}
 use Rattle.sqlite_schema.specs.Names.{same_name}
 use Rattle.sqlite_value.proofs.OrderLemmas.{value_cmp-Int}
 use Rattle.sqlite_trees.specs.Tree.{IsTable, rowid}
+use Rattle.sqlite_trees.specs.declared.store.Store.{Ghosts}
 use Rattle.std.specs.declared.cmp.Ordering.TheVariants.{Less}
 use Rattle.gaz_tables.specs.Creating.{IsNewStore}
-use Rattle.gaz_tables.specs.Metas.{FindsTwo, IsAny, meta_row, meta_shown}
+use Rattle.gaz_tables.specs.Metas.{FindsTwo, IsAny, meta_row, meta_shown, rows_text}
 use Rattle.gaz_tables.specs.Schema.{metas, store_schema}
 use Rattle.gaz_tables.specs.Shows.{ShowsSome}
-use Rattle.gaz_kept.specs.Opening.{CreateOpens, IsJudged, IsNumbered, IsOne, IsTold, has_all}
+use Rattle.gaz_kept.specs.Opening.{CreateOpens, IsAnswer, IsJudged, IsNumbered, IsOne, IsTold, has_all}
 use Rattle.gaz_kept.specs.declared.refusal.StoreRefusal.{StoreRefusal}
 use Rattle.gaz_kept.specs.declared.refusal.StoreRefusal.TheVariants.{BadSchema, OtherRegister, Fault}
 
@@ -22,6 +27,19 @@ use Rattle.gaz_kept.specs.declared.refusal.StoreRefusal.TheVariants.{BadSchema, 
 pub has_all_store : has_all store_schema ≡ true
 unfolding has_all same_name
 has_all_store = refl
+
+-- ---- what is answered
+
+-- `transaction` does nothing but begin
+pub answered : {S : Type 0} (g : Ghosts S) (before begun after : Held S) → begun ≡ record before { in_transaction = true } → (r : Result (Vec Row Global) Error)
+    → IfOk r (λ rows. Shown rows_text [] (state g begun) (state g after) rows.items) → IfOk r (λ rows. IsAnswer g before rows.items)
+answered g before begun after same (Err e) h = tt
+answered g before begun after same (Ok rows) h = (after, subst (λ b. Shown rows_text [] (state g b) (state g after) rows.items) same h)
+
+-- what is told of an answer
+pub told_answered : {S : Type 0} (g : Ghosts S) (before : Held S) (register : List ℕ) (rows : List Row) (result : Result (Unit {0}) StoreRefusal) → IsAnswer g before rows → IsTold register rows result
+    → (result ≡ Err Fault) ⊎ ((shown : List Row) × IsAnswer g before shown × IsTold register shown result)
+told_answered g before register rows result answer told = inr (rows, answer, told)
 
 -- ---- what is shown
 

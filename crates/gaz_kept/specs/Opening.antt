@@ -1,19 +1,18 @@
 -- Which databases are taken as a store of a register, and which become one.
-use Rattle.std.specs.Prelude.{◌≡◌, ◌≢◌, ◌&&◌, ◌||◌, ⊤, ℕ, pos, Bool, false, List, [], ◌∷◌, codes, map}
+use Rattle.std.specs.Prelude.{◌≡◌, ◌≢◌, ◌⊎◌, ◌&&◌, ◌||◌, ⊤, ℕ, pos, Bool, true, false, List, [], ◌∷◌, codes, map}
 use Rattle.std.specs.Prelude.{Option, None, Some, Result, Ok, Err, OnErr, OnOk, IsTrue}
 use Rattle.std.specs.List.{list_all, list_any}
 use Rattle.sqlite.specs.Effect.{Database}
 use Rattle.sqlite.specs.Held.{Held, state}
 use Rattle.sqlite.specs.Order.{Row, column}
 use Rattle.sqlite.specs.Schema.{Schema}
-use Rattle.sqlite.specs.State.{State, HasCleanDisk}
+use Rattle.sqlite.specs.State.{State, HasCleanDisk, Shown}
 use Rattle.sqlite.specs.Table.{Table}
 use Rattle.sqlite.specs.declared.types.Value.TheVariants.{Int, Text}
 use Rattle.sqlite_schema.specs.Names.{same_name}
 use Rattle.sqlite_trees.specs.declared.store.Store.{Ghosts}
-
 use Rattle.gaz_tables.specs.Creating.{IsBare, IsNewStore, no_schema}
-use Rattle.gaz_tables.specs.Metas.{id_of, number_of, register_of}
+use Rattle.gaz_tables.specs.Metas.{id_of, number_of, register_of, rows_text}
 use Rattle.gaz_tables.specs.Schema.{meta, metas, received, version}
 use Rattle.gaz_tables.specs.Stores.{HasTables}
 use Rattle.gaz_kept.specs.declared.refusal.StoreRefusal.{StoreRefusal}
@@ -107,10 +106,20 @@ pub record Rests (old new : State) : Type 0 where
 abbrev pub IsSettled : State → Type 0
 IsSettled s = IsTrue s.is_open → s.now ≡ s.committed
 
+-- what SQL answers, within a transaction of its own, where it is asked for the rows of `meta`
+abbrev pub IsAnswer : {S : Type 0} → Ghosts S → Held S → List Row → Type 0
+IsAnswer {S} g before shown = (after : Held S)
+    × Shown rows_text [] (state g (record before { in_transaction = true })) (state g after) shown
+
 module _ {S A E : Type 0} (g : Ghosts S) (before after : Held S) (result : Result A E) where
   -- an Ok tells that the connection was open
   abbrev pub WasOpen : Type 0
   WasOpen = HasCleanDisk (state g after) → OnOk result (IsTrue (state g before).is_open)
+
+  -- it tells that it was open and is
+  abbrev pub IsOpen : Type 0
+  IsOpen = HasCleanDisk (state g after)
+      → OnOk result (IsTrue (state g before).is_open × IsTrue (state g after).is_open)
 
 module _ {S : Type 0} (g : Ghosts S) (before after : Held S)
     (result : Result (Unit {0}) StoreRefusal) where
@@ -128,6 +137,11 @@ module _ {S : Type 0} (g : Ghosts S) (before after : Held S)
   abbrev pub Makes : List ℕ → Type 0
   Makes register = HasCleanDisk new → IsBare no_schema old.now
       → OnOk result (IsNewStore 1 register new.now × (new.committed ≡ new.now))
+
+  -- what is told of the rows of `meta` where the tables are there, whatever they are
+  abbrev pub Tells : List ℕ → Type 0
+  Tells register = HasCleanDisk new → has_all old.now.schema ≡ true → (result ≡ Err Fault)
+      ⊎ ((shown : List Row) × IsAnswer g before shown × IsTold register shown result)
 
   -- what is told of a store's tables
   abbrev pub Judges : List ℕ → Type 0

@@ -1,5 +1,5 @@
 //! What a store in a database is made from and opened with.
-ghost use Rattle.std.specs.Prelude.{◌≡◌, ◌↔◌, ◌&&◌, false, pos, Err, IsTrue, OnOk};
+ghost use Rattle.std.specs.Prelude.{◌≡◌, ◌↔◌, ◌&&◌, false, pos, Err, IfOk, IsTrue, OnOk};
 ghost use Rattle.std.specs.List.{list_all, list_any};
 ghost use Rattle.sqlite.specs.Held.{state};
 ghost use Rattle.sqlite.specs.Order.{column};
@@ -11,9 +11,9 @@ ghost use Rattle.gaz_tables.specs.Creating.{MayCreate};
 ghost use Rattle.gaz_tables.specs.Metas.{FindsTwo};
 ghost use Rattle.gaz_tables.specs.Schema.{meta, metas, received, version};
 ghost use Rattle.gaz_tables.specs.Stores.{Finds};
-ghost use Rattle.gaz_kept.specs.Opening.{IsTold, Judges, Makes, Rests, RestsRefused, WasOpen};
+ghost use Rattle.gaz_kept.specs.Opening.{IsAnswer, IsOpen, IsSettled, IsTold, Judges, Makes, Rests};
 ghost use Rattle.gaz_kept.specs.Opening.{has_all, has_any, has_column, has_name, is_like, is_owner};
-ghost use Rattle.gaz_kept.specs.Opening.{IsSettled};
+ghost use Rattle.gaz_kept.specs.Opening.{RestsRefused, Tells, WasOpen};
 
 use crate::refusal::StoreRefusal;
 use gaz_tables::{creating, metas};
@@ -134,6 +134,8 @@ fn known<S: Alter>(conn: &Connection<S>)
 fn asked<S: Alter>(conn: &mut Connection<S>) -> Result<Vec<Row>, Error>
     requires { conn.old.in_transaction ≡ false }
     ensures over { conn.new.in_transaction ≡ false }
+    ensures answered { HasCleanDisk (state S.Store conn.new)
+        → IfOk result (λ rows. IsAnswer S.Store conn.old rows.items) }
     ensures found { Finds S.Store conn.old conn.new metas result FindsTwo }
     ensures open { WasOpen S.Store conn.old conn.new result }
     ensures undone { HasCleanDisk (state S.Store conn.new)
@@ -190,7 +192,7 @@ fn told(rows: &[Row], register: &str) -> Result<(), StoreRefusal>
 pub fn create<S: Alter>(conn: &mut Connection<S>, register: &str) -> Result<(), StoreRefusal>
     requires { conn.old.in_transaction ≡ false }
     ensures over { conn.new.in_transaction ≡ false }
-    ensures open { WasOpen S.Store conn.old conn.new result }
+    ensures open { IsOpen S.Store conn.old conn.new result }
     ensures created { Makes S.Store conn.old conn.new result register.now }
     ensures refused { (result ≡ Err StoreRefusal.BadSchema)
         ↔ IsTrue (has_any (state S.Store conn.old).now.schema) }
@@ -220,6 +222,7 @@ pub fn check<S: Alter>(conn: &mut Connection<S>, register: &str) -> Result<(), S
     ensures open { WasOpen S.Store conn.old conn.new result }
     ensures lacking { has_all (state S.Store conn.old).now.schema ≡ false
         → result ≡ Err StoreRefusal.BadSchema }
+    ensures told { Tells S.Store conn.old conn.new result register.now }
     ensures judged { Judges S.Store conn.old conn.new result register.now }
     ensures rests { HasCleanDisk (state S.Store conn.new)
         → Rests (state S.Store conn.old) (state S.Store conn.new) }

@@ -41,7 +41,7 @@ const VERSIONS: [Version; 8] = [
 ];
 
 // The connection is in no transaction, or an error.
-fn rests<S: Alter>(conn: &Connection<S>) -> Result<(), Error>
+pub fn rests<S: Alter>(conn: &Connection<S>) -> Result<(), Error>
     ensures { OnOk result (conn.now.in_transaction ≡ false) }
 {
     if conn.is_autocommit() {

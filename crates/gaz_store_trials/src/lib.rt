@@ -7,3 +7,5 @@ mod asked;
 mod asking;
 #[cfg(test)]
 mod fixtures;
+#[cfg(test)]
+mod opened;

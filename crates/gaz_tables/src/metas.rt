@@ -2,9 +2,9 @@
 ghost use Rattle.std.specs.Prelude.{◌≡◌};
 ghost use Rattle.sqlite.specs.Held.{state};
 ghost use Rattle.sqlite.specs.State.{Survives};
-ghost use Rattle.gaz_tables.specs.Metas.{AddsMeta, FindsTwo, Rewrites};
+ghost use Rattle.gaz_tables.specs.Metas.{AddsMeta, FindsTwo, Rewrites, rows_text};
 ghost use Rattle.gaz_tables.specs.Schema.{metas};
-ghost use Rattle.gaz_tables.specs.Stores.{Finds, KeepsInside, SparesInside, Stays};
+ghost use Rattle.gaz_tables.specs.Stores.{Answers, Finds, KeepsInside, SparesInside, Stays};
 ghost use Rattle.gaz_tables.specs.Stores.{StaysInside, WasOpen, WritesInside};
 
 use sqlite::{Alter, Error, Row, Transaction, params};
@@ -12,6 +12,7 @@ use sqlite::{Alter, Error, Row, Transaction, params};
 /// `id`, `number` and `register` of at most two rows, within a transaction.
 pub fn rows<S: Alter>(tx: &mut Transaction<'_, S>) -> Result<Vec<Row>, Error>
     ensures same_reference { tx.new.conn.ghost_name ≡ tx.old.conn.ghost_name }
+    ensures answered { Answers S.Store tx.old.conn.now tx.new.conn.now rows_text result }
     ensures found { Finds S.Store tx.old.conn.now tx.new.conn.now metas result FindsTwo }
     ensures stays { Stays S.Store tx.old.conn.now tx.new.conn.now result }
     ensures open { WasOpen S.Store tx.old.conn.now tx.new.conn.now result }
