@@ -1,5 +1,5 @@
 //! What a store in a database is made from and opened with.
-ghost use Rattle.std.specs.Prelude.{◌≡◌, ◌↔◌, ◌&&◌, false, pos, Err, IfOk, IsTrue, OnOk};
+ghost use Rattle.std.specs.Prelude.{◌≡◌, ◌≢◌, ◌↔◌, ◌&&◌, false, pos, Err, IfOk, IsTrue, OnOk};
 ghost use Rattle.std.specs.List.{list_all, list_any};
 ghost use Rattle.sqlite.specs.Held.{state};
 ghost use Rattle.sqlite.specs.Order.{column};
@@ -196,6 +196,7 @@ pub fn create<S: Alter>(conn: &mut Connection<S>, register: &str) -> Result<(), 
     ensures created { Makes S.Store conn.old conn.new result register.now }
     ensures refused { (result ≡ Err StoreRefusal.BadSchema)
         ↔ IsTrue (has_any (state S.Store conn.old).now.schema) }
+    ensures causes { result ≢ Err StoreRefusal.OtherRegister }
     ensures rests { RestsRefused S.Store conn.old conn.new result }
     ensures leaves { MayCreate S.Store conn.old conn.new 1 register.now }
     ensures certain { OnOk result (LeavesTheCommit (state S.Store conn.new)) }
