@@ -1,5 +1,5 @@
 -- What the rows of `meta` tell, from what is shown of them.
-use Rattle.std.proofs.Common.{◌≡◌, ◌≢◌, ◌∙◌, ◌⊎◌, inl, inr, ℕ, pos, Bool, true, cond, List, [], ◌∷◌, filter, map, take, Ok, Err, Result, IfOk, Vec, IsPermutation, refl, sym, ap, subst}
+use Rattle.std.proofs.Common.{◌≡◌, ◌≢◌, ◌∙◌, inl, inr, ℕ, pos, Bool, true, cond, List, [], ◌∷◌, filter, map, take, Ok, Err, Result, IfOk, Vec, IsPermutation, refl, sym, ap, subst}
 use Rattle.std.specs.declared.alloc.Global.{Global}
 use Rattle.std.proofs.lemmas.List.Sorted.{IsPermutation-sym}
 use Rattle.sqlite.proofs.Callers.{one_permutation}
@@ -35,11 +35,6 @@ pub answered : {S : Type 0} (g : Ghosts S) (before begun after : Held S) → beg
     → IfOk r (λ rows. Shown rows_text [] (state g begun) (state g after) rows.items) → IfOk r (λ rows. IsAnswer g before rows.items)
 answered g before begun after same (Err e) h = tt
 answered g before begun after same (Ok rows) h = (after, subst (λ b. Shown rows_text [] (state g b) (state g after) rows.items) same h)
-
--- what is told of an answer
-pub told_answered : {S : Type 0} (g : Ghosts S) (before : Held S) (register : List ℕ) (rows : List Row) (result : Result (Unit {0}) StoreRefusal) → IsAnswer g before rows → IsTold register rows result
-    → (result ≡ Err Fault) ⊎ ((shown : List Row) × IsAnswer g before shown × IsTold register shown result)
-told_answered g before register rows result answer told = inr (rows, answer, told)
 
 -- ---- what is shown
 

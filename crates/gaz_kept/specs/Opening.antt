@@ -1,6 +1,7 @@
 -- Which databases are taken as a store of a register, and which become one.
-use Rattle.std.specs.Prelude.{◌≡◌, ◌≢◌, ◌⊎◌, ◌&&◌, ◌||◌, ⊤, ℕ, pos, Bool, true, false, List, [], ◌∷◌, codes, map}
-use Rattle.std.specs.Prelude.{Option, None, Some, Result, Ok, Err, OnErr, OnOk, IsTrue}
+use Rattle.std.specs.Prelude.{◌≡◌, ◌≢◌, ◌⊎◌, ◌&&◌, ◌||◌, ⊤, ℕ, pos, Bool, true, false}
+use Rattle.std.specs.Prelude.{List, [], ◌∷◌, codes, map, Option, None, Some}
+use Rattle.std.specs.Prelude.{Result, Ok, Err, OnErr, OnOk, IsTrue}
 use Rattle.std.specs.List.{list_all, list_any}
 use Rattle.sqlite.specs.Effect.{Database}
 use Rattle.sqlite.specs.Held.{Held, state}
@@ -16,7 +17,8 @@ use Rattle.gaz_tables.specs.Metas.{id_of, number_of, register_of, rows_text}
 use Rattle.gaz_tables.specs.Schema.{meta, metas, received, version}
 use Rattle.gaz_tables.specs.Stores.{HasTables}
 use Rattle.gaz_kept.specs.declared.refusal.StoreRefusal.{StoreRefusal}
-use Rattle.gaz_kept.specs.declared.refusal.StoreRefusal.TheVariants.{BadSchema, OtherRegister, Fault}
+use Rattle.gaz_kept.specs.declared.refusal.StoreRefusal.TheVariants.{BadSchema, Fault}
+use Rattle.gaz_kept.specs.declared.refusal.StoreRefusal.TheVariants.{OtherRegister}
 
 -- ---- tables, by their names, which are the same but for the case of ASCII letters
 

@@ -214,9 +214,9 @@ pub fn create<S: Alter>(conn: &mut Connection<S>, register: &str) -> Result<(), 
 /// Tells that the database is a store of a register, whose canonical text is given. It changes
 /// nothing, whatever the answer.
 ///
-/// In this order: `BadSchema` where a table of a store or a column of one is missing, or the rows of
-/// `meta` aren't just one, of id 1 and number 1; `OtherRegister` where its text is another; `Fault`
-/// where memory or the database failed, so that the rows of `meta` aren't known.
+/// In this order: `BadSchema` where a table of a store or a column of one is missing, or the rows
+/// of `meta` aren't just one, of id 1 and number 1; `OtherRegister` where its text is another;
+/// `Fault` where memory or the database failed, so that the rows of `meta` aren't known.
 pub fn check<S: Alter>(conn: &mut Connection<S>, register: &str) -> Result<(), StoreRefusal>
     requires { conn.old.in_transaction ≡ false }
     ensures over { conn.new.in_transaction ≡ false }

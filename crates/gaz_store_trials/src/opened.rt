@@ -7,10 +7,12 @@ use std::alloc::Global;
 use std::rt::HostRuntime;
 use std::test::Fail;
 
-/// Tables as another program may declare them: in another order, in other case, with further columns.
-const VERSION: &str = "CREATE TABLE Version (born, gone, body, cust, kind, id, blpu, street, lang, live);";
+// Tables as another program may declare them: in another order, in other case, with columns beside.
+const VERSION: &str =
+    "CREATE TABLE Version (born, gone, body, cust, kind, id, blpu, street, lang, live);";
 
-const RECEIVED: &str = "CREATE TABLE received (place, rule, STATE, bytes, volume, cust, note TEXT);";
+const RECEIVED: &str =
+    "CREATE TABLE received (place, rule, STATE, bytes, volume, cust, note TEXT);";
 
 const META: &str = "CREATE TABLE meta (register TEXT, number INTEGER, id INTEGER PRIMARY KEY);";
 
@@ -78,13 +80,25 @@ fn a_new_store_is_taken(rt: HostRuntime) -> Result<(), Fail> {
 #[test]
 fn creation_over_what_is_there(rt: HostRuntime) -> Result<(), Fail> {
     let alloc = rt.alloc();
-    assert_eq!(rt; becomes(alloc, &["CREATE TABLE note (id);"])?, (Ok(()), Ok(())));
+    assert_eq!(rt;
+        becomes(alloc, &["CREATE TABLE note (id);"])?,
+        (Ok(()), Ok(()))
+    );
     assert_eq!(rt; becomes(alloc, &["CREATE TABLE META (id);"])?, (BAD, BAD));
     assert_eq!(rt; becomes(alloc, &[RECEIVED])?, (BAD, BAD));
     assert_eq!(rt; becomes(alloc, &[VERSION])?, (BAD, BAD));
-    assert_eq!(rt; becomes(alloc, &["CREATE VIEW meta AS SELECT 1;"])?, (FAULT, BAD));
-    assert_eq!(rt; becomes(alloc, &["CREATE TABLE by_blpu (id);"])?, (FAULT, BAD));
-    assert_eq!(rt; becomes(alloc, &[VERSION, RECEIVED, META, OF_ONE])?, (BAD, Ok(())));
+    assert_eq!(rt;
+        becomes(alloc, &["CREATE VIEW meta AS SELECT 1;"])?,
+        (FAULT, BAD)
+    );
+    assert_eq!(rt;
+        becomes(alloc, &["CREATE TABLE by_blpu (id);"])?,
+        (FAULT, BAD)
+    );
+    assert_eq!(rt;
+        becomes(alloc, &[VERSION, RECEIVED, META, OF_ONE])?,
+        (BAD, Ok(()))
+    );
     Ok(())
 }
 
@@ -109,7 +123,10 @@ fn rows_of_meta(rt: HostRuntime) -> Result<(), Fail> {
     assert_eq!(rt; changed(alloc, "UPDATE meta SET number = 2")?, BAD);
     assert_eq!(rt; changed(alloc, "UPDATE meta SET id = 2")?, BAD);
     assert_eq!(rt; changed(alloc, "DELETE FROM meta")?, BAD);
-    assert_eq!(rt; changed(alloc, "INSERT INTO meta VALUES (2, 1, 'one')")?, BAD);
+    assert_eq!(rt;
+        changed(alloc, "INSERT INTO meta VALUES (2, 1, 'one')")?,
+        BAD
+    );
     assert_eq!(rt; changed(alloc, "DROP TABLE received")?, BAD);
     assert_eq!(rt; changed(alloc, "DROP INDEX by_blpu")?, Ok(()));
     Ok(())
