@@ -19,3 +19,4 @@ pub mod Walking
 pub mod KeepStands
 pub mod Writes
 pub mod Examples
+pub mod MetaRows

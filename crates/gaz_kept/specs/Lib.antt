@@ -11,3 +11,4 @@ pub mod Judging
 pub mod Stands
 pub mod Keeping
 pub mod Examples
+pub mod Opening

@@ -7,4 +7,11 @@ pub mod keeping;
 mod key_order;
 pub mod laws;
 pub mod newest;
+<<<<<<< HEAD
 mod row_cells;
+=======
+pub mod opening;
+mod refusal;
+
+pub use refusal::StoreRefusal;
+>>>>>>> ca5f557b5e5f96463b5b579bc97b4236b3751885

@@ -55,7 +55,7 @@ fn of_files<S: Alter>(conn: &mut Connection<S>, question: &Question) -> Result<V
         Call::Verdict => receiveds::verdict(conn, 9, volume),
         Call::IsThere => receiveds::is_there(conn, 9, volume),
         Call::Above => receiveds::above(conn, 9, volume, most),
-        _ => metas::rows(conn),
+        _ => metas::rows(&mut begun(conn)?),
     }
 }
 

@@ -29,12 +29,9 @@ use Rattle.gaz_tables.proofs.Tests.{Test, SuitsAll, means, met}
 use Rattle.gaz_sql_facts.proofs.Texts.{IsCommand, IsSelect}
 use Rattle.gaz_sql_facts.proofs.Typed.{cast_null, cast_int}
 use Rattle.gaz_sql_facts.proofs.Updates.{updated, changed_to}
-use Rattle.gaz_tables.specs.Metas.{AddsMeta, FindsTwo, IsAny, Rewrites, id_of}
+use Rattle.gaz_tables.specs.Metas.{AddsMeta, FindsTwo, IsAny, Rewrites, id_of, rows_text}
 use Rattle.gaz_tables.specs.Schema.{store_schema, metas, meta_columns}
 use Rattle.gaz_tables.specs.Stores.{HasTables}
-
-abbrev pub rows_text : List ℕ
-rows_text = codes "SELECT id, number, register FROM meta LIMIT 2"
 
 abbrev pub rows_terms : List Term
 rows_terms = col 1 0 ∷ col 1 2 ∷ col 1 3 ∷ []

@@ -1,16 +1,20 @@
 -- A statement within a transaction, and one call after another.
-use Rattle.std.proofs.Common.{◌≡◌, inl, le_refl, ◌∙◌, ℕ, Bool, true, false, List, Result, Ok, Err, OnOk, arith, refl, sym, subst}
-use Rattle.std.specs.Prelude.{IsTrue}
+use Rattle.std.proofs.Common.{◌≡◌, ◌⊎◌, inl, inr, le_refl, ◌∙◌, ℕ, Bool, true, false, cond, List, Option, Some, None, Vec, Result, Ok, Err, IfOk, OnOk, arith, refl, sym, ap, subst}
+use Rattle.std.specs.Prelude.{IsTrue, IfErr}
+use Rattle.std.specs.declared.alloc.Global.{Global}
 use Rattle.std.specs.Result.{IsErr}
-use Rattle.sqlite.proofs.InsideLemmas.{inside_keeps, keeps_then}
+use Rattle.sqlite_schema.specs.declared.command.Returning.{Returning}
+use Rattle.sqlite.proofs.InsideLemmas.{inside_keeps, keeps_then, unchanged_keeps}
 use Rattle.sqlite.proofs.StateLemmas.{survives_then}
 use Rattle.sqlite.specs.Held.{Held, state}
 use Rattle.sqlite.specs.Order.{Row}
 use Rattle.sqlite.specs.Schema.{Schema}
-use Rattle.sqlite.specs.State.{HasCleanDisk, ExecutesInside, KeepsCommit, Survives}
+use Rattle.sqlite.specs.Clock.{timed}
+use Rattle.sqlite.specs.State.{State, HasCleanDisk, ExecutesInside, FailsToQuery, IsTooLate, KeepsCommit, Shown, ShowsRows, Survives}
 use Rattle.sqlite.specs.declared.error.Error.{Error}
 use Rattle.sqlite_trees.specs.declared.store.Store.{Ghosts}
 use Rattle.sqlite_trees.specs.Tree.{Trees}
+use Rattle.gaz_sql_facts.proofs.Texts.{spared_query}
 use Rattle.gaz_sql_facts.specs.Changes.{Changes, InPlace}
 use Rattle.gaz_tables.specs.Creating.{Grows}
 use Rattle.gaz_tables.specs.Stores.{HasTables, KeepsTables, StaysInside, WasOpen, WritesInside}
@@ -50,6 +54,21 @@ module _ {S : Type 0} (g : Ghosts S) (old new : Held S) (sql : List ℕ) (params
     kept = λ clean. kept_by clean old.in_transaction refl;
     leaves = leaves;
   }
+
+-- ---- a query
+
+-- within a transaction it commits nothing, whatever the text is
+pub query_keeps : (sql : List ℕ) (params : Row) (old new : State) → IsTrue old.in_transaction → (r : Result (Vec Row Global) Error) → IfOk r (λ rows. Shown sql params old new rows.items)
+    → IfErr r (λ e. FailsToQuery sql params old new e ⊎ IsTooLate sql params old new e) → KeepsCommit old new
+unfolding Shown
+query_keeps sql params old new inside (Ok rows) shown failed = by_returning shown.0.returning shown.2
+  where
+    by_returning : (returning : Option Returning) → ShowsRows old new sql shown.0 (timed params shown.0.formats shown.1.now) rows.items returning → KeepsCommit old new
+    by_returning None it = unchanged_keeps old new (inl it.3)
+    by_returning (Some what) it =
+        record { was_open = λ is_open. it.1.shown.was_open; committed = λ is_open. it.1.shown.committed_is ∙ ap (λ b. cond b old.committed new.now) inside }
+query_keeps sql params old new inside (Err e) shown (inl failed) = unchanged_keeps old new (spared_query {A = Vec Row Global} sql params old new (Err e) failed)
+query_keeps sql params old new inside (Err e) shown (inr late) = unchanged_keeps old new (inl late.5)
 
 -- ---- one call after another
 

@@ -1,5 +1,5 @@
 -- The rows of `meta`, by their columns, and what its statements find and make.
-use Rattle.std.specs.Prelude.{◌≡◌, ℕ, pos, List, [], ◌∷◌}
+use Rattle.std.specs.Prelude.{◌≡◌, ℕ, pos, codes, List, [], ◌∷◌}
 use Rattle.sqlite.specs.declared.types.Value.{Value}
 use Rattle.sqlite.specs.declared.types.Value.TheVariants.{Null, Int, Text}
 use Rattle.sqlite.specs.Order.{Row, column}
@@ -29,6 +29,10 @@ IsAny r = Unit {0}
 -- the row of id 1
 abbrev pub IsFirst : Row → Type 0
 IsFirst r = id_of r ≡ Int (pos 1)
+
+-- what is asked for at most two of the rows
+abbrev pub rows_text : List ℕ
+rows_text = codes "SELECT id, number, register FROM meta LIMIT 2"
 
 -- at most two of the rows
 abbrev pub FindsTwo : List Row → List Row → Type 0

@@ -1,5 +1,5 @@
 -- A store of the three tables, and what a statement makes of it.
-use Rattle.std.specs.Prelude.{◌≡◌, ℕ, List, ◌∷◌, Result, Vec, IfOk, OnOk, OnErr, IsTrue}
+use Rattle.std.specs.Prelude.{◌≡◌, ℕ, List, [], ◌∷◌, Result, Vec, IfOk, OnOk, OnErr, IsTrue}
 use Rattle.std.specs.declared.alloc.Global.{Global}
 use Rattle.sqlite.specs.Order.{Row}
 use Rattle.sqlite.specs.declared.types.Value.TheVariants.{Int}
@@ -7,7 +7,7 @@ use Rattle.sqlite.specs.Edit.{next_rowid}
 use Rattle.sqlite.specs.declared.error.Error.{Error}
 use Rattle.sqlite.specs.Effect.{Database, IsDatabase}
 use Rattle.sqlite.specs.Held.{Held, state}
-use Rattle.sqlite.specs.State.{State, HasCleanDisk, IsUnchanged, KeepsCommit, Survives}
+use Rattle.sqlite.specs.State.{State, HasCleanDisk, IsUnchanged, KeepsCommit, Shown, Survives}
 use Rattle.sqlite.specs.View.{IsShaped}
 use Rattle.sqlite_trees.specs.declared.store.Store.{Ghosts}
 use Rattle.sqlite_trees.specs.declared.store.Shape.TheVariants as shape
@@ -71,6 +71,14 @@ module _ {S : Type 0} (g : Ghosts S) (before after : Held S) where
   LeavesAsBefore = (HasCleanDisk old → HasTables old.now) → Survives old new (λ _. ⊥)
 
   -- ---- within a transaction
+
+  -- an answer is what SQL makes of the text, whatever tables there are
+  abbrev pub Answers : List ℕ → Result (Vec Row Global) Error → Type 0
+  Answers sql result = HasCleanDisk new → IfOk result (λ rows. Shown sql [] old new rows.items)
+
+  -- nothing is committed, whatever tables there are
+  abbrev pub KeepsInside : Type 0
+  KeepsInside = HasCleanDisk new → IsTrue old.in_transaction → KeepsCommit old new
 
   -- a fault changes nothing or ends the transaction
   abbrev pub SparesInside : Result ℕ Error → Type 0

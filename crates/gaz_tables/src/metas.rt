@@ -1,22 +1,26 @@
 //! The statements of the table `meta`.
-ghost use Rattle.std.specs.Prelude.{◌≡◌, false};
-ghost use Rattle.gaz_tables.specs.Metas.{AddsMeta, FindsTwo, Rewrites};
+ghost use Rattle.std.specs.Prelude.{◌≡◌};
+ghost use Rattle.sqlite.specs.Held.{state};
+ghost use Rattle.sqlite.specs.State.{Survives};
+ghost use Rattle.gaz_tables.specs.Metas.{AddsMeta, FindsTwo, Rewrites, rows_text};
 ghost use Rattle.gaz_tables.specs.Schema.{metas};
-ghost use Rattle.gaz_tables.specs.Stores.{Finds, LeavesAsBefore, Spares, SparesInside};
-ghost use Rattle.gaz_tables.specs.Stores.{Stays, StaysInside, WasOpen, WritesInside};
+ghost use Rattle.gaz_tables.specs.Stores.{Answers, Finds, KeepsInside, SparesInside, Stays};
+ghost use Rattle.gaz_tables.specs.Stores.{StaysInside, WasOpen, WritesInside};
 
-use sqlite::{Alter, Connection, Error, Row, Transaction, params};
+use sqlite::{Alter, Error, Row, Transaction, params};
 
-/// `id`, `number` and `register` of at most two rows.
-pub fn rows<S: Alter>(conn: &mut Connection<S>) -> Result<Vec<Row>, Error>
-    ensures found { Finds S.Store conn.old conn.new metas result FindsTwo }
-    ensures stays { Stays S.Store conn.old conn.new result }
-    ensures open { WasOpen S.Store conn.old conn.new result }
-    ensures spared { Spares S.Store conn.old conn.new result }
-    ensures leaves { LeavesAsBefore S.Store conn.old conn.new }
-    ensures mode { conn.old.in_transaction ≡ false → conn.new.in_transaction ≡ false }
+/// `id`, `number` and `register` of at most two rows, within a transaction.
+pub fn rows<S: Alter>(tx: &mut Transaction<'_, S>) -> Result<Vec<Row>, Error>
+    ensures same_reference { tx.new.conn.ghost_name ≡ tx.old.conn.ghost_name }
+    ensures answered { Answers S.Store tx.old.conn.now tx.new.conn.now rows_text result }
+    ensures found { Finds S.Store tx.old.conn.now tx.new.conn.now metas result FindsTwo }
+    ensures stays { Stays S.Store tx.old.conn.now tx.new.conn.now result }
+    ensures open { WasOpen S.Store tx.old.conn.now tx.new.conn.now result }
+    ensures kept { KeepsInside S.Store tx.old.conn.now tx.new.conn.now }
+    ensures leaves { Survives (state S.Store tx.old.conn.now) (state S.Store tx.new.conn.now)
+        (λ _. ⊥) }
 {
-    conn.query_all("SELECT id, number, register FROM meta LIMIT 2", &[])
+    tx.query_all("SELECT id, number, register FROM meta LIMIT 2", &[])
 }
 
 /// Adds the row of id 1, within a transaction.

@@ -1,0 +1,90 @@
+-- What the rows of `meta` tell, from what is shown of them.
+use Rattle.std.proofs.Common.{◌≡◌, ◌≢◌, ◌∙◌, inl, inr, ℕ, pos, Bool, true, cond, List, [], ◌∷◌, filter, map, take, Ok, Err, Result, IfOk, Vec, IsPermutation, refl, sym, ap, subst}
+use Rattle.std.specs.declared.alloc.Global.{Global}
+use Rattle.std.proofs.lemmas.List.Sorted.{IsPermutation-sym}
+use Rattle.sqlite.proofs.Callers.{one_permutation}
+use Rattle.sqlite.specs.Effect.{Database}
+use Rattle.sqlite.specs.Held.{Held, state}
+use Rattle.sqlite.specs.Order.{Row, column, value_cmp}
+use Rattle.sqlite.specs.State.{Shown}
+use Rattle.sqlite.specs.declared.error.Error.{Error}
+use Rattle.sqlite.specs.declared.types.Value.TheVariants.{Int, Text}
+use Rattle.sqlite_rules.specs.Lists.{Has}
+use Rattle.sqlite_schema.specs.Names.{same_name}
+use Rattle.sqlite_value.proofs.OrderLemmas.{value_cmp-Int}
+use Rattle.sqlite_trees.specs.Tree.{IsTable, rowid}
+use Rattle.sqlite_trees.specs.declared.store.Store.{Ghosts}
+use Rattle.std.specs.declared.cmp.Ordering.TheVariants.{Less}
+use Rattle.gaz_tables.specs.Creating.{IsNewStore}
+use Rattle.gaz_tables.specs.Metas.{FindsTwo, IsAny, meta_row, meta_shown, rows_text}
+use Rattle.gaz_tables.specs.Schema.{metas, store_schema}
+use Rattle.gaz_tables.specs.Shows.{ShowsSome}
+use Rattle.gaz_kept.specs.Opening.{CreateOpens, IsAnswer, IsJudged, IsNumbered, IsOne, IsTold, has_all}
+use Rattle.gaz_kept.specs.declared.refusal.StoreRefusal.{StoreRefusal}
+use Rattle.gaz_kept.specs.declared.refusal.StoreRefusal.TheVariants.{BadSchema, OtherRegister, Fault}
+
+-- a store has its tables
+pub has_all_store : has_all store_schema ≡ true
+unfolding has_all same_name
+has_all_store = refl
+
+-- ---- what is answered
+
+-- `transaction` does nothing but begin
+pub answered : {S : Type 0} (g : Ghosts S) (before begun after : Held S) → begun ≡ record before { in_transaction = true } → (r : Result (Vec Row Global) Error)
+    → IfOk r (λ rows. Shown rows_text [] (state g begun) (state g after) rows.items) → IfOk r (λ rows. IsAnswer g before rows.items)
+answered g before begun after same (Err e) h = tt
+answered g before begun after same (Ok rows) h = (after, subst (λ b. Shown rows_text [] (state g b) (state g after) rows.items) same h)
+
+-- ---- what is shown
+
+kept_all : {X : Type 0} (p : X → Bool) (xs : List X) → ((x : X) → Has xs x → p x ≡ true) → filter p xs ≡ xs
+kept_all p [] h = refl
+kept_all p (x ∷ xs) h = rw (h x (inl refl)) (ap (λ l. x ∷ l) (kept_all p xs (λ y there. h y (inr there))))
+
+module _ (rows shown : List Row) (h : FindsTwo rows shown) where
+  same : IsPermutation rows h.chosen
+  same = subst (λ l. IsPermutation l h.chosen) (kept_all h.picks.test rows (λ r there. h.picks.complete r there tt)) h.picks.same
+
+  one_shown : (r : Row) → rows ≡ r ∷ [] → shown ≡ meta_shown r ∷ []
+  one_shown r only = h.shown ∙ ap (λ l. map meta_shown (take 2 l)) (one_permutation r h.chosen (subst (λ l. IsPermutation l h.chosen) only same))
+
+  one_there : (x : Row) → shown ≡ x ∷ [] → (r : Row) × (rows ≡ r ∷ []) × (x ≡ meta_shown r)
+  one_there x only = by_chosen h.chosen same (sym h.shown ∙ only)
+    where
+      by_chosen : (chosen : List Row) → IsPermutation rows chosen → map meta_shown (take 2 chosen) ≡ x ∷ [] → (r : Row) × (rows ≡ r ∷ []) × (x ≡ meta_shown r)
+      by_chosen [] p e = absurd (cc)
+      by_chosen (c ∷ []) p e = (c, one_permutation c rows (IsPermutation-sym rows (c ∷ []) p), cc)
+      by_chosen (c ∷ d ∷ more) p e = absurd (cc)
+
+  numbered : (x : Row) → IsOne x shown → (r : Row) × IsNumbered r rows × (x ≡ meta_shown r)
+  numbered x one =
+      let it = one_there x one.only in
+      (it.0, record { only = it.1; id = subst (λ y. column y 0 ≡ Int (pos 1)) it.2 one.id; number = subst (λ y. column y 1 ≡ Int (pos 1)) it.2 one.number }, it.2)
+
+  pub judged : (register : List ℕ) (result : Result (Unit {0}) StoreRefusal) → IsTold register shown result → IsJudged register rows result
+  judged register (Ok done) told =
+      let it = numbered told.0 told.1 in
+      (it.0, it.1, subst (λ y. column y 2 ≡ Text register) it.2 told.2)
+  judged register (Err OtherRegister) told =
+      let it = numbered told.0 told.1 in
+      (it.0, it.1, subst (λ y. column y 2 ≢ Text register) it.2 told.2)
+  judged register (Err BadSchema) told = λ r n. told (meta_shown r) (record { only = one_shown r n.only; id = n.id; number = n.number })
+  judged register (Err Fault) told = absurd told
+
+-- ---- a new store
+
+never_twice : (r : Row) (register : List ℕ) → r ≡ meta_row 1 register → ¬ (value_cmp (rowid r) (rowid r) ≡ Less)
+never_twice r register is less = absurd (let e = subst (λ x. value_cmp (rowid x) (rowid x) ≡ Less) is less in cc (value_cmp-Int (pos 1) (pos 1)))
+
+alone : (register : List ℕ) (rows : List Row) → IsTable rows → Has rows (meta_row 1 register) → ((r : Row) → Has rows r → r ≡ meta_row 1 register) → rows ≡ meta_row 1 register ∷ []
+alone register [] rises there only = absurd there
+alone register (r ∷ []) rises there only = ap (λ x. x ∷ []) (only r (inl refl))
+alone register (r ∷ s ∷ more) rises there only =
+    let e : s ≡ r = only s (inr (inl refl)) ∙ sym (only r (inl refl)) in
+    absurd (never_twice r register (only r (inl refl)) (subst (λ x. value_cmp (rowid r) (rowid x) ≡ Less) e rises.0.0))
+
+pub create_opens : CreateOpens
+create_opens register db new =
+    let only : (r : Row) → Has (db.trees metas) r → r ≡ meta_row 1 register = λ r there. elim (new.meta_alone.only r there) [ inl is ↦ is | inr none ↦ absurd none ] in
+    (meta_row 1 register, record { only = alone register (db.trees metas) new.tables.metas_shaped.0 new.meta_alone.there only; id = refl; number = refl }, refl)

@@ -1,0 +1,151 @@
+-- Which databases are taken as a store of a register, and which become one.
+use Rattle.std.specs.Prelude.{◌≡◌, ◌≢◌, ◌⊎◌, ◌&&◌, ◌||◌, ⊤, ℕ, pos, Bool, true, false}
+use Rattle.std.specs.Prelude.{List, [], ◌∷◌, codes, map, Option, None, Some}
+use Rattle.std.specs.Prelude.{Result, Ok, Err, OnErr, OnOk, IsTrue}
+use Rattle.std.specs.List.{list_all, list_any}
+use Rattle.sqlite.specs.Effect.{Database}
+use Rattle.sqlite.specs.Held.{Held, state}
+use Rattle.sqlite.specs.Order.{Row, column}
+use Rattle.sqlite.specs.Schema.{Schema}
+use Rattle.sqlite.specs.State.{State, HasCleanDisk, Shown}
+use Rattle.sqlite.specs.Table.{Table}
+use Rattle.sqlite.specs.declared.types.Value.TheVariants.{Int, Text}
+use Rattle.sqlite_schema.specs.Names.{same_name}
+use Rattle.sqlite_trees.specs.declared.store.Store.{Ghosts}
+use Rattle.gaz_tables.specs.Creating.{IsBare, IsNewStore, no_schema}
+use Rattle.gaz_tables.specs.Metas.{id_of, number_of, register_of, rows_text}
+use Rattle.gaz_tables.specs.Schema.{meta, metas, received, version}
+use Rattle.gaz_tables.specs.Stores.{HasTables}
+use Rattle.gaz_kept.specs.declared.refusal.StoreRefusal.{StoreRefusal}
+use Rattle.gaz_kept.specs.declared.refusal.StoreRefusal.TheVariants.{BadSchema, Fault}
+use Rattle.gaz_kept.specs.declared.refusal.StoreRefusal.TheVariants.{OtherRegister}
+
+-- ---- tables, by their names, which are the same but for the case of ASCII letters
+
+-- the name is that of the table with which something is kept aside
+abbrev pub is_owner : List ℕ → Option (List ℕ) → Bool
+is_owner name None = false
+is_owner name (Some owner) = same_name owner name
+
+-- a table of this name is there, understood or kept aside
+abbrev pub has_name : List ℕ → Schema → Bool
+has_name name schema =
+    list_any (λ t. same_name t.name name) schema.tables
+    || list_any (λ v. is_owner name v.foreign) schema.views
+
+-- a table with the name of one of a store's is there
+unfoldable pub has_any : Schema → Bool
+has_any schema =
+    has_name (codes "version") schema
+    || (has_name (codes "received") schema || has_name (codes "meta") schema)
+
+-- a table has a column of this name
+abbrev pub has_column : Table → List ℕ → Bool
+has_column t name = list_any (λ c. same_name c.name name) t.columns
+
+-- a table has the name and the columns of this one
+abbrev pub is_like : Table → Table → Bool
+is_like like t =
+    same_name t.name like.name && list_all (has_column t) (map (λ c. c.name) like.columns)
+
+-- each table of a store is there and is understood, with its columns
+unfoldable pub has_all : Schema → Bool
+has_all schema =
+    list_any (is_like version) schema.tables
+    && (list_any (is_like received) schema.tables && list_any (is_like meta) schema.tables)
+
+-- ---- the row of `meta`
+
+-- it is the only one, of id 1 and number 1
+pub record IsNumbered (r : Row) (rows : List Row) : Type 0 where
+  pub only : rows ≡ r ∷ []
+  pub id : id_of r ≡ Int (pos 1)
+  pub number : number_of r ≡ Int (pos 1)
+
+-- it has this register's text
+abbrev pub IsOf : List ℕ → List Row → Type 0
+IsOf register rows = (r : Row) × IsNumbered r rows × (register_of r ≡ Text register)
+
+-- it has another text
+abbrev pub IsOfAnother : List ℕ → List Row → Type 0
+IsOfAnother register rows = (r : Row) × IsNumbered r rows × (register_of r ≢ Text register)
+
+-- what is told of the rows of `meta`, for a register
+abbrev pub IsJudged : List ℕ → List Row → Result (Unit {0}) StoreRefusal → Type 0
+IsJudged register rows (Ok done) = IsOf register rows
+IsJudged register rows (Err OtherRegister) = IsOfAnother register rows
+IsJudged register rows (Err BadSchema) = (r : Row) → ¬ IsNumbered r rows
+IsJudged register rows (Err Fault) = ⊤
+
+-- only one is shown, of id 1 and number 1
+pub record IsOne (x : Row) (shown : List Row) : Type 0 where
+  pub only : shown ≡ x ∷ []
+  pub id : column x 0 ≡ Int (pos 1)
+  pub number : column x 1 ≡ Int (pos 1)
+
+-- what is told of id, number and register of at most two of its rows
+abbrev pub IsTold : List ℕ → List Row → Result (Unit {0}) StoreRefusal → Type 0
+IsTold register shown (Ok done) = (x : Row) × IsOne x shown × (column x 2 ≡ Text register)
+IsTold register shown (Err OtherRegister) =
+    (x : Row) × IsOne x shown × (column x 2 ≢ Text register)
+IsTold register shown (Err BadSchema) = (x : Row) → ¬ IsOne x shown
+IsTold register shown (Err Fault) = ⊥
+
+-- a new store is one of its register
+abbrev pub CreateOpens : Type 0
+CreateOpens = (register : List ℕ) (db : Database)
+    → IsNewStore 1 register db → IsOf register (db.trees metas)
+
+-- ---- a call on a connection, whose state `g` shows
+
+-- where the connection is open it was before, and it shows and has committed what it did
+pub record Rests (old new : State) : Type 0 where
+  pub was_open : IsTrue new.is_open → IsTrue old.is_open
+  pub now : IsTrue new.is_open → new.now ≡ old.now
+  pub committed : IsTrue new.is_open → new.committed ≡ old.committed
+
+-- outside a transaction it shows what was committed
+abbrev pub IsSettled : State → Type 0
+IsSettled s = IsTrue s.is_open → s.now ≡ s.committed
+
+-- what SQL answers, within a transaction of its own, where it is asked for the rows of `meta`
+abbrev pub IsAnswer : {S : Type 0} → Ghosts S → Held S → List Row → Type 0
+IsAnswer {S} g before shown = (after : Held S)
+    × Shown rows_text [] (state g (record before { in_transaction = true })) (state g after) shown
+
+module _ {S A E : Type 0} (g : Ghosts S) (before after : Held S) (result : Result A E) where
+  -- an Ok tells that the connection was open
+  abbrev pub WasOpen : Type 0
+  WasOpen = HasCleanDisk (state g after) → OnOk result (IsTrue (state g before).is_open)
+
+  -- it tells that it was open and is
+  abbrev pub IsOpen : Type 0
+  IsOpen = HasCleanDisk (state g after)
+      → OnOk result (IsTrue (state g before).is_open × IsTrue (state g after).is_open)
+
+module _ {S : Type 0} (g : Ghosts S) (before after : Held S)
+    (result : Result (Unit {0}) StoreRefusal) where
+  abbrev old : State
+  old = state g before
+
+  abbrev new : State
+  new = state g after
+
+  -- a refusal leaves the database as it was
+  abbrev pub RestsRefused : Type 0
+  RestsRefused = HasCleanDisk new → OnErr result (Rests old new)
+
+  -- the empty database becomes a new store of the register and is committed
+  abbrev pub Makes : List ℕ → Type 0
+  Makes register = HasCleanDisk new → IsBare no_schema old.now
+      → OnOk result (IsNewStore 1 register new.now × (new.committed ≡ new.now))
+
+  -- what is told of the rows of `meta` where the tables are there, whatever they are
+  abbrev pub Tells : List ℕ → Type 0
+  Tells register = HasCleanDisk new → has_all old.now.schema ≡ true → (result ≡ Err Fault)
+      ⊎ ((shown : List Row) × IsAnswer g before shown × IsTold register shown result)
+
+  -- what is told of a store's tables
+  abbrev pub Judges : List ℕ → Type 0
+  Judges register = HasCleanDisk new → HasTables old.now
+      → IsJudged register (old.now.trees metas) result
