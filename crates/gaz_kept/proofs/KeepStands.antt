@@ -38,6 +38,23 @@ use Rattle.gaz_kept.proofs.Views.{same_rows}
 use Rattle.gaz_kept.proofs.Walking.{IsUnderWay, are_new, nothing_yet, onto, onto_has, onto_only, same_written, write_keys}
 use Rattle.gaz_kept.proofs.Written.{Rows}
 
+-- ---- the mark
+
+is_applied : IsVerdict 1 0 0 Applied
+is_applied = record { verdict = refl; states = omega arith; rules = omega arith; no_place = λ other. refl; no_rule = λ other. refl }
+
+-- a custodian's next volume is judged, where it is at hand
+pub mark_judges : (c : ℕ) (changes : Changes) (old new : Database) → IsKept old → IsSome (finite.get (files_in (old.trees receiveds)) (c, reached_in (old.trees receiveds) c + 1))
+    → KeepsVolume c (reached_in (old.trees receiveds) c + 1) changes old new
+    → IsJudged c (reached_in (old.trees receiveds) c + 1) Applied (old.trees receiveds) (new.trees receiveds)
+mark_judges c changes old new kept at_hand keeps =
+    let n = reached_in (old.trees receiveds) c in
+    let s = stays versions _ old keeps.between kept.tables keeps.rows in
+    let same : keeps.between.trees receiveds ≡ old.trees receiveds = s.1 received (inr (inl refl)) (λ e. absurd (omega (arith, e))) in
+    let row = row_of (old.trees receiveds) (are_files old kept) c (n + 1) at_hand in
+    files_change.update c 1 0 0 Applied (old.trees receiveds) (new.trees receiveds) is_applied (are_files old kept) (kept.first c) row.row row.there row.is
+    (subst (λ l. Applies c (n + 1) l (new.trees receiveds)) same keeps.mark.rows)
+
 module _ (c volume : ℕ) (changes : Changes) (working : View) (old new : Database) (it : IsToKeep old c volume changes working) (keeps : KeepsVolume c volume changes old new) where
   abbrev n : ℕ
   n = reached_in (old.trees receiveds) c
@@ -65,14 +82,8 @@ module _ (c volume : ℕ) (changes : Changes) (working : View) (old new : Databa
   its_row : IsThere c (n + 1) (old.trees receiveds)
   its_row = row_of (old.trees receiveds) (are_files old it.kept) c (n + 1) at_hand
 
-  is_verdict : IsVerdict 1 0 0 Applied
-  is_verdict = record { verdict = refl; states = omega arith; rules = omega arith; no_place = λ other. refl; no_rule = λ other. refl }
-
-  applies : Applies c (n + 1) (old.trees receiveds) (new.trees receiveds)
-  applies = subst (λ l. Applies c (n + 1) l (new.trees receiveds)) rows_written.1 (subst (λ v. Applies c v (mid.trees receiveds) (new.trees receiveds)) it.next keeps.mark.rows)
-
   judges : IsJudged c (n + 1) Applied (old.trees receiveds) (new.trees receiveds)
-  judges = files_change.update c 1 0 0 Applied (old.trees receiveds) (new.trees receiveds) is_verdict (are_files old it.kept) (it.kept.first c) its_row.row its_row.there its_row.is applies
+  judges = mark_judges c changes old new it.kept at_hand (subst (λ v. KeepsVolume c v changes old new) it.next keeps)
 
   reached_now : reached_in (new.trees receiveds) c ≡ n + 1
   reached_now = ap length judges.verdicts ∙ length-append (verdicts_in (old.trees receiveds) c) (Applied ∷ [])

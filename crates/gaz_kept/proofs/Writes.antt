@@ -10,7 +10,6 @@ use Rattle.sqlite.specs.declared.error.Error.{Error}
 use Rattle.sqlite_rules.specs.Lists.{Has}
 use Rattle.sqlite_trees.specs.declared.store.Store.{Ghosts}
 use Rattle.gaz_records.specs.declared.key.Key.{Key}
-use Rattle.gaz_views.specs.View.{View}
 use Rattle.gaz_overlay.specs.Changes.{Changes as Made}
 use Rattle.gaz_overlay.specs.Writings.{writing_at}
 use Rattle.gaz_sql_facts.specs.Changes.{AreTreesOf, Changes}
@@ -18,8 +17,7 @@ use Rattle.gaz_tables.proofs.Staying.{stays}
 use Rattle.gaz_tables.proofs.Steps.{clean_before}
 use Rattle.gaz_tables.specs.Schema.{versions}
 use Rattle.gaz_tables.specs.Stores.{HasTables, StaysInside}
-use Rattle.gaz_kept.specs.Keeping.{Applied, IsToKeep, KeepsVolume, WritesKey, WritesKeys, WritesVersions, WritesVolume}
-use Rattle.gaz_kept.proofs.KeepStands.{keep_stands}
+use Rattle.gaz_kept.specs.Keeping.{KeepsVolume, WritesKey, WritesKeys, WritesVersions, WritesVolume}
 
 abbrev pub Becomes : Type 1
 Becomes = List Row → List Row → Type 0
@@ -66,16 +64,13 @@ one_more c volume changes (q ∷ keys) k old mid new w one = (w.0, w.1, one_more
 
 -- ---- a transaction of its own
 
-module _ {S A : Type 0} (g : Ghosts S) (old begun mid : Held S) (x : A) (c volume : ℕ) (changes : Made) (working : View)
+module _ {S A : Type 0} (g : Ghosts S) (old begun mid : Held S) (x : A) (c volume : ℕ) (changes : Made)
     (begins : begun ≡ record old { in_transaction = true }) (written : WritesVolume g begun mid (Ok x) c volume changes) (inside : StaysInside g begun mid (Ok x)) where
   same_start : (state g begun).now ≡ (state g old).now
   same_start = ap (λ h. (state g h).now) begins
 
-  -- what is written makes one judgement more
-  makes : HasCleanDisk (state g mid) → IsToKeep (state g old).now c volume changes working → Applied c working (state g old).now (state g mid).now
-  makes clean it =
-      keep_stands c volume changes working (state g old).now (state g mid).now it
-      (subst (λ d. KeepsVolume c volume changes d (state g mid).now) same_start (written clean (subst HasTables (sym same_start) it.kept.tables)))
+  makes : HasCleanDisk (state g mid) → HasTables (state g old).now → KeepsVolume c volume changes (state g old).now (state g mid).now
+  makes clean it = subst (λ d. KeepsVolume c volume changes d (state g mid).now) same_start (written clean (subst HasTables (sym same_start) it))
 
   starts : Survives (state g old) (state g begun) (λ _. ⊥)
   starts = subst (λ h. Survives (state g old) (state g h) (λ _. ⊥)) (sym begins) (record {
@@ -95,16 +90,16 @@ module _ {S A : Type 0} (g : Ghosts S) (old begun mid : Held S) (x : A) (c volum
     clean_then clean = let le = commits.clean in omega (arith, le, clean)
 
     pub keeps : (HasCleanDisk after → OnOk r (IsTrue (state g mid).in_transaction × Shows (state g mid) after (state g mid).now (state g mid).now false × KeepsCounts (state g mid) after × (after.marks ≡ [])))
-        → HasCleanDisk after → IsToKeep (state g old).now c volume changes working → OnOk r (Applied c working (state g old).now after.now × (after.committed ≡ after.now))
+        → HasCleanDisk after → HasTables (state g old).now → OnOk r (KeepsVolume c volume changes (state g old).now after.now × (after.committed ≡ after.now))
     keeps ok clean it = by_result r (ok clean)
       where
         by_result : (q : Result B Error) → OnOk q (IsTrue (state g mid).in_transaction × Shows (state g mid) after (state g mid).now (state g mid).now false × KeepsCounts (state g mid) after × (after.marks ≡ []))
-            → OnOk q (Applied c working (state g old).now after.now × (after.committed ≡ after.now))
+            → OnOk q (KeepsVolume c volume changes (state g old).now after.now × (after.committed ≡ after.now))
         by_result (Err e) h = tt
-        by_result (Ok y) h = (subst (Applied c working (state g old).now) (sym h.1.now_is) (makes (clean_then clean) it), h.1.committed_is ∙ sym h.1.now_is)
+        by_result (Ok y) h = (subst (KeepsVolume c volume changes (state g old).now) (sym h.1.now_is) (makes (clean_then clean) it), h.1.committed_is ∙ sym h.1.now_is)
 
-    pub may_keep : (HasCleanDisk (state g old) → IsToKeep (state g old).now c volume changes working) → Survives (state g old) after (AreTreesOf (Applied c working (state g old).now))
-    may_keep it = survives_then (state g old) (state g mid) after (λ _. ⊥) (λ db. db ≡ (state g mid).now.trees) (AreTreesOf (Applied c working (state g old).now))
+    pub may_keep : (HasCleanDisk (state g old) → HasTables (state g old).now) → Survives (state g old) after (AreTreesOf (KeepsVolume c volume changes (state g old).now))
+    may_keep it = survives_then (state g old) (state g mid) after (λ _. ⊥) (λ db. db ≡ (state g mid).now.trees) (AreTreesOf (KeepsVolume c volume changes (state g old).now))
         (λ clean db never. absurd never)
         (λ clean db is. ((state g mid).now, is, makes (clean_then clean) (it (let le = written_inside.clean in let mid_clean = clean_then clean in omega (arith, le, mid_clean)))))
         written_inside commits

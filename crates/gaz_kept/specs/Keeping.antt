@@ -129,14 +129,12 @@ module _ {S : Type 0} (g : Ghosts S) (before after : Held S) where
   WritesVolume result c volume changes = HasCleanDisk new → HasTables old.now
       → OnOk result (KeepsVolume c volume changes old.now new.now)
 
-  -- in a transaction of its own, a judgement is kept and committed
+  -- in a transaction of its own, a volume is written, marked applied and committed
   abbrev pub Keeps : {A : Type 0} → Result A Error → ℕ → ℕ → Changes → Type 0
-  Keeps result c volume changes = (working : View) → HasCleanDisk new
-      → IsToKeep old.now c volume changes working
-      → OnOk result (Applied c working old.now new.now × (new.committed ≡ new.now))
+  Keeps result c volume changes = HasCleanDisk new → HasTables old.now
+      → OnOk result (KeepsVolume c volume changes old.now new.now × (new.committed ≡ new.now))
 
-  -- a stop leaves what it could before, or the judgement kept
+  -- a stop leaves what it could before, or the volume written
   abbrev pub MayKeep : ℕ → ℕ → Changes → Type 0
-  MayKeep c volume changes = (working : View)
-      → (HasCleanDisk old → IsToKeep old.now c volume changes working)
-      → Survives old new (table.AreTreesOf (Applied c working old.now))
+  MayKeep c volume changes = (HasCleanDisk old → HasTables old.now)
+      → Survives old new (table.AreTreesOf (KeepsVolume c volume changes old.now))

@@ -2,11 +2,8 @@
 ghost use Rattle.gaz_kept.specs.Examples.{WorkedExamples};
 ghost use Rattle.gaz_kept.specs.Histories.{HistoriesChange, StatementsChange};
 ghost use Rattle.gaz_kept.specs.Judging.{BoardChanges, FilesChange};
-<<<<<<< HEAD
 ghost use Rattle.gaz_kept.specs.Keeping.{KeepStands};
-=======
 ghost use Rattle.gaz_kept.specs.Opening.{CreateOpens};
->>>>>>> ca5f557b5e5f96463b5b579bc97b4236b3751885
 ghost use Rattle.gaz_kept.specs.Stands.{TablesStand};
 
 /// What the definitions come to on worked examples.
@@ -44,13 +41,12 @@ pub fn tables_stand()
     ensures { TablesStand }
 {}
 
-<<<<<<< HEAD
 /// What is written when a judgement is kept makes of what the tables stand for one judgement more.
 pub fn volumes_are_kept()
     ensures { KeepStands }
-=======
+{}
+
 /// A new store is one of its register, so that it is opened for that one and refused to another.
 pub fn create_opens()
     ensures { CreateOpens }
->>>>>>> ca5f557b5e5f96463b5b579bc97b4236b3751885
 {}

@@ -7,11 +7,8 @@ pub mod keeping;
 mod key_order;
 pub mod laws;
 pub mod newest;
-<<<<<<< HEAD
-mod row_cells;
-=======
 pub mod opening;
 mod refusal;
+mod row_cells;
 
 pub use refusal::StoreRefusal;
->>>>>>> ca5f557b5e5f96463b5b579bc97b4236b3751885

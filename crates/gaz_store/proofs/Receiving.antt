@@ -4,7 +4,9 @@ use Rattle.sqlite.specs.Effect.{Database}
 use Rattle.sqlite.specs.Held.{state}
 use Rattle.sqlite.specs.State.{State}
 use Rattle.sqlite_trees.specs.declared.store.Store.{Ghosts}
+use Rattle.gaz_views.specs.declared.verdict.Verdict.{Verdict}
 use Rattle.gaz_views.specs.declared.verdict.Verdict.TheVariants.{Rejected}
+use Rattle.gaz_kept.specs.Judging.{IsJudged}
 use Rattle.gaz_shelf.specs.Board.{reached}
 use Rattle.gaz_shelf.specs.declared.fault.ShelfFault.{ShelfFault}
 use Rattle.gaz_shelf.specs.declared.fault.ShelfFault.TheVariants.{Store}
@@ -71,83 +73,60 @@ module _ {S : Type 0} {store : Ghosts S} where
       let here = subst (λ r. AltersTables old new r (Comes c v bytes)) is alters in
       comes {T = T} old new (Err e) c v bytes range here.alters here.tallies tt here.at_hand
 
-  -- ---- a volume is rejected
+  -- ---- a volume is judged
 
-  -- where it was recalled which is next
-  skips : {T : Type 0} (old mid new : Tables S store) (r : Result T ShelfFault) (c n next place rule : ℕ) → rule ≤ 255 → next ≡ n + 1
-      → Recalls old mid (Ok n) (Recalled c)
-      → Alters (at mid) (at new) r (RejectsAt c next place rule) → Tallies mid.failures new.failures r
-      → OnOk r (Recounts c OneJudged mid.at_hand new.at_hand) → OnErr r (new.at_hand ≡ mid.at_hand)
-      → Writes old new r (IsNextIn c) (WhereSo old.at_hand (RejectsNext c place rule))
-  skips {T} old mid new r c n next place rule small is_next recalls alters tallies noted same = record {
-    alters = both;
-    tallies = tallies_then old.failures mid.failures new.failures (Ok n) r recalls.tallies tallies;
-    at_hand = λ h kept so there. on_result r _ _ _ _ (AreSo new.at_hand ((at new).now.trees receiveds)) (both.done h kept.tables) (both.undone h kept.tables) noted same
-        (λ changes counts.
-        judged_so c (Rejected place rule) ((at old).now.trees receiveds) ((at new).now.trees receiveds) mid.at_hand new.at_hand
-        (judges c place rule (at old).now (at new).now small kept there (changes kept so)) there counts (recalls.at_hand (alters.harm h) kept so))
-        (λ still stays. subst (λ (m : Remembered). AreSo m ((at new).now.trees receiveds)) (sym stays)
-        (subst (λ (db : Database). AreSo mid.at_hand (db.trees receiveds)) (sym still) (recalls.at_hand (alters.harm h) kept so)));
-  }
-    where
-      reads : (db : Database) → reached (board_of db) c ≡ reached_in (db.trees receiveds) c
-      reads db = (board_reads (db.trees receiveds) (db.trees versions) c).reached
+  -- the next volume of a custodian is judged so: where it was recalled which is next
+  module _ {T : Type 0} (c : ℕ) (verdict : Verdict) (Makes : ℕ → Database → Database → Type 0)
+      (judged : (db after : Database) → IsKept db → IsNextIn c db → Makes (next_in db c) db after → IsJudged c (reached_in (db.trees receiveds) c + 1) verdict (db.trees receiveds) (after.trees receiveds)) where
+    abbrev MakesNext : Database → Database → Type 0
+    MakesNext db after = Makes (next_in db c) db after
 
-      which : IsUnharmed (at mid) → IsKept (at old).now → AreSo old.at_hand ((at old).now.trees receiveds) → next ≡ next_in (at old).now c
-      which h kept so = is_next ∙ ap (λ m. m + 1) (recalls.asks.right h kept so ∙ reads (at old).now)
+    judges_next : (old mid new : Tables S store) (r : Result T ShelfFault) (n next : ℕ) → next ≡ n + 1
+        → Recalls old mid (Ok n) (Recalled c)
+        → Alters (at mid) (at new) r (Makes next) → Tallies mid.failures new.failures r
+        → OnOk r (Recounts c OneJudged mid.at_hand new.at_hand) → OnErr r (new.at_hand ≡ mid.at_hand)
+        → Writes old new r (IsNextIn c) (WhereSo old.at_hand MakesNext)
+    judges_next old mid new r n next is_next recalls alters tallies noted same = record {
+      alters = both;
+      tallies = tallies_then old.failures mid.failures new.failures (Ok n) r recalls.tallies tallies;
+      at_hand = λ h kept so there. on_result r _ _ _ _ (AreSo new.at_hand ((at new).now.trees receiveds)) (both.done h kept.tables) (both.undone h kept.tables) noted same
+          (λ changes counts.
+          judged_so c verdict ((at old).now.trees receiveds) ((at new).now.trees receiveds) mid.at_hand new.at_hand
+          (judged (at old).now (at new).now kept there (changes kept so)) there counts (recalls.at_hand (alters.harm h) kept so))
+          (λ still stays. subst (λ (m : Remembered). AreSo m ((at new).now.trees receiveds)) (sym stays)
+          (subst (λ (db : Database). AreSo mid.at_hand (db.trees receiveds)) (sym still) (recalls.at_hand (alters.harm h) kept so)));
+    }
+      where
+        reads : (db : Database) → reached (board_of db) c ≡ reached_in (db.trees receiveds) c
+        reads db = (board_reads (db.trees receiveds) (db.trees versions) c).reached
 
-      both : Alters (at old) (at new) r (WhereSo old.at_hand (RejectsNext c place rule))
-      both = alters_then (at old) (at mid) (at new) (Ok n) r (λ db m. AreSo old.at_hand (db.trees receiveds) → Recalled c db m) (RejectsAt c next place rule) (WhereSo old.at_hand (RejectsNext c place rule)) recalls.asks alters
-          (λ h db rejects kept so. subst (λ m. RejectsAt c m place rule (at old).now db) (which h kept so) rejects)
+        which : IsUnharmed (at mid) → IsKept (at old).now → AreSo old.at_hand ((at old).now.trees receiveds) → next ≡ next_in (at old).now c
+        which h kept so = is_next ∙ ap (λ m. m + 1) (recalls.asks.right h kept so ∙ reads (at old).now)
 
-  pub skipped_ok : {T : Type 0} (old mid noted new : Tables S store) (first : Result ℕ ShelfFault) (r : Result T ShelfFault) (x : T) (c n next place rule : ℕ) → rule ≤ 255 → next ≡ n + 1
-      → Recalls old mid first (Recalled c) → first ≡ Ok n → AltersTables mid noted r (RejectsAt c next place rule) → r ≡ Ok x
-      → new.conn ≡ noted.conn → new.failures ≡ noted.failures → Recounts c OneJudged noted.at_hand new.at_hand → Writes old new (Ok x) (IsNextIn c) (WhereSo old.at_hand (RejectsNext c place rule))
-  skipped_ok {T} old mid noted new first r x c n next place rule small is_next recalls was alters is conn failures counts =
-      let done : Result T ShelfFault = Ok x in
-      let before = subst (λ r. Recalls old mid r (Recalled c)) was recalls in
-      let here = subst (λ r. AltersTables mid noted r (RejectsAt c next place rule)) is alters in
-      skips old mid new done c n next place rule small is_next before
-      (subst (λ h. Alters (at mid) (state store h) done (RejectsAt c next place rule)) (sym conn) here.alters) (subst (λ (n : ℕ). Tallies mid.failures n done) (sym failures) here.tallies)
-      (subst (λ (m : Remembered). Recounts c OneJudged m new.at_hand) here.at_hand counts) tt
+        both : Alters (at old) (at new) r (WhereSo old.at_hand MakesNext)
+        both = alters_then (at old) (at mid) (at new) (Ok n) r (λ db m. AreSo old.at_hand (db.trees receiveds) → Recalled c db m) (Makes next) (WhereSo old.at_hand MakesNext) recalls.asks alters
+            (λ h db makes kept so. subst (λ m. Makes m (at old).now db) (which h kept so) makes)
 
-  pub skipped_err : {T : Type 0} (old mid new : Tables S store) (first : Result ℕ ShelfFault) (r : Result T ShelfFault) (e : ShelfFault) (c n next place rule : ℕ) → rule ≤ 255 → next ≡ n + 1
-      → Recalls old mid first (Recalled c) → first ≡ Ok n → AltersTables mid new r (RejectsAt c next place rule) → r ≡ Err e
-      → Writes {T = T} old new (Err e) (IsNextIn c) (WhereSo old.at_hand (RejectsNext c place rule))
-  skipped_err {T} old mid new first r e c n next place rule small is_next recalls was alters is =
-      let before = subst (λ r. Recalls old mid r (Recalled c)) was recalls in
-      let here = subst (λ r. AltersTables mid new r (RejectsAt c next place rule)) is alters in
-      skips {T = T} old mid new (Err e) c n next place rule small is_next before here.alters here.tallies tt here.at_hand
+    pub judged_ok : (old mid noted new : Tables S store) (first : Result ℕ ShelfFault) (r : Result T ShelfFault) (x : T) (n next : ℕ) → next ≡ n + 1
+        → Recalls old mid first (Recalled c) → first ≡ Ok n → AltersTables mid noted r (Makes next) → r ≡ Ok x
+        → new.conn ≡ noted.conn → new.failures ≡ noted.failures → Recounts c OneJudged noted.at_hand new.at_hand → Writes old new (Ok x) (IsNextIn c) (WhereSo old.at_hand MakesNext)
+    judged_ok old mid noted new first r x n next is_next recalls was alters is conn failures counts =
+        let done : Result T ShelfFault = Ok x in
+        let before = subst (λ r. Recalls old mid r (Recalled c)) was recalls in
+        let here = subst (λ r. AltersTables mid noted r (Makes next)) is alters in
+        judges_next old mid new done n next is_next before
+        (subst (λ h. Alters (at mid) (state store h) done (Makes next)) (sym conn) here.alters) (subst (λ (n : ℕ). Tallies mid.failures n done) (sym failures) here.tallies)
+        (subst (λ (m : Remembered). Recounts c OneJudged m new.at_hand) here.at_hand counts) tt
 
-  -- ---- a fault before anything is written
+    pub judged_err : (old mid new : Tables S store) (first : Result ℕ ShelfFault) (r : Result T ShelfFault) (e : ShelfFault) (n next : ℕ) → next ≡ n + 1
+        → Recalls old mid first (Recalled c) → first ≡ Ok n → AltersTables mid new r (Makes next) → r ≡ Err e
+        → Writes old new (Err e) (IsNextIn c) (WhereSo old.at_hand MakesNext)
+    judged_err old mid new first r e n next is_next recalls was alters is =
+        let before = subst (λ r. Recalls old mid r (Recalled c)) was recalls in
+        let here = subst (λ r. AltersTables mid new r (Makes next)) is alters in
+        judges_next old mid new (Err e) n next is_next before here.alters here.tallies tt here.at_hand
 
-  pub writes_not : {A T : Type 0} (old new : Tables S store) (one : Result A ShelfFault) (e : ShelfFault) (P : Database → A → Type 0) (IsAsked : Database → Type 0) (Becomes : Database → Database → Type 0)
-      → Recalls old new one P → Tallies {T = T} old.failures new.failures (Err e) → Writes {T = T} old new (Err e) IsAsked Becomes
-  writes_not old new one e P IsAsked Becomes recalls tallies = record {
-    alters = alters_not (at old) (at new) one e (λ db x. AreSo old.at_hand (db.trees receiveds) → P db x) Becomes recalls.asks;
-    tallies = tallies;
-    at_hand = λ h kept so ask. subst (λ (db : Database). AreSo new.at_hand (db.trees receiveds)) (sym (recalls.asks.rests h kept.tables)) (recalls.at_hand h kept so);
-  }
-
-  -- of what was recalled
-  pub writes_never : {A T : Type 0} (old new : Tables S store) (one : Result A ShelfFault) (e : ShelfFault) (P : Database → A → Type 0) (IsAsked : Database → Type 0) (Becomes : Database → Database → Type 0)
-      → Recalls old new one P → one ≡ Err e → Writes {T = T} old new (Err e) IsAsked Becomes
-  writes_never {A} {T} old new one e P IsAsked Becomes recalls is =
-      let tallies = subst (λ r. Tallies old.failures new.failures r) is recalls.tallies in
-      writes_not {T = T} old new one e P IsAsked Becomes recalls (record { kept = tallies.kept; store = tallies.store })
-
-  -- of its own
-  pub writes_failing : {A T : Type 0} (old mid new : Tables S store) (one : Result A ShelfFault) (e : ShelfFault) (P : Database → A → Type 0) (IsAsked : Database → Type 0) (Becomes : Database → Database → Type 0)
-      → Recalls old mid one P → Fails mid new e → Writes {T = T} old new (Err e) IsAsked Becomes
-  writes_failing {A} {T} old mid new one e P IsAsked Becomes recalls fails =
-      writes_not {T = T} old new one e P IsAsked Becomes
-      (record {
-        asks = subst (λ h. Asks (at old) (state store h) one (λ db x. AreSo old.at_hand (db.trees receiveds) → P db x)) (sym fails.conn) recalls.asks;
-        tallies = record { kept = omega (arith, recalls.tallies.kept, fails.kept); store = later one recalls.tallies.store };
-        at_hand = λ h kept so. subst (λ (m : Remembered). AreSo m ((at old).now.trees receiveds)) (sym fails.at_hand) (recalls.at_hand (subst (λ h. IsUnharmed (state store h)) fails.conn h) kept so);
-      })
-      (record { kept = omega (arith, recalls.tallies.kept, fails.kept); store = λ is. let more = fails.counted is in omega (arith, recalls.tallies.kept, more) })
-    where
-      later : (r : Result A ShelfFault) → IfErr r (λ e. e ≡ Store → old.failures < mid.failures) → IfErr r (λ e. e ≡ Store → old.failures < new.failures)
-      later (Ok x) s = tt
-      later (Err x) s = λ is. let more = s is in omega (arith, more, fails.kept)
+  -- as rejected
+  pub skip_judges : (c place rule : ℕ) → rule ≤ 255 → (db after : Database) → IsKept db → IsNextIn c db → RejectsAt c (next_in db c) place rule db after
+      → IsJudged c (reached_in (db.trees receiveds) c + 1) (Rejected place rule) (db.trees receiveds) (after.trees receiveds)
+  skip_judges c place rule small db after kept there rejects = judges c place rule db after small kept there rejects

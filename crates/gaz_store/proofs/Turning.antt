@@ -194,3 +194,11 @@ module _ (db : Database) (j : Judgement) (w : View) (makes : Makes db j w) where
   children_beside lawful uprn =
       ap (λ (u : View). has_children u uprn) makes.made.is_laid ∙ answers.has_children uprn
       ∙ ap (λ b. b || has_children s uprn) (sym (left_with lawful (is_child_of uprn)))
+
+pub or_true : (a b : Bool) → b ≡ true → (a || b) ≡ true
+or_true true b is = refl
+or_true false b is = is
+
+pub or_false : (a b : Bool) → b ≡ false → (a || b) ≡ a
+or_false true b is = refl
+or_false false b is = is

@@ -7,6 +7,8 @@ use Rattle.gaz_tables.specs.Receiveds.{Rejects, unjudged}
 use Rattle.gaz_tables.specs.Schema.{receiveds}
 use Rattle.gaz_tables.specs.Stores.{AddsRow}
 use Rattle.gaz_kept.specs.Files.{files_in}
+use Rattle.gaz_overlay.specs.Changes.{Changes as Overlaid}
+use Rattle.gaz_kept.specs.Keeping.{KeepsVolume}
 use Rattle.gaz_kept.specs.Kept.{IsKept}
 use Rattle.gaz_kept.specs.Stands.{next_in}
 use Rattle.gaz_store.specs.Remembered.{AreSo, Remembered}
@@ -31,6 +33,12 @@ IsNextIn c db = IsSome (finite.get (files_in (db.trees receiveds)) (c, next_in d
 abbrev pub RejectsNext : ℕ → ℕ → ℕ → Database → Database → Type 0
 RejectsNext c place rule old new =
     Changes receiveds (Rejects c (next_in old c) (pos place) rule) old new
+
+-- ---- a judgement
+
+-- what it has changed is written as the next volume, which is marked applied
+abbrev pub AppliesNext : ℕ → Overlaid → Database → Database → Type 0
+AppliesNext c changes old new = KeepsVolume c (next_in old c) changes old new
 
 -- so it becomes where the tables are a store's and what is at hand is so of them
 abbrev pub WhereSo : Remembered → (Database → Database → Type 0) → Database → Database → Type 0

@@ -1,6 +1,7 @@
 //! The keeper in the tables of a database.
 #![tactic(auto)]
 
+mod applying;
 mod asking;
 mod at_hand;
 mod beside;

@@ -103,7 +103,7 @@ impl<S: Alter> Tables<S> {
     }
 
     // One that waited is judged.
-    fn was_judged(&mut self, code: Code)
+    pub(crate) fn was_judged(&mut self, code: Code)
         ensures conn { self.new.conn ≡ self.old.conn }
         ensures failures { self.new.failures ≡ self.old.failures }
         ensures at_hand { Recounts code OneJudged self.old.at_hand self.new.at_hand }

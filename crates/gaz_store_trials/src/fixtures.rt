@@ -40,11 +40,7 @@ const VERSIONS: [Version; 8] = [
     (Kind::Lpi, 2, NEVER, NUMBER_14),
 ];
 
-<<<<<<< HEAD
 /// The connection is in no transaction, or an error.
-=======
-// The connection is in no transaction, or an error.
->>>>>>> ca5f557b5e5f96463b5b579bc97b4236b3751885
 pub fn rests<S: Alter>(conn: &Connection<S>) -> Result<(), Error>
     ensures { OnOk result (conn.now.in_transaction ≡ false) }
 {

@@ -8,8 +8,6 @@ mod asking;
 #[cfg(test)]
 mod fixtures;
 #[cfg(test)]
-<<<<<<< HEAD
 mod kept;
-=======
+#[cfg(test)]
 mod opened;
->>>>>>> ca5f557b5e5f96463b5b579bc97b4236b3751885
