@@ -130,3 +130,36 @@ module _ {S : Type 0} {store : Ghosts S} where
   pub skip_judges : (c place rule : ℕ) → rule ≤ 255 → (db after : Database) → IsKept db → IsNextIn c db → RejectsAt c (next_in db c) place rule db after
       → IsJudged c (reached_in (db.trees receiveds) c + 1) (Rejected place rule) (db.trees receiveds) (after.trees receiveds)
   skip_judges c place rule small db after kept there rejects = judges c place rule db after small kept there rejects
+
+  -- ---- a fault before anything is written
+
+  pub writes_not : {A T : Type 0} (old new : Tables S store) (one : Result A ShelfFault) (e : ShelfFault) (P : Database → A → Type 0) (IsAsked : Database → Type 0) (Becomes : Database → Database → Type 0)
+      → Recalls old new one P → Tallies {T = T} old.failures new.failures (Err e) → Writes {T = T} old new (Err e) IsAsked Becomes
+  writes_not old new one e P IsAsked Becomes recalls tallies = record {
+    alters = alters_not (at old) (at new) one e (λ db x. AreSo old.at_hand (db.trees receiveds) → P db x) Becomes recalls.asks;
+    tallies = tallies;
+    at_hand = λ h kept so ask. subst (λ (db : Database). AreSo new.at_hand (db.trees receiveds)) (sym (recalls.asks.rests h kept.tables)) (recalls.at_hand h kept so);
+  }
+
+  -- of what was recalled
+  pub writes_never : {A T : Type 0} (old new : Tables S store) (one : Result A ShelfFault) (e : ShelfFault) (P : Database → A → Type 0) (IsAsked : Database → Type 0) (Becomes : Database → Database → Type 0)
+      → Recalls old new one P → one ≡ Err e → Writes {T = T} old new (Err e) IsAsked Becomes
+  writes_never {A} {T} old new one e P IsAsked Becomes recalls is =
+      let tallies = subst (λ r. Tallies old.failures new.failures r) is recalls.tallies in
+      writes_not {T = T} old new one e P IsAsked Becomes recalls (record { kept = tallies.kept; store = tallies.store })
+
+  -- of its own
+  pub writes_failing : {A T : Type 0} (old mid new : Tables S store) (one : Result A ShelfFault) (e : ShelfFault) (P : Database → A → Type 0) (IsAsked : Database → Type 0) (Becomes : Database → Database → Type 0)
+      → Recalls old mid one P → Fails mid new e → Writes {T = T} old new (Err e) IsAsked Becomes
+  writes_failing {A} {T} old mid new one e P IsAsked Becomes recalls fails =
+      writes_not {T = T} old new one e P IsAsked Becomes
+      (record {
+        asks = subst (λ h. Asks (at old) (state store h) one (λ db x. AreSo old.at_hand (db.trees receiveds) → P db x)) (sym fails.conn) recalls.asks;
+        tallies = record { kept = omega (arith, recalls.tallies.kept, fails.kept); store = later one recalls.tallies.store };
+        at_hand = λ h kept so. subst (λ (m : Remembered). AreSo m ((at old).now.trees receiveds)) (sym fails.at_hand) (recalls.at_hand (subst (λ h. IsUnharmed (state store h)) fails.conn h) kept so);
+      })
+      (record { kept = omega (arith, recalls.tallies.kept, fails.kept); store = λ is. let more = fails.counted is in omega (arith, recalls.tallies.kept, more) })
+    where
+      later : (r : Result A ShelfFault) → IfErr r (λ e. e ≡ Store → old.failures < mid.failures) → IfErr r (λ e. e ≡ Store → old.failures < new.failures)
+      later (Ok x) s = tt
+      later (Err x) s = λ is. let more = s is in omega (arith, more, fails.kept)

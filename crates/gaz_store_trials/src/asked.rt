@@ -1,7 +1,8 @@
 //! What the tables answer.
 use crate::asking::Asked;
-use crate::fixtures::{FLAT, FORMER_FLAT, HOUSE, NUMBER_14, NUMBER_16, STREET, damaged, forgetful,
-    furnished};
+use crate::fixtures::{
+    FLAT, FORMER_FLAT, HOUSE, NUMBER_14, NUMBER_16, STREET, damaged, forgetful, furnished,
+};
 use gaz_ids::{Code, Lang, Uprn, Usrn, Volume};
 use gaz_overlay::Stood;
 use gaz_records::{Key, Kind, RecordKey, SharedItem, item_text};
@@ -134,7 +135,7 @@ fn files_are_asked<S: Alter>(
 ) -> Result<(), Fail> {
     let (own, other) = (custodian(1001)?, custodian(1002)?);
     let bytes = tables.received(own, volume(4)?)?.ok_or("a file")?;
-    assert!(rt; bytes.as_slice() == b"bytes");
+    assert!(rt; bytes.as_slice() == b"bytes".as_slice());
     assert!(rt; tables.received(own, volume(5)?)?.is_none());
     assert!(rt; tables.received(other, volume(4)?)?.is_none());
     assert!(rt; tables.held(own)? == 1 && tables.reached(own)? == 3);
@@ -195,7 +196,7 @@ fn counts_are_kept<S: Alter>(
     let own = custodian(1001)?;
     assert!(rt; tables.reached(own)? == 4 && tables.held(own)? == 1);
     let bytes = tables.received(own, volume(6)?)?.ok_or("a file")?;
-    assert!(rt; bytes.as_slice() == b"sixth");
+    assert!(rt; bytes.as_slice() == b"sixth".as_slice());
     Ok(())
 }
 

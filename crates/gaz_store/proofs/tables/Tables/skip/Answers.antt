@@ -3,7 +3,7 @@ use Rattle.std.proofs.Math.Facts.{to_z-of_z}
 use mir.Val.{to_z, of_z}
 use Rattle.gaz_store.proofs.Numbering.{numbered}
 use Rattle.gaz_views.specs.declared.verdict.Verdict.TheVariants.{Rejected}
-use Rattle.gaz_store.proofs.Receiving.{RejectsAt, judged_err, judged_ok, skip_judges}
+use Rattle.gaz_store.proofs.Receiving.{Recalled, RejectsAt, judged_err, judged_ok, skip_judges, writes_failing, writes_never}
 use Rattle.gaz_store.proofs.tables.Tables.skip.Goals as goal
 
 is_next : (n sum next : ℕ) → sum ≡ min (n + 1) 18446744073709551615 → next ≡ sum → next ≤ 999_999 → next ≡ n + 1
@@ -29,3 +29,13 @@ returns-in-Err-reject g c =
     judged_err c.args.code (Rejected c.args.place c.args.rule) (λ v. RejectsAt c.args.code v c.args.place c.args.rule) (skip_judges c.args.code c.args.place c.args.rule small)
     _ _ _ c.reached.result c.reject.result c.in-Err-reject.fault c.in-Ok.reached c.in-Some.next next
     c.reached.ensures c.in-Ok.is (rw (c.number.ensures.value, c.number-2.ensures.value, place) at c.reject.ensures) c.in-Err-reject.is
+
+pub returns-in-Err : goal.returns-in-Err
+returns-in-Err g c = writes_never _ _ c.reached.result c.in-Err.fault (Recalled c.args.code) _ _ c.reached.ensures c.in-Err.is
+
+pub returns-in_default : goal.returns-in_default
+returns-in_default g c = writes_failing _ _ _ c.reached.result c.fail.result (Recalled c.args.code) _ _ c.reached.ensures c.fail.ensures.fails
+
+pub returns-in_default-try_from : goal.returns-in_default-try_from
+returns-in_default-try_from g c =
+    writes_failing _ _ _ c.reached.result c.fail-in_default-try_from.result (Recalled c.args.code) _ _ c.reached.ensures c.fail-in_default-try_from.ensures.fails
