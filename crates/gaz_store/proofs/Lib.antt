@@ -24,3 +24,4 @@ pub mod Entering
 pub mod Receiving
 pub mod Noting
 pub mod StoreReads
+pub mod StoreGoes

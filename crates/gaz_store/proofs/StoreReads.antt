@@ -1,22 +1,31 @@
 -- What a store's call tells of it as a keeper, where it asks the tables.
 use Rattle.std.proofs.Common.{◌≡◌, ◌≢◌, ◌∙◌, ◌==◌, ◌⊎◌, inl, inr, ℕ, Bool, true, false, cond, Result, Ok, Err, IfOk, OnOk, arith, refl, sym, ap, subst, eq-eqb}
-use Rattle.std.specs.Prelude.{⊤}
+use Rattle.std.specs.Prelude.{◌≤◌, Option}
+use Rattle.std.specs.FinMap as map
 use Rattle.std.proofs.lemmas.Bool.{ne_eqb}
 use Rattle.sqlite.specs.Effect.{Database}
 use Rattle.sqlite.specs.Held.{state}
 use Rattle.sqlite.specs.State.{State}
 use Rattle.sqlite_trees.specs.declared.store.Store.{Ghosts}
+use Rattle.gaz_records.specs.declared.item.Item.{Item}
+use Rattle.gaz_records.specs.declared.key.Key.{Key}
 use Rattle.gaz_views.specs.View.{View}
+use Rattle.gaz_shelf.specs.Board.{reached}
+use Rattle.gaz_shelf.specs.Received.{count_above}
+use Rattle.gaz_shelf.specs.Telling.{IsItemAt}
+use Rattle.gaz_kept.proofs.Boards.{board_reads}
 use Rattle.gaz_shelf.specs.Keeper as keeper
 use Rattle.gaz_shelf.specs.Keeper.{IsLawful, IsLeft, Reads, view_of, viewed}
 use Rattle.gaz_shelf.specs.declared.fault.ShelfFault.{ShelfFault}
-use Rattle.gaz_tables.specs.Schema.{receiveds}
-use Rattle.gaz_kept.specs.Contents.{content_in}
+use Rattle.gaz_tables.specs.Schema.{receiveds, versions}
+use Rattle.gaz_kept.specs.Contents.{board_of, content_in}
+use Rattle.gaz_kept.specs.Files.{files_in, reached_in}
+use Rattle.gaz_kept.specs.Versions.{view_in}
 use Rattle.gaz_kept.specs.Kept.{IsKept}
 use Rattle.gaz_kept.specs.LastViews.{last_in}
 use Rattle.gaz_store.specs.Asking.{Asks, AsksTables, Recalls, Tallies}
 use Rattle.gaz_store.specs.Beside.{Beside}
-use Rattle.gaz_store.specs.Remembered.{AreSo, Remembered}
+use Rattle.gaz_store.specs.Remembered.{AreSo, Remembered, held_in}
 use Rattle.gaz_store.specs.Seen.{IsUnharmed, StandsFor}
 use Rattle.gaz_store.specs.Store.{IsElsewhere, IsUnderWay, StandsBeside, StoreStands, cleared, progress_of, seen_beside, seen_in, view_made, working_of}
 use Rattle.gaz_store.specs.declared.judgement.Judgement.{Judgement}
@@ -24,7 +33,7 @@ use Rattle.gaz_store.specs.declared.progress.Judging.{Judging}
 use Rattle.gaz_store.specs.declared.progress.Judging.TheVariants.{Idle, Open, Broken}
 use Rattle.gaz_store.specs.declared.store.Store.{Store}
 use Rattle.gaz_store.specs.declared.tables.Tables.{Tables}
-use Rattle.gaz_store.proofs.LawfulViews.{last_is}
+use Rattle.gaz_store.proofs.LawfulViews.{board_view, last_is}
 
 -- ---- a cleared judgement
 
@@ -62,7 +71,7 @@ if_ok : {T E : Type 0} (r : Result T E) (P Q : T → Type 0) → ((x : T) → P 
 if_ok (Ok x) P Q f h = f x h
 if_ok (Err e) P Q f h = tt
 
-on_ok_all : {T E : Type 0} {P : Type 0} (r : Result T E) → P → OnOk r P
+pub on_ok_all : {T E : Type 0} {P : Type 0} (r : Result T E) → P → OnOk r P
 on_ok_all (Ok x) h = h
 on_ok_all (Err e) h = tt
 
@@ -120,41 +129,56 @@ viewed_here db m c is = ap (λ b. cond b (view_made db m) (keeper.viewed keeper.
 
 -- ---- calls of a store
 
-module _ {S : Type 0} {store : Ghosts S} {T : Type 0} (old : Store S store) (tables : Tables S store) (seed : _) (r : Result T ShelfFault) where
+module _ {S : Type 0} {store : Ghosts S} {T : Type 0} (old : Store S store) (tables : Tables S store) (k : Judging) (is_cleared : k ≡ cleared old.judging) (r : Result T ShelfFault) where
   abbrev db : Database
   db = (state store old.tables.conn).now
 
-  abbrev now : Store S store
-  now = record old { tables = tables; judging = cleared old.judging }
+  abbrev Tells : (T → Type 0) → Judging → Type 0
+  Tells Q j = Reads (seen_in old) (seen_in (record old { tables = tables; judging = j })) r Q
 
   -- what is asked of the board
-  pub tells : (P : Database → T → Type 0) (Q : T → Type 0) → AsksTables old.tables tables r P → ((x : T) → IsKept db → P db x → Q x) → Reads (seen_in old) (seen_in now) r Q
+  pub tells : (P : Database → T → Type 0) (Q : T → Type 0) → AsksTables old.tables tables r P → ((x : T) → IsKept db → P db x → Q x) → Tells Q k
   tells P Q asks goes =
-      store_reads _ _ _ _ old.judging _ _ r P Q asks.asks asks.tallies (λ h kept so. subst (λ m. AreSo m (db.trees receiveds)) (sym asks.at_hand) so)
-      (λ x stood is. goes x stood.tables.kept is)
+      subst (Tells Q) (sym is_cleared)
+      (store_reads _ _ _ _ old.judging _ _ r P Q asks.asks asks.tallies (λ h kept so. subst (λ m. AreSo m (db.trees receiveds)) (sym asks.at_hand) so)
+      (λ x stood is. goes x stood.tables.kept is))
 
   -- what is at hand, or asked
-  pub tells_recalled : (P : Database → T → Type 0) (Q : T → Type 0) → Recalls old.tables tables r P → ((x : T) → IsKept db → P db x → Q x) → Reads (seen_in old) (seen_in now) r Q
+  pub tells_recalled : (P : Database → T → Type 0) (Q : T → Type 0) → Recalls old.tables tables r P → ((x : T) → IsKept db → P db x → Q x) → Tells Q k
   tells_recalled P Q recalls goes =
-      store_reads _ _ _ _ old.judging _ _ r (λ d x. AreSo old.tables.at_hand (d.trees receiveds) → P d x) Q recalls.asks recalls.tallies recalls.at_hand
-      (λ x stood is. goes x stood.tables.kept (is stood.tables.so))
+      subst (Tells Q) (sym is_cleared)
+      (store_reads _ _ _ _ old.judging _ _ r (λ d x. AreSo old.tables.at_hand (d.trees receiveds) → P d x) Q recalls.asks recalls.tallies recalls.at_hand
+      (λ x stood is. goes x stood.tables.kept (is stood.tables.so)))
 
   -- what is asked of a custodian's last view, while its volume isn't judged
-  pub tells_last : (P : View → T → Type 0) (c : ℕ) → IsElsewhere (cleared old.judging) c → AsksTables old.tables tables r (λ d x. P (last_in d c) x)
-      → Reads (seen_in old) (seen_in now) r (λ x. P (view_of (seen_in old) c) x)
+  pub tells_last : (P : View → T → Type 0) (c : ℕ) → IsElsewhere k c → AsksTables old.tables tables r (λ d x. P (last_in d c) x) → Tells (λ x. P (view_of (seen_in old) c) x) k
   tells_last P c other asks =
       tells (λ d x. P (last_in d c) x) (λ x. P (view_of (seen_in old) c) x) asks
-      (λ x kept is. subst (λ v. P v x) (sym (viewed_last db kept old.judging c (elsewhere_still old.judging c other))) is)
+      (λ x kept is. subst (λ v. P v x) (sym (viewed_last db kept old.judging c (elsewhere_still old.judging c (subst (λ j. IsElsewhere j c) is_cleared other)))) is)
 
   -- and of its working view, while it is
-  pub tells_beside : (P : View → T → Type 0) (c : ℕ) (m : Judgement) → cleared old.judging ≡ Open m → m.code ≡ c → AsksTables old.tables tables r (λ d x. Beside d m (λ w. P w x))
-      → Reads (seen_in old) (seen_in now) r (λ x. P (view_of (seen_in old) c) x)
+  pub tells_beside : (P : View → T → Type 0) (c : ℕ) (m : Judgement) → k ≡ Open m → m.code ≡ c → AsksTables old.tables tables r (λ d x. Beside d m (λ w. P w x))
+      → Tells (λ x. P (view_of (seen_in old) c) x) k
   tells_beside P c m is own asks =
-      store_reads _ _ _ _ old.judging _ _ r (λ d x. Beside d m (λ w. P w x)) (λ x. P (view_of (seen_in old) c) x) asks.asks asks.tallies
+      subst (Tells (λ x. P (view_of (seen_in old) c) x)) (sym is_cleared)
+      (store_reads _ _ _ _ old.judging _ _ r (λ d x. Beside d m (λ w. P w x)) (λ x. P (view_of (seen_in old) c) x) asks.asks asks.tallies
       (λ h kept so. subst (λ a. AreSo a (db.trees receiveds)) (sym asks.at_hand) so)
-      (λ x stood right. by_judging old.judging (open_still old.judging m is) stood.beside x right)
+      (λ x stood right. by_judging old.judging (open_still old.judging m (sym is_cleared ∙ is)) stood.beside x right))
     where
       by_judging : (j : Judging) → j ≡ Open m → StandsBeside db j → (x : T) → Beside db m (λ w. P w x) → P (viewed (progress_of j) (content_in db.trees (working_of db j)) c) x
       by_judging j same beside x right =
           subst (λ k. P (viewed (progress_of k) (content_in db.trees (working_of db k)) c) x) (sym same)
           (subst (λ v. P v x) (sym (viewed_here db m c own)) (right (view_made db m) (subst (StandsBeside db) same beside).makes))
+
+-- ---- what is read of the board
+
+-- how many files wait above them
+pub held_so : (db : Database) (c n : ℕ) → n ≡ held_in (db.trees receiveds) c → n ≡ count_above (files_in (db.trees receiveds)) c (reached (board_of db) c)
+held_so db c n is = is ∙ ap (count_above (files_in (db.trees receiveds)) c) (sym (board_reads (db.trees receiveds) (db.trees versions) c).reached)
+
+-- the item at a key after a volume that is reached
+pub at_so : (db : Database) → IsKept db → (c volume : ℕ) (k : Key) (i : Option Item)
+    → (volume ≤ reached_in (db.trees receiveds) c → i ≡ map.get (view_in (db.trees versions) c volume).items k) → IsItemAt (board_of db) c volume k i
+at_so db kept c volume k i is le =
+    let within = subst (λ n. volume ≤ n) (board_reads (db.trees receiveds) (db.trees versions) c).reached le in
+    is within ∙ ap (λ v. map.get v.items k) (sym (board_view db kept c volume within))

@@ -106,6 +106,16 @@ module _ (db : Database) (kept : IsKept db) (j : Judgement) where
   pub taken_turns : (k : Key) → is_touched j.changes k ≡ true → Turns db j (with_changes j (with_taken j.changes k)) (λ w. without_key w k)
   taken_turns k noted w makes = record { made = changes_make.taken last j.changes w makes.made k noted; told = record { told = makes.told.told } }
 
+-- keys that pass a test and aren't used by changes
+left_entries : (s : View) (p : Item → Bool) (es : List (Key × Item)) → list_any (λ e. p e.1 && untouched s e.0) es ≡ list_any (untouched s) (map_of (λ e. e.0) (filter (λ e. p e.1) es))
+left_entries s p [] = refl
+left_entries s p (e ∷ es) = by_test (left_entries s p es) (p e.1)
+  where
+    by_test : list_any (λ e. p e.1 && untouched s e.0) es ≡ list_any (untouched s) (map_of (λ e. e.0) (filter (λ e. p e.1) es)) → (b : Bool)
+        → ((b && untouched s e.0) || list_any (λ e. p e.1 && untouched s e.0) es) ≡ list_any (untouched s) (map_of (λ e. e.0) (cond b (e ∷ filter (λ e. p e.1) es) (filter (λ e. p e.1) es)))
+    by_test behind true = ap (λ b. untouched s e.0 || b) behind
+    by_test behind false = behind
+
 -- ---- what it answers
 
 module _ (db : Database) (j : Judgement) (w : View) (makes : Makes db j w) where
@@ -170,19 +180,7 @@ module _ (db : Database) (j : Judgement) (w : View) (makes : Makes db j w) where
 
   -- what of the last view passes a test and isn't passed over
   left_with : IsLawfulView v → (p : Item → Bool) → list_any (λ e. p e.1 && leaves (Some j.changes) (Some e.0)) (entries v) ≡ any_untouched s (keys_with p v)
-  left_with lawful p = any_same _ _ (entries v) (λ e there. ap (λ b. p e.1 && b) (left_alone lawful e there)) ∙ by_entries (entries v)
-    where
-      by_entries : (es : List (Key × Item)) → list_any (λ e. p e.1 && untouched s e.0) es ≡ list_any (untouched s) (map_of (λ e. e.0) (filter (λ e. p e.1) es))
-      by_entries [] = refl
-      by_entries (e ∷ es) = by_test (p e.1) refl
-        where
-          by_test : (b : Bool) → p e.1 ≡ b → ((p e.1 && untouched s e.0) || list_any (λ e. p e.1 && untouched s e.0) es) ≡ list_any (untouched s) (map_of (λ e. e.0) (filter (λ e. p e.1) (e ∷ es)))
-          by_test true is =
-              (λ i. (is i && untouched s e.0) || by_entries es i)
-              ∙ sym (ap (λ b. list_any (untouched s) (map_of (λ (f : Key × Item). f.0) (cond b (e ∷ filter (λ f. p f.1) es) (filter (λ f. p f.1) es)))) is)
-          by_test false is =
-              (λ i. (is i && untouched s e.0) || by_entries es i)
-              ∙ sym (ap (λ b. list_any (untouched s) (map_of (λ (f : Key × Item). f.0) (cond b (e ∷ filter (λ f. p f.1) es) (filter (λ f. p f.1) es)))) is)
+  left_with lawful p = any_same _ _ (entries v) (λ e there. ap (λ b. p e.1 && b) (left_alone lawful e there)) ∙ left_entries s p (entries v)
 
   pub approved_on_beside : IsLawfulView v → (usrn : ℕ) (lang : Option Lang) → approved_on w usrn lang
       ≡ (list_any (is_left_on usrn lang (Some j.changes)) (entries v) || approved_on s usrn lang)

@@ -11,6 +11,7 @@ impl<S: Alter> Inbox for Store<S> {
     }
 
     fn receive(&mut self, code: Code, volume: Volume, bytes: &[u8]) -> Result<(), ShelfFault> {
+        let _number = volume.number();
         self.judging.clear();
         self.tables.receive(code, volume, bytes)
     }

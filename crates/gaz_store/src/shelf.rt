@@ -128,8 +128,18 @@ impl<S: Alter> Shelf for Store<S> {
     }
 
     fn keep(&mut self) -> Result<(), ShelfFault> {
-        self.judging = Judging::Broken;
-        Err(self.tables.fail())
+        match replace(&mut self.judging, Judging::Broken) {
+            Judging::Open(judgement) => {
+                match self.tables.apply(judgement.code, &judgement.changes) {
+                    Ok(()) => {
+                        self.judging = Judging::Idle;
+                        Ok(())
+                    }
+                    Err(fault) => Err(fault),
+                }
+            }
+            _ => Err(self.tables.fail()),
+        }
     }
 
     fn abandon(&mut self) -> Result<(), ShelfFault> {

@@ -1,0 +1,373 @@
+-- What a store's calls tell of it as a keeper that make and end a judgement, and that write without one.
+use Rattle.std.proofs.Common.{◌≡◌, ◌⊎◌, ◌∙◌, ◌+◌, ◌≤◌, inl, inr, ℕ, List, Result, Ok, Err, OnErr, OnOk, arith, refl, sym, ap, subst, le_refl}
+use Rattle.std.specs.Prelude.{⊤, IsSome, Option, None, Some}
+use Rattle.std.specs.FinMap as finite
+use Rattle.std.specs.Option.{option_map_or}
+use Rattle.gaz_overlay.specs.declared.touch.Touch.{Touch}
+use Rattle.sqlite.specs.Effect.{Database}
+use Rattle.sqlite.specs.Held.{state}
+use Rattle.sqlite.specs.State.{State}
+use Rattle.sqlite_trees.specs.Tree.{Trees}
+use Rattle.sqlite_trees.specs.declared.store.Store.{Ghosts}
+use Rattle.gaz_records.specs.Keys.{key_cmp}
+use Rattle.gaz_records.specs.declared.key.Key.{Key}
+use Rattle.gaz_views.proofs.Lawful.{lawful_empty}
+use Rattle.gaz_views.specs.Lawful.{IsLawfulView}
+use Rattle.gaz_views.specs.View.{View, empty_view}
+use Rattle.gaz_views.specs.declared.verdict.Verdict.TheVariants as verdict
+use Rattle.gaz_overlay.specs.Changes.{no_changes, stood_in}
+use Rattle.gaz_overlay.specs.Over.{Make}
+use Rattle.gaz_overlay.specs.Rows.{AreTold}
+use Rattle.gaz_overlay.specs.declared.touch.Stood.TheVariants.{Never, Since}
+use Rattle.gaz_overlay.proofs.Laid.{nothing}
+use Rattle.gaz_overlay.proofs.Making.{changes_make}
+use Rattle.gaz_shelf.specs.Board as board
+use Rattle.gaz_shelf.specs.Keeper as keeper
+use Rattle.gaz_shelf.specs.Keeper.{Content, Enters, Goes, IsAtHand, IsLawful, IsNew, IsNotOpen, after_abandon, after_begin, after_keep, after_skip, after_stop, with_judgement, with_received, with_working}
+use Rattle.gaz_shelf.specs.declared.fault.ShelfFault.{ShelfFault}
+use Rattle.gaz_tables.specs.Schema.{receiveds, versions}
+use Rattle.gaz_kept.specs.Contents.{board_of, content_in}
+use Rattle.gaz_kept.specs.Files.{files_in, reached_in}
+use Rattle.gaz_kept.specs.Keeping.{Applied, IsToKeep}
+use Rattle.gaz_kept.specs.Kept.{IsKept}
+use Rattle.gaz_kept.specs.LastViews.{last_in}
+use Rattle.gaz_kept.specs.Stands.{Stands, next_in}
+use Rattle.gaz_kept.specs.Versions.{histories_in}
+use Rattle.gaz_kept.proofs.Boards.{board_reads}
+use Rattle.gaz_kept.proofs.KeepStands.{keep_stands}
+use Rattle.gaz_store.specs.Altering.{Alters, Writes}
+use Rattle.gaz_store.specs.Asking.{Asks, AsksTables, Fails, IsAnyway, Tallies}
+use Rattle.gaz_store.specs.Beside.{Makes, Turns}
+use Rattle.gaz_store.specs.Remembered.{AreSo, Remembered}
+use Rattle.gaz_store.specs.Seen.{IsUnharmed, MayLeave, StandsFor, seen_of}
+use Rattle.gaz_store.specs.Store.{IsUnderWay, StoreStands, cleared, progress_of, seen_beside, seen_in, view_made, working_of}
+use Rattle.gaz_store.specs.Writing.{AppliesNext, Comes, IsNewIn, IsNextIn, RejectsNext, WhereSo}
+use Rattle.gaz_store.specs.declared.judgement.Judgement.{Judgement}
+use Rattle.gaz_store.specs.declared.progress.Judging.{Judging}
+use Rattle.gaz_store.specs.declared.progress.Judging.TheVariants.{Idle, Open, Broken}
+use Rattle.gaz_store.specs.declared.store.Store.{Store}
+use Rattle.gaz_store.specs.declared.tables.Tables.{Tables}
+use Rattle.gaz_store.proofs.Seeing.{asks_nothing}
+use Rattle.gaz_store.proofs.Entering.{receive_enters, skip_enters}
+use Rattle.gaz_store.proofs.StoreReads.{left_cleared, not_broken, on_ok_all}
+use Rattle.gaz_store.proofs.LawfulViews.{content_lawful, last_is, view_lawful}
+
+-- ---- a judgement is given up, or begins
+
+pub goes_idle : (s : State) (a : Remembered) (j : Judging) (f : ℕ)
+    → Goes (seen_beside s a j f) (seen_beside s a Idle f) (Ok (tt {0})) ⊤ (after_abandon (content_in s.now.trees (working_of s.now j))) None keeper.Idle
+goes_idle s a j f = record {
+  harm = λ h. h;
+  stands = λ stood ask h. record {
+    tables = record { kept = stood.tables.kept; so = stood.tables.so; lawful = record { views = stood.tables.lawful.views; working = lawful_empty } };
+    beside = tt;
+  };
+  done = λ stood ask h. refl;
+  undone = λ stood ask h. tt;
+  on = refl;
+  broken = tt;
+  counts = record { kept = le_refl f; store = tt };
+  leaves = λ sound ask k l. l;
+  committed = λ stood ask h. tt;
+}
+
+told_nothing : (rows : _) → AreTold no_changes rows
+told_nothing rows = record { told = λ k volume is. absurd (never_since k volume is) }
+  where
+    never_since : (k : Key) (volume : ℕ) → stood_in no_changes.touched k ≡ Since volume → ⊥
+    never_since k volume is =
+        let none : Never ≡ Since volume = sym (ap (λ o. option_map_or (λ (t : Touch). t.stood) o Never) (finite.get-empty key_cmp k)) ∙ is in
+        cc
+
+module _ (s : State) (a : Remembered) (j : Judging) (f c : ℕ) where
+  abbrev db : Database
+  db = s.now
+
+  made_is : view_made db (record { code = c; changes = no_changes }) ≡ last_in db c
+  made_is = nothing (last_in db c)
+
+  pub goes_open : Goes (seen_beside s a j f) (seen_beside s a (Open (record { code = c; changes = no_changes })) f) (Ok (tt {0})) (IsAtHand (content_in db.trees (working_of db j)) c)
+      (after_begin (content_in db.trees (working_of db j)) c) None (keeper.Open c)
+  goes_open = record {
+    harm = λ h. h;
+    stands = λ stood ask h. record {
+      tables = record {
+        kept = stood.tables.kept;
+        so = stood.tables.so;
+        lawful = content_lawful db stood.tables.kept _ (subst IsLawfulView (sym made_is) (view_lawful db stood.tables.kept c (reached_in (db.trees receiveds) c)));
+      };
+      beside = record {
+        at_hand = ask;
+        makes = record { made = subst (Make (last_in db c) no_changes) (sym made_is) (changes_make.nothing (last_in db c)); told = told_nothing (histories_in (db.trees versions) c) };
+      };
+    };
+    done = λ stood ask h. ap (content_in db.trees) (made_is ∙ sym (last_is db stood.tables.kept c));
+    undone = λ stood ask h. tt;
+    on = refl;
+    broken = tt;
+    counts = record { kept = le_refl f; store = tt };
+    leaves = λ sound ask k l. l;
+    committed = λ stood ask h. tt;
+  }
+
+-- ---- a change
+
+-- what may be left doesn't grow
+stays : {T : Type 0} (old new : State) (r : Result T ShelfFault) (P : Database → T → Type 0) → Asks old new r P → (IsUnharmed old → IsKept old.now) → (k : Content) → MayLeave new k → MayLeave old k
+stays old new r P asks kept k l =
+    let s = asks.leaves (λ h. (kept h).tables) in
+    record {
+      clean = omega (arith, s.clean, l.clean);
+      trees = l.trees;
+      left = elim (s.crash l.clean l.trees l.left) [ inl was ↦ was | inr never ↦ absurd never ];
+      content = l.content;
+    }
+
+module _ (old new : State) (a b : Remembered) (m n : Judgement) (f g : ℕ) (becomes : View → View) (lawful : (w : View) → IsLawfulView w → IsLawfulView (becomes w))
+    (code : n.code ≡ m.code) (asks : Asks old new (Ok (tt {0})) (λ db x. Turns db m n becomes)) (tallies : Tallies f g (Ok (tt {0}))) (same : b ≡ a) where
+  abbrev w : View
+  w = view_made old.now m
+
+  turned : StoreStands old a (Open m) → IsUnharmed new → Makes old.now n (becomes w)
+  turned stood h = asks.right h stood.tables.kept w stood.beside.makes
+
+  standing : StoreStands old a (Open m) → IsUnharmed new → (db : Database) → old.now ≡ db
+      → (IsKept db) × (AreSo b (db.trees receiveds)) × (IsLawful (content_in db.trees (view_made db n))) × (IsUnderWay db n)
+  standing stood h d0 now =
+      subst (λ d. (IsKept d) × (AreSo b (d.trees receiveds)) × (IsLawful (content_in d.trees (view_made d n))) × (IsUnderWay d n)) now (
+        stood.tables.kept,
+        subst (λ r. AreSo r (old.now.trees receiveds)) (sym same) stood.tables.so,
+        content_lawful old.now stood.tables.kept _ (subst IsLawfulView (turned stood h).made.is_laid (lawful w stood.tables.lawful.working)),
+        record {
+          at_hand = subst (IsAtHand (content_in old.now.trees empty_view)) (sym code) stood.beside.at_hand;
+          makes = subst (Makes old.now n) (turned stood h).made.is_laid (turned stood h);
+        },
+      )
+
+  pub goes_on : Goes (seen_beside old a (Open m) f) (seen_beside new b (Open n) g) (Ok (tt {0})) ⊤ (with_working (content_in old.now.trees w) (becomes w)) None (keeper.Open m.code)
+  goes_on = record {
+    harm = asks.harm;
+    stands = λ stood ask h.
+        let s = standing stood h new.now (sym (asks.rests h stood.tables.kept.tables)) in
+        record { tables = record { kept = s.0; so = s.1; lawful = s.2 }; beside = s.3 };
+    done = λ stood ask h.
+        ap (λ (db : Database). content_in db.trees (view_made db n)) (asks.rests h stood.tables.kept.tables)
+        ∙ ap (content_in old.now.trees) (sym (turned stood h).made.is_laid);
+    undone = λ stood ask h. tt;
+    on = ap keeper.Open code;
+    broken = tt;
+    counts = record { kept = tallies.kept; store = tt };
+    leaves = λ sound ask k l. stays old new _ _ asks (λ h. (sound h).tables.kept) k l;
+    committed = λ stood ask h. tt;
+  }
+
+-- a fault breaks the judgement
+pub goes_wrong : {T A : Type 0} (old new : State) (a b : Remembered) (j : Judging) (f g : ℕ) (e : ShelfFault) (one : Result A ShelfFault) (P : Database → A → Type 0) (becomes : Content) (after : keeper.Progress)
+    → Asks old new one P → Tallies {T = T} f g (Err e) → b ≡ a
+    → Goes {T = T} (seen_beside old a j f) (seen_beside new b Broken g) (Err e) ⊤ becomes None after
+goes_wrong {T} old new a b j f g e one P becomes after asks tallies same = record {
+  harm = asks.harm;
+  stands = λ stood ask h.
+      let s = standing stood h new.now (sym (asks.rests h stood.tables.kept.tables)) in
+      record { tables = record { kept = s.0; so = s.1; lawful = content_lawful new.now s.0 empty_view lawful_empty }; beside = tt };
+  done = λ stood ask h. tt;
+  undone = λ stood ask h. ap (λ (db : Database). content_in db.trees empty_view) (asks.rests h stood.tables.kept.tables);
+  on = tt;
+  broken = refl;
+  counts = record { kept = tallies.kept; store = tallies.store };
+  leaves = λ sound ask k l. stays old new one P asks (λ h. (sound h).tables.kept) k l;
+  committed = λ stood ask h. tt;
+}
+  where
+    standing : StoreStands old a j → IsUnharmed new → (db : Database) → old.now ≡ db → (IsKept db) × (AreSo b (db.trees receiveds))
+    standing stood h d0 now = subst (λ d. (IsKept d) × (AreSo b (d.trees receiveds))) now (stood.tables.kept, subst (λ r. AreSo r (old.now.trees receiveds)) (sym same) stood.tables.so)
+
+-- ---- a judgement is kept
+
+module _ (old new : State) (a b : Remembered) (m : Judgement) (f g : ℕ) (r : Result (Unit {0}) ShelfFault)
+    (alters : Alters old new r (WhereSo a (AppliesNext m.code m.changes))) (tallies : Tallies f g r)
+    (at_hand : IsUnharmed new → IsKept old.now → AreSo a (old.now.trees receiveds) → IsNextIn m.code old.now → AreSo b (new.now.trees receiveds)) where
+  abbrev worked : View
+  worked = view_made old.now m
+
+  abbrev becomes : Content
+  becomes = with_judgement (content_in old.now.trees worked) m.code (record { verdict = verdict.Applied; view = worked })
+
+  abbrev Stood : Type 0
+  Stood = StoreStands old a (Open m)
+
+  kept_so : Stood → (db : Database) → WhereSo a (AppliesNext m.code m.changes) old.now db → Stands db empty_view becomes
+  kept_so stood db applies =
+      keep_stands m.code (next_in old.now m.code) m.changes worked old.now db
+      (record { kept = stood.tables.kept; next = refl; at_hand = stood.beside.at_hand; made = stood.beside.makes.made; told = stood.beside.makes.told })
+      (applies stood.tables.kept stood.tables.so)
+
+  is_next : Stood → IsNextIn m.code old.now
+  is_next stood =
+      subst (λ n. IsSome (finite.get (files_in (old.now.trees receiveds)) (m.code, n + 1)))
+      (board_reads (old.now.trees receiveds) (old.now.trees versions) m.code).reached stood.beside.at_hand
+
+  stands_so : Stood → IsUnharmed new → (r : Result (Unit {0}) ShelfFault) → OnOk r (WhereSo a (AppliesNext m.code m.changes) old.now new.now) → OnErr r (new.now ≡ old.now) → StandsFor new b empty_view
+  stands_so stood h (Ok x) applies same =
+      let s = kept_so stood new.now applies in
+      record { kept = s.kept; so = at_hand h stood.tables.kept stood.tables.so (is_next stood); lawful = content_lawful new.now s.kept empty_view lawful_empty }
+  stands_so stood h (Err e) applies same =
+      let kept = subst IsKept (sym same) stood.tables.kept in
+      record { kept = kept; so = at_hand h stood.tables.kept stood.tables.so (is_next stood); lawful = content_lawful new.now kept empty_view lawful_empty }
+
+  stands : Stood → IsUnharmed new → StandsFor new b empty_view
+  stands stood h = stands_so stood h r (alters.done h stood.tables.kept.tables) (alters.undone h stood.tables.kept.tables)
+
+  may_be : (IsUnharmed old → Stood) → (k : Content) → MayLeave new k → MayLeave old k ⊎ (IsUnharmed old × (k ≡ after_stop becomes))
+  may_be sound k l =
+      let s = alters.leaves (λ h. (sound h).tables.kept.tables) in
+      elim (s.crash l.clean l.trees l.left) [
+        | inl was ↦ inl (record { clean = omega (arith, s.clean, l.clean); trees = l.trees; left = was; content = l.content })
+        | inr made ↦ inr (made.unharmed, l.content ∙ ap (λ t. content_in t empty_view) made.shown ∙ (kept_so (sound made.unharmed) made.db made.becomes).content)
+      ]
+
+  pub goes_kept : r ≡ Ok (tt {0}) → Goes (seen_beside old a (Open m) f) (seen_beside new b Idle g) (Ok (tt {0})) ⊤ becomes (Some becomes) keeper.Idle
+  goes_kept is = record {
+    harm = alters.harm;
+    stands = λ stood ask h. record { tables = stands stood h; beside = tt };
+    done = λ stood ask h. (kept_so stood new.now (done stood h)).content;
+    undone = λ stood ask h. tt;
+    on = refl;
+    broken = tt;
+    counts = record { kept = tallies.kept; store = tt };
+    leaves = λ sound ask k l. may_be sound k l;
+    committed = λ stood ask h k l.
+        l.content ∙ ap (λ t. content_in t empty_view) (subst (λ q. OnOk q ((trees : Trees) → new.may_leave trees → trees ≡ new.now.trees)) is (alters.committed h stood.tables.kept.tables) l.trees l.left)
+        ∙ (kept_so stood new.now (done stood h)).content;
+  }
+    where
+      done : Stood → IsUnharmed new → WhereSo a (AppliesNext m.code m.changes) old.now new.now
+      done stood h = subst (λ q. OnOk q (WhereSo a (AppliesNext m.code m.changes) old.now new.now)) is (alters.done h stood.tables.kept.tables)
+
+  pub goes_not_kept : (e : ShelfFault) → r ≡ Err e → Goes {T = Unit {0}} (seen_beside old a (Open m) f) (seen_beside new b Broken g) (Err e) ⊤ becomes (Some becomes) keeper.Idle
+  goes_not_kept e is = record {
+    harm = alters.harm;
+    stands = λ stood ask h. record { tables = stands stood h; beside = tt };
+    done = λ stood ask h. tt;
+    undone = λ stood ask h. ap (λ (db : Database). content_in db.trees empty_view) (subst (λ q. OnErr q (new.now ≡ old.now)) is (alters.undone h stood.tables.kept.tables));
+    on = tt;
+    broken = refl;
+    counts = record { kept = tallies.kept; store = (subst (λ q. Tallies f g q) is tallies).store };
+    leaves = λ sound ask k l. may_be sound k l;
+    committed = λ stood ask h. tt;
+  }
+
+-- ---- without a judgement
+
+-- what is told of the tables, of the store
+pub enters_beside : {T : Type 0} (old new : State) (a b : Remembered) (j : Judging) (f g : ℕ) (r : Result T ShelfFault) (Asked : View → Type 0) (makes : View → Content)
+    → IsNotOpen (progress_of j)
+    → Enters (seen_of old a (progress_of j) empty_view f) (seen_of new b (progress_of (cleared j)) empty_view g) r (Asked empty_view) (makes empty_view)
+    → Enters (seen_beside old a j f) (seen_beside new b (cleared j) g) r (Asked (working_of old.now j)) (makes (working_of old.now j))
+enters_beside old new a b (Open m) f g r Asked makes not e = absurd (not m.code refl)
+enters_beside old new a b Idle f g r Asked makes not e = record {
+  harm = e.harm;
+  stands = λ stood ask h. record { tables = e.stands stood.tables ask h; beside = tt };
+  done = λ stood ask h. e.done stood.tables ask h;
+  undone = λ stood ask h. e.undone stood.tables ask h;
+  progress = e.progress;
+  cleared = e.cleared;
+  counts = record { kept = e.counts.kept; store = e.counts.store };
+  leaves = λ sound ask. e.leaves (λ h. (sound h).tables) ask;
+  committed = λ stood ask h. e.committed stood.tables ask h;
+}
+enters_beside old new a b Broken f g r Asked makes not e = record {
+  harm = e.harm;
+  stands = λ stood ask h. record { tables = e.stands stood.tables ask h; beside = tt };
+  done = λ stood ask h. e.done stood.tables ask h;
+  undone = λ stood ask h. e.undone stood.tables ask h;
+  progress = e.progress;
+  cleared = e.cleared;
+  counts = record { kept = e.counts.kept; store = e.counts.store };
+  leaves = λ sound ask. e.leaves (λ h. (sound h).tables) ask;
+  committed = λ stood ask h. e.committed stood.tables ask h;
+}
+
+-- ---- the calls of a store
+
+module _ {S : Type 0} {store : Ghosts S} (old : Store S store) where
+  abbrev s : State
+  s = state store old.tables.conn
+
+  pub abandons : Goes (seen_in old) (seen_in (record old { judging = Idle })) (Ok (tt {0})) ⊤ (after_abandon (seen_in old).content) None keeper.Idle
+  abandons = goes_idle s old.tables.at_hand old.judging old.tables.failures
+
+  pub begins : (c : ℕ) (j : Judgement) → j.code ≡ c → j.changes ≡ no_changes
+      → Goes (seen_in old) (seen_in (record old { judging = Open j })) (Ok (tt {0})) (IsAtHand (seen_in old).content c) (after_begin (seen_in old).content c) None (keeper.Open c)
+  begins c j code none =
+      let same : record { code = c; changes = no_changes } ≡ j = λ i. record { code = sym code i; changes = sym none i } in
+      subst (λ k. Goes (seen_in old) (seen_in (record old { judging = Open k })) (Ok (tt {0})) (IsAtHand (seen_in old).content c) (after_begin (seen_in old).content c) None (keeper.Open c)) same
+      (goes_open s old.tables.at_hand old.judging old.tables.failures c)
+
+  -- the changes turn
+  pub turns : (m n : Judgement) (t : Tables S store) (r : Result (Unit {0}) ShelfFault) (becomes : View → View) → old.judging ≡ Open m → n.code ≡ m.code
+      → ((w : View) → IsLawfulView w → IsLawfulView (becomes w))
+      → AsksTables old.tables t r (λ db x. Turns db m n becomes) → r ≡ Ok (tt {0})
+      → Goes (seen_in old) (seen_in (record old { tables = t; judging = Open n })) (Ok (tt {0})) ⊤ (with_working (seen_in old).content (becomes (seen_in old).content.working)) None (seen_in old).progress
+  turns m n t r becomes is code lawful asks ok =
+      let a = subst (λ q. AsksTables old.tables t q (λ db x. Turns db m n becomes)) ok asks in
+      subst (λ k. Goes (seen_beside s old.tables.at_hand k old.tables.failures) (seen_in (record old { tables = t; judging = Open n })) (Ok (tt {0})) ⊤
+      (with_working (content_in s.now.trees (working_of s.now k)) (becomes (working_of s.now k))) None (progress_of k)) (sym is)
+      (goes_on s (state store t.conn) old.tables.at_hand t.at_hand m n old.tables.failures t.failures becomes lawful code a.asks a.tallies a.at_hand)
+
+  -- a fault of the tables breaks the judgement
+  pub breaks : {A T : Type 0} (t : Tables S store) (r : Result A ShelfFault) (e : ShelfFault) (P : Database → A → Type 0) (becomes : Content) (after : keeper.Progress)
+      → AsksTables old.tables t r P → r ≡ Err e
+      → Goes {T = T} (seen_in old) (seen_in (record old { tables = t; judging = Broken })) (Err e) ⊤ becomes None after
+  breaks {A} {T} t r e P becomes after asks is =
+      let tallies = subst (λ q. Tallies old.tables.failures t.failures q) is asks.tallies in
+      goes_wrong {T = T} s (state store t.conn) old.tables.at_hand t.at_hand old.judging old.tables.failures t.failures e r P becomes after asks.asks
+      (record { kept = tallies.kept; store = tallies.store }) asks.at_hand
+
+  -- so does one of its own
+  pub breaks_itself : {T : Type 0} (t : Tables S store) (e : ShelfFault) (becomes : Content) (after : keeper.Progress) → Fails old.tables t e
+      → Goes {T = T} (seen_in old) (seen_in (record old { tables = t; judging = Broken })) (Err e) ⊤ becomes None after
+  breaks_itself {T} t e becomes after fails =
+      let done : Result (Unit {0}) ShelfFault = Ok (tt {0}) in
+      goes_wrong {T = T} s (state store t.conn) old.tables.at_hand t.at_hand old.judging old.tables.failures t.failures e done IsAnyway becomes after
+      (subst (λ h. Asks s (state store h) done IsAnyway) (sym fails.conn) (asks_nothing s done IsAnyway (λ h kept. tt)))
+      (record { kept = fails.kept; store = fails.counted }) fails.at_hand
+
+  -- the judgement is kept
+  pub keeps : (m : Judgement) (t : Tables S store) (r : Result (Unit {0}) ShelfFault) → old.judging ≡ Open m
+      → Writes old.tables t r (IsNextIn m.code) (WhereSo old.tables.at_hand (AppliesNext m.code m.changes)) → r ≡ Ok (tt {0})
+      → Goes (seen_in old) (seen_in (record old { tables = t; judging = Idle })) (Ok (tt {0})) ⊤ (after_keep (seen_in old).progress (seen_in old).content)
+      (Some (after_keep (seen_in old).progress (seen_in old).content)) keeper.Idle
+  keeps m t r is writes ok =
+      subst (λ k. Goes (seen_beside s old.tables.at_hand k old.tables.failures) (seen_in (record old { tables = t; judging = Idle })) (Ok (tt {0})) ⊤
+      (after_keep (progress_of k) (content_in s.now.trees (working_of s.now k))) (Some (after_keep (progress_of k) (content_in s.now.trees (working_of s.now k)))) keeper.Idle) (sym is)
+      (goes_kept s (state store t.conn) old.tables.at_hand t.at_hand m old.tables.failures t.failures r writes.alters writes.tallies writes.at_hand ok)
+
+  pub keeps_not : (m : Judgement) (t : Tables S store) (r : Result (Unit {0}) ShelfFault) (e : ShelfFault) → old.judging ≡ Open m
+      → Writes old.tables t r (IsNextIn m.code) (WhereSo old.tables.at_hand (AppliesNext m.code m.changes)) → r ≡ Err e
+      → Goes {T = Unit {0}} (seen_in old) (seen_in (record old { tables = t; judging = Broken })) (Err e) ⊤ (after_keep (seen_in old).progress (seen_in old).content)
+      (Some (after_keep (seen_in old).progress (seen_in old).content)) keeper.Idle
+  keeps_not m t r e is writes err =
+      subst (λ k. Goes {T = Unit {0}} (seen_beside s old.tables.at_hand k old.tables.failures) (seen_in (record old { tables = t; judging = Broken })) (Err e) ⊤
+      (after_keep (progress_of k) (content_in s.now.trees (working_of s.now k))) (Some (after_keep (progress_of k) (content_in s.now.trees (working_of s.now k)))) keeper.Idle) (sym is)
+      (goes_not_kept s (state store t.conn) old.tables.at_hand t.at_hand m old.tables.failures t.failures r writes.alters writes.tallies writes.at_hand e err)
+
+  -- a file comes
+  pub received : {T : Type 0} (t : Tables S store) (k : Judging) → k ≡ cleared old.judging → (r : Result T ShelfFault) (c v : ℕ) (bytes : List ℕ) → (1 ≤ v) × (v ≤ 999_999) → IsNotOpen (seen_in old).progress
+      → Writes old.tables t r (IsNewIn c v) (Comes c v bytes)
+      → Enters (seen_in old) (seen_in (record old { tables = t; judging = k })) r (IsNew (seen_in old).content c v) (with_received (seen_in old).content c v bytes)
+  received t k same r c v bytes range not writes =
+      subst (λ j. Enters (seen_in old) (seen_in (record old { tables = t; judging = j })) r (IsNew (seen_in old).content c v) (with_received (seen_in old).content c v bytes)) (sym same)
+      (enters_beside s (state store t.conn) old.tables.at_hand t.at_hand old.judging old.tables.failures t.failures r
+      (λ w. IsNew (content_in s.now.trees w) c v) (λ w. with_received (content_in s.now.trees w) c v bytes) not
+      (receive_enters old.tables t (progress_of old.judging) (progress_of (cleared old.judging)) empty_view r c v bytes range.0 range.1 writes (left_cleared old.judging) (on_ok_all r (not_broken old.judging))))
+
+  -- a volume is rejected
+  pub skipped : {T : Type 0} (t : Tables S store) (k : Judging) → k ≡ cleared old.judging → (r : Result T ShelfFault) (c place rule : ℕ) → rule ≤ 255 → IsNotOpen (seen_in old).progress
+      → Writes old.tables t r (IsNextIn c) (WhereSo old.tables.at_hand (RejectsNext c place rule))
+      → Enters (seen_in old) (seen_in (record old { tables = t; judging = k })) r (IsAtHand (seen_in old).content c) (after_skip (seen_in old).content c place rule)
+  skipped t k same r c place rule small not writes =
+      subst (λ j. Enters (seen_in old) (seen_in (record old { tables = t; judging = j })) r (IsAtHand (seen_in old).content c) (after_skip (seen_in old).content c place rule)) (sym same)
+      (enters_beside s (state store t.conn) old.tables.at_hand t.at_hand old.judging old.tables.failures t.failures r
+      (λ w. IsAtHand (content_in s.now.trees w) c) (λ w. after_skip (content_in s.now.trees w) c place rule) not
+      (skip_enters old.tables t (progress_of old.judging) (progress_of (cleared old.judging)) r c place rule small writes (left_cleared old.judging) (on_ok_all r (not_broken old.judging))))
