@@ -1,12 +1,11 @@
 -- Views of a store's tables are lawful.
-use Rattle.std.proofs.Common.{◌≡◌, ◌∙◌, ◌≤◌, ◌<◌, ◌⊎◌, ◌==◌, inl, inr, length, map, ℕ, Bool, true, false, cond, List, refl, sym, ap, subst, arith}
+use Rattle.std.proofs.Common.{◌≡◌, ◌∙◌, ◌≤◌, ◌<◌, ◌⊎◌, inl, inr, length, ℕ, true, false, List, refl, sym, ap, subst, arith}
 use Rattle.std.proofs.lemmas.Bool.{cases_lt}
 use Rattle.std.proofs.lemmas.List.{length-map}
 use Rattle.std.proofs.lemmas.Option.{slice_get_past}
-use Rattle.std.specs.Prelude.{Option, Some, None, is_some, option_map, unwrap_or, slice_get}
+use Rattle.std.specs.Prelude.{Option, Some, None, is_some, unwrap_or}
 use Rattle.std.specs.FinMap as finite
 use Rattle.sqlite.specs.Effect.{Database}
-use Rattle.sqlite.specs.Order.{Row}
 use Rattle.sqlite_rules.specs.Lists.{Has}
 use Rattle.gaz_records.proofs.KeyOrder.{keys_exact, keys_total}
 use Rattle.gaz_records.specs.Keys.{key_of}
@@ -24,12 +23,12 @@ use Rattle.gaz_kept.specs.Contents.{board_of, content_in}
 use Rattle.gaz_kept.specs.Files.{reached_in}
 use Rattle.gaz_kept.specs.Kept.{IsKept}
 use Rattle.gaz_kept.specs.LastViews.{last_in}
-use Rattle.gaz_kept.specs.Versions.{histories_in, history_in, item_in, living, number_in, view_in}
+use Rattle.gaz_kept.specs.Versions.{histories_in, history_in, view_in}
 use Rattle.gaz_kept.proofs.AtKeys.{item_held}
 use Rattle.gaz_kept.proofs.Boards.{board_reads}
 use Rattle.gaz_kept.proofs.Pairs.{in_set}
 use Rattle.gaz_kept.proofs.Statements.{born_later, history_of, item_of, its_custodian, read_from, some_same}
-use Rattle.gaz_kept.proofs.Views.{Holds, IsEntry, used_as, used_at}
+use Rattle.gaz_kept.proofs.Views.{IsEntry, used_as, used_at}
 
 -- each row of a custodian's histories has the key of its item
 own_key : (db : Database) → IsKept db → (c : ℕ) (h : HistoryRow) → Has (histories_in (db.trees versions) c) h → h.key ≡ key_of h.item

@@ -25,3 +25,4 @@ pub mod Receiving
 pub mod Noting
 pub mod StoreReads
 pub mod StoreGoes
+pub mod Beginning

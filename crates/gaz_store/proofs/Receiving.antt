@@ -23,7 +23,7 @@ use Rattle.gaz_store.specs.Altering.{Alters, AltersTables, Writes}
 use Rattle.gaz_store.specs.Asking.{Asks, Fails, Recalls, Tallies}
 use Rattle.gaz_store.specs.Remembered.{AreSo, OneJudged, OneMore, Recounts, Remembered}
 use Rattle.gaz_store.specs.Seen.{IsUnharmed}
-use Rattle.gaz_store.specs.Writing.{Comes, IsNewIn, IsNextIn, RejectsNext, WhereSo}
+use Rattle.gaz_store.specs.Writing.{Comes, IsNewIn, IsNextIn, WhereSo}
 use Rattle.gaz_store.specs.declared.tables.Tables.{Tables}
 use Rattle.gaz_store.proofs.Altering.{alters_not, alters_then}
 use Rattle.gaz_store.proofs.Recounting.{come_so, judged_so}
@@ -33,6 +33,10 @@ on_result : {T : Type 0} (r : Result T ShelfFault) (P Q P' Q' X : Type 0) → On
 on_result (Ok x) P Q P' Q' X a b a' b' f g = f a a'
 on_result (Err e) P Q P' Q' X a b a' b' f g = g b b'
 
+-- a custodian's next volume makes another database
+abbrev pub MakesNext : (ℕ → Database → Database → Type 0) → ℕ → Database → Database → Type 0
+MakesNext Makes c db after = Makes (next_in db c) db after
+
 -- how many volumes are judged
 abbrev pub Recalled : ℕ → Database → ℕ → Type 0
 Recalled c db n = n ≡ reached (board_of db) c
@@ -40,6 +44,11 @@ Recalled c db n = n ≡ reached (board_of db) c
 -- a volume is rejected
 abbrev pub RejectsAt : ℕ → ℕ → ℕ → ℕ → Database → Database → Type 0
 RejectsAt c volume place rule = Changes receiveds (Rejects c volume (pos place) rule)
+
+-- as rejected
+pub skip_judges : (c place rule : ℕ) → rule ≤ 255 → (db after : Database) → IsKept db → IsNextIn c db → RejectsAt c (next_in db c) place rule db after
+    → IsJudged c (reached_in (db.trees receiveds) c + 1) (Rejected place rule) (db.trees receiveds) (after.trees receiveds)
+skip_judges c place rule small db after kept there rejects = judges c place rule db after small kept there rejects
 
 module _ {S : Type 0} {store : Ghosts S} where
   abbrev at : Tables S store → State
@@ -78,14 +87,11 @@ module _ {S : Type 0} {store : Ghosts S} where
   -- the next volume of a custodian is judged so: where it was recalled which is next
   module _ {T : Type 0} (c : ℕ) (verdict : Verdict) (Makes : ℕ → Database → Database → Type 0)
       (judged : (db after : Database) → IsKept db → IsNextIn c db → Makes (next_in db c) db after → IsJudged c (reached_in (db.trees receiveds) c + 1) verdict (db.trees receiveds) (after.trees receiveds)) where
-    abbrev MakesNext : Database → Database → Type 0
-    MakesNext db after = Makes (next_in db c) db after
-
     judges_next : (old mid new : Tables S store) (r : Result T ShelfFault) (n next : ℕ) → next ≡ n + 1
         → Recalls old mid (Ok n) (Recalled c)
         → Alters (at mid) (at new) r (Makes next) → Tallies mid.failures new.failures r
         → OnOk r (Recounts c OneJudged mid.at_hand new.at_hand) → OnErr r (new.at_hand ≡ mid.at_hand)
-        → Writes old new r (IsNextIn c) (WhereSo old.at_hand MakesNext)
+        → Writes old new r (IsNextIn c) (WhereSo old.at_hand (MakesNext Makes c))
     judges_next old mid new r n next is_next recalls alters tallies noted same = record {
       alters = both;
       tallies = tallies_then old.failures mid.failures new.failures (Ok n) r recalls.tallies tallies;
@@ -103,13 +109,13 @@ module _ {S : Type 0} {store : Ghosts S} where
         which : IsUnharmed (at mid) → IsKept (at old).now → AreSo old.at_hand ((at old).now.trees receiveds) → next ≡ next_in (at old).now c
         which h kept so = is_next ∙ ap (λ m. m + 1) (recalls.asks.right h kept so ∙ reads (at old).now)
 
-        both : Alters (at old) (at new) r (WhereSo old.at_hand MakesNext)
-        both = alters_then (at old) (at mid) (at new) (Ok n) r (λ db m. AreSo old.at_hand (db.trees receiveds) → Recalled c db m) (Makes next) (WhereSo old.at_hand MakesNext) recalls.asks alters
+        both : Alters (at old) (at new) r (WhereSo old.at_hand (MakesNext Makes c))
+        both = alters_then (at old) (at mid) (at new) (Ok n) r (λ db m. AreSo old.at_hand (db.trees receiveds) → Recalled c db m) (Makes next) (WhereSo old.at_hand (MakesNext Makes c)) recalls.asks alters
             (λ h db makes kept so. subst (λ m. Makes m (at old).now db) (which h kept so) makes)
 
     pub judged_ok : (old mid noted new : Tables S store) (first : Result ℕ ShelfFault) (r : Result T ShelfFault) (x : T) (n next : ℕ) → next ≡ n + 1
         → Recalls old mid first (Recalled c) → first ≡ Ok n → AltersTables mid noted r (Makes next) → r ≡ Ok x
-        → new.conn ≡ noted.conn → new.failures ≡ noted.failures → Recounts c OneJudged noted.at_hand new.at_hand → Writes old new (Ok x) (IsNextIn c) (WhereSo old.at_hand MakesNext)
+        → new.conn ≡ noted.conn → new.failures ≡ noted.failures → Recounts c OneJudged noted.at_hand new.at_hand → Writes old new (Ok x) (IsNextIn c) (WhereSo old.at_hand (MakesNext Makes c))
     judged_ok old mid noted new first r x n next is_next recalls was alters is conn failures counts =
         let done : Result T ShelfFault = Ok x in
         let before = subst (λ r. Recalls old mid r (Recalled c)) was recalls in
@@ -120,16 +126,11 @@ module _ {S : Type 0} {store : Ghosts S} where
 
     pub judged_err : (old mid new : Tables S store) (first : Result ℕ ShelfFault) (r : Result T ShelfFault) (e : ShelfFault) (n next : ℕ) → next ≡ n + 1
         → Recalls old mid first (Recalled c) → first ≡ Ok n → AltersTables mid new r (Makes next) → r ≡ Err e
-        → Writes old new (Err e) (IsNextIn c) (WhereSo old.at_hand MakesNext)
+        → Writes {T = T} old new (Err e) (IsNextIn c) (WhereSo old.at_hand (MakesNext Makes c))
     judged_err old mid new first r e n next is_next recalls was alters is =
         let before = subst (λ r. Recalls old mid r (Recalled c)) was recalls in
         let here = subst (λ r. AltersTables mid new r (Makes next)) is alters in
         judges_next old mid new (Err e) n next is_next before here.alters here.tallies tt here.at_hand
-
-  -- as rejected
-  pub skip_judges : (c place rule : ℕ) → rule ≤ 255 → (db after : Database) → IsKept db → IsNextIn c db → RejectsAt c (next_in db c) place rule db after
-      → IsJudged c (reached_in (db.trees receiveds) c + 1) (Rejected place rule) (db.trees receiveds) (after.trees receiveds)
-  skip_judges c place rule small db after kept there rejects = judges c place rule db after small kept there rejects
 
   -- ---- a fault before anything is written
 

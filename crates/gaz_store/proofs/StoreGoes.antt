@@ -1,6 +1,6 @@
 -- What a store's calls tell of it as a keeper that make and end a judgement, and that write without one.
 use Rattle.std.proofs.Common.{◌≡◌, ◌⊎◌, ◌∙◌, ◌+◌, ◌≤◌, inl, inr, ℕ, List, Result, Ok, Err, OnErr, OnOk, arith, refl, sym, ap, subst, le_refl}
-use Rattle.std.specs.Prelude.{⊤, IsSome, Option, None, Some}
+use Rattle.std.specs.Prelude.{⊤, IsSome, None, Some}
 use Rattle.std.specs.FinMap as finite
 use Rattle.std.specs.Option.{option_map_or}
 use Rattle.gaz_overlay.specs.declared.touch.Touch.{Touch}
@@ -21,14 +21,12 @@ use Rattle.gaz_overlay.specs.Rows.{AreTold}
 use Rattle.gaz_overlay.specs.declared.touch.Stood.TheVariants.{Never, Since}
 use Rattle.gaz_overlay.proofs.Laid.{nothing}
 use Rattle.gaz_overlay.proofs.Making.{changes_make}
-use Rattle.gaz_shelf.specs.Board as board
 use Rattle.gaz_shelf.specs.Keeper as keeper
 use Rattle.gaz_shelf.specs.Keeper.{Content, Enters, Goes, IsAtHand, IsLawful, IsNew, IsNotOpen, after_abandon, after_begin, after_keep, after_skip, after_stop, with_judgement, with_received, with_working}
 use Rattle.gaz_shelf.specs.declared.fault.ShelfFault.{ShelfFault}
 use Rattle.gaz_tables.specs.Schema.{receiveds, versions}
-use Rattle.gaz_kept.specs.Contents.{board_of, content_in}
+use Rattle.gaz_kept.specs.Contents.{content_in}
 use Rattle.gaz_kept.specs.Files.{files_in, reached_in}
-use Rattle.gaz_kept.specs.Keeping.{Applied, IsToKeep}
 use Rattle.gaz_kept.specs.Kept.{IsKept}
 use Rattle.gaz_kept.specs.LastViews.{last_in}
 use Rattle.gaz_kept.specs.Stands.{Stands, next_in}
@@ -316,22 +314,24 @@ module _ {S : Type 0} {store : Ghosts S} (old : Store S store) where
       (goes_on s (state store t.conn) old.tables.at_hand t.at_hand m n old.tables.failures t.failures becomes lawful code a.asks a.tallies a.at_hand)
 
   -- a fault of the tables breaks the judgement
-  pub breaks : {A T : Type 0} (t : Tables S store) (r : Result A ShelfFault) (e : ShelfFault) (P : Database → A → Type 0) (becomes : Content) (after : keeper.Progress)
+  pub breaks : {A T : Type 0} (t : Tables S store) (k : Judging) → k ≡ Broken → (r : Result A ShelfFault) (e : ShelfFault) (P : Database → A → Type 0) (becomes : Content) (after : keeper.Progress)
       → AsksTables old.tables t r P → r ≡ Err e
-      → Goes {T = T} (seen_in old) (seen_in (record old { tables = t; judging = Broken })) (Err e) ⊤ becomes None after
-  breaks {A} {T} t r e P becomes after asks is =
+      → Goes {T = T} (seen_in old) (seen_in (record old { tables = t; judging = k })) (Err e) ⊤ becomes None after
+  breaks {A} {T} t k broken r e P becomes after asks is =
       let tallies = subst (λ q. Tallies old.tables.failures t.failures q) is asks.tallies in
-      goes_wrong {T = T} s (state store t.conn) old.tables.at_hand t.at_hand old.judging old.tables.failures t.failures e r P becomes after asks.asks
-      (record { kept = tallies.kept; store = tallies.store }) asks.at_hand
+      subst (λ j. Goes {T = T} (seen_in old) (seen_in (record old { tables = t; judging = j })) (Err e) ⊤ becomes None after) (sym broken)
+      (goes_wrong {T = T} s (state store t.conn) old.tables.at_hand t.at_hand old.judging old.tables.failures t.failures e r P becomes after asks.asks
+      (record { kept = tallies.kept; store = tallies.store }) asks.at_hand)
 
   -- so does one of its own
-  pub breaks_itself : {T : Type 0} (t : Tables S store) (e : ShelfFault) (becomes : Content) (after : keeper.Progress) → Fails old.tables t e
-      → Goes {T = T} (seen_in old) (seen_in (record old { tables = t; judging = Broken })) (Err e) ⊤ becomes None after
-  breaks_itself {T} t e becomes after fails =
+  pub breaks_itself : {T : Type 0} (t : Tables S store) (k : Judging) → k ≡ Broken → (e : ShelfFault) (becomes : Content) (after : keeper.Progress) → Fails old.tables t e
+      → Goes {T = T} (seen_in old) (seen_in (record old { tables = t; judging = k })) (Err e) ⊤ becomes None after
+  breaks_itself {T} t k broken e becomes after fails =
       let done : Result (Unit {0}) ShelfFault = Ok (tt {0}) in
-      goes_wrong {T = T} s (state store t.conn) old.tables.at_hand t.at_hand old.judging old.tables.failures t.failures e done IsAnyway becomes after
+      subst (λ j. Goes {T = T} (seen_in old) (seen_in (record old { tables = t; judging = j })) (Err e) ⊤ becomes None after) (sym broken)
+      (goes_wrong {T = T} s (state store t.conn) old.tables.at_hand t.at_hand old.judging old.tables.failures t.failures e done IsAnyway becomes after
       (subst (λ h. Asks s (state store h) done IsAnyway) (sym fails.conn) (asks_nothing s done IsAnyway (λ h kept. tt)))
-      (record { kept = fails.kept; store = fails.counted }) fails.at_hand
+      (record { kept = fails.kept; store = fails.counted }) fails.at_hand)
 
   -- the judgement is kept
   pub keeps : (m : Judgement) (t : Tables S store) (r : Result (Unit {0}) ShelfFault) → old.judging ≡ Open m
@@ -343,14 +343,16 @@ module _ {S : Type 0} {store : Ghosts S} (old : Store S store) where
       (after_keep (progress_of k) (content_in s.now.trees (working_of s.now k))) (Some (after_keep (progress_of k) (content_in s.now.trees (working_of s.now k)))) keeper.Idle) (sym is)
       (goes_kept s (state store t.conn) old.tables.at_hand t.at_hand m old.tables.failures t.failures r writes.alters writes.tallies writes.at_hand ok)
 
-  pub keeps_not : (m : Judgement) (t : Tables S store) (r : Result (Unit {0}) ShelfFault) (e : ShelfFault) → old.judging ≡ Open m
+  pub keeps_not : (m : Judgement) (t : Tables S store) (k : Judging) → k ≡ Broken → (r : Result (Unit {0}) ShelfFault) (e : ShelfFault) → old.judging ≡ Open m
       → Writes old.tables t r (IsNextIn m.code) (WhereSo old.tables.at_hand (AppliesNext m.code m.changes)) → r ≡ Err e
-      → Goes {T = Unit {0}} (seen_in old) (seen_in (record old { tables = t; judging = Broken })) (Err e) ⊤ (after_keep (seen_in old).progress (seen_in old).content)
+      → Goes {T = Unit {0}} (seen_in old) (seen_in (record old { tables = t; judging = k })) (Err e) ⊤ (after_keep (seen_in old).progress (seen_in old).content)
       (Some (after_keep (seen_in old).progress (seen_in old).content)) keeper.Idle
-  keeps_not m t r e is writes err =
-      subst (λ k. Goes {T = Unit {0}} (seen_beside s old.tables.at_hand k old.tables.failures) (seen_in (record old { tables = t; judging = Broken })) (Err e) ⊤
+  keeps_not m t k broken r e is writes err =
+      subst (λ j. Goes {T = Unit {0}} (seen_in old) (seen_in (record old { tables = t; judging = j })) (Err e) ⊤ (after_keep (seen_in old).progress (seen_in old).content)
+      (Some (after_keep (seen_in old).progress (seen_in old).content)) keeper.Idle) (sym broken)
+      (subst (λ k. Goes {T = Unit {0}} (seen_beside s old.tables.at_hand k old.tables.failures) (seen_in (record old { tables = t; judging = Broken })) (Err e) ⊤
       (after_keep (progress_of k) (content_in s.now.trees (working_of s.now k))) (Some (after_keep (progress_of k) (content_in s.now.trees (working_of s.now k)))) keeper.Idle) (sym is)
-      (goes_not_kept s (state store t.conn) old.tables.at_hand t.at_hand m old.tables.failures t.failures r writes.alters writes.tallies writes.at_hand e err)
+      (goes_not_kept s (state store t.conn) old.tables.at_hand t.at_hand m old.tables.failures t.failures r writes.alters writes.tallies writes.at_hand e err))
 
   -- a file comes
   pub received : {T : Type 0} (t : Tables S store) (k : Judging) → k ≡ cleared old.judging → (r : Result T ShelfFault) (c v : ℕ) (bytes : List ℕ) → (1 ≤ v) × (v ≤ 999_999) → IsNotOpen (seen_in old).progress

@@ -1,5 +1,5 @@
 -- What a store's call tells of it as a keeper, where it asks the tables.
-use Rattle.std.proofs.Common.{◌≡◌, ◌≢◌, ◌∙◌, ◌==◌, ◌⊎◌, inl, inr, ℕ, Bool, true, false, cond, Result, Ok, Err, IfOk, OnOk, arith, refl, sym, ap, subst, eq-eqb}
+use Rattle.std.proofs.Common.{◌≡◌, ◌≢◌, ◌∙◌, inl, inr, ℕ, cond, Result, Ok, Err, IfOk, OnOk, arith, refl, sym, ap, subst, eq-eqb}
 use Rattle.std.specs.Prelude.{◌≤◌, Option}
 use Rattle.std.specs.FinMap as map
 use Rattle.std.proofs.lemmas.Bool.{ne_eqb}
@@ -26,8 +26,8 @@ use Rattle.gaz_kept.specs.LastViews.{last_in}
 use Rattle.gaz_store.specs.Asking.{Asks, AsksTables, Recalls, Tallies}
 use Rattle.gaz_store.specs.Beside.{Beside}
 use Rattle.gaz_store.specs.Remembered.{AreSo, Remembered, held_in}
-use Rattle.gaz_store.specs.Seen.{IsUnharmed, StandsFor}
-use Rattle.gaz_store.specs.Store.{IsElsewhere, IsUnderWay, StandsBeside, StoreStands, cleared, progress_of, seen_beside, seen_in, view_made, working_of}
+use Rattle.gaz_store.specs.Seen.{IsUnharmed}
+use Rattle.gaz_store.specs.Store.{IsElsewhere, StandsBeside, StoreStands, cleared, progress_of, seen_beside, seen_in, view_made, working_of}
 use Rattle.gaz_store.specs.declared.judgement.Judgement.{Judgement}
 use Rattle.gaz_store.specs.declared.progress.Judging.{Judging}
 use Rattle.gaz_store.specs.declared.progress.Judging.TheVariants.{Idle, Open, Broken}
@@ -170,11 +170,16 @@ module _ {S : Type 0} {store : Ghosts S} {T : Type 0} (old : Store S store) (tab
           subst (λ k. P (viewed (progress_of k) (content_in db.trees (working_of db k)) c) x) (sym same)
           (subst (λ v. P v x) (sym (viewed_here db m c own)) (right (view_made db m) (subst (StandsBeside db) same beside).makes))
 
--- ---- what is read of the board
+-- how many files wait above the judged ones
+pub tells_held : {S : Type 0} {store : Ghosts S} (old : Store S store) (tables : Tables S store) (k : Judging) → k ≡ cleared old.judging → (r : Result ℕ ShelfFault) (c : ℕ)
+    → Recalls old.tables tables r (λ d n. n ≡ held_in (d.trees receiveds) c)
+    → Reads (seen_in old) (seen_in (record old { tables = tables; judging = k })) r (λ n. n ≡ count_above (seen_in old).content.files c (reached (seen_in old).content.board c))
+tells_held {S} {store} old tables k is_cleared r c recalls =
+    let db = (state store old.tables.conn).now in
+    tells_recalled old tables k is_cleared r (λ d n. n ≡ held_in (d.trees receiveds) c) _ recalls
+    (λ n kept is. is ∙ ap (count_above (files_in (db.trees receiveds)) c) (sym (board_reads (db.trees receiveds) (db.trees versions) c).reached))
 
--- how many files wait above them
-pub held_so : (db : Database) (c n : ℕ) → n ≡ held_in (db.trees receiveds) c → n ≡ count_above (files_in (db.trees receiveds)) c (reached (board_of db) c)
-held_so db c n is = is ∙ ap (count_above (files_in (db.trees receiveds)) c) (sym (board_reads (db.trees receiveds) (db.trees versions) c).reached)
+-- ---- what is read of the board
 
 -- the item at a key after a volume that is reached
 pub at_so : (db : Database) → IsKept db → (c volume : ℕ) (k : Key) (i : Option Item)

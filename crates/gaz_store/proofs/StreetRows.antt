@@ -1,5 +1,5 @@
 -- What pages of current rows tell of a street and of the parts of a BLPU.
-use Rattle.std.proofs.Common.{◌≡◌, ◌∙◌, ◌≤◌, ◌<◌, ◌⊎◌, ◌&&◌, ◌==◌, ℕ, zero, suc, pos, Bool, true, false, List, [], ◌∷◌, drop, length, map, take, inl, inr, refl, sym, ap, subst, arith, true≢false}
+use Rattle.std.proofs.Common.{◌≡◌, ◌∙◌, ◌≤◌, ◌<◌, ◌⊎◌, ◌&&◌, ◌==◌, ℕ, zero, suc, pos, Bool, true, false, List, [], ◌∷◌, drop, length, take, inl, inr, refl, sym, ap, subst, arith, true≢false}
 use Rattle.std.specs.Prelude.{◌||◌, Option, None, Some}
 use Rattle.std.proofs.Math.Bool.{and_assoc}
 use Rattle.std.specs.Option.{option_map_or}
@@ -46,7 +46,7 @@ use Rattle.gaz_store.specs.declared.steps.Step.TheVariants.{Told, Behind}
 use Rattle.gaz_kept.specs.Versions.{item_in, number_in, text_in}
 use Rattle.gaz_tables.specs.Shows.{ShowsPage}
 use Rattle.gaz_store.proofs.Chosen.{FitJust, chosen_fits, chosen_rises, fit_chosen}
-use Rattle.gaz_store.proofs.Fits.{approved_just, in_lang, left_on, part_left, parts_just}
+use Rattle.gaz_store.proofs.Fits.{approved_just, in_lang, parts_just}
 use Rattle.gaz_store.proofs.Holding.{HoldsItem, entry_in_view, entry_of, row_of, said_cells, said_id, said_key, said_text}
 use Rattle.gaz_store.proofs.PageRows.{all_behind}
 

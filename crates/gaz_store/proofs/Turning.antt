@@ -1,5 +1,5 @@
 -- What a judgement beside the tables makes of its custodian's last view, and answers of it.
-use Rattle.std.proofs.Common.{◌≡◌, ◌∙◌, ◌⊎◌, ℕ, Bool, true, false, cond, not, ◌&&◌, ◌||◌, List, [], ◌∷◌, filter, map as map_of, refl, sym, ap, subst}
+use Rattle.std.proofs.Common.{◌≡◌, ◌∙◌, ℕ, Bool, true, false, cond, not, ◌&&◌, ◌||◌, List, [], ◌∷◌, filter, map as map_of, refl, sym, ap, subst}
 use Rattle.std.specs.Prelude.{Option, Some, None, option_map}
 use Rattle.std.specs.FinMap as map
 use Rattle.std.specs.Option.{option_and_then, option_map_or}
@@ -15,7 +15,6 @@ use Rattle.gaz_records.specs.declared.key.Key.TheVariants as key
 use Rattle.gaz_views.specs.View.{View, was_used, with_item, without_key}
 use Rattle.gaz_views.specs.Lawful.{IsLawfulView}
 use Rattle.gaz_views.specs.Words.{approved_of, approved_on, entries, first_of, has_children, is_approved_on, is_child_of, property_of}
-use Rattle.gaz_views.specs.declared.property.Property.{Property}
 use Rattle.gaz_overlay.specs.Changes.{Changes, Touched, is_touched, stood_in, was_used_in, with_put, with_taken, with_touched}
 use Rattle.gaz_overlay.specs.Laid.{any_untouched, laid, untouched}
 use Rattle.gaz_overlay.proofs.Making.{none_there, unused}
@@ -39,7 +38,7 @@ use Rattle.gaz_kept.specs.Kept.{IsKept}
 use Rattle.gaz_kept.specs.LastViews.{last_in}
 use Rattle.gaz_kept.specs.Newest.{TellsStood}
 use Rattle.gaz_kept.specs.Versions.{histories_in}
-use Rattle.gaz_store.specs.Beside.{Beside, Makes, Turns}
+use Rattle.gaz_store.specs.Beside.{Makes, Turns}
 use Rattle.gaz_store.specs.declared.judgement.Judgement.{Judgement}
 use Rattle.gaz_store.proofs.LawfulViews.{view_lawful}
 

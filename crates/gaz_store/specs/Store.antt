@@ -1,5 +1,5 @@
 -- A store as it is seen: its tables, and a judgement beside them.
-use Rattle.std.specs.Prelude.{◌≡◌, ◌≢◌, ◌-◌, ◌^◌, ◌==◌, ⊤, ℕ}
+use Rattle.std.specs.Prelude.{◌≢◌, ◌-◌, ◌^◌, ◌==◌, ⊤, ℕ}
 use Rattle.sqlite.specs.Effect.{Database}
 use Rattle.sqlite.specs.Held.{state}
 use Rattle.sqlite.specs.State.{State}

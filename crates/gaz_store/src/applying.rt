@@ -24,6 +24,7 @@ impl<S: Alter> Tables<S> {
         let Some(next) = Volume::of(reached.saturating_add(1)) else {
             return Err(self.fail());
         };
+        let _number = next.number();
         match self.write(code, next, changes) {
             Ok(()) => {
                 self.was_judged(code);

@@ -35,11 +35,7 @@ impl Judgement {
     }
 
     // Touches a key for the first time.
-    fn touch_first<S: Alter>(
-        &mut self,
-        tables: &mut Tables<S>,
-        key: &Key,
-    ) -> Result<(), ShelfFault>
+    fn touch_first<S: Alter>(&mut self, tables: &mut Tables<S>, key: &Key) -> Result<(), ShelfFault>
         requires { is_touched self.old.changes key.now ≡ false }
         ensures asks { AsksTables tables.old tables.new result
             (λ db _. Turns db self.old self.new (λ w. w)) }

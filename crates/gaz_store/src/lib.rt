@@ -11,9 +11,10 @@ mod files;
 mod inbox;
 mod judgement;
 mod keys;
+mod opening;
 mod pages;
-mod progress;
 mod probing;
+mod progress;
 mod shelf;
 mod steps;
 mod store;
@@ -21,5 +22,6 @@ mod streets;
 mod tables;
 mod writing;
 
+pub use gaz_kept::StoreRefusal;
 pub use store::Store;
 pub use tables::Tables;

@@ -59,11 +59,7 @@ fn says_left(row: &Row, lang: Option<Lang>, passed: Option<&Overlay>) -> Result<
 }
 
 // Whether one of these rows says it.
-fn any_says(
-    rows: &[Row],
-    lang: Option<Lang>,
-    passed: Option<&Overlay>,
-) -> Result<bool, RowFault>
+fn any_says(rows: &[Row], lang: Option<Lang>, passed: Option<&Overlay>) -> Result<bool, RowFault>
     ensures { IfOk result (λ b. b ≡ list_any
         (says_left lang (option_map (λ c. c.now) passed.entry)) rows.now) }
 {
@@ -132,7 +128,11 @@ pub(crate) fn street_told(
 }
 
 /// What a page of parts tells, of at most `PAGE` rows.
-pub(crate) fn parts_told(alloc: Global, rows: &[Row], passed: Option<&Overlay>) -> Result<Step, RowFault>
+pub(crate) fn parts_told(
+    alloc: Global,
+    rows: &[Row],
+    passed: Option<&Overlay>,
+) -> Result<Step, RowFault>
     ensures { IfOk result (IsStepOf PAGE rows.now (names_left (option_map (λ c. c.now) passed.entry))) }
 {
     let found = any_names(rows, passed)?;

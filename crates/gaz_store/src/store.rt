@@ -1,8 +1,10 @@
 //! The keeper in the tables of a database.
+ghost use Rattle.std.specs.Prelude.{◌≡◌, false};
+
 use crate::progress::Judging;
 use crate::tables::Tables;
 use gaz_ledger::Seed;
-use sqlite::Alter;
+use sqlite::{Alter, Connection};
 
 /// Keeps received files and boards in the tables of a database, and what a judgement has changed
 /// beside them, until it is kept.
@@ -21,5 +23,20 @@ impl<S: Alter + Drop> Drop for Store<S> {
             judging: _,
             seed: _,
         } = self;
+    }
+}
+
+impl<S: Alter> Store<S> {
+    /// The connection, outside a transaction. A judgement in progress is lost.
+    pub fn into_connection(self) -> Connection<S>
+        ensures conn { result ≡ self.tables.conn }
+        ensures over { result.in_transaction ≡ false }
+    {
+        let Store {
+            tables,
+            judging: _,
+            seed: _,
+        } = self;
+        tables.into_connection()
     }
 }

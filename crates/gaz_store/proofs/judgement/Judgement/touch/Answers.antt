@@ -1,4 +1,3 @@
-use Rattle.std.proofs.Common.{subst, sym}
 use Rattle.gaz_store.proofs.Composing.{asked_nothing}
 use Rattle.gaz_store.proofs.judgement.Judgement.touch.Goals as goal
 

@@ -10,4 +10,4 @@ returns-in-Some g c =
 
 pub returns-in-None : goal.returns-in-None
 returns-in-None g c =
-    tells_last c.args.self.now _ c.clear.new.self c.clear.ensures c.approved_on-2.result (λ v i. i ≡ approved_on v c.args.usrn c.args.lang) c.args.code c.in-None.ensures.none c.approved_on-2.ensures
+    tells_last c.args.self.now _ c.clear.new.self c.clear.ensures c.approved_on-in-None.result (λ v i. i ≡ approved_on v c.args.usrn c.args.lang) c.args.code c.in-None.ensures.none c.approved_on-in-None.ensures

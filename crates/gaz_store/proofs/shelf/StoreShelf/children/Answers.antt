@@ -10,4 +10,4 @@ returns-in-Some g c =
 
 pub returns-in-None : goal.returns-in-None
 returns-in-None g c =
-    tells_last c.args.self.now _ c.clear.new.self c.clear.ensures c.children-2.result (λ v i. i ≡ has_children v c.args.uprn) c.args.code c.in-None.ensures.none c.children-2.ensures
+    tells_last c.args.self.now _ c.clear.new.self c.clear.ensures c.children-in-None.result (λ v i. i ≡ has_children v c.args.uprn) c.args.code c.in-None.ensures.none c.children-in-None.ensures

@@ -10,4 +10,4 @@ returns-in-Some g c =
 
 pub returns-in-None : goal.returns-in-None
 returns-in-None g c =
-    tells_last c.args.self.now _ c.clear.new.self c.clear.ensures c.was_used-2.result (λ v i. i ≡ was_used v c.args.key.now) c.args.code c.in-None.ensures.none c.was_used-2.ensures
+    tells_last c.args.self.now _ c.clear.new.self c.clear.ensures c.was_used-in-None.result (λ v i. i ≡ was_used v c.args.key.now) c.args.code c.in-None.ensures.none c.was_used-in-None.ensures

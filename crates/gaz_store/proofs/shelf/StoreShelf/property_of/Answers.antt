@@ -10,4 +10,4 @@ returns-in-Some g c =
 
 pub returns-in-None : goal.returns-in-None
 returns-in-None g c =
-    tells_last c.args.self.now _ c.clear.new.self c.clear.ensures c.property_of-2.result (λ v i. i ≡ property_of v c.args.uprn) c.args.code c.in-None.ensures.none c.property_of-2.ensures
+    tells_last c.args.self.now _ c.clear.new.self c.clear.ensures c.property_of-in-None.result (λ v i. i ≡ property_of v c.args.uprn) c.args.code c.in-None.ensures.none c.property_of-in-None.ensures

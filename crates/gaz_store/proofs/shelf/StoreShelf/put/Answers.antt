@@ -10,4 +10,4 @@ returns-in-Ok-clause-sets g c =
     c.put.ensures.code (λ w lawful. lawful_put w c.args.item lawful) c.put.ensures.asks c.in-Ok.is
 
 pub returns-in-Err-clause-sets : goal.returns-in-Err-clause-sets
-returns-in-Err-clause-sets g c = breaks c.args.self.now c.put.new.tables c.put.result c.in-Err.fault _ _ _ c.put.ensures.asks c.in-Err.is
+returns-in-Err-clause-sets g c = breaks c.args.self.now c.put.new.tables _ c.replace.ensures.after c.put.result c.in-Err.fault _ _ _ c.put.ensures.asks c.in-Err.is

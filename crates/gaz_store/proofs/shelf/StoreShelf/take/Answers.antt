@@ -10,4 +10,4 @@ returns-in-Ok-clause-sets g c =
     c.take.ensures.code (λ w lawful. lawful_taken w c.args.key.now lawful) c.take.ensures.asks c.in-Ok.is
 
 pub returns-in-Err-clause-sets : goal.returns-in-Err-clause-sets
-returns-in-Err-clause-sets g c = breaks c.args.self.now c.take.new.tables c.take.result c.in-Err.fault _ _ _ c.take.ensures.asks c.in-Err.is
+returns-in-Err-clause-sets g c = breaks c.args.self.now c.take.new.tables _ c.replace.ensures.after c.take.result c.in-Err.fault _ _ _ c.take.ensures.asks c.in-Err.is

@@ -11,7 +11,8 @@ is_next n sum next is same most = omega arith
 
 pub returns-in-Ok-write : goal.returns-in-Ok-write
 returns-in-Ok-write g c =
-    let next = is_next c.in-Ok.reached c.saturating_add.result c.in-Some.next c.saturating_add.ensures (numbered 1 999_999 c.saturating_add.result c.in-Some.next c.in-Some.ensures) ? in
+    let range = rw c.number-number.ensures.value at c.number-number.ensures.range in
+    let next = is_next c.in-Ok.reached c.saturating_add.result c.in-Some.next c.saturating_add.ensures (numbered 1 999_999 c.saturating_add.result c.in-Some.next c.in-Some.ensures) range.1 in
     judged_ok c.args.code Applied (λ v. KeepsVolume c.args.code v c.args.changes.now) (λ db after kept there keeps. mark_judges c.args.code c.args.changes.now db after kept there keeps)
     _ _ c.write.new.self _ c.reached.result c.write.result _ c.in-Ok.reached c.in-Some.next next
     c.reached.ensures c.in-Ok.is c.write.ensures c.in-Ok-write.is
@@ -19,7 +20,8 @@ returns-in-Ok-write g c =
 
 pub returns-in-Err-write : goal.returns-in-Err-write
 returns-in-Err-write g c =
-    let next = is_next c.in-Ok.reached c.saturating_add.result c.in-Some.next c.saturating_add.ensures (numbered 1 999_999 c.saturating_add.result c.in-Some.next c.in-Some.ensures) ? in
+    let range = rw c.number-number.ensures.value at c.number-number.ensures.range in
+    let next = is_next c.in-Ok.reached c.saturating_add.result c.in-Some.next c.saturating_add.ensures (numbered 1 999_999 c.saturating_add.result c.in-Some.next c.in-Some.ensures) range.1 in
     judged_err c.args.code Applied (λ v. KeepsVolume c.args.code v c.args.changes.now) (λ db after kept there keeps. mark_judges c.args.code c.args.changes.now db after kept there keeps)
     _ _ _ c.reached.result c.write.result c.in-Err-write.fault c.in-Ok.reached c.in-Some.next next
     c.reached.ensures c.in-Ok.is c.write.ensures c.in-Err-write.is

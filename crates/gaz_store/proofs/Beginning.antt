@@ -1,0 +1,48 @@
+-- A store that was made, and one that was opened.
+use Rattle.std.proofs.Common.{◌≡◌, ◌∙◌, ℕ, List, sym, ap, subst, refl}
+use Rattle.sqlite.specs.Order.{Row}
+use Rattle.sqlite.specs.State.{HasCleanDisk, State, Survives}
+use Rattle.gaz_views.proofs.Lawful.{lawful_empty}
+use Rattle.gaz_views.specs.View.{empty_view}
+use Rattle.gaz_sql_facts.specs.Changes.{LeavesTheCommit}
+use Rattle.gaz_tables.specs.Creating.{IsBare, IsNewStore, no_schema}
+use Rattle.gaz_tables.specs.Schema.{metas, receiveds}
+use Rattle.gaz_kept.specs.Contents.{content_in}
+use Rattle.gaz_kept.specs.Kept.{IsKept}
+use Rattle.gaz_kept.specs.Opening.{IsOf, Rests}
+use Rattle.gaz_kept.proofs.Stands.{tables_stand}
+use Rattle.gaz_store.specs.Opened.{IsMade, IsOpened}
+use Rattle.gaz_store.specs.Remembered.{AreSo, Remembered}
+use Rattle.gaz_store.specs.Store.{StoreStands, seen_beside}
+use Rattle.gaz_store.specs.declared.progress.Judging.TheVariants.{Idle}
+use Rattle.gaz_store.proofs.LawfulViews.{content_lawful}
+
+module _ (new : State) (a : Remembered) (so : (files : List Row) → AreSo a files) where
+  standing : IsKept new.now → StoreStands new a Idle
+  standing kept = record { tables = record { kept = kept; so = so (new.now.trees receiveds); lawful = content_lawful new.now kept empty_view lawful_empty }; beside = tt }
+
+  pub is_made : (old : State) (register : List ℕ) (f : ℕ) → f ≡ 0
+      → (HasCleanDisk new → IsBare no_schema old.now → IsNewStore 1 register new.now × (new.committed ≡ new.now)) → LeavesTheCommit new
+      → IsMade old (seen_beside new a Idle f)
+  is_made old register f none made certain = record {
+    idle = refl;
+    failures = none;
+    stands = λ h bare. standing (tables_stand.create 1 register new.now (made h.clean bare).0).kept;
+    content = λ h bare. (tables_stand.create 1 register new.now (made h.clean bare).0).content;
+    leaves = λ h bare k l.
+        l.content ∙ ap (λ t. content_in t empty_view) (certain h.is_open l.trees l.left ∙ ap (λ d. d.trees) (made h.clean bare).1)
+        ∙ (tables_stand.create 1 register new.now (made h.clean bare).0).content;
+  }
+
+  pub is_opened : (old : State) (register : List ℕ) (f : ℕ) → f ≡ 0
+      → (HasCleanDisk new → HasCleanDisk old) → (HasCleanDisk new → Rests old new) → (HasCleanDisk new → IsKept old.now → IsOf register (old.now.trees metas)) → Survives old new (λ _. ⊥)
+      → IsOpened old new register (seen_beside new a Idle f)
+  is_opened old register f none harm rests told leaves = record {
+    idle = refl;
+    failures = none;
+    harm = λ h. harm h.clean;
+    stands = λ h kept. standing (subst IsKept (sym ((rests h.clean).now h.is_open)) kept);
+    content = λ h kept. ap (λ d. content_in d.trees empty_view) ((rests h.clean).now h.is_open);
+    of_register = λ h kept. told h.clean kept;
+    leaves = leaves;
+  }
