@@ -22,6 +22,11 @@ class Function:
     def holds(self, line: int) -> bool:
         return self.first <= line <= self.last
 
+    def path(self) -> str:
+        """How a check names it: a method by its type, wherever its impl stands, a free function by its module."""
+        above = self.owner or module_of(self.file)
+        return f"{above}::{self.name}" if above else self.name
+
     def proof_folders(self) -> list[str]:
         """How the folder of its proofs ends, or begins where it is a free function's."""
         if self.owner:
@@ -74,9 +79,10 @@ def first_line(lines: list[str], start: int) -> int:
     return start
 
 
-def owner_in(line: str) -> str:
-    """The name under which an impl's functions are proved: the type's, then the trait's."""
-    found = IMPL.match(line)
+def owner_at(lines: list[str], start: int) -> str:
+    """The name under which the functions of the impl that begins at this index are proved: the type's, then the trait's."""
+    last = next(at for at in range(start, len(lines)) if "{" in lines[at])
+    found = IMPL.match(" ".join(it.strip() for it in lines[start : last + 1]))
     if not found:
         return ""
     return found[2].rpartition("::")[2] + (found[1] or "").rpartition("::")[2]
@@ -87,7 +93,7 @@ def functions(file: str, text: str) -> list[Function]:
     lines, found, owner, at = text.split("\n"), [], "", 0
     while at < len(lines):
         if lines[at].startswith("impl"):
-            owner = owner_in(lines[at])
+            owner = owner_at(lines, at)
         elif lines[at] == "}":
             owner = ""
         head = HEAD.match(lines[at])
