@@ -106,6 +106,8 @@ class OfEdits(unittest.TestCase):
         text = "impl<T> fmt::Display\n    for Shelf<T>\n{\n    fn fmt(&self) {\n    }\n}\n\nfn free() {\n}\n"
         self.assertEqual(["ShelfDisplay::fmt", "a::b::free"], [it.path() for it in functions("src/a/b.rt", text)])
         self.assertEqual("double", functions("src/lib.rt", LIBRARY)[0].path())
+        text = "".join(f"impl From<{it}> for Fault {{\n    fn from() {{\n    }}\n}}\n" for it in ("a::Left", "Right<T>"))
+        self.assertEqual(["FaultFromLeft::from", "FaultFromRight::from"], [it.path() for it in functions("src/a.rt", text)])
 
     def test_two_edits_of_a_function_are_in_two_checks(self):
         first, second = self.edit("    u16::from(n) +", "    1 +"), self.edit("u16::from(n) + u16::from(n)", "0")
