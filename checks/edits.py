@@ -5,7 +5,7 @@ import re
 from dataclasses import dataclass, field
 from pathlib import Path
 
-from checks.source import Function, constant_at, functions, module_of, names
+from checks.source import Function, constant_at, functions, names
 
 USE = re.compile(r"(pub )?(ghost )?use ")
 NAME = re.compile(r"[A-Za-z0-9_-][A-Za-z0-9_.-]*\.edit")
@@ -171,7 +171,6 @@ def moved(function: Function, hunks: list[Hunk]) -> Function:
     return Function(function.file, function.name, function.owner, first, last)
 
 
-def modules(edits: list[Edit]) -> list[str]:
-    """What a check has to name so that it looks at each function that these edits change."""
-    found = {module_of(place.file) or place.name for edit in edits for place in edit.places}
-    return sorted(found)
+def paths(edits: list[Edit]) -> list[str]:
+    """What a check has to name so that it looks at each function that these edits change, and at those that it calls."""
+    return sorted({place.path() for edit in edits for place in edit.places})

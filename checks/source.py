@@ -1,10 +1,11 @@
 """The functions of a formatted source file, as lines: where each stands, and under which path its proof does."""
 
 import re
+from collections import Counter
 from dataclasses import dataclass
 
 HEAD = re.compile(r"(\s*)(?:pub(?:\([a-z ]+\))? )?(?:const )?(?:unsafe )?fn (\w+)")
-IMPL = re.compile(r"impl\b(?:<.*?>(?= ))? (?:!?([\w:]+)(?:<.*>)? for )?([\w:]+)")
+IMPL = re.compile(r"impl\b(?:<.*?>(?= ))? (?:!?([\w:]+)(?:<([\w:]*).*>)? for )?([\w:]+)")
 ABOVE = re.compile(r"\s*(#\[|///|//|\)\])")
 CONSTANT = re.compile(r"\s*(?:pub(?:\([a-z ]+\))? )?const (\w+)\b")
 
@@ -21,6 +22,11 @@ class Function:
 
     def holds(self, line: int) -> bool:
         return self.first <= line <= self.last
+
+    def path(self) -> str:
+        """How a check names it: a method by its type, wherever its impl stands, a free function by its module."""
+        above = self.owner or module_of(self.file)
+        return f"{above}::{self.name}" if above else self.name
 
     def proof_folders(self) -> list[str]:
         """How the folder of its proofs ends, or begins where it is a free function's."""
@@ -74,20 +80,26 @@ def first_line(lines: list[str], start: int) -> int:
     return start
 
 
-def owner_in(line: str) -> str:
-    """The name under which an impl's functions are proved: the type's, then the trait's."""
-    found = IMPL.match(line)
+def owner_at(lines: list[str], start: int) -> tuple[str, str]:
+    """The name under which the functions of the impl that begins at this index are proved, the type's and then the trait's; and what
+    stands behind it where the file has several impls of that name: what the trait is of."""
+    last = next(at for at in range(start, len(lines)) if "{" in lines[at])
+    found = IMPL.match(" ".join(it.strip() for it in lines[start : last + 1]))
     if not found:
-        return ""
-    return found[2].rpartition("::")[2] + (found[1] or "").rpartition("::")[2]
+        return "", ""
+    trait, of, of_type = (it.rpartition("::")[2] for it in (found[1] or "", found[2] or "", found[3]))
+    return of_type + trait, of
 
 
 def functions(file: str, text: str) -> list[Function]:
     """The functions of a file, in its order."""
     lines, found, owner, at = text.split("\n"), [], "", 0
+    impls = {it: owner_at(lines, it) for it, line in enumerate(lines) if line.startswith("impl")}
+    counts = Counter(name for name, _ in impls.values())
     while at < len(lines):
-        if lines[at].startswith("impl"):
-            owner = owner_in(lines[at])
+        if at in impls:
+            name, of = impls[at]
+            owner = name + of if counts[name] > 1 else name
         elif lines[at] == "}":
             owner = ""
         head = HEAD.match(lines[at])

@@ -102,6 +102,13 @@ class OfEdits(unittest.TestCase):
         found = {it.name: (it.first, it.last) for it in functions("src/lib.rt", LIBRARY)}
         self.assertEqual({"double": (9, 14), "lesser": (16, 21), "most": (23, 28), "some": (30, 33)}, found)
 
+    def test_a_check_names_a_method_by_its_type_and_a_free_function_by_its_module(self):
+        text = "impl<T> fmt::Display\n    for Shelf<T>\n{\n    fn fmt(&self) {\n    }\n}\n\nfn free() {\n}\n"
+        self.assertEqual(["ShelfDisplay::fmt", "a::b::free"], [it.path() for it in functions("src/a/b.rt", text)])
+        self.assertEqual("double", functions("src/lib.rt", LIBRARY)[0].path())
+        text = "".join(f"impl From<{it}> for Fault {{\n    fn from() {{\n    }}\n}}\n" for it in ("a::Left", "Right<T>"))
+        self.assertEqual(["FaultFromLeft::from", "FaultFromRight::from"], [it.path() for it in functions("src/a.rt", text)])
+
     def test_two_edits_of_a_function_are_in_two_checks(self):
         first, second = self.edit("    u16::from(n) +", "    1 +"), self.edit("u16::from(n) + u16::from(n)", "0")
         self.assertEqual([1, 1], [len(it) for it in groups([first, second])])

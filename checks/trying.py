@@ -8,7 +8,7 @@ from pathlib import Path
 from typing import Callable
 
 from checks import kit, measure
-from checks.edits import Edit, groups, merged, modules, moved, read_edits, sources_of
+from checks.edits import Edit, groups, merged, moved, paths, read_edits, sources_of
 from checks.source import Function
 
 PARTS = ("src", "specs", "proofs")
@@ -49,6 +49,8 @@ class Bench:
     kept: Path
     began_over: bool = False  # the first check had something to begin with
     is_odd: bool = False  # a check named a place that no edit changed
+    over: list[Edit] = field(default_factory=list)  # those that were tried over what earlier checks kept
+    is_whole: bool = False  # one of them was tried on the whole crate
     seconds: float = 0.0
     peak: int = 0
     checks: int = 0
@@ -65,6 +67,14 @@ class Bench:
             ran = measure.run(kit.check_words(self.crate, self.kept, only), room)
         self.seconds, self.peak, self.checks = self.seconds + ran.seconds, max(self.peak, ran.peak), self.checks + 1
         return ran
+
+    def try_all(self, edits: list[Edit], only: list[str]) -> tuple[measure.Ran, list[Fault]]:
+        """Checks the crate with these edits applied, and tells the faults that were named."""
+        if self.checks or self.began_over:
+            self.over, self.is_whole = [*self.over, *edits], self.is_whole or not only
+        texts = merged(edits, self.sources)
+        ran = self.check(texts, only)
+        return ran, faults_in(ran.text, list(texts))
 
 
 def faults_in(text: str, changed: list[str]) -> list[Fault]:
@@ -116,9 +126,7 @@ def unreadable(edits: list[Edit], faults: list[Fault]) -> list[tuple[Edit, Fault
 
 def try_alone(bench: Bench, edit: Edit) -> Tried:
     """Tries an edit by itself, on the whole crate."""
-    texts = merged([edit], bench.sources)
-    ran = bench.check(texts, [])
-    faults = faults_in(ran.text, list(texts))
+    ran, faults = bench.try_all([edit], [])
     bad = next((it for it in faults if it.is_unreadable), None)
     if bad:
         return Tried(edit.name, False, f"the edited text can't be read, so no contract was tried: {bad.text()}")
@@ -135,9 +143,10 @@ def try_together(bench: Bench, edits: list[Edit]) -> list[Tried]:
     """Tries edits of different functions in one check, and alone those that it doesn't refuse in their place."""
     if not edits[0].places:
         return [try_alone(bench, edits[0])]
-    texts = merged(edits, bench.sources)
-    ran = bench.check(texts, modules(edits))
-    faults = faults_in(ran.text, list(texts))
+    ran, faults = bench.try_all(edits, paths(edits))
+    if ran.status == 2:
+        # (a name that no check knows)
+        ran, faults = bench.try_all(edits, [])
     bad = unreadable(edits, faults)
     if bad and len(bad) < len(edits):
         left = [it for it in edits if all(it is not edit for edit, _ in bad)]
@@ -160,11 +169,13 @@ class Outcome:
 
 
 def plain_fault(bench: Bench, edits: list[Edit]) -> str:
-    """What keeps the crate from being proved over what is kept once no edit is applied, if anything does. Where one check was all,
-    from nothing, and named no place but those that were edited, it has shown that there is nothing."""
-    if bench.checks == 1 and not bench.is_odd and not bench.began_over:
+    """What keeps the crate from being proved over what is kept once no edit is applied, if anything does. A check from nothing that
+    named no place but those that were edited has shown that there is nothing, so only edits that were tried over its work are asked
+    for again."""
+    asked = edits if bench.is_odd else bench.over
+    if not asked:
         return ""
-    ran = bench.check({}, modules(edits))
+    ran = bench.check({}, [] if bench.is_whole else paths(asked))
     return "" if ran.status == 0 else ran.text.strip()[-300:]
 
 

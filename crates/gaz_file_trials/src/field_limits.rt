@@ -1,5 +1,6 @@
 //! Fields of the greatest length, and longer by one.
 use gaz_records::{FieldFault, Kind, item_of_text};
+use std::alloc::Global;
 use std::process::Abort;
 use std::test::Fail;
 
@@ -74,6 +75,13 @@ const WIDTHS: &[Limit] = &[
     (Kind::Blpu, "42,1,0,0,", "1,,2020-01-01,", 5, "0", 11),
 ];
 
+// The row whose field has so many letters.
+fn row_with(alloc: Global, limit: &Limit, count: usize) -> Result<String, Fail> {
+    let (_, before, behind, _, letter, _) = *limit;
+    let letters = vec![in alloc; letter; count]?.concat(alloc)?;
+    Ok(format!(in alloc; "{before}{letters}{behind}")?)
+}
+
 // The field of so many letters is taken, or the first fault.
 fn is_told(
     rt: &(impl Abort + AllocGlobal),
@@ -81,9 +89,8 @@ fn is_told(
     count: usize,
     good: bool,
 ) -> Result<(), Fail> {
-    let (kind, before, behind, field, letter, _) = *limit;
-    let letters = vec![in rt.alloc(); letter; count]?.concat(rt.alloc())?;
-    let row = format!(in rt.alloc(); "{before}{letters}{behind}")?;
+    let (kind, _, _, field, _, _) = *limit;
+    let row = row_with(rt.alloc(), limit, count)?;
     match item_of_text(rt.alloc(), kind, row.as_bytes()) {
         Ok(_) => assert!(rt; good, "{row}"),
         Err(fault) => assert!(rt; !good && fault == FieldFault::Form { field }, "{row}"),

@@ -2,7 +2,7 @@
 use crate::file_fixtures::*;
 use gaz_changefile::{Change, read_file, write_file};
 use gaz_ids::{Code, Volume};
-use gaz_records::{Item, item_of_text, item_text, key_of};
+use gaz_records::{Item, Kind, item_of_text, item_text, key_of};
 use std::alloc::Global;
 use std::process::Abort;
 use std::test::Fail;
@@ -33,18 +33,27 @@ const FILES: &[File] = &[
     (NOTHING, 1001, 1),
 ];
 
+fn row(alloc: Global, item: &Item) -> Result<Vec<u8>, Fail> {
+    Ok(item_text(alloc, item)?)
+}
+
+fn item(alloc: Global, kind: Kind, row: &[u8]) -> Result<Item, Fail> {
+    Ok(item_of_text(alloc, kind, row)?)
+}
+
+// The item has this row, and the key of another.
+fn is_like(alloc: Global, item: &Item, text: &[u8], other: &Item) -> Result<bool, Fail> {
+    let own = row(alloc, item)?;
+    Ok(own.as_slice() == text && key_of(item) == key_of(other))
+}
+
 // Another who holds the item, and the item that its row says, have its key and row.
 fn comes_back(alloc: Global, change: &Change) -> Result<bool, Fail> {
-    let item: &Item = &change.item;
+    let first: &Item = &change.item;
     let shared = change.item.share()?;
-    let text = item_text(alloc, item)?;
-    let again = item_of_text(alloc, item.kind(), &text)?;
-    Ok(
-        item_text(alloc, &shared)? == text
-            && key_of(&shared) == key_of(item)
-            && item_text(alloc, &again)? == text
-            && key_of(&again) == key_of(item),
-    )
+    let text = row(alloc, first)?;
+    let again = item(alloc, first.kind(), &text)?;
+    Ok(is_like(alloc, &shared, &text, first)? && is_like(alloc, &again, &text, first)?)
 }
 
 // What is written of a file that was read, and whose items come back.

@@ -2,7 +2,8 @@
 use gaz_addressable::Object;
 use gaz_ids::{Lang, Uprn, Usrn};
 use gaz_records::{
-    Item, Key, Kind, RecordKey, SharedItem, item_of_text, item_text, key_of, read_item, write_item,
+    Item, Key, Kind, Lpi, RecordKey, SharedItem, item_of_text, item_text, key_of, read_item,
+    write_item,
 };
 use gaz_rows::read_row;
 use std::alloc::Global;
@@ -150,18 +151,32 @@ const ADDRESSES: &[Record] = &[
     (Kind::Lpi, "Q1", "24,I,4,", THE_OLD_MILL),
 ];
 
+fn usrn(text: &str) -> Result<Usrn, Fail> {
+    Ok(Usrn::read(text.as_bytes())?)
+}
+
+fn uprn(text: &str) -> Result<Uprn, Fail> {
+    Ok(Uprn::read(text.as_bytes())?)
+}
+
+fn label(text: &str) -> Result<RecordKey, Fail> {
+    Ok(RecordKey::read(text.as_bytes()).ok_or("a key")?)
+}
+
+fn lang(text: &str) -> Result<Lang, Fail> {
+    Ok(Lang::read(text.as_bytes()).ok_or("a language")?)
+}
+
 fn read_key(kind: Kind, text: &str) -> Result<Key, Fail> {
-    let label = RecordKey::read(text.as_bytes()).ok_or("a key");
     match kind {
-        Kind::Street => Ok(Key::Street(Usrn::read(text.as_bytes())?)),
+        Kind::Street => Ok(Key::Street(usrn(text)?)),
         Kind::Descriptor => {
-            let (usrn, lang) = text.split_once(',').ok_or("a street and a language")?;
-            let lang = Lang::read(lang.as_bytes()).ok_or("a language")?;
-            Ok(Key::Descriptor(Usrn::read(usrn.as_bytes())?, lang))
+            let (street, language) = text.split_once(',').ok_or("a street and a language")?;
+            Ok(Key::Descriptor(usrn(street)?, lang(language)?))
         }
-        Kind::Blpu => Ok(Key::Blpu(Uprn::read(text.as_bytes())?)),
-        Kind::Xref => Ok(Key::Xref(label?)),
-        Kind::Lpi => Ok(Key::Lpi(label?)),
+        Kind::Blpu => Ok(Key::Blpu(uprn(text)?)),
+        Kind::Xref => Ok(Key::Xref(label(text)?)),
+        Kind::Lpi => Ok(Key::Lpi(label(text)?)),
     }
 }
 
@@ -204,8 +219,7 @@ fn comes_back(rt: &(impl Abort + AllocGlobal), record: &Record) -> Result<(), Fa
     is_written(rt, &again, key, row)
 }
 
-// The object has these five fields, which read back as an object of these house numbers and this text.
-fn object_comes_back(
+fn has_fields(
     rt: &(impl Abort + AllocGlobal),
     object: &Object,
     fields: [&str; 5],
@@ -215,14 +229,42 @@ fn object_comes_back(
     for (text, field) in texts.iter().zip(fields.iter()) {
         assert!(rt; text.as_slice() == field.as_bytes(), "{numbers}");
     }
-    let [start, suffix, end, end_suffix, text] = fields.map(|field| field.as_bytes());
-    let again = Object::read(rt.alloc(), [start, suffix, end, end_suffix, text])?;
-    let written = again.numbers_text(rt.alloc())?;
+    Ok(())
+}
+
+fn has_numbers(
+    rt: &(impl Abort + AllocGlobal),
+    object: &Object,
+    numbers: &str,
+) -> Result<(), Fail> {
+    let written = object.numbers_text(rt.alloc())?;
     assert!(rt; written.as_slice() == numbers.as_bytes(), "{numbers}");
+    Ok(())
+}
+
+fn has_text(rt: &impl Abort, object: &Object, text: &str, numbers: &str) {
     assert!(rt;
-        again.text.as_ref().map_or("", |text| text.as_str()) == fields[4],
+        object.text.as_ref().map_or("", |text| text.as_str()) == text,
         "{numbers}"
     );
+}
+
+fn object(alloc: Global, fields: [&str; 5]) -> Result<Object, Fail> {
+    let [start, suffix, end, end_suffix, text] = fields.map(|field| field.as_bytes());
+    Ok(Object::read(alloc, [start, suffix, end, end_suffix, text])?)
+}
+
+// The object has these five fields, which read back as an object of these house numbers and this text.
+fn object_comes_back(
+    rt: &(impl Abort + AllocGlobal),
+    first: &Object,
+    fields: [&str; 5],
+    numbers: &str,
+) -> Result<(), Fail> {
+    has_fields(rt, first, fields, numbers)?;
+    let again = object(rt.alloc(), fields)?;
+    has_numbers(rt, &again, numbers)?;
+    has_text(rt, &again, fields[4], numbers);
     Ok(())
 }
 
@@ -239,6 +281,13 @@ const OBJECTS: &[(&str, [&str; 5], &str)] = &[
     (THE_OLD_MILL, ["", "", "", "", "The Old Mill"], ""),
 ];
 
+fn lpi(alloc: Global, row: &str) -> Result<Lpi, Fail> {
+    match item_of_text(alloc, Kind::Lpi, row.as_bytes())? {
+        Item::Lpi(lpi) => Ok(lpi),
+        _ => Err("no LPI")?,
+    }
+}
+
 // The primary object of an LPI's row comes back, and its secondary one, which is flat 2 if it is there.
 fn objects_come_back(
     rt: &(impl Abort + AllocGlobal),
@@ -246,9 +295,7 @@ fn objects_come_back(
     fields: [&str; 5],
     numbers: &str,
 ) -> Result<(), Fail> {
-    let Item::Lpi(lpi) = item_of_text(rt.alloc(), Kind::Lpi, row.as_bytes())? else {
-        return Err("no LPI")?;
-    };
+    let lpi = lpi(rt.alloc(), row)?;
     object_comes_back(rt, &lpi.primary, fields, numbers)?;
     match &lpi.secondary {
         Some(flat) => object_comes_back(rt, flat, ["", "", "", "", "Flat 2"], ""),

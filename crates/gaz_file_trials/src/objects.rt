@@ -130,6 +130,17 @@ fn house(alloc: Global, number: &str, suffix: &str) -> Result<HouseNumber, Fail>
     Ok(object.from().ok_or("no house number")?)
 }
 
+// One house number comes before another.
+fn comes_before(rt: &impl Abort, low: &HouseNumber, high: &HouseNumber) {
+    assert!(rt; low < high && low.is_before(high));
+    assert!(rt; !high.is_before(low) && !high.is_before(high));
+}
+
+fn compares_as_before(rt: &impl Abort, low: &HouseNumber, high: &HouseNumber) {
+    assert!(rt; low.compare(high).is_lt() && high.compare(low).is_gt());
+    assert!(rt; low.compare(low).is_eq());
+}
+
 // By the number first, then no suffix before A before Z.
 #[test]
 fn house_numbers_are_in_order(rt: HostRuntime) -> Result<(), Fail> {
@@ -142,10 +153,8 @@ fn house_numbers_are_in_order(rt: HostRuntime) -> Result<(), Fail> {
         house(alloc, "13", "")?,
     ];
     for pair in houses.windows(2) {
-        assert!(rt; pair[0] < pair[1] && pair[0].is_before(&pair[1]));
-        assert!(rt; pair[0].compare(&pair[1]).is_lt() && pair[1].compare(&pair[0]).is_gt());
-        assert!(rt; pair[0].compare(&pair[0]).is_eq());
-        assert!(rt; !pair[1].is_before(&pair[0]) && !pair[1].is_before(&pair[1]));
+        comes_before(&rt, &pair[0], &pair[1]);
+        compares_as_before(&rt, &pair[0], &pair[1]);
     }
     Ok(())
 }

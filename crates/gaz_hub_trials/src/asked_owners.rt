@@ -1,10 +1,6 @@
 //! Whom a hub asks for a property, by a keeper that counts.
-use crate::readings::unjudged_keeper;
-use gaz_hub::Hub;
+use crate::questions::failing_hub;
 use gaz_ids::Uprn;
-use gaz_register::Register;
-use gaz_samples::REGISTER;
-use gaz_shelf::Faulty;
 use std::process::Abort;
 use std::test::Fail;
 
@@ -15,9 +11,7 @@ fn is_asked(
     custodian: Option<u64>,
     asked: u64,
 ) -> Result<(), Fail> {
-    let alloc = rt.alloc();
-    let keeper = Faulty::new(unjudged_keeper(alloc)?, 0);
-    let mut hub = Hub::new(alloc, Register::read(alloc, REGISTER)?, keeper);
+    let mut hub = failing_hub(rt.alloc(), 0)?;
     let uprn = Uprn::of(uprn).ok_or("a UPRN")?;
     assert!(rt; hub.settle().is_ok());
     let before = hub.shelf().counted().property_of;

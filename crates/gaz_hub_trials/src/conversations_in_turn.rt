@@ -1,9 +1,9 @@
 //! One conversation after another over one hub, and what is too large for a file of conversations. The expected texts are those of docs/exchange.md.
 
-use crate::hubs::mem_hub;
 use crate::large_files::largest_file;
+use crate::resting::mem_hub;
 use crate::streams::APPLIED;
-use gaz_exchange::{Ended, Served, Stopped, converse};
+use gaz_exchange::{Ended, Served, Stopped};
 use gaz_register::RegFault;
 use std::alloc::Global;
 use std::process::Abort;
@@ -19,10 +19,10 @@ type Ending = (Result<Served, Stopped>, Vec<u8>);
 fn asked_after(alloc: Global, text: &str) -> Result<Ending, RegFault> {
     let mut hub = mem_hub(alloc)?;
     let mut refusal = Vec::new(alloc);
-    let ended = converse(alloc, &mut text.as_bytes(), &mut refusal, &mut hub, 9);
+    let ended = hub.converse(alloc, &mut text.as_bytes(), &mut refusal, 9);
     let asked = b"GET /custodians/1001/volumes/1 HTTP/1.1\r\n\r\n";
     let mut out = Vec::new(alloc);
-    let _ = converse(alloc, &mut asked.as_slice(), &mut out, &mut hub, 9);
+    let _ = hub.converse(alloc, &mut asked.as_slice(), &mut out, 9);
     Ok((ended, out))
 }
 
@@ -58,7 +58,7 @@ fn the_largest_file_is_read_and_told(rt: HostRuntime) -> Result<(), Fail> {
     requests.extend_from_slice(b"GET /custodians/1001/volumes/1 HTTP/1.1\r\n\r\n")?;
     let mut hub = mem_hub(rt.alloc())?;
     let mut out = Vec::new(rt.alloc());
-    let ended = converse(rt.alloc(), &mut requests.as_slice(), &mut out, &mut hub, 9);
+    let ended = hub.converse(rt.alloc(), &mut requests.as_slice(), &mut out, 9);
     let told =
         "HTTP/1.1 200 OK\r\nContent-Type: application/json\r\nContent-Length: 98\r\n\r\n{\"digest\":\"43d3316140e2e89539ead882e7c0602c3155255730a2c439487d16084a7a1690\",\"outcome\":\"applied\"}\n";
     let both = format!(in rt.alloc(); "{APPLIED}{told}")?;

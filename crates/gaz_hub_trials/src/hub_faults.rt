@@ -1,9 +1,8 @@
 //! A hub over a keeper of which one call fails, each in turn.
-ghost use Rattle.std.specs.Prelude.{OnOk};
-ghost use Rattle.gaz_shelf.specs.Keeper.{IsNotOpen};
 
 use crate::hubs::{STREET_101, held};
-use gaz_hub::{Answer, Hub, Outcome, Refusal};
+use crate::resting::Resting;
+use gaz_hub::{Answer, Outcome, Refusal};
 use gaz_register::Register;
 use gaz_samples::REGISTER;
 use gaz_shelf::{Call, Faulty, Inbox, MemShelf, Seed, ShelfFault};
@@ -40,13 +39,10 @@ impl Sent {
 // What is told of the volume: its outcome, where it is there.
 fn is_told<K: Inbox + Drop>(
     rt: &impl Abort,
-    hub: &mut Hub<K>,
+    hub: &mut Resting<K>,
     sent: &Sent,
     is_there: bool,
-) -> Result<(), Fail>
-    requires { IsNotOpen (K.seen hub.old.keeper).progress }
-    ensures { OnOk result (IsNotOpen (K.seen hub.new.keeper).progress) }
-{
+) -> Result<(), Fail> {
     match hub.outcome(sent.code, 1) {
         Ok(Some((_, outcome))) => assert!(rt; is_there && outcome == sent.outcome),
         Ok(None) => assert!(rt; !is_there),
@@ -58,12 +54,9 @@ fn is_told<K: Inbox + Drop>(
 // Submits a file, and again where that is refused: what it is told then doesn't depend on the fault.
 fn sends<K: Inbox + Drop>(
     rt: &impl Abort,
-    hub: &mut Hub<K>,
+    hub: &mut Resting<K>,
     sent: &Sent,
-) -> Result<Option<Refusal>, Fail>
-    requires { IsNotOpen (K.seen hub.old.keeper).progress }
-    ensures { OnOk result (IsNotOpen (K.seen hub.new.keeper).progress) }
-{
+) -> Result<Option<Refusal>, Fail> {
     let answer = hub.submit(sent.code, 1, sent.file);
     let Answer::Refused(refusal) = answer else {
         assert_eq!(rt; answer, sent.answer(!sent.is_new));
@@ -86,9 +79,10 @@ fn file(code: u64, file: &'static [u8], is_new: bool, outcome: Outcome) -> Sent 
 }
 
 // A file without a record, one that waits, one that frees it, and the one that waited again; the refusal, if there was one.
-fn sends_all<K: Inbox + Drop>(rt: &impl Abort, hub: &mut Hub<K>) -> Result<Option<Refusal>, Fail>
-    requires { IsNotOpen (K.seen hub.old.keeper).progress }
-{
+fn sends_all<K: Inbox + Drop>(
+    rt: &impl Abort,
+    hub: &mut Resting<K>,
+) -> Result<Option<Refusal>, Fail> {
     let rejected = Outcome::Rejected { place: 1, rule: 1 };
     let bad = sends(rt, hub, &file(1003, b"", true, rejected))?;
     let waits = sends(rt, hub, &file(1002, ON_1001_1, true, held(1001, 1)?))?;
@@ -101,7 +95,7 @@ fn sends_all<K: Inbox + Drop>(rt: &impl Abort, hub: &mut Hub<K>) -> Result<Optio
 fn fails_at(rt: &(impl Abort + AllocGlobal), number: u64) -> Result<Option<(Call, Refusal)>, Fail> {
     let register = Register::read(rt.alloc(), REGISTER)?;
     let keeper = Faulty::new(MemShelf::new(rt.alloc(), Seed::of(1)), number);
-    let mut hub = Hub::new(rt.alloc(), register, keeper);
+    let mut hub = Resting::over(rt.alloc(), register, keeper);
     let refusal = sends_all(rt, &mut hub)?;
     match (hub.shelf().failed(), refusal) {
         (None, None) => Ok(None),

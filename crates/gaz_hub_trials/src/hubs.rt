@@ -1,13 +1,7 @@
-ghost use Rattle.std.specs.Prelude.{IfOk};
-ghost use Rattle.gaz_shelf.specs.Keeper.{IsNotOpen};
-ghost use Rattle.gaz_shelf.specs.Mem.{seen_in};
-
-use gaz_hub::{Answer, Digest, Hub, Outcome, Refusal, Standing};
+use crate::resting::{Resting, mem_hub};
+use gaz_hub::{Answer, Digest, Outcome, Refusal, Standing};
 use gaz_ids::{Code, Volume};
-use gaz_register::{RegFault, Register};
-use gaz_samples::REGISTER;
-use gaz_shelf::{MemShelf, Seed};
-use std::alloc::Global;
+use gaz_shelf::MemShelf;
 use std::process::Abort;
 use std::test::Fail;
 
@@ -22,14 +16,6 @@ const DIGEST: Digest = [
     0xc1, 0x1c, 0xef, 0xb3, 0x03, 0xdb, 0xb5, 0x49, 0xc3, 0x3d, 0x04, 0x3a, 0x8e, 0x51, 0x25, 0x58,
     0x16, 0xb3, 0xe9, 0xcc, 0x36, 0x1a, 0x34, 0x9f, 0x38, 0x14, 0xc5, 0xde, 0xc1, 0x96, 0x34, 0xde,
 ];
-
-/// A hub over a keeper of whole maps, that received nothing.
-pub(crate) fn mem_hub(alloc: Global) -> Result<Hub<MemShelf>, RegFault>
-    ensures { IfOk result (λ hub. IsNotOpen (seen_in hub.keeper).progress) }
-{
-    let register = Register::read(alloc, REGISTER)?;
-    Ok(Hub::new(alloc, register, MemShelf::new(alloc, Seed::of(1))))
-}
 
 /// Nothing but a basis line: it rests on volume 2 of custodian 1001.
 const ON_1001_2: &[u8] = b"10,1,1002,1,2024-01-02\n90,1001,2\n99,0\n";
@@ -53,10 +39,7 @@ pub(crate) fn held(custodian: u64, volume: u64) -> Result<Outcome, Fail> {
 type Sent = (u64, u64, &'static [u8], Answer);
 
 // Submits files in turn.
-fn answers(rt: &impl Abort, hub: &mut Hub<MemShelf>, all: &[Sent])
-    requires { IsNotOpen (seen_in hub.old.keeper).progress }
-    ensures { IsNotOpen (seen_in hub.new.keeper).progress }
-{
+fn answers(rt: &impl Abort, hub: &mut Resting<MemShelf>, all: &[Sent]) {
     for sent in all {
         let (code, volume, file, answer) = *sent;
         assert_eq!(rt; hub.submit(code, volume, file), answer, "{code}/{volume}");
@@ -134,8 +117,7 @@ fn a_hub_gives_its_parts_back(rt: HostRuntime) -> Result<(), Fail> {
     answers(&rt, &mut hub, &[(1001, 1, STREET_101, applied)]);
     assert!(rt; hub.register().holds(Code::of(1003).ok_or("code")?));
     let _keeper = hub.shelf();
-    let (register, keeper) = hub.into_parts();
-    let mut again = Hub::new(rt.alloc(), register, keeper);
+    let mut again = hub.again(rt.alloc());
     let repeat = Answer::Repeat(Outcome::Applied);
     answers(&rt, &mut again, &[(1001, 1, STREET_101, repeat)]);
     Ok(())

@@ -1,6 +1,6 @@
 //! Files as large as files may be, at each call that takes them, and chains of parents from one file to the next.
 
-use crate::hubs::mem_hub;
+use crate::resting::mem_hub;
 use gaz_changefile::{profile_of, read_file, write_file};
 use gaz_hub::{Answer, Digest, Outcome, Refusal};
 use gaz_ids::{Code, Volume};

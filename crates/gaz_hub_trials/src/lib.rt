@@ -20,6 +20,8 @@ mod questions;
 #[cfg(test)]
 mod readings;
 #[cfg(test)]
+mod resting;
+#[cfg(test)]
 mod streams;
 #[cfg(test)]
 mod waiting;

@@ -1,8 +1,8 @@
 //! Clients that wait for each reply before they send the next request, by so many bytes a write. The expected texts are those of docs/exchange.md.
 
-use crate::hubs::mem_hub;
+use crate::resting::mem_hub;
 use crate::streams::POST;
-use gaz_exchange::{Ended, Served, converse};
+use gaz_exchange::{Ended, Served};
 use std::alloc::{AllocError, Global};
 use std::cell::Cell;
 use std::io::{self, ErrorKind, Read, Write};
@@ -146,7 +146,7 @@ fn waits_for_each<R: Abort + AllocGlobal>(
         flushed: &flushed,
     };
     let mut hub = mem_hub(rt.alloc())?;
-    let told = converse(rt.alloc(), &mut r, &mut w, &mut hub, 99);
+    let told = hub.converse(rt.alloc(), &mut r, &mut w, 99);
     assert_eq!(rt; w.taken.as_slice(), replies.as_bytes(), "reads of {step}");
     assert_eq!(rt; flushed.get(), replies.len(), "reads of {step}");
     let served = Served {

@@ -1,8 +1,8 @@
 //! Conversations whose reads and writes come in pieces, or fail. The expected texts are those of docs/exchange.md.
 
-use crate::hubs::mem_hub;
+use crate::resting::mem_hub;
 use crate::streams::{APPLIED, Narrow, POST, Pieces, Stuck};
-use gaz_exchange::{Cause, Ended, Served, Stopped, converse};
+use gaz_exchange::{Cause, Ended, Served, Stopped};
 use gaz_register::RegFault;
 use std::alloc::Global;
 use std::process::Abort;
@@ -14,7 +14,7 @@ type Held = (Result<Served, Stopped>, Vec<u8>);
 fn held(alloc: Global, r: &mut Pieces<'_>, most: u64) -> Result<Held, RegFault> {
     let mut hub = mem_hub(alloc)?;
     let mut out = Vec::new(alloc);
-    let ended = converse(alloc, r, &mut out, &mut hub, most);
+    let ended = hub.converse(alloc, r, &mut out, most);
     Ok((ended, out))
 }
 
@@ -79,13 +79,7 @@ fn faults_of_the_stream(rt: HostRuntime) -> Result<(), Fail> {
             taken: Vec::new(rt.alloc()),
             most,
         };
-        let ended = converse(
-            rt.alloc(),
-            &mut Pieces::new(POST, 64, false),
-            &mut w,
-            &mut hub,
-            9,
-        );
+        let ended = hub.converse(rt.alloc(), &mut Pieces::new(POST, 64, false), &mut w, 9);
         assert_eq!(rt;
             ended,
             Err(Stopped {
@@ -106,7 +100,7 @@ fn a_writer_that_cant_flush(rt: HostRuntime) -> Result<(), Fail> {
     let mut w = Stuck {
         taken: Vec::new(rt.alloc()),
     };
-    let ended = converse(rt.alloc(), &mut r, &mut w, &mut hub, 9);
+    let ended = hub.converse(rt.alloc(), &mut r, &mut w, 9);
     assert_eq!(rt;
         ended,
         Err(Stopped {

@@ -1,13 +1,10 @@
 //! Questions to a hub while one call of its keeper fails, each in turn: the fault is told as the store's, and the next answer is right.
-ghost use Rattle.std.specs.Prelude.{IfOk};
-ghost use Rattle.gaz_shelf.specs.Keeper.{IsNotOpen};
-ghost use Rattle.gaz_shelf.specs.Faulting.{progress_around};
-ghost use Rattle.gaz_shelf.specs.Mem.{seen_in};
 
 use crate::hub_faults::has_each;
 use crate::readings::{EXTRACT_OF_COUNTY_ROAD_CLOSED, unjudged_keeper};
+use crate::resting::Resting;
 use gaz_extract::{Closed, Found};
-use gaz_hub::{Hub, Outcome, Refusal};
+use gaz_hub::{Outcome, Refusal};
 use gaz_ids::{Status, Uprn};
 use gaz_register::Register;
 use gaz_samples::REGISTER;
@@ -49,10 +46,7 @@ fn is_closed(closed: &[Closed]) -> bool {
 }
 
 // Whether what is told of three files is right, of which two are of the county and one is of the district.
-fn asks<K: Inbox + Drop>(hub: &mut Hub<K>, question: &Question) -> Result<bool, Refusal>
-    requires { IsNotOpen (K.seen hub.old.keeper).progress }
-    ensures { IsNotOpen (K.seen hub.new.keeper).progress }
-{
+fn asks<K: Inbox + Drop>(hub: &mut Resting<K>, question: &Question) -> Result<bool, Refusal> {
     match *question {
         Question::Settle => match hub.settle() {
             Ok(()) => Ok(true),
@@ -75,13 +69,11 @@ fn asks<K: Inbox + Drop>(hub: &mut Hub<K>, question: &Question) -> Result<bool, 
     }
 }
 
-// A hub that judged none of its files, over a keeper of which the call of this number fails.
-fn failing_hub(alloc: Global, number: u64) -> Result<Hub<Faulty<MemShelf>>, Fail>
-    ensures { IfOk result (λ hub. IsNotOpen (progress_around hub.keeper.broken (seen_in hub.keeper.inner).progress)) }
-{
+/// A hub that judged none of its files, over a keeper of which the call of this number fails.
+pub(crate) fn failing_hub(alloc: Global, number: u64) -> Result<Resting<Faulty<MemShelf>>, Fail> {
     let register = Register::read(alloc, REGISTER)?;
     let keeper = Faulty::new(unjudged_keeper(alloc)?, number);
-    Ok(Hub::new(alloc, register, keeper))
+    Ok(Resting::over(alloc, register, keeper))
 }
 
 // Asks while the call of this number fails, and then once more; the call that failed, if one did.

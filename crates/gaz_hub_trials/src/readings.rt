@@ -3,7 +3,8 @@ ghost use Rattle.std.specs.Prelude.{OnOk, IfOk};
 ghost use Rattle.gaz_shelf.specs.Keeper.{IsNotOpen};
 ghost use Rattle.gaz_shelf.specs.Mem.{seen_in};
 
-use gaz_hub::{Hub, Refusal};
+use crate::resting::{Resting, mem_hub};
+use gaz_hub::Refusal;
 use gaz_ids::{Code, Uprn, Volume};
 use gaz_register::Register;
 use gaz_samples::REGISTER;
@@ -49,12 +50,10 @@ pub(crate) fn unjudged_keeper(alloc: Global) -> Result<MemShelf, Fail>
 }
 
 /// A hub that has all three files, and judged none of them.
-fn unjudged_hub(alloc: Global) -> Result<Hub<MemShelf>, Fail>
-    ensures { IfOk result (λ hub. IsNotOpen (seen_in hub.keeper).progress) }
-{
+fn unjudged_hub(alloc: Global) -> Result<Resting<MemShelf>, Fail> {
     let register = Register::read(alloc, REGISTER)?;
     let keeper = unjudged_keeper(alloc)?;
-    Ok(Hub::new(alloc, register, keeper))
+    Ok(Resting::over(alloc, register, keeper))
 }
 
 #[test]
@@ -79,8 +78,7 @@ fn the_door_of_an_extract_settles_nothing(rt: HostRuntime) -> Result<(), Fail> {
 
 #[test]
 fn readings_of_a_new_hub_find_nothing(rt: HostRuntime) -> Result<(), Fail> {
-    let register = Register::read(rt.alloc(), REGISTER)?;
-    let mut hub = Hub::new(rt.alloc(), register, MemShelf::new(rt.alloc(), Seed::of(1)));
+    let mut hub = mem_hub(rt.alloc())?;
     let uprn = Uprn::of(100_001).ok_or("uprn")?;
     assert!(rt; matches!(hub.lookup(uprn), Ok(None)));
     assert!(rt; matches!(hub.extract(1001, 1), Ok(None)));

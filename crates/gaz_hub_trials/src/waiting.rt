@@ -1,11 +1,8 @@
 //! Who is looked at when a file comes: the keeper's calls at a hub of 400 custodians, counted.
-ghost use Rattle.std.specs.Prelude.{IfOk, OnOk};
-ghost use Rattle.gaz_shelf.specs.Faulting.{progress_around};
-ghost use Rattle.gaz_shelf.specs.Keeper.{IsNotOpen};
-ghost use Rattle.gaz_shelf.specs.Mem.{seen_in};
 
 use crate::hubs::held;
-use gaz_hub::{Answer, Hub, Outcome};
+use crate::resting::Resting;
+use gaz_hub::{Answer, Outcome};
 use gaz_register::Register;
 use gaz_shelf::{Faulty, Inbox, MemShelf, Seed};
 use std::alloc::Global;
@@ -19,10 +16,7 @@ const CUSTODIANS: u64 = 400;
 const APPLIED: Answer = Answer::New(Outcome::Applied);
 
 // A hub of 400 custodians, whose keeper counts its calls.
-fn hub_of_400(alloc: Global) -> Result<Hub<Faulty<MemShelf>>, Fail>
-    ensures { IfOk result (λ hub.
-        IsNotOpen (progress_around hub.keeper.broken (seen_in hub.keeper.inner).progress)) }
-{
+fn hub_of_400(alloc: Global) -> Result<Resting<Faulty<MemShelf>>, Fail> {
     let mut text = String::new(alloc);
     for code in 1..=CUSTODIANS {
         write!(
@@ -32,11 +26,11 @@ fn hub_of_400(alloc: Global) -> Result<Hub<Faulty<MemShelf>>, Fail>
     }
     let register = Register::read(alloc, text.as_bytes())?;
     let keeper = Faulty::new(MemShelf::new(alloc, Seed::of(1)), 0);
-    Ok(Hub::new(alloc, register, keeper))
+    Ok(Resting::over(alloc, register, keeper))
 }
 
 // How often the keeper was asked what is judged or received.
-fn asked(hub: &Hub<Faulty<MemShelf>>) -> u64 {
+fn asked(hub: &Resting<Faulty<MemShelf>>) -> u64 {
     let calls = hub.shelf().counted();
     calls.reached.saturating_add(calls.received)
 }
@@ -54,14 +48,11 @@ fn file_on(alloc: Global, code: u64, volume: u64, bases: &[(u64, u64)]) -> Resul
 // Submits a file of a custodian; how often it was asked for that what is judged or received.
 fn submits<K: Inbox + Drop>(
     rt: &(impl Abort + AllocGlobal),
-    hub: &mut Hub<K>,
+    hub: &mut Resting<K>,
     pair: (u64, u64),
     bases: &[(u64, u64)],
     answer: Answer,
-) -> Result<(), Fail>
-    requires { IsNotOpen (K.seen hub.old.keeper).progress }
-    ensures { OnOk result (IsNotOpen (K.seen hub.new.keeper).progress) }
-{
+) -> Result<(), Fail> {
     let file = file_on(rt.alloc(), pair.0, pair.1, bases)?;
     assert_eq!(rt;
         hub.submit(pair.0, pair.1, file.as_bytes()),
@@ -74,13 +65,10 @@ fn submits<K: Inbox + Drop>(
 // Each of these submits a file that waits for volume 1 of a custodian.
 fn all_wait<K: Inbox + Drop>(
     rt: &(impl Abort + AllocGlobal),
-    hub: &mut Hub<K>,
+    hub: &mut Resting<K>,
     codes: &[u64],
     whom: u64,
-) -> Result<(), Fail>
-    requires { IsNotOpen (K.seen hub.old.keeper).progress }
-    ensures { OnOk result (IsNotOpen (K.seen hub.new.keeper).progress) }
-{
+) -> Result<(), Fail> {
     for code in codes {
         let waits = Answer::New(held(whom, 1)?);
         submits(rt, hub, (*code, 1), &[(whom, 1)], waits)?;
@@ -89,9 +77,11 @@ fn all_wait<K: Inbox + Drop>(
 }
 
 // Volume 1 of each of these is judged.
-fn are_judged<K: Inbox + Drop>(rt: &impl Abort, hub: &mut Hub<K>, codes: &[u64]) -> Result<(), Fail>
-    requires { IsNotOpen (K.seen hub.old.keeper).progress }
-{
+fn are_judged<K: Inbox + Drop>(
+    rt: &impl Abort,
+    hub: &mut Resting<K>,
+    codes: &[u64],
+) -> Result<(), Fail> {
     for code in codes {
         assert_eq!(rt; hub.status(*code)?.judged, 1);
     }
