@@ -1,5 +1,6 @@
-//! One list of calls over two keepers, between which no judgement is in progress.
-ghost use Rattle.std.specs.Prelude.{◌≡◌, ◌≤◌, OnOk};
+//! One list of calls over all keepers, between which no judgement is in progress.
+ghost use Rattle.std.specs.Prelude.{◌≡◌, ◌≤◌, false, IfOk, OnOk};
+ghost use Rattle.gaz_store.specs.Store.{seen_in};
 ghost use Rattle.gaz_shelf.specs.Keeper.{Idle};
 
 use crate::fixtures::{blpu_key, custodian, item, lpi_key, street_key, volume, xref_key};
@@ -10,6 +11,8 @@ use crate::told::{
 use gaz_ids::Lang;
 use gaz_records::{Key, Kind, SharedItem};
 use gaz_shelf::{Ending, Faulty, Inbox, MemShelf, Seed, Shelf, ShelfFault, Verdict, write_volume};
+use gaz_store::Store;
+use sqlite::{Connection, MemStore};
 use std::alloc::Global;
 use std::process::Abort;
 use std::test::Fail;
@@ -277,4 +280,33 @@ fn a_keeper_around_another_answers_so(rt: HostRuntime) -> Result<(), Fail> {
     assert_eq!(rt; (calls.current, calls.reached, calls.received), (5, 3, 2));
     assert_eq!(rt; (calls.approved_of, calls.property_of), (2, 4));
     Ok(())
+}
+
+// The connection is in no transaction, or an error.
+fn rests(conn: &Connection<MemStore>) -> Result<(), Fail>
+    ensures { OnOk result (conn.now.in_transaction ≡ false) }
+{
+    if conn.is_autocommit() {
+        Ok(())
+    } else {
+        Err("a transaction is open".into())
+    }
+}
+
+// A new store in memory.
+fn new_store(alloc: Global) -> Result<Store<MemStore>, Fail>
+    ensures { IfOk result (λ s. (seen_in s).progress ≡ Idle) }
+{
+    let conn = Connection::open_in_memory(alloc)?;
+    rests(&conn)?;
+    match Store::create(alloc, Seed::of(1), conn, "one") {
+        Ok(store) => Ok(store),
+        Err(_) => Err("no store was made".into()),
+    }
+}
+
+#[test]
+fn a_store_answers_so(rt: HostRuntime) -> Result<(), Fail> {
+    let mut store = new_store(rt.alloc())?;
+    shelf_pair(&rt, &mut store)
 }
