@@ -20,3 +20,4 @@ pub mod KeepStands
 pub mod Writes
 pub mod Examples
 pub mod MetaRows
+pub mod WorkedOpening

@@ -1,11 +1,11 @@
 -- What the rows of `meta` tell, from what is shown of them.
-use Rattle.std.proofs.Common.{◌≡◌, ◌≢◌, ◌∙◌, inl, inr, ℕ, pos, Bool, true, cond, List, [], ◌∷◌, filter, map, take, Ok, Err, Result, IfOk, Vec, IsPermutation, refl, sym, ap, subst}
+use Rattle.std.proofs.Common.{◌≡◌, ◌≢◌, ◌∙◌, inl, inr, ℕ, pos, Bool, true, false, List, [], ◌∷◌, filter, map, take, Ok, Err, Result, IfOk, Vec, IsPermutation, refl, sym, ap, subst}
 use Rattle.std.specs.declared.alloc.Global.{Global}
 use Rattle.std.proofs.lemmas.List.Sorted.{IsPermutation-sym}
 use Rattle.sqlite.proofs.Callers.{one_permutation}
-use Rattle.sqlite.specs.Effect.{Database}
 use Rattle.sqlite.specs.Held.{Held, state}
 use Rattle.sqlite.specs.Order.{Row, column, value_cmp}
+use Rattle.sqlite.specs.Schema.{Schema}
 use Rattle.sqlite.specs.State.{Shown}
 use Rattle.sqlite.specs.declared.error.Error.{Error}
 use Rattle.sqlite.specs.declared.types.Value.TheVariants.{Int, Text}
@@ -15,10 +15,8 @@ use Rattle.sqlite_value.proofs.OrderLemmas.{value_cmp-Int}
 use Rattle.sqlite_trees.specs.Tree.{IsTable, rowid}
 use Rattle.sqlite_trees.specs.declared.store.Store.{Ghosts}
 use Rattle.std.specs.declared.cmp.Ordering.TheVariants.{Less}
-use Rattle.gaz_tables.specs.Creating.{IsNewStore}
-use Rattle.gaz_tables.specs.Metas.{FindsTwo, IsAny, meta_row, meta_shown, rows_text}
+use Rattle.gaz_tables.specs.Metas.{FindsTwo, meta_row, meta_shown, rows_text}
 use Rattle.gaz_tables.specs.Schema.{metas, store_schema}
-use Rattle.gaz_tables.specs.Shows.{ShowsSome}
 use Rattle.gaz_kept.specs.Opening.{CreateOpens, IsAnswer, IsJudged, IsNumbered, IsOne, IsTold, has_all}
 use Rattle.gaz_kept.specs.declared.refusal.StoreRefusal.{StoreRefusal}
 use Rattle.gaz_kept.specs.declared.refusal.StoreRefusal.TheVariants.{BadSchema, OtherRegister, Fault}
@@ -27,6 +25,10 @@ use Rattle.gaz_kept.specs.declared.refusal.StoreRefusal.TheVariants.{BadSchema, 
 pub has_all_store : has_all store_schema ≡ true
 unfolding has_all same_name
 has_all_store = refl
+
+-- so nothing of it is missing
+pub nothing_lacks : (schema : Schema) → schema ≡ store_schema → false ≡ has_all schema → ⊥
+nothing_lacks schema same lacks = let e : ◌≡◌ {A = Bool} false true = lacks ∙ ap has_all same ∙ has_all_store in absurd (cc)
 
 -- ---- what is answered
 

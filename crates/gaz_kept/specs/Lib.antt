@@ -12,3 +12,4 @@ pub mod Stands
 pub mod Keeping
 pub mod Examples
 pub mod Opening
+pub mod WorkedOpening

@@ -5,10 +5,16 @@ ghost use Rattle.gaz_kept.specs.Judging.{BoardChanges, FilesChange};
 ghost use Rattle.gaz_kept.specs.Keeping.{KeepStands};
 ghost use Rattle.gaz_kept.specs.Opening.{CreateOpens};
 ghost use Rattle.gaz_kept.specs.Stands.{TablesStand};
+ghost use Rattle.gaz_kept.specs.WorkedOpening.{WorkedOpening};
 
 /// What the definitions come to on worked examples.
 pub fn worked_examples()
     ensures { WorkedExamples }
+{}
+
+/// Which databases are taken as a store, on worked examples.
+pub fn worked_opening()
+    ensures { WorkedOpening }
 {}
 
 /// A row that comes under a key sets its item in the views that have it, a row that goes takes it

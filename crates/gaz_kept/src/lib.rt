@@ -6,6 +6,7 @@ pub mod decoding;
 pub mod keeping;
 mod key_order;
 pub mod laws;
+mod naming;
 pub mod newest;
 pub mod opening;
 mod refusal;

@@ -10,6 +10,7 @@ use Rattle.gaz_tables.specs.Schema.{metas, receiveds}
 use Rattle.gaz_kept.specs.Contents.{content_in}
 use Rattle.gaz_kept.specs.Kept.{IsKept}
 use Rattle.gaz_kept.specs.Opening.{IsOf, Rests}
+use Rattle.gaz_kept.proofs.MetaRows.{create_opens}
 use Rattle.gaz_kept.proofs.Stands.{tables_stand}
 use Rattle.gaz_store.specs.Opened.{IsMade, IsOpened}
 use Rattle.gaz_store.specs.Remembered.{AreSo, Remembered}
@@ -23,7 +24,7 @@ module _ (new : State) (a : Remembered) (so : (files : List Row) → AreSo a fil
 
   pub is_made : (old : State) (register : List ℕ) (f : ℕ) → f ≡ 0
       → (HasCleanDisk new → IsBare no_schema old.now → IsNewStore 1 register new.now × (new.committed ≡ new.now)) → LeavesTheCommit new
-      → IsMade old (seen_beside new a Idle f)
+      → IsMade old new register (seen_beside new a Idle f)
   is_made old register f none made certain = record {
     idle = refl;
     failures = none;
@@ -32,6 +33,7 @@ module _ (new : State) (a : Remembered) (so : (files : List Row) → AreSo a fil
     leaves = λ h bare k l.
         l.content ∙ ap (λ t. content_in t empty_view) (certain h.is_open l.trees l.left ∙ ap (λ d. d.trees) (made h.clean bare).1)
         ∙ (tables_stand.create 1 register new.now (made h.clean bare).0).content;
+    of_register = λ h bare. create_opens register new.now (made h.clean bare).0;
   }
 
   pub is_opened : (old : State) (register : List ℕ) (f : ℕ) → f ≡ 0

@@ -1,5 +1,5 @@
 -- What a call that asks the tables tells of them as they are seen.
-use Rattle.std.proofs.Common.{◌≡◌, ◌≢◌, ◌<◌, ◌⊎◌, ◌∙◌, inl, inr, ℕ, Result, Ok, Err, IfErr, IfOk, OnErr, OnOk, arith, refl, sym, ap, subst}
+use Rattle.std.proofs.Common.{◌≡◌, ◌<◌, ◌⊎◌, ◌∙◌, inl, inr, ℕ, Result, Ok, Err, IfErr, IfOk, OnErr, OnOk, arith, refl, sym, subst}
 use Rattle.std.specs.Prelude.{⊤, IsTrue}
 use Rattle.std.proofs.lemmas.Bool.{cases_eq}
 use Rattle.sqlite.specs.Effect.{Database}
@@ -7,18 +7,13 @@ use Rattle.sqlite.specs.declared.error.Error.{Error}
 use Rattle.sqlite.specs.State.{HasCleanDisk, IsUnchanged, State, Survives}
 use Rattle.sqlite.proofs.StateLemmas.{survives_then}
 use Rattle.sqlite_trees.specs.View.{doubt}
-use Rattle.gaz_views.specs.View.{View}
-use Rattle.gaz_shelf.specs.Keeper.{Broken, IsLawful, IsLeft, Progress, Reads}
 use Rattle.gaz_shelf.specs.declared.fault.ShelfFault.{ShelfFault}
 use Rattle.gaz_shelf.specs.declared.fault.ShelfFault.TheVariants.{Store}
 use Rattle.gaz_sql_facts.specs.Changes.{IsSpared}
-use Rattle.gaz_tables.specs.Schema.{receiveds}
 use Rattle.gaz_tables.specs.Stores.{HasTables}
 use Rattle.gaz_store.specs.Asking.{Asks, Tallies}
-use Rattle.gaz_kept.specs.Contents.{content_in}
 use Rattle.gaz_kept.specs.Kept.{IsKept}
-use Rattle.gaz_store.specs.Remembered.{AreSo, Remembered}
-use Rattle.gaz_store.specs.Seen.{IsSettled, IsUnharmed, Rests, StandsFor, seen_of}
+use Rattle.gaz_store.specs.Seen.{IsSettled, IsUnharmed, Rests}
 
 -- ---- what was asked
 
@@ -142,39 +137,3 @@ module _ {A : Type 0} (old new : State) (answer : Result A Error) (result : Resu
     right = λ h kept. right result told (found h.clean kept.tables);
     leaves = λ sound. leaves (λ clean. sound (record { clean = clean; is_open = sure clean }));
   }
-
--- ---- as they are seen
-
--- a call that asks is one that reads, whatever is judged beside the tables
-pub asks_reads : {T : Type 0} (old new : State) (before after : Remembered) (p q : Progress) (w : View) (f g : ℕ) (r : Result T ShelfFault)
-    (IsRight : Database → T → Type 0) (Q : T → Type 0) → Asks old new r IsRight → Tallies f g r
-    → (IsUnharmed new → IsKept old.now → AreSo before (old.now.trees receiveds) → AreSo after (old.now.trees receiveds))
-    → IsLeft p q → OnOk r (q ≢ Broken)
-    → ((x : T) → StandsFor old before w → IsRight old.now x → Q x)
-    → Reads (seen_of old before p w f) (seen_of new after q w g) r Q
-asks_reads old new before after p q w f g r IsRight Q asks tallies at_hand left cleared goes = record {
-  keeps = record {
-    harm = asks.harm;
-    stands = λ stood h. record {
-      kept = subst IsKept (sym (still stood h)) stood.kept;
-      so = subst (λ (db : Database). AreSo after (db.trees receiveds)) (sym (still stood h)) (at_hand h stood.kept stood.so);
-      lawful = subst (λ (db : Database). IsLawful (content_in db.trees w)) (sym (still stood h)) stood.lawful;
-    };
-    content = λ stood h. ap (λ (db : Database). content_in db.trees w) (still stood h);
-    progress = left;
-    leaves = λ sound k l.
-        let s = asks.leaves (λ h. (sound h).kept.tables) in
-        record {
-          clean = omega (arith, s.clean, l.clean);
-          trees = l.trees;
-          left = elim (s.crash l.clean l.trees l.left) [ inl was ↦ was | inr never ↦ absurd never ];
-          content = l.content;
-        };
-  };
-  right = λ stood h. if_ok_map r (IsRight old.now) Q (λ x is. goes x stood is) (asks.right h stood.kept);
-  cleared = cleared;
-  counts = record { kept = tallies.kept; store = tallies.store };
-}
-  where
-    still : StandsFor old before w → IsUnharmed new → new.now ≡ old.now
-    still stood h = asks.rests h stood.kept.tables

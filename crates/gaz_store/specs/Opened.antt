@@ -1,5 +1,5 @@
--- A store that was made, and one that was opened.
-use Rattle.std.specs.Prelude.{◌≡◌, false, ℕ, List, Some}
+-- A store that was made, one that was opened, and what is handed back where there is none.
+use Rattle.std.specs.Prelude.{◌≡◌, false, ℕ, List, Result, Ok, Err, Some}
 use Rattle.sqlite.specs.Held.{Held, state}
 use Rattle.sqlite.specs.State.{State, HasCleanDisk, Survives}
 use Rattle.sqlite_trees.specs.declared.store.Store.{Ghosts}
@@ -10,14 +10,18 @@ use Rattle.gaz_tables.specs.Schema.{metas}
 use Rattle.gaz_kept.specs.Contents.{content_in}
 use Rattle.gaz_kept.specs.Kept.{IsKept}
 use Rattle.gaz_kept.specs.Opening.{IsOf, Rests}
+use Rattle.gaz_kept.specs.declared.refusal.StoreRefusal.{StoreRefusal}
+use Rattle.gaz_store.specs.declared.store.Store.{Store}
 
--- of an empty database: nothing is received or judged, and a stop leaves just that
-pub record IsMade (old : State) (now : Seen) : Type 0 where
+-- of an empty database: nothing is received or judged, a stop leaves just that, and the tables are
+-- of this register
+pub record IsMade (old new : State) (register : List ℕ) (now : Seen) : Type 0 where
   pub idle : now.progress ≡ Idle
   pub failures : now.failures ≡ 0
   pub stands : now.unharmed → IsBare no_schema old.now → now.stands
   pub content : now.unharmed → IsBare no_schema old.now → now.content ≡ empty_content
   pub leaves : now.unharmed → IsBare no_schema old.now → LeavesJust (Some empty_content) now
+  pub of_register : now.unharmed → IsBare no_schema old.now → IsOf register (new.now.trees metas)
 
 -- of a store's tables: they stand for what they did, are of this register, and a stop leaves nothing
 -- more
@@ -34,3 +38,17 @@ pub record IsOpened (old new : State) (register : List ℕ) (now : Seen) : Type 
 pub record IsRefused {S : Type 0} (g : Ghosts S) (before after : Held S) : Type 0 where
   pub over : after.in_transaction ≡ false
   pub rests : HasCleanDisk (state g after) → Rests (state g before) (state g after)
+
+-- ---- what is answered, of a call that takes a connection and gives a store or hands it back
+
+-- the answer alone
+abbrev pub answer_of : {S : Type 0} → {g : Ghosts S} → Result (Store S g) (Held S × StoreRefusal)
+    → Result (Unit {0}) StoreRefusal
+answer_of (Ok store) = Ok tt
+answer_of (Err back) = Err back.1
+
+-- the connection, in the store or handed back
+abbrev pub conn_of : {S : Type 0} → {g : Ghosts S} → Result (Store S g) (Held S × StoreRefusal)
+    → Held S
+conn_of (Ok store) = store.tables.conn
+conn_of (Err back) = back.0

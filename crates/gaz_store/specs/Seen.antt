@@ -4,7 +4,7 @@ use Rattle.std.proofs.Common.{eqb-true, le_of_eq, sym}
 use Rattle.sqlite_trees.specs.Tree.{Trees}
 use Rattle.sqlite.specs.State.{HasCleanDisk, State}
 use Rattle.gaz_views.specs.View.{View, empty_view}
-use Rattle.gaz_shelf.specs.Keeper.{Content, Idle, IsLawful, Progress, Seen}
+use Rattle.gaz_shelf.specs.Keeper.{Content, IsLawful, Progress, Seen}
 use Rattle.gaz_tables.specs.Schema.{receiveds}
 use Rattle.gaz_kept.specs.Contents.{content_in}
 use Rattle.gaz_kept.specs.Kept.{IsKept}
@@ -44,10 +44,6 @@ seen_of s at_hand progress working failures = record {
   full = full_at failures;
   leaves = MayLeave s;
 }
-
--- no judgement is in progress
-abbrev pub seen_idle : State → Remembered → ℕ → Seen
-seen_idle s at_hand failures = seen_of s at_hand Idle empty_view failures
 
 -- ---- what a call leaves of what is seen
 
