@@ -1,0 +1,41 @@
+-- What is told of a hub that remembered nothing at first is told of its keeper.
+use Rattle.std.proofs.Common.{◌≡◌, ℕ, List, subst}
+use Rattle.std.specs.Prelude.{Option, None, Result}
+use Rattle.gaz_exchange.specs.Conversing.{Conversation, Transfer}
+use Rattle.gaz_exchange.specs.declared.conversation.Served.{Served}
+use Rattle.gaz_exchange.specs.declared.conversation.Stopped.{Stopped}
+use Rattle.gaz_hub.specs.Hubs.{Runs}
+use Rattle.gaz_hub.specs.Step.{Command, Door, Response}
+use Rattle.gaz_hub.specs.Waiting.{Remembered, remembering}
+use Rattle.gaz_register.specs.Registers.{RegisterValue}
+use Rattle.gaz_shelf.specs.Keeper.{Seen}
+
+module _ (d : Door) (register other : RegisterValue) (waiters : Option Remembered) (a c : Seen) where
+  runs_alone : (commands : List Command) (responses : List Response) → Runs d (remembering register None a) (remembering other waiters c) commands responses → Runs d a c commands responses
+  runs_alone commands responses l =
+      record {
+        harm = l.harm;
+        stands = λ stood fine. let then = l.stands ((stood.0, tt), stood.1) fine in (then.0.0, then.1);
+        run = λ stood fine. l.run ((stood.0, tt), stood.1) fine;
+        idle = l.idle;
+        failures = l.failures;
+      }
+
+  pub alone : (most : ℕ) (through : Transfer) (result : Result Served Stopped) (before : Option Remembered) → before ≡ None
+      → Conversation d most through (remembering register before a) (remembering other waiters c) result → Conversation d most through a c result
+  alone most through result before fresh told =
+      let l = subst (λ (x : Option Remembered). Conversation d most through (remembering register x a) (remembering other waiters c) result) fresh told in
+      record {
+        read = l.read;
+        written = l.written;
+        exchanges = l.exchanges;
+        rest = l.rest;
+        consumed = l.consumed;
+        appended = l.appended;
+        comes = l.comes;
+        routes = l.routes;
+        runs = runs_alone _ _ l.runs;
+        answers = λ stood fine. l.answers (record { stands = ((stood.stands.0, tt), stood.stands.1); partial = stood.partial }) fine;
+        comes_to = l.comes_to;
+        answers_all = l.answers_all;
+      }

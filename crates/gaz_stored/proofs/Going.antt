@@ -1,0 +1,73 @@
+-- What a conversation over a store leaves the tables standing for.
+use Rattle.std.proofs.Common.{◌≡◌, ℕ, List, ap, subst, sym}
+use Rattle.sqlite.specs.Held.{state}
+use Rattle.sqlite.specs.State.{State}
+use Rattle.sqlite_trees.specs.declared.store.Store.{Ghosts}
+use Rattle.gaz_register.specs.Registers.{RegisterValue, blocks_of}
+use Rattle.gaz_shelf.specs.Keeper.{Content}
+use Rattle.gaz_tables.specs.Creating.{IsBare, no_schema}
+use Rattle.gaz_store.specs.Opened.{IsMade, IsOpened}
+use Rattle.gaz_store.specs.Seen.{IsUnharmed}
+use Rattle.gaz_store.specs.Store.{seen_in}
+use Rattle.gaz_store.specs.declared.store.Store.{Store}
+use Rattle.gaz_hub.specs.Hubs.{AreKnown, Runs, door_of, state_of}
+use Rattle.gaz_hub.specs.Laws.{StandsForRun}
+use Rattle.gaz_hub.specs.Runs.{Run}
+use Rattle.gaz_hub.specs.Standing.{IsPartial}
+use Rattle.gaz_hub.specs.Step.{Command, HubState, Response, new_hub}
+use Rattle.gaz_hub.proofs.Answers.{every_answer_holds}
+use Rattle.gaz_hub.proofs.Headline.{may_begin}
+use Rattle.gaz_hub.proofs.OwnNumbers.{all_own_holds}
+use Rattle.gaz_hub.proofs.Runs.{every_run_from_holds, nothing_partial}
+use Rattle.gaz_stored.specs.Runs.{GoesOn, StandForRun, hub_in}
+
+-- the board is partial over what was received
+abbrev partly : RegisterValue → HubState → Type 0
+partly register h = IsPartial (blocks_of register) h.received h.board
+
+module _ {S : Type 0} {g : Ghosts S} (register : RegisterValue) (first last : Store S g) (commands : List Command) (responses : List Response)
+    (runs : Runs (door_of register) (seen_in first) (seen_in last) commands responses) (fine : IsUnharmed (state g last.tables.conn)) where
+  goes_on : (before : HubState) → StandsForRun (door_of register) (seen_in first) → state_of (seen_in first).content ≡ before
+      → GoesOn register before commands responses (state g last.tables.conn).now
+  goes_on before was begins =
+      let d = door_of register in
+      let stands = runs.stands was.stands fine in
+      let run = subst (λ h. Run d h commands responses (hub_in (state g last.tables.conn).now)) begins (runs.run was.stands fine) in
+      let partial = subst (partly register) begins was.partial in
+      let abides = every_run_from_holds d before (hub_in (state g last.tables.conn).now) commands responses partial run in
+      record {
+        run = run;
+        abides = abides;
+        answers = every_answer_holds d before (hub_in (state g last.tables.conn).now) commands responses partial run;
+        stands = record { kept = stands.0.tables.kept; known = stands.1.known; partial = abides.partial };
+      }
+
+  -- of a store that was made where there was no table
+  pub goes_on_new : (old : State) (text : List ℕ) → IsMade old (state g first.tables.conn) text (seen_in first) → IsBare no_schema old.now
+      → GoesOn register new_hub commands responses (state g last.tables.conn).now
+  goes_on_new old text made bare =
+      let d = door_of register in
+      let is_fine = runs.harm fine in
+      let empty = made.content is_fine bare in
+      let is_new = ap state_of empty in
+      goes_on new_hub
+      (record {
+        stands = (made.stands is_fine bare, may_begin d (seen_in first).content (ap (λ (k : Content). k.files) empty) (ap (λ (k : Content). k.board) empty));
+        partial = subst (partly register) (sym is_new) (nothing_partial d);
+      })
+      is_new
+
+  -- of a store that was opened where the tables stood for a partial run
+  pub goes_on_opened : (old : State) (text : List ℕ) → IsOpened old (state g first.tables.conn) text (seen_in first) → StandForRun register old.now
+      → GoesOn register (hub_in old.now) commands responses (state g last.tables.conn).now
+  goes_on_opened old text opened stood =
+      let is_fine = runs.harm fine in
+      let same = opened.content is_fine stood.kept in
+      let found = sym (ap state_of same) in
+      let partial = subst (partly register) found stood.partial in
+      goes_on (hub_in old.now)
+      (record {
+        stands = (opened.stands is_fine stood.kept, record { known = subst (λ (k : Content). AreKnown (door_of register) k.files) (sym same) stood.known; own = all_own_holds register _ _ partial });
+        partial = partial;
+      })
+      (ap state_of same)

@@ -1,0 +1,5 @@
+mod Alone
+mod Going
+mod Answered
+mod Chaining
+mod Examples

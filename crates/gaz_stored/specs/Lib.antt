@@ -1,0 +1,4 @@
+pub mod Runs
+pub mod Chains
+pub mod Answering
+pub mod Examples

@@ -1,0 +1,131 @@
+//! A conversation over the database behind a connection, which is handed back.
+ghost use Rattle.std.specs.Prelude.{◌≡◌, ◌≢◌, ◌↔◌, false, Err, IfErr, IfOk, IsTrue};
+ghost use Rattle.sqlite.specs.Held.{state};
+ghost use Rattle.gaz_register.specs.Texts.{register_text};
+ghost use Rattle.gaz_shelf.specs.Keeper.{IsNotOpen};
+ghost use Rattle.gaz_kept.specs.Opening.{Judges, Tells, has_all, has_any};
+ghost use Rattle.gaz_store.specs.Store.{seen_in};
+ghost use Rattle.gaz_exchange.specs.Conversing.{transfer};
+ghost use Rattle.gaz_stored.specs.Answering.{AnswersNew, AnswersOpened, Converses, HoldsNone};
+
+use gaz_exchange::{Served, Stopped, converse};
+use gaz_hub::Hub;
+use gaz_register::Register;
+use gaz_shelf::Seed;
+use gaz_store::{Store, StoreRefusal};
+use sqlite::{Alter, Connection};
+use std::alloc::Global;
+use std::io::{Read, Write};
+
+/// What is left when all is over.
+#[derive(Drop)]
+pub struct HandedBack<S: Alter + Drop> {
+    /// The connection, outside a transaction.
+    pub conn: Connection<S>,
+    /// How the conversation ended, or why none was held.
+    pub held: Result<Result<Served, Stopped>, StoreRefusal>,
+}
+
+// Holds a conversation over a store.
+fn converse_over<S: Alter + Drop, R: Read, W: Write>(
+    alloc: Global,
+    store: Store<S>,
+    register: Register,
+    r: &mut R,
+    w: &mut W,
+    most: u64,
+) -> (Connection<S>, Result<Served, Stopped>)
+    requires { IsNotOpen (seen_in store).progress }
+    ensures over { result.0.in_transaction ≡ false }
+    ensures converses { Converses register most
+        (transfer R.remaining W.contents r.old r.new w.old w.new) store result.0 result.1 }
+{
+    let mut hub = Hub::new(alloc, register, store);
+    let ended = converse(alloc, r, w, &mut hub, most);
+    let (_register, store) = hub.into_parts();
+    (store.into_connection(), ended)
+}
+
+/// Makes a store of a register in the empty database behind a connection outside a transaction, and
+/// answers the requests of a stream over it, at most `most` of them. Who picks keys is not to
+/// foresee the seed.
+///
+/// `BadSchema` where a table named as one of a store's is there; `Fault` where memory or the
+/// database failed. No conversation is held then, and the database holds what it held.
+pub fn answer_new<S: Alter + Drop, R: Read, W: Write>(
+    alloc: Global,
+    seed: Seed,
+    conn: Connection<S>,
+    register: Register,
+    r: &mut R,
+    w: &mut W,
+    most: u64,
+) -> HandedBack<S>
+    requires { conn.in_transaction ≡ false }
+    ensures over { result.conn.in_transaction ≡ false }
+    ensures answers { IfOk result.held (AnswersNew S.Store register most
+        (transfer R.remaining W.contents r.old r.new w.old w.new) conn result.conn) }
+    ensures named { (result.held ≡ Err StoreRefusal.BadSchema)
+        ↔ IsTrue (has_any (state S.Store conn).now.schema) }
+    ensures causes { result.held ≢ Err StoreRefusal.OtherRegister }
+    ensures refused { IfErr result.held (λ _. HoldsNone S.Store
+        (transfer R.remaining W.contents r.old r.new w.old w.new) conn result.conn) }
+{
+    match Store::create(alloc, seed, conn, &register) {
+        Ok(store) => {
+            let (conn, ended) = converse_over(alloc, store, register, r, w, most);
+            HandedBack {
+                conn,
+                held: Ok(ended),
+            }
+        }
+        Err((conn, refusal)) => HandedBack {
+            conn,
+            held: Err(refusal),
+        },
+    }
+}
+
+/// Takes the database behind a connection outside a transaction as the store of a register, and
+/// answers the requests of a stream over it, at most `most` of them.
+///
+/// In this order: `BadSchema` where a table of a store or a column of one is missing, or the rows of
+/// `meta` aren't just one, of id 1 and number 1; `OtherRegister` where its text isn't the register's
+/// canonical one; `Fault` where memory or the database failed, so that this isn't known. No
+/// conversation is held then, and the database holds what it held.
+pub fn answer_opened<S: Alter + Drop, R: Read, W: Write>(
+    alloc: Global,
+    seed: Seed,
+    conn: Connection<S>,
+    register: Register,
+    r: &mut R,
+    w: &mut W,
+    most: u64,
+) -> HandedBack<S>
+    requires { conn.in_transaction ≡ false }
+    ensures over { result.conn.in_transaction ≡ false }
+    ensures answers { IfOk result.held (AnswersOpened S.Store register most
+        (transfer R.remaining W.contents r.old r.new w.old w.new) conn result.conn) }
+    ensures lacking { has_all (state S.Store conn).now.schema ≡ false
+        → result.held ≡ Err StoreRefusal.BadSchema }
+    ensures told { IfErr result.held (λ refusal.
+        Tells S.Store conn result.conn (Err refusal) (register_text register)) }
+    ensures judged { IfErr result.held (λ refusal.
+        Judges S.Store conn result.conn (Err refusal) (register_text register)) }
+    ensures refused { IfErr result.held (λ _. HoldsNone S.Store
+        (transfer R.remaining W.contents r.old r.new w.old w.new) conn result.conn) }
+{
+    match Store::open(alloc, seed, conn, &register) {
+        Ok(store) => {
+            let (conn, ended) = converse_over(alloc, store, register, r, w, most);
+            HandedBack {
+                conn,
+                held: Ok(ended),
+            }
+        }
+        Err((conn, refusal)) => HandedBack {
+            conn,
+            held: Err(refusal),
+        },
+    }
+}

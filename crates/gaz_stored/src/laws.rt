@@ -1,0 +1,15 @@
+//! What a reader of the definitions may rely on.
+ghost use Rattle.gaz_stored.specs.Chains.{ChainsAreOne};
+ghost use Rattle.gaz_stored.specs.Examples.{WorkedExamples};
+
+/// What the definitions come to on worked examples.
+pub fn worked_examples()
+    ensures { WorkedExamples }
+{}
+
+/// Conversations one after another over a database that was made a store, or whose tables stood for
+/// a partial run, each of which goes on from what the tables stand for then, are one conversation
+/// of one hub at all their commands.
+pub fn chains_are_one()
+    ensures { ChainsAreOne }
+{}

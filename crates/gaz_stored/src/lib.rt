@@ -1,0 +1,7 @@
+//! A conversation of a hub over a store: over one that is made, and over one that is opened.
+#![tactic(auto)]
+
+mod answering;
+pub mod laws;
+
+pub use answering::{HandedBack, answer_new, answer_opened};
