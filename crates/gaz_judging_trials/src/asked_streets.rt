@@ -1,14 +1,11 @@
 //! How often a keeper is asked for closed streets and for a property, by one that counts.
-ghost use Rattle.std.specs.Prelude.{OnOk};
-ghost use Rattle.gaz_shelf.specs.Keeper.{IsNotOpen};
-
 use crate::cases::{Row, custodian, item, volume, writes};
-use gaz_extract::{closed_streets, lookup_with};
+use crate::resting::{Resting, counting_shelf};
 use gaz_ids::Uprn;
 use gaz_records::{Kind, SharedItem};
 use gaz_register::Register;
 use gaz_samples::REGISTER;
-use gaz_shelf::{Ending, Faulty, Inbox, MemShelf, Seed, write_volume};
+use gaz_shelf::Inbox;
 use std::alloc::Global;
 use std::test::Fail;
 
@@ -27,17 +24,14 @@ fn addresses(alloc: Global) -> Result<Vec<SharedItem>, Fail> {
 }
 
 // A volume of a custodian adds them to its view.
-fn adds_addresses<K: Inbox>(
+fn adds_addresses<K: Inbox + Drop>(
     alloc: Global,
-    shelf: &mut K,
+    shelf: &mut Resting<K>,
     code: u64,
     number: u64,
-) -> Result<(), Fail>
-    requires { IsNotOpen (K.seen shelf.old).progress }
-    ensures { OnOk result (IsNotOpen (K.seen shelf.new).progress) }
-{
+) -> Result<(), Fail> {
     shelf.receive(custodian(code)?, volume(number)?, b"a file")?;
-    write_volume(shelf, custodian(code)?, addresses(alloc)?, Ending::Keep)?;
+    shelf.write_volume(custodian(code)?, addresses(alloc)?)?;
     Ok(())
 }
 
@@ -45,14 +39,14 @@ fn adds_addresses<K: Inbox>(
 fn a_street_is_asked_for_once_by_a_custodian(rt: HostRuntime) -> Result<(), Fail> {
     let alloc = rt.alloc();
     let register = Register::read(alloc, REGISTER)?;
-    let mut shelf = Faulty::new(MemShelf::new(alloc, Seed::of(1)), 0);
+    let mut shelf = counting_shelf(alloc);
     writes(alloc, &mut shelf, custodian(1001)?, &[SHUT])?;
     adds_addresses(alloc, &mut shelf, 1002, 1)?;
-    let before = shelf.counted().current;
-    let closed = closed_streets(alloc, &mut shelf, &register)?;
+    let before = shelf.keeper().counted().current;
+    let closed = shelf.closed_streets(alloc, &register)?;
     assert_eq!(rt; closed.len(), 100);
     // In its own last view, and in the owner's.
-    assert_eq!(rt; shelf.counted().current, before.saturating_add(2));
+    assert_eq!(rt; shelf.keeper().counted().current, before.saturating_add(2));
     Ok(())
 }
 
@@ -60,16 +54,16 @@ fn a_street_is_asked_for_once_by_a_custodian(rt: HostRuntime) -> Result<(), Fail
 fn each_custodian_asks_for_itself(rt: HostRuntime) -> Result<(), Fail> {
     let alloc = rt.alloc();
     let register = Register::read(alloc, REGISTER)?;
-    let mut shelf = Faulty::new(MemShelf::new(alloc, Seed::of(1)), 0);
+    let mut shelf = counting_shelf(alloc);
     writes(alloc, &mut shelf, custodian(1001)?, &[SHUT])?;
     adds_addresses(alloc, &mut shelf, 1001, 2)?;
     adds_addresses(alloc, &mut shelf, 1002, 1)?;
     adds_addresses(alloc, &mut shelf, 1003, 1)?;
-    let before = shelf.counted().current;
-    let closed = closed_streets(alloc, &mut shelf, &register)?;
+    let before = shelf.keeper().counted().current;
+    let closed = shelf.closed_streets(alloc, &register)?;
     // Those of its owner are on a street of the own view.
     assert_eq!(rt; closed.len(), 200);
-    assert_eq!(rt; shelf.counted().current, before.saturating_add(5));
+    assert_eq!(rt; shelf.keeper().counted().current, before.saturating_add(5));
     Ok(())
 }
 
@@ -78,13 +72,13 @@ fn one_custodian_is_asked_for_a_property(rt: HostRuntime) -> Result<(), Fail> {
     let alloc = rt.alloc();
     let register = Register::read(alloc, REGISTER)?;
     let uprn = Uprn::of(100_001).ok_or("a UPRN")?;
-    let mut shelf = Faulty::new(MemShelf::new(alloc, Seed::of(1)), 0);
+    let mut shelf = counting_shelf(alloc);
     writes(alloc, &mut shelf, custodian(1002)?, &[HOUSE])?;
-    let owner = lookup_with(alloc, &mut shelf, &register, custodian(1002)?, uprn)?;
+    let owner = shelf.lookup_with(alloc, &register, custodian(1002)?, uprn)?;
     assert!(rt; owner.is_some_and(|found| found.uprn == uprn));
-    assert_eq!(rt; shelf.counted().property_of, 1);
-    let other = lookup_with(alloc, &mut shelf, &register, custodian(1001)?, uprn)?;
+    assert_eq!(rt; shelf.keeper().counted().property_of, 1);
+    let other = shelf.lookup_with(alloc, &register, custodian(1001)?, uprn)?;
     assert!(rt; other.is_none());
-    assert_eq!(rt; shelf.counted().property_of, 2);
+    assert_eq!(rt; shelf.keeper().counted().property_of, 2);
     Ok(())
 }

@@ -1,14 +1,11 @@
 //! Cases of judgements as text, and the files that they stand for.
-ghost use Rattle.std.specs.Prelude.{OnOk};
-ghost use Rattle.gaz_shelf.specs.Keeper.{IsNotOpen};
-
+use crate::resting::Resting;
 use gaz_changefile::{Action, Basis, Change, ChangeFile};
 use gaz_ids::{Code, Volume};
 use gaz_records::{Day, Kind, SharedItem, item_of_text};
 use gaz_register::Register;
-use gaz_rules::judge;
 use gaz_samples::REGISTER;
-use gaz_shelf::{Ending, Inbox, Shelf, Verdict, write_volume};
+use gaz_shelf::{Inbox, Verdict};
 use std::alloc::Global;
 use std::process::Abort;
 use std::test::Fail;
@@ -94,59 +91,47 @@ pub(crate) fn case_of(alloc: Global, text: &'static str) -> Result<Case, Fail> {
 }
 
 // Judges a file as the next volume, which is received first.
-pub(crate) fn judged<K: Inbox>(
+pub(crate) fn judged<K: Inbox + Drop>(
     alloc: Global,
-    shelf: &mut K,
+    shelf: &mut Resting<K>,
     register: &Register,
     code: Code,
     file: &ChangeFile,
-) -> Result<Verdict, Fail>
-    requires { IsNotOpen (K.seen shelf.old).progress }
-    ensures { OnOk result (IsNotOpen (K.seen shelf.new).progress) }
-{
+) -> Result<Verdict, Fail> {
     let next = volume(shelf.reached(code)?.saturating_add(1))?;
     shelf.receive(code, next, b"a file")?;
-    Ok(judge(alloc, shelf, register, code, file)?)
+    Ok(shelf.judge(alloc, register, code, file)?)
 }
 
-fn has_verdict<K: Inbox>(
+fn has_verdict<K: Inbox + Drop>(
     rt: &impl Abort,
-    shelf: &mut K,
+    shelf: &mut Resting<K>,
     code: Code,
     case: &Case,
-) -> Result<(), Fail>
-    requires { IsNotOpen (K.seen shelf.old).progress }
-    ensures { OnOk result (IsNotOpen (K.seen shelf.new).progress) }
-{
+) -> Result<(), Fail> {
     let last = volume(shelf.reached(code)?)?;
     let verdict = shelf.verdict(code, last)?;
     assert!(rt; verdict == Some(case.verdict), "{}", case.name);
     Ok(())
 }
 
-fn is_judged<K: Inbox>(
+fn is_judged<K: Inbox + Drop>(
     rt: &(impl Abort + AllocGlobal),
-    shelf: &mut K,
+    shelf: &mut Resting<K>,
     register: &Register,
     case: &Case,
-) -> Result<(), Fail>
-    requires { IsNotOpen (K.seen shelf.old).progress }
-    ensures { OnOk result (IsNotOpen (K.seen shelf.new).progress) }
-{
+) -> Result<(), Fail> {
     let verdict = judged(rt.alloc(), shelf, register, case.code, &case.file)?;
     assert!(rt; verdict == case.verdict, "{}", case.name);
     has_verdict(rt, shelf, case.code, case)
 }
 
 // The files of these cases one after another. Each begins with `# `.
-pub(crate) fn are_judged<K: Inbox>(
+pub(crate) fn are_judged<K: Inbox + Drop>(
     rt: &(impl Abort + AllocGlobal),
-    shelf: &mut K,
+    shelf: &mut Resting<K>,
     cases: &'static str,
-) -> Result<(), Fail>
-    requires { IsNotOpen (K.seen shelf.old).progress }
-    ensures { OnOk result (IsNotOpen (K.seen shelf.new).progress) }
-{
+) -> Result<(), Fail> {
     let register = Register::read(rt.alloc(), REGISTER)?;
     for text in cases.split("# ").skip(1) {
         let case = case_of(rt.alloc(), text)?;
@@ -168,20 +153,17 @@ pub(crate) fn item_of(alloc: Global, row: Row) -> Result<SharedItem, Fail> {
 }
 
 // A custodian's volume 1 puts these items into its view, as a file may or may not.
-pub(crate) fn writes<K: Inbox>(
+pub(crate) fn writes<K: Inbox + Drop>(
     alloc: Global,
-    shelf: &mut K,
+    shelf: &mut Resting<K>,
     code: Code,
     rows: &[Row],
-) -> Result<(), Fail>
-    requires { IsNotOpen (K.seen shelf.old).progress }
-    ensures { OnOk result (IsNotOpen (K.seen shelf.new).progress) }
-{
+) -> Result<(), Fail> {
     let mut items = Vec::new(alloc);
     for row in rows {
         items.push(item_of(alloc, *row)?)?;
     }
     shelf.receive(code, volume(1)?, b"a file")?;
-    write_volume(shelf, code, items, Ending::Keep)?;
+    shelf.write_volume(code, items)?;
     Ok(())
 }

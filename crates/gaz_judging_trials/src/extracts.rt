@@ -1,13 +1,12 @@
-ghost use Rattle.std.specs.Prelude.{◌≡◌, OnOk};
-ghost use Rattle.gaz_shelf.specs.Keeper.{Idle};
-
+//! Look-ups, extracts and closed streets, as volumes come.
 use crate::cases::{custodian, item, volume};
-use gaz_extract::{closed_streets, extract, line, lookup};
+use crate::resting::{Resting, new_shelf};
+use gaz_extract::line;
 use gaz_ids::{Status, Uprn};
 use gaz_records::{Item, Kind};
 use gaz_register::Register;
 use gaz_samples::REGISTER;
-use gaz_shelf::{Ending, Inbox, MemShelf, Seed, write_volume};
+use gaz_shelf::Inbox;
 use std::alloc::Global;
 use std::process::Abort;
 use std::test::Fail;
@@ -15,38 +14,34 @@ use std::test::Fail;
 const FLAT: &str = "L1,42,ENG,1,101,,,,,Flat 2,12,A,14,,,2001-04-01,";
 
 // A volume that puts these rows.
-fn puts<K: Inbox>(
+fn puts<K: Inbox + Drop>(
     alloc: Global,
-    shelf: &mut K,
+    shelf: &mut Resting<K>,
     code: u64,
     number: u64,
     rows: &[(Kind, &str)],
-) -> Result<(), Fail>
-    requires { (K.seen shelf.old).progress ≡ Idle }
-    ensures { OnOk result ((K.seen shelf.new).progress ≡ Idle) }
-{
+) -> Result<(), Fail> {
     let mut items = Vec::new(alloc);
     for (kind, row) in rows {
         items.push(item(alloc, *kind, row)?)?;
     }
     shelf.receive(custodian(code)?, volume(number)?, b"a file")?;
-    write_volume(shelf, custodian(code)?, items, Ending::Keep)?;
+    shelf.write_volume(custodian(code)?, items)?;
     Ok(())
 }
 
 // Where a property stands, its status and its line.
-fn is_found<K: Inbox>(
+fn is_found<K: Inbox + Drop>(
     rt: &(impl Abort + AllocGlobal),
-    shelf: &mut K,
+    shelf: &mut Resting<K>,
     register: &Register,
     uprn: u64,
     wanted: (u64, Status, Option<&str>),
-) -> Result<(), Fail>
-    requires { (K.seen shelf.old).progress ≡ Idle }
-    ensures { OnOk result ((K.seen shelf.new).progress ≡ Idle) }
-{
+) -> Result<(), Fail> {
     let uprn = Uprn::of(uprn).ok_or("a UPRN")?;
-    let found = lookup(rt.alloc(), shelf, register, uprn)?.ok_or("it stands nowhere")?;
+    let found = shelf
+        .lookup(rt.alloc(), register, uprn)?
+        .ok_or("it stands nowhere")?;
     let (code, status, text) = wanted;
     assert_eq!(rt; found.custodian, custodian(code)?);
     assert_eq!(rt; found.uprn, uprn);
@@ -59,32 +54,26 @@ fn is_found<K: Inbox>(
     Ok(())
 }
 
-fn is_nowhere<K: Inbox>(
+fn is_nowhere<K: Inbox + Drop>(
     rt: &(impl Abort + AllocGlobal),
-    shelf: &mut K,
+    shelf: &mut Resting<K>,
     register: &Register,
     uprn: u64,
-) -> Result<(), Fail>
-    requires { (K.seen shelf.old).progress ≡ Idle }
-    ensures { OnOk result ((K.seen shelf.new).progress ≡ Idle) }
-{
+) -> Result<(), Fail> {
     let uprn = Uprn::of(uprn).ok_or("a UPRN")?;
-    assert!(rt; lookup(rt.alloc(), shelf, register, uprn)?.is_none());
+    assert!(rt; shelf.lookup(rt.alloc(), register, uprn)?.is_none());
     Ok(())
 }
 
 // The extract of a volume, or none where none is given.
-fn has_extract<K: Inbox>(
+fn has_extract<K: Inbox + Drop>(
     rt: &(impl Abort + AllocGlobal),
-    shelf: &mut K,
+    shelf: &mut Resting<K>,
     code: u64,
     number: u64,
     text: Option<&str>,
-) -> Result<(), Fail>
-    requires { (K.seen shelf.old).progress ≡ Idle }
-    ensures { OnOk result ((K.seen shelf.new).progress ≡ Idle) }
-{
-    let found = extract(rt.alloc(), shelf, custodian(code)?, volume(number)?)?;
+) -> Result<(), Fail> {
+    let found = shelf.extract(rt.alloc(), custodian(code)?, volume(number)?)?;
     match (&found, text) {
         (None, None) => {}
         (Some(found), Some(text)) => assert_eq!(rt; found.as_slice(), text.as_bytes()),
@@ -94,17 +83,14 @@ fn has_extract<K: Inbox>(
 }
 
 // How many addresses are on closed streets, and the key of the first.
-fn has_closed<K: Inbox>(
+fn has_closed<K: Inbox + Drop>(
     rt: &(impl Abort + AllocGlobal),
-    shelf: &mut K,
+    shelf: &mut Resting<K>,
     register: &Register,
     count: usize,
     first: &str,
-) -> Result<(), Fail>
-    requires { (K.seen shelf.old).progress ≡ Idle }
-    ensures { OnOk result ((K.seen shelf.new).progress ≡ Idle) }
-{
-    let closed = closed_streets(rt.alloc(), shelf, register)?;
+) -> Result<(), Fail> {
+    let closed = shelf.closed_streets(rt.alloc(), register)?;
     assert_eq!(rt; closed.len(), count);
     if let Some(found) = closed.first() {
         assert_eq!(rt; found.custodian, custodian(1002)?);
@@ -167,7 +153,7 @@ fn lines_join_the_parts_that_are_there(rt: HostRuntime) -> Result<(), Fail> {
 fn look_ups_follow_the_volumes(rt: HostRuntime) -> Result<(), Fail> {
     let alloc = rt.alloc();
     let register = Register::read(alloc, REGISTER)?;
-    let mut shelf = MemShelf::new(alloc, Seed::of(1));
+    let mut shelf = new_shelf(alloc);
     is_nowhere(&rt, &mut shelf, &register, 42)?;
     let street = (Kind::Street, "101,1,2001-04-01,");
     let name = (Kind::Descriptor, HIGH_STREET);
@@ -254,7 +240,7 @@ fn look_ups_follow_the_volumes(rt: HostRuntime) -> Result<(), Fail> {
 fn a_street_closes(rt: HostRuntime) -> Result<(), Fail> {
     let alloc = rt.alloc();
     let register = Register::read(alloc, REGISTER)?;
-    let mut shelf = MemShelf::new(alloc, Seed::of(1));
+    let mut shelf = new_shelf(alloc);
     let road = [
         (Kind::Street, "150,1,1990-01-01,"),
         (Kind::Descriptor, "150,ENG,County Road,,Arden,Arden"),
@@ -294,22 +280,22 @@ fn a_street_closes(rt: HostRuntime) -> Result<(), Fail> {
 }
 
 // More addresses than nine pages hold, all on the closed street.
-fn many<K: Inbox>(
+fn many<K: Inbox + Drop>(
     rt: &(impl Abort + AllocGlobal),
-    shelf: &mut K,
+    shelf: &mut Resting<K>,
     register: &Register,
-) -> Result<(), Fail>
-    requires { (K.seen shelf.old).progress ≡ Idle }
-{
+) -> Result<(), Fail> {
     let mut items = Vec::new(rt.alloc());
     for n in 1000_u64..6000 {
         let row = format!(in rt.alloc(); "A{n},{n},ENG,1,150,,,,,,7,,,,,2020-01-01,")?;
         items.push(item(rt.alloc(), Kind::Lpi, row.as_str())?)?;
     }
     shelf.receive(custodian(1002)?, volume(2)?, b"a file")?;
-    write_volume(shelf, custodian(1002)?, items, Ending::Keep)?;
+    shelf.write_volume(custodian(1002)?, items)?;
     has_closed(rt, shelf, register, 5001, "A1000")?;
-    let text = extract(rt.alloc(), shelf, custodian(1002)?, volume(2)?)?.ok_or("no extract")?;
+    let text = shelf
+        .extract(rt.alloc(), custodian(1002)?, volume(2)?)?
+        .ok_or("no extract")?;
     assert!(rt;
         text.as_slice().ends_with(
             b"24,I,5002,K1,100001,ENG,1,150,,,,,,7,,,,,2020-01-01,\n99,5002\n"

@@ -1,15 +1,11 @@
 //! A judgement in which a call of the keeper fails, each in turn.
-ghost use Rattle.std.specs.Prelude.{IfOk};
-ghost use Rattle.gaz_shelf.specs.Keeper.{IsNotOpen};
-ghost use Rattle.gaz_shelf.specs.Mem.{progress_of};
-
 use crate::cases::{Case, are_judged, case_of, custodian, volume};
+use crate::resting::{Resting, new_shelf};
 use gaz_ids::Code;
 use gaz_records::{Kind, item_text};
 use gaz_register::Register;
-use gaz_rules::judge;
 use gaz_samples::REGISTER;
-use gaz_shelf::{Call, Faulty, Inbox, MemShelf, Seed, Shelf, ShelfFault, Verdict, read_kind};
+use gaz_shelf::{Call, Inbox, MemShelf, ShelfFault, Verdict};
 use std::alloc::Global;
 use std::process::Abort;
 use std::test::Fail;
@@ -55,25 +51,23 @@ const REJECTED: &str = "1002 an address of a property that isn't there
 ";
 
 // A keeper after the files before, that received the next.
-fn shelf_before(rt: &(impl Abort + AllocGlobal)) -> Result<MemShelf, Fail>
-    ensures { IfOk result (λ s. IsNotOpen (progress_of s.judging)) }
-{
-    let mut shelf = MemShelf::new(rt.alloc(), Seed::of(1));
+fn shelf_before(rt: &(impl Abort + AllocGlobal)) -> Result<Resting<MemShelf>, Fail> {
+    let mut shelf = new_shelf(rt.alloc());
     are_judged(rt, &mut shelf, BEFORE)?;
     shelf.receive(custodian(1002)?, volume(2)?, b"a file")?;
     Ok(shelf)
 }
 
 // Adds the items of a view.
-fn add_view<S: Shelf>(
+fn add_view<K: Inbox + Drop>(
     alloc: Global,
-    shelf: &mut S,
+    shelf: &mut Resting<K>,
     code: Code,
     after: u64,
     text: &mut Vec<u8>,
 ) -> Result<(), Fail> {
     for kind in KINDS {
-        for item in &read_kind(alloc, shelf, code, after, kind, 9)? {
+        for item in &shelf.read_kind(alloc, code, after, kind)? {
             text.extend_from_slice(&item_text(alloc, item)?)?;
             text.push(b'\n')?;
         }
@@ -82,9 +76,9 @@ fn add_view<S: Shelf>(
 }
 
 // Adds the verdict on a volume and the view after it, where it is judged, and the file, where it was received.
-fn add_volume<K: Inbox>(
+fn add_volume<K: Inbox + Drop>(
     alloc: Global,
-    shelf: &mut K,
+    shelf: &mut Resting<K>,
     code: Code,
     number: u64,
     text: &mut Vec<u8>,
@@ -105,7 +99,7 @@ fn add_volume<K: Inbox>(
 }
 
 // Files and board as text.
-fn text_of<K: Inbox>(alloc: Global, shelf: &mut K) -> Result<Vec<u8>, Fail> {
+fn text_of<K: Inbox + Drop>(alloc: Global, shelf: &mut Resting<K>) -> Result<Vec<u8>, Fail> {
     let mut text = Vec::new(alloc);
     add_volume(alloc, shelf, custodian(1001)?, 1, &mut text)?;
     add_volume(alloc, shelf, custodian(1002)?, 1, &mut text)?;
@@ -123,7 +117,7 @@ fn texts_of(
     let alloc = rt.alloc();
     let before = text_of(alloc, &mut shelf_before(rt)?)?;
     let mut shelf = shelf_before(rt)?;
-    let verdict = judge(alloc, &mut shelf, register, case.code, &case.file)?;
+    let verdict = shelf.judge(alloc, register, case.code, &case.file)?;
     assert!(rt; verdict == case.verdict, "{}", case.name);
     Ok((before, text_of(alloc, &mut shelf)?))
 }
@@ -137,8 +131,8 @@ fn undoes(
     before: &[u8],
 ) -> Result<(), Fail> {
     let alloc = rt.alloc();
-    let mut shelf = Faulty::new(shelf_before(rt)?, number);
-    let judged = judge(alloc, &mut shelf, register, case.code, &case.file);
+    let mut shelf = shelf_before(rt)?.failing_at(number);
+    let judged = shelf.judge(alloc, register, case.code, &case.file);
     assert!(rt; matches!(judged, Err(ShelfFault::Store)), "{number}");
     let text = text_of(alloc, &mut shelf)?;
     assert!(rt; text.as_slice() == before, "{number}");
@@ -154,13 +148,13 @@ fn fails_at(
     after: &[u8],
 ) -> Result<Option<Call>, Fail> {
     let alloc = rt.alloc();
-    let mut shelf = Faulty::new(shelf_before(rt)?, number);
-    let judged = judge(alloc, &mut shelf, register, case.code, &case.file);
-    let Some(call) = shelf.failed() else {
+    let mut shelf = shelf_before(rt)?.failing_at(number);
+    let judged = shelf.judge(alloc, register, case.code, &case.file);
+    let Some(call) = shelf.keeper().failed() else {
         assert!(rt; judged? == case.verdict, "{}", case.name);
         return Ok(None);
     };
-    let again = judge(alloc, &mut shelf, register, case.code, &case.file)?;
+    let again = shelf.judge(alloc, register, case.code, &case.file)?;
     assert!(rt; again == case.verdict, "{call:?}");
     let text = text_of(alloc, &mut shelf)?;
     assert!(rt; text.as_slice() == after, "{call:?}");

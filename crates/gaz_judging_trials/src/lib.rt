@@ -12,4 +12,6 @@ mod judging_faults;
 #[cfg(test)]
 mod look_ups;
 #[cfg(test)]
+mod resting;
+#[cfg(test)]
 mod rules;

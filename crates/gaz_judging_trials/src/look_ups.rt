@@ -1,10 +1,11 @@
 //! How often a judgement looks an item up, by a keeper that counts.
 use crate::cases::{Row, custodian, file_of, item_of, judged, writes};
+use crate::resting::counting_shelf;
 use gaz_changefile::{Action, Change, ChangeFile};
 use gaz_records::{Kind, SharedItem, item_of_text};
 use gaz_register::Register;
 use gaz_samples::REGISTER;
-use gaz_shelf::{Faulty, MemShelf, Seed, Verdict};
+use gaz_shelf::Verdict;
 use std::alloc::Global;
 use std::process::Abort;
 use std::test::Fail;
@@ -98,12 +99,15 @@ fn looks_up(rt: &(impl Abort + AllocGlobal), action: Action, case: &Case) -> Res
     let alloc = rt.alloc();
     let (before, rows, looked, fault) = *case;
     let register = Register::read(alloc, REGISTER)?;
-    let mut shelf = Faulty::new(MemShelf::new(alloc, Seed::of(1)), 0);
+    let mut shelf = counting_shelf(alloc);
     writes(alloc, &mut shelf, custodian(1001)?, before)?;
     let file = changes(alloc, action, rows)?;
     let verdict = judged(alloc, &mut shelf, &register, custodian(1001)?, &file)?;
     assert!(rt; verdict == verdict_of(fault), "{looked}, {fault:?}");
-    assert!(rt; shelf.counted().current == looked, "{looked}, {fault:?}");
+    assert!(rt;
+        shelf.keeper().counted().current == looked,
+        "{looked}, {fault:?}"
+    );
     Ok(())
 }
 
@@ -154,10 +158,10 @@ fn asks_little(rt: &(impl Abort + AllocGlobal), backwards: bool) -> Result<(), F
     let alloc = rt.alloc();
     let register = Register::read(alloc, REGISTER)?;
     let file = chain(alloc, backwards)?;
-    let mut shelf = Faulty::new(MemShelf::new(alloc, Seed::of(1)), 0);
+    let mut shelf = counting_shelf(alloc);
     let verdict = judged(alloc, &mut shelf, &register, custodian(1001)?, &file)?;
     assert!(rt; verdict == Verdict::Applied);
-    let looked = shelf.counted().current;
+    let looked = shelf.keeper().counted().current;
     assert!(rt; looked <= 50_000, "{looked}");
     Ok(())
 }

@@ -1,7 +1,7 @@
 //! Files judged by each rule, one after another over a keeper in memory.
 use crate::cases::{are_judged, custodian, writes};
+use crate::resting::new_shelf;
 use gaz_records::Kind;
-use gaz_shelf::{MemShelf, Seed};
 use std::test::Fail;
 
 const PARENTS: &str = "\
@@ -231,32 +231,32 @@ const IN_TWO_VIEWS: &str = "\
 
 #[test]
 fn chains_of_parents(rt: HostRuntime) -> Result<(), Fail> {
-    are_judged(&rt, &mut MemShelf::new(rt.alloc(), Seed::of(1)), PARENTS)
+    are_judged(&rt, &mut new_shelf(rt.alloc()), PARENTS)
 }
 
 #[test]
 fn descriptors_and_used_keys(rt: HostRuntime) -> Result<(), Fail> {
-    are_judged(&rt, &mut MemShelf::new(rt.alloc(), Seed::of(1)), NAMES)
+    are_judged(&rt, &mut new_shelf(rt.alloc()), NAMES)
 }
 
 #[test]
 fn addresses(rt: HostRuntime) -> Result<(), Fail> {
-    are_judged(&rt, &mut MemShelf::new(rt.alloc(), Seed::of(1)), ADDRESSES)
+    are_judged(&rt, &mut new_shelf(rt.alloc()), ADDRESSES)
 }
 
 #[test]
 fn numbers_of_the_own_blocks(rt: HostRuntime) -> Result<(), Fail> {
-    are_judged(&rt, &mut MemShelf::new(rt.alloc(), Seed::of(1)), NUMBERS)
+    are_judged(&rt, &mut new_shelf(rt.alloc()), NUMBERS)
 }
 
 #[test]
 fn streets_of_others(rt: HostRuntime) -> Result<(), Fail> {
-    are_judged(&rt, &mut MemShelf::new(rt.alloc(), Seed::of(1)), FOREIGN)
+    are_judged(&rt, &mut new_shelf(rt.alloc()), FOREIGN)
 }
 
 #[test]
 fn streets_in_several_views(rt: HostRuntime) -> Result<(), Fail> {
-    let mut shelf = MemShelf::new(rt.alloc(), Seed::of(1));
+    let mut shelf = new_shelf(rt.alloc());
     are_judged(&rt, &mut shelf, CLOSED_THEN_OPEN)?;
     let street = (Kind::Street, "150,1,1990-01-01,");
     writes(rt.alloc(), &mut shelf, custodian(1002)?, &[street])?;

@@ -1,10 +1,9 @@
 //! What a keeper around another counts: each call as one of its own kind.
-ghost use Rattle.gaz_shelf.specs.Keeper.{IsNotOpen};
-
 use crate::fixtures::{custodian, item, received, street_key, volume};
+use crate::tried::Tried;
 use gaz_ids::{Uprn, Usrn};
 use gaz_records::{Key, Kind};
-use gaz_shelf::{Call, Calls, Faulty, Inbox};
+use gaz_shelf::{Call, Calls, Inbox};
 use std::alloc::Global;
 use std::process::Abort;
 use std::test::Fail;
@@ -35,7 +34,7 @@ const CALLS: &[(Call, u64)] = &[
 ];
 
 // Makes a call that needs no judgement.
-fn reads<K: Inbox>(shelf: &mut K, call: Call) -> Result<(), Fail> {
+fn reads<K: Inbox + Drop>(shelf: &mut Tried<K>, call: Call) -> Result<(), Fail> {
     let code = custodian(1001)?;
     let uprn = Uprn::of(1).ok_or("a UPRN")?;
     let usrn = Usrn::of(101).ok_or("a USRN")?;
@@ -59,9 +58,7 @@ fn reads<K: Inbox>(shelf: &mut K, call: Call) -> Result<(), Fail> {
 }
 
 // Makes a call, where no judgement is in progress.
-fn makes<K: Inbox>(alloc: Global, shelf: &mut K, call: Call) -> Result<(), Fail>
-    requires { IsNotOpen (K.seen shelf.old).progress }
-{
+fn makes<K: Inbox + Drop>(alloc: Global, shelf: &mut Tried<K>, call: Call) -> Result<(), Fail> {
     let code = custodian(1001)?;
     let street = item(alloc, Kind::Street, STREET)?;
     let key = street_key(101)?;
@@ -117,9 +114,9 @@ fn count_of(calls: &Calls, call: Call) -> u64 {
 #[test]
 fn each_call_is_counted_as_one_of_its_kind(rt: HostRuntime) -> Result<(), Fail> {
     for (call, made) in CALLS {
-        let mut shelf = Faulty::new(received(rt.alloc())?, 0);
+        let mut shelf = received(rt.alloc())?.failing_at(0)?;
         makes(rt.alloc(), &mut shelf, *call)?;
-        let calls = shelf.counted();
+        let calls = shelf.keeper().counted();
         let mut all: u64 = 0;
         for (other, _) in CALLS {
             all = all.saturating_add(count_of(&calls, *other));

@@ -1,15 +1,12 @@
-//! Numbers, keys and items of text, and a account and a keeper to begin with.
-ghost use Rattle.std.specs.Prelude.{IfOk};
-ghost use Rattle.gaz_shelf.specs.Keeper.{IsNotOpen};
-ghost use Rattle.gaz_shelf.specs.Mem.{seen_in};
-
+//! Numbers, keys and items of text, a keeper to begin with, and a folder for files.
+use crate::tried::Tried;
 use gaz_ids::{Code, Uprn, Usrn, Volume};
-use gaz_ledger::CachedLedger;
-use gaz_records::{Key, Kind, RecordKey, SharedItem, item_of_text, key_of};
-use gaz_shelf::{Inbox, MemShelf, Seed};
-use gaz_views::Verdict;
+use gaz_records::{Key, Kind, RecordKey, SharedItem, item_of_text};
+use gaz_shelf::{MemShelf, Seed};
 use std::alloc::Global;
+use std::hash::{BuildHasher, RandomState};
 use std::test::Fail;
+use std::{env, fs, io};
 
 pub(crate) fn custodian(number: u64) -> Result<Code, Fail> {
     Ok(Code::of(number).ok_or("a code")?)
@@ -39,62 +36,18 @@ pub(crate) fn item(alloc: Global, kind: Kind, row: &str) -> Result<SharedItem, F
     Ok(SharedItem::new(alloc, item_of_text(alloc, kind, row.as_bytes())?)?)
 }
 
-/// What is done to a account: an item of a row is put, or what stands under its key is taken, or a volume ends.
-#[derive(Clone, Copy)]
-pub(crate) enum Step {
-    Put(Kind, &'static str),
-    Take(Kind, &'static str),
-    Close,
-    Reject { place: u64, rule: u8 },
-    Undo,
-}
-
-pub(crate) fn puts(
-    alloc: Global,
-    account: &mut CachedLedger,
-    kind: Kind,
-    row: &str,
-) -> Result<(), Fail> {
-    account.put(item(alloc, kind, row)?)?;
-    Ok(())
-}
-
-fn takes(alloc: Global, account: &mut CachedLedger, kind: Kind, row: &str) -> Result<(), Fail> {
-    let key = key_of(item(alloc, kind, row)?.as_item());
-    account.take(&key)?;
-    Ok(())
-}
-
-pub(crate) fn closes(account: &mut CachedLedger, verdict: Verdict) -> Result<(), Fail> {
-    account.close(verdict)?;
-    Ok(())
-}
-
-fn steps(alloc: Global, account: &mut CachedLedger, step: Step) -> Result<(), Fail> {
-    match step {
-        Step::Put(kind, row) => puts(alloc, account, kind, row),
-        Step::Take(kind, row) => takes(alloc, account, kind, row),
-        Step::Close => closes(account, Verdict::Applied),
-        Step::Reject { place, rule } => closes(account, Verdict::Rejected { place, rule }),
-        Step::Undo => {
-            account.undo();
-            Ok(())
-        }
-    }
-}
-
-pub(crate) fn walks(alloc: Global, account: &mut CachedLedger, path: &[Step]) -> Result<(), Fail> {
-    for step in path {
-        steps(alloc, account, *step)?;
-    }
-    Ok(())
-}
-
-// A keeper that received one file.
-pub(crate) fn received(alloc: Global) -> Result<MemShelf, Fail>
-    ensures { IfOk result (λ s. IsNotOpen (seen_in s).progress) }
-{
-    let mut shelf = MemShelf::new(alloc, Seed::of(1));
+/// A keeper in memory that received one file.
+pub(crate) fn received(alloc: Global) -> Result<Tried<MemShelf>, Fail> {
+    let mut shelf = Tried::new(MemShelf::new(alloc, Seed::of(1)));
     shelf.receive(custodian(1001)?, volume(1)?, b"a file")?;
     Ok(shelf)
+}
+
+/// The path of a new folder for files, in that of the system for what passes.
+pub(crate) fn new_folder(rt: &HostRuntime) -> io::Result<String> {
+    let number = RandomState::new(rt)?.hash_one(&0u8);
+    let passing = env::temp_dir(rt)?;
+    let folder = format!(in rt.alloc(); "{}/gaz-keepers-{number}", passing.as_str())?;
+    fs::create_dir(rt, folder.as_str())?;
+    Ok(folder)
 }

@@ -1,10 +1,9 @@
 //! One call that fails, and what follows.
-ghost use Rattle.gaz_shelf.specs.Keeper.{IsNotOpen};
-
 use crate::fixtures::{custodian, item, received};
+use crate::tried::{FAILED, Refusal, Tried};
 use gaz_ids::{Code, Volume};
 use gaz_records::{Kind, SharedItem, key_of};
-use gaz_shelf::{Call, Calls, Faulty, Inbox, Shelf, ShelfFault};
+use gaz_shelf::{Call, Calls, Inbox, ShelfFault};
 use std::alloc::Global;
 use std::process::Abort;
 use std::test::Fail;
@@ -18,15 +17,12 @@ fn street(alloc: Global, row: &str) -> Result<SharedItem, Fail> {
 }
 
 // A volume in which a street comes and goes, and another comes.
-fn writes<K: Inbox>(
-    shelf: &mut K,
+fn writes<K: Inbox + Drop>(
+    shelf: &mut Tried<K>,
     code: Code,
     first: SharedItem,
     second: SharedItem,
-) -> Result<(), ShelfFault>
-    requires { IsNotOpen (K.seen shelf.old).progress }
-    ensures { IsNotOpen (K.seen shelf.new).progress }
-{
+) -> Result<(), Refusal> {
     let key = key_of(&first);
     shelf.begin(code)?;
     shelf.put(first)?;
@@ -36,9 +32,9 @@ fn writes<K: Inbox>(
 }
 
 // The volume is kept wholly, or not at all.
-fn has_written<K: Inbox>(
+fn has_written<K: Inbox + Drop>(
     rt: &(impl Abort + AllocGlobal),
-    shelf: &mut K,
+    shelf: &mut Tried<K>,
     has: bool,
 ) -> Result<(), Fail> {
     let code = custodian(1001)?;
@@ -55,10 +51,10 @@ fn has_written<K: Inbox>(
 fn fails_at(rt: &(impl Abort + AllocGlobal), number: u64, call: Call) -> Result<(), Fail> {
     let alloc = rt.alloc();
     let (first, second) = (street(alloc, FIRST)?, street(alloc, SECOND)?);
-    let mut shelf = Faulty::new(received(alloc)?, number);
+    let mut shelf = received(alloc)?.failing_at(number)?;
     let fails = writes(&mut shelf, custodian(1001)?, first, second);
-    assert!(rt; matches!(fails, Err(ShelfFault::Store)), "{call:?}");
-    assert_eq!(rt; shelf.failed(), Some(call));
+    assert!(rt; fails == Err(FAILED), "{call:?}");
+    assert_eq!(rt; shelf.keeper().failed(), Some(call));
     has_written(rt, &mut shelf, false)
 }
 
@@ -66,7 +62,7 @@ fn fails_at(rt: &(impl Abort + AllocGlobal), number: u64, call: Call) -> Result<
 fn goes_on_after(rt: &(impl Abort + AllocGlobal), number: u64) -> Result<(), Fail> {
     let alloc = rt.alloc();
     let (first, second) = (street(alloc, FIRST)?, street(alloc, SECOND)?);
-    let mut shelf = Faulty::new(received(alloc)?, number);
+    let mut shelf = received(alloc)?.failing_at(number)?;
     let fails = writes(&mut shelf, custodian(1001)?, first, second);
     assert!(rt; fails.is_err());
     let (first, second) = (street(alloc, FIRST)?, street(alloc, SECOND)?);
@@ -96,12 +92,12 @@ fn a_broken_judgement_refuses_and_is_cleared(rt: HostRuntime) -> Result<(), Fail
     let alloc = rt.alloc();
     let code = custodian(1001)?;
     let key = key_of(street(alloc, FIRST)?.as_item());
-    let mut shelf = Faulty::new(received(alloc)?, 2);
+    let mut shelf = received(alloc)?.failing_at(2)?;
     shelf.begin(code)?;
-    assert!(rt; matches!(shelf.put(street(alloc, FIRST)?), Err(ShelfFault::Store)));
-    assert!(rt; matches!(shelf.put(street(alloc, FIRST)?), Err(ShelfFault::Store)));
-    assert!(rt; matches!(shelf.take(&key), Err(ShelfFault::Store)));
-    assert!(rt; matches!(shelf.keep(), Err(ShelfFault::Store)));
+    assert!(rt; shelf.put(street(alloc, FIRST)?) == Err(FAILED));
+    assert!(rt; shelf.put(street(alloc, FIRST)?) == Err(FAILED));
+    assert!(rt; shelf.take(&key) == Err(FAILED));
+    assert!(rt; shelf.keep() == Err(FAILED));
     shelf.abandon()?;
     shelf.begin(code)?;
     assert!(rt; shelf.current(code, &key)?.is_none());
@@ -115,7 +111,7 @@ fn a_broken_judgement_refuses_and_is_cleared(rt: HostRuntime) -> Result<(), Fail
         current: 1,
         ..Calls::none()
     };
-    assert_eq!(rt; shelf.counted(), calls);
+    assert_eq!(rt; shelf.keeper().counted(), calls);
     Ok(())
 }
 
@@ -124,14 +120,14 @@ fn a_broken_judgement_refuses_and_is_cleared(rt: HostRuntime) -> Result<(), Fail
 fn failing_to_begin_or_to_abandon_breaks_a_judgement(rt: HostRuntime) -> Result<(), Fail> {
     let alloc = rt.alloc();
     let code = custodian(1001)?;
-    let mut shelf = Faulty::new(received(alloc)?, 2);
+    let mut shelf = received(alloc)?.failing_at(2)?;
     shelf.begin(code)?;
-    assert!(rt; matches!(shelf.abandon(), Err(ShelfFault::Store)));
-    assert!(rt; matches!(shelf.keep(), Err(ShelfFault::Store)));
+    assert!(rt; shelf.abandon() == Err(FAILED));
+    assert!(rt; shelf.keep() == Err(FAILED));
     has_written(&rt, &mut shelf, false)?;
-    let mut shelf = Faulty::new(received(alloc)?, 1);
-    assert!(rt; matches!(shelf.begin(code), Err(ShelfFault::Store)));
-    assert!(rt; matches!(shelf.keep(), Err(ShelfFault::Store)));
+    let mut shelf = received(alloc)?.failing_at(1)?;
+    assert!(rt; shelf.begin(code) == Err(FAILED));
+    assert!(rt; shelf.keep() == Err(FAILED));
     has_written(&rt, &mut shelf, false)
 }
 
@@ -140,19 +136,19 @@ fn failing_to_begin_or_to_abandon_breaks_a_judgement(rt: HostRuntime) -> Result<
 fn other_failing_calls_change_nothing(rt: HostRuntime) -> Result<(), Fail> {
     let alloc = rt.alloc();
     let code = custodian(1001)?;
-    let mut shelf = Faulty::new(received(alloc)?, 3);
+    let mut shelf = received(alloc)?.failing_at(3)?;
     shelf.begin(code)?;
     shelf.put(street(alloc, SECOND)?)?;
     assert!(rt; matches!(shelf.reached(code), Err(ShelfFault::Store)));
     shelf.keep()?;
     let second = key_of(street(alloc, SECOND)?.as_item());
     assert!(rt; shelf.current(code, &second)?.is_some());
-    let mut shelf = Faulty::new(received(alloc)?, 1);
-    assert!(rt; matches!(shelf.skip(code, 1, 1), Err(ShelfFault::Store)));
+    let mut shelf = received(alloc)?.failing_at(1)?;
+    assert!(rt; shelf.skip(code, 1, 1) == Err(FAILED));
     has_written(&rt, &mut shelf, false)?;
     let next = Volume::of(2).ok_or("a volume")?;
-    let mut shelf = Faulty::new(received(alloc)?, 1);
-    assert!(rt; matches!(shelf.receive(code, next, b"two"), Err(ShelfFault::Store)));
+    let mut shelf = received(alloc)?.failing_at(1)?;
+    assert!(rt; shelf.receive(code, next, b"two") == Err(FAILED));
     assert!(rt; shelf.received(code, next)?.is_none());
     has_written(&rt, &mut shelf, false)
 }

@@ -1,6 +1,8 @@
-//! Ledgers and keepers as their callers use them: tests of `gaz_ledger` and `gaz_shelf`.
+//! Keepers as their callers use them: tests of `gaz_shelf` and of the keeper of `gaz_store`.
 #![tactic(auto)]
 
+#[cfg(test)]
+mod asked;
 #[cfg(test)]
 mod counts;
 #[cfg(test)]
@@ -10,10 +12,10 @@ mod keeper_faults;
 #[cfg(test)]
 mod keepers;
 #[cfg(test)]
-mod ledgers;
-#[cfg(test)]
-mod left_marks;
-#[cfg(test)]
-mod properties;
+mod stores;
 #[cfg(test)]
 mod told;
+#[cfg(test)]
+mod tried;
+#[cfg(test)]
+mod volumes;

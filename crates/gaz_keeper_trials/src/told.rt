@@ -1,11 +1,9 @@
 //! What a keeper between judgements tells, against what it is to tell.
-ghost use Rattle.std.specs.Prelude.{◌≡◌, ◌≤◌, OnOk};
-ghost use Rattle.gaz_shelf.specs.Keeper.{Idle};
-
 use crate::fixtures::{custodian, volume};
+use crate::tried::Tried;
 use gaz_ids::{Lang, Uprn, Usrn};
 use gaz_records::{Key, Kind, SharedItem, item_text};
-use gaz_shelf::{Inbox, Property, Verdict, read_kind};
+use gaz_shelf::{Inbox, Property, Verdict};
 use std::process::Abort;
 use std::test::Fail;
 
@@ -30,16 +28,13 @@ fn is_row(
 }
 
 // How many volumes are judged and held.
-pub(crate) fn has_counts<K: Inbox>(
+pub(crate) fn has_counts<K: Inbox + Drop>(
     rt: &(impl Abort + AllocGlobal),
-    shelf: &mut K,
+    shelf: &mut Tried<K>,
     code: u64,
     reached: u64,
     held: u64,
-) -> Result<(), Fail>
-    requires { (K.seen shelf.old).progress ≡ Idle }
-    ensures { OnOk result ((K.seen shelf.new).progress ≡ Idle) }
-{
+) -> Result<(), Fail> {
     let code = custodian(code)?;
     assert_eq!(rt; shelf.reached(code)?, reached);
     assert_eq!(rt; shelf.held(code)?, held);
@@ -47,75 +42,60 @@ pub(crate) fn has_counts<K: Inbox>(
 }
 
 // The item in the last view, and in the view after a volume.
-pub(crate) fn has_item<K: Inbox>(
+pub(crate) fn has_item<K: Inbox + Drop>(
     rt: &(impl Abort + AllocGlobal),
-    shelf: &mut K,
+    shelf: &mut Tried<K>,
     code: u64,
     key: &Key,
     row: Option<&str>,
-) -> Result<(), Fail>
-    requires { (K.seen shelf.old).progress ≡ Idle }
-    ensures { OnOk result ((K.seen shelf.new).progress ≡ Idle) }
-{
+) -> Result<(), Fail> {
     let found = shelf.current(custodian(code)?, key)?;
     is_row(rt, &found, row)
 }
 
-pub(crate) fn had_item<K: Inbox>(
+pub(crate) fn had_item<K: Inbox + Drop>(
     rt: &(impl Abort + AllocGlobal),
-    shelf: &mut K,
+    shelf: &mut Tried<K>,
     code: u64,
     after: u64,
     key: &Key,
     row: Option<&str>,
-) -> Result<(), Fail>
-    requires { (K.seen shelf.old).progress ≡ Idle }
-    ensures { OnOk result ((K.seen shelf.new).progress ≡ Idle) }
-{
+) -> Result<(), Fail> {
     let found = shelf.at(custodian(code)?, after, key)?;
     is_row(rt, &found, row)
 }
 
 // Whether the key was used, and whether the property has parts.
-pub(crate) fn has_used<K: Inbox>(
+pub(crate) fn has_used<K: Inbox + Drop>(
     rt: &(impl Abort + AllocGlobal),
-    shelf: &mut K,
+    shelf: &mut Tried<K>,
     code: u64,
     key: &Key,
     used: bool,
-) -> Result<(), Fail>
-    requires { (K.seen shelf.old).progress ≡ Idle }
-    ensures { OnOk result ((K.seen shelf.new).progress ≡ Idle) }
-{
+) -> Result<(), Fail> {
     assert_eq!(rt; shelf.ever(custodian(code)?, key)?, used);
     Ok(())
 }
 
-pub(crate) fn has_parts<K: Inbox>(
+pub(crate) fn has_parts<K: Inbox + Drop>(
     rt: &(impl Abort + AllocGlobal),
-    shelf: &mut K,
+    shelf: &mut Tried<K>,
     code: u64,
     uprn: u64,
     has: bool,
-) -> Result<(), Fail>
-    requires { (K.seen shelf.old).progress ≡ Idle }
-    ensures { OnOk result ((K.seen shelf.new).progress ≡ Idle) }
-{
+) -> Result<(), Fail> {
     let uprn = Uprn::of(uprn).ok_or("a UPRN")?;
     assert_eq!(rt; shelf.children(custodian(code)?, uprn)?, has);
     Ok(())
 }
 
-pub(crate) fn has_addresses<K: Inbox>(
+pub(crate) fn has_addresses<K: Inbox + Drop>(
     rt: &(impl Abort + AllocGlobal),
-    shelf: &mut K,
+    shelf: &mut Tried<K>,
     code: u64,
     uprn: u64,
     keys: &[Key],
-) -> Result<(), Fail>
-    requires { (K.seen shelf.old).progress ≡ Idle }
-    ensures { OnOk result ((K.seen shelf.new).progress ≡ Idle) }
-{
+) -> Result<(), Fail> {
     let uprn = Uprn::of(uprn).ok_or("a UPRN")?;
     let found = shelf.approved_of(custodian(code)?, uprn)?;
     assert!(rt; found.as_slice() == keys);
@@ -139,61 +119,49 @@ fn is_property(
 }
 
 // The rows of a BLPU and of its address.
-pub(crate) fn has_property<K: Inbox>(
+pub(crate) fn has_property<K: Inbox + Drop>(
     rt: &(impl Abort + AllocGlobal),
-    shelf: &mut K,
+    shelf: &mut Tried<K>,
     code: u64,
     uprn: u64,
     rows: Option<(&str, &str)>,
-) -> Result<(), Fail>
-    requires { (K.seen shelf.old).progress ≡ Idle }
-    ensures { OnOk result ((K.seen shelf.new).progress ≡ Idle) }
-{
+) -> Result<(), Fail> {
     let uprn = Uprn::of(uprn).ok_or("a UPRN")?;
     let found = shelf.property_of(custodian(code)?, uprn)?;
     is_property(rt, found, rows)
 }
 
-pub(crate) fn has_address_on<K: Inbox>(
+pub(crate) fn has_address_on<K: Inbox + Drop>(
     rt: &(impl Abort + AllocGlobal),
-    shelf: &mut K,
+    shelf: &mut Tried<K>,
     code: u64,
     usrn: u64,
     lang: Option<Lang>,
     has: bool,
-) -> Result<(), Fail>
-    requires { (K.seen shelf.old).progress ≡ Idle }
-    ensures { OnOk result ((K.seen shelf.new).progress ≡ Idle) }
-{
+) -> Result<(), Fail> {
     let usrn = Usrn::of(usrn).ok_or("a USRN")?;
     assert_eq!(rt; shelf.approved_on(custodian(code)?, usrn, lang)?, has);
     Ok(())
 }
 
-pub(crate) fn has_verdict<K: Inbox>(
+pub(crate) fn has_verdict<K: Inbox + Drop>(
     rt: &(impl Abort + AllocGlobal),
-    shelf: &mut K,
+    shelf: &mut Tried<K>,
     code: u64,
     number: u64,
     verdict: Option<Verdict>,
-) -> Result<(), Fail>
-    requires { (K.seen shelf.old).progress ≡ Idle }
-    ensures { OnOk result ((K.seen shelf.new).progress ≡ Idle) }
-{
+) -> Result<(), Fail> {
     assert!(rt; shelf.verdict(custodian(code)?, volume(number)?)? == verdict);
     Ok(())
 }
 
-pub(crate) fn has_file<K: Inbox>(
+pub(crate) fn has_file<K: Inbox + Drop>(
     rt: &(impl Abort + AllocGlobal),
-    shelf: &mut K,
+    shelf: &mut Tried<K>,
     code: u64,
     number: u64,
     has: bool,
-) -> Result<(), Fail>
-    requires { (K.seen shelf.old).progress ≡ Idle }
-    ensures { OnOk result ((K.seen shelf.new).progress ≡ Idle) }
-{
+) -> Result<(), Fail> {
     let found = shelf.received(custodian(code)?, volume(number)?)?;
     assert_eq!(rt;
         found.is_some_and(|bytes| bytes.as_slice() == b"a file".as_slice()),
@@ -203,19 +171,16 @@ pub(crate) fn has_file<K: Inbox>(
 }
 
 // A page has this many items, of which the first is this row.
-pub(crate) fn has_page<K: Inbox>(
+pub(crate) fn has_page<K: Inbox + Drop>(
     rt: &(impl Abort + AllocGlobal),
-    shelf: &mut K,
+    shelf: &mut Tried<K>,
     after: u64,
     kind: Kind,
     from: Option<Key>,
     most: usize,
     len: usize,
     row: &str,
-) -> Result<(), Fail>
-    requires { (K.seen shelf.old).progress ≡ Idle }
-    ensures { OnOk result ((K.seen shelf.new).progress ≡ Idle) }
-{
+) -> Result<(), Fail> {
     let page = shelf.page(custodian(1001)?, after, kind, from, most)?;
     assert_eq!(rt; page.len(), len);
     match page.first() {
@@ -247,18 +212,14 @@ fn are_rows(
 }
 
 // All items of a kind after a volume of 1001, read so many at a time, are these rows.
-pub(crate) fn has_all<K: Inbox>(
+pub(crate) fn has_all<K: Inbox + Drop>(
     rt: &(impl Abort + AllocGlobal),
-    shelf: &mut K,
+    shelf: &mut Tried<K>,
     after: u64,
     kind: Kind,
     most: usize,
     rows: &[&str],
-) -> Result<(), Fail>
-    requires idle { (K.seen shelf.old).progress ≡ Idle }
-    requires some { 1 ≤ most }
-    ensures { OnOk result ((K.seen shelf.new).progress ≡ Idle) }
-{
-    let items = read_kind(rt.alloc(), shelf, custodian(1001)?, after, kind, most)?;
+) -> Result<(), Fail> {
+    let items = shelf.all(rt.alloc(), custodian(1001)?, after, kind, most)?;
     are_rows(rt, items.as_slice(), rows)
 }

@@ -9,7 +9,9 @@ use gaz_tables::creating::create;
 use gaz_tables::{receiveds, versions};
 use sqlite::{Alter, Connection, Error, ErrorCode, Transaction};
 use std::alloc::Global;
+use std::hash::{BuildHasher, RandomState};
 use std::test::Fail;
+use std::{env, fs, io};
 
 /// `gone` of a row that is current.
 const NEVER: u32 = 1_000_000;
@@ -39,6 +41,15 @@ const VERSIONS: [Version; 8] = [
     (Kind::Lpi, 2, NEVER, FORMER_FLAT),
     (Kind::Lpi, 2, NEVER, NUMBER_14),
 ];
+
+/// The path of a new folder for files, in that of the system for what passes.
+pub fn new_folder(rt: &HostRuntime) -> io::Result<String> {
+    let number = RandomState::new(rt)?.hash_one(&0u8);
+    let passing = env::temp_dir(rt)?;
+    let folder = format!(in rt.alloc(); "{}/gaz-stores-{number}", passing.as_str())?;
+    fs::create_dir(rt, folder.as_str())?;
+    Ok(folder)
+}
 
 /// The connection is in no transaction, or an error.
 pub fn rests<S: Alter>(conn: &Connection<S>) -> Result<(), Error>
@@ -125,6 +136,23 @@ pub fn furnished<S: Alter + Drop>(
     furnish(&mut conn)?;
     fill(alloc, &mut conn)?;
     Ok(over(alloc, conn)?)
+}
+
+/// Tables of the same names and columns that take any value, in whatever number.
+const LOOSE: &str =
+    "CREATE TABLE version (cust, kind, id, blpu, street, lang, live, born, gone, body);
+    CREATE TABLE received (cust, volume, bytes, state, place, rule);
+    CREATE TABLE meta (id, number, register);
+    INSERT INTO meta VALUES (1, 1, 'register')";
+
+/// Makes such tables over a connection, with these rows.
+pub fn furnished_loosely<S: Alter + Drop>(
+    alloc: Global,
+    mut conn: Connection<S>,
+) -> Result<Connection<S>, Fail> {
+    conn.execute_batch(LOOSE)?;
+    fill(alloc, &mut conn)?;
+    Ok(conn)
 }
 
 /// The same tables, with nothing at hand.

@@ -1,4 +1,5 @@
-//! A store's tables as their callers use them: tests of `gaz_store`.
+//! A store's tables as their callers use them, and which databases become a store: tests of
+//! `gaz_store`.
 #![tactic(auto)]
 
 #[cfg(test)]
@@ -6,8 +7,14 @@ mod asked;
 #[cfg(test)]
 mod asking;
 #[cfg(test)]
+mod damaged;
+#[cfg(test)]
+mod damages;
+#[cfg(test)]
+mod databases;
+#[cfg(test)]
 mod fixtures;
 #[cfg(test)]
 mod kept;
 #[cfg(test)]
-mod opened;
+mod refusals;

@@ -1,5 +1,5 @@
 //! A custodian's ledger through its volumes.
-use crate::fixtures::{Step, lpi_key, street_key, walks};
+use crate::accounts::{Step, lpi_key, street_key, walks};
 use gaz_ids::{Uprn, Usrn};
 use gaz_ledger::{CachedLedger, Seed};
 use gaz_records::{Key, Kind, item_text};

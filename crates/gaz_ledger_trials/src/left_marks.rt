@@ -1,7 +1,7 @@
 //! What many addresses left, or parts of a property, is asked at once: nothing is kept of them there.
 //!
 //! Were each that left passed over at each question, a test would take minutes, and it has one.
-use crate::fixtures::puts;
+use crate::accounts::puts;
 use gaz_ids::{Uprn, Usrn};
 use gaz_ledger::{CachedLedger, Seed};
 use gaz_records::Kind;

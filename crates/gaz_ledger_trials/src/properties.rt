@@ -1,5 +1,5 @@
 //! What a account tells of a property through its volumes.
-use crate::fixtures::{Step, walks};
+use crate::accounts::{Step, walks};
 use gaz_ids::Uprn;
 use gaz_ledger::{CachedLedger, Seed};
 use gaz_records::{Kind, SharedItem, item_text};

@@ -1,0 +1,117 @@
+//! What a keeper is asked. A call that reads clears a broken judgement.
+use crate::tried::{Refusal, Tried};
+use gaz_ids::{Code, Lang, Uprn, Usrn, Volume};
+use gaz_records::{Key, Kind, SharedItem};
+use gaz_shelf::{Inbox, Property, ShelfFault, Verdict, read_kind};
+use std::alloc::Global;
+
+impl<K: Inbox + Drop> Tried<K> {
+    pub(crate) fn reached(&mut self, code: Code) -> Result<u64, ShelfFault> {
+        self.broken = false;
+        self.keeper.reached(code)
+    }
+
+    pub(crate) fn verdict(
+        &mut self,
+        code: Code,
+        volume: Volume,
+    ) -> Result<Option<Verdict>, ShelfFault> {
+        self.broken = false;
+        self.keeper.verdict(code, volume)
+    }
+
+    pub(crate) fn current(
+        &mut self,
+        code: Code,
+        key: &Key,
+    ) -> Result<Option<SharedItem>, ShelfFault> {
+        self.broken = false;
+        self.keeper.current(code, key)
+    }
+
+    pub(crate) fn at(
+        &mut self,
+        code: Code,
+        volume: u64,
+        key: &Key,
+    ) -> Result<Option<SharedItem>, ShelfFault> {
+        self.broken = false;
+        self.keeper.at(code, volume, key)
+    }
+
+    pub(crate) fn ever(&mut self, code: Code, key: &Key) -> Result<bool, ShelfFault> {
+        self.broken = false;
+        self.keeper.ever(code, key)
+    }
+
+    pub(crate) fn approved_of(&mut self, code: Code, uprn: Uprn) -> Result<Vec<Key>, ShelfFault> {
+        self.broken = false;
+        self.keeper.approved_of(code, uprn)
+    }
+
+    pub(crate) fn property_of(
+        &mut self,
+        code: Code,
+        uprn: Uprn,
+    ) -> Result<Option<Property>, ShelfFault> {
+        self.broken = false;
+        self.keeper.property_of(code, uprn)
+    }
+
+    pub(crate) fn approved_on(
+        &mut self,
+        code: Code,
+        usrn: Usrn,
+        lang: Option<Lang>,
+    ) -> Result<bool, ShelfFault> {
+        self.broken = false;
+        self.keeper.approved_on(code, usrn, lang)
+    }
+
+    pub(crate) fn children(&mut self, code: Code, uprn: Uprn) -> Result<bool, ShelfFault> {
+        self.broken = false;
+        self.keeper.children(code, uprn)
+    }
+
+    pub(crate) fn page(
+        &mut self,
+        code: Code,
+        volume: u64,
+        kind: Kind,
+        after: Option<Key>,
+        most: usize,
+    ) -> Result<Vec<SharedItem>, ShelfFault> {
+        self.broken = false;
+        self.keeper.page(code, volume, kind, after, most)
+    }
+
+    pub(crate) fn received(
+        &mut self,
+        code: Code,
+        volume: Volume,
+    ) -> Result<Option<Vec<u8>>, ShelfFault> {
+        self.broken = false;
+        self.keeper.received(code, volume)
+    }
+
+    pub(crate) fn held(&mut self, code: Code) -> Result<u64, ShelfFault> {
+        self.broken = false;
+        self.keeper.held(code)
+    }
+
+    /// All items of a kind after a volume, read so many at a time, which is at least 1.
+    pub(crate) fn all(
+        &mut self,
+        alloc: Global,
+        code: Code,
+        volume: u64,
+        kind: Kind,
+        most: usize,
+    ) -> Result<Vec<SharedItem>, Refusal> {
+        if most == 0 {
+            return Err(Refusal::Misused);
+        }
+        self.broken = false;
+        Ok(read_kind(alloc, &mut self.keeper, code, volume, kind, most)?)
+    }
+}
