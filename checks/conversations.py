@@ -133,12 +133,12 @@ def _fault(conversation: Conversation, got: bytes, status: int) -> str | None:
     return "; ".join(fault for fault in faults if fault) or None
 
 
-class _Client:
+class Client:
     """Talks to a program, and ends it at the deadline."""
 
-    def __init__(self, program: Path, deadline: float) -> None:
+    def __init__(self, words: list[str | Path], deadline: float) -> None:
         self.child = subprocess.Popen(
-            [program],
+            words,
             stdin=subprocess.PIPE,
             stdout=subprocess.PIPE,
             stderr=subprocess.DEVNULL,
@@ -178,7 +178,7 @@ class _Client:
         self.got += self.child.stdout.read()
         return self.child.wait()
 
-    def __enter__(self) -> "_Client":
+    def __enter__(self) -> "Client":
         return self
 
     def __exit__(self, *_: object) -> None:
@@ -194,7 +194,7 @@ def run_stepwise(program: Path, conversation: Conversation, deadline: float = DE
     requests, replies = requests_in(conversation.requests), replies_in(conversation.replies)
     if len(replies) > len(requests):
         return f"{len(replies)} replies to {len(requests)} requests"
-    with _Client(program, deadline) as client:
+    with Client([program], deadline) as client:
         for number, request in enumerate(requests[: len(replies)], 1):
             client.send(request)
             if not _is_whole(request):
@@ -209,7 +209,7 @@ def run_stepwise(program: Path, conversation: Conversation, deadline: float = DE
         return _fault(conversation, client.got, status)
 
 
-def _unanswered(client: _Client, number: int, wanted: bytes, deadline: float) -> str:
+def _unanswered(client: Client, number: int, wanted: bytes, deadline: float) -> str:
     why = f", none within {deadline:g} s" if client.is_late else ""
     return f"the reply to request {number}{why}: {difference(wanted, client.got)}"
 

@@ -2,6 +2,7 @@
 
 import os
 import re
+import resource
 import signal
 import subprocess
 import threading
@@ -56,6 +57,12 @@ class Running:
 
 
 RUNNING = Running()
+
+
+def spent() -> float:
+    """The processor seconds of this process so far, and of what it started and has seen end."""
+    own, theirs = (resource.getrusage(whose) for whose in (resource.RUSAGE_SELF, resource.RUSAGE_CHILDREN))
+    return own.ru_utime + own.ru_stime + theirs.ru_utime + theirs.ru_stime
 
 
 def run(words: list[str], cwd: Path) -> Ran:

@@ -3,6 +3,10 @@
 //! `gaz_bench judge ITEMS` times the judgement of a file of 1,000 changes into a gazetteer of so many items, and beside it that of a file
 //! without changes; `gaz_bench calls ITEMS` prints how often the keeper was called before that judgement and after it.
 //! `gaz_bench keeping VOLUMES` times how the keeper in memory keeps so many volumes of 1,000 items.
+//! `gaz_bench stored STORE REGISTER` answers the requests on standard input at a hub of the register in a file, over the store in a file, which is
+//! made where there is none; `gaz_bench stored-each STORE REGISTER` takes pieces of a stream, each behind a line with its length in bytes, and
+//! opens and closes the store for each of them; `gaz_bench stored-memory REGISTER` has a new store in memory. Why there is no store is said on
+//! standard error, as `gaz_bench: BadSchema`, and the status is 3.
 //! `gaz_bench play REGISTER` answers the requests on standard input at a hub of the register in a file, over a keeper in memory.
 //! `gaz_bench IDENTIFIER FILE ROUNDS` takes a record identifier and a file of rows of that kind, which begin behind the order field. It prints a
 //! line with the least time in nanoseconds of reading all items and that of writing all rows, and then the rows.
@@ -12,18 +16,22 @@ mod judging;
 mod keeping;
 mod playing;
 mod records;
+mod stored;
 
 use anyhow::{Context, Result, ensure};
 use gaz_changefile::{FileFault, read_file};
 use gaz_ids::{Code, Volume};
 use gaz_records::Kind;
 use gaz_register::Register;
+use gaz_store::StoreRefusal;
 use judging::{judging_calls, judging_micros};
 use keeping::keeping_micros;
 use playing::play;
 use records::records_nanos;
+use std::process::ExitCode;
 use std::time::Instant;
 use std::{env, fs};
+use stored::{stored, stored_each, stored_in_memory};
 
 // What a file is read as.
 #[derive(Clone, Copy)]
@@ -117,22 +125,47 @@ fn print_calls(rt: &HostRuntime, items: &str) -> Result<()> {
     Ok(())
 }
 
-fn main(rt: HostRuntime) -> Result<()> {
-    let mut words = env::args(&rt)?.skip(1);
-    let (Some(word), Some(given)) = (words.next(), words.next()) else {
-        return Ok(());
-    };
-    match word.as_str() {
-        "judge" => print_judging(&rt, &given),
-        "calls" => print_calls(&rt, &given),
-        "play" => play(&rt, &given),
+// Times what a word and what it is given name.
+fn print_times(rt: &HostRuntime, word: &str, given: &str, rounds: Option<String>) -> Result<()> {
+    match word {
+        "judge" => print_judging(rt, given),
+        "calls" => print_calls(rt, given),
+        "play" => play(rt, given),
         "keeping" => {
-            println!(rt; "{}", keeping_micros(&rt, given.parse::<u64>()?)?)?;
+            println!(rt; "{}", keeping_micros(rt, given.parse::<u64>()?)?)?;
             Ok(())
         }
-        _ => match words.next() {
-            Some(rounds) => print_rounds(&rt, &word, &given, &rounds),
+        _ => match rounds {
+            Some(rounds) => print_rounds(rt, word, given, &rounds),
             None => Ok(()),
         },
     }
+}
+
+// Exit status 0, or 3 where there is no store, and why.
+fn status_of(rt: &HostRuntime, refusal: Option<StoreRefusal>) -> Result<ExitCode> {
+    match refusal {
+        None => Ok(ExitCode::SUCCESS),
+        Some(refusal) => {
+            eprintln!(rt; "gaz_bench: {refusal:?}")?;
+            Ok(ExitCode::from(3))
+        }
+    }
+}
+
+fn main(rt: HostRuntime) -> Result<ExitCode> {
+    let mut words = env::args(&rt)?.skip(1);
+    let (Some(word), Some(given), other) = (words.next(), words.next(), words.next()) else {
+        return Ok(ExitCode::SUCCESS);
+    };
+    let refusal = match (word.as_str(), &other) {
+        ("stored", Some(register)) => stored(&rt, &given, register)?,
+        ("stored-each", Some(register)) => stored_each(&rt, &given, register)?,
+        ("stored-memory", None) => stored_in_memory(&rt, &given)?,
+        _ => {
+            print_times(&rt, &word, &given, other)?;
+            None
+        }
+    };
+    status_of(&rt, refusal)
 }

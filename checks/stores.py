@@ -1,0 +1,109 @@
+"""A hub over a store in a file, from outside: the program that answers over it, requests and replies."""
+
+import contextlib
+import subprocess
+import tempfile
+from collections.abc import Iterator
+from dataclasses import dataclass
+from pathlib import Path
+
+from checks.conversations import DEADLINE
+
+# The register of `play`.
+SAMPLE = """[[custodian]]
+code = 1001
+name = "Upper County"
+uprn = [[1, 99999], [999999999000, 999999999999]]
+usrn = [[100, 199], [99999999, 99999999]]
+
+[[custodian]]
+code = 1002
+name = "Lower District"
+uprn = [[100000, 199999]]
+usrn = [[200, 299]]
+
+[[custodian]]
+code = 1003
+name = "Bay District"
+uprn = [[200000, 299999]]
+usrn = [[300, 399]]
+"""
+
+TEXT = """1001,Upper County,1-99999 999999999000-999999999999,100-199 99999999-99999999
+1002,Lower District,100000-199999,200-299
+1003,Bay District,200000-299999,300-399
+"""
+
+
+@dataclass(frozen=True)
+class Answered:
+    """How a run of the program ended."""
+
+    status: int
+    replies: bytes
+    said: str  # on standard error
+
+    def fault(self) -> str | None:
+        """What is wrong with its end."""
+        return f"exit status {self.status}, {self.said.strip() or 'nothing said'}" if self.status or self.said else None
+
+
+@dataclass(frozen=True)
+class Hubs:
+    """Hubs of the sample register: over stores in files, over one in memory, and over the keeper in memory."""
+
+    bench: Path  # the program gaz_bench
+    gazhub: Path
+    register: Path
+
+    def over(self, store: Path, requests: bytes) -> Answered:
+        """The answers to a stream over the store in a file, which is made where there is none and closed at the end."""
+        return _run([self.bench, "stored", store, self.register], requests)
+
+    def over_each(self, store: Path, pieces: list[bytes]) -> Answered:
+        """The same, but the store is closed and opened between these pieces of the stream, within one process."""
+        return _run([self.bench, "stored-each", store, self.register], framed(pieces))
+
+    def in_memory(self, requests: bytes) -> Answered:
+        """The answers over a new store in memory."""
+        return _run([self.bench, "stored-memory", self.register], requests)
+
+    def without_store(self, requests: bytes) -> Answered:
+        """The answers of `gazhub`, whose keeper is in memory."""
+        return _run([self.gazhub], requests)
+
+
+def _run(words: list[str | Path], given: bytes) -> Answered:
+    try:
+        ran = subprocess.run(words, input=given, capture_output=True, timeout=DEADLINE)
+    except subprocess.TimeoutExpired:
+        return Answered(-1, b"", f"didn't end within {DEADLINE:g} s")
+    return Answered(ran.returncode, ran.stdout, ran.stderr.decode("utf-8", "replace"))
+
+
+def framed(pieces: list[bytes]) -> bytes:
+    """The pieces, each behind a line with its length."""
+    return b"".join(b"%d\n%s" % (len(piece), piece) for piece in pieces)
+
+
+@contextlib.contextmanager
+def hubs_of(root: Path) -> Iterator[tuple[Hubs, Path]]:
+    """Hubs by the programs that are built under `root`, and a folder for stores."""
+    with tempfile.TemporaryDirectory(prefix="check-stores-") as made:
+        register = Path(made) / "register.toml"
+        register.write_text(SAMPLE)
+        yield Hubs(built(root, "gaz_bench"), built(root, "gazhub"), register), Path(made)
+
+
+def built(root: Path, name: str) -> Path:
+    """Where a program of the repository is, once it is built."""
+    return root / "crates" / name / "out" / name
+
+
+def get(target: str) -> bytes:
+    return f"GET {target} HTTP/1.1\r\nHost: hub\r\n\r\n".encode()
+
+
+def post(code: int, volume: int, body: bytes) -> bytes:
+    head = f"POST /custodians/{code}/volumes/{volume} HTTP/1.1\r\nHost: hub\r\nContent-Length: {len(body)}\r\n\r\n"
+    return head.encode() + body

@@ -1,0 +1,59 @@
+"""Stores as Python's own SQLite has them: their schema, their rows, and what its queries tell."""
+
+import contextlib
+import hashlib
+import re
+import sqlite3
+from collections.abc import Iterator
+from pathlib import Path
+
+
+@contextlib.contextmanager
+def opened(store: Path) -> Iterator[sqlite3.Connection]:
+    """Python's connection to a store, which is closed and not only left."""
+    with contextlib.closing(sqlite3.connect(store, isolation_level=None)) as conn:
+        yield conn
+
+
+def schema_in(page: Path) -> list[str]:
+    """The statements that make a store's tables, as a page of docs/ has them."""
+    text = page.read_text()
+    joined = re.sub(r"\n {6}", " ", text)
+    return re.findall(r"(?m)^ {4}(CREATE .*)$", joined)
+
+
+def write_store(path: Path, schema: list[str], rows: dict[str, list[tuple]]) -> None:
+    """Makes a store of these rows of its tables by Python's own SQLite."""
+    with opened(path) as conn:
+        for statement in schema:
+            conn.execute(statement)
+        for table, them in rows.items():
+            for row in them:
+                conn.execute(f"INSERT INTO {table} VALUES ({', '.join('?' * len(row))})", row)
+
+
+def rows_of(store: Path) -> dict[str, list[tuple]]:
+    """The rows of a store's tables, in the order of their keys."""
+    with opened(store) as conn:
+        return {
+            "meta": conn.execute("SELECT * FROM meta ORDER BY id").fetchall(),
+            "received": conn.execute("SELECT * FROM received ORDER BY cust, volume").fetchall(),
+            "version": conn.execute("SELECT * FROM version ORDER BY cust, kind, id, born").fetchall(),
+        }
+
+
+def view_in(conn: sqlite3.Connection, code: int, volume: int) -> bytes:
+    """The extract of a volume, by a query of Python's own."""
+    rows = conn.execute(
+        "SELECT kind, body FROM version WHERE cust = ? AND born <= ? AND gone > ? ORDER BY kind, id", (code, volume, volume)
+    ).fetchall()
+    lines = [f"{kind},I,{order},{body}" for order, (kind, body) in enumerate(rows, 1)]
+    return "\n".join((f"10,E,{code},{volume}", *lines, f"99,{len(rows)}", "")).encode()
+
+
+def outcome_in(conn: sqlite3.Connection, code: int, volume: int) -> dict:
+    """What a row of `received` says of a file, without what a held one wants."""
+    asked = "SELECT bytes, state, place, rule FROM received WHERE cust = ? AND volume = ?"
+    data, state, place, rule = conn.execute(asked, (code, volume)).fetchone()
+    told = {"digest": hashlib.sha256(data).hexdigest(), "outcome": ("held", "applied", "rejected")[state]}
+    return told | ({"record": place, "rule": rule} if state == 2 else {})

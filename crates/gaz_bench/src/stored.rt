@@ -1,0 +1,149 @@
+//! A hub over a store, of any register.
+ghost use Rattle.std.specs.Prelude.{◌≡◌, false, OnOk};
+
+use anyhow::{Context, Result, ensure};
+use gaz_exchange::{Served, Stopped};
+use gaz_register::Register;
+use gaz_shelf::Seed;
+use gaz_store::StoreRefusal;
+use gaz_stored::{HandedBack, answer_new, answer_opened};
+use sqlite::{Alter, Connection, File, FileStore, Options, Unknown};
+use std::alloc::Global;
+use std::io::{BufWriter, Read, Write};
+use std::{fs, io};
+
+/// The most requests of one run.
+const MOST: u64 = 1_000_000;
+
+/// How a store begins.
+#[derive(Clone, Copy)]
+enum Beginning {
+    Made,
+    Opened,
+}
+
+/// The connection is in no transaction, or an error.
+fn rests<S: Alter>(conn: &Connection<S>) -> Result<()>
+    ensures { OnOk result (conn.now.in_transaction ≡ false) }
+{
+    ensure!(conn.is_autocommit(), "a transaction is open");
+    Ok(())
+}
+
+/// Answers the requests of a reader over a store behind a connection.
+fn answer<S: Alter + Drop, R: Read, W: Write>(
+    alloc: Global,
+    conn: Connection<S>,
+    register: Register,
+    beginning: Beginning,
+    r: &mut R,
+    w: &mut W,
+) -> Result<HandedBack<S>> {
+    rests(&conn)?;
+    let seed = Seed::of(1);
+    Ok(match beginning {
+        Beginning::Made => answer_new(alloc, seed, conn, register, r, w, MOST),
+        Beginning::Opened => answer_opened(alloc, seed, conn, register, r, w, MOST),
+    })
+}
+
+/// Why no conversation was held, or none; an error where its stream failed.
+fn refusal_of(held: Result<Result<Served, Stopped>, StoreRefusal>) -> Result<Option<StoreRefusal>> {
+    match held {
+        Ok(ended) => {
+            ensure!(ended.is_ok(), "the stream failed");
+            Ok(None)
+        }
+        Err(refusal) => Ok(Some(refusal)),
+    }
+}
+
+/// How the store in a file begins: it is opened where a file is there.
+fn beginning_at(rt: &HostRuntime, path: &str) -> Beginning {
+    match fs::metadata(rt, path) {
+        Ok(_) => Beginning::Opened,
+        Err(_) => Beginning::Made,
+    }
+}
+
+/// A connection to the file at this path, which is made where there is none.
+fn open(rt: &HostRuntime, path: &str) -> Option<Connection<FileStore<File>>> {
+    let files = sqlite_std_file::open(rt, path, Unknown).ok()?;
+    Connection::open_files(rt.alloc(), files, Options::new(1)).ok()
+}
+
+/// Answers the requests of a reader over the store in a file, which is made where there is none. The
+/// one function that names the kind of the store: each such costs the proof a minute.
+fn answer_at<R: Read, W: Write>(
+    rt: &HostRuntime,
+    path: &str,
+    register: Register,
+    r: &mut R,
+    w: &mut W,
+) -> Result<Option<StoreRefusal>> {
+    let beginning = beginning_at(rt, path);
+    let Some(conn) = open(rt, path) else {
+        return Ok(Some(StoreRefusal::Fault));
+    };
+    let left = answer(rt.alloc(), conn, register, beginning, r, w)?;
+    left.conn.close()?;
+    refusal_of(left.held)
+}
+
+fn register_in(rt: &HostRuntime, path: &str) -> Result<Register> {
+    Ok(Register::read(rt.alloc(), &fs::read(rt, path)?)?)
+}
+
+/// Answers the requests on standard input over the store in a file.
+pub fn stored(rt: &HostRuntime, path: &str, register: &str) -> Result<Option<StoreRefusal>> {
+    let register = register_in(rt, register)?;
+    let mut w = BufWriter::new(rt.alloc(), io::writer(rt))?;
+    answer_at(rt, path, register, &mut rt.reader(), &mut w)
+}
+
+/// The first piece of what is left, and what is behind it: a line has its length in bytes, and the
+/// piece stands behind that line.
+fn piece_of(left: &[u8]) -> Option<(&[u8], &[u8])> {
+    let end = left.iter().position(|b| *b == b'\n')?;
+    let (line, behind) = left.split_at_checked(end)?;
+    let length = str::from_utf8(line).ok()?.parse::<usize>().ok()?;
+    behind.get(1..)?.split_at_checked(length)
+}
+
+/// The same for pieces of standard input, each of them over the file as it was closed behind the one
+/// before. Every piece is behind a line with its length in bytes.
+pub fn stored_each(rt: &HostRuntime, path: &str, register: &str) -> Result<Option<StoreRefusal>> {
+    let mut w = BufWriter::new(rt.alloc(), io::writer(rt))?;
+    let mut given = Vec::new(rt.alloc());
+    rt.reader().read_to_end(&mut given)?;
+    let mut left = given.as_slice();
+    for _ in 0..MOST {
+        if left.is_empty() {
+            break;
+        }
+        let (mut piece, behind) = piece_of(left).context("a piece is cut off")?;
+        let refusal = answer_at(rt, path, register_in(rt, register)?, &mut piece, &mut w)?;
+        if refusal.is_some() {
+            return Ok(refusal);
+        }
+        left = behind;
+    }
+    Ok(None)
+}
+
+/// Answers the requests on standard input over a new store in memory.
+pub fn stored_in_memory(rt: &HostRuntime, register: &str) -> Result<Option<StoreRefusal>> {
+    let register = register_in(rt, register)?;
+    let alloc = rt.alloc();
+    let mut w = BufWriter::new(alloc, io::writer(rt))?;
+    let conn = Connection::open_in_memory(alloc)?;
+    let left = answer(
+        alloc,
+        conn,
+        register,
+        Beginning::Made,
+        &mut rt.reader(),
+        &mut w,
+    )?;
+    refusal_of(left.held)
+}
