@@ -13,7 +13,7 @@ REPLY = b'HTTP/1.1 200 OK\r\nContent-Type: application/json\r\nContent-Length: 1
 LAST = REPLY.replace(b"\r\n\r\n", b"\r\nConnection: close\r\n\r\n")
 CUT_OFF = b'HTTP/1.1 400 Bad Request\r\nContent-Type: application/json\r\nContent-Length: 15\r\nConnection: close\r\n\r\n{"refusal":40}\n'
 
-USAGE = b"gazhub: usage\n"
+USAGE = b"error: unrecognized subcommand 'nonsense'\n\nUsage: gazhub [COMMAND]\n\nFor more information, try '--help'.\n"
 READ_FAULT = b"gazhub: ReadFault\n"
 WRITE_FAULT = b"gazhub: WriteFault\n"
 
@@ -26,7 +26,7 @@ class Run:
     words: tuple[str | bytes, ...]
     given: bytes
     status: int
-    said: bytes = b""  # on standard error
+    said: bytes | None = b""  # on standard error; None: whatever `clap` says of usage
     written: bytes = b""  # on standard output
     source: str = ""  # what is read in place of the bytes given
     sink: str = ""  # what is written to in place of this program
@@ -39,9 +39,11 @@ RUNS = (
     Run("the word play", ("play",), GET, 0, written=REPLY),
     Run("a request that is cut off", (), GET[:-2], 0, written=CUT_OFF),
     Run("another word", ("nonsense",), GET, 2, said=USAGE),
-    Run("an empty word", ("",), GET, 2, said=USAGE),
-    Run("a word that begins with play", ("plays",), GET, 2, said=USAGE),
-    Run("a word behind play", ("play", "play"), GET, 2, said=USAGE),
+    Run("an empty word", ("",), GET, 2, said=None),
+    Run("a word that begins with play", ("plays",), GET, 2, said=None),
+    Run("a word behind play", ("play", "play"), GET, 2, said=None),
+    Run("the version", ("--version",), GET, 0, written=b"gazhub 0.1.0\n"),
+    Run("the version, and an output that takes nothing", ("--version",), GET, 3, said=WRITE_FAULT, sink="/dev/full"),
     Run("another word, and nobody to hear", ("nonsense",), GET, 2, said_to="/dev/full"),
     Run("a word that can't be read", (b"\xff",), GET, 3, said=READ_FAULT),
     Run("an input that can't be read", (), b"", 3, said=READ_FAULT, source="/"),
@@ -62,7 +64,9 @@ def fault_of(program: Path, run: Run, deadline: float = DEADLINE) -> str | None:
             ran = subprocess.run([program, *run.words], timeout=deadline, **given, **taken)
         except subprocess.TimeoutExpired:
             return f"didn't end within {deadline:g} s"
-    said, written = difference(run.said, ran.stderr or b""), difference(run.written, ran.stdout or b"")
+    heard = ran.stderr or b""
+    said = difference(run.said if run.said is not None else heard or b"error", heard)
+    written = difference(run.written, ran.stdout or b"")
     faults = (
         f"exit status {ran.returncode}, wanted {run.status}" if ran.returncode != run.status else None,
         f"standard error {said}" if said else None,

@@ -4,7 +4,7 @@ import tempfile
 import unittest
 from pathlib import Path
 
-from checks.runs import GET, READ_FAULT, REPLY, RUNS, USAGE, WRITE_FAULT, Run, fault_of
+from checks.runs import GET, READ_FAULT, REPLY, RUNS, WRITE_FAULT, Run, fault_of
 
 # Answers one request at most, with the text of a file beside it, and no words.
 RIGHT = """#!/bin/sh
@@ -13,6 +13,7 @@ end() { echo "gazhub: $2" >&2; exit $1; }
 given=$(cat 2> /dev/null) || end 3 ReadFault
 [ -z "$given" ] || cat "$0.reply" 2> /dev/null || end 3 WriteFault
 """
+USAGE = b"gazhub: usage\n"
 ASKED = Run("a request", (), GET, 0, written=REPLY)
 WORD = Run("a word", ("nonsense",), GET, 2, said=USAGE)
 UNREADABLE = Run("a folder", (), b"", 3, said=READ_FAULT, source="/")

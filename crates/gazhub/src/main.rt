@@ -1,11 +1,14 @@
-//! `gazhub`: a hub for street and property gazetteers, on standard input and output.
+//! `gazhub`: a hub for street and property gazetteers, on standard input and output or by commands
+//! over a store.
 #![tactic(auto)]
 
+mod ending;
+mod obeying;
 mod program;
 mod sample;
 
 use gaz_shelf::Seed;
-use program::command;
+use obeying::command;
 use std::alloc::Global;
 use std::io::{BufWriter, Printer};
 use std::process::ExitCode;
@@ -45,13 +48,6 @@ fn main(rt: HostRuntime) -> ExitCode {
     let words = words.as_ref().map(|words| words.as_slice());
     let seed = random_seed(&rt).ok();
     let mut w = buffered(rt.alloc(), &rt);
-    let status = command(
-        rt.alloc(),
-        words,
-        seed,
-        &mut rt.reader(),
-        &mut w,
-        &mut rt.stderr(),
-    );
+    let status = command(&rt, words, seed, &mut rt.reader(), &mut w, &mut rt.stderr());
     ExitCode::from(status)
 }

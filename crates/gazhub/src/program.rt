@@ -1,6 +1,5 @@
-//! What the program does, over a reader and two writers that are lent.
-ghost use Rattle.std.specs.Prelude.{◌≡◌, IfErr, IfOk, is_some, map, option_map};
-ghost use Rattle.std.specs.Prelude.{string_bytes};
+//! A conversation of a hub that begins with nothing.
+ghost use Rattle.std.specs.Prelude.{◌≡◌, IfErr, IfOk};
 ghost use Rattle.gaz_register.specs.Reading.{register_of};
 ghost use Rattle.gaz_shelf.specs.Keeper.{IsNotOpen};
 ghost use Rattle.gaz_exchange.specs.Conversing.{transfer};
@@ -8,12 +7,12 @@ ghost use Rattle.gaz_shelf.specs.Mem.{seen_in};
 ghost use Rattle.gaz_hub.specs.Hubs.{state_of};
 ghost use Rattle.gaz_hub.specs.Seen.{RemembersNothing};
 ghost use Rattle.gaz_hub.specs.Step as step;
-ghost use Rattle.gazhub.specs.Commands.{Commands, Ends, Holds, Reports, Rests, line_of, status_of};
-ghost use Rattle.gazhub.specs.Commands as said;
+ghost use Rattle.gazhub.specs.Commands.{Holds, Rests};
 ghost use Rattle.gazhub.specs.Playing.{Plays};
 
+use crate::ending::Ending;
 use crate::sample::SAMPLE;
-use gaz_exchange::{Cause, Served, Stopped, converse, write_all};
+use gaz_exchange::{Cause, Served, Stopped, converse};
 use gaz_hub::Hub;
 use gaz_register::{RegFault, Register};
 use gaz_shelf::{MemShelf, Seed};
@@ -22,48 +21,7 @@ use std::io::{Read, Write};
 use std::mem::forget;
 
 /// The most requests of one run.
-const MOST: u64 = 100_000;
-
-/// How the program ends.
-#[derive(Clone, Copy, Debug, PartialEq, Eq)]
-pub enum Ending {
-    /// The conversation was held to its end.
-    Done,
-    /// The words ask for nothing that there is.
-    Usage,
-    /// There was no memory to begin with.
-    Memory,
-    /// The words, the random bytes or a request couldn't be read.
-    ReadFault,
-    /// A reply couldn't be written.
-    WriteFault,
-}
-
-impl Ending {
-    /// The exit status: 0, 2 for usage, 3 for a fault.
-    pub fn status(self) -> u8
-        ensures { result ≡ status_of self }
-    {
-        match self {
-            Ending::Done => 0,
-            Ending::Usage => 2,
-            Ending::Memory | Ending::ReadFault | Ending::WriteFault => 3,
-        }
-    }
-
-    /// The line on standard error; none where all went well.
-    pub fn line(self) -> &'static str
-        ensures { result.now ≡ line_of self }
-    {
-        match self {
-            Ending::Done => "",
-            Ending::Usage => "gazhub: usage\n",
-            Ending::Memory => "gazhub: Memory\n",
-            Ending::ReadFault => "gazhub: ReadFault\n",
-            Ending::WriteFault => "gazhub: WriteFault\n",
-        }
-    }
-}
+pub const MOST: u64 = 100_000;
 
 // A hub of the custodians of the sample register, that received nothing.
 fn new_hub(alloc: Global, seed: Seed) -> Result<Hub<MemShelf>, RegFault>
@@ -100,8 +58,8 @@ pub fn answer_all<R: Read, W: Write>(
     Ok(ended)
 }
 
-// Holds a conversation.
-fn play<R: Read, W: Write>(alloc: Global, seed: Seed, r: &mut R, w: &mut W) -> Ending
+/// Holds a conversation.
+pub fn play<R: Read, W: Write>(alloc: Global, seed: Seed, r: &mut R, w: &mut W) -> Ending
     ensures { Holds SAMPLE.now MOST
         (transfer R.remaining W.contents r.old r.new w.old w.new) result }
 {
@@ -113,69 +71,4 @@ fn play<R: Read, W: Write>(alloc: Global, seed: Seed, r: &mut R, w: &mut W) -> E
         },
         Err(_) => Ending::Memory,
     }
-}
-
-// Whether the words are none, or the one word `play`.
-fn asks_play(words: &[String]) -> bool
-    ensures { result ≡ said.asks_play (map string_bytes words.now) }
-{
-    match words {
-        [] => true,
-        [word] => word.as_str() == "play",
-        _ => false,
-    }
-}
-
-// Does what the words ask.
-fn obey<R: Read, W: Write>(
-    alloc: Global,
-    words: Option<&[String]>,
-    seed: Option<Seed>,
-    r: &mut R,
-    w: &mut W,
-) -> Ending
-    ensures { Ends SAMPLE.now MOST
-        (option_map (λ all. map string_bytes all.now) words.entry) (is_some seed)
-        (transfer R.remaining W.contents r.old r.new w.old w.new) result }
-{
-    let Some(words) = words else {
-        return Ending::ReadFault;
-    };
-    if !asks_play(words) {
-        return Ending::Usage;
-    }
-    match seed {
-        Some(seed) => play(alloc, seed, r, w),
-        None => Ending::ReadFault,
-    }
-}
-
-/// Says how the program ends, where there is something to say. What can't be said is lost.
-pub fn report<E: Write>(errors: &mut E, ending: Ending)
-    ensures { Reports (E.contents errors.old) (E.contents errors.new) (line_of ending) }
-{
-    let _whole = write_all(errors, ending.line().as_bytes());
-}
-
-/// Does what the words ask: holds a conversation where there are none, or `play` alone. Gives the
-/// exit status.
-///
-/// `words` are those behind the program's name, none where they can't be read; `seed` is none where
-/// the system gives no random bytes.
-pub fn command<R: Read, W: Write, E: Write>(
-    alloc: Global,
-    words: Option<&[String]>,
-    seed: Option<Seed>,
-    r: &mut R,
-    w: &mut W,
-    errors: &mut E,
-) -> u8
-    ensures { Commands SAMPLE.now MOST
-        (option_map (λ all. map string_bytes all.now) words.entry) (is_some seed)
-        (transfer R.remaining W.contents r.old r.new w.old w.new)
-        (E.contents errors.old) (E.contents errors.new) result }
-{
-    let ending = obey(alloc, words, seed, r, w);
-    report(errors, ending);
-    ending.status()
 }

@@ -1,0 +1,6 @@
+pub mod Lines
+pub mod Saying
+pub mod Asking
+pub mod Obeying
+pub mod Printing
+pub mod WorkedLines

@@ -1,0 +1,90 @@
+-- Worked examples on what commands ask and what they print.
+use Rattle.std.specs.Prelude.{◌≡◌, ℕ, List, [], ◌∷◌, codes, Some, None, Ok, Err}
+use Rattle.gaz_shelf.specs.declared.fault.ShelfFault.TheVariants as cause
+use Rattle.gaz_hub.specs.Step.{Extract, LookUp, Pose, Replied, Response, Stand, Submit}
+use Rattle.gaz_hub.specs.Step.{Submitted}
+use Rattle.gaz_hub.specs.declared.answer.Answer.{Answer}
+use Rattle.gaz_hub.specs.declared.answer.Answer.TheVariants as answer
+use Rattle.gaz_hub.specs.declared.outcome.Outcome.TheVariants.{Applied, Rejected, Held}
+use Rattle.gaz_hub.specs.declared.refusal.Refusal.TheVariants as refusal
+use Rattle.gaz_hub.specs.declared.standing.Standing.{Standing}
+use Rattle.gaz_commands.specs.Asking.{asks_address, asks_extract, asks_standing, asks_to_submit}
+use Rattle.gaz_commands.specs.Saying.{error_of, said_to, status_of, text_of, turned_away}
+use Rattle.gaz_commands.specs.declared.printed.DoorRefusal.TheVariants as door
+use Rattle.gaz_commands.specs.declared.printed.PrintedLine.TheVariants as line
+use Rattle.gaz_commands.specs.declared.said.Fault.TheVariants as fault
+use Rattle.gaz_commands.specs.declared.said.Said.TheVariants as said
+
+-- what is printed on standard output, what on standard error, and the exit status
+pub record Prints (response : Response) (out errors : List ℕ) (status : ℕ) : Type 0 where
+  pub out_is : text_of (said_to response) ≡ out
+  pub errors_are : error_of (said_to response) ≡ errors
+  pub status_is : status_of (said_to response) ≡ status
+
+-- the answer to a submission is printed so
+abbrev pub Answers : Answer → List ℕ → ℕ → Type 0
+Answers told out status = Prints (Submitted told) out [] status
+
+pub record WorkedSubmissions : Type 0 where
+  pub new : Answers (answer.New Applied) (codes "new applied\n") 0
+  pub repeat : Answers (answer.Repeat Applied) (codes "repeat applied\n") 0
+  pub rejected : Answers (answer.New (Rejected 3 21)) (codes "new rejected record 3 rule 21\n") 1
+  pub rejected_again : Answers (answer.Repeat (Rejected 3 21))
+      (codes "repeat rejected record 3 rule 21\n") 1
+  pub held : Answers (answer.New (Held 1001 2)) (codes "new held wants 1001/2\n") 1
+  pub held_again : Answers (answer.Repeat (Held 1001 2)) (codes "repeat held wants 1001/2\n") 1
+  pub taken : Answers (answer.Taken (0 ∷ 10 ∷ 255 ∷ [])) (codes "taken 000aff\n") 1
+  pub unknown : Answers (answer.Refused refusal.UnknownCustodian) (codes "refused 11\n") 1
+  pub no_volume : Answers (answer.Refused refusal.BadVolume) (codes "refused 12\n") 1
+  pub too_large : Answers (answer.Refused refusal.TooLarge) (codes "refused 13\n") 1
+  pub other_profile : Answers (answer.Refused refusal.UnknownProfile) (codes "refused 16\n") 1
+  pub not_received : Prints (Submitted (answer.Refused (refusal.NotReceived cause.Store))) []
+      (codes "gazhub: NotReceived\n") 3
+  pub unsettled : Prints (Submitted (answer.Refused (refusal.ReceivedUnsettled cause.Memory))) []
+      (codes "gazhub: ReceivedUnsettled\n") 3
+
+-- custodian 1001, of whose files two are judged and one is held
+abbrev pub standing : Standing
+standing = record { custodian = 1001; held = 1; judged = 2; wants = Some (1001, 3) }
+
+pub record WorkedQuestions : Type 0 where
+  pub stands : Prints (Replied (Stand 1001) (Ok standing))
+      (codes "custodian 1001 judged 2 held 1 wants 1001/3\n") [] 0
+  pub stands_for_good : Prints
+      (Replied (Stand 1001) (Ok (record standing { held = 0; wants = None })))
+      (codes "custodian 1001 judged 2 held 0 wants -\n") [] 0
+  pub unknown : Prints (Replied (Stand 9999) (Err refusal.UnknownCustodian))
+      (codes "refused 11\n") [] 1
+  pub not_there : Prints (Replied (LookUp 42) (Ok None)) (codes "none\n") [] 1
+  pub extract : Prints (Replied (Extract 1001 1) (Ok (Some (codes "99,0\n"))))
+      (codes "99,0\n") [] 0
+  pub not_reached : Prints (Replied (Extract 1001 1) (Ok None)) (codes "none\n") [] 1
+  pub no_volume : Prints (Replied (Extract 1001 0) (Err refusal.BadVolume))
+      (codes "refused 12\n") [] 1
+  pub failed : Prints (Replied (LookUp 42) (Err (refusal.NotReceived cause.Memory))) []
+      (codes "gazhub: NotReceived\n") 3
+
+pub record WorkedWords : Type 0 where
+  pub submitted : asks_to_submit (codes "01001") (codes "1") (Some [])
+      ≡ Err (turned_away door.UnknownCustodian)
+  pub four_digits : asks_to_submit (codes "0042") (codes "000001") (Some [])
+      ≡ Ok (Submit 42 1 [])
+  pub code_foremost : asks_to_submit (codes "x") (codes "0") None
+      ≡ Err (turned_away door.UnknownCustodian)
+  pub volume_next : asks_to_submit (codes "1001") (codes "0") None
+      ≡ Err (turned_away door.BadVolume)
+  pub file_last : asks_to_submit (codes "1001") (codes "1") None
+      ≡ Err (said.Failed fault.Unreadable)
+  pub stands : asks_standing (codes "1001") ≡ Ok (Pose (Stand 1001))
+  pub no_code : asks_standing (codes "12345") ≡ Err (turned_away door.UnknownCustodian)
+  pub address : asks_address (codes "000000000042") ≡ Ok (Pose (LookUp 42))
+  pub no_uprn : asks_address (codes "0000000000042") ≡ Err (said.Line line.Nothing)
+  pub extract : asks_extract (codes "1001") (codes "2") ≡ Ok (Pose (Extract 1001 2))
+  pub code_before_volume : asks_extract (codes "") (codes "")
+      ≡ Err (turned_away door.UnknownCustodian)
+  pub no_volume : asks_extract (codes "1001") (codes "1000000") ≡ Err (turned_away door.BadVolume)
+
+pub record WorkedCommands : Type 0 where
+  pub on_submissions : WorkedSubmissions
+  pub on_questions : WorkedQuestions
+  pub on_words : WorkedWords

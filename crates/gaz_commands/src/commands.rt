@@ -1,0 +1,77 @@
+//! What each command asks of a hub.
+ghost use Rattle.std.specs.Prelude.{◌≡◌, option_map};
+ghost use Rattle.gaz_shelf.specs.Telling.{IsNotJudging};
+ghost use Rattle.gaz_commands.specs.Asking.{asks_address, asks_extract, asks_standing};
+ghost use Rattle.gaz_commands.specs.Asking.{asks_to_submit};
+ghost use Rattle.gaz_commands.specs.Obeying.{Obeys};
+
+use crate::numbers::{code_named, uprn_named, volume_named};
+use crate::printed::{DoorRefusal, PrintedLine};
+use crate::said::{Fault, Said, turned_away};
+use gaz_hub::Hub;
+use gaz_shelf::Inbox;
+
+/// Submits a change file, whose bytes are given where it could be read.
+///
+/// Faults are looked for in this order: the code, the volume, the file, and then what the hub says.
+pub fn submit<K: Inbox + Drop>(
+    hub: &mut Hub<K>,
+    code: &str,
+    volume: &str,
+    file: Option<&[u8]>,
+) -> Said
+    requires idle { IsNotJudging K.seen hub.old.keeper }
+    ensures obeys { Obeys K.seen (asks_to_submit code.now volume.now
+        (option_map (λ bytes. bytes.now) file.entry)) hub.old hub.new result }
+    ensures register { hub.new.register ≡ hub.old.register }
+{
+    let Some(code) = code_named(code) else {
+        return turned_away(DoorRefusal::UnknownCustodian);
+    };
+    let Some(volume) = volume_named(volume) else {
+        return turned_away(DoorRefusal::BadVolume);
+    };
+    let Some(file) = file else {
+        return Said::Failed(Fault::Unreadable);
+    };
+    Said::answered(hub.submit(code.number(), volume.number(), file))
+}
+
+/// Says how far a custodian's files are judged.
+pub fn status<K: Inbox + Drop>(hub: &mut Hub<K>, code: &str) -> Said
+    requires idle { IsNotJudging K.seen hub.old.keeper }
+    ensures obeys { Obeys K.seen (asks_standing code.now) hub.old hub.new result }
+    ensures register { hub.new.register ≡ hub.old.register }
+{
+    let Some(code) = code_named(code) else {
+        return turned_away(DoorRefusal::UnknownCustodian);
+    };
+    Said::stands(hub.status(code.number()))
+}
+
+/// Says the address line of a property.
+pub fn line<K: Inbox + Drop>(hub: &mut Hub<K>, uprn: &str) -> Said
+    requires idle { IsNotJudging K.seen hub.old.keeper }
+    ensures obeys { Obeys K.seen (asks_address uprn.now) hub.old hub.new result }
+    ensures register { hub.new.register ≡ hub.old.register }
+{
+    let Some(uprn) = uprn_named(uprn) else {
+        return Said::Line(PrintedLine::Nothing);
+    };
+    Said::found(hub.lookup(uprn))
+}
+
+/// Says a custodian's view after a volume, as the text of an extract.
+pub fn extract<K: Inbox + Drop>(hub: &mut Hub<K>, code: &str, volume: &str) -> Said
+    requires idle { IsNotJudging K.seen hub.old.keeper }
+    ensures obeys { Obeys K.seen (asks_extract code.now volume.now) hub.old hub.new result }
+    ensures register { hub.new.register ≡ hub.old.register }
+{
+    let Some(code) = code_named(code) else {
+        return turned_away(DoorRefusal::UnknownCustodian);
+    };
+    let Some(volume) = volume_named(volume) else {
+        return turned_away(DoorRefusal::BadVolume);
+    };
+    Said::extracted(hub.extract(code.number(), volume.number()))
+}

@@ -1,0 +1,118 @@
+//! Which words there are, and what help says of them.
+use clap::{Arg, ArgAction, Command};
+use std::alloc::{AllocError, Global};
+
+const ABOUT: &str = "A hub for street and property gazetteers";
+
+const PLAY: &str = "Answers HTTP requests on standard input, over a store in memory [default]";
+
+const INIT: &str = "Makes a store";
+
+const SUBMIT: &str = "Submits a change file";
+
+const STATUS: &str = "Says how far a custodian's files are judged";
+
+const LINE: &str = "Prints the address line of a property";
+
+const EXTRACT: &str = "Prints a custodian's gazetteer after a volume";
+
+const INIT_EXAMPLE: &str = "Example: gazhub init --store hub.db --register register.toml";
+
+const SUBMIT_EXAMPLE: &str =
+    "Example: gazhub submit --store hub.db --register register.toml 1001 1 streets.csv
+
+Prints what became of the file:
+  new applied                     it was received now, and all its changes stand
+  new rejected record 3 rule 21   record 3 (the header is 1) breaks rule 21; nothing of it stands
+  new held wants 1001/2           it waits for volume 2 of custodian 1001
+  repeat applied                  the same file was received before
+  taken DIGEST                    another file was, with this SHA-256
+  refused 11                      custodian unknown (12: no volume; 13: too large; 16: profile)
+Exit status: 0 applied, 1 any other of these, 2 usage, 3 fault";
+
+const STATUS_EXAMPLE: &str = "Example: gazhub status --store hub.db --register register.toml 1001
+
+Prints: custodian 1001 judged 2 held 1 wants 1001/3";
+
+const LINE_EXAMPLE: &str = "Example: gazhub line --store hub.db --register register.toml 42";
+
+const EXTRACT_EXAMPLE: &str =
+    "Example: gazhub extract --store hub.db --register register.toml 1001 2";
+
+// A word that stands in its place, and has to.
+fn word<'a>(alloc: Global, name: &'a str, help: &'a str) -> Arg<'a> {
+    Arg::new(alloc, name)
+        .required(true)
+        .action(ArgAction::Set)
+        .help(help)
+}
+
+// A path behind a word of its own, which has to be there.
+fn path<'a>(alloc: Global, name: &'a str, shown: &'a str, help: &'a str) -> Arg<'a> {
+    word(alloc, name, help).long(name).value_name(shown)
+}
+
+// A command over a store.
+fn over_store<'a>(
+    alloc: Global,
+    name: &'a str,
+    about: &'a str,
+    example: &'a str,
+) -> Result<Command<'a>, AllocError> {
+    Command::new(alloc, name)
+        .about(about)
+        .after_help(example)
+        .arg(path(alloc, "store", "STORE", "The store's file"))?
+        .arg(path(
+            alloc,
+            "register",
+            "REGISTER",
+            "The register's file, in TOML",
+        ))
+}
+
+fn code<'a>(alloc: Global) -> Arg<'a> {
+    word(alloc, "CODE", "The custodian's code, 1 to 9999")
+}
+
+fn volume<'a>(alloc: Global) -> Arg<'a> {
+    word(alloc, "VOLUME", "The volume, 1 to 999999")
+}
+
+fn submit<'a>(alloc: Global) -> Result<Command<'a>, AllocError> {
+    over_store(alloc, "submit", SUBMIT, SUBMIT_EXAMPLE)?
+        .arg(code(alloc))?
+        .arg(volume(alloc))?
+        .arg(word(alloc, "FILE", "The change file, in CSV"))
+}
+
+fn status<'a>(alloc: Global) -> Result<Command<'a>, AllocError> {
+    over_store(alloc, "status", STATUS, STATUS_EXAMPLE)?.arg(code(alloc))
+}
+
+fn line<'a>(alloc: Global) -> Result<Command<'a>, AllocError> {
+    let uprn = word(alloc, "UPRN", "The property's number, of at most 12 digits");
+    over_store(alloc, "line", LINE, LINE_EXAMPLE)?.arg(uprn)
+}
+
+fn extract<'a>(alloc: Global) -> Result<Command<'a>, AllocError> {
+    over_store(alloc, "extract", EXTRACT, EXTRACT_EXAMPLE)?
+        .arg(code(alloc))?
+        .arg(volume(alloc))
+}
+
+/// All words that the program takes, behind its name.
+pub fn grammar<'a>(alloc: Global) -> Result<Command<'a>, AllocError> {
+    let play = Command::new(alloc, "play").about(PLAY);
+    Command::new(alloc, "gazhub")
+        .no_binary_name(true)
+        .bin_name("gazhub")?
+        .version("0.1.0")
+        .about(ABOUT)
+        .subcommand(play)?
+        .subcommand(over_store(alloc, "init", INIT, INIT_EXAMPLE)?)?
+        .subcommand(submit(alloc)?)?
+        .subcommand(status(alloc)?)?
+        .subcommand(line(alloc)?)?
+        .subcommand(extract(alloc)?)
+}

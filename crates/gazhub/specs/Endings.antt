@@ -1,0 +1,65 @@
+-- The exit statuses, and the lines that name faults.
+use Rattle.std.specs.Prelude.{ℕ, Bool, true, false, List, [], codes}
+use Rattle.gaz_commands.specs.Saying.{error_line}
+use Rattle.gaz_filing.specs.declared.files.NoHub.{NoHub as WhyNoHub}
+use Rattle.gaz_filing.specs.declared.files.NoHub.TheVariants as none
+use Rattle.gaz_kept.specs.declared.refusal.StoreRefusal.{StoreRefusal}
+use Rattle.gaz_kept.specs.declared.refusal.StoreRefusal.TheVariants as refusal
+use Rattle.gaz_register.specs.declared.fault.RegFault.{RegFault}
+use Rattle.gaz_register.specs.declared.fault.RegFault.TheVariants as fault
+use Rattle.gazhub.specs.declared.ending.Ending.{Ending}
+use Rattle.gazhub.specs.declared.ending.Ending.TheVariants.{Done, NotDone, Usage, Memory}
+use Rattle.gazhub.specs.declared.ending.Ending.TheVariants.{ReadFault, WriteFault, NoHub, Failed}
+
+-- the exit status
+abbrev pub status_of : Ending → ℕ
+status_of Done = 0
+status_of NotDone = 1
+status_of Usage = 2
+status_of Memory = 3
+status_of ReadFault = 3
+status_of WriteFault = 3
+status_of (NoHub why) = 3
+status_of (Failed why) = 3
+
+-- the line that names the fault of a register
+abbrev pub register_line : RegFault → List ℕ
+register_line fault.NotToml = codes "gazhub: NotToml\n"
+register_line fault.Shape = codes "gazhub: Shape\n"
+register_line fault.TooMany = codes "gazhub: TooMany\n"
+register_line fault.BadCode = codes "gazhub: BadCode\n"
+register_line fault.BadName = codes "gazhub: BadName\n"
+register_line fault.BadBlock = codes "gazhub: BadBlock\n"
+register_line fault.SameCode = codes "gazhub: SameCode\n"
+register_line fault.Overlap = codes "gazhub: Overlap\n"
+register_line fault.Memory = codes "gazhub: Memory\n"
+
+-- the line that says why there is no store
+abbrev pub refusal_line : StoreRefusal → List ℕ
+refusal_line refusal.BadSchema = codes "gazhub: BadSchema\n"
+refusal_line refusal.OtherRegister = codes "gazhub: OtherRegister\n"
+refusal_line refusal.Fault = codes "gazhub: Fault\n"
+
+-- the line that says why there is no hub
+abbrev pub no_hub_line : WhyNoHub → List ℕ
+no_hub_line none.Unreadable = codes "gazhub: Unreadable\n"
+no_hub_line (none.Register why) = register_line why
+no_hub_line (none.Store why) = refusal_line why
+
+-- the line on standard error, which names the fault
+abbrev pub line_of : Ending → List ℕ
+line_of Done = []
+line_of NotDone = []
+line_of Usage = []
+line_of Memory = codes "gazhub: Memory\n"
+line_of ReadFault = codes "gazhub: ReadFault\n"
+line_of WriteFault = codes "gazhub: WriteFault\n"
+line_of (NoHub why) = no_hub_line why
+line_of (Failed why) = error_line why
+
+-- nothing is printed on standard output: at usage, and at each fault but that of the output
+abbrev pub is_silent : Ending → Bool
+is_silent Done = false
+is_silent NotDone = false
+is_silent WriteFault = false
+is_silent _ = true

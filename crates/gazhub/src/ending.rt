@@ -1,0 +1,98 @@
+//! How the program ends.
+ghost use Rattle.std.specs.Prelude.{◌≡◌};
+ghost use Rattle.gazhub.specs.Endings.{line_of, no_hub_line, refusal_line, register_line};
+ghost use Rattle.gazhub.specs.Endings.{status_of};
+
+use gaz_commands::Fault;
+use gaz_filing::NoHub;
+use gaz_register::RegFault;
+use gaz_store::StoreRefusal;
+
+/// How the program ends.
+#[derive(Clone, Copy, Debug, PartialEq, Eq)]
+pub enum Ending {
+    /// What was asked for was done, or the conversation was held to its end.
+    Done,
+    /// It wasn't done, or isn't there.
+    NotDone,
+    /// The words ask for nothing that there is, as `clap` has told.
+    Usage,
+    /// There was no memory to begin with.
+    Memory,
+    /// The words, the random bytes or a request couldn't be read.
+    ReadFault,
+    /// A reply, or what a command says, couldn't be written.
+    WriteFault,
+    /// There was no hub to ask.
+    NoHub(NoHub),
+    /// The change file couldn't be read, or the hub failed.
+    Failed(Fault),
+}
+
+// The line that names the fault of a register.
+fn register_line(fault: RegFault) -> &'static str
+    ensures { result.now ≡ register_line fault }
+{
+    match fault {
+        RegFault::NotToml => "gazhub: NotToml\n",
+        RegFault::Shape => "gazhub: Shape\n",
+        RegFault::TooMany => "gazhub: TooMany\n",
+        RegFault::BadCode => "gazhub: BadCode\n",
+        RegFault::BadName => "gazhub: BadName\n",
+        RegFault::BadBlock => "gazhub: BadBlock\n",
+        RegFault::SameCode => "gazhub: SameCode\n",
+        RegFault::Overlap => "gazhub: Overlap\n",
+        RegFault::Memory => "gazhub: Memory\n",
+    }
+}
+
+// The line that says why there is no store.
+fn refusal_line(refusal: StoreRefusal) -> &'static str
+    ensures { result.now ≡ refusal_line refusal }
+{
+    match refusal {
+        StoreRefusal::BadSchema => "gazhub: BadSchema\n",
+        StoreRefusal::OtherRegister => "gazhub: OtherRegister\n",
+        StoreRefusal::Fault => "gazhub: Fault\n",
+    }
+}
+
+// The line that says why there is no hub.
+fn no_hub_line(why: NoHub) -> &'static str
+    ensures { result.now ≡ no_hub_line why }
+{
+    match why {
+        NoHub::Unreadable => "gazhub: Unreadable\n",
+        NoHub::Register(fault) => register_line(fault),
+        NoHub::Store(refusal) => refusal_line(refusal),
+    }
+}
+
+impl Ending {
+    /// The exit status: 0, 1 for what wasn't done, 2 for usage, 3 for a fault.
+    pub fn status(self) -> u8
+        ensures { result ≡ status_of self }
+    {
+        match self {
+            Ending::Done => 0,
+            Ending::NotDone => 1,
+            Ending::Usage => 2,
+            Ending::Memory | Ending::ReadFault | Ending::WriteFault => 3,
+            Ending::NoHub(_) | Ending::Failed(_) => 3,
+        }
+    }
+
+    /// The line on standard error that names a fault; none where there is no fault.
+    pub fn line(self) -> &'static str
+        ensures { result.now ≡ line_of self }
+    {
+        match self {
+            Ending::Done | Ending::NotDone | Ending::Usage => "",
+            Ending::Memory => "gazhub: Memory\n",
+            Ending::ReadFault => "gazhub: ReadFault\n",
+            Ending::WriteFault => "gazhub: WriteFault\n",
+            Ending::NoHub(why) => no_hub_line(why),
+            Ending::Failed(fault) => fault.line(),
+        }
+    }
+}
