@@ -10,7 +10,7 @@ import threading
 from dataclasses import dataclass, field
 from pathlib import Path
 
-from checks import conversations, kit, measure, runs, trying
+from checks import conversations, foreign, kit, measure, runs, schema1, sessions, stored, stores, tour, trouble, trying
 
 SAYING = threading.Lock()
 
@@ -88,16 +88,57 @@ def prove(room: Path, account: Account) -> set[str]:
     return set(re.findall(r"(?m)^rt: (\w+) proved$", ran.text))
 
 
-def converse(program: Path, root: Path, account: Account) -> None:
+def tell(name: str, fault: str | None, account: Account) -> None:
+    """Counts what passed where there is no fault, and says what is wrong where there is one."""
+    account.count(name, fault is None)
+    if fault:
+        say(f"{name}: {fault}")
+
+
+def converse(room: Path, root: Path, account: Account) -> None:
     """The conversations, each as one stream and request by request, and how the program ends."""
+    program, before = stores.built(room, "gazhub"), measure.spent()
+    if not program.is_file():
+        return
     for name, how, fault in conversations.run_all(program, root):
-        account.count(f"{name} ({how})", fault is None)
-        if fault:
-            say(f"conversation {name} ({how}): {fault}")
+        tell(f"{name} ({how})", fault, account)
     for name, fault in runs.run_all(program):
-        account.count(f"gazhub on {name}", fault is None)
-        if fault:
-            say(f"gazhub on {name}: {fault}")
+        tell(f"gazhub on {name}", fault, account)
+    for name, fault in sessions.run_all(program):
+        tell(f"commands: {name}", fault, account)
+    for name, fault in tour.run_all(program, root):
+        tell(f"tour, {name}", fault, account)
+    account.rest += measure.spent() - before
+
+
+def keep(room: Path, root: Path, account: Account) -> None:
+    """Stores from outside: the conversations over them, other people's SQLite, rows as they are written, and random streams."""
+    if not all(stores.built(room, name).is_file() for name in ("gazhub", "gaz_bench")):
+        return tell("stores from outside", "gazhub or gaz_bench isn't built", account)
+    before = measure.spent()
+    for name, how, fault in stored.run_all(root, room):
+        tell(f"{name} ({how})", fault, account)
+    for name, fault in foreign.run_all(root, room):
+        tell(f"a store {name}", fault, account)
+    for name, fault in schema1.run_all(root, room):
+        tell(f"schema 1, {name}", fault, account)
+    ran = measure.run([sys.executable, "bench/agree"], room)
+    tell("bench/agree", ran.text if ran.status else None, account)
+    account.rest += measure.spent() - before
+
+
+def run_trouble(room: Path, root: Path, account: Account) -> None:
+    """Histories over keepers that fail."""
+    program = stores.built(room, "gaz_trouble")
+    if not program.is_file():
+        return tell("gaz_trouble", "isn't built", account)
+    try:
+        ran, seconds = trouble.run_all(program)
+    except trouble.NoLibrary as why:
+        ran, seconds = [("memory", f"the library can't be built: {why}")], 0.0
+    account.rest += seconds
+    for name, fault in ran:
+        tell(f"gaz_trouble {name}", fault, account)
 
 
 def try_edits(crates: list, begin, account: Account) -> None:
@@ -151,9 +192,9 @@ def whole(root: Path) -> int:
         copy_of(root, room)
         proved = prove(room, account)
         crates = kit.crates(room)
-        program = room / "crates" / "gazhub" / "out" / "gazhub"
-        if program.is_file():
-            converse(program, root, account)
+        converse(room, root, account)
+        keep(room, root, account)
+        run_trouble(room, root, account)
         try_edits(with_edits_of(root, [it for it in crates if it.name in proved]), lambda crate, kept: None, account)
     return close([it.name for it in crates], account, clock)
 
@@ -200,11 +241,16 @@ def some(root: Path, names: list[str], edits_alone: bool) -> int:
     if not edits_alone:
         for crate in crates:
             prove_one(crate, account)
-    program = root / "crates" / "gazhub" / "out" / "gazhub"
-    if not edits_alone and "gazhub" in names:
-        ran, _ = measure.watch(["rt", "run"], program.parent.parent, lambda line: None)
-        account.count("gazhub: rt run", ran.status == 0)
-        converse(program, root, account)
+    for name, needs, run in (
+        ("gazhub", ("gazhub",), converse),
+        ("gaz_bench", ("gazhub", "gaz_bench"), keep),
+        ("gaz_trouble", ("gaz_trouble",), run_trouble),
+    ):
+        if not edits_alone and name in names:
+            for program in needs:
+                ran, _ = measure.watch(["rt", "run"], root / "crates" / program, lambda line: None)
+                account.count(f"{program}: rt run", ran.status == 0)
+            run(root, root, account)
     build_below(crates)
     try_edits(crates, kept_of, account)
     return close(names, account, clock)

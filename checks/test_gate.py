@@ -80,6 +80,20 @@ class Interrupted(unittest.TestCase):
         self.assertEqual((before, []), (after, left))
 
 
+class TheSteps(unittest.TestCase):
+    def test_programs_that_are_not_built_are_told(self):
+        account = gate.Account()
+        with tempfile.TemporaryDirectory() as made:
+            gate.keep(Path(made), Path(made), account)
+        self.assertEqual((0, ["stores from outside"]), (account.passed, account.failed))
+
+    def test_a_fault_is_a_failure(self):
+        account = gate.Account()
+        for fault in (None, "differs"):
+            gate.tell(f"it {fault}", fault, account)
+        self.assertEqual((1, ["it differs"]), (account.passed, account.failed))
+
+
 class TheAccount(unittest.TestCase):
     def test_rows_and_sums(self):
         account = gate.Account(proof={"a": 60.0, "b": 30.0}, tests={"b": 90.0}, edits={"a": 6.0}, rest=12.0)
