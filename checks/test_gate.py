@@ -24,7 +24,7 @@ def small_tree(root: Path, edits: dict[str, tuple[str, str]] | None = None) -> N
 
 def said(words: list[str], root: Path, path: str | None = None) -> tuple[int, str]:
     env = {**os.environ, **({} if path is None else {"PATH": path})}
-    ran = subprocess.run([sys.executable, CHECK, *words], cwd=root, env=env, capture_output=True, text=True, timeout=60)
+    ran = subprocess.run([sys.executable, CHECK, *words], cwd=root, env=env, capture_output=True, text=True, timeout=300)
     return ran.returncode, ran.stderr
 
 
@@ -72,7 +72,7 @@ class Interrupted(unittest.TestCase):
             # (its first check has begun once it has a room, and there are three)
             began = wait_for(lambda: any(it.startswith("check-edit-") for it in os.listdir(rooms)), 50)
             running.send_signal(signal.SIGINT)
-            _, text = running.communicate(timeout=60)
+            _, text = running.communicate(timeout=300)
             after = sorted(str(it) for it in Path(made).rglob("*") if ".git" not in it.parts)
             left = os.listdir(rooms)
         self.assertTrue(began, text)
