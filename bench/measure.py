@@ -1,11 +1,14 @@
 """How a program of this repository is run and measured. They are those that `rt run` leaves in crates/*/out, built where missing."""
 import os
 import subprocess
+import sys
 import tempfile
 import threading
 import time
 
 TOP = os.path.dirname(os.path.dirname(os.path.abspath(__file__)))
+sys.path.insert(0, TOP)
+from checks.stores import SAMPLE  # noqa: E402
 
 
 def program(name):
@@ -18,6 +21,11 @@ def program(name):
 def output_of(name, *words):
     """What a program prints."""
     return subprocess.run([program(name), *map(str, words)], check=True, capture_output=True).stdout
+
+
+def in_memory(folder):
+    """The words of a hub of the sample register over the keeper in memory."""
+    return [program("gaz_bench"), "play", in_file(folder, "sample.toml", SAMPLE.encode())]
 
 
 def in_file(folder, name, data):
@@ -53,10 +61,13 @@ def least_seconds(action, rounds):
 
 
 class Talk:
-    """A conversation with gazhub, some requests at a time. So what comes before them isn't in their time."""
+    """A conversation with a hub, some requests at a time. So what comes before them isn't in their time."""
+
+    def __init__(self, command):
+        self.command = command
 
     def __enter__(self):
-        self.child = subprocess.Popen([program("gazhub")], stdin=subprocess.PIPE, stdout=subprocess.PIPE, bufsize=0)
+        self.child = subprocess.Popen(self.command, stdin=subprocess.PIPE, stdout=subprocess.PIPE, bufsize=0)
         return self
 
     def __exit__(self, *_fault):
@@ -77,11 +88,11 @@ class Talk:
         sender.start()
         while left:
             piece = self.child.stdout.read(min(left, 1 << 20))
-            assert piece, "gazhub ended"
+            assert piece, "the hub ended"
             left -= len(piece)
             pieces.append(piece)
         sender.join()
-        assert b"".join(pieces) == replies, "gazhub replies otherwise"
+        assert b"".join(pieces) == replies, "the hub replies otherwise"
 
     def memory(self, word):
         """The memory of the program in bytes: VmRSS what it has now, VmHWM the most that it had."""

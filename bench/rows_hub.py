@@ -1,16 +1,16 @@
-"""What the whole hub costs, beside Python: posts and repeats, many files, look-ups, extracts and closed streets."""
+"""What the whole hub costs over the keeper in memory, beside Python: posts and repeats, many files, look-ups, extracts and closed streets."""
 import io
 import statistics
 import sys
 
 import hub
 import streams
-from measure import TOP, Talk, in_file, program, seconds
+from measure import TOP, Talk, in_file, in_memory, seconds
 
 
 def stream_row(folder, title, pair, body, count):
     path = in_file(folder, "stream", streams.post(pair, body) * count)
-    ours, replies = seconds([program("gazhub")], path, rounds=10)
+    ours, replies = seconds(in_memory(folder), path, rounds=10)
     theirs, same = seconds([sys.executable, f"{TOP}/bench/baseline.py", "stream"], path)
     assert replies == same, f"the baseline replies otherwise: {title}"
     return title, f"{theirs / ours:.1f} times the baseline", f"{count / ours:,.0f} requests/s"
@@ -22,7 +22,7 @@ def file_rows(folder, volumes=20):
     for count in (volumes // 2, volumes):
         stream = b"".join(streams.post((code, v), streams.volume_of(code, v)) for v in range(1, count + 1) for code in (1001, 1002, 1003))
         path = in_file(folder, "stream", stream)
-        ours, replies = seconds([program("gazhub")], path, rounds=25)
+        ours, replies = seconds(in_memory(folder), path, rounds=25)
         theirs, same = seconds([sys.executable, f"{TOP}/bench/hub.py"], path, rounds=7)
         assert replies == same and replies.count(b'"applied"') == 3 * count, "the plain hub replies otherwise"
         times.append(ours)
@@ -67,8 +67,8 @@ def reading_rows(folder):
     )
     loading, *paths = (in_file(folder, f"stream{k}", load + requests) for k, requests in enumerate((b"", *asked)))
     plain, same = beside_loading([sys.executable, f"{TOP}/bench/hub.py"], loading, paths, rounds=5)
-    ours, replies = beside_loading([program("gazhub")], loading, paths, rounds=25)
-    huge, _ = beside_loading([program("gazhub")], loading, paths[:2], rounds=25, environment=HUGE_PAGES)
+    ours, replies = beside_loading(in_memory(folder), loading, paths, rounds=25)
+    huge, _ = beside_loading(in_memory(folder), loading, paths[:2], rounds=25, environment=HUGE_PAGES)
     assert replies == same, "the plain hub replies otherwise"
     assert same[0].count(b'"applied"') == same[0].count(b"HTTP/1.1 201"), "the district isn't loaded"
 
@@ -84,12 +84,12 @@ def reading_rows(folder):
     yield f"/closed over 50,000 LPIs, {listed:,} listed", ratio(3), f"{50_000 * LISTS / ours[3]:,.0f} LPIs/s"
 
 
-def extract_memory_row():
+def extract_memory_row(folder):
     """What an extract of 50,000 items takes at its peak above what the program had before it."""
     load, asked = b"".join(streams.gazetteer(homes=25_000, each=500)), streams.get("/extract/1002/51")
     plain = hub.Hub()
     loaded, extract = plain_answers(plain, load), plain_answers(plain, asked)
-    with Talk() as talk:
+    with Talk(in_memory(folder)) as talk:
         talk.ask(load, loaded)
         held, before = talk.memory("VmRSS"), talk.memory("VmHWM")
         talk.ask(asked, extract)
@@ -104,4 +104,4 @@ def rows(folder):
     yield stream_row(folder, "10,000 repeats of a file of 100 changes", (1001, 1), streams.streets_file(100), 10_000)
     yield from file_rows(folder)
     yield from reading_rows(folder)
-    yield extract_memory_row()
+    yield extract_memory_row(folder)

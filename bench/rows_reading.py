@@ -4,7 +4,7 @@ import hub
 import items
 import registers
 import streams
-from measure import Talk, in_file, least_seconds, output_of
+from measure import Talk, in_file, in_memory, least_seconds, output_of
 
 KINDS = {
     "11": ("streets", "{k},1,2001-04-01,", "{k},1,1990-01-01,2024-04-30"),
@@ -27,9 +27,9 @@ def file_row(folder, title, data, read):
     return f"reading a file of {title}", f"{theirs / ours:.1f} times the baseline", f"{len(data) / ours / 1e6:,.0f} MB/s"
 
 
-def peak_over(body):
-    """The most memory that gazhub has when it has answered a file of these bytes."""
-    with Talk() as talk:
+def peak_over(folder, body):
+    """The most memory that a hub over the keeper in memory has when it has answered a file of these bytes."""
+    with Talk(in_memory(folder)) as talk:
         talk.send(streams.post((1001, 1), body))
         talk.child.stdout.read(1)
         return talk.memory("VmHWM")
@@ -40,16 +40,16 @@ def hostile_rows(folder):
     good = streams.long_file()
     assert len(good) == streams.MIB
     measure = reading_seconds("file", folder, good, 100)
-    yield "a good file of 1 MiB", f"{len(good) / measure / 1e6:,.0f} MB/s", f"peak memory {peak_over(good) / 2**20:.1f} MiB"
+    yield "a good file of 1 MiB", f"{len(good) / measure / 1e6:,.0f} MB/s", f"peak memory {peak_over(folder, good) / 2**20:.1f} MiB"
     for title, bodies in streams.hostile_files():
         times = [reading_seconds("any", folder, body, 100) for body in bodies]
-        peak = max(map(peak_over, bodies))
+        peak = max(peak_over(folder, body) for body in bodies)
         yield f"a file of 1 MiB of {title}", f"{max(times) / measure:.2f} times the good file's time", f"peak memory {peak / 2**20:.1f} MiB"
 
 
-def memory_row():
+def memory_row(folder):
     body = b"," * streams.MIB
-    peak = peak_over(body)
+    peak = peak_over(folder, body)
     return "a file of one record with a million fields", f"peak memory {peak / len(body):.1f} times the file", f"{peak / 2**20:.1f} MiB"
 
 
@@ -77,7 +77,7 @@ def rows(folder):
     yield file_row(folder, "5,000 streets", streams.streets_file(5000), baseline.read)
     yield file_row(folder, "5,000 mixed changes", streams.mixed_file(), hub.read)
     yield from hostile_rows(folder)
-    yield memory_row()
+    yield memory_row(folder)
     yield register_row(folder)
     for kind in KINDS:
         yield from item_rows(folder, kind)

@@ -35,7 +35,7 @@ def scattered(turn, count):
 
 
 class Floor:
-    """What `gaz_floor` does, through Python's sqlite3."""
+    """What `gaz_bench floor` does, through Python's sqlite3."""
 
     def __init__(self, path, count):
         self.count, self.told = count, {}
@@ -108,8 +108,8 @@ class Floor:
 
 
 def ours_of(path, count):
-    """What `gaz_floor` tells of each statement: how often it ran, its rows, and nanoseconds a row."""
-    lines = (line.split() for line in output_of("gaz_floor", path, count, PAGES).decode().splitlines())
+    """What `gaz_bench floor` tells of each statement: how often it ran, its rows, and nanoseconds a row."""
+    lines = (line.split() for line in output_of("gaz_bench", "floor", path, count, PAGES).decode().splitlines())
     return {name: (int(calls), int(rows), int(spent) / max(int(rows), 1)) for name, calls, rows, spent in lines}
 
 

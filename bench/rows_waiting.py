@@ -3,7 +3,7 @@ import statistics
 
 import registers
 import streams
-from measure import in_file, program, seconds
+from measure import in_file, in_memory, program, seconds
 
 LOOK_UPS, REQUESTS, SUBMISSIONS, ROUNDS = 50_000, 400_000, 20_000, 5
 SIZE = 300_000_000  # of a block of UPRNs; those of USRNs have 30,000
@@ -42,7 +42,7 @@ def held_rows(folder):
             rows = [f"11,I,{300 + k},1,2001-04-01," for k in range(changes)]
             load += streams.post((1003, 1), streams.file_with(1003, 1, rows, ((1001, 999),)))
         asked = b"".join(streams.get(f"/uprn/{streams.FIRST + k % 2_500}") for k in range(LOOK_UPS))
-        spent, _ = beyond([program("gazhub")], in_file(folder, "loading", load), in_file(folder, "stream", load + asked))
+        spent, _ = beyond(in_memory(folder), in_file(folder, "loading", load), in_file(folder, "stream", load + asked))
         base = base or spent
         title = f"{LOOK_UPS:,} look-ups while {'a file of ' + format(changes, ',') + ' changes' if changes else 'nothing'} waits"
         yield title, f"{spent / base:.2f} times those while nothing waits", f"{LOOK_UPS / spent:,.0f} look-ups/s"

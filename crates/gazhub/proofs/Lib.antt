@@ -1,3 +1,2 @@
-pub mod Alone
-pub mod Beginning
+pub mod Playing
 mod Endings

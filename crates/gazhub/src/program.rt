@@ -1,21 +1,17 @@
 //! A conversation of a hub that begins with nothing.
-ghost use Rattle.std.specs.Prelude.{◌≡◌, IfErr, IfOk};
+ghost use Rattle.std.specs.Prelude.{◌≡◌, IfSome, None, Ok};
 ghost use Rattle.gaz_register.specs.Reading.{register_of};
-ghost use Rattle.gaz_shelf.specs.Keeper.{IsNotOpen};
 ghost use Rattle.gaz_exchange.specs.Conversing.{transfer};
-ghost use Rattle.gaz_shelf.specs.Mem.{seen_in};
-ghost use Rattle.gaz_hub.specs.Hubs.{state_of};
-ghost use Rattle.gaz_hub.specs.Seen.{RemembersNothing};
-ghost use Rattle.gaz_hub.specs.Step as step;
 ghost use Rattle.gazhub.specs.Commands.{Holds, Rests};
 ghost use Rattle.gazhub.specs.Playing.{Plays};
 
 use crate::ending::Ending;
 use crate::sample::SAMPLE;
-use gaz_exchange::{Cause, Served, Stopped, converse};
-use gaz_hub::Hub;
-use gaz_register::{RegFault, Register};
-use gaz_shelf::{MemShelf, Seed};
+use gaz_exchange::{Cause, Served, Stopped};
+use gaz_quiet::new_database;
+use gaz_register::Register;
+use gaz_shelf::Seed;
+use gaz_stored::{HandedBack, answer_new};
 use std::alloc::Global;
 use std::io::{Read, Write};
 use std::mem::forget;
@@ -23,39 +19,47 @@ use std::mem::forget;
 /// The most requests of one run.
 pub const MOST: u64 = 100_000;
 
-// A hub of the custodians of the sample register, that received nothing.
-fn new_hub(alloc: Global, seed: Seed) -> Result<Hub<MemShelf>, RegFault>
-    ensures register { IfOk result (λ hub. register_of SAMPLE.now ≡ Ok hub.register) }
-    ensures idle { IfOk result (λ hub. IsNotOpen (seen_in hub.keeper).progress) }
-    ensures empty { IfOk result (λ hub. state_of (seen_in hub.keeper).content ≡ step.new_hub) }
-    ensures fresh { IfOk result (λ hub. RemembersNothing hub) }
+// The sample register, where there is memory for it.
+fn sample_register(alloc: Global) -> Option<Register>
+    ensures { IfSome result (λ register. register_of SAMPLE.now ≡ Ok register) }
 {
-    let register = Register::read(alloc, SAMPLE.as_bytes())?;
-    Ok(Hub::new(alloc, register, MemShelf::new(alloc, seed)))
+    match Register::read(alloc, SAMPLE.as_bytes()) {
+        Ok(register) => Some(register),
+        Err(_) => None,
+    }
 }
 
-/// Answers the requests of a stream, at most 100,000 of them, at a hub of the sample register that
-/// begins with nothing. Where it ends, no other may follow those that were answered, or none stands
-/// whole in what was read behind them, unless there was no memory for the body of the next.
+/// Answers the requests of a stream, at most 100,000 of them, at a hub of the sample register over a
+/// store in memory that begins with nothing. Where it ends, no other may follow those that were
+/// answered, or none stands whole in what was read behind them, unless there was no memory for the
+/// body of the next.
 ///
-/// Without memory for the register nothing is read or written.
+/// Without memory for the register or the store nothing is read or written, and there is no answer.
 pub fn answer_all<R: Read, W: Write>(
     alloc: Global,
     seed: Seed,
     r: &mut R,
     w: &mut W,
-) -> Result<Result<Served, Stopped>, RegFault>
-    ensures plays { IfOk result (Plays SAMPLE.now MOST
+) -> Option<Result<Served, Stopped>>
+    ensures plays { IfSome result (Plays SAMPLE.now MOST
         (transfer R.remaining W.contents r.old r.new w.old w.new)) }
-    ensures rests { IfErr result (λ _. Rests
-        (transfer R.remaining W.contents r.old r.new w.old w.new)) }
+    ensures rests { result ≡ None → Rests
+        (transfer R.remaining W.contents r.old r.new w.old w.new) }
 {
-    let mut hub = new_hub(alloc, seed)?;
-    let ended = converse(alloc, r, w, &mut hub, MOST);
+    let Some(register) = sample_register(alloc) else {
+        return None;
+    };
+    let Some(conn) = new_database(alloc) else {
+        return None;
+    };
+    let HandedBack { conn, held } = answer_new(alloc, seed, conn, register, r, w, MOST);
     // The program ends, and the system takes back at once what would take longer to free piece by
     // piece.
-    forget(hub);
-    Ok(ended)
+    forget(conn);
+    match held {
+        Ok(ended) => Some(ended),
+        Err(_) => None,
+    }
 }
 
 /// Holds a conversation.
@@ -64,11 +68,11 @@ pub fn play<R: Read, W: Write>(alloc: Global, seed: Seed, r: &mut R, w: &mut W) 
         (transfer R.remaining W.contents r.old r.new w.old w.new) result }
 {
     match answer_all(alloc, seed, r, w) {
-        Ok(Ok(_)) => Ending::Done,
-        Ok(Err(stopped)) => match stopped.cause {
+        Some(Ok(_)) => Ending::Done,
+        Some(Err(stopped)) => match stopped.cause {
             Cause::ReadFault => Ending::ReadFault,
             Cause::WriteFault => Ending::WriteFault,
         },
-        Err(_) => Ending::Memory,
+        None => Ending::Memory,
     }
 }

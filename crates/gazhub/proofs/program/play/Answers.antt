@@ -2,7 +2,7 @@ use Rattle.gazhub.proofs.Endings.{by_cause}
 use Rattle.gazhub.proofs.program.play.Goals as goal
 
 pub returns-in-ReadFault : goal.returns-in-ReadFault
-returns-in-ReadFault g c = by_cause _ _ _ _ _ _ c.in-Ok-Err.field-0-is c.in-ReadFault.is c.in-Ok-Err.ensures.plays
+returns-in-ReadFault g c = by_cause _ _ _ _ _ _ c.in-Some-Err.field-0-is c.in-ReadFault.is c.in-Some-Err.ensures.plays
 
 pub returns-in-WriteFault : goal.returns-in-WriteFault
-returns-in-WriteFault g c = by_cause _ _ _ _ _ _ c.in-Ok-Err.field-0-is c.in-WriteFault.is c.in-Ok-Err.ensures.plays
+returns-in-WriteFault g c = by_cause _ _ _ _ _ _ c.in-Some-Err.field-0-is c.in-WriteFault.is c.in-Some-Err.ensures.plays
