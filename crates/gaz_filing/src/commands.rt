@@ -1,10 +1,12 @@
-use crate::files::{NoHub, is_there, options, read_change_file, read_register};
+use crate::files::{NoHub, announce, options, read_change_file, read_register, size_at};
+use crate::serving::{Attending, taken};
 use crate::stores::{ask_store, make_store};
 use gaz_commands::Said;
+use gaz_register::Register;
 use gaz_shelf::Seed;
 use gaz_store::StoreRefusal;
 use gaz_words::{Call, Places};
-use sqlite::Unknown;
+use sqlite::{Options, Unknown};
 
 // The answer of a store, or why there is none.
 fn of_store(answer: Result<Said, StoreRefusal>) -> Result<Said, NoHub> {
@@ -14,7 +16,7 @@ fn of_store(answer: Result<Said, StoreRefusal>) -> Result<Said, NoHub> {
 /// Makes a store. Its file is made where it is missing.
 pub fn init(rt: &HostRuntime, seed: Seed, places: Places<'_>) -> Result<Said, NoHub> {
     let register = read_register(rt, places.register)?;
-    let options = options(rt)?;
+    let options = options(rt, 0)?;
     let Ok(files) = sqlite_std_file::open(rt, places.store, Unknown) else {
         return Err(NoHub::Store(StoreRefusal::Fault));
     };
@@ -29,6 +31,17 @@ fn bytes_for(rt: &HostRuntime, call: Call<'_>) -> Option<Vec<u8>> {
     }
 }
 
+// The register, and how the files of the store that is there are used.
+fn placed(rt: &HostRuntime, places: Places<'_>) -> Result<(Register, Options), NoHub> {
+    let register = read_register(rt, places.register)?;
+    let Some(bytes) = size_at(rt, places.store) else {
+        return Err(NoHub::Store(StoreRefusal::Fault));
+    };
+    let options = options(rt, bytes)?;
+    announce(rt, bytes);
+    Ok((register, options))
+}
+
 /// Asks a hub over the store that is there. No file is made.
 pub fn ask(
     rt: &HostRuntime,
@@ -36,15 +49,26 @@ pub fn ask(
     places: Places<'_>,
     call: Call<'_>,
 ) -> Result<Said, NoHub> {
-    let register = read_register(rt, places.register)?;
-    let options = options(rt)?;
-    if !is_there(rt, places.store) {
-        return Err(NoHub::Store(StoreRefusal::Fault));
-    }
+    let (register, options) = placed(rt, places)?;
     let Ok(files) = sqlite_std_file::open(rt, places.store, Unknown) else {
         return Err(NoHub::Store(StoreRefusal::Fault));
     };
     let bytes = bytes_for(rt, call);
     let file = bytes.as_ref().map(|bytes| bytes.as_slice());
     of_store(ask_store(rt.alloc(), files, options, seed, register, call, file))
+}
+
+/// Opens the store that is there, and a port for connections over it. No file is made.
+pub fn attend(
+    rt: &HostRuntime,
+    seed: Seed,
+    places: Places<'_>,
+    port: u16,
+) -> Result<Attending, NoHub> {
+    let (register, options) = placed(rt, places)?;
+    let Ok(files) = sqlite_std_file::open(rt, places.store, Unknown) else {
+        return Err(NoHub::Store(StoreRefusal::Fault));
+    };
+    let hub = taken(rt.alloc(), files, options, seed, register)?;
+    Attending::at(rt, hub, port)
 }

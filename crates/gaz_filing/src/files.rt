@@ -4,7 +4,7 @@ use gaz_register::{RegFault, Register};
 use gaz_store::StoreRefusal;
 use sqlite::Options;
 use std::fs;
-use std::io::{self, Read};
+use std::io::{self, IsTerminal, Read};
 use std::random::RandomSource;
 
 /// Why there is no hub to ask. They are looked for in this order.
@@ -16,6 +16,8 @@ pub enum NoHub {
     Register(RegFault),
     /// There is no store, or none of this register.
     Store(StoreRefusal),
+    /// The port can't be had.
+    NoPort,
 }
 
 /// A register, read from its file.
@@ -50,15 +52,46 @@ fn salt(rt: &HostRuntime) -> io::Result<u64> {
     Ok(u64::from_le_bytes(bytes))
 }
 
-/// How a store's files are used.
-pub fn options(rt: &HostRuntime) -> Result<Options, NoHub> {
-    match salt(rt) {
-        Ok(salt) => Ok(Options::new(salt)),
-        Err(_) => Err(NoHub::Store(StoreRefusal::Fault)),
+/// The bytes of a page of a store's file.
+const PAGE: u64 = 4096;
+
+/// The fewest pages that are kept at hand, and the most: 256 MB.
+const FEWEST: u64 = 2_000;
+
+const MOST: u64 = 64_000;
+
+/// So many bytes of a store's file take about a second to open, since it is read through.
+const A_SECOND: u64 = 64_000_000;
+
+// The pages that are kept at hand: all of a file of so many bytes and half as many more, where they
+// aren't too many.
+fn pages_for(bytes: u64) -> usize {
+    let pages = bytes / PAGE;
+    pages.saturating_add(pages / 2).clamp(FEWEST, MOST) as usize
+}
+
+/// How a store's files are used, where the database has so many bytes.
+pub fn options(rt: &HostRuntime, bytes: u64) -> Result<Options, NoHub> {
+    let Ok(salt) = salt(rt) else {
+        return Err(NoHub::Store(StoreRefusal::Fault));
+    };
+    let mut options = Options::new(salt);
+    options.cache_pages = pages_for(bytes);
+    Ok(options)
+}
+
+/// The bytes of the file at a path; none where nothing is there.
+pub fn size_at(rt: &HostRuntime, path: &str) -> Option<u64> {
+    match fs::metadata(rt, path) {
+        Ok(found) => Some(found.len()),
+        Err(_) => None,
     }
 }
 
-/// Whether there is anything at the path.
-pub fn is_there(rt: &HostRuntime, path: &str) -> bool {
-    fs::metadata(rt, path).is_ok()
+/// Says that a store's file of so many bytes is being opened, where that takes over a second and a
+/// person waits: standard error is a terminal. What can't be said is lost.
+pub fn announce(rt: &HostRuntime, bytes: u64) {
+    if bytes > A_SECOND && rt.stderr().is_terminal() {
+        let _lost = eprintln!(rt; "opening ..");
+    }
 }

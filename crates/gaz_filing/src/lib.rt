@@ -3,8 +3,10 @@
 
 mod commands;
 mod files;
+mod serving;
 mod stores;
 
-pub use commands::{ask, init};
+pub use commands::{ask, attend, init};
 pub use files::NoHub;
-pub use stores::{ask_store, make_store};
+pub use serving::Attending;
+pub use stores::{ask_store, make_store, open_hub};

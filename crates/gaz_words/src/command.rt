@@ -40,6 +40,15 @@ pub enum Call<'a> {
     },
 }
 
+/// Where connections are answered, and how many.
+#[derive(Clone, Copy, Debug, PartialEq, Eq)]
+pub struct Serving {
+    /// 0 to 65535; for 0 the system chooses one.
+    pub port: u16,
+    /// 0 to 1,000,000.
+    pub connections: u64,
+}
+
 /// What the words ask for.
 #[derive(Clone, Copy, Debug, PartialEq, Eq)]
 pub enum Command<'a> {
@@ -49,6 +58,8 @@ pub enum Command<'a> {
     Init(Places<'a>),
     /// A hub over a store is asked.
     Ask(Places<'a>, Call<'a>),
+    /// Connections are answered over a store.
+    Serve(Places<'a>, Serving),
 }
 
 // The word that was written for an argument. `clap` asks for each, so that none is missing.
@@ -78,6 +89,14 @@ fn extracting<'a>(given: &ArgMatches<'a>) -> Call<'a> {
     }
 }
 
+// Where connections are answered. `clap` takes no other numbers.
+fn serving_at(given: &ArgMatches<'_>) -> Serving {
+    Serving {
+        port: given.get_one::<u16>("port").unwrap_or(0),
+        connections: given.get_one::<u64>("connections").unwrap_or(0),
+    }
+}
+
 // The command of this name, of the words behind it.
 fn named<'a>(name: &str, given: &ArgMatches<'a>) -> Command<'a> {
     let places = places_of(given);
@@ -97,6 +116,7 @@ fn named<'a>(name: &str, given: &ArgMatches<'a>) -> Command<'a> {
             },
         ),
         "extract" => Command::Ask(places, extracting(given)),
+        "serve" => Command::Serve(places, serving_at(given)),
         _ => Command::Play,
     }
 }

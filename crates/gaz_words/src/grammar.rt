@@ -1,4 +1,5 @@
 //! Which words there are, and what help says of them.
+use clap::builder::ValueParser;
 use clap::{Arg, ArgAction, Command};
 use std::alloc::{AllocError, Global};
 
@@ -15,6 +16,8 @@ const STATUS: &str = "Says how far a custodian's files are judged";
 const LINE: &str = "Prints the address line of a property";
 
 const EXTRACT: &str = "Prints a custodian's gazetteer after a volume";
+
+const SERVE: &str = "Answers HTTP requests on 127.0.0.1, over a store";
 
 const INIT_EXAMPLE: &str = "Example: gazhub init --store hub.db --register register.toml";
 
@@ -39,6 +42,17 @@ const LINE_EXAMPLE: &str = "Example: gazhub line --store hub.db --register regis
 const EXTRACT_EXAMPLE: &str =
     "Example: gazhub extract --store hub.db --register register.toml 1001 2";
 
+const SERVE_EXAMPLE: &str =
+    "Example: gazhub serve --store hub.db --register register.toml --port 8080 --connections 100
+
+Prints: listening 127.0.0.1:8080
+Answers connections one after the other, and ends behind the last of them.";
+
+/// The greatest port, and the most connections.
+const MOST_PORT: u64 = 65_535;
+
+const MOST_CONNECTIONS: u64 = 1_000_000;
+
 // A word that stands in its place, and has to.
 fn word<'a>(alloc: Global, name: &'a str, help: &'a str) -> Arg<'a> {
     Arg::new(alloc, name)
@@ -50,6 +64,11 @@ fn word<'a>(alloc: Global, name: &'a str, help: &'a str) -> Arg<'a> {
 // A path behind a word of its own, which has to be there.
 fn path<'a>(alloc: Global, name: &'a str, shown: &'a str, help: &'a str) -> Arg<'a> {
     word(alloc, name, help).long(name).value_name(shown)
+}
+
+// A number behind a word of its own, which has to be there.
+fn number<'a>(alloc: Global, name: &'a str, shown: &'a str, help: &'a str, most: u64) -> Arg<'a> {
+    path(alloc, name, shown, help).value_parser(ValueParser::Unsigned(0, most))
 }
 
 // A command over a store.
@@ -101,6 +120,26 @@ fn extract<'a>(alloc: Global) -> Result<Command<'a>, AllocError> {
         .arg(volume(alloc))
 }
 
+fn serve<'a>(alloc: Global) -> Result<Command<'a>, AllocError> {
+    let port = number(
+        alloc,
+        "port",
+        "PORT",
+        "The port; for 0 the system chooses one",
+        MOST_PORT,
+    );
+    let connections = number(
+        alloc,
+        "connections",
+        "CONNECTIONS",
+        "How many connections are answered",
+        MOST_CONNECTIONS,
+    );
+    over_store(alloc, "serve", SERVE, SERVE_EXAMPLE)?
+        .arg(port)?
+        .arg(connections)
+}
+
 /// All words that the program takes, behind its name.
 pub fn grammar<'a>(alloc: Global) -> Result<Command<'a>, AllocError> {
     let play = Command::new(alloc, "play").about(PLAY);
@@ -114,5 +153,6 @@ pub fn grammar<'a>(alloc: Global) -> Result<Command<'a>, AllocError> {
         .subcommand(submit(alloc)?)?
         .subcommand(status(alloc)?)?
         .subcommand(line(alloc)?)?
-        .subcommand(extract(alloc)?)
+        .subcommand(extract(alloc)?)?
+        .subcommand(serve(alloc)?)
 }

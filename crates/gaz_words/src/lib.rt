@@ -3,7 +3,5 @@
 
 mod command;
 mod grammar;
-#[cfg(test)]
-mod tests;
 
-pub use command::{Call, Command, Places, asks_play, read};
+pub use command::{Call, Command, Places, Serving, asks_play, read};

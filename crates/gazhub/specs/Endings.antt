@@ -45,6 +45,7 @@ abbrev pub no_hub_line : WhyNoHub → List ℕ
 no_hub_line none.Unreadable = codes "gazhub: Unreadable\n"
 no_hub_line (none.Register why) = register_line why
 no_hub_line (none.Store why) = refusal_line why
+no_hub_line none.NoPort = codes "gazhub: NoPort\n"
 
 -- the line on standard error, which names the fault
 abbrev pub line_of : Ending → List ℕ

@@ -65,6 +65,7 @@ fn no_hub_line(why: NoHub) -> &'static str
         NoHub::Unreadable => "gazhub: Unreadable\n",
         NoHub::Register(fault) => register_line(fault),
         NoHub::Store(refusal) => refusal_line(refusal),
+        NoHub::NoPort => "gazhub: NoPort\n",
     }
 }
 

@@ -13,9 +13,9 @@ use clap::Error;
 use clap::error::ErrorKind;
 use gaz_commands::{Said, print};
 use gaz_exchange::write_all;
-use gaz_filing::{NoHub, ask, init};
+use gaz_filing::{NoHub, ask, attend, init};
 use gaz_shelf::Seed;
-use gaz_words::{Command, asks_play, read};
+use gaz_words::{Command, Places, Serving, asks_play, read};
 use std::io::{Read, Write};
 
 // Prints what a command says.
@@ -60,6 +60,27 @@ fn finish<W: Write>(w: &mut W, said: Result<Said, NoHub>) -> Ending
     }
 }
 
+// Answers connections over a store, and says first where.
+fn serve<W: Write>(
+    rt: &HostRuntime,
+    seed: Seed,
+    places: Places<'_>,
+    serving: Serving,
+    w: &mut W,
+) -> Ending
+    ensures { is_silent result ≡ true → Keeps (W.contents w.old) (W.contents w.new) }
+{
+    let attending = match attend(rt, seed, places, serving.port) {
+        Ok(attending) => attending,
+        Err(no_hub) => return Ending::NoHub(no_hub),
+    };
+    if attending.tell(w).is_err() {
+        return Ending::WriteFault;
+    }
+    attending.serve(rt.alloc(), serving.connections);
+    Ending::Done
+}
+
 // Does what a command asks.
 fn obey<R: Read, W: Write>(
     rt: &HostRuntime,
@@ -75,6 +96,7 @@ fn obey<R: Read, W: Write>(
         Command::Play => play(rt.alloc(), seed, r, w),
         Command::Init(places) => finish(w, init(rt, seed, places)),
         Command::Ask(places, call) => finish(w, ask(rt, seed, places, call)),
+        Command::Serve(places, serving) => serve(rt, seed, places, serving, w),
     }
 }
 
@@ -139,7 +161,7 @@ pub fn report<E: Write>(errors: &mut E, ending: Ending)
 }
 
 /// Does what the words ask: holds a conversation where there are none, or `play` alone; makes a store,
-/// or asks a hub over one. Gives the exit status.
+/// asks a hub over one, or answers connections over it. Gives the exit status.
 ///
 /// `words` are those behind the program's name, none where they can't be read; `seed` is none where
 /// the system gives no random bytes. What files hold no contract can say: what is asked of a hub

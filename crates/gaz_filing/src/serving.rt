@@ -1,0 +1,103 @@
+//! Connections over the store in a file.
+ghost use Rattle.std.specs.Prelude.{IfOk, IsTrue};
+ghost use Rattle.gaz_shelf.specs.Keeper.{IsNotOpen};
+ghost use Rattle.gaz_shelf.specs.Telling.{IsNotJudging};
+ghost use Rattle.gaz_store.specs.Store.{seen_in};
+
+use crate::files::NoHub;
+use crate::stores::{close, open_hub};
+use gaz_hub::Hub;
+use gaz_register::Register;
+use gaz_serving::serve_on;
+use gaz_shelf::{Inbox, Seed};
+use gaz_store::Store;
+use sqlite::{File, FileStore, Files, Options};
+use sqlite_disk::Disk;
+use std::alloc::Global;
+use std::io::{self, Write};
+use std::net::{Ipv4Addr, TcpListener};
+
+/// A hub over the store in a file, and where its connections come.
+#[derive(Drop)]
+pub struct Attending {
+    hub: Hub<Store<FileStore<File>>>,
+    listener: TcpListener,
+    ghost idle: { IsNotOpen (seen_in hub.keeper).progress },
+}
+
+// A hub over the store in the files, of which nothing is said but that it has no judgement open: what
+// `open_hub` says is more than a proof at a file's own type can carry.
+pub(crate) fn taken<D: Disk + Drop>(
+    alloc: Global,
+    files: Files<D>,
+    options: Options,
+    seed: Seed,
+    register: Register,
+) -> Result<Hub<Store<FileStore<D>>>, NoHub>
+    requires log { IsTrue (D.Disk.is_usable files.log) }
+    requires db { IsTrue (D.Disk.is_usable files.db) }
+    ensures { IfOk result (λ hub. IsNotOpen (seen_in hub.keeper).progress) }
+{
+    match open_hub(alloc, files, options, seed, register) {
+        Ok(hub) => Ok(hub),
+        Err(refusal) => Err(NoHub::Store(refusal)),
+    }
+}
+
+// Answers connections over a hub.
+fn serve_hub<K: Inbox + Drop>(
+    alloc: Global,
+    listener: &TcpListener,
+    hub: &mut Hub<K>,
+    connections: u64,
+)
+    requires { IsNotJudging K.seen hub.old.keeper }
+{
+    serve_on(alloc, listener, hub, connections);
+}
+
+// Answers connections over a hub, whose store is then closed.
+fn serve_last<D: Disk + Drop>(
+    alloc: Global,
+    listener: &TcpListener,
+    hub: Hub<Store<FileStore<D>>>,
+    connections: u64,
+)
+    requires { IsNotOpen (seen_in hub.keeper).progress }
+{
+    let mut hub = hub;
+    serve_hub(alloc, listener, &mut hub, connections);
+    close(hub);
+}
+
+impl Attending {
+    /// A hub whose connections come to a port of 127.0.0.1; for 0 the system chooses one.
+    ///
+    /// `NoPort` where it can't be had.
+    pub(crate) fn at(
+        rt: &HostRuntime,
+        hub: Hub<Store<FileStore<File>>>,
+        port: u16,
+    ) -> Result<Attending, NoHub>
+        requires { IsNotOpen (seen_in hub.keeper).progress }
+    {
+        match TcpListener::bind(rt, (Ipv4Addr::LOCALHOST, port)) {
+            Ok(listener) => Ok(Attending { hub, listener }),
+            Err(_) => Err(NoHub::NoPort),
+        }
+    }
+
+    /// Says where connections come.
+    pub fn tell<W: Write>(&self, w: &mut W) -> io::Result<()> {
+        let port = self.listener.local_addr()?.port();
+        write!(w, "listening 127.0.0.1:{port}\n")?;
+        w.flush()
+    }
+
+    /// Answers so many connections, one after the other, and closes the store: see `serve_on` of
+    /// `gaz_serving`.
+    pub fn serve(self, alloc: Global, connections: u64) {
+        let Attending { hub, listener } = self;
+        serve_last(alloc, &listener, hub, connections);
+    }
+}

@@ -1,0 +1,104 @@
+ghost use Rattle.std.specs.Prelude.{◌≡◌};
+ghost use Rattle.gaz_shelf.specs.Keeper.{IsNotOpen};
+ghost use Rattle.gaz_serving.specs.Serving.{Serves, TalksOrRests};
+
+use gaz_exchange::converse;
+use gaz_hub::Hub;
+use gaz_shelf::Inbox;
+use std::alloc::Global;
+use std::io::{self, BufWriter, Read, Write};
+use std::net::{OpenListener, OpenStream, Shutdown};
+use std::time::Duration;
+
+/// The most requests of a connection.
+const MOST: u64 = 1_000;
+
+/// The seconds for which a peer is waited for that sends nothing or takes nothing.
+const PATIENCE: u64 = 30;
+
+/// The seconds for which one is waited for once all is told.
+const PARTING: u64 = 1;
+
+/// The most reads of what a peer sends behind the last reply.
+const READS: u32 = 512;
+
+// The handle of a connection to write by. What is written leaves at once, and nobody waits longer
+// for the peer than `PATIENCE`.
+fn writer_of<S: OpenStream>(stream: &S) -> io::Result<S> {
+    let patience = Some(Duration::from_secs(PATIENCE));
+    stream.set_nodelay(true)?;
+    stream.set_read_timeout(patience)?;
+    stream.set_write_timeout(patience)?;
+    stream.try_clone()
+}
+
+// Tells the peer that no reply follows, and reads on for a while: where bytes are left unread at the
+// end, the system drops what the peer has not taken yet of the last reply.
+fn part<S: Read + OpenStream>(stream: &mut S) {
+    let parting = Some(Duration::from_secs(PARTING));
+    if stream.shutdown(Shutdown::Write).is_err() || stream.set_read_timeout(parting).is_err() {
+        return;
+    }
+    let mut taken = [0; 4096];
+    for _ in 0..READS {
+        match stream.read(&mut taken) {
+            Ok(0) | Err(_) => return,
+            Ok(_) => {}
+        }
+    }
+}
+
+// Holds a conversation over a connection. A fault of its stream ends it alone.
+fn hold<S: Read + Write + OpenStream + Drop, K: Inbox + Drop>(
+    alloc: Global,
+    stream: S,
+    hub: &mut Hub<K>,
+)
+    requires { IsNotOpen (K.seen hub.old.keeper).progress }
+    ensures { TalksOrRests K.seen MOST hub.old hub.new }
+{
+    let mut r = stream;
+    let Ok(w) = writer_of(&r) else {
+        return;
+    };
+    let Ok(mut w) = BufWriter::new(alloc, w) else {
+        return;
+    };
+    let _ended = converse(alloc, &mut r, &mut w, hub, MOST);
+    part(&mut r);
+}
+
+// Accepts a connection, and holds a conversation over it.
+fn serve_next<L: OpenListener, K: Inbox + Drop>(alloc: Global, listener: &L, hub: &mut Hub<K>)
+where
+    L::Stream: Read + Write + OpenStream,
+    requires { IsNotOpen (K.seen hub.old.keeper).progress }
+    ensures { TalksOrRests K.seen MOST hub.old hub.new }
+{
+    if let Ok((stream, _)) = listener.accept() {
+        hold(alloc, stream, hub);
+    }
+}
+
+/// Accepts so many connections, one after the other, and answers the requests of each in turn, at
+/// most 1,000 of them. A connection that can't be accepted counts as one.
+///
+/// Whatever the peers do, the hub holds so many conversations at most, one after another, and makes a
+/// run of its steps: what was received stays received. A peer that sends nothing, or takes nothing,
+/// for 30 seconds is given up.
+pub fn serve_on<L: OpenListener, K: Inbox + Drop>(
+    alloc: Global,
+    listener: &L,
+    hub: &mut Hub<K>,
+    connections: u64,
+)
+where
+    L::Stream: Read + Write + OpenStream,
+    requires { IsNotOpen (K.seen hub.old.keeper).progress }
+    ensures serves { Serves K.seen MOST connections hub.old hub.new }
+    ensures register { hub.new.register ≡ hub.old.register }
+{
+    for _ in 0..connections {
+        serve_next(alloc, listener, hub);
+    }
+}
