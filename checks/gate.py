@@ -10,7 +10,7 @@ import threading
 from dataclasses import dataclass, field
 from pathlib import Path
 
-from checks import conversations, foreign, kit, measure, runs, schema1, sessions, stored, stores, tour, trouble, trying
+from checks import kit, measure, outside, stores, trouble, trying
 
 SAYING = threading.Lock()
 
@@ -96,32 +96,22 @@ def tell(name: str, fault: str | None, account: Account) -> None:
 
 
 def converse(room: Path, root: Path, account: Account) -> None:
-    """The conversations, each as one stream and request by request, and how the program ends."""
+    """What `gazhub` is asked and told, and how it ends."""
     program, before = stores.built(room, "gazhub"), measure.spent()
     if not program.is_file():
         return
-    for name, how, fault in conversations.run_all(program, root):
-        tell(f"{name} ({how})", fault, account)
-    for name, fault in runs.run_all(program):
-        tell(f"gazhub on {name}", fault, account)
-    for name, fault in sessions.run_all(program):
-        tell(f"commands: {name}", fault, account)
-    for name, fault in tour.run_all(program, root):
-        tell(f"tour, {name}", fault, account)
+    for name, fault in outside.of_program(program, root):
+        tell(name, fault, account)
     account.rest += measure.spent() - before
 
 
 def keep(room: Path, root: Path, account: Account) -> None:
-    """Stores from outside: the conversations over them, other people's SQLite, rows as they are written, and random streams."""
+    """Stores from outside, and random streams."""
     if not all(stores.built(room, name).is_file() for name in ("gazhub", "gaz_bench")):
         return tell("stores from outside", "gazhub or gaz_bench isn't built", account)
     before = measure.spent()
-    for name, how, fault in stored.run_all(root, room):
-        tell(f"{name} ({how})", fault, account)
-    for name, fault in foreign.run_all(root, room):
-        tell(f"a store {name}", fault, account)
-    for name, fault in schema1.run_all(root, room):
-        tell(f"schema 1, {name}", fault, account)
+    for name, fault in outside.of_stores(root, room):
+        tell(name, fault, account)
     ran = measure.run([sys.executable, "bench/agree"], room)
     tell("bench/agree", ran.text if ran.status else None, account)
     account.rest += measure.spent() - before

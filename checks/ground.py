@@ -36,7 +36,7 @@ class Ground:
         return store
 
     def right(self, requests: bytes) -> list[bytes]:
-        """What `gazhub` replies to these requests behind the history."""
+        """What a hub over the keeper in memory replies to these requests behind the history."""
         return replies_in(self.hubs.without_store(HISTORY + requests).replies)[len(FILES) :]
 
 

@@ -1,4 +1,4 @@
-"""The worked conversations over a store: in memory, in a file, and in a file that is closed between any two requests."""
+"""The worked conversations over the keeper in memory, over a store in a file, and over one that is closed between any two requests."""
 
 from pathlib import Path
 
@@ -7,8 +7,8 @@ from checks.stores import Answered, Hubs, hubs_of
 
 
 def run_in_memory(hubs: Hubs, store: Path, conversation: Conversation) -> str | None:
-    """What is wrong with the answers to all requests as one stream, over a store in memory."""
-    return fault_in(hubs.in_memory(conversation.requests), conversation.replies)
+    """What is wrong with the answers to all requests as one stream, over the keeper in memory."""
+    return fault_in(hubs.without_store(conversation.requests), conversation.replies)
 
 
 def run_whole(hubs: Hubs, store: Path, conversation: Conversation) -> str | None:
@@ -36,7 +36,7 @@ def fault_in(answered: Answered, wanted: bytes) -> str | None:
     return "; ".join(fault for fault in (difference(wanted, answered.replies), answered.fault()) if fault) or None
 
 
-WAYS = (("over a store in memory", run_in_memory), ("over a store in a file", run_whole), ("over a store opened anew", run_reopened))
+WAYS = (("over the keeper in memory", run_in_memory), ("over a store in a file", run_whole), ("over a store opened anew", run_reopened))
 
 
 def run_all(root: Path, room: Path) -> list[tuple[str, str, str | None]]:

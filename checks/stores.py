@@ -50,10 +50,9 @@ class Answered:
 
 @dataclass(frozen=True)
 class Hubs:
-    """Hubs of the sample register: over stores in files, over one in memory, and over the keeper in memory."""
+    """Hubs of the sample register: over stores in files, and over the keeper in memory."""
 
     bench: Path  # the program gaz_bench
-    gazhub: Path
     register: Path
 
     def over(self, store: Path, requests: bytes) -> Answered:
@@ -64,13 +63,9 @@ class Hubs:
         """The same, but the store is closed and opened between these pieces of the stream, within one process."""
         return _run([self.bench, "stored-each", store, self.register], framed(pieces))
 
-    def in_memory(self, requests: bytes) -> Answered:
-        """The answers over a new store in memory."""
-        return _run([self.bench, "stored-memory", self.register], requests)
-
     def without_store(self, requests: bytes) -> Answered:
-        """The answers of `gazhub`, whose keeper is in memory."""
-        return _run([self.gazhub], requests)
+        """The answers over the keeper in memory."""
+        return _run([self.bench, "play", self.register], requests)
 
 
 def _run(words: list[str | Path], given: bytes) -> Answered:
@@ -92,7 +87,7 @@ def hubs_of(root: Path) -> Iterator[tuple[Hubs, Path]]:
     with tempfile.TemporaryDirectory(prefix="check-stores-") as made:
         register = Path(made) / "register.toml"
         register.write_text(SAMPLE)
-        yield Hubs(built(root, "gaz_bench"), built(root, "gazhub"), register), Path(made)
+        yield Hubs(built(root, "gaz_bench"), register), Path(made)
 
 
 def built(root: Path, name: str) -> Path:

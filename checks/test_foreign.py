@@ -45,7 +45,7 @@ class Telling(Hubs):
 
 
 def telling(**what) -> Telling:
-    return Telling(Path(), Path(), Path(), **what)
+    return Telling(Path(), Path(), **what)
 
 
 class InAFolder(unittest.TestCase):

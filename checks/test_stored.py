@@ -54,7 +54,7 @@ class OverStores(unittest.TestCase):
 
     def faults(self, text: str, conversation: Conversation = TWICE) -> list[str | None]:
         program = self.program("gaz_bench", text)
-        hubs = Hubs(program, program, self.root / "register.toml")
+        hubs = Hubs(program, self.root / "register.toml")
         return [run(hubs, self.root / f"store-{at}", conversation) for at, (_, run) in enumerate(WAYS)]
 
     def test_a_right_program_passes(self) -> None:

@@ -40,6 +40,8 @@ PARTS = (
     Part("cut-file", 0, 1000, 5),
     Part("memory-maps", 0, 100_000),
     Part("memory-store", 0, 100_000),
+    Part("calls-maps", 1, 100_000),
+    Part("calls-store", 1, 100_000),
 )
 
 

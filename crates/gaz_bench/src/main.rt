@@ -5,13 +5,17 @@
 //! `gaz_bench keeping VOLUMES` times how the keeper in memory keeps so many volumes of 1,000 items.
 //! `gaz_bench stored STORE REGISTER` answers the requests on standard input at a hub of the register in a file, over the store in a file, which is
 //! made where there is none; `gaz_bench stored-each STORE REGISTER` takes pieces of a stream, each behind a line with its length in bytes, and
-//! opens and closes the store for each of them; `gaz_bench stored-memory REGISTER` has a new store in memory. Why there is no store is said on
-//! standard error, as `gaz_bench: BadSchema`, and the status is 3.
+//! opens and closes the store for each of them. Why there is no store is said on standard error, as `gaz_bench: BadSchema`, and the status is 3.
+//! A fourth word of `stored` is the most steps that a statement over the opened store may take.
+//! `gaz_bench floor FILE ROWS PAGES` makes a store in a file, with a cache of so many pages, fills it with so many rows and asks for them by the
+//! statements of the tables alone. It prints a line a statement: its name, how often it ran, how many rows it made or found, and the nanoseconds of
+//! all. The file is a new one, or an empty database, whose page size then counts.
 //! `gaz_bench play REGISTER` answers the requests on standard input at a hub of the register in a file, over a keeper in memory.
 //! `gaz_bench IDENTIFIER FILE ROUNDS` takes a record identifier and a file of rows of that kind, which begin behind the order field. It prints a
 //! line with the least time in nanoseconds of reading all items and that of writing all rows, and then the rows.
 #![tactic(auto)]
 
+mod floor;
 mod judging;
 mod keeping;
 mod playing;
@@ -31,7 +35,7 @@ use records::records_nanos;
 use std::process::ExitCode;
 use std::time::Instant;
 use std::{env, fs};
-use stored::{stored, stored_each, stored_in_memory};
+use stored::{stored, stored_each};
 
 // What a file is read as.
 #[derive(Clone, Copy)]
@@ -153,15 +157,32 @@ fn status_of(rt: &HostRuntime, refusal: Option<StoreRefusal>) -> Result<ExitCode
     }
 }
 
+// A number that may be left out.
+fn number_in(word: Option<String>) -> Result<Option<u64>> {
+    match word {
+        Some(word) => Ok(Some(word.parse::<u64>()?)),
+        None => Ok(None),
+    }
+}
+
+// Times the statements of the tables.
+fn print_floor(rt: &HostRuntime, path: &str, rows: &str, pages: Option<String>) -> Result<()> {
+    let pages = pages.context("a number of pages")?.parse::<usize>()?;
+    floor::time_file(rt, path, rows.parse::<u32>()?, pages)
+}
+
 fn main(rt: HostRuntime) -> Result<ExitCode> {
     let mut words = env::args(&rt)?.skip(1);
     let (Some(word), Some(given), other) = (words.next(), words.next(), words.next()) else {
         return Ok(ExitCode::SUCCESS);
     };
     let refusal = match (word.as_str(), &other) {
-        ("stored", Some(register)) => stored(&rt, &given, register)?,
+        ("stored", Some(register)) => stored(&rt, &given, register, number_in(words.next())?)?,
         ("stored-each", Some(register)) => stored_each(&rt, &given, register)?,
-        ("stored-memory", None) => stored_in_memory(&rt, &given)?,
+        ("floor", Some(rows)) => {
+            print_floor(&rt, &given, rows, words.next())?;
+            None
+        }
         _ => {
             print_times(&rt, &word, &given, other)?;
             None

@@ -78,13 +78,15 @@ fn answer_at<R: Read, W: Write>(
     rt: &HostRuntime,
     path: &str,
     register: Register,
+    steps: Option<u64>,
     r: &mut R,
     w: &mut W,
 ) -> Result<Option<StoreRefusal>> {
     let beginning = beginning_at(rt, path);
-    let Some(conn) = open(rt, path) else {
+    let Some(mut conn) = open(rt, path) else {
         return Ok(Some(StoreRefusal::Fault));
     };
+    conn.set_step_limit(steps);
     let left = answer(rt.alloc(), conn, register, beginning, r, w)?;
     left.conn.close()?;
     refusal_of(left.held)
@@ -94,11 +96,17 @@ fn register_in(rt: &HostRuntime, path: &str) -> Result<Register> {
     Ok(Register::read(rt.alloc(), &fs::read(rt, path)?)?)
 }
 
-/// Answers the requests on standard input over the store in a file.
-pub fn stored(rt: &HostRuntime, path: &str, register: &str) -> Result<Option<StoreRefusal>> {
+/// Answers the requests on standard input over the store in a file, whose statements take so many
+/// steps at most.
+pub fn stored(
+    rt: &HostRuntime,
+    path: &str,
+    register: &str,
+    steps: Option<u64>,
+) -> Result<Option<StoreRefusal>> {
     let register = register_in(rt, register)?;
     let mut w = BufWriter::new(rt.alloc(), io::writer(rt))?;
-    answer_at(rt, path, register, &mut rt.reader(), &mut w)
+    answer_at(rt, path, register, steps, &mut rt.reader(), &mut w)
 }
 
 /// The first piece of what is left, and what is behind it: a line has its length in bytes, and the
@@ -122,28 +130,18 @@ pub fn stored_each(rt: &HostRuntime, path: &str, register: &str) -> Result<Optio
             break;
         }
         let (mut piece, behind) = piece_of(left).context("a piece is cut off")?;
-        let refusal = answer_at(rt, path, register_in(rt, register)?, &mut piece, &mut w)?;
+        let refusal = answer_at(
+            rt,
+            path,
+            register_in(rt, register)?,
+            None,
+            &mut piece,
+            &mut w,
+        )?;
         if refusal.is_some() {
             return Ok(refusal);
         }
         left = behind;
     }
     Ok(None)
-}
-
-/// Answers the requests on standard input over a new store in memory.
-pub fn stored_in_memory(rt: &HostRuntime, register: &str) -> Result<Option<StoreRefusal>> {
-    let register = register_in(rt, register)?;
-    let alloc = rt.alloc();
-    let mut w = BufWriter::new(alloc, io::writer(rt))?;
-    let conn = Connection::open_in_memory(alloc)?;
-    let left = answer(
-        alloc,
-        conn,
-        register,
-        Beginning::Made,
-        &mut rt.reader(),
-        &mut w,
-    )?;
-    refusal_of(left.held)
 }

@@ -1,20 +1,10 @@
-//! The lower crates as their callers use them: tests of numbers, rows, records and histories, of change files and of the register.
+//! The lower crates as their callers use them, where no reply of a hub tells it: tests of numbers, rows, records, written files and of the register.
 #![tactic(auto)]
 
 #[cfg(test)]
-mod change_files;
-#[cfg(test)]
-mod field_limits;
-#[cfg(test)]
 mod file_fixtures;
 #[cfg(test)]
-mod file_headers;
-#[cfg(test)]
-mod file_limits;
-#[cfg(test)]
 mod files_back;
-#[cfg(test)]
-mod histories;
 #[cfg(test)]
 mod items_back;
 #[cfg(test)]
@@ -23,8 +13,6 @@ mod numbers;
 mod objects;
 #[cfg(test)]
 mod records;
-#[cfg(test)]
-mod register_faults;
 #[cfg(test)]
 mod registers;
 #[cfg(test)]

@@ -1,8 +1,27 @@
 //! Whom a hub asks for a property, by a keeper that counts.
-use crate::questions::failing_hub;
+use crate::resting::{Resting, counting_hub};
+use gaz_hub::{Answer, Outcome};
 use gaz_ids::Uprn;
+use gaz_register::Register;
+use gaz_samples::REGISTER;
+use gaz_shelf::{Faulty, MemShelf};
+use std::alloc::Global;
 use std::process::Abort;
 use std::test::Fail;
+
+/// 1002/1: property 100001.
+const PROPERTY: &[u8] =
+    b"10,1,1002,1,2024-01-10\n21,I,1,100001,1,455000,255000,,,2020-01-01,\n99,1\n";
+
+// A hub in which the property stands.
+fn hub_with_property(rt: &(impl Abort + AllocGlobal)) -> Result<Resting<Faulty<MemShelf>>, Fail> {
+    let mut hub = counting_hub(rt.alloc(), Register::read(rt.alloc(), REGISTER)?);
+    assert_eq!(rt;
+        hub.submit(1002, 1, PROPERTY),
+        Answer::New(Outcome::Applied)
+    );
+    Ok(hub)
+}
 
 // Looks a number up on a settled board: whose it is found to be, and how many are asked.
 fn is_asked(
@@ -11,14 +30,9 @@ fn is_asked(
     custodian: Option<u64>,
     asked: u64,
 ) -> Result<(), Fail> {
-    let mut hub = failing_hub(rt.alloc(), 0)?;
-    let uprn = Uprn::of(uprn).ok_or("a UPRN")?;
-    assert!(rt; hub.settle().is_ok());
+    let mut hub = hub_with_property(rt)?;
     let before = hub.shelf().counted().property_of;
-    let found = match hub.lookup(uprn) {
-        Ok(found) => found,
-        Err(_) => return Err(Fail::from("a fault")),
-    };
+    let found = hub.lookup(Uprn::of(uprn).ok_or("a UPRN")?)?;
     assert_eq!(rt; found.map(|found| found.custodian.number()), custodian);
     assert_eq!(rt;
         hub.shelf().counted().property_of,

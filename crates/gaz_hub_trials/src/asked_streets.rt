@@ -1,6 +1,6 @@
 //! How often a keeper is asked for closed streets and for a property, by one that counts.
-use crate::cases::{Row, custodian, item, volume, writes};
-use crate::resting::{Resting, counting_shelf};
+use crate::items::{Row, custodian, item, volume, writes};
+use crate::keepers::{RestingKeeper, counting_shelf};
 use gaz_ids::Uprn;
 use gaz_records::{Kind, SharedItem};
 use gaz_register::Register;
@@ -26,7 +26,7 @@ fn addresses(alloc: Global) -> Result<Vec<SharedItem>, Fail> {
 // A volume of a custodian adds them to its view.
 fn adds_addresses<K: Inbox + Drop>(
     alloc: Global,
-    shelf: &mut Resting<K>,
+    shelf: &mut RestingKeeper<K>,
     code: u64,
     number: u64,
 ) -> Result<(), Fail> {

@@ -1,26 +1,25 @@
-//! Hubs and conversations as their callers use them: tests of `gaz_hub` and `gaz_exchange`.
+//! Judgements, hubs and conversations as their callers use them: what no reply and no contract tells. How often a keeper is asked, by one that
+//! counts; and streams that come in pieces, fail or wait.
 #![tactic(auto)]
 
 #[cfg(test)]
 mod asked_owners;
 #[cfg(test)]
-mod conversations_in_turn;
+mod asked_streets;
 #[cfg(test)]
-mod hub_faults;
+mod items;
 #[cfg(test)]
-mod hubs;
+mod keepers;
 #[cfg(test)]
-mod large_files;
+mod look_ups;
 #[cfg(test)]
 mod patient_clients;
 #[cfg(test)]
 mod pieces;
 #[cfg(test)]
-mod questions;
-#[cfg(test)]
-mod readings;
-#[cfg(test)]
 mod resting;
+#[cfg(test)]
+mod serving;
 #[cfg(test)]
 mod streams;
 #[cfg(test)]

@@ -3,14 +3,16 @@
 ghost use Rattle.gaz_shelf.specs.Keeper.{IsNotOpen};
 
 use gaz_exchange::{Served, Stopped, converse};
-use gaz_extract::{Closed, Found};
-use gaz_hub::{Answer, Digest, Hub, Outcome, Refusal, Standing};
+use gaz_extract::Found;
+use gaz_hub::{Answer, Hub, Refusal, Standing};
 use gaz_ids::Uprn;
 use gaz_register::{RegFault, Register};
 use gaz_samples::REGISTER;
-use gaz_shelf::{Faulty, Inbox, MemShelf, Seed, ShelfFault};
+use gaz_serving::serve_on;
+use gaz_shelf::{Faulty, Inbox, MemShelf, Seed};
 use std::alloc::Global;
 use std::io::{Read, Write};
+use std::net::TcpListener;
 
 /// A hub whose keeper has no judgement open.
 #[derive(Drop)]
@@ -25,9 +27,14 @@ pub(crate) fn mem_hub(alloc: Global) -> Result<Resting<MemShelf>, RegFault> {
     Ok(Resting::over(alloc, register, MemShelf::new(alloc, Seed::of(1))))
 }
 
+/// The same of a register, over such a keeper that counts its calls.
+pub(crate) fn counting_hub(alloc: Global, register: Register) -> Resting<Faulty<MemShelf>> {
+    let keeper = Faulty::new(MemShelf::new(alloc, Seed::of(1)), 0);
+    Resting::over(alloc, register, keeper)
+}
+
 impl<K: Inbox + Drop> Resting<K> {
-    /// A hub over a keeper.
-    pub(crate) fn over(alloc: Global, register: Register, keeper: K) -> Resting<K>
+    fn over(alloc: Global, register: Register, keeper: K) -> Resting<K>
         requires { IsNotOpen (K.seen keeper).progress }
     {
         Resting {
@@ -39,32 +46,12 @@ impl<K: Inbox + Drop> Resting<K> {
         self.hub.submit(code, volume, file)
     }
 
-    pub(crate) fn settle(&mut self) -> Result<(), ShelfFault> {
-        self.hub.settle()
-    }
-
-    pub(crate) fn outcome(
-        &mut self,
-        code: u64,
-        volume: u64,
-    ) -> Result<Option<(Digest, Outcome)>, Refusal> {
-        self.hub.outcome(code, volume)
-    }
-
     pub(crate) fn status(&mut self, code: u64) -> Result<Standing, Refusal> {
         self.hub.status(code)
     }
 
     pub(crate) fn lookup(&mut self, uprn: Uprn) -> Result<Option<Found>, Refusal> {
         self.hub.lookup(uprn)
-    }
-
-    pub(crate) fn extract(&mut self, code: u64, volume: u64) -> Result<Option<Vec<u8>>, Refusal> {
-        self.hub.extract(code, volume)
-    }
-
-    pub(crate) fn closed_streets(&mut self) -> Result<Vec<Closed>, Refusal> {
-        self.hub.closed_streets()
     }
 
     /// Holds a conversation over it, of so many requests at most.
@@ -78,24 +65,12 @@ impl<K: Inbox + Drop> Resting<K> {
         converse(alloc, r, w, &mut self.hub, most)
     }
 
-    pub(crate) fn register(&self) -> &Register {
-        self.hub.register()
+    /// Answers so many connections over it.
+    pub(crate) fn serve_on(&mut self, alloc: Global, listener: &TcpListener, connections: u64) {
+        serve_on(alloc, listener, &mut self.hub, connections);
     }
 
     pub(crate) fn shelf(&self) -> &K {
         self.hub.shelf()
-    }
-
-    /// The register and the keeper, as they stand.
-    pub(crate) fn into_parts(self) -> (Register, K) {
-        let Resting { hub } = self;
-        hub.into_parts()
-    }
-
-    /// A new hub over its parts.
-    pub(crate) fn again(self, alloc: Global) -> Resting<K> {
-        let Resting { hub } = self;
-        let (register, keeper) = hub.into_parts();
-        Resting::over(alloc, register, keeper)
     }
 }

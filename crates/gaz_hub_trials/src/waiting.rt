@@ -1,10 +1,10 @@
 //! Who is looked at when a file comes: the keeper's calls at a hub of 400 custodians, counted.
 
-use crate::hubs::held;
-use crate::resting::Resting;
+use crate::items::{custodian, volume};
+use crate::resting::{Resting, counting_hub};
 use gaz_hub::{Answer, Outcome};
 use gaz_register::Register;
-use gaz_shelf::{Faulty, Inbox, MemShelf, Seed};
+use gaz_shelf::{Faulty, Inbox, MemShelf};
 use std::alloc::Global;
 use std::fmt::Write;
 use std::process::Abort;
@@ -25,8 +25,7 @@ fn hub_of_400(alloc: Global) -> Result<Resting<Faulty<MemShelf>>, Fail> {
         )?;
     }
     let register = Register::read(alloc, text.as_bytes())?;
-    let keeper = Faulty::new(MemShelf::new(alloc, Seed::of(1)), 0);
-    Ok(Resting::over(alloc, register, keeper))
+    Ok(counting_hub(alloc, register))
 }
 
 // How often the keeper was asked what is judged or received.
@@ -62,6 +61,14 @@ fn submits<K: Inbox + Drop>(
     Ok(())
 }
 
+// The answer to a file that waits for volume 1 of a custodian.
+fn waits_for(whom: u64) -> Result<Answer, Fail> {
+    Ok(Answer::New(Outcome::Held {
+        custodian: custodian(whom)?,
+        volume: volume(1)?,
+    }))
+}
+
 // Each of these submits a file that waits for volume 1 of a custodian.
 fn all_wait<K: Inbox + Drop>(
     rt: &(impl Abort + AllocGlobal),
@@ -70,8 +77,7 @@ fn all_wait<K: Inbox + Drop>(
     whom: u64,
 ) -> Result<(), Fail> {
     for code in codes {
-        let waits = Answer::New(held(whom, 1)?);
-        submits(rt, hub, (*code, 1), &[(whom, 1)], waits)?;
+        submits(rt, hub, (*code, 1), &[(whom, 1)], waits_for(whom)?)?;
     }
     Ok(())
 }
@@ -121,7 +127,7 @@ fn who_waits_is_looked_at_once(rt: HostRuntime) -> Result<(), Fail> {
 fn who_waits_for_two_volumes_is_looked_at_for_each(rt: HostRuntime) -> Result<(), Fail> {
     let mut hub = hub_of_400(rt.alloc())?;
     let on_both: &[(u64, u64)] = &[(7, 1), (8, 1)];
-    submits(&rt, &mut hub, (9, 1), on_both, Answer::New(held(7, 1)?))?;
+    submits(&rt, &mut hub, (9, 1), on_both, waits_for(7)?)?;
     submits(&rt, &mut hub, (7, 1), &[], APPLIED)?;
     assert_eq!(rt; hub.status(9)?.judged, 0);
     submits(&rt, &mut hub, (8, 1), &[], APPLIED)?;

@@ -1,4 +1,4 @@
-//! What a keeper is asked. A call that reads clears a broken judgement.
+//! What a keeper is asked.
 use crate::tried::{Refusal, Tried};
 use gaz_ids::{Code, Lang, Uprn, Usrn, Volume};
 use gaz_records::{Key, Kind, SharedItem};
@@ -7,7 +7,6 @@ use std::alloc::Global;
 
 impl<K: Inbox + Drop> Tried<K> {
     pub(crate) fn reached(&mut self, code: Code) -> Result<u64, ShelfFault> {
-        self.broken = false;
         self.keeper.reached(code)
     }
 
@@ -16,7 +15,6 @@ impl<K: Inbox + Drop> Tried<K> {
         code: Code,
         volume: Volume,
     ) -> Result<Option<Verdict>, ShelfFault> {
-        self.broken = false;
         self.keeper.verdict(code, volume)
     }
 
@@ -25,7 +23,6 @@ impl<K: Inbox + Drop> Tried<K> {
         code: Code,
         key: &Key,
     ) -> Result<Option<SharedItem>, ShelfFault> {
-        self.broken = false;
         self.keeper.current(code, key)
     }
 
@@ -35,17 +32,14 @@ impl<K: Inbox + Drop> Tried<K> {
         volume: u64,
         key: &Key,
     ) -> Result<Option<SharedItem>, ShelfFault> {
-        self.broken = false;
         self.keeper.at(code, volume, key)
     }
 
     pub(crate) fn ever(&mut self, code: Code, key: &Key) -> Result<bool, ShelfFault> {
-        self.broken = false;
         self.keeper.ever(code, key)
     }
 
     pub(crate) fn approved_of(&mut self, code: Code, uprn: Uprn) -> Result<Vec<Key>, ShelfFault> {
-        self.broken = false;
         self.keeper.approved_of(code, uprn)
     }
 
@@ -54,7 +48,6 @@ impl<K: Inbox + Drop> Tried<K> {
         code: Code,
         uprn: Uprn,
     ) -> Result<Option<Property>, ShelfFault> {
-        self.broken = false;
         self.keeper.property_of(code, uprn)
     }
 
@@ -64,12 +57,10 @@ impl<K: Inbox + Drop> Tried<K> {
         usrn: Usrn,
         lang: Option<Lang>,
     ) -> Result<bool, ShelfFault> {
-        self.broken = false;
         self.keeper.approved_on(code, usrn, lang)
     }
 
     pub(crate) fn children(&mut self, code: Code, uprn: Uprn) -> Result<bool, ShelfFault> {
-        self.broken = false;
         self.keeper.children(code, uprn)
     }
 
@@ -81,7 +72,6 @@ impl<K: Inbox + Drop> Tried<K> {
         after: Option<Key>,
         most: usize,
     ) -> Result<Vec<SharedItem>, ShelfFault> {
-        self.broken = false;
         self.keeper.page(code, volume, kind, after, most)
     }
 
@@ -90,12 +80,10 @@ impl<K: Inbox + Drop> Tried<K> {
         code: Code,
         volume: Volume,
     ) -> Result<Option<Vec<u8>>, ShelfFault> {
-        self.broken = false;
         self.keeper.received(code, volume)
     }
 
     pub(crate) fn held(&mut self, code: Code) -> Result<u64, ShelfFault> {
-        self.broken = false;
         self.keeper.held(code)
     }
 
@@ -111,7 +99,6 @@ impl<K: Inbox + Drop> Tried<K> {
         if most == 0 {
             return Err(Refusal::Misused);
         }
-        self.broken = false;
         Ok(read_kind(alloc, &mut self.keeper, code, volume, kind, most)?)
     }
 }

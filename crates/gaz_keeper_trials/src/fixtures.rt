@@ -1,8 +1,6 @@
-//! Numbers, keys and items of text, a keeper to begin with, and a folder for files.
-use crate::tried::Tried;
+//! Numbers, keys and items of text, and a folder for files.
 use gaz_ids::{Code, Uprn, Usrn, Volume};
 use gaz_records::{Key, Kind, RecordKey, SharedItem, item_of_text};
-use gaz_shelf::{MemShelf, Seed};
 use std::alloc::Global;
 use std::hash::{BuildHasher, RandomState};
 use std::test::Fail;
@@ -34,13 +32,6 @@ pub(crate) fn xref_key(text: &str) -> Result<Key, Fail> {
 
 pub(crate) fn item(alloc: Global, kind: Kind, row: &str) -> Result<SharedItem, Fail> {
     Ok(SharedItem::new(alloc, item_of_text(alloc, kind, row.as_bytes())?)?)
-}
-
-/// A keeper in memory that received one file.
-pub(crate) fn received(alloc: Global) -> Result<Tried<MemShelf>, Fail> {
-    let mut shelf = Tried::new(MemShelf::new(alloc, Seed::of(1)));
-    shelf.receive(custodian(1001)?, volume(1)?, b"a file")?;
-    Ok(shelf)
 }
 
 /// The path of a new folder for files, in that of the system for what passes.

@@ -161,7 +161,7 @@ pub(crate) fn performs<K: Inbox + Drop>(
         Part::Addresses => reads_addresses(rt, shelf),
         Part::Pages => reads_pages(rt, shelf),
         Part::Views(most) => reads_views(rt, shelf, most),
-        Part::Again => begins_again(rt, shelf),
+        Part::Again => begins_again(rt.alloc(), shelf),
     }
 }
 

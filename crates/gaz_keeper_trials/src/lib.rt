@@ -1,16 +1,16 @@
-//! Keepers as their callers use them: tests of `gaz_shelf` and of the keeper of `gaz_store`.
+//! Keepers as their callers use them: one list of calls over all of them, and which databases become a store or are taken as one.
 #![tactic(auto)]
 
 #[cfg(test)]
 mod asked;
 #[cfg(test)]
-mod counts;
+mod databases;
 #[cfg(test)]
 mod fixtures;
 #[cfg(test)]
-mod keeper_faults;
-#[cfg(test)]
 mod keepers;
+#[cfg(test)]
+mod refusals;
 #[cfg(test)]
 mod stores;
 #[cfg(test)]
@@ -19,3 +19,5 @@ mod told;
 mod tried;
 #[cfg(test)]
 mod volumes;
+#[cfg(test)]
+mod whereabouts;

@@ -1,8 +1,10 @@
 //! Which databases become a store and which are taken as one; a refused one is left as it was.
 use crate::databases::{Answer, Attempt, GROUPS, Group, LACKING};
-use crate::fixtures::{new_folder, rests};
-use gaz_ledger::Seed;
+use crate::fixtures::new_folder;
+use crate::stores::rests;
+use crate::whereabouts::{Task, in_memory, on_file};
 use gaz_register::Register;
+use gaz_shelf::Seed;
 use gaz_store::{Store, StoreRefusal};
 use sqlite::{Alter, Connection};
 use std::alloc::Global;
@@ -89,8 +91,8 @@ fn names<S: Alter>(alloc: Global, conn: &mut Connection<S>) -> Result<Vec<String
     Ok(names)
 }
 
-// All that a database holds: how its tables, views and indexes were made, and the rows of each.
-fn held_in<S: Alter>(alloc: Global, conn: &mut Connection<S>) -> Result<String, Fail> {
+/// All that a database holds: how its tables, views and indexes were made, and the rows of each.
+pub(crate) fn held_in<S: Alter>(alloc: Global, conn: &mut Connection<S>) -> Result<String, Fail> {
     let made = conn.query_all("SELECT type, name, tbl_name, sql FROM sqlite_schema", &[])?;
     let mut text = format!(in alloc; "{made:?}")?;
     for name in &names(alloc, conn)? {
@@ -101,9 +103,9 @@ fn held_in<S: Alter>(alloc: Global, conn: &mut Connection<S>) -> Result<String, 
     Ok(text)
 }
 
-// Makes the attempt of a group over the database that these statements make; what that then holds.
-// Only `create` changes it, where it goes well.
-fn tries<S: Alter + Drop>(
+/// Makes the attempt of a group over the database that these statements make; what that then holds.
+/// Only `create` changes it, where it goes well.
+pub(crate) fn tries<S: Alter + Drop>(
     rt: &(impl Abort + AllocGlobal),
     conn: Connection<S>,
     group: &Group,
@@ -126,43 +128,10 @@ fn tries<S: Alter + Drop>(
 fn databases_become_stores_or_stay_as_they_are(rt: HostRuntime) -> Result<(), Fail> {
     for group in GROUPS {
         for statements in group.3 {
-            tries(
-                &rt,
-                Connection::open_in_memory(rt.alloc())?,
-                group,
-                statements,
-            )?;
+            let _held = in_memory(&rt, Task::Try(group, statements))?;
         }
     }
     Ok(())
-}
-
-// Makes an attempt, where there is one, over the database behind a connection; what that holds.
-fn tries_or_tells<S: Alter + Drop>(
-    rt: &(impl Abort + AllocGlobal),
-    mut conn: Connection<S>,
-    group: Option<&Group>,
-    statements: &str,
-) -> Result<String, Fail> {
-    match group {
-        Some(group) => tries(rt, conn, group, statements),
-        None => held_in(rt.alloc(), &mut conn),
-    }
-}
-
-// The same over the file at this path, which is opened and closed for it. A function that calls others
-// at one kind of file costs the proof a minute, so that one does it.
-fn on_file(
-    host: &HostRuntime,
-    rt: &(impl Abort + AllocGlobal),
-    path: &str,
-    group: Option<&Group>,
-    statements: &str,
-) -> Result<String, Fail> {
-    match Connection::open(host, path) {
-        Ok(conn) => tries_or_tells(rt, conn, group, statements),
-        Err(_) => Err("no file was opened".into()),
-    }
 }
 
 // The attempt on a new file in this folder, which is read again afterwards.
@@ -174,8 +143,8 @@ fn tries_on_file(
     statements: &str,
 ) -> Result<(), Fail> {
     let path = format!(in rt.alloc(); "{folder}/store")?;
-    let left = on_file(host, rt, &path, Some(group), statements)?;
-    let found = on_file(host, rt, &path, None, "")?;
+    let left = on_file(host, rt, &path, Task::Try(group, statements))?;
+    let found = on_file(host, rt, &path, Task::Tell)?;
     assert!(rt; found == left, "{statements}");
     fs::remove_file(host, path.as_str())?;
     let log = format!(in rt.alloc(); "{path}-wal")?;
@@ -226,12 +195,7 @@ fn each_column_is_missed(rt: HostRuntime) -> Result<(), Fail> {
     for (table, columns) in TABLES {
         for other in 0..columns.len() {
             let statements = remade(rt.alloc(), table, columns, other)?;
-            tries(
-                &rt,
-                Connection::open_in_memory(rt.alloc())?,
-                &LACKING,
-                &statements,
-            )?;
+            let _held = in_memory(&rt, Task::Try(&LACKING, &statements))?;
         }
     }
     Ok(())

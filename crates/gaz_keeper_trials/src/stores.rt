@@ -5,6 +5,7 @@ use crate::fixtures::new_folder;
 use crate::keepers::{PARTS, Part, performs, performs_all};
 use crate::told::{has_counts, has_file, has_verdict};
 use crate::tried::Tried;
+use crate::whereabouts::{Task, in_memory, on_file};
 use gaz_register::Register;
 use gaz_samples::REGISTER;
 use gaz_shelf::Seed;
@@ -15,8 +16,8 @@ use std::fs;
 use std::process::Abort;
 use std::test::Fail;
 
-// The connection is in no transaction, or an error.
-fn rests<S: Alter>(conn: &Connection<S>) -> Result<(), Fail>
+/// The connection is in no transaction, or an error.
+pub(crate) fn rests<S: Alter>(conn: &Connection<S>) -> Result<(), Fail>
     ensures { OnOk result (conn.now.in_transaction ≡ false) }
 {
     if conn.is_autocommit() {
@@ -58,8 +59,34 @@ fn new_store<S: Alter + Drop>(
     Ok(store)
 }
 
-// Makes a store, and closes and opens it after each part.
-fn performs_anew<S: Alter + Drop>(
+/// Makes a store.
+pub(crate) fn makes<S: Alter + Drop>(
+    rt: &(impl Abort + AllocGlobal),
+    conn: Connection<S>,
+) -> Result<(), Fail> {
+    drop(new_store(rt, conn)?);
+    Ok(())
+}
+
+/// Makes the calls of a part over the store that is there.
+pub(crate) fn takes_part<S: Alter + Drop>(
+    rt: &(impl Abort + AllocGlobal),
+    conn: Connection<S>,
+    part: Part,
+) -> Result<(), Fail> {
+    performs(rt, &mut opened(rt.alloc(), conn)?, part)
+}
+
+/// Makes a store, and all calls over it.
+pub(crate) fn performs_in_all<S: Alter + Drop>(
+    rt: &(impl Abort + AllocGlobal),
+    conn: Connection<S>,
+) -> Result<(), Fail> {
+    performs_all(rt, &mut new_store(rt, conn)?)
+}
+
+/// Makes a store, and closes and opens it after each part.
+pub(crate) fn performs_anew<S: Alter + Drop>(
     rt: &(impl Abort + AllocGlobal),
     conn: Connection<S>,
 ) -> Result<(), Fail> {
@@ -73,49 +100,23 @@ fn performs_anew<S: Alter + Drop>(
 
 #[test]
 fn a_store_answers_so(rt: HostRuntime) -> Result<(), Fail> {
-    let mut store = new_store(&rt, Connection::open_in_memory(rt.alloc())?)?;
-    performs_all(&rt, &mut store)
+    let _told = in_memory(&rt, Task::PerformAll)?;
+    Ok(())
 }
 
 #[test]
 fn a_store_closed_and_opened_answers_so(rt: HostRuntime) -> Result<(), Fail> {
-    performs_anew(&rt, Connection::open_in_memory(rt.alloc())?)
-}
-
-// Makes a store, or the calls of a part over the one that is there.
-fn makes_or_performs<S: Alter + Drop>(
-    rt: &(impl Abort + AllocGlobal),
-    conn: Connection<S>,
-    part: Option<Part>,
-) -> Result<(), Fail> {
-    match part {
-        None => drop(new_store(rt, conn)?),
-        Some(part) => performs(rt, &mut opened(rt.alloc(), conn)?, part)?,
-    }
+    let _told = in_memory(&rt, Task::PerformAnew)?;
     Ok(())
-}
-
-// The same over the file at this path, which is opened and closed for it. A function that calls others
-// at one kind of file costs the proof a minute, so that one does it.
-fn on_file(
-    host: &HostRuntime,
-    rt: &(impl Abort + AllocGlobal),
-    path: &str,
-    part: Option<Part>,
-) -> Result<(), Fail> {
-    match Connection::open(host, path) {
-        Ok(conn) => makes_or_performs(rt, conn, part),
-        Err(_) => Err("no file was opened".into()),
-    }
 }
 
 #[test]
 fn a_store_on_a_file_closed_and_opened_answers_so(rt: HostRuntime) -> Result<(), Fail> {
     let folder = new_folder(&rt)?;
     let path = format!(in rt.alloc(); "{folder}/store")?;
-    on_file(&rt, &rt, &path, None)?;
+    let _told = on_file(&rt, &rt, &path, Task::Make)?;
     for part in PARTS {
-        on_file(&rt, &rt, &path, Some(part))?;
+        let _told = on_file(&rt, &rt, &path, Task::Perform(part))?;
     }
     fs::remove_dir_all(&rt, folder.as_str())?;
     Ok(())

@@ -1,7 +1,7 @@
 //! A keeper as its callers have it. What a call answers is for the tests to find out, so that of
 //! these only the first has a clause, and no test carries what the keeper's own say.
-ghost use Rattle.std.specs.Prelude.{◌≡◌, ℕ, None, Some, true};
-ghost use Rattle.gaz_shelf.specs.Keeper.{Broken, IsNotOpen, Open};
+ghost use Rattle.std.specs.Prelude.{◌≡◌, ℕ, None, Some};
+ghost use Rattle.gaz_shelf.specs.Keeper.{IsNotOpen, Open};
 
 use gaz_ids::{Code, Volume};
 use gaz_records::{Key, SharedItem};
@@ -22,18 +22,13 @@ impl From<ShelfFault> for Refusal {
     }
 }
 
-/// What is told where the store failed.
-pub(crate) const FAILED: Refusal = Refusal::Fault(ShelfFault::Store);
-
-/// A keeper; whose judgement is in progress, where one is known to be; and whether it broke.
+/// A keeper, and whose judgement is in progress, where one is known to be.
 #[derive(Drop)]
 pub(crate) struct Tried<K: Inbox + Drop> {
     pub(crate) keeper: K,
     judged: Option<Code>,
-    pub(crate) broken: bool,
     ghost rests: { judged ≡ None → IsNotOpen (K.seen keeper).progress },
     ghost judges: { (c : ℕ) → judged ≡ Some c → (K.seen keeper).progress ≡ Open c },
-    ghost breaks: { broken ≡ true → (K.seen keeper).progress ≡ Broken },
 }
 
 impl<K: Inbox + Drop> Tried<K> {
@@ -44,17 +39,12 @@ impl<K: Inbox + Drop> Tried<K> {
         Tried {
             keeper,
             judged: None,
-            broken: false,
         }
     }
 
     /// One around it, of which the call of this number fails, and none where that is 0.
     pub(crate) fn failing_at(self, number: u64) -> Result<Tried<Faulty<K>>, Refusal> {
-        let Tried {
-            keeper,
-            judged,
-            broken: _,
-        } = self;
+        let Tried { keeper, judged } = self;
         match judged {
             None => Ok(Tried::new(Faulty::new(keeper, number))),
             Some(_) => Err(Refusal::Misused),
@@ -66,11 +56,7 @@ impl<K: Inbox + Drop> Tried<K> {
     }
 
     pub(crate) fn into_keeper(self) -> K {
-        let Tried {
-            keeper,
-            judged: _,
-            broken: _,
-        } = self;
+        let Tried { keeper, judged: _ } = self;
         keeper
     }
 }
@@ -82,7 +68,6 @@ impl<K: Inbox + Drop> Tried<K> {
             return Err(Refusal::Misused);
         }
         let begun = self.keeper.begin(code);
-        self.broken = begun.is_err();
         if begun.is_ok() {
             self.judged = Some(code);
         }
@@ -90,46 +75,42 @@ impl<K: Inbox + Drop> Tried<K> {
     }
 
     pub(crate) fn put(&mut self, item: SharedItem) -> Result<(), Refusal> {
-        if self.judged.is_none() && !self.broken {
+        if self.judged.is_none() {
             return Err(Refusal::Misused);
         }
         let done = self.keeper.put(item);
         if done.is_err() {
             self.judged = None;
-            self.broken = true;
         }
         Ok(done?)
     }
 
     pub(crate) fn take(&mut self, key: &Key) -> Result<(), Refusal> {
-        if self.judged.is_none() && !self.broken {
+        if self.judged.is_none() {
             return Err(Refusal::Misused);
         }
         let done = self.keeper.take(key);
         if done.is_err() {
             self.judged = None;
-            self.broken = true;
         }
         Ok(done?)
     }
 
     pub(crate) fn keep(&mut self) -> Result<(), Refusal> {
-        if self.judged.is_none() && !self.broken {
+        if self.judged.is_none() {
             return Err(Refusal::Misused);
         }
         let done = self.keeper.keep();
         self.judged = None;
-        self.broken = done.is_err();
         Ok(done?)
     }
 
     pub(crate) fn abandon(&mut self) -> Result<(), Refusal> {
-        if self.judged.is_none() && !self.broken {
+        if self.judged.is_none() {
             return Err(Refusal::Misused);
         }
         let done = self.keeper.abandon();
         self.judged = None;
-        self.broken = done.is_err();
         Ok(done?)
     }
 
@@ -143,7 +124,6 @@ impl<K: Inbox + Drop> Tried<K> {
             return Err(Refusal::Misused);
         }
         let done = write_volume(&mut self.keeper, code, items, ending);
-        self.broken = done.is_err();
         Ok(done?)
     }
 
@@ -151,7 +131,6 @@ impl<K: Inbox + Drop> Tried<K> {
         if self.judged.is_some() {
             return Err(Refusal::Misused);
         }
-        self.broken = false;
         Ok(self.keeper.skip(code, place, rule)?)
     }
 
@@ -164,7 +143,6 @@ impl<K: Inbox + Drop> Tried<K> {
         if self.judged.is_some() {
             return Err(Refusal::Misused);
         }
-        self.broken = false;
         Ok(self.keeper.receive(code, volume, bytes)?)
     }
 }

@@ -6,9 +6,11 @@
 //! `twice-log`, `twice-file`: the same as `stop-log`, `stop-file`, and then both fail once more, at each call until all is opened and judged again;
 //! `cut-log`, `cut-file`: the same as `stop-log`, `stop-file`, with each write that wasn't synced cut at each block of 512 bytes;
 //! `memory-maps`, `memory-store`: the request for memory of that number is refused, over either keeper, by the library that `checks/trouble.py` loads.
+//! `calls-maps`, `calls-store`: the keeper's call of that number, from 1, fails.
 //! It prints how many answers were refused where, and `ok`, or the first run in which something differs.
 #![tactic(auto)]
 
+mod call_runs;
 mod disk_runs;
 mod disks;
 mod files;

@@ -3,12 +3,12 @@
 use crate::disk_runs::{self, Again, Failed};
 use crate::disks::{Left, Which, failing_files};
 use crate::histories::History;
-use crate::memory_runs;
 use crate::refusing::Refuser;
 use crate::replies::Wanted;
 use crate::statement_runs::{self, Since};
 use crate::tally::{Met, Tally};
 use crate::walking::Walk;
+use crate::{call_runs, memory_runs};
 use anyhow::{Result, bail, ensure};
 use sqlite::Connection;
 
@@ -34,6 +34,10 @@ pub enum Part {
     Maps,
     /// The same over a store in memory.
     Store,
+    /// The call of this number, from 1, of a keeper of whole maps.
+    CallsOfMaps,
+    /// The same of a store in memory.
+    CallsOfStore,
 }
 
 impl Part {
@@ -53,6 +57,8 @@ impl Part {
             "cut-file" => Some(Part::Cut(Which::Database)),
             "memory-maps" => Some(Part::Maps),
             "memory-store" => Some(Part::Store),
+            "calls-maps" => Some(Part::CallsOfMaps),
+            "calls-store" => Some(Part::CallsOfStore),
             _ => None,
         }
     }
@@ -170,6 +176,21 @@ impl<'a> Runs<'a> {
         Ok(was_refused)
     }
 
+    // A run in which a call of a keeper of whole maps fails; whether it did.
+    fn run_calls_of_maps(&mut self, number: u64) -> Result<bool> {
+        let walk = self.walk(Refuser::nobody(self.rt.alloc()));
+        let met = call_runs::run_maps(&walk, number)?;
+        Ok(self.tally.count(met))
+    }
+
+    // The same of a store in memory.
+    fn run_calls_of_store(&mut self, number: u64) -> Result<bool> {
+        let walk = self.walk(Refuser::nobody(self.rt.alloc()));
+        let conn = Connection::open_in_memory(self.rt.alloc())?;
+        let met = call_runs::run_store(&walk, conn, number)?;
+        Ok(self.tally.count(met))
+    }
+
     /// The runs in which what has this number fails; whether it did in any.
     pub fn run(&mut self, number: u32) -> Result<bool> {
         match self.part {
@@ -178,6 +199,8 @@ impl<'a> Runs<'a> {
             Part::Twice(which) => self.run_twice(which, u64::from(number)),
             Part::Cut(which) => self.run_cut(which, u64::from(number)),
             Part::Maps | Part::Store => self.run_memory(number),
+            Part::CallsOfMaps => self.run_calls_of_maps(u64::from(number)),
+            Part::CallsOfStore => self.run_calls_of_store(u64::from(number)),
         }
     }
 

@@ -49,6 +49,10 @@ impl<K: Inbox + Drop> Resting<K> {
         }
     }
 
+    pub fn keeper(&self) -> &K {
+        self.hub.shelf()
+    }
+
     /// The register and the keeper, as they stand.
     pub fn into_parts(self) -> (Register, K) {
         let Resting { hub } = self;

@@ -1,5 +1,7 @@
 //! Stores on files that may fail, and hubs over them.
-ghost use Rattle.std.specs.Prelude.{◌≡◌, false, OnOk};
+ghost use Rattle.std.specs.Prelude.{◌≡◌, false, IfOk, OnOk};
+ghost use Rattle.gaz_shelf.specs.Keeper.{IsNotOpen};
+ghost use Rattle.gaz_store.specs.Store.{seen_in};
 
 use crate::refusing::Refuser;
 use crate::replies::register;
@@ -66,6 +68,18 @@ pub fn make<S: Alter + Drop>(
     match made {
         Ok(store) => Ok(Ok(Resting::over(alloc, register, store))),
         Err(refused) => Ok(Err(refused)),
+    }
+}
+
+/// A store that is made here, where nothing is in the way.
+pub fn store_in<S: Alter + Drop>(alloc: Global, conn: Connection<S>) -> Result<Store<S>>
+    ensures { IfOk result (λ store. IsNotOpen (seen_in store).progress) }
+{
+    let register = register(alloc)?;
+    rests(&conn)?;
+    match Store::create(alloc, Seed::of(1), conn, &register) {
+        Ok(store) => Ok(store),
+        Err((_, refusal)) => bail!("there is no store: {refusal:?}"),
     }
 }
 

@@ -1,6 +1,6 @@
 //! Times how rows are found: by key, by what they name, and page by page.
 
-use crate::timing::{ADDRESS, CUST, scattered, tell};
+use crate::floor::timing::{ADDRESS, CUST, scattered, tell};
 use anyhow::Result;
 use gaz_tables::versions;
 use sqlite::{Alter, Connection, Error, Row};

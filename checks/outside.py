@@ -1,0 +1,58 @@
+"""What the built programs are asked from outside, each with a name and what is wrong with it."""
+
+from collections.abc import Iterator
+from pathlib import Path
+
+from checks import (
+    conversations,
+    damaged,
+    foreign,
+    in_turn,
+    killing,
+    large,
+    left,
+    opening,
+    registers,
+    runs,
+    schema1,
+    serving,
+    sessions,
+    steps,
+    stored,
+    tour,
+    words,
+)
+
+Case = tuple[str, str | None]
+
+
+def named(title: str, ran: Iterator[Case] | list[Case]) -> Iterator[Case]:
+    return ((f"{title} {name}", fault) for name, fault in ran)
+
+
+def held(ran: list[tuple[str, str, str | None]]) -> Iterator[Case]:
+    return ((f"{name} ({how})", fault) for name, how, fault in ran)
+
+
+def of_program(program: Path, root: Path) -> Iterator[Case]:
+    """Of `gazhub`: conversations, how it ends, commands over a store's file, connections."""
+    yield from held(conversations.run_all(program, root))
+    yield from large.run_all(program)
+    yield from named("gazhub on", runs.run_all(program))
+    yield from named("gazhub", words.run_all(program))
+    yield from named("a register:", registers.run_all(program))
+    yield from named("commands:", sessions.run_all(program))
+    yield from named("tour,", tour.run_all(program, root))
+    yield from named("opening", opening.run_all(program))
+    yield from named("serving:", serving.run_all(program, (*serving.CASES, killing.killed_while_files_come)))
+
+
+def of_stores(root: Path, room: Path) -> Iterator[Case]:
+    """Of stores in files: the conversations over them, other people's SQLite, damage, rows as they are written, what they cost."""
+    yield from held(stored.run_all(root, room))
+    yield from held(in_turn.run_all(root, room))
+    yield from named("a store", foreign.run_all(root, room))
+    yield from named("damaged:", damaged.run_all(root, room))
+    yield from named("schema 1,", schema1.run_all(root, room))
+    yield from named("steps:", steps.run_all(root, room))
+    yield from named("left:", left.run_all(room))
