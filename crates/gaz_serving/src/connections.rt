@@ -64,8 +64,9 @@ fn hold<S: Read + Write + OpenStream + Drop, K: Inbox + Drop>(
     let Ok(mut w) = BufWriter::new(alloc, w) else {
         return;
     };
-    let _ended = converse(alloc, &mut r, &mut w, hub, MOST);
-    part(&mut r);
+    if converse(alloc, &mut r, &mut w, hub, MOST).is_ok() {
+        part(&mut r);
+    }
 }
 
 // Accepts a connection, and holds a conversation over it.
