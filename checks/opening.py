@@ -10,7 +10,7 @@ from checks.conversations import DEADLINE
 from checks.stores import SAMPLE
 
 SAID = b"opening ..\r\n"  # as a terminal shows it
-LARGE = 65_000_000  # bytes; a file of over 64,000,000 takes about a second
+LARGE = 21_000_000  # bytes; a file of over 20,000,000 takes about a second
 
 
 def said_at_terminal(words: list[str]) -> bytes:

@@ -61,7 +61,7 @@ const FEWEST: u64 = 2_000;
 const MOST: u64 = 64_000;
 
 /// So many bytes of a store's file take about a second to open, since it is read through.
-const A_SECOND: u64 = 64_000_000;
+const A_SECOND: u64 = 20_000_000;
 
 // The pages that are kept at hand: all of a file of so many bytes and half as many more, where they
 // aren't too many.
