@@ -82,7 +82,8 @@ worked_examples_hold = record { on_boards = on_boards; on_contents = on_contents
       read = λ k left. left;
       received = λ k left. inr (tt, left);
       refused = λ k left. inl left;
-      committed = λ k left. left;
-      lost = λ just. not_the_same (just (after_stop empty_content) refl);
+      committed = λ k left. (tt, left);
+      lost = λ just. not_the_same (just (after_stop empty_content) refl).1;
+      alone = λ k left. left;
       read_more = λ more. not_the_same (sym (more (after_stop first_received) refl));
     }

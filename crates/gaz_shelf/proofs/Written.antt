@@ -29,14 +29,25 @@ module _ (a b c d : Seen) (code : ℕ) (items : List Item) (r : Result (Unit {0}
   same stood met fine =
       ap (λ p. after_keep p c.content) (puts.on ∙ begins.on) ∙ ap (after_keep (Open code)) (put_content stood met fine)
 
-  left : IsSound a → IsAtHand a.content code → (k : Content) → d.leaves k → a.leaves k ⊎ (a.unharmed × (k ≡ after_stop (written a.content code items Keep)))
-  left sound met k l = by_cases (keeps.leaves (λ fine. put_stands (sound (begins.harm (puts.harm fine))) met fine) tt k l)
+  begun : IsSound a → (a.unharmed → IsAtHand a.content code) → IsSound b
+  begun sound met fine = begins.stands (sound (begins.harm fine)) (met (begins.harm fine)) fine
+
+  set : IsSound a → (a.unharmed → IsAtHand a.content code) → IsSound c
+  set sound met fine = puts.stands (begun sound met (puts.harm fine)) tt fine
+
+  -- what is kept
+  is_written : IsSound a → (a.unharmed → IsAtHand a.content code) → (k : Content) → c.unharmed × (k ≡ after_stop (after_keep c.progress c.content))
+      → a.unharmed × (k ≡ after_stop (written a.content code items Keep))
+  is_written sound met k new =
+      let fine = begins.harm (puts.harm new.0) in
+      (fine, new.1 ∙ ap after_stop (same (sound fine) (met fine) new.0))
+
+  left : IsSound a → (a.unharmed → IsAtHand a.content code) → (k : Content) → d.leaves k → a.leaves k ⊎ (a.unharmed × (k ≡ after_stop (written a.content code items Keep)))
+  left sound met k l = by_cases (keeps.leaves (set sound met) (λ _. tt) k l)
     where
       by_cases : c.leaves k ⊎ (c.unharmed × (k ≡ after_stop (after_keep c.progress c.content))) → a.leaves k ⊎ (a.unharmed × (k ≡ after_stop (written a.content code items Keep)))
-      by_cases (inl old) = inl (begins.leaves sound met k (puts.leaves (λ fine. begins.stands (sound (begins.harm fine)) met fine) tt k old))
-      by_cases (inr new) =
-          let fine = begins.harm (puts.harm new.0) in
-          inr (fine, new.1 ∙ ap after_stop (same (sound fine) met new.0))
+      by_cases (inl old) = inl (begins.leaves sound met k (puts.leaves (begun sound met) (λ _. tt) k old))
+      by_cases (inr new) = inr (is_written sound met k new)
 
   pub writes : Goes a d r (IsAtHand a.content code) (written a.content code items Keep) (Some (written a.content code items Keep)) Idle
   writes = record {
@@ -51,5 +62,5 @@ module _ (a b c d : Seen) (code : ℕ) (items : List Item) (r : Result (Unit {0}
       store = further r a.failures c.failures d.failures (le_trans begins.counts.kept puts.counts.kept) keeps.counts.store;
     };
     leaves = left;
-    committed = λ stood met fine. on_ok r (λ just k l. just k l ∙ ap after_stop (same stood met (keeps.harm fine))) (keeps.committed (put_stands stood met (keeps.harm fine)) tt fine);
+    committed = λ sound met. on_ok r (λ just k l. is_written sound met k (just k l)) (keeps.committed (set sound met) (λ _. tt));
   }

@@ -5,7 +5,8 @@ use Rattle.gaz_views.specs.Examples.{no_more, one_street}
 use Rattle.gaz_views.specs.View.{empty_view}
 use Rattle.gaz_views.specs.declared.verdict.Verdict.TheVariants.{Applied, Rejected}
 use Rattle.gaz_shelf.specs.Board.{Board, empty_board, last_view, reached, verdict_on, view_after}
-use Rattle.gaz_shelf.specs.Keeper.{Broken, Content, Idle, IsLawful, LeavesAtMost, LeavesJust, Open}
+use Rattle.gaz_shelf.specs.Keeper.{Broken, Content, Idle, IsLawful, LeavesAtMost, LeavesJust}
+use Rattle.gaz_shelf.specs.Keeper.{LeavesOnly, Open}
 use Rattle.gaz_shelf.specs.Keeper.{Seen, after_keep, after_skip, after_stop, empty_content}
 use Rattle.gaz_shelf.specs.Keeper.{with_received}
 use Rattle.gaz_shelf.specs.Received.{Received, count_above, is_below, with_file}
@@ -106,8 +107,10 @@ pub record WorkedStops : Type 0 where
       (kept_safe first_received)
   pub refused : LeavesAtMost (Some first_received) (kept_safe empty_content)
       (kept_safe empty_content)
-  pub committed : LeavesJust (Some first_received) (kept_safe first_received)
-  pub lost : ¬ LeavesJust (Some first_received) (kept_safe empty_content)
+  pub committed : LeavesJust (Some first_received) (kept_safe empty_content)
+      (kept_safe first_received)
+  pub lost : ¬ LeavesJust (Some first_received) (kept_safe empty_content) (kept_safe empty_content)
+  pub alone : LeavesOnly first_received (kept_safe first_received)
   pub read_more : ¬ LeavesAtMost None (kept_safe empty_content) (kept_safe first_received)
 
 pub record WorkedExamples : Type 0 where

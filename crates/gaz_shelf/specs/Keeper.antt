@@ -130,10 +130,15 @@ LeavesAtMost None old new = (k : Content) → new.leaves k → old.leaves k
 LeavesAtMost (Some becomes) old new =
     (k : Content) → new.leaves k → old.leaves k ⊎ (old.unharmed × (k ≡ after_stop becomes))
 
--- what is committed, and nothing else
-abbrev pub LeavesJust : Option Content → Seen → Type 0
-LeavesJust None new = ⊤
-LeavesJust (Some becomes) new = (k : Content) → new.leaves k → k ≡ after_stop becomes
+-- this content, and nothing else
+abbrev pub LeavesOnly : Content → Seen → Type 0
+LeavesOnly becomes now = (k : Content) → now.leaves k → k ≡ after_stop becomes
+
+-- what the call commits, and nothing else
+abbrev pub LeavesJust : Option Content → Seen → Seen → Type 0
+LeavesJust None old new = ⊤
+LeavesJust (Some becomes) old new =
+    (k : Content) → new.leaves k → old.unharmed × (k ≡ after_stop becomes)
 
 -- ---- what a call tells
 
@@ -177,8 +182,8 @@ pub record Goes {T : Type 0} (old new : Seen) (result : Result T ShelfFault) (as
   pub on : OnOk result (new.progress ≡ after)
   pub broken : OnErr result (new.progress ≡ Broken)
   pub counts : Counts old new result
-  pub leaves : IsSound old → asked → LeavesAtMost commits old new
-  pub committed : old.stands → asked → new.unharmed → OnOk result (LeavesJust commits new)
+  pub leaves : IsSound old → (old.unharmed → asked) → LeavesAtMost commits old new
+  pub committed : IsSound old → (old.unharmed → asked) → OnOk result (LeavesJust commits old new)
 
 -- a call while no judgement is in progress: where what it asks is so, the content becomes this one;
 -- a fault changes nothing
@@ -191,8 +196,9 @@ pub record Enters {T : Type 0} (old new : Seen) (result : Result T ShelfFault) (
   pub progress : IsLeft old.progress new.progress
   pub cleared : OnOk result (new.progress ≢ Broken)
   pub counts : Counts old new result
-  pub leaves : IsSound old → asked → LeavesAtMost (Some becomes) old new
-  pub committed : old.stands → asked → new.unharmed → OnOk result (LeavesJust (Some becomes) new)
+  pub leaves : IsSound old → (old.unharmed → asked) → LeavesAtMost (Some becomes) old new
+  pub committed : IsSound old → (old.unharmed → asked)
+      → OnOk result (LeavesJust (Some becomes) old new)
 
 -- the working view becomes this one
 abbrev pub Sets : {T : Type 0} → Seen → Seen → Result T ShelfFault → View → Type 0

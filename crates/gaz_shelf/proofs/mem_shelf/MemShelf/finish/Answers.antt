@@ -15,5 +15,5 @@ returns-in-Ok c =
       broken = tt;
       counts = record { kept = omega arith; store = tt };
       leaves = λ _ _ k left. absurd left;
-      committed = λ _ _ _ k left. absurd left;
+      committed = λ _ _ k left. absurd left;
     }
