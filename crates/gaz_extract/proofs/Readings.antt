@@ -12,7 +12,7 @@ left_itself Broken = λ c e. cc
 
 -- where the keeper isn't called
 pub keeps_itself : (a : Seen) → Keeps a a
-keeps_itself a = record { harm = λ fine. fine; stands = λ stood _. stood; content = λ _ _. refl; progress = left_itself a.progress; leaves = λ _ k left. left }
+keeps_itself a = record { harm = λ fine. fine; stands = λ stood _. stood; content = λ _ _. refl; progress = left_itself a.progress; leaves = λ _ k left. left; whole = λ _ whole. whole }
 
 pub if_ok : {T : Type 0} (r : Result T ShelfFault) (P Q : T → Type 0) → ((x : T) → P x → Q x) → IfOk r P → IfOk r Q
 if_ok (Ok x) P Q f h = f x h

@@ -87,4 +87,5 @@ remembering register waiters s = record {
   is_full = s.is_full;
   full = s.full;
   leaves = s.leaves;
+  whole = s.whole;
 }

@@ -1,5 +1,5 @@
 -- The phases of a judgement, one step on and together.
-use Rattle.std.proofs.Common.{◌≡◌, ◌≤◌, ◌<◌, ◌+◌, ℕ, true, List, [], ◌∷◌, ◌++◌, length, drop, get_or, refl, sym, ap, ◌∙◌, subst, arith}
+use Rattle.std.proofs.Common.{◌≡◌, ◌≤◌, ◌<◌, ◌+◌, ◌⊎◌, inl, inr, ℕ, true, List, [], ◌∷◌, ◌++◌, length, drop, get_or, refl, sym, ap, ◌∙◌, subst, arith}
 use Rattle.std.proofs.lemmas.List.{drop_more}
 use Rattle.std.specs.Prelude.{Option, Some, None, Result, Ok, Err, IfOk, IfNone, OnOk}
 use Rattle.std.specs.List.{cons_option, fold}
@@ -12,7 +12,7 @@ use Rattle.gaz_changefile.specs.declared.change.Change.{Change}
 use Rattle.gaz_register.specs.Registers.{Blocks}
 use Rattle.gaz_shelf.specs.Board.{Judgement, last_view}
 use Rattle.gaz_views.specs.View.{View}
-use Rattle.gaz_shelf.specs.Keeper.{Content, Counts, Goes, IsAtHand, Keeps, Open, Reads, Seen, after_begin, after_abandon, with_judgement}
+use Rattle.gaz_shelf.specs.Keeper.{Content, Counts, Enters, Goes, Idle, IsAtHand, IsNotOpen, IsSound, Keeps, LeavesAtMost, LeavesJust, Open, Progress, Reads, Seen, after_abandon, after_begin, after_keep, after_skip, after_stop, with_judgement}
 use Rattle.gaz_shelf.specs.declared.fault.ShelfFault.{ShelfFault}
 use Rattle.gaz_views.specs.declared.verdict.Verdict.{Verdict}
 use Rattle.gaz_views.specs.declared.verdict.Verdict.TheVariants.{Applied, Rejected}
@@ -155,6 +155,8 @@ phases_together old mid new c own file r is_open first second =
       on = on_ok_of r _ (now_open ∙ sym is_open);
       going = λ e. cc;
       counts = counts_after _ _ _ r first.counts.kept second.counts;
+      leaves = λ sound k left. first.leaves sound k (second.keeps.leaves (λ fine. first.stands (sound (first.harm fine)) fine) k left);
+      whole = λ sound all. second.keeps.whole (λ fine. first.stands (sound (first.harm fine)) fine) (first.whole sound all);
     }
 
 -- ---- a whole judgement
@@ -185,6 +187,67 @@ concluded own old mid c file (Some f) same finds =
     ap (λ (k : Content). record { verdict = Rejected f.place f.rule; view = last_view k.board c }) same
     ∙ sym (by_some v (fold effect v file.changes) _ (record { place = f.place; rule = f.rule }) finds.first)
 
+-- what a stop may leave of it
+record JudgedStops (old new : Seen) (r : Result Verdict ShelfFault) (c : ℕ) (file : Contents) (becomes : Content) : Type 0 where
+  pub leaves : IsSound old → (old.unharmed → IsReady old.content c file.bases) → LeavesAtMost (Some becomes) old new
+  pub committed : IsSound old → (old.unharmed → IsReady old.content c file.bases) → OnOk r (LeavesJust (Some becomes) old new)
+  pub whole : IsSound old → (old.unharmed → IsReady old.content c file.bases) → old.whole → new.whole
+
+module _ (old opened mid new : Seen) (c : ℕ) (own : Blocks) (file : Contents) (o : Option found.Fault) (r : Result Verdict ShelfFault)
+    (begins : Goes {T = Unit {0}} old opened (Ok tt) (IsAtHand old.content c) (after_begin old.content c) None (Open c))
+    (did : Works {T = Option found.Fault} opened mid (Ok o) (λ o. PhasesFind own file mid.content o opened.content))
+    (ends : Ends mid new r c (conclusion mid.content c o))
+    (sound : IsSound old) (ready : old.unharmed → IsReady old.content c file.bases) where
+  begun : opened.unharmed → old.unharmed × old.stands × (opened.content ≡ after_begin old.content c)
+  begun fine =
+      let was = begins.harm fine in
+      (was, sound was, begins.done (sound was) (ready was).at_hand fine)
+
+  opened_stands : IsSound opened
+  opened_stands fine = let was = begins.harm fine in begins.stands (sound was) (ready was).at_hand fine
+
+  mid_stands : IsSound mid
+  mid_stands fine = did.stands (opened_stands (did.harm fine)) fine
+
+  same_then : mid.unharmed → after_abandon mid.content ≡ after_abandon old.content
+  same_then fine = did.stay (opened_stands (did.harm fine)) fine ∙ ap after_abandon (begun (did.harm fine)).2
+
+  at_hand_then : mid.unharmed → IsAtHand mid.content c
+  at_hand_then fine = subst (λ (k : Content). IsAtHand k c) (sym (same_then fine)) (ready (begins.harm (did.harm fine))).at_hand
+
+  becomes_then : mid.unharmed → with_judgement mid.content c (conclusion mid.content c o) ≡ with_judgement old.content c (judged_on own old.content.board c (Good file))
+  becomes_then fine =
+      ap (λ (k : Content). with_judgement k c (conclusion mid.content c o)) (same_then fine)
+      ∙ ap (with_judgement old.content c)
+          (concluded own old.content mid.content c file o (same_then fine)
+          (subst (PhasesFind own file mid.content o) (begun (did.harm fine)).2 (did.right (opened_stands (did.harm fine)) fine) (ready (begins.harm (did.harm fine))).reached))
+
+  committed_is : (k : Content) → mid.unharmed × (k ≡ after_stop (with_judgement mid.content c (conclusion mid.content c o)))
+      → old.unharmed × (k ≡ after_stop (with_judgement old.content c (judged_on own old.content.board c (Good file))))
+  committed_is k made = (begins.harm (did.harm made.0), made.1 ∙ ap after_stop (becomes_then made.0))
+
+  left_then : (k : Content) → new.leaves k → old.leaves k ⊎ (old.unharmed × (k ≡ after_stop (with_judgement old.content c (judged_on own old.content.board c (Good file)))))
+  left_then k l = elim (ends.leaves mid_stands at_hand_then k l) [
+    | inl was ↦ inl (begins.leaves sound (λ fine. (ready fine).at_hand) k (did.leaves opened_stands k was))
+    | inr made ↦ inr (committed_is k made)
+  ]
+
+judged_stops : (old opened mid new : Seen) (c : ℕ) (own : Blocks) (file : Contents) (o : Option found.Fault) (r : Result Verdict ShelfFault) →
+    Goes {T = Unit {0}} old opened (Ok tt) (IsAtHand old.content c) (after_begin old.content c) None (Open c) →
+    Works {T = Option found.Fault} opened mid (Ok o) (λ o. PhasesFind own file mid.content o opened.content) →
+    Ends mid new r c (conclusion mid.content c o) →
+    JudgedStops old new r c file (with_judgement old.content c (judged_on own old.content.board c (Good file)))
+judged_stops old opened mid new c own file o r begins did ends =
+    record {
+      leaves = λ sound ready. left_then old opened mid new c own file o r begins did ends sound ready;
+      committed = λ sound ready.
+          on_ok r (λ just k l. committed_is old opened mid new c own file o r begins did ends sound ready k (just k l))
+          (ends.committed (mid_stands old opened mid new c own file o r begins did ends sound ready) (at_hand_then old opened mid new c own file o r begins did ends sound ready));
+      whole = λ sound ready all.
+          ends.whole (mid_stands old opened mid new c own file o r begins did ends sound ready) (at_hand_then old opened mid new c own file o r begins did ends sound ready)
+          (did.whole (opened_stands old opened mid new c own file o r begins did ends sound ready) (begins.whole sound (λ fine. (ready fine).at_hand) all));
+    }
+
 pub judged : (old opened mid new : Seen) (c : ℕ) (own : Blocks) (file : Contents) (o : Option found.Fault) (r : Result Verdict ShelfFault) →
     Goes {T = Unit {0}} old opened (Ok tt) (IsAtHand old.content c) (after_begin old.content c) None (Open c) →
     Works {T = Option found.Fault} opened mid (Ok o) (λ o. PhasesFind own file mid.content o opened.content) →
@@ -202,6 +265,7 @@ judged old opened mid new c own file o r begins did ends =
     let right = λ (stood : old.stands) (ready : IsReady old.content c file.bases) (fine : new.unharmed).
     concluded own old.content mid.content c file o (same stood ready fine)
     (subst (PhasesFind own file mid.content o) (begun_is stood ready fine) (did.right (stood_open stood ready fine) (ends.harm fine)) ready.reached) in
+    let stops = judged_stops old opened mid new c own file o r begins did ends in
     record {
       harm = λ fine. begins.harm (open_fine fine);
       stands = λ stood ready fine. ends.stands (stood_mid stood ready fine) (at_hand stood ready fine) fine;
@@ -214,4 +278,7 @@ judged old opened mid new c own file o r begins did ends =
           on_err r (λ is. is ∙ same stood ready fine) (ends.undone (stood_mid stood ready fine) (at_hand stood ready fine) fine);
       idle = ends.idle;
       counts = counts_after _ _ _ r (let a = begins.counts.kept in let b = did.counts.kept in omega arith) ends.counts;
+      leaves = stops.leaves;
+      committed = stops.committed;
+      whole = stops.whole;
     }

@@ -15,6 +15,7 @@ keeps_itself a c e =
       content = λ _ _. refl;
       progress = subst (λ p. IsLeft p a.progress) (sym e) e;
       leaves = λ _ k left. left;
+      whole = λ _ whole. whole;
     }
 
 -- an answer without a call

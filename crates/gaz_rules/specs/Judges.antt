@@ -1,9 +1,9 @@
 -- What a judgement over a keeper tells.
-use Rattle.std.specs.Prelude.{◌≡◌, ℕ, true, List, Result, IfOk, OnOk, OnErr}
+use Rattle.std.specs.Prelude.{◌≡◌, ℕ, true, List, Result, Some, IfOk, OnOk, OnErr}
 use Rattle.gaz_changefile.specs.declared.change.Basis.{Basis}
 use Rattle.gaz_shelf.specs.Board.{Judgement}
-use Rattle.gaz_shelf.specs.Keeper.{Content, Counts, IsAtHand, IsNotOpen, Seen, after_abandon}
-use Rattle.gaz_shelf.specs.Keeper.{with_judgement}
+use Rattle.gaz_shelf.specs.Keeper.{Content, Counts, IsAtHand, IsNotOpen, IsSound, LeavesAtMost}
+use Rattle.gaz_shelf.specs.Keeper.{LeavesJust, Seen, after_abandon, with_judgement}
 use Rattle.gaz_shelf.specs.declared.fault.ShelfFault.{ShelfFault}
 use Rattle.gaz_views.specs.declared.verdict.Verdict.{Verdict}
 use Rattle.gaz_changefile.specs.Contents.{Contents}
@@ -17,7 +17,8 @@ pub record IsReady (k : Content) (c : ℕ) (bases : List Basis) : Type 0 where
   pub reached : are_reached k.board bases ≡ true
 
 -- a custodian's next file is judged: the verdict is this one, and just it and its view are added; a
--- fault leaves files and board as they were
+-- fault leaves files and board as they were; a stop leaves what it could before or the content with
+-- the judgement, and after an Ok only that
 pub record Judges (old new : Seen) (result : Result Verdict ShelfFault) (c : ℕ) (bases : List Basis)
     (j : Judgement) : Type 0 where
   pub harm : new.unharmed → old.unharmed
@@ -30,6 +31,11 @@ pub record Judges (old new : Seen) (result : Result Verdict ShelfFault) (c : ℕ
       → OnErr result (new.content ≡ after_abandon old.content)
   pub idle : IsNotOpen new.progress
   pub counts : Counts old new result
+  pub leaves : IsSound old → (old.unharmed → IsReady old.content c bases)
+      → LeavesAtMost (Some (with_judgement old.content c j)) old new
+  pub committed : IsSound old → (old.unharmed → IsReady old.content c bases)
+      → OnOk result (LeavesJust (Some (with_judgement old.content c j)) old new)
+  pub whole : IsSound old → (old.unharmed → IsReady old.content c bases) → old.whole → new.whole
 
 -- a good file is judged, under the rules of the custodian with these blocks; `seen` is how the
 -- keeper is seen

@@ -6,8 +6,9 @@ use Rattle.std.specs.List.{fold}
 use Rattle.gaz_changefile.specs.Contents.{Contents}
 use Rattle.gaz_views.specs.View.{View}
 use Rattle.gaz_shelf.specs.Board.{Judgement, last_view}
-use Rattle.gaz_shelf.specs.Keeper.{Content, Counts, Idle, IsAtHand, IsNotOpen, Seen, after_abandon}
-use Rattle.gaz_shelf.specs.Keeper.{with_judgement, with_working}
+use Rattle.gaz_shelf.specs.Keeper.{Content, Counts, Idle, IsAtHand, IsNotOpen, IsSound}
+use Rattle.gaz_shelf.specs.Keeper.{LeavesAtMost, LeavesJust, Seen, after_abandon, with_judgement}
+use Rattle.gaz_shelf.specs.Keeper.{with_working}
 use Rattle.gaz_shelf.specs.declared.fault.ShelfFault.{ShelfFault}
 use Rattle.gaz_views.specs.declared.verdict.Verdict.{Verdict}
 use Rattle.gaz_views.specs.declared.verdict.Verdict.TheVariants.{Applied, Rejected}
@@ -51,6 +52,8 @@ pub record Works {T : Type 0} (old new : Seen) (result : Result T ShelfFault) (I
   pub on : OnOk result (new.progress ≡ old.progress)
   pub going : new.progress ≢ Idle
   pub counts : Counts old new result
+  pub leaves : IsSound old → LeavesAtMost None old new
+  pub whole : IsSound old → old.whole → new.whole
 
 -- what a judgement in progress comes to by what was found
 abbrev pub conclusion : Content → ℕ → Option found.Fault → Judgement
@@ -69,6 +72,11 @@ pub record Ends (old new : Seen) (result : Result Verdict ShelfFault) (c : ℕ) 
       → OnErr result (new.content ≡ after_abandon old.content)
   pub idle : IsNotOpen new.progress
   pub counts : Counts old new result
+  pub leaves : IsSound old → (old.unharmed → IsAtHand old.content c)
+      → LeavesAtMost (Some (with_judgement old.content c j)) old new
+  pub committed : IsSound old → (old.unharmed → IsAtHand old.content c)
+      → OnOk result (LeavesJust (Some (with_judgement old.content c j)) old new)
+  pub whole : IsSound old → (old.unharmed → IsAtHand old.content c) → old.whole → new.whole
 
 -- a judgement in progress ends by what was found
 abbrev pub Concludes : {K : Type 0} → (K → Seen) → K → K → Result Verdict ShelfFault → ℕ
@@ -83,3 +91,5 @@ pub record GivesUp (old new : Seen) : Type 0 where
   pub content : old.stands → new.unharmed → new.content ≡ after_abandon old.content
   pub idle : IsNotOpen new.progress
   pub counted : old.failures ≤ new.failures
+  pub leaves : IsSound old → LeavesAtMost None old new
+  pub whole : IsSound old → old.whole → new.whole

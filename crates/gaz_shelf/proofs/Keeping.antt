@@ -18,6 +18,7 @@ keeps_then a b c first second =
       content = λ stood fine. second.content (first.stands stood (second.harm fine)) fine ∙ first.content stood (second.harm fine);
       progress = left_then a.progress b.progress c.progress first.progress second.progress;
       leaves = λ sound k left. first.leaves sound k (second.leaves (λ fine. first.stands (sound (first.harm fine)) fine) k left);
+      whole = λ sound whole. second.whole (λ fine. first.stands (sound (first.harm fine)) fine) (first.whole sound whole);
     }
 
 pub still_open : (a b : Seen) (c : ℕ) → Keeps a b → a.progress ≡ Open c → b.progress ≡ Open c

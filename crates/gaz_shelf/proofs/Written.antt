@@ -62,5 +62,6 @@ module _ (a b c d : Seen) (code : ℕ) (items : List Item) (r : Result (Unit {0}
       store = further r a.failures c.failures d.failures (le_trans begins.counts.kept puts.counts.kept) keeps.counts.store;
     };
     leaves = left;
+    whole = λ sound met all. keeps.whole (set sound met) (λ _. tt) (puts.whole (begun sound met) (λ _. tt) (begins.whole sound met all));
     committed = λ sound met. on_ok r (λ just k l. is_written sound met k (just k l)) (keeps.committed (set sound met) (λ _. tt));
   }

@@ -94,6 +94,7 @@ kept_safe k = record {
   is_full = false;
   full = not_full;
   leaves = λ left. left ≡ after_stop k;
+  whole = Unit {0};
 }
 
 -- volume 1 of 1001 was received, and nothing else

@@ -39,4 +39,5 @@ around s broken failures = record {
   is_full = failures == 2 ^ 64 - 1;
   full = full_around s.failures failures;
   leaves = s.leaves;
+  whole = s.whole;
 }

@@ -57,6 +57,8 @@ pub record Seen : Type 1 where
   pub full : is_full ≡ true → 2 ^ 64 - 1 ≤ failures
   -- what a stop at this moment may leave
   pub leaves : Content → Type 0
+  -- whatever it leaves stands for that again
+  pub whole : Type 0
 
 -- ---- the content before and after
 
@@ -160,6 +162,7 @@ pub record Keeps (old new : Seen) : Type 0 where
   pub content : old.stands → new.unharmed → new.content ≡ old.content
   pub progress : IsLeft old.progress new.progress
   pub leaves : IsSound old → LeavesAtMost None old new
+  pub whole : IsSound old → old.whole → new.whole
 
 -- a call that reads: its answer is right, and after it no judgement is broken
 pub record Reads {T : Type 0} (old new : Seen) (result : Result T ShelfFault)
@@ -183,6 +186,7 @@ pub record Goes {T : Type 0} (old new : Seen) (result : Result T ShelfFault) (as
   pub broken : OnErr result (new.progress ≡ Broken)
   pub counts : Counts old new result
   pub leaves : IsSound old → (old.unharmed → asked) → LeavesAtMost commits old new
+  pub whole : IsSound old → (old.unharmed → asked) → old.whole → new.whole
   pub committed : IsSound old → (old.unharmed → asked) → OnOk result (LeavesJust commits old new)
 
 -- a call while no judgement is in progress: where what it asks is so, the content becomes this one;
@@ -197,6 +201,7 @@ pub record Enters {T : Type 0} (old new : Seen) (result : Result T ShelfFault) (
   pub cleared : OnOk result (new.progress ≢ Broken)
   pub counts : Counts old new result
   pub leaves : IsSound old → (old.unharmed → asked) → LeavesAtMost (Some becomes) old new
+  pub whole : IsSound old → (old.unharmed → asked) → old.whole → new.whole
   pub committed : IsSound old → (old.unharmed → asked)
       → OnOk result (LeavesJust (Some becomes) old new)
 

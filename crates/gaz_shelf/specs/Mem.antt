@@ -56,4 +56,5 @@ seen_in s = record {
   is_full = s.failures == 2 ^ 64 - 1;
   full = full_in s.failures;
   leaves = λ _. ⊥;
+  whole = ⊤;
 }

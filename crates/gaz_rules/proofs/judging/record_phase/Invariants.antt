@@ -1,8 +1,9 @@
 -- What is left has the faults of all, and comes to the same view.
 use Rattle.std.proofs.Common.{◌≡◌, ◌≤◌, drop}
 use Rattle.std.specs.List.{fold}
+use Rattle.std.specs.Prelude.{None}
 use Rattle.gaz_register.specs.Registers.{blocks_of}
-use Rattle.gaz_shelf.specs.Keeper.{Open, after_abandon, with_working}
+use Rattle.gaz_shelf.specs.Keeper.{IsSound, LeavesAtMost, Open, after_abandon, with_working}
 use Rattle.gaz_rules.specs.Judging.{record_faults}
 use Rattle.gaz_rules.specs.Rules.{effect}
 use Rattle.gaz_rules.proofs.judging.record_phase.Given as goal
@@ -20,5 +21,7 @@ invariant-loop-change g l =
       counted : was.failures ≤ now.failures;
       stay : was.stands → now.unharmed → after_abandon now.content ≡ after_abandon was.content;
       faults : was.stands → now.unharmed → record_faults own now.content.working left ≡ record_faults own was.content.working l.changes;
+      leaves : IsSound was → LeavesAtMost None was now;
+      whole : IsSound was → was.whole → now.whole;
       view : was.stands → now.unharmed → with_working now.content (fold effect now.content.working left) ≡ with_working was.content (fold effect was.content.working l.changes);
     }

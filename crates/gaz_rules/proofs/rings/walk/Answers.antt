@@ -69,7 +69,7 @@ up-init g c =
     let old = c.args.walked.now.on_ring.items in
     let none : length old - length old ≡ 0 = omega arith in
     record {
-      keeps = record { harm = λ f. f; stands = λ s f. s; content = λ s f. refl; progress = subst (λ p. IsLeft p p) (sym c.requires) refl; leaves = λ _ k left. left };
+      keeps = record { harm = λ f. f; stands = λ s f. s; content = λ s f. refl; progress = subst (λ p. IsLeft p p) (sym c.requires) refl; leaves = λ _ k left. left; whole = λ _ whole. whole };
       open_for = c.requires;
       counted = omega arith;
       more = omega arith;

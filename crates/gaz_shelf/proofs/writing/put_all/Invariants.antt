@@ -18,6 +18,7 @@ invariant-loop-item g l =
       left : was.stands → now.unharmed → with_working now.content (fold with_item now.content.working (into_iter_items l.item-iterator)) ≡ with_working was.content (fold with_item was.content.working l.fn.items.items);
       undone : was.stands → now.unharmed → after_abandon now.content ≡ after_abandon was.content;
       leaves : IsSound was → LeavesAtMost None was now;
+      whole : IsSound was → was.whole → now.whole;
       full : was.progress ≡ Broken → now.is_full ≡ was.is_full;
       none_put : was.progress ≡ Broken → into_iter_items l.item-iterator ≡ l.fn.items.items;
     }

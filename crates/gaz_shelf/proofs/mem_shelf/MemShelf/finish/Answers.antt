@@ -15,5 +15,6 @@ returns-in-Ok c =
       broken = tt;
       counts = record { kept = omega arith; store = tt };
       leaves = λ _ _ k left. absurd left;
+      whole = λ _ _ whole. tt;
       committed = λ _ _ k left. absurd left;
     }
