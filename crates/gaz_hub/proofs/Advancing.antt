@@ -20,10 +20,11 @@ use Rattle.gaz_rules.specs.Judging.{bases_of, judge}
 use Rattle.gaz_rules.specs.Sound.{AllHoldOwn}
 use Rattle.gaz_rules.proofs.OwnNumbers.{own_numbers_stay_holds}
 use Rattle.gaz_extract.specs.Readings.{Looks}
-use Rattle.gaz_hub.specs.Hubs.{AreKnown, MayHave, door_of}
+use Rattle.gaz_hub.specs.Hubs.{AreKnown, IsSoundFor, MayHave, door_of, state_of}
 use Rattle.gaz_hub.specs.Settling.{Advances, IsAll, IsNext, IsReadyAs, Tells, Tries}
 use Rattle.gaz_hub.specs.Standing.{Follows, Leads, NothingReady, Register, judge_one, judgement_after, next_reading, ready, with_next}
-use Rattle.gaz_hub.specs.Step.{Door, blocks}
+use Rattle.gaz_hub.specs.Step.{Door, HubState, blocks}
+use Rattle.gaz_hub.specs.Stops.{IsLater, Stops}
 use Rattle.gaz_hub.specs.Waiting.{Remembered, RestAfter, is_among, remembering}
 use Rattle.gaz_hub.specs.declared.looking.Next.{Next}
 use Rattle.gaz_hub.proofs.Bounds.{all_then, not_all}
@@ -31,6 +32,7 @@ use Rattle.gaz_hub.proofs.Leading.{follows_itself, leads_on}
 use Rattle.gaz_hub.proofs.Looks.{counts_then, left_not_open}
 use Rattle.gaz_hub.proofs.Prefixes.{both_parts}
 use Rattle.gaz_hub.proofs.Orders.{ready_gives}
+use Rattle.gaz_hub.proofs.Stopping.{Marks, later_on, stops_added, stops_look, stops_still, stops_then}
 
 -- ---- one after another
 
@@ -51,6 +53,7 @@ advances_looking d a b r P l idle =
       many = λ stood fine. omega arith;
       idle = left_not_open a.progress b.progress l.keeps.progress idle;
       kept = l.counts.kept;
+      stops = stops_look d a b r P l;
     }
 
 many_of : (m n : ℕ) (xs ys : List ℕ) → m ≤ length xs → n ≤ length ys → m + n ≤ length (xs ++ ys)
@@ -76,6 +79,10 @@ advances_then d m n a b c first second =
           many_of m n (first.board stood mid).order (second.board (first.stands stood mid) fine).order (first.many stood mid) (second.many (first.stands stood mid) fine);
       idle = second.idle;
       kept = let f = first.kept in let s = second.kept in omega arith;
+      stops = λ sound.
+          stops_then a b c (state_of a.content) (state_of b.content) (state_of c.content) (IsLater d) (IsLater d) first.harm second.harm
+          (λ fine k. let stood = sound (first.harm fine) in later_on d (state_of a.content) (state_of b.content) (first.files stood fine) (first.board stood fine) k)
+          (λ hub k later. later) (first.stops sound) (second.stops (λ fine. first.stands (sound (first.harm fine)) fine));
     }
 
 pub advances_less : (d : Door) (m n : ℕ) (a b : Seen) → n ≤ m → Advances d m a b → Advances d n a b
@@ -88,6 +95,7 @@ advances_less d m n a b h l =
       many = λ stood fine. let f = l.many stood fine in omega arith;
       idle = l.idle;
       kept = l.kept;
+      stops = l.stops;
     }
 
 -- ---- one judgement
@@ -202,7 +210,8 @@ may_judge d k m code rd e was =
       own = subst (AllHoldOwn (blocks d)) (sym (ap (λ (x : Content). x.board) e)) (own_numbers_stay_holds.after_judgement (blocks d) k.board code rd was.own);
     }
 
-module _ {T : Type 0} (d : Door) (a c : Seen) (code : ℕ) (rd : Reading) (met : a.stands → c.unharmed → IsNow a.content code rd) where
+module _ {T : Type 0} (d : Door) (a c : Seen) (code : ℕ) (rd : Reading) (met : a.stands → c.unharmed → IsNow a.content code rd)
+    (stops : IsSoundFor d a → Stops a c (state_of a.content) (state_of c.content) (IsLater d)) where
   -- the file was judged
   pub advances_judged : (x : T) → Adds a c (Ok x) code (IsNow a.content code rd) (judged_on ((blocks d) code) a.content.board code rd) → Advances d 1 a c
   advances_judged x g =
@@ -216,6 +225,7 @@ module _ {T : Type 0} (d : Door) (a c : Seen) (code : ℕ) (rd : Reading) (met :
         many = λ stood fine. omega arith;
         idle = g.idle;
         kept = g.counts.kept;
+        stops = stops;
       }
 
   -- it wasn't
@@ -232,6 +242,7 @@ module _ {T : Type 0} (d : Door) (a c : Seen) (code : ℕ) (rd : Reading) (met :
         many = λ stood fine. omega arith;
         idle = g.idle;
         kept = g.counts.kept;
+        stops = stops;
       }
 
   pub tries_judged : (x : T) (left : ℕ) (IsAmong : ℕ → Type 0) → 1 ≤ left → Adds a c (Ok x) code (IsNow a.content code rd) (judged_on ((blocks d) code) a.content.board code rd) → Tries d left a c (Ok 1) IsAmong
@@ -265,6 +276,12 @@ module _ {T : Type 0} (d : Door) (a c : Seen) (code : ℕ) (rd : Reading) (met :
         cause = λ stood fine all. g.counts.store;
       }
 
+-- what a judgement after a look may leave
+pub stops_after : {T U : Type 0} (d : Door) (a b c : Seen) (x : U) (r : Result T ShelfFault) (code : ℕ) (rd : Reading) (asked : Type 0) (P : U → Type 0) → Looks a b (Ok x) P → (P x → IsNow a.content code rd)
+    → (IsNow b.content code rd → asked) → Marks b c r code asked (judged_on (blocks d code) b.content.board code rd) → IsSoundFor d a → Stops a c (state_of a.content) (state_of c.content) (IsLater d)
+stops_after d a b c x r code rd asked P l now asks marks sound =
+    stops_added d a b c x r code rd asked P l now asks (λ ready. follows_judged d a.content (with_judgement a.content code (judged_on (blocks d code) a.content.board code rd)) code rd ready refl) marks sound
+
 -- a file that is ready, though as many are judged as a lawful content has
 pub tries_past : (reg : RegisterValue) (a b : Seen) (code left : ℕ) (e : ShelfFault) (n : Next) (rd : Reading) (IsAmong : ℕ → Type 0) → left ≡ 0
     → Looks a b (Ok n) (IsNext a.content.files a.content.board code) → IsNotOpen a.progress → (IsNext a.content.files a.content.board code n → IsNow a.content code rd)
@@ -296,6 +313,7 @@ tries_nothing d left a IsAmong idle nobody =
         many = λ stood fine. omega arith;
         idle = idle;
         kept = omega arith;
+        stops = λ sound. stops_still a (state_of a.content) (IsLater d);
       };
       within = omega arith;
       same = λ stood fine e. refl;
@@ -336,6 +354,10 @@ tries_stopped reg m left a b c e P Q S first second =
 
 -- ---- settling
 
+-- with what is remembered of a keeper
+pub stops_of_remembering : {P : HubState → Content → Type 0} {before after : HubState} (register : RegisterValue) (was : Option Remembered) (a c : Seen) → Stops a c before after P → Stops (remembering register was a) c before after P
+stops_of_remembering register was a c s = record { ever = s.ever; now = s.now; whole = s.whole }
+
 -- nothing is ready where no custodian of the register is
 nothing_ready : (d : Door) (F : Received) (B : Board) → AreKnown d F → ((c : ℕ) → knows d.register c ≡ true → ready F B c ≡ false) → NothingReady F B
 nothing_ready d F B known rest c =
@@ -359,6 +381,7 @@ settled_now register m left w v a b c P first second rest nobody =
         many = λ stood fine. l.many (stood.0.0, stood.1) fine;
         idle = l.idle;
         kept = l.kept;
+        stops = λ sound. stops_of_remembering register (Some w) a c (l.stops (λ fine. let stood = sound fine in (stood.0.0, stood.1)));
       };
       settled = λ stood fine.
           let now = l.stands (stood.0.0, stood.1) fine in

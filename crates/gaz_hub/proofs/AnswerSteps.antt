@@ -5,25 +5,27 @@ use Rattle.std.specs.Prelude.{Option, Some, None, is_some, Ok, Err}
 use Rattle.std.specs.FinMap as map
 use Rattle.gaz_shelf.proofs.Pairs.{pairs_total}
 use Rattle.gaz_shelf.specs.Board.{Board}
-use Rattle.gaz_shelf.specs.Keeper.{Content, Enters, IsNew, Seen, with_received}
+use Rattle.gaz_shelf.specs.Keeper.{Content, Enters, IsNew, IsNotOpen, Seen, with_received}
 use Rattle.gaz_shelf.specs.Received.{Received, with_file}
 use Rattle.gaz_shelf.specs.declared.fault.ShelfFault.{ShelfFault}
 use Rattle.gaz_shelf.specs.declared.fault.ShelfFault.TheVariants.{Store}
 use Rattle.gaz_register.specs.Registers.{knows}
-use Rattle.gaz_hub.specs.Asked.{IsAgain, IsOutcome, TakesIn}
+use Rattle.gaz_hub.specs.Asked.{IsAgain, IsOfBefore, IsOutcome, IsPastDoor, TakesIn}
 use Rattle.gaz_hub.specs.Hubs.{AreKnown, StandsFor, Steps, state_of}
 use Rattle.gaz_hub.specs.Settling.{Tells}
 use Rattle.gaz_hub.specs.Standing.{Follows, Leads}
 use Rattle.gaz_hub.specs.Step.{Door, HubState, NotReceived, Submit, Submits, Submitted, Unsettled, WasNew, blocks, file_refusal, or_foreign, turned_away}
 use Rattle.gaz_hub.specs.Runs.{same_pair}
+use Rattle.gaz_hub.specs.Stops.{is_taken_in}
 use Rattle.gaz_hub.specs.declared.answer.Answer.{Answer}
 use Rattle.gaz_hub.specs.declared.answer.Answer.TheVariants.{New, Repeat, Taken, Refused}
 use Rattle.gaz_hub.specs.declared.outcome.Outcome.{Outcome}
 use Rattle.gaz_hub.specs.declared.refusal.Refusal.{Refusal}
 use Rattle.gaz_hub.specs.declared.refusal.Refusal.TheVariants as refusal
 use Rattle.gaz_hub.proofs.Advancing.{may_keep}
-use Rattle.gaz_hub.proofs.Leading.{follows_more, follows_on}
+use Rattle.gaz_hub.proofs.Leading.{follows_itself, follows_more, follows_on}
 use Rattle.gaz_hub.proofs.Steps.{has_all_with, pairs_same}
+use Rattle.gaz_hub.proofs.Stopping.{stops_not_received, stops_received, stops_settled}
 
 -- ---- the door
 
@@ -50,7 +52,7 @@ there_now F K c volume bytes e =
     ap (λ X. map.get X (c, volume)) e ∙ map.get-insert pairs_total F (c, volume) bytes (c, volume)
     ∙ ap (λ b. cond b (Some bytes) (map.get F (c, volume))) ((eq_by_cmp_equiv pairs_total).refl (c, volume))
 
-known_with : (d : Door) (F : Received) (c volume : ℕ) (bytes : List ℕ) → knows d.register c ≡ true → AreKnown d F → AreKnown d (with_file F c volume bytes)
+pub known_with : (d : Door) (F : Received) (c volume : ℕ) (bytes : List ℕ) → knows d.register c ≡ true → AreKnown d F → AreKnown d (with_file F c volume bytes)
 known_with d F c volume bytes e known p h =
     elim (same_pair p (c, volume)) as (λ b. same_pair p (c, volume) ≡ b → is_some (cond b (Some bytes) (map.get F p)) ≡ true → knows d.register p.0 ≡ true) [
       | true ↦ λ t _. ap (λ (q : ℕ × ℕ). knows d.register q.0) (pairs_same p (c, volume) t) ∙ e
@@ -102,6 +104,8 @@ module _ (d : Door) (a b c : Seen) (code volume : ℕ) (bytes : List ℕ) (let_i
         idle = l.advances.idle;
         kept = let x = came.counts.kept in let y = l.advances.kept in omega arith;
         cause = λ stood free fine e. cc;
+        stops = λ sound free.
+            stops_received d a b code volume bytes let_in sound free c (Submitted (New told)) came l.advances.harm (l.advances.stops (λ fine. stood_then (sound (came.harm fine)) (free (came.harm fine)) fine));
       }
 
   pub taken_unsettled : (e : ShelfFault) → Tells {T = Outcome} d b c (Err e) (IsOutcome c.content.files c.content.board code volume) → TakesIn d a c code volume bytes (Refused (refusal.ReceivedUnsettled e))
@@ -118,9 +122,47 @@ module _ (d : Door) (a b c : Seen) (code volume : ℕ) (bytes : List ℕ) (let_i
             let more = l.cause (stood_then stood free (l.advances.harm fine)) fine store in
             let x = came.counts.kept in
             omega arith;
+        stops = λ sound free.
+            stops_received d a b code volume bytes let_in sound free c (Submitted (Refused (refusal.ReceivedUnsettled e))) came l.advances.harm
+            (l.advances.stops (λ fine. stood_then (sound (came.harm fine)) (free (came.harm fine)) fine));
       }
 
+-- it couldn't be received
+pub taken_not : (d : Door) (a b : Seen) (code volume : ℕ) (bytes : List ℕ) (e : ShelfFault) → file_refusal d code volume bytes ≡ None → IsNotOpen b.progress
+    → Enters {T = Unit {0}} a b (Err e) (IsNew a.content code volume) (with_received a.content code volume bytes) → TakesIn d a b code volume bytes (Refused (refusal.NotReceived e))
+taken_not d a b code volume bytes e let_in idle came =
+    record {
+      harm = came.harm;
+      stands = λ stood free fine.
+          let same = came.undone stood.0 free fine in
+          (came.stands stood.0 free fine, may_keep d a.content b.content (ap (λ (k : Content). k.files) same) (ap (λ (k : Content). k.board) same) stood.1);
+      step = λ stood free fine.
+          let same = came.undone stood.0 free fine in
+          record {
+            let_in = early_let_in d code volume bytes let_in;
+            received = ap (λ (k : Content). k.files) same;
+            board = follows_itself (blocks d) _ _ _ (ap (λ (k : Content). k.board) same);
+          };
+      idle = idle;
+      kept = came.counts.kept;
+      cause = λ stood free fine is. let store : e ≡ Store = cc in came.counts.store store;
+      stops = λ sound free. stops_not_received d a b code volume bytes let_in sound free e (Submitted (Refused (refusal.NotReceived e))) refl came;
+    }
+
 -- ---- after what was there is settled
+
+-- the pair was received before
+pub again_is_settled : (answer : Answer) → IsOfBefore answer → is_taken_in (Submitted answer) ≡ false
+again_is_settled (New told) h = absurd h
+again_is_settled (Repeat told) h = refl
+again_is_settled (Taken digest) h = refl
+again_is_settled (Refused r) h = absurd h
+
+pub again_past_door : (answer : Answer) → IsOfBefore answer → IsPastDoor answer
+again_past_door (New told) h = absurd h
+again_past_door (Repeat told) h = tt
+again_past_door (Taken digest) h = tt
+again_past_door (Refused r) h = absurd h
 
 -- the same answer from the board before that was settled
 module _ (d : Door) (old mid new : HubState) (c volume : ℕ) (bytes : List ℕ) (same : mid.received ≡ old.received) (before : Follows (blocks d) old.received old.board mid.board) where
@@ -195,4 +237,9 @@ taken_in d a b c code volume bytes answer let_in first second =
           let more = second.cause (first.advances.stands stood mid) (first.right stood mid) fine is in
           let x = first.advances.kept in
           omega arith;
+      stops = λ sound.
+          let stood = λ (fine : b.unharmed). sound (first.advances.harm fine) in
+          stops_settled d a b c (state_of a.content) (state_of b.content) (state_of c.content) (Submit code volume bytes) (Submitted answer) first.advances.harm second.harm
+          (λ fine. first.advances.files (stood fine) fine) (λ fine. first.advances.board (stood fine) fine) (first.advances.stops sound)
+          (second.stops (λ fine. first.advances.stands (stood fine) fine) (λ fine. first.right (stood fine) fine));
     }

@@ -1,10 +1,11 @@
 -- Calls of a hub over a keeper, one after another.
-use Rattle.std.proofs.Common.{List, [], ◌∷◌, ◌++◌, refl, append-nil, arith}
-use Rattle.gaz_shelf.specs.Keeper.{Seen}
-use Rattle.gaz_hub.specs.Hubs.{Runs, Steps}
+use Rattle.std.proofs.Common.{◌≡◌, inl, inr, List, [], ◌∷◌, ◌++◌, refl, sym, ap, ◌∙◌, subst, append-nil, append_assoc, arith}
+use Rattle.gaz_shelf.specs.Keeper.{Content, Seen}
+use Rattle.gaz_hub.specs.Hubs.{Runs, Steps, state_of}
 use Rattle.gaz_hub.specs.Laws.{CallsMakeRuns}
 use Rattle.gaz_hub.specs.Runs.{Run}
-use Rattle.gaz_hub.specs.Step.{Command, Door, HubState, Response}
+use Rattle.gaz_hub.specs.Step.{Command, Door, HubState, Response, Step}
+use Rattle.gaz_hub.specs.Stops.{IsLeftAfter, IsLeftBy, IsLeftSince, Stops, StopsRun}
 
 -- one run after another
 pub run_then : (d : Door) (a b c : HubState) (cs ds : List Command) (rs ss : List Response) → Run d a cs rs b → Run d b ds ss c → Run d a (cs ++ ds) (rs ++ ss) c
@@ -12,6 +13,102 @@ run_then d a b c [] ds [] ss x y = rw (← x) y
 run_then d a b c [] ds (r ∷ rs) ss x y = absurd x
 run_then d a b c (k ∷ cs) ds [] ss x y = absurd x
 run_then d a b c (k ∷ cs) ds (r ∷ rs) ss x y = (x.0, x.1, run_then d x.0 b c cs ds rs ss x.2 y)
+
+-- ---- what a stop may leave
+
+module _ (d : Door) (old new : Seen) (command : Command) (response : Response) where
+  abbrev before : HubState
+  before = state_of old.content
+
+  abbrev after : HubState
+  after = state_of new.content
+
+  -- of one call
+  run_stops_one : (new.unharmed → Step d before command response after) → Stops old new before after (IsLeftBy d command) → StopsRun d old new before after (command ∷ []) (response ∷ [])
+  run_stops_one step s =
+      record {
+        ever = λ k l. elim (s.ever k l) [
+          | inl was ↦ inl was
+          | inr made ↦ inr (made.0, record {
+              earlier = []; told = []; command = command; later = []; more = response ∷ []; commands_are = refl; responses_are = refl; mid = before; run = refl; left = made.1;
+            })
+        ];
+        now = λ fine k l. elim (s.now fine k l) [
+          | inl was ↦ inl was
+          | inr made ↦ inr (record {
+              earlier = []; told = response ∷ []; command = command; later = []; more = []; commands_are = refl; responses_are = refl; run = (after, step fine, refl); left = made;
+            })
+        ];
+        whole = s.whole;
+      }
+
+module _ (d : Door) (cs ds : List Command) (rs ss : List Response) (k : Content) where
+  -- more commands came
+  after_on : (hub : HubState) → IsLeftAfter d cs rs hub k → IsLeftAfter d (cs ++ ds) (rs ++ ss) hub k
+  after_on hub l =
+      record {
+        earlier = l.earlier; told = l.told; command = l.command; later = l.later ++ ds; more = l.more ++ ss;
+        commands_are = ap (λ xs. xs ++ ds) l.commands_are ∙ append_assoc l.earlier (l.command ∷ l.later) ds;
+        responses_are = ap (λ xs. xs ++ ss) l.responses_are ∙ append_assoc l.told l.more ss;
+        mid = l.mid; run = l.run; left = l.left;
+      }
+
+  since_on : (hub one two : HubState) → two ≡ one → IsLeftSince d cs rs hub one k → IsLeftSince d (cs ++ ds) (rs ++ ss) hub two k
+  since_on hub one two same l =
+      record {
+        earlier = l.earlier; told = l.told; command = l.command; later = l.later ++ ds; more = l.more ++ ss;
+        commands_are = ap (λ xs. xs ++ ds) l.commands_are ∙ append_assoc (l.earlier ++ l.command ∷ []) l.later ds;
+        responses_are = ap (λ xs. xs ++ ss) l.responses_are ∙ append_assoc l.told l.more ss;
+        run = subst (λ h. Run d hub (l.earlier ++ l.command ∷ []) l.told h) (sym same) l.run;
+        left = subst (λ h. IsLeftBy d l.command h k) (sym same) l.left;
+      }
+
+  -- others had come before
+  after_those : (hub mid : HubState) → Run d hub cs rs mid → IsLeftAfter d ds ss mid k → IsLeftAfter d (cs ++ ds) (rs ++ ss) hub k
+  after_those hub mid run l =
+      record {
+        earlier = cs ++ l.earlier; told = rs ++ l.told; command = l.command; later = l.later; more = l.more;
+        commands_are = ap (λ xs. cs ++ xs) l.commands_are ∙ sym (append_assoc cs l.earlier (l.command ∷ l.later));
+        responses_are = ap (λ xs. rs ++ xs) l.responses_are ∙ sym (append_assoc rs l.told l.more);
+        mid = l.mid; run = run_then d hub mid l.mid cs l.earlier rs l.told run l.run; left = l.left;
+      }
+
+  since_those : (hub mid last : HubState) → Run d hub cs rs mid → IsLeftSince d ds ss mid last k → IsLeftSince d (cs ++ ds) (rs ++ ss) hub last k
+  since_those hub mid last run l =
+      let e : cs ++ (l.earlier ++ l.command ∷ []) ≡ (cs ++ l.earlier) ++ l.command ∷ [] = sym (append_assoc cs l.earlier (l.command ∷ [])) in
+      record {
+        earlier = cs ++ l.earlier; told = rs ++ l.told; command = l.command; later = l.later; more = l.more;
+        commands_are = ap (λ xs. cs ++ xs) l.commands_are ∙ sym (append_assoc cs (l.earlier ++ l.command ∷ []) l.later) ∙ ap (λ xs. xs ++ l.later) e;
+        responses_are = ap (λ xs. rs ++ xs) l.responses_are ∙ sym (append_assoc rs l.told l.more);
+        run = subst (λ xs. Run d hub xs (rs ++ l.told) last) e (run_then d hub mid last cs (l.earlier ++ l.command ∷ []) rs l.told run l.run);
+        left = l.left;
+      }
+
+-- of calls, and then of more of them
+run_stops_then : (d : Door) (old mid new : Seen) (cs ds : List Command) (rs ss : List Response) → (mid.unharmed → old.unharmed) → (new.unharmed → mid.unharmed)
+    → (mid.unharmed → Run d (state_of old.content) cs rs (state_of mid.content))
+    → StopsRun d old mid (state_of old.content) (state_of mid.content) cs rs → StopsRun d mid new (state_of mid.content) (state_of new.content) ds ss
+    → StopsRun d old new (state_of old.content) (state_of new.content) (cs ++ ds) (rs ++ ss)
+run_stops_then d old mid new cs ds rs ss harm harm_then run first second =
+    record {
+      ever = λ k l. elim (second.ever k l) [
+        | inl was ↦ elim (first.ever k was) [
+          | inl before ↦ inl before
+          | inr made ↦ inr (made.0, after_on d cs ds rs ss k (state_of old.content) made.1)
+        ]
+        | inr made ↦ inr (harm made.0, after_those d cs ds rs ss k (state_of old.content) (state_of mid.content) (run made.0) made.1)
+      ];
+      now = λ fine k l. elim (second.now fine k l) [
+        | inl was ↦ elim (first.now (harm_then fine) k was.0) [
+          | inl before ↦ inl (before.0, was.1 ∙ before.1)
+          | inr made ↦ inr (since_on d cs ds rs ss k (state_of old.content) (state_of mid.content) (state_of new.content) was.1 made)
+        ]
+        | inr made ↦ inr (since_those d cs ds rs ss k (state_of old.content) (state_of mid.content) (state_of new.content) (run (harm_then fine)) made)
+      ];
+      whole = λ all. second.whole (first.whole all);
+    }
+
+-- ---- calls
 
 -- no call
 pub runs_none : (d : Door) (s : Seen) → Runs d s s [] []
@@ -21,6 +118,7 @@ runs_none d s = record {
   run = λ st u. refl;
   idle = λ i. i;
   failures = omega arith;
+  stops = λ sound. record { ever = λ k l. inl l; now = λ fine k l. inl (l, refl); whole = λ all. all };
 }
 
 -- one call
@@ -32,6 +130,7 @@ runs_one d old new command response s = record {
   run = λ st u. (_, s.step st u, refl);
   idle = λ i. s.idle;
   failures = s.failures;
+  stops = λ sound. run_stops_one d old new command response (λ fine. s.step (sound (s.harm fine)) fine) (s.stops sound).stops;
 }
 
 -- calls, and then more of them
@@ -46,6 +145,9 @@ runs_then d old mid new cs ds rs ss x y =
       run = λ st u. run_then d _ _ _ cs ds rs ss (x.run st (y.harm u)) (y.run (x.stands st (y.harm u)) u);
       idle = λ i. y.idle (x.idle i);
       failures = omega (arith, first, second);
+      stops = λ sound.
+          run_stops_then d old mid new cs ds rs ss x.harm y.harm (λ fine. x.run (sound (x.harm fine)) fine) (x.stops sound)
+          (y.stops (λ fine. x.stands (sound (x.harm fine)) fine));
     }
 
 -- calls, and then none

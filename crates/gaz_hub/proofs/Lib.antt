@@ -2,6 +2,7 @@ pub mod Prefixes
 pub mod Orders
 pub mod Leading
 pub mod Steps
+pub mod Stopping
 pub mod Runs
 pub mod Answers
 pub mod Looks
@@ -16,6 +17,7 @@ pub mod AskingOwner
 pub mod AnswerSteps
 pub mod HubRuns
 pub mod Headline
+pub mod Finding
 pub mod OwnNumbers
 pub mod Owners
 pub mod ReadingLaws

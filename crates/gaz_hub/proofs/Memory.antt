@@ -1,26 +1,24 @@
 -- A hub's calls, with what it remembers.
-use Rattle.std.proofs.Common.{◌≡◌, ◌≤◌, ◌+◌, ℕ, true, false, ◌||◌, eqb, eqb-true, ◌<◌, List, [], ◌∷◌, ◌++◌, take, length, get_or, refl, sym, ap, ◌∙◌, subst, arith, true≢false, append_assoc, inl, inr}
+use Rattle.std.proofs.Common.{◌≡◌, ◌≤◌, ◌+◌, ℕ, true, false, ◌||◌, eqb, eqb-true, ◌<◌, List, [], ◌∷◌, ◌++◌, take, length, get_or, refl, sym, ap, ◌∙◌, subst, true≢false, append_assoc, inl, inr}
 use Rattle.std.proofs.lemmas.List.{take_all, take_more}
-use Rattle.std.specs.Prelude.{Option, Some, None, Result, Ok, Err}
+use Rattle.std.specs.Prelude.{Option, Some, None, Result, Ok, Err, OnOk}
 use Rattle.std.specs.Option.{option_map, unwrap_or}
 use Rattle.std.specs.FinMap as finmap
 use Rattle.gaz_changefile.specs.Reading.{Reading}
 use Rattle.gaz_register.specs.Registers.{RegisterValue, blocks_of}
 use Rattle.gaz_rules.specs.Bases.{judged_on}
 use Rattle.gaz_shelf.specs.Board.{Board, reached}
-use Rattle.gaz_shelf.specs.Keeper.{Content, Enters, IsNew, IsNotOpen, Seen, with_judgement, with_received}
+use Rattle.gaz_shelf.specs.Keeper.{Content, Enters, IsNew, Seen, with_judgement, with_received}
 use Rattle.gaz_shelf.specs.Received.{Received}
 use Rattle.gaz_shelf.specs.declared.fault.ShelfFault.{ShelfFault}
-use Rattle.gaz_shelf.specs.declared.fault.ShelfFault.TheVariants.{Store}
 use Rattle.gaz_extract.specs.Readings.{Looks}
 use Rattle.gaz_hub.specs.Hubs.{StandsFor, door_of}
 use Rattle.gaz_hub.specs.Seen.{IsAfterComing, IsKeptOrLost}
 use Rattle.gaz_hub.specs.Settling.{Advances, IsNext, Tells}
-use Rattle.gaz_hub.specs.Step.{Door, blocks}
+use Rattle.gaz_hub.specs.Step.{Door}
 use Rattle.gaz_hub.specs.Waiting.{IsRight, Remembered, RestAfter, RestBut, Rests, all_ahead, is_among, remembering, with_coming, with_judged, with_waiter}
 use Rattle.gaz_hub.specs.declared.looking.Next.TheVariants as next
-use Rattle.gaz_hub.proofs.Advancing.{Adds, IsNow, added_is}
-use Rattle.gaz_hub.proofs.Leading.{follows_itself}
+use Rattle.gaz_hub.proofs.Advancing.{Adds, IsNow, added_is, stops_of_remembering}
 use Rattle.gaz_hub.proofs.Waiting.{in_neither, known_among, now_waits, rests_on, rests_with, still_waits, unwoken}
 
 -- ---- one custodian
@@ -98,6 +96,19 @@ rest_more door codes i n code a b c m k l below is first harm before then stood 
 pub rest_all : (door : Door) (codes : List ℕ) (i : ℕ) (a b : Seen) (m k : Remembered) → length codes ≤ i → RestAfter (take i codes) door m a k b → RestAfter codes door m a k b
 rest_all door codes i a b m k past = subst (λ xs. RestAfter xs door m a k b) (take_all i codes past)
 
+-- all who were to be looked at are taken
+rest_taken : (door : Door) (m : Remembered) (codes : List ℕ) (taken k : Remembered) (a b : Seen) → codes ≡ m.0 → taken ≡ ([], m.1) → RestAfter codes door taken a k b → RestAfter [] door m a k b
+rest_taken door m codes taken k a b e f rest stood fine others was =
+    rest stood fine others (λ c known ahead among.
+        let no = in_neither codes others c among in
+        let r = was c known (ap (λ xs. is_among xs c) (sym e) ∙ no.0) no.1 in
+        subst (λ (w : Remembered). Rests w a.content.files a.content.board c) (sym f) (record { unready = r.unready; waits = r.waits }))
+
+pub rest_of_taken : {T : Type 0} (door : Door) (m : Remembered) (codes : List ℕ) (taken k : Remembered) (a b : Seen) (r : Result T ShelfFault) → codes ≡ m.0 → taken ≡ ([], m.1)
+    → OnOk r (RestAfter codes door taken a k b) → OnOk r (RestAfter [] door m a k b)
+rest_of_taken door m codes taken k a b (Ok x) e f rest = rest_taken door m codes taken k a b e f rest
+rest_of_taken door m codes taken k a b (Err x) e f rest = tt
+
 -- round after round
 pub rest_then : (door : Door) (n : ℕ) (a b c : Seen) (m k l : Remembered) → Advances door n a b → (c.unharmed → b.unharmed) → RestAfter [] door m a k b → RestAfter [] door k b l c → RestAfter [] door m a l c
 rest_then door n a b c m k l first harm before then stood fine others rest =
@@ -124,6 +135,7 @@ tells_kept door register old was new a c r P up l right =
         many = λ stood fine. l.advances.many (stands_up stood) fine;
         idle = l.advances.idle;
         kept = l.advances.kept;
+        stops = λ sound. let s = l.advances.stops (λ fine. stands_up (sound fine)) in record { ever = s.ever; now = s.now; whole = s.whole };
       };
       settled = λ stood fine. l.settled (stands_up stood) fine;
       right = λ stood fine. l.right (stands_up stood) fine;
@@ -146,6 +158,7 @@ tells_over door register was a c r P l =
         many = λ stood fine. l.advances.many (stood.0.0, stood.1) fine;
         idle = l.advances.idle;
         kept = l.advances.kept;
+        stops = λ sound. stops_of_remembering register was a c (l.advances.stops (λ fine. let stood = sound fine in (stood.0.0, stood.1)));
       };
       settled = λ stood fine. l.settled (stood.0.0, stood.1) fine;
       right = λ stood fine. l.right (stood.0.0, stood.1) fine;
@@ -181,6 +194,7 @@ looks_kept register old new b c r P kept l =
         content = λ stood fine. l.keeps.content stood.0 fine;
         progress = l.keeps.progress;
         leaves = λ sound. l.keeps.leaves (λ fine. (sound fine).0);
+        whole = λ sound. l.keeps.whole (λ fine. (sound fine).0);
       };
       right = λ stood fine. l.right stood.0 fine;
       counts = record { kept = l.counts.kept; store = l.counts.store };
@@ -210,7 +224,8 @@ module _ (register : RegisterValue) (old new : Option Remembered) (a b : Seen) (
         cleared = l.cleared;
         counts = record { kept = l.counts.kept; store = l.counts.store };
         leaves = λ sound free. l.leaves (λ fine. (sound fine).0) free;
-        committed = λ stood free fine. l.committed stood.0 free fine;
+        committed = λ sound free. l.committed (λ fine. (sound fine).0) free;
+        whole = λ sound free. l.whole (λ fine. (sound fine).0) free;
       }
 
   pub enters_failed : {T : Type 0} (e : ShelfFault) → new ≡ None → Enters {T = T} a b (Err e) (IsNew a.content c volume) (with_received a.content c volume bytes)
@@ -225,5 +240,6 @@ module _ (register : RegisterValue) (old new : Option Remembered) (a b : Seen) (
         cleared = l.cleared;
         counts = record { kept = l.counts.kept; store = l.counts.store };
         leaves = λ sound free. l.leaves (λ fine. (sound fine).0) free;
-        committed = λ stood free fine. tt;
+        committed = λ sound free. tt;
+        whole = λ sound free. l.whole (λ fine. (sound fine).0) free;
       }

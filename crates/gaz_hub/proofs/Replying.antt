@@ -12,6 +12,7 @@ use Rattle.gaz_hub.specs.Standing.{NothingReady}
 use Rattle.gaz_hub.specs.Step.{Door, Pose, Question, Replied, Told, answer_to, question_refusal}
 use Rattle.gaz_hub.specs.declared.refusal.Refusal.{Refusal}
 use Rattle.gaz_hub.specs.declared.refusal.Refusal.TheVariants as refusal
+use Rattle.gaz_hub.proofs.Stopping.{stops_judging}
 use Rattle.gaz_hub.proofs.Telling.{tells_settled}
 
 -- what is read says this of the question, and a refusal is told as it is
@@ -45,6 +46,7 @@ module _ {T : Type 0} (d : Door) (q : Question) (say : T → Told q) (reply : Re
         idle = l.advances.idle;
         failures = l.advances.kept;
         cause = λ stood fine e. cc;
+        stops = λ sound. stops_judging d a c (state_of a.content) (state_of c.content) (Pose q) _ refl (l.advances.stops sound);
       })
   steps_read a c (Err fault) l =
       subst (λ k. Steps d a c (Pose q) (Replied q k)) (sym (says.err (refusal.NotReceived fault)))
@@ -55,6 +57,7 @@ module _ {T : Type 0} (d : Door) (q : Question) (say : T → Told q) (reply : Re
         idle = l.advances.idle;
         failures = l.advances.kept;
         cause = λ stood fine e. let store : fault ≡ Store = cc in l.cause stood fine store;
+        stops = λ sound. stops_judging d a c (state_of a.content) (state_of c.content) (Pose q) _ refl (l.advances.stops sound);
       })
 
   pub answered_steps : {K : Type 0} (seen : K → Seen) (Calls : K → Result T ShelfFault → K → Type 0) (old new : K) (result : Result T Refusal) → AnswersSettled d seen Calls old new result

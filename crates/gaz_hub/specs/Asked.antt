@@ -6,10 +6,11 @@ use Rattle.gaz_shelf.specs.Board.{Board}
 use Rattle.gaz_shelf.specs.Keeper.{IsNew, IsNotOpen, Seen}
 use Rattle.gaz_shelf.specs.Received.{Received}
 use Rattle.gaz_shelf.specs.declared.fault.ShelfFault.TheVariants.{Store}
-use Rattle.gaz_hub.specs.Hubs.{StandsFor, cause_in, cause_in_answer, state_of}
+use Rattle.gaz_hub.specs.Hubs.{IsSoundFor, StandsFor, cause_in, cause_in_answer, state_of}
 use Rattle.gaz_hub.specs.Outcomes.{outcome, wants}
 use Rattle.gaz_hub.specs.Standing.{NothingReady}
-use Rattle.gaz_hub.specs.Step.{Door, Submits}
+use Rattle.gaz_hub.specs.Step.{Door, Submit, Submits, Submitted}
+use Rattle.gaz_hub.specs.Stops.{StopsCall}
 use Rattle.gaz_hub.specs.declared.answer.Answer.{Answer}
 use Rattle.gaz_hub.specs.declared.answer.Answer.TheVariants.{New, Repeat, Taken, Refused}
 use Rattle.gaz_hub.specs.declared.outcome.Outcome.{Outcome}
@@ -61,9 +62,16 @@ IsPastDoor (Repeat told) = ⊤
 IsPastDoor (Taken digest) = ⊤
 IsPastDoor (Refused r) = IsSome (cause_in r)
 
-abbrev pub AnyIsPastDoor : Option Answer → Type 0
-AnyIsPastDoor None = ⊤
-AnyIsPastDoor (Some answer) = IsPastDoor answer
+-- it tells that the pair was received before
+abbrev pub IsOfBefore : Answer → Type 0
+IsOfBefore (New told) = ⊥
+IsOfBefore (Repeat told) = ⊤
+IsOfBefore (Taken digest) = ⊤
+IsOfBefore (Refused r) = ⊥
+
+abbrev pub AnyIsOfBefore : Option Answer → Type 0
+AnyIsOfBefore None = ⊤
+AnyIsOfBefore (Some answer) = IsOfBefore answer
 
 -- a file that is new is received, and all is settled
 pub record TakesIn (door : Door) (old new : Seen) (c volume : ℕ) (bytes : List ℕ)
@@ -76,3 +84,6 @@ pub record TakesIn (door : Door) (old new : Seen) (c volume : ℕ) (bytes : List
   pub kept : old.failures ≤ new.failures
   pub cause : StandsFor door old → IsNew old.content c volume → new.unharmed
       → cause_in_answer answer ≡ Some Store → old.failures < new.failures
+  pub stops : IsSoundFor door old → (old.unharmed → IsNew old.content c volume)
+      → StopsCall door old new (state_of old.content) (state_of new.content)
+      (Submit c volume bytes) (Submitted answer)

@@ -15,6 +15,7 @@ use Rattle.gaz_shelf.specs.declared.fault.ShelfFault.TheVariants.{Memory, Store}
 use Rattle.gaz_hub.specs.Step.{Command, Door, HubState, Replied, Response, Step, Submitted}
 use Rattle.gaz_hub.specs.Step.{blocks, early_refusal, refusal_at_door}
 use Rattle.gaz_hub.specs.Runs.{Run}
+use Rattle.gaz_hub.specs.Stops.{StopsCall, StopsRun}
 use Rattle.gaz_hub.specs.declared.answer.Answer.{Answer}
 use Rattle.gaz_hub.specs.declared.answer.Answer.TheVariants.{New, Repeat, Taken, Refused}
 use Rattle.gaz_hub.specs.declared.refusal.Refusal.{Refusal}
@@ -45,6 +46,10 @@ pub record MayHave (door : Door) (k : Content) : Type 0 where
 -- the keeper stands for such a content
 abbrev pub StandsFor : Door → Seen → Type 0
 StandsFor door s = s.stands × MayHave door s.content
+
+-- it does unless somebody else wrote on what it keeps
+abbrev pub IsSoundFor : Door → Seen → Type 0
+IsSoundFor door s = s.unharmed → StandsFor door s
 
 -- ---- what a call tells
 
@@ -121,6 +126,9 @@ pub record Steps (door : Door) (old new : Seen) (command : Command)
   -- 51 and 52 carry Store only where the keeper's count of failures rose
   pub cause : StandsFor door old → new.unharmed → cause_of response ≡ Some Store
       → old.failures < new.failures
+  -- what a stop may leave, whatever became of the keeper in the call
+  pub stops : IsSoundFor door old
+      → StopsCall door old new (state_of old.content) (state_of new.content) command response
 
 -- calls one after another: a run of the hub
 pub record Runs (door : Door) (old new : Seen) (commands : List Command)
@@ -131,3 +139,5 @@ pub record Runs (door : Door) (old new : Seen) (commands : List Command)
       → Run door (state_of old.content) commands responses (state_of new.content)
   pub idle : IsNotOpen old.progress → IsNotOpen new.progress
   pub failures : old.failures ≤ new.failures
+  pub stops : IsSoundFor door old
+      → StopsRun door old new (state_of old.content) (state_of new.content) commands responses

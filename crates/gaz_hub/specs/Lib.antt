@@ -1,4 +1,5 @@
 pub mod Standing
+pub mod Stops
 pub mod Outcomes
 pub mod Step
 pub mod Runs
@@ -6,6 +7,7 @@ pub mod Sample
 pub mod Hubs
 pub mod Answers
 pub mod Laws
+pub mod Found
 pub mod Readings
 pub mod Owners
 pub mod Settling

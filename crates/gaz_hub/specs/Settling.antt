@@ -11,10 +11,11 @@ use Rattle.gaz_shelf.specs.Keeper.{IsNotOpen, Seen}
 use Rattle.gaz_shelf.specs.Received.{Received}
 use Rattle.gaz_shelf.specs.declared.fault.ShelfFault.{ShelfFault}
 use Rattle.gaz_shelf.specs.declared.fault.ShelfFault.TheVariants.{Store}
-use Rattle.gaz_hub.specs.Hubs.{StandsFor, or_not_received}
+use Rattle.gaz_hub.specs.Hubs.{IsSoundFor, StandsFor, or_not_received, state_of}
 use Rattle.gaz_hub.specs.Outcomes.{first_unreached, wants}
 use Rattle.gaz_hub.specs.Standing.{Follows, NothingReady, next_reading, ready}
 use Rattle.gaz_hub.specs.Step.{Door, blocks}
+use Rattle.gaz_hub.specs.Stops.{IsLater, Stops}
 use Rattle.gaz_hub.specs.declared.refusal.Refusal.{Refusal}
 use Rattle.gaz_hub.specs.declared.looking.NextFile.{NextFile}
 use Rattle.gaz_hub.specs.declared.looking.NextFile.TheVariants as file
@@ -82,6 +83,8 @@ pub record Advances (door : Door) (least : ℕ) (old new : Seen) : Type 0 where
       → least ≤ length (board stood fine).order
   pub idle : IsNotOpen new.progress
   pub kept : old.failures ≤ new.failures
+  pub stops : IsSoundFor door old
+      → Stops old new (state_of old.content) (state_of new.content) (IsLater door)
 
 -- how many files were surely judged in a call that tells how many were
 abbrev pub judged_in : Result ℕ ShelfFault → ℕ

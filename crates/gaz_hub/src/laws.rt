@@ -1,5 +1,6 @@
 //! Laws over the definitions alone: whichever ready file is judged first, whatever commands come.
 ghost use Rattle.gaz_hub.specs.Answers.{EveryAnswer};
+ghost use Rattle.gaz_hub.specs.Found.{EveryStopOver};
 ghost use Rattle.gaz_hub.specs.Laws.{AllSound, CallsMakeRuns, EachIsTold, EveryAnswerOver};
 ghost use Rattle.gaz_hub.specs.Laws.{EveryRunFromOver, EveryRunOver, EverySettledRunFromOver};
 ghost use Rattle.gaz_hub.specs.Laws.{EverySettledRunOver};
@@ -134,6 +135,13 @@ pub fn every_settled_run_from_over<K: Inbox>()
 /// files that are received by then.
 pub fn every_answer_over<K: Inbox>()
     ensures { EveryAnswerOver K.seen }
+{}
+
+/// What a stop leaves after whatever commands, of any keeper of which it left just a partial run
+/// before: a partial run again, which the next hub can begin with. Its files are those that were
+/// received, and one more at most, of a submission that was let in and not answered as received.
+pub fn every_stop_over<K: Inbox>()
+    ensures { EveryStopOver K.seen }
 {}
 
 /// Whatever commands come, over any keeper that began with nothing, it stands for what came first

@@ -1,6 +1,6 @@
 //! How a submission is answered.
 ghost use Rattle.std.specs.Prelude.{◌≡◌, ◌↔◌, IfOk, IsTrue, Some, None, true, false};
-ghost use Rattle.gaz_hub.specs.Asked.{AnyIsPastDoor, IsAgain, IsOutcome, IsPastDoor, TakesIn};
+ghost use Rattle.gaz_hub.specs.Asked.{AnyIsOfBefore, IsAgain, IsOutcome, IsPastDoor, TakesIn};
 ghost use Rattle.gaz_hub.specs.Hubs.{MeetsDoor, door_of};
 ghost use Rattle.gaz_hub.specs.Seen.{hub_seen};
 ghost use Rattle.gaz_hub.specs.Step.{Submit, Submitted, file_refusal};
@@ -34,7 +34,7 @@ fn answer_again<K: Inbox>(
 ) -> Result<Option<Answer>, ShelfFault>
     ensures looks { LooksAtKept K.seen keeper.old keeper.new result
         (λ files board. IsAgain files board code volume file.now) }
-    ensures past_door { IfOk result AnyIsPastDoor }
+    ensures of_before { IfOk result AnyIsOfBefore }
 {
     let Some(there) = keeper.received(code, volume)? else {
         return Ok(None);
@@ -59,7 +59,7 @@ impl<K: Inbox + Drop> Hub<K> {
         requires { IsNotJudging K.seen self.old.keeper }
         ensures tells { TellsKept (hub_seen K.seen) self.old.register self.old self.new result
             (λ files board. IsAgain files board code volume file.now) }
-        ensures past_door { IfOk result AnyIsPastDoor }
+        ensures of_before { IfOk result AnyIsOfBefore }
         ensures register { self.new.register ≡ self.old.register }
     {
         let alloc = self.alloc;

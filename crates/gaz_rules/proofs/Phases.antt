@@ -1,7 +1,7 @@
 -- The phases of a judgement, one step on and together.
 use Rattle.std.proofs.Common.{◌≡◌, ◌≤◌, ◌<◌, ◌+◌, ◌⊎◌, inl, inr, ℕ, true, List, [], ◌∷◌, ◌++◌, length, drop, get_or, refl, sym, ap, ◌∙◌, subst, arith}
 use Rattle.std.proofs.lemmas.List.{drop_more}
-use Rattle.std.specs.Prelude.{Option, Some, None, Result, Ok, Err, IfOk, IfNone, OnOk}
+use Rattle.std.specs.Prelude.{⊤, Option, Some, None, Result, Ok, Err, IfOk, IfNone, IsErrAnd, OnOk}
 use Rattle.std.specs.List.{cons_option, fold}
 use Rattle.gaz_records.specs.Keys.{key_of}
 use Rattle.gaz_records.specs.declared.item.Item.{Item}
@@ -12,8 +12,9 @@ use Rattle.gaz_changefile.specs.declared.change.Change.{Change}
 use Rattle.gaz_register.specs.Registers.{Blocks}
 use Rattle.gaz_shelf.specs.Board.{Judgement, last_view}
 use Rattle.gaz_views.specs.View.{View}
-use Rattle.gaz_shelf.specs.Keeper.{Content, Counts, Enters, Goes, Idle, IsAtHand, IsNotOpen, IsSound, Keeps, LeavesAtMost, LeavesJust, Open, Progress, Reads, Seen, after_abandon, after_begin, after_keep, after_skip, after_stop, with_judgement}
+use Rattle.gaz_shelf.specs.Keeper.{Content, Counts, Enters, Goes, Idle, IsAtHand, IsLeft, IsNotOpen, IsSound, Keeps, LeavesAtMost, LeavesJust, Open, Progress, Reads, Seen, after_abandon, after_begin, after_keep, after_skip, after_stop, with_judgement}
 use Rattle.gaz_shelf.specs.declared.fault.ShelfFault.{ShelfFault}
+use Rattle.gaz_shelf.specs.declared.fault.ShelfFault.TheVariants.{Store}
 use Rattle.gaz_views.specs.declared.verdict.Verdict.{Verdict}
 use Rattle.gaz_views.specs.declared.verdict.Verdict.TheVariants.{Applied, Rejected}
 use Rattle.gaz_shelf.proofs.Keeping.{keeps_then, still_open}
@@ -158,6 +159,57 @@ phases_together old mid new c own file r is_open first second =
       leaves = λ sound k left. first.leaves sound k (second.keeps.leaves (λ fine. first.stands (sound (first.harm fine)) fine) k left);
       whole = λ sound all. second.keeps.whole (λ fine. first.stands (sound (first.harm fine)) fine) (first.whole sound all);
     }
+
+-- ---- a judgement that is rejected
+
+is_err : {T : Type 0} (r : Result T ShelfFault) (e : ShelfFault) → IsErrAnd r (λ x. x ≡ e) → r ≡ Err e
+is_err (Ok x) e h = absurd h
+is_err (Err f) e h = ap Err h
+
+idle_stays : (p q : Progress) → p ≡ Idle → IsLeft p q → IsNotOpen q
+idle_stays p q e left = subst (λ x. IsLeft x q → IsNotOpen q) (sym e) (λ same d at. let no : Idle ≡ Open d = sym same ∙ at in cc) left
+
+module _ (old mid new : Seen) (c : ℕ) (f : found.Fault) (e : ShelfFault)
+    (gone : Goes {T = Unit {0}} old mid (Ok tt) ⊤ (after_abandon old.content) None Idle)
+    (enters : Enters {T = Unit {0}} mid new (Err e) (IsAtHand mid.content c) (after_skip mid.content c f.place f.rule)) where
+  given_up : old.stands → mid.unharmed → mid.content ≡ after_abandon old.content
+  given_up stood fine = gone.done stood tt fine
+
+  still_at_hand : old.stands → IsAtHand old.content c → mid.unharmed → IsAtHand mid.content c
+  still_at_hand stood hand fine = subst (λ (k : Content). IsAtHand k c) (sym (given_up stood fine)) hand
+
+  sound_then : IsSound old → IsSound mid
+  sound_then sound fine = gone.stands (sound (gone.harm fine)) tt fine
+
+  hand_then : IsSound old → (old.unharmed → IsAtHand old.content c) → mid.unharmed → IsAtHand mid.content c
+  hand_then sound hand fine = let was = gone.harm fine in still_at_hand (sound was) (hand was) fine
+
+  -- it is given up, and then the keeper fails to mark it
+  pub not_rejected : (r : Result Verdict ShelfFault) → IsErrAnd r (λ x. x ≡ e) → Ends old new r c (conclusion old.content c (Some f))
+  not_rejected r is = subst (λ q. Ends old new q c (conclusion old.content c (Some f))) (sym (is_err r e is)) ends
+    where
+      ends : Ends old new (Err e) c (conclusion old.content c (Some f))
+      ends = record {
+        harm = λ fine. gone.harm (enters.harm fine);
+        stands = λ stood hand fine. let at = enters.harm fine in enters.stands (gone.stands stood tt at) (still_at_hand stood hand at) fine;
+        verdict = tt;
+        done = λ stood hand fine. tt;
+        undone = λ stood hand fine. let at = enters.harm fine in enters.undone (gone.stands stood tt at) (still_at_hand stood hand at) fine ∙ given_up stood at;
+        idle = idle_stays mid.progress new.progress gone.on enters.progress;
+        counts = counts_failed enters.counts.store;
+        leaves = λ sound hand k l. elim (enters.leaves (sound_then sound) (hand_then sound hand) k l) [
+          | inl was ↦ inl (gone.leaves sound (λ _. tt) k was)
+          | inr made ↦ inr (gone.harm made.0, made.1 ∙ ap (λ (x : Content). after_stop (after_skip x c f.place f.rule)) (given_up (sound (gone.harm made.0)) made.0))
+        ];
+        committed = λ sound hand. tt;
+        whole = λ sound hand all. enters.whole (sound_then sound) (hand_then sound hand) (gone.whole sound (λ _. tt) all);
+      }
+        where
+          counts_failed : (e ≡ Store → mid.failures < new.failures) → Counts {T = Verdict} old new (Err e)
+          counts_failed failed = record {
+            kept = let a = gone.counts.kept in let b = enters.counts.kept in omega arith;
+            store = λ is. let a = gone.counts.kept in let b = failed is in omega arith;
+          }
 
 -- ---- a whole judgement
 

@@ -6,9 +6,10 @@ use Rattle.gaz_shelf.specs.declared.fault.ShelfFault.TheVariants.{Memory}
 use Rattle.gaz_hub.specs.Hubs.{door_of}
 use Rattle.gaz_hub.specs.Settling.{Tries}
 use Rattle.gaz_hub.specs.declared.looking.Next.TheVariants as next
-use Rattle.gaz_hub.proofs.Advancing.{adds_after, adds_judged, adds_skipped, asks_bad, asks_good, is_err, tries_broken, tries_forgotten, tries_judged, tries_past}
+use Rattle.gaz_hub.proofs.Advancing.{adds_after, adds_judged, adds_skipped, asks_bad, asks_good, is_err, stops_after, tries_broken, tries_forgotten, tries_judged, tries_past}
 use Rattle.gaz_hub.proofs.Memory.{rest_judged, rest_waiting}
 use Rattle.gaz_hub.proofs.Looks.{left_not_open}
+use Rattle.gaz_hub.proofs.Stopping.{marks_judged, marks_skipped}
 use Rattle.gaz_hub.proofs.settling.judge_next.Goals as goal
 
 pub returns-in_err-ask_room-in-Good-clause-tries : goal.returns-in_err-ask_room-in-Good-clause-tries
@@ -38,7 +39,9 @@ returns-in_err-judge-in-Good-clause-tries g c =
     let looked = rw c.in-Good.is at c.in_ok-next.ensures in
     let e = c.in_err-judge-in-Good.field-0.0 in
     let told = tries_broken d a (g.K.Shelf.seen c.judge.new.keeper) c.args.code (Good c.in-Good.file)
-    (λ stood fine. (looked.right stood (c.in_err-judge-in-Good.ensures.harm fine)).1) e c.args.left (λ k. k ≡ c.args.code)
+    (λ stood fine. (looked.right stood (c.in_err-judge-in-Good.ensures.harm fine)).1)
+    (stops_after d a b _ _ _ c.args.code (Good c.in-Good.file) _ _ looked (λ h. h.1) (asks_good b.content c.args.code c.in-Good.file) (marks_judged b _ _ _ _ _ c.in_err-judge-in-Good.ensures))
+    e c.args.left (λ k. k ≡ c.args.code)
     (adds_after a b _ _ _ c.args.code (Good c.in-Good.file) own _ _ looked (asks_good b.content c.args.code c.in-Good.file) (adds_judged b _ _ _ _ _ c.in_err-judge-in-Good.ensures)) in
     subst (λ r. Tries d c.args.left a (g.K.Shelf.seen c.judge.new.keeper) r (λ k. k ≡ c.args.code)) (sym (is_err c.from_residual-in_err-judge-in-Good.result e c.from_residual-in_err-judge-in-Good.ensures.1)) told
 
@@ -49,7 +52,8 @@ returns-in-Good-clause-tries g c =
     let own = blocks_of c.args.register.now c.args.code in
     let looked = rw c.in-Good.is at c.in_ok-next.ensures in
     tries_judged (door_of c.args.register.now) a (g.K.Shelf.seen c.judge.new.keeper) c.args.code (Good c.in-Good.file)
-    (λ stood fine. (looked.right stood (c.in_ok-judge-in-Good.ensures.harm fine)).1) _ c.args.left _ c.in_ok-ask_room-in-Good.ensures.room
+    (λ stood fine. (looked.right stood (c.in_ok-judge-in-Good.ensures.harm fine)).1)
+    (stops_after (door_of c.args.register.now) a b _ _ _ c.args.code (Good c.in-Good.file) _ _ looked (λ h. h.1) (asks_good b.content c.args.code c.in-Good.file) (marks_judged b _ _ _ _ _ c.in_ok-judge-in-Good.ensures)) _ c.args.left _ c.in_ok-ask_room-in-Good.ensures.room
     (adds_after a b _ _ _ c.args.code (Good c.in-Good.file) own _ _ looked (asks_good b.content c.args.code c.in-Good.file) (adds_judged b _ _ _ _ _ c.in_ok-judge-in-Good.ensures))
 
 pub returns-in-Bad-clause-tries : goal.returns-in-Bad-clause-tries
@@ -60,7 +64,9 @@ returns-in-Bad-clause-tries g c =
     let rd = Bad c.in-Bad.place c.in-Bad.rule in
     let looked = rw c.in-Bad.is at c.in_ok-next.ensures in
     tries_judged (door_of c.args.register.now) a (g.K.Shelf.seen c.skip.new.self) c.args.code rd
-    (λ stood fine. (looked.right stood (c.in_ok-skip-in-Bad.ensures.harm fine)).1) _ c.args.left _ c.in_ok-ask_room-in-Bad.ensures.room
+    (λ stood fine. (looked.right stood (c.in_ok-skip-in-Bad.ensures.harm fine)).1)
+    (stops_after (door_of c.args.register.now) a b _ _ _ c.args.code rd _ _ looked (λ h. h.1) (asks_bad b.content c.args.code c.in-Bad.place c.in-Bad.rule)
+    (marks_skipped b _ _ c.args.code own c.in-Bad.place c.in-Bad.rule c.in_ok-skip-in-Bad.ensures)) _ c.args.left _ c.in_ok-ask_room-in-Bad.ensures.room
     (adds_after a b _ _ _ c.args.code rd own _ _ looked (asks_bad b.content c.args.code c.in-Bad.place c.in-Bad.rule)
     (adds_skipped b _ _ c.args.code own c.in-Bad.place c.in-Bad.rule (left_not_open a.progress b.progress looked.keeps.progress c.requires) c.in_ok-skip-in-Bad.ensures))
 
@@ -100,7 +106,8 @@ returns-in_err-wake-in-Good-clause-tries g c =
     let looked = rw c.in-Good.is at c.in_ok-next.ensures in
     subst (λ r. Tries d c.args.left a (g.K.Shelf.seen c.judge.new.keeper) r (λ k. k ≡ c.args.code)) (sym (is_err c.from_residual-in_err-wake-in-Good.result Memory c.from_residual-in_err-wake-in-Good.ensures.1))
     (tries_forgotten d a (g.K.Shelf.seen c.judge.new.keeper) c.args.code (Good c.in-Good.file)
-    (λ stood fine. (looked.right stood (c.in_ok-judge-in-Good.ensures.harm fine)).1) _ Memory c.args.left _ (λ e. cc)
+    (λ stood fine. (looked.right stood (c.in_ok-judge-in-Good.ensures.harm fine)).1)
+    (stops_after (door_of c.args.register.now) a b _ _ _ c.args.code (Good c.in-Good.file) _ _ looked (λ h. h.1) (asks_good b.content c.args.code c.in-Good.file) (marks_judged b _ _ _ _ _ c.in_ok-judge-in-Good.ensures)) _ Memory c.args.left _ (λ e. cc)
     (adds_after a b _ _ _ c.args.code (Good c.in-Good.file) own _ _ looked (asks_good b.content c.args.code c.in-Good.file) (adds_judged b _ _ _ _ _ c.in_ok-judge-in-Good.ensures)))
 
 pub returns-in_err-wake-in-Bad-clause-tries : goal.returns-in_err-wake-in-Bad-clause-tries
@@ -113,6 +120,26 @@ returns-in_err-wake-in-Bad-clause-tries g c =
     let looked = rw c.in-Bad.is at c.in_ok-next.ensures in
     subst (λ r. Tries d c.args.left a (g.K.Shelf.seen c.skip.new.self) r (λ k. k ≡ c.args.code)) (sym (is_err c.from_residual-in_err-wake-in-Bad.result Memory c.from_residual-in_err-wake-in-Bad.ensures.1))
     (tries_forgotten d a (g.K.Shelf.seen c.skip.new.self) c.args.code rd
-    (λ stood fine. (looked.right stood (c.in_ok-skip-in-Bad.ensures.harm fine)).1) _ Memory c.args.left _ (λ e. cc)
+    (λ stood fine. (looked.right stood (c.in_ok-skip-in-Bad.ensures.harm fine)).1)
+    (stops_after (door_of c.args.register.now) a b _ _ _ c.args.code rd _ _ looked (λ h. h.1) (asks_bad b.content c.args.code c.in-Bad.place c.in-Bad.rule)
+    (marks_skipped b _ _ c.args.code own c.in-Bad.place c.in-Bad.rule c.in_ok-skip-in-Bad.ensures)) _ Memory c.args.left _ (λ e. cc)
     (adds_after a b _ _ _ c.args.code rd own _ _ looked (asks_bad b.content c.args.code c.in-Bad.place c.in-Bad.rule)
     (adds_skipped b _ _ c.args.code own c.in-Bad.place c.in-Bad.rule (left_not_open a.progress b.progress looked.keeps.progress c.requires) c.in_ok-skip-in-Bad.ensures)))
+
+pub returns-in_err-skip-in-Bad-clause-tries : goal.returns-in_err-skip-in-Bad-clause-tries
+returns-in_err-skip-in-Bad-clause-tries g c =
+    let a = g.K.Shelf.seen c.args.keeper.now in
+    let b = g.K.Shelf.seen c.look.new.keeper in
+    let d = door_of c.args.register.now in
+    let own = blocks_of c.args.register.now c.args.code in
+    let rd = Bad c.in-Bad.place c.in-Bad.rule in
+    let looked = rw c.in-Bad.is at c.in_ok-next.ensures in
+    let e = c.in_err-skip-in-Bad.field-0.0 in
+    let told = tries_broken d a (g.K.Shelf.seen c.skip.new.self) c.args.code rd
+    (λ stood fine. (looked.right stood (c.in_err-skip-in-Bad.ensures.harm fine)).1)
+    (stops_after d a b _ _ _ c.args.code rd _ _ looked (λ h. h.1) (asks_bad b.content c.args.code c.in-Bad.place c.in-Bad.rule)
+    (marks_skipped b _ _ c.args.code own c.in-Bad.place c.in-Bad.rule c.in_err-skip-in-Bad.ensures))
+    e c.args.left (λ k. k ≡ c.args.code)
+    (adds_after a b _ _ _ c.args.code rd own _ _ looked (asks_bad b.content c.args.code c.in-Bad.place c.in-Bad.rule)
+    (adds_skipped b _ _ c.args.code own c.in-Bad.place c.in-Bad.rule (left_not_open a.progress b.progress looked.keeps.progress c.requires) c.in_err-skip-in-Bad.ensures)) in
+    subst (λ r. Tries d c.args.left a (g.K.Shelf.seen c.skip.new.self) r (λ k. k ≡ c.args.code)) (sym (is_err c.from_residual-in_err-skip-in-Bad.result e c.from_residual-in_err-skip-in-Bad.ensures.1)) told

@@ -1,6 +1,6 @@
 -- What was there is read off the settled board.
 use Rattle.std.proofs.Common.{rules}
-use Rattle.gaz_hub.specs.Asked.{AnyIsPastDoor, IsAgain}
+use Rattle.gaz_hub.specs.Asked.{AnyIsOfBefore, IsAgain}
 use Rattle.gaz_hub.specs.Hubs.{door_of}
 use Rattle.gaz_hub.specs.Seen.{kept_seen}
 use Rattle.gaz_hub.proofs.Memory.{looks_kept}
@@ -14,8 +14,8 @@ returns-clause-tells g c =
     (λ k x. IsAgain k.files k.board c.args.code c.args.volume c.args.file.now x) c.settled.ensures
     (λ mid called. looks_kept hub.register _ _ _ _ _ _ called.1 (rw (← called.0.shows, ← called.0.leaves) (search rules)))
 
-pub returns-clause-past_door : goal.returns-clause-past_door
-returns-clause-past_door g c =
+pub returns-clause-of_before : goal.returns-clause-of_before
+returns-clause-of_before g c =
     let hub = c.args.self.now in
     calls_tell (door_of hub.register) (kept_seen g.K.Shelf.seen hub.register) _ (hub.keeper, hub.waiters) (c.settled.new.keeper, c.settled.new.waiters) c.settled.result
-    AnyIsPastDoor c.settled.ensures (λ mid called. search rules)
+    AnyIsOfBefore c.settled.ensures (λ mid called. search rules)

@@ -1,0 +1,67 @@
+-- What is found of a hub that was stopped.
+use Rattle.std.specs.Prelude.{◌≡◌, ◌⊎◌, ℕ, List, ◌∷◌, ◌++◌, None}
+use Rattle.std.specs.FinMap as map
+use Rattle.gaz_shelf.specs.Keeper.{Content, LeavesOnly, Seen}
+use Rattle.gaz_shelf.specs.Received.{Received, with_file}
+use Rattle.gaz_views.specs.View.{empty_view}
+use Rattle.gaz_hub.specs.Hubs.{AreKnown, Runs, state_of}
+use Rattle.gaz_hub.specs.Laws.{StandsForRun}
+use Rattle.gaz_hub.specs.Runs.{Run}
+use Rattle.gaz_hub.specs.Standing.{IsPartial}
+use Rattle.gaz_hub.specs.Step.{Command, Door, HubState, Response, Submit, blocks, file_refusal}
+
+-- ---- which files
+
+-- those of this hub and one more, which a submission among these commands brought
+pub record HasOneMore (door : Door) (hub : HubState) (commands : List Command) (files : Received)
+    : Type 0 where
+  pub c : ℕ
+  pub volume : ℕ
+  pub bytes : List ℕ
+  pub earlier : List Command
+  pub later : List Command
+  pub commands_are : commands ≡ earlier ++ Submit c volume bytes ∷ later
+  pub let_in : file_refusal door c volume bytes ≡ None
+  pub free : map.get hub.received (c, volume) ≡ None
+  pub files_are : files ≡ with_file hub.received c volume bytes
+
+-- those of this hub, or these and one more
+abbrev pub HasFilesOf : Door → HubState → List Command → Received → Type 0
+HasFilesOf door hub commands files =
+    (files ≡ hub.received) ⊎ HasOneMore door hub commands files
+
+-- those of the hub to which some of the commands had led, from the first on, or these and one more
+pub record HasFilesAfter (door : Door) (hub : HubState) (commands : List Command)
+    (responses : List Response) (files : Received) : Type 0 where
+  pub earlier : List Command
+  pub told : List Response
+  pub later : List Command
+  pub more : List Response
+  pub commands_are : commands ≡ earlier ++ later
+  pub responses_are : responses ≡ told ++ more
+  pub mid : HubState
+  pub run : Run door hub earlier told mid
+  pub files_of : HasFilesOf door mid later files
+
+-- ---- the law
+
+-- what a stop left after a run is a partial run of files of custodians that the door knows, as the
+-- next hub asks for it
+pub record IsFound (door : Door) (old new : Seen) (commands : List Command)
+    (responses : List Response) (k : Content) : Type 0 where
+  pub working : k.working ≡ empty_view
+  pub known : AreKnown door k.files
+  pub partial : IsPartial (blocks door) k.files k.board
+  -- of files that had been received, whatever became of the keeper
+  pub ever : HasFilesAfter door (state_of old.content) commands responses k.files
+  -- and of all that are received, where nobody else wrote on what it keeps
+  pub now : new.unharmed → HasFilesOf door (state_of new.content) commands k.files
+
+-- whatever commands came to a keeper that stood for a partial run, of which a stop left just that
+abbrev pub EveryStopOver : {K : Type 0} → (K → Seen) → Type 0
+EveryStopOver {K} seen =
+    (door : Door) (old new : K) (commands : List Command) (responses : List Response)
+    → StandsForRun door (seen old) → LeavesOnly (seen old).content (seen old)
+    → Runs door (seen old) (seen new) commands responses
+    → (k : Content) → (seen new).leaves k
+    → IsFound door (seen old) (seen new) commands responses k
