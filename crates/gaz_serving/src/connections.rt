@@ -14,7 +14,7 @@ use std::time::Duration;
 const MOST: u64 = 1_000;
 
 /// The seconds for which a peer is waited for that sends nothing or takes nothing.
-const PATIENCE: u64 = 30;
+const PATIENCE: u64 = 28;
 
 /// The seconds for which one is waited for once all is told.
 const PARTING: u64 = 1;
@@ -86,7 +86,7 @@ where
 ///
 /// Whatever the peers do, the hub holds so many conversations at most, one after another, and makes a
 /// run of its steps: what was received stays received. A peer that sends nothing, or takes nothing,
-/// for 30 seconds is given up.
+/// for 28 seconds is given up.
 pub fn serve_on<L: OpenListener, K: Inbox + Drop>(
     alloc: Global,
     listener: &L,

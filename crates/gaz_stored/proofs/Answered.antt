@@ -20,7 +20,9 @@ use Rattle.gaz_exchange.specs.declared.conversation.Served.{Served}
 use Rattle.gaz_exchange.specs.declared.conversation.Stopped.{Stopped}
 use Rattle.gaz_stored.specs.Answering.{AnswersNew, AnswersOpened, Converses}
 use Rattle.gaz_stored.specs.Runs.{GoesOn, StandForRun, hub_in}
+use Rattle.gaz_stored.specs.Stopping.{FindsLater}
 use Rattle.gaz_stored.proofs.Going.{goes_on_new, goes_on_opened}
+use Rattle.gaz_stored.proofs.Stopping.{finds_new, finds_opened}
 
 module _ {S : Type 0} {g : Ghosts S} (register : RegisterValue) (most : ℕ) (through : Transfer) (first : Store S g) (before after : Held S) (ended : Result Served Stopped)
     (told : Converses register most through first after ended) where
@@ -37,6 +39,9 @@ module _ {S : Type 0} {g : Ghosts S} (register : RegisterValue) (most : ℕ) (th
         converses = told;
         goes_on = goes;
         abides = λ fine bare. abides_after (door_of register) new_hub commands responses (hub_in (state g after).now) refl (goes fine bare).abides;
+        stops = λ is_fine bare.
+            subst (λ h. FindsLater register new_hub commands responses (state g h)) told.back
+            (finds_new register first told.last commands responses told.conversation.runs is_fine (state g before) (register_text register) made bare);
       }
 
   pub answers_opened : IsOpened (state g before) (state g first.tables.conn) (register_text register) (seen_in first) → Tells g before first.tables.conn (Ok tt) (register_text register)
@@ -52,4 +57,7 @@ module _ {S : Type 0} {g : Ghosts S} (register : RegisterValue) (most : ℕ) (th
         goes_on =
             subst (λ h. IsUnharmed (state g h) → StandForRun register (state g before).now → GoesOn register (hub_in (state g before).now) commands responses (state g h).now) told.back
             (λ fine stood. goes_on_opened register first told.last commands responses told.conversation.runs fine (state g before) (register_text register) opened stood);
+        stops = λ is_fine stood itself.
+            subst (λ h. FindsLater register (hub_in (state g before).now) commands responses (state g h)) told.back
+            (finds_opened register first told.last commands responses told.conversation.runs is_fine (state g before) (register_text register) opened stood itself);
       }

@@ -25,6 +25,31 @@ use Rattle.gaz_stored.specs.Runs.{GoesOn, StandForRun, hub_in}
 abbrev partly : RegisterValue → HubState → Type 0
 partly register h = IsPartial (blocks_of register) h.received h.board
 
+-- ---- how it begins
+
+module _ {S : Type 0} {g : Ghosts S} (register : RegisterValue) (first : Store S g) (is_fine : IsUnharmed (state g first.tables.conn)) where
+  -- a store that was made where there was no table
+  pub begins_new : (old : State) (text : List ℕ) → IsMade old (state g first.tables.conn) text (seen_in first) → IsBare no_schema old.now → StandsForRun (door_of register) (seen_in first)
+  begins_new old text made bare =
+      let d = door_of register in
+      let empty = made.content is_fine bare in
+      record {
+        stands = (made.stands is_fine bare, may_begin d (seen_in first).content (ap (λ (k : Content). k.files) empty) (ap (λ (k : Content). k.board) empty));
+        partial = subst (partly register) (sym (ap state_of empty)) (nothing_partial d);
+      }
+
+  -- one that was opened where the tables stood for a partial run
+  pub begins_opened : (old : State) (text : List ℕ) → IsOpened old (state g first.tables.conn) text (seen_in first) → StandForRun register old.now → StandsForRun (door_of register) (seen_in first)
+  begins_opened old text opened stood =
+      let same = opened.content is_fine stood.kept in
+      let partial = subst (partly register) (sym (ap state_of same)) stood.partial in
+      record {
+        stands = (opened.stands is_fine stood.kept, record { known = subst (λ (k : Content). AreKnown (door_of register) k.files) (sym same) stood.known; own = all_own_holds register _ _ partial });
+        partial = partial;
+      }
+
+-- ---- how it goes on
+
 module _ {S : Type 0} {g : Ghosts S} (register : RegisterValue) (first last : Store S g) (commands : List Command) (responses : List Response)
     (runs : Runs (door_of register) (seen_in first) (seen_in last) commands responses) (fine : IsUnharmed (state g last.tables.conn)) where
   goes_on : (before : HubState) → StandsForRun (door_of register) (seen_in first) → state_of (seen_in first).content ≡ before
@@ -46,28 +71,12 @@ module _ {S : Type 0} {g : Ghosts S} (register : RegisterValue) (first last : St
   pub goes_on_new : (old : State) (text : List ℕ) → IsMade old (state g first.tables.conn) text (seen_in first) → IsBare no_schema old.now
       → GoesOn register new_hub commands responses (state g last.tables.conn).now
   goes_on_new old text made bare =
-      let d = door_of register in
       let is_fine = runs.harm fine in
-      let empty = made.content is_fine bare in
-      let is_new = ap state_of empty in
-      goes_on new_hub
-      (record {
-        stands = (made.stands is_fine bare, may_begin d (seen_in first).content (ap (λ (k : Content). k.files) empty) (ap (λ (k : Content). k.board) empty));
-        partial = subst (partly register) (sym is_new) (nothing_partial d);
-      })
-      is_new
+      goes_on new_hub (begins_new register first is_fine old text made bare) (ap state_of (made.content is_fine bare))
 
   -- of a store that was opened where the tables stood for a partial run
   pub goes_on_opened : (old : State) (text : List ℕ) → IsOpened old (state g first.tables.conn) text (seen_in first) → StandForRun register old.now
       → GoesOn register (hub_in old.now) commands responses (state g last.tables.conn).now
   goes_on_opened old text opened stood =
       let is_fine = runs.harm fine in
-      let same = opened.content is_fine stood.kept in
-      let found = sym (ap state_of same) in
-      let partial = subst (partly register) found stood.partial in
-      goes_on (hub_in old.now)
-      (record {
-        stands = (opened.stands is_fine stood.kept, record { known = subst (λ (k : Content). AreKnown (door_of register) k.files) (sym same) stood.known; own = all_own_holds register _ _ partial });
-        partial = partial;
-      })
-      (ap state_of same)
+      goes_on (hub_in old.now) (begins_opened register first is_fine old text opened stood) (ap state_of (opened.content is_fine stood.kept))

@@ -1,5 +1,6 @@
 mod Alone
 mod Going
+mod Stopping
 mod Answered
 mod Chaining
 mod Examples

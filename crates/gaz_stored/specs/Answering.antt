@@ -19,6 +19,7 @@ use Rattle.gaz_exchange.specs.Exchanges.{commands_of, responses_of}
 use Rattle.gaz_exchange.specs.declared.conversation.Served.{Served}
 use Rattle.gaz_exchange.specs.declared.conversation.Stopped.{Stopped}
 use Rattle.gaz_stored.specs.Runs.{GoesOn, StandForRun, hub_in}
+use Rattle.gaz_stored.specs.Stopping.{FindsLater, LeavesItself}
 
 -- a hub of this register answers at most so many requests over a store, of which this connection is
 -- left
@@ -48,6 +49,10 @@ pub record AnswersNew {S : Type 0} (g : Ghosts S) (register : RegisterValue) (mo
   pub abides : IsUnharmed (state g after) → IsBare no_schema (state g before).now
       → Abides (door_of register) (commands_of converses.conversation.exchanges)
       (responses_of converses.conversation.exchanges) (hub_in (state g after).now)
+  -- where the store was made and the connection is open then: what a stop leaves at the end
+  pub stops : IsUnharmed (state g first.tables.conn) → IsBare no_schema (state g before).now
+      → FindsLater register new_hub (commands_of converses.conversation.exchanges)
+      (responses_of converses.conversation.exchanges) (state g after)
 
 -- over a store that is opened
 pub record AnswersOpened {S : Type 0} (g : Ghosts S) (register : RegisterValue) (most : ℕ)
@@ -63,6 +68,13 @@ pub record AnswersOpened {S : Type 0} (g : Ghosts S) (register : RegisterValue) 
       → GoesOn register (hub_in (state g before).now)
       (commands_of converses.conversation.exchanges)
       (responses_of converses.conversation.exchanges) (state g after).now
+  -- where a stop left just these tables at the beginning and the connection is open once the store
+  -- is opened: what a stop leaves at the end
+  pub stops : IsUnharmed (state g first.tables.conn) → StandForRun register (state g before).now
+      → LeavesItself (state g before)
+      → FindsLater register (hub_in (state g before).now)
+      (commands_of converses.conversation.exchanges)
+      (responses_of converses.conversation.exchanges) (state g after)
 
 -- no conversation is held: nothing is read or written, and the connection is handed back over what
 -- was there

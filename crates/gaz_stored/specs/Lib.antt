@@ -1,4 +1,5 @@
 pub mod Runs
 pub mod Chains
+pub mod Stopping
 pub mod Answering
 pub mod Examples

@@ -1,6 +1,4 @@
-use Rattle.std.specs.Prelude.{refl}
-use Rattle.gaz_hub.specs.Hubs.{told, told_all}
-use Rattle.gaz_hub.specs.Step.{Submitted, Replied, Ask, Stand, LookUp, Extract, ListClosed}
+use Rattle.gaz_hub.specs.Step.{Submitted}
 use Rattle.gaz_exchange.proofs.conversation.ask_call.Goals as goal
 
 pub returns-in-Submit-clause-asked : goal.returns-in-Submit-clause-asked

@@ -1,0 +1,65 @@
+-- What a stop leaves of a conversation over a store.
+use Rattle.std.proofs.Common.{◌≡◌, ◌∙◌, ◌⊎◌, inl, inr, ℕ, List, refl, ap, subst, sym}
+use Rattle.sqlite.specs.Effect.{Database}
+use Rattle.sqlite.specs.Held.{state}
+use Rattle.sqlite.specs.State.{HasCleanDisk, State}
+use Rattle.sqlite_trees.specs.declared.store.Store.{Ghosts}
+use Rattle.gaz_register.specs.Registers.{RegisterValue}
+use Rattle.gaz_views.specs.View.{empty_view}
+use Rattle.gaz_shelf.specs.Keeper.{Content, LeavesOnly, after_stop}
+use Rattle.gaz_tables.specs.Creating.{IsBare, no_schema}
+use Rattle.gaz_tables.specs.Schema.{store_schema}
+use Rattle.gaz_kept.specs.Contents.{content_in}
+use Rattle.gaz_kept.specs.Kept.{IsKept}
+use Rattle.gaz_store.specs.Opened.{IsMade, IsOpened}
+use Rattle.gaz_store.specs.Seen.{IsUnharmed, LeavesKept}
+use Rattle.gaz_store.specs.Store.{seen_in}
+use Rattle.gaz_store.specs.declared.store.Store.{Store}
+use Rattle.gaz_hub.specs.Found.{HasFilesAfter, IsFound}
+use Rattle.gaz_hub.specs.Hubs.{Runs, door_of, state_of}
+use Rattle.gaz_hub.specs.Laws.{StandsForRun}
+use Rattle.gaz_hub.specs.Step.{Command, HubState, Response, new_hub}
+use Rattle.gaz_hub.proofs.Finding.{every_stop_over}
+use Rattle.gaz_stored.specs.Runs.{StandForRun, hub_in}
+use Rattle.gaz_stored.specs.Stopping.{FindsLater, IsFoundLater, LeavesItself, MayBeLeft}
+use Rattle.gaz_stored.proofs.Going.{begins_new, begins_opened}
+
+-- databases of equal parts are equal
+same_database : (one two : Database) → two.schema ≡ one.schema → two.trees ≡ one.trees → two ≡ one
+same_database one two schema trees = λ i. record { schema = schema i; trees = trees i }
+
+-- where a stop leaves just the tables of a store, what it leaves is a store's
+kept_itself : (s : State) → IsKept s.now → LeavesItself s → LeavesKept s
+kept_itself s kept itself db clean left schema = subst IsKept (sym (same_database s.now db (schema ∙ sym kept.tables.schema_is) (itself db.trees clean left))) kept
+
+module _ {S : Type 0} {g : Ghosts S} (register : RegisterValue) (first last : Store S g) (commands : List Command) (responses : List Response)
+    (runs : Runs (door_of register) (seen_in first) (seen_in last) commands responses) (is_fine : IsUnharmed (state g first.tables.conn)) where
+  -- from a store of which a stop left just a partial run
+  finds : (before : HubState) → StandsForRun (door_of register) (seen_in first) → state_of (seen_in first).content ≡ before → LeavesOnly (seen_in first).content (seen_in first) → (seen_in first).whole
+      → FindsLater register before commands responses (state g last.tables.conn)
+  finds before was begins just whole db left =
+      let k = content_in db.trees empty_view in
+      let found = every_stop_over seen_in (door_of register) first last commands responses was just runs k (record { clean = left.clean; trees = db.trees; left = left.left; content = refl }) in
+      record {
+        stands = record { kept = (runs.stops (λ _. was.stands)).whole whole db left.clean left.left left.schema; known = found.known; partial = found.partial };
+        ever = subst (λ h. HasFilesAfter (door_of register) h commands responses k.files) begins found.ever;
+        now = found.now;
+      }
+
+  pub finds_new : (old : State) (text : List ℕ) → IsMade old (state g first.tables.conn) text (seen_in first) → IsBare no_schema old.now
+      → FindsLater register new_hub commands responses (state g last.tables.conn)
+  finds_new old text made bare =
+      let empty = made.content is_fine bare in
+      finds new_hub (begins_new register first is_fine old text made bare) (ap state_of empty) (subst (λ k. LeavesOnly k (seen_in first)) (sym empty) (made.leaves is_fine bare)) (made.whole is_fine bare)
+
+  pub finds_opened : (old : State) (text : List ℕ) → IsOpened old (state g first.tables.conn) text (seen_in first) → StandForRun register old.now → LeavesItself old
+      → FindsLater register (hub_in old.now) commands responses (state g last.tables.conn)
+  finds_opened old text opened stood itself =
+      let same = opened.content is_fine stood.kept in
+      finds (hub_in old.now) (begins_opened register first is_fine old text opened stood) (ap state_of same) (λ k l. only k l.clean l.trees l.left l.content) (opened.whole (kept_itself old stood.kept itself))
+    where
+      only : (k : Content) → HasCleanDisk (state g first.tables.conn) → (trees : _) → (state g first.tables.conn).may_leave trees → k ≡ content_in trees empty_view → k ≡ after_stop (seen_in first).content
+      only k clean trees left e = elim (opened.leaves.crash clean trees left) [
+        | inl was ↦ e ∙ ap (λ t. content_in t empty_view) (itself trees (opened.harm is_fine) was) ∙ ap after_stop (sym (opened.content is_fine stood.kept))
+        | inr never ↦ absurd never
+      ]

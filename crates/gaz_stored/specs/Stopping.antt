@@ -1,0 +1,40 @@
+-- What a stop leaves of a conversation over a database.
+use Rattle.std.specs.Prelude.{◌≡◌, List}
+use Rattle.sqlite.specs.Effect.{Database}
+use Rattle.sqlite.specs.State.{HasCleanDisk, State}
+use Rattle.sqlite_trees.specs.Tree.{Trees}
+use Rattle.gaz_register.specs.Registers.{RegisterValue}
+use Rattle.gaz_tables.specs.Schema.{store_schema}
+use Rattle.gaz_hub.specs.Found.{HasFilesAfter, HasFilesOf}
+use Rattle.gaz_hub.specs.Hubs.{door_of}
+use Rattle.gaz_hub.specs.Step.{Command, HubState, Response}
+use Rattle.gaz_store.specs.Seen.{IsUnharmed}
+use Rattle.gaz_stored.specs.Runs.{StandForRun, hub_in}
+
+-- a database of a store's tables that a stop at this moment may leave, on a disk that returned what
+-- was written
+pub record MayBeLeft (s : State) (db : Database) : Type 0 where
+  pub clean : HasCleanDisk s
+  pub schema : db.schema ≡ store_schema
+  pub left : s.may_leave db.trees
+
+-- a stop leaves just what the connection shows
+abbrev pub LeavesItself : State → Type 0
+LeavesItself s = (trees : Trees) → HasCleanDisk s → s.may_leave trees → trees ≡ s.now.trees
+
+-- a database that was left of a conversation: its tables stand for a partial run again, as the next
+-- conversation asks of them
+pub record IsFoundLater (register : RegisterValue) (before : HubState) (commands : List Command)
+    (responses : List Response) (after : State) (db : Database) : Type 0 where
+  pub stands : StandForRun register db
+  -- of files that had been received, whatever became of the connection
+  pub ever : HasFilesAfter (door_of register) before commands responses (hub_in db).received
+  -- and of all that are received, where the connection is open in the end
+  pub now : IsUnharmed after
+      → HasFilesOf (door_of register) (hub_in after.now) commands (hub_in db).received
+
+-- whatever a stop leaves of it is found so
+abbrev pub FindsLater : RegisterValue → HubState → List Command → List Response → State → Type 0
+FindsLater register before commands responses after =
+    (db : Database) → MayBeLeft after db
+    → IsFoundLater register before commands responses after db
