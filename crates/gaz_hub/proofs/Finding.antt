@@ -115,13 +115,27 @@ module _ {K : Type 0} (seen : K → Seen) (d : Door) (old new : K) (commands : L
   ever : (seen new).leaves k → HasFilesAfter d hub commands responses k.files
   ever left = elim ((r.stops (λ _. was.stands)).ever k left) [
     | inl before ↦ record {
-        earlier = []; told = []; later = commands; more = responses; commands_are = refl; responses_are = refl; mid = hub; run = refl;
-        files_of = inl (ap (λ (m : Content). m.files) (just k before));
-      }
+      earlier = [];
+      told = [];
+      later = commands;
+      more = responses;
+      commands_are = refl;
+      responses_are = refl;
+      mid = hub;
+      run = refl;
+      files_of = inl (ap (λ (m : Content). m.files) (just k before));
+    }
     | inr made ↦
         let l = made.1 in
         record {
-          earlier = l.earlier; told = l.told; later = l.command ∷ l.later; more = l.more; commands_are = l.commands_are; responses_are = l.responses_are; mid = l.mid; run = l.run;
+          earlier = l.earlier;
+          told = l.told;
+          later = l.command ∷ l.later;
+          more = l.more;
+          commands_are = l.commands_are;
+          responses_are = l.responses_are;
+          mid = l.mid;
+          run = l.run;
           files_of = left_files d l.command l.mid k (l.command ∷ l.later) [] l.later refl l.left;
         }
   ]

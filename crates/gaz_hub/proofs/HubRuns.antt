@@ -29,15 +29,35 @@ module _ (d : Door) (old new : Seen) (command : Command) (response : Response) w
       record {
         ever = λ k l. elim (s.ever k l) [
           | inl was ↦ inl was
-          | inr made ↦ inr (made.0, record {
-              earlier = []; told = []; command = command; later = []; more = response ∷ []; commands_are = refl; responses_are = refl; mid = before; run = refl; left = made.1;
-            })
+          | inr made ↦ inr (
+            made.0,
+            record {
+              earlier = [];
+              told = [];
+              command = command;
+              later = [];
+              more = response ∷ [];
+              commands_are = refl;
+              responses_are = refl;
+              mid = before;
+              run = refl;
+              left = made.1;
+            },
+          )
         ];
         now = λ fine k l. elim (s.now fine k l) [
           | inl was ↦ inl was
           | inr made ↦ inr (record {
-              earlier = []; told = response ∷ []; command = command; later = []; more = []; commands_are = refl; responses_are = refl; run = (after, step fine, refl); left = made;
-            })
+            earlier = [];
+            told = response ∷ [];
+            command = command;
+            later = [];
+            more = [];
+            commands_are = refl;
+            responses_are = refl;
+            run = (after, step fine, refl);
+            left = made;
+          })
         ];
         whole = s.whole;
       }
@@ -47,16 +67,26 @@ module _ (d : Door) (cs ds : List Command) (rs ss : List Response) (k : Content)
   after_on : (hub : HubState) → IsLeftAfter d cs rs hub k → IsLeftAfter d (cs ++ ds) (rs ++ ss) hub k
   after_on hub l =
       record {
-        earlier = l.earlier; told = l.told; command = l.command; later = l.later ++ ds; more = l.more ++ ss;
+        earlier = l.earlier;
+        told = l.told;
+        command = l.command;
+        later = l.later ++ ds;
+        more = l.more ++ ss;
         commands_are = ap (λ xs. xs ++ ds) l.commands_are ∙ append_assoc l.earlier (l.command ∷ l.later) ds;
         responses_are = ap (λ xs. xs ++ ss) l.responses_are ∙ append_assoc l.told l.more ss;
-        mid = l.mid; run = l.run; left = l.left;
+        mid = l.mid;
+        run = l.run;
+        left = l.left;
       }
 
   since_on : (hub one two : HubState) → two ≡ one → IsLeftSince d cs rs hub one k → IsLeftSince d (cs ++ ds) (rs ++ ss) hub two k
   since_on hub one two same l =
       record {
-        earlier = l.earlier; told = l.told; command = l.command; later = l.later ++ ds; more = l.more ++ ss;
+        earlier = l.earlier;
+        told = l.told;
+        command = l.command;
+        later = l.later ++ ds;
+        more = l.more ++ ss;
         commands_are = ap (λ xs. xs ++ ds) l.commands_are ∙ append_assoc (l.earlier ++ l.command ∷ []) l.later ds;
         responses_are = ap (λ xs. xs ++ ss) l.responses_are ∙ append_assoc l.told l.more ss;
         run = subst (λ h. Run d hub (l.earlier ++ l.command ∷ []) l.told h) (sym same) l.run;
@@ -67,17 +97,27 @@ module _ (d : Door) (cs ds : List Command) (rs ss : List Response) (k : Content)
   after_those : (hub mid : HubState) → Run d hub cs rs mid → IsLeftAfter d ds ss mid k → IsLeftAfter d (cs ++ ds) (rs ++ ss) hub k
   after_those hub mid run l =
       record {
-        earlier = cs ++ l.earlier; told = rs ++ l.told; command = l.command; later = l.later; more = l.more;
+        earlier = cs ++ l.earlier;
+        told = rs ++ l.told;
+        command = l.command;
+        later = l.later;
+        more = l.more;
         commands_are = ap (λ xs. cs ++ xs) l.commands_are ∙ sym (append_assoc cs l.earlier (l.command ∷ l.later));
         responses_are = ap (λ xs. rs ++ xs) l.responses_are ∙ sym (append_assoc rs l.told l.more);
-        mid = l.mid; run = run_then d hub mid l.mid cs l.earlier rs l.told run l.run; left = l.left;
+        mid = l.mid;
+        run = run_then d hub mid l.mid cs l.earlier rs l.told run l.run;
+        left = l.left;
       }
 
   since_those : (hub mid last : HubState) → Run d hub cs rs mid → IsLeftSince d ds ss mid last k → IsLeftSince d (cs ++ ds) (rs ++ ss) hub last k
   since_those hub mid last run l =
       let e : cs ++ (l.earlier ++ l.command ∷ []) ≡ (cs ++ l.earlier) ++ l.command ∷ [] = sym (append_assoc cs l.earlier (l.command ∷ [])) in
       record {
-        earlier = cs ++ l.earlier; told = rs ++ l.told; command = l.command; later = l.later; more = l.more;
+        earlier = cs ++ l.earlier;
+        told = rs ++ l.told;
+        command = l.command;
+        later = l.later;
+        more = l.more;
         commands_are = ap (λ xs. cs ++ xs) l.commands_are ∙ sym (append_assoc cs (l.earlier ++ l.command ∷ []) l.later) ∙ ap (λ xs. xs ++ l.later) e;
         responses_are = ap (λ xs. rs ++ xs) l.responses_are ∙ sym (append_assoc rs l.told l.more);
         run = subst (λ xs. Run d hub xs (rs ++ l.told) last) e (run_then d hub mid last cs (l.earlier ++ l.command ∷ []) rs l.told run l.run);

@@ -100,9 +100,9 @@ rest_all door codes i a b m k past = subst (λ xs. RestAfter xs door m a k b) (t
 rest_taken : (door : Door) (m : Remembered) (codes : List ℕ) (taken k : Remembered) (a b : Seen) → codes ≡ m.0 → taken ≡ ([], m.1) → RestAfter codes door taken a k b → RestAfter [] door m a k b
 rest_taken door m codes taken k a b e f rest stood fine others was =
     rest stood fine others (λ c known ahead among.
-        let no = in_neither codes others c among in
-        let r = was c known (ap (λ xs. is_among xs c) (sym e) ∙ no.0) no.1 in
-        subst (λ (w : Remembered). Rests w a.content.files a.content.board c) (sym f) (record { unready = r.unready; waits = r.waits }))
+    let no = in_neither codes others c among in
+    let r = was c known (ap (λ xs. is_among xs c) (sym e) ∙ no.0) no.1 in
+    subst (λ (w : Remembered). Rests w a.content.files a.content.board c) (sym f) (record { unready = r.unready; waits = r.waits }))
 
 pub rest_of_taken : {T : Type 0} (door : Door) (m : Remembered) (codes : List ℕ) (taken k : Remembered) (a b : Seen) (r : Result T ShelfFault) → codes ≡ m.0 → taken ≡ ([], m.1)
     → OnOk r (RestAfter codes door taken a k b) → OnOk r (RestAfter [] door m a k b)

@@ -271,8 +271,8 @@ module _ (old opened mid new : Seen) (c : ℕ) (own : Blocks) (file : Contents) 
   becomes_then fine =
       ap (λ (k : Content). with_judgement k c (conclusion mid.content c o)) (same_then fine)
       ∙ ap (with_judgement old.content c)
-          (concluded own old.content mid.content c file o (same_then fine)
-          (subst (PhasesFind own file mid.content o) (begun (did.harm fine)).2 (did.right (opened_stands (did.harm fine)) fine) (ready (begins.harm (did.harm fine))).reached))
+      (concluded own old.content mid.content c file o (same_then fine)
+      (subst (PhasesFind own file mid.content o) (begun (did.harm fine)).2 (did.right (opened_stands (did.harm fine)) fine) (ready (begins.harm (did.harm fine))).reached))
 
   committed_is : (k : Content) → mid.unharmed × (k ≡ after_stop (with_judgement mid.content c (conclusion mid.content c o)))
       → old.unharmed × (k ≡ after_stop (with_judgement old.content c (judged_on own old.content.board c (Good file))))
