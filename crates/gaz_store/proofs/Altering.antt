@@ -26,6 +26,7 @@ Written old Becomes trees = (db : Database) × (trees ≡ db.trees) × Becomes o
 -- once it is known that the connection is open
 module _ {A B : Type 0} (old mid new : State) (first : Result B ShelfFault) (answer : Result A Error) (result : Result A ShelfFault) (Becomes : Database → Database → Type 0)
     (asks : Asks old mid first IsAnyway) (sure : HasCleanDisk mid → IsTrue mid.is_open) (settled : IsSettled mid)
+    (open_still : HasCleanDisk new → OnOk answer (IsTrue mid.is_open × IsTrue new.is_open))
     (written : HasCleanDisk new → HasTables mid.now → OnOk answer (Becomes mid.now new.now × (new.committed ≡ new.now)))
     (undone : HasCleanDisk new → OnErr answer (IsUndone mid new))
     (leaves : (HasCleanDisk mid → HasTables mid.now) → Survives mid new (Written mid Becomes))
@@ -36,6 +37,10 @@ module _ {A B : Type 0} (old mid new : State) (first : Result B ShelfFault) (ans
 
   moved : IsUnharmed mid → HasTables old.now → HasTables mid.now
   moved h has = subst HasTables (sym (asks.rests h has)) has
+
+  opens : (r : Result A ShelfFault) → IfOk r (λ x. answer ≡ Ok x) → HasCleanDisk new → OnOk r (IsTrue new.is_open)
+  opens (Err e) t clean = tt
+  opens (Ok x) t clean = (subst (λ a. OnOk a (IsTrue mid.is_open × IsTrue new.is_open)) t (open_still clean)).1
 
   changes : (r : Result A ShelfFault) → IfOk r (λ x. answer ≡ Ok x) → mid.now ≡ old.now → OnOk answer (Becomes mid.now new.now × (new.committed ≡ new.now)) → OnOk r (Becomes old.now new.now)
   changes (Err e) t same h = tt
@@ -56,6 +61,7 @@ module _ {A B : Type 0} (old mid new : State) (first : Result B ShelfFault) (ans
   pub alters_once : Alters old new result Becomes
   alters_once = record {
     harm = λ h. asks.harm (early h.clean);
+    is_open = opens result told;
     done = λ h has. changes result told (asks.rests (early h.clean) has) (written h.clean (moved (early h.clean) has));
     undone = λ h has. on_err result (nothing result answer fault h (undone h.clean)) (asks.rests (early h.clean) has);
     leaves = λ sound. survives_then old mid new (λ _. ⊥) (Written mid Becomes) (MayWrite old Becomes)
@@ -83,6 +89,7 @@ pub alters_then : {A B : Type 0} (old mid new : State) (first : Result A ShelfFa
     → Asks old mid first P → Alters mid new r Becomes → (IsUnharmed mid → (db : Database) → Becomes old.now db → Whole old.now db) → Alters old new r Whole
 alters_then {A} {B} old mid new first r P Becomes Whole asks alters goes = record {
   harm = λ h. asks.harm (alters.harm h);
+  is_open = alters.is_open;
   done = λ h has. now_done r (alters.harm h) (asks.rests (alters.harm h) has) (alters.done h (moved (alters.harm h) has));
   undone = λ h has. now_undone r (asks.rests (alters.harm h) has) (alters.undone h (moved (alters.harm h) has));
   leaves = λ sound. survives_then old mid new (λ _. ⊥) (MayWrite mid Becomes) (MayWrite old Whole)
@@ -117,6 +124,7 @@ pub alters_not : {A B : Type 0} (old new : State) (one : Result A ShelfFault) (e
     → Asks old new one P → Alters {T = B} old new (Err e) Becomes
 alters_not old new one e P Becomes asks = record {
   harm = asks.harm;
+  is_open = λ clean. tt;
   done = λ h has. tt;
   undone = λ h has. asks.rests h has;
   leaves = λ sound. survives_weaker old new (λ _. ⊥) (MayWrite old Becomes) (λ clean trees never. absurd never) (asks.leaves sound);
@@ -131,15 +139,16 @@ module _ {S : Type 0} {store : Ghosts S} where
   pub statement_alters : {A B : Type 0} (first sure asked last : Tables S store) (one : Result B ShelfFault) (answer : Result A Error) (result : Result A ShelfFault) (Becomes : Database → Database → Type 0)
       → AsksTables first sure one IsAnyway
       → (HasCleanDisk (at sure) → IsTrue (at sure).is_open) → IsSettled (at sure)
+      → (HasCleanDisk (at asked) → OnOk answer (IsTrue (at sure).is_open × IsTrue (at asked).is_open))
       → (HasCleanDisk (at asked) → HasTables (at sure).now → OnOk answer (Becomes (at sure).now (at asked).now × ((at asked).committed ≡ (at asked).now)))
       → (HasCleanDisk (at asked) → OnErr answer (IsUndone (at sure) (at asked)))
       → ((HasCleanDisk (at sure) → HasTables (at sure).now) → Survives (at sure) (at asked) (Written (at sure) Becomes))
       → OnOk answer (LeavesTheCommit (at asked))
       → asked.failures ≡ sure.failures → asked.at_hand ≡ sure.at_hand
       → Tells asked last answer result → AltersTables first last result Becomes
-  statement_alters {A} {B} first sure asked last one answer result Becomes before is_open settled written undone leaves certain same_count same_hand tells = record {
+  statement_alters {A} {B} first sure asked last one answer result Becomes before is_open settled open_still written undone leaves certain same_count same_hand tells = record {
     alters = subst (λ h. Alters (at first) (state store h) result Becomes) (sym tells.conn)
-        (alters_once (at first) (at sure) (at asked) one answer result Becomes before.asks is_open settled written undone leaves certain tells.same tells.fault);
+        (alters_once (at first) (at sure) (at asked) one answer result Becomes before.asks is_open settled open_still written undone leaves certain tells.same tells.fault);
     tallies = tallies_then first.failures sure.failures last.failures one result before.tallies
         (subst (λ (n : ℕ). Tallies n last.failures result) same_count tells.tallies);
     at_hand = tells.at_hand ∙ same_hand ∙ before.at_hand;

@@ -17,6 +17,7 @@ use Rattle.gaz_store.specs.Remembered.{AreSo, Remembered}
 use Rattle.gaz_store.specs.Store.{StoreStands, seen_beside}
 use Rattle.gaz_store.specs.declared.progress.Judging.TheVariants.{Idle}
 use Rattle.gaz_store.proofs.LawfulViews.{content_lawful}
+use Rattle.gaz_store.proofs.Whole.{kept_as, whole_still}
 
 module _ (new : State) (a : Remembered) (so : (files : List Row) → AreSo a files) where
   standing : IsKept new.now → StoreStands new a Idle
@@ -33,6 +34,8 @@ module _ (new : State) (a : Remembered) (so : (files : List Row) → AreSo a fil
     leaves = λ h bare k l.
         l.content ∙ ap (λ t. content_in t empty_view) (certain h.is_open l.trees l.left ∙ ap (λ d. d.trees) (made h.clean bare).1)
         ∙ (tables_stand.create 1 register new.now (made h.clean bare).0).content;
+    whole = λ h bare db clean left schema.
+        kept_as new.now db (certain h.is_open db.trees left ∙ ap (λ d. d.trees) (made h.clean bare).1) schema (tables_stand.create 1 register new.now (made h.clean bare).0).kept;
     of_register = λ h bare. create_opens register new.now (made h.clean bare).0;
   }
 
@@ -47,4 +50,5 @@ module _ (new : State) (a : Remembered) (so : (files : List Row) → AreSo a fil
     content = λ h kept. ap (λ d. content_in d.trees empty_view) ((rests h.clean).now h.is_open);
     of_register = λ h kept. told h.clean kept;
     leaves = leaves;
+    whole = whole_still old new leaves;
   }

@@ -1,10 +1,10 @@
 -- What a call that writes the tables tells of them as they are seen.
 use Rattle.std.proofs.Common.{◌≡◌, ◌≢◌, ◌⊎◌, ◌∙◌, ◌≤◌, ◌+◌, inl, inr, ℕ, List, Result, Ok, Err, OnErr, OnOk, arith, sym, ap, subst}
-use Rattle.std.specs.Prelude.{IsSome}
+use Rattle.std.specs.Prelude.{IsSome, IsTrue}
 use Rattle.std.specs.FinMap as finite
 use Rattle.sqlite.specs.Effect.{Database}
 use Rattle.sqlite.specs.Held.{state}
-use Rattle.sqlite.specs.State.{State}
+use Rattle.sqlite.specs.State.{HasCleanDisk, State}
 use Rattle.sqlite_trees.specs.Tree.{Trees}
 use Rattle.sqlite_trees.specs.declared.store.Store.{Ghosts}
 use Rattle.gaz_views.specs.View.{View, empty_view}
@@ -12,19 +12,21 @@ use Rattle.gaz_shelf.specs.Board.{reached}
 use Rattle.gaz_shelf.specs.Keeper.{Broken, Content, Enters, IsAtHand, IsLawful, IsLeft, IsNew, Progress, after_skip, after_stop, with_received}
 use Rattle.gaz_shelf.specs.declared.fault.ShelfFault.{ShelfFault}
 use Rattle.gaz_tables.specs.Schema.{receiveds, versions}
+use Rattle.gaz_tables.specs.Stores.{HasTables}
 use Rattle.gaz_kept.specs.Contents.{board_of, content_in}
 use Rattle.gaz_kept.specs.Files.{files_in, reached_in}
 use Rattle.gaz_kept.specs.Kept.{IsKept}
 use Rattle.gaz_kept.specs.Stands.{Stands}
 use Rattle.gaz_kept.proofs.Boards.{board_reads}
 use Rattle.gaz_kept.proofs.Stands.{tables_stand}
-use Rattle.gaz_store.specs.Altering.{Alters, Writes}
+use Rattle.gaz_store.specs.Altering.{Alters, MayWrite, Writes}
 use Rattle.gaz_store.specs.Asking.{Tallies}
 use Rattle.gaz_store.specs.Remembered.{AreSo, Remembered}
 use Rattle.gaz_store.specs.Seen.{IsUnharmed, MayLeave, StandsFor, seen_of}
 use Rattle.gaz_store.specs.Writing.{Comes, IsNewIn, IsNextIn, RejectsNext, WhereSo}
 use Rattle.gaz_store.specs.declared.tables.Tables.{Tables}
 use Rattle.gaz_store.proofs.Lawful.{received_lawful, skipped_lawful}
+use Rattle.gaz_store.proofs.Whole.{kept_as, whole_then}
 
 module _ {T : Type 0} (old new : State) (before after : Remembered) (p q : Progress) (w : View) (f g : ℕ) (r : Result T ShelfFault) (Becomes : Database → Database → Type 0)
     (asked : Type 0) (becomes : Content)
@@ -59,21 +61,29 @@ module _ {T : Type 0} (old new : State) (before after : Remembered) (p q : Progr
     cleared = cleared;
     counts = record { kept = tallies.kept; store = tallies.store };
     leaves = λ sound ask k l. by_trees sound ask k l;
-    committed = λ stood ask h. commits stood ask h r (alters.done h stood.kept.tables) (alters.committed h stood.kept.tables);
+    committed = λ sound ask. commits sound ask r alters.is_open (λ h. alters.done h) (λ h. alters.committed h);
+    whole = λ sound ask. whole_then old new (MayWrite old Becomes) (alters.leaves (λ h. (sound h).kept.tables))
+        (λ db made schema. kept_as made.db db made.shown schema (goes (sound made.unharmed) (ask made.unharmed) made.db made.becomes).0.kept);
   }
     where
-      by_trees : (IsUnharmed old → StandsFor old before w) → asked → (k : Content) → MayLeave new k → MayLeave old k ⊎ (IsUnharmed old × (k ≡ after_stop becomes))
+      by_trees : (IsUnharmed old → StandsFor old before w) → (IsUnharmed old → asked) → (k : Content) → MayLeave new k → MayLeave old k ⊎ (IsUnharmed old × (k ≡ after_stop becomes))
       by_trees sound ask k l =
           let s = alters.leaves (λ h. (sound h).kept.tables) in
           elim (s.crash l.clean l.trees l.left) [
             | inl was ↦ inl (record { clean = omega (arith, s.clean, l.clean); trees = l.trees; left = was; content = l.content })
-            | inr made ↦ inr (made.unharmed, l.content ∙ ap (λ t. content_in t empty_view) made.shown ∙ ap after_stop (goes (sound made.unharmed) ask made.db made.becomes).0.content)
+            | inr made ↦ inr (made.unharmed, l.content ∙ ap (λ t. content_in t empty_view) made.shown ∙ ap after_stop (goes (sound made.unharmed) (ask made.unharmed) made.db made.becomes).0.content)
           ]
 
-      commits : StandsFor old before w → asked → IsUnharmed new → (r : Result T ShelfFault) → OnOk r (Becomes old.now new.now) → OnOk r ((trees : Trees) → new.may_leave trees → trees ≡ new.now.trees)
-          → OnOk r ((k : Content) → MayLeave new k → k ≡ after_stop becomes)
-      commits stood ask h (Err e) c just = tt
-      commits stood ask h (Ok x) c just = λ k l. l.content ∙ ap (λ t. content_in t empty_view) (just l.trees l.left) ∙ ap after_stop (goes stood ask new.now c).0.content
+      commits : (IsUnharmed old → StandsFor old before w) → (IsUnharmed old → asked) → (r : Result T ShelfFault) → (HasCleanDisk new → OnOk r (IsTrue new.is_open))
+          → (IsUnharmed new → HasTables old.now → OnOk r (Becomes old.now new.now))
+          → (IsUnharmed new → HasTables old.now → OnOk r ((trees : Trees) → new.may_leave trees → trees ≡ new.now.trees))
+          → OnOk r ((k : Content) → MayLeave new k → IsUnharmed old × (k ≡ after_stop becomes))
+      commits sound ask (Err e) opens makes just = tt
+      commits sound ask (Ok x) opens makes just = λ k l.
+          let h : IsUnharmed new = record { clean = l.clean; is_open = opens l.clean } in
+          let fine = alters.harm h in
+          let stood = sound fine in
+          (fine, l.content ∙ ap (λ t. content_in t empty_view) (just h stood.kept.tables l.trees l.left) ∙ ap after_stop (goes stood (ask fine) new.now (makes h stood.kept.tables)).0.content)
 
 -- ---- the calls
 

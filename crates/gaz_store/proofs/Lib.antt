@@ -1,5 +1,6 @@
 pub mod Asked
 pub mod Seeing
+pub mod Whole
 pub mod Composing
 pub mod Answered
 pub mod Holding

@@ -1,6 +1,6 @@
 -- What a store's calls tell of it as a keeper that make and end a judgement, and that write without one.
 use Rattle.std.proofs.Common.{◌≡◌, ◌⊎◌, ◌∙◌, ◌+◌, ◌≤◌, inl, inr, ℕ, List, Result, Ok, Err, OnErr, OnOk, arith, refl, sym, ap, subst, le_refl}
-use Rattle.std.specs.Prelude.{⊤, IsSome, None, Some}
+use Rattle.std.specs.Prelude.{⊤, IsSome, IsTrue, None, Some}
 use Rattle.std.specs.FinMap as finite
 use Rattle.std.specs.Option.{option_map_or}
 use Rattle.gaz_overlay.specs.declared.touch.Touch.{Touch}
@@ -33,11 +33,11 @@ use Rattle.gaz_kept.specs.Stands.{Stands, next_in}
 use Rattle.gaz_kept.specs.Versions.{histories_in}
 use Rattle.gaz_kept.proofs.Boards.{board_reads}
 use Rattle.gaz_kept.proofs.KeepStands.{keep_stands}
-use Rattle.gaz_store.specs.Altering.{Alters, Writes}
+use Rattle.gaz_store.specs.Altering.{Alters, MayWrite, Writes}
 use Rattle.gaz_store.specs.Asking.{Asks, AsksTables, Fails, IsAnyway, Tallies}
 use Rattle.gaz_store.specs.Beside.{Makes, Turns}
 use Rattle.gaz_store.specs.Remembered.{AreSo, Remembered}
-use Rattle.gaz_store.specs.Seen.{IsUnharmed, MayLeave, StandsFor, seen_of}
+use Rattle.gaz_store.specs.Seen.{IsUnharmed, LeavesKept, MayLeave, StandsFor, seen_of}
 use Rattle.gaz_store.specs.Store.{IsUnderWay, StoreStands, cleared, progress_of, seen_beside, seen_in, view_made, working_of}
 use Rattle.gaz_store.specs.Writing.{AppliesNext, Comes, IsNewIn, IsNextIn, RejectsNext, WhereSo}
 use Rattle.gaz_store.specs.declared.judgement.Judgement.{Judgement}
@@ -49,6 +49,7 @@ use Rattle.gaz_store.proofs.Seeing.{asks_nothing}
 use Rattle.gaz_store.proofs.Entering.{receive_enters, skip_enters}
 use Rattle.gaz_store.proofs.StoreReads.{left_cleared, not_broken, on_ok_all}
 use Rattle.gaz_store.proofs.LawfulViews.{content_lawful, last_is, view_lawful}
+use Rattle.gaz_store.proofs.Whole.{kept_as, whole_still, whole_then}
 
 -- ---- a judgement is given up, or begins
 
@@ -66,7 +67,8 @@ goes_idle s a j f = record {
   broken = tt;
   counts = record { kept = le_refl f; store = tt };
   leaves = λ sound ask k l. l;
-  committed = λ stood ask h. tt;
+  committed = λ sound ask. tt;
+  whole = λ sound ask all. all;
 }
 
 told_nothing : (rows : _) → AreTold no_changes rows
@@ -105,7 +107,8 @@ module _ (s : State) (a : Remembered) (j : Judging) (f c : ℕ) where
     broken = tt;
     counts = record { kept = le_refl f; store = tt };
     leaves = λ sound ask k l. l;
-    committed = λ stood ask h. tt;
+    committed = λ sound ask. tt;
+    whole = λ sound ask all. all;
   }
 
 -- ---- a change
@@ -156,7 +159,8 @@ module _ (old new : State) (a b : Remembered) (m n : Judgement) (f g : ℕ) (bec
     broken = tt;
     counts = record { kept = tallies.kept; store = tt };
     leaves = λ sound ask k l. stays old new _ _ asks (λ h. (sound h).tables.kept) k l;
-    committed = λ stood ask h. tt;
+    committed = λ sound ask. tt;
+    whole = λ sound ask. whole_still old new (asks.leaves (λ h. (sound h).tables.kept.tables));
   }
 
 -- a fault breaks the judgement
@@ -174,7 +178,8 @@ goes_wrong {T} old new a b j f g e one P becomes after asks tallies same = recor
   broken = refl;
   counts = record { kept = tallies.kept; store = tallies.store };
   leaves = λ sound ask k l. stays old new one P asks (λ h. (sound h).tables.kept) k l;
-  committed = λ stood ask h. tt;
+  committed = λ sound ask. tt;
+  whole = λ sound ask. whole_still old new (asks.leaves (λ h. (sound h).tables.kept.tables));
 }
   where
     standing : StoreStands old a j → IsUnharmed new → (db : Database) → old.now ≡ db → (IsKept db) × (AreSo b (db.trees receiveds))
@@ -224,6 +229,10 @@ module _ (old new : State) (a b : Remembered) (m : Judgement) (f g : ℕ) (r : R
         | inr made ↦ inr (made.unharmed, l.content ∙ ap (λ t. content_in t empty_view) made.shown ∙ (kept_so (sound made.unharmed) made.db made.becomes).content)
       ]
 
+  still_whole : (IsUnharmed old → Stood) → LeavesKept old → LeavesKept new
+  still_whole sound = whole_then old new (MayWrite old (WhereSo a (AppliesNext m.code m.changes))) (alters.leaves (λ h. (sound h).tables.kept.tables))
+      (λ db made schema. kept_as made.db db made.shown schema (kept_so (sound made.unharmed) made.db made.becomes).kept)
+
   pub goes_kept : r ≡ Ok (tt {0}) → Goes (seen_beside old a (Open m) f) (seen_beside new b Idle g) (Ok (tt {0})) ⊤ becomes (Some becomes) keeper.Idle
   goes_kept is = record {
     harm = alters.harm;
@@ -234,13 +243,20 @@ module _ (old new : State) (a b : Remembered) (m : Judgement) (f g : ℕ) (r : R
     broken = tt;
     counts = record { kept = tallies.kept; store = tt };
     leaves = λ sound ask k l. may_be sound k l;
-    committed = λ stood ask h k l.
-        l.content ∙ ap (λ t. content_in t empty_view) (subst (λ q. OnOk q ((trees : Trees) → new.may_leave trees → trees ≡ new.now.trees)) is (alters.committed h stood.tables.kept.tables) l.trees l.left)
-        ∙ (kept_so stood new.now (done stood h)).content;
+    committed = λ sound ask k l.
+        let h : IsUnharmed new = record { clean = l.clean; is_open = subst (λ q. OnOk q (IsTrue new.is_open)) is (alters.is_open l.clean) } in
+        let fine = alters.harm h in
+        (fine, left_alone (sound fine) h k l);
+    whole = λ sound ask. still_whole sound;
   }
     where
       done : Stood → IsUnharmed new → WhereSo a (AppliesNext m.code m.changes) old.now new.now
       done stood h = subst (λ q. OnOk q (WhereSo a (AppliesNext m.code m.changes) old.now new.now)) is (alters.done h stood.tables.kept.tables)
+
+      left_alone : Stood → IsUnharmed new → (k : Content) → MayLeave new k → k ≡ after_stop becomes
+      left_alone stood h k l =
+          l.content ∙ ap (λ t. content_in t empty_view) (subst (λ q. OnOk q ((trees : Trees) → new.may_leave trees → trees ≡ new.now.trees)) is (alters.committed h stood.tables.kept.tables) l.trees l.left)
+          ∙ (kept_so stood new.now (done stood h)).content
 
   pub goes_not_kept : (e : ShelfFault) → r ≡ Err e → Goes {T = Unit {0}} (seen_beside old a (Open m) f) (seen_beside new b Broken g) (Err e) ⊤ becomes (Some becomes) keeper.Idle
   goes_not_kept e is = record {
@@ -252,7 +268,8 @@ module _ (old new : State) (a b : Remembered) (m : Judgement) (f g : ℕ) (r : R
     broken = refl;
     counts = record { kept = tallies.kept; store = (subst (λ q. Tallies f g q) is tallies).store };
     leaves = λ sound ask k l. may_be sound k l;
-    committed = λ stood ask h. tt;
+    committed = λ sound ask. tt;
+    whole = λ sound ask. still_whole sound;
   }
 
 -- ---- without a judgement
@@ -272,7 +289,8 @@ enters_beside old new a b Idle f g r Asked makes not e = record {
   cleared = e.cleared;
   counts = record { kept = e.counts.kept; store = e.counts.store };
   leaves = λ sound ask. e.leaves (λ h. (sound h).tables) ask;
-  committed = λ stood ask h. e.committed stood.tables ask h;
+  committed = λ sound ask. e.committed (λ h. (sound h).tables) ask;
+  whole = λ sound ask. e.whole (λ h. (sound h).tables) ask;
 }
 enters_beside old new a b Broken f g r Asked makes not e = record {
   harm = e.harm;
@@ -283,7 +301,8 @@ enters_beside old new a b Broken f g r Asked makes not e = record {
   cleared = e.cleared;
   counts = record { kept = e.counts.kept; store = e.counts.store };
   leaves = λ sound ask. e.leaves (λ h. (sound h).tables) ask;
-  committed = λ stood ask h. e.committed stood.tables ask h;
+  committed = λ sound ask. e.committed (λ h. (sound h).tables) ask;
+  whole = λ sound ask. e.whole (λ h. (sound h).tables) ask;
 }
 
 -- ---- the calls of a store

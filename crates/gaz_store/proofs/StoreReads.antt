@@ -33,6 +33,7 @@ use Rattle.gaz_store.specs.declared.progress.Judging.{Judging}
 use Rattle.gaz_store.specs.declared.progress.Judging.TheVariants.{Idle, Open, Broken}
 use Rattle.gaz_store.specs.declared.store.Store.{Store}
 use Rattle.gaz_store.specs.declared.tables.Tables.{Tables}
+use Rattle.gaz_store.proofs.Whole.{whole_still}
 use Rattle.gaz_store.proofs.LawfulViews.{board_view, last_is}
 
 -- ---- a cleared judgement
@@ -107,6 +108,7 @@ module _ {T : Type 0} (old new : State) (before after : Remembered) (j : Judging
             left = elim (s.crash l.clean l.trees l.left) [ inl was ↦ was | inr never ↦ absurd never ];
             content = l.content;
           };
+      whole = λ sound. whole_still old new (asks.leaves (λ h. (sound h).tables.kept.tables));
     };
     right = λ stood h. if_ok r (IsRight old.now) Q (λ x is. goes x stood is) (asks.right h stood.tables.kept);
     cleared = on_ok_all r (not_broken j);

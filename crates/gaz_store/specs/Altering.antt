@@ -1,8 +1,8 @@
 -- What a call tells that writes the tables in a transaction of its own.
-use Rattle.std.specs.Prelude.{◌≡◌, Result, OnOk, OnErr}
+use Rattle.std.specs.Prelude.{◌≡◌, Result, IsTrue, OnOk, OnErr}
 use Rattle.sqlite.specs.Effect.{Database}
 use Rattle.sqlite.specs.Held.{state}
-use Rattle.sqlite.specs.State.{State, Survives}
+use Rattle.sqlite.specs.State.{HasCleanDisk, State, Survives}
 use Rattle.sqlite_trees.specs.Tree.{Trees}
 use Rattle.sqlite_trees.specs.declared.store.Store.{Ghosts}
 use Rattle.gaz_shelf.specs.declared.fault.ShelfFault.{ShelfFault}
@@ -25,6 +25,7 @@ pub record MayWrite (old : State) (Becomes : Database → Database → Type 0) (
 pub record Alters {T : Type 0} (old new : State) (result : Result T ShelfFault)
     (Becomes : Database → Database → Type 0) : Type 0 where
   pub harm : IsUnharmed new → IsUnharmed old
+  pub is_open : HasCleanDisk new → OnOk result (IsTrue new.is_open)
   pub done : IsUnharmed new → HasTables old.now → OnOk result (Becomes old.now new.now)
   pub undone : IsUnharmed new → HasTables old.now → OnErr result (new.now ≡ old.now)
   pub leaves : (IsUnharmed old → HasTables old.now) → Survives old new (MayWrite old Becomes)

@@ -1,16 +1,17 @@
 -- A store that was made, one that was opened, and what is handed back where there is none.
-use Rattle.std.specs.Prelude.{◌≡◌, false, ℕ, List, Result, Ok, Err, Some}
+use Rattle.std.specs.Prelude.{◌≡◌, false, ℕ, List, Result, Ok, Err}
 use Rattle.sqlite.specs.Held.{Held, state}
 use Rattle.sqlite.specs.State.{State, HasCleanDisk, Survives}
 use Rattle.sqlite_trees.specs.declared.store.Store.{Ghosts}
 use Rattle.gaz_views.specs.View.{empty_view}
-use Rattle.gaz_shelf.specs.Keeper.{Idle, LeavesJust, Seen, empty_content}
+use Rattle.gaz_shelf.specs.Keeper.{Idle, LeavesOnly, Seen, empty_content}
 use Rattle.gaz_tables.specs.Creating.{IsBare, no_schema}
 use Rattle.gaz_tables.specs.Schema.{metas}
 use Rattle.gaz_kept.specs.Contents.{content_in}
 use Rattle.gaz_kept.specs.Kept.{IsKept}
 use Rattle.gaz_kept.specs.Opening.{IsOf, Rests}
 use Rattle.gaz_kept.specs.declared.refusal.StoreRefusal.{StoreRefusal}
+use Rattle.gaz_store.specs.Seen.{LeavesKept}
 use Rattle.gaz_store.specs.declared.store.Store.{Store}
 
 -- of an empty database: nothing is received or judged, a stop leaves just that, and the tables are
@@ -20,7 +21,8 @@ pub record IsMade (old new : State) (register : List ℕ) (now : Seen) : Type 0 
   pub failures : now.failures ≡ 0
   pub stands : now.unharmed → IsBare no_schema old.now → now.stands
   pub content : now.unharmed → IsBare no_schema old.now → now.content ≡ empty_content
-  pub leaves : now.unharmed → IsBare no_schema old.now → LeavesJust (Some empty_content) now
+  pub leaves : now.unharmed → IsBare no_schema old.now → LeavesOnly empty_content now
+  pub whole : now.unharmed → IsBare no_schema old.now → now.whole
   pub of_register : now.unharmed → IsBare no_schema old.now → IsOf register (new.now.trees metas)
 
 -- of a store's tables: they stand for what they did, are of this register, and a stop leaves nothing
@@ -33,6 +35,7 @@ pub record IsOpened (old new : State) (register : List ℕ) (now : Seen) : Type 
   pub content : now.unharmed → IsKept old.now → now.content ≡ content_in old.now.trees empty_view
   pub of_register : now.unharmed → IsKept old.now → IsOf register (old.now.trees metas)
   pub leaves : Survives old new (λ _. ⊥)
+  pub whole : LeavesKept old → now.whole
 
 -- a connection that was handed back is outside a transaction, over what was there
 pub record IsRefused {S : Type 0} (g : Ghosts S) (before after : Held S) : Type 0 where

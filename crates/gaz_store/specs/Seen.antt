@@ -2,10 +2,11 @@
 use Rattle.std.specs.Prelude.{◌≡◌, ◌≤◌, ◌-◌, ◌^◌, ◌==◌, ℕ, true, IsTrue}
 use Rattle.std.proofs.Common.{eqb-true, le_of_eq, sym}
 use Rattle.sqlite_trees.specs.Tree.{Trees}
+use Rattle.sqlite.specs.Effect.{Database}
 use Rattle.sqlite.specs.State.{HasCleanDisk, State}
 use Rattle.gaz_views.specs.View.{View, empty_view}
 use Rattle.gaz_shelf.specs.Keeper.{Content, IsLawful, Progress, Seen}
-use Rattle.gaz_tables.specs.Schema.{receiveds}
+use Rattle.gaz_tables.specs.Schema.{receiveds, store_schema}
 use Rattle.gaz_kept.specs.Contents.{content_in}
 use Rattle.gaz_kept.specs.Kept.{IsKept}
 use Rattle.gaz_store.specs.Remembered.{AreSo, Remembered}
@@ -28,6 +29,11 @@ pub record MayLeave (s : State) (k : Content) : Type 0 where
   pub left : s.may_leave trees
   pub content : k ≡ content_in trees empty_view
 
+-- each database of a store's schema that a crash may leave is a store's, said of such a disk
+abbrev pub LeavesKept : State → Type 0
+LeavesKept s =
+    (db : Database) → HasCleanDisk s → s.may_leave db.trees → db.schema ≡ store_schema → IsKept db
+
 pub full_at : (failures : ℕ) → (failures == 2 ^ 64 - 1) ≡ true → 2 ^ 64 - 1 ≤ failures
 full_at failures full = le_of_eq (sym (eqb-true failures (2 ^ 64 - 1) full))
 
@@ -43,6 +49,7 @@ seen_of s at_hand progress working failures = record {
   is_full = failures == 2 ^ 64 - 1;
   full = full_at failures;
   leaves = MayLeave s;
+  whole = LeavesKept s;
 }
 
 -- ---- what a call leaves of what is seen

@@ -1,16 +1,21 @@
 -- Conversations one after another are one.
-use Rattle.std.proofs.Common.{List, [], ◌∷◌, refl}
+use Rattle.std.proofs.Common.{List, [], ◌∷◌, ◌∙◌, ap, inl, inr, refl, subst, sym}
+use Rattle.std.specs.FinMap as map
 use Rattle.sqlite.specs.Effect.{Database}
 use Rattle.gaz_register.specs.Registers.{RegisterValue, blocks_of}
+use Rattle.gaz_shelf.specs.Received.{Received}
+use Rattle.gaz_hub.specs.Found.{HasFilesAfter}
 use Rattle.gaz_hub.specs.Hubs.{door_of}
 use Rattle.gaz_hub.specs.Runs.{Run}
-use Rattle.gaz_hub.specs.Standing.{IsPartial}
-use Rattle.gaz_hub.specs.Step.{HubState, new_hub}
+use Rattle.gaz_hub.specs.Standing.{HasAllOf, IsPartial}
+use Rattle.gaz_hub.specs.Step.{Command, Door, HubState, Response, new_hub}
 use Rattle.gaz_hub.proofs.Answers.{every_answer_holds}
 use Rattle.gaz_hub.proofs.HubRuns.{run_then}
 use Rattle.gaz_hub.proofs.Runs.{every_run_from_holds, nothing_partial}
+use Rattle.gaz_hub.proofs.Steps.{goes, has_all_with}
 use Rattle.gaz_stored.specs.Chains.{AreOne, Chain, ChainsAreOne, Talk, after_all, all_commands, all_responses}
 use Rattle.gaz_stored.specs.Runs.{StandForRun, hub_in}
+use Rattle.gaz_stored.specs.Stopping.{GoesOnWith, Stopped, StopsAreSurvived}
 
 -- one run of a hub, which goes on from what the tables stand for
 runs_on : (register : RegisterValue) (db : Database) (talks : List Talk) → Chain register (hub_in db) talks
@@ -45,3 +50,34 @@ chains_are_one = record {
   made = λ register. are_one register new_hub (nothing_partial (door_of register));
   opened = λ register db stood. are_one register (hub_in db) stood.partial;
 }
+
+-- ---- stopped again and again
+
+-- a run loses no file
+run_has_all : (d : Door) (old new : HubState) (commands : List Command) (responses : List Response) → Run d old commands responses new → HasAllOf new.received old.received
+run_has_all d old new [] [] r = subst (λ (hub : HubState). HasAllOf hub.received old.received) (sym r) (λ p bytes at. at)
+run_has_all d old new (command ∷ commands) (response ∷ responses) r =
+    let first = (goes d old command response r.0 r.1).all in
+    let rest = run_has_all d r.0 new commands responses r.2 in
+    λ p bytes at. rest p bytes (first p bytes at)
+run_has_all d old new [] (response ∷ responses) r = absurd r
+run_has_all d old new (command ∷ commands) [] r = absurd r
+
+-- nor does what a stop leaves of it
+files_have_all : (d : Door) (hub : HubState) (commands : List Command) (responses : List Response) (files : Received) → HasFilesAfter d hub commands responses files → HasAllOf files hub.received
+files_have_all d hub commands responses files l p bytes at =
+    let mid = run_has_all d hub l.mid l.earlier l.told l.run p bytes at in
+    elim l.files_of [
+      | inl same ↦ ap (λ F. map.get F p) same ∙ mid
+      | inr more ↦ ap (λ F. map.get F p) more.files_are ∙ has_all_with l.mid.received more.c more.volume more.bytes more.free p bytes mid
+    ]
+
+stopped_on : (register : RegisterValue) (first db : Database) (talks : List Talk) → StandForRun register db → HasAllOf (hub_in db).received (hub_in first).received → Stopped register (hub_in db) talks
+    → GoesOnWith register (hub_in first) (after_all db talks)
+stopped_on register first db [] stood all chain = record { stands = stood; all = all }
+stopped_on register first db (talk ∷ talks) stood all chain =
+    let more = files_have_all (door_of register) (hub_in db) talk.commands talk.responses (hub_in talk.after).received chain.0.files in
+    stopped_on register first talk.after talks chain.0.stands (λ p bytes at. more p bytes (all p bytes at)) chain.1
+
+pub stops_are_survived : StopsAreSurvived
+stops_are_survived register db talks stood chain = stopped_on register db db talks stood (λ p bytes at. at) chain

@@ -1,5 +1,5 @@
 -- What a stop leaves of a conversation over a database.
-use Rattle.std.specs.Prelude.{◌≡◌, List}
+use Rattle.std.specs.Prelude.{◌≡◌, ⊤, List, [], ◌∷◌}
 use Rattle.sqlite.specs.Effect.{Database}
 use Rattle.sqlite.specs.State.{HasCleanDisk, State}
 use Rattle.sqlite_trees.specs.Tree.{Trees}
@@ -7,8 +7,10 @@ use Rattle.gaz_register.specs.Registers.{RegisterValue}
 use Rattle.gaz_tables.specs.Schema.{store_schema}
 use Rattle.gaz_hub.specs.Found.{HasFilesAfter, HasFilesOf}
 use Rattle.gaz_hub.specs.Hubs.{door_of}
+use Rattle.gaz_hub.specs.Standing.{HasAllOf}
 use Rattle.gaz_hub.specs.Step.{Command, HubState, Response}
 use Rattle.gaz_store.specs.Seen.{IsUnharmed}
+use Rattle.gaz_stored.specs.Chains.{Talk, after_all}
 use Rattle.gaz_stored.specs.Runs.{StandForRun, hub_in}
 
 -- a database of a store's tables that a stop at this moment may leave, on a disk that returned what
@@ -38,3 +40,29 @@ abbrev pub FindsLater : RegisterValue → HubState → List Command → List Res
 FindsLater register before commands responses after =
     (db : Database) → MayBeLeft after db
     → IsFoundLater register before commands responses after db
+
+-- ---- stopped again and again
+
+-- what a stop left of a conversation that began with this hub
+pub record IsStopped (register : RegisterValue) (before : HubState) (talk : Talk) : Type 0 where
+  pub stands : StandForRun register talk.after
+  pub files : HasFilesAfter (door_of register) before talk.commands talk.responses
+      (hub_in talk.after).received
+
+-- conversations that were stopped, each going on from what was left of the one before
+abbrev pub Stopped : RegisterValue → HubState → List Talk → Type 0
+Stopped register before [] = ⊤
+Stopped register before (talk ∷ talks) =
+    IsStopped register before talk × Stopped register (hub_in talk.after) talks
+
+-- a database that stands for a partial run, with all files that were there before
+pub record GoesOnWith (register : RegisterValue) (before : HubState) (db : Database) : Type 0 where
+  pub stands : StandForRun register db
+  pub all : HasAllOf (hub_in db).received before.received
+
+-- however often they are stopped
+abbrev pub StopsAreSurvived : Type 0
+StopsAreSurvived =
+    (register : RegisterValue) (db : Database) (talks : List Talk) → StandForRun register db
+    → Stopped register (hub_in db) talks
+    → GoesOnWith register (hub_in db) (after_all db talks)

@@ -1,6 +1,7 @@
 //! What a reader of the definitions may rely on.
 ghost use Rattle.gaz_stored.specs.Chains.{ChainsAreOne};
 ghost use Rattle.gaz_stored.specs.Examples.{WorkedExamples};
+ghost use Rattle.gaz_stored.specs.Stopping.{StopsAreSurvived};
 
 /// What the definitions come to on worked examples.
 pub fn worked_examples()
@@ -12,4 +13,11 @@ pub fn worked_examples()
 /// of one hub at all their commands.
 pub fn chains_are_one()
     ensures { ChainsAreOne }
+{}
+
+/// Conversations one after another, each of which was stopped and goes on from what was left of the
+/// one before, however many: what is left stands for a partial run, and has each file that was there
+/// before.
+pub fn stops_are_survived()
+    ensures { StopsAreSurvived }
 {}

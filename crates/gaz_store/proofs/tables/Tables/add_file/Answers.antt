@@ -7,5 +7,5 @@ pub returns : goal.returns
 returns g c =
     statement_alters _ _ _ _ _ _ _ (Comes c.args.cust c.args.volume c.args.bytes.now)
     c.make_sure.ensures.asks (c.make_sure.new.self.is_open c.in_ok-make_sure.ensures.sure) c.known.ensures
-    c.receive-done.ensures.written c.receive-done.ensures.undone c.receive-done.ensures.leaves c.receive-done.ensures.certain
+    c.receive-done.ensures.open c.receive-done.ensures.written c.receive-done.ensures.undone c.receive-done.ensures.leaves c.receive-done.ensures.certain
     refl refl c.told.ensures.tells
