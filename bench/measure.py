@@ -1,4 +1,5 @@
 """How a program of this repository is run and measured. They are those that `rt run` leaves in crates/*/out, built where missing."""
+import fcntl
 import os
 import subprocess
 import sys
@@ -8,7 +9,7 @@ import time
 
 TOP = os.path.dirname(os.path.dirname(os.path.abspath(__file__)))
 sys.path.insert(0, TOP)
-from checks.stores import SAMPLE  # noqa: E402
+from checks.stores import BLOCKS, SAMPLE, register_of  # noqa: E402, F401
 
 
 def program(name):
@@ -60,6 +61,43 @@ def least_seconds(action, rounds):
     return best, answer
 
 
+MIB = 1 << 20
+PIPE = 4096  # bytes that a pipe of one page holds
+
+
+def memory_of(pid, word):
+    """The memory of a process in bytes: VmRSS what it has now, VmHWM the most that it had."""
+    with open(f"/proc/{pid}/status") as status:
+        return next(int(line.split()[1]) for line in status if line.startswith(word)) * 1024
+
+
+def is_waiting(pid):
+    """Whether a process waits, and goes on waiting."""
+    states = []
+    for _ in range(5):
+        with open(f"/proc/{pid}/stat") as stat:
+            states.append(stat.read().rsplit(")", 1)[1].split()[0])
+        time.sleep(0.01)
+    assert "Z" not in states, "it ended, and wrote nothing"
+    return set(states) == {"S"}
+
+
+def blocked_peak(command, stdin_path):
+    """The most memory of a command over a file as its input, up to its first write, which waits for us; and its output."""
+    reader, writer = os.pipe()
+    fcntl.fcntl(writer, fcntl.F_SETPIPE_SZ, PIPE)
+    os.write(writer, bytes(PIPE))
+    with open(stdin_path, "rb") as given, open(reader, "rb") as taken:
+        child = subprocess.Popen(command, stdin=given, stdout=writer)
+        os.close(writer)
+        while not is_waiting(child.pid):
+            pass
+        peak = memory_of(child.pid, "VmHWM")
+        output = taken.read()[PIPE:]
+    assert child.wait() == 0
+    return peak, output
+
+
 class Talk:
     """A conversation with a hub, some requests at a time. So what comes before them isn't in their time."""
 
@@ -95,6 +133,4 @@ class Talk:
         assert b"".join(pieces) == replies, "the hub replies otherwise"
 
     def memory(self, word):
-        """The memory of the program in bytes: VmRSS what it has now, VmHWM the most that it had."""
-        with open(f"/proc/{self.child.pid}/status") as status:
-            return next(int(line.split()[1]) for line in status if line.startswith(word)) * 1024
+        return memory_of(self.child.pid, word)

@@ -4,7 +4,7 @@ import hub
 import items
 import registers
 import streams
-from measure import Talk, in_file, in_memory, least_seconds, output_of
+from measure import Talk, in_file, in_memory, least_seconds, output_of, register_of
 
 KINDS = {
     "11": ("streets", "{k},1,2001-04-01,", "{k},1,1990-01-01,2024-04-30"),
@@ -54,7 +54,7 @@ def memory_row(folder):
 
 
 def register_row(folder, count=400):
-    text = registers.register_of(count)
+    text = register_of(count)
     ours = reading_seconds("register", folder, text.encode(), 50)
     theirs = registers.best_parsing(text, 20)
     return f"reading a register of {count} custodians", f"{theirs / ours:.1f} times tomllib's parsing", f"{len(text) / ours / 1e6:,.0f} MB/s"

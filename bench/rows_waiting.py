@@ -1,9 +1,8 @@
 """What it costs that others wait: look-ups while a file is held, and a hub of 400 custodians beside one of 3."""
 import statistics
 
-import registers
 import streams
-from measure import in_file, in_memory, program, seconds
+from measure import BLOCKS, in_file, in_memory, program, register_of, seconds
 
 LOOK_UPS, REQUESTS, SUBMISSIONS, ROUNDS = 50_000, 400_000, 20_000, 5
 SIZE = 300_000_000  # of a block of UPRNs; those of USRNs have 30,000
@@ -11,7 +10,7 @@ SIZE = 300_000_000  # of a block of UPRNs; those of USRNs have 30,000
 
 def first_number(code):
     """The first UPRN of a custodian's blocks, and its first USRN."""
-    return 1 + (code - 1) * registers.BLOCKS * SIZE, 1 + (code - 1) * registers.BLOCKS * 30_000
+    return 1 + (code - 1) * BLOCKS * SIZE, 1 + (code - 1) * BLOCKS * 30_000
 
 
 def thousand_items(code):
@@ -64,7 +63,7 @@ def requests_of():
 
 
 def times_of(folder, custodians):
-    register = in_file(folder, f"register{custodians}", registers.register_of(custodians).encode())
+    register = in_file(folder, f"register{custodians}", register_of(custodians).encode())
     load = b"".join(streams.post((code, 1), thousand_items(code)) for code in range(1, custodians + 1))
     loading = in_file(folder, "loading", load)
     for title, count, most, asked in requests_of():
@@ -80,7 +79,7 @@ def custodian_rows(folder):
 
 def freed_rows(folder):
     """399 custodians hold a file that waits for the 400th, whose file frees them all."""
-    register = in_file(folder, "register400", registers.register_of(400).encode())
+    register = in_file(folder, "register400", register_of(400).encode())
     load = b"".join(streams.post((code, 1), streams.file_with(code, 1, [], ((400, 1),))) for code in range(1, 400))
     frees = streams.post((400, 1), streams.file_with(400, 1, []))
     spent, replies = beyond([program("gaz_bench"), "play", register], in_file(folder, "loading", load), in_file(folder, "stream", load + frees))

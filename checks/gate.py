@@ -10,7 +10,7 @@ import threading
 from dataclasses import dataclass, field
 from pathlib import Path
 
-from checks import kit, measure, outside, stores, trouble, trying
+from checks import kit, measure, outside, preloading, stores, trouble, trying
 
 SAYING = threading.Lock()
 
@@ -124,7 +124,7 @@ def run_trouble(room: Path, root: Path, account: Account) -> None:
         return tell("gaz_trouble", "isn't built", account)
     try:
         ran, seconds = trouble.run_all(program)
-    except trouble.NoLibrary as why:
+    except preloading.NoLibrary as why:
         ran, seconds = [("memory", f"the library can't be built: {why}")], 0.0
     account.rest += seconds
     for name, fault in ran:

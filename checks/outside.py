@@ -1,9 +1,10 @@
 """What the built programs are asked from outside, each with a name and what is wrong with it."""
 
-from collections.abc import Iterator
+from collections.abc import Iterable, Iterator
 from pathlib import Path
 
 from checks import (
+    breaking,
     conversations,
     damaged,
     foreign,
@@ -13,10 +14,12 @@ from checks import (
     left,
     opening,
     registers,
+    rings,
     runs,
     schema1,
     serving,
     sessions,
+    sizes,
     steps,
     stored,
     tour,
@@ -30,15 +33,17 @@ def named(title: str, ran: Iterator[Case] | list[Case]) -> Iterator[Case]:
     return ((f"{title} {name}", fault) for name, fault in ran)
 
 
-def held(ran: list[tuple[str, str, str | None]]) -> Iterator[Case]:
+def held(ran: Iterable[tuple[str, str, str | None]]) -> Iterator[Case]:
     return ((f"{name} ({how})", fault) for name, how, fault in ran)
 
 
 def of_program(program: Path, root: Path) -> Iterator[Case]:
-    """Of `gazhub`: conversations, how it ends, commands over a store's file, connections."""
+    """Of `gazhub`: conversations, how it ends, streams that break, commands over a store's file, connections."""
     yield from held(conversations.run_all(program, root))
     yield from large.run_all(program)
+    yield from sizes.run_all(program)
     yield from named("gazhub on", runs.run_all(program))
+    yield from named("breaking:", breaking.run_all(program, root))
     yield from named("gazhub", words.run_all(program))
     yield from named("a register:", registers.run_all(program))
     yield from named("commands:", sessions.run_all(program))
@@ -48,7 +53,7 @@ def of_program(program: Path, root: Path) -> Iterator[Case]:
 
 
 def of_stores(root: Path, room: Path) -> Iterator[Case]:
-    """Of stores in files: the conversations over them, other people's SQLite, damage, rows as they are written, what they cost."""
+    """Of stores in files: the conversations over them, other people's SQLite, damage, rows as they are written, what they cost, rings."""
     yield from held(stored.run_all(root, room))
     yield from held(in_turn.run_all(root, room))
     yield from named("a store", foreign.run_all(root, room))
@@ -56,3 +61,5 @@ def of_stores(root: Path, room: Path) -> Iterator[Case]:
     yield from named("schema 1,", schema1.run_all(root, room))
     yield from named("steps:", steps.run_all(root, room))
     yield from named("left:", left.run_all(room))
+    yield from held(rings.run_all(room))
+    yield from named("breaking:", breaking.stay_all(root, room))

@@ -12,7 +12,7 @@ from dataclasses import dataclass
 from pathlib import Path
 
 from checks.conversations import DEADLINE
-from checks.stores import SAMPLE
+from checks.stores import SAMPLE, post
 
 STREET = b"10,1,1001,1,2024-01-02\n11,I,1,101,1,2001-04-01,\n99,1\n"
 APPLIED = b'{"outcome":"applied"}\n'
@@ -120,6 +120,23 @@ def who_breaks_off_harms_nobody(room: Room) -> str | None:
         return served.ended() if told == (404, NOT_THERE) else f"it replies {told}"
 
 
+def standing(room: Room, served: Served) -> bytes:
+    """What a process behind it says of the county."""
+    return subprocess.run(room.words("status", served.store, "1001"), capture_output=True, timeout=DEADLINE).stdout
+
+
+def who_breaks_off_loses_nothing_received(room: Room) -> str | None:
+    """A connection breaks off within the request behind a file, the next behind another file whose reply it doesn't wait for."""
+    posts = [post(1001, volume, b"10,1,1001,%d,2024-01-02\n99,0\n" % volume) for volume in (1, 2, 3)]
+    with room.serves(2) as served:
+        with socket.create_connection(("127.0.0.1", served.port), DEADLINE) as cut:
+            cut.sendall(posts[0] + posts[2][:-9])
+        with socket.create_connection(("127.0.0.1", served.port), DEADLINE) as unheard:
+            unheard.sendall(posts[1])
+        fault, told = served.ended(), standing(room, served)
+    return fault or (None if told == b"custodian 1001 judged 2 held 0 wants 1001/3\n" else f"it says {told!r}")
+
+
 def only_loopback_is_bound(room: Room) -> str | None:
     """Nobody is answered at another address of the machine."""
     with room.serves(1) as served:
@@ -168,6 +185,7 @@ CASES: tuple[Callable[[Room], str | None], ...] = (
     python_keeps_its_connection,
     a_large_file_is_refused_and_told,
     who_breaks_off_harms_nobody,
+    who_breaks_off_loses_nothing_received,
     only_loopback_is_bound,
     a_taken_port_is_no_port,
     curl_is_answered,

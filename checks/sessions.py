@@ -7,6 +7,7 @@ from hashlib import sha256
 from pathlib import Path
 
 from checks.conversations import DEADLINE, difference
+from checks.stores import register_of
 
 REGISTER = b"""[[custodian]]
 code = 1001
@@ -27,6 +28,11 @@ FLAT = (
     b"10,1,1001,3,2024-03-01\n21,I,1,42,1,450000,250000,,AR1 2DN,2001-04-01,\n"
     b"24,I,2,L1,42,ENG,1,101,,,,,Flat 2,12,A,14,,,2001-04-01,\n99,2\n"
 )
+# The last numbers of the last block of the last of 400 custodians.
+LAST_NUMBERS = (
+    b"10,1,400,1,2024-01-02\n11,I,1,96000000,1,2001-04-01,\n15,I,2,96000000,ENG,Last Street,,Arden,Arden\n"
+    b"21,I,3,960000000000,1,450000,250000,,,2001-04-01,\n24,I,4,L1,960000000000,ENG,1,96000000,,,,,,7,,,,,2001-04-01,\n99,4\n"
+)
 EXTRACT = b"10,E,1001,2\n11,I,1,101,1,2001-04-01,\n15,I,2,101,ENG,High Street,,Arden,Arden\n99,2\n"
 
 FILES = {
@@ -34,9 +40,11 @@ FILES = {
     "other.toml": REGISTER.replace(b"Upper", b"Lower"),
     "no.toml": b"[[custodian",
     "empty.toml": b"",
+    "400.toml": register_of(400).encode(),
     "street.csv": STREET,
     "descriptor.csv": DESCRIPTOR,
     "flat.csv": FLAT,
+    "last.csv": LAST_NUMBERS,
     "again.csv": STREET.replace(b"-02", b"-03"),
     "profile.csv": b"10,7,x",
     "large.csv": b"a" * 1_048_577,
@@ -69,6 +77,7 @@ def fails(name: str) -> bytes:
 
 
 STORE = "--store s.db --register r.toml"
+MANY = "--store s.db --register 400.toml"
 INIT = Step(f"init {STORE}", 0, b"ready\n")
 FIRST = Step(f"submit {STORE} 1001 1 street.csv", 0, b"new applied\n")
 SECOND = Step(f"submit {STORE} 1001 2 descriptor.csv", 0, b"new applied\n")
@@ -110,6 +119,18 @@ SESSIONS = (
             Step(f"submit {STORE} 1001 3 profile.csv", 1, b"refused 16\n"),
             Step(f"status {STORE} 1003", 1, b"refused 11\n"),
             Step(f"extract {STORE} 1001 0", 1, b"refused 12\n"),
+        ),
+    ),
+    Session(
+        "a register of 400 custodians with eight blocks each",
+        (
+            Step(f"init {MANY}", 0, b"ready\n"),
+            Step(f"submit {MANY} 400 1 last.csv", 0, b"new applied\n"),
+            Step(f"submit {MANY} 399 1 last.csv", 1, b"new rejected record 1 rule 3\n"),
+            Step(f"line {MANY} 960000000000", 0, b"7 Last Street, Arden\n"),
+            Step(f"line {MANY} 960000000001", 1, b"none\n"),
+            Step(f"status {MANY} 400", 0, b"custodian 400 judged 1 held 0 wants 400/2\n"),
+            Step(f"status {MANY} 401", 1, b"refused 11\n"),
         ),
     ),
     Session(

@@ -34,6 +34,23 @@ TEXT = """1001,Upper County,1-99999 999999999000-999999999999,100-199 99999999-9
 1003,Bay District,200000-299999,300-399
 """
 
+BLOCKS = 8  # of each custodian, of either kind
+
+
+def blocks_of(place: int, size: int) -> str:
+    """The blocks of the custodian at this place, each of so many numbers, and no number in two of them."""
+    firsts = [1 + (place * BLOCKS + k) * size for k in range(BLOCKS)]
+    return "[" + ", ".join(f"[{first}, {first + size - 1}]" for first in firsts) + "]"
+
+
+def register_of(count: int) -> str:
+    """A register of so many custodians, each with 8 blocks of UPRNs and 8 of USRNs, those at odd places before the others."""
+    return "\n".join(
+        f'[[custodian]]\ncode = {place + 1}\nname = "Custodian {place + 1}"\n'
+        f"uprn = {blocks_of(place, 300_000_000)}\nusrn = {blocks_of(place, 30_000)}\n"
+        for place in (*range(1, count, 2), *range(0, count, 2))
+    )
+
 
 @dataclass(frozen=True)
 class Answered:

@@ -7,7 +7,8 @@ import tempfile
 import unittest
 from pathlib import Path
 
-from checks.trouble import PARTS, Part, fault_of, library, run_all, run_part
+from checks.preloading import library
+from checks.trouble import PARTS, SOURCE, Part, fault_of, run_all, run_part
 
 FIRST = Part("log", 0, 9)
 MEMORY = Part("memory-maps", 0, 9)
@@ -19,17 +20,20 @@ echo ok
 PRELOADED = """#!/bin/sh
 case "$LD_PRELOAD" in *refusing.so) echo ok;; *) echo alone;; esac
 """
-# Asks for 20,000 pieces of memory, of which the one behind 10,000 is refused.
+# Asks for 20,000 pieces of memory, of which the one behind 10,000 is refused, and one so far behind it.
 ASKING = """
-import ctypes
+import ctypes, sys
 malloc = ctypes.CDLL(None).malloc
 malloc.restype, malloc.argtypes = ctypes.c_void_p, [ctypes.c_size_t]
 ARM, COUNT = 2**62, 2**62 + 2**32
 before = [malloc(ARM + 10_000), malloc(COUNT + 2)]
+if behind := int(sys.argv[1]):
+    malloc(COUNT + 16 + behind)
 malloc(COUNT)
 had = [malloc(8) for _ in range(20_000)]
 malloc(COUNT + 1)
-print(before, had.count(None), malloc(COUNT + 2) is None)
+places = [place for place, it in enumerate(had) if it is None]
+print(before, len(places), places[-1] - places[0] if places else None, malloc(COUNT + 2) is None)
 """
 
 
@@ -63,13 +67,21 @@ class Running(unittest.TestCase):
         self.assertEqual(self.fault("#!/bin/sh\n"), "exit status 0: it said nothing")
 
     def test_the_library_is_loaded_where_memory_is_refused(self) -> None:
-        refuser, program = library(self.root), self.program(PRELOADED)
+        refuser, program = library(SOURCE, self.root), self.program(PRELOADED)
         self.assertEqual([run_part(program, it, refuser).text for it in (FIRST, MEMORY)], ["alone\n", "ok\n"])
 
+    def refused(self, behind: int) -> str:
+        env = {**os.environ, "LD_PRELOAD": str(library(SOURCE, self.root))}
+        words = [sys.executable, "-c", ASKING, str(behind)]
+        ran = subprocess.run(words, env=env, capture_output=True, text=True, timeout=60)
+        return ran.stdout + ran.stderr
+
     def test_the_library_refuses_one_request(self) -> None:
-        env = {**os.environ, "LD_PRELOAD": str(library(self.root))}
-        ran = subprocess.run([sys.executable, "-c", ASKING], env=env, capture_output=True, text=True, timeout=60)
-        self.assertEqual(ran.stdout, "[None, None] 1 False\n", ran.stderr)
+        self.assertEqual(self.refused(0), "[None, None] 1 0 False\n")
+
+    def test_the_library_refuses_two_requests(self) -> None:
+        self.assertEqual(self.refused(1), "[None, None] 2 1 False\n")
+        self.assertRegex(self.refused(500), r"^\[None, None\] 2 [1-9]\d* False\n")
 
     def test_all_parts_are_run(self) -> None:
         ran, seconds = run_all(self.program(RIGHT.replace("echo ok", '[ "$1" = log ] || echo ok')))

@@ -6,13 +6,9 @@ from concurrent.futures import ThreadPoolExecutor
 from dataclasses import dataclass
 from pathlib import Path
 
-from checks import kit, measure
+from checks import measure, preloading
 
 SOURCE = Path(__file__).resolve().parent / "refusing.c"
-
-
-class NoLibrary(Exception):
-    """The library that refuses memory can't be built."""
 
 
 @dataclass(frozen=True)
@@ -42,17 +38,13 @@ PARTS = (
     Part("memory-store", 0, 100_000),
     Part("calls-maps", 1, 100_000),
     Part("calls-store", 1, 100_000),
+    Part("memory-maps-twice", 0, 100_000, 101),
+    Part("memory-store-twice", 0, 100_000, 1009),
+    Part("calls-maps-twice", 1, 100_000, 3),
+    Part("calls-store-twice", 1, 100_000, 17),
+    Part("calls-maps-awhile", 1, 100_000, 1),
+    Part("calls-store-awhile", 1, 100_000, 7),
 )
-
-
-def library(folder: Path) -> Path:
-    """Builds the library that refuses memory, by the kit's compiler."""
-    tools, built = Path(kit.load().KIT) / "toolchain" / "bin", folder / "refusing.so"
-    words = [tools / "clang", "--target=x86_64-unknown-linux-gnu", f"--ld-path={tools / 'ld.lld'}"]
-    ran = measure.run([*map(str, words), "-O2", "-fPIC", "-shared", "-nostdlib", "-o", str(built), str(SOURCE)], folder)
-    if ran.status != 0:
-        raise NoLibrary(ran.text)
-    return built
 
 
 def run_part(program: Path, part: Part, refuser: Path) -> measure.Ran:
@@ -72,7 +64,7 @@ def fault_of(ran: measure.Ran) -> str | None:
 def run_all(program: Path, parts: tuple[Part, ...] = PARTS) -> tuple[list[tuple[str, str | None]], float]:
     """Each part and what is wrong with it, and the processor seconds of all."""
     with tempfile.TemporaryDirectory(prefix="check-trouble-") as made:
-        refuser = library(Path(made))
+        refuser = preloading.library(SOURCE, Path(made))
         with ThreadPoolExecutor(len(os.sched_getaffinity(0))) as workers:
             ran = list(workers.map(lambda part: run_part(program, part, refuser), parts))
     return [(part.name, fault_of(it)) for part, it in zip(parts, ran)], sum(it.seconds for it in ran)

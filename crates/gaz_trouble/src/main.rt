@@ -6,7 +6,9 @@
 //! `twice-log`, `twice-file`: the same as `stop-log`, `stop-file`, and then both fail once more, at each call until all is opened and judged again;
 //! `cut-log`, `cut-file`: the same as `stop-log`, `stop-file`, with each write that wasn't synced cut at each block of 512 bytes;
 //! `memory-maps`, `memory-store`: the request for memory of that number is refused, over either keeper, by the library that `checks/trouble.py` loads.
-//! `calls-maps`, `calls-store`: the keeper's call of that number, from 1, fails.
+//! `calls-maps`, `calls-store`: the keeper's call of that number, from 1, fails;
+//! `calls-maps-twice`, `calls-store-twice`, `memory-maps-twice`, `memory-store-twice`: the same, and one of the next as well, each in turn;
+//! `calls-maps-awhile`, `calls-store-awhile`: the calls from that number on fail, four of them.
 //! It prints how many answers were refused where, and `ok`, or the first run in which something differs.
 #![tactic(auto)]
 
@@ -15,6 +17,8 @@ mod disk_runs;
 mod disks;
 mod files;
 mod histories;
+mod lasting;
+mod lasting_runs;
 mod memory_runs;
 mod parts;
 mod refusing;

@@ -30,8 +30,8 @@ pub fn run_maps(walk: &Walk<'_>) -> Result<Met> {
     goes(walk, &mut hub)
 }
 
-// A connection to a new database in memory, where memory may be refused once, and whether it was.
-fn connected(walk: &Walk<'_>) -> Result<(Connection<MemStore>, bool)> {
+/// A connection to a new database in memory, where memory may be refused once, and whether it was.
+pub fn connected(walk: &Walk<'_>) -> Result<(Connection<MemStore>, bool)> {
     walk.refuser.count();
     let conn = Connection::open_in_memory(walk.rt.alloc());
     walk.refuser.pause();
@@ -41,8 +41,8 @@ fn connected(walk: &Walk<'_>) -> Result<(Connection<MemStore>, bool)> {
     }
 }
 
-// A hub over a new store, where memory may be refused once, and whether it was.
-fn made<S: Alter + Drop>(walk: &Walk<'_>, conn: Connection<S>) -> Result<(StoreHub<S>, bool)> {
+/// A hub over a new store, where memory may be refused once, and whether it was.
+pub fn made<S: Alter + Drop>(walk: &Walk<'_>, conn: Connection<S>) -> Result<(StoreHub<S>, bool)> {
     match make(walk.rt.alloc(), conn, walk.refuser)? {
         Ok(hub) => Ok((hub, false)),
         Err(refused) => {

@@ -3,6 +3,8 @@
 use crate::disk_runs::{self, Again, Failed};
 use crate::disks::{Left, Which, failing_files};
 use crate::histories::History;
+use crate::lasting::Resend;
+use crate::lasting_runs::{self, Failing};
 use crate::refusing::Refuser;
 use crate::replies::Wanted;
 use crate::statement_runs::{self, Since};
@@ -18,6 +20,20 @@ const MOST: u64 = 1_000_000;
 /// More blocks than a history writes between two syncs.
 const BLOCKS: usize = 100;
 
+/// So far behind the first call that fails the second one is, at most.
+const FARTHEST: u32 = 5;
+
+const RESENDS: [Resend; 2] = [Resend::AtOnce, Resend::InTheEnd];
+
+/// Which keeper a hub is over.
+#[derive(Clone, Copy)]
+pub enum Over {
+    /// One of whole maps.
+    Maps,
+    /// A store in memory.
+    Store,
+}
+
 /// What fails.
 #[derive(Clone, Copy)]
 pub enum Part {
@@ -30,14 +46,16 @@ pub enum Part {
     Twice(Which),
     /// The same where the machine stops once, and a write is cut at each block.
     Cut(Which),
-    /// The request for memory of this number, over a keeper of whole maps.
-    Maps,
-    /// The same over a store in memory.
-    Store,
-    /// The call of this number, from 1, of a keeper of whole maps.
-    CallsOfMaps,
-    /// The same of a store in memory.
-    CallsOfStore,
+    /// The request for memory of this number.
+    Memory(Over),
+    /// The request for memory of this number and, of the next ones, each in turn.
+    MemoryTwice(Over),
+    /// The call of this number, from 1, of the keeper.
+    Calls(Over),
+    /// The call of this number and, of the next ones, each in turn.
+    CallsTwice(Over),
+    /// The calls from this number on, for a while.
+    CallsAwhile(Over),
 }
 
 impl Part {
@@ -55,10 +73,16 @@ impl Part {
             "twice-file" => Some(Part::Twice(Which::Database)),
             "cut-log" => Some(Part::Cut(Which::Log)),
             "cut-file" => Some(Part::Cut(Which::Database)),
-            "memory-maps" => Some(Part::Maps),
-            "memory-store" => Some(Part::Store),
-            "calls-maps" => Some(Part::CallsOfMaps),
-            "calls-store" => Some(Part::CallsOfStore),
+            "memory-maps" => Some(Part::Memory(Over::Maps)),
+            "memory-store" => Some(Part::Memory(Over::Store)),
+            "memory-maps-twice" => Some(Part::MemoryTwice(Over::Maps)),
+            "memory-store-twice" => Some(Part::MemoryTwice(Over::Store)),
+            "calls-maps" => Some(Part::Calls(Over::Maps)),
+            "calls-store" => Some(Part::Calls(Over::Store)),
+            "calls-maps-twice" => Some(Part::CallsTwice(Over::Maps)),
+            "calls-store-twice" => Some(Part::CallsTwice(Over::Store)),
+            "calls-maps-awhile" => Some(Part::CallsAwhile(Over::Maps)),
+            "calls-store-awhile" => Some(Part::CallsAwhile(Over::Store)),
             _ => None,
         }
     }
@@ -163,12 +187,12 @@ impl<'a> Runs<'a> {
     }
 
     // A run in which a request for memory is refused; whether it was.
-    fn run_memory(&mut self, number: u32) -> Result<bool> {
+    fn run_memory(&mut self, over: Over, number: u32) -> Result<bool> {
         let refuser = Refuser::of(self.rt.alloc(), number);
         let walk = self.walk(refuser);
-        let met = match self.part {
-            Part::Store => memory_runs::run_store(&walk)?,
-            _ => memory_runs::run_maps(&walk)?,
+        let met = match over {
+            Over::Maps => memory_runs::run_maps(&walk)?,
+            Over::Store => memory_runs::run_store(&walk)?,
         };
         self.tally.count(met);
         let was_refused = refuser.has_refused();
@@ -176,19 +200,76 @@ impl<'a> Runs<'a> {
         Ok(was_refused)
     }
 
-    // A run in which a call of a keeper of whole maps fails; whether it did.
-    fn run_calls_of_maps(&mut self, number: u64) -> Result<bool> {
+    // A run in which two requests for memory are refused; whether one was.
+    fn run_memory_lasting(&mut self, over: Over, refuser: Refuser, resend: Resend) -> Result<bool> {
+        let walk = self.walk(refuser);
+        let stops = match over {
+            Over::Maps => lasting_runs::run_memory_maps(&walk, resend)?,
+            Over::Store => lasting_runs::run_memory_store(&walk, resend)?,
+        };
+        self.tally.count_all(&stops);
+        Ok(refuser.has_refused())
+    }
+
+    // Runs in which the request of this number is refused and one of the next; whether any was.
+    fn run_memory_twice(&mut self, over: Over, number: u32) -> Result<bool> {
+        let mut was_refused = false;
+        for behind in 1..=FARTHEST {
+            for resend in RESENDS {
+                let refuser = Refuser::of_two(self.rt.alloc(), number, behind);
+                was_refused |= self.run_memory_lasting(over, refuser, resend)?;
+            }
+        }
+        ensure!(was_refused || number > 0, "nobody refuses memory");
+        Ok(was_refused)
+    }
+
+    // A run in which a call of the keeper fails; whether it did.
+    fn run_calls(&mut self, over: Over, number: u64) -> Result<bool> {
         let walk = self.walk(Refuser::nobody(self.rt.alloc()));
-        let met = call_runs::run_maps(&walk, number)?;
+        let met = match over {
+            Over::Maps => call_runs::run_maps(&walk, number)?,
+            Over::Store => {
+                let conn = Connection::open_in_memory(self.rt.alloc())?;
+                call_runs::run_store(&walk, conn, number)?
+            }
+        };
         Ok(self.tally.count(met))
     }
 
-    // The same of a store in memory.
-    fn run_calls_of_store(&mut self, number: u64) -> Result<bool> {
+    // Runs in which these calls of the keeper fail; whether one did.
+    fn run_lasting(&mut self, over: Over, failing: Failing) -> Result<bool> {
         let walk = self.walk(Refuser::nobody(self.rt.alloc()));
-        let conn = Connection::open_in_memory(self.rt.alloc())?;
-        let met = call_runs::run_store(&walk, conn, number)?;
-        Ok(self.tally.count(met))
+        let mut is_met = false;
+        for resend in RESENDS {
+            let stops = match over {
+                Over::Maps => lasting_runs::run_maps(&walk, failing, resend)?,
+                Over::Store => {
+                    let conn = Connection::open_in_memory(self.rt.alloc())?;
+                    lasting_runs::run_store(&walk, conn, failing, resend)?
+                }
+            };
+            is_met |= self.tally.count_all(&stops);
+        }
+        Ok(is_met)
+    }
+
+    // Runs in which the call of this number fails and one of the next; whether any did.
+    fn run_calls_twice(&mut self, over: Over, number: u64) -> Result<bool> {
+        let mut is_met = false;
+        for behind in 0..=FARTHEST {
+            let second = number.saturating_add(u64::from(behind));
+            is_met |= self.run_lasting(over, Failing::Two(number, second))?;
+        }
+        Ok(is_met)
+    }
+
+    // Runs in which calls fail for a while from this number on: the keeper within is told to give up
+    // a judgement that the first one broke, and that fails too, or not. Whether any did.
+    fn run_calls_awhile(&mut self, over: Over, number: u64) -> Result<bool> {
+        let is_met = self.run_lasting(over, Failing::Awhile(number, number))?;
+        let then = number.saturating_add(1);
+        Ok(self.run_lasting(over, Failing::Awhile(number, then))? || is_met)
     }
 
     /// The runs in which what has this number fails; whether it did in any.
@@ -198,9 +279,11 @@ impl<'a> Runs<'a> {
             Part::Disk(which, left) => self.run_once(which, left, u64::from(number)),
             Part::Twice(which) => self.run_twice(which, u64::from(number)),
             Part::Cut(which) => self.run_cut(which, u64::from(number)),
-            Part::Maps | Part::Store => self.run_memory(number),
-            Part::CallsOfMaps => self.run_calls_of_maps(u64::from(number)),
-            Part::CallsOfStore => self.run_calls_of_store(u64::from(number)),
+            Part::Memory(over) => self.run_memory(over, number),
+            Part::MemoryTwice(over) => self.run_memory_twice(over, number),
+            Part::Calls(over) => self.run_calls(over, u64::from(number)),
+            Part::CallsTwice(over) => self.run_calls_twice(over, u64::from(number)),
+            Part::CallsAwhile(over) => self.run_calls_awhile(over, u64::from(number)),
         }
     }
 

@@ -13,6 +13,9 @@ const PAUSE: usize = COUNT + 1;
 /// Granted where a request was refused.
 const ASK: usize = COUNT + 2;
 
+/// So many requests behind the one that is refused another one is refused.
+const ANOTHER: usize = COUNT + 16;
+
 /// The library, where it is loaded.
 #[derive(Clone, Copy)]
 pub struct Refuser {
@@ -36,6 +39,13 @@ impl Refuser {
             is_there: true,
         };
         refuser.says(ARM.saturating_add(number as usize));
+        refuser
+    }
+
+    /// The request of this number is refused, and another one so many behind it, from 1.
+    pub fn of_two(alloc: Global, number: u32, behind: u32) -> Refuser {
+        let refuser = Refuser::of(alloc, number);
+        refuser.says(ANOTHER.saturating_add(behind as usize));
         refuser
     }
 

@@ -23,54 +23,37 @@ pub fn text_of(alloc: Global, reply: &Reply) -> Result<String, AllocError> {
     }
 }
 
-// Adds what a command is answered.
-fn add<K: Inbox + Drop>(
-    alloc: Global,
-    text: &mut String,
-    hub: &mut Resting<K>,
-    command: Command,
-) -> Result<()> {
-    let reply = hub.reply(&command);
-    text.push_str(&text_of(alloc, &reply)?)?;
-    text.push('\n')?;
-    Ok(())
-}
-
-// Adds what is told of a custodian and its volumes.
-fn add_custodian<K: Inbox + Drop>(
-    alloc: Global,
-    text: &mut String,
-    hub: &mut Resting<K>,
-    code: u64,
-) -> Result<()> {
-    add(alloc, text, hub, Command::Status(code))?;
+// Adds what is asked of a custodian and its volumes.
+fn add_custodian(asked: &mut Vec<Command>, code: u64) -> Result<()> {
+    asked.push(Command::Status(code))?;
     for volume in VOLUMES {
-        add(alloc, text, hub, Command::Outcome((code, volume)))?;
-        add(alloc, text, hub, Command::Extract((code, volume)))?;
+        asked.push(Command::Outcome((code, volume)))?;
+        asked.push(Command::Extract((code, volume)))?;
     }
     Ok(())
 }
 
-// Adds what is told of the properties.
-fn add_properties<K: Inbox + Drop>(
-    alloc: Global,
-    text: &mut String,
-    hub: &mut Resting<K>,
-) -> Result<()> {
+/// What all that a hub tells is asked by: standings, outcomes, extracts, look-ups and closed streets.
+pub fn questions(alloc: Global) -> Result<Vec<Command>> {
+    let mut asked = Vec::new(alloc);
+    for code in CUSTODIANS {
+        add_custodian(&mut asked, code)?;
+    }
     for uprn in PROPERTIES {
-        add(alloc, text, hub, Command::LookUp(uprn))?;
+        asked.push(Command::LookUp(uprn))?;
     }
-    Ok(())
+    asked.push(Command::Closed)?;
+    Ok(asked)
 }
 
-/// All that a hub tells: standings, outcomes, extracts, look-ups and closed streets.
+/// All that a hub tells.
 pub fn ending<K: Inbox + Drop>(alloc: Global, hub: &mut Resting<K>) -> Result<String> {
     let mut text = String::new(alloc);
-    for code in CUSTODIANS {
-        add_custodian(alloc, &mut text, hub, code)?;
+    for question in &questions(alloc)? {
+        let reply = hub.reply(question);
+        text.push_str(&text_of(alloc, &reply)?)?;
+        text.push('\n')?;
     }
-    add_properties(alloc, &mut text, hub)?;
-    add(alloc, &mut text, hub, Command::Closed)?;
     Ok(text)
 }
 

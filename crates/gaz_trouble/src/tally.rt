@@ -67,19 +67,34 @@ impl Tally {
         })
     }
 
+    // Counts an answer that was refused.
+    fn refuse(&mut self, stop: &Stop) {
+        if let Some(refused) = self.refused.get_mut(stop.at) {
+            refused.count(stop.refusal);
+        }
+    }
+
     /// Counts a run; whether it met any trouble.
     pub fn count(&mut self, met: Met) -> bool {
         self.runs = self.runs.saturating_add(1);
         match met {
             Met::Nothing => self.nothing = self.nothing.saturating_add(1),
             Met::Opening => self.opening = self.opening.saturating_add(1),
-            Met::Command(stop) => {
-                if let Some(refused) = self.refused.get_mut(stop.at) {
-                    refused.count(stop.refusal);
-                }
-            }
+            Met::Command(stop) => self.refuse(&stop),
         }
         !matches!(met, Met::Nothing)
+    }
+
+    /// Counts a run that met trouble at these places; whether there are any.
+    pub fn count_all(&mut self, stops: &[Stop]) -> bool {
+        self.runs = self.runs.saturating_add(1);
+        if stops.is_empty() {
+            self.nothing = self.nothing.saturating_add(1);
+        }
+        for stop in stops {
+            self.refuse(stop);
+        }
+        !stops.is_empty()
     }
 
     /// Prints where the runs met their trouble.

@@ -66,8 +66,8 @@ fn is_told_again(wanted: Answer, told: Answer, refusal: Refusal) -> bool {
 }
 
 impl Walk<'_> {
-    // The reply to a command, while memory may be refused.
-    fn asked<K: Inbox + Drop>(&self, hub: &mut Resting<K>, command: &Command) -> Reply {
+    /// The reply to a command, while memory may be refused.
+    pub fn asked<K: Inbox + Drop>(&self, hub: &mut Resting<K>, command: &Command) -> Reply {
         self.refuser.count();
         let reply = hub.reply(command);
         self.refuser.pause();
@@ -83,8 +83,8 @@ impl Walk<'_> {
         bail!("another answer")
     }
 
-    // The reply is the right one.
-    fn is_right(&self, wanted: &Reply, told: &Reply) -> Result<()> {
+    /// The reply is the right one.
+    pub fn is_right(&self, wanted: &Reply, told: &Reply) -> Result<()> {
         let alloc = self.rt.alloc();
         self.agree(&text_of(alloc, wanted)?, &text_of(alloc, told)?)
     }
