@@ -31,3 +31,4 @@ pub mod WorkedReadings
 pub mod WorkedOwners
 pub mod WorkedHubs
 pub mod WorkedWaiting
+pub mod WorkedStops

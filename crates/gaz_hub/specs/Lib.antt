@@ -25,3 +25,4 @@ pub mod WorkedReadings
 pub mod WorkedOwners
 pub mod WorkedHubs
 pub mod WorkedWaiting
+pub mod WorkedStops

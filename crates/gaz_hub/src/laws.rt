@@ -13,6 +13,7 @@ ghost use Rattle.gaz_hub.specs.WorkedAnswers.{WorkedAnswers};
 ghost use Rattle.gaz_hub.specs.WorkedBases.{WorkedBases};
 ghost use Rattle.gaz_hub.specs.WorkedBoards.{WorkedBoards};
 ghost use Rattle.gaz_hub.specs.WorkedHubs.{WorkedHubs};
+ghost use Rattle.gaz_hub.specs.WorkedStops.{WorkedStops};
 ghost use Rattle.gaz_hub.specs.WorkedWaiting.{WorkedWaiting};
 ghost use Rattle.gaz_hub.specs.WorkedOwners.{WorkedOwners};
 ghost use Rattle.gaz_hub.specs.WorkedReadings.{WorkedReadings};
@@ -199,4 +200,9 @@ pub fn worked_hubs()
 /// Who is remembered to wait for what, and when that is right, on worked examples.
 pub fn worked_waiting()
     ensures { WorkedWaiting }
+{}
+
+/// What a stop may leave of a hub, and what it may not, on worked examples.
+pub fn worked_stops()
+    ensures { WorkedStops }
 {}
