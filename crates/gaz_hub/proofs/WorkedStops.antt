@@ -3,7 +3,7 @@ use Rattle.std.proofs.Common.{◌≡◌, ◌∙◌, ap, inl, inr, refl, sym}
 use Rattle.std.specs.FinMap as map
 use Rattle.gaz_shelf.specs.Board.{empty_board}
 use Rattle.gaz_shelf.specs.Received.{Received, pair_cmp}
-use Rattle.gaz_hub.specs.Examples.{first_hub, first_sent, no_text}
+use Rattle.gaz_hub.specs.Examples.{first_sent, no_text}
 use Rattle.gaz_hub.specs.Sample.{sample_register}
 use Rattle.gaz_hub.specs.WorkedStops.{WorkedStops}
 use Rattle.gaz_hub.proofs.Examples.{get_first, no_none, partial_first}
