@@ -8,7 +8,7 @@ import time
 
 TOP = os.path.dirname(os.path.dirname(os.path.abspath(__file__)))
 sys.path.insert(0, TOP)
-from checks.stores import SAMPLE  # noqa: E402
+from checks.stores import SAMPLE, TEXT  # noqa: E402, F401
 
 
 def program(name):
@@ -98,3 +98,12 @@ class Talk:
         """The memory of the program in bytes: VmRSS what it has now, VmHWM the most that it had."""
         with open(f"/proc/{self.child.pid}/status") as status:
             return next(int(line.split()[1]) for line in status if line.startswith(word)) * 1024
+
+
+def talked_seconds(command, begun, asked):
+    """What some requests take a hub behind others. Either are requests with their replies."""
+    with Talk(command) as talk:
+        talk.ask(*begun)
+        start = time.perf_counter()
+        talk.ask(*asked)
+        return time.perf_counter() - start
