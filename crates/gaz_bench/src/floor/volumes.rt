@@ -1,6 +1,6 @@
 //! Times volumes of 1,000 changes: 300 properties come, each with an address and a cross reference,
 //! and 100 are changed that came with the volume before. Each file is received, each key that it
-//! touches asked for once, and each address's property for its addresses; then the rows are written.
+//! touches asked for once, and each address's property for its addresses; then rows are written.
 
 use crate::floor::resting::{begun, rests};
 use crate::floor::timing::tell_nanos;
