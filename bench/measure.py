@@ -9,7 +9,7 @@ import time
 
 TOP = os.path.dirname(os.path.dirname(os.path.abspath(__file__)))
 sys.path.insert(0, TOP)
-from checks.stores import BLOCKS, SAMPLE, register_of  # noqa: E402, F401
+from checks.stores import BLOCKS, SAMPLE, TEXT, register_of  # noqa: E402, F401
 
 
 def program(name):
@@ -134,3 +134,12 @@ class Talk:
 
     def memory(self, word):
         return memory_of(self.child.pid, word)
+
+
+def talked_seconds(command, begun, asked):
+    """What some requests take a hub behind others. Either are requests with their replies."""
+    with Talk(command) as talk:
+        talk.ask(*begun)
+        start = time.perf_counter()
+        talk.ask(*asked)
+        return time.perf_counter() - start

@@ -105,6 +105,46 @@ def gazetteer(homes=HOMES, each=2500):
     yield post((1001, 2), file_with(1001, 2, ["11,U,150,1,1990-01-01,2024-04-30"]))
 
 
-def look_ups(count, step):
+def look_ups(count, step, homes=HOMES):
     """Look-ups of that district's properties, each so many behind the one before, from the start again behind the last."""
-    return b"".join(get(f"/uprn/{FIRST + k * step % HOMES}") for k in range(count))
+    return b"".join(get(f"/uprn/{FIRST + k * step % homes}") for k in range(count))
+
+
+def address_changes(volumes, homes, first):
+    """The posts of volumes of that district from the first on, each of which changes one of its addresses."""
+    for k in range(volumes):
+        n = FIRST + k * 7919 % homes
+        row = f"24,U,L{n},{n},ENG,1,{200 + k % 100},,,,,Flat 2,{1 + k % 999},A,,,,2001-04-01,"
+        yield post((1002, first + k), file_with(1002, first + k, [row]))
+
+
+def late_fault(volume, changes=5000):
+    """A file of new properties whose last record breaks a rule."""
+    numbers = range(90_001, 90_000 + changes)
+    rows = [f"21,I,{n},1,450000,250000,,AR1 2DN,2001-04-01," for n in numbers]
+    return file_with(1001, volume, [*rows, "11,D,100,1,2001-04-01,"])
+
+
+USRN, UPRN = 1, 1  # the first numbers of custodian 1 in a register of several
+
+
+def growing_loads(homes, each=2_500):
+    """The posts that load one custodian's gazetteer: a street, and so many properties with an address."""
+    street = [f"11,I,{USRN},1,2001-04-01,", f"15,I,{USRN},ENG,High Street,,Arden,Arden"]
+    yield post((1, 1), file_with(1, 1, street))
+    for volume, first in enumerate(range(0, homes, each), 2):
+        numbers = range(UPRN + first, UPRN + min(first + each, homes))
+        rows = [f"21,I,{n},1,450000,250000,,AR1 2DN,2001-04-01," for n in numbers]
+        rows += [f"24,I,L{n},{n},ENG,1,{USRN},,,,,Flat 2,12,A,14,,,2001-04-01," for n in numbers]
+        yield post((1, volume), file_with(1, volume, rows))
+
+
+def growing_changes(homes, first, volumes):
+    """The posts of volumes of 1,000 changes into that gazetteer, from this volume on: 250 new properties with an address, and 500 updates all over it."""
+    for k in range(volumes):
+        new = range(UPRN + homes + 250 * k, UPRN + homes + 250 * (k + 1))
+        old = [UPRN + (500 * k + j) * 7919 % homes for j in range(500)]
+        rows = [f"21,I,{n},1,450000,250000,,AR1 2DN,2001-04-01," for n in new]
+        rows += [f"21,U,{n},1,{450_001 + k},250001,,AR1 2DN,2001-04-01," for n in old]
+        rows += [f"24,I,L{n},{n},ENG,1,{USRN},,,,,Flat 2,12,A,14,,,2001-04-01," for n in new]
+        yield post((1, first + k), file_with(1, first + k, rows))

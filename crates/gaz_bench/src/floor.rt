@@ -5,6 +5,7 @@ mod filling;
 mod marking;
 mod resting;
 mod timing;
+mod volumes;
 
 use anyhow::Result;
 use gaz_tables::creating::create;
@@ -48,4 +49,22 @@ fn time_over<S: Alter + Drop>(rt: &HostRuntime, mut conn: Connection<S>, count: 
 pub fn time_file(rt: &HostRuntime, path: &str, count: u32, pages: usize) -> Result<()> {
     let conn = open(rt, path, pages)?;
     time_over(rt, conn, count)
+}
+
+fn keep_over<S: Alter + Drop>(rt: &HostRuntime, mut conn: Connection<S>, count: u32) -> Result<()> {
+    furnish(&mut conn)?;
+    volumes::time_volumes(rt, &mut conn, count)
+}
+
+/// Times what so many volumes need in the file at this path, with a cache of so many pages.
+pub fn time_volumes(rt: &HostRuntime, path: &str, count: u32, pages: usize) -> Result<()> {
+    let conn = open(rt, path, pages)?;
+    keep_over(rt, conn, count)
+}
+
+/// Opens the database in the file at this path, with a cache of so many pages, and closes it.
+pub fn open_and_close(rt: &HostRuntime, path: &str, pages: usize) -> Result<()> {
+    let conn = open(rt, path, pages)?;
+    conn.close()?;
+    Ok(())
 }

@@ -15,8 +15,8 @@ use std::time::Instant;
 const REGISTER: &[u8] = b"[[custodian]]
 code = 1001
 name = \"Upper County\"
-uprn = [[1, 99999]]
-usrn = [[1, 99999]]
+uprn = [[1, 999999]]
+usrn = [[1, 999999]]
 ";
 
 /// How many addresses a judged file adds, as many others being changed: ten changes for each.
@@ -113,7 +113,7 @@ fn add_breach(alloc: Global, changes: &mut Vec<Change>) -> Result<()> {
     changes.push(Change {
         place: 2,
         action: Action::Insert,
-        item: item(alloc, Kind::Xref, "Z1,99999,TAX01,A/17,2010-05-01,")?,
+        item: item(alloc, Kind::Xref, "Z1,999999,TAX01,A/17,2010-05-01,")?,
     })?;
     Ok(())
 }

@@ -6,10 +6,15 @@
 //! `gaz_bench stored STORE REGISTER` answers the requests on standard input at a hub of the register in a file, over the store in a file, which is
 //! made where there is none; `gaz_bench stored-each STORE REGISTER` takes pieces of a stream, each behind a line with its length in bytes, and
 //! opens and closes the store for each of them. Why there is no store is said on standard error, as `gaz_bench: BadSchema`, and the status is 3.
-//! A fourth word of `stored` is the most steps that a statement over the opened store may take.
+//! A fourth word of `stored` is the most steps that a statement over the opened store may take. As many pages are kept at hand as the program keeps.
 //! `gaz_bench floor FILE ROWS PAGES` makes a store in a file, with a cache of so many pages, fills it with so many rows and asks for them by the
 //! statements of the tables alone. It prints a line a statement: its name, how often it ran, how many rows it made or found, and the nanoseconds of
 //! all. The file is a new one, or an empty database, whose page size then counts.
+//! `gaz_bench volumes FILE VOLUMES PAGES` makes such a store, and does for so many volumes of 1,000 changes the statements that these need, by three
+//! custodians in turn. Its lines are those of receiving, of asking, and of writing with the commit.
+//! `gaz_bench opening FILE PAGES` opens and closes a database, as the library does it.
+//! `gaz_bench replies REQUESTS REPLIES` learns the replies to requests, which are in two files, and answers the requests on standard input, each by
+//! the reply that it learned for its target and body.
 //! `gaz_bench play REGISTER` answers the requests on standard input at a hub of the register in a file, over a keeper in memory.
 //! `gaz_bench IDENTIFIER FILE ROUNDS` takes a record identifier and a file of rows of that kind, which begin behind the order field. It prints a
 //! line with the least time in nanoseconds of reading all items and that of writing all rows, and then the rows.
@@ -20,6 +25,7 @@ mod judging;
 mod keeping;
 mod playing;
 mod records;
+mod replying;
 mod stored;
 
 use anyhow::{Context, Result, ensure};
@@ -32,6 +38,7 @@ use judging::{judging_calls, judging_micros};
 use keeping::keeping_micros;
 use playing::play;
 use records::records_nanos;
+use replying::reply_as_learned;
 use std::process::ExitCode;
 use std::time::Instant;
 use std::{env, fs};
@@ -135,6 +142,14 @@ fn print_times(rt: &HostRuntime, word: &str, given: &str, rounds: Option<String>
         "judge" => print_judging(rt, given),
         "calls" => print_calls(rt, given),
         "play" => play(rt, given),
+        "opening" => {
+            floor::open_and_close(
+                rt,
+                given,
+                rounds.context("a number of pages")?.parse::<usize>()?,
+            )
+        }
+        "replies" => reply_as_learned(rt, given, &rounds.context("a file of replies")?),
         "keeping" => {
             println!(rt; "{}", keeping_micros(rt, given.parse::<u64>()?)?)?;
             Ok(())
@@ -165,10 +180,20 @@ fn number_in(word: Option<String>) -> Result<Option<u64>> {
     }
 }
 
-// Times the statements of the tables.
-fn print_floor(rt: &HostRuntime, path: &str, rows: &str, pages: Option<String>) -> Result<()> {
+// Times the statements of the tables: each over so many rows, or all that so many volumes need.
+fn print_floor(
+    rt: &HostRuntime,
+    word: &str,
+    path: &str,
+    count: &str,
+    pages: Option<String>,
+) -> Result<()> {
     let pages = pages.context("a number of pages")?.parse::<usize>()?;
-    floor::time_file(rt, path, rows.parse::<u32>()?, pages)
+    let count = count.parse::<u32>()?;
+    match word {
+        "volumes" => floor::time_volumes(rt, path, count, pages),
+        _ => floor::time_file(rt, path, count, pages),
+    }
 }
 
 fn main(rt: HostRuntime) -> Result<ExitCode> {
@@ -179,8 +204,8 @@ fn main(rt: HostRuntime) -> Result<ExitCode> {
     let refusal = match (word.as_str(), &other) {
         ("stored", Some(register)) => stored(&rt, &given, register, number_in(words.next())?)?,
         ("stored-each", Some(register)) => stored_each(&rt, &given, register)?,
-        ("floor", Some(rows)) => {
-            print_floor(&rt, &given, rows, words.next())?;
+        ("floor" | "volumes", Some(count)) => {
+            print_floor(&rt, &word, &given, count, words.next())?;
             None
         }
         _ => {

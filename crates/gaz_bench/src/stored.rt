@@ -15,6 +15,13 @@ use std::{fs, io};
 /// The most requests of one run.
 const MOST: u64 = 1_000_000;
 
+/// The bytes of a page, and the fewest pages that are kept at hand, and the most.
+const PAGE: u64 = 4096;
+
+const FEWEST: u64 = 2_000;
+
+const MOST_PAGES: u64 = 64_000;
+
 /// How a store begins.
 #[derive(Clone, Copy)]
 enum Beginning {
@@ -66,10 +73,22 @@ fn beginning_at(rt: &HostRuntime, path: &str) -> Beginning {
     }
 }
 
+/// The pages that are kept at hand of the file at this path, as many as the program keeps: all and
+/// half as many more, where they aren't too many.
+fn pages_at(rt: &HostRuntime, path: &str) -> usize {
+    let pages = match fs::metadata(rt, path) {
+        Ok(found) => found.len() / PAGE,
+        Err(_) => 0,
+    };
+    pages.saturating_add(pages / 2).clamp(FEWEST, MOST_PAGES) as usize
+}
+
 /// A connection to the file at this path, which is made where there is none.
 fn open(rt: &HostRuntime, path: &str) -> Option<Connection<FileStore<File>>> {
+    let mut options = Options::new(1);
+    options.cache_pages = pages_at(rt, path);
     let files = sqlite_std_file::open(rt, path, Unknown).ok()?;
-    Connection::open_files(rt.alloc(), files, Options::new(1)).ok()
+    Connection::open_files(rt.alloc(), files, options).ok()
 }
 
 /// Answers the requests of a reader over the store in a file, which is made where there is none. The

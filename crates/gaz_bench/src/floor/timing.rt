@@ -10,8 +10,12 @@ pub const ADDRESS: u32 = 24;
 
 /// Prints how long so many calls took since the start, and how many rows they made or found.
 pub fn tell(rt: &HostRuntime, name: &str, calls: u32, rows: u64, start: Instant) -> Result<()> {
-    let spent = start.elapsed(rt)?;
-    println!(rt; "{name} {calls} {rows} {}", spent.as_nanos())?;
+    tell_nanos(rt, name, calls, rows, start.elapsed(rt)?.as_nanos())
+}
+
+/// Prints how many nanoseconds so many calls took, and how many rows they made or found.
+pub fn tell_nanos(rt: &HostRuntime, name: &str, calls: u32, rows: u64, nanos: u128) -> Result<()> {
+    println!(rt; "{name} {calls} {rows} {nanos}")?;
     Ok(())
 }
 
