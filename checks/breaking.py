@@ -20,6 +20,8 @@ SOURCE = Path(__file__).resolve().parent / "breaking.c"
 WHOLE = 1 << 20  # bytes: more than any stream here
 EVER = 1 << 40  # calls: more than any program makes
 
+STRIDE = 11  # bytes: so far from each other is what isn't tried at each of them
+
 STREAM = "docs/tour/3-a-held-file"
 BLANK = b"\r\n\r\n"  # no request, behind the last one
 
@@ -83,16 +85,21 @@ def tour(root: Path) -> Stream:
     return Stream(*((root / f"{STREAM}{suffix}").read_bytes() for suffix in (".http", ".replies")))
 
 
-def pieces() -> Iterator[tuple[str, int]]:
-    return iter((("", WHOLE), (" in pieces of one byte", 1)))
+def some(at: int, first: tuple, *others: tuple) -> tuple:
+    """The first at each byte, and the others at some."""
+    return (first, *others) if at % STRIDE == 0 else (first,)
+
+
+def pieces(at: int) -> tuple[tuple[str, int], ...]:
+    return some(at, ("", WHOLE), (" in pieces of one byte", 1))
 
 
 def readers(stream: Stream) -> Iterator[Broken]:
     """The reader fails from each byte on, or is interrupted there once: what came whole is answered."""
     for at in range(len(stream.requests) + 1):
         told = stream.told[stream.whole(at)]
-        for how, error, times in (("fails from", errno.EIO, EVER), ("is interrupted at", errno.EINTR, 1)):
-            for piece, most in pieces():
+        for how, error, times in some(at, ("fails from", errno.EIO, EVER), ("is interrupted at", errno.EINTR, 1)):
+            for piece, most in pieces(at):
                 reads = Side(most, at, error, times)
                 yield Broken(f"the reader{piece} {how} byte {at}", stream.requests, reads, Side(), 3, READ_FAULT, told, told)
 
@@ -104,7 +111,7 @@ def prefixes(stream: Stream) -> Iterator[Broken]:
         number = stream.whole(at)
         is_cut = whole[stream.ends[number] : at].strip(b"\r\n")
         told = stream.told[number] + (CUT_OFF if is_cut else b"")
-        for piece, most in pieces():
+        for piece, most in pieces(at):
             yield Broken(f"the first {at} bytes{piece}", whole[:at], Side(most), Side(), 0, b"", told, told)
 
 
@@ -112,11 +119,13 @@ def writers(stream: Stream) -> Iterator[Broken]:
     """The writer fails at each byte, for ever or once, or takes nothing; where it is only interrupted, it is asked again."""
     said = stream.replies
     for at in range(len(said)):
-        for piece, most in pieces():
+        for piece, most in pieces(at):
             for how, error in (("fails", errno.EIO), ("takes nothing", 0)):
-                for often, times, last in (("from", EVER, said[:at]), ("once at", 1, said)):
+                for often, times, last in some(at, ("from", EVER, said[:at]), ("once at", 1, said)):
                     name = f"the writer {how} {often} byte {at}, the reader goes on{piece}"
                     yield Broken(name, stream.requests, Side(most), Side(WHOLE, at, error, times), 3, WRITE_FAULT, said[:at], last)
+            if at % STRIDE:
+                continue
             name = f"the writer is interrupted at byte {at}, the reader goes on{piece}"
             yield Broken(name, stream.requests, Side(most), Side(WHOLE, at, errno.EINTR, 1), 0, b"", said, said)
 

@@ -38,12 +38,12 @@ PARTS = (
     Part("memory-store", 0, 100_000),
     Part("calls-maps", 1, 100_000),
     Part("calls-store", 1, 100_000),
-    Part("memory-maps-twice", 0, 100_000, 101),
-    Part("memory-store-twice", 0, 100_000, 1009),
-    Part("calls-maps-twice", 1, 100_000, 3),
-    Part("calls-store-twice", 1, 100_000, 17),
-    Part("calls-maps-awhile", 1, 100_000, 1),
-    Part("calls-store-awhile", 1, 100_000, 7),
+    Part("memory-maps-twice", 0, 100_000),
+    Part("memory-store-twice", 0, 100_000, 61),
+    Part("calls-maps-twice", 1, 100_000),
+    Part("calls-store-twice", 1, 100_000),
+    Part("calls-maps-awhile", 1, 100_000),
+    Part("calls-store-awhile", 1, 100_000),
 )
 
 

@@ -12,8 +12,8 @@ use anyhow::Result;
 use gaz_shelf::{Faulty, Inbox, MemShelf, Seed};
 use sqlite::{Alter, Connection, MemStore};
 
-/// How many calls fail one after the other, where they do for a while. Each is a keeper around another,
-/// and twice as many cost the proof many times as much.
+/// How many calls fail one after the other, where they do for a while. Each is a keeper around
+/// another, and twice as many cost the proof many times as much.
 const WHILE: usize = 4;
 
 /// Which calls of a keeper fail.
@@ -43,8 +43,8 @@ fn failing_twice<K: Inbox + Drop>(keeper: K, first: u64, second: u64) -> Faulty<
     Faulty::new(Faulty::new(keeper, second), first)
 }
 
-// Goes through the history over a keeper of which the call of the first number fails, and then all for
-// a while from one of the second number on.
+// Goes through the history over a keeper of which the call of the first number fails, and then all
+// for a while from one of the second number on.
 fn goes_awhile<K: Inbox + Drop>(
     walk: &Walk<'_>,
     keeper: K,
