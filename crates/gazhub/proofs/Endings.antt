@@ -1,5 +1,5 @@
 -- How a conversation ended.
-use Rattle.std.proofs.Common.{◌≡◌, ℕ, List, Result, Err, subst}
+use Rattle.std.proofs.Common.{◌≡◌, ℕ, List, Result, Ok, Err, subst}
 use Rattle.gaz_exchange.specs.declared.conversation.Served.{Served}
 use Rattle.gaz_exchange.specs.declared.conversation.Stopped.{Stopped}
 use Rattle.gaz_exchange.specs.declared.supply.Cause.{Cause}
@@ -14,3 +14,7 @@ pub by_cause : (text : List ℕ) (most : ℕ) (through : Transfer) (r : Result S
 by_cause text most through r s cause is e p =
     let told = subst (λ k. Plays text most through k) is p in
     (s.requests, subst (λ k. Plays text most through (Err (record { requests = s.requests; cause = k }))) e told)
+
+-- one that ended is told as it is
+pub as_it_ended : (text : List ℕ) (most : ℕ) (through : Transfer) (r : Result Served Stopped) (s : Served) → r ≡ Ok s → Plays text most through r → (served : Served) × Plays text most through (Ok served)
+as_it_ended text most through r s is p = (s, subst (λ k. Plays text most through k) is p)
