@@ -99,8 +99,8 @@ def extract_memory_row(folder):
 
 
 def rows(folder):
-    yield stream_row(folder, "100,000 small POSTs turned away at the door", (9999, 1), streams.STREET, 100_000)
-    yield stream_row(folder, "100,000 repeats of a file of 1 change", (1001, 1), streams.STREET, 100_000)
+    yield stream_row(folder, "99,000 small POSTs turned away at the door", (9999, 1), streams.STREET, 99_000)
+    yield stream_row(folder, "99,000 repeats of a file of 1 change", (1001, 1), streams.STREET, 99_000)
     yield stream_row(folder, "10,000 repeats of a file of 100 changes", (1001, 1), streams.streets_file(100), 10_000)
     yield from file_rows(folder)
     yield from reading_rows(folder)
