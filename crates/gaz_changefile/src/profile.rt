@@ -20,6 +20,20 @@ fn profile_in(row: &ByteRecord) -> Option<u64>
     }
 }
 
+/// The profile that the first record names, read as CSV.
+// Apart from `profile_of`, since a reader's buffers would be cleared for each file that needs none.
+#[inline(never)]
+fn read_profile(alloc: Global, bytes: &[u8]) -> Result<Option<u64>, AllocError>
+    ensures { IfOk result (λ profile. profile ≡ profile_of bytes.now) }
+{
+    let mut rdr = open_rows(alloc, bytes);
+    let mut row = ByteRecord::new(alloc);
+    if !next_row(&mut rdr, &mut row)? {
+        return Ok(None);
+    }
+    Ok(profile_in(&row))
+}
+
 /// The profile, 1 to 9999, that the first record of a file names: the number in its second field,
 /// where its first is `10`.
 ///
@@ -32,10 +46,5 @@ pub fn profile_of(alloc: Global, bytes: &[u8]) -> Result<Option<u64>, AllocError
     if bytes.starts_with(b"10,1,") {
         return Ok(Some(KNOWN_PROFILE));
     }
-    let mut rdr = open_rows(alloc, bytes);
-    let mut row = ByteRecord::new(alloc);
-    if !next_row(&mut rdr, &mut row)? {
-        return Ok(None);
-    }
-    Ok(profile_in(&row))
+    read_profile(alloc, bytes)
 }

@@ -47,7 +47,7 @@ is_known d c volume bytes e = known_at (knows d.register c) _ (early_let_in d c 
 -- ---- what is there
 
 -- what was received now is there
-there_now : (F K : Received) (c volume : ℕ) (bytes : List ℕ) → K ≡ with_file F c volume bytes → map.get K (c, volume) ≡ Some bytes
+pub there_now : (F K : Received) (c volume : ℕ) (bytes : List ℕ) → K ≡ with_file F c volume bytes → map.get K (c, volume) ≡ Some bytes
 there_now F K c volume bytes e =
     ap (λ X. map.get X (c, volume)) e ∙ map.get-insert pairs_total F (c, volume) bytes (c, volume)
     ∙ ap (λ b. cond b (Some bytes) (map.get F (c, volume))) ((eq_by_cmp_equiv pairs_total).refl (c, volume))

@@ -154,5 +154,6 @@ every_stop_over seen d old new commands responses was just r k left =
       known = w.known;
       partial = w.partial;
       ever = ever seen d old new commands responses was just r k left;
+      received = (r.stops (λ _. was.stands)).received k left;
       now = now seen d old new commands responses was just r k left;
     }

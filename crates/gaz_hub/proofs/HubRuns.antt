@@ -1,11 +1,19 @@
 -- Calls of a hub over a keeper, one after another.
-use Rattle.std.proofs.Common.{◌≡◌, inl, inr, List, [], ◌∷◌, ◌++◌, refl, sym, ap, ◌∙◌, subst, append-nil, append_assoc, arith}
+use Rattle.std.proofs.Common.{◌≡◌, ◌+◌, ◌⊎◌, inl, inr, ℕ, true, true≢false, List, [], ◌∷◌, ◌++◌, length, refl, sym, ap, ◌∙◌, subst, append-nil, append_assoc, length-append, arith}
+use Rattle.std.specs.Prelude.{Some}
+use Rattle.std.specs.FinMap as map
+use Rattle.gaz_shelf.specs.Received.{Received}
 use Rattle.gaz_shelf.specs.Keeper.{Content, Seen}
 use Rattle.gaz_hub.specs.Hubs.{Runs, Steps, state_of}
 use Rattle.gaz_hub.specs.Laws.{CallsMakeRuns}
 use Rattle.gaz_hub.specs.Runs.{Run}
-use Rattle.gaz_hub.specs.Step.{Command, Door, HubState, Response, Step}
-use Rattle.gaz_hub.specs.Stops.{IsLeftAfter, IsLeftBy, IsLeftSince, Stops, StopsRun}
+use Rattle.gaz_hub.specs.Step.{Command, Door, HubState, Pose, Replied, Response, Step, Submit, Submitted}
+use Rattle.gaz_hub.specs.declared.answer.Answer.TheVariants.{New, Repeat, Taken, Refused}
+use Rattle.gaz_hub.specs.declared.refusal.Refusal.TheVariants as refusal
+use Rattle.gaz_hub.proofs.AnswerSteps.{there_now}
+use Rattle.gaz_hub.proofs.Steps.{goes, has_all_with}
+use Rattle.gaz_hub.specs.Standing.{HasAllOf}
+use Rattle.gaz_hub.specs.Stops.{HasReceived, IsLeftAfter, IsLeftBy, IsLeftSince, IsLeftWith, StopsCall, StopsRun, is_taken_in}
 
 -- one run after another
 pub run_then : (d : Door) (a b c : HubState) (cs ds : List Command) (rs ss : List Response) → Run d a cs rs b → Run d b ds ss c → Run d a (cs ++ ds) (rs ++ ss) c
@@ -13,6 +21,65 @@ run_then d a b c [] ds [] ss x y = rw (← x) y
 run_then d a b c [] ds (r ∷ rs) ss x y = absurd x
 run_then d a b c (k ∷ cs) ds [] ss x y = absurd x
 run_then d a b c (k ∷ cs) ds (r ∷ rs) ss x y = (x.0, x.1, run_then d x.0 b c cs ds rs ss x.2 y)
+
+-- ---- what is received stays
+
+-- more files have it too
+received_more : (commands : List Command) (responses : List Response) (files bigger : Received) → HasAllOf bigger files → HasReceived commands responses files → HasReceived commands responses bigger
+received_more [] rs files bigger all h = tt
+received_more (Submit c volume bytes ∷ cs) [] files bigger all h = tt
+received_more (Submit c volume bytes ∷ cs) (r ∷ rs) files bigger all h = (λ is. all (c, volume) bytes (h.0 is), received_more cs rs files bigger all h.1)
+received_more (Pose q ∷ cs) [] files bigger all h = tt
+received_more (Pose q ∷ cs) (r ∷ rs) files bigger all h = received_more cs rs files bigger all h
+
+received_then : (cs ds : List Command) (rs ss : List Response) (files : Received) → length rs ≡ length cs → HasReceived cs rs files → HasReceived ds ss files → HasReceived (cs ++ ds) (rs ++ ss) files
+received_then [] ds [] ss files e x y = y
+received_then [] ds (r ∷ rs) ss files e x y = absurd (omega (arith, e))
+received_then (c ∷ cs) ds [] ss files e x y = absurd (omega (arith, e))
+received_then (Submit c volume bytes ∷ cs) ds (r ∷ rs) ss files e x y = (x.0, received_then cs ds rs ss files (omega (arith, e)) x.1 y)
+received_then (Pose q ∷ cs) ds (r ∷ rs) ss files e x y = received_then cs ds rs ss files (omega (arith, e)) x y
+
+-- a run loses no file
+pub run_has_all : (d : Door) (old new : HubState) (commands : List Command) (responses : List Response) → Run d old commands responses new → HasAllOf new.received old.received
+run_has_all d old new [] [] r = subst (λ (hub : HubState). HasAllOf hub.received old.received) (sym r) (λ p bytes at. at)
+run_has_all d old new (command ∷ commands) (response ∷ responses) r =
+    let first = (goes d old command response r.0 r.1).all in
+    let rest = run_has_all d r.0 new commands responses r.2 in
+    λ p bytes at. rest p bytes (first p bytes at)
+run_has_all d old new [] (response ∷ responses) r = absurd r
+run_has_all d old new (command ∷ commands) [] r = absurd r
+
+-- a step that receives a file has it
+taken_there : (d : Door) (old new : HubState) (c volume : ℕ) (bytes : List ℕ) (response : Response) → Step d old (Submit c volume bytes) response new → is_taken_in response ≡ true → map.get new.received (c, volume) ≡ Some bytes
+taken_there d old new c volume bytes (Submitted (New told)) s is = there_now old.received new.received c volume bytes s.received
+taken_there d old new c volume bytes (Submitted (Refused (refusal.ReceivedUnsettled cause))) s is = there_now old.received new.received c volume bytes s.received
+taken_there d old new c volume bytes (Submitted (Repeat told)) s is = absurd (true≢false (sym is))
+taken_there d old new c volume bytes (Submitted (Taken digest)) s is = absurd (true≢false (sym is))
+taken_there d old new c volume bytes (Submitted (Refused (refusal.NotReceived cause))) s is = absurd (true≢false (sym is))
+taken_there d old new c volume bytes (Submitted (Refused refusal.UnknownCustodian)) s is = absurd (true≢false (sym is))
+taken_there d old new c volume bytes (Submitted (Refused refusal.BadVolume)) s is = absurd (true≢false (sym is))
+taken_there d old new c volume bytes (Submitted (Refused refusal.TooLarge)) s is = absurd (true≢false (sym is))
+taken_there d old new c volume bytes (Submitted (Refused refusal.UnknownProfile)) s is = absurd (true≢false (sym is))
+taken_there d old new c volume bytes (Replied q reply) s is = absurd (true≢false (sym is))
+
+run_received : (d : Door) (old new : HubState) (commands : List Command) (responses : List Response) → Run d old commands responses new → HasReceived commands responses new.received
+run_received d old new [] [] r = tt
+run_received d old new (Submit c volume bytes ∷ cs) (response ∷ rs) r =
+    (λ is. run_has_all d r.0 new cs rs r.2 (c, volume) bytes (taken_there d old r.0 c volume bytes response r.1 is), run_received d r.0 new cs rs r.2)
+run_received d old new (Pose q ∷ cs) (response ∷ rs) r = run_received d r.0 new cs rs r.2
+run_received d old new [] (response ∷ rs) r = absurd r
+run_received d old new (Submit c volume bytes ∷ cs) [] r = absurd r
+run_received d old new (Pose q ∷ cs) [] r = absurd r
+
+-- what a command leaves has all that was there
+left_has_all : (d : Door) (command : Command) (hub : HubState) (k : Content) → IsLeftBy d command hub k → HasAllOf k.files hub.received
+left_has_all d (Submit c volume bytes) hub k (inl l) = subst (λ F. HasAllOf F hub.received) (sym l.files) (λ p there at. at)
+left_has_all d (Submit c volume bytes) hub k (inr l) = subst (λ F. HasAllOf F hub.received) (sym l.later.files) (has_all_with hub.received c volume bytes l.free)
+left_has_all d (Pose q) hub k l = subst (λ F. HasAllOf F hub.received) (sym l.files) (λ p there at. at)
+
+one_received : (d : Door) (command : Command) (response : Response) (hub : HubState) (k : Content) → (is_taken_in response ≡ true → IsLeftWith d command hub k) → HasReceived (command ∷ []) (response ∷ []) k.files
+one_received d (Submit c volume bytes) response hub k has = (λ is. there_now hub.received k.files c volume bytes (has is).later.files, tt)
+one_received d (Pose q) response hub k has = tt
 
 -- ---- what a stop may leave
 
@@ -24,8 +91,9 @@ module _ (d : Door) (old new : Seen) (command : Command) (response : Response) w
   after = state_of new.content
 
   -- of one call
-  run_stops_one : (new.unharmed → Step d before command response after) → Stops old new before after (IsLeftBy d command) → StopsRun d old new before after (command ∷ []) (response ∷ [])
-  run_stops_one step s =
+  run_stops_one : (new.unharmed → Step d before command response after) → StopsCall d old new before after command response → StopsRun d old new before after (command ∷ []) (response ∷ [])
+  run_stops_one step call =
+      let s = call.stops in
       record {
         ever = λ k l. elim (s.ever k l) [
           | inl was ↦ inl was
@@ -59,6 +127,8 @@ module _ (d : Door) (old new : Seen) (command : Command) (response : Response) w
             left = made;
           })
         ];
+        answered = refl;
+        received = λ k l. one_received d command response before k (λ is. (call.received is k l).1);
         whole = s.whole;
       }
 
@@ -145,8 +215,18 @@ run_stops_then d old mid new cs ds rs ss harm harm_then run first second =
         ]
         | inr made ↦ inr (since_those d cs ds rs ss k (state_of old.content) (state_of mid.content) (state_of new.content) (run (harm_then fine)) made)
       ];
+      answered = length-append rs ss ∙ (λ i. first.answered i + second.answered i) ∙ sym (length-append cs ds);
+      received = λ k l. received_then cs ds rs ss k.files first.answered (before k (second.ever k l)) (second.received k l);
       whole = λ all. second.whole (first.whole all);
     }
+  where
+    before : (k : Content) → mid.leaves k ⊎ (mid.unharmed × IsLeftAfter d ds ss (state_of mid.content) k) → HasReceived cs rs k.files
+    before k (inl was) = first.received k was
+    before k (inr made) =
+        let l = made.1 in
+        let all = run_has_all d (state_of mid.content) l.mid l.earlier l.told l.run in
+        let more = left_has_all d l.command l.mid k l.left in
+        received_more cs rs mid.content.files k.files (λ p bytes at. more p bytes (all p bytes at)) (run_received d (state_of old.content) (state_of mid.content) cs rs (run made.0))
 
 -- ---- calls
 
@@ -158,7 +238,7 @@ runs_none d s = record {
   run = λ st u. refl;
   idle = λ i. i;
   failures = omega arith;
-  stops = λ sound. record { ever = λ k l. inl l; now = λ fine k l. inl (l, refl); whole = λ all. all };
+  stops = λ sound. record { ever = λ k l. inl l; now = λ fine k l. inl (l, refl); answered = refl; received = λ k l. tt; whole = λ all. all };
 }
 
 -- one call
@@ -170,7 +250,7 @@ runs_one d old new command response s = record {
   run = λ st u. (_, s.step st u, refl);
   idle = λ i. s.idle;
   failures = s.failures;
-  stops = λ sound. run_stops_one d old new command response (λ fine. s.step (sound (s.harm fine)) fine) (s.stops sound).stops;
+  stops = λ sound. run_stops_one d old new command response (λ fine. s.step (sound (s.harm fine)) fine) (s.stops sound);
 }
 
 -- calls, and then more of them

@@ -9,6 +9,7 @@ pub mod Looks
 pub mod Waiting
 pub mod Bounds
 pub mod Advancing
+pub mod Rounds
 pub mod Memory
 pub mod Telling
 pub mod Told

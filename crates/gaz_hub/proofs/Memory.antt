@@ -18,7 +18,8 @@ use Rattle.gaz_hub.specs.Settling.{Advances, IsNext, Tells}
 use Rattle.gaz_hub.specs.Step.{Door}
 use Rattle.gaz_hub.specs.Waiting.{IsRight, Remembered, RestAfter, RestBut, Rests, all_ahead, is_among, remembering, with_coming, with_judged, with_waiter}
 use Rattle.gaz_hub.specs.declared.looking.Next.TheVariants as next
-use Rattle.gaz_hub.proofs.Advancing.{Adds, IsNow, added_is, stops_of_remembering}
+use Rattle.gaz_hub.proofs.Advancing.{Adds, IsNow, added_is}
+use Rattle.gaz_hub.proofs.Rounds.{stops_of_remembering}
 use Rattle.gaz_hub.proofs.Waiting.{in_neither, known_among, now_waits, rests_on, rests_with, still_waits, unwoken}
 
 -- ---- one custodian

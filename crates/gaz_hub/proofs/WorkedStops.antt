@@ -1,5 +1,5 @@
 -- The worked examples on what a stop may leave of a hub.
-use Rattle.std.proofs.Common.{◌≡◌, ◌∙◌, ap, inl, inr, refl, sym}
+use Rattle.std.proofs.Common.{◌≡◌, ◌∙◌, ap, inl, inr, refl, sym, true≢false}
 use Rattle.std.specs.FinMap as map
 use Rattle.gaz_shelf.specs.Board.{empty_board}
 use Rattle.gaz_shelf.specs.Received.{Received, pair_cmp}
@@ -36,4 +36,7 @@ worked_stops_hold = record {
   unsettled_is_taken_in = refl;
   not_received_is_not = refl;
   repeat_is_not = refl;
+  received_stays = (λ is. get_first (1003, 1), tt);
+  received_is_not_lost = λ has. no_none (map.get map.empty (1003, 1)) no_text (has.0 refl) (map.get-empty pair_cmp (1003, 1));
+  unreceived_may_lack = (λ is. absurd (true≢false (sym is)), tt);
 }

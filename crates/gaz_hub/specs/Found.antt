@@ -9,6 +9,7 @@ use Rattle.gaz_hub.specs.Laws.{StandsForRun}
 use Rattle.gaz_hub.specs.Runs.{Run}
 use Rattle.gaz_hub.specs.Standing.{IsPartial}
 use Rattle.gaz_hub.specs.Step.{Command, Door, HubState, Response, Submit, blocks, file_refusal}
+use Rattle.gaz_hub.specs.Stops.{HasReceived}
 
 -- ---- which files
 
@@ -54,6 +55,8 @@ pub record IsFound (door : Door) (old new : Seen) (commands : List Command)
   pub partial : IsPartial (blocks door) k.files k.board
   -- of files that had been received, whatever became of the keeper
   pub ever : HasFilesAfter door (state_of old.content) commands responses k.files
+  -- with each that one of the commands received
+  pub received : HasReceived commands responses k.files
   -- and of all that are received, where nobody else wrote on what it keeps
   pub now : new.unharmed → HasFilesOf door (state_of new.content) commands k.files
 

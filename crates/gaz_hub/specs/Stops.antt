@@ -1,8 +1,9 @@
 -- What a stop may leave of what a hub keeps.
-use Rattle.std.specs.Prelude.{◌≡◌, ◌⊎◌, ℕ, Bool, true, false, List, [], ◌∷◌, ◌++◌, None}
+use Rattle.std.specs.Prelude.{◌≡◌, ◌⊎◌, ⊤, ℕ, Bool, true, false, List, [], ◌∷◌, ◌++◌, length}
+use Rattle.std.specs.Prelude.{None, Some}
 use Rattle.std.specs.FinMap as map
 use Rattle.gaz_shelf.specs.Keeper.{Content, Seen}
-use Rattle.gaz_shelf.specs.Received.{with_file}
+use Rattle.gaz_shelf.specs.Received.{Received, with_file}
 use Rattle.gaz_views.specs.View.{empty_view}
 use Rattle.gaz_hub.specs.Runs.{Run}
 use Rattle.gaz_hub.specs.Standing.{Follows}
@@ -94,6 +95,15 @@ pub record IsLeftSince (door : Door) (commands : List Command) (responses : List
   pub run : Run door hub (earlier ++ command ∷ []) told last
   pub left : IsLeftBy door command last k
 
+-- these files have that of each command which received one
+abbrev pub HasReceived : List Command → List Response → Received → Type 0
+HasReceived (Submit c volume bytes ∷ commands) (response ∷ responses) files =
+    (is_taken_in response ≡ true → map.get files (c, volume) ≡ Some bytes)
+    × HasReceived commands responses files
+HasReceived (Pose q ∷ commands) (response ∷ responses) files =
+    HasReceived commands responses files
+HasReceived _ _ files = ⊤
+
 -- calls one after another
 pub record StopsRun (door : Door) (old new : Seen) (before after : HubState)
     (commands : List Command) (responses : List Response) : Type 0 where
@@ -101,4 +111,8 @@ pub record StopsRun (door : Door) (old new : Seen) (before after : HubState)
       → old.leaves k ⊎ (old.unharmed × IsLeftAfter door commands responses before k)
   pub now : new.unharmed → (k : Content) → new.leaves k
       → (old.leaves k × (after ≡ before)) ⊎ IsLeftSince door commands responses before after k
+  -- once a file is received each stop leaves it, whatever comes then and whatever becomes of the
+  -- keeper
+  pub answered : length responses ≡ length commands
+  pub received : (k : Content) → new.leaves k → HasReceived commands responses k.files
   pub whole : old.whole → new.whole

@@ -1,5 +1,6 @@
 -- Worked examples on what a stop may leave of a hub.
-use Rattle.std.specs.Prelude.{true, false, ◌≡◌}
+use Rattle.std.specs.Prelude.{true, false, ◌≡◌, [], ◌∷◌}
+use Rattle.std.specs.FinMap as map
 use Rattle.gaz_shelf.specs.Board.{empty_board}
 use Rattle.gaz_shelf.specs.Keeper.{Content}
 use Rattle.gaz_shelf.specs.declared.fault.ShelfFault.TheVariants as fault
@@ -7,7 +8,7 @@ use Rattle.gaz_views.specs.View.{empty_view}
 use Rattle.gaz_hub.specs.Examples.{first_hub, first_sent, no_text}
 use Rattle.gaz_hub.specs.Sample.{sample_door}
 use Rattle.gaz_hub.specs.Step.{Command, HubState, Pose, Stand, Submit, Submitted, new_hub}
-use Rattle.gaz_hub.specs.Stops.{IsLeftBy, IsLeftWith, is_taken_in}
+use Rattle.gaz_hub.specs.Stops.{HasReceived, IsLeftBy, IsLeftWith, is_taken_in}
 use Rattle.gaz_hub.specs.declared.answer.Answer.TheVariants.{New, Repeat, Refused}
 use Rattle.gaz_hub.specs.declared.outcome.Outcome.TheVariants.{Rejected}
 use Rattle.gaz_hub.specs.declared.refusal.Refusal.TheVariants as refusal
@@ -43,3 +44,10 @@ pub record WorkedStops : Type 0 where
   pub not_received_is_not :
       is_taken_in (Submitted (Refused (refusal.NotReceived fault.Store))) ≡ false
   pub repeat_is_not : is_taken_in (Submitted (Repeat (Rejected 1 1))) ≡ false
+  -- a file that was received stays, and one that wasn't need not
+  pub received_stays :
+      HasReceived (sends ∷ []) (Submitted (New (Rejected 1 1)) ∷ []) first_sent
+  pub received_is_not_lost :
+      HasReceived (sends ∷ []) (Submitted (New (Rejected 1 1)) ∷ []) map.empty → ⊥
+  pub unreceived_may_lack : HasReceived (sends ∷ [])
+      (Submitted (Refused (refusal.NotReceived fault.Store)) ∷ []) map.empty

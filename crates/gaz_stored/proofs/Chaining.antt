@@ -10,7 +10,7 @@ use Rattle.gaz_hub.specs.Runs.{Run}
 use Rattle.gaz_hub.specs.Standing.{HasAllOf, IsPartial}
 use Rattle.gaz_hub.specs.Step.{Command, Door, HubState, Response, new_hub}
 use Rattle.gaz_hub.proofs.Answers.{every_answer_holds}
-use Rattle.gaz_hub.proofs.HubRuns.{run_then}
+use Rattle.gaz_hub.proofs.HubRuns.{run_has_all, run_then}
 use Rattle.gaz_hub.proofs.Runs.{every_run_from_holds, nothing_partial}
 use Rattle.gaz_hub.proofs.Steps.{goes, has_all_with}
 use Rattle.gaz_stored.specs.Chains.{AreOne, Chain, ChainsAreOne, Talk, after_all, all_commands, all_responses}
@@ -53,17 +53,7 @@ chains_are_one = record {
 
 -- ---- stopped again and again
 
--- a run loses no file
-run_has_all : (d : Door) (old new : HubState) (commands : List Command) (responses : List Response) → Run d old commands responses new → HasAllOf new.received old.received
-run_has_all d old new [] [] r = subst (λ (hub : HubState). HasAllOf hub.received old.received) (sym r) (λ p bytes at. at)
-run_has_all d old new (command ∷ commands) (response ∷ responses) r =
-    let first = (goes d old command response r.0 r.1).all in
-    let rest = run_has_all d r.0 new commands responses r.2 in
-    λ p bytes at. rest p bytes (first p bytes at)
-run_has_all d old new [] (response ∷ responses) r = absurd r
-run_has_all d old new (command ∷ commands) [] r = absurd r
-
--- nor does what a stop leaves of it
+-- what a stop leaves of a run loses no file
 files_have_all : (d : Door) (hub : HubState) (commands : List Command) (responses : List Response) (files : Received) → HasFilesAfter d hub commands responses files → HasAllOf files hub.received
 files_have_all d hub commands responses files l p bytes at =
     let mid = run_has_all d hub l.mid l.earlier l.told l.run p bytes at in

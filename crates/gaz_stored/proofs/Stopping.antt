@@ -43,6 +43,7 @@ module _ {S : Type 0} {g : Ghosts S} (register : RegisterValue) (first last : St
       record {
         stands = record { kept = (runs.stops (λ _. was.stands)).whole whole db left.clean left.left left.schema; known = found.known; partial = found.partial };
         ever = subst (λ h. HasFilesAfter (door_of register) h commands responses k.files) begins found.ever;
+        received = found.received;
         now = found.now;
       }
 

@@ -9,6 +9,7 @@ use Rattle.gaz_hub.specs.Found.{HasFilesAfter, HasFilesOf}
 use Rattle.gaz_hub.specs.Hubs.{door_of}
 use Rattle.gaz_hub.specs.Standing.{HasAllOf}
 use Rattle.gaz_hub.specs.Step.{Command, HubState, Response}
+use Rattle.gaz_hub.specs.Stops.{HasReceived}
 use Rattle.gaz_store.specs.Seen.{IsUnharmed}
 use Rattle.gaz_stored.specs.Chains.{Talk, after_all}
 use Rattle.gaz_stored.specs.Runs.{StandForRun, hub_in}
@@ -31,6 +32,8 @@ pub record IsFoundLater (register : RegisterValue) (before : HubState) (commands
   pub stands : StandForRun register db
   -- of files that had been received, whatever became of the connection
   pub ever : HasFilesAfter (door_of register) before commands responses (hub_in db).received
+  -- with each that one of the commands received
+  pub received : HasReceived commands responses (hub_in db).received
   -- and of all that are received, where the connection is open in the end
   pub now : IsUnharmed after
       → HasFilesOf (door_of register) (hub_in after.now) commands (hub_in db).received

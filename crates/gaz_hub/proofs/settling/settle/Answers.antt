@@ -4,7 +4,8 @@ use Rattle.std.specs.Prelude.{⊤, Ok, Some}
 use Rattle.gaz_hub.specs.Hubs.{door_of}
 use Rattle.gaz_hub.specs.Settling.{Tells, Tries}
 use Rattle.gaz_hub.specs.Waiting.{remembering}
-use Rattle.gaz_hub.proofs.Advancing.{advances_less, advances_then, is_err, settled_now, settling_stopped}
+use Rattle.gaz_hub.proofs.Advancing.{advances_less, advances_then, is_err}
+use Rattle.gaz_hub.proofs.Rounds.{settled_now, settling_stopped}
 use Rattle.gaz_hub.proofs.Memory.{rest_then, tells_over}
 use Rattle.gaz_hub.proofs.settling.settle.Goals as goal
 
