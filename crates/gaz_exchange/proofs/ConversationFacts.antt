@@ -1,6 +1,6 @@
 -- A conversation, turn by turn.
 use Rattle.std.proofs.Common.{◌≡◌, ℕ, ◌+◌, ◌-◌, ◌<◌, ◌≤◌, Bool, true, false, List, [], ◌∷◌, ◌++◌, length, Option, Result, Ok, Err, inl, inr, refl, ap, sym, ◌∙◌, arith, append-nil, length-append}
-use Rattle.std.specs.Prelude.{◌&&◌, ◌||◌, not, nat_lt, ◌==◌, if◌then◌else◌}
+use Rattle.std.specs.Prelude.{◌⊎◌, ◌&&◌, ◌||◌, not, nat_lt, ◌==◌, if◌then◌else◌}
 use Rattle.std.specs.Io.KnownBytes.{Appends, Consumes}
 use Rattle.std.proofs.KnownBytes.{Appends-nil, Appends-trans, Consumes-nil, Consumes-trans}
 use Rattle.std.proofs.lemmas.Bool.Decides.{nat_tests}
@@ -14,11 +14,11 @@ use Rattle.gaz_hub.proofs.Answers.{every_answer_holds}
 use Rattle.gaz_hub.proofs.HubRuns.{runs_none, runs_still, runs_then}
 use Rattle.gaz_exchange.specs.declared.conversation.Served.{Served}
 use Rattle.gaz_exchange.specs.declared.conversation.Stopped.{Stopped}
-use Rattle.gaz_exchange.specs.Conversing.{Conversation, EndsAs, EndsByReply, Passed, StopsAs, StopsWaiting, ended_after}
+use Rattle.gaz_exchange.specs.Conversing.{CountedConversation, EndsAs, EndsByReply, Passed, StopsAs, StopsWaiting, ended_after}
 use Rattle.gaz_exchange.specs.Exchanges.{Comes, Exchange, all_open, command_in, commands_of, ends_after, goes_on, replies, responses_of}
 use Rattle.gaz_exchange.specs.Framing.{is_closing}
-use Rattle.gaz_exchange.specs.Refusals.{IsTurnedAway}
-use Rattle.gaz_exchange.specs.Turns.{Exchanges, IsTurn, Rests, Waits}
+use Rattle.gaz_exchange.specs.Sparing.{OneForEach, OneForEachUsed}
+use Rattle.gaz_exchange.specs.Turns.{Exchanges, IsTurn, Rests, TurnsAway, Waits}
 use Rattle.gaz_exchange.specs.declared.supply.Cause.{Cause}
 use Rattle.gaz_exchange.specs.declared.supply.Cause.TheVariants.{ReadFault, WriteFault}
 use Rattle.gaz_exchange.specs.declared.conversation.Ended.{Ended}
@@ -33,8 +33,9 @@ no_input_end : (b : Bool) → (if b then ended.Most else ended.Closed) ≡ ended
 no_input_end true e = cc e
 no_input_end false e = cc e
 
-abbrev Converses : Door → ℕ → Option (List ℕ) → Option (List ℕ) → Option (List ℕ) → Option (List ℕ) → Seen → Seen → Result Served Stopped → Type 0
-Converses d most had left held holds old new result = Conversation d most (record { had = had; left = left; held = held; holds = holds }) old new result
+-- begun and ended count the reads
+abbrev Converses : Door → ℕ → ℕ → ℕ → Option (List ℕ) → Option (List ℕ) → Option (List ℕ) → Option (List ℕ) → Seen → Seen → Result Served Stopped → Type 0
+Converses d most begun ended had left held holds old new result = CountedConversation d most (record { had = had; left = left; held = held; holds = holds }) begun ended old new result
 
 abbrev passed_in : List Exchange → List ℕ → Option (List ℕ) → List ℕ → Passed
 passed_in es rest left written = record { exchanges = es; rest = rest; left = left; written = written }
@@ -52,7 +53,7 @@ answers_off d old new commands responses r was fine =
 
 module _ (d : Door) where
   -- n requests were answered, and none of them ends the conversation
-  pub record IsSoFar (most n : ℕ) (routed : Bool) (had left held holds : Option (List ℕ)) (old new : Seen) (inlet : List ℕ) : Type 0 where
+  pub record IsSoFar (most n : ℕ) (routed : Bool) (begun reads : ℕ) (had left held holds : Option (List ℕ)) (old new : Seen) (inlet : List ℕ) : Type 0 where
     pub read : List ℕ
     pub exchanges : List Exchange
     pub consumed : Consumes had left read
@@ -62,9 +63,10 @@ module _ (d : Door) where
     pub runs : Runs d old new (commands_of exchanges) (responses_of exchanges)
     pub count : length exchanges ≡ n
     pub opens : all_open exchanges ≡ true
+    pub counted : OneForEachUsed begun reads read inlet
 
-  pub so_far_none : (most : ℕ) (routed : Bool) (had held : Option (List ℕ)) (old : Seen) (inlet : List ℕ) → inlet ≡ [] → IsSoFar most 0 routed had had held held old old inlet
-  so_far_none most routed had held old inlet e = record {
+  pub so_far_none : (most : ℕ) (routed : Bool) (begun : ℕ) (had held : Option (List ℕ)) (old : Seen) (inlet : List ℕ) → inlet ≡ [] → IsSoFar most 0 routed begun begun had had held held old old inlet
+  so_far_none most routed begun had held old inlet e = record {
     read = [];
     exchanges = [];
     consumed = Consumes-nil had;
@@ -74,10 +76,20 @@ module _ (d : Door) where
     runs = runs_none d old;
     count = refl;
     opens = refl;
+    counted = rw e (omega arith);
   }
 
-  module _ (most n : ℕ) (was routed : Bool) (had left later held holds after : Option (List ℕ)) (old mid new : Seen) (inlet rest : List ℕ)
-      (s : IsSoFar most n was had left held holds old mid inlet) (below : n < most) where
+  module _ (most n : ℕ) (was routed : Bool) (begun reads reads_then : ℕ) (had left later held holds after : Option (List ℕ)) (old mid new : Seen) (inlet rest : List ℕ)
+      (s : IsSoFar most n was begun reads had left held holds old mid inlet) (below : n < most) where
+    counted_used : (read : List ℕ) → OneForEachUsed reads reads_then (inlet ++ read) rest → OneForEachUsed begun reads_then (s.read ++ read) rest
+    counted_used read one = omega (arith, s.counted, one, length-append inlet read, length-append s.read read)
+
+    counted_all : (read : List ℕ) (FoundNone Others : Type 0) → OneForEach reads reads_then (inlet ++ read) FoundNone → (FoundNone → Others) → OneForEach begun reads_then (s.read ++ read) Others
+    counted_all read FoundNone Others one these = elim one [
+      | inl each ↦ inl (omega (arith, s.counted, each, length-append inlet read, length-append s.read read))
+      | inr last ↦ inr (omega (arith, s.counted, last.0, length-append inlet read, length-append s.read read), these last.1)
+    ]
+
     open_yet : goes_on most s.exchanges ≡ true
     open_yet =
         let count = s.count in
@@ -128,14 +140,20 @@ module _ (d : Door) where
       still_runs : Runs d old new (commands_of s.exchanges) (responses_of s.exchanges)
       still_runs = runs_still d old mid new (commands_of s.exchanges) (responses_of s.exchanges) s.runs rests
 
+    not_last : {P : Type 0} (count : ℕ) → n ≤ count → ((goes_on most s.exchanges ≡ false) ⊎ (count < length s.exchanges)) → P
+    not_last count above last = elim last [
+      | inl done ↦ let wrong : true ≡ false = sym open_yet ∙ done in absurd (cc wrong)
+      | inr fewer ↦ absurd (omega (arith, s.count, above, fewer))
+    ]
+
     quiet : (written : List ℕ) → Appends holds after written → written ≡ [] → Appends held after (replies s.exchanges)
     quiet written a e =
         let all = Appends-trans held holds after (replies s.exchanges) written s.appended a in
         rw (e, append-nil (replies s.exchanges)) at all
 
-    pub so_far_more : IsTurn d ((n + 1) == most) was routed inlet rest left later holds after mid new Answered → IsSoFar most (n + 1) routed had later held after old new rest
+    pub so_far_more : IsTurn d ((n + 1) == most) was routed reads reads_then inlet rest left later holds after mid new Answered → IsSoFar most (n + 1) routed begun reads_then had later held after old new rest
     so_far_more t =
-        let (e, x, told, goes) = t.out in
+        let (e, x, told, goes, counted) = t.out in
         let others : goes_on most (s.exchanges ++ e ∷ []) ≡ true = ends_or_not t.read e t.consumed x t.stay ∙ ap not goes in
         record {
           read = s.read ++ t.read;
@@ -147,12 +165,13 @@ module _ (d : Door) where
           runs = all_runs t.read e t.consumed x t.stay;
           count = one_more t.read e t.consumed x t.stay;
           opens = (both (nat_lt (length (s.exchanges ++ e ∷ [])) most) (all_open (s.exchanges ++ e ∷ [])) others).1;
+          counted = counted_used t.read counted;
         }
 
-    closed_by_reply : (t : IsTurn d ((n + 1) == most) was routed inlet rest left later holds after mid new Closed) (e : Exchange) → Exchanges d ((n + 1) == most) routed (inlet ++ t.read) e rest mid new
-        → t.written ≡ e.reply → (is_closing e.head || ((n + 1) == most)) ≡ true
-        → Converses d most had later held after old new (Ok (record { requests = n + 1; ended = ended_after (n + 1) most }))
-    closed_by_reply t e x told ends =
+    closed_by_reply : (t : IsTurn d ((n + 1) == most) was routed reads reads_then inlet rest left later holds after mid new Closed) (e : Exchange) → Exchanges d ((n + 1) == most) routed (inlet ++ t.read) e rest mid new
+        → t.written ≡ e.reply → (is_closing e.head || ((n + 1) == most)) ≡ true → OneForEachUsed reads reads_then (inlet ++ t.read) rest
+        → Converses d most begun reads_then had later held after old new (Ok (record { requests = n + 1; ended = ended_after (n + 1) most }))
+    closed_by_reply t e x told ends counted =
         let passed = passed_in (s.exchanges ++ e ∷ []) rest later (replies (s.exchanges ++ e ∷ [])) in
         let by_reply : EndsByReply most passed (n + 1) = inl (record {
           done = ends_or_not t.read e t.consumed x t.stay ∙ ap not ends;
@@ -160,23 +179,27 @@ module _ (d : Door) where
           told = refl;
         }) in
         let how = ends_by most passed (n + 1) (ended_after (n + 1) most) refl by_reply in record {
-          read = s.read ++ t.read;
-          written = replies (s.exchanges ++ e ∷ []);
-          exchanges = s.exchanges ++ e ∷ [];
-          rest = rest;
-          consumed = all_consumed t.read e t.consumed x t.stay;
-          appended = all_written t.read e t.consumed x t.stay t.written t.appended told;
-          comes = all_come t.read e t.consumed x t.stay;
-          routes = (all_routes t.read e t.consumed x t.stay).stay;
-          runs = all_runs t.read e t.consumed x t.stay;
-          answers = answers_off d old new _ _ (all_runs t.read e t.consumed x t.stay);
-          comes_to = how;
-          answers_all = ends_all most passed (n + 1) (ended_after (n + 1) most) how;
+          conversation = record {
+            read = s.read ++ t.read;
+            written = replies (s.exchanges ++ e ∷ []);
+            exchanges = s.exchanges ++ e ∷ [];
+            rest = rest;
+            consumed = all_consumed t.read e t.consumed x t.stay;
+            appended = all_written t.read e t.consumed x t.stay t.written t.appended told;
+            comes = all_come t.read e t.consumed x t.stay;
+            routes = (all_routes t.read e t.consumed x t.stay).stay;
+            runs = all_runs t.read e t.consumed x t.stay;
+            answers = answers_off d old new _ _ (all_runs t.read e t.consumed x t.stay);
+            comes_to = how;
+            answers_all = ends_all most passed (n + 1) (ended_after (n + 1) most) how;
+          };
+          one_for_each = inl (omega (arith, counted_used t.read counted));
+          none_behind = λ last. counted_used t.read counted;
         }
 
-    closed_by_refusal : (t : IsTurn d ((n + 1) == most) was routed inlet rest left later holds after mid new Closed) → IsTurnedAway (inlet ++ t.read) later t.written → Rests d mid new
-        → Converses d most had later held after old new (Ok (record { requests = n + 1; ended = ended_after (n + 1) most }))
-    closed_by_refusal t away rests =
+    closed_by_refusal : (t : IsTurn d ((n + 1) == most) was routed reads reads_then inlet rest left later holds after mid new Closed) → TurnsAway d reads reads_then (inlet ++ t.read) later mid new t.written
+        → Converses d most begun reads_then had later held after old new (Ok (record { requests = n + 1; ended = ended_after (n + 1) most }))
+    closed_by_refusal t (away, rests, counted) =
         let passed = passed_in s.exchanges (inlet ++ t.read) later (replies s.exchanges ++ t.written) in
         let by_reply : EndsByReply most passed (n + 1) = inr (record {
           open_yet = open_yet;
@@ -186,117 +209,138 @@ module _ (d : Door) where
           told = refl;
         }) in
         let how = ends_by most passed (n + 1) (ended_after (n + 1) most) refl by_reply in record {
-          read = s.read ++ t.read;
-          written = replies s.exchanges ++ t.written;
-          exchanges = s.exchanges;
-          rest = inlet ++ t.read;
-          consumed = still_consumed t.read t.consumed rests;
-          appended = Appends-trans held holds after (replies s.exchanges) t.written s.appended t.appended;
-          comes = still_come t.read t.consumed rests;
-          routes = s.routes.stay;
-          runs = still_runs t.read t.consumed rests;
-          answers = answers_off d old new _ _ (still_runs t.read t.consumed rests);
-          comes_to = how;
-          answers_all = ends_all most passed (n + 1) (ended_after (n + 1) most) how;
+          conversation = record {
+            read = s.read ++ t.read;
+            written = replies s.exchanges ++ t.written;
+            exchanges = s.exchanges;
+            rest = inlet ++ t.read;
+            consumed = still_consumed t.read t.consumed rests;
+            appended = Appends-trans held holds after (replies s.exchanges) t.written s.appended t.appended;
+            comes = still_come t.read t.consumed rests;
+            routes = s.routes.stay;
+            runs = still_runs t.read t.consumed rests;
+            answers = answers_off d old new _ _ (still_runs t.read t.consumed rests);
+            comes_to = how;
+            answers_all = ends_all most passed (n + 1) (ended_after (n + 1) most) how;
+          };
+          one_for_each = counted_all t.read _ _ counted inl;
+          none_behind = λ last. not_last (n + 1) (omega arith) last;
         }
 
-    pub ends_closed : IsTurn d ((n + 1) == most) was routed inlet rest left later holds after mid new Closed
-        → Converses d most had later held after old new (Ok (record { requests = n + 1; ended = ended_after (n + 1) most }))
-    ends_closed t = elim t.out [ inl w ↦ closed_by_reply t w.0 w.1 w.2 w.3 | inr w ↦ closed_by_refusal t w.0 w.1 ]
+    pub ends_closed : IsTurn d ((n + 1) == most) was routed reads reads_then inlet rest left later holds after mid new Closed
+        → Converses d most begun reads_then had later held after old new (Ok (record { requests = n + 1; ended = ended_after (n + 1) most }))
+    ends_closed t = elim t.out [ inl w ↦ closed_by_reply t w.0 w.1 w.2 w.3 w.4 | inr w ↦ closed_by_refusal t w ]
 
-    pub ends_over : IsTurn d ((n + 1) == most) was routed inlet rest left later holds after mid new Over
-        → Converses d most had later held after old new (Ok (record { requests = n; ended = ended.InputEnd }))
+    pub ends_over : IsTurn d ((n + 1) == most) was routed reads reads_then inlet rest left later holds after mid new Over
+        → Converses d most begun reads_then had later held after old new (Ok (record { requests = n; ended = ended.InputEnd }))
     ends_over t =
-        let (over, at_end, rests, none) = t.out in
+        let (over, at_end, rests, none, counted) = t.out in
         let passed = passed_in s.exchanges (inlet ++ t.read) later (replies s.exchanges) in
         let how : EndsAs most passed n ended.InputEnd = record { open_yet = open_yet; over = over; at_end = at_end; counted = sym s.count; told = refl } in
         record {
-          read = s.read ++ t.read;
-          written = replies s.exchanges;
-          exchanges = s.exchanges;
-          rest = inlet ++ t.read;
-          consumed = still_consumed t.read t.consumed rests;
-          appended = quiet t.written t.appended none;
-          comes = still_come t.read t.consumed rests;
-          routes = s.routes.stay;
-          runs = still_runs t.read t.consumed rests;
-          answers = answers_off d old new _ _ (still_runs t.read t.consumed rests);
-          comes_to = how;
-          answers_all = ends_all most passed n ended.InputEnd how;
+          conversation = record {
+            read = s.read ++ t.read;
+            written = replies s.exchanges;
+            exchanges = s.exchanges;
+            rest = inlet ++ t.read;
+            consumed = still_consumed t.read t.consumed rests;
+            appended = quiet t.written t.appended none;
+            comes = still_come t.read t.consumed rests;
+            routes = s.routes.stay;
+            runs = still_runs t.read t.consumed rests;
+            answers = answers_off d old new _ _ (still_runs t.read t.consumed rests);
+            comes_to = how;
+            answers_all = ends_all most passed n ended.InputEnd how;
+          };
+          one_for_each = counted_all t.read _ _ counted inl;
+          none_behind = λ last. not_last n (omega arith) last;
         }
 
-    stops_answering : (t : IsTurn d ((n + 1) == most) was routed inlet rest left later holds after mid new (turn.Stopped WriteFault)) (lost : List ℕ) (e : Exchange)
-        → Exchanges d ((n + 1) == most) routed (inlet ++ t.read) e rest mid new → e.reply ≡ t.written ++ lost
-        → Converses d most had later held after old new (Err (record { requests = n; cause = WriteFault }))
-    stops_answering t lost e x cut = record {
-      read = s.read ++ t.read;
-      written = replies s.exchanges ++ t.written;
-      exchanges = s.exchanges ++ e ∷ [];
-      rest = rest;
-      consumed = all_consumed t.read e t.consumed x t.stay;
-      appended = Appends-trans held holds after (replies s.exchanges) t.written s.appended t.appended;
-      comes = all_come t.read e t.consumed x t.stay;
-      routes = (all_routes t.read e t.consumed x t.stay).stay;
-      runs = all_runs t.read e t.consumed x t.stay;
-      answers = answers_off d old new _ _ (all_runs t.read e t.consumed x t.stay);
-      comes_to = inr (inl (record { earlier = s.exchanges; in_hand = e; sent = t.written; lost = lost; split = refl; cut = cut; counted = sym s.count; told = refl }));
-      answers_all = tt;
+    stops_answering : (t : IsTurn d ((n + 1) == most) was routed reads reads_then inlet rest left later holds after mid new (turn.Stopped WriteFault)) (lost : List ℕ) (e : Exchange)
+        → Exchanges d ((n + 1) == most) routed (inlet ++ t.read) e rest mid new → e.reply ≡ t.written ++ lost → OneForEachUsed reads reads_then (inlet ++ t.read) rest
+        → Converses d most begun reads_then had later held after old new (Err (record { requests = n; cause = WriteFault }))
+    stops_answering t lost e x cut counted = record {
+      conversation = record {
+        read = s.read ++ t.read;
+        written = replies s.exchanges ++ t.written;
+        exchanges = s.exchanges ++ e ∷ [];
+        rest = rest;
+        consumed = all_consumed t.read e t.consumed x t.stay;
+        appended = Appends-trans held holds after (replies s.exchanges) t.written s.appended t.appended;
+        comes = all_come t.read e t.consumed x t.stay;
+        routes = (all_routes t.read e t.consumed x t.stay).stay;
+        runs = all_runs t.read e t.consumed x t.stay;
+        answers = answers_off d old new _ _ (all_runs t.read e t.consumed x t.stay);
+        comes_to = inr (inl (record { earlier = s.exchanges; in_hand = e; sent = t.written; lost = lost; split = refl; cut = cut; counted = sym s.count; told = refl }));
+        answers_all = tt;
+      };
+      one_for_each = inl (omega (arith, counted_used t.read counted));
+      none_behind = λ last. counted_used t.read counted;
     }
 
-    stops_refusing : (t : IsTurn d ((n + 1) == most) was routed inlet rest left later holds after mid new (turn.Stopped WriteFault)) (lost : List ℕ)
-        → IsTurnedAway (inlet ++ t.read) later (t.written ++ lost) → Rests d mid new
-        → Converses d most had later held after old new (Err (record { requests = n; cause = WriteFault }))
-    stops_refusing t lost away rests = record {
-      read = s.read ++ t.read;
-      written = replies s.exchanges ++ t.written;
-      exchanges = s.exchanges;
-      rest = inlet ++ t.read;
-      consumed = still_consumed t.read t.consumed rests;
-      appended = Appends-trans held holds after (replies s.exchanges) t.written s.appended t.appended;
-      comes = still_come t.read t.consumed rests;
-      routes = s.routes.stay;
-      runs = still_runs t.read t.consumed rests;
-      answers = answers_off d old new _ _ (still_runs t.read t.consumed rests);
-      comes_to = inr (inr (record { open_yet = open_yet; sent = t.written; lost = lost; turned_away = away; counted = sym s.count; told = refl }));
-      answers_all = tt;
+    stops_refusing : (t : IsTurn d ((n + 1) == most) was routed reads reads_then inlet rest left later holds after mid new (turn.Stopped WriteFault)) (lost : List ℕ)
+        → TurnsAway d reads reads_then (inlet ++ t.read) later mid new (t.written ++ lost)
+        → Converses d most begun reads_then had later held after old new (Err (record { requests = n; cause = WriteFault }))
+    stops_refusing t lost (away, rests, counted) = record {
+      conversation = record {
+        read = s.read ++ t.read;
+        written = replies s.exchanges ++ t.written;
+        exchanges = s.exchanges;
+        rest = inlet ++ t.read;
+        consumed = still_consumed t.read t.consumed rests;
+        appended = Appends-trans held holds after (replies s.exchanges) t.written s.appended t.appended;
+        comes = still_come t.read t.consumed rests;
+        routes = s.routes.stay;
+        runs = still_runs t.read t.consumed rests;
+        answers = answers_off d old new _ _ (still_runs t.read t.consumed rests);
+        comes_to = inr (inr (record { open_yet = open_yet; sent = t.written; lost = lost; turned_away = away; counted = sym s.count; told = refl }));
+        answers_all = tt;
+      };
+      one_for_each = counted_all t.read _ _ counted inl;
+      none_behind = λ last. not_last n (omega arith) last;
     }
 
     -- the next request isn't whole
-    module _ (read written : List ℕ) (consumed : Consumes left later read) (appended : Appends holds after written) (w : Waits d (inlet ++ read) mid new written) where
+    module _ (read written : List ℕ) (consumed : Consumes left later read) (appended : Appends holds after written) (by : Cause)
+        (w : Waits d reads reads_then (inlet ++ read) mid new written by) where
       waiting : StopsWaiting most (passed_in s.exchanges (inlet ++ read) later (replies s.exchanges)) n
       waiting = record { open_yet = open_yet; unfinished = w.0; counted = sym s.count; told = refl }
 
-      stops_waiting : (cause : Cause) → StopsAs most (passed_in s.exchanges (inlet ++ read) later (replies s.exchanges)) n cause
-          → Converses d most had later held after old new (Err (record { requests = n; cause = cause }))
-      stops_waiting cause how = record {
-        read = s.read ++ read;
-        written = replies s.exchanges;
-        exchanges = s.exchanges;
-        rest = inlet ++ read;
-        consumed = still_consumed read consumed w.1;
-        appended = quiet written appended w.2;
-        comes = still_come read consumed w.1;
-        routes = s.routes.stay;
-        runs = still_runs read consumed w.1;
-        answers = answers_off d old new _ _ (still_runs read consumed w.1);
-        comes_to = how;
-        answers_all = tt;
+      stops_waiting : StopsAs most (passed_in s.exchanges (inlet ++ read) later (replies s.exchanges)) n by
+          → Converses d most begun reads_then had later held after old new (Err (record { requests = n; cause = by }))
+      stops_waiting how = record {
+        conversation = record {
+          read = s.read ++ read;
+          written = replies s.exchanges;
+          exchanges = s.exchanges;
+          rest = inlet ++ read;
+          consumed = still_consumed read consumed w.1;
+          appended = quiet written appended w.2;
+          comes = still_come read consumed w.1;
+          routes = s.routes.stay;
+          runs = still_runs read consumed w.1;
+          answers = answers_off d old new _ _ (still_runs read consumed w.1);
+          comes_to = how;
+          answers_all = tt;
+        };
+        one_for_each = counted_all read _ _ w.3 inr;
+        none_behind = λ last. not_last n (omega arith) last;
       }
 
-    pub stops : (cause : Cause) → IsTurn d ((n + 1) == most) was routed inlet rest left later holds after mid new (turn.Stopped cause)
-        → Converses d most had later held after old new (Err (record { requests = n; cause = cause }))
-    stops ReadFault t = stops_waiting t.read t.written t.consumed t.appended t.out ReadFault (waiting t.read t.written t.consumed t.appended t.out)
+    pub stops : (cause : Cause) → IsTurn d ((n + 1) == most) was routed reads reads_then inlet rest left later holds after mid new (turn.Stopped cause)
+        → Converses d most begun reads_then had later held after old new (Err (record { requests = n; cause = cause }))
+    stops ReadFault t = stops_waiting t.read t.written t.consumed t.appended ReadFault t.out (waiting t.read t.written t.consumed t.appended ReadFault t.out)
     stops WriteFault t =
         elim t.out [
-          | inl w ↦ stops_waiting t.read t.written t.consumed t.appended w WriteFault (inl (waiting t.read t.written t.consumed t.appended w))
-          | inr cut ↦ elim cut.1 [ inl w ↦ stops_answering t cut.0 w.0 w.1 w.2 | inr w ↦ stops_refusing t cut.0 w.0 w.1 ]
+          | inl w ↦ stops_waiting t.read t.written t.consumed t.appended WriteFault w (inl (waiting t.read t.written t.consumed t.appended WriteFault w))
+          | inr cut ↦ elim cut.1 [ inl w ↦ stops_answering t cut.0 w.0 w.1 w.2 w.3 | inr w ↦ stops_refusing t cut.0 w ]
         ]
 
   -- so many were answered as were allowed
-  pub ends_most : (most n : ℕ) (routed : Bool) (had left held holds : Option (List ℕ)) (old new : Seen) (inlet : List ℕ)
-      → IsSoFar most n routed had left held holds old new inlet → most ≤ n → n ≤ most
-      → Converses d most had left held holds old new (Ok (record { requests = most; ended = ended.Most }))
-  ends_most most n routed had left held holds old new inlet s above below =
+  pub ends_most : (most n : ℕ) (routed : Bool) (begun reads : ℕ) (had left held holds : Option (List ℕ)) (old new : Seen) (inlet : List ℕ)
+      → IsSoFar most n routed begun reads had left held holds old new inlet → most ≤ n → n ≤ most
+      → Converses d most begun reads had left held holds old new (Ok (record { requests = most; ended = ended.Most }))
+  ends_most most n routed begun reads had left held holds old new inlet s above below =
       let same : n ≡ most = omega arith in
       let full : length s.exchanges ≡ most = s.count ∙ same in
       let none : nat_lt (length s.exchanges) most ≡ false = grind (arith, nat_tests, full) in
@@ -306,16 +350,20 @@ module _ (d : Door) where
       let all : EndsByReply most passed most = inl (record { done = ap (λ b. b && all_open s.exchanges) none; counted = sym full; told = refl }) in
       let how = ends_by most passed most ended.Most ends all in
       record {
-        read = s.read;
-        written = replies s.exchanges;
-        exchanges = s.exchanges;
-        rest = inlet;
-        consumed = s.consumed;
-        appended = s.appended;
-        comes = s.comes;
-        routes = s.routes.stay;
-        runs = s.runs;
-        answers = answers_off d old new _ _ s.runs;
-        comes_to = how;
-        answers_all = ends_all most passed most ended.Most how;
+        conversation = record {
+          read = s.read;
+          written = replies s.exchanges;
+          exchanges = s.exchanges;
+          rest = inlet;
+          consumed = s.consumed;
+          appended = s.appended;
+          comes = s.comes;
+          routes = s.routes.stay;
+          runs = s.runs;
+          answers = answers_off d old new _ _ s.runs;
+          comes_to = how;
+          answers_all = ends_all most passed most ended.Most how;
+        };
+        one_for_each = inl (omega (arith, s.counted));
+        none_behind = λ last. s.counted;
       }

@@ -7,7 +7,8 @@ use Rattle.httparse.specs.declared.spans.RequestSpans.{RequestSpans}
 use Rattle.httparse.proofs.GrammarLemmas.{request_prefix_free}
 use Rattle.gaz_exchange.specs.Heads.{NeverHead, NoHead}
 
-prefix : (a b c d : List ℕ) → a ++ b ≡ c ++ d → length c ≤ length a → a ≡ c ++ drop (length c) a
+-- of two lists that begin one list the shorter begins the longer
+pub prefix : (a b c d : List ℕ) → a ++ b ≡ c ++ d → length c ≤ length a → a ≡ c ++ drop (length c) a
 prefix a b [] d e h = refl
 prefix [] b (y ∷ c) d e h = absurd (omega arith)
 prefix (x ∷ a) b (y ∷ c) d e h =

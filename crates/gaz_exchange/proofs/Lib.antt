@@ -1,6 +1,7 @@
 pub mod Bytes
 pub mod HeadFacts
 pub mod StreamFacts
+pub mod SparingFacts
 pub mod HeaderFacts
 pub mod IncomingFacts
 pub mod ExchangeFacts

@@ -1,7 +1,7 @@
 -- One turn of a conversation.
 use Rattle.std.proofs.Common.{◌≡◌, ℕ, Bool, true, false, List, [], ◌++◌, Option, Some, None, Result, Ok, Err, inl, inr, refl, ap, sym, ◌∙◌, append-nil, subst}
 use Rattle.std.specs.Prelude.{◌||◌}
-use Rattle.std.specs.Io.KnownBytes.{Consumes, Keeps}
+use Rattle.std.specs.Io.KnownBytes.{Consumes, IsAtEnd, Keeps}
 use Rattle.httparse.specs.Grammar.{RequestHead}
 use Rattle.gaz_shelf.specs.Keeper.{Seen}
 use Rattle.gaz_hub.specs.Step.{Command, Door, Response}
@@ -12,6 +12,7 @@ use Rattle.gaz_exchange.specs.Framing.{is_closing}
 use Rattle.gaz_exchange.specs.Incoming.{IsCall}
 use Rattle.gaz_exchange.specs.Refusals.{IsRefused, IsUnfinished}
 use Rattle.gaz_exchange.specs.Replies.{IsReplyText, reply_text, reply_to}
+use Rattle.gaz_exchange.specs.Sparing.{OneForEach, OneForEachUsed}
 use Rattle.gaz_exchange.specs.Targets.{target_of}
 use Rattle.gaz_exchange.specs.Turns.{Answers, Asks, Exchanges, IsTurn, Refuses, Rests, TurnsOut, Waits, turn_of}
 use Rattle.gaz_exchange.specs.declared.conversation.Turn.{Turn}
@@ -103,57 +104,59 @@ module _ (d : Door) where
         }
 
   -- the turn after a reply to a request
-  module _ (h : RequestHead) (bytes rest text : List ℕ) (is_last routed : Bool) (old new : Seen) (left : Option (List ℕ)) (o : IsOut h bytes rest text is_last routed old new) where
+  module _ (h : RequestHead) (bytes rest text : List ℕ) (is_last routed : Bool) (old new : Seen) (left : Option (List ℕ)) (o : IsOut h bytes rest text is_last routed old new)
+      (before after : ℕ) (counted : OneForEachUsed before after bytes rest) where
     pub answer_turn : (sent lost : List ℕ) (ends whole : Bool) → ends ≡ (is_closing h || is_last) → text ≡ sent ++ lost → (whole ≡ true → lost ≡ [])
-        → TurnsOut d is_last routed bytes rest left old new sent (turn_of ends whole)
-    answer_turn sent lost true false e cut all = inr (lost, inl (o.made, o.exchanges, o.of_text ∙ cut))
-    answer_turn sent lost false false e cut all = inr (lost, inl (o.made, o.exchanges, o.of_text ∙ cut))
+        → TurnsOut d is_last routed before after bytes rest left old new sent (turn_of ends whole)
+    answer_turn sent lost true false e cut all = inr (lost, inl (o.made, o.exchanges, o.of_text ∙ cut, counted))
+    answer_turn sent lost false false e cut all = inr (lost, inl (o.made, o.exchanges, o.of_text ∙ cut, counted))
     answer_turn sent lost true true e cut all =
-        inl (o.made, o.exchanges, sym (o.of_text ∙ cut ∙ ap (λ l. sent ++ l) (all refl) ∙ append-nil sent), ap (λ x. is_closing x || is_last) o.of_head ∙ sym e)
+        inl (o.made, o.exchanges, sym (o.of_text ∙ cut ∙ ap (λ l. sent ++ l) (all refl) ∙ append-nil sent), ap (λ x. is_closing x || is_last) o.of_head ∙ sym e, counted)
     answer_turn sent lost false true e cut all =
-        (o.made, o.exchanges, sym (o.of_text ∙ cut ∙ ap (λ l. sent ++ l) (all refl) ∙ append-nil sent), ap (λ x. is_closing x || is_last) o.of_head ∙ sym e)
+        (o.made, o.exchanges, sym (o.of_text ∙ cut ∙ ap (λ l. sent ++ l) (all refl) ∙ append-nil sent), ap (λ x. is_closing x || is_last) o.of_head ∙ sym e, counted)
 
   -- the turn after a refusal
-  pub refuse_turn : (is_last routed : Bool) (bytes rest : List ℕ) (left : Option (List ℕ)) (old new : Seen) (fault : Fault) (text sent lost : List ℕ) (whole : Bool)
+  pub refuse_turn : (is_last routed : Bool) (before after : ℕ) (bytes rest : List ℕ) (left : Option (List ℕ)) (old new : Seen) (fault : Fault) (text sent lost : List ℕ) (whole : Bool)
       → IsRefused bytes left fault → text ≡ reply_text (Refused fault) true → text ≡ sent ++ lost → (whole ≡ true → lost ≡ []) → Rests d old new
-      → TurnsOut d is_last routed bytes rest left old new sent (turn_of true whole)
-  refuse_turn is_last routed bytes rest left old new fault text sent lost false why told cut all same =
-      inr (lost, inr (record { fault = fault; why = why; told = rw cut at told }, same))
-  refuse_turn is_last routed bytes rest left old new fault text sent lost true why told cut all same =
-      inr (record { fault = fault; why = why; told = rw (cut ∙ ap (λ l. sent ++ l) (all refl) ∙ append-nil sent) at told }, same)
+      → OneForEach before after bytes (IsAtEnd left) → TurnsOut d is_last routed before after bytes rest left old new sent (turn_of true whole)
+  refuse_turn is_last routed before after bytes rest left old new fault text sent lost false why told cut all same counted =
+      inr (lost, inr (record { fault = fault; why = why; told = rw cut at told }, same, counted))
+  refuse_turn is_last routed before after bytes rest left old new fault text sent lost true why told cut all same counted =
+      inr (record { fault = fault; why = why; told = rw (cut ∙ ap (λ l. sent ++ l) (all refl) ∙ append-nil sent) at told }, same, counted)
 
   -- the turn of a request that came whole
-  pub turn_of_answer : (is_last was routed : Bool) (pending read bytes rest : List ℕ) (had left held mid holds : Option (List ℕ)) (old new : Seen) (q : Request) (h : RequestHead) (turn : Turn)
+  pub turn_of_answer : (is_last was routed : Bool) (before after : ℕ) (pending read bytes rest : List ℕ) (had left held mid holds : Option (List ℕ)) (old new : Seen) (q : Request) (h : RequestHead) (turn : Turn)
       → (was ≡ true → routed ≡ true) → Consumes had left read → Keeps held mid → bytes ≡ pending ++ read → BeginsWithRequest bytes h q.body.items rest → IsCall routed h q.call → q.closing ≡ is_closing h
-      → Answers d mid holds old new q is_last turn → IsTurn d is_last was routed pending rest had left held holds old new turn
-  turn_of_answer is_last was routed pending read bytes rest had left held mid holds old new q h turn stay eaten kept all begins call closing a =
+      → OneForEachUsed before after bytes rest → Answers d mid holds old new q is_last turn → IsTurn d is_last was routed before after pending rest had left held holds old new turn
+  turn_of_answer is_last was routed before after pending read bytes rest had left held mid holds old new q h turn stay eaten kept all begins call closing counted a =
       let put = a.sent.put in
       let o = exchange_out h bytes q.body.items rest a.sent.text q.closing is_last routed old new a.reply begins closing a.sent.told q.call call a.asked in
-      let out = answer_turn h bytes rest a.sent.text is_last routed old new left o put.sent put.lost (q.closing || is_last) a.whole (ap (λ b. b || is_last) closing) put.cut put.all in
+      let out = answer_turn h bytes rest a.sent.text is_last routed old new left o before after counted put.sent put.lost (q.closing || is_last) a.whole (ap (λ b. b || is_last) closing) put.cut put.all in
       record { read = read; written = put.sent; consumed = eaten; appended = kept_appends held mid holds put.sent kept put.appended; stay = stay; out = rw (a.turn_is, ← all) out }
 
   -- the turn of what is refused
-  pub turn_of_refusal : (is_last was routed : Bool) (pending read bytes rest : List ℕ) (had left held mid holds : Option (List ℕ)) (old : Seen) (fault : Fault) (turn : Turn)
-      → (was ≡ true → routed ≡ true) → Consumes had left read → Keeps held mid → bytes ≡ pending ++ read → IsRefused bytes left fault → Refuses mid holds fault turn
-      → IsTurn d is_last was routed pending rest had left held holds old old turn
-  turn_of_refusal is_last was routed pending read bytes rest had left held mid holds old fault turn stay eaten kept all why a =
+  pub turn_of_refusal : (is_last was routed : Bool) (before after : ℕ) (pending read bytes rest : List ℕ) (had left held mid holds : Option (List ℕ)) (old : Seen) (fault : Fault) (turn : Turn)
+      → (was ≡ true → routed ≡ true) → Consumes had left read → Keeps held mid → bytes ≡ pending ++ read → IsRefused bytes left fault
+      → OneForEach before after bytes (IsAtEnd left) → Refuses mid holds fault turn → IsTurn d is_last was routed before after pending rest had left held holds old old turn
+  turn_of_refusal is_last was routed before after pending read bytes rest had left held mid holds old fault turn stay eaten kept all why counted a =
       let put = a.sent.put in
-      let out = refuse_turn is_last routed bytes rest left old old fault a.sent.text put.sent put.lost a.whole why (refusal_text fault true a.sent.text a.sent.told) put.cut put.all (runs_none d old) in
+      let out = refuse_turn is_last routed before after bytes rest left old old fault a.sent.text put.sent put.lost a.whole why (refusal_text fault true a.sent.text a.sent.told) put.cut put.all (runs_none d old) counted in
       record { read = read; written = put.sent; consumed = eaten; appended = kept_appends held mid holds put.sent kept put.appended; stay = stay; out = rw (a.turn_is, ← all) out }
 
-  waits_out : (is_last routed : Bool) (bytes rest : List ℕ) (left : Option (List ℕ)) (old new : Seen) (cause : Cause) → Waits d bytes old new []
-      → TurnsOut d is_last routed bytes rest left old new [] (Stopped cause)
-  waits_out is_last routed bytes rest left old new ReadFault w = w
-  waits_out is_last routed bytes rest left old new WriteFault w = inl w
+  waits_out : (is_last routed : Bool) (before after : ℕ) (bytes rest : List ℕ) (left : Option (List ℕ)) (old new : Seen) (cause : Cause) → Waits d before after bytes old new [] cause
+      → TurnsOut d is_last routed before after bytes rest left old new [] (Stopped cause)
+  waits_out is_last routed before after bytes rest left old new ReadFault w = w
+  waits_out is_last routed before after bytes rest left old new WriteFault w = inl w
 
   -- the turn where the reader or the writer fails before a request is whole
-  pub turn_of_failure : (is_last was routed : Bool) (pending read rest : List ℕ) (had left held mid : Option (List ℕ)) (old : Seen) (cause : Cause)
-      → (was ≡ true → routed ≡ true) → Consumes had left read → Keeps held mid → IsUnfinished (pending ++ read) → IsTurn d is_last was routed pending rest had left held mid old old (Stopped cause)
-  turn_of_failure is_last was routed pending read rest had left held mid old cause stay eaten kept short =
-      let out = waits_out is_last routed (pending ++ read) rest left old old cause (short, runs_none d old, refl) in
+  pub turn_of_failure : (is_last was routed : Bool) (before after : ℕ) (pending read rest : List ℕ) (had left held mid : Option (List ℕ)) (old : Seen) (cause : Cause)
+      → (was ≡ true → routed ≡ true) → Consumes had left read → Keeps held mid → IsUnfinished (pending ++ read)
+      → OneForEach before after (pending ++ read) (cause ≡ ReadFault) → IsTurn d is_last was routed before after pending rest had left held mid old old (Stopped cause)
+  turn_of_failure is_last was routed before after pending read rest had left held mid old cause stay eaten kept short counted =
+      let out = waits_out is_last routed before after (pending ++ read) rest left old old cause (short, runs_none d old, refl, counted) in
       record { read = read; written = []; consumed = eaten; appended = kept_appends_none held mid kept; stay = stay; out = out }
 
 -- a turn at one door is a turn at the same door by another name
-pub turn_at : (d e : Door) (is_last was routed : Bool) (pending rest : List ℕ) (had left held holds : Option (List ℕ)) (old new : Seen) (turn : Turn) → d ≡ e
-    → IsTurn d is_last was routed pending rest had left held holds old new turn → IsTurn e is_last was routed pending rest had left held holds old new turn
-turn_at d e is_last was routed pending rest had left held holds old new turn same t = subst (λ (x : Door). IsTurn x is_last was routed pending rest had left held holds old new turn) same t
+pub turn_at : (d e : Door) (is_last was routed : Bool) (before after : ℕ) (pending rest : List ℕ) (had left held holds : Option (List ℕ)) (old new : Seen) (turn : Turn) → d ≡ e
+    → IsTurn d is_last was routed before after pending rest had left held holds old new turn → IsTurn e is_last was routed before after pending rest had left held holds old new turn
+turn_at d e is_last was routed before after pending rest had left held holds old new turn same t = subst (λ (x : Door). IsTurn x is_last was routed before after pending rest had left held holds old new turn) same t

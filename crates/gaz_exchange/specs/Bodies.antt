@@ -1,8 +1,10 @@
 -- The body behind a head.
 use Rattle.std.specs.Prelude.{◌≡◌, ℕ, ◌<◌, List, ◌++◌, length, Option}
 use Rattle.std.specs.Io.KnownBytes.{IsAtEnd}
+use Rattle.gaz_exchange.specs.Sparing.{OneForEach, OneForEachUsed}
 use Rattle.gaz_exchange.specs.declared.body.Body.{Body}
 use Rattle.gaz_exchange.specs.declared.body.Body.TheVariants.{Whole, Short, Memory, Failed}
+use Rattle.gaz_exchange.specs.declared.supply.Cause.TheVariants.{ReadFault}
 use Rattle.gaz_exchange.specs.declared.supply.Supply.{Supply}
 use Rattle.gaz_exchange.specs.declared.supply.Supply.TheVariants as supply
 
@@ -13,6 +15,14 @@ IsBody bytes size rest left (Whole body) = (bytes ≡ body.items ++ rest) × (le
 IsBody bytes size rest left Short = (length bytes < size) × IsAtEnd left
 IsBody bytes size rest left Memory = 0 < size
 IsBody bytes size rest left (Failed cause) = length bytes < size
+
+-- how often the reader was read for a body, by the bytes that were pending or read
+abbrev pub IsReadForBody : ℕ → ℕ → List ℕ → List ℕ → Option (List ℕ) → Body → Type 0
+IsReadForBody before after bytes rest left (Whole body) = OneForEachUsed before after bytes rest
+IsReadForBody before after bytes rest left Short = OneForEach before after bytes (IsAtEnd left)
+IsReadForBody before after bytes rest left Memory = OneForEach before after bytes (IsAtEnd left)
+IsReadForBody before after bytes rest left (Failed cause) =
+    OneForEach before after bytes (cause ≡ ReadFault)
 
 -- what came of asking for more where nothing was pending
 abbrev pub IsRefill : List ℕ → Option (List ℕ) → Supply → Type 0

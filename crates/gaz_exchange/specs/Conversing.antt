@@ -1,6 +1,6 @@
 -- A conversation: the requests of a stream, answered in turn.
-use Rattle.std.specs.Prelude.{◌≡◌, ⊤, ℕ, ◌+◌, ◌⊎◌, ◌==◌, true, false, if◌then◌else◌, List, [], ◌∷◌}
-use Rattle.std.specs.Prelude.{◌++◌, length, Option, Result, Ok, Err}
+use Rattle.std.specs.Prelude.{◌≡◌, ⊤, ℕ, ◌+◌, ◌<◌, ◌⊎◌, ◌==◌, true, false, if◌then◌else◌, List}
+use Rattle.std.specs.Prelude.{[], ◌∷◌, ◌++◌, length, Option, Result, Ok, Err, IsErrAnd}
 use Rattle.std.specs.Io.KnownBytes.{Appends, Consumes, IsAtEnd}
 use Rattle.gaz_shelf.specs.Keeper.{Seen}
 use Rattle.gaz_hub.specs.Answers.{AllAnswered}
@@ -11,6 +11,7 @@ use Rattle.gaz_exchange.specs.Heads.{IsOver}
 use Rattle.gaz_exchange.specs.Exchanges.{Exchange, Comes, RoutesStay, goes_on, replies, commands_of}
 use Rattle.gaz_exchange.specs.Exchanges.{responses_of}
 use Rattle.gaz_exchange.specs.Refusals.{IsRefused, IsTurnedAway, IsUnfinished}
+use Rattle.gaz_exchange.specs.Sparing.{OneForEach, OneForEachUsed}
 use Rattle.gaz_exchange.specs.Streams.{AreAll}
 use Rattle.gaz_exchange.specs.declared.conversation.Ended.{Ended}
 use Rattle.gaz_exchange.specs.declared.conversation.Ended.TheVariants.{Most, Closed, InputEnd}
@@ -154,3 +155,29 @@ pub record Conversation (door : Door) (most : ℕ) (through : Transfer) (old new
       (record { exchanges = exchanges; rest = rest; left = through.left; written = written }) result
   pub answers_all : AnswersAll most
       (record { exchanges = exchanges; rest = rest; left = through.left; written = written }) result
+
+-- the replies that were wholly written
+abbrev pub replied : Result Served Stopped → ℕ
+replied (Ok served) = served.requests
+replied (Err stopped) = stopped.requests
+
+-- no request is read for behind these exchanges: none may follow, or the writer failed in the reply
+-- to the last
+abbrev pub AreLast : ℕ → List Exchange → Result Served Stopped → Type 0
+AreLast most exchanges result =
+    (goes_on most exchanges ≡ false) ⊎ (replied result < length exchanges)
+
+-- the reader failed
+abbrev pub ReaderFailed : Result Served Stopped → Type 0
+ReaderFailed result = IsErrAnd result (λ stopped. stopped.cause ≡ ReadFault)
+
+-- a conversation with at most one read for each byte that was read, and one more, which found the
+-- end or failed; before and after count the reads
+pub record CountedConversation (door : Door) (most : ℕ) (through : Transfer) (before after : ℕ)
+    (old new : Seen) (result : Result Served Stopped) : Type 0 where
+  pub conversation : Conversation door most through old new result
+  pub one_for_each : OneForEach before after conversation.read
+      (IsAtEnd through.left ⊎ ReaderFailed result)
+  -- and none for a byte behind the last request
+  pub none_behind : AreLast most conversation.exchanges result →
+      OneForEachUsed before after conversation.read conversation.rest

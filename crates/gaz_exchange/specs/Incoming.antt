@@ -8,6 +8,7 @@ use Rattle.gaz_exchange.specs.Exchanges.{BeginsWithRequest}
 use Rattle.gaz_exchange.specs.Framing.{is_closing, length_of}
 use Rattle.gaz_exchange.specs.Heads.{IsOver}
 use Rattle.gaz_exchange.specs.Refusals.{IsRefused, IsUnfinished}
+use Rattle.gaz_exchange.specs.Sparing.{OneForEach, OneForEachUsed}
 use Rattle.gaz_exchange.specs.Targets.{target_of}
 use Rattle.gaz_exchange.specs.declared.fault.Fault.{Fault}
 use Rattle.gaz_exchange.specs.declared.fault.Fault.TheVariants.{BadRequest, NotReceived}
@@ -18,6 +19,7 @@ use Rattle.gaz_exchange.specs.declared.calls.Method.{Method}
 use Rattle.gaz_exchange.specs.declared.request.Incoming.{Incoming}
 use Rattle.gaz_exchange.specs.declared.request.Incoming.TheVariants as incoming
 use Rattle.gaz_exchange.specs.declared.request.Needed.{Needed}
+use Rattle.gaz_exchange.specs.declared.supply.Cause.TheVariants.{ReadFault}
 
 -- what the hub is asked at a target, where the routes were found, and else 51
 abbrev pub IsCallAt : Bool → List ℕ → Method → Result Call Fault → Type 0
@@ -50,6 +52,17 @@ IsIncoming routed bytes rest left (incoming.Request q) =
 IsIncoming routed bytes rest left (incoming.Refused fault) = IsRefused bytes left fault
 IsIncoming routed bytes rest left incoming.Over = IsOver bytes × IsAtEnd left
 IsIncoming routed bytes rest left (incoming.Failed cause) = IsUnfinished bytes
+
+-- how often the reader was read for a request, by the bytes that were pending or read
+abbrev pub IsReadForRequest : ℕ → ℕ → List ℕ → List ℕ → Option (List ℕ) → Incoming → Type 0
+IsReadForRequest before after bytes rest left (incoming.Request q) =
+    OneForEachUsed before after bytes rest
+IsReadForRequest before after bytes rest left (incoming.Refused fault) =
+    OneForEach before after bytes (IsAtEnd left)
+IsReadForRequest before after bytes rest left incoming.Over =
+    OneForEach before after bytes (IsAtEnd left)
+IsReadForRequest before after bytes rest left (incoming.Failed cause) =
+    OneForEach before after bytes (cause ≡ ReadFault)
 
 -- what comes behind a head: after are the bytes that were pending or read
 abbrev pub IsBehind : List ℕ → Needed → List ℕ → Option (List ℕ) → Incoming → Type 0

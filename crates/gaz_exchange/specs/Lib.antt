@@ -11,6 +11,7 @@ pub mod Conversing
 pub mod Streams
 pub mod WorkedStreams
 pub mod Next
+pub mod Sparing
 pub mod Supplies
 pub mod Bodies
 pub mod Incoming

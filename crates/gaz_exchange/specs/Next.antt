@@ -1,15 +1,17 @@
 -- What comes next on a stream.
-use Rattle.std.specs.Prelude.{◌≡◌, ℕ, ◌<◌, ◌≤◌, ◌⊎◌, List, length, Option, false}
+use Rattle.std.specs.Prelude.{◌≡◌, ℕ, ◌<◌, ◌≤◌, ◌⊎◌, List, length, drop, Option, false}
 use Rattle.std.specs.Io.KnownBytes.{IsAtEnd}
 use Rattle.httparse.specs.Grammar.{RequestHead, print_request}
 use Rattle.httparse.specs.Spans.{IsRequestAt, IsRequestWithin}
 use Rattle.httparse.specs.declared.spans.HeaderSpan.{HeaderSpan}
 use Rattle.httparse.specs.declared.spans.RequestSpans.{RequestSpans}
 use Rattle.gaz_exchange.specs.Heads.{IsOver, NeverHead, NoHead, is_blank}
+use Rattle.gaz_exchange.specs.Sparing.{OneForEach, OneForEachUsed}
 use Rattle.gaz_exchange.specs.declared.heads.Look.{Look}
 use Rattle.gaz_exchange.specs.declared.heads.Look.TheVariants as look
 use Rattle.gaz_exchange.specs.declared.heads.Next.{Next}
 use Rattle.gaz_exchange.specs.declared.heads.Next.TheVariants.{Head, Bad, Over, Failed}
+use Rattle.gaz_exchange.specs.declared.supply.Cause.TheVariants.{ReadFault}
 
 -- the pending bytes begin with a head, which these spans cover
 abbrev pub IsHeadAt : List ℕ → List HeaderSpan → RequestSpans → Type 0
@@ -34,3 +36,12 @@ IsNext pending left headers Bad =
     (NeverHead pending ⊎ (NoHead pending × IsAtEnd left)) × IsMore pending
 IsNext pending left headers Over = IsOver pending × IsAtEnd left
 IsNext pending left headers (Failed cause) = NoHead pending
+
+-- how often the reader was read for what comes next, by the bytes that are pending then
+abbrev pub IsReadForHead : ℕ → ℕ → List ℕ → Option (List ℕ) → Next → Type 0
+IsReadForHead before after pending left (Head spans) =
+    OneForEachUsed before after pending (drop spans.len pending)
+IsReadForHead before after pending left Bad = OneForEach before after pending (IsAtEnd left)
+IsReadForHead before after pending left Over = OneForEach before after pending (IsAtEnd left)
+IsReadForHead before after pending left (Failed cause) =
+    OneForEach before after pending (cause ≡ ReadFault)

@@ -1,6 +1,8 @@
 -- More bytes of a stream.
-use Rattle.std.specs.Prelude.{◌≡◌, ℕ, ◌<◌, List, [], ◌++◌, length, Option}
+use Rattle.std.specs.Prelude.{◌≡◌, ℕ, ◌+◌, ◌<◌, ◌≤◌, List, [], ◌++◌, length, Option}
 use Rattle.std.specs.Io.KnownBytes.{Consumes, IsAtEnd}
+use Rattle.gaz_exchange.specs.Sparing.{OneForEach}
+use Rattle.gaz_exchange.specs.declared.supply.Cause.TheVariants.{ReadFault}
 use Rattle.gaz_exchange.specs.declared.supply.Supply.{Supply}
 use Rattle.gaz_exchange.specs.declared.supply.Supply.TheVariants.{Some, End, Failed}
 
@@ -25,3 +27,9 @@ abbrev pub IsSupply : List ℕ → Option (List ℕ) → Supply → Type 0
 IsSupply bytes left Some = 0 < length bytes
 IsSupply bytes left End = (bytes ≡ []) × IsAtEnd left
 IsSupply bytes left (Failed cause) = bytes ≡ []
+
+-- how often the reader was read for more
+abbrev pub IsReadForMore : ℕ → ℕ → Supply → Type 0
+IsReadForMore before after Some = after ≤ before + 1
+IsReadForMore before after End = after ≤ before + 1
+IsReadForMore before after (Failed cause) = OneForEach before after [] (cause ≡ ReadFault)

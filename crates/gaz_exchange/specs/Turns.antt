@@ -12,6 +12,8 @@ use Rattle.gaz_exchange.specs.Heads.{IsOver}
 use Rattle.gaz_exchange.specs.Refusals.{IsTurnedAway, IsUnfinished}
 use Rattle.gaz_exchange.specs.Replies.{reply_to}
 use Rattle.gaz_exchange.specs.Sending.{IsSent}
+use Rattle.gaz_exchange.specs.Sparing.{OneForEach, OneForEachUsed}
+use Rattle.gaz_exchange.specs.declared.supply.Cause.{Cause}
 use Rattle.gaz_exchange.specs.declared.supply.Cause.TheVariants.{ReadFault, WriteFault}
 use Rattle.gaz_exchange.specs.declared.conversation.Turn.{Turn}
 use Rattle.gaz_exchange.specs.declared.conversation.Turn.TheVariants.{Answered, Closed, Over}
@@ -67,39 +69,51 @@ pub record Exchanges (door : Door) (is_last routed : Bool) (bytes : List ℕ) (e
   pub exchanged : IsExchanged bytes e rest ends
   pub runs : Runs door old new (commands_of (e ∷ [])) (responses_of (e ∷ []))
 
+-- Below, before and after count the reads.
+
 -- the request isn't whole yet
-abbrev pub Waits : Door → List ℕ → Seen → Seen → List ℕ → Type 0
-Waits door bytes old new written = IsUnfinished bytes × Rests door old new × (written ≡ [])
+abbrev pub Waits : Door → ℕ → ℕ → List ℕ → Seen → Seen → List ℕ → Cause → Type 0
+Waits door before after bytes old new written cause =
+    IsUnfinished bytes × Rests door old new × (written ≡ [])
+    × OneForEach before after bytes (cause ≡ ReadFault)
+
+-- the request at the front of the bytes is refused, and the hub isn't asked
+abbrev pub TurnsAway : Door → ℕ → ℕ → List ℕ → Option (List ℕ) → Seen → Seen → List ℕ → Type 0
+TurnsAway door before after bytes left old new text =
+    IsTurnedAway bytes left text × Rests door old new × OneForEach before after bytes (IsAtEnd left)
 
 -- how a turn turned out
-abbrev pub TurnsOut : Door → Bool → Bool → List ℕ → List ℕ → Option (List ℕ) → Seen → Seen
-    → List ℕ → Turn → Type 0
-TurnsOut door is_last routed bytes rest left old new written Answered =
+abbrev pub TurnsOut : Door → Bool → Bool → ℕ → ℕ → List ℕ → List ℕ → Option (List ℕ) → Seen
+    → Seen → List ℕ → Turn → Type 0
+TurnsOut door is_last routed before after bytes rest left old new written Answered =
     (e : Exchange) × Exchanges door is_last routed bytes e rest old new × (written ≡ e.reply)
-    × ((is_closing e.head || is_last) ≡ false)
-TurnsOut door is_last routed bytes rest left old new written Closed =
+    × ((is_closing e.head || is_last) ≡ false) × OneForEachUsed before after bytes rest
+TurnsOut door is_last routed before after bytes rest left old new written Closed =
     ((e : Exchange) × Exchanges door is_last routed bytes e rest old new × (written ≡ e.reply)
-    × ((is_closing e.head || is_last) ≡ true))
-    ⊎ (IsTurnedAway bytes left written × Rests door old new)
-TurnsOut door is_last routed bytes rest left old new written Over =
+    × ((is_closing e.head || is_last) ≡ true) × OneForEachUsed before after bytes rest)
+    ⊎ TurnsAway door before after bytes left old new written
+TurnsOut door is_last routed before after bytes rest left old new written Over =
     IsOver bytes × IsAtEnd left × Rests door old new × (written ≡ [])
-TurnsOut door is_last routed bytes rest left old new written (Stopped ReadFault) =
-    Waits door bytes old new written
-TurnsOut door is_last routed bytes rest left old new written (Stopped WriteFault) =
-    Waits door bytes old new written
+    × OneForEach before after bytes (IsAtEnd left)
+TurnsOut door is_last routed before after bytes rest left old new written (Stopped ReadFault) =
+    Waits door before after bytes old new written ReadFault
+TurnsOut door is_last routed before after bytes rest left old new written (Stopped WriteFault) =
+    Waits door before after bytes old new written WriteFault
     ⊎ ((lost : List ℕ)
     × (((e : Exchange) × Exchanges door is_last routed bytes e rest old new
-    × (e.reply ≡ written ++ lost))
-    ⊎ (IsTurnedAway bytes left (written ++ lost) × Rests door old new)))
+    × (e.reply ≡ written ++ lost) × OneForEachUsed before after bytes rest)
+    ⊎ TurnsAway door before after bytes left old new (written ++ lost)))
 
 -- one turn at a hub with this door: was and routed say whether the routes were found before and
 -- after, pending and rest are the bytes pending before and after, had and left the reader's, held
 -- and holds the writer's, old and new the hub's keeper
-pub record IsTurn (door : Door) (is_last was routed : Bool) (pending rest : List ℕ)
-    (had left held holds : Option (List ℕ)) (old new : Seen) (turn : Turn) : Type 0 where
+pub record IsTurn (door : Door) (is_last was routed : Bool) (before after : ℕ)
+    (pending rest : List ℕ) (had left held holds : Option (List ℕ)) (old new : Seen) (turn : Turn)
+    : Type 0 where
   pub read : List ℕ
   pub written : List ℕ
   pub consumed : Consumes had left read
   pub appended : Appends held holds written
   pub stay : was ≡ true → routed ≡ true
-  pub out : TurnsOut door is_last routed (pending ++ read) rest left old new written turn
+  pub out : TurnsOut door is_last routed before after (pending ++ read) rest left old new written
+      turn

@@ -1,11 +1,12 @@
 ghost use Rattle.std.specs.Io.KnownBytes.{Keeps};
-ghost use Rattle.gaz_exchange.specs.Bodies.{IsBody, IsRefill};
-ghost use Rattle.gaz_exchange.specs.Supplies.{Reads, Supplies};
+ghost use Rattle.gaz_exchange.specs.Bodies.{IsBody, IsReadForBody, IsRefill};
+ghost use Rattle.gaz_exchange.specs.Supplies.{IsReadForMore, Reads, Supplies};
 
 use crate::inlet::Inlet;
+use crate::source::Source;
 use crate::supply::{Cause, Supply, read_more};
 use std::alloc::Global;
-use std::io::{Read, Write};
+use std::io::Write;
 
 /// What came of a body.
 #[derive(Debug, Drop)]
@@ -20,9 +21,10 @@ pub enum Body {
 }
 
 // Asks for more where nothing is pending.
-fn refill<R: Read, W: Write>(r: &mut R, w: &mut W, inlet: &mut Inlet) -> Supply
+fn refill<R: Source, W: Write>(r: &mut R, w: &mut W, inlet: &mut Inlet) -> Supply
     ensures read { Supplies R.remaining r.old r.new inlet.old inlet.new
         (λ _ left. IsRefill inlet.new left result) }
+    ensures counted { IsReadForMore (R.reads r.old) (R.reads r.new) result }
     ensures written { Keeps (W.contents w.old) (W.contents w.new) }
 {
     if !inlet.pending().is_empty() {
@@ -39,7 +41,7 @@ fn refill<R: Read, W: Write>(r: &mut R, w: &mut W, inlet: &mut Inlet) -> Supply
 ///
 /// An empty one takes no memory; that a body of 1,048,576 bytes finds it is tested, since no clause
 /// can say so.
-pub fn read_body<R: Read, W: Write>(
+pub fn read_body<R: Source, W: Write>(
     alloc: Global,
     r: &mut R,
     w: &mut W,
@@ -47,7 +49,8 @@ pub fn read_body<R: Read, W: Write>(
     size: usize,
 ) -> Body
     ensures read { Reads R.remaining r.old r.new inlet.old
-        (λ bytes left. IsBody bytes size inlet.new left result) }
+        (λ bytes left. IsBody bytes size inlet.new left result
+        × IsReadForBody (R.reads r.old) (R.reads r.new) bytes inlet.new left result) }
     ensures written { Keeps (W.contents w.old) (W.contents w.new) }
 {
     if size == 0 {

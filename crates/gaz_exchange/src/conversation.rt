@@ -2,7 +2,7 @@ ghost use Rattle.std.specs.Prelude.{◌≡◌, Ok};
 ghost use Rattle.gaz_shelf.specs.Keeper.{IsNotOpen};
 ghost use Rattle.gaz_hub.specs.Hubs.{door_of};
 ghost use Rattle.gaz_hub.specs.Seen.{hub_seen};
-ghost use Rattle.gaz_exchange.specs.Conversing.{Conversation, ended_after, transfer};
+ghost use Rattle.gaz_exchange.specs.Conversing.{CountedConversation, ended_after, transfer};
 ghost use Rattle.gaz_exchange.specs.Turns.{Answers, Asks, IsAsked, IsTurn, Refuses, turn_of};
 
 use crate::calls::Call;
@@ -10,11 +10,12 @@ use crate::fault::Fault;
 use crate::reply::Reply;
 use crate::request::{Incoming, Intake, Request, next_request};
 use crate::send::send;
+use crate::source::Source;
 use crate::supply::Cause;
 use gaz_hub::Hub;
 use gaz_shelf::Inbox;
 use std::alloc::Global;
-use std::io::{Read, Write};
+use std::io::Write;
 
 /// Why a conversation ended.
 #[derive(Clone, Copy, Debug, PartialEq, Eq)]
@@ -121,7 +122,7 @@ fn refuse<W: Write>(alloc: Global, w: &mut W, fault: Fault) -> Turn
 }
 
 // Reads one request and answers it; `is_last` where no more may follow.
-fn take_turn<R: Read, W: Write, K: Inbox + Drop>(
+fn take_turn<R: Source, W: Write, K: Inbox + Drop>(
     alloc: Global,
     r: &mut R,
     w: &mut W,
@@ -131,7 +132,8 @@ fn take_turn<R: Read, W: Write, K: Inbox + Drop>(
 ) -> Turn
     requires idle { IsNotOpen (K.seen hub.old.keeper).progress }
     ensures turn { IsTurn (door_of hub.old.register) is_last
-        intake.old.routes intake.new.routes intake.old.inlet intake.new.inlet
+        intake.old.routes intake.new.routes (R.reads r.old) (R.reads r.new)
+        intake.old.inlet intake.new.inlet
         (R.remaining r.old) (R.remaining r.new) (W.contents w.old) (W.contents w.new)
         (hub_seen K.seen hub.old) (hub_seen K.seen hub.new) result }
     ensures register { hub.new.register ≡ hub.old.register }
@@ -156,13 +158,10 @@ fn closed_after(requests: u64, most: u64) -> Served
     Served { requests, ended }
 }
 
-/// Answers the requests of a stream in turn, at most `most` of them.
-///
-/// What is written and how the conversation ends is known whatever the hub's keeper does. Where it
-/// ends, no other request may follow those that were answered, or none stands whole in what was
-/// read behind them, unless there was no memory for the body of the next. The hub's answers are a
-/// run of its steps where the keeper stood for a content before, and nobody else wrote on it.
-pub fn converse<R: Read, W: Write, K: Inbox + Drop>(
+/// Does what [`converse`](crate::converse) does, with a reader whose reads are counted: at most one
+/// for each byte, and one more, which finds the end or fails. For bytes behind the last request
+/// there is none.
+pub fn converse_counted<R: Source, W: Write, K: Inbox + Drop>(
     alloc: Global,
     r: &mut R,
     w: &mut W,
@@ -170,8 +169,8 @@ pub fn converse<R: Read, W: Write, K: Inbox + Drop>(
     most: u64,
 ) -> Result<Served, Stopped>
     requires idle { IsNotOpen (K.seen hub.old.keeper).progress }
-    ensures conversation { Conversation (door_of hub.old.register) most
-        (transfer R.remaining W.contents r.old r.new w.old w.new)
+    ensures conversation { CountedConversation (door_of hub.old.register) most
+        (transfer R.remaining W.contents r.old r.new w.old w.new) (R.reads r.old) (R.reads r.new)
         (hub_seen K.seen hub.old) (hub_seen K.seen hub.new) result }
     ensures register { hub.new.register ≡ hub.old.register }
 {

@@ -1,14 +1,15 @@
 ghost use Rattle.std.specs.Prelude.{◌≡◌};
 ghost use Rattle.std.specs.Io.KnownBytes.{Keeps};
 ghost use Rattle.gaz_exchange.specs.Heads.{is_blank};
-ghost use Rattle.gaz_exchange.specs.Next.{IsLook, IsNext};
+ghost use Rattle.gaz_exchange.specs.Next.{IsLook, IsNext, IsReadForHead};
 ghost use Rattle.gaz_exchange.specs.Supplies.{Supplies};
 
 use crate::inlet::{INLET_SIZE, Inlet};
+use crate::source::Source;
 use crate::supply::{Cause, Supply, read_more};
 use httparse::Status;
 use httparse::spans::{HeaderSpan, RequestSpans, parse_request};
-use std::io::{Read, Write};
+use std::io::Write;
 
 /// The bytes that a head may have, with the empty lines before it.
 const HEAD_LIMIT: usize = 8192;
@@ -73,7 +74,7 @@ fn parse_head(bytes: &[u8], headers: &mut [HeaderSpan; 32]) -> Look
 }
 
 /// Reads up to the end of the next head.
-pub fn next_head<R: Read, W: Write>(
+pub fn next_head<R: Source, W: Write>(
     r: &mut R,
     w: &mut W,
     inlet: &mut Inlet,
@@ -81,6 +82,8 @@ pub fn next_head<R: Read, W: Write>(
 ) -> Next
     ensures read { Supplies R.remaining r.old r.new inlet.old inlet.new
         (λ _ left. IsNext inlet.new left headers.new result) }
+    ensures counted { IsReadForHead (R.reads r.old) (R.reads r.new) inlet.new (R.remaining r.new)
+        result }
     ensures written { Keeps (W.contents w.old) (W.contents w.new) }
 {
     'reads: loop {

@@ -1,9 +1,9 @@
-ghost use Rattle.std.specs.Prelude.{◌≡◌, ◌≤◌, ◌<◌, ◌++◌, ◌-◌, ℕ, List, [], length, take, drop};
+ghost use Rattle.std.specs.Prelude.{◌≡◌, ◌≤◌, ◌<◌, ◌++◌, ◌+◌, ◌-◌, ℕ, List, [], length, take, drop};
 ghost use Rattle.std.specs.Prelude.{MatchResult};
 ghost use Rattle.std.specs.Io.KnownBytes.{Consumes, IsAtEnd, Keeps};
 
+use crate::source::Source;
 use std::io;
-use std::io::Read;
 use std::marker::Model;
 
 /// The bytes that a head may have, and one more, which shows that it has too many.
@@ -62,17 +62,18 @@ impl Inlet {
     }
 
     /// Reads once. No bytes come only at the end of the input.
-    pub fn fill<R: Read>(&mut self, r: &mut R) -> io::Result<usize>
+    pub fn fill<R: Source>(&mut self, r: &mut R) -> io::Result<usize>
         requires { length self.old < 8193 }
         ensures read { MatchResult result
             (λ n. (bs : List ℕ) × Consumes (R.remaining r.old) (R.remaining r.new) bs
             × (self.new ≡ self.old ++ bs) × (length bs ≡ n) × (n ≡ 0 → IsAtEnd (R.remaining r.new)))
             (λ _. Keeps (R.remaining r.old) (R.remaining r.new) × (self.new ≡ self.old)) }
+        ensures counted { R.reads r.new ≤ R.reads r.old + 1 }
     {
         move_to_front(&mut self.bytes, self.start, self.end);
         self.end -= self.start;
         self.start = 0;
-        let n = r.read(&mut self.bytes[self.end..])?;
+        let n = r.read_once(&mut self.bytes[self.end..])?;
         self.end += n;
         Ok(n)
     }

@@ -1,6 +1,7 @@
 //! Requests and replies of HTTP/1.x on a stream (RFC 9112), each answered by the hub.
 #![tactic(auto)]
 
+mod any_reader;
 mod bodies;
 mod body;
 mod calls;
@@ -15,8 +16,11 @@ mod reply;
 mod request;
 mod route;
 mod send;
+mod source;
 mod supply;
 
-pub use conversation::{Ended, Served, Stopped, converse};
+pub use any_reader::converse;
+pub use conversation::{Ended, Served, Stopped, converse_counted};
 pub use send::write_all;
+pub use source::Source;
 pub use supply::Cause;

@@ -4,6 +4,7 @@ ghost use Rattle.httparse.specs.Grammar.{RequestHead};
 ghost use Rattle.httparse.specs.Spans.{IsRequestAt};
 ghost use Rattle.gaz_exchange.specs.Next.{IsHeadAt};
 ghost use Rattle.gaz_exchange.specs.Incoming.{IsBehind, IsIncoming, IsNeeded};
+ghost use Rattle.gaz_exchange.specs.Incoming.{IsReadForRequest};
 ghost use Rattle.gaz_exchange.specs.Supplies.{Reads};
 
 use crate::body::{Body, read_body};
@@ -14,10 +15,11 @@ use crate::headers::closes;
 use crate::heads::{Next, next_head};
 use crate::inlet::Inlet;
 use crate::route::Routes;
+use crate::source::Source;
 use crate::supply::Cause;
 use httparse::spans::{EMPTY_HEADER_SPAN, HeaderSpan, RequestSpans};
 use std::alloc::Global;
-use std::io::{Read, Write};
+use std::io::Write;
 
 /// A request that came whole.
 #[derive(Debug, Drop)]
@@ -93,7 +95,7 @@ fn needed_of(
 }
 
 // Reads the body behind a head, and makes the request whole.
-fn with_body<R: Read, W: Write>(
+fn with_body<R: Source, W: Write>(
     alloc: Global,
     r: &mut R,
     w: &mut W,
@@ -101,7 +103,8 @@ fn with_body<R: Read, W: Write>(
     needed: Needed,
 ) -> Incoming
     ensures read { Reads R.remaining r.old r.new inlet.old
-        (λ bytes left. IsBehind bytes needed inlet.new left result) }
+        (λ bytes left. IsBehind bytes needed inlet.new left result
+        × IsReadForRequest (R.reads r.old) (R.reads r.new) bytes inlet.new left result) }
     ensures written { Keeps (W.contents w.old) (W.contents w.new) }
 {
     let size = match needed.framing {
@@ -121,14 +124,15 @@ fn with_body<R: Read, W: Write>(
 }
 
 /// Reads the next request.
-pub fn next_request<R: Read, W: Write>(
+pub fn next_request<R: Source, W: Write>(
     alloc: Global,
     r: &mut R,
     w: &mut W,
     intake: &mut Intake,
 ) -> Incoming
     ensures read { Reads R.remaining r.old r.new intake.old.inlet
-        (λ bytes left. IsIncoming intake.new.routes bytes intake.new.inlet left result) }
+        (λ bytes left. IsIncoming intake.new.routes bytes intake.new.inlet left result
+        × IsReadForRequest (R.reads r.old) (R.reads r.new) bytes intake.new.inlet left result) }
     ensures stay { intake.old.routes ≡ true → intake.new.routes ≡ true }
     ensures written { Keeps (W.contents w.old) (W.contents w.new) }
 {

@@ -4,16 +4,16 @@ use Rattle.gaz_exchange.proofs.conversation.take_turn.Goals as goal
 
 pub returns-in-Request-clause-turn : goal.returns-in-Request-clause-turn
 returns-in-Request-clause-turn g c =
-    let (read, eaten, came) = c.in-Request.ensures.read in
+    let (read, eaten, (came, counted)) = c.in-Request.ensures.read in
     let (h, begins, call, closing) = came in
-    turn_of_answer _ c.args.is_last _ _ _ read _ _ _ _ _ _ _ _ _ c.in-Request.request h _ c.in-Request.ensures.stay eaten c.in-Request.ensures.written refl begins call closing c.answer.ensures.answered
+    turn_of_answer _ c.args.is_last _ _ _ _ _ read _ _ _ _ _ _ _ _ _ c.in-Request.request h _ c.in-Request.ensures.stay eaten c.in-Request.ensures.written refl begins call closing counted c.answer.ensures.answered
 
 pub returns-in-Refused-clause-turn : goal.returns-in-Refused-clause-turn
 returns-in-Refused-clause-turn g c =
-    let (read, eaten, why) = c.in-Refused.ensures.read in
-    turn_of_refusal _ c.args.is_last _ _ _ read _ _ _ _ _ _ _ _ _ _ c.in-Refused.ensures.stay eaten c.in-Refused.ensures.written refl why c.refuse.ensures
+    let (read, eaten, (why, counted)) = c.in-Refused.ensures.read in
+    turn_of_refusal _ c.args.is_last _ _ _ _ _ read _ _ _ _ _ _ _ _ _ _ c.in-Refused.ensures.stay eaten c.in-Refused.ensures.written refl why counted c.refuse.ensures
 
 pub returns-in-Failed-clause-turn : goal.returns-in-Failed-clause-turn
 returns-in-Failed-clause-turn g c =
-    let (read, eaten, short) = c.in-Failed.ensures.read in
-    turn_of_failure _ c.args.is_last _ _ _ read _ _ _ _ _ _ c.in-Failed.cause c.in-Failed.ensures.stay eaten c.in-Failed.ensures.written short
+    let (read, eaten, (short, counted)) = c.in-Failed.ensures.read in
+    turn_of_failure _ c.args.is_last _ _ _ _ _ read _ _ _ _ _ _ c.in-Failed.cause c.in-Failed.ensures.stay eaten c.in-Failed.ensures.written short counted

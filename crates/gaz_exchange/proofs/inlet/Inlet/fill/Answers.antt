@@ -9,11 +9,11 @@ returns g c =
     let end = c.self.inside.end in
     let m = c.move_to_front.ensures.part in
     let long = c.move_to_front.ensures.length in
-    let room : length c.read.new.buf ≡ 8193 - (end - start) = search rules in
-    let f = filled (end - start) (8193 - (end - start)) c.in_ok-n.n c.move_to_front.new.bytes c.read.new.buf (omega (arith, c.self.invariant.1, long)) a.bound.0 in
+    let room : length c.read_once.new.buf ≡ 8193 - (end - start) = search rules in
+    let f = filled (end - start) (8193 - (end - start)) c.in_ok-n.n c.move_to_front.new.bytes c.read_once.new.buf (omega (arith, c.self.invariant.1, long)) a.bound.0 in
     let was : length c.self.inside.bytes ≡ 8193 = search rules in
     let size = ap length c.self.view_is in
-    let read = take c.in_ok-n.n c.read.new.buf in
+    let read = take c.in_ok-n.n c.read_once.new.buf in
     record {
       read = (
         read,
@@ -22,4 +22,5 @@ returns g c =
         sym a.bound.1,
         λ e. a.bytes.1 e (omega (arith, room, c.requires, size, was, c.self.invariant.0, c.self.invariant.1, length-drop start (take end c.self.inside.bytes), length-take end c.self.inside.bytes)),
       );
+      counted = a.counted;
     }
