@@ -6,6 +6,7 @@ mod bodies;
 mod body;
 mod calls;
 mod conversation;
+mod counting;
 mod fault;
 mod framing;
 mod headers;
@@ -21,6 +22,7 @@ mod supply;
 
 pub use any_reader::converse;
 pub use conversation::{Ended, Served, Stopped, converse_counted};
+pub use counting::Counting;
 pub use send::write_all;
 pub use source::Source;
 pub use supply::Cause;

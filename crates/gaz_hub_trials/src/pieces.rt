@@ -2,7 +2,7 @@
 
 use crate::resting::mem_hub;
 use crate::streams::{APPLIED, Narrow, POST, Pieces, Stuck};
-use gaz_exchange::{Cause, Ended, Served, Stopped};
+use gaz_exchange::{Cause, Counting, Ended, Served, Stopped};
 use gaz_register::RegFault;
 use std::alloc::Global;
 use std::process::Abort;
@@ -59,6 +59,24 @@ fn reads_are_few(rt: HostRuntime) -> Result<(), Fail> {
         })
     );
     assert_eq!(rt; r.reads, 0);
+    Ok(())
+}
+
+#[test]
+fn reads_are_counted(rt: HostRuntime) -> Result<(), Fail> {
+    let mut hub = mem_hub(rt.alloc())?;
+    let mut r = Counting::new(Pieces::new(POST, 1, false));
+    let mut w = Vec::new(rt.alloc());
+    let ended = hub.converse_counted(rt.alloc(), &mut r, &mut w, 1);
+    assert_eq!(rt;
+        ended,
+        Ok(Served {
+            requests: 1,
+            ended: Ended::Most
+        })
+    );
+    assert_eq!(rt; r.reads, POST.len() as u64);
+    assert_eq!(rt; r.reader.reads, POST.len());
     Ok(())
 }
 

@@ -2,7 +2,7 @@
 //! these has a clause, and no test carries what the hub's own say.
 ghost use Rattle.gaz_shelf.specs.Keeper.{IsNotOpen};
 
-use gaz_exchange::{Served, Stopped, converse};
+use gaz_exchange::{Served, Source, Stopped, converse, converse_counted};
 use gaz_extract::Found;
 use gaz_hub::{Answer, Hub, Refusal, Standing};
 use gaz_ids::Uprn;
@@ -63,6 +63,17 @@ impl<K: Inbox + Drop> Resting<K> {
         most: u64,
     ) -> Result<Served, Stopped> {
         converse(alloc, r, w, &mut self.hub, most)
+    }
+
+    /// The same of a reader whose reads are counted.
+    pub(crate) fn converse_counted<R: Source, W: Write>(
+        &mut self,
+        alloc: Global,
+        r: &mut R,
+        w: &mut W,
+        most: u64,
+    ) -> Result<Served, Stopped> {
+        converse_counted(alloc, r, w, &mut self.hub, most)
     }
 
     /// Answers so many connections over it.
