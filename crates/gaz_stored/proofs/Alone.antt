@@ -21,7 +21,7 @@ module _ (d : Door) (register other : RegisterValue) (waiters : Option Remembere
         failures = l.failures;
         stops = λ sound.
             let s = l.stops (λ fine. let stood = sound fine in ((stood.0, tt), stood.1)) in
-            record { ever = s.ever; now = s.now; whole = s.whole };
+            record { ever = s.ever; now = s.now; answered = s.answered; received = s.received; whole = s.whole };
       }
 
   pub alone : (most : ℕ) (through : Transfer) (result : Result Served Stopped) (before : Option Remembered) → before ≡ None
