@@ -1,0 +1,3 @@
+pub mod InStep
+pub mod Mirroring
+pub mod Mirrored

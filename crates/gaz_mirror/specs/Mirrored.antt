@@ -1,0 +1,21 @@
+-- How a keeper over two is seen, and what its calls leave as it was.
+use Rattle.std.specs.Prelude.{◌≡◌, None, IsSome, Result, OnErr}
+use Rattle.gaz_shelf.specs.Keeper.{Seen}
+use Rattle.gaz_shelf.specs.declared.fault.ShelfFault.{ShelfFault}
+use Rattle.gaz_shelf.specs.declared.shelf.Shelf.{Ghosts}
+use Rattle.gaz_mirror.specs.Mirroring.{mirrored}
+use Rattle.gaz_mirror.specs.declared.mirror.Mirror.{Mirror}
+
+abbrev pub seen_mirrored : {L U : Type 0} → {lower : Ghosts L} → {upper : Ghosts U}
+    → Mirror L U lower upper → Seen
+seen_mirrored {L} {U} {lower} {upper} m = mirrored upper.seen (lower.seen m.lower) m.upper
+
+-- where there still is an upper one, the lower one is as it was
+abbrev pub SparesLower : {L U : Type 0} → {lower : Ghosts L} → {upper : Ghosts U}
+    → Mirror L U lower upper → Mirror L U lower upper → Type 0
+SparesLower old new = IsSome new.upper → new.lower ≡ old.lower
+
+-- a fault leaves no upper one
+abbrev pub DropsUpper : {L U T : Type 0} → {lower : Ghosts L} → {upper : Ghosts U}
+    → Result T ShelfFault → Mirror L U lower upper → Type 0
+DropsUpper result new = OnErr result (new.upper ≡ None)

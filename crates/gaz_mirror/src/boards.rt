@@ -1,0 +1,172 @@
+//! The calls of a keeper over two that concern boards.
+ghost use Rattle.std.specs.Prelude.{◌≢◌};
+ghost use Rattle.gaz_shelf.specs.Keeper.{Idle, IsNotOpen, Refuses};
+ghost use Rattle.gaz_shelf.specs.Telling.{Abandons, Applies, Begins, Puts, Skips, Takes};
+ghost use Rattle.gaz_shelf.specs.Telling.{TellsApprovedOf, TellsApprovedOn, TellsAt, TellsChildren};
+ghost use Rattle.gaz_shelf.specs.Telling.{TellsCurrent, TellsEver, TellsPage, TellsPropertyOf};
+ghost use Rattle.gaz_shelf.specs.Telling.{TellsReached, TellsVerdict};
+ghost use Rattle.gaz_mirror.specs.Mirrored.{DropsUpper, SparesLower, seen_mirrored};
+
+use crate::mirror::Mirror;
+use crate::turns::{change, reading};
+use crate::unshared::Unshared;
+use gaz_ids::{Code, Lang, Uprn, Usrn, Volume};
+use gaz_records::{Key, Kind, SharedItem};
+use gaz_shelf::{Inbox, Property, Shelf, ShelfFault, Verdict};
+
+// Beside what every keeper tells: a reading of the upper keeper leaves the lower one alone, and a
+// fault leaves no upper one.
+impl<L: Inbox + Drop, U: Unshared + Drop> Shelf for Mirror<L, U> {
+    ghost seen = { seen_mirrored };
+
+    fn reached(&mut self, code: Code) -> Result<u64, ShelfFault>
+        ensures reads { TellsReached seen_mirrored self.old self.new result code }
+        ensures spares { SparesLower self.old self.new }
+    {
+        reading!(self, reached(code))
+    }
+
+    fn verdict(&mut self, code: Code, volume: Volume) -> Result<Option<Verdict>, ShelfFault>
+        ensures reads { TellsVerdict seen_mirrored self.old self.new result code volume }
+        ensures spares { SparesLower self.old self.new }
+    {
+        reading!(self, verdict(code, volume))
+    }
+
+    fn current(&mut self, code: Code, key: &Key) -> Result<Option<SharedItem>, ShelfFault>
+        ensures reads { TellsCurrent seen_mirrored self.old self.new result code key.now }
+        ensures spares { SparesLower self.old self.new }
+    {
+        reading!(self, current(code, key))
+    }
+
+    fn at(&mut self, code: Code, volume: u64, key: &Key) -> Result<Option<SharedItem>, ShelfFault>
+        ensures reads { TellsAt seen_mirrored self.old self.new result code volume key.now }
+        ensures spares { SparesLower self.old self.new }
+    {
+        reading!(self, at(code, volume, key))
+    }
+
+    fn ever(&mut self, code: Code, key: &Key) -> Result<bool, ShelfFault>
+        ensures reads { TellsEver seen_mirrored self.old self.new result code key.now }
+        ensures spares { SparesLower self.old self.new }
+    {
+        reading!(self, ever(code, key))
+    }
+
+    fn approved_of(&mut self, code: Code, uprn: Uprn) -> Result<Vec<Key>, ShelfFault>
+        ensures reads { TellsApprovedOf seen_mirrored self.old self.new result code uprn }
+        ensures spares { SparesLower self.old self.new }
+    {
+        reading!(self, approved_of(code, uprn))
+    }
+
+    fn property_of(&mut self, code: Code, uprn: Uprn) -> Result<Option<Property>, ShelfFault>
+        ensures reads { TellsPropertyOf seen_mirrored self.old self.new result code uprn }
+        ensures spares { SparesLower self.old self.new }
+    {
+        reading!(self, property_of(code, uprn))
+    }
+
+    fn approved_on(
+        &mut self,
+        code: Code,
+        usrn: Usrn,
+        lang: Option<Lang>,
+    ) -> Result<bool, ShelfFault>
+        ensures reads { TellsApprovedOn seen_mirrored self.old self.new result code usrn lang }
+        ensures spares { SparesLower self.old self.new }
+    {
+        reading!(self, approved_on(code, usrn, lang))
+    }
+
+    fn children(&mut self, code: Code, uprn: Uprn) -> Result<bool, ShelfFault>
+        ensures reads { TellsChildren seen_mirrored self.old self.new result code uprn }
+        ensures spares { SparesLower self.old self.new }
+    {
+        reading!(self, children(code, uprn))
+    }
+
+    fn page(
+        &mut self,
+        code: Code,
+        volume: u64,
+        kind: Kind,
+        after: Option<Key>,
+        most: usize,
+    ) -> Result<Vec<SharedItem>, ShelfFault>
+        ensures reads { TellsPage
+            seen_mirrored self.old self.new result code volume kind after most }
+        ensures spares { SparesLower self.old self.new }
+    {
+        let from = after;
+        if let Some(upper) = &mut self.upper
+            && let Ok(items) = upper.page(code, volume, kind, from, most)
+        {
+            return Ok(items);
+        }
+        self.upper = None;
+        self.lower.page(code, volume, kind, after, most)
+    }
+
+    fn begin(&mut self, code: Code) -> Result<(), ShelfFault>
+        requires { IsNotOpen (L.seen self.old.lower).progress }
+        ensures goes { Begins seen_mirrored self.old self.new result code }
+        ensures drops { DropsUpper result self.new }
+    {
+        change!(self, begin(code))
+    }
+
+    fn put(&mut self, item: SharedItem) -> Result<(), ShelfFault>
+        requires { (L.seen self.old.lower).progress ≢ Idle }
+        ensures sets { Puts seen_mirrored self.old self.new result item }
+        ensures refuses { Refuses (seen_mirrored self.old) result }
+        ensures drops { DropsUpper result self.new }
+    {
+        let shared = item.share();
+        let put = self.lower.put(item);
+        if put.is_ok()
+            && let Ok(item) = shared
+            && let Some(upper) = &mut self.upper
+            && upper.put(item).is_ok()
+        {
+            return put;
+        }
+        self.upper = None;
+        put
+    }
+
+    fn take(&mut self, key: &Key) -> Result<(), ShelfFault>
+        requires { (L.seen self.old.lower).progress ≢ Idle }
+        ensures sets { Takes seen_mirrored self.old self.new result key.now }
+        ensures refuses { Refuses (seen_mirrored self.old) result }
+        ensures drops { DropsUpper result self.new }
+    {
+        change!(self, take(key))
+    }
+
+    fn keep(&mut self) -> Result<(), ShelfFault>
+        requires { (L.seen self.old.lower).progress ≢ Idle }
+        ensures keeps { Applies seen_mirrored self.old self.new result }
+        ensures refuses { Refuses (seen_mirrored self.old) result }
+        ensures drops { DropsUpper result self.new }
+    {
+        change!(self, keep())
+    }
+
+    fn abandon(&mut self) -> Result<(), ShelfFault>
+        requires { (L.seen self.old.lower).progress ≢ Idle }
+        ensures goes { Abandons seen_mirrored self.old self.new result }
+        ensures drops { DropsUpper result self.new }
+    {
+        change!(self, abandon())
+    }
+
+    fn skip(&mut self, code: Code, place: u64, rule: u8) -> Result<(), ShelfFault>
+        requires { IsNotOpen (L.seen self.old.lower).progress }
+        ensures enters { Skips seen_mirrored self.old self.new result code place rule }
+        ensures drops { DropsUpper result self.new }
+    {
+        change!(self, skip(code, place, rule))
+    }
+}

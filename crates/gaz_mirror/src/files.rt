@@ -1,0 +1,34 @@
+//! The calls of a keeper over two that concern files.
+ghost use Rattle.gaz_shelf.specs.Keeper.{IsNotOpen};
+ghost use Rattle.gaz_shelf.specs.Telling.{Receives, TellsHeld, TellsReceived};
+ghost use Rattle.gaz_mirror.specs.Mirrored.{DropsUpper, SparesLower, seen_mirrored};
+
+use crate::mirror::Mirror;
+use crate::turns::{change, reading};
+use crate::unshared::Unshared;
+use gaz_ids::{Code, Volume};
+use gaz_shelf::{Inbox, ShelfFault};
+
+impl<L: Inbox + Drop, U: Unshared + Drop> Inbox for Mirror<L, U> {
+    fn received(&mut self, code: Code, volume: Volume) -> Result<Option<Vec<u8>>, ShelfFault>
+        ensures reads { TellsReceived seen_mirrored self.old self.new result code volume }
+        ensures spares { SparesLower self.old self.new }
+    {
+        reading!(self, received(code, volume))
+    }
+
+    fn receive(&mut self, code: Code, volume: Volume, bytes: &[u8]) -> Result<(), ShelfFault>
+        requires { IsNotOpen (L.seen self.old.lower).progress }
+        ensures enters { Receives seen_mirrored self.old self.new result code volume bytes.now }
+        ensures drops { DropsUpper result self.new }
+    {
+        change!(self, receive(code, volume, bytes))
+    }
+
+    fn held(&mut self, code: Code) -> Result<u64, ShelfFault>
+        ensures reads { TellsHeld seen_mirrored self.old self.new result code }
+        ensures spares { SparesLower self.old self.new }
+    {
+        reading!(self, held(code))
+    }
+}
