@@ -3,6 +3,7 @@
 
 mod boards;
 mod files;
+pub mod laws;
 mod mirror;
 mod turns;
 mod unshared;

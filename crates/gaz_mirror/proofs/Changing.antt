@@ -1,0 +1,72 @@
+-- What a change of a judgement tells of a keeper over two.
+use Rattle.std.proofs.Common.{◌≡◌, sym, subst, ◌∙◌}
+use Rattle.std.specs.Prelude.{true, Option, None, Some, Result, Ok, Err, OnOk, is_ok}
+use Rattle.gaz_shelf.specs.Keeper.{Content, Goes, IsSound, LeavesAtMost, LeavesJust, Progress, Seen}
+use Rattle.gaz_shelf.specs.declared.fault.ShelfFault.{ShelfFault}
+use Rattle.gaz_mirror.specs.Mirroring.{mirrored, stands_below}
+
+module _ {U : Type 0} (seen : U → Seen) (old new : Seen) (was now : Option U) where
+  -- what the lower one leaves, both leave
+  leaves_at_most : (commits : Option Content) → LeavesAtMost commits old new → LeavesAtMost commits (mirrored seen old was) (mirrored seen new now)
+  leaves_at_most None h = h
+  leaves_at_most (Some becomes) h = h
+
+  leaves_just : {T : Type 0} (r : Result T ShelfFault) (commits : Option Content) → OnOk r (LeavesJust commits old new)
+      → OnOk r (LeavesJust commits (mirrored seen old was) (mirrored seen new now))
+  leaves_just (Ok x) None h = h
+  leaves_just (Ok x) (Some becomes) h = h
+  leaves_just (Err e) commits h = h
+
+  -- it is sound where both are
+  from_below : IsSound (mirrored seen old was) → IsSound old
+  from_below sound fine = stands_below seen old was (sound fine)
+
+-- only the lower one is left
+pub goes_below : {U T : Type 0} (seen : U → Seen) (old new : Seen) (was : Option U) (r : Result T ShelfFault) (asked : Type 0) (becomes : Content) (commits : Option Content) (after : Progress)
+    → Goes old new r asked becomes commits after → Goes (mirrored seen old was) (mirrored seen new None) r asked becomes commits after
+goes_below seen old new was r asked becomes commits after goes = record {
+  harm = goes.harm;
+  stands = λ stood. goes.stands (stands_below seen old was stood);
+  done = λ stood. goes.done (stands_below seen old was stood);
+  undone = λ stood. goes.undone (stands_below seen old was stood);
+  on = goes.on;
+  broken = goes.broken;
+  counts = record { kept = goes.counts.kept; store = goes.counts.store };
+  leaves = λ sound met. leaves_at_most seen old new was None commits (goes.leaves (from_below seen old new was None sound) met);
+  whole = λ sound. goes.whole (from_below seen old new was None sound);
+  committed = λ sound met. leaves_just seen old new was None r commits (goes.committed (from_below seen old new was None sound) met);
+}
+
+-- both were changed
+both : {U T : Type 0} (seen : U → Seen) (sole : (u : U) → (seen u).unharmed) (old new : Seen) (was now : U) (r r' : Result T ShelfFault) (asked asked' : Type 0)
+    (becomes becomes' : Content) (commits commits' : Option Content) (after after' : Progress) → is_ok r ≡ true → is_ok r' ≡ true
+    → Goes old new r asked becomes commits after → Goes (seen was) (seen now) r' asked' becomes' commits' after'
+    → ((seen was).content ≡ old.content → asked → asked') → ((seen was).content ≡ old.content → becomes' ≡ becomes)
+    → Goes (mirrored seen old (Some was)) (mirrored seen new (Some now)) r asked becomes commits after
+both seen sole old new was now (Ok x) (Ok y) asked asked' becomes becomes' commits commits' after after' ok ok' goes above asks same = record {
+  harm = goes.harm;
+  stands = λ stood met fine. record {
+    lower = goes.stands stood.lower met fine;
+    upper = above.stands stood.upper (asks stood.same met) (sole now);
+    same = above.done stood.upper (asks stood.same met) (sole now) ∙ same stood.same ∙ sym (goes.done stood.lower met fine);
+  };
+  done = λ stood. goes.done stood.lower;
+  undone = λ _ _ _. tt;
+  on = goes.on;
+  broken = tt;
+  counts = record { kept = goes.counts.kept; store = tt };
+  leaves = λ sound met. leaves_at_most seen old new (Some was) (Some now) commits (goes.leaves (λ fine. (sound fine).lower) met);
+  whole = λ sound. goes.whole (λ fine. (sound fine).lower);
+  committed = λ sound met. leaves_just seen old new (Some was) (Some now) (Ok x) commits (goes.committed (λ fine. (sound fine).lower) met);
+}
+both seen sole old new was now (Ok x) (Err e) asked asked' becomes becomes' commits commits' after after' ok ok' goes above asks same = cc
+both seen sole old new was now (Err e) r' asked asked' becomes becomes' commits commits' after after' ok ok' goes above asks same = cc
+
+pub goes_both : {U T : Type 0} (seen : U → Seen) (sole : (u : U) → (seen u).unharmed) (old new : Seen) (upper : Option U) (was now : U) (r r' : Result T ShelfFault) (asked asked' : Type 0)
+    (becomes becomes' : Content) (commits commits' : Option Content) (after after' : Progress) → upper ≡ Some was → is_ok r ≡ true → is_ok r' ≡ true
+    → Goes old new r asked becomes commits after → Goes (seen was) (seen now) r' asked' becomes' commits' after'
+    → ((seen was).content ≡ old.content → asked → asked') → ((seen was).content ≡ old.content → becomes' ≡ becomes)
+    → Goes (mirrored seen old upper) (mirrored seen new (Some now)) r asked becomes commits after
+goes_both seen sole old new upper was now r r' asked asked' becomes becomes' commits commits' after after' is ok ok' goes above asks same =
+    subst (λ o. Goes (mirrored seen old o) (mirrored seen new (Some now)) r asked becomes commits after) (sym is)
+    (both seen sole old new was now r r' asked asked' becomes becomes' commits commits' after after' ok ok' goes above asks same)

@@ -1,0 +1,22 @@
+use Rattle.std.proofs.Common.{◌≡◌, Bool, false, ap, ◌∙◌, sym}
+use Rattle.std.specs.FinMap as map
+use Rattle.gaz_shelf.specs.Faulting.{content_around, progress_around}
+use Rattle.gaz_shelf.specs.Keeper.{Content, Idle, Progress, empty_content}
+use Rattle.gaz_shelf.specs.Mem.{content_in, progress_of}
+use Rattle.gaz_shelf.specs.declared.mem_shelf.MemShelf.{MemShelf}
+use Rattle.gaz_mirror.proofs.laws.finds_what_it_received.Goals as goal
+
+-- a keeper around an empty one is empty
+empty_around : (broken : Bool) (p : Progress) (k : Content) → broken ≡ false → p ≡ Idle → k ≡ empty_content → content_around (progress_around broken p) k ≡ empty_content
+empty_around broken p k whole idle empty =
+    ap (λ b. content_around (progress_around b p) k) whole ∙ ap (λ q. content_around (progress_around false q) k) idle ∙ ap (content_around Idle) empty
+
+pub returns : goal.returns
+returns c =
+    let upper = c.new-upper in
+    let same = empty_around upper.result.broken (progress_of upper.result.inner.judging) (content_in upper.result.inner) upper.ensures.whole
+    (ap (λ (m : MemShelf). progress_of m.judging) upper.ensures.inner ∙ c.new.ensures.idle) (ap content_in upper.ensures.inner ∙ c.new.ensures.empty) in
+    c.receive_and_find.ensures (c.with-mirror.ensures.stands tt tt (same ∙ sym c.new-2.ensures.empty))
+    (ap (λ (m : MemShelf). map.get m.files (c.args.code, c.args.volume)) c.with-mirror.ensures.lower
+    ∙ ap (λ (k : Content). map.get k.files (c.args.code, c.args.volume)) c.new-2.ensures.empty ∙ map.get-empty _ _)
+    tt
