@@ -10,6 +10,8 @@ mod fixtures;
 #[cfg(test)]
 mod keepers;
 #[cfg(test)]
+mod mirrors;
+#[cfg(test)]
 mod refusals;
 #[cfg(test)]
 mod stores;
