@@ -11,9 +11,8 @@ import subprocess
 import sys
 import tempfile
 
-import registers
 import streams
-from measure import Talk, in_file, in_memory, program, seconds, talked_seconds
+from measure import Talk, in_file, in_memory, program, register_of, seconds, talked_seconds
 
 ROUNDS = 7
 REPEATS, LOOK_UPS, HOMES = 100_000, 99_000, 30_000
@@ -22,7 +21,7 @@ SIZES = (10_000, 100_000, 1_000_000)
 
 def several(folder):
     """The words of a hub of a register with more numbers than the sample's."""
-    return [program("gaz_bench"), "play", in_file(folder, "register3.toml", registers.register_of(3).encode())]
+    return [program("gaz_bench"), "play", in_file(folder, "register3.toml", register_of(3).encode())]
 
 
 def beside_floor(folder, load, learned, asked):

@@ -17,9 +17,8 @@ import time
 import hub
 import hub_sqlite
 import random_streams
-import registers
 import streams
-from measure import SAMPLE, TOP, Talk, in_file, output_of, program, seconds, talked_seconds
+from measure import SAMPLE, TOP, Talk, in_file, output_of, program, register_of, seconds, talked_seconds
 
 ROUNDS = 7
 LOOK_UPS, REPEATS, LISTS, EXTRACTS = 100_000, 100_000, 5, 5
@@ -251,7 +250,7 @@ def growth_of(place, items, title):
 
 def growth_rows(folder):
     """What a change costs as a gazetteer grows from 10,000 items, in a store and in memory."""
-    place = Place(folder, in_file(folder, "register3.toml", registers.register_of(3).encode()))
+    place = Place(folder, in_file(folder, "register3.toml", register_of(3).encode()))
     sizes = [10_000, *(n for n in (100_000, 1_000_000) if n <= ITEMS)]
     sides = [growth_of(place, items, f"grown{items}") for items in sizes]
     spent = [([], []) for _ in sizes]
