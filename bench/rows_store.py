@@ -1,7 +1,8 @@
 """What users wait for over a store in a file: beside the same hub over the keeper in memory, the same statements alone, and a plain hub over Python's `sqlite3`.
 
-Each ratio is of medians over seven rounds, in each of which every side runs once, so that they see the same machine. A time is what a run takes beyond
-one right before it that only loads, or opens the store. Stores lie in the folder that TMPDIR names.
+Each ratio is of medians over seven rounds, in each of which every side runs once, so that they see the same machine; of readings the sides run one
+after another, the keeper in memory with several times the requests. A time is what a run takes beyond one right before it that only loads, or opens
+the store. Stores lie in the folder that TMPDIR names.
 
     bench/rows_store.py [TITLE..]   only the rows whose functions have these names, as growth or opening; ITEMS=1000000 before it sets the largest of growth
 """
@@ -23,6 +24,7 @@ from measure import SAMPLE, TOP, Talk, in_file, output_of, program, register_of,
 ROUNDS = 7
 LOOK_UPS, REPEATS, LISTS, EXTRACTS = 100_000, 100_000, 5, 5
 FILES, VOLUMES, REJECTED, GROWN = 60, 2_000, 5, 5
+MORE = 5  # times as many requests over the keeper in memory, which would else be done before a clock tells
 ITEMS = int(os.environ.get("ITEMS", "100000"))  # of the largest gazetteer of `growth_rows`
 FEWEST, MOST, PAGE = 2_000, 64_000, 4_096  # the pages that a hub keeps at hand, and the bytes of one
 
@@ -128,12 +130,13 @@ class Place:
         return Side(self.folder, over_sqlite, self.empty, in_file(self.folder, "asked", asked), store, keeps)
 
     def reading(self, title, load, asked, count, unit, most, name):
-        """Requests that change nothing, over a store that is opened and over the keeper in memory; the plain hub answers a tenth of the rounds."""
+        """Requests that change nothing, over a store that is opened and, more of them, over the keeper in memory; the plain hub answers once."""
         store = loaded(self.folder, name, self.ours, load)
-        sides = [self.in_memory(load, asked), self.in_store(store, asked)]
-        (memory, ours), told = medians(sides)
+        (ours,), told = medians([self.in_store(store, asked)])
+        (memory,), more = medians([self.in_memory(load, asked * MORE)])
         (plain,), same = medians([self.in_sqlite(store, asked)], rounds=1)
-        assert told == same, "the plain hub replies otherwise"
+        assert told == same and told * MORE == more, "the hubs reply otherwise"
+        memory /= MORE
         return title, f"{ours / memory:.2f} times the keeper in memory (at most {most})", f"{count / ours:,.0f} {unit}, {ours / plain:.2f} of sqlite3"
 
 
