@@ -1,0 +1,7 @@
+pub mod Counts
+pub mod Reading
+pub mod Settling
+pub mod Copied
+pub mod Alike
+pub mod Filled
+pub mod Volumes

@@ -1,0 +1,3 @@
+pub mod Comparing
+pub mod Copying
+pub mod Filling

@@ -1,0 +1,104 @@
+//! A hub over a mirror in place of one over the lower keeper alone.
+ghost use Rattle.std.specs.Prelude.{◌≡◌};
+ghost use Rattle.std.specs.Option.{ForSome};
+ghost use Rattle.gaz_shelf.specs.Keeper.{Idle};
+ghost use Rattle.gaz_shelf.specs.Telling.{IsNotJudging};
+ghost use Rattle.gaz_hub.specs.Hubs.{door_of};
+ghost use Rattle.gaz_hub.specs.Laws.{StandsForRun};
+ghost use Rattle.gaz_hub.specs.Seen.{RemembersNothing, hub_seen};
+ghost use Rattle.gaz_hub.specs.Settling.{Advances};
+ghost use Rattle.gaz_mirror.specs.Mirrored.{seen_mirrored};
+ghost use Rattle.gaz_mirrored.specs.Comparing.{OnlyReads};
+ghost use Rattle.gaz_mirrored.specs.Filling.{CanBeMirrored, IsFilled, RestsBare, StandsEmpty};
+
+use crate::filling::fill;
+use gaz_hub::Hub;
+use gaz_mirror::{Mirror, Unshared};
+use gaz_register::Register;
+use gaz_shelf::{Inbox, MemShelf, Seed};
+use std::alloc::Global;
+
+// A mirror over both, or over the lower one alone.
+fn join<L: Inbox + Drop, U: Unshared + Drop>(lower: L, upper: Option<U>) -> Mirror<L, U>
+    requires { ForSome upper (λ u. ((L.seen lower).progress ≡ Idle)
+        × ((U.seen u).progress ≡ Idle)) }
+    ensures lower { result.lower ≡ lower }
+    ensures upper { result.upper ≡ upper }
+{
+    match upper {
+        Some(upper) => Mirror::with(lower, upper),
+        None => Mirror::over(lower),
+    }
+}
+
+// A mirror of what the lower keeper keeps, where the upper one can be filled with it; else over the
+// lower one alone.
+fn mirror_of<L: Inbox + Drop, U: Unshared + Drop>(
+    alloc: Global,
+    register: Register,
+    lower: L,
+    upper: U,
+) -> (Register, Mirror<L, U>)
+    requires lower { IsNotJudging L.seen lower }
+    requires upper { IsNotJudging U.seen upper }
+    ensures register { result.0 ≡ register }
+    ensures reads { OnlyReads (L.seen lower) (L.seen result.1.lower) }
+    ensures filled { ForSome result.1.upper (λ u. IsFilled (door_of register)
+        (L.seen lower) (L.seen result.1.lower) (U.seen upper) (U.seen u)) }
+{
+    let mut lower = lower;
+    let (register, filled) = fill(alloc, register, &mut lower, upper);
+    (register, join(lower, filled))
+}
+
+/// As `mirrored`, with this keeper at hand, which is to be an empty one.
+pub fn mirrored_by<L: Inbox + Drop, U: Unshared + Drop>(
+    alloc: Global,
+    hub: Hub<L>,
+    upper: U,
+) -> Hub<Mirror<L, U>>
+    requires lower { IsNotJudging L.seen hub.keeper }
+    requires upper { IsNotJudging U.seen upper }
+    ensures register { result.register ≡ hub.register }
+    ensures remembers { RemembersNothing result }
+    ensures idle { IsNotJudging seen_mirrored result.keeper }
+    ensures below { Advances (door_of hub.register) 0 (hub_seen L.seen hub)
+        (L.seen result.keeper.lower) }
+    ensures stands { RestsBare L.seen → RestsBare U.seen → StandsEmpty (U.seen upper)
+        → CanBeMirrored (door_of hub.register) (hub_seen L.seen hub)
+        → (seen_mirrored result.keeper).unharmed
+        → StandsForRun (door_of hub.register) (hub_seen seen_mirrored result) }
+{
+    let mut hub = hub;
+    let settled = hub.settle();
+    let (register, lower) = hub.into_parts();
+    match settled {
+        Ok(()) => {}
+        Err(_) => return Hub::new(alloc, register, Mirror::over(lower)),
+    }
+    let (register, mirror) = mirror_of(alloc, register, lower, upper);
+    Hub::new(alloc, register, mirror)
+}
+
+/// A hub over a mirror of what a hub's keeper keeps, with all of it at hand, where memory allows;
+/// else over the keeper alone.
+///
+/// All is settled, and the received files are read, as many as are judged and held, and submitted
+/// to a hub in memory. Two settled hubs that received the same have the same board.
+///
+/// The new hub stands for the same files, and its mirror is read and changed as the lower keeper
+/// is.
+pub fn mirrored<L: Inbox + Drop>(alloc: Global, seed: Seed, hub: Hub<L>) -> Hub<Mirror<L, MemShelf>>
+    requires { IsNotJudging L.seen hub.keeper }
+    ensures register { result.register ≡ hub.register }
+    ensures remembers { RemembersNothing result }
+    ensures idle { IsNotJudging seen_mirrored result.keeper }
+    ensures below { Advances (door_of hub.register) 0 (hub_seen L.seen hub)
+        (L.seen result.keeper.lower) }
+    ensures stands { RestsBare L.seen
+        → CanBeMirrored (door_of hub.register) (hub_seen L.seen hub)
+        → (seen_mirrored result.keeper).unharmed
+        → StandsForRun (door_of hub.register) (hub_seen seen_mirrored result) }
+{
+    mirrored_by(alloc, hub, MemShelf::new(alloc, seed))
+}

@@ -1,0 +1,12 @@
+//! A hub over a mirror, filled with what a hub's keeper keeps.
+#![tactic(auto)]
+
+mod comparing;
+mod copying;
+mod filling;
+mod joining;
+pub mod laws;
+#[cfg(test)]
+mod tests;
+
+pub use joining::{mirrored, mirrored_by};
