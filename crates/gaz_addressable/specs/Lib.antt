@@ -1,3 +1,4 @@
 pub mod Texts
 pub mod HouseNumbers
+pub mod Ranges
 pub mod Objects

@@ -5,10 +5,12 @@
 pub mod laws;
 mod number;
 mod object;
+mod range;
 mod read;
 mod text;
 mod write;
 
-pub use number::{HouseDigits, HouseNumber, Range};
+pub use number::{HouseDigits, HouseNumber};
 pub use object::{ObjFault, Object};
+pub use range::Range;
 pub use text::{Text, TextFault, is_text};

@@ -1,6 +1,6 @@
 ghost use Rattle.std.specs.Prelude.{◌≡◌, Some, true};
 ghost use Rattle.gaz_addressable.specs.HouseNumbers.{house_cmp, is_before, is_house_number};
-ghost use Rattle.gaz_addressable.specs.HouseNumbers.{is_range, number_text, range_text};
+ghost use Rattle.gaz_addressable.specs.HouseNumbers.{number_text};
 
 use gaz_ids::Number;
 use std::cmp::Ordering;
@@ -16,44 +16,52 @@ pub type HouseDigits = Number<10, 4, 1, 9999>;
 /// with one.
 #[derive(Clone, Copy, Debug, PartialEq, Eq, PartialOrd, Ord)]
 pub struct HouseNumber {
-    pub n: HouseDigits,
-    pub suffix: Option<u8>,
+    n: u16,
+    suffix: Option<u8>,
 }
+
+// An LPI has room for four of them, so each is small.
+const _: () = prove!(size_of::<HouseNumber>() == 4);
 
 impl Model for HouseNumber {
     ghost use Rattle.std.specs.Prelude.{◌≡◌, true};
-    ghost use Rattle.gaz_addressable.specs.HouseNumbers.{HouseNumberValue, is_suffix};
+    ghost use Rattle.gaz_addressable.specs.HouseNumbers.{HouseNumberValue, is_house_number};
 
     ghost Value = { HouseNumberValue };
 
     ghost view = { λ x. record { n = x.n; suffix = x.suffix } };
 
-    ghost invariant = { λ x. is_suffix x.suffix ≡ true };
+    ghost invariant = { λ x.
+        is_house_number (record { n = x.n; suffix = x.suffix }) ≡ true };
 
     ghost inverse = { λ v. record { n = v.n; suffix = v.suffix } };
 }
 
-/// One house number, or all from one to a later one.
-#[derive(Clone, Copy, Debug, PartialEq, Eq)]
-pub struct Range {
-    pub from: HouseNumber,
-    pub to: Option<HouseNumber>,
-}
-
-impl Model for Range {
-    ghost use Rattle.std.specs.Prelude.{◌≡◌, true};
-    ghost use Rattle.gaz_addressable.specs.HouseNumbers.{RangeValue, rises};
-
-    ghost Value = { RangeValue };
-
-    ghost view = { λ x. record { from = x.from; to = x.to } };
-
-    ghost invariant = { λ x. rises (record { from = x.from; to = x.to }) ≡ true };
-
-    ghost inverse = { λ v. record { from = v.from; to = v.to } };
-}
-
 impl HouseNumber {
+    /// The house number of a number from 1 to 9999 and a suffix, if it has one.
+    pub fn of(n: u16, suffix: Option<u8>) -> HouseNumber
+        requires { is_house_number (record { n = n; suffix = suffix }) ≡ true }
+        ensures { result ≡ record { n = n; suffix = suffix } }
+    {
+        HouseNumber { n, suffix }
+    }
+
+    /// The number, 1 to 9999.
+    pub fn number(self) -> u16
+        ensures value { result ≡ self.n }
+        ensures form { is_house_number self ≡ true }
+    {
+        self.n
+    }
+
+    /// The suffix, `A` to `Z`, if there is one.
+    pub fn suffix(self) -> Option<u8>
+        ensures value { result ≡ self.suffix }
+        ensures form { is_house_number self ≡ true }
+    {
+        self.suffix
+    }
+
     #[tactic(auto, using(crate::proofs::HouseOrder::orders))]
     /// How this number compares with another, as `cmp` does.
     pub fn compare(&self, other: &HouseNumber) -> Ordering
@@ -70,18 +78,6 @@ impl HouseNumber {
     }
 }
 
-impl Range {
-    /// What each range holds, for callers, who see its value alone.
-    pub fn known(&self)
-        ensures { is_range self.now ≡ true }
-    {
-        let _ = self.from.n.number();
-        if let Some(to) = &self.to {
-            let _ = to.n.number();
-        }
-    }
-}
-
 /// The number and its suffix, as `12A`.
 impl fmt::Display for HouseNumber {
     ghost output = { λ x. Some (number_text x) };
@@ -90,19 +86,6 @@ impl fmt::Display for HouseNumber {
         write!(f, "{}", self.n)?;
         match self.suffix {
             Some(letter) => write!(f, "{}", char::from(letter)),
-            None => Ok(()),
-        }
-    }
-}
-
-/// The numbers, as `12A-14`, or as `12A` where there is one.
-impl fmt::Display for Range {
-    ghost output = { λ r. Some (range_text r) };
-
-    fn fmt<W: fmt::Write>(&self, f: &mut fmt::Formatter<W>) -> fmt::Result {
-        write!(f, "{}", self.from)?;
-        match &self.to {
-            Some(to) => write!(f, "-{to}"),
             None => Ok(()),
         }
     }

@@ -1,4 +1,4 @@
-use crate::number::Range;
+use crate::range::Range;
 use crate::text::Text;
 use std::marker::Model;
 use thiserror::Error;
@@ -31,6 +31,9 @@ pub struct Object {
     pub range: Option<Range>,
     pub text: Option<Text<90>>,
 }
+
+// An LPI has room for two objects, so each is small.
+const _: () = prove!(size_of::<Object>() == 40);
 
 impl Model for Object {
     ghost use Rattle.std.specs.Prelude.{◌≡◌, true};

@@ -2,8 +2,9 @@ ghost use Rattle.std.specs.Prelude.{◌≡◌, IfSome, map, true};
 ghost use Rattle.gaz_addressable.specs.HouseNumbers.{house_of, is_suffix, suffix_of};
 ghost use Rattle.gaz_addressable.specs.Objects.{OrMemory, object_of_fields, range_of, with_text};
 
-use crate::number::{HouseDigits, HouseNumber, Range};
+use crate::number::{HouseDigits, HouseNumber};
 use crate::object::{ObjFault, Object};
+use crate::range::Range;
 use crate::text::{Text, TextFault};
 use std::alloc::Global;
 
@@ -34,7 +35,7 @@ fn read_suffix(text: &[u8]) -> Option<Option<u8>>
     None
 }
 
-#[tactic(auto, unfolding(crate::specs::Objects::range_of))]
+#[tactic(auto, using(std::proofs::lemmas::Bool::Decides::nat_tests), unfolding(crate::specs::Objects::range_of))]
 // The house numbers that four fields say, if there are any.
 fn read_range(
     start: &[u8],
@@ -68,18 +69,15 @@ fn read_range(
     let Some(n) = from else {
         return Ok(None);
     };
-    let from = HouseNumber { n, suffix };
+    let from = HouseNumber::of(n.number() as u16, suffix);
     let Some(n) = to else {
-        return Ok(Some(Range { from, to: None }));
+        return Ok(Some(Range::of(from, None)));
     };
-    let to = HouseNumber {
-        n,
-        suffix: end_suffix,
-    };
+    let to = HouseNumber::of(n.number() as u16, end_suffix);
     if !from.is_before(&to) {
         return Err(ObjFault::EndNotAfterStart);
     }
-    Ok(Some(Range { from, to: Some(to) }))
+    Ok(Some(Range::of(from, Some(to))))
 }
 
 // The object of these house numbers, if there are any, and of a text that may be empty.

@@ -16,7 +16,7 @@ fn digits(alloc: Global, number: Option<HouseNumber>) -> Result<Vec<u8>, AllocEr
     match number {
         Some(number) => {
             let mut buffer = Buffer::new();
-            Vec::from_slice(alloc, buffer.format(number.n.number()).as_bytes())
+            Vec::from_slice(alloc, buffer.format(number.number()).as_bytes())
         }
         None => Ok(Vec::new(alloc)),
     }
@@ -26,7 +26,7 @@ fn digits(alloc: Global, number: Option<HouseNumber>) -> Result<Vec<u8>, AllocEr
 fn letter(alloc: Global, number: Option<HouseNumber>) -> Result<Vec<u8>, AllocError>
     ensures { IfOk result (λ t. t.items ≡ letter_text number) }
 {
-    match number.and_then(|number| number.suffix) {
+    match number.and_then(|number| number.suffix()) {
         Some(letter) => Vec::from_slice(alloc, &[letter]),
         None => Ok(Vec::new(alloc)),
     }
@@ -46,14 +46,14 @@ impl Object {
     pub fn from(&self) -> Option<HouseNumber>
         ensures { result ≡ from_of self.now.range }
     {
-        self.range.map(|range| range.from)
+        self.range.map(|range| range.from())
     }
 
     /// The last house number, where there are numbers from one to another.
     pub fn to(&self) -> Option<HouseNumber>
         ensures { result ≡ to_of self.now.range }
     {
-        self.range.and_then(|range| range.to)
+        self.range.and_then(|range| range.to())
     }
 
     /// What each object holds, for callers, who see its value alone.

@@ -1,6 +1,6 @@
 -- Dates and how they are written.
-use Rattle.std.specs.Prelude.{ℕ, pos, ◌+◌, ◌*◌, ◌/◌, ◌%◌, ◌==◌, ◌&&◌, nat_le, true, List, [], ◌∷◌}
-use Rattle.std.specs.Prelude.{◌++◌, length, slice_index, slice_range, Option, Some, None}
+use Rattle.std.specs.Prelude.{◌≡◌, ℕ, pos, ◌+◌, ◌*◌, ◌/◌, ◌%◌, ◌==◌, ◌&&◌, nat_le, true, List, []}
+use Rattle.std.specs.Prelude.{◌∷◌, ◌++◌, length, slice_index, slice_range, Option, Some, None}
 use Rattle.std.specs.Prelude.{if◌then◌else◌, Bool}
 use Rattle.std.specs.Str.{all_ascii_digits}
 use Rattle.std.specs.Str.Parse.{digits_value}
@@ -26,6 +26,20 @@ no_day = record { year = 0; month = 0; day = 0 }
 abbrev pub are_days : Option CivilDay → Bool
 are_days None = true
 are_days (Some date) = is_day date
+
+-- an end date is kept as a date, with the year 0 where there is none
+abbrev pub end_at : ℕ → ℕ → ℕ → Option CivilDay
+end_at year month day =
+    if year == 0 then None else Some (record { year = year; month = month; day = day })
+
+abbrev pub kept_end : Option CivilDay → CivilDay
+kept_end None = no_day
+kept_end (Some date) = date
+
+-- three numbers that keep an end date
+pub record KeepsEnd (year month day : ℕ) : Type 0 where
+  pub date : are_days (end_at year month day) ≡ true
+  pub back : kept_end (end_at year month day) ≡ record { year = year; month = month; day = day }
 
 abbrev pub day_of : ℕ → ℕ → ℕ → Option CivilDay
 day_of year month day =

@@ -1,6 +1,6 @@
 ghost use Rattle.std.specs.Prelude.{◌≡◌, ◌≤◌, pos, nat_le, true};
 ghost use Rattle.jiff_core.specs.Calendar.{days_in_month};
-ghost use Rattle.gaz_records.specs.Days.{date_of, date_text, day_of, is_day, day_le};
+ghost use Rattle.gaz_records.specs.Days.{are_days, date_of, date_text, day_of, is_day, day_le};
 
 use gaz_ids::digits::{are_digits, value_of};
 use jiff::civil::Date;
@@ -121,5 +121,75 @@ impl Day {
         let other = (u64::from(other.year) * 100 + u64::from(other.month)) * 100
             + u64::from(other.day);
         stamp <= other
+    }
+}
+
+/// The date on which a record ended, if it has.
+#[derive(Clone, Copy, Debug)]
+pub struct EndDay {
+    year: u16,
+    month: u8,
+    day: u8,
+}
+
+// An LPI has room for one. An `Option` takes a tag beside its value, so the year 0 stands for none.
+const _: () = prove!(size_of::<EndDay>() == 4);
+
+impl Model for EndDay {
+    ghost use Rattle.std.specs.Prelude.{Option};
+    ghost use Rattle.gaz_records.specs.Days.{CivilDay, KeepsEnd, end_at, kept_end};
+
+    ghost Value = { Option CivilDay };
+
+    ghost view = { λ date. end_at date.year date.month date.day };
+
+    ghost invariant = { λ date. KeepsEnd date.year date.month date.day };
+
+    ghost inverse = { λ v. record {
+      year = (kept_end v).year;
+      month = (kept_end v).month;
+      day = (kept_end v).day;
+    } };
+
+    ghost inverse_ok = { λ a h i. record {
+      year = (h.back i).year;
+      month = (h.back i).month;
+      day = (h.back i).day;
+    } };
+}
+
+impl EndDay {
+    #[tactic(auto, using(std::proofs::lemmas::Bool::Decides::nat_tests))]
+    /// The date that may be there.
+    pub fn of(end: Option<Day>) -> EndDay
+        ensures { result ≡ end }
+    {
+        let (year, month, day) = match end {
+            Some(date) => (date.year, date.month, date.day),
+            None => (0, 0, 0),
+        };
+        EndDay { year, month, day }
+    }
+
+    #[tactic(auto, using(std::proofs::lemmas::Bool::Decides::nat_tests))]
+    /// The date, if there is one.
+    pub fn day(self) -> Option<Day>
+        ensures { result ≡ self }
+    {
+        if self.year == 0 {
+            return None;
+        }
+        Some(Day {
+            year: self.year,
+            month: self.month,
+            day: self.day,
+        })
+    }
+
+    /// What each holds, for callers, who see its value alone.
+    pub fn known(&self)
+        ensures { are_days self.now ≡ true }
+    {
+        let _ = &self.year;
     }
 }

@@ -39,6 +39,9 @@ pub enum Item {
     Lpi(Lpi),
 }
 
+// A view shares one of these for each record of a gazetteer, so each is small.
+const _: () = prove!(size_of::<Item>() == 136);
+
 /// The item of a kind that the fields of a record behind the first `skip` ones say.
 ///
 /// `Count` where there are too few or too many of them, else `Form` with the first field, from 1,

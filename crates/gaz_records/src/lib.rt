@@ -22,7 +22,7 @@ mod street;
 mod xref;
 
 pub use blpu::{Blpu, Easting, Northing};
-pub use day::Day;
+pub use day::{Day, EndDay};
 pub use descriptor::Descriptor;
 pub use fields::FieldFault;
 pub use item::{Item, Kind, item_of_text, item_text, read_item, write_item};

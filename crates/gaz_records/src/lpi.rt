@@ -4,7 +4,7 @@ ghost use Rattle.gaz_records.specs.Fields.{OrMemory};
 ghost use Rattle.gaz_records.specs.Lpis.{is_lpi, lpi_texts, read_lpi};
 ghost use Rattle.gaz_records.specs.Appending.{AddsLine, Grows};
 
-use crate::day::Day;
+use crate::day::{Day, EndDay};
 use crate::fields::FieldFault;
 use crate::label::RecordKey;
 use crate::reading::Fields;
@@ -21,15 +21,19 @@ use std::marker::Model;
 #[derive(Debug, Drop)]
 pub struct Lpi {
     pub key: RecordKey,
-    pub uprn: Uprn,
     pub lang: Lang,
     pub status: Status,
+    pub uprn: Uprn,
     pub usrn: Usrn,
     pub secondary: Option<Object>,
     pub primary: Object,
     pub start: Day,
-    pub end: Option<Day>,
+    pub end: EndDay,
 }
+
+// No kind of item takes more room, and each item takes as much. Fields lie in the order of the
+// source, so the two codes stand where they fill up the 14 bytes of the key.
+const _: () = prove!(size_of::<Lpi>() == 128);
 
 impl Model for Lpi {
     ghost use Rattle.std.specs.Prelude.{◌≡◌, true};
@@ -69,7 +73,7 @@ impl Lpi {
         let secondary = fields.opt_object(alloc, 5)?;
         let primary = fields.object(alloc, 10)?;
         let start = fields.day(15)?;
-        let end = fields.end_day(16, &start)?;
+        let end = EndDay::of(fields.end_day(16, &start)?);
         Ok(Lpi {
             key,
             uprn,
@@ -96,9 +100,7 @@ impl Lpi {
         }
         self.primary.known();
         self.start.known();
-        if let Some(end) = &self.end {
-            end.known();
-        }
+        self.end.known();
     }
 
     /// Adds the row of the fields as `csv` writes it, without a line end.
@@ -113,7 +115,7 @@ impl Lpi {
         next_number(out, self.usrn.number())?;
         next_secondary(out, &self.secondary)?;
         next_object(out, &self.primary)?;
-        next_dates(out, &self.start, &self.end)?;
+        next_dates(out, &self.start, &self.end.day())?;
         Ok(())
     }
 }

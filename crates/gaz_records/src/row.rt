@@ -116,7 +116,7 @@ fn next_digits(out: &mut Vec<u8>, number: Option<HouseNumber>) -> Result<(), All
     ensures kept { Grows out.old.items out.new.items }
 {
     match number {
-        Some(number) => next_number(out, number.n.number()),
+        Some(number) => next_number(out, u64::from(number.number())),
         None => next_field(out, b""),
     }
 }
@@ -127,7 +127,7 @@ fn next_letter(out: &mut Vec<u8>, number: Option<HouseNumber>) -> Result<(), All
     ensures kept { Grows out.old.items out.new.items }
 {
     match number {
-        Some(number) => match number.suffix {
+        Some(number) => match number.suffix() {
             Some(letter) => next_field(out, &[letter]),
             None => next_field(out, b""),
         },

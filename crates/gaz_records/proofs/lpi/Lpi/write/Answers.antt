@@ -27,7 +27,7 @@ returns-clause-row c =
     let three = more _ _ _ (u ∷ l ∷ []) (s ∷ []) two status in
     let four = more _ _ _ (u ∷ l ∷ s ∷ []) (n ∷ []) three usrn in
     let objects = more _ _ _ second first c.in_ok-next_secondary.ensures.row c.in_ok-next_object.ensures.row in
-    let behind = more _ _ _ (second ++ first) dates objects c.in_ok-next_dates.ensures.row in
+    let behind = more _ _ _ (second ++ first) dates objects (rw c.day.ensures at c.in_ok-next_dates.ensures.row) in
     let all = more _ _ _ (u ∷ l ∷ s ∷ n ∷ []) ((second ++ first) ++ dates) four behind in
     rw (← c.self.view_is) (row_is c.args.out.now.items _ _ x.key (u ∷ l ∷ s ∷ n ∷ (second ++ (first ++ dates))) key (rw (append_assoc second first dates) at all))
 
