@@ -1,17 +1,15 @@
 -- Where versions ascend, those that begin until a volume are the ones in front.
 use Rattle.std.proofs.Common.{◌≡◌, ◌<◌, ℕ, zero, suc, Bool, true, false, cond, ◌||◌, List, [], ◌∷◌, ◌++◌, map, length, take, refl, sym, ap, subst, ◌∙◌, arith, slice_index_or}
-use Rattle.std.specs.Prelude.{Option, None, filter, fold, nat_le, nat_lt}
+use Rattle.std.specs.Prelude.{Option, filter, fold, nat_le, nat_lt}
 use Rattle.std.specs.List.{AllByRecursion, AllWithin, list_any}
 use Rattle.std.specs.List.Sorted.{IsNonDecreasingBy, IsPartitionPoint, IsStrictlySortedBy}
 use Rattle.std.specs.Ordering.{nat_cmp}
 use Rattle.std.specs.declared.cmp.Ordering.TheVariants.{Less}
 use Rattle.std.proofs.lemmas.Bool.Decides.{nat_tests}
 use Rattle.std.proofs.lemmas.Cmp.{ranked}
-use Rattle.std.proofs.lemmas.List.{append-nil}
-use Rattle.std.proofs.lemmas.List.Elements.{filter-append}
 use Rattle.std.proofs.lemmas.List.Kept.{IsStrictlySortedBy-filter}
 use Rattle.std.specs.Cmp.{nat_cmp_is}
-use Rattle.gaz_histories.specs.Histories.{Ascends, Version, Versions, before, standing_at, until, was_used_at}
+use Rattle.gaz_histories.specs.Histories.{Ascends, Version, Versions, before, was_used_at}
 
 module _ {X Y : Type 0} (f : X → Y) (n : Y → ℕ) where
   below : (x : ℕ) (xs : List X) → AllByRecursion (λ y. nat_cmp x y ≡ Less) (map n (map f xs)) → (j : ℕ) (d : X) → j < length xs → x < n (f (slice_index_or xs j d))
@@ -83,39 +81,6 @@ pub set_ascends : {T : Type 0} (vs : Versions T) (volume : ℕ) (i : Option T) �
 set_ascends vs volume i h =
     subst (IsStrictlySortedBy nat_cmp) (sym (volumes_added (before vs volume) (volume, i)))
     (with_end volume (map (λ v. v.0) (before vs volume)) (before_ascends vs volume h) (all_below vs volume))
-
--- ---- where one version stands behind the others
-
-in_front : (x : ℕ) (ks : List ℕ) (n : ℕ) → AllByRecursion (λ y. nat_cmp x y ≡ Less) (ks ++ n ∷ []) → AllByRecursion (λ y. nat_cmp x y ≡ Less) ks × (nat_cmp x n ≡ Less)
-in_front x [] n h = (tt, h.0)
-in_front x (k ∷ ks) n h = let rest = in_front x ks n h.1 in ((h.0, rest.0), rest.1)
-
-split_end : (ks : List ℕ) (n : ℕ) → IsStrictlySortedBy nat_cmp (ks ++ n ∷ []) → IsStrictlySortedBy nat_cmp ks × AllByRecursion (λ k. nat_cmp k n ≡ Less) ks
-unfolding IsStrictlySortedBy
-split_end [] n h = (tt, tt)
-split_end (k ∷ ks) n h = let here = in_front k ks n h.0 in let rest = split_end ks n h.1 in ((here.0, rest.0), (here.1, rest.1))
-
-parts : {T : Type 0} (vs : Versions T) (v : Version T) → Ascends (vs ++ v ∷ []) → Ascends vs × AllByRecursion (λ k. nat_cmp k v.0 ≡ Less) (map (λ w. w.0) vs)
-parts vs v h = split_end (map (λ w. w.0) vs) v.0 (subst (IsStrictlySortedBy nat_cmp) (volumes_added vs v) h)
-
-pub front_ascends : {T : Type 0} (vs : Versions T) (v : Version T) → Ascends (vs ++ v ∷ []) → Ascends vs
-front_ascends vs v h = (parts vs v h).0
-
--- all begin before a volume where the last one does
-pub all_before : {T : Type 0} (vs : Versions T) (v : Version T) (volume : ℕ) → Ascends (vs ++ v ∷ []) → nat_lt v.0 volume ≡ true → before (vs ++ v ∷ []) volume ≡ vs ++ v ∷ []
-all_before {T} vs v volume h is = by_steps vs (parts vs v h).1
-  where
-    by_steps : (ws : Versions T) → AllByRecursion (λ k. nat_cmp k v.0 ≡ Less) (map (λ w. w.0) ws) → before (ws ++ v ∷ []) volume ≡ ws ++ v ∷ []
-    by_steps [] all = ap (λ b. cond b (v ∷ []) []) is
-    by_steps (w ∷ ws) all =
-        let less = ranked w.0 v.0 Less (sym all.0) in
-        let here : nat_lt w.0 volume ≡ true = grind (arith, nat_tests) in
-        ap (λ b. cond b (w ∷ before (ws ++ v ∷ []) volume) (before (ws ++ v ∷ []) volume)) here ∙ ap (λ l. w ∷ l) (by_steps ws all.1)
-
--- only those in front of it begin before a volume where it does not
-pub front_before : {T : Type 0} (vs : Versions T) (v : Version T) (volume : ℕ) → nat_lt v.0 volume ≡ false → before (vs ++ v ∷ []) volume ≡ before vs volume
-front_before vs v volume is =
-    filter-append (λ w. nat_lt w.0 volume) vs (v ∷ []) ∙ ap (λ b. before vs volume ++ cond b (v ∷ []) []) is ∙ append-nil (before vs volume)
 
 -- ---- the first version
 

@@ -2,6 +2,8 @@
 #![tactic(auto)]
 
 mod history;
+mod kept;
 pub mod laws;
+mod versions;
 
 pub use history::History;

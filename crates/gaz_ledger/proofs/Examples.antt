@@ -42,15 +42,15 @@ gazetteers_hold = record {
   third_not_judged = refl;
 }
 
-either_key : {X : Type 0} (v w : X) (first second : Bool) → (first || (second || false)) ≡ is_some (cond second (Some v) (cond first (Some w) None))
-either_key v w true true = refl
-either_key v w true false = refl
-either_key v w false true = refl
-either_key v w false false = refl
+either_key : {X : Type 0} (v w : X) (first other second : Bool) → is_some (cond second (Some v) (cond first (Some w) None)) ≡ true → (first || (other || (second || false))) ≡ true
+either_key v w true other second e = refl
+either_key v w false true second e = refl
+either_key v w false false true e = refl
+either_key v w false false false e = cc
 
 keeping_holds : WorkedKeeping
 keeping_holds = record {
-  its_keys = λ k. either_key _ _ (eq_by_cmp key_cmp k (key.Street 101)) (eq_by_cmp key_cmp k (key.Street 102));
+  its_keys = λ k. either_key _ _ (eq_by_cmp key_cmp k (key.Street 101)) (eq_by_cmp key_cmp k (key.Street 103)) (eq_by_cmp key_cmp k (key.Street 102));
   in_order = refl;
   never_used = refl;
   one_mark = refl;

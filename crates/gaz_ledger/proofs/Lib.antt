@@ -4,6 +4,7 @@ pub mod KeyHistories
 pub mod Stored
 pub mod Judgements
 pub mod Marks
+pub mod KeyOrders
 pub mod KeySets
 pub mod Indexes
 pub mod Passing

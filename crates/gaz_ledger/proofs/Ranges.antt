@@ -1,5 +1,5 @@
 -- Where a page begins and ends in entries whose keys ascend.
-use Rattle.std.proofs.Common.{◌≡◌, ◌≤◌, ◌<◌, ◌&&◌, ℕ, Bool, true, false, cond, List, [], ◌∷◌, ◌++◌, map, length, take, append_assoc, refl, sym, ap, subst, ◌∙◌, arith, inl, inr}
+use Rattle.std.proofs.Common.{◌≡◌, ◌≤◌, ◌<◌, ◌+◌, ◌&&◌, ℕ, zero, suc, Bool, true, false, not, cond, List, [], ◌∷◌, ◌++◌, map, length, take, drop, slice_index_or, append_assoc, refl, sym, ap, subst, ◌∙◌, arith, inl, inr}
 use Rattle.std.specs.Prelude.{Option, Some, None, filter, option_map}
 use Rattle.std.proofs.lemmas.Bool.{cases_lt}
 use Rattle.std.proofs.lemmas.Bool.Decides.{nat_tests}
@@ -8,14 +8,13 @@ use Rattle.std.proofs.lemmas.List.{append-nil, take_all}
 use Rattle.std.proofs.lemmas.List.Elements.{filter_agree}
 use Rattle.std.proofs.lemmas.List.Kept.{IsStrictlySortedBy-filter}
 use Rattle.std.specs.Cmp.{nat_cmp_is}
-use Rattle.std.specs.BTreeMap.Range.{range_contains}
-use Rattle.std.specs.List.{AllByRecursion, cons_option}
-use Rattle.std.specs.List.Sorted.{IsStrictlySortedBy}
+use Rattle.std.specs.List.{AllByRecursion, AllWithin, cons_option}
+use Rattle.std.specs.List.Sorted.{IsPartitionPoint, IsPartitionedBy, IsStrictlySortedBy}
 use Rattle.std.specs.Ordering.{is_lt, nat_cmp, ordering_then}
 use Rattle.std.specs.declared.cmp.Ordering.{Ordering}
-use Rattle.std.specs.declared.cmp.Ordering.TheVariants.{Less, Greater}
-use Rattle.std.specs.declared.ops.Bound.TheVariants.{Unbounded}
+use Rattle.std.specs.declared.cmp.Ordering.TheVariants.{Less, Equal, Greater}
 use Rattle.gaz_histories.specs.Histories.{standing_at}
+use Rattle.gaz_records.proofs.KeyOrder.{keys_total}
 use Rattle.gaz_records.specs.Keys.{key_cmp, kind_number}
 use Rattle.gaz_records.specs.declared.item.Item.{Item}
 use Rattle.gaz_records.specs.declared.item.Kind.{Kind}
@@ -26,7 +25,7 @@ use Rattle.gaz_views.proofs.Pages.{passes}
 use Rattle.gaz_views.specs.Words.{comes_after, is_of}
 use Rattle.gaz_ledger.proofs.Passing.{Ascends}
 use Rattle.gaz_ledger.specs.KeyHistories.{ItemVersions, rows_at, versions_among, with_versions}
-use Rattle.gaz_ledger.specs.Ranges.{is_past, start_after}
+use Rattle.gaz_ledger.specs.Ranges.{is_past}
 
 abbrev Row : Type 0
 Row = Key × Item
@@ -73,29 +72,80 @@ keys_kept p volume es ks = ap (λ (l : List Past). rows_at l volume) (with_kept 
 
 -- ---- the start
 
-and_true : (b : Bool) → (b && true) ≡ b
-and_true true = refl
-and_true false = refl
-
 and_swap : (a b : Bool) → (a && b) ≡ (b && a)
-and_swap true b = sym (and_true b)
+and_swap true true = refl
+and_swap true false = refl
 and_swap false true = refl
 and_swap false false = refl
 
-in_range : (after : Option Key) (k : Key) → range_contains key_cmp (start_after after) Unbounded k ≡ comes_after after k
-in_range None k = refl
-in_range (Some a) k = and_true (is_lt (key_cmp a k))
-
-pub from_start : (kind : Kind) (after : Option Key) (volume : ℕ) (es : List Past) (ks fs : List Key) → fs ≡ filter (range_contains key_cmp (start_after after) Unbounded) ks
+pub from_start : (kind : Kind) (after : Option Key) (volume : ℕ) (es : List Past) (ks fs : List Key) → fs ≡ filter (comes_after after) ks
     → filter (λ e. is_of kind e.0) (rows_at (with_versions fs es) volume) ≡ filter (λ e. is_of kind e.0 && comes_after after e.0) (rows_at (with_versions ks es) volume)
 from_start kind after volume es ks fs is =
     ap (λ (l : List Key). filter (λ e. is_of kind e.0) (rows_at (with_versions l es) volume)) is
-    ∙ ap (filter (λ e. is_of kind e.0)) (keys_kept (range_contains key_cmp (start_after after) Unbounded) volume es ks)
-    ∙ passes (λ (e : Row). range_contains key_cmp (start_after after) Unbounded e.0) (λ e. is_of kind e.0) (rows_at (with_versions ks es) volume)
-    ∙ filter_agree _ _ (λ (e : Row). ap (λ b. b && is_of kind e.0) (in_range after e.0) ∙ and_swap (comes_after after e.0) (is_of kind e.0)) (rows_at (with_versions ks es) volume)
+    ∙ ap (filter (λ e. is_of kind e.0)) (keys_kept (comes_after after) volume es ks)
+    ∙ passes (λ (e : Row). comes_after after e.0) (λ e. is_of kind e.0) (rows_at (with_versions ks es) volume)
+    ∙ filter_agree _ _ (λ (e : Row). and_swap (comes_after after e.0) (is_of kind e.0)) (rows_at (with_versions ks es) volume)
 
-pub part_ascends : (after : Option Key) (ks fs : List Key) → fs ≡ filter (range_contains key_cmp (start_after after) Unbounded) ks → Ascends ks → Ascends fs
-part_ascends after ks fs is h = subst Ascends (sym is) (IsStrictlySortedBy-filter key_cmp (range_contains key_cmp (start_after after) Unbounded) ks h)
+pub part_ascends : (after : Option Key) (ks fs : List Key) → fs ≡ filter (comes_after after) ks → Ascends ks → Ascends fs
+part_ascends after ks fs is h = subst Ascends (sym is) (IsStrictlySortedBy-filter key_cmp (comes_after after) ks h)
+
+-- whether a page after a key passes over another
+abbrev pub passed : Key → Key → Bool
+passed a k = not (is_lt (key_cmp a k))
+
+is_less : (o : Ordering) → is_lt o ≡ true → o ≡ Less
+is_less Less e = refl
+is_less Equal e = cc
+is_less Greater e = cc
+
+-- it passes over a key where it passes over a later one
+passed_before : (a k y : Key) → key_cmp k y ≡ Less → passed a y ≡ true → passed a k ≡ true
+passed_before a k y less is = by_test (is_lt (key_cmp a k)) refl
+  where
+    by_test : (b : Bool) → is_lt (key_cmp a k) ≡ b → not b ≡ true
+    by_test true at =
+        let more : key_cmp a y ≡ Less = keys_total.trans a k y (is_less (key_cmp a k) at) less in
+        ap (λ o. not (is_lt o)) (sym more) ∙ is
+    by_test false at = refl
+
+at_place : (P : Key → Type 0) (ks : List Key) (j : ℕ) (d : Key) → AllByRecursion P ks → j < length ks → P (slice_index_or ks j d)
+at_place P [] j d h lt = absurd (omega arith)
+at_place P (k ∷ ks) zero d h lt = h.0
+at_place P (k ∷ ks) (suc j) d h lt = at_place P ks j d h.1 (omega arith)
+
+pub passed_first : (a : Key) (ks : List Key) → Ascends ks → IsPartitionedBy (passed a) ks
+unfolding IsStrictlySortedBy
+passed_first a [] h i j d le lt is = absurd (omega arith)
+passed_first a (k ∷ ks) h zero zero d le lt is = is
+passed_first a (k ∷ ks) h zero (suc j) d le lt is = passed_before a k (slice_index_or ks j d) (at_place (λ y. key_cmp k y ≡ Less) ks j d h.0 (omega arith)) is
+passed_first a (k ∷ ks) h (suc i) zero d le lt is = absurd (omega arith)
+passed_first a (k ∷ ks) h (suc i) (suc j) d le lt is = passed_first a ks h.1 i j d (omega arith) (omega arith) is
+
+module _ (p : Key → Bool) where
+  turned : (b c : Bool) → not b ≡ not c → b ≡ c
+  turned true true e = refl
+  turned true false e = cc
+  turned false true e = cc
+  turned false false e = refl
+
+  all_kept : (ks : List Key) → AllWithin (λ k. not (p k) ≡ false) ks 0 (length ks) → filter p ks ≡ ks
+  all_kept [] h = refl
+  all_kept (k ∷ ks) h =
+      ap (λ b. cond b (k ∷ filter p ks) (filter p ks)) (turned (p k) true (h 0 k (omega arith) (omega arith)))
+      ∙ ap (λ l. k ∷ l) (all_kept ks (λ n d low lt. h (suc n) d (omega arith) (omega arith)))
+
+  pub behind : (ks : List Key) (i : ℕ) → IsPartitionPoint (λ k. not (p k) ≡ true) (λ k. not (p k) ≡ false) ks i → drop i ks ≡ filter p ks
+  behind [] zero h = refl
+  behind [] (suc i) h = refl
+  behind (k ∷ ks) zero h = sym (all_kept (k ∷ ks) h.1)
+  behind (k ∷ ks) (suc i) h =
+      behind ks i ((λ n d low lt. h.0 (suc n) d (omega arith) (omega arith)), (λ n d low lt. h.1 (suc n) d (omega arith) (omega arith)))
+      ∙ sym (ap (λ b. cond b (k ∷ filter p ks) (filter p ks)) (turned (p k) false (h.0 0 k (omega arith) (omega arith))))
+
+-- a page from the start passes over none
+pub from_first : (ks : List Key) → ks ≡ filter (comes_after None) ks
+from_first [] = refl
+from_first (k ∷ ks) = ap (λ l. k ∷ l) (from_first ks)
 
 -- ---- the end
 
@@ -175,3 +225,14 @@ rest_ascends k ks h = h.1
 
 pub next_ascends : (k : Key) (fs rest : List Key) → fs ≡ k ∷ rest → Ascends fs → Ascends rest
 next_ascends k fs rest is h = rest_ascends k rest (subst Ascends is h)
+
+next_key : (ks : List Key) (i : ℕ) (k : Key) → i < length ks → k ≡ slice_index_or ks i k → drop i ks ≡ k ∷ drop (suc i) ks
+next_key [] i k lt is = absurd (omega arith)
+next_key (x ∷ xs) zero k lt is = ap (λ y. y ∷ xs) (sym is)
+next_key (x ∷ xs) (suc i) k lt is = next_key xs i k (omega arith) is
+
+-- the key at a place stands before those behind it
+pub steps : (ks : List Key) (i : ℕ) (k : Key) → i < length ks → k ≡ slice_index_or ks i k → drop i ks ≡ k ∷ drop (i + 1) ks
+steps ks i k lt is =
+    let e : suc i ≡ i + 1 = omega arith in
+    next_key ks i k lt is ∙ ap (λ n. k ∷ drop n ks) e

@@ -1,6 +1,8 @@
--- KeyHistories as histories in any order, and their keys in order beside them.
+-- KeyHistories as histories in any order, and keys beside them among which are all of theirs.
 use Rattle.std.proofs.Common.{◌≡◌, ◌&&◌, ◌||◌, ℕ, Bool, true, false, cond, List, [], ◌∷◌, map, take, refl, sym, ap, subst, ◌∙◌, unwrap_or}
 use Rattle.std.specs.Prelude.{Option, Some, None, filter, is_some, option_map}
+use Rattle.std.proofs.lemmas.List.Kept.{IsStrictlySortedBy-filter}
+use Rattle.std.proofs.lemmas.Map.Views.{any-filter_same}
 use Rattle.std.specs.Bool.{OnTrue}
 use Rattle.std.specs.Cmp.{eq_by_cmp_equiv}
 use Rattle.std.specs.FinMap as finite
@@ -18,7 +20,8 @@ use Rattle.gaz_records.specs.declared.key.Key.{Key}
 use Rattle.gaz_views.proofs.SameKeys.{same_key}
 use Rattle.gaz_views.proofs.Trees.{entries_tree, get_tree}
 use Rattle.gaz_views.specs.Words.{comes_after, entries, is_of, page}
-use Rattle.gaz_ledger.specs.KeyHistories.{ChangesAt, HasJustTheKeysOf, ItemVersions, KeyHistories, rows_at, versions_among, versions_at, view_at, with_versions}
+use Rattle.gaz_ledger.specs.Changing.{AddsKey}
+use Rattle.gaz_ledger.specs.KeyHistories.{ChangesAt, HasTheKeysOf, ItemVersions, KeyHistories, rows_at, versions_among, versions_at, view_at, with_versions}
 
 abbrev Rows : Type 0
 Rows = List (Key × ItemVersions)
@@ -99,32 +102,27 @@ cut_none g key v none k = by_same (eq_by_cmp key_cmp key k) refl
     by_same true at = ap (versions_at g) (sym (same_key key k at)) ∙ none ∙ ap (λ (vs : ItemVersions). before vs v) (sym none)
     by_same false at = refl
 
--- ---- the keys in order
+-- ---- the keys among which are those of all entries
 
 -- another history at a key that has one
-pub keys_stay : (ks : List Key) (es fs hs : Rows) (key : Key) (vs ws : ItemVersions) → HasJustTheKeysOf ks es → stored es key ≡ Some ws → fs ≡ hs → Writes es hs key (Some vs) → HasJustTheKeysOf ks fs
-keys_stay ks es fs hs key vs ws just there new h k = just k ∙ by_same (eq_by_cmp key_cmp key k) refl ∙ ap is_some (sym (h k)) ∙ ap (λ (l : Rows). is_some (stored l k)) (sym new)
+pub keys_stay : (ks : List Key) (es fs hs : Rows) (key : Key) (vs ws : ItemVersions) → HasTheKeysOf ks es → stored es key ≡ Some ws → fs ≡ hs → Writes es hs key (Some vs) → HasTheKeysOf ks fs
+keys_stay ks es fs hs key vs ws all there new h k is = all k (by_same (eq_by_cmp key_cmp key k) refl ∙ ap is_some (sym (h k)) ∙ ap (λ (l : Rows). is_some (stored l k)) (sym new) ∙ is)
   where
     by_same : (b : Bool) → eq_by_cmp key_cmp key k ≡ b → is_some (stored es k) ≡ is_some (cond b (Some vs) (stored es k))
     by_same true at = ap (λ (q : Key). is_some (stored es q)) (sym (same_key key k at)) ∙ ap is_some there
     by_same false at = refl
 
--- a history at a key that is put in the order
-pub keys_put : (ks ls : List Key) (es fs hs : Rows) (key : Key) (vs : ItemVersions) → HasJustTheKeysOf ks es → ((k : Key) → has ls k ≡ cond (eq_by_cmp key_cmp key k) true (has ks k))
-    → fs ≡ hs → Writes es hs key (Some vs) → HasJustTheKeysOf ls fs
-keys_put ks ls es fs hs key vs just put new h k = put k ∙ by_same (eq_by_cmp key_cmp key k) ∙ ap is_some (sym (h k)) ∙ ap (λ (l : Rows). is_some (stored l k)) (sym new)
+-- a history at a key that is noted
+pub keys_put : (ks ls : List Key) (es fs hs : Rows) (key : Key) (vs : ItemVersions) → HasTheKeysOf ks es → AddsKey ks ls key → fs ≡ hs → Writes es hs key (Some vs) → HasTheKeysOf ls fs
+keys_put ks ls es fs hs key vs all put new h k is = put k ∙ by_same (eq_by_cmp key_cmp key k) (ap is_some (sym (h k)) ∙ ap (λ (l : Rows). is_some (stored l k)) (sym new) ∙ is)
   where
-    by_same : (b : Bool) → cond b true (has ks k) ≡ is_some (cond b (Some vs) (stored es k))
-    by_same true = refl
-    by_same false = just k
+    by_same : (b : Bool) → is_some (cond b (Some vs) (stored es k)) ≡ true → (b || has ks k) ≡ true
+    by_same true e = refl
+    by_same false e = all k e
 
--- no history at a key that is taken from the order
-pub keys_taken : (ks ls : List Key) (es fs : Rows) (key : Key) → HasJustTheKeysOf ks es → ((k : Key) → has ls k ≡ cond (eq_by_cmp key_cmp key k) false (has ks k)) → Writes es fs key None → HasJustTheKeysOf ls fs
-keys_taken ks ls es fs key just taken h k = taken k ∙ by_same (eq_by_cmp key_cmp key k) ∙ ap is_some (sym (h k))
-  where
-    by_same : (c : Bool) → cond c false (has ks k) ≡ is_some (cond c None (stored es k))
-    by_same true = refl
-    by_same false = just k
+-- the same keys in another order
+pub keys_arranged : (ks ls : List Key) (es : Rows) → HasTheKeysOf ks es → ((k : Key) → has ls k ≡ has ks k) → HasTheKeysOf ls es
+keys_arranged ks ls es all same k is = same k ∙ all k is
 
 -- ---- pages
 
@@ -167,8 +165,30 @@ found_with (k ∷ ks) es q = by_same (found_with ks es q) (eq_by_cmp key_cmp q k
     by_same rest true at = ap (λ (x : Key). Some (versions_among es x)) (sym (same_key q k at))
     by_same rest false at = rest
 
+-- the keys at which there is an entry
+abbrev there : Rows → List Key → List Key
+there es ks = filter (λ k. is_some (stored es k)) ks
+
+has_there : (ks : List Key) (es : Rows) → HasTheKeysOf ks es → (q : Key) → has (there es ks) q ≡ is_some (stored es q)
+has_there ks es all q =
+    any-filter_same (eq_by_cmp key_cmp q) (λ k. is_some (stored es k)) (is_some (stored es q)) (λ k is. ap (λ (x : Key). is_some (stored es x)) (sym (same_key q k is))) ks ∙ either (is_some (stored es q)) refl
+  where
+    either : (b : Bool) → is_some (stored es q) ≡ b → (b && has ks q) ≡ b
+    either true is = all q is
+    either false is = refl
+
+-- nothing stands at the others
+rows_there : (ks : List Key) (es : Rows) (v : ℕ) → rows_at (with_versions (there es ks) es) v ≡ rows_at (with_versions ks es) v
+rows_there [] es v = refl
+rows_there (k ∷ ks) es v = by_entry (rows_there ks es v) (stored es k) refl
+  where
+    by_entry : rows_at (with_versions (there es ks) es) v ≡ rows_at (with_versions ks es) v → (o : Option ItemVersions) → stored es k ≡ o
+        → rows_at (with_versions (cond (is_some o) (k ∷ there es ks) (there es ks)) es) v ≡ cons_option (option_map (λ i. (k, i)) (standing_at (unwrap_or o []) v)) (rows_at (with_versions ks es) v)
+    by_entry rest None at = rest
+    by_entry rest (Some vs) at = λ i. cons_option (option_map (λ x. (k, x)) (standing_at (unwrap_or (at i) []) v)) (rest i)
+
 -- entries in the order of their keys are the same finite map
-in_their_order : (ks : List Key) (es : Rows) → HasJustTheKeysOf ks es → finite.from_entries {R = key_cmp} (with_versions ks es) ≡ finite.from_entries es
+in_their_order : (ks : List Key) (es : Rows) → ((q : Key) → has ks q ≡ is_some (stored es q)) → finite.from_entries {R = key_cmp} (with_versions ks es) ≡ finite.from_entries es
 in_their_order ks es just =
     finite.same_map keys_total keys_exact _ _ (λ q.
     get_tree (λ a b. refl) keys_total (with_versions ks es) q ∙ found_with ks es q ∙ ap (λ b. cond b (Some (versions_among es q)) None) (just q) ∙ either (stored es q) ∙ sym (get_tree (λ a b. refl) keys_total es q))
@@ -177,8 +197,14 @@ in_their_order ks es just =
     either None = refl
     either (Some vs) = refl
 
-pub page_stored : (g : KeyHistories) (ks : List Key) (es : Rows) (v : ℕ) (kind : Kind) (after : Option Key) (most : ℕ) → finite.from_entries es ≡ g → HasJustTheKeysOf ks es → IsStrictlySortedBy key_cmp ks
+rows_in_order : (g : KeyHistories) (ks : List Key) (es : Rows) (v : ℕ) → finite.from_entries es ≡ g → HasTheKeysOf ks es → IsStrictlySortedBy key_cmp ks → rows_at (with_versions ks es) v ≡ entries (view_at g v)
+rows_in_order g ks es v is all h =
+    let kept = there es ks in
+    let ascend : IsStrictlySortedBy key_cmp kept = IsStrictlySortedBy-filter key_cmp (λ k. is_some (stored es k)) ks h in
+    sym (rows_there ks es v)
+    ∙ rows_stored g (with_versions kept es) v (in_their_order kept es (has_there ks es all) ∙ is) (subst (λ (l : List Key). IsStrictlySortedBy key_cmp l) (sym (keys_with kept es)) ascend)
+
+pub page_stored : (g : KeyHistories) (ks : List Key) (es : Rows) (v : ℕ) (kind : Kind) (after : Option Key) (most : ℕ) → finite.from_entries es ≡ g → HasTheKeysOf ks es → IsStrictlySortedBy key_cmp ks
     → take most (map (λ (e : Key × Item). e.1) (filter (λ (e : Key × Item). is_of kind e.0 && comes_after after e.0) (rows_at (with_versions ks es) v))) ≡ page (view_at g v) kind after most
-page_stored g ks es v kind after most is just h =
-    ap (λ (l : List (Key × Item)). take most (map (λ e. e.1) (filter (λ e. is_of kind e.0 && comes_after after e.0) l)))
-    (rows_stored g (with_versions ks es) v (in_their_order ks es just ∙ is) (subst (λ (l : List Key). IsStrictlySortedBy key_cmp l) (sym (keys_with ks es)) h))
+page_stored g ks es v kind after most is all h =
+    ap (λ (l : List (Key × Item)). take most (map (λ e. e.1) (filter (λ e. is_of kind e.0 && comes_after after e.0) l))) (rows_in_order g ks es v is all h)

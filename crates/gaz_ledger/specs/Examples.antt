@@ -11,7 +11,7 @@ use Rattle.gaz_views.specs.Judgements.{judgements}
 use Rattle.gaz_views.specs.View.{was_used}
 use Rattle.gaz_views.specs.declared.verdict.Verdict.{Verdict}
 use Rattle.gaz_views.specs.declared.verdict.Verdict.TheVariants.{Applied, Rejected}
-use Rattle.gaz_ledger.specs.KeyHistories.{HasJustTheKeysOf, ItemVersions, KeyHistories, view_at}
+use Rattle.gaz_ledger.specs.KeyHistories.{HasTheKeysOf, ItemVersions, KeyHistories, view_at}
 use Rattle.gaz_ledger.specs.KeyHistories.{with_versions}
 use Rattle.gaz_ledger.specs.Indexes.{marked_item, same_mark}
 use Rattle.gaz_ledger.specs.Properties.{is_address_of, is_blpu}
@@ -59,7 +59,9 @@ part_and_address =
     ∷ (key.Lpi (codes "L4"), lpi (codes "L4") 1002 Eng Approved 101) ∷ []
 
 pub record WorkedKeeping : Type 0 where
-  pub its_keys : HasJustTheKeysOf (key.Street 101 ∷ key.Street 102 ∷ []) second_first
+  -- nothing ever stood at street 103
+  pub its_keys :
+      HasTheKeysOf (key.Street 101 ∷ key.Street 103 ∷ key.Street 102 ∷ []) second_first
   pub in_order :
       with_versions (key.Street 101 ∷ key.Street 102 ∷ []) second_first
       ≡ (key.Street 101, (1, Some (street 101)) ∷ [])

@@ -1,6 +1,6 @@
 -- A gazetteer through its volumes.
-use Rattle.std.specs.Prelude.{◌≡◌, ◌&&◌, ℕ, if◌then◌else◌, List, [], map, filter, Option, None}
-use Rattle.std.specs.Prelude.{unwrap_or, option_map, is_some}
+use Rattle.std.specs.Prelude.{◌≡◌, ◌&&◌, ℕ, true, if◌then◌else◌, List, [], map, filter}
+use Rattle.std.specs.Prelude.{Option, None, unwrap_or, option_map, is_some}
 use Rattle.std.specs.FinMap as finite
 use Rattle.std.specs.FinSet as set
 use Rattle.std.specs.List.{filter_map, list_any}
@@ -44,11 +44,12 @@ versions_among es k = unwrap_or (lookup (eq_by_cmp key_cmp k) es) []
 abbrev pub with_versions : List Key → List (Key × ItemVersions) → List (Key × ItemVersions)
 with_versions ks es = map (λ k. (k, versions_among es k)) ks
 
--- a key is among these just where there is an entry of it
-abbrev pub HasJustTheKeysOf : List Key → List (Key × ItemVersions) → Type 0
-HasJustTheKeysOf ks es =
+-- each key of which there is an entry is among these; at others nothing ever stood
+abbrev pub HasTheKeysOf : List Key → List (Key × ItemVersions) → Type 0
+HasTheKeysOf ks es =
     (k : Key)
-    → list_any (eq_by_cmp key_cmp k) ks ≡ is_some (lookup (eq_by_cmp key_cmp k) es)
+    → is_some (lookup (eq_by_cmp key_cmp k) es) ≡ true
+    → list_any (eq_by_cmp key_cmp k) ks ≡ true
 
 -- ---- the view after a volume
 

@@ -2,7 +2,7 @@
 ghost use Rattle.std.specs.Prelude.{◌≡◌, ◌≤◌, length, IfOk, OnErr, OnOk};
 ghost use Rattle.gaz_views.specs.Accounts.{empty_account, last_of, view_in};
 ghost use Rattle.gaz_views.specs.View.{with_item, without_key};
-ghost use Rattle.gaz_views.specs.Words.{property_of};
+ghost use Rattle.gaz_views.specs.Words.{page, property_of};
 ghost use Rattle.gaz_ledger.specs.Changing.{Forgets, KnowsNone, LearnsNothing, is_addressed_by};
 ghost use Rattle.gaz_ledger.specs.Changing.{with_verdict, with_working};
 ghost use Rattle.gaz_ledger.specs.Properties.{AreSo, is_address_of, is_blpu};
@@ -12,7 +12,7 @@ use crate::ledger::Ledger;
 use crate::properties::Properties;
 use crate::seed::Seed;
 use gaz_ids::Uprn;
-use gaz_records::{Key, SharedItem, key_of};
+use gaz_records::{Key, Kind, SharedItem, key_of};
 use gaz_views::{Property, Verdict};
 use std::alloc::{AllocError, Global};
 use std::marker::Model;
@@ -72,6 +72,24 @@ impl CachedLedger {
             Some(property) => Ok(Some(property.share()?)),
             None => self.ledger.property_of(volume, uprn),
         }
+    }
+
+    /// The first `most` items of a kind after a key, or from the start, in key order, in the view
+    /// after a volume or the working one. Where keys were used since the last page, they are put in
+    /// order first.
+    pub fn page(
+        &mut self,
+        alloc: Global,
+        volume: u64,
+        kind: Kind,
+        after: Option<Key>,
+        most: usize,
+    ) -> Result<Vec<SharedItem>, AllocError>
+        ensures page { IfOk result (λ items. items.items
+            ≡ page (view_in self.old volume) kind after most) }
+        ensures same { self.new ≡ self.old }
+    {
+        Ok(self.ledger.page(alloc, volume, kind, after, most)?)
     }
 
     /// Sets an item in the working view. Where memory runs out, nothing changes.

@@ -8,13 +8,14 @@ ghost use Rattle.gaz_ledger.specs.Changing.{AreMarksAt, CutsAt, HasMarksIn, Sets
 ghost use Rattle.gaz_ledger.specs.KeyHistories.{versions_at, view_at};
 
 use crate::index::{Marks, marks_of};
+use crate::key_order::KeyOrder;
 use crate::seed::Seed;
-use crate::words::{in_order, page_of};
+use crate::words::page_of;
 use gaz_histories::History;
 use gaz_records::{Key, Kind, SharedItem, SortKey};
 use std::alloc::{AllocError, Global};
+use std::collections::HashMap;
 use std::collections::hash_map::Entry;
-use std::collections::{BTreeSet, HashMap};
 use std::marker::Model;
 
 /// The history of each key that was ever used.
@@ -22,13 +23,14 @@ use std::marker::Model;
 pub struct Histories {
     alloc: Global,
     by_key: HashMap<SortKey, History<SharedItem>, Seed>,
-    // The keys of `by_key`, in their order: pages go by it, and all else by the hashes.
-    order: BTreeSet<SortKey>,
+    // The keys of `by_key`, and some that aren't there any more: pages go by their order, and all
+    // else by the hashes.
+    order: KeyOrder,
 }
 
 impl Model for Histories {
     ghost use Rattle.std.specs.FinMap as finite;
-    ghost use Rattle.gaz_ledger.specs.KeyHistories.{KeyHistories, HasJustTheKeysOf};
+    ghost use Rattle.gaz_ledger.specs.KeyHistories.{KeyHistories, HasTheKeysOf};
     ghost use Rattle.gaz_ledger.specs.KeyHistoriesCode.{key_histories_code};
 
     ghost Value = { KeyHistories };
@@ -37,7 +39,7 @@ impl Model for Histories {
 
     ghost view = { λ h. finite.from_entries h.by_key.entries };
 
-    ghost invariant = { λ h. HasJustTheKeysOf h.order.keys h.by_key.entries };
+    ghost invariant = { λ h. HasTheKeysOf h.order h.by_key.entries };
 }
 
 impl Histories {
@@ -48,7 +50,7 @@ impl Histories {
         Histories {
             alloc,
             by_key: HashMap::with_hasher(alloc, seed),
-            order: BTreeSet::new(alloc),
+            order: KeyOrder::new(alloc),
         }
     }
 
@@ -76,18 +78,20 @@ impl Histories {
     /// The first `most` items of a kind after a key, or from the start, in key order, after a
     /// volume.
     pub fn page(
-        &self,
+        &mut self,
         alloc: Global,
         volume: u64,
         kind: Kind,
         after: Option<Key>,
         most: usize,
     ) -> Result<Vec<SharedItem>, AllocError>
-        ensures { IfOk result (λ items. items.items
-            ≡ page (view_at self.now volume) kind after most) }
+        ensures page { IfOk result (λ items. items.items
+            ≡ page (view_at self.old volume) kind after most) }
+        ensures same { self.new ≡ self.old }
     {
-        in_order(&self.order);
-        Ok(page_of(alloc, &self.order, &self.by_key, volume, kind, after, most)?)
+        self.order.arrange()?;
+        let order = self.order.as_slice();
+        Ok(page_of(alloc, order, &self.by_key, volume, kind, after, most)?)
     }
 
     /// From a volume on this item stands at a key, or none any more. What began there at the volume
@@ -106,7 +110,7 @@ impl Histories {
         match self.by_key.entry(key)? {
             Entry::Occupied(entry) => Ok(set_in(entry.into_mut(), volume, item)?),
             Entry::Vacant(entry) => {
-                let Ok(_) = self.order.insert(key) else {
+                let Ok(()) = self.order.note(key) else {
                     // The map is given back as it was.
                     entry.into_key();
                     return Err(AllocError);
@@ -122,9 +126,11 @@ impl Histories {
     {
         if self.cut_there(volume, key) {
             // Keeps nothing of a key that was never used.
-            let key = SortKey::of(key);
-            self.by_key.remove(&key);
-            self.order.remove(&key);
+            self.by_key.remove(&SortKey::of(key));
+            // Else the keys of files that are rejected time and again would pile up.
+            if self.order.len() / 2 > self.by_key.len() {
+                self.order.keep(&self.by_key);
+            }
         }
     }
 

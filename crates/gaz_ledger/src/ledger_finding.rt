@@ -34,16 +34,17 @@ impl Ledger {
     }
 
     /// The first `most` items of a kind after a key, or from the start, in key order.
-    pub fn page(
-        &self,
+    pub(crate) fn page(
+        &mut self,
         alloc: Global,
         volume: u64,
         kind: Kind,
         after: Option<Key>,
         most: usize,
     ) -> Result<Vec<SharedItem>, AllocError>
-        ensures { IfOk result (λ items. items.items
-            ≡ page (view_in self.now volume) kind after most) }
+        ensures page { IfOk result (λ items. items.items
+            ≡ page (view_in self.old volume) kind after most) }
+        ensures same { self.new ≡ self.old }
     {
         Ok(self.histories.page(alloc, volume, kind, after, most)?)
     }

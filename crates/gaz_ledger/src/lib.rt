@@ -5,6 +5,7 @@ mod cached_ledger;
 mod changes;
 mod histories;
 mod index;
+mod key_order;
 mod keys;
 pub mod laws;
 mod ledger;

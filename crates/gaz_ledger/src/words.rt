@@ -1,18 +1,19 @@
 //! What is asked of a view, over its entries as they stand.
-ghost use Rattle.std.specs.Prelude.{◌≡◌, take, if◌then◌else◌, IfOk, None, option_map};
+ghost use Rattle.std.specs.Prelude.{◌≡◌, ◌≤◌, drop, filter, length, map, take, if◌then◌else◌};
+ghost use Rattle.std.specs.Prelude.{IfOk, None, option_map};
 ghost use Rattle.std.specs.List.Sorted.{IsStrictlySortedBy};
+ghost use Rattle.gaz_records.specs.Keys.{key_cmp};
 ghost use Rattle.gaz_views.specs.Words.{comes_after, is_approved_of, is_approved_on, is_child_of};
 ghost use Rattle.gaz_views.specs.Words.{is_in, is_of};
 ghost use Rattle.gaz_ledger.specs.KeyHistories.{item_of_kind, items_after, rows_at, with_versions};
-ghost use Rattle.gaz_ledger.specs.Ranges.{is_past, start_after};
+ghost use Rattle.gaz_ledger.specs.Ranges.{is_past};
 
 use crate::seed::Seed;
 use gaz_histories::History;
 use gaz_ids::{Lang, Status, Uprn, Usrn};
 use gaz_records::{Item, Key, Kind, SharedItem, SortKey};
 use std::alloc::{AllocError, Global};
-use std::collections::{BTreeSet, HashMap};
-use std::ops::Bound;
+use std::collections::HashMap;
 
 pub fn is_approved_of(uprn: Uprn, item: &Item) -> bool
     ensures { result ≡ is_approved_of uprn item.now }
@@ -59,13 +60,6 @@ fn is_of(kind: Kind, key: &SortKey) -> bool
     key.kind_number() == kind.number()
 }
 
-/// These keys stand in their order.
-pub fn in_order(order: &BTreeSet<SortKey>)
-    ensures { IsStrictlySortedBy ⟦<SortKey as Ord>⟧.cmp order.now.keys }
-{
-    let _count = order.len();
-}
-
 // Whether all keys from this one on are of later kinds.
 fn is_past(kind: Kind, key: &SortKey) -> bool
     ensures { result ≡ is_past kind key.now }
@@ -73,13 +67,18 @@ fn is_past(kind: Kind, key: &SortKey) -> bool
     kind.number() < key.kind_number()
 }
 
-// Where a page begins.
-fn start_after(after: Option<Key>) -> Bound<SortKey>
-    ensures { result ≡ start_after after }
+// How many of these keys a page passes over: those up to the key that it comes after.
+fn count_until(order: &[SortKey], after: Option<Key>) -> usize
+    requires { IsStrictlySortedBy key_cmp order.now }
+    ensures start { drop result order.now ≡ filter (comes_after after) order.now }
+    ensures bound { result ≤ length order.now }
 {
     match after {
-        Some(key) => Bound::Excluded(SortKey::of(&key)),
-        None => Bound::Unbounded,
+        Some(after) => {
+            let after = SortKey::of(&after);
+            order.partition_point(|key| !after.cmp(key).is_lt())
+        }
+        None => 0,
     }
 }
 
@@ -102,21 +101,22 @@ fn wanted<'a>(
     }
 }
 
-/// The first items of a kind after a key, as they stand after a volume at keys in this order.
-pub fn page_of(
+// The first items of a kind, as they stand after a volume at keys in this order.
+fn first_items(
     alloc: Global,
-    order: &BTreeSet<SortKey>,
+    order: &[SortKey],
     histories: &HashMap<SortKey, History<SharedItem>, Seed>,
     volume: u64,
     kind: Kind,
-    after: Option<Key>,
     most: usize,
 ) -> Result<Vec<SharedItem>, AllocError>
-    ensures { IfOk result (λ found. found.items ≡ take most (items_after kind after
-        (rows_at (with_versions order.now.keys histories.now.entries) volume))) }
+    requires { IsStrictlySortedBy key_cmp order.now }
+    ensures { IfOk result (λ found. found.items ≡ take most (map (λ e. e.1)
+        (filter (λ e. is_of kind e.0)
+        (rows_at (with_versions order.now histories.now.entries) volume)))) }
 {
     let mut found = Vec::new(alloc);
-    for key in order.range((start_after(after), Bound::Unbounded)) {
+    for key in order {
         if found.len() == most || is_past(kind, key) {
             return Ok(found);
         }
@@ -125,4 +125,22 @@ pub fn page_of(
         }
     }
     Ok(found)
+}
+
+/// The first items of a kind after a key, as they stand after a volume at keys in this order.
+pub fn page_of(
+    alloc: Global,
+    order: &[SortKey],
+    histories: &HashMap<SortKey, History<SharedItem>, Seed>,
+    volume: u64,
+    kind: Kind,
+    after: Option<Key>,
+    most: usize,
+) -> Result<Vec<SharedItem>, AllocError>
+    requires { IsStrictlySortedBy key_cmp order.now }
+    ensures { IfOk result (λ found. found.items ≡ take most (items_after kind after
+        (rows_at (with_versions order.now histories.now.entries) volume))) }
+{
+    let start = count_until(order, after);
+    Ok(first_items(alloc, &order[start..], histories, volume, kind, most)?)
 }

@@ -49,6 +49,10 @@ pub no_more : (es fs : List (ℕ × Account)) (c : ℕ) (a : Account) → Change
 no_more es fs c a h e = fun_ext (λ q.
     ap (λ (d : Account). d.judged) (changed es fs c a h q) ∙ judged_cond (q == c) a (account_of es q) ∙ at_one (board_of es) c a.judged (λ js. js) e q (q == c) refl ∙ either_way (q == c) (board_of es q))
 
+-- the same account again
+pub same_accounts : (es fs : List (ℕ × Account)) (c : ℕ) (a : Account) → Changes es fs c a → a ≡ account_of es c → (q : ℕ) → account_of fs q ≡ account_of es q
+same_accounts es fs c a h e q = changed es fs c a h q ∙ at_one (account_of es) c a (λ d. d) e q (q == c) refl ∙ either_way (q == c) (account_of es q)
+
 -- ---- without an account
 
 -- no volume has changed its view

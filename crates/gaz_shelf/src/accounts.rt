@@ -1,13 +1,14 @@
 //! The accounts of all custodians.
-ghost use Rattle.std.specs.Prelude.{◌≡◌, [], MatchOption, OnOk, OnErr};
+ghost use Rattle.std.specs.Prelude.{◌≡◌, ℕ, [], IfOk, MatchOption, OnOk, OnErr};
 ghost use Rattle.gaz_views.specs.Accounts.{empty_account};
 ghost use Rattle.gaz_views.specs.View.{with_item, without_key};
 ghost use Rattle.gaz_shelf.specs.Accounts.{AreLawful, AreLawful-prop, account_of, board_of};
 ghost use Rattle.gaz_shelf.specs.Board.{adds, last_view};
+ghost use Rattle.gaz_shelf.specs.Telling.{IsPageAt};
 
 use gaz_ids::Code;
 use gaz_ledger::{CachedLedger, Seed};
-use gaz_records::{Key, SharedItem};
+use gaz_records::{Key, Kind, SharedItem};
 use gaz_views::Verdict;
 use std::alloc::{AllocError, Global};
 use std::collections::BTreeMap;
@@ -86,6 +87,28 @@ impl Accounts {
         };
         account.take(key)?;
         Ok(())
+    }
+
+    /// The first `most` items of a kind after a key, or from the start, in key order, of a
+    /// custodian after a volume, which is to be reached. The accounts stay as they are.
+    pub fn page(
+        &mut self,
+        alloc: Global,
+        code: Code,
+        volume: u64,
+        kind: Kind,
+        after: Option<Key>,
+        most: usize,
+    ) -> Result<Vec<SharedItem>, AllocError>
+        ensures page { IfOk result (λ items.
+            IsPageAt (board_of self.old.by_code.entries) code volume kind after most items.items) }
+        ensures same { (c : ℕ) → account_of self.new.by_code.entries c
+            ≡ account_of self.old.by_code.entries c }
+    {
+        let Some(account) = self.by_code.get_mut(&code) else {
+            return Ok(Vec::new(alloc));
+        };
+        Ok(account.page(alloc, volume, kind, after, most)?)
     }
 
     /// Judges the next volume of a custodian that has an account: its working view is the view

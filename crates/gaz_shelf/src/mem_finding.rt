@@ -129,24 +129,23 @@ impl MemShelf {
     }
 
     pub(crate) fn find_page(
-        &self,
+        &mut self,
         code: Code,
         volume: u64,
         kind: Kind,
         after: Option<Key>,
         most: usize,
     ) -> Result<Vec<SharedItem>, AllocError>
-        ensures { IfOk result (λ items.
-            IsPageAt (content_in self.now).board code volume kind after most items.items) }
+        ensures page { IfOk result (λ items.
+            IsPageAt (content_in self.old).board code volume kind after most items.items) }
+        ensures content { content_in self.new ≡ content_in self.old }
+        ensures judging { self.new.judging ≡ self.old.judging }
+        ensures count { self.new.failures ≡ self.old.failures }
     {
-        match self.accounts.get(code) {
-            Some(account) => Ok(
-                account
-                    .ledger()
-                    .page(self.alloc, volume, kind, after, most)?,
-            ),
-            None => Ok(Vec::new(self.alloc)),
-        }
+        Ok(
+            self.accounts
+                .page(self.alloc, code, volume, kind, after, most)?,
+        )
     }
 
     pub(crate) fn find_file(

@@ -18,7 +18,7 @@ returns-in_default-clause-changes c =
 pub invariant_of-self-2 : goal.invariant_of-self-2
 invariant_of-self-2 c =
     let writes = (c.get_mut.follows.holds c.cut.new.self).3 (search rules) in
-    keys_stay c.self.inside.order.keys c.self.inside.by_key.entries _ _ c.of.result c.cut.new.self c.in-Some.history.now c.self.invariant (sym c.in-Some.ensures.value) refl writes.0
+    keys_stay c.self.inside.order c.self.inside.by_key.entries _ _ c.of.result c.cut.new.self c.in-Some.history.now c.self.invariant (sym c.in-Some.ensures.value) refl writes.0
 
 pub returns-clause-changes : goal.returns-clause-changes
 returns-clause-changes c =

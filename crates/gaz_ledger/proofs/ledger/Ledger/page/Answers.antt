@@ -4,6 +4,6 @@ use Rattle.gaz_views.specs.Words.{page}
 use Rattle.gaz_ledger.proofs.Ledgers.{seen}
 use Rattle.gaz_ledger.proofs.ledger.Ledger.page.Goals as goal
 
-pub returns : goal.returns
-returns c =
-    c.in_ok-page.ensures ∙ ap (λ (w : View). page w c.args.kind c.args.after c.args.most) (seen c.self.inside.verdicts.items c.self.inside.histories c.args.self.now c.self.invariant.within c.self.view_is c.args.volume)
+pub returns-clause-page : goal.returns-clause-page
+returns-clause-page c =
+    c.in_ok-page.ensures.page ∙ ap (λ (w : View). page w c.args.kind c.args.after c.args.most) (seen c.self.inside.verdicts.items c.self.inside.histories c.args.self.now c.self.invariant.within c.self.view_is c.args.volume)

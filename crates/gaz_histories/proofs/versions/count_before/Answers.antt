@@ -2,7 +2,7 @@ use Rattle.std.proofs.Common.{rules, ltb}
 use Rattle.std.proofs.lemmas.List.Sorted.{IsPartitionPoint-from_clause, IsPartitionedBy-ltb}
 use Rattle.gaz_histories.specs.Kept.{version_in}
 use Rattle.gaz_histories.proofs.Searches.{front, rises}
-use Rattle.gaz_histories.proofs.history.count_before.Goals as goal
+use Rattle.gaz_histories.proofs.versions.count_before.Goals as goal
 
 pub returns-clause-before : goal.returns-clause-before
 returns-clause-before g c =

@@ -1,8 +1,8 @@
 use Rattle.std.proofs.Common.{◌∙◌, refl, sym, ◌≤◌, subst}
 use Rattle.std.proofs.lemmas.List.{length-map}
 use Rattle.gaz_histories.specs.Kept.{version_in, versions_of}
-use Rattle.gaz_histories.proofs.Kept.{found}
-use Rattle.gaz_histories.proofs.history.last_standing.Goals as goal
+use Rattle.gaz_histories.proofs.Vectors.{found}
+use Rattle.gaz_histories.proofs.versions.last_standing.Goals as goal
 
 pub returns : goal.returns
 returns g c =

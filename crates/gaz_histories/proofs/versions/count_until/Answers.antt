@@ -2,7 +2,7 @@ use Rattle.std.proofs.Common.{rules, leb}
 use Rattle.std.proofs.lemmas.List.Sorted.{IsPartitionPoint-from_clause, IsPartitionedBy-leb}
 use Rattle.gaz_histories.specs.Kept.{version_in}
 use Rattle.gaz_histories.proofs.Searches.{front, rises}
-use Rattle.gaz_histories.proofs.history.count_until.Goals as goal
+use Rattle.gaz_histories.proofs.versions.count_until.Goals as goal
 
 pub returns-clause-until : goal.returns-clause-until
 returns-clause-until g c =

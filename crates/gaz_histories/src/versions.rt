@@ -1,0 +1,87 @@
+//! Versions in a vector.
+ghost use Rattle.std.specs.Prelude.{◌≡◌, ◌++◌, ◌∷◌, [], ◌≤◌, take, length, OnOk, OnErr, option_map};
+ghost use Rattle.gaz_histories.specs.Histories.{Ascends, before, standing_at, until};
+ghost use Rattle.gaz_histories.specs.Histories.{was_used_at};
+ghost use Rattle.gaz_histories.specs.Kept.{version_in, versions_of};
+
+use std::alloc::AllocError;
+
+/// What stands at a key from a volume on, or nothing any more.
+#[derive(Drop)]
+pub struct Version<T> {
+    pub since: u64,
+    pub standing: Option<T>,
+}
+
+fn standing_of<T>(version: &Version<T>) -> Option<&T>
+    ensures { option_map (λ x. x.now) result ≡ version.now.standing }
+{
+    match &version.standing {
+        Some(standing) => Some(standing),
+        None => None,
+    }
+}
+
+/// What stands after a volume, by the last of these versions that begins until then.
+pub fn last_standing<T>(versions: &[Version<T>], volume: u64) -> Option<&T>
+    requires { Ascends (versions_of versions.now) }
+    ensures { option_map (λ x. x.now) result ≡ standing_at (versions_of versions.now) volume }
+{
+    let count = count_until(versions, volume);
+    if count == 0 {
+        return None;
+    }
+    standing_of(&versions[count - 1])
+}
+
+// How many of these versions begin at a volume or before it.
+fn count_until<T>(versions: &[Version<T>], volume: u64) -> usize
+    requires { Ascends (versions_of versions.now) }
+    ensures until { until (versions_of versions.now) volume
+        ≡ take result (versions_of versions.now) }
+    ensures bound { result ≤ length versions.now }
+{
+    versions.partition_point(|v| v.since <= volume)
+}
+
+/// How many of these versions begin before a volume.
+pub fn count_before<T>(versions: &[Version<T>], volume: u64) -> usize
+    requires { Ascends (versions_of versions.now) }
+    ensures before { before (versions_of versions.now) volume
+        ≡ take result (versions_of versions.now) }
+    ensures bound { result ≤ length versions.now }
+{
+    versions.partition_point(|v| v.since < volume)
+}
+
+/// Whether one of these versions begins at a volume or before it.
+pub fn begins_until<T>(versions: &[Version<T>], volume: u64) -> bool
+    requires { Ascends (versions_of versions.now) }
+    ensures { result ≡ was_used_at (versions_of versions.now) volume }
+{
+    match versions.first() {
+        Some(version) => version.since <= volume,
+        None => false,
+    }
+}
+
+/// Puts a version behind those that begin before it, and forgets the others. Where memory runs
+/// out, nothing changes.
+pub fn put_last<T: Drop>(
+    versions: &mut Vec<Version<T>>,
+    version: Version<T>,
+) -> Result<(), AllocError>
+    requires { Ascends (versions_of versions.old.items) }
+    ensures ok { OnOk result (versions_of versions.new.items
+        ≡ before (versions_of versions.old.items) version.since ++ version_in version ∷ []) }
+    ensures err { OnErr result (versions.new.items ≡ versions.old.items) }
+{
+    let count = count_before(versions, version.since);
+    if count == versions.len() {
+        versions.push(version)?;
+        return Ok(());
+    }
+    versions[count] = version;
+    versions.truncate(count + 1);
+    Ok(())
+}
