@@ -60,3 +60,10 @@ one_token out items old new done t b n w d e =
     let all : new.tokens ≡ t ∷ [] = w.ok ∙ ap (λ l. l ++ t ∷ []) n in
     let begun : new.before ≡ out = w.room.0 ∙ b in
     e ∙ rw (d, all, begun) (ap (λ l. out ++ l) (append-nil (token_text t)))
+
+-- a text with five pieces more, the second with the first and the fourth with the third
+pub with_five : (out a b c d e : List ℕ) → ((out ++ (a ++ b)) ++ (c ++ d)) ++ e ≡ out ++ (a ++ (b ++ (c ++ (d ++ e))))
+with_five out a b c d e =
+    append_assoc (out ++ (a ++ b)) (c ++ d) e
+    ∙ append_assoc out (a ++ b) ((c ++ d) ++ e)
+    ∙ ap (λ l. out ++ l) (append_assoc a b ((c ++ d) ++ e) ∙ ap (λ l. a ++ (b ++ l)) (append_assoc c d e))

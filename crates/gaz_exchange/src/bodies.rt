@@ -19,32 +19,52 @@ use std::fmt::Write;
 /// The bytes that the members about a property fit in, but for its line.
 const FOUND_ROOM: usize = 64;
 
-fn want_text(alloc: Global, custodian: Code, volume: Volume) -> Result<String, AllocError>
-    ensures { IfOk result (λ text. string_bytes text ≡ want_text custodian volume) }
+/// The bytes that what becomes of a file fits in, with its digest; and a standing too.
+const TOLD_ROOM: usize = 192;
+
+// Adds a piece, and a number behind it.
+fn add_number(out: &mut Vec<u8>, piece: &[u8], number: u64) -> Result<(), AllocError>
+    ensures { OnOk result (out.new.items ≡ out.old.items ++ (piece.now ++ decimal number)) }
 {
-    format!(in alloc; "{{\"custodian\":{custodian},\"volume\":{volume}}}")
+    let mut digits = Buffer::new();
+    out.extend_from_slice(piece)?;
+    out.extend_from_slice(digits.format(number).as_bytes())
 }
 
-fn wants_text(alloc: Global, wants: Option<(Code, Volume)>) -> Result<String, AllocError>
-    ensures { IfOk result (λ text. string_bytes text ≡ wants_text wants) }
+// Adds a volume that is waited for.
+fn add_want(out: &mut Vec<u8>, custodian: Code, volume: Volume) -> Result<(), AllocError>
+    ensures { OnOk result (out.new.items ≡ out.old.items ++ want_text custodian volume) }
+{
+    add_number(out, b"{\"custodian\":", custodian.number())?;
+    add_number(out, b",\"volume\":", volume.number())?;
+    out.extend_from_slice(b"}")?;
+    Ok(())
+}
+
+// Adds a volume that is waited for, where there is one.
+fn add_wants(out: &mut Vec<u8>, wants: Option<(Code, Volume)>) -> Result<(), AllocError>
+    ensures { OnOk result (out.new.items ≡ out.old.items ++ wants_text wants) }
 {
     match wants {
-        None => String::from_str(alloc, "null"),
-        Some((custodian, volume)) => want_text(alloc, custodian, volume),
+        None => out.extend_from_slice(b"null"),
+        Some((custodian, volume)) => add_want(out, custodian, volume),
     }
 }
 
-fn outcome_text(alloc: Global, outcome: Outcome) -> Result<String, AllocError>
-    ensures { IfOk result (λ text. string_bytes text ≡ outcome_text outcome) }
+// Adds the members of an outcome.
+fn add_outcome(out: &mut Vec<u8>, outcome: Outcome) -> Result<(), AllocError>
+    ensures { OnOk result (out.new.items ≡ out.old.items ++ outcome_text outcome) }
 {
     match outcome {
-        Outcome::Applied => String::from_str(alloc, "\"outcome\":\"applied\""),
+        Outcome::Applied => out.extend_from_slice(b"\"outcome\":\"applied\""),
         Outcome::Rejected { place, rule } => {
-            format!(in alloc; "\"outcome\":\"rejected\",\"record\":{place},\"rule\":{rule}")
+            add_number(out, b"\"outcome\":\"rejected\",\"record\":", place)?;
+            add_number(out, b",\"rule\":", u64::from(rule))
         }
         Outcome::Held { custodian, volume } => {
-            let want = want_text(alloc, custodian, volume)?;
-            format!(in alloc; "\"outcome\":\"held\",\"wants\":{want}")
+            out.extend_from_slice(b"\"outcome\":\"held\",\"wants\":")?;
+            add_want(out, custodian, volume)?;
+            Ok(())
         }
     }
 }
@@ -53,9 +73,11 @@ fn outcome_text(alloc: Global, outcome: Outcome) -> Result<String, AllocError>
 pub fn outcome_body(alloc: Global, outcome: Outcome) -> Result<Vec<u8>, AllocError>
     ensures { IfOk result (λ body. body.items ≡ body_of (Reply.New outcome)) }
 {
-    let outcome = outcome_text(alloc, outcome)?;
-    let body = format!(in alloc; "{{{outcome}}}\n")?;
-    Ok(body.into_bytes())
+    let mut out = Vec::with_capacity(alloc, TOLD_ROOM)?;
+    out.extend_from_slice(b"{")?;
+    add_outcome(&mut out, outcome)?;
+    out.extend_from_slice(b"}\n")?;
+    Ok(out)
 }
 
 /// The digest of the file that was received before.
@@ -72,35 +94,27 @@ pub fn told_body(alloc: Global, digest: Digest, outcome: Outcome) -> Result<Vec<
     ensures { IfOk result (λ body. body.items ≡ body_of (Reply.Told digest outcome)) }
 {
     let digest = hex::encode(alloc, digest)?;
-    let outcome = outcome_text(alloc, outcome)?;
-    let body = format!(in alloc; "{{\"digest\":\"{digest}\",{outcome}}}\n")?;
-    Ok(body.into_bytes())
+    let mut out = Vec::with_capacity(alloc, TOLD_ROOM)?;
+    out.extend_from_slice(b"{\"digest\":\"")?;
+    out.extend_from_slice(digest.as_bytes())?;
+    out.extend_from_slice(b"\",")?;
+    add_outcome(&mut out, outcome)?;
+    out.extend_from_slice(b"}\n")?;
+    Ok(out)
 }
 
 /// How far a custodian's files are judged.
 pub fn standing_body(alloc: Global, standing: Standing) -> Result<Vec<u8>, AllocError>
     ensures { IfOk result (λ body. body.items ≡ body_of (Reply.Stands standing)) }
 {
-    let wants = wants_text(alloc, standing.wants)?;
-    let Standing {
-        custodian,
-        held,
-        judged,
-        wants: _,
-    } = standing;
-    let body = format!(in alloc;
-        "{{\"custodian\":{custodian},\"held\":{held},\"judged\":{judged},\"wants\":{wants}}}\n"
-    )?;
-    Ok(body.into_bytes())
-}
-
-// Adds a piece, and a number behind it.
-fn add_number(out: &mut Vec<u8>, piece: &[u8], number: u64) -> Result<(), AllocError>
-    ensures { OnOk result (out.new.items ≡ out.old.items ++ (piece.now ++ decimal number)) }
-{
-    let mut digits = Buffer::new();
-    out.extend_from_slice(piece)?;
-    out.extend_from_slice(digits.format(number).as_bytes())
+    let mut out = Vec::with_capacity(alloc, TOLD_ROOM)?;
+    add_number(&mut out, b"{\"custodian\":", standing.custodian.number())?;
+    add_number(&mut out, b",\"held\":", standing.held)?;
+    add_number(&mut out, b",\"judged\":", standing.judged)?;
+    out.extend_from_slice(b",\"wants\":")?;
+    add_wants(&mut out, standing.wants)?;
+    out.extend_from_slice(b"}\n")?;
+    Ok(out)
 }
 
 // Adds a line as JSON writes it.

@@ -1,3 +1,4 @@
+ghost use Rattle.std.specs.Prelude.{◌≡◌, ◌<◌, [], IfErr, IfOk};
 ghost use Rattle.std.specs.Io.KnownBytes.{Keeps};
 ghost use Rattle.gaz_exchange.specs.Bodies.{IsBody, IsReadForBody, IsRefill};
 ghost use Rattle.gaz_exchange.specs.Supplies.{IsReadForMore, Reads, Supplies};
@@ -5,7 +6,7 @@ ghost use Rattle.gaz_exchange.specs.Supplies.{IsReadForMore, Reads, Supplies};
 use crate::inlet::Inlet;
 use crate::source::Source;
 use crate::supply::{Cause, Supply, read_more};
-use std::alloc::Global;
+use std::alloc::{AllocError, Global};
 use std::io::Write;
 
 /// What came of a body.
@@ -33,30 +34,42 @@ fn refill<R: Source, W: Write>(r: &mut R, w: &mut W, inlet: &mut Inlet) -> Suppl
     read_more(r, w, inlet)
 }
 
+// Room for a body of so many bytes: that of an earlier one, where it is enough.
+fn room_for(alloc: Global, earlier: Vec<u8>, size: usize) -> Result<Vec<u8>, AllocError>
+    ensures empty { IfOk result (λ room. room.items ≡ []) }
+    ensures asked { IfErr result (λ _. 0 < size) }
+{
+    if earlier.capacity() < size {
+        drop(earlier);
+        return Vec::with_capacity(alloc, size);
+    }
+    let mut room = earlier;
+    room.clear();
+    Ok(room)
+}
+
 /// Reads a body of `size` bytes.
 ///
 /// > If the sender closes the connection or the recipient times out before the indicated number of
 /// > octets are received, the recipient MUST consider the message to be incomplete and close the
 /// > connection. (RFC 9112, section 6.3)
 ///
-/// An empty one takes no memory; that a body of 1,048,576 bytes finds it is tested, since no clause
-/// can say so.
+/// It takes the room of an earlier one. An empty one takes no memory; that a body of 1,048,576
+/// bytes finds it is tested, since no clause can say so.
 pub fn read_body<R: Source, W: Write>(
     alloc: Global,
     r: &mut R,
     w: &mut W,
     inlet: &mut Inlet,
     size: usize,
+    earlier: Vec<u8>,
 ) -> Body
     ensures read { Reads R.remaining r.old r.new inlet.old
         (λ bytes left. IsBody bytes size inlet.new left result
         × IsReadForBody (R.reads r.old) (R.reads r.new) bytes inlet.new left result) }
     ensures written { Keeps (W.contents w.old) (W.contents w.new) }
 {
-    if size == 0 {
-        return Body::Whole(Vec::new(alloc));
-    }
-    let Ok(mut out) = Vec::with_capacity(alloc, size) else {
+    let Ok(mut out) = room_for(alloc, earlier, size) else {
         return Body::Memory;
     };
     'pieces: while out.len() < size {

@@ -139,7 +139,11 @@ fn take_turn<R: Source, W: Write, K: Inbox + Drop>(
     ensures register { hub.new.register ≡ hub.old.register }
 {
     match next_request(alloc, r, w, intake) {
-        Incoming::Request(request) => answer(alloc, w, hub, &request, is_last),
+        Incoming::Request(request) => {
+            let turn = answer(alloc, w, hub, &request, is_last);
+            intake.room = request.body;
+            turn
+        }
         Incoming::Refused(fault) => refuse(alloc, w, fault),
         Incoming::Over => Turn::Over,
         Incoming::Failed(cause) => Turn::Stopped(cause),
@@ -174,7 +178,7 @@ pub fn converse_counted<R: Source, W: Write, K: Inbox + Drop>(
         (hub_seen K.seen hub.old) (hub_seen K.seen hub.new) result }
     ensures register { hub.new.register ≡ hub.old.register }
 {
-    let mut intake = Intake::new();
+    let mut intake = Intake::new(alloc);
     for n in 0..most {
         match take_turn(alloc, r, w, hub, &mut intake, n + 1 == most) {
             Turn::Answered => {}

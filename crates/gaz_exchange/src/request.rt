@@ -20,6 +20,7 @@ use crate::supply::Cause;
 use httparse::spans::{EMPTY_HEADER_SPAN, HeaderSpan, RequestSpans};
 use std::alloc::Global;
 use std::io::Write;
+use std::mem::replace;
 
 /// A request that came whole.
 #[derive(Debug, Drop)]
@@ -57,10 +58,12 @@ pub struct Intake {
     pub inlet: Inlet,
     pub headers: [HeaderSpan; 32],
     pub routes: Routes,
+    /// The room of an earlier body.
+    pub room: Vec<u8>,
 }
 
 impl Intake {
-    pub fn new() -> Self
+    pub fn new(alloc: Global) -> Self
         ensures unread { result.inlet ≡ [] }
         ensures unrouted { result.routes ≡ false }
     {
@@ -68,6 +71,7 @@ impl Intake {
             inlet: Inlet::new(),
             headers: [EMPTY_HEADER_SPAN; 32],
             routes: Routes::new(),
+            room: Vec::new(alloc),
         }
     }
 }
@@ -101,6 +105,7 @@ fn with_body<R: Source, W: Write>(
     w: &mut W,
     inlet: &mut Inlet,
     needed: Needed,
+    earlier: Vec<u8>,
 ) -> Incoming
     ensures read { Reads R.remaining r.old r.new inlet.old
         (λ bytes left. IsBehind bytes needed inlet.new left result
@@ -111,7 +116,7 @@ fn with_body<R: Source, W: Write>(
         Framing::Length(size) => size,
         Framing::Refused(fault) => return Incoming::Refused(fault),
     };
-    match read_body(alloc, r, w, inlet, size) {
+    match read_body(alloc, r, w, inlet, size, earlier) {
         Body::Whole(body) => Incoming::Request(Request {
             call: needed.call,
             closing: needed.closing,
@@ -141,7 +146,8 @@ pub fn next_request<R: Source, W: Write>(
             let bytes = intake.inlet.pending();
             let needed = needed_of(alloc, bytes, spans, &intake.headers, &mut intake.routes);
             intake.inlet.take(spans.len);
-            with_body(alloc, r, w, &mut intake.inlet, needed)
+            let earlier = replace(&mut intake.room, Vec::new(alloc));
+            with_body(alloc, r, w, &mut intake.inlet, needed, earlier)
         }
         Next::Bad => Incoming::Refused(Fault::BadRequest),
         Next::Over => Incoming::Over,

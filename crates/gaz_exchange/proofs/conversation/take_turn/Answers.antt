@@ -6,7 +6,7 @@ pub returns-in-Request-clause-turn : goal.returns-in-Request-clause-turn
 returns-in-Request-clause-turn g c =
     let (read, eaten, (came, counted)) = c.in-Request.ensures.read in
     let (h, begins, call, closing) = came in
-    turn_of_answer _ c.args.is_last _ _ _ _ _ read _ _ _ _ _ _ _ _ _ c.in-Request.request h _ c.in-Request.ensures.stay eaten c.in-Request.ensures.written refl begins call closing counted c.answer.ensures.answered
+    turn_of_answer _ c.args.is_last _ _ _ _ _ read _ _ _ _ _ _ _ _ _ c.in-Request.request h _ c.in-Request.ensures.stay eaten c.in-Request.ensures.written refl begins call closing counted c.answer-turn.ensures.answered
 
 pub returns-in-Refused-clause-turn : goal.returns-in-Refused-clause-turn
 returns-in-Refused-clause-turn g c =
