@@ -1,6 +1,8 @@
 -- Two settled runs with as many files of each custodian, the one's among the other's, keep the same.
-use Rattle.std.proofs.Common.{◌≡◌, ◌∙◌, ◌≤◌, ◌<◌, ◌+◌, ◌-◌, ◌&&◌, ℕ, Bool, true, false, not, List, refl, sym, ap, arith, is_some}
+use Rattle.std.proofs.Common.{◌≡◌, ◌∙◌, ◌≤◌, ◌<◌, ◌+◌, ◌-◌, ◌&&◌, ℕ, zero, suc, Bool, true, false, true≢false, not, List, refl, sym, ap, subst, arith, is_some}
 use Rattle.std.proofs.lemmas.Bool.Decides.{nat_tests}
+use Rattle.std.specs.List.{list_all}
+use Rattle.std.specs.Option.{option_map, option_map_or}
 use Rattle.std.specs.Prelude.{Option, Some, None, ◌==◌, nat_le}
 use Rattle.std.specs.FinMap as map
 use Rattle.gaz_register.specs.Registers.{knows}
@@ -9,7 +11,9 @@ use Rattle.gaz_shelf.specs.Keeper.{Content}
 use Rattle.gaz_shelf.specs.Received.{Received, count_above}
 use Rattle.gaz_shelf.proofs.Pairs.{pairs_exact, pairs_total}
 use Rattle.gaz_hub.specs.Hubs.{AreKnown}
-use Rattle.gaz_hub.specs.Standing.{HasAllOf, IsPartial, NothingReady, Register, standing}
+use Rattle.gaz_changefile.specs.Reading.{reading}
+use Rattle.gaz_rules.specs.Judging.{bases_of}
+use Rattle.gaz_hub.specs.Standing.{HasAllOf, IsPartial, NothingReady, Register, ready, standing}
 use Rattle.gaz_hub.specs.Step.{Door, blocks}
 use Rattle.gaz_hub.proofs.Orders.{any_order_holds, empty_lawful, leads_lawful}
 use Rattle.gaz_mirrored.specs.Comparing.{AreLike}
@@ -60,6 +64,34 @@ module _ (d : Door) (k m : Content) (runs : AreRuns d k m) where
           let there = has_there q (ap is_some also) in
           let no : false ≡ true = sym (ap is_some is) ∙ there in
           cc
+
+  -- nobody whom the door doesn't know has a judged volume
+  none_judged : (F : Received) (B : Board) (c : ℕ) → AreKnown d F → IsPartial (blocks d) F B → knows d.register c ≡ false → reached B c ≡ 0
+  none_judged F B c known partial unknown = by_height (reached B c) refl
+    where
+      by_height : (n : ℕ) → reached B c ≡ n → reached B c ≡ 0
+      by_height zero e = e
+      by_height (suc n) e =
+          let there = judged_came (blocks d) F B c 1 partial (omega arith) (omega (arith, e)) in
+          absurd (true≢false (sym (known (c, 1) there) ∙ unknown))
+
+  -- as many volumes of everybody are judged in both
+  pub same_reached : IsPartial (blocks d) k.files k.board → (c : ℕ) → reached k.board c ≡ reached m.board c
+  same_reached partial c = by_known (knows d.register c) refl
+    where
+      by_known : (b : Bool) → knows d.register c ≡ b → reached k.board c ≡ reached m.board c
+      by_known true known = (runs.alike c known).judged
+      by_known false unknown =
+          none_judged k.files k.board c runs.known partial unknown ∙ sym (none_judged m.files m.board c (subst (AreKnown d) (sym same_files) runs.known) runs.partial unknown)
+
+-- who is ready depends on how many volumes are judged alone
+abbrev ready_by : Received → (ℕ → ℕ) → ℕ → Bool
+ready_by files judged c =
+    nat_le (judged c + 1) 999999
+    && option_map_or (λ r. list_all (λ b. nat_le b.volume (judged b.custodian)) (bases_of r)) (option_map (λ bytes. reading bytes c (judged c + 1)) (map.get files (c, judged c + 1))) false
+
+pub same_ready : (F : Received) (B other : Board) → ((c : ℕ) → reached B c ≡ reached other c) → (c : ℕ) → ready F B c ≡ ready F other c
+same_ready F B other same c = λ i. ready_by F (λ x. same x i) c
 
 -- equal files and nothing ready: equal boards
 pub same_board : (G : Register) (k m : Content) → m.files ≡ k.files → IsPartial G k.files k.board → IsPartial G m.files m.board → NothingReady k.files k.board → NothingReady m.files m.board → m.board ≡ k.board

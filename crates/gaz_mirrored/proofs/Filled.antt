@@ -1,6 +1,6 @@
 -- What the filled keeper stands for, and the mirror over it.
 use Rattle.std.proofs.Common.{◌≡◌, ◌∙◌, refl, sym, ap, subst}
-use Rattle.std.specs.Prelude.{Option, Some, None, Ok}
+use Rattle.std.specs.Prelude.{Option, Some, None}
 use Rattle.std.specs.Option.{ForSome}
 use Rattle.std.specs.FinMap as map
 use Rattle.gaz_register.specs.Registers.{RegisterValue}
@@ -8,23 +8,21 @@ use Rattle.gaz_views.specs.View.{empty_view}
 use Rattle.gaz_shelf.specs.Board.{empty_board}
 use Rattle.gaz_shelf.specs.Keeper.{Content, Idle, Seen}
 use Rattle.gaz_shelf.specs.Received.{Received, pair_cmp}
-use Rattle.gaz_hub.specs.Hubs.{Steps, door_of, state_of}
+use Rattle.gaz_hub.specs.Hubs.{door_of}
 use Rattle.gaz_hub.specs.Laws.{StandsForRun}
 use Rattle.gaz_hub.specs.Seen.{hub_seen}
-use Rattle.gaz_hub.specs.Settling.{Advances}
-use Rattle.gaz_hub.specs.Standing.{IsPartial, NothingReady}
-use Rattle.gaz_hub.specs.Step.{Pose, Replied, Settle, blocks}
+use Rattle.gaz_hub.specs.Standing.{IsPartial, NothingReady, ready}
+use Rattle.gaz_hub.specs.Step.{blocks}
 use Rattle.gaz_hub.specs.Waiting.{Remembered, remembering}
 use Rattle.gaz_hub.specs.declared.hub.Hub.{Hub}
 use Rattle.gaz_hub.proofs.Advancing.{may_keep}
 use Rattle.gaz_hub.proofs.Headline.{may_begin}
-use Rattle.gaz_hub.proofs.Leading.{follows_itself, follows_on}
+use Rattle.gaz_hub.proofs.Leading.{follows_itself}
 use Rattle.gaz_mirror.specs.Mirroring.{StandsWith, mirrored}
 use Rattle.gaz_mirrored.specs.Comparing.{AreLike, AreLikeFor, OnlyReads}
 use Rattle.gaz_mirrored.specs.Copying.{Copies, IsRunOf, IsSettled}
-use Rattle.gaz_mirrored.specs.Filling.{AreVolumes, CanBeMirrored, IsFilled, RestsBare, StandsEmpty}
-use Rattle.gaz_mirrored.proofs.Alike.{AreRuns, same_board, same_files}
-use Rattle.gaz_mirrored.proofs.Settling.{settles_to}
+use Rattle.gaz_mirrored.specs.Filling.{CanBeMirrored, IsFilled, RestsBare, StandsEmpty}
+use Rattle.gaz_mirrored.proofs.Alike.{AreRuns, same_board, same_files, same_reached, same_ready}
 
 -- ---- filling
 
@@ -52,7 +50,7 @@ module _ {K : Type 0} (seen : K → Seen) (reg : RegisterValue) (a b c : Seen) (
       record {
         lower = idle;
         upper = also_idle;
-        alike = λ can closed empty fine sound.
+        alike = λ can empty fine sound.
             let d = door_of reg in
             let mid = reads.keeps.harm fine in
             let stood = can.run.stands.0 in
@@ -75,6 +73,10 @@ module _ {K : Type 0} (seen : K → Seen) (reg : RegisterValue) (a b c : Seen) (
             }
             in
             let files = same_files d a.content (seen above.keeper).content runs in
+            let reached = same_reached d a.content (seen above.keeper).content runs can.run.partial in
+            let closed : NothingReady a.content.files a.content.board =
+            λ q. same_ready a.content.files a.content.board (seen above.keeper).content.board reached q ∙ ap (λ F. ready F (seen above.keeper).content.board q) (sym files) ∙ closed_above q
+            in
             let board = same_board (blocks d) a.content (seen above.keeper).content files can.run.partial run.run.partial closed closed_above in
             let same_c = reads.keeps.content b_stands fine ∙ same_b in
             let same_last = also_reads.keeps.content kept_stands sound ∙ same_kept in
@@ -91,36 +93,15 @@ pub over_parts : {K : Type 0} (seen : K → Seen) (P : RegisterValue → Seen �
     → P hub.register (hub_seen seen hub) → P reg (remembering reg None (seen keeper))
 over_parts {K} seen P hub reg keeper e f g = subst (λ (t : RegisterValue × K × Option Remembered). P t.0 (remembering t.0 t.2 (seen t.1))) (λ i. (e i, f i, g i))
 
-pub of_parts : {K : Type 0} (seen : K → Seen) (P : RegisterValue → Seen → Type 0) (hub : Hub K) (reg : RegisterValue) (keeper : K) → hub.register ≡ reg → hub.keeper ≡ keeper → hub.waiters ≡ None
-    → P reg (remembering reg None (seen keeper)) → P hub.register (hub_seen seen hub)
-of_parts {K} seen P hub reg keeper e f g = subst (λ (t : RegisterValue × K × Option Remembered). P t.0 (remembering t.0 t.2 (seen t.1))) (λ i. (sym e i, sym f i, sym g i))
-
 -- ---- mirroring
 
--- after files were judged, what is kept can be mirrored still
-pub can_after : (reg : RegisterValue) (was : Option Remembered) (a b : Seen) → Advances (door_of reg) 0 (remembering reg was a) b → CanBeMirrored (door_of reg) (remembering reg was a) → b.unharmed
-    → CanBeMirrored (door_of reg) b
-can_after reg was a b advances can fine =
-    let G = blocks (door_of reg) in
-    let files = advances.files can.run.stands fine in
-    record {
-      run = record {
-        stands = advances.stands can.run.stands fine;
-        partial = subst (λ F. IsPartial G F b.content.board) (sym files) (follows_on G a.content.files empty_board a.content.board b.content.board can.run.partial (advances.board can.run.stands fine));
-      };
-      volumes = subst AreVolumes (sym files) can.volumes;
-    }
-
-pub stands_alone : {K : Type 0} (seen : K → Seen) (reg : RegisterValue) (b : Seen) → CanBeMirrored (door_of reg) b → StandsForRun (door_of reg) (remembering reg None (mirrored seen b None))
-stands_alone seen reg b can = record { stands = ((can.run.stands.0, tt), can.run.stands.1); partial = can.run.partial }
-
 module _ {K : Type 0} (seen : K → Seen) (never : (k : K) → (seen k).unharmed) (reg : RegisterValue) (b c : Seen) (first : K) where
-  both_stand : (upper : Option K) → c.stands → ForSome upper (λ u. IsFilled (door_of reg) b c (seen first) (seen u)) → CanBeMirrored (door_of reg) b → NothingReady b.content.files b.content.board
+  both_stand : (upper : Option K) → c.stands → ForSome upper (λ u. IsFilled (door_of reg) b c (seen first) (seen u)) → CanBeMirrored (door_of reg) b
       → StandsEmpty (seen first) → RestsBare seen → (c.progress ≡ Idle → c.content.working ≡ empty_view) → c.unharmed → StandsWith seen c upper
-  both_stand None stood copy can closed empty bare lower_bare fine = stood
-  both_stand (Some u) stood copy can closed empty bare lower_bare fine =
+  both_stand None stood copy can empty bare lower_bare fine = stood
+  both_stand (Some u) stood copy can empty bare lower_bare fine =
       let is = copy u refl in
-      let alike = is.alike can closed empty fine (never u) in
+      let alike = is.alike can empty fine (never u) in
       let working : (seen u).content.working ≡ c.content.working = bare u is.upper ∙ sym (lower_bare is.lower) in
       record {
         lower = alike.lower;
@@ -128,33 +109,26 @@ module _ {K : Type 0} (seen : K → Seen) (never : (k : K) → (seen k).unharmed
         same = λ i. record { files = alike.files i; board = alike.board i; working = working i };
       }
 
-  pub stands_mirrored : (upper : Option K) → OnlyReads b c → ForSome upper (λ u. IsFilled (door_of reg) b c (seen first) (seen u)) → CanBeMirrored (door_of reg) b → NothingReady b.content.files b.content.board
-      → StandsEmpty (seen first) → RestsBare seen → (c.progress ≡ Idle → c.content.working ≡ empty_view) → c.unharmed → StandsForRun (door_of reg) (remembering reg None (mirrored seen c upper))
-  stands_mirrored upper reads copy can closed empty bare lower_bare fine =
+  pub stands_mirrored : (upper : Option K) → OnlyReads b c → ForSome upper (λ u. IsFilled (door_of reg) b c (seen first) (seen u)) → CanBeMirrored (door_of reg) b
+      → StandsEmpty (seen first) → RestsBare seen → (c.progress ≡ Idle → c.content.working ≡ empty_view) → c.unharmed → StandsForRun (door_of reg) (mirrored seen c upper)
+  stands_mirrored upper reads copy can empty bare lower_bare fine =
       let d = door_of reg in
       let stood = reads.keeps.stands can.run.stands.0 fine in
       let same = reads.keeps.content can.run.stands.0 fine in
       record {
         stands = (
-          (both_stand upper stood copy can closed empty bare lower_bare fine, tt),
+          both_stand upper stood copy can empty bare lower_bare fine,
           may_keep d b.content c.content (ap (λ (k : Content). k.files) same) (ap (λ (k : Content). k.board) same) can.run.stands.1,
         );
         partial = subst (λ (k : Content). IsPartial (blocks d) k.files k.board) (sym same) can.run.partial;
       }
 
--- nothing is ready after settling
-pub closed_after : (reg other : RegisterValue) (was now : Option Remembered) (a b : Seen) → Steps (door_of reg) (remembering reg was a) (remembering other now b) (Pose Settle) (Replied Settle (Ok tt))
-    → StandsForRun (door_of reg) (remembering reg was a) → b.unharmed → NothingReady b.content.files b.content.board
-closed_after reg other was now a b steps run fine = (settles_to (door_of reg) (state_of a.content) (state_of b.content) (Ok tt) (steps.step run.stands fine)).settled
-
 -- ---- in answers
 
--- also where the parts have other names
-module _ {L K : Type 0} (low : L → Seen) (seen : K → Seen) where
-  pub of_mirror : (reg : RegisterValue) (x y : L) (u v : Option K) → x ≡ y → u ≡ v → StandsForRun (door_of reg) (remembering reg None (mirrored seen (low y) v))
-      → StandsForRun (door_of reg) (remembering reg None (mirrored seen (low x) u))
-  of_mirror reg x y u v e f = subst (λ (t : L × Option K). StandsForRun (door_of reg) (remembering reg None (mirrored seen (low t.0) t.1))) (λ i. (sym e i, sym f i))
+-- also where the two have other names
+pub of_made : {L K : Type 0} (low : L → Seen) (seen : K → Seen) (reg : RegisterValue) (x y : L) (u v : Option K) → x ≡ y → u ≡ v
+    → ((low y).unharmed → StandsForRun (door_of reg) (mirrored seen (low y) v)) → (low x).unharmed → StandsForRun (door_of reg) (mirrored seen (low x) u)
+of_made {L} {K} low seen reg x y u v e f = subst (λ (t : L × Option K). (low t.0).unharmed → StandsForRun (door_of reg) (mirrored seen (low t.0) t.1)) (λ i. (sym e i, sym f i))
 
-  pub of_filled : (reg was : RegisterValue) (x y : L) (c : Seen) (first : K) (upper : Option K) → was ≡ reg → x ≡ y → ForSome upper (λ u. IsFilled (door_of was) (low x) c (seen first) (seen u))
-      → ForSome upper (λ u. IsFilled (door_of reg) (low y) c (seen first) (seen u))
-  of_filled reg was x y c first upper e f = subst (λ (t : RegisterValue × L). ForSome upper (λ u. IsFilled (door_of t.0) (low t.1) c (seen first) (seen u))) (λ i. (e i, f i))
+pub of_lower : {L : Type 0} (low : L → Seen) (reg was : RegisterValue) (x y : L) → was ≡ reg → x ≡ y → CanBeMirrored (door_of reg) (low y) → CanBeMirrored (door_of was) (low x)
+of_lower {L} low reg was x y e f = subst (λ (t : RegisterValue × L). CanBeMirrored (door_of t.0) (low t.1)) (λ i. (sym e i, sym f i))

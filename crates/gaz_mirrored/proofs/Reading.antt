@@ -2,11 +2,10 @@
 use Rattle.std.proofs.Common.{◌≡◌, ◌≤◌, ◌<◌, ◌+◌, ℕ, true, false, cond, eqb, eqb-true, true≢false, [], ◌∷◌, ◌++◌, take, length, get_or, ◌⊎◌, inl, inr, arith, is_some, refl, sym, ap, ◌∙◌, subst}
 use Rattle.std.proofs.lemmas.List.{take_all, take_more}
 use Rattle.std.specs.List.{find}
-use Rattle.std.specs.Prelude.{⊤, Some, None, Ok, ◌≢◌}
+use Rattle.std.specs.Prelude.{Some, None, ◌≢◌}
 use Rattle.gaz_register.specs.Registers.{CustodianValue, RegisterValue, knows}
 use Rattle.gaz_shelf.specs.Keeper.{Broken, Idle, IsLeft, IsNotOpen, Open, Progress, Seen}
 use Rattle.gaz_shelf.proofs.Keeping.{keeps_then}
-use Rattle.gaz_extract.specs.Readings.{Looks}
 use Rattle.gaz_extract.proofs.Readings.{keeps_itself}
 use Rattle.gaz_mirrored.specs.Comparing.{AreLike, AreLikeFor, AreLikeOf, OnlyReads}
 
@@ -18,9 +17,6 @@ reads_then a b c first second =
     let one = first.failures in
     let two = second.failures in
     record { keeps = keeps_then a b c first.keeps second.keeps; failures = omega arith }
-
-pub looks : (a b : Seen) → OnlyReads a b → Looks {T = Unit {0}} a b (Ok tt) (λ _. ⊤)
-looks a b reads = record { keeps = reads.keeps; right = λ _ _. tt; counts = record { kept = reads.failures; store = tt } }
 
 -- what is said of both before a call is said before the calls before it
 pub alike_then : (code : ℕ) (a b c w x y : Seen) → OnlyReads a b → OnlyReads b c → OnlyReads w x → OnlyReads x y → AreLikeOf code b c x y → AreLikeOf code a c w y

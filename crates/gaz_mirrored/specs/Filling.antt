@@ -6,7 +6,6 @@ use Rattle.gaz_shelf.specs.Keeper.{Idle, Seen, empty_content}
 use Rattle.gaz_shelf.specs.Received.{Received}
 use Rattle.gaz_hub.specs.Laws.{StandsForRun}
 use Rattle.gaz_hub.specs.Runs.{Run}
-use Rattle.gaz_hub.specs.Standing.{NothingReady}
 use Rattle.gaz_hub.specs.Step.{Command, Door, HubState, Response}
 
 -- a keeper in which no judgement is in progress has no working view
@@ -41,10 +40,10 @@ pub record StandAlike (below above : Seen) : Type 0 where
   pub files : above.content.files ≡ below.content.files
   pub board : above.content.board ≡ below.content.board
 
--- both are idle; and where nothing was ready in the one and nothing was in the other, both keep the
+-- both are idle; and where the one could be mirrored and nothing was in the other, both keep the
 -- same now
 pub record IsFilled (door : Door) (old new was now : Seen) : Type 0 where
   pub lower : new.progress ≡ Idle
   pub upper : now.progress ≡ Idle
-  pub alike : CanBeMirrored door old → NothingReady old.content.files old.content.board
-      → StandsEmpty was → new.unharmed → now.unharmed → StandAlike new now
+  pub alike : CanBeMirrored door old → StandsEmpty was → new.unharmed → now.unharmed
+      → StandAlike new now

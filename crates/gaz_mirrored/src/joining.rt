@@ -5,11 +5,10 @@ ghost use Rattle.gaz_shelf.specs.Keeper.{Idle};
 ghost use Rattle.gaz_shelf.specs.Telling.{IsNotJudging};
 ghost use Rattle.gaz_hub.specs.Hubs.{door_of};
 ghost use Rattle.gaz_hub.specs.Laws.{StandsForRun};
-ghost use Rattle.gaz_hub.specs.Seen.{RemembersNothing, hub_seen};
-ghost use Rattle.gaz_hub.specs.Settling.{Advances};
+ghost use Rattle.gaz_hub.specs.Seen.{RemembersNothing};
 ghost use Rattle.gaz_mirror.specs.Mirrored.{seen_mirrored};
 ghost use Rattle.gaz_mirrored.specs.Comparing.{OnlyReads};
-ghost use Rattle.gaz_mirrored.specs.Filling.{CanBeMirrored, IsFilled, RestsBare, StandsEmpty};
+ghost use Rattle.gaz_mirrored.specs.Filling.{CanBeMirrored, RestsBare, StandsEmpty};
 
 use crate::filling::fill;
 use gaz_hub::Hub;
@@ -42,9 +41,11 @@ fn mirror_of<L: Inbox + Drop, U: Unshared + Drop>(
     requires lower { IsNotJudging L.seen lower }
     requires upper { IsNotJudging U.seen upper }
     ensures register { result.0 ≡ register }
+    ensures idle { IsNotJudging seen_mirrored result.1 }
     ensures reads { OnlyReads (L.seen lower) (L.seen result.1.lower) }
-    ensures filled { ForSome result.1.upper (λ u. IsFilled (door_of register)
-        (L.seen lower) (L.seen result.1.lower) (U.seen upper) (U.seen u)) }
+    ensures stands { RestsBare L.seen → RestsBare U.seen → StandsEmpty (U.seen upper)
+        → CanBeMirrored (door_of register) (L.seen lower) → (seen_mirrored result.1).unharmed
+        → StandsForRun (door_of register) (seen_mirrored result.1) }
 {
     let mut lower = lower;
     let (register, filled) = fill(alloc, register, &mut lower, upper);
@@ -62,43 +63,33 @@ pub fn mirrored_by<L: Inbox + Drop, U: Unshared + Drop>(
     ensures register { result.register ≡ hub.register }
     ensures remembers { RemembersNothing result }
     ensures idle { IsNotJudging seen_mirrored result.keeper }
-    ensures below { Advances (door_of hub.register) 0 (hub_seen L.seen hub)
-        (L.seen result.keeper.lower) }
+    ensures reads { OnlyReads (L.seen hub.keeper) (L.seen result.keeper.lower) }
     ensures stands { RestsBare L.seen → RestsBare U.seen → StandsEmpty (U.seen upper)
-        → CanBeMirrored (door_of hub.register) (hub_seen L.seen hub)
+        → CanBeMirrored (door_of hub.register) (L.seen hub.keeper)
         → (seen_mirrored result.keeper).unharmed
-        → StandsForRun (door_of hub.register) (hub_seen seen_mirrored result) }
+        → StandsForRun (door_of hub.register) (seen_mirrored result.keeper) }
 {
-    let mut hub = hub;
-    let settled = hub.settle();
     let (register, lower) = hub.into_parts();
-    match settled {
-        Ok(()) => {}
-        Err(_) => return Hub::new(alloc, register, Mirror::over(lower)),
-    }
     let (register, mirror) = mirror_of(alloc, register, lower, upper);
     Hub::new(alloc, register, mirror)
 }
 
-/// A hub over a mirror of what a hub's keeper keeps, with all of it at hand, where memory allows;
-/// else over the keeper alone.
+/// A hub over a mirror of what a hub's keeper keeps, with all of it at hand, where memory allows
+/// and all is settled; else over the keeper alone.
 ///
-/// All is settled, and the received files are read, as many as are judged and held, and submitted
-/// to a hub in memory. Two settled hubs that received the same have the same board.
-///
-/// The new hub stands for the same files, and its mirror is read and changed as the lower keeper
-/// is.
+/// The keeper is only read: its received files, as many as are judged and held, are submitted to a
+/// hub in memory. Two hubs that received the same and judged as much of each custodian have the
+/// same board.
 pub fn mirrored<L: Inbox + Drop>(alloc: Global, seed: Seed, hub: Hub<L>) -> Hub<Mirror<L, MemShelf>>
     requires { IsNotJudging L.seen hub.keeper }
     ensures register { result.register ≡ hub.register }
     ensures remembers { RemembersNothing result }
     ensures idle { IsNotJudging seen_mirrored result.keeper }
-    ensures below { Advances (door_of hub.register) 0 (hub_seen L.seen hub)
-        (L.seen result.keeper.lower) }
+    ensures reads { OnlyReads (L.seen hub.keeper) (L.seen result.keeper.lower) }
     ensures stands { RestsBare L.seen
-        → CanBeMirrored (door_of hub.register) (hub_seen L.seen hub)
+        → CanBeMirrored (door_of hub.register) (L.seen hub.keeper)
         → (seen_mirrored result.keeper).unharmed
-        → StandsForRun (door_of hub.register) (hub_seen seen_mirrored result) }
+        → StandsForRun (door_of hub.register) (seen_mirrored result.keeper) }
 {
     mirrored_by(alloc, hub, MemShelf::new(alloc, seed))
 }
