@@ -53,7 +53,12 @@ def pages_for(store):
 
 
 def over_store(store, register):
-    """The words of a hub over the store in a file."""
+    """The words of a hub over the store in a file, with all that it keeps at hand, as the program serves."""
+    return [program("gaz_bench"), "at-hand", store, register]
+
+
+def over_tables(store, register):
+    """The words of a hub that reads from the store's tables."""
     return [program("gaz_bench"), "stored", store, register]
 
 
@@ -118,6 +123,7 @@ class Place:
         self.folder, self.register = folder, register or register_at(folder)
         self.empty = in_file(folder, "empty", b"")
         self.ours = functools.partial(over_store, register=self.register)
+        self.bare = functools.partial(over_tables, register=self.register)
 
     def in_memory(self, load, asked):
         words = [program("gaz_bench"), "play", self.register]
@@ -126,33 +132,42 @@ class Place:
     def in_store(self, store, asked, keeps=True):
         return Side(self.folder, self.ours, self.empty, in_file(self.folder, "asked", asked), store, keeps)
 
+    def in_tables(self, store, asked):
+        return Side(self.folder, self.bare, self.empty, in_file(self.folder, "asked", asked), store)
+
     def in_sqlite(self, store, asked, keeps=True):
         return Side(self.folder, over_sqlite, self.empty, in_file(self.folder, "asked", asked), store, keeps)
 
     def reading(self, title, load, asked, count, unit, most, name):
-        """Requests that change nothing, over a store that is opened and, more of them, over the keeper in memory; the plain hub answers once."""
+        """Requests that change nothing, over a store that is opened and over the keeper in memory, which are asked more of them, and from the store's tables.
+
+        The plain hub answers once.
+        """
         store = loaded(self.folder, name, self.ours, load)
-        (ours,), told = medians([self.in_store(store, asked)])
-        (memory,), more = medians([self.in_memory(load, asked * MORE)])
+        many = in_file(self.folder, "asked-more", asked * MORE)
+        ours, memory = Side(self.folder, self.ours, self.empty, many, store), self.in_memory(load, asked * MORE)
+        (ours, memory), more = medians([ours, memory])
+        (tables,), told = medians([self.in_tables(store, asked)])
         (plain,), same = medians([self.in_sqlite(store, asked)], rounds=1)
         assert told == same and told * MORE == more, "the hubs reply otherwise"
-        memory /= MORE
-        return title, f"{ours / memory:.2f} times the keeper in memory (at most {most})", f"{count / ours:,.0f} {unit}, {ours / plain:.2f} of sqlite3"
+        each = memory / MORE
+        yield title, f"{ours / memory:.2f} times the keeper in memory (at most {most})", f"{MORE * count / ours:,.0f} {unit}"
+        yield "the same from the tables", f"{tables / each:.2f} times the keeper in memory", f"{count / tables:,.0f} {unit}, {tables / plain:.2f} of sqlite3's time"
 
 
 def reading_rows(folder):
     place = Place(folder)
     load = b"".join(streams.gazetteer(homes=30_000))
     asked = streams.look_ups(LOOK_UPS, 7919, 30_000)
-    yield place.reading(f"{LOOK_UPS:,} look-ups over 60,000 records", load, asked, LOOK_UPS, "look-ups/s", 1.5, "s60")
+    yield from place.reading(f"{LOOK_UPS:,} look-ups over 60,000 records", load, asked, LOOK_UPS, "look-ups/s", 1.5, "s60")
     load = b"".join(streams.gazetteer(homes=25_000, each=500))
     asked = streams.get("/extract/1002/51") * EXTRACTS
-    yield place.reading("an extract of 50,000 items", load, asked, 50_000 * EXTRACTS, "items/s", 2, "s50")
+    yield from place.reading("an extract of 50,000 items", load, asked, 50_000 * EXTRACTS, "items/s", 2, "s50")
     load = b"".join(streams.gazetteer())
     asked = streams.get("/closed") * LISTS
-    yield place.reading("/closed over 50,000 addresses", load, asked, 50_000 * LISTS, "addresses/s", 2, "s100")
+    yield from place.reading("/closed over 50,000 addresses", load, asked, 50_000 * LISTS, "addresses/s", 2, "s100")
     one = streams.post((1001, 1), streams.STREET)
-    yield place.reading(f"{REPEATS:,} repeats of a small file", one, one * REPEATS, REPEATS, "repeats/s", 2, "s1")
+    yield from place.reading(f"{REPEATS:,} repeats of a small file", one, one * REPEATS, REPEATS, "repeats/s", 2, "s1")
 
 
 def volumes_alone(folder):
@@ -269,22 +284,25 @@ def growth_rows(folder):
 
 
 def opening_rows(folder):
-    """Opening a store of 100,000 items, beside the library's own opening of the file."""
+    """Opening a store of 100,000 items, and putting all at hand, beside the library's own opening of the file."""
     place = Place(folder)
     store = loaded(folder, "s100", place.ours, b"".join(streams.gazetteer()))
-    alone, ours = [], []
+    sides = [program("gaz_bench"), "opening", store, str(pages_for(store))], place.bare(store), place.ours(store)
+    spent = [[] for _ in sides]
     for _ in range(ROUNDS):
-        alone.append(seconds([program("gaz_bench"), "opening", store, str(pages_for(store))], place.empty, rounds=1)[0])
-        ours.append(seconds(place.ours(store), place.empty, rounds=1)[0])
-    ratio, size = statistics.median(ours) / statistics.median(alone), os.path.getsize(store)
-    yield "opening 100,000 items", f"{ratio:.2f} times the library's reading of the file (at most 1.3)", f"{statistics.median(ours):.2f} s for {size / 1e6:.0f} MB"
+        for times, words in zip(spent, sides):
+            times.append(seconds(words, place.empty, rounds=1)[0])
+    (alone, bare, ours), size = map(statistics.median, spent), os.path.getsize(store)
+    told = f"{bare:.2f} s for {size / 1e6:.0f} MB"
+    yield "opening 100,000 items", f"{bare / alone:.2f} times the library's reading of the file (at most 1.3)", told
+    yield "the same, and all put at hand", f"{ours / alone:.2f} times the library's reading of the file", f"{ours:.2f} s"
 
 
-def memory_of(place, store, homes):
+def memory_of(place, words_of, store, homes):
     """What a hub over a store has in memory once each property was looked up, and how much of it are pages."""
     asked = streams.look_ups(homes, 1, homes)
-    _, told = seconds(place.ours(store), in_file(place.folder, "asked", asked), rounds=1)
-    with Talk(place.ours(store)) as talk:
+    _, told = seconds(words_of(store), in_file(place.folder, "asked", asked), rounds=1)
+    with Talk(words_of(store)) as talk:
         talk.ask(asked, told)
         return talk.memory("VmRSS"), talk.memory("VmHWM"), PAGE * pages_for(store)
 
@@ -292,10 +310,11 @@ def memory_of(place, store, homes):
 def memory_rows(folder):
     place = Place(folder)
     few, many = (loaded(folder, f"m{homes}", place.ours, b"".join(streams.gazetteer(homes))) for homes in (2_500, 50_000))
-    (low, _, small), (high, most, large) = memory_of(place, few, 2_500), memory_of(place, many, 50_000)
-    beside = ((high - large) - (low - small)) / 95_000
-    told = f"{high / 1e6:.0f} MB, {large / 1e6:.0f} MB of them pages, at most {most / 1e6:.0f} MB"
-    yield "memory beside the page cache", f"{beside:,.0f} bytes an item (at most 600)", told
+    for title, words_of in (("memory beside the page cache", place.ours), ("the same from the tables", place.bare)):
+        (low, _, small), (high, most, large) = memory_of(place, words_of, few, 2_500), memory_of(place, words_of, many, 50_000)
+        beside = ((high - large) - (low - small)) / 95_000
+        told = f"{high / 1e6:.0f} MB, {large / 1e6:.0f} MB of them pages, at most {most / 1e6:.0f} MB"
+        yield title, f"{beside:,.0f} bytes an item (at most 600)", told
 
 
 PARTS = (reading_rows, files_rows, one_by_one_rows, rejected_rows, growth_rows, opening_rows, memory_rows)

@@ -6,6 +6,7 @@
 //! `gaz_bench stored STORE REGISTER` answers the requests on standard input at a hub of the register in a file, over the store in a file, which is
 //! made where there is none; `gaz_bench stored-each STORE REGISTER` takes pieces of a stream, each behind a line with its length in bytes, and
 //! opens and closes the store for each of them. Why there is no store is said on standard error, as `gaz_bench: BadSchema`, and the status is 3.
+//! `gaz_bench at-hand STORE REGISTER` does as `stored` with all that the store keeps at hand in memory, as the program does.
 //! A fourth word of `stored` is the most steps that a statement over the opened store may take. As many pages are kept at hand as the program keeps.
 //! `gaz_bench floor FILE ROWS PAGES` makes a store in a file, with a cache of so many pages, fills it with so many rows and asks for them by the
 //! statements of the tables alone. It prints a line a statement: its name, how often it ran, how many rows it made or found, and the nanoseconds of
@@ -34,6 +35,7 @@ use gaz_ids::{Code, Volume};
 use gaz_records::Kind;
 use gaz_register::Register;
 use gaz_store::StoreRefusal;
+use gaz_stored::ReadFrom;
 use judging::{judging_calls, judging_micros};
 use keeping::keeping_micros;
 use playing::play;
@@ -202,7 +204,11 @@ fn main(rt: HostRuntime) -> Result<ExitCode> {
         return Ok(ExitCode::SUCCESS);
     };
     let refusal = match (word.as_str(), &other) {
-        ("stored", Some(register)) => stored(&rt, &given, register, number_in(words.next())?)?,
+        ("stored", Some(register)) => {
+            let steps = number_in(words.next())?;
+            stored(&rt, &given, register, steps, ReadFrom::Tables)?
+        }
+        ("at-hand", Some(register)) => stored(&rt, &given, register, None, ReadFrom::Memory)?,
         ("stored-each", Some(register)) => stored_each(&rt, &given, register)?,
         ("floor" | "volumes", Some(count)) => {
             print_floor(&rt, &word, &given, count, words.next())?;

@@ -6,7 +6,7 @@ use gaz_exchange::{Served, Stopped};
 use gaz_register::Register;
 use gaz_shelf::Seed;
 use gaz_store::StoreRefusal;
-use gaz_stored::{HandedBack, answer_new, answer_opened};
+use gaz_stored::{HandedBack, ReadFrom, answer_new, answer_opened};
 use sqlite::{Alter, Connection, File, FileStore, Options, Unknown};
 use std::alloc::Global;
 use std::io::{BufWriter, Read, Write};
@@ -43,14 +43,15 @@ fn answer<S: Alter + Drop, R: Read, W: Write>(
     conn: Connection<S>,
     register: Register,
     beginning: Beginning,
+    read_from: ReadFrom,
     r: &mut R,
     w: &mut W,
 ) -> Result<HandedBack<S>> {
     rests(&conn)?;
     let seed = Seed::of(1);
     Ok(match beginning {
-        Beginning::Made => answer_new(alloc, seed, conn, register, r, w, MOST),
-        Beginning::Opened => answer_opened(alloc, seed, conn, register, r, w, MOST),
+        Beginning::Made => answer_new(alloc, seed, conn, register, read_from, r, w, MOST),
+        Beginning::Opened => answer_opened(alloc, seed, conn, register, read_from, r, w, MOST),
     })
 }
 
@@ -98,6 +99,7 @@ fn answer_at<R: Read, W: Write>(
     path: &str,
     register: Register,
     steps: Option<u64>,
+    read_from: ReadFrom,
     r: &mut R,
     w: &mut W,
 ) -> Result<Option<StoreRefusal>> {
@@ -106,7 +108,7 @@ fn answer_at<R: Read, W: Write>(
         return Ok(Some(StoreRefusal::Fault));
     };
     conn.set_step_limit(steps);
-    let left = answer(rt.alloc(), conn, register, beginning, r, w)?;
+    let left = answer(rt.alloc(), conn, register, beginning, read_from, r, w)?;
     left.conn.close()?;
     refusal_of(left.held)
 }
@@ -122,10 +124,12 @@ pub fn stored(
     path: &str,
     register: &str,
     steps: Option<u64>,
+    read_from: ReadFrom,
 ) -> Result<Option<StoreRefusal>> {
     let register = register_in(rt, register)?;
     let mut w = BufWriter::new(rt.alloc(), io::writer(rt))?;
-    answer_at(rt, path, register, steps, &mut rt.reader(), &mut w)
+    let mut r = rt.reader();
+    answer_at(rt, path, register, steps, read_from, &mut r, &mut w)
 }
 
 /// The first piece of what is left, and what is behind it: a line has its length in bytes, and the
@@ -154,6 +158,7 @@ pub fn stored_each(rt: &HostRuntime, path: &str, register: &str) -> Result<Optio
             path,
             register_in(rt, register)?,
             None,
+            ReadFrom::Tables,
             &mut piece,
             &mut w,
         )?;

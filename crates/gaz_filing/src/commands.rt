@@ -70,5 +70,5 @@ pub fn attend(
         return Err(NoHub::Store(StoreRefusal::Fault));
     };
     let hub = taken(rt.alloc(), files, options, seed, register)?;
-    Attending::at(rt, hub, port)
+    Attending::at(rt, seed, hub, port)
 }

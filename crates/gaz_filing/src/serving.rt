@@ -5,8 +5,9 @@ ghost use Rattle.gaz_shelf.specs.Telling.{IsNotJudging};
 ghost use Rattle.gaz_store.specs.Store.{seen_in};
 
 use crate::files::NoHub;
-use crate::stores::{close, open_hub};
+use crate::stores::{close_store, open_hub};
 use gaz_hub::Hub;
+use gaz_mirrored::mirrored;
 use gaz_register::Register;
 use gaz_serving::serve_on;
 use gaz_shelf::{Inbox, Seed};
@@ -20,6 +21,7 @@ use std::net::{Ipv4Addr, TcpListener};
 /// A hub over the store in a file, and where its connections come.
 #[derive(Drop)]
 pub struct Attending {
+    seed: Seed,
     hub: Hub<Store<FileStore<File>>>,
     listener: TcpListener,
     ghost idle: { IsNotOpen (seen_in hub.keeper).progress },
@@ -44,30 +46,38 @@ pub(crate) fn taken<D: Disk + Drop>(
     }
 }
 
-// Answers connections over a hub.
-fn serve_hub<K: Inbox + Drop>(
+// Answers connections over a hub with all that its keeper keeps at hand, where memory allows and all
+// could be settled; the keeper is what is left. It is so of any keeper, since a mirror at a store's
+// own type takes more steps than the prover allows.
+fn serve_at_hand<K: Inbox + Drop>(
     alloc: Global,
+    seed: Seed,
     listener: &TcpListener,
-    hub: &mut Hub<K>,
+    hub: Hub<K>,
     connections: u64,
-)
-    requires { IsNotJudging K.seen hub.old.keeper }
+) -> K
+    requires { IsNotJudging K.seen hub.keeper }
 {
-    serve_on(alloc, listener, hub, connections);
+    let mut hub = hub;
+    let _settled = hub.settle();
+    let mut hub = mirrored(alloc, seed, hub);
+    serve_on(alloc, listener, &mut hub, connections);
+    let (_register, mirror) = hub.into_parts();
+    let (keeper, _at_hand) = mirror.into_parts();
+    keeper
 }
 
 // Answers connections over a hub, whose store is then closed.
 fn serve_last<D: Disk + Drop>(
     alloc: Global,
+    seed: Seed,
     listener: &TcpListener,
     hub: Hub<Store<FileStore<D>>>,
     connections: u64,
 )
     requires { IsNotOpen (seen_in hub.keeper).progress }
 {
-    let mut hub = hub;
-    serve_hub(alloc, listener, &mut hub, connections);
-    close(hub);
+    close_store(serve_at_hand(alloc, seed, listener, hub, connections));
 }
 
 impl Attending {
@@ -76,13 +86,18 @@ impl Attending {
     /// `NoPort` where it can't be had.
     pub(crate) fn at(
         rt: &HostRuntime,
+        seed: Seed,
         hub: Hub<Store<FileStore<File>>>,
         port: u16,
     ) -> Result<Attending, NoHub>
         requires { IsNotOpen (seen_in hub.keeper).progress }
     {
         match TcpListener::bind(rt, (Ipv4Addr::LOCALHOST, port)) {
-            Ok(listener) => Ok(Attending { hub, listener }),
+            Ok(listener) => Ok(Attending {
+                seed,
+                hub,
+                listener,
+            }),
             Err(_) => Err(NoHub::NoPort),
         }
     }
@@ -94,10 +109,14 @@ impl Attending {
         w.flush()
     }
 
-    /// Answers so many connections, one after the other, and closes the store: see `serve_on` of
-    /// `gaz_serving`.
+    /// Puts all that the store keeps at hand, where memory allows, answers so many connections, one
+    /// after the other, and closes the store: see `serve_on` of `gaz_serving`.
     pub fn serve(self, alloc: Global, connections: u64) {
-        let Attending { hub, listener } = self;
-        serve_last(alloc, &listener, hub, connections);
+        let Attending {
+            seed,
+            hub,
+            listener,
+        } = self;
+        serve_last(alloc, seed, &listener, hub, connections);
     }
 }

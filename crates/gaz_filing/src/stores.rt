@@ -33,14 +33,14 @@ fn connect<D: Disk + Drop>(
     }
 }
 
-// Closes a store's files. What was answered is in its log, where the next opening finds it, even if
-// it can't be copied into the database now.
-fn close_store<D: Disk + Drop>(store: Store<FileStore<D>>) {
+/// Closes a store's files. What was answered is in its log, where the next opening finds it, even
+/// if it can't be copied into the database now.
+pub(crate) fn close_store<D: Disk + Drop>(store: Store<FileStore<D>>) {
     let _copied = store.into_connection().close();
 }
 
-/// The same of the store that a hub is over.
-pub fn close<D: Disk + Drop>(hub: Hub<Store<FileStore<D>>>) {
+// The same of the store that a hub is over.
+fn close<D: Disk + Drop>(hub: Hub<Store<FileStore<D>>>) {
     let (_register, store) = hub.into_parts();
     close_store(store);
 }

@@ -1,17 +1,22 @@
 -- What is told of a hub that remembered nothing at first is told of its keeper.
-use Rattle.std.proofs.Common.{◌≡◌, ℕ, List, subst}
+use Rattle.std.proofs.Common.{◌≡◌, ℕ, List, [], ◌∷◌, subst}
 use Rattle.std.specs.Prelude.{Option, None, Result}
 use Rattle.gaz_exchange.specs.Conversing.{Conversation, Transfer}
 use Rattle.gaz_exchange.specs.declared.conversation.Served.{Served}
 use Rattle.gaz_exchange.specs.declared.conversation.Stopped.{Stopped}
-use Rattle.gaz_hub.specs.Hubs.{Runs}
-use Rattle.gaz_hub.specs.Step.{Command, Door, Response}
+use Rattle.gaz_hub.specs.Hubs.{Runs, Steps, door_of}
+use Rattle.gaz_hub.specs.Seen.{hub_seen}
+use Rattle.gaz_hub.specs.Step.{Command, Door, Pose, Replied, Response, Settle}
+use Rattle.gaz_hub.specs.declared.hub.Hub.{Hub}
+use Rattle.gaz_hub.specs.declared.refusal.Refusal.{Refusal}
+use Rattle.gaz_hub.proofs.HubRuns.{runs_one}
+use Rattle.gaz_mirrored.proofs.Filled.{over_parts}
 use Rattle.gaz_hub.specs.Waiting.{Remembered, remembering}
 use Rattle.gaz_register.specs.Registers.{RegisterValue}
 use Rattle.gaz_shelf.specs.Keeper.{Seen}
 
 module _ (d : Door) (register other : RegisterValue) (waiters : Option Remembered) (a c : Seen) where
-  runs_alone : (commands : List Command) (responses : List Response) → Runs d (remembering register None a) (remembering other waiters c) commands responses → Runs d a c commands responses
+  pub runs_alone : (commands : List Command) (responses : List Response) → Runs d (remembering register None a) (remembering other waiters c) commands responses → Runs d a c commands responses
   runs_alone commands responses l =
       record {
         harm = l.harm;
@@ -42,3 +47,13 @@ module _ (d : Door) (register other : RegisterValue) (waiters : Option Remembere
         comes_to = l.comes_to;
         answers_all = l.answers_all;
       }
+
+-- a hub over a store was told to settle, when it remembered nothing
+pub settles_alone : {K : Type 0} (seen : K → Seen) (register : RegisterValue) (hub new : Hub K) (first last : K) (told : Result (Unit {0}) Refusal) → hub.register ≡ register → hub.keeper ≡ first → hub.waiters ≡ None
+    → new.keeper ≡ last → Steps (door_of hub.register) (hub_seen seen hub) (hub_seen seen new) (Pose Settle) (Replied Settle told)
+    → Runs (door_of register) (seen first) (seen last) (Pose Settle ∷ []) (Replied Settle told ∷ [])
+settles_alone seen register hub new first last told e f fresh back steps =
+    let one = runs_one (door_of hub.register) (hub_seen seen hub) (hub_seen seen new) (Pose Settle) (Replied Settle told) steps in
+    let over = over_parts seen (λ r s. Runs (door_of r) s (hub_seen seen new) (Pose Settle ∷ []) (Replied Settle told ∷ [])) hub register first e f fresh one in
+    subst (λ k. Runs (door_of register) (seen first) (seen k) (Pose Settle ∷ []) (Replied Settle told ∷ [])) back
+    (runs_alone (door_of register) register new.register new.waiters (seen first) (seen new.keeper) (Pose Settle ∷ []) (Replied Settle told ∷ []) over)

@@ -1,5 +1,5 @@
 -- What is said of a conversation over a store, from the connection that is given to the one that is handed back.
-use Rattle.std.proofs.Common.{ℕ, refl, subst}
+use Rattle.std.proofs.Common.{◌≡◌, ℕ, [], ◌∷◌, refl, subst}
 use Rattle.std.specs.Prelude.{Ok, Result}
 use Rattle.sqlite.specs.Held.{Held, state}
 use Rattle.sqlite_trees.specs.declared.store.Store.{Ghosts}
@@ -11,53 +11,101 @@ use Rattle.gaz_store.specs.Opened.{IsMade, IsOpened}
 use Rattle.gaz_store.specs.Seen.{IsUnharmed}
 use Rattle.gaz_store.specs.Store.{seen_in}
 use Rattle.gaz_store.specs.declared.store.Store.{Store}
-use Rattle.gaz_hub.specs.Hubs.{door_of}
-use Rattle.gaz_hub.specs.Step.{new_hub}
-use Rattle.gaz_hub.proofs.Runs.{abides_after}
+use Rattle.gaz_shelf.specs.Mem.{seen_in as memory}
+use Rattle.gaz_hub.specs.Hubs.{Runs, door_of, state_of}
+use Rattle.gaz_hub.specs.Laws.{StandsForRun}
+use Rattle.gaz_hub.specs.Step.{Door, Pose, Replied, Settle, new_hub}
+use Rattle.gaz_hub.specs.declared.refusal.Refusal.{Refusal}
+use Rattle.gaz_hub.proofs.HubRuns.{runs_then}
+use Rattle.gaz_hub.proofs.Runs.{abides_after, every_run_from_holds}
 use Rattle.gaz_exchange.specs.Conversing.{Transfer}
 use Rattle.gaz_exchange.specs.Exchanges.{commands_of, responses_of}
 use Rattle.gaz_exchange.specs.declared.conversation.Served.{Served}
 use Rattle.gaz_exchange.specs.declared.conversation.Stopped.{Stopped}
-use Rattle.gaz_stored.specs.Answering.{AnswersNew, AnswersOpened, Converses}
+use Rattle.gaz_stored.specs.Answering.{AnswersNew, AnswersOpened, Converses, Settles}
 use Rattle.gaz_stored.specs.Runs.{GoesOn, StandForRun, hub_in}
 use Rattle.gaz_stored.specs.Stopping.{FindsLater}
-use Rattle.gaz_stored.proofs.Going.{goes_on_new, goes_on_opened}
+use Rattle.gaz_stored.proofs.Going.{begins_new, begins_opened, goes_on_new, goes_on_opened}
+use Rattle.gaz_stored.proofs.Below.{runs_below}
 use Rattle.gaz_stored.proofs.Stopping.{finds_new, finds_opened}
 
-module _ {S : Type 0} {g : Ghosts S} (register : RegisterValue) (most : ℕ) (through : Transfer) (first : Store S g) (before after : Held S) (ended : Result Served Stopped)
-    (told : Converses register most through first after ended) where
-  pub answers_new : IsMade (state g before) (state g first.tables.conn) (register_text register) (seen_in first) → AnswersNew g register most through before after ended
-  answers_new made =
+module _ {S : Type 0} {g : Ghosts S} (register : RegisterValue) (most : ℕ) (through : Transfer) (first : Store S g) (before after : Held S) (ended : Result Served Stopped) where
+  abbrev d : Door
+  d = door_of register
+
+  -- a conversation over a store that is mirrored is one over the store
+  over_store : (told : Converses register most through first after ended) → ((seen_in first).unharmed → StandsForRun d (seen_in first))
+      → Runs d (seen_in first) (seen_in told.last.lower) (commands_of told.conversation.exchanges) (responses_of told.conversation.exchanges)
+  over_store told was =
+      runs_below memory d (seen_in first) (seen_in told.begun.lower) (seen_in told.last.lower) told.begun.upper told.last.upper _ _ told.reads was told.mirrors told.conversation.runs
+
+  pub answers_new : Converses register most through first after ended → IsMade (state g before) (state g first.tables.conn) (register_text register) (seen_in first)
+      → AnswersNew g register most through before after ended
+  answers_new told made =
       let commands = commands_of told.conversation.exchanges in
       let responses = responses_of told.conversation.exchanges in
+      let text = register_text register in
+      let runs : IsBare no_schema (state g before).now → Runs d (seen_in first) (seen_in told.last.lower) commands responses =
+      λ bare. over_store told (λ fine. begins_new register first fine (state g before) text made bare) in
       let goes =
       subst (λ h. IsUnharmed (state g h) → IsBare no_schema (state g before).now → GoesOn register new_hub commands responses (state g h).now) told.back
-      (λ fine bare. goes_on_new register first told.last commands responses told.conversation.runs fine (state g before) (register_text register) made bare) in
+      (λ fine bare. goes_on_new register first told.last.lower commands responses (runs bare) fine (state g before) text made bare) in
       record {
         first = first;
         made = made;
         converses = told;
         goes_on = goes;
-        abides = λ fine bare. abides_after (door_of register) new_hub commands responses (hub_in (state g after).now) refl (goes fine bare).abides;
+        abides = λ fine bare. abides_after d new_hub commands responses (hub_in (state g after).now) refl (goes fine bare).abides;
         stops = λ is_fine bare.
             subst (λ h. FindsLater register new_hub commands responses (state g h)) told.back
-            (finds_new register first told.last commands responses told.conversation.runs is_fine (state g before) (register_text register) made bare);
+            (finds_new register first told.last.lower commands responses (runs bare) is_fine (state g before) text made bare);
       }
 
-  pub answers_opened : IsOpened (state g before) (state g first.tables.conn) (register_text register) (seen_in first) → Tells g before first.tables.conn (Ok tt) (register_text register)
+-- a store that stood for a partial run does after settling
+settled_stands : {S : Type 0} {g : Ghosts S} (register : RegisterValue) (old new : Store S g) (told : Result (Unit {0}) Refusal) → Settles register old new told
+    → ((seen_in old).unharmed → StandsForRun (door_of register) (seen_in old)) → (seen_in new).unharmed → StandsForRun (door_of register) (seen_in new)
+settled_stands register old new told settles was fine =
+    let d = door_of register in
+    let stood = was (settles.harm fine) in
+    record {
+      stands = settles.stands stood.stands fine;
+      partial = (every_run_from_holds d (state_of (seen_in old).content) (state_of (seen_in new).content) (Pose Settle ∷ []) (Replied Settle told ∷ []) stood.partial (settles.run stood.stands fine)).partial;
+    }
+
+module _ {S : Type 0} {g : Ghosts S} (register : RegisterValue) (most : ℕ) (through : Transfer) (first settled : Store S g) (told_settled : Result (Unit {0}) Refusal) (before after : Held S)
+    (ended : Result Served Stopped) where
+  pub answers_opened : Settles register first settled told_settled → Converses register most through settled after ended
+      → IsOpened (state g before) (state g first.tables.conn) (register_text register) (seen_in first) → Tells g before first.tables.conn (Ok tt) (register_text register)
       → AnswersOpened g register most through before after ended
-  answers_opened opened told_before =
+  answers_opened settles told opened told_before =
+      let d = door_of register in
+      let text = register_text register in
       let commands = commands_of told.conversation.exchanges in
       let responses = responses_of told.conversation.exchanges in
+      let all = Pose Settle ∷ commands in
+      let replies = Replied Settle told_settled ∷ responses in
+      let last = told.last.lower in
+      let runs : StandForRun register (state g before).now → Runs d (seen_in first) (seen_in last) all replies =
+      λ stood. runs_then d (seen_in first) (seen_in settled) (seen_in last) (Pose Settle ∷ []) commands (Replied Settle told_settled ∷ []) responses settles
+      (over_store register most through settled before after ended told (settled_stands register first settled told_settled settles (λ fine. begins_opened register first fine (state g before) text opened stood)))
+      in
       record {
         first = first;
+        settled = settled;
+        told_settled = told_settled;
         opened = opened;
         told = told_before;
+        settles = settles;
         converses = told;
         goes_on =
-            subst (λ h. IsUnharmed (state g h) → StandForRun register (state g before).now → GoesOn register (hub_in (state g before).now) commands responses (state g h).now) told.back
-            (λ fine stood. goes_on_opened register first told.last commands responses told.conversation.runs fine (state g before) (register_text register) opened stood);
+            subst (λ h. IsUnharmed (state g h) → StandForRun register (state g before).now → GoesOn register (hub_in (state g before).now) all replies (state g h).now) told.back
+            (λ fine stood. goes_on_opened register first last all replies (runs stood) fine (state g before) text opened stood);
         stops = λ is_fine stood itself.
-            subst (λ h. FindsLater register (hub_in (state g before).now) commands responses (state g h)) told.back
-            (finds_opened register first told.last commands responses told.conversation.runs is_fine (state g before) (register_text register) opened stood itself);
+            subst (λ h. FindsLater register (hub_in (state g before).now) all replies (state g h)) told.back
+            (finds_opened register first last all replies (runs stood) is_fine (state g before) text opened stood itself);
       }
+
+-- the register that settling handed back is the one that was given
+pub of_register : {S : Type 0} {g : Ghosts S} (register was : RegisterValue) (most : ℕ) (through : Transfer) (settled : Store S g) (after : Held S) (ended : Result Served Stopped) → was ≡ register
+    → Converses was most through settled after ended → Converses register most through settled after ended
+of_register register was most through settled after ended same = subst (λ r. Converses r most through settled after ended) same

@@ -1,4 +1,5 @@
 mod Alone
+mod Below
 mod Going
 mod Stopping
 mod Answered

@@ -1,5 +1,5 @@
 -- What a stop leaves of a conversation over a store.
-use Rattle.std.proofs.Common.{◌≡◌, ◌∙◌, ◌⊎◌, inl, inr, ℕ, List, refl, ap, subst, sym}
+use Rattle.std.proofs.Common.{◌≡◌, ◌∙◌, inl, inr, ℕ, List, refl, ap, subst, sym}
 use Rattle.sqlite.specs.Effect.{Database}
 use Rattle.sqlite.specs.Held.{state}
 use Rattle.sqlite.specs.State.{HasCleanDisk, State}
@@ -8,20 +8,19 @@ use Rattle.gaz_register.specs.Registers.{RegisterValue}
 use Rattle.gaz_views.specs.View.{empty_view}
 use Rattle.gaz_shelf.specs.Keeper.{Content, LeavesOnly, after_stop}
 use Rattle.gaz_tables.specs.Creating.{IsBare, no_schema}
-use Rattle.gaz_tables.specs.Schema.{store_schema}
 use Rattle.gaz_kept.specs.Contents.{content_in}
 use Rattle.gaz_kept.specs.Kept.{IsKept}
 use Rattle.gaz_store.specs.Opened.{IsMade, IsOpened}
 use Rattle.gaz_store.specs.Seen.{IsUnharmed, LeavesKept}
 use Rattle.gaz_store.specs.Store.{seen_in}
 use Rattle.gaz_store.specs.declared.store.Store.{Store}
-use Rattle.gaz_hub.specs.Found.{HasFilesAfter, IsFound}
+use Rattle.gaz_hub.specs.Found.{HasFilesAfter}
 use Rattle.gaz_hub.specs.Hubs.{Runs, door_of, state_of}
 use Rattle.gaz_hub.specs.Laws.{StandsForRun}
 use Rattle.gaz_hub.specs.Step.{Command, HubState, Response, new_hub}
 use Rattle.gaz_hub.proofs.Finding.{every_stop_over}
 use Rattle.gaz_stored.specs.Runs.{StandForRun, hub_in}
-use Rattle.gaz_stored.specs.Stopping.{FindsLater, IsFoundLater, LeavesItself, MayBeLeft}
+use Rattle.gaz_stored.specs.Stopping.{FindsLater, LeavesItself}
 use Rattle.gaz_stored.proofs.Going.{begins_new, begins_opened}
 
 -- databases of equal parts are equal

@@ -1,5 +1,5 @@
 -- A conversation over a database, from the connection that is given to the one that is handed back.
-use Rattle.std.specs.Prelude.{◌≡◌, ℕ, Ok, Result}
+use Rattle.std.specs.Prelude.{◌≡◌, ℕ, [], ◌∷◌, Ok, Result}
 use Rattle.std.specs.Io.KnownBytes.{Keeps}
 use Rattle.sqlite.specs.Held.{Held, state}
 use Rattle.sqlite_trees.specs.declared.store.Store.{Ghosts}
@@ -11,9 +11,16 @@ use Rattle.gaz_store.specs.Opened.{IsMade, IsOpened, IsRefused}
 use Rattle.gaz_store.specs.Seen.{IsUnharmed}
 use Rattle.gaz_store.specs.Store.{seen_in}
 use Rattle.gaz_store.specs.declared.store.Store.{Store}
-use Rattle.gaz_hub.specs.Hubs.{door_of}
+use Rattle.gaz_shelf.specs.Mem.{seen_in as memory}
+use Rattle.gaz_shelf.specs.declared.mem_shelf.MemShelf.{MemShelf}
+use Rattle.gaz_hub.specs.Hubs.{Runs, door_of}
+use Rattle.gaz_hub.specs.Laws.{StandsForRun}
 use Rattle.gaz_hub.specs.Runs.{Abides}
-use Rattle.gaz_hub.specs.Step.{new_hub}
+use Rattle.gaz_hub.specs.Step.{Pose, Replied, Settle, new_hub}
+use Rattle.gaz_hub.specs.declared.refusal.Refusal.{Refusal}
+use Rattle.gaz_mirror.specs.Mirrored.{seen_mirrored}
+use Rattle.gaz_mirror.specs.declared.mirror.Mirror.{Mirror}
+use Rattle.gaz_mirrored.specs.Comparing.{OnlyReads}
 use Rattle.gaz_exchange.specs.Conversing.{Conversation, Transfer}
 use Rattle.gaz_exchange.specs.Exchanges.{commands_of, responses_of}
 use Rattle.gaz_exchange.specs.declared.conversation.Served.{Served}
@@ -21,15 +28,31 @@ use Rattle.gaz_exchange.specs.declared.conversation.Stopped.{Stopped}
 use Rattle.gaz_stored.specs.Runs.{GoesOn, StandForRun, hub_in}
 use Rattle.gaz_stored.specs.Stopping.{FindsLater, LeavesItself}
 
--- a hub of this register answers at most so many requests over a store, of which this connection is
--- left
+-- a store, with all of it at hand or without
+abbrev pub Mirrored : {S : Type 0} → Ghosts S → Type 0
+Mirrored {S} g = Mirror (Store S g) MemShelf (record { seen = seen_in }) (record { seen = memory })
+
+-- a hub of this register answers at most so many requests over a store that is mirrored, of which
+-- this connection is left
 pub record Converses {S : Type 0} {g : Ghosts S} (register : RegisterValue) (most : ℕ)
     (through : Transfer) (first : Store S g) (after : Held S) (ended : Result Served Stopped)
     : Type 0 where
-  pub last : Store S g
-  pub back : last.tables.conn ≡ after
-  pub conversation : Conversation (door_of register) most through (seen_in first) (seen_in last)
-      ended
+  pub begun : Mirrored g
+  pub last : Mirrored g
+  -- to put all at hand it was only read, and what is at hand is what it stood for
+  pub reads : OnlyReads (seen_in first) (seen_in begun.lower)
+  pub mirrors : StandsForRun (door_of register) (seen_in first) → (seen_mirrored begun).unharmed
+      → StandsForRun (door_of register) (seen_mirrored begun)
+  pub conversation : Conversation (door_of register) most through (seen_mirrored begun)
+      (seen_mirrored last) ended
+  pub back : last.lower.tables.conn ≡ after
+
+-- a hub of this register was asked to settle, and told this
+abbrev pub Settles : {S : Type 0} → {g : Ghosts S} → RegisterValue → Store S g → Store S g
+    → Result (Unit {0}) Refusal → Type 0
+Settles register old new told =
+    Runs (door_of register) (seen_in old) (seen_in new) (Pose Settle ∷ [])
+    (Replied Settle told ∷ [])
 
 -- Below, before and after are the connection that is given and the one that is handed back. What is
 -- said of the tables is said where the disk stayed clean and the connection is open in the end.
@@ -58,23 +81,29 @@ pub record AnswersNew {S : Type 0} (g : Ghosts S) (register : RegisterValue) (mo
 pub record AnswersOpened {S : Type 0} (g : Ghosts S) (register : RegisterValue) (most : ℕ)
     (through : Transfer) (before after : Held S) (ended : Result Served Stopped) : Type 0 where
   pub first : Store S g
+  pub settled : Store S g
+  pub told_settled : Result (Unit {0}) Refusal
   pub opened : IsOpened (state g before) (state g first.tables.conn) (register_text register)
       (seen_in first)
   -- the only row of `meta` was of this register
   pub told : Tells g before first.tables.conn (Ok tt) (register_text register)
-  pub converses : Converses register most through first after ended
+  -- the hub settles first
+  pub settles : Settles register first settled told_settled
+  pub converses : Converses register most through settled after ended
   -- where the tables stand for a partial run, the hub begins with that
   pub goes_on : IsUnharmed (state g after) → StandForRun register (state g before).now
       → GoesOn register (hub_in (state g before).now)
-      (commands_of converses.conversation.exchanges)
-      (responses_of converses.conversation.exchanges) (state g after).now
+      (Pose Settle ∷ commands_of converses.conversation.exchanges)
+      (Replied Settle told_settled ∷ responses_of converses.conversation.exchanges)
+      (state g after).now
   -- where a stop left just these tables at the beginning and the connection is open once the store
   -- is opened: what a stop leaves at the end
   pub stops : IsUnharmed (state g first.tables.conn) → StandForRun register (state g before).now
       → LeavesItself (state g before)
       → FindsLater register (hub_in (state g before).now)
-      (commands_of converses.conversation.exchanges)
-      (responses_of converses.conversation.exchanges) (state g after)
+      (Pose Settle ∷ commands_of converses.conversation.exchanges)
+      (Replied Settle told_settled ∷ responses_of converses.conversation.exchanges)
+      (state g after)
 
 -- no conversation is held: nothing is read or written, and the connection is handed back over what
 -- was there

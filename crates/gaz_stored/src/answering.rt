@@ -5,13 +5,16 @@ ghost use Rattle.gaz_register.specs.Texts.{register_text};
 ghost use Rattle.gaz_shelf.specs.Keeper.{IsNotOpen};
 ghost use Rattle.gaz_kept.specs.Opening.{Judges, Tells, has_all, has_any};
 ghost use Rattle.gaz_store.specs.Store.{seen_in};
+ghost use Rattle.gaz_hub.specs.Hubs.{or_not_received};
 ghost use Rattle.gaz_exchange.specs.Conversing.{transfer};
 ghost use Rattle.gaz_stored.specs.Answering.{AnswersNew, AnswersOpened, Converses, HoldsNone};
+ghost use Rattle.gaz_stored.specs.Answering.{Settles};
 
+use crate::mirroring::{ReadFrom, mirror};
 use gaz_exchange::{Served, Stopped, converse};
 use gaz_hub::Hub;
 use gaz_register::Register;
-use gaz_shelf::Seed;
+use gaz_shelf::{MemShelf, Seed, ShelfFault};
 use gaz_store::{Store, StoreRefusal};
 use sqlite::{Alter, Connection};
 use std::alloc::Global;
@@ -22,6 +25,8 @@ use std::io::{Read, Write};
 pub struct HandedBack<S: Alter + Drop> {
     /// The connection, outside a transaction.
     pub conn: Connection<S>,
+    /// What was at hand at last, to be freed, or forgotten by a program that ends.
+    pub at_hand: Option<MemShelf>,
     /// How the conversation ended, or why none was held.
     pub held: Result<Result<Served, Stopped>, StoreRefusal>,
 }
@@ -29,21 +34,42 @@ pub struct HandedBack<S: Alter + Drop> {
 // Holds a conversation over a store.
 fn converse_over<S: Alter + Drop, R: Read, W: Write>(
     alloc: Global,
+    seed: Seed,
     store: Store<S>,
     register: Register,
+    read_from: ReadFrom,
     r: &mut R,
     w: &mut W,
     most: u64,
-) -> (Connection<S>, Result<Served, Stopped>)
+) -> (Connection<S>, Option<MemShelf>, Result<Served, Stopped>)
     requires { IsNotOpen (seen_in store).progress }
     ensures over { result.0.in_transaction ≡ false }
     ensures converses { Converses register most
-        (transfer R.remaining W.contents r.old r.new w.old w.new) store result.0 result.1 }
+        (transfer R.remaining W.contents r.old r.new w.old w.new) store result.0 result.2 }
+{
+    let hub = Hub::new(alloc, register, store);
+    let mut hub = mirror(alloc, seed, hub, read_from);
+    let ended = converse(alloc, r, w, &mut hub, most);
+    let (_register, mirror) = hub.into_parts();
+    let (store, at_hand) = mirror.into_parts();
+    (store.into_connection(), at_hand, ended)
+}
+
+// Judges what is ready in a store, and whether that went well.
+fn settle<S: Alter + Drop>(
+    alloc: Global,
+    register: Register,
+    store: Store<S>,
+) -> (Register, Store<S>, Result<(), ShelfFault>)
+    requires { IsNotOpen (seen_in store).progress }
+    ensures register { result.0 ≡ register }
+    ensures idle { IsNotOpen (seen_in result.1).progress }
+    ensures settles { Settles register store result.1 (or_not_received result.2) }
 {
     let mut hub = Hub::new(alloc, register, store);
-    let ended = converse(alloc, r, w, &mut hub, most);
-    let (_register, store) = hub.into_parts();
-    (store.into_connection(), ended)
+    let settled = hub.settle();
+    let (register, store) = hub.into_parts();
+    (register, store, settled)
 }
 
 /// Makes a store of a register in the empty database behind a connection outside a transaction, and
@@ -57,6 +83,7 @@ pub fn answer_new<S: Alter + Drop, R: Read, W: Write>(
     seed: Seed,
     conn: Connection<S>,
     register: Register,
+    read_from: ReadFrom,
     r: &mut R,
     w: &mut W,
     most: u64,
@@ -73,21 +100,26 @@ pub fn answer_new<S: Alter + Drop, R: Read, W: Write>(
 {
     match Store::create(alloc, seed, conn, &register) {
         Ok(store) => {
-            let (conn, ended) = converse_over(alloc, store, register, r, w, most);
+            let (conn, at_hand, ended) = converse_over(
+                alloc, seed, store, register, read_from, r, w, most,
+            );
             HandedBack {
                 conn,
+                at_hand,
                 held: Ok(ended),
             }
         }
         Err((conn, refusal)) => HandedBack {
             conn,
+            at_hand: None,
             held: Err(refusal),
         },
     }
 }
 
-/// Takes the database behind a connection outside a transaction as the store of a register, and
-/// answers the requests of a stream over it, at most `most` of them.
+/// Takes the database behind a connection outside a transaction as the store of a register, settles
+/// it, and answers the requests of a stream over it, at most `most` of them. Who picks keys is not
+/// to foresee the seed.
 ///
 /// In this order: `BadSchema` where a table of a store or a column of one is missing, or the rows of
 /// `meta` aren't just one, of id 1 and number 1; `OtherRegister` where its text isn't the register's
@@ -98,6 +130,7 @@ pub fn answer_opened<S: Alter + Drop, R: Read, W: Write>(
     seed: Seed,
     conn: Connection<S>,
     register: Register,
+    read_from: ReadFrom,
     r: &mut R,
     w: &mut W,
     most: u64,
@@ -117,14 +150,19 @@ pub fn answer_opened<S: Alter + Drop, R: Read, W: Write>(
 {
     match Store::open(alloc, seed, conn, &register) {
         Ok(store) => {
-            let (conn, ended) = converse_over(alloc, store, register, r, w, most);
+            let (register, store, _settled) = settle(alloc, register, store);
+            let (conn, at_hand, ended) = converse_over(
+                alloc, seed, store, register, read_from, r, w, most,
+            );
             HandedBack {
                 conn,
+                at_hand,
                 held: Ok(ended),
             }
         }
         Err((conn, refusal)) => HandedBack {
             conn,
+            at_hand: None,
             held: Err(refusal),
         },
     }

@@ -3,5 +3,7 @@
 
 mod answering;
 pub mod laws;
+mod mirroring;
 
 pub use answering::{HandedBack, answer_new, answer_opened};
+pub use mirroring::ReadFrom;

@@ -11,7 +11,7 @@ use gaz_exchange::{Cause, Served, Stopped};
 use gaz_quiet::new_database;
 use gaz_register::Register;
 use gaz_shelf::Seed;
-use gaz_stored::{HandedBack, answer_new};
+use gaz_stored::{HandedBack, ReadFrom, answer_new};
 use std::alloc::Global;
 use std::io::{Read, Write};
 use std::mem::forget;
@@ -52,10 +52,15 @@ pub fn answer_all<R: Read, W: Write>(
     let Some(conn) = new_database(alloc) else {
         return None;
     };
-    let HandedBack { conn, held } = answer_new(alloc, seed, conn, register, r, w, MOST);
+    let HandedBack {
+        conn,
+        at_hand,
+        held,
+    } = answer_new(alloc, seed, conn, register, ReadFrom::Memory, r, w, MOST);
     // The program ends, and the system takes back at once what would take longer to free piece by
     // piece.
     forget(conn);
+    forget(at_hand);
     match held {
         Ok(ended) => Some(ended),
         Err(_) => None,

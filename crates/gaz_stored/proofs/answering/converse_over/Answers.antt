@@ -1,40 +1,46 @@
-use Rattle.std.proofs.Common.{◌≡◌, ◌∙◌, ℕ, ap, subst, sym}
-use Rattle.std.specs.Prelude.{Result}
+-- The hub has the register and the store that it was given, and the connection is that of the store that is left.
+use Rattle.std.proofs.Common.{◌≡◌, ◌∙◌, ap, subst, sym}
 use Rattle.sqlite.specs.Held.{Held}
 use Rattle.sqlite_trees.specs.declared.store.Store.{Ghosts}
 use Rattle.gaz_register.specs.Registers.{RegisterValue}
 use Rattle.gaz_hub.specs.Hubs.{door_of}
-use Rattle.gaz_exchange.specs.Conversing.{Conversation, Transfer, transfer}
-use Rattle.gaz_exchange.specs.declared.conversation.Served.{Served}
-use Rattle.gaz_exchange.specs.declared.conversation.Stopped.{Stopped}
+use Rattle.gaz_hub.specs.Laws.{StandsForRun}
+use Rattle.gaz_exchange.specs.Conversing.{Conversation, transfer}
+use Rattle.gaz_mirror.specs.Mirrored.{seen_mirrored}
+use Rattle.gaz_mirrored.specs.Comparing.{OnlyReads}
 use Rattle.gaz_store.specs.Store.{seen_in}
 use Rattle.gaz_store.specs.declared.store.Store.{Store}
+use Rattle.gaz_stored.specs.Answering.{Mirrored}
 use Rattle.gaz_stored.proofs.Alone.{alone}
 use Rattle.gaz_stored.proofs.answering.converse_over.Goals as goal
 
--- the hub has the register and the store that it was given
-of_given : {S : Type 0} {g : Ghosts S} (register other : RegisterValue) (store first last : Store S g) (most : ℕ) (through : Transfer) (ended : Result Served Stopped)
-    → other ≡ register → first ≡ store → Conversation (door_of other) most through (seen_in first) (seen_in last) ended
-    → Conversation (door_of register) most through (seen_in store) (seen_in last) ended
-of_given register other store first last most through ended same_register same_store told =
-    subst (λ s. Conversation (door_of register) most through (seen_in s) (seen_in last) ended) same_store
-    (subst (λ r. Conversation (door_of r) most through (seen_in first) (seen_in last) ended) same_register told)
-
 -- the connection that is handed back is that of the store that is left
-of_left : {S : Type 0} {g : Ghosts S} (register : RegisterValue) (last : Store S g) (parts : RegisterValue × Store S g) (after : Held S)
-    → parts ≡ (register, last) → after ≡ parts.1.tables.conn → last.tables.conn ≡ after
-of_left register last parts after same e = sym (e ∙ ap (λ p. p.1.tables.conn) same)
+of_left : {S : Type 0} {g : Ghosts S} (register : RegisterValue) (last : Mirrored g) (parts : RegisterValue × Mirrored g) (store : Store S g) (after : Held S)
+    → parts ≡ (register, last) → store ≡ parts.1.lower → after ≡ store.tables.conn → last.lower.tables.conn ≡ after
+of_left {S} {g} register last parts store after same below e = sym (e ∙ ap (λ (t : Store S g). t.tables.conn) (below ∙ ap (λ (p : RegisterValue × Mirrored g). p.1.lower) same))
+
+-- what is said of the store that was given is said of the hub's
+of_given : {S : Type 0} {g : Ghosts S} (register was : RegisterValue) (store first : Store S g) → was ≡ register → first ≡ store → StandsForRun (door_of register) (seen_in store) → StandsForRun (door_of was) (seen_in first)
+of_given {S} {g} register was store first e f = subst (λ (t : RegisterValue × Store S g). StandsForRun (door_of t.0) (seen_in t.1)) (λ i. (sym e i, sym f i))
 
 pub returns-clause-converses : goal.returns-clause-converses
 returns-clause-converses g c =
-    let first = c.new-hub.result in
+    let register = c.args.register in
+    let given = c.new-hub in
+    let first = c.mirror-hub.result in
+    let made = c.mirror-hub.ensures in
     let last = c.converse-ended.new.hub in
     let ended = c.converse-ended.result in
     let through = transfer g.R.Read.remaining g.W.Write.contents c.args.r.now c.converse-ended.new.r c.args.w.now c.converse-ended.new.w in
-    let told = alone (door_of first.register) first.register last.register last.waiters (seen_in first.keeper) (seen_in last.keeper) c.args.most through ended first.waiters
-    c.new-hub.ensures.remembers c.converse-ended.ensures.conversation in
+    let told = alone (door_of first.register) first.register last.register last.waiters (seen_mirrored first.keeper) (seen_mirrored last.keeper) c.args.most through ended first.waiters made.remembers
+    c.converse-ended.ensures.conversation in
     record {
+      begun = first.keeper;
       last = last.keeper;
-      back = of_left last.register last.keeper c.into_parts-register.result c.into_connection.result c.into_parts-register.ensures c.into_connection.ensures.conn;
-      conversation = of_given c.args.register first.register c.args.store first.keeper last.keeper c.args.most through ended c.new-hub.ensures.register c.new-hub.ensures.keeper told;
+      reads = subst (λ t. OnlyReads (seen_in t) (seen_in first.keeper.lower)) given.ensures.keeper made.reads;
+      mirrors = λ stood fine.
+          subst (λ r. StandsForRun (door_of r) (seen_mirrored first.keeper)) given.ensures.register
+          (made.mirrors (of_given register given.result.register c.args.store given.result.keeper given.ensures.register given.ensures.keeper stood) fine);
+      conversation = subst (λ r. Conversation (door_of r) c.args.most through (seen_mirrored first.keeper) (seen_mirrored last.keeper) ended) (made.register ∙ given.ensures.register) told;
+      back = of_left last.register last.keeper c.into_parts-register.result c.into_parts-store.result.0 c.into_connection.result c.into_parts-register.ensures c.into_parts-store.ensures.lower c.into_connection.ensures.conn;
     }

@@ -1,0 +1,96 @@
+-- A conversation over a store with all of it at hand is one over the store.
+use Rattle.std.proofs.Common.{◌≡◌, ◌∙◌, ◌≤◌, inl, List, [], refl, ap, subst, sym, arith}
+use Rattle.std.specs.Prelude.{Option}
+use Rattle.sqlite.specs.Effect.{Database}
+use Rattle.sqlite.specs.Held.{state}
+use Rattle.sqlite_trees.specs.declared.store.Store.{Ghosts}
+use Rattle.gaz_views.specs.View.{View, empty_view}
+use Rattle.gaz_shelf.specs.Keeper as keeper
+use Rattle.gaz_shelf.specs.Keeper.{IsLeft, IsNotOpen, Progress, Seen}
+use Rattle.gaz_tables.specs.Schema.{receiveds}
+use Rattle.gaz_kept.specs.Contents.{content_in}
+use Rattle.gaz_kept.specs.Kept.{IsKept}
+use Rattle.gaz_kept.specs.Versions.{number_in}
+use Rattle.gaz_kept.proofs.Stands.{are_files, row_of}
+use Rattle.gaz_store.specs.Store.{progress_of, seen_in, working_of}
+use Rattle.gaz_store.specs.declared.progress.Judging.{Judging}
+use Rattle.gaz_store.specs.declared.progress.Judging.TheVariants.{Idle, Open, Broken}
+use Rattle.gaz_store.specs.declared.store.Store.{Store}
+use Rattle.gaz_hub.specs.Hubs.{Runs, state_of}
+use Rattle.gaz_hub.specs.Laws.{StandsForRun}
+use Rattle.gaz_hub.specs.Step.{Command, Door, Response}
+use Rattle.gaz_hub.proofs.HubRuns.{runs_still, runs_then}
+use Rattle.gaz_mirror.specs.Mirroring.{mirrored, stands_below}
+use Rattle.gaz_mirrored.specs.Comparing.{OnlyReads}
+use Rattle.gaz_mirrored.specs.Filling.{AreVolumes, CanBeMirrored, RestsBare}
+use Rattle.gaz_mirrored.proofs.Reading.{reads_nothing}
+
+-- ---- what a store is mirrored by
+
+rests : (db : Database) (j : Judging) → progress_of j ≡ keeper.Idle → working_of db j ≡ empty_view
+rests db Idle e = refl
+rests db (Open j) e = cc
+rests db Broken e = refl
+
+-- a store in which no judgement is in progress has no working view
+pub rests_bare : {S : Type 0} {g : Ghosts S} → RestsBare {K = Store S g} seen_in
+rests_bare {S} {g} t e = rests (state g t.tables.conn).now t.judging e
+
+-- each file in the tables came as a volume from 1 on
+volumes : (db : Database) (working : View) → IsKept db → AreVolumes (content_in db.trees working).files
+volumes db working kept p there =
+    let r = row_of (db.trees receiveds) (are_files db kept) p.0 p.1 there in
+    let first = (kept.files r.row r.there).first in
+    subst (λ n. 1 ≤ n) (ap number_in r.is.of_volume) first
+
+pub can_mirror : {S : Type 0} {g : Ghosts S} (d : Door) (t : Store S g) → StandsForRun d (seen_in t) → CanBeMirrored d (seen_in t)
+can_mirror {S} {g} d t run =
+    let db = (state g t.tables.conn).now in
+    record { run = run; volumes = volumes db (working_of db t.judging) run.stands.0.tables.kept }
+
+-- where nothing is put at hand, nothing is even read
+pub reads_given : {S : Type 0} {g : Ghosts S} (given kept : Store S g) → kept ≡ given → OnlyReads (seen_in given) (seen_in kept)
+reads_given {S} {g} given kept same = subst (λ (t : Store S g). OnlyReads (seen_in given) (seen_in t)) (sym same) (reads_nothing (seen_in given))
+
+-- ---- runs
+
+not_open : (old new : Progress) → IsLeft old new → IsNotOpen old → IsNotOpen new
+not_open keeper.Idle new left idle = λ c is. let clash = sym left ∙ is in cc
+not_open (keeper.Open c) new left idle = absurd (idle c refl)
+not_open keeper.Broken new left idle = left
+
+module _ {U : Type 0} (seen : U → Seen) (d : Door) (a lower last : Seen) (upper kept : Option U) where
+  -- nothing was asked while all was put at hand
+  begins : OnlyReads a lower → (a.unharmed → StandsForRun d a) → (StandsForRun d a → lower.unharmed → StandsForRun d (mirrored seen lower upper)) → Runs d a (mirrored seen lower upper) [] []
+  begins reads was mirrors =
+      let keeps = reads.keeps in
+      record {
+        harm = keeps.harm;
+        stands = λ _ fine. (mirrors (was (keeps.harm fine)) fine).stands;
+        run = λ stood fine. ap state_of (keeps.content stood.0 fine);
+        idle = not_open a.progress lower.progress keeps.progress;
+        failures = reads.failures;
+        stops = λ sound. record {
+          ever = λ k l. inl (keeps.leaves (λ fine. (sound fine).0) k l);
+          now = λ fine k l. inl (keeps.leaves (λ fine. (sound fine).0) k l, ap state_of (keeps.content (sound (keeps.harm fine)).0 fine));
+          answered = refl;
+          received = λ k l. tt;
+          whole = λ all. keeps.whole (λ fine. (sound fine).0) all;
+        };
+      }
+
+  -- nor when what is at hand was given up
+  ends : Runs d (mirrored seen last kept) last [] []
+  ends = record {
+    harm = λ fine. fine;
+    stands = λ stood fine. (stands_below seen last kept stood.0, stood.1);
+    run = λ _ _. refl;
+    idle = λ idle. idle;
+    failures = omega arith;
+    stops = λ sound. record { ever = λ k l. inl l; now = λ fine k l. inl (l, refl); answered = refl; received = λ k l. tt; whole = λ all. all };
+  }
+
+  pub runs_below : (commands : List Command) (responses : List Response) → OnlyReads a lower → (a.unharmed → StandsForRun d a)
+      → (StandsForRun d a → lower.unharmed → StandsForRun d (mirrored seen lower upper)) → Runs d (mirrored seen lower upper) (mirrored seen last kept) commands responses → Runs d a last commands responses
+  runs_below commands responses reads was mirrors runs =
+      runs_still d a (mirrored seen last kept) last commands responses (runs_then d a (mirrored seen lower upper) (mirrored seen last kept) [] commands [] responses (begins reads was mirrors) runs) ends
