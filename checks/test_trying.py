@@ -92,6 +92,12 @@ class OverASmallCrate(unittest.TestCase):
         self.assertIn("0 times", tried["is_gone"].why)
 
 
+class OfFaults(unittest.TestCase):
+    def test_an_invariant_that_is_not_proved_is_a_fault(self):
+        text = "note: src/lib.rt:12:9: `search` found no proof (`invariant_of-self`); `search` gave up at one of its limits"
+        self.assertEqual([("src/lib.rt", 12)], [(it.file, it.line) for it in trying.faults_in(text, ["src/lib.rt"])])
+
+
 class OfEdits(unittest.TestCase):
     sources = {"src/lib.rt": LIBRARY}
 

@@ -15,7 +15,7 @@ PARTS = ("src", "specs", "proofs")
 PLACE = re.compile(r"(?:note: )?(?:\./)?(\S+?):(\d+):\d+: (.*)")
 # (a proof that names what an edit took away, and what cites that proof, says little of a contract)
 GONE = re.compile(r"has no field|is not in scope|has no `|was not admitted")
-IS_FAULT = re.compile(r"error\b|it is not proved that")
+IS_FAULT = re.compile(r"error\b|it is not proved that|`search` found no proof")
 
 
 @dataclass(frozen=True)

@@ -3,12 +3,10 @@ ghost use Rattle.gaz_shelf.specs.Keeper.{IsNotOpen};
 
 use crate::replies::register;
 use crate::resting::Resting;
-use crate::stores::store_in;
 use crate::tally::Met;
 use crate::walking::Walk;
 use anyhow::{Result, ensure};
-use gaz_shelf::{Faulty, Inbox, MemShelf, Seed};
-use sqlite::{Alter, Connection};
+use gaz_shelf::{Faulty, Inbox};
 
 // Goes through the history, and on over the same hub after the first answer that is refused. Where
 // none is, no call failed.
@@ -25,25 +23,11 @@ fn goes<K: Inbox + Drop>(walk: &Walk<'_>, hub: &mut Resting<Faulty<K>>) -> Resul
     Ok(Met::Command(stop))
 }
 
-// Goes through the history over a keeper of which the call of this number fails.
-fn run_around<K: Inbox + Drop>(walk: &Walk<'_>, keeper: K, number: u64) -> Result<Met>
+/// Goes through the history over a keeper of which the call of this number fails.
+pub fn run<K: Inbox + Drop>(walk: &Walk<'_>, keeper: K, number: u64) -> Result<Met>
     requires { IsNotOpen (K.seen keeper).progress }
 {
     let register = register(walk.rt.alloc())?;
     let mut hub = Resting::over(walk.rt.alloc(), register, Faulty::new(keeper, number));
     goes(walk, &mut hub)
-}
-
-/// Goes through the history over a keeper of whole maps.
-pub fn run_maps(walk: &Walk<'_>, number: u64) -> Result<Met> {
-    run_around(walk, MemShelf::new(walk.rt.alloc(), Seed::of(1)), number)
-}
-
-/// Goes through the history over a new store behind a connection.
-pub fn run_store<S: Alter + Drop>(
-    walk: &Walk<'_>,
-    conn: Connection<S>,
-    number: u64,
-) -> Result<Met> {
-    run_around(walk, store_in(walk.rt.alloc(), conn)?, number)
 }

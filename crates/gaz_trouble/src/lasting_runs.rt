@@ -3,14 +3,13 @@ ghost use Rattle.gaz_shelf.specs.Around.{seen_around};
 ghost use Rattle.gaz_shelf.specs.Keeper.{IsNotOpen};
 
 use crate::lasting::{Resend, Trouble};
-use crate::memory_runs::{connected, made};
+use crate::memory_runs::made;
 use crate::replies::register;
 use crate::resting::Resting;
-use crate::stores::store_in;
 use crate::walking::{Stop, Walk};
 use anyhow::Result;
-use gaz_shelf::{Faulty, Inbox, MemShelf, Seed};
-use sqlite::{Alter, Connection, MemStore};
+use gaz_shelf::{Faulty, Inbox};
+use sqlite::{Alter, Connection};
 
 /// How many calls fail one after the other, where they do for a while. Each is a keeper around
 /// another, and twice as many cost the proof many times as much.
@@ -63,8 +62,8 @@ fn goes_awhile<K: Inbox + Drop>(
     )
 }
 
-// Goes through the history over a keeper of which these calls fail.
-fn goes_around<K: Inbox + Drop>(
+/// Goes through the history over a keeper of which these calls fail.
+pub fn run<K: Inbox + Drop>(
     walk: &Walk<'_>,
     keeper: K,
     failing: Failing,
@@ -85,22 +84,6 @@ fn goes_around<K: Inbox + Drop>(
     }
 }
 
-/// Goes through the history over a keeper of whole maps.
-pub fn run_maps(walk: &Walk<'_>, failing: Failing, resend: Resend) -> Result<Vec<Stop>> {
-    let keeper = MemShelf::new(walk.rt.alloc(), Seed::of(1));
-    goes_around(walk, keeper, failing, resend)
-}
-
-/// Goes through the history over a new store behind a connection.
-pub fn run_store<S: Alter + Drop>(
-    walk: &Walk<'_>,
-    conn: Connection<S>,
-    failing: Failing,
-    resend: Resend,
-) -> Result<Vec<Stop>> {
-    goes_around(walk, store_in(walk.rt.alloc(), conn)?, failing, resend)
-}
-
 // What fails where two requests for memory are refused.
 fn twice(resend: Resend) -> Trouble {
     Trouble {
@@ -109,27 +92,19 @@ fn twice(resend: Resend) -> Trouble {
     }
 }
 
-/// Goes through the history over a keeper of whole maps, while memory is refused twice.
-pub fn run_memory_maps(walk: &Walk<'_>, resend: Resend) -> Result<Vec<Stop>> {
-    goes(
-        walk,
-        MemShelf::new(walk.rt.alloc(), Seed::of(1)),
-        twice(resend),
-    )
+/// Goes through the history over a keeper, while memory is refused twice.
+pub fn run_memory<K: Inbox + Drop>(walk: &Walk<'_>, keeper: K, resend: Resend) -> Result<Vec<Stop>>
+    requires { IsNotOpen (K.seen keeper).progress }
+{
+    goes(walk, keeper, twice(resend))
 }
 
-// Goes through the history over a new store behind a connection, while memory is refused twice.
-fn goes_made<S: Alter + Drop>(
+/// Goes through the history over a new store behind a connection, while memory is refused twice.
+pub fn run_memory_store<S: Alter + Drop>(
     walk: &Walk<'_>,
     conn: Connection<S>,
     resend: Resend,
 ) -> Result<Vec<Stop>> {
     let (mut hub, _) = made(walk, conn)?;
     walk.outlasts(&mut hub, twice(resend))
-}
-
-/// Goes through the history over a new store in memory, while memory is refused twice.
-pub fn run_memory_store(walk: &Walk<'_>, resend: Resend) -> Result<Vec<Stop>> {
-    let (conn, _): (Connection<MemStore>, bool) = connected(walk)?;
-    goes_made(walk, conn, resend)
 }

@@ -17,6 +17,7 @@ mod disk_runs;
 mod disks;
 mod files;
 mod histories;
+mod keepers;
 mod lasting;
 mod lasting_runs;
 mod memory_runs;

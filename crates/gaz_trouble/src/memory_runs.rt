@@ -1,4 +1,5 @@
 //! A history while one request for memory is refused.
+ghost use Rattle.gaz_shelf.specs.Keeper.{IsNotOpen};
 
 use crate::replies::register;
 use crate::resting::Resting;
@@ -6,7 +7,7 @@ use crate::stores::{StoreHub, connection_after, have_surely, make};
 use crate::tally::Met;
 use crate::walking::Walk;
 use anyhow::Result;
-use gaz_shelf::{Inbox, MemShelf, Seed};
+use gaz_shelf::Inbox;
 use sqlite::{Alter, Connection, MemStore};
 
 // Goes through the history, and on over the same hub after the first answer that is refused.
@@ -19,14 +20,12 @@ fn goes<K: Inbox + Drop>(walk: &Walk<'_>, hub: &mut Resting<K>) -> Result<Met> {
     Ok(Met::Command(stop))
 }
 
-/// Goes through the history over a keeper of whole maps.
-pub fn run_maps(walk: &Walk<'_>) -> Result<Met> {
+/// Goes through the history over a keeper.
+pub fn run<K: Inbox + Drop>(walk: &Walk<'_>, keeper: K) -> Result<Met>
+    requires { IsNotOpen (K.seen keeper).progress }
+{
     let register = register(walk.rt.alloc())?;
-    let mut hub = Resting::over(
-        walk.rt.alloc(),
-        register,
-        MemShelf::new(walk.rt.alloc(), Seed::of(1)),
-    );
+    let mut hub = Resting::over(walk.rt.alloc(), register, keeper);
     goes(walk, &mut hub)
 }
 
@@ -52,19 +51,10 @@ pub fn made<S: Alter + Drop>(walk: &Walk<'_>, conn: Connection<S>) -> Result<(St
     }
 }
 
-// Goes through the history over a new store behind a connection.
-fn run_over<S: Alter + Drop>(walk: &Walk<'_>, conn: Connection<S>) -> Result<Met> {
+/// Goes through the history over a new store behind a connection.
+pub fn run_store<S: Alter + Drop>(walk: &Walk<'_>, conn: Connection<S>) -> Result<Met> {
     let (mut hub, was_refused) = made(walk, conn)?;
     match goes(walk, &mut hub)? {
-        Met::Nothing if was_refused => Ok(Met::Opening),
-        met => Ok(met),
-    }
-}
-
-/// Goes through the history over a new store in memory.
-pub fn run_store(walk: &Walk<'_>) -> Result<Met> {
-    let (conn, was_refused) = connected(walk)?;
-    match run_over(walk, conn)? {
         Met::Nothing if was_refused => Ok(Met::Opening),
         met => Ok(met),
     }

@@ -3,16 +3,15 @@
 use crate::disk_runs::{self, Again, Failed};
 use crate::disks::{Left, Which, failing_files};
 use crate::histories::History;
+use crate::keepers::{self, Failure};
 use crate::lasting::Resend;
-use crate::lasting_runs::{self, Failing};
+use crate::lasting_runs::Failing;
 use crate::refusing::Refuser;
 use crate::replies::Wanted;
-use crate::statement_runs::{self, Since};
+use crate::statement_runs::Since;
 use crate::tally::{Met, Tally};
 use crate::walking::Walk;
-use crate::{call_runs, memory_runs};
 use anyhow::{Result, bail, ensure};
-use sqlite::Connection;
 
 /// More calls of a file than any history makes.
 const MOST: u64 = 1_000_000;
@@ -125,19 +124,29 @@ impl<'a> Runs<'a> {
         }
     }
 
-    // A run over a store whose statements are limited from some moment on.
-    fn run_limited(&mut self, steps: u64, since: Since) -> Result<bool> {
-        let conn = Connection::open_in_memory(self.rt.alloc())?;
-        let walk = self.walk(Refuser::nobody(self.rt.alloc()));
-        let met = statement_runs::run(&walk, conn, steps, since)?;
-        Ok(self.tally.count(met))
+    // A run over a new keeper; whether it met any trouble.
+    fn run_over(&mut self, over: Over, refuser: Refuser, failure: Failure) -> Result<bool> {
+        let walk = self.walk(refuser);
+        let ran = match over {
+            Over::Maps => keepers::run_maps(&walk, failure)?,
+            Over::Store => keepers::run_store(&walk, failure)?,
+        };
+        Ok(self.tally.add(&ran))
     }
 
-    // Runs whose statements are limited from each moment on; whether one was refused in any.
+    // The same while memory is had.
+    fn run_fed(&mut self, over: Over, failure: Failure) -> Result<bool> {
+        self.run_over(over, Refuser::nobody(self.rt.alloc()), failure)
+    }
+
+    // Runs over a store whose statements are limited from each moment on; whether one was refused in
+    // any.
     fn run_statements(&mut self, steps: u64) -> Result<bool> {
-        let mut is_met = self.run_limited(steps, Since::Making)?;
+        let from_making = Failure::Statements(steps, Since::Making);
+        let mut is_met = self.run_fed(Over::Store, from_making)?;
         for place in 0..self.history.commands.len() {
-            is_met |= self.run_limited(steps, Since::Command(place))?;
+            let later = Failure::Statements(steps, Since::Command(place));
+            is_met |= self.run_fed(Over::Store, later)?;
         }
         Ok(is_met)
     }
@@ -189,26 +198,10 @@ impl<'a> Runs<'a> {
     // A run in which a request for memory is refused; whether it was.
     fn run_memory(&mut self, over: Over, number: u32) -> Result<bool> {
         let refuser = Refuser::of(self.rt.alloc(), number);
-        let walk = self.walk(refuser);
-        let met = match over {
-            Over::Maps => memory_runs::run_maps(&walk)?,
-            Over::Store => memory_runs::run_store(&walk)?,
-        };
-        self.tally.count(met);
+        self.run_over(over, refuser, Failure::Memory)?;
         let was_refused = refuser.has_refused();
         ensure!(was_refused || number > 0, "nobody refuses memory");
         Ok(was_refused)
-    }
-
-    // A run in which two requests for memory are refused; whether one was.
-    fn run_memory_lasting(&mut self, over: Over, refuser: Refuser, resend: Resend) -> Result<bool> {
-        let walk = self.walk(refuser);
-        let stops = match over {
-            Over::Maps => lasting_runs::run_memory_maps(&walk, resend)?,
-            Over::Store => lasting_runs::run_memory_store(&walk, resend)?,
-        };
-        self.tally.count_all(&stops);
-        Ok(refuser.has_refused())
     }
 
     // Runs in which the request of this number is refused and one of the next; whether any was.
@@ -217,39 +210,19 @@ impl<'a> Runs<'a> {
         for behind in 1..=FARTHEST {
             for resend in RESENDS {
                 let refuser = Refuser::of_two(self.rt.alloc(), number, behind);
-                was_refused |= self.run_memory_lasting(over, refuser, resend)?;
+                self.run_over(over, refuser, Failure::MemoryTwice(resend))?;
+                was_refused |= refuser.has_refused();
             }
         }
         ensure!(was_refused || number > 0, "nobody refuses memory");
         Ok(was_refused)
     }
 
-    // A run in which a call of the keeper fails; whether it did.
-    fn run_calls(&mut self, over: Over, number: u64) -> Result<bool> {
-        let walk = self.walk(Refuser::nobody(self.rt.alloc()));
-        let met = match over {
-            Over::Maps => call_runs::run_maps(&walk, number)?,
-            Over::Store => {
-                let conn = Connection::open_in_memory(self.rt.alloc())?;
-                call_runs::run_store(&walk, conn, number)?
-            }
-        };
-        Ok(self.tally.count(met))
-    }
-
     // Runs in which these calls of the keeper fail; whether one did.
     fn run_lasting(&mut self, over: Over, failing: Failing) -> Result<bool> {
-        let walk = self.walk(Refuser::nobody(self.rt.alloc()));
         let mut is_met = false;
         for resend in RESENDS {
-            let stops = match over {
-                Over::Maps => lasting_runs::run_maps(&walk, failing, resend)?,
-                Over::Store => {
-                    let conn = Connection::open_in_memory(self.rt.alloc())?;
-                    lasting_runs::run_store(&walk, conn, failing, resend)?
-                }
-            };
-            is_met |= self.tally.count_all(&stops);
+            is_met |= self.run_fed(over, Failure::Calls(failing, resend))?;
         }
         Ok(is_met)
     }
@@ -281,7 +254,7 @@ impl<'a> Runs<'a> {
             Part::Cut(which) => self.run_cut(which, u64::from(number)),
             Part::Memory(over) => self.run_memory(over, number),
             Part::MemoryTwice(over) => self.run_memory_twice(over, number),
-            Part::Calls(over) => self.run_calls(over, u64::from(number)),
+            Part::Calls(over) => self.run_fed(over, Failure::Call(u64::from(number))),
             Part::CallsTwice(over) => self.run_calls_twice(over, u64::from(number)),
             Part::CallsAwhile(over) => self.run_calls_awhile(over, u64::from(number)),
         }

@@ -6,7 +6,7 @@ use anyhow::Result;
 use gaz_hub::Refusal;
 use std::alloc::Global;
 
-/// Where a run met its trouble.
+/// Where a run first met its trouble.
 #[derive(Clone, Copy)]
 pub enum Met {
     /// No answer was refused.
@@ -15,6 +15,15 @@ pub enum Met {
     Opening,
     /// The answer to a command was refused.
     Command(Stop),
+}
+
+/// Where a run met its trouble.
+#[derive(Drop)]
+pub enum Ran {
+    /// Once.
+    Once(Met),
+    /// At each of these, whenever it came.
+    Each(Vec<Stop>),
 }
 
 /// How many answers to a command were refused by 51, and how many by 52.
@@ -85,8 +94,8 @@ impl Tally {
         !matches!(met, Met::Nothing)
     }
 
-    /// Counts a run that met trouble at these places; whether there are any.
-    pub fn count_all(&mut self, stops: &[Stop]) -> bool {
+    // Counts a run that met trouble at these places; whether there are any.
+    fn count_all(&mut self, stops: &[Stop]) -> bool {
         self.runs = self.runs.saturating_add(1);
         if stops.is_empty() {
             self.nothing = self.nothing.saturating_add(1);
@@ -95,6 +104,14 @@ impl Tally {
             self.refuse(stop);
         }
         !stops.is_empty()
+    }
+
+    /// Counts a run, whose trouble lasted or not; whether it met any.
+    pub fn add(&mut self, ran: &Ran) -> bool {
+        match ran {
+            Ran::Once(met) => self.count(*met),
+            Ran::Each(stops) => self.count_all(stops),
+        }
     }
 
     /// Prints where the runs met their trouble.

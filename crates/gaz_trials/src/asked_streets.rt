@@ -7,6 +7,7 @@ use gaz_register::Register;
 use gaz_samples::REGISTER;
 use gaz_shelf::Inbox;
 use std::alloc::Global;
+use std::process::Abort;
 use std::test::Fail;
 
 const SHUT: Row = (Kind::Street, "150,1,1990-01-01,2024-04-30");
@@ -35,36 +36,41 @@ fn adds_addresses<K: Inbox + Drop>(
     Ok(())
 }
 
-#[test]
-fn a_street_is_asked_for_once_by_a_custodian(rt: HostRuntime) -> Result<(), Fail> {
+// The addresses of these volumes of custodians stand on a street that shut: how many are listed, and
+// how often an item is looked up for it.
+fn are_listed(
+    rt: &(impl Abort + AllocGlobal),
+    volumes: &[(u64, u64)],
+    listed: usize,
+    asked: u64,
+) -> Result<(), Fail> {
     let alloc = rt.alloc();
     let register = Register::read(alloc, REGISTER)?;
     let mut shelf = counting_shelf(alloc);
     writes(alloc, &mut shelf, custodian(1001)?, &[SHUT])?;
-    adds_addresses(alloc, &mut shelf, 1002, 1)?;
+    for (code, number) in volumes {
+        adds_addresses(alloc, &mut shelf, *code, *number)?;
+    }
     let before = shelf.keeper().counted().current;
     let closed = shelf.closed_streets(alloc, &register)?;
-    assert_eq!(rt; closed.len(), 100);
-    // In its own last view, and in the owner's.
-    assert_eq!(rt; shelf.keeper().counted().current, before.saturating_add(2));
+    assert_eq!(rt; closed.len(), listed);
+    assert_eq!(rt;
+        shelf.keeper().counted().current,
+        before.saturating_add(asked)
+    );
     Ok(())
 }
 
+// In its own last view, and in the owner's.
+#[test]
+fn a_street_is_asked_for_once_by_a_custodian(rt: HostRuntime) -> Result<(), Fail> {
+    are_listed(&rt, &[(1002, 1)], 100, 2)
+}
+
+// The addresses of the street's owner are on a street of the own view.
 #[test]
 fn each_custodian_asks_for_itself(rt: HostRuntime) -> Result<(), Fail> {
-    let alloc = rt.alloc();
-    let register = Register::read(alloc, REGISTER)?;
-    let mut shelf = counting_shelf(alloc);
-    writes(alloc, &mut shelf, custodian(1001)?, &[SHUT])?;
-    adds_addresses(alloc, &mut shelf, 1001, 2)?;
-    adds_addresses(alloc, &mut shelf, 1002, 1)?;
-    adds_addresses(alloc, &mut shelf, 1003, 1)?;
-    let before = shelf.keeper().counted().current;
-    let closed = shelf.closed_streets(alloc, &register)?;
-    // Those of its owner are on a street of the own view.
-    assert_eq!(rt; closed.len(), 200);
-    assert_eq!(rt; shelf.keeper().counted().current, before.saturating_add(5));
-    Ok(())
+    are_listed(&rt, &[(1001, 2), (1002, 1), (1003, 1)], 200, 5)
 }
 
 #[test]

@@ -1,0 +1,32 @@
+//! What no reply, no contract and no run of a program tells: how often a keeper is asked, by one that counts; and numbers, rows, items, files and registers as
+//! callers of the lower crates read and write them.
+#![tactic(auto)]
+
+#[cfg(test)]
+mod asked_owners;
+#[cfg(test)]
+mod asked_streets;
+#[cfg(test)]
+mod file_fixtures;
+#[cfg(test)]
+mod files_back;
+#[cfg(test)]
+mod items;
+#[cfg(test)]
+mod keepers;
+#[cfg(test)]
+mod look_ups;
+#[cfg(test)]
+mod numbers;
+#[cfg(test)]
+mod objects;
+#[cfg(test)]
+mod records;
+#[cfg(test)]
+mod registers;
+#[cfg(test)]
+mod resting;
+#[cfg(test)]
+mod rows;
+#[cfg(test)]
+mod waiting;
