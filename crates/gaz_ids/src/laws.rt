@@ -1,8 +1,11 @@
 ghost use Rattle.std.specs.Prelude.{◌≡◌};
 ghost use Rattle.gaz_ids.specs.Codes.{CodesReadBack};
 ghost use Rattle.gaz_ids.specs.Limits.{last_volume, most_bytes};
+ghost use Rattle.gaz_ids.specs.Numbers.{read_id};
 
+use crate::fault::IdFault;
 use crate::limits::{LAST_VOLUME, MOST_BYTES};
+use crate::number::Hop;
 
 /// A language and a status read back from their texts.
 pub fn codes_read_back()
@@ -14,3 +17,10 @@ pub fn limits()
     ensures last_volume { LAST_VOLUME ≡ last_volume }
     ensures most_bytes { MOST_BYTES ≡ most_bytes }
 {}
+
+/// A hop is read from at most four digits, from 1 on.
+pub fn hop_of(text: &[u8]) -> Result<Hop, IdFault>
+    ensures { result ≡ read_id 4 1 9999 text.now }
+{
+    Hop::read(text)
+}

@@ -1,5 +1,5 @@
-//! The numbers of a gazetteer, as UPRNs, USRNs, custodian codes, volumes and orders, and its codes
-//! of languages and statuses.
+//! The numbers of a gazetteer, as UPRNs, USRNs, custodian codes, volumes, orders and hops, and its
+//! codes of languages and statuses.
 #![tactic(auto)]
 
 pub mod digits;
@@ -13,5 +13,5 @@ mod status;
 pub use fault::IdFault;
 pub use lang::Lang;
 pub use limits::{LAST_VOLUME, MOST_BYTES};
-pub use number::{Code, Number, Order, Uprn, Usrn, Volume};
+pub use number::{Code, Hop, Number, Order, Uprn, Usrn, Volume};
 pub use status::Status;

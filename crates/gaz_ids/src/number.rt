@@ -31,6 +31,10 @@ pub type Volume = Number<4, 6, 1, LAST_VOLUME>;
 /// The place of a change record among those of its file, 1 to 5000 (our profile).
 pub type Order = Number<5, 4, 1, 5000>;
 
+/// How often a property has passed between custodians, once a release or an adoption is counted:
+/// 1 to 9999 (our profile).
+pub type Hop = Number<6, 4, 1, 9999>;
+
 impl<const KIND: u64, const WIDTH: u64, const LOW: u64, const HIGH: u64> Model
     for Number<KIND, WIDTH, LOW, HIGH> {
     ghost Value = { ℕ };
