@@ -16,6 +16,10 @@ use Rattle.gaz_records.specs.Descriptors.{DescriptorValue, descriptor_texts, is_
 use Rattle.gaz_records.specs.Blpus.{BlpuValue, blpu_texts, is_blpu, is_parent, is_uprn, read_blpu}
 use Rattle.gaz_records.specs.Xrefs.{XrefValue, is_xref, read_xref, xref_texts}
 use Rattle.gaz_records.specs.Lpis.{LpiValue, is_lpi, is_secondary, lpi_texts, read_lpi}
+use Rattle.gaz_records.specs.Releases.{is_code, is_hop, is_release, read_release, release_texts}
+use Rattle.gaz_records.specs.Adopts.{adopt_texts, is_adopt, read_adopt}
+use Rattle.gaz_records.specs.declared.adopt.Adopt.{Adopt}
+use Rattle.gaz_records.specs.declared.release.Release.{Release}
 use Rattle.gaz_records.proofs.Both.{and-left, and-right}
 use Rattle.gaz_records.proofs.Says.{says-blank_object, says-blpu_status, says-day, says-end, says-label, says-lang, says-number, says-object, says-opt_object, says-opt_text, says-parent, says-status, says-text}
 
@@ -24,6 +28,9 @@ usrn-says f i n at h = says-number f i 8 1 99_999_999 n at (lit< tt) (lit< tt) (
 
 uprn-says : (f : List (List ℕ)) (i n : ℕ) → field f i ≡ decimal n → is_uprn n ≡ true → says (Digits 12 1 999_999_999_999) f i ≡ Some n
 uprn-says f i n at h = says-number f i 12 1 999_999_999_999 n at (lit< tt) (lit< tt) (lit< tt) h
+
+code-says : (f : List (List ℕ)) (i n : ℕ) → field f i ≡ decimal n → is_code n ≡ true → says (Digits 4 1 9999) f i ≡ Some n
+code-says f i n at h = says-number f i 4 1 9999 n at (lit< tt) (lit< tt) (lit< tt) h
 
 -- a number from 0
 from-zero : (n high : ℕ) → nat_le n high ≡ true → (nat_le 0 n && nat_le n high) ≡ true
@@ -164,3 +171,55 @@ lpi_fields x h =
     let h6 = and-left _ _ h5 in
     lpi-back x.key x.uprn x.lang x.status x.usrn x.secondary x.primary x.start x.end
     (and-left _ _ h6) (and-right _ _ h6) (and-right _ _ h5) (and-right _ _ h4) (and-right _ _ h3) (and-right _ _ h2) (and-right _ _ h1) (and-right _ _ h)
+
+release-back : (x : Release) → is_uprn x.uprn ≡ true → is_code x.to ≡ true → is_hop x.hop ≡ true → read_release (release_texts x) ≡ Ok x
+unfolding read_release field_at
+release-back x uprn to hop =
+    let f = release_texts x in
+    rw (
+      uprn-says f 0 x.uprn refl uprn,
+      code-says f 1 x.to refl to,
+      code-says f 2 x.hop refl hop,
+    ) refl
+
+pub release_fields : (x : Release) → is_release x ≡ true → read_release (release_texts x) ≡ Ok x
+release_fields x h =
+    let h1 = and-left _ _ h in
+    release-back x (and-left _ _ h1) (and-right _ _ h1) (and-right _ _ h)
+
+adopt-back : (x : BlpuValue) (from hop : ℕ) → is_uprn x.uprn ≡ true → is_some (of_blpu x.status) ≡ true → nat_le x.easting 700_000 ≡ true → nat_le x.northing 1_300_000 ≡ true
+    → is_parent x.parent ≡ true → is_text_or_none 8 x.postcode ≡ true → is_day x.start ≡ true → are_days x.end ≡ true → ends_by x.start x.end ≡ true
+    → is_code from ≡ true → is_hop hop ≡ true
+    → read_adopt (adopt_texts (record { blpu = x; from = from; hop = hop })) ≡ Ok (record { blpu = x; from = from; hop = hop })
+unfolding read_adopt field_at
+adopt-back x from hop uprn status easting northing parent postcode start end order code hops =
+    let f = adopt_texts (record { blpu = x; from = from; hop = hop }) in
+    rw (
+      uprn-says f 0 x.uprn refl uprn,
+      code-says f 1 from refl code,
+      code-says f 2 hop refl hops,
+      says-blpu_status f 3 x.status refl status,
+      says-number f 4 6 0 700_000 x.easting refl (lit< tt) (lit< tt) (lit< tt) (from-zero x.easting 700_000 easting),
+      says-number f 5 7 0 1_300_000 x.northing refl (lit< tt) (lit< tt) (lit< tt) (from-zero x.northing 1_300_000 northing),
+      says-parent f 6 x.parent refl parent,
+      says-opt_text f 7 8 x.postcode refl postcode,
+      says-day f 8 x.start refl start,
+      says-end f 9 x.start x.end refl refl start end order,
+    ) refl
+
+pub adopt_fields : (x : Adopt) → is_adopt x ≡ true → read_adopt (adopt_texts x) ≡ Ok x
+adopt_fields x h =
+    let hop = and-right _ _ h in
+    let g = and-left _ _ h in
+    let code = and-right _ _ g in
+    let h0 = and-left _ _ g in
+    let h1 = and-left _ _ h0 in
+    let h2 = and-left _ _ h1 in
+    let h3 = and-left _ _ h2 in
+    let h4 = and-left _ _ h3 in
+    let h5 = and-left _ _ h4 in
+    let h6 = and-left _ _ h5 in
+    let h7 = and-left _ _ h6 in
+    adopt-back x.blpu x.from x.hop
+    (and-left _ _ h7) (and-right _ _ h7) (and-right _ _ h6) (and-right _ _ h5) (and-right _ _ h4) (and-right _ _ h3) (and-right _ _ h2) (and-right _ _ h1) (and-right _ _ h0)
+    code hop

@@ -13,7 +13,7 @@ use Rattle.gaz_records.specs.Blpus.{is_uprn}
 use Rattle.gaz_records.specs.declared.item.Item.{Item}
 use Rattle.gaz_records.specs.declared.item.Item.TheVariants as item
 use Rattle.gaz_records.proofs.Both.{and-left, and-right}
-use Rattle.gaz_records.proofs.FieldsBack.{blpu_fields, descriptor_fields, lpi_fields, street_fields, xref_fields}
+use Rattle.gaz_records.proofs.FieldsBack.{adopt_fields, blpu_fields, descriptor_fields, lpi_fields, release_fields, street_fields, xref_fields}
 
 pub fields-back : (x : Item) → is_item x ≡ true → read_item (kind_of x) (item_texts x) ≡ Ok x
 fields-back (item.Street x) h = rw (street_fields x h) refl
@@ -21,6 +21,8 @@ fields-back (item.Descriptor x) h = rw (descriptor_fields x h) refl
 fields-back (item.Blpu x) h = rw (blpu_fields x h) refl
 fields-back (item.Xref x) h = rw (xref_fields x h) refl
 fields-back (item.Lpi x) h = rw (lpi_fields x h) refl
+fields-back (item.Release x) h = rw (release_fields x h) refl
+fields-back (item.Adopt x) h = rw (adopt_fields x h) refl
 
 -- a first field that is no mark of UTF-8
 record Plain (t : List ℕ) : Type 0 where
@@ -62,6 +64,10 @@ item-row (item.Blpu x) h =
     row-back _ _ _ (uprn-plain x.uprn (and-left _ _ (and-left _ _ (and-left _ _ (and-left _ _ (and-left _ _ (and-left _ _ (and-left _ _ (and-left _ _ h)))))))))
 item-row (item.Xref x) h = row-back _ _ _ (label-plain x.key (and-left _ _ (and-left _ _ (and-left _ _ (and-left _ _ (and-left _ _ (and-left _ _ h)))))))
 item-row (item.Lpi x) h = row-back _ _ _ (label-plain x.key (and-left _ _ (and-left _ _ (and-left _ _ (and-left _ _ (and-left _ _ (and-left _ _ (and-left _ _ h))))))))
+item-row (item.Release x) h = row-back _ _ _ (uprn-plain x.uprn (and-left _ _ (and-left _ _ h)))
+item-row (item.Adopt x) h =
+    row-back _ _ _ (uprn-plain x.blpu.uprn
+    (and-left _ _ (and-left _ _ (and-left _ _ (and-left _ _ (and-left _ _ (and-left _ _ (and-left _ _ (and-left _ _ (and-left _ _ (and-left _ _ h)))))))))))
 
 pub text-back : (x : Item) → is_item x ≡ true → item_of_text (kind_of x) (item_text x) ≡ Ok x
 text-back x h = rw (item-row x h) (fields-back x h)

@@ -43,10 +43,15 @@ abbrev pub parent_text : Option ℕ → List ℕ
 parent_text None = []
 parent_text (Some n) = decimal n
 
+-- the texts of its fields behind its number
+abbrev pub texts_behind : BlpuValue → List (List ℕ)
+texts_behind x =
+    status_text x.status ∷ decimal x.easting ∷ decimal x.northing ∷ parent_text x.parent
+    ∷ or_empty x.postcode ∷ date_text x.start ∷ end_text x.end ∷ []
+
 -- the texts of its fields
 abbrev pub blpu_texts : BlpuValue → List (List ℕ)
-blpu_texts x = decimal x.uprn ∷ status_text x.status ∷ decimal x.easting ∷ decimal x.northing
-    ∷ parent_text x.parent ∷ or_empty x.postcode ∷ date_text x.start ∷ end_text x.end ∷ []
+blpu_texts x = decimal x.uprn ∷ texts_behind x
 
 abbrev pub is_uprn : ℕ → Bool
 is_uprn n = nat_le 1 n && nat_le n 999_999_999_999

@@ -6,6 +6,9 @@ use Rattle.gaz_records.specs.Descriptors.{descriptor_texts, is_descriptor, read_
 use Rattle.gaz_records.specs.Blpus.{blpu_texts, is_blpu, read_blpu}
 use Rattle.gaz_records.specs.Xrefs.{is_xref, read_xref, xref_texts}
 use Rattle.gaz_records.specs.Lpis.{is_lpi, lpi_texts, read_lpi}
+use Rattle.gaz_records.specs.Releases.{is_release, read_release, release_texts}
+use Rattle.gaz_records.specs.Adopts.{adopt_texts, is_adopt, read_adopt}
+use Rattle.gaz_records.specs.Kinds.{is_entry_kind}
 use Rattle.gaz_records.specs.declared.fields.FieldFault.{FieldFault}
 use Rattle.gaz_records.specs.declared.fields.FieldFault.TheVariants as fault
 use Rattle.gaz_records.specs.declared.item.Item.{Item}
@@ -24,6 +27,8 @@ read_item kind.Descriptor f = map_ok item.Descriptor (read_descriptor f)
 read_item kind.Blpu f = map_ok item.Blpu (read_blpu f)
 read_item kind.Xref f = map_ok item.Xref (read_xref f)
 read_item kind.Lpi f = map_ok item.Lpi (read_lpi f)
+read_item kind.Release f = map_ok item.Release (read_release f)
+read_item kind.Adopt f = map_ok item.Adopt (read_adopt f)
 
 abbrev pub kind_of : Item → Kind
 kind_of (item.Street x) = kind.Street
@@ -31,6 +36,12 @@ kind_of (item.Descriptor x) = kind.Descriptor
 kind_of (item.Blpu x) = kind.Blpu
 kind_of (item.Xref x) = kind.Xref
 kind_of (item.Lpi x) = kind.Lpi
+kind_of (item.Release x) = kind.Release
+kind_of (item.Adopt x) = kind.Adopt
+
+-- what stands in views: a record of one of the five kinds of a gazetteer
+abbrev pub is_entry : Item → Bool
+is_entry x = is_entry_kind (kind_of x)
 
 -- the texts of an item's fields
 abbrev pub item_texts : Item → List (List ℕ)
@@ -39,6 +50,8 @@ item_texts (item.Descriptor x) = descriptor_texts x
 item_texts (item.Blpu x) = blpu_texts x
 item_texts (item.Xref x) = xref_texts x
 item_texts (item.Lpi x) = lpi_texts x
+item_texts (item.Release x) = release_texts x
+item_texts (item.Adopt x) = adopt_texts x
 
 -- the row of an item as `csv` writes it, without a line end
 abbrev pub item_text : Item → List ℕ
@@ -59,6 +72,8 @@ is_item (item.Descriptor x) = is_descriptor x
 is_item (item.Blpu x) = is_blpu x
 is_item (item.Xref x) = is_xref x
 is_item (item.Lpi x) = is_lpi x
+is_item (item.Release x) = is_release x
+is_item (item.Adopt x) = is_adopt x
 
 -- an item reads back from its fields and from its row
 abbrev pub ItemsReadBack : Type 0

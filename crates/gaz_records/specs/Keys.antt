@@ -13,13 +13,15 @@ use Rattle.gaz_records.specs.declared.item.Kind.TheVariants as kind
 use Rattle.gaz_records.specs.declared.key.Key.{Key}
 use Rattle.gaz_records.specs.declared.key.Key.TheVariants as key
 
--- the key under which an item stands
+-- the key under which an item stands; of a release and an adoption that of their BLPU
 abbrev pub key_of : Item → Key
 key_of (item.Street x) = key.Street x.usrn
 key_of (item.Descriptor x) = key.Descriptor x.usrn x.lang
 key_of (item.Blpu x) = key.Blpu x.uprn
 key_of (item.Xref x) = key.Xref x.key
 key_of (item.Lpi x) = key.Lpi x.key
+key_of (item.Release x) = key.Blpu x.uprn
+key_of (item.Adopt x) = key.Blpu x.blpu.uprn
 
 -- the record identifier of its kind
 abbrev pub kind_number : Key → ℕ

@@ -10,6 +10,8 @@ pub mod Descriptors
 pub mod Blpus
 pub mod Xrefs
 pub mod Lpis
+pub mod Releases
+pub mod Adopts
 pub mod Items
 pub mod Keys
 pub mod SortKeys

@@ -10,6 +10,12 @@ usrn = Digits 8 1 99_999_999
 abbrev pub uprn : Form
 uprn = Digits 12 1 999_999_999_999
 
+abbrev pub code : Form
+code = Digits 4 1 9999
+
+abbrev pub hop : Form
+hop = Digits 4 1 9999
+
 -- 11 street: usrn (key); type; start date; end date
 abbrev pub street_table : List Form
 street_table = usrn ∷ Digits 1 1 4 ∷ Date ∷ Opt EndDate ∷ []
@@ -35,3 +41,14 @@ abbrev pub lpi_table : List Form
 lpi_table =
     LabelTo 14 ∷ uprn ∷ Language ∷ LpiStatus ∷ usrn ∷ Opt AddressableObject ∷ AddressableObject
     ∷ Date ∷ Opt EndDate ∷ []
+
+-- 91 release: uprn (key); the custodian that is to have it; hop
+abbrev pub release_table : List Form
+release_table = uprn ∷ code ∷ hop ∷ []
+
+-- 92 adoption: uprn (key); the custodian that released it; hop; then as of a BLPU: status; easting,
+-- northing in metres; parent uprn; postcode; start date; end date
+abbrev pub adopt_table : List Form
+adopt_table =
+    uprn ∷ code ∷ hop ∷ BlpuStatus ∷ Digits 6 0 700_000 ∷ Digits 7 0 1_300_000 ∷ Opt uprn
+    ∷ Opt (TextTo 8) ∷ Date ∷ Opt EndDate ∷ []

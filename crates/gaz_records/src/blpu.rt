@@ -1,8 +1,8 @@
 ghost use Rattle.std.specs.Prelude.{◌≡◌, ◌≤◌, ◌++◌, drop, OnOk, true};
 ghost use Rattle.csv.specs.Records.{fields_of};
 ghost use Rattle.gaz_records.specs.Fields.{OrMemory};
-ghost use Rattle.gaz_records.specs.Blpus.{blpu_texts, is_blpu, read_blpu};
-ghost use Rattle.gaz_records.specs.Appending.{AddsLine, Grows};
+ghost use Rattle.gaz_records.specs.Blpus.{blpu_texts, is_blpu, read_blpu, texts_behind};
+ghost use Rattle.gaz_records.specs.Appending.{AddsFields, AddsLine, Grows};
 
 use crate::day::Day;
 use crate::fields::FieldFault;
@@ -112,6 +112,15 @@ impl Blpu {
         ensures kept { Grows out.old.items out.new.items }
     {
         add_number(out, self.uprn.number())?;
+        self.write_behind(out)?;
+        Ok(())
+    }
+
+    /// Adds the fields behind the number, each behind a comma.
+    pub(crate) fn write_behind(&self, out: &mut Vec<u8>) -> Result<(), AllocError>
+        ensures row { OnOk result (AddsFields out.old.items out.new.items (texts_behind self.now)) }
+        ensures kept { Grows out.old.items out.new.items }
+    {
         next_field(out, self.status.text())?;
         next_number(out, self.easting.number())?;
         next_number(out, self.northing.number())?;

@@ -1,20 +1,23 @@
 ghost use Rattle.std.specs.Prelude.{◌≡◌, ◌≤◌, ◌++◌, drop, IfOk, Ok, OnErr, OnOk, true};
 ghost use Rattle.csv.specs.Records.{fields_of};
 ghost use Rattle.gaz_records.specs.Fields.{OrMemory};
-ghost use Rattle.gaz_records.specs.Items.{is_item, item_of_text, item_text, kind_of, read_item};
+ghost use Rattle.gaz_records.specs.Items.{is_entry, is_item, item_of_text, item_text, kind_of};
+ghost use Rattle.gaz_records.specs.Items.{read_item};
 ghost use Rattle.gaz_records.specs.Appending.{Grows};
 
+use crate::adopt::Adopt;
 use crate::blpu::Blpu;
 use crate::descriptor::Descriptor;
 use crate::fields::FieldFault;
 use crate::lpi::Lpi;
+use crate::release::Release;
 use crate::street::Street;
 use crate::xref::Xref;
 use csv::ByteRecord;
 use gaz_rows::read_row;
 use std::alloc::{AllocError, Global};
 
-/// The kind of an item.
+/// The kind of an item. The five below 91 are entries: items of them stand in views.
 #[derive(Clone, Copy, Debug, PartialEq, Eq)]
 pub enum Kind {
     /// Record identifier 11.
@@ -27,9 +30,14 @@ pub enum Kind {
     Xref,
     /// Record identifier 24.
     Lpi,
+    /// Record identifier 91.
+    Release,
+    /// Record identifier 92.
+    Adopt,
 }
 
-/// An item of a custodian's gazetteer.
+/// An item of a custodian's gazetteer, or a record by which a property passes from one custodian
+/// to another.
 #[derive(Debug, Drop)]
 pub enum Item {
     Street(Street),
@@ -37,6 +45,8 @@ pub enum Item {
     Blpu(Blpu),
     Xref(Xref),
     Lpi(Lpi),
+    Release(Release),
+    Adopt(Adopt),
 }
 
 // A view shares one of these for each record of a gazetteer, so each is small.
@@ -76,6 +86,14 @@ pub fn read_item(
             Ok(lpi) => Ok(Item::Lpi(lpi)),
             Err(fault) => Err(fault),
         },
+        Kind::Release => match Release::read(row, skip) {
+            Ok(release) => Ok(Item::Release(release)),
+            Err(fault) => Err(fault),
+        },
+        Kind::Adopt => match Adopt::read(alloc, row, skip) {
+            Ok(adopt) => Ok(Item::Adopt(adopt)),
+            Err(fault) => Err(fault),
+        },
     }
 }
 
@@ -102,7 +120,16 @@ impl Item {
             Item::Blpu(_) => Kind::Blpu,
             Item::Xref(_) => Kind::Xref,
             Item::Lpi(_) => Kind::Lpi,
+            Item::Release(_) => Kind::Release,
+            Item::Adopt(_) => Kind::Adopt,
         }
+    }
+
+    /// Whether the item is one of those that stand in views.
+    pub fn is_entry(&self) -> bool
+        ensures { result ≡ is_entry self.now }
+    {
+        self.kind().is_entry()
     }
 
     /// What each item holds, for callers, who see its value alone.
@@ -115,6 +142,8 @@ impl Item {
             Item::Blpu(blpu) => blpu.known(),
             Item::Xref(xref) => xref.known(),
             Item::Lpi(lpi) => lpi.known(),
+            Item::Release(release) => release.known(),
+            Item::Adopt(adopt) => adopt.known(),
         }
     }
 }
@@ -131,6 +160,8 @@ fn add_row(item: &Item, out: &mut Vec<u8>) -> Result<(), AllocError>
         Item::Blpu(blpu) => Ok(blpu.write(out)?),
         Item::Xref(xref) => Ok(xref.write(out)?),
         Item::Lpi(lpi) => Ok(lpi.write(out)?),
+        Item::Release(release) => Ok(release.write(out)?),
+        Item::Adopt(adopt) => Ok(adopt.write(out)?),
     }
 }
 

@@ -29,7 +29,7 @@ impl Key {
     }
 }
 
-/// The key under which an item stands.
+/// The key under which an item stands; of a release and an adoption that of their BLPU.
 pub fn key_of(item: &Item) -> Key
     ensures { result ≡ key_of item.now }
 {
@@ -39,5 +39,7 @@ pub fn key_of(item: &Item) -> Key
         Item::Blpu(blpu) => Key::Blpu(blpu.uprn),
         Item::Xref(xref) => Key::Xref(xref.key),
         Item::Lpi(lpi) => Key::Lpi(lpi.key),
+        Item::Release(release) => Key::Blpu(release.uprn),
+        Item::Adopt(adopt) => Key::Blpu(adopt.blpu.uprn),
     }
 }

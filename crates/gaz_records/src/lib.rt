@@ -1,7 +1,8 @@
-//! The records of a gazetteer: streets, their descriptors, BLPUs, cross references and LPIs, their
-//! fields, rows and keys.
+//! The records of a gazetteer: streets, their descriptors, BLPUs, cross references and LPIs, and
+//! those by which a property passes between custodians; their fields, rows and keys.
 #![tactic(auto)]
 
+mod adopt;
 mod blpu;
 mod day;
 mod descriptor;
@@ -15,12 +16,14 @@ mod lpi;
 mod reading;
 mod reading_codes;
 mod reading_texts;
+mod release;
 mod row;
 mod shared;
 mod sort_key;
 mod street;
 mod xref;
 
+pub use adopt::Adopt;
 pub use blpu::{Blpu, Easting, Northing};
 pub use day::{Day, EndDay};
 pub use descriptor::Descriptor;
@@ -29,6 +32,7 @@ pub use item::{Item, Kind, item_of_text, item_text, read_item, write_item};
 pub use key::{Key, key_of};
 pub use label::{Label, RecordKey, Source};
 pub use lpi::Lpi;
+pub use release::Release;
 pub use shared::{SharedItem, item_in};
 pub use sort_key::SortKey;
 pub use street::Street;

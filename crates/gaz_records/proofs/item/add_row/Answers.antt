@@ -8,3 +8,6 @@ returns-in_ok-write-in-Blpu-clause-row c = rw c.in-Blpu.is c.in_ok-write-in-Blpu
 
 pub returns-in_ok-write-in-Xref-clause-row : goal.returns-in_ok-write-in-Xref-clause-row
 returns-in_ok-write-in-Xref-clause-row c = rw c.in-Xref.is c.in_ok-write-in-Xref.ensures.row
+
+pub returns-in_ok-write-in-Adopt-clause-row : goal.returns-in_ok-write-in-Adopt-clause-row
+returns-in_ok-write-in-Adopt-clause-row c = rw c.in-Adopt.is c.in_ok-write-in-Adopt.ensures.row

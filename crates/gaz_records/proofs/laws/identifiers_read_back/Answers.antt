@@ -11,6 +11,8 @@ each kind.Descriptor = (refl, refl)
 each kind.Blpu = (refl, refl)
 each kind.Xref = (refl, refl)
 each kind.Lpi = (refl, refl)
+each kind.Release = (refl, refl)
+each kind.Adopt = (refl, refl)
 
 pub returns : goal.returns
 returns c = each

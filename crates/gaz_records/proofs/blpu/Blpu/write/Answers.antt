@@ -1,60 +1,12 @@
-use Rattle.std.proofs.Common.{[], ◌∷◌}
+use Rattle.std.proofs.Common.{◌≡◌}
 use Rattle.std.specs.Prelude.{decimal}
-use Rattle.gaz_ids.specs.Codes.{status_text}
-use Rattle.gaz_records.specs.Blpus.{parent_text}
-use Rattle.gaz_records.specs.Days.{date_text, end_text}
-use Rattle.gaz_records.specs.Fields.{or_empty}
-use Rattle.gaz_records.proofs.Growing.{◌>>◌}
-use Rattle.gaz_records.proofs.Written.{more, row_is}
+use Rattle.gaz_records.specs.Blpus.{texts_behind}
+use Rattle.gaz_records.proofs.Written.{row_is}
 use Rattle.gaz_records.proofs.blpu.Blpu.write.Goals as goal
 
 pub returns-clause-row : goal.returns-clause-row
 returns-clause-row c =
-    let x = c.self.inside in
-    let uprn = rw c.number.ensures.value at c.in_ok-add_number.ensures.row in
-    let status = rw c.text.ensures at c.in_ok-next_field.ensures.row in
-    let easting = rw c.number-2.ensures.value at c.in_ok-next_number.ensures.row in
-    let northing = rw c.number-3.ensures.value at c.in_ok-next_number-2.ensures.row in
-    let s = status_text x.status in
-    let e = decimal x.easting in
-    let n = decimal x.northing in
-    let p = parent_text x.parent in
-    let c' = or_empty x.postcode in
-    let dates = date_text x.start ∷ end_text x.end ∷ [] in
-    let two = more _ _ _ (s ∷ []) (e ∷ []) status easting in
-    let three = more _ _ _ (s ∷ e ∷ []) (n ∷ []) two northing in
-    let four = more _ _ _ (s ∷ e ∷ n ∷ []) (p ∷ []) three c.in_ok-next_parent.ensures.row in
-    let five = more _ _ _ (s ∷ e ∷ n ∷ p ∷ []) (c' ∷ []) four c.in_ok-next_text.ensures.row in
-    let all = more _ _ _ (s ∷ e ∷ n ∷ p ∷ c' ∷ []) dates five c.in_ok-next_dates.ensures.row in
-    rw (← c.self.view_is) (row_is c.args.out.now.items _ _ (decimal x.uprn) (s ∷ e ∷ n ∷ p ∷ c' ∷ dates) uprn all)
-
-pub returns-in_err-next_field-clause-kept : goal.returns-in_err-next_field-clause-kept
-returns-in_err-next_field-clause-kept c = c.add_number.ensures.kept >> c.next_field.ensures.kept
-
-pub returns-in_err-next_number-clause-kept : goal.returns-in_err-next_number-clause-kept
-returns-in_err-next_number-clause-kept c = c.add_number.ensures.kept >> c.next_field.ensures.kept >> c.next_number.ensures.kept
-
-pub returns-in_err-next_number-2-clause-kept : goal.returns-in_err-next_number-2-clause-kept
-returns-in_err-next_number-2-clause-kept c =
-    c.add_number.ensures.kept >> c.next_field.ensures.kept
-    >> c.next_number.ensures.kept >> c.next_number-2.ensures.kept
-
-pub returns-in_err-next_parent-clause-kept : goal.returns-in_err-next_parent-clause-kept
-returns-in_err-next_parent-clause-kept c =
-    c.add_number.ensures.kept >> c.next_field.ensures.kept >> c.next_number.ensures.kept
-    >> c.next_number-2.ensures.kept >> c.next_parent.ensures.kept
-
-pub returns-in_err-next_text-clause-kept : goal.returns-in_err-next_text-clause-kept
-returns-in_err-next_text-clause-kept c =
-    c.add_number.ensures.kept >> c.next_field.ensures.kept >> c.next_number.ensures.kept
-    >> c.next_number-2.ensures.kept >> c.next_parent.ensures.kept >> c.next_text.ensures.kept
-
-pub returns-in_err-next_dates-clause-kept : goal.returns-in_err-next_dates-clause-kept
-returns-in_err-next_dates-clause-kept c =
-    c.add_number.ensures.kept >> c.next_field.ensures.kept >> c.next_number.ensures.kept >> c.next_number-2.ensures.kept
-    >> c.next_parent.ensures.kept >> c.next_text.ensures.kept >> c.next_dates.ensures.kept
-
-pub returns-clause-kept : goal.returns-clause-kept
-returns-clause-kept c =
-    c.add_number.ensures.kept >> c.next_field.ensures.kept >> c.next_number.ensures.kept >> c.next_number-2.ensures.kept
-    >> c.next_parent.ensures.kept >> c.next_text.ensures.kept >> c.next_dates.ensures.kept
+    let x = c.args.self.now in
+    let number-is : c.self.inside.uprn ≡ x.uprn = cc in
+    let uprn = rw (c.number.ensures.value, number-is) at c.in_ok-add_number.ensures.row in
+    row_is c.args.out.now.items _ _ (decimal x.uprn) (texts_behind x) uprn c.in_ok-write_behind.ensures.row

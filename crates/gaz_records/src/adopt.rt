@@ -1,0 +1,76 @@
+ghost use Rattle.std.specs.Prelude.{◌≡◌, ◌≤◌, ◌++◌, drop, OnOk, true};
+ghost use Rattle.csv.specs.Records.{fields_of};
+ghost use Rattle.gaz_records.specs.Fields.{OrMemory};
+ghost use Rattle.gaz_records.specs.Adopts.{adopt_texts, is_adopt, read_adopt};
+ghost use Rattle.gaz_records.specs.Appending.{AddsLine, Grows};
+
+use crate::blpu::Blpu;
+use crate::fields::FieldFault;
+use crate::reading::Fields;
+use crate::row::{add_number, next_number};
+use csv::ByteRecord;
+use gaz_ids::{Code, Hop};
+use std::alloc::{AllocError, Global};
+
+/// A custodian takes a property that another released to it (our profile): the BLPU as it is to
+/// stand in its gazetteer, who released it, and how often it has passed on then.
+#[derive(Debug, Drop)]
+pub struct Adopt {
+    pub blpu: Blpu,
+    pub from: Code,
+    pub hop: Hop,
+}
+
+impl Adopt {
+    #[tactic(auto, using(std::proofs::lemmas::Bool::Decides::nat_tests), unfolding(crate::specs::Adopts::read_adopt))]
+    /// The adoption that the fields behind the first ones say.
+    pub(crate) fn read(alloc: Global, row: &ByteRecord, skip: usize) -> Result<Adopt, FieldFault>
+        requires { skip ≤ 3 }
+        ensures { OrMemory result (read_adopt (drop skip (fields_of row.now))) }
+    {
+        let fields = Fields::open(row, skip, 10)?;
+        let uprn = fields.number(0)?;
+        let from = fields.number(1)?;
+        let hop = fields.number(2)?;
+        let status = fields.blpu_status(3)?;
+        let easting = fields.number(4)?;
+        let northing = fields.number(5)?;
+        let parent = fields.opt_number(6)?;
+        let postcode = fields.opt_text(alloc, 7)?;
+        let start = fields.day(8)?;
+        let end = fields.end_day(9, &start)?;
+        let blpu = Blpu {
+            uprn,
+            status,
+            easting,
+            northing,
+            parent,
+            postcode,
+            start,
+            end,
+        };
+        Ok(Adopt { blpu, from, hop })
+    }
+
+    #[tactic(auto, using(std::proofs::lemmas::Bool::Decides::nat_tests))]
+    /// What each adoption holds, for callers, who see its value alone.
+    pub fn known(&self)
+        ensures { is_adopt self.now ≡ true }
+    {
+        self.blpu.known();
+        let _ = self.from.number();
+        let _ = self.hop.number();
+    }
+
+    /// Adds the row of the fields as `csv` writes it, without a line end.
+    pub(crate) fn write(&self, out: &mut Vec<u8>) -> Result<(), AllocError>
+        ensures row { OnOk result (AddsLine out.old.items out.new.items (adopt_texts self.now)) }
+        ensures kept { Grows out.old.items out.new.items }
+    {
+        add_number(out, self.blpu.uprn.number())?;
+        next_number(out, self.from.number())?;
+        next_number(out, self.hop.number())?;
+        self.blpu.write_behind(out)?;
+        Ok(())
+    }
+}

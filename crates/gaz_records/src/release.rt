@@ -1,0 +1,57 @@
+ghost use Rattle.std.specs.Prelude.{◌≡◌, ◌≤◌, ◌++◌, drop, OnOk, true};
+ghost use Rattle.csv.specs.Records.{fields_of};
+ghost use Rattle.gaz_records.specs.Fields.{OrMemory};
+ghost use Rattle.gaz_records.specs.Releases.{is_release, read_release, release_texts};
+ghost use Rattle.gaz_records.specs.Appending.{AddsLine, Grows};
+
+use crate::fields::FieldFault;
+use crate::reading::Fields;
+use crate::row::{add_number, next_number};
+use csv::ByteRecord;
+use gaz_ids::{Code, Hop, Uprn};
+use std::alloc::AllocError;
+
+/// A custodian gives a property up to another (our profile): its number, who is to have it, and
+/// how often it will have passed on then.
+#[derive(Debug, Drop)]
+pub struct Release {
+    pub uprn: Uprn,
+    pub to: Code,
+    pub hop: Hop,
+}
+
+impl Release {
+    #[tactic(auto, using(std::proofs::lemmas::Bool::Decides::nat_tests), unfolding(crate::specs::Releases::read_release))]
+    /// The release that the fields behind the first ones say.
+    pub(crate) fn read(row: &ByteRecord, skip: usize) -> Result<Release, FieldFault>
+        requires { skip ≤ 3 }
+        ensures { result ≡ read_release (drop skip (fields_of row.now)) }
+    {
+        let fields = Fields::open(row, skip, 3)?;
+        let uprn = fields.number(0)?;
+        let to = fields.number(1)?;
+        let hop = fields.number(2)?;
+        Ok(Release { uprn, to, hop })
+    }
+
+    #[tactic(auto, using(std::proofs::lemmas::Bool::Decides::nat_tests))]
+    /// What each release holds, for callers, who see its value alone.
+    pub fn known(&self)
+        ensures { is_release self.now ≡ true }
+    {
+        let _ = self.uprn.number();
+        let _ = self.to.number();
+        let _ = self.hop.number();
+    }
+
+    /// Adds the row of the fields as `csv` writes it, without a line end.
+    pub(crate) fn write(&self, out: &mut Vec<u8>) -> Result<(), AllocError>
+        ensures row { OnOk result (AddsLine out.old.items out.new.items (release_texts self.now)) }
+        ensures kept { Grows out.old.items out.new.items }
+    {
+        add_number(out, self.uprn.number())?;
+        next_number(out, self.to.number())?;
+        next_number(out, self.hop.number())?;
+        Ok(())
+    }
+}
