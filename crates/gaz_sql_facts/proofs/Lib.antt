@@ -1,4 +1,8 @@
+pub mod ArchiveTexts
+pub mod Copies
+pub mod Emptied
 pub mod Equal
+pub mod Gains
 pub mod Inserts
 pub mod Lists
 pub mod Meanings

@@ -45,21 +45,21 @@ use Rattle.gaz_sql_facts.proofs.Selects.{selects, selected, found}
 use Rattle.gaz_sql_facts.proofs.Texts.{IsCommand, overlay_none}
 use Rattle.gaz_sql_facts.proofs.Typed.{negated, typed, cast_int, kept_by_cast}
 
-shaped_left : (ids : List ℤ) (rows : List Row) → IsShaped shape.Table rows → IsShaped shape.Table (without_all rows ids)
+pub shaped_left : (ids : List ℤ) (rows : List Row) → IsShaped shape.Table rows → IsShaped shape.Table (without_all rows ids)
 shaped_left [] rows h = h
 shaped_left (id ∷ ids) rows h = shaped_left ids (without_rowid id rows) (IsShaped-filter shape.Table _ rows h)
 
-shaped_put : (news rows : List Row) → have_rowids news ≡ true → IsShaped shape.Table rows → IsShaped shape.Table (put_all rows news)
+pub shaped_put : (news rows : List Row) → have_rowids news ≡ true → IsShaped shape.Table rows → IsShaped shape.Table (put_all rows news)
 shaped_put [] rows keyed h = h
 shaped_put (n ∷ news) rows keyed h = let parts = and_parts _ _ keyed in shaped_put news (put_row n rows) parts.1 (IsShaped-put_row n rows parts.0 h)
 
 -- a row that is taken out is not there
-taken_out : (id : ℤ) (ids : List ℤ) (rows : List Row) (x : Row) → Has ids id → Has (without_all rows ids) x → has_rowid id x ≡ false
+pub taken_out : (id : ℤ) (ids : List ℤ) (rows : List Row) (x : Row) → Has ids id → Has (without_all rows ids) x → has_rowid id x ≡ false
 taken_out id [] rows x h there = absurd h
 taken_out id (i ∷ ids) rows x (inl same) there = negated _ (subst (λ k. not (has_rowid k x) ≡ true) (sym same) (has_filtered _ rows x (without_all_has ids (without_rowid i rows) x there)).1)
 taken_out id (i ∷ ids) rows x (inr later) there = taken_out id ids (without_rowid i rows) x later there
 
-own_rowid : (r : Row) → is_int (rowid r) ≡ true → has_rowid (id_in (rowid r)) r ≡ true
+pub own_rowid : (r : Row) → is_int (rowid r) ≡ true → has_rowid (id_in (rowid r)) r ≡ true
 own_rowid r h =
     let e = int_is (rowid r) h in
     subst (λ v. is_eq (value_cmp v (Int (id_in (rowid r)))) ≡ true) (sym e) (ap is_eq (value_cmp-Int (id_in (rowid r)) (id_in (rowid r))) ∙ (signed_Decides (id_in (rowid r)) (id_in (rowid r))).1 refl)
