@@ -2,10 +2,12 @@ pub mod ArchiveTexts
 pub mod Copies
 pub mod Emptied
 pub mod Equal
+pub mod Examples
 pub mod Gains
 pub mod Inserts
 pub mod Lists
 pub mod Meanings
+pub mod Moving
 pub mod NoteTexts
 pub mod Selects
 pub mod Texts

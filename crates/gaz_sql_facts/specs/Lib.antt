@@ -2,7 +2,9 @@ pub mod Archive
 pub mod Changes
 pub mod Copies
 pub mod Emptied
+pub mod Examples
 pub mod Gains
+pub mod Laws
 pub mod Notes
 pub mod Selects
 pub mod Tables
