@@ -85,4 +85,4 @@ module _ (old new : State) where
   pub empty_done : HasArchive old.now → (r : Result ℕ Error) → ExecutesInside 0 empty_text [] old new r → OnOk r (Changes notes IsEmptied old.now new.now × InPlace old new)
   empty_done has (Err e) h = tt
   empty_done has (Ok count) h = emptied with_by_day 0 notes None _ _ ((1 ∷ 2 ∷ 3 ∷ []) ∷ []) note_columns _ empty_terms refl (λ _ _ _. refl) (λ r. refl)
-      empty_text empty_is old new has.schema_is count has.shaped h.0
+      empty_text empty_is old new has.schema_is count has.notes_shaped h.0

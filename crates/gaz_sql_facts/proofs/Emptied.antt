@@ -37,6 +37,9 @@ use Rattle.gaz_sql_facts.proofs.Selects.{selects, found}
 use Rattle.gaz_sql_facts.proofs.Texts.{IsCommand, overlay_none}
 use Rattle.gaz_sql_facts.proofs.Updates.{taken_out, own_rowid, shaped_left}
 
+pub empty_is_shaped : (rows : List Row) → rows ≡ [] → IsShaped shape.Table rows
+empty_is_shaped rows none = subst (IsShaped shape.Table) (sym none) (tt, tt)
+
 none_there : (rows : List Row) → ((r : Row) → ¬ Has rows r) → rows ≡ []
 none_there [] none = refl
 none_there (r ∷ rows) none = absurd (none r (inl refl))

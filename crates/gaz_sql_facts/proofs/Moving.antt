@@ -1,17 +1,14 @@
 -- The statements over the archive, one after another.
-use Rattle.std.proofs.Common.{◌≡◌, inl, inr, List, [], arith, refl, sym, subst, ◌∙◌}
+use Rattle.std.proofs.Common.{◌≡◌, inl, inr, [], arith, refl, sym, subst, ◌∙◌}
 use Rattle.sqlite_rules.specs.Lists.{Has}
 use Rattle.sqlite_trees.specs.declared.store.Shape.TheVariants as shape
 use Rattle.sqlite.specs.Change.{next_tree}
-use Rattle.sqlite.specs.Order.{Row}
 use Rattle.sqlite.specs.View.{IsShaped}
 use Rattle.gaz_sql_facts.specs.Archive.{archive, archived, never_lent, notes}
 use Rattle.gaz_sql_facts.specs.Copies.{AreCopied}
 use Rattle.gaz_sql_facts.specs.Laws.{NotesAreMoved}
 use Rattle.gaz_sql_facts.specs.Notes.{note}
-
-empty_is_shaped : (rows : List Row) → rows ≡ [] → IsShaped shape.Table rows
-empty_is_shaped rows none = subst (IsShaped shape.Table) (sym none) (tt, tt)
+use Rattle.gaz_sql_facts.proofs.Emptied.{empty_is_shaped}
 
 pub moved : NotesAreMoved
 moved old made with_index filled new has makes indexes copies empties =
@@ -29,7 +26,8 @@ moved old made with_index filled new has makes indexes copies empties =
       tables = record {
         schema_is = empties.schema_stays ∙ copies.schema_stays ∙ indexes.schema_is;
         sound = empties.sound;
-        shaped = empty_is_shaped (new.trees notes) empties.rows;
+        notes_shaped = empty_is_shaped (new.trees notes) empties.rows;
+        archive_shaped = subst (IsShaped shape.Table) (sym stays) (copies.shaped (empty_is_shaped (with_index.trees archived) before));
       };
       rows = subst (AreCopied never_lent (old.trees notes) []) (sym stays) over_none;
       emptied = empties.rows;

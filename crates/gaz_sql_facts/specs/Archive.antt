@@ -67,7 +67,8 @@ with_by_day = record {
 pub record HasArchive (db : Database) : Type 0 where
   pub schema_is : db.schema ≡ with_by_day
   pub sound : IsDatabase db
-  pub shaped : IsShaped shape.Table (db.trees notes)
+  pub notes_shaped : IsShaped shape.Table (db.trees notes)
+  pub archive_shaped : IsShaped shape.Table (db.trees archived)
 
 -- a note's values, never lent
 abbrev pub never_lent : Row → Row

@@ -6,13 +6,11 @@ use Rattle.sqlite.specs.Effect.{Database, IsDatabase}
 use Rattle.sqlite.specs.Order.{Row}
 use Rattle.sqlite.specs.View.{IsShaped}
 use Rattle.gaz_sql_facts.specs.Changes.{Changes, IsAdded}
+use Rattle.gaz_sql_facts.proofs.Emptied.{empty_is_shaped}
 use Rattle.gaz_tables.specs.Creating.{IsBare, IsNewStore}
 use Rattle.gaz_tables.specs.Metas.{AddsMeta, meta_row}
 use Rattle.gaz_tables.specs.Schema.{store_schema, version, received, versions, receiveds, metas}
 use Rattle.gaz_tables.specs.Stores.{HasTables}
-
-empty_is_shaped : (rows : List Row) → rows ≡ [] → IsShaped shape.Table rows
-empty_is_shaped rows none = subst (IsShaped shape.Table) (sym none) (tt, tt)
 
 pub bare_tables : (db : Database) → IsBare store_schema db → IsDatabase db → HasTables db
 bare_tables db bare sound = record {
