@@ -4,6 +4,7 @@ use Rattle.std.specs.Prelude.{Option, None, filter, option_map}
 use Rattle.std.specs.FinMap as finite
 use Rattle.std.specs.FinSet as set
 use Rattle.std.specs.List.{list_any}
+use Rattle.std.specs.Ordering.{nat_cmp}
 use Rattle.gaz_ids.specs.declared.lang.Lang.{Lang}
 use Rattle.gaz_records.specs.Keys.{key_cmp}
 use Rattle.gaz_records.specs.declared.item.Item.{Item}
@@ -11,7 +12,7 @@ use Rattle.gaz_records.specs.declared.item.Kind.{Kind}
 use Rattle.gaz_records.specs.declared.key.Key.{Key}
 use Rattle.gaz_records.specs.declared.key.Key.TheVariants as key
 use Rattle.gaz_views.proofs.Trees.{no_entries}
-use Rattle.gaz_views.specs.View.{View, empty_view, was_used}
+use Rattle.gaz_views.specs.View.{View, custody_at, empty_view, was_used}
 use Rattle.gaz_views.specs.Words.{address_of, approved_of, approved_on, comes_after, entries, has_children, is_approved_of, is_approved_on, is_child_of, is_of, page, property_of}
 
 -- ---- the empty view
@@ -23,6 +24,10 @@ get_none k = finite.get-empty key_cmp k
 pub used_none : (k : Key) → was_used empty_view k ≡ false
 unfolding empty_view
 used_none k = set.contains-empty key_cmp k
+
+pub no_custody : (n : ℕ) → custody_at empty_view n ≡ None
+unfolding empty_view
+no_custody n = finite.get-empty nat_cmp n
 
 pub no_entries_yet : entries empty_view ≡ []
 unfolding empty_view

@@ -29,7 +29,7 @@ pub get_no_more : (k : Key) → map.get no_more.items k ≡ cond (eq_by_cmp key_
 get_no_more k = map.get-remove keys_total one_street.items (key.Street 101) k
 
 -- the entries that putting these items one after another leaves
-abbrev entries_put : List (Key × Item) → List Item → List (Key × Item)
+abbrev pub entries_put : List (Key × Item) → List Item → List (Key × Item)
 entries_put es [] = es
 entries_put es (i ∷ is) = entries_put (map.put key_cmp (key_of i) i es) is
 
@@ -39,6 +39,10 @@ entries_after v es e (i ∷ is) = entries_after (with_item v i) (map.put key_cmp
 
 these : (is : List Item) → entries (fold with_item empty_view is) ≡ entries_put [] is
 these = entries_after empty_view [] no_entries_yet
+
+-- the entries of a gazetteer of all kinds
+pub in_turn : entries all_kinds ≡ entries_put [] put_in_turn
+in_turn = these put_in_turn
 
 judgements_hold : WorkedJudgements
 unfolding judgements
@@ -63,9 +67,6 @@ worked_examples_hold = record { on_views = on_views; on_words = on_words; on_pag
       is_taken = rw (get_no_more (key.Street 101)) refl;
       stays_used = used_one (key.Street 101);
     }
-
-    in_turn : entries all_kinds ≡ entries_put [] put_in_turn
-    in_turn = these put_in_turn
 
     one_address : List Item
     one_address = lpi (codes "L4") 1002 Eng Approved 101 ∷ []

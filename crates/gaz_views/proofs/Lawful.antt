@@ -1,10 +1,11 @@
 -- Views that keep to the laws of a gazetteer.
-use Rattle.std.proofs.Common.{◌≡◌, ◌∙◌, ◌||◌, Bool, true, false, cond, sym, ap, refl, is_some, true≢false}
+use Rattle.std.proofs.Common.{◌≡◌, ◌∙◌, ◌||◌, Bool, true, false, cond, sym, ap, subst, refl, is_some, true≢false}
 use Rattle.std.specs.Prelude.{Option, Some, None}
 use Rattle.std.specs.FinMap as finite
 use Rattle.std.specs.FinSet as set
 use Rattle.std.specs.Ordering.{eq_by_cmp}
 use Rattle.gaz_records.proofs.KeyOrder.{keys_total}
+use Rattle.gaz_records.specs.Items.{is_entry}
 use Rattle.gaz_records.specs.Keys.{key_cmp, key_of}
 use Rattle.gaz_records.specs.declared.item.Item.{Item}
 use Rattle.gaz_records.specs.declared.key.Key.{Key}
@@ -15,14 +16,22 @@ use Rattle.gaz_views.specs.View.{View, empty_view, holds, was_used, with_item, w
 
 pub lawful_empty : IsLawfulView empty_view
 lawful_empty = record {
+  entries = λ k i there. let none : Some i ≡ None = sym there ∙ get_none k in cc;
   keyed = λ k i there. let none : Some i ≡ None = sym there ∙ get_none k in cc;
   used = λ k there. absurd (true≢false (sym there ∙ ap is_some (get_none k)));
 }
 
 -- an item is set at its own key, which is used then
-pub lawful_put : (v : View) (i : Item) → IsLawfulView v → IsLawfulView (with_item v i)
-lawful_put v i was = record { keyed = keyed; used = used }
+pub lawful_put : (v : View) (i : Item) → is_entry i ≡ true → IsLawfulView v → IsLawfulView (with_item v i)
+lawful_put v i entry was = record { entries = entries; keyed = keyed; used = used }
   where
+    entries : (k : Key) (j : Item) → finite.get (with_item v i).items k ≡ Some j → is_entry j ≡ true
+    entries k j there = by_tie (eq_by_cmp key_cmp k (key_of i)) (sym (finite.get-insert keys_total v.items (key_of i) i k) ∙ there)
+      where
+        by_tie : (b : Bool) → cond b (Some i) (finite.get v.items k) ≡ Some j → is_entry j ≡ true
+        by_tie true is = let same : i ≡ j = cc in subst (λ x. is_entry x ≡ true) same entry
+        by_tie false is = was.entries k j is
+
     keyed : (k : Key) (j : Item) → finite.get (with_item v i).items k ≡ Some j → key_of j ≡ k
     keyed k j there = by_tie (eq_by_cmp key_cmp k (key_of i)) refl (sym (finite.get-insert keys_total v.items (key_of i) i k) ∙ there)
       where
@@ -39,10 +48,17 @@ lawful_put v i was = record { keyed = keyed; used = used }
 
 -- an item is taken, and its key stays used
 pub lawful_taken : (v : View) (key : Key) → IsLawfulView v → IsLawfulView (without_key v key)
-lawful_taken v key was = record { keyed = keyed; used = used }
+lawful_taken v key was = record { entries = entries; keyed = keyed; used = used }
   where
     left : (k : Key) (o : Option Item) → finite.get v.items k ≡ o → finite.get (without_key v key).items k ≡ cond (eq_by_cmp key_cmp k key) None o
     left k o is = finite.get-remove keys_total v.items key k ∙ ap (cond (eq_by_cmp key_cmp k key) None) is
+
+    entries : (k : Key) (j : Item) → finite.get (without_key v key).items k ≡ Some j → is_entry j ≡ true
+    entries k j there = by_tie (eq_by_cmp key_cmp k key) (sym (left k (finite.get v.items k) refl) ∙ there)
+      where
+        by_tie : (b : Bool) → cond b None (finite.get v.items k) ≡ Some j → is_entry j ≡ true
+        by_tie true is = let none : None ≡ Some j = is in cc
+        by_tie false is = was.entries k j is
 
     keyed : (k : Key) (j : Item) → finite.get (without_key v key).items k ≡ Some j → key_of j ≡ k
     keyed k j there = by_tie (eq_by_cmp key_cmp k key) (sym (left k (finite.get v.items k) refl) ∙ there)

@@ -6,3 +6,4 @@ pub mod Examples
 pub mod Pages
 pub mod Judgements
 pub mod Lawful
+pub mod CustodyExamples

@@ -1,3 +1,4 @@
+pub mod Custody
 pub mod View
 pub mod Words
 pub mod Reading
@@ -6,3 +7,4 @@ pub mod Judgements
 pub mod Accounts
 pub mod ViewCode
 pub mod Examples
+pub mod CustodyExamples

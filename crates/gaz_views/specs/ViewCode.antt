@@ -1,8 +1,9 @@
 -- Views, judgements and accounts can be stored as the values of models.
 use Rattle.std.specs.Prelude.{refl, List}
-use Rattle.std.specs.Coded.{Coded, code_by, coded_list, coded×}
+use Rattle.std.specs.Coded.{Coded, code_by, coded_list, coded_ℕ, coded×}
 use Rattle.std.specs.FinMap as map
 use Rattle.std.specs.FinSet as set
+use Rattle.std.specs.Ordering.{nat_cmp}
 use Rattle.gaz_records.specs.Keys.{key_cmp}
 use Rattle.gaz_records.specs.declared.item.Item.{Item}
 use Rattle.gaz_records.specs.contracts.key.Key as key
@@ -10,14 +11,18 @@ use Rattle.gaz_records.specs.contracts.item.Item as item
 use Rattle.gaz_views.specs.Judgements.{Judgement}
 use Rattle.gaz_views.specs.Accounts.{Account}
 use Rattle.gaz_views.specs.View.{View}
+use Rattle.gaz_views.specs.contracts.custody.Custody as custody
+use Rattle.gaz_views.specs.declared.custody.Custody.{Custody}
 use Rattle.gaz_views.specs.declared.verdict.Verdict.{Verdict}
 use Rattle.gaz_views.specs.contracts.verdict.Verdict as verdict
 
 abbrev pub view_code : Coded View
 view_code =
-    code_by (map.FinMap key_cmp Item × set.FinSet key_cmp)
-    (coded× (map.code key.the_row.coded item.the_row.coded) (set.code key.the_row.coded))
-    (λ v. (v.items, v.used)) (λ p. record { items = p.0; used = p.1 }) (λ _. refl)
+    code_by ((map.FinMap key_cmp Item × set.FinSet key_cmp) × map.FinMap nat_cmp Custody)
+    (coded× (coded× (map.code key.the_row.coded item.the_row.coded) (set.code key.the_row.coded))
+    (map.code coded_ℕ custody.the_row.coded))
+    (λ v. ((v.items, v.used), v.custody))
+    (λ p. record { items = p.0.0; used = p.0.1; custody = p.1 }) (λ _. refl)
 
 abbrev pub judgement_code : Coded Judgement
 judgement_code =

@@ -83,6 +83,16 @@ approved_on v usrn lang = list_any (λ e. is_approved_on usrn lang e.1) (entries
 abbrev pub has_children : View → ℕ → Bool
 has_children v uprn = list_any (λ e. is_child_of uprn e.1) (entries v)
 
+-- an LPI or a cross reference of the BLPU, of whatever status
+abbrev pub names : ℕ → Item → Bool
+names uprn (item.Xref x) = x.uprn == uprn
+names uprn (item.Lpi l) = l.uprn == uprn
+names uprn _ = false
+
+-- an LPI or a cross reference names the BLPU
+abbrev pub tied : View → ℕ → Bool
+tied v uprn = list_any (λ e. names uprn e.1) (entries v)
+
 -- ---- pages
 
 -- the key is one of the kind

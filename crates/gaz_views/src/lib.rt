@@ -2,9 +2,11 @@
 //! every keeper of views stands on.
 #![tactic(auto)]
 
+mod custody;
 pub mod laws;
 mod property;
 mod verdict;
 
+pub use custody::Custody;
 pub use property::{Property, share_found};
 pub use verdict::Verdict;
