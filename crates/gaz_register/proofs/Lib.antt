@@ -13,3 +13,4 @@ pub mod Telling
 pub mod Ownership
 pub mod Utf8
 pub mod Codes
+pub mod Grown

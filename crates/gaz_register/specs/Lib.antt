@@ -6,3 +6,6 @@ pub mod Reading
 pub mod Texts
 pub mod Indexes
 pub mod Laws
+pub mod Growing
+pub mod GrowthLaws
+pub mod GrowthExamples

@@ -11,6 +11,8 @@ mod file_fixtures;
 #[cfg(test)]
 mod files_back;
 #[cfg(test)]
+mod growth;
+#[cfg(test)]
 mod items;
 #[cfg(test)]
 mod keepers;
