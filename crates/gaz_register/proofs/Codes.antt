@@ -1,7 +1,7 @@
 -- The codes that a register has.
-use Rattle.std.proofs.Common.{◌≡◌, ℕ, cond, Bool, true, false, List, [], ◌∷◌, Option, Some, None, inl, inr, refl, sym, ◌∙◌, ap, true≢false, eqb, eqb-true}
-use Rattle.std.specs.Prelude.{◌&&◌, is_some, ◌==◌}
-use Rattle.std.specs.List.{find, list_all}
+use Rattle.std.proofs.Common.{◌≡◌, ℕ, cond, Bool, true, false, [], ◌∷◌, Some, None, inl, inr, refl, sym, ◌∙◌, ap, true≢false, eqb-true}
+use Rattle.std.specs.Prelude.{◌==◌}
+use Rattle.std.specs.List.{list_all}
 use Rattle.std.proofs.lemmas.Bool.{cases_Bool, and_parts}
 use Rattle.gaz_ids.specs.Numbers.{in_range, of_id}
 use Rattle.gaz_register.specs.Names.{is_name}

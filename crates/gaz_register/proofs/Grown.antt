@@ -1,15 +1,14 @@
 -- What a growth keeps.
-use Rattle.std.proofs.Common.{◌≡◌, ◌≢◌, inl, inr, ℕ, Bool, true, false, List, [], ◌∷◌, Option, Some, None, Ok, Err, refl, sym, ap, ◌∙◌, subst, true≢false, eqb-true, arith}
+use Rattle.std.proofs.Common.{◌≡◌, ◌≢◌, inl, inr, ℕ, Bool, true, false, List, [], ◌∷◌, Option, Some, None, refl, sym, ap, ◌∙◌, subst, true≢false, eqb-true, arith}
 use Rattle.std.specs.Prelude.{◌==◌, ◌&&◌, is_some, not}
-use Rattle.std.specs.Cmp.Lexicographic.{pointwise}
 use Rattle.std.specs.List.{list_all}
 use Rattle.std.specs.Option.{option_map_or}
 use Rattle.std.specs.Bool.{Decides}
 use Rattle.std.proofs.lemmas.Bool.{and_cases, and_parts, cases_Bool}
 use Rattle.std.proofs.lemmas.Bool.Decides.{nat_tests}
 use Rattle.std.proofs.lemmas.Slice.Eq.{slice_eq-Decides}
-use Rattle.gaz_register.specs.Growing.{Extends, growth_of, has_blocks, keeps_blocks, keeps_custodians, same_blocks}
-use Rattle.gaz_register.specs.GrowthLaws.{AllottedStays, ChangesBlocks, CodesStay, ExtendsComposes, GrowthTells, LosesCustodian, OwnersStay}
+use Rattle.gaz_register.specs.Growing.{Extends, has_blocks, keeps_blocks, keeps_custodians, same_blocks}
+use Rattle.gaz_register.specs.GrowthLaws.{AllottedStays, CodesStay, ExtendsComposes, GrowthTells, LosesCustodian, OwnersStay}
 use Rattle.gaz_register.specs.Registers.{Blocks, CustodianValue, RegisterValue, blocks_of, custodian_of, has_own_codes, knows, no_blocks, within}
 use Rattle.gaz_register.proofs.Ownership.{one-owner}
 use Rattle.gaz_register.proofs.Registered.{codes-own}
