@@ -111,15 +111,20 @@ row_at g v k = sym (get_at g v k) ∙ get-entries (view_at g v).items k
 
 -- ---- views that are one
 
-pub same_views : (v w : View) → ((k : Key) → finite.get v.items k ≡ finite.get w.items k) → ((k : Key) → set.contains v.used k ≡ set.contains w.used k) → v ≡ w
-same_views v w items used =
+pub same_views : (v w : View) → v.custody ≡ w.custody → ((k : Key) → finite.get v.items k ≡ finite.get w.items k) → ((k : Key) → set.contains v.used k ≡ set.contains w.used k) → v ≡ w
+same_views v w custody items used =
     let there = finite.same_map keys_total keys_exact v.items w.items items in
     let marked = set.same_set keys_total keys_exact v.used w.used used in
-    λ i. record { items = there i; used = marked i }
+    λ i. record { items = there i; used = marked i; custody = custody i }
+
+-- nothing is passed on
+pub none_passed : (g : KeyHistories) (v : ℕ) → (view_at g v).custody ≡ finite.empty
+unfolding view_at
+none_passed g v = refl
 
 -- where the same versions have begun
 pub same_view : (g h : KeyHistories) (v w : ℕ) → ((k : Key) → until (versions_at g k) v ≡ until (versions_at h k) w) → view_at g v ≡ view_at h w
-same_view g h v w alike = same_views (view_at g v) (view_at h w)
+same_view g h v w alike = same_views (view_at g v) (view_at h w) (none_passed g v ∙ sym (none_passed h w))
     (λ k. get_at g v k ∙ ap last (alike k) ∙ sym (get_at h w k))
     (λ k. contains_at g v k ∙ used_by (versions_at g k) v ∙ ap some_version (alike k) ∙ sym (used_by (versions_at h k) w) ∙ sym (contains_at h w k))
 
@@ -130,7 +135,7 @@ settled_view g n v w le lf all = same_view g g v w (λ k. settled (versions_at g
 -- before the first volume
 pub first_view : (g : KeyHistories) (n : ℕ) → ((k : Key) → All (λ (e : ItemVersion). (0 < e.0) × (e.0 ≤ n)) (versions_at g k)) → view_at g 0 ≡ empty_view
 unfolding empty_view
-first_view g n all = same_views (view_at g 0) empty_view
+first_view g n all = same_views (view_at g 0) empty_view (none_passed g 0)
     (λ k. get_at g 0 k ∙ ap last (none_at_first (versions_at g k) n (all k)) ∙ sym (finite.get-empty key_cmp k))
     (λ k. contains_at g 0 k ∙ used_by (versions_at g k) 0 ∙ nothing_used (ap some_version (none_at_first (versions_at g k) n (all k))) ∙ sym (set.contains-empty key_cmp k))
   where
@@ -171,7 +176,7 @@ module _ (g h : KeyHistories) (key : Key) (vs : ItemVersions) (change : ChangesA
   get_now v k = get_at h v k ∙ item_now v k ∙ ap (cond (eq_by_cmp key_cmp k key) (standing_at vs v)) (sym (get_at g v k))
 
   pub put_view : (n : ℕ) (i : Item) → key ≡ key_of i → standing_at vs n ≡ Some i → was_used_at vs n ≡ true → view_at h n ≡ with_item (view_at g n) i
-  put_view n i is there used = same_views (view_at h n) (with_item (view_at g n) i)
+  put_view n i is there used = same_views (view_at h n) (with_item (view_at g n) i) (none_passed h n ∙ sym (none_passed g n))
       (λ k. get_now n k ∙ ap (λ o. cond (eq_by_cmp key_cmp k key) o (finite.get (view_at g n).items k)) there ∙ ap (λ q. cond (eq_by_cmp key_cmp k q) (Some i) (finite.get (view_at g n).items k)) is ∙ sym (finite.get-insert keys_total (view_at g n).items (key_of i) i k))
       (λ k. contains_at h n k ∙ ap (λ ws. was_used_at ws n) (change k) ∙ of_cond k (eq_by_cmp key_cmp key k) refl ∙ ap (λ b. b || set.contains (view_at g n).used k) ((eq_by_cmp_equiv keys_total).symm key k)
       ∙ ap (λ q. eq_by_cmp key_cmp k q || set.contains (view_at g n).used k) is ∙ sym (set.contains-insert keys_total (view_at g n).used (key_of i) k))
@@ -181,13 +186,13 @@ module _ (g h : KeyHistories) (key : Key) (vs : ItemVersions) (change : ChangesA
       of_cond k false at = sym (contains_at g n k)
 
   pub taken_view : (n : ℕ) (i : Item) → standing_at vs n ≡ None → was_used_at vs n ≡ true → standing_at (versions_at g key) n ≡ Some i → view_at h n ≡ without_key (view_at g n) key
-  taken_view n i gone used there = same_views (view_at h n) (without_key (view_at g n) key)
+  taken_view n i gone used there = same_views (view_at h n) (without_key (view_at g n) key) (none_passed h n ∙ sym (none_passed g n))
       (λ k. get_now n k ∙ ap (λ o. cond (eq_by_cmp key_cmp k key) o (finite.get (view_at g n).items k)) gone ∙ sym (finite.get-remove keys_total (view_at g n).items key k))
       (λ k. contains_at h n k ∙ alike_at (λ ws. was_used_at ws n) (used ∙ sym (used_where_item (versions_at g key) n i there)) k ∙ sym (contains_at g n k))
 
 -- where nothing stands, there is nothing to take
 pub none_taken : (g : KeyHistories) (n : ℕ) (key : Key) → standing_at (versions_at g key) n ≡ None → view_at g n ≡ without_key (view_at g n) key
-none_taken g n key none = same_views (view_at g n) (without_key (view_at g n) key) (λ k. by_same k (eq_by_cmp key_cmp k key) refl ∙ sym (finite.get-remove keys_total (view_at g n).items key k)) (λ k. refl)
+none_taken g n key none = same_views (view_at g n) (without_key (view_at g n) key) refl (λ k. by_same k (eq_by_cmp key_cmp k key) refl ∙ sym (finite.get-remove keys_total (view_at g n).items key k)) (λ k. refl)
   where
     by_same : (k : Key) (b : Bool) → eq_by_cmp key_cmp k key ≡ b → finite.get (view_at g n).items k ≡ cond b None (finite.get (view_at g n).items k)
     by_same k true at = get_at g n k ∙ ap (λ q. standing_at (versions_at g q) n) (same_key k key at) ∙ none

@@ -22,7 +22,7 @@ use Rattle.gaz_views.specs.Accounts.{Account, empty_account, view_in}
 use Rattle.gaz_views.specs.View.{View, empty_view}
 use Rattle.gaz_views.specs.Words.{entries}
 use Rattle.gaz_views.specs.declared.verdict.Verdict.{Verdict}
-use Rattle.gaz_ledger.proofs.KeyHistories.{contains_at, get_at, get_now, holds_at, past_view, same_views}
+use Rattle.gaz_ledger.proofs.KeyHistories.{contains_at, get_at, get_now, holds_at, none_passed, past_view, same_views}
 use Rattle.gaz_ledger.proofs.Judgements.{IsWithin, later_view, view_in_at}
 use Rattle.gaz_ledger.proofs.Marked.{finds_with_more, still_finds}
 use Rattle.gaz_ledger.proofs.Versions.{before_next, before_within, cut_within, item_set, last, set_within, until_before, until_set}
@@ -197,7 +197,7 @@ seen ds g a within is v = sym (view_in_at ds g within v) ∙ ap (λ (b : Account
 pub account_new : account_at [] finite.empty ≡ empty_account
 unfolding judgements empty_view
 account_new =
-    let none : view_at finite.empty 1 ≡ empty_view = same_views (view_at finite.empty 1) empty_view
+    let none : view_at finite.empty 1 ≡ empty_view = same_views (view_at finite.empty 1) empty_view (none_passed finite.empty 1)
     (λ k. get_at finite.empty 1 k ∙ ap (λ (vs : ItemVersions). standing_at vs 1) (nothing_there k) ∙ sym (finite.get-empty key_cmp k))
     (λ k. contains_at finite.empty 1 k ∙ ap (λ (vs : ItemVersions). was_used_at vs 1) (nothing_there k) ∙ sym (set.contains-empty key_cmp k)) in
     λ i. record { judged = []; working = none i }

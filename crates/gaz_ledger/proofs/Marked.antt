@@ -86,6 +86,8 @@ either_lang usrn (item.Street x) = refl
 either_lang usrn (item.Descriptor x) = refl
 either_lang usrn (item.Blpu x) = refl
 either_lang usrn (item.Xref x) = refl
+either_lang usrn (item.Release x) = refl
+either_lang usrn (item.Adopt x) = refl
 either_lang usrn (item.Lpi l) = both (is_approved l.status) (l.usrn == usrn) l.lang
   where
     both : (a b : Bool) (l : Lang) → (a && b && true) ≡ ((a && b && is_in (Some Cym) l) || (a && b && is_in (Some Eng) l))

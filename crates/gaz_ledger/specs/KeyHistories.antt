@@ -11,7 +11,7 @@ use Rattle.gaz_records.specs.Keys.{key_cmp}
 use Rattle.gaz_records.specs.declared.item.Item.{Item}
 use Rattle.gaz_records.specs.declared.item.Kind.{Kind}
 use Rattle.gaz_records.specs.declared.key.Key.{Key}
-use Rattle.gaz_views.specs.View.{View}
+use Rattle.gaz_views.specs.View.{View, view_of}
 use Rattle.gaz_views.specs.Words.{comes_after, is_of}
 
 -- the versions of a key at which items stand
@@ -72,7 +72,6 @@ abbrev pub used_at : List (Key × ItemVersions) → ℕ → List Key
 used_at es volume = map (λ e. e.0) (filter (λ e. was_used_at e.1 volume) es)
 
 unfoldable pub view_at : KeyHistories → ℕ → View
-view_at g volume = record {
-  items = finite.from_entries (rows_at (finite.entries g) volume);
-  used = set.from_list (used_at (finite.entries g) volume);
-}
+view_at g volume =
+    view_of (finite.from_entries (rows_at (finite.entries g) volume))
+    (set.from_list (used_at (finite.entries g) volume))
