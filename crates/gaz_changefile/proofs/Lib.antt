@@ -4,4 +4,5 @@ pub mod Orderly
 pub mod Written
 pub mod Texts
 pub mod Back
+pub mod Entries
 pub mod Quick

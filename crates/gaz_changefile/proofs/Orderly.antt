@@ -1,6 +1,6 @@
 -- A good file is orderly: its bases rise, and its changes are placed by their records.
 use Rattle.std.proofs.Common.{◌≡◌, ◌≢◌, ◌⊎◌, ℕ, zero, suc, ◌+◌, ◌<◌, ◌≤◌, Bool, true, false, cond, List, [], ◌∷◌, ◌++◌, length, map, refl, arith, Option, Some, None, Result, Ok, Err, ap, ◌∙◌, sym, inl, inr, count_by, drop, length-append, append_assoc}
-use Rattle.std.specs.Prelude.{◌==◌, ◌&&◌, not, nat_le, nat_lt, is_some, is_ok, slice_index, codes}
+use Rattle.std.specs.Prelude.{◌==◌, ◌&&◌, not, nat_le, nat_lt, slice_index, codes}
 use Rattle.std.specs.List.{All, last_or, list_any, range_with_len}
 use Rattle.std.specs.List.Sorted.{IsStrictlyIncreasing}
 use Rattle.std.specs.Option.{option_and_then, option_map}
@@ -15,12 +15,13 @@ use Rattle.gaz_records.specs.Items.{read_item}
 use Rattle.gaz_records.specs.declared.fields.FieldFault.{FieldFault}
 use Rattle.gaz_records.specs.declared.item.Item.{Item}
 use Rattle.gaz_records.specs.declared.item.Kind.{Kind}
+use Rattle.gaz_changefile.specs.Allowed.{AreAllowed, is_allowed}
 use Rattle.gaz_changefile.specs.Contents.{Contents, bases_in, basis_in, basis_of, change_from, change_of, changes_in, contents_of}
 use Rattle.gaz_changefile.specs.Files.{AreBases, ArePlaced}
-use Rattle.gaz_changefile.specs.Laws.{AreKept, BasesRise, ChangesArePlaced, IsGood}
-use Rattle.gaz_changefile.specs.Lines.{action_of, field, is_basis, is_basis_line, is_change, is_change_line, is_trailer, is_trailer_line, is_value, line_of, read_code, read_order, read_volume}
+use Rattle.gaz_changefile.specs.Laws.{AreKept, BasesRise, ChangesAreAllowed, ChangesArePlaced, IsGood}
+use Rattle.gaz_changefile.specs.Lines.{action_of, field, is_basis, is_basis_line, is_change, is_change_line, is_trailer, is_trailer_line, is_value, line_of, profile_named, read_code, read_order, read_volume}
 use Rattle.gaz_changefile.specs.Reading.{Good, reading}
-use Rattle.gaz_changefile.specs.Rules.{basis_rules, before_of, change_rules, custodian_at, first_broken, header_rules, is_above, is_header, is_miscounted, is_next_basis, later_rules, line_rules, rules_at}
+use Rattle.gaz_changefile.specs.Rules.{basis_rules, before_of, change_rules, custodian_at, first_broken, header_rules, is_above, is_allowed_if_read, is_header, is_miscounted, is_next_basis, later_rules, line_rules, rules_at}
 use Rattle.gaz_changefile.specs.Steps.{listed}
 use Rattle.gaz_changefile.specs.declared.action.Action.{Action}
 use Rattle.gaz_changefile.specs.declared.change.Basis.{Basis}
@@ -110,40 +111,42 @@ one_change_more bs xs x h e room =
     }
 
 -- the records so far are orderly
-record Built (c : ℕ) (before : List Fields) : Type 0 where
-  base_count : length (bases_in before) ≡ count_by is_basis before
-  count : length (changes_in before) ≡ count_by is_change before
-  bases : AreBases c (bases_in before)
-  changes : ArePlaced (bases_in before) (changes_in before)
-  len : list_any is_trailer before ≡ false → length before ≡ 1 + length (bases_in before) + length (changes_in before)
-  last : list_any is_trailer before ≡ false → changes_in before ≡ [] → option_and_then custodian_at (last_or None before) ≡ last_or None (map (λ b. b.custodian) (bases_in before))
+record Built (c p : ℕ) (before : List Fields) : Type 0 where
+  base_count : length (bases_in p before) ≡ count_by (is_basis p) before
+  count : length (changes_in p before) ≡ count_by (is_change p) before
+  bases : AreBases c (bases_in p before)
+  changes : ArePlaced (bases_in p before) (changes_in p before)
+  allowed : AreAllowed c (changes_in p before)
+  len : list_any (is_trailer p) before ≡ false → length before ≡ 1 + length (bases_in p before) + length (changes_in p before)
+  last : list_any (is_trailer p) before ≡ false → changes_in p before ≡ [] → option_and_then (custodian_at p) (last_or None before) ≡ last_or None (map (λ b. b.custodian) (bases_in p before))
 
 -- one record more
-build : (c : ℕ) (before : List Fields) (row : Fields) (l : Line) (ob : Option Basis) (oc : Option Change) → line_of row ≡ l → basis_of row l ≡ ob
-    → change_of (length before + 1) row l ≡ oc → Built c before → list_any is_trailer before ≡ false
+build : (c p : ℕ) (before : List Fields) (row : Fields) (l : Line) (ob : Option Basis) (oc : Option Change) → line_of p row ≡ l → basis_of row l ≡ ob
+    → change_of (length before + 1) row l ≡ oc → Built c p before → list_any (is_trailer p) before ≡ false
     → length (listed ob) ≡ cond (is_basis_line l) 1 0 → length (listed oc) ≡ cond (is_change_line l) 1 0
-    → AreBases c (bases_in before ++ listed ob) → ArePlaced (bases_in before ++ listed ob) (changes_in before ++ listed oc)
-    → (is_trailer_line l ≡ false → length (listed ob) + length (listed oc) ≡ 1)
-    → (is_trailer_line l ≡ false → changes_in before ++ listed oc ≡ [] → option_map (λ b. b.custodian) ob ≡ last_or None (map (λ b. b.custodian) (bases_in before ++ listed ob)))
-    → Built c (before ++ (row ∷ []))
-build c before row l ob oc e b x k fresh one_b one_x bases placed one last =
-    let eb : bases_in (before ++ (row ∷ [])) ≡ bases_in before ++ listed ob = bases_push before row ∙ ap (λ (o : Option Basis). bases_in before ++ listed o) (ap (basis_of row) e ∙ b) in
-    let ex : changes_in (before ++ (row ∷ [])) ≡ changes_in before ++ listed oc =
-    changes_push before row (length before + 1) refl ∙ ap (λ (o : Option Change). changes_in before ++ listed o) (ap (change_of (length before + 1) row) e ∙ x) in
-    let et : list_any is_trailer (before ++ (row ∷ [])) ≡ is_trailer_line l = any_push is_trailer before row fresh ∙ ap is_trailer_line e in
-    let ec : option_and_then custodian_at (last_or None (before ++ (row ∷ []))) ≡ option_map (λ b. b.custodian) ob =
-    ap (option_and_then custodian_at) (last_push None before row) ∙ ap (option_map (λ (b : Basis). b.custodian)) (ap (basis_of row) e ∙ b) in
-    let nb = length-append (bases_in before) (listed ob) in
-    let nx = length-append (changes_in before) (listed oc) in
-    let cb : count_by is_basis (before ++ (row ∷ [])) ≡ count_by is_basis before + cond (is_basis_line l) 1 0 =
-    count_push is_basis before row ∙ ap (λ (l : Line). count_by is_basis before + cond (is_basis_line l) 1 0) e in
-    let cx : count_by is_change (before ++ (row ∷ [])) ≡ count_by is_change before + cond (is_change_line l) 1 0 =
-    count_push is_change before row ∙ ap (λ (l : Line). count_by is_change before + cond (is_change_line l) 1 0) e in
+    → AreBases c (bases_in p before ++ listed ob) → ArePlaced (bases_in p before ++ listed ob) (changes_in p before ++ listed oc)
+    → AreAllowed c (listed oc) → (is_trailer_line l ≡ false → length (listed ob) + length (listed oc) ≡ 1)
+    → (is_trailer_line l ≡ false → changes_in p before ++ listed oc ≡ [] → option_map (λ b. b.custodian) ob ≡ last_or None (map (λ b. b.custodian) (bases_in p before ++ listed ob)))
+    → Built c p (before ++ (row ∷ []))
+build c p before row l ob oc e b x k fresh one_b one_x bases placed allowed one last =
+    let eb : bases_in p (before ++ (row ∷ [])) ≡ bases_in p before ++ listed ob = bases_push p before row ∙ ap (λ (o : Option Basis). bases_in p before ++ listed o) (ap (basis_of row) e ∙ b) in
+    let ex : changes_in p (before ++ (row ∷ [])) ≡ changes_in p before ++ listed oc =
+    changes_push p before row (length before + 1) refl ∙ ap (λ (o : Option Change). changes_in p before ++ listed o) (ap (change_of (length before + 1) row) e ∙ x) in
+    let et : list_any (is_trailer p) (before ++ (row ∷ [])) ≡ is_trailer_line l = any_push (is_trailer p) before row fresh ∙ ap is_trailer_line e in
+    let ec : option_and_then (custodian_at p) (last_or None (before ++ (row ∷ []))) ≡ option_map (λ b. b.custodian) ob =
+    ap (option_and_then (custodian_at p)) (last_push None before row) ∙ ap (option_map (λ (b : Basis). b.custodian)) (ap (basis_of row) e ∙ b) in
+    let nb = length-append (bases_in p before) (listed ob) in
+    let nx = length-append (changes_in p before) (listed oc) in
+    let cb : count_by (is_basis p) (before ++ (row ∷ [])) ≡ count_by (is_basis p) before + cond (is_basis_line l) 1 0 =
+    count_push (is_basis p) before row ∙ ap (λ (l : Line). count_by (is_basis p) before + cond (is_basis_line l) 1 0) e in
+    let cx : count_by (is_change p) (before ++ (row ∷ [])) ≡ count_by (is_change p) before + cond (is_change_line l) 1 0 =
+    count_push (is_change p) before row ∙ ap (λ (l : Line). count_by (is_change p) before + cond (is_change_line l) 1 0) e in
     record {
       base_count = ap length eb ∙ nb ∙ omega (arith, k.base_count, one_b, cb);
       count = ap length ex ∙ nx ∙ omega (arith, k.count, one_x, cx);
       bases = rw eb bases;
       changes = rw (eb, ex) placed;
+      allowed = rw ex (All-append (λ x. is_allowed c x ≡ true) (changes_in p before) (listed oc) k.allowed allowed);
       len = λ t. rw (eb, ex, nb, nx, length-append before (row ∷ [])) (omega (arith, k.len fresh, one (sym et ∙ t)));
       last = λ t none. ec ∙ rw eb (last (sym et ∙ t) (sym ex ∙ none));
     }
@@ -158,102 +161,111 @@ not_empty xs x e = let n = length-append xs (x ∷ []) in let z : length (xs ++ 
 other_code : (a b : ℕ) → not (a == b) ≡ true → a ≢ b
 other_code a b h e = let s : (a == b) ≡ true = grind (arith, nat_tests, e) in cc (rw s at h)
 
+none_allowed : (c : ℕ) → AreAllowed c []
+none_allowed c k d l = absurd (omega arith)
+
 -- a basis line that keeps its rule
-basis_more : (c : ℕ) (before : List Fields) (row : Fields) (o : Option Basis) → line_of row ≡ line.Basis → basis_in row ≡ o → Built c before
-    → list_any is_trailer before ≡ false → is_next_basis c (before_of before) o ≡ true → Built c (before ++ (row ∷ []))
-basis_more c before row None e b k fresh h = cc h
-basis_more c before row (Some b) e is k fresh h =
-    let last = option_and_then custodian_at (last_or None before) in
-    let p = all_four (not (b.custodian == c)) (is_above last b.custodian) (nat_lt (count_by is_basis before) 16) (count_by is_change before == 0) h in
-    let no_change : count_by is_change before ≡ 0 = let q = p.3 in grind (arith, nat_tests, q) in
-    let room : count_by is_basis before < 16 = let q = p.2 in grind (arith, nat_tests, q) in
-    let none : changes_in before ≡ [] = no_changes (changes_in before) (k.count ∙ no_change) in
-    let above : is_above (last_or None (map (λ b. b.custodian) (bases_in before))) b.custodian ≡ true =
-    ap (λ (o : Option ℕ). is_above o b.custodian) (sym (k.last fresh none)) ∙ p.1 in
-    build c before row line.Basis (Some b) None e is refl k fresh refl refl
-    (one_basis_more c (bases_in before) b k.bases (other_code b.custodian c p.0) above (omega (arith, k.base_count)))
+basis_more : (c p : ℕ) (before : List Fields) (row : Fields) (o : Option Basis) → line_of p row ≡ line.Basis → basis_in row ≡ o → Built c p before
+    → list_any (is_trailer p) before ≡ false → is_next_basis c (before_of p before) o ≡ true → Built c p (before ++ (row ∷ []))
+basis_more c p before row None e b k fresh h = cc h
+basis_more c p before row (Some b) e is k fresh h =
+    let last = option_and_then (custodian_at p) (last_or None before) in
+    let all = all_four (not (b.custodian == c)) (is_above last b.custodian) (nat_lt (count_by (is_basis p) before) 16) (count_by (is_change p) before == 0) h in
+    let no_change : count_by (is_change p) before ≡ 0 = let q = all.3 in grind (arith, nat_tests, q) in
+    let room : count_by (is_basis p) before < 16 = let q = all.2 in grind (arith, nat_tests, q) in
+    let none : changes_in p before ≡ [] = no_changes (changes_in p before) (k.count ∙ no_change) in
+    let above : is_above (last_or None (map (λ b. b.custodian) (bases_in p before))) b.custodian ≡ true =
+    ap (λ (o : Option ℕ). is_above o b.custodian) (sym (k.last fresh none)) ∙ all.1 in
+    build c p before row line.Basis (Some b) None e is refl k fresh refl refl
+    (one_basis_more c (bases_in p before) b k.bases (other_code b.custodian c all.0) above (omega (arith, k.base_count)))
     (rw none (record { few = omega arith; places = refl }))
+    (none_allowed c)
     (λ t. refl)
-    (λ t q. sym (rw (map-append (λ (b : Basis). b.custodian) (bases_in before) (b ∷ [])) (last_push None (map (λ b. b.custodian) (bases_in before)) b.custodian)))
+    (λ t q. sym (rw (map-append (λ (b : Basis). b.custodian) (bases_in p before) (b ∷ [])) (last_push None (map (λ b. b.custodian) (bases_in p before)) b.custodian)))
 
 -- a change record that keeps its rules
-made_some : (place : ℕ) (a : Option Action) (r : Result Item FieldFault) → not (is_some a && is_ok r) ≡ false → (x : Change) × (change_from place a r ≡ Some x) × (x.place ≡ place)
-made_some place None r h = cc h
-made_some place (Some a) (Err e) h = cc h
-made_some place (Some a) (Ok i) h = (record { place = place; action = a; item = i }, refl, refl)
+made_some : (c place : ℕ) (a : Option Action) (r : Result Item FieldFault) → is_allowed_if_read c a r ≡ true
+    → (x : Change) × (change_from place a r ≡ Some x) × (x.place ≡ place) × (is_allowed c x ≡ true)
+made_some c place None r h = cc h
+made_some c place (Some a) (Err e) h = cc h
+made_some c place (Some a) (Ok i) h = (record { place = place; action = a; item = i }, refl, refl, h)
 
-change_more : (c : ℕ) (before : List Fields) (row : Fields) (kind : Kind) → line_of row ≡ line.Change kind → Built c before → list_any is_trailer before ≡ false
-    → first_broken (change_rules (count_by is_change before) kind row) ≡ None → Built c (before ++ (row ∷ []))
+change_more : (c p : ℕ) (before : List Fields) (row : Fields) (kind : Kind) → line_of p row ≡ line.Change kind → Built c p before → list_any (is_trailer p) before ≡ false
+    → first_broken (change_rules c (count_by (is_change p) before) kind row) ≡ None → Built c p (before ++ (row ∷ []))
 unfolding change_rules
-change_more c before row kind e k fresh h =
+change_more c p before row kind e k fresh h =
     let item = read_item kind (drop 3 row) in
     let action = action_of (field row 1) in
-    let n = count_by is_change before in
-    let p = four_kept 9 5 6 7 (nat_le 5000 n) (is_miscounted item) (not (is_some action && is_ok item)) (not (is_value (n + 1) (read_order (field row 2)))) h in
-    let room : count_by is_change before < 5000 = let q = p.0 in grind (arith, nat_tests, q) in
-    let x = made_some (length before + 1) action item p.2 in
-    let same = append-nil (bases_in before) in
-    build c before row (line.Change kind) None (Some x.0) e refl x.1 k fresh refl refl (rw same k.bases)
-    (rw same (one_change_more (bases_in before) (changes_in before) x.0 k.changes (x.2 ∙ omega (arith, k.len fresh)) (omega (arith, k.count))))
+    let n = count_by (is_change p) before in
+    let kept = four_kept 9 5 6 7 (nat_le 5000 n) (is_miscounted item) (not (is_allowed_if_read c action item)) (not (is_value (n + 1) (read_order (field row 2)))) h in
+    let room : count_by (is_change p) before < 5000 = let q = kept.0 in grind (arith, nat_tests, q) in
+    let x = made_some c (length before + 1) action item (not_false (is_allowed_if_read c action item) kept.2) in
+    let same = append-nil (bases_in p before) in
+    build c p before row (line.Change kind) None (Some x.0) e refl x.1 k fresh refl refl (rw same k.bases)
+    (rw same (one_change_more (bases_in p before) (changes_in p before) x.0 k.changes (x.2 ∙ omega (arith, k.len fresh)) (omega (arith, k.count))))
+    (one_all (λ x. is_allowed c x ≡ true) x.0 x.3)
     (λ t. refl)
-    (λ t q. absurd (not_empty (changes_in before) x.0 q))
+    (λ t q. absurd (not_empty (changes_in p before) x.0 q))
 
-by_line : (c : ℕ) (before : List Fields) (row : Fields) (l : Line) → line_of row ≡ l → Built c before → list_any is_trailer before ≡ false
-    → first_broken (line_rules c (before_of before) row l) ≡ None → Built c (before ++ (row ∷ []))
+by_line : (c p : ℕ) (before : List Fields) (row : Fields) (l : Line) → line_of p row ≡ l → Built c p before → list_any (is_trailer p) before ≡ false
+    → first_broken (line_rules c (before_of p before) row l) ≡ None → Built c p (before ++ (row ∷ []))
 unfolding basis_rules
-by_line c before row (line.Change kind) e k fresh h = change_more c before row kind e k fresh h
-by_line c before row line.Basis e k fresh h =
-    let kept = kept_first 4 (not (is_next_basis c (before_of before) (basis_in row))) [] h in
-    basis_more c before row (basis_in row) e refl k fresh (not_false (is_next_basis c (before_of before) (basis_in row)) kept.0)
-by_line c before row line.Trailer e k fresh h =
-    let same = append-nil (bases_in before) in
-    build c before row line.Trailer None None e refl refl k fresh refl refl (rw same k.bases) (rw (same, append-nil (changes_in before)) k.changes)
+by_line c p before row (line.Change kind) e k fresh h = change_more c p before row kind e k fresh h
+by_line c p before row line.Basis e k fresh h =
+    let kept = kept_first 4 (not (is_next_basis c (before_of p before) (basis_in row))) [] h in
+    basis_more c p before row (basis_in row) e refl k fresh (not_false (is_next_basis c (before_of p before) (basis_in row)) kept.0)
+by_line c p before row line.Trailer e k fresh h =
+    let same = append-nil (bases_in p before) in
+    build c p before row line.Trailer None None e refl refl k fresh refl refl (rw same k.bases) (rw (same, append-nil (changes_in p before)) k.changes)
+    (none_allowed c)
     (λ t. cc t) (λ t q. cc t)
-by_line c before row line.Other e k fresh h = cc h
+by_line c p before row line.Other e k fresh h = cc h
 
-grow : (c : ℕ) (before : List Fields) (row : Fields) → Built c before → first_broken (later_rules c (before_of before) (Some row)) ≡ None → Built c (before ++ (row ∷ []))
+grow : (c p : ℕ) (before : List Fields) (row : Fields) → Built c p before → first_broken (later_rules c (before_of p before) (Some row)) ≡ None → Built c p (before ++ (row ∷ []))
 unfolding later_rules
-grow c before row k h =
-    let fresh = kept_first 8 (list_any is_trailer before) (line_rules c (before_of before) row (line_of row)) h in
-    by_line c before row (line_of row) refl k fresh.0 fresh.1
+grow c p before row k h =
+    let fresh = kept_first 8 (list_any (is_trailer p) before) (line_rules c (before_of p before) row (line_of p row)) h in
+    by_line c p before row (line_of p row) refl k fresh.0 fresh.1
 
-all_built : (c v : ℕ) (rows before left : List Fields) → rows ≡ before ++ left → 1 ≤ length before → ((i : ℕ) → i ≤ length rows → AreKept (rules_at c v rows i))
-    → Built c before → Built c rows
-all_built c v rows before [] e some kept k = rw (e, append-nil before) k
-all_built c v rows before (row ∷ left) e some kept k =
+all_built : (c v p : ℕ) (rows before left : List Fields) → rows ≡ before ++ left → 1 ≤ length before → profile_named rows ≡ p → ((i : ℕ) → i ≤ length rows → AreKept (rules_at c v rows i))
+    → Built c p before → Built c p rows
+all_built c v p rows before [] e some named kept k = rw (e, append-nil before) k
+all_built c v p rows before (row ∷ left) e some named kept k =
     let len : length rows ≡ length before + length (row ∷ left) = ap length e ∙ length-append before (row ∷ left) in
     let at = not_broken _ (kept (length before) (omega (arith, len))) in
-    let next = rw (e, rules_next c v before row left some) at at in
-    all_built c v rows (before ++ (row ∷ [])) left (e ∙ sym (append_assoc before (row ∷ []) left)) (rw (length-append before (row ∷ [])) (omega arith)) kept (grow c before row k next)
+    let next = rw (e, rules_next c v p before row left some (rw e at named)) at at in
+    all_built c v p rows (before ++ (row ∷ [])) left (e ∙ sym (append_assoc before (row ∷ []) left)) (rw (length-append before (row ∷ [])) (omega arith)) named kept (grow c p before row k next)
 
 -- a header is no line of another kind
-header_line : (row : Fields) → is_header row ≡ true → line_of row ≡ line.Other
-header_line row h =
+header_line : (p : ℕ) (row : Fields) → is_header row ≡ true → line_of p row ≡ line.Other
+header_line p row h =
     let e : field row 0 ≡ codes "10" = (bytes_eq-Decides (field row 0) (codes "10")).0 (and-left _ _ (and-left _ _ (and-left _ _ (and-left _ _ (and-left _ _ h))))) in
     rw e refl
 
-header_is : (c : ℕ) (row : Fields) → line_of row ≡ line.Other → Built c (row ∷ [])
-header_is c row other = record {
+header_is : (c p : ℕ) (row : Fields) → line_of p row ≡ line.Other → Built c p (row ∷ [])
+header_is c p row other = record {
   base_count = rw other refl;
   count = rw other refl;
   bases = rw other (record { few = omega arith; rise = λ k l. absurd (omega arith); others = λ k d l. absurd (omega arith) });
   changes = rw other (record { few = omega arith; places = refl });
+  allowed = rw other (none_allowed c);
   len = λ t. rw other refl;
   last = λ t none. rw other refl;
 }
 
-header_built : (c v : ℕ) (row : Fields) → first_broken (header_rules c v row) ≡ None → Built c (row ∷ [])
+header_built : (c v p : ℕ) (row : Fields) → first_broken (header_rules c v row) ≡ None → Built c p (row ∷ [])
 unfolding header_rules
-header_built c v row h =
+header_built c v p row h =
     let address : List (ℕ × Bool) = (3, not (is_value c (read_code (field row 2)) && is_value v (read_volume (field row 3)))) ∷ [] in
     let first = kept_first 2 (not (is_header row)) address h in
-    header_is c row (header_line row (not_false (is_header row) first.0))
+    header_is c p row (header_line p row (not_false (is_header row) first.0))
 
-rows_built : (c v : ℕ) (rows : List Fields) → ((i : ℕ) → i ≤ length rows → AreKept (rules_at c v rows i)) → Built c rows
+rows_built : (c v : ℕ) (rows : List Fields) → ((i : ℕ) → i ≤ length rows → AreKept (rules_at c v rows i)) → Built c (profile_named rows) rows
 unfolding rules_at
 rows_built c v [] kept = let k = kept 0 (omega arith) in cc k.0
 rows_built c v (row ∷ rows) kept =
-    all_built c v (row ∷ rows) (row ∷ []) rows refl (omega arith) kept (header_built c v row (not_broken _ (kept 0 (omega arith))))
+    let p = profile_named (row ∷ rows) in
+    all_built c v p (row ∷ rows) (row ∷ []) rows refl (omega arith) refl kept (header_built c v p row (not_broken _ (kept 0 (omega arith))))
 
 good_built : (bytes : List ℕ) (c v : ℕ) (contents : Contents) → reading bytes c v ≡ Good contents → IsGood c v bytes contents
 good_built bytes c v contents e = rw e at (least-fault bytes c v)
@@ -269,3 +281,9 @@ unfolding contents_of
 changes-are-placed bytes c v contents e =
     let good = good_built bytes c v contents e in
     rw good.contents_are ((rows_built c v (rows_of bytes) good.kept).changes)
+
+pub changes-are-allowed : ChangesAreAllowed
+unfolding contents_of
+changes-are-allowed bytes c v contents e =
+    let good = good_built bytes c v contents e in
+    rw good.contents_are ((rows_built c v (rows_of bytes) good.kept).allowed)

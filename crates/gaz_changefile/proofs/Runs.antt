@@ -10,7 +10,7 @@ use Rattle.std.specs.Option.{option_and_then}
 use Rattle.std.specs.Str.{IsUtf8, is_utf8}
 use Rattle.gaz_rows.specs.Rows.{Fields, rows_of}
 use Rattle.gaz_changefile.specs.Contents.{Contents, bases_in, basis_at, change_at, changes_in, contents_of, date_in}
-use Rattle.gaz_changefile.specs.Lines.{is_basis, is_change, is_trailer, line_of}
+use Rattle.gaz_changefile.specs.Lines.{is_basis, is_change, is_trailer, line_of, profile_named}
 use Rattle.gaz_changefile.specs.Reading.{Bad, Good, by_faults, fault_at, faults, reading}
 use Rattle.gaz_changefile.specs.Rules.{before_of, custodian_at, first_broken, header_rules, later_rules, rules_at}
 use Rattle.gaz_changefile.specs.Fault.{IsFault}
@@ -39,17 +39,22 @@ take_all [] = refl
 take_all (x ∷ xs) = ap (λ l. x ∷ l) (take_all xs)
 
 -- the rules at a record behind others
-pub rules_next : (c v : ℕ) (before : List Fields) (row : Fields) (rest : List Fields) → 1 ≤ length before
-    → rules_at c v (before ++ (row ∷ rest)) (length before) ≡ later_rules c (before_of before) (Some row)
+pub rules_next : (c v p : ℕ) (before : List Fields) (row : Fields) (rest : List Fields) → 1 ≤ length before → profile_named (before ++ (row ∷ rest)) ≡ p
+    → rules_at c v (before ++ (row ∷ rest)) (length before) ≡ later_rules c (before_of p before) (Some row)
 unfolding rules_at
-rules_next c v [] row rest h = absurd (omega arith)
-rules_next c v (b ∷ bs) row rest h = rw (take_before bs (row ∷ rest), next_is bs row rest) refl
+rules_next c v p [] row rest h e = absurd (omega arith)
+rules_next c v p (b ∷ bs) row rest h e =
+    let at : rules_at c v ((b ∷ bs) ++ (row ∷ rest)) (length (b ∷ bs)) ≡ later_rules c (before_of (profile_named ((b ∷ bs) ++ (row ∷ rest))) (b ∷ bs)) (Some row) =
+    rw (take_before bs (row ∷ rest), next_is bs row rest) refl in
+    at ∙ ap (λ (q : ℕ). later_rules c (before_of q (b ∷ bs)) (Some row)) e
 
-pub rules_end : (c v : ℕ) (before : List Fields) → 1 ≤ length before
-    → rules_at c v before (length before) ≡ later_rules c (before_of before) None
+pub rules_end : (c v p : ℕ) (before : List Fields) → 1 ≤ length before → profile_named before ≡ p
+    → rules_at c v before (length before) ≡ later_rules c (before_of p before) None
 unfolding rules_at
-rules_end c v [] h = absurd (omega arith)
-rules_end c v (b ∷ bs) h = rw (take_all bs, none_next bs) refl
+rules_end c v p [] h e = absurd (omega arith)
+rules_end c v p (b ∷ bs) h e =
+    let at : rules_at c v (b ∷ bs) (length (b ∷ bs)) ≡ later_rules c (before_of (profile_named (b ∷ bs)) (b ∷ bs)) None = rw (take_all bs, none_next bs) refl in
+    at ∙ ap (λ (q : ℕ). later_rules c (before_of q (b ∷ bs)) None) e
 
 -- what is known once the records before a place broke no rule: the faults are those of what is left
 pub record Kept (c v : ℕ) (rows before left : List Fields) (place : ℕ) (draft : Draft) : Type 0 where
@@ -58,13 +63,14 @@ pub record Kept (c v : ℕ) (rows before left : List Fields) (place : ℕ) (draf
   pub place_is : place ≡ length before + 1
   pub faults_left : faults c v rows ≡ filter_map (fault_at c v rows) (range_with_len (length before) (length left + 1))
   pub own : draft.own ≡ c
+  pub named : profile_named rows ≡ draft.profile
   pub date : date_in rows ≡ draft.date
-  pub base_count : length draft.bases.items ≡ count_by is_basis before
-  pub count : length draft.changes.items ≡ count_by is_change before
-  pub last : draft.last ≡ option_and_then custodian_at (last_or None before)
-  pub ended : draft.ended ≡ list_any is_trailer before
-  pub bases : draft.bases.items ≡ bases_in before
-  pub changes : draft.changes.items ≡ changes_in before
+  pub base_count : length draft.bases.items ≡ count_by (is_basis draft.profile) before
+  pub count : length draft.changes.items ≡ count_by (is_change draft.profile) before
+  pub last : draft.last ≡ option_and_then (custodian_at draft.profile) (last_or None before)
+  pub ended : draft.ended ≡ list_any (is_trailer draft.profile) before
+  pub bases : draft.bases.items ≡ bases_in draft.profile before
+  pub changes : draft.changes.items ≡ changes_in draft.profile before
   pub few : length draft.changes.items ≤ 5000
 
 -- what may come first in a list of faults
@@ -117,27 +123,28 @@ one_listed : {A : Type 0} (o : Option A) → filter_map {X = ℕ} (λ _. o) (0 �
 one_listed None = refl
 one_listed (Some x) = refl
 
-cons_listed : (place : ℕ) (row : Fields) → filter_map change_at ((place, row) ∷ []) ≡ listed (change_at (place, row))
-cons_listed place row = one_listed (change_at (place, row))
+cons_listed : (p place : ℕ) (row : Fields) → filter_map (change_at p) ((place, row) ∷ []) ≡ listed (change_at p (place, row))
+cons_listed p place row = one_listed (change_at p (place, row))
 
-pub bases_push : (rows : List Fields) (row : Fields) → bases_in (rows ++ (row ∷ [])) ≡ bases_in rows ++ listed (basis_at row)
-bases_push rows row = rw (filter_map-append basis_at rows (row ∷ [])) (ap (λ (l : List Basis). bases_in rows ++ l) (one_listed (basis_at row)))
+pub bases_push : (p : ℕ) (rows : List Fields) (row : Fields) → bases_in p (rows ++ (row ∷ [])) ≡ bases_in p rows ++ listed (basis_at p row)
+bases_push p rows row = rw (filter_map-append (basis_at p) rows (row ∷ [])) (ap (λ (l : List Basis). bases_in p rows ++ l) (one_listed (basis_at p row)))
 
 pub enumerate_push : {X : Type 0} (n : ℕ) (xs : List X) (x : X) → enumerate_from n (xs ++ (x ∷ [])) ≡ enumerate_from n xs ++ ((n + length xs, x) ∷ [])
 enumerate_push n [] x = let e : n + 0 ≡ n = omega arith in rw e refl
 enumerate_push n (y ∷ ys) x = let e : n + suc (length ys) ≡ (n + 1) + length ys = omega arith in rw (e, enumerate_push (n + 1) ys x) refl
 
-pub changes_push : (rows : List Fields) (row : Fields) (place : ℕ) → place ≡ length rows + 1 → changes_in (rows ++ (row ∷ [])) ≡ changes_in rows ++ listed (change_at (place, row))
-changes_push rows row place e =
-    let p : 1 + length rows ≡ place = omega arith in
-    rw (enumerate_push 1 rows row, p, filter_map-append change_at (enumerate_from 1 rows) ((place, row) ∷ []), cons_listed place row) refl
+pub changes_push : (p : ℕ) (rows : List Fields) (row : Fields) (place : ℕ) → place ≡ length rows + 1
+    → changes_in p (rows ++ (row ∷ [])) ≡ changes_in p rows ++ listed (change_at p (place, row))
+changes_push p rows row place e =
+    let n : 1 + length rows ≡ place = omega arith in
+    rw (enumerate_push 1 rows row, n, filter_map-append (change_at p) (enumerate_from 1 rows) ((place, row) ∷ []), cons_listed p place row) refl
 
 -- the header broke no rule
 pub kept_start : (c v : ℕ) (rows : List Fields) (row : Fields) (rest : List Fields) (draft : Draft) → rows ≡ row ∷ rest
-    → first_broken (header_rules c v row) ≡ None → line_of row ≡ line.Other → draft.own ≡ c → date_in (row ∷ []) ≡ draft.date → draft.bases.items ≡ []
+    → first_broken (header_rules c v row) ≡ None → line_of draft.profile row ≡ line.Other → draft.own ≡ c → profile_named (row ∷ rest) ≡ draft.profile → date_in (row ∷ []) ≡ draft.date → draft.bases.items ≡ []
     → draft.changes.items ≡ [] → draft.last ≡ None → draft.ended ≡ false → Kept c v rows (row ∷ []) rest 2 draft
 unfolding rules_at
-kept_start c v rows row rest draft e fault other own date bases changes last ended =
+kept_start c v rows row rest draft e fault other own named date bases changes last ended =
     let f = fault_at c v rows in
     let r : rules_at c v rows 0 ≡ header_rules c v row = rw e refl in
     let len : length rows ≡ length rest + 1 = rw e (omega arith) in
@@ -147,6 +154,7 @@ kept_start c v rows row rest draft e fault other own date bases changes last end
       place_is = refl;
       faults_left = rw len (not_here f 0 (length rest + 1) (no_fault c v rows 0 (header_rules c v row) r fault));
       own = own;
+      named = rw e named;
       date = rw e date;
       base_count = rw (bases, other) refl;
       count = rw (changes, other) refl;
@@ -158,19 +166,19 @@ kept_start c v rows row rest draft e fault other own date bases changes last end
     }
 
 -- what stands before is told by the file as far as it was read
-before_is : (c v : ℕ) (rows before left : List Fields) (place : ℕ) (draft : Draft) → Kept c v rows before left place draft → before_in draft ≡ before_of before
+before_is : (c v : ℕ) (rows before left : List Fields) (place : ℕ) (draft : Draft) → Kept c v rows before left place draft → before_in draft ≡ before_of draft.profile before
 before_is c v rows before left place draft k = rw (k.base_count, k.count, k.last, k.ended) refl
 
 -- the rules of the next record, and of the end
 rules_here : (c v : ℕ) (rows before : List Fields) (row : Fields) (rest : List Fields) (place : ℕ) (draft : Draft) → Kept c v rows before (row ∷ rest) place draft
     → rules_at c v rows (length before) ≡ later_rules draft.own (before_in draft) (Some row)
 rules_here c v rows before row rest place draft k =
-    rw (k.split, rules_next c v before row rest k.some, k.own, before_is c v rows before (row ∷ rest) place draft k) refl
+    rw (k.split, rules_next c v draft.profile before row rest k.some (rw k.split at k.named), k.own, before_is c v rows before (row ∷ rest) place draft k) refl
 
 rules_over : (c v : ℕ) (rows before : List Fields) (place : ℕ) (draft : Draft) → Kept c v rows before [] place draft
     → rules_at c v rows (length before) ≡ later_rules draft.own (before_in draft) None
 rules_over c v rows before place draft k =
-    rw (k.split, append-nil before, rules_end c v before k.some, k.own, before_is c v rows before [] place draft k) refl
+    rw (k.split, append-nil before, rules_end c v draft.profile before k.some (rw (k.split, append-nil before) at k.named), k.own, before_is c v rows before [] place draft k) refl
 
 -- one more record broke no rule
 pub kept_more : (c v : ℕ) (rows before : List Fields) (row : Fields) (rest : List Fields) (place : ℕ) (old new : Draft)
@@ -186,13 +194,14 @@ kept_more c v rows before row rest place old new k a =
       place_is = omega (arith, len, k.place_is);
       faults_left = rw (len, ← not_here f (length before) (length rest + 1) none, ← n) k.faults_left;
       own = a.own ∙ k.own;
+      named = k.named ∙ sym a.profile;
       date = k.date ∙ sym a.date;
-      base_count = rw (a.base_count, k.base_count) (sym (count_push is_basis before row));
-      count = rw (a.count, k.count) (sym (count_push is_change before row));
-      last = rw (a.last, last_push None before row) refl;
-      ended = a.ended ∙ sym (any_push is_trailer before row (sym k.ended ∙ a.open_before));
-      bases = rw (a.bases, k.bases) (sym (bases_push before row));
-      changes = rw (a.changes, k.changes) (sym (changes_push before row place k.place_is));
+      base_count = rw (a.base_count, k.base_count, a.profile) (sym (count_push (is_basis old.profile) before row));
+      count = rw (a.count, k.count, a.profile) (sym (count_push (is_change old.profile) before row));
+      last = rw (a.last, a.profile, last_push None before row) refl;
+      ended = rw (a.ended, a.profile) (sym (any_push (is_trailer old.profile) before row (sym k.ended ∙ a.open_before)));
+      bases = rw (a.bases, k.bases, a.profile) (sym (bases_push old.profile before row));
+      changes = rw (a.changes, k.changes, a.profile) (sym (changes_push old.profile before row place k.place_is));
       few = a.few;
     }
 
@@ -219,7 +228,7 @@ good_end c v rows before place draft k h =
     let none = no_fault c v rows (length before) _ (rules_over c v rows before place draft k) h in
     let all : faults c v rows ≡ [] = k.faults_left ∙ not_here (fault_at c v rows) (length before) 0 none in
     let whole : rows ≡ before = k.split ∙ append-nil before in
-    rw (all, ← k.date, k.bases, k.changes, ← whole) refl
+    rw (all, k.named, ← k.date, k.bases, k.changes, ← whole) refl
 
 -- the header breaks a rule, or there is none
 pub bad_first : (c v : ℕ) (rows : List Fields) (contents : Contents) (rule : ℕ) (rules : List (ℕ × Bool)) → rules_at c v rows 0 ≡ rules

@@ -17,6 +17,7 @@ use Rattle.gaz_addressable.specs.HouseNumbers.{HouseNumberValue, RangeValue, is_
 use Rattle.gaz_addressable.specs.Objects.{ObjectValue, digits_text, from_of, is_object, is_range_or_none, is_text_or_none, is_there, letter_text, texts_of, to_of}
 use Rattle.gaz_addressable.specs.Texts.{char_count, is_plain, is_text}
 use Rattle.gaz_addressable.proofs.Characters.{plain_utf8}
+use Rattle.gaz_records.specs.Adopts.{adopt_texts, is_adopt}
 use Rattle.gaz_records.specs.Blpus.{BlpuValue, blpu_texts, is_blpu, is_parent, parent_text}
 use Rattle.gaz_records.specs.Days.{CivilDay, are_days, date_text, end_text, is_day, two}
 use Rattle.gaz_records.specs.Descriptors.{DescriptorValue, descriptor_texts, is_descriptor}
@@ -24,10 +25,13 @@ use Rattle.gaz_records.specs.Fields.{or_empty}
 use Rattle.gaz_records.specs.Items.{is_item, item_texts}
 use Rattle.gaz_records.specs.Labels.{are_label_bytes, is_label, is_label_byte}
 use Rattle.gaz_records.specs.Lpis.{LpiValue, is_lpi, is_secondary, lpi_texts, secondary_texts}
+use Rattle.gaz_records.specs.Releases.{is_release, release_texts}
 use Rattle.gaz_records.specs.Streets.{StreetValue, is_street, street_texts}
 use Rattle.gaz_records.specs.Xrefs.{XrefValue, is_xref, xref_texts}
+use Rattle.gaz_records.specs.declared.adopt.Adopt.{Adopt}
 use Rattle.gaz_records.specs.declared.item.Item.{Item}
 use Rattle.gaz_records.specs.declared.item.Item.TheVariants as item
+use Rattle.gaz_records.specs.declared.release.Release.{Release}
 use Rattle.gaz_records.proofs.Both.{and-left, and-right}
 
 -- ---- what stands in the fields
@@ -190,9 +194,22 @@ lpi_are x h =
       (up_to 1 999_999_999_999 x.uprn (lit< tt) (and-right _ _ h6), (lang_utf8 x.lang, (status_utf8 x.status, (up_to 1 99_999_999 x.usrn (lit< tt) (and-right _ _ h5), objects)))),
     )
 
+release_are : (x : Release) → is_release x ≡ true → AreTexts (release_texts x)
+release_are x h =
+    let h1 = and-left _ _ h in
+    (up_to 1 999_999_999_999 x.uprn (lit< tt) (and-left _ _ h1), (up_to 1 9999 x.to (lit< tt) (and-right _ _ h1), (up_to 1 9999 x.hop (lit< tt) (and-right _ _ h), tt)))
+
+adopt_are : (x : Adopt) → is_adopt x ≡ true → AreTexts (adopt_texts x)
+adopt_are x h =
+    let h1 = and-left _ _ h in
+    let blpu = blpu_are x.blpu (and-left _ _ h1) in
+    (blpu.0, (up_to 1 9999 x.from (lit< tt) (and-right _ _ h1), (up_to 1 9999 x.hop (lit< tt) (and-right _ _ h), blpu.1)))
+
 pub item_are : (x : Item) → is_item x ≡ true → AreTexts (item_texts x)
 item_are (item.Street x) h = street_are x h
 item_are (item.Descriptor x) h = descriptor_are x h
 item_are (item.Blpu x) h = blpu_are x h
 item_are (item.Xref x) h = xref_are x h
 item_are (item.Lpi x) h = lpi_are x h
+item_are (item.Release x) h = release_are x h
+item_are (item.Adopt x) h = adopt_are x h

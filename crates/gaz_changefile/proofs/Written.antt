@@ -8,7 +8,7 @@ use Rattle.gaz_records.specs.Items.{item_text, item_texts}
 use Rattle.gaz_records.specs.declared.item.Item.{Item}
 use Rattle.gaz_records.specs.declared.item.Item.TheVariants as item
 use Rattle.gaz_changefile.specs.Contents.{Contents}
-use Rattle.gaz_changefile.specs.Writing.{basis_row, change_row, change_rows, file_text, header_row, line_text, trailer_row}
+use Rattle.gaz_changefile.specs.Writing.{basis_row, change_row, change_rows, file_text, header_row, line_text, profile_for, trailer_row}
 use Rattle.gaz_changefile.specs.declared.change.Basis.{Basis}
 use Rattle.gaz_changefile.specs.declared.change.Change.{Change}
 use Rattle.gaz_changefile.proofs.Runs.{enumerate_push}
@@ -45,6 +45,8 @@ item_behind a b c (item.Descriptor x) = behind_three a b c _ _
 item_behind a b c (item.Blpu x) = behind_three a b c _ _
 item_behind a b c (item.Xref x) = behind_three a b c _ _
 item_behind a b c (item.Lpi x) = behind_three a b c _ _
+item_behind a b c (item.Release x) = behind_three a b c _ _
+item_behind a b c (item.Adopt x) = behind_three a b c _ _
 
 -- a row that is written by its parts
 pub by_parts : (o start text o1 o2 o3 o4 whole : List ℕ) → o1 ≡ o ++ start → o2 ≡ o1 ++ (44 ∷ []) → o3 ≡ o2 ++ text → o4 ≡ o3 ++ (10 ∷ []) → start ++ (44 ∷ text) ≡ whole
@@ -76,19 +78,19 @@ first_line x y ys rows = lines_append ((x ∷ y ∷ ys) ∷ []) rows ∙ rw (one
 
 -- a file's parts, one behind the other
 file_parts : (c v : ℕ) (f : Contents)
-    → file_text c v f ≡ line_text (header_row c v f.date) ++ (lines_of (map basis_row f.bases) ++ (lines_of (change_rows 1 f.changes) ++ line_text (trailer_row (length f.changes))))
+    → file_text c v f ≡ line_text (header_row (profile_for f.changes) c v f.date) ++ (lines_of (map basis_row f.bases) ++ (lines_of (change_rows 1 f.changes) ++ line_text (trailer_row (length f.changes))))
 file_parts c v f =
     let trailer = trailer_row (length f.changes) ∷ [] in
     let changes = change_rows 1 f.changes in
     let bases = map basis_row f.bases in
     first_line _ _ _ (bases ++ (changes ++ trailer))
-    ∙ ap (λ (t : List ℕ). line_text (header_row c v f.date) ++ t) (lines_append bases (changes ++ trailer)
+    ∙ ap (λ (t : List ℕ). line_text (header_row (profile_for f.changes) c v f.date) ++ t) (lines_append bases (changes ++ trailer)
     ∙ ap (λ (t : List ℕ). lines_of bases ++ t) (lines_append changes trailer
     ∙ ap (λ (t : List ℕ). lines_of changes ++ t) (one_line _ _ [])))
 
 four_parts : (h b x t o0 o1 o2 o3 o4 : List ℕ) → o0 ≡ [] → o1 ≡ o0 ++ h → o2 ≡ o1 ++ b → o3 ≡ o2 ++ x → o4 ≡ o3 ++ t → o4 ≡ h ++ (b ++ (x ++ t))
 four_parts h b x t o0 o1 o2 o3 o4 z e1 e2 e3 e4 = rw (e4, e3, e2, e1, z) (simp append_assoc)
 
-pub file_is : (c v : ℕ) (f : Contents) (o0 o1 o2 o3 o4 : List ℕ) → o0 ≡ [] → o1 ≡ o0 ++ line_text (header_row c v f.date) → o2 ≡ o1 ++ lines_of (map basis_row f.bases)
+pub file_is : (c v : ℕ) (f : Contents) (o0 o1 o2 o3 o4 : List ℕ) → o0 ≡ [] → o1 ≡ o0 ++ line_text (header_row (profile_for f.changes) c v f.date) → o2 ≡ o1 ++ lines_of (map basis_row f.bases)
     → o3 ≡ o2 ++ lines_of (change_rows 1 f.changes) → o4 ≡ o3 ++ line_text (trailer_row (length f.changes)) → o4 ≡ file_text c v f
 file_is c v f o0 o1 o2 o3 o4 z h b x t = four_parts _ _ _ _ o0 o1 o2 o3 o4 z h b x t ∙ sym (file_parts c v f)

@@ -9,7 +9,8 @@ use Rattle.gaz_records.specs.Items.{read_item}
 use Rattle.gaz_records.specs.declared.fields.FieldFault.{FieldFault}
 use Rattle.gaz_records.specs.declared.item.Item.{Item}
 use Rattle.gaz_records.specs.declared.item.Kind.{Kind}
-use Rattle.gaz_changefile.specs.Lines.{action_of, field, line_of, read_code, read_volume}
+use Rattle.gaz_changefile.specs.Lines.{action_of, field, line_of, profile_named, read_code}
+use Rattle.gaz_changefile.specs.Lines.{read_volume}
 use Rattle.gaz_changefile.specs.declared.action.Action.{Action}
 use Rattle.gaz_changefile.specs.declared.change.Basis.{Basis}
 use Rattle.gaz_changefile.specs.declared.change.Change.{Change}
@@ -47,13 +48,13 @@ basis_of row line.Basis = basis_in row
 basis_of row line.Trailer = None
 basis_of row line.Other = None
 
--- the basis of a record, if it is a basis line
-abbrev pub basis_at : Fields → Option Basis
-basis_at row = basis_of row (line_of row)
+-- the basis of a record of a profile, if it is a basis line
+abbrev pub basis_at : ℕ → Fields → Option Basis
+basis_at profile row = basis_of row (line_of profile row)
 
 -- the bases of these records
-abbrev pub bases_in : List Fields → List Basis
-bases_in rows = filter_map basis_at rows
+abbrev pub bases_in : ℕ → List Fields → List Basis
+bases_in profile rows = filter_map (basis_at profile) rows
 
 -- a change, where its type and its item were read
 abbrev pub change_from : ℕ → Option Action → Result Item FieldFault → Option Change
@@ -71,14 +72,18 @@ change_of place row line.Basis = None
 change_of place row line.Trailer = None
 change_of place row line.Other = None
 
--- the change of the record at a place, if it is a change record
-abbrev pub change_at : ℕ × Fields → Option Change
-change_at (place, row) = change_of place row (line_of row)
+-- the change of the record at a place, if it is a change record of the profile
+abbrev pub change_at : ℕ → ℕ × Fields → Option Change
+change_at profile (place, row) = change_of place row (line_of profile row)
 
 -- the changes of these records, the first of which is record 1
-abbrev pub changes_in : List Fields → List Change
-changes_in rows = filter_map change_at (enumerate_from 1 rows)
+abbrev pub changes_in : ℕ → List Fields → List Change
+changes_in profile rows = filter_map (change_at profile) (enumerate_from 1 rows)
 
 -- what a good file with these records contains
 unfoldable pub contents_of : List Fields → Contents
-contents_of rows = record { date = date_in rows; bases = bases_in rows; changes = changes_in rows }
+contents_of rows = record {
+  date = date_in rows;
+  bases = bases_in (profile_named rows) rows;
+  changes = changes_in (profile_named rows) rows;
+}

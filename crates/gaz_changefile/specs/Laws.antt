@@ -1,11 +1,15 @@
 -- What a reading means, as a relation.
-use Rattle.std.specs.Prelude.{◌≡◌, ◌⊎◌, ◌≤◌, ◌<◌, ℕ, ◌+◌, List, [], ◌∷◌, ◌++◌, length, Bool, true}
-use Rattle.std.specs.Prelude.{false}
+use Rattle.std.specs.Prelude.{◌≡◌, ◌≢◌, ◌⊎◌, ◌≤◌, ◌<◌, ℕ, suc, ◌+◌, List, [], ◌∷◌, ◌++◌, length}
+use Rattle.std.specs.Prelude.{Bool, true, false, Some, codes, slice_get}
+use Rattle.std.specs.List.{All}
 use Rattle.std.specs.Str.{IsUtf8}
 use Rattle.gaz_ids.specs.Limits.{last_volume}
-use Rattle.gaz_rows.specs.Rows.{rows_of}
+use Rattle.gaz_rows.specs.Rows.{Fields, rows_of}
+use Rattle.gaz_records.specs.Items.{is_entry}
+use Rattle.gaz_changefile.specs.Allowed.{AreAllowed}
 use Rattle.gaz_changefile.specs.Contents.{Contents, contents_of}
 use Rattle.gaz_changefile.specs.Files.{AreBases, ArePlaced, IsTyped}
+use Rattle.gaz_changefile.specs.Lines.{field, profile_named}
 use Rattle.gaz_changefile.specs.Reading.{Bad, Good, Reading, reading}
 use Rattle.gaz_changefile.specs.Rules.{rules_at}
 use Rattle.gaz_changefile.specs.Writing.{file_text}
@@ -58,9 +62,32 @@ ChangesArePlaced =
     (bytes : List ℕ) (c v : ℕ) (contents : Contents) → reading bytes c v ≡ Good contents
     → ArePlaced contents.bases contents.changes
 
+-- the changes of a good file of a custodian are allowed in it
+abbrev pub ChangesAreAllowed : Type 0
+ChangesAreAllowed =
+    (bytes : List ℕ) (c v : ℕ) (contents : Contents) → reading bytes c v ≡ Good contents
+    → AreAllowed c contents.changes
+
+-- a record begins as a release or an adoption
+abbrev pub BeginsPassing : Fields → Type 0
+BeginsPassing row = (field row 0 ≡ codes "91") ⊎ (field row 0 ≡ codes "92")
+
+-- records that hold entries alone, as if no kinds of items but theirs were known: each change is of
+-- an entry, and a release or an adoption behind the header breaks rule 5, if it doesn't stand behind
+-- the trailer
+pub record HoldEntries (rows : List Fields) : Type 0 where
+  pub entries : All (λ x. is_entry x.item ≡ true) (contents_of rows).changes
+  pub others :
+      (c v i : ℕ) (row : Fields) → slice_get rows (suc i) ≡ Some row → BeginsPassing row
+      → (ended : Bool) × (rules_at c v rows (suc i) ≡ (8, ended) ∷ (5, true) ∷ [])
+
+-- where the header doesn't name profile 2
+abbrev pub EntriesAlone : Type 0
+EntriesAlone = (rows : List Fields) → profile_named rows ≢ 2 → HoldEntries rows
+
 -- what is written of an orderly file of a custodian and volume says that file
 abbrev pub FilesReadBack : Type 0
 FilesReadBack =
     (c v : ℕ) (f : Contents) → 1 ≤ c → c ≤ 9999 → 1 ≤ v → v ≤ last_volume
-    → IsTyped f → AreBases c f.bases → ArePlaced f.bases f.changes
+    → IsTyped f → AreBases c f.bases → ArePlaced f.bases f.changes → AreAllowed c f.changes
     → reading (file_text c v f) c v ≡ Good f

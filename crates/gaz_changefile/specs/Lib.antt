@@ -1,4 +1,5 @@
 pub mod Lines
+pub mod Allowed
 pub mod Contents
 pub mod Profile
 pub mod Rules
@@ -8,4 +9,5 @@ pub mod Files
 pub mod Steps
 pub mod Writing
 pub mod Laws
+pub mod WorkedPassings
 pub mod Worked

@@ -1,13 +1,13 @@
 -- What the fields of one record say.
-use Rattle.std.specs.Prelude.{ℕ, ◌==◌, List, Option, Some, None, if◌then◌else◌, Bool, true, false}
-use Rattle.std.specs.Prelude.{codes}
+use Rattle.std.specs.Prelude.{ℕ, ◌==◌, ◌||◌, List, [], ◌∷◌, Option, Some, None, if◌then◌else◌}
+use Rattle.std.specs.Prelude.{Bool, true, false, codes}
 use Rattle.std.specs.Str.{bytes_eq}
 use Rattle.gaz_ids.specs.Limits.{last_volume}
 use Rattle.gaz_ids.specs.Numbers.{read_id}
 use Rattle.gaz_rows.specs.Rows.{Fields}
 use Rattle.gaz_records.specs.Fields as Records
-use Rattle.gaz_records.specs.Fields.{ok_of}
-use Rattle.gaz_records.specs.Kinds.{identified}
+use Rattle.gaz_records.specs.Fields.{ok_of, value_or}
+use Rattle.gaz_records.specs.Kinds.{identified, is_entry_kind}
 use Rattle.gaz_records.specs.declared.item.Kind.{Kind}
 use Rattle.gaz_changefile.specs.declared.action.Action.{Action}
 use Rattle.gaz_changefile.specs.declared.action.Action.TheVariants.{Insert, Update, Delete}
@@ -18,9 +18,10 @@ use Rattle.gaz_changefile.specs.declared.line.Line.TheVariants as line
 abbrev pub field : Fields → ℕ → List ℕ
 field row i = Records.field row i
 
--- the profile that this reads and writes
-abbrev pub known_profile : ℕ
-known_profile = 1
+-- the profiles that a reader knows: of profile 1 are files of entries, of profile 2 those in which
+-- a property may also pass from one custodian to another
+abbrev pub is_known_profile : ℕ → Bool
+is_known_profile profile = (profile == 1) || (profile == 2)
 
 -- the numbers of a file: digits up to a width, in a range
 abbrev pub read_profile : List ℕ → Option ℕ
@@ -38,6 +39,16 @@ read_order text = ok_of (read_id 4 1 5000 text)
 abbrev pub read_count : List ℕ → Option ℕ
 read_count text = ok_of (read_id 4 0 5000 text)
 
+-- a profile was read, and is known
+abbrev pub is_known : Option ℕ → Bool
+is_known None = false
+is_known (Some profile) = is_known_profile profile
+
+-- the profile that the header names, which is the first record; 1 where it names none
+abbrev pub profile_named : List Fields → ℕ
+profile_named [] = 1
+profile_named (row ∷ rows) = value_or 1 (read_profile (field row 1))
+
 -- a number was read, and is n
 abbrev pub is_value : ℕ → Option ℕ → Bool
 is_value n None = false
@@ -51,16 +62,20 @@ action_of text =
     else if bytes_eq text (codes "D") then Some Delete
     else None
 
+-- a profile has change records of this kind: of entries each has
+abbrev pub has_kind : ℕ → Kind → Bool
+has_kind profile k = is_entry_kind k || (profile == 2)
+
 -- a record that begins with this text, which no kind of item has or one
-abbrev pub line_from : List ℕ → Option Kind → Line
-line_from text (Some k) = line.Change k
-line_from text None =
+abbrev pub line_from : ℕ → List ℕ → Option Kind → Line
+line_from profile text (Some k) = if has_kind profile k then line.Change k else line.Other
+line_from profile text None =
     if bytes_eq text (codes "90") then line.Basis else
     if bytes_eq text (codes "99") then line.Trailer else line.Other
 
--- what a record behind the header is, by its first field
-abbrev pub line_of : Fields → Line
-line_of row = line_from (field row 0) (identified (field row 0))
+-- what a record behind the header of a profile is, by its first field
+abbrev pub line_of : ℕ → Fields → Line
+line_of profile row = line_from profile (field row 0) (identified (field row 0))
 
 -- which of the records a line is
 abbrev pub is_basis_line : Line → Bool
@@ -82,13 +97,13 @@ is_trailer_line line.Trailer = true
 is_trailer_line line.Other = false
 
 -- the record is a basis line
-abbrev pub is_basis : Fields → Bool
-is_basis row = is_basis_line (line_of row)
+abbrev pub is_basis : ℕ → Fields → Bool
+is_basis profile row = is_basis_line (line_of profile row)
 
 -- the record is a change record
-abbrev pub is_change : Fields → Bool
-is_change row = is_change_line (line_of row)
+abbrev pub is_change : ℕ → Fields → Bool
+is_change profile row = is_change_line (line_of profile row)
 
 -- the record is a trailer
-abbrev pub is_trailer : Fields → Bool
-is_trailer row = is_trailer_line (line_of row)
+abbrev pub is_trailer : ℕ → Fields → Bool
+is_trailer profile row = is_trailer_line (line_of profile row)

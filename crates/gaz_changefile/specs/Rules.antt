@@ -13,10 +13,12 @@ use Rattle.gaz_records.specs.declared.fields.FieldFault.{FieldFault}
 use Rattle.gaz_records.specs.declared.fields.FieldFault.TheVariants as fieldfault
 use Rattle.gaz_records.specs.declared.item.Item.{Item}
 use Rattle.gaz_records.specs.declared.item.Kind.{Kind}
+use Rattle.gaz_changefile.specs.Allowed.{may_name, named_in}
 use Rattle.gaz_changefile.specs.Contents.{basis_at, basis_in}
-use Rattle.gaz_changefile.specs.Lines.{action_of, field, is_basis, is_change, is_trailer, is_value}
-use Rattle.gaz_changefile.specs.Lines.{known_profile, line_of, read_code, read_count, read_order}
-use Rattle.gaz_changefile.specs.Lines.{read_profile, read_volume}
+use Rattle.gaz_changefile.specs.Lines.{action_of, field, is_basis, is_change, is_known, is_trailer}
+use Rattle.gaz_changefile.specs.Lines.{is_value, line_of, profile_named, read_code, read_count}
+use Rattle.gaz_changefile.specs.Lines.{read_order, read_profile, read_volume}
+use Rattle.gaz_changefile.specs.declared.action.Action.{Action}
 use Rattle.gaz_changefile.specs.declared.change.Basis.{Basis}
 use Rattle.gaz_changefile.specs.declared.line.Line.{Line}
 use Rattle.gaz_changefile.specs.declared.line.Line.TheVariants as line
@@ -30,7 +32,7 @@ first_broken ((rule, broken) ∷ rules) = if broken then Some rule else first_br
 abbrev pub is_header : Fields → Bool
 is_header row =
     bytes_eq (field row 0) (codes "10") && (length row == 5)
-    && is_value known_profile (read_profile (field row 1)) && is_some (read_code (field row 2))
+    && is_known (read_profile (field row 1)) && is_some (read_code (field row 2))
     && is_some (read_volume (field row 3)) && is_some (date_of (field row 4))
 
 -- the header: it reads as one, and names the custodian and the volume under which the file came
@@ -41,24 +43,27 @@ header_rules c v row =
     ∷ []
 
 -- the custodian that a record names, if it is a basis line
-abbrev pub custodian_at : Fields → Option ℕ
-custodian_at row = option_map (λ b. b.custodian) (basis_at row)
+abbrev pub custodian_at : ℕ → Fields → Option ℕ
+custodian_at profile row = option_map (λ b. b.custodian) (basis_at profile row)
 
--- what stands before a record: how many basis lines and change records, the custodian that the
--- record just before it names, if that is a basis line, and whether there is a trailer
+-- what stands before a record: the profile of the header, how many basis lines and change records,
+-- the custodian that the record just before it names, if that is a basis line, and whether there is
+-- a trailer
 pub record Before : Type 0 where
+  pub profile : ℕ
   pub bases : ℕ
   pub changes : ℕ
   pub last : Option ℕ
   pub ended : Bool
 
--- what stands in these records, before the next
-abbrev pub before_of : List Fields → Before
-before_of rows = record {
-  bases = count_by is_basis rows;
-  changes = count_by is_change rows;
-  last = option_and_then custodian_at (last_or None rows);
-  ended = list_any is_trailer rows;
+-- what stands in these records of a profile, before the next
+abbrev pub before_of : ℕ → List Fields → Before
+before_of profile rows = record {
+  profile = profile;
+  bases = count_by (is_basis profile) rows;
+  changes = count_by (is_change profile) rows;
+  last = option_and_then (custodian_at profile) (last_or None rows);
+  ended = list_any (is_trailer profile) rows;
 }
 
 -- a custodian's code is greater than that of the basis line before
@@ -85,13 +90,19 @@ is_miscounted (Err fieldfault.Count) = true
 is_miscounted (Err (fieldfault.Form n)) = false
 is_miscounted (Err fieldfault.Memory) = false
 
--- a change record behind so many others: at most 5,000, the fields of its kind, each in its form,
--- the next order
-unfoldable pub change_rules : ℕ → Kind → Fields → List (ℕ × Bool)
-change_rules before kind row =
+-- a change type and an item were read, and a file of the own custodian may hold both as a change
+abbrev pub is_allowed_if_read : ℕ → Option Action → Result Item FieldFault → Bool
+is_allowed_if_read own None item = false
+is_allowed_if_read own (Some a) (Err e) = false
+is_allowed_if_read own (Some a) (Ok x) = may_name own a (named_in x)
+
+-- a change record in a file of the own custodian, behind so many others: at most 5,000, the fields
+-- of its kind, each in its form and the change allowed, the next order
+unfoldable pub change_rules : ℕ → ℕ → Kind → Fields → List (ℕ × Bool)
+change_rules own before kind row =
     (9, nat_le 5000 before)
     ∷ (5, is_miscounted (read_item kind (drop 3 row)))
-    ∷ (6, not (is_some (action_of (field row 1)) && is_ok (read_item kind (drop 3 row))))
+    ∷ (6, not (is_allowed_if_read own (action_of (field row 1)) (read_item kind (drop 3 row))))
     ∷ (7, not (is_value (before + 1) (read_order (field row 2))))
     ∷ []
 
@@ -102,7 +113,7 @@ trailer_rules before row =
 
 -- a record that begins otherwise is none
 abbrev pub line_rules : ℕ → Before → Fields → Line → List (ℕ × Bool)
-line_rules own before row (line.Change kind) = change_rules before.changes kind row
+line_rules own before row (line.Change kind) = change_rules own before.changes kind row
 line_rules own before row line.Basis = basis_rules own before row
 line_rules own before row line.Trailer = trailer_rules before.changes row
 line_rules own before row line.Other = (5, true) ∷ []
@@ -110,7 +121,8 @@ line_rules own before row line.Other = (5, true) ∷ []
 -- a record behind the header, or the end of the file; behind a trailer there is none
 unfoldable pub later_rules : ℕ → Before → Option Fields → List (ℕ × Bool)
 later_rules own before None = (8, not before.ended) ∷ []
-later_rules own before (Some row) = (8, before.ended) ∷ line_rules own before row (line_of row)
+later_rules own before (Some row) =
+    (8, before.ended) ∷ line_rules own before row (line_of before.profile row)
 
 -- the first record, if there is one
 abbrev pub first_rules : ℕ → ℕ → Option Fields → List (ℕ × Bool)
@@ -121,4 +133,5 @@ first_rules c v (Some row) = header_rules c v row
 -- end of the file
 unfoldable pub rules_at : ℕ → ℕ → List Fields → ℕ → List (ℕ × Bool)
 rules_at c v rows zero = first_rules c v (slice_get rows 0)
-rules_at c v rows (suc i) = later_rules c (before_of (take (suc i) rows)) (slice_get rows (suc i))
+rules_at c v rows (suc i) =
+    later_rules c (before_of (profile_named rows) (take (suc i) rows)) (slice_get rows (suc i))

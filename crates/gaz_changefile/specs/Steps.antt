@@ -27,6 +27,7 @@ listed (Some x) = x ∷ []
 -- what stands before the next record of a file that was read so far
 abbrev pub before_in : Draft → Before
 before_in draft = record {
+  profile = draft.profile;
   bases = length draft.bases.items;
   changes = length draft.changes.items;
   last = draft.last;
@@ -38,12 +39,13 @@ before_in draft = record {
 pub record Adds (old new : Draft) (place : ℕ) (row : Fields) : Type 0 where
   pub kept : first_broken (later_rules old.own (before_in old) (Some row)) ≡ None
   pub open_before : old.ended ≡ false
-  pub bases : new.bases.items ≡ old.bases.items ++ listed (basis_at row)
-  pub changes : new.changes.items ≡ old.changes.items ++ listed (change_at (place, row))
-  pub base_count : length new.bases.items ≡ length old.bases.items + cond (is_basis row) 1 0
-  pub count : length new.changes.items ≡ length old.changes.items + cond (is_change row) 1 0
+  pub bases : new.bases.items ≡ old.bases.items ++ listed (basis_at old.profile row)
+  pub changes : new.changes.items ≡ old.changes.items ++ listed (change_at old.profile (place, row))
+  pub base_count : length new.bases.items ≡ length old.bases.items + cond (is_basis old.profile row) 1 0
+  pub count : length new.changes.items ≡ length old.changes.items + cond (is_change old.profile row) 1 0
   pub few : length new.changes.items ≤ 5000
-  pub last : new.last ≡ custodian_at row
-  pub ended : new.ended ≡ is_trailer row
+  pub last : new.last ≡ custodian_at old.profile row
+  pub ended : new.ended ≡ is_trailer old.profile row
   pub own : new.own ≡ old.own
+  pub profile : new.profile ≡ old.profile
   pub date : new.date ≡ old.date

@@ -6,11 +6,8 @@ use Rattle.gaz_records.specs.declared.item.Item.TheVariants as item
 use Rattle.gaz_changefile.specs.Contents.{Contents}
 use Rattle.gaz_changefile.specs.Profile.{profile_of}
 use Rattle.gaz_changefile.specs.Reading.{Bad, Good, reading}
+use Rattle.gaz_changefile.specs.WorkedPassings.{WorkedAdoptions, WorkedReleases, line}
 use Rattle.gaz_changefile.specs.declared.action.Action.TheVariants.{Insert}
-
--- a text and the line feed that ends its line
-abbrev line : List ℕ → List ℕ
-line text = text ++ (10 ∷ [])
 
 abbrev header : List ℕ
 header = line (codes "10,1,1001,1,2024-01-02")
@@ -103,7 +100,8 @@ pub record WorkedBases : Type 0 where
   pub after_trailer : reading (resting [] ++ line (codes "90,1001,1")) 1002 1 ≡ Bad 3 8
   pub second_header : reading (resting house_header) 1002 1 ≡ Bad 2 5
 
--- files of custodian 1001, volume 1: a good one, and what is wrong with some others
+-- files of custodian 1001, volume 1: a good one, and what is wrong with some others; and files of
+-- profile 2
 pub record WorkedFiles : Type 0 where
   pub good : reading (header ++ (insertion ++ line (codes "99,1"))) 1001 1 ≡ Good street_101
   pub other_count : reading (header ++ (insertion ++ line (codes "99,0"))) 1001 1 ≡ Bad 3 8
@@ -117,6 +115,8 @@ pub record WorkedFiles : Type 0 where
       1001 1 ≡ Bad 1 2
   pub not_text : reading (0xFF ∷ []) 1001 1 ≡ Bad 1 1
   pub empty : reading [] 1001 1 ≡ Bad 1 1
+  pub releases : WorkedReleases
+  pub adoptions : WorkedAdoptions
 
 -- the profile that a first record names, whatever else is in it
 pub record WorkedProfiles : Type 0 where

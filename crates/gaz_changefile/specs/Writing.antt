@@ -1,12 +1,12 @@
 -- How a change file is written.
-use Rattle.std.specs.Prelude.{◌≡◌, ℕ, List, [], ◌∷◌, ◌++◌, length, map, decimal, codes}
-use Rattle.std.specs.List.{enumerate_from}
+use Rattle.std.specs.Prelude.{◌≡◌, ℕ, not, List, [], ◌∷◌, ◌++◌, length, map, decimal, codes}
+use Rattle.std.specs.Prelude.{if◌then◌else◌}
+use Rattle.std.specs.List.{enumerate_from, list_any}
 use Rattle.gaz_rows.specs.Rows.{Fields, line_of, lines_of}
 use Rattle.gaz_records.specs.Days.{CivilDay, date_text}
-use Rattle.gaz_records.specs.Items.{item_texts, kind_of}
+use Rattle.gaz_records.specs.Items.{is_entry, item_texts, kind_of}
 use Rattle.gaz_records.specs.Kinds.{identifier}
 use Rattle.gaz_changefile.specs.Contents.{Contents}
-use Rattle.gaz_changefile.specs.Lines.{known_profile}
 use Rattle.gaz_changefile.specs.declared.action.Action.{Action}
 use Rattle.gaz_changefile.specs.declared.action.Action.TheVariants.{Insert, Update, Delete}
 use Rattle.gaz_changefile.specs.declared.change.Basis.{Basis}
@@ -18,10 +18,14 @@ action_text Insert = codes "I"
 action_text Update = codes "U"
 action_text Delete = codes "D"
 
--- the header of the known profile; numbers are written without leading zeros
-abbrev pub header_row : ℕ → ℕ → CivilDay → Fields
-header_row code volume date =
-    codes "10" ∷ decimal known_profile ∷ decimal code ∷ decimal volume ∷ date_text date ∷ []
+-- the profile of a file with these changes: the least that has records of all of them
+abbrev pub profile_for : List Change → ℕ
+profile_for changes = if list_any (λ x. not (is_entry x.item)) changes then 2 else 1
+
+-- the header of a profile; numbers are written without leading zeros
+abbrev pub header_row : ℕ → ℕ → ℕ → CivilDay → Fields
+header_row profile code volume date =
+    codes "10" ∷ decimal profile ∷ decimal code ∷ decimal volume ∷ date_text date ∷ []
 
 -- a basis line
 abbrev pub basis_row : Basis → Fields
@@ -43,7 +47,7 @@ change_rows first changes = map change_row (enumerate_from first changes)
 -- the records of the file of a custodian and volume
 abbrev pub file_rows : ℕ → ℕ → Contents → List Fields
 file_rows code volume file =
-    header_row code volume file.date
+    header_row (profile_for file.changes) code volume file.date
     ∷ (map basis_row file.bases
     ++ (change_rows 1 file.changes ++ (trailer_row (length file.changes) ∷ [])))
 

@@ -7,6 +7,7 @@ ghost use Rattle.gaz_changefile.specs.Steps.{Adds, IsFirstOf, KeepsAll, before_i
 
 use crate::change::{Basis, Change};
 use crate::file::{ChangeFile, FileFault};
+use crate::header::Header;
 use crate::line::Line;
 use crate::record::{basis_in, read_change, read_trailer};
 use crate::rule;
@@ -22,6 +23,8 @@ const MOST_BASES: usize = 16;
 pub(crate) struct Draft {
     /// The custodian whose file it is.
     own: Code,
+    /// The profile that its header names.
+    profile: u64,
     date: Day,
     bases: Vec<Basis>,
     changes: Vec<Change>,
@@ -43,9 +46,10 @@ fn is_above(last: Option<Code>, custodian: Code) -> bool
 
 impl Draft {
     /// The file behind its header.
-    pub(crate) fn new(alloc: Global, own: Code, date: Day) -> Draft
+    pub(crate) fn new(alloc: Global, own: Code, header: Header) -> Draft
         ensures own { result.own ≡ own }
-        ensures date { result.date ≡ date }
+        ensures profile { result.profile ≡ header.profile }
+        ensures date { result.date ≡ header.date }
         ensures bases { result.bases.items ≡ [] }
         ensures changes { result.changes.items ≡ [] }
         ensures last { result.last ≡ None }
@@ -53,7 +57,8 @@ impl Draft {
     {
         Draft {
             own,
-            date,
+            profile: header.profile,
+            date: header.date,
             bases: Vec::new(alloc),
             changes: Vec::new(alloc),
             last: None,
@@ -100,7 +105,7 @@ impl Draft {
             return Err(FileFault::at(place, rule::TRAILER));
         }
         let before = self.changes.len();
-        match Line::of(row) {
+        match Line::of(row, self.profile) {
             Line::Basis => {
                 let basis = self.read_basis(row, place)?;
                 let custodian = basis.custodian;
@@ -109,7 +114,7 @@ impl Draft {
                 Ok(())
             }
             Line::Change(kind) => {
-                let change = read_change(alloc, row, kind, place, before)?;
+                let change = read_change(alloc, row, self.own, kind, place, before)?;
                 self.changes.push(change)?;
                 self.last = None;
                 Ok(())

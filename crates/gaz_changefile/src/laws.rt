@@ -1,5 +1,6 @@
 //! What a reader of the definitions may rely on.
-ghost use Rattle.gaz_changefile.specs.Laws.{BasesRise, ChangesArePlaced, FilesReadBack, LeastFault};
+ghost use Rattle.gaz_changefile.specs.Laws.{BasesRise, ChangesAreAllowed, ChangesArePlaced};
+ghost use Rattle.gaz_changefile.specs.Laws.{EntriesAlone, FilesReadBack, LeastFault};
 ghost use Rattle.gaz_changefile.specs.Worked.{WorkedBases, WorkedFiles, WorkedProfiles};
 
 /// A bad reading names the least place at which a rule is broken and, there, the first that is. A
@@ -17,6 +18,17 @@ pub fn bases_rise()
 /// The changes of a good file are at most 5,000, and each is placed by the number of its record.
 pub fn changes_are_placed()
     ensures { ChangesArePlaced }
+{}
+
+/// Each release and adoption of a good file is an insertion, and names another custodian than the one
+/// whose file it is.
+pub fn changes_are_allowed()
+    ensures { ChangesAreAllowed }
+{}
+
+/// A file whose header doesn't name profile 2 is read as if there were entries alone.
+pub fn entries_alone()
+    ensures { EntriesAlone }
 {}
 
 /// What is written of a file reads back as the same file.

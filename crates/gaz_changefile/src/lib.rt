@@ -2,6 +2,7 @@
 #![tactic(auto)]
 
 mod action;
+mod allowed;
 mod change;
 mod draft;
 mod file;
@@ -18,7 +19,6 @@ mod write;
 pub use action::Action;
 pub use change::{Basis, Change};
 pub use file::{ChangeFile, FileFault};
-pub use numbers::KNOWN_PROFILE;
 pub use profile::profile_of;
 pub use read::read_file;
 pub use write::write_file;

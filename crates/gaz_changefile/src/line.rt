@@ -2,10 +2,11 @@ ghost use Rattle.std.specs.Prelude.{◌≡◌};
 ghost use Rattle.csv.specs.Records.{fields_of};
 ghost use Rattle.gaz_changefile.specs.Lines.{field, line_of};
 
+use crate::numbers::PASSINGS;
 use csv::ByteRecord;
 use gaz_records::Kind;
 
-/// What a record behind the header is, by its first field.
+/// What a record behind the header of a profile is, by its first field.
 #[derive(Clone, Copy, Debug, PartialEq, Eq)]
 pub(crate) enum Line {
     Change(Kind),
@@ -26,13 +27,16 @@ pub(crate) fn field(row: &ByteRecord, i: usize) -> &[u8]
 
 impl Line {
     /// Change records begin with the record identifier of their kind, a basis line with `90`, the
-    /// trailer with `99`.
-    pub(crate) fn of(row: &ByteRecord) -> Line
-        ensures { result ≡ line_of (fields_of row.now) }
+    /// trailer with `99`. Releases and adoptions are change records of profile 2 alone.
+    pub(crate) fn of(row: &ByteRecord, profile: u64) -> Line
+        ensures { result ≡ line_of profile (fields_of row.now) }
     {
         let first = field(row, 0);
         if let Some(kind) = Kind::read(first) {
-            return Line::Change(kind);
+            if kind.is_entry() || profile == PASSINGS {
+                return Line::Change(kind);
+            }
+            return Line::Other;
         }
         if first == b"90".as_slice() {
             Line::Basis

@@ -1,17 +1,27 @@
 ghost use Rattle.std.specs.Prelude.{◌≡◌};
 ghost use Rattle.gaz_records.specs.Fields.{ok_of};
-ghost use Rattle.gaz_changefile.specs.Lines.{is_value};
+ghost use Rattle.gaz_changefile.specs.Lines.{is_known_profile, is_value};
 
 use gaz_ids::{IdFault, Number};
 
-/// The profile that this crate reads and writes (our profile).
-pub const KNOWN_PROFILE: u64 = 1;
+/// The profile of files that hold entries alone (our profile, as the next).
+pub(crate) const ENTRIES: u64 = 1;
+
+/// The profile of files in which a property may also pass from one custodian to another.
+pub(crate) const PASSINGS: u64 = 2;
 
 /// The number of a profile, 1 to 9999.
 pub(crate) type Profile = Number<7, 4, 1, 9999>;
 
 /// A count of change records, 0 to 5000.
 pub(crate) type Count = Number<8, 4, 0, 5000>;
+
+/// Whether files of the profile are read.
+pub(crate) fn is_known_profile(profile: u64) -> bool
+    ensures { result ≡ is_known_profile profile }
+{
+    profile == ENTRIES || profile == PASSINGS
+}
 
 /// Whether a number was read, and is `n`.
 pub(crate) fn is_value<const KIND: u64, const WIDTH: u64, const LOW: u64, const HIGH: u64>(

@@ -3,7 +3,7 @@ ghost use Rattle.csv.specs.Records.{fields_of};
 ghost use Rattle.gaz_changefile.specs.Profile.{profile_in, profile_of};
 
 use crate::line::field;
-use crate::numbers::{KNOWN_PROFILE, Profile};
+use crate::numbers::{ENTRIES, Profile};
 use csv::ByteRecord;
 use gaz_rows::{next_row, open_rows};
 use std::alloc::{AllocError, Global};
@@ -41,10 +41,9 @@ fn read_profile(alloc: Global, bytes: &[u8]) -> Result<Option<u64>, AllocError>
 pub fn profile_of(alloc: Global, bytes: &[u8]) -> Result<Option<u64>, AllocError>
     ensures { IfOk result (λ profile. profile ≡ profile_of bytes.now) }
 {
-    // A reader costs more than all else that is done with a small file, and most files begin so,
-    // with the known profile.
+    // A reader costs more than all else that is done with a small file, and most files begin so.
     if bytes.starts_with(b"10,1,") {
-        return Ok(Some(KNOWN_PROFILE));
+        return Ok(Some(ENTRIES));
     }
     read_profile(alloc, bytes)
 }

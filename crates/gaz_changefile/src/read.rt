@@ -1,4 +1,5 @@
 ghost use Rattle.std.specs.Prelude.{◌≡◌, IfErr, IfOk};
+ghost use Rattle.gaz_changefile.specs.Allowed.{AreAllowed};
 ghost use Rattle.gaz_changefile.specs.Fault.{IsFault};
 ghost use Rattle.gaz_changefile.specs.Files.{AreBases, ArePlaced};
 ghost use Rattle.gaz_changefile.specs.Reading.{Good, reading};
@@ -17,7 +18,8 @@ use std::str;
 ///
 /// The bytes are CSV in UTF-8, with or without a byte order mark; records are counted without empty
 /// lines. After a fault nothing is read on. A file without a fault has at most 16 bases by rising
-/// custodian, none the own, and at most 5,000 changes, each placed by the number of its record.
+/// custodian, none the own, and at most 5,000 changes, each placed by the number of its record. Each
+/// of its releases and adoptions is an insertion, and names another custodian.
 pub fn read_file(
     alloc: Global,
     bytes: &[u8],
@@ -28,6 +30,7 @@ pub fn read_file(
     ensures bad { IfErr result (IsFault bytes.now code volume) }
     ensures bases { IfOk result (λ f. AreBases code f.bases) }
     ensures changes { IfOk result (λ f. ArePlaced f.bases f.changes) }
+    ensures allowed { IfOk result (λ f. AreAllowed code f.changes) }
 {
     let none = FileFault::at(1, rule::TEXT);
     let Ok(_) = str::from_utf8(bytes) else {
@@ -38,8 +41,8 @@ pub fn read_file(
     if !next_row(&mut rdr, &mut row)? {
         return Err(none);
     }
-    let date = read_header(&row, code, volume)?;
-    let mut draft = Draft::new(alloc, code, date);
+    let header = read_header(&row, code, volume)?;
+    let mut draft = Draft::new(alloc, code, header);
     for place in 2..u64::MAX {
         if !next_row(&mut rdr, &mut row)? {
             return draft.finish(place);

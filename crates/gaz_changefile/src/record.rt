@@ -5,6 +5,7 @@ ghost use Rattle.gaz_changefile.specs.Contents.{basis_in, change_in};
 ghost use Rattle.gaz_changefile.specs.Steps.{IsFirstOf, KeepsAll};
 
 use crate::action::Action;
+use crate::allowed::is_allowed;
 use crate::change::{Basis, Change};
 use crate::file::FileFault;
 use crate::line::field;
@@ -34,18 +35,21 @@ pub(crate) fn basis_in(row: &ByteRecord) -> Option<Basis>
 }
 
 #[tactic(auto, unfolding(crate::specs::Rules::change_rules))]
-/// The change of the record at `place`, behind so many other change records.
+/// The change of the record at `place` in a file of this custodian, behind so many other change
+/// records.
 pub(crate) fn read_change(
     alloc: Global,
     row: &ByteRecord,
+    own: Code,
     kind: Kind,
     place: u64,
     before: usize,
 ) -> Result<Change, FileFault>
     requires { before ≤ 5000 }
-    ensures bad { IfErr result (IsFirstOf place (change_rules before kind (fields_of row.now))) }
+    ensures bad { IfErr result (IsFirstOf place
+        (change_rules own before kind (fields_of row.now))) }
     ensures few { OnOk result (before < 5000) }
-    ensures good { OnOk result (KeepsAll (change_rules before kind (fields_of row.now))) }
+    ensures good { OnOk result (KeepsAll (change_rules own before kind (fields_of row.now))) }
     ensures change { IfOk result (λ change.
         change_in place kind (fields_of row.now) ≡ Some change) }
 {
@@ -61,6 +65,9 @@ pub(crate) fn read_change(
     let Some(action) = Action::read(field(row, 1)) else {
         return Err(FileFault::at(place, rule::FORM));
     };
+    if !is_allowed(own, action, &item) {
+        return Err(FileFault::at(place, rule::FORM));
+    }
     if !is_value(Order::read(field(row, 2)), before as u64 + 1) {
         return Err(FileFault::at(place, rule::ORDER));
     }

@@ -1,13 +1,14 @@
 ghost use Rattle.std.specs.Prelude.{◌≡◌, ◌≤◌, ◌++◌, length, map, OnOk, IfOk};
 ghost use Rattle.gaz_rows.specs.Rows.{lines_of};
+ghost use Rattle.gaz_changefile.specs.Allowed.{AreAllowed};
 ghost use Rattle.gaz_changefile.specs.Files.{AreBases, ArePlaced};
 ghost use Rattle.gaz_changefile.specs.Reading.{Good, reading};
 ghost use Rattle.gaz_changefile.specs.Writing.{basis_row, change_row, change_rows, file_text};
-ghost use Rattle.gaz_changefile.specs.Writing.{AddsRow, header_row, trailer_row};
+ghost use Rattle.gaz_changefile.specs.Writing.{AddsRow, header_row, profile_for, trailer_row};
 
 use crate::change::{Basis, Change};
 use crate::file::ChangeFile;
-use crate::numbers::KNOWN_PROFILE;
+use crate::numbers::{ENTRIES, PASSINGS};
 use gaz_ids::{Code, Volume};
 use gaz_records::{Day, write_item};
 use gaz_rows::write_row;
@@ -25,22 +26,35 @@ fn add_row(alloc: Global, out: &mut Vec<u8>, fields: &[&[u8]]) -> Result<(), All
     Ok(())
 }
 
+// The profile of a file with these changes: the least that has records of all of them.
+fn profile_for(changes: &[Change]) -> u64
+    ensures { result ≡ profile_for changes.now }
+{
+    for change in changes {
+        if !change.item.is_entry() {
+            return PASSINGS;
+        }
+    }
+    ENTRIES
+}
+
 fn add_header(
     alloc: Global,
     out: &mut Vec<u8>,
+    profile: u64,
     custodian: u64,
     volume: u64,
     date: &Day,
 ) -> Result<(), AllocError>
     ensures { OnOk result
-        (AddsRow out.old.items out.new.items (header_row custodian volume date.now)) }
+        (AddsRow out.old.items out.new.items (header_row profile custodian volume date.now)) }
 {
     let mut profile_digits = Buffer::new();
     let mut code_digits = Buffer::new();
     let mut volume_digits = Buffer::new();
     let fields: [&[u8]; 5] = [
         b"10",
-        profile_digits.format(KNOWN_PROFILE).as_bytes(),
+        profile_digits.format(profile).as_bytes(),
         code_digits.format(custodian).as_bytes(),
         volume_digits.format(volume).as_bytes(),
         &date.digits(),
@@ -117,7 +131,8 @@ fn add_changes(alloc: Global, out: &mut Vec<u8>, changes: &[Change]) -> Result<(
 /// same file.
 ///
 /// A file has at most 16 bases by rising custodian, none the own, and at most 5,000 changes, each
-/// placed by the number of its record: change i, from 1, at i + 1 + the number of bases.
+/// placed by the number of its record: change i, from 1, at i + 1 + the number of bases. Each release
+/// and adoption is an insertion, and names another custodian; with one of them the profile is 2.
 pub fn write_file(
     alloc: Global,
     file: &ChangeFile,
@@ -126,12 +141,21 @@ pub fn write_file(
 ) -> Result<Vec<u8>, AllocError>
     requires bases { AreBases code file.now.bases }
     requires changes { ArePlaced file.now.bases file.now.changes }
+    requires allowed { AreAllowed code file.now.changes }
     ensures text { IfOk result (λ t. t.items ≡ file_text code volume file.now) }
     ensures reads_back { IfOk result (λ t. reading t.items code volume ≡ Good file.now) }
 {
     file.known();
     let mut out = Vec::new(alloc);
-    add_header(alloc, &mut out, code.number(), volume.number(), &file.date)?;
+    let profile = profile_for(&file.changes);
+    add_header(
+        alloc,
+        &mut out,
+        profile,
+        code.number(),
+        volume.number(),
+        &file.date,
+    )?;
     add_bases(alloc, &mut out, &file.bases)?;
     add_changes(alloc, &mut out, &file.changes)?;
     add_trailer(alloc, &mut out, &file.changes)?;

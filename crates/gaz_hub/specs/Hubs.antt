@@ -21,9 +21,14 @@ use Rattle.gaz_hub.specs.declared.answer.Answer.TheVariants.{New, Repeat, Taken,
 use Rattle.gaz_hub.specs.declared.refusal.Refusal.{Refusal}
 use Rattle.gaz_hub.specs.declared.refusal.Refusal.TheVariants as refusal
 
--- 16: the file names a profile, and it isn't 1
+-- the profile whose files are taken in
+abbrev pub admitted_profile : ℕ
+admitted_profile = 1
+
+-- 16: the file names a profile, and it isn't the admitted one
 abbrev pub is_foreign : List ℕ → Bool
-is_foreign bytes = option_map_or (λ profile. not (profile == 1)) (profile_of bytes) false
+is_foreign bytes =
+    option_map_or (λ profile. not (profile == admitted_profile)) (profile_of bytes) false
 
 -- the door of a hub with this register
 abbrev pub door_of : RegisterValue → Door

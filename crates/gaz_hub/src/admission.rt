@@ -5,10 +5,14 @@ ghost use Rattle.gaz_hub.specs.Hubs.{door_of, is_foreign};
 ghost use Rattle.gaz_hub.specs.Step.{turned_away};
 
 use crate::refusal::Refusal;
-use gaz_changefile::{KNOWN_PROFILE, profile_of};
+use gaz_changefile::profile_of;
 use gaz_ids::{Code, MOST_BYTES, Volume};
 use gaz_register::Register;
 use std::alloc::{AllocError, Global};
+
+/// The profile whose files are taken in (our profile). A change file may be of another, which a
+/// reader knows and the hub doesn't judge yet.
+const ADMITTED_PROFILE: u64 = 1;
 
 /// The code, where the register has it.
 pub fn known_code(register: &Register, code: u64) -> Result<Code, Refusal>
@@ -44,14 +48,14 @@ pub fn at_door(
     Ok((code, volume))
 }
 
-/// Whether the file names a profile that isn't known.
+/// Whether the file names a profile that isn't the admitted one.
 /// A reader of CSV takes 32 KiB of the stack, which no other request should touch.
 #[inline(never)]
 pub fn names_unknown_profile(alloc: Global, file: &[u8]) -> Result<bool, AllocError>
     ensures { IfOk result (λ foreign. foreign ≡ is_foreign file.now) }
 {
     match profile_of(alloc, file)? {
-        Some(profile) => Ok(profile != KNOWN_PROFILE),
+        Some(profile) => Ok(profile != ADMITTED_PROFILE),
         None => Ok(false),
     }
 }

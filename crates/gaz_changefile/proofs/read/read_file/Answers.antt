@@ -2,7 +2,7 @@ use Rattle.std.proofs.Common.{◌∙◌, [], ◌∷◌, ◌++◌, ap, sym, refl,
 use Rattle.std.proofs.lemmas.Result.{IfErr-weaker, IfOk-weaker, err_from_is_err_and}
 use Rattle.csv.specs.Records.{fields_of}
 use Rattle.gaz_rows.specs.Rows.{rows_of}
-use Rattle.gaz_changefile.proofs.Orderly.{bases-rise, changes-are-placed}
+use Rattle.gaz_changefile.proofs.Orderly.{bases-rise, changes-are-allowed, changes-are-placed}
 use Rattle.gaz_changefile.proofs.Runs.{bad_end, bad_header, bad_next, good_end, kept_more, kept_start, no_record, no_text, ok_both, read_text, told}
 use Rattle.gaz_changefile.specs.Reading.{Good}
 use Rattle.gaz_changefile.specs.Rules.{header_rules, later_rules}
@@ -18,23 +18,23 @@ returns-then-not-branch-clause-bad c =
     let n = rw c.if-not-branch.true at (c.in_ok-next_row.ensures.read (rows_of bytes) c.open_rows-rdr.ensures) in
     rw c.at-none.ensures (read_text bytes c.args.code c.args.volume c.in-Ok.ensures.cases.1 ∙ no_record c.args.code c.args.volume (rows_of bytes) _ n.0)
 
-pub returns-in_err-date-clause-bad : goal.returns-in_err-date-clause-bad
-returns-in_err-date-clause-bad c =
+pub returns-in_err-header-clause-bad : goal.returns-in_err-header-clause-bad
+returns-in_err-header-clause-bad c =
     let bytes = c.args.bytes.now in
     let n = rw c.if-not-branch.false at (c.in_ok-next_row.ensures.read (rows_of bytes) c.open_rows-rdr.ensures) in
-    let p = err_from_is_err_and c.from_residual-in_err-date.result c.from_residual-in_err-date.ensures.1 in
-    rw (p.1, p.2) (told bytes c.args.code c.args.volume 1 (header_rules c.args.code c.args.volume (fields_of c.next_row.new.row)) _ c.in_err-date.ensures.bad (λ rule broken.
+    let p = err_from_is_err_and c.from_residual-in_err-header.result c.from_residual-in_err-header.ensures.1 in
+    rw (p.1, p.2) (told bytes c.args.code c.args.volume 1 (header_rules c.args.code c.args.volume (fields_of c.next_row.new.row)) _ c.in_err-header.ensures.bad (λ rule broken.
     read_text bytes c.args.code c.args.volume c.in-Ok.ensures.cases.1 ∙ bad_header c.args.code c.args.volume (rows_of bytes) _ n.0 _ rule n.1 broken))
 
 pub loop-place-init : goal.loop-place-init
 loop-place-init c =
     let bytes = c.args.bytes.now in
     let n = rw c.if-not-branch.false at (c.in_ok-next_row.ensures.read (rows_of bytes) c.open_rows-rdr.ensures) in
-    let h = c.in_ok-date.ensures in
+    let h = c.in_ok-header.ensures in
     let d = c.new-draft.ensures in (
       fields_of c.next_row.new.row ∷ [],
       n.0,
-      kept_start c.args.code c.args.volume (rows_of bytes) (fields_of c.next_row.new.row) n.0 c.new-draft.result n.1 h.good h.other d.own (rw (h.date, d.date) refl) d.bases d.changes d.last d.open,
+      kept_start c.args.code c.args.volume (rows_of bytes) (fields_of c.next_row.new.row) n.0 c.new-draft.result n.1 h.good (rw d.profile h.other) d.own (rw (h.profile, d.profile) refl) (rw (h.date, d.date) refl) d.bases d.changes d.last d.open,
       n.2,
     )
 
@@ -54,6 +54,10 @@ returns-then-not-branch-2-clause-bases c =
 pub returns-then-not-branch-2-clause-changes : goal.returns-then-not-branch-2-clause-changes
 returns-then-not-branch-2-clause-changes c =
     IfOk-weaker c.finish.result _ _ (λ f good. changes-are-placed c.args.bytes.now c.args.code c.args.volume f good) (returns-then-not-branch-2-clause-good c)
+
+pub returns-then-not-branch-2-clause-allowed : goal.returns-then-not-branch-2-clause-allowed
+returns-then-not-branch-2-clause-allowed c =
+    IfOk-weaker c.finish.result _ _ (λ f good. changes-are-allowed c.args.bytes.now c.args.code c.args.volume f good) (returns-then-not-branch-2-clause-good c)
 
 pub returns-then-not-branch-2-clause-bad : goal.returns-then-not-branch-2-clause-bad
 returns-then-not-branch-2-clause-bad c =
