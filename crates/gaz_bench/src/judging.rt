@@ -8,7 +8,7 @@ use gaz_ids::{Code, Volume};
 use gaz_records::{Day, Kind, SharedItem, item_of_text};
 use gaz_register::Register;
 use gaz_rules::judge;
-use gaz_shelf::{Ending, Faulty, Inbox, MemShelf, Seed, Shelf, Verdict, write_volume};
+use gaz_shelf::{Ending, Faulty, Inbox, MemShelf, Seed, Shelf, Verdict, are_entries, write_volume};
 use std::alloc::Global;
 use std::time::Instant;
 
@@ -192,6 +192,7 @@ fn fill<K: Inbox>(alloc: Global, shelf: &mut K, code: Code, addresses: u64) -> R
         add_items(alloc, &mut items, k.saturating_add(1))?;
     }
     receive(shelf, code)?;
+    ensure!(are_entries(items.as_slice()), "an item that is no entry");
     write_volume(shelf, code, items, Ending::Keep)?;
     Ok(())
 }

@@ -3,10 +3,10 @@ ghost use Rattle.std.specs.Prelude.{OnOk};
 ghost use Rattle.gaz_shelf.specs.Keeper.{IsNotOpen, Seen};
 
 use crate::judging::{add_items, receive};
-use anyhow::{Context, Result};
+use anyhow::{Context, Result, ensure};
 use gaz_ids::Code;
 use gaz_records::SharedItem;
-use gaz_shelf::{Ending, Inbox, MemShelf, Seed, Shelf, write_volume};
+use gaz_shelf::{Ending, Inbox, MemShelf, Seed, Shelf, are_entries, write_volume};
 use std::alloc::Global;
 use std::time::Instant;
 
@@ -35,6 +35,7 @@ fn micros_of_next<K: Inbox>(
 {
     let start = Instant::now(rt)?;
     receive(shelf, code)?;
+    ensure!(are_entries(items.as_slice()), "an item that is no entry");
     write_volume(shelf, code, items, Ending::Keep)?;
     Ok(start.elapsed(rt)?.as_micros())
 }

@@ -71,8 +71,11 @@ impl<K: Inbox + Drop> Tried<K> {
         kind: Kind,
         after: Option<Key>,
         most: usize,
-    ) -> Result<Vec<SharedItem>, ShelfFault> {
-        self.keeper.page(code, volume, kind, after, most)
+    ) -> Result<Vec<SharedItem>, Refusal> {
+        if !kind.is_entry() {
+            return Err(Refusal::Misused);
+        }
+        Ok(self.keeper.page(code, volume, kind, after, most)?)
     }
 
     pub(crate) fn received(
@@ -96,7 +99,7 @@ impl<K: Inbox + Drop> Tried<K> {
         kind: Kind,
         most: usize,
     ) -> Result<Vec<SharedItem>, Refusal> {
-        if most == 0 {
+        if most == 0 || !kind.is_entry() {
             return Err(Refusal::Misused);
         }
         Ok(read_kind(alloc, &mut self.keeper, code, volume, kind, most)?)

@@ -5,7 +5,7 @@ ghost use Rattle.gaz_shelf.specs.Keeper.{IsNotOpen, Open};
 
 use gaz_ids::{Code, Volume};
 use gaz_records::{Key, SharedItem};
-use gaz_shelf::{Ending, Faulty, Inbox, ShelfFault, write_volume};
+use gaz_shelf::{Ending, Faulty, Inbox, ShelfFault, are_entries, write_volume};
 
 /// Why a call came to nothing.
 #[derive(Clone, Copy, Debug, PartialEq, Eq)]
@@ -75,7 +75,7 @@ impl<K: Inbox + Drop> Tried<K> {
     }
 
     pub(crate) fn put(&mut self, item: SharedItem) -> Result<(), Refusal> {
-        if self.judged.is_none() {
+        if self.judged.is_none() || !item.is_entry() {
             return Err(Refusal::Misused);
         }
         let done = self.keeper.put(item);
@@ -120,7 +120,7 @@ impl<K: Inbox + Drop> Tried<K> {
         items: Vec<SharedItem>,
         ending: Ending,
     ) -> Result<(), Refusal> {
-        if self.judged.is_some() {
+        if self.judged.is_some() || !are_entries(items.as_slice()) {
             return Err(Refusal::Misused);
         }
         let done = write_volume(&mut self.keeper, code, items, ending);

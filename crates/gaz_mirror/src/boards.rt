@@ -1,5 +1,7 @@
 //! The calls of a keeper over two that concern boards.
-ghost use Rattle.std.specs.Prelude.{◌≢◌};
+ghost use Rattle.std.specs.Prelude.{◌≡◌, ◌≢◌, true};
+ghost use Rattle.gaz_records.specs.Items.{is_entry};
+ghost use Rattle.gaz_records.specs.Kinds.{is_entry_kind};
 ghost use Rattle.gaz_shelf.specs.Keeper.{Idle, IsNotOpen, Refuses};
 ghost use Rattle.gaz_shelf.specs.Telling.{Abandons, Applies, Begins, Puts, Skips, Takes};
 ghost use Rattle.gaz_shelf.specs.Telling.{TellsApprovedOf, TellsApprovedOn, TellsAt, TellsChildren};
@@ -95,6 +97,7 @@ impl<L: Inbox + Drop, U: Unshared + Drop> Shelf for Mirror<L, U> {
         after: Option<Key>,
         most: usize,
     ) -> Result<Vec<SharedItem>, ShelfFault>
+        requires { is_entry_kind kind ≡ true }
         ensures reads { TellsPage
             seen_mirrored self.old self.new result code volume kind after most }
         ensures spares { SparesLower self.old self.new }
@@ -118,7 +121,8 @@ impl<L: Inbox + Drop, U: Unshared + Drop> Shelf for Mirror<L, U> {
     }
 
     fn put(&mut self, item: SharedItem) -> Result<(), ShelfFault>
-        requires { (L.seen self.old.lower).progress ≢ Idle }
+        requires begun { (L.seen self.old.lower).progress ≢ Idle }
+        requires entry { is_entry item ≡ true }
         ensures sets { Puts seen_mirrored self.old self.new result item }
         ensures refuses { Refuses (seen_mirrored self.old) result }
         ensures drops { DropsUpper result self.new }

@@ -10,6 +10,7 @@ use Rattle.gaz_views.specs.Lawful.{IsLawfulView}
 use Rattle.gaz_views.specs.Accounts.{Account, empty_account, last_of}
 use Rattle.gaz_views.specs.View.{View, empty_view, with_item, without_key}
 use Rattle.gaz_views.specs.declared.verdict.Verdict.{Verdict}
+use Rattle.gaz_records.specs.Items.{is_entry}
 use Rattle.gaz_records.specs.declared.item.Item.{Item}
 use Rattle.gaz_records.specs.declared.key.Key.{Key}
 use Rattle.gaz_shelf.proofs.Boards.{Changes, changed}
@@ -24,8 +25,8 @@ nothing_lawful = record { judged = elim [ zero ↦ lawful_empty | suc n ↦ lawf
 working_lawful : (a : Account) (w : View) → IsLawfulAccount a → IsLawfulView w → IsLawfulAccount (record { judged = a.judged; working = w })
 working_lawful a w was now = record { judged = was.judged; working = now }
 
-put_lawful : (a : Account) (i : Item) → IsLawfulAccount a → IsLawfulAccount (record { judged = a.judged; working = with_item a.working i })
-put_lawful a i was = working_lawful a _ was (lawful_put a.working i was.working)
+put_lawful : (a : Account) (i : Item) → is_entry i ≡ true → IsLawfulAccount a → IsLawfulAccount (record { judged = a.judged; working = with_item a.working i })
+put_lawful a i entry was = working_lawful a _ was (lawful_put a.working i entry was.working)
 
 taken_lawful : (a : Account) (k : Key) → IsLawfulAccount a → IsLawfulAccount (record { judged = a.judged; working = without_key a.working k })
 taken_lawful a k was = working_lawful a _ was (lawful_taken a.working k was.working)
@@ -58,8 +59,8 @@ by_result (Err e) P Q X ok err f g = g err
 after_call : {T E : Type 0} (r : Result T E) (a b d : Account) → OnOk r (b ≡ d) → OnErr r (b ≡ a) → IsLawfulAccount a → IsLawfulAccount d → IsLawfulAccount b
 after_call r a b d ok err was now = by_result r (b ≡ d) (b ≡ a) (IsLawfulAccount b) ok err (λ e. subst IsLawfulAccount (sym e) now) (λ e. subst IsLawfulAccount (sym e) was)
 
-pub after_put : {T E : Type 0} (r : Result T E) (a b : Account) (i : Item) → IsLawfulAccount a → OnOk r (b ≡ record { judged = a.judged; working = with_item a.working i }) → OnErr r (b ≡ a) → IsLawfulAccount b
-after_put r a b i was ok err = after_call r a b _ ok err was (put_lawful a i was)
+pub after_put : {T E : Type 0} (r : Result T E) (a b : Account) (i : Item) → is_entry i ≡ true → IsLawfulAccount a → OnOk r (b ≡ record { judged = a.judged; working = with_item a.working i }) → OnErr r (b ≡ a) → IsLawfulAccount b
+after_put r a b i entry was ok err = after_call r a b _ ok err was (put_lawful a i entry was)
 
 pub after_take : {T E : Type 0} (r : Result T E) (a b : Account) (k : Key) → IsLawfulAccount a → OnOk r (b ≡ record { judged = a.judged; working = without_key a.working k }) → OnErr r (b ≡ a) → IsLawfulAccount b
 after_take r a b k was ok err = after_call r a b _ ok err was (taken_lawful a k was)

@@ -1,5 +1,6 @@
 //! The accounts of all custodians.
-ghost use Rattle.std.specs.Prelude.{◌≡◌, ℕ, [], IfOk, MatchOption, OnOk, OnErr};
+ghost use Rattle.std.specs.Prelude.{◌≡◌, ℕ, [], IfOk, MatchOption, OnOk, OnErr, true};
+ghost use Rattle.gaz_records.specs.Items.{is_entry};
 ghost use Rattle.gaz_views.specs.Accounts.{empty_account};
 ghost use Rattle.gaz_views.specs.View.{with_item, without_key};
 ghost use Rattle.gaz_shelf.specs.Accounts.{AreLawful, AreLawful-prop, account_of, board_of};
@@ -63,8 +64,9 @@ impl Accounts {
         }
     }
 
-    /// Sets an item in the working view of a custodian that has an account.
+    /// Sets an item, an entry, in the working view of a custodian that has an account.
     pub fn put(&mut self, code: Code, item: SharedItem) -> Result<(), AllocError>
+        requires { is_entry item ≡ true }
         ensures board { board_of self.new.by_code.entries ≡ board_of self.old.by_code.entries }
         ensures working { OnOk result ((account_of self.new.by_code.entries code).working
             ≡ with_item (account_of self.old.by_code.entries code).working item) }

@@ -24,4 +24,4 @@ pub use gaz_views::{Property, Verdict};
 pub use mem_shelf::MemShelf;
 pub use reading::read_kind;
 pub use shelf::{Inbox, Shelf};
-pub use writing::{Ending, put_all, write_volume};
+pub use writing::{Ending, are_entries, put_all, write_volume};

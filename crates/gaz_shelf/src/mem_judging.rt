@@ -1,6 +1,7 @@
 //! The judgement in progress of a keeper in memory.
-ghost use Rattle.std.specs.Prelude.{◌≡◌, ◌≢◌, ◌≤◌, ◌<◌, ◌==◌, ◌^◌, ◌-◌, ℕ, if◌then◌else◌};
+ghost use Rattle.std.specs.Prelude.{◌≡◌, ◌≢◌, ◌≤◌, ◌<◌, ◌==◌, ◌^◌, ◌-◌, ℕ, if◌then◌else◌, true};
 ghost use Rattle.std.specs.Prelude.{MatchOption};
+ghost use Rattle.gaz_records.specs.Items.{is_entry};
 ghost use Rattle.gaz_shelf.specs.Keeper.{Broken, Idle, IsNotOpen, Keeps, Open, Seen, view_of};
 ghost use Rattle.gaz_shelf.specs.Mem.{progress_of, seen_in};
 ghost use Rattle.gaz_shelf.specs.Telling.{Applies, Puts, Takes};
@@ -56,7 +57,8 @@ impl MemShelf {
 
     /// Sets an item in the working view of the custodian that is being judged.
     pub(crate) fn put_open(&mut self, code: Code, item: SharedItem) -> Result<(), ShelfFault>
-        requires { progress_of self.old.judging ≡ Open code }
+        requires judged { progress_of self.old.judging ≡ Open code }
+        requires entry { is_entry item ≡ true }
         ensures { Puts seen_in self.old self.new result item }
     {
         match self.accounts.put(code, item) {

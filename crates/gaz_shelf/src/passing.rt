@@ -1,5 +1,7 @@
 //! The calls that a keeper for tests passes on.
-ghost use Rattle.std.specs.Prelude.{◌≢◌};
+ghost use Rattle.std.specs.Prelude.{◌≡◌, ◌≢◌, true};
+ghost use Rattle.gaz_records.specs.Items.{is_entry};
+ghost use Rattle.gaz_records.specs.Kinds.{is_entry_kind};
 ghost use Rattle.gaz_shelf.specs.Calls.{CountsAs};
 ghost use Rattle.gaz_shelf.specs.Around.{seen_around};
 ghost use Rattle.gaz_shelf.specs.Faulting.{progress_around};
@@ -111,6 +113,7 @@ impl<K: Inbox + Drop> Shelf for Faulty<K> {
         after: Option<Key>,
         most: usize,
     ) -> Result<Vec<SharedItem>, ShelfFault>
+        requires { is_entry_kind kind ≡ true }
         ensures reads { TellsPage seen_around self.old self.new result code volume kind after most }
         ensures counts { CountsAs Call.Page self.old.plan self.new.plan self.old.broken result }
     {
@@ -134,7 +137,8 @@ impl<K: Inbox + Drop> Shelf for Faulty<K> {
     }
 
     fn put(&mut self, item: SharedItem) -> Result<(), ShelfFault>
-        requires { progress_around self.old.broken (K.seen self.old.inner).progress ≢ Idle }
+        requires begun { progress_around self.old.broken (K.seen self.old.inner).progress ≢ Idle }
+        requires entry { is_entry item ≡ true }
         ensures sets { Puts seen_around self.old self.new result item }
         ensures refuses { Refuses (seen_around self.old) result }
         ensures counts { CountsAs Call.Put self.old.plan self.new.plan self.old.broken result }

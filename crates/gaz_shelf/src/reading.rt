@@ -1,5 +1,7 @@
 //! Reading over any keeper.
 ghost use Rattle.std.specs.Prelude.{◌≡◌, ◌+◌, ◌<◌, ◌≤◌, ◌^◌, if◌then◌else◌, IfOk, is_some, vec_len};
+ghost use Rattle.std.specs.Prelude.{true};
+ghost use Rattle.gaz_records.specs.Kinds.{is_entry_kind};
 ghost use Rattle.gaz_shelf.specs.Keeper.{Seen};
 ghost use Rattle.gaz_views.specs.Reading.{next_after};
 ghost use Rattle.gaz_shelf.specs.Telling.{AddsPage, TellsAll};
@@ -10,7 +12,7 @@ use gaz_ids::Code;
 use gaz_records::{Key, Kind, SharedItem, key_of};
 use std::alloc::Global;
 
-/// All items of a kind after a volume, which is to be reached, in key order, read `most` at a time,
+/// All items of a kind of entries after a volume, which is to be reached, in key order, read `most` at a time,
 /// which is at least 1.
 ///
 /// `Memory` too where a keeper answers more items than memory holds.
@@ -22,7 +24,8 @@ pub fn read_kind<S: Shelf>(
     kind: Kind,
     most: usize,
 ) -> Result<Vec<SharedItem>, ShelfFault>
-    requires { 1 ≤ most }
+    requires size { 1 ≤ most }
+    requires entry { is_entry_kind kind ≡ true }
     ensures { TellsAll S.seen keeper.old keeper.new result code volume kind }
 {
     let mut items = Vec::new(alloc);
@@ -43,7 +46,8 @@ fn add_page<S: Shelf>(
     most: usize,
     items: &mut Vec<SharedItem>,
 ) -> Result<Option<Key>, ShelfFault>
-    requires { 1 ≤ most }
+    requires size { 1 ≤ most }
+    requires entry { is_entry_kind kind ≡ true }
     ensures reads { AddsPage S.seen keeper.old keeper.new result code volume kind after
         items.old items.new }
     ensures goes_on { IfOk result (λ next.

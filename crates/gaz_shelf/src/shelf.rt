@@ -1,5 +1,7 @@
 //! What is asked of a keeper of boards.
-ghost use Rattle.std.specs.Prelude.{◌≢◌};
+ghost use Rattle.std.specs.Prelude.{◌≡◌, ◌≢◌, true};
+ghost use Rattle.gaz_records.specs.Items.{is_entry};
+ghost use Rattle.gaz_records.specs.Kinds.{is_entry_kind};
 ghost use Rattle.gaz_shelf.specs.Keeper.{Idle, IsNotOpen, Refuses, Seen};
 ghost use Rattle.gaz_shelf.specs.Telling.{Abandons, Applies, Begins, Puts, Receives, Skips, Takes};
 ghost use Rattle.gaz_shelf.specs.Telling.{TellsApprovedOf, TellsApprovedOn, TellsAt, TellsChildren};
@@ -65,8 +67,8 @@ pub trait Shelf {
     fn children(&mut self, code: Code, uprn: Uprn) -> Result<bool, ShelfFault>
         ensures { TellsChildren seen self.old self.new result code uprn };
 
-    /// The first `most` items of a kind after a key, or from the start, in key order, after a
-    /// volume, which is to be reached.
+    /// The first `most` items of a kind of entries after a key, or from the start, in key order,
+    /// after a volume, which is to be reached.
     fn page(
         &mut self,
         code: Code,
@@ -75,6 +77,7 @@ pub trait Shelf {
         after: Option<Key>,
         most: usize,
     ) -> Result<Vec<SharedItem>, ShelfFault>
+        requires { is_entry_kind kind ≡ true }
         ensures { TellsPage seen self.old self.new result code volume kind after most };
 
     /// Begins the judgement of a custodian's next volume, which is to be at hand, on its last view.
@@ -82,9 +85,10 @@ pub trait Shelf {
         requires { IsNotOpen (seen self.old).progress }
         ensures { Begins seen self.old self.new result code };
 
-    /// Sets an item in the working view.
+    /// Sets an item, which is to be an entry, in the working view.
     fn put(&mut self, item: SharedItem) -> Result<(), ShelfFault>
-        requires { (seen self.old).progress ≢ Idle }
+        requires begun { (seen self.old).progress ≢ Idle }
+        requires entry { is_entry item ≡ true }
         ensures sets { Puts seen self.old self.new result item }
         ensures refuses { Refuses (seen self.old) result };
 

@@ -9,7 +9,7 @@ use gaz_ids::{Code, Uprn, Volume};
 use gaz_records::SharedItem;
 use gaz_register::Register;
 use gaz_rules::judge;
-use gaz_shelf::{Ending, Faulty, Inbox, MemShelf, Seed, ShelfFault, Verdict, write_volume};
+use gaz_shelf::{Ending, Faulty, Inbox, MemShelf, Seed, ShelfFault, Verdict, are_entries, write_volume};
 use std::alloc::Global;
 
 /// A keeper that has no judgement open.
@@ -48,12 +48,16 @@ impl<K: Inbox + Drop> RestingKeeper<K> {
         self.keeper.receive(code, volume, bytes)
     }
 
-    /// Sets these items on a custodian's last view, as its next volume.
+    /// Sets these items on a custodian's last view, as its next volume; `Store` where one is no
+    /// entry.
     pub(crate) fn write_volume(
         &mut self,
         code: Code,
         items: Vec<SharedItem>,
     ) -> Result<(), ShelfFault> {
+        if !are_entries(items.as_slice()) {
+            return Err(ShelfFault::Store);
+        }
         write_volume(&mut self.keeper, code, items, Ending::Keep)
     }
 

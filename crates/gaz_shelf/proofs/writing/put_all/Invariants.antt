@@ -1,7 +1,9 @@
 -- What is left comes to the same view. On a broken judgement nothing was put.
-use Rattle.std.proofs.Common.{◌≡◌, ◌≤◌}
+use Rattle.std.proofs.Common.{◌≡◌, ◌≤◌, true}
+use Rattle.std.specs.List.{list_all}
 use Rattle.std.specs.Prelude.{None, fold}
 use Rattle.std.specs.Vec.Iter.{into_iter_items}
+use Rattle.gaz_records.specs.Items.{is_entry}
 use Rattle.gaz_views.specs.View.{with_item}
 use Rattle.gaz_shelf.specs.Keeper.{Broken, IsSound, LeavesAtMost, after_abandon, with_working}
 use Rattle.gaz_shelf.proofs.writing.put_all.Given as goal
@@ -20,5 +22,6 @@ invariant-loop-item g l =
       leaves : IsSound was → LeavesAtMost None was now;
       whole : IsSound was → was.whole → now.whole;
       full : was.progress ≡ Broken → now.is_full ≡ was.is_full;
+      entries : list_all is_entry (into_iter_items l.item-iterator) ≡ true;
       none_put : was.progress ≡ Broken → into_iter_items l.item-iterator ≡ l.fn.items.items;
     }

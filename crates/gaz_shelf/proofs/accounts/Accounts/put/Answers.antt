@@ -24,4 +24,4 @@ invariant_of-self-2 c =
     let es = c.args.self.now.by_code.entries in
     let writes = (c.get_mut.follows.holds c.put.new.self).3 (search rules) in
     let was = found_lawful es c.args.code _ c.args.self.now.lawful c.in-Some.ensures.value in
-    record { lawful = all_lawful es _ c.args.code c.put.new.self writes.0 c.args.self.now.lawful (after_put c.put.result _ c.put.new.self c.args.item was c.put.ensures.ok c.put.ensures.err) }
+    record { lawful = all_lawful es _ c.args.code c.put.new.self writes.0 c.args.self.now.lawful (after_put c.put.result _ c.put.new.self c.args.item c.requires was c.put.ensures.ok c.put.ensures.err) }
