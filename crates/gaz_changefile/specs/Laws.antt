@@ -72,9 +72,9 @@ ChangesAreAllowed =
 abbrev pub BeginsPassing : Fields → Type 0
 BeginsPassing row = (field row 0 ≡ codes "91") ⊎ (field row 0 ≡ codes "92")
 
--- records that hold entries alone, as if no kinds of items but theirs were known: each change is of
--- an entry, and a release or an adoption behind the header breaks rule 5, if it doesn't stand behind
--- the trailer
+-- records that hold entries alone, as if no other kinds of items were known: each change is of an
+-- entry, and a release or an adoption behind the header breaks rule 5, unless it stands behind the
+-- trailer; of no other rule is it asked
 pub record HoldEntries (rows : List Fields) : Type 0 where
   pub entries : All (λ x. is_entry x.item ≡ true) (contents_of rows).changes
   pub others :

@@ -41,8 +41,10 @@ pub record Adds (old new : Draft) (place : ℕ) (row : Fields) : Type 0 where
   pub open_before : old.ended ≡ false
   pub bases : new.bases.items ≡ old.bases.items ++ listed (basis_at old.profile row)
   pub changes : new.changes.items ≡ old.changes.items ++ listed (change_at old.profile (place, row))
-  pub base_count : length new.bases.items ≡ length old.bases.items + cond (is_basis old.profile row) 1 0
-  pub count : length new.changes.items ≡ length old.changes.items + cond (is_change old.profile row) 1 0
+  pub base_count :
+      length new.bases.items ≡ length old.bases.items + cond (is_basis old.profile row) 1 0
+  pub count :
+      length new.changes.items ≡ length old.changes.items + cond (is_change old.profile row) 1 0
   pub few : length new.changes.items ≤ 5000
   pub last : new.last ≡ custodian_at old.profile row
   pub ended : new.ended ≡ is_trailer old.profile row

@@ -23,9 +23,13 @@ released = record {
   } ∷ [];
 }
 
--- a file of custodian 1001 with one change record
+-- a file of custodian 1001 with one change record, behind the start of a header
+abbrev releasing_under : List ℕ → List ℕ → List ℕ
+releasing_under profile record_2 =
+    line (profile ++ codes ",1001,1,2025-01-02") ++ (line record_2 ++ line (codes "99,1"))
+
 abbrev releasing : List ℕ → List ℕ
-releasing record_2 = line (codes "10,2,1001,1,2025-01-02") ++ (line record_2 ++ line (codes "99,1"))
+releasing record_2 = releasing_under (codes "10,2") record_2
 
 -- custodian 1002 adopts it, on the basis of that file
 abbrev adopted : Status → Contents
@@ -62,8 +66,7 @@ adopting record_3 =
 pub record WorkedReleases : Type 0 where
   pub good : reading (releasing (codes "91,I,1,500,1002,1")) 1001 1 ≡ Good released
   pub of_profile_1 :
-      reading (line (codes "10,1,1001,1,2025-01-02") ++ line (codes "91,I,1,500,1002,1")) 1001 1
-      ≡ Bad 2 5
+      reading (releasing_under (codes "10,1") (codes "91,I,1,500,1002,1")) 1001 1 ≡ Bad 2 5
   pub update : reading (releasing (codes "91,U,1,500,1002,1")) 1001 1 ≡ Bad 2 6
   pub deletion : reading (releasing (codes "91,D,1,500,1002,1")) 1001 1 ≡ Bad 2 6
   pub own : reading (releasing (codes "91,I,1,500,1001,1")) 1001 1 ≡ Bad 2 6

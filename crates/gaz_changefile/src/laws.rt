@@ -20,8 +20,8 @@ pub fn changes_are_placed()
     ensures { ChangesArePlaced }
 {}
 
-/// Each release and adoption of a good file is an insertion, and names another custodian than the one
-/// whose file it is.
+/// Each release and adoption of a good file is an insertion, and names another custodian than the
+/// one whose file it is.
 pub fn changes_are_allowed()
     ensures { ChangesAreAllowed }
 {}

@@ -18,8 +18,8 @@ use std::str;
 ///
 /// The bytes are CSV in UTF-8, with or without a byte order mark; records are counted without empty
 /// lines. After a fault nothing is read on. A file without a fault has at most 16 bases by rising
-/// custodian, none the own, and at most 5,000 changes, each placed by the number of its record. Each
-/// of its releases and adoptions is an insertion, and names another custodian.
+/// custodian, none the own, and at most 5,000 changes, each placed by the number of its record.
+/// Each of its releases and adoptions is an insertion, and names another custodian.
 pub fn read_file(
     alloc: Global,
     bytes: &[u8],

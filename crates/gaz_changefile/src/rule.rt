@@ -16,8 +16,8 @@ pub const BASIS: u8 = 4;
 /// A record of no kind that the profile has, or with too few or too many fields.
 pub const SHAPE: u8 = 5;
 
-/// A change type or a field of an item of a wrong form, or a release or adoption that is no insertion
-/// or names the own custodian.
+/// A change type or a field of an item of a wrong form, or a release or adoption that is no
+/// insertion or names the own custodian.
 pub const FORM: u8 = 6;
 
 /// An order that isn't the next of 1, 2, 3 and so on.

@@ -131,8 +131,9 @@ fn add_changes(alloc: Global, out: &mut Vec<u8>, changes: &[Change]) -> Result<(
 /// same file.
 ///
 /// A file has at most 16 bases by rising custodian, none the own, and at most 5,000 changes, each
-/// placed by the number of its record: change i, from 1, at i + 1 + the number of bases. Each release
-/// and adoption is an insertion, and names another custodian; with one of them the profile is 2.
+/// placed by the number of its record: change i, from 1, at i + 1 + the number of bases. Each
+/// release and adoption is an insertion, and names another custodian; with one of them the profile
+/// is 2.
 pub fn write_file(
     alloc: Global,
     file: &ChangeFile,
