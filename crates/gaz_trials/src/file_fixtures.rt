@@ -49,6 +49,14 @@ pub(crate) const LEADING_ZEROS: &[u8] =
 pub(crate) const OLD_MILL: &[u8] =
     b"10,1,1003,1,2024-01-02\n11,I,1,300,2,2010-05-01,\n15,I,2,300,ENG,\"Mill Lane, rear of\",,Bay,Bay Area\n21,I,3,200000,6,0,0,,,2010-05-01,\n24,I,4,Q1,200000,ENG,6,300,,,,,,,,,,The Old Mill,2010-05-01,\n23,I,5,X1,200000,TAX01,A/17,2010-05-01,\n99,5\n";
 
+/// Property 500 passes from custodian 1001 to 1002.
+pub(crate) const PROPERTY_500_RELEASED: &[u8] =
+    b"10,2,1001,1,2025-01-02\n91,I,1,500,1002,1\n99,1\n";
+
+/// It is taken.
+pub(crate) const PROPERTY_500_ADOPTED: &[u8] =
+    b"10,2,1002,1,2025-01-03\n90,1001,1\n92,I,1,500,1001,1,1,450000,250000,,,2020-01-01,\n99,1\n";
+
 /// Two BLPUs, each the parent of the other.
 pub(crate) const RING_OF_PARENTS: &[u8] =
     b"10,1,1001,1,2024-01-02\n21,I,1,11,1,1,1,12,,2020-01-01,\n21,I,2,12,1,1,1,11,,2020-01-01,\n99,2\n";

@@ -29,6 +29,8 @@ const FILES: &[File<'static>] = &[
     (PROPERTY_42_HISTORICAL, 1001, 6),
     (HIGH_STREET_DELETED, 1001, 7),
     (FLAT_2_IN_WELSH, 1001, 8),
+    (PROPERTY_500_RELEASED, 1001, 1),
+    (PROPERTY_500_ADOPTED, 1002, 1),
     (NOTHING, 1001, 1),
 ];
 

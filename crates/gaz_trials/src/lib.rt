@@ -23,6 +23,8 @@ mod numbers;
 #[cfg(test)]
 mod objects;
 #[cfg(test)]
+mod profiles;
+#[cfg(test)]
 mod records;
 #[cfg(test)]
 mod registers;
