@@ -1,5 +1,5 @@
 -- Where the header doesn't name profile 2, each change is of an entry.
-use Rattle.std.proofs.Common.{◌≡◌, ◌≢◌, ℕ, suc, true, false, List, [], ◌∷◌, refl, arith, Option, Some, None, Result, Ok, Err, ap, ◌∙◌, sym, inl, inr, slice_get, take}
+use Rattle.std.proofs.Common.{◌≡◌, ◌≢◌, ℕ, suc, true, false, List, [], ◌∷◌, refl, arith, Option, Some, None, Result, Ok, Err, ap, ◌∙◌, sym, inl, inr, take}
 use Rattle.std.specs.Prelude.{◌==◌, codes}
 use Rattle.std.specs.List.{All, enumerate_from, filter_map, list_any}
 use Rattle.std.specs.Str.{bytes_eq}

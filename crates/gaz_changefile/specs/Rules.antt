@@ -1,7 +1,7 @@
 -- The rules that each record of a file has to keep, in the order in which they are looked at, each
 -- with whether it is broken.
 use Rattle.std.specs.Prelude.{ℕ, zero, suc, ◌+◌, ◌&&◌, not, ◌==◌, nat_le, nat_lt, List, [], ◌∷◌}
-use Rattle.std.specs.Prelude.{length, take, drop, Option, Some, None, is_some, is_ok}
+use Rattle.std.specs.Prelude.{length, take, drop, Option, Some, None, is_some}
 use Rattle.std.specs.Prelude.{option_and_then, option_map, slice_get, if◌then◌else◌, Bool, true}
 use Rattle.std.specs.Prelude.{false, count_by, codes, Result, Ok, Err}
 use Rattle.std.specs.List.{last_or, list_any}
