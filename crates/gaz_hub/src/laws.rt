@@ -8,6 +8,7 @@ ghost use Rattle.gaz_hub.specs.Owners.{OwnersAlone};
 ghost use Rattle.gaz_hub.specs.Readings.{EqualAnswers, ExtractsStay, OneHolder};
 ghost use Rattle.gaz_hub.specs.Runs.{EqualReceived, EveryRepeat, EveryRun, EveryRunFrom};
 ghost use Rattle.gaz_hub.specs.Runs.{EverySettledRun, EverySettledRunFrom, JudgementsStay};
+ghost use Rattle.gaz_hub.specs.Seen.{hub_seen};
 ghost use Rattle.gaz_hub.specs.Standing.{AnyOrder, MoreFiles, StandingIsSettled};
 ghost use Rattle.gaz_hub.specs.WorkedAnswers.{WorkedAnswers};
 ghost use Rattle.gaz_hub.specs.WorkedBases.{WorkedBases};
@@ -116,45 +117,53 @@ pub fn owners_alone()
     ensures { OwnersAlone }
 {}
 
-/// Calls one after another are runs.
-pub fn calls_make_runs<K: Inbox>()
-    ensures { CallsMakeRuns K.seen }
+/// Calls one after another are runs: of a keeper, and of a hub as it is seen with what it remembers,
+/// of which the hub's own calls speak. So it is with each law below.
+pub fn calls_make_runs<K: Inbox + Drop>()
+    ensures keeper { CallsMakeRuns K.seen }
+    ensures hub { CallsMakeRuns (hub_seen K.seen) }
 {}
 
 /// Whatever commands come, over any keeper that stood for a partial run of files of known
 /// custodians, it stands for one.
-pub fn every_run_from_over<K: Inbox>()
-    ensures { EveryRunFromOver K.seen }
+pub fn every_run_from_over<K: Inbox + Drop>()
+    ensures keeper { EveryRunFromOver K.seen }
+    ensures hub { EveryRunFromOver (hub_seen K.seen) }
 {}
 
 /// After a response that settles, over any such keeper, the board is the standing one.
-pub fn every_settled_run_from_over<K: Inbox>()
-    ensures { EverySettledRunFromOver K.seen }
+pub fn every_settled_run_from_over<K: Inbox + Drop>()
+    ensures keeper { EverySettledRunFromOver K.seen }
+    ensures hub { EverySettledRunFromOver (hub_seen K.seen) }
 {}
 
 /// Each response that settles, over any such keeper, is the one read off the standing board of the
 /// files that are received by then.
-pub fn every_answer_over<K: Inbox>()
-    ensures { EveryAnswerOver K.seen }
+pub fn every_answer_over<K: Inbox + Drop>()
+    ensures keeper { EveryAnswerOver K.seen }
+    ensures hub { EveryAnswerOver (hub_seen K.seen) }
 {}
 
 /// What a stop leaves after whatever commands, of any keeper of which it left just a partial run
 /// before: a partial run again, which the next hub can begin with. Its files are those that were
 /// received, and one more at most, of a submission that was let in and not answered as received.
-pub fn every_stop_over<K: Inbox>()
-    ensures { EveryStopOver K.seen }
+pub fn every_stop_over<K: Inbox + Drop>()
+    ensures keeper { EveryStopOver K.seen }
+    ensures hub { EveryStopOver (hub_seen K.seen) }
 {}
 
 /// Whatever commands come, over any keeper that began with nothing, it stands for what came first
 /// and for a board that is partial over it.
-pub fn every_run_over<K: Inbox>()
-    ensures { EveryRunOver K.seen }
+pub fn every_run_over<K: Inbox + Drop>()
+    ensures keeper { EveryRunOver K.seen }
+    ensures hub { EveryRunOver (hub_seen K.seen) }
 {}
 
 /// After a response that settles, over any keeper that began with nothing, the board is the
 /// standing one.
-pub fn every_settled_run_over<K: Inbox>()
-    ensures { EverySettledRunOver K.seen }
+pub fn every_settled_run_over<K: Inbox + Drop>()
+    ensures keeper { EverySettledRunOver K.seen }
+    ensures hub { EverySettledRunOver (hub_seen K.seen) }
 {}
 
 /// What was received, who is ready, and which boards come next, on worked examples.

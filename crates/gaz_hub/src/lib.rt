@@ -5,6 +5,7 @@ mod admission;
 mod answer;
 mod asking;
 mod hub;
+mod in_turn;
 pub mod laws;
 mod looking;
 mod outcome;
@@ -19,6 +20,7 @@ mod waiters;
 
 pub use answer::{Answer, Digest};
 pub use hub::Hub;
+pub use in_turn::submit_and_ask;
 pub use outcome::Outcome;
 pub use refusal::Refusal;
 pub use standing::Standing;

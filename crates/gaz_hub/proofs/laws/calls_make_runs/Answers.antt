@@ -1,5 +1,6 @@
 use Rattle.gaz_hub.proofs.HubRuns.{calls_make_runs}
+use Rattle.gaz_hub.specs.Seen.{hub_seen}
 use Rattle.gaz_hub.proofs.laws.calls_make_runs.Goals as goal
 
 pub returns : goal.returns
-returns g c = calls_make_runs g.K.Shelf.seen
+returns g c = record { keeper = calls_make_runs g.K.Shelf.seen; hub = calls_make_runs (hub_seen g.K.Shelf.seen) }
