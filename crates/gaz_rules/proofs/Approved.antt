@@ -33,6 +33,8 @@ an_lpi (item.Street s) l e = cc
 an_lpi (item.Descriptor s) l e = cc
 an_lpi (item.Blpu s) l e = cc
 an_lpi (item.Xref s) l e = cc
+an_lpi (item.Release s) l e = cc
+an_lpi (item.Adopt s) l e = cc
 an_lpi (item.Lpi m) l e =
     elim (is_approved m.status) as (λ b. is_approved m.status ≡ b → cond b (Some m) None ≡ Some l → (item.Lpi m ≡ item.Lpi l) × (is_approved l.status ≡ true)) [
       | true ↦ λ is same. let one : m ≡ l = cc in (ap item.Lpi one, ap (λ x. is_approved x.status) (sym one) ∙ is)
@@ -45,6 +47,8 @@ of_blpu uprn (item.Street s) e = absurd (true≢false (sym e))
 of_blpu uprn (item.Descriptor s) e = absurd (true≢false (sym e))
 of_blpu uprn (item.Blpu s) e = absurd (true≢false (sym e))
 of_blpu uprn (item.Xref s) e = absurd (true≢false (sym e))
+of_blpu uprn (item.Release s) e = absurd (true≢false (sym e))
+of_blpu uprn (item.Adopt s) e = absurd (true≢false (sym e))
 of_blpu uprn (item.Lpi l) e =
     let parts = both_parts (is_approved l.status) _ e in
     (l, ap (λ b. cond b (Some l) None) parts.0, eqb-true _ _ parts.1)
@@ -54,6 +58,8 @@ on_street usrn lang (item.Street s) e = absurd (true≢false (sym e))
 on_street usrn lang (item.Descriptor s) e = absurd (true≢false (sym e))
 on_street usrn lang (item.Blpu s) e = absurd (true≢false (sym e))
 on_street usrn lang (item.Xref s) e = absurd (true≢false (sym e))
+on_street usrn lang (item.Release s) e = absurd (true≢false (sym e))
+on_street usrn lang (item.Adopt s) e = absurd (true≢false (sym e))
 on_street usrn lang (item.Lpi l) e =
     let parts = both_parts (is_approved l.status && l.usrn == usrn) _ e in
     let first = both_parts (is_approved l.status) _ parts.0 in

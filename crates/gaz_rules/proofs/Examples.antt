@@ -1,6 +1,6 @@
 -- What the record rules come to on worked examples.
 use Rattle.std.proofs.Common.{refl}
-use Rattle.gaz_rules.specs.Examples.{WorkedKinds, WorkedRecordRules, WorkedTexts}
+use Rattle.gaz_rules.specs.Examples.{WorkedKinds, WorkedPassing, WorkedRecordRules, WorkedTexts}
 use Rattle.gaz_rules.proofs.Worked.{views}
 
 pub on_record_rules : WorkedRecordRules
@@ -43,4 +43,14 @@ on_texts = record {
   reference_to_another = simp views;
   reference_to_the_same = simp views;
   same_text_of_another_kind = simp views;
+}
+
+pub on_passing : WorkedPassing
+on_passing = record {
+  given_up = refl;
+  taken = refl;
+  given_up_outside = refl;
+  updated = refl;
+  deleted = refl;
+  property = simp views;
 }

@@ -6,6 +6,7 @@ use Rattle.std.specs.List.{cons_option, filter_map, find, list_any}
 use Rattle.std.specs.FinMap as map
 use Rattle.std.specs.FinSet as set
 use Rattle.gaz_records.proofs.KeyOrder.{keys_total}
+use Rattle.gaz_records.specs.Items.{is_entry}
 use Rattle.gaz_records.specs.Keys.{key_of}
 use Rattle.gaz_records.specs.declared.item.Item.{Item}
 use Rattle.gaz_records.specs.declared.item.Item.TheVariants as item
@@ -92,18 +93,22 @@ own_number own v (item.Descriptor s) n e h = cc
 own_number own v (item.Blpu s) n e h = cc
 own_number own v (item.Xref s) n e h = cc
 own_number own v (item.Lpi s) n e h = cc
+own_number own v (item.Release s) n e h = cc
+own_number own v (item.Adopt s) n e h = cc
 
-own_property : (own : Blocks) (v : View) (i : Item) (n : ℕ) → key.Blpu n ≡ key_of i → is_outside own v i ≡ false → within own.uprn n ≡ true
-own_property own v (item.Street s) n e h = cc
-own_property own v (item.Descriptor s) n e h = cc
-own_property own v (item.Blpu s) n e h =
+own_property : (own : Blocks) (v : View) (i : Item) (n : ℕ) → is_entry i ≡ true → key.Blpu n ≡ key_of i → is_outside own v i ≡ false → within own.uprn n ≡ true
+own_property own v (item.Street s) n entry e h = cc
+own_property own v (item.Descriptor s) n entry e h = cc
+own_property own v (item.Blpu s) n entry e h =
     let is : n ≡ s.uprn = cc in
     ap (within own.uprn) is ∙ not_false _ h
-own_property own v (item.Xref s) n e h = cc
-own_property own v (item.Lpi s) n e h = cc
+own_property own v (item.Xref s) n entry e h = cc
+own_property own v (item.Lpi s) n entry e h = cc
+own_property own v (item.Release s) n entry e h = absurd (true≢false (sym entry))
+own_property own v (item.Adopt s) n entry e h = absurd (true≢false (sym entry))
 
-put_kept : (own : Blocks) (v : View) (i : Item) → is_outside own v i ≡ false → Kept own v (with_item v i)
-put_kept own v i fits =
+put_kept : (own : Blocks) (v : View) (i : Item) → is_entry i ≡ true → is_outside own v i ≡ false → Kept own v (with_item v i)
+put_kept own v i entry fits =
     record {
       streets_stay = λ n h. ap is_some (after_put v i (key.Street n)) ∙ still_some (same_key (key.Street n) (key_of i)) i _ h;
       blpus_stay = λ n h. ap is_some (after_put v i (key.Blpu n)) ∙ still_some (same_key (key.Blpu n) (key_of i)) i _ h;
@@ -114,7 +119,7 @@ put_kept own v i fits =
           ] refl (sym (ap is_some (after_put v i (key.Street n))) ∙ h);
       own_blpus = λ all n h.
           elim (same_key (key.Blpu n) (key_of i)) as (λ b. same_key (key.Blpu n) (key_of i) ≡ b → is_some (cond b (Some i) (map.get v.items (key.Blpu n))) ≡ true → within own.uprn n ≡ true) [
-            | true ↦ λ e _. own_property own v i n (key_tied _ _ e) fits
+            | true ↦ λ e _. own_property own v i n entry (key_tied _ _ e) fits
             | false ↦ λ _ there. all n there
           ] refl (sym (ap is_some (after_put v i (key.Blpu n))) ∙ h);
       used = λ all k h.
@@ -139,13 +144,17 @@ no_street (item.Descriptor s) n h = other_keys (key.Street n) (key_of (item.Desc
 no_street (item.Blpu s) n h = absurd (true≢false h)
 no_street (item.Xref s) n h = other_keys (key.Street n) (key_of (item.Xref s)) (λ e. cc)
 no_street (item.Lpi s) n h = other_keys (key.Street n) (key_of (item.Lpi s)) (λ e. cc)
+no_street (item.Release s) n h = other_keys (key.Street n) (key_of (item.Release s)) (λ e. cc)
+no_street (item.Adopt s) n h = other_keys (key.Street n) (key_of (item.Adopt s)) (λ e. cc)
 
-no_blpu : (i : Item) (n : ℕ) → stays i ≡ false → same_key (key.Blpu n) (key_of i) ≡ false
-no_blpu (item.Street s) n h = absurd (true≢false h)
-no_blpu (item.Descriptor s) n h = other_keys (key.Blpu n) (key_of (item.Descriptor s)) (λ e. cc)
-no_blpu (item.Blpu s) n h = absurd (true≢false h)
-no_blpu (item.Xref s) n h = other_keys (key.Blpu n) (key_of (item.Xref s)) (λ e. cc)
-no_blpu (item.Lpi s) n h = other_keys (key.Blpu n) (key_of (item.Lpi s)) (λ e. cc)
+no_blpu : (i : Item) (n : ℕ) → is_entry i ≡ true → stays i ≡ false → same_key (key.Blpu n) (key_of i) ≡ false
+no_blpu (item.Street s) n entry h = absurd (true≢false h)
+no_blpu (item.Descriptor s) n entry h = other_keys (key.Blpu n) (key_of (item.Descriptor s)) (λ e. cc)
+no_blpu (item.Blpu s) n entry h = absurd (true≢false h)
+no_blpu (item.Xref s) n entry h = other_keys (key.Blpu n) (key_of (item.Xref s)) (λ e. cc)
+no_blpu (item.Lpi s) n entry h = other_keys (key.Blpu n) (key_of (item.Lpi s)) (λ e. cc)
+no_blpu (item.Release s) n entry h = absurd (true≢false (sym entry))
+no_blpu (item.Adopt s) n entry h = absurd (true≢false (sym entry))
 
 taken_was : {T : Type 0} (b : Bool) (o : Option T) (x : T) → cond b None o ≡ Some x → o ≡ Some x
 taken_was true o x h = cc
@@ -155,11 +164,11 @@ taken_some : {T : Type 0} (b : Bool) (o : Option T) → is_some (cond b None o) 
 taken_some true o h = absurd (true≢false (sym h))
 taken_some false o h = h
 
-take_kept : (own : Blocks) (v : View) (i : Item) → stays i ≡ false → Kept own v (without_key v (key_of i))
-take_kept own v i fits =
+take_kept : (own : Blocks) (v : View) (i : Item) → is_entry i ≡ true → stays i ≡ false → Kept own v (without_key v (key_of i))
+take_kept own v i entry fits =
     record {
       streets_stay = λ n h. ap is_some (after_take v (key_of i) (key.Street n) ∙ ap (λ b. cond b None (map.get v.items (key.Street n))) (no_street i n fits)) ∙ h;
-      blpus_stay = λ n h. ap is_some (after_take v (key_of i) (key.Blpu n) ∙ ap (λ b. cond b None (map.get v.items (key.Blpu n))) (no_blpu i n fits)) ∙ h;
+      blpus_stay = λ n h. ap is_some (after_take v (key_of i) (key.Blpu n) ∙ ap (λ b. cond b None (map.get v.items (key.Blpu n))) (no_blpu i n entry fits)) ∙ h;
       own_streets = λ all n h. all n (taken_some (same_key (key.Street n) (key_of i)) _ (sym (ap is_some (after_take v (key_of i) (key.Street n))) ∙ h));
       own_blpus = λ all n h. all n (taken_some (same_key (key.Blpu n) (key_of i)) _ (sym (ap is_some (after_take v (key_of i) (key.Blpu n))) ∙ h));
       used = λ all k h. all k (taken_some (same_key k (key_of i)) _ (sym (ap is_some (after_take v (key_of i) k)) ∙ h));
@@ -167,9 +176,9 @@ take_kept own v i fits =
     }
 
 step_kept : (own : Blocks) (v : View) (a : Action) (i : Item) → AllFalse (record_rules own v a i) → Kept own v (effect_of a v i)
-step_kept own v Insert i fits = put_kept own v i fits.0
-step_kept own v Update i fits = put_kept own v i fits.0
-step_kept own v Delete i fits = take_kept own v i fits.1.1.1.0
+step_kept own v Insert i fits = put_kept own v i (not_false _ fits.0) fits.1.0
+step_kept own v Update i fits = put_kept own v i (not_false _ fits.0) fits.1.0
+step_kept own v Delete i fits = take_kept own v i (not_false _ fits.0) fits.1.1.1.1.0
 
 pub all_kept : (own : Blocks) (v : View) (cs : List Change) → record_faults own v cs ≡ [] → Kept own v (fold effect v cs)
 all_kept own v [] e = kept_itself own v

@@ -7,7 +7,7 @@ use Rattle.gaz_views.specs.Examples.{name, one_street}
 use Rattle.gaz_rules.specs.Judging.{judge}
 use Rattle.gaz_rules.specs.JudgedExamples.{WorkedBoards, WorkedEndFaults, WorkedExamples, WorkedFiles, WorkedForeign, WorkedRecordFaults}
 use Rattle.gaz_rules.proofs.Worked.{taken-put, views}
-use Rattle.gaz_rules.proofs.Examples.{on_kinds, on_record_rules, on_texts}
+use Rattle.gaz_rules.proofs.Examples.{on_kinds, on_passing, on_record_rules, on_texts}
 use Rattle.gaz_rules.proofs.EndExamples.{on_end_rules}
 
 on_files : WorkedFiles
@@ -27,6 +27,7 @@ on_record_faults = record {
   at_first = simp views;
   taken_and_back = rw (taken-put one_street.items (key.Descriptor 101 Eng) (name 101 Eng) (get_one (key.Descriptor 101 Eng))) (simp views);
   taken_and_changed = rw (taken-put one_street.items (key.Descriptor 101 Eng) (name 101 Eng) (get_one (key.Descriptor 101 Eng))) (simp views);
+  passed_on = simp views;
 }
 
 on_end_faults : WorkedEndFaults
@@ -65,6 +66,7 @@ worked_examples_hold = record {
   on_record_rules = on_record_rules;
   on_kinds = on_kinds;
   on_texts = on_texts;
+  on_passing = on_passing;
   on_end_rules = on_end_rules;
   on_files = on_files;
   on_record_faults = on_record_faults;

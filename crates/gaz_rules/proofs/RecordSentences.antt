@@ -5,6 +5,7 @@ use Rattle.std.specs.Option.{option_map_or}
 use Rattle.std.proofs.lemmas.Bool.Decides.{nat_tests}
 use Rattle.std.proofs.lemmas.List.Elements.{All-cons, All-nil}
 use Rattle.std.specs.FinMap as fin
+use Rattle.gaz_records.specs.Items.{is_entry}
 use Rattle.gaz_records.specs.Keys.{key_of}
 use Rattle.gaz_records.specs.declared.item.Item.{Item}
 use Rattle.gaz_records.specs.declared.item.Item.TheVariants as item
@@ -14,11 +15,29 @@ use Rattle.gaz_register.specs.Registers.{Blocks, within}
 use Rattle.gaz_views.specs.View.{View, holds, was_used}
 use Rattle.gaz_views.specs.Words.{same_lang}
 use Rattle.gaz_rules.specs.Rules.{is_delete, is_insert, is_missing, is_moved, is_outside, is_update, is_used_again, moves_what_stays, stays, takes_what_stays}
-use Rattle.gaz_rules.specs.RecordSentences.{ChangesNothing, DeletesWhatStays, InsertsAgain, IsAnothers, IsInNone, IsStreetOrBlpu, LiesOutside, MovesItem, RecordTestsSay}
+use Rattle.gaz_rules.specs.RecordSentences.{ChangesNothing, DeletesWhatStays, InsertsAgain, IsAnothers, IsInNone, IsStreetOrBlpu, LiesOutside, MovesItem, PassesOn, RecordTestsSay}
 use Rattle.gaz_rules.proofs.Approved.{same_lang_is, same_lang_itself}
 use Rattle.gaz_rules.proofs.SoundBoards.{all_first, all_rest}
 use Rattle.gaz_rules.proofs.Sentences.{unheld_none}
 use Rattle.gaz_rules.proofs.Booleans.{both_false, both_parts, false_by, joined, neither, no_false, not_true, or_true}
+
+-- ---- 5
+
+passed_on_says : (i : Item) → (not (is_entry i) ≡ true) ↔ PassesOn i
+passed_on_says i = (told i, from i)
+  where
+    told : (j : Item) → not (is_entry j) ≡ true → PassesOn j
+    told (item.Release r) h = inl (r, refl)
+    told (item.Adopt a) h = inr (a, refl)
+    told (item.Street s) h = absurd (true≢false (sym h))
+    told (item.Descriptor d) h = absurd (true≢false (sym h))
+    told (item.Blpu b) h = absurd (true≢false (sym h))
+    told (item.Xref x) h = absurd (true≢false (sym h))
+    told (item.Lpi l) h = absurd (true≢false (sym h))
+
+    from : (j : Item) → PassesOn j → not (is_entry j) ≡ true
+    from j (inl r) = ap (λ k. not (is_entry k)) r.1
+    from j (inr a) = ap (λ k. not (is_entry k)) a.1
 
 -- ---- 20
 
@@ -60,6 +79,8 @@ outside_says own v (item.Blpu b) = (λ h. in_none_told own.uprn b.uprn (not_true
 outside_says own v (item.Descriptor d) = (λ h. true≢false (sym h), λ none. absurd none)
 outside_says own v (item.Xref x) = (λ h. true≢false (sym h), λ none. absurd none)
 outside_says own v (item.Lpi l) = (λ h. true≢false (sym h), λ none. absurd none)
+outside_says own v (item.Release r) = (λ h. true≢false (sym h), λ none. absurd none)
+outside_says own v (item.Adopt a) = (λ h. true≢false (sym h), λ none. absurd none)
 
 -- ---- 21 and 22
 
@@ -100,6 +121,8 @@ stays_told (item.Blpu b) h = inr (b, refl)
 stays_told (item.Descriptor d) h = absurd (true≢false (sym h))
 stays_told (item.Xref x) h = absurd (true≢false (sym h))
 stays_told (item.Lpi l) h = absurd (true≢false (sym h))
+stays_told (item.Release r) h = absurd (true≢false (sym h))
+stays_told (item.Adopt a) h = absurd (true≢false (sym h))
 
 stays_from : (i : Item) → IsStreetOrBlpu i → stays i ≡ true
 stays_from i (inl s) = ap stays s.1
@@ -156,4 +179,4 @@ moves_says v a i = (
 )
 
 pub record_tests_say_holds : RecordTestsSay
-record_tests_say_holds = record { outside = outside_says; used_again = again_says; missing = missing_says; deleted = deleted_says; moved = moves_says }
+record_tests_say_holds = record { passed_on = passed_on_says; outside = outside_says; used_again = again_says; missing = missing_says; deleted = deleted_says; moved = moves_says }

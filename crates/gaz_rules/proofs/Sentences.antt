@@ -53,6 +53,8 @@ a_street (item.Descriptor t) s e = cc
 a_street (item.Blpu t) s e = cc
 a_street (item.Xref t) s e = cc
 a_street (item.Lpi t) s e = cc
+a_street (item.Release t) s e = cc
+a_street (item.Adopt t) s e = cc
 
 pub a_blpu : (i : Item) (b : BlpuValue) → as_blpu i ≡ Some b → i ≡ item.Blpu b
 a_blpu (item.Street t) b e = cc
@@ -60,6 +62,8 @@ a_blpu (item.Descriptor t) b e = cc
 a_blpu (item.Blpu t) b e = let is : t ≡ b = cc in ap item.Blpu is
 a_blpu (item.Xref t) b e = cc
 a_blpu (item.Lpi t) b e = cc
+a_blpu (item.Release t) b e = cc
+a_blpu (item.Adopt t) b e = cc
 
 some_value : {T : Type 0} (o : Option T) → is_some o ≡ true → (x : T) × (o ≡ Some x)
 some_value None e = absurd (true≢false (sym e))

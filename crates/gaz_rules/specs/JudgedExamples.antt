@@ -16,8 +16,8 @@ use Rattle.gaz_views.specs.declared.verdict.Verdict.TheVariants.{Applied, Reject
 use Rattle.gaz_rules.specs.Rules.{effect}
 use Rattle.gaz_rules.specs.Judging.{bases_of, judge}
 use Rattle.gaz_rules.specs.Bases.{are_reached, judged_on}
-use Rattle.gaz_rules.specs.Examples.{WorkedKinds, WorkedRecordRules, WorkedTexts, again, file_of}
-use Rattle.gaz_rules.specs.Examples.{insertion, own}
+use Rattle.gaz_rules.specs.Examples.{WorkedKinds, WorkedPassing, WorkedRecordRules, WorkedTexts}
+use Rattle.gaz_rules.specs.Examples.{again, file_of, insertion, own, release}
 use Rattle.gaz_rules.specs.EndExamples.{WorkedEndRules, address, away, closed_street, closed_there}
 use Rattle.gaz_rules.specs.EndExamples.{home, of_custodian, open_there, view_of}
 
@@ -56,6 +56,7 @@ pub record WorkedRecordFaults : Type 0 where
       (change 2 Delete (name 101 Eng) ∷ change 3 Insert (name 101 Eng) ∷ []) 3 21
   pub taken_and_changed : rejects one_name
       (change 2 Delete (name 101 Eng) ∷ change 3 Update (name 101 Eng) ∷ []) 3 22
+  pub passed_on : rejects empty_view (insertion ∷ change 3 Insert (release 1001) ∷ []) 3 5
 
 -- a cross reference to property 1001, and a part of it
 abbrev pub reference : Item
@@ -126,6 +127,7 @@ pub record WorkedExamples : Type 0 where
   pub on_record_rules : WorkedRecordRules
   pub on_kinds : WorkedKinds
   pub on_texts : WorkedTexts
+  pub on_passing : WorkedPassing
   pub on_end_rules : WorkedEndRules
   pub on_files : WorkedFiles
   pub on_record_faults : WorkedRecordFaults

@@ -1,18 +1,25 @@
 -- The record rules as sentences on a change and the view before it.
-use Rattle.std.specs.Prelude.{◌≡◌, ◌≢◌, ◌≤◌, ◌↔◌, ◌⊎◌, ℕ, true, List, Some, None}
+use Rattle.std.specs.Prelude.{◌≡◌, ◌≢◌, ◌≤◌, ◌↔◌, ◌⊎◌, ℕ, true, not, List, Some, None}
 use Rattle.std.specs.List.{All}
 use Rattle.std.specs.FinMap as fin
 use Rattle.gaz_records.specs.Blpus.{BlpuValue}
+use Rattle.gaz_records.specs.Items.{is_entry}
 use Rattle.gaz_records.specs.Keys.{key_of}
 use Rattle.gaz_records.specs.Streets.{StreetValue}
+use Rattle.gaz_records.specs.declared.adopt.Adopt.{Adopt}
 use Rattle.gaz_records.specs.declared.item.Item.{Item}
 use Rattle.gaz_records.specs.declared.item.Item.TheVariants as item
+use Rattle.gaz_records.specs.declared.release.Release.{Release}
 use Rattle.gaz_changefile.specs.declared.action.Action.{Action}
 use Rattle.gaz_changefile.specs.declared.action.Action.TheVariants.{Insert, Update, Delete}
 use Rattle.gaz_register.specs.Registers.{Blocks}
 use Rattle.gaz_views.specs.View.{View, was_used}
 use Rattle.gaz_rules.specs.Rules.{is_missing, is_outside, is_used_again, moves_what_stays}
 use Rattle.gaz_rules.specs.Rules.{takes_what_stays}
+
+-- 5: a release or an adoption
+abbrev pub PassesOn : Item → Type 0
+PassesOn i = ((r : Release) × (i ≡ item.Release r)) ⊎ ((a : Adopt) × (i ≡ item.Adopt a))
 
 -- the number is in none of these blocks
 abbrev pub IsInNone : List (ℕ × ℕ) → ℕ → Type 0
@@ -58,6 +65,7 @@ pub record MovesItem (v : View) (a : Action) (i : Item) : Type 0 where
 
 -- each test of a change is true just where its sentence holds
 pub record RecordTestsSay : Type 0 where
+  pub passed_on : (i : Item) → (not (is_entry i) ≡ true) ↔ PassesOn i
   pub outside : (own : Blocks) (v : View) (i : Item) → (is_outside own v i ≡ true)
       ↔ LiesOutside own i
   pub used_again : (v : View) (a : Action) (i : Item) → (is_used_again v a i ≡ true)

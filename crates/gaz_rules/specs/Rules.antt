@@ -3,6 +3,7 @@ use Rattle.std.specs.Prelude.{ℕ, ◌==◌, Bool, true, false, not, ◌&&◌, �
 use Rattle.std.specs.Option.{option_map, option_map_or}
 use Rattle.std.specs.List.{find}
 use Rattle.std.specs.FinMap as map
+use Rattle.gaz_records.specs.Items.{is_entry}
 use Rattle.gaz_records.specs.Keys.{key_of}
 use Rattle.gaz_records.specs.declared.item.Item.{Item}
 use Rattle.gaz_records.specs.declared.item.Item.TheVariants as item
@@ -83,10 +84,12 @@ abbrev pub moves_what_stays : View → Action → Item → Bool
 moves_what_stays v a i =
     is_update a && option_map_or (λ old. is_moved old i) (map.get v.items (key_of i)) false
 
--- the record rules by number, the least first
+-- the record rules by number, the least first. Rule 5 is broken by a release or an adoption, until
+-- there are rules on custody
 abbrev pub record_rules : Blocks → View → Action → Item → List (ℕ × Bool)
 record_rules own v a i =
-    (20, is_outside own v i)
+    (5, not (is_entry i))
+    ∷ (20, is_outside own v i)
     ∷ (21, is_used_again v a i)
     ∷ (22, is_missing v a i)
     ∷ (23, takes_what_stays a i)

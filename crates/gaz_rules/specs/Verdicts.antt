@@ -66,6 +66,6 @@ pub record JudgesSay : Type 0 where
       ≡ record { verdict = Applied; view = fold effect v file.changes }
   -- rules are asked by rising number
   pub record_numbers : (own : Blocks) (v : View) (a : Action) (i : Item)
-      → map (λ r. r.0) (record_rules own v a i) ≡ 20 ∷ 21 ∷ 22 ∷ 23 ∷ 24 ∷ []
+      → map (λ r. r.0) (record_rules own v a i) ≡ 5 ∷ 20 ∷ 21 ∷ 22 ∷ 23 ∷ 24 ∷ []
   pub end_numbers : (w : View) (others : List (ℕ × View)) (k : Key)
       → map (λ r. r.0) (end_rules w others k) ≡ 30 ∷ 31 ∷ 32 ∷ 33 ∷ 34 ∷ 35 ∷ 36 ∷ 37 ∷ 38 ∷ 39 ∷ []

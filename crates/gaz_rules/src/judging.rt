@@ -1,5 +1,6 @@
 //! The judgement of a file, over any keeper.
-ghost use Rattle.std.specs.Prelude.{◌≢◌, Some, None};
+ghost use Rattle.std.specs.Prelude.{◌≡◌, ◌≢◌, true, Some, None};
+ghost use Rattle.gaz_records.specs.Items.{is_entry};
 ghost use Rattle.gaz_register.specs.Registers.{blocks_of};
 ghost use Rattle.gaz_shelf.specs.Keeper.{Idle};
 ghost use Rattle.gaz_views.specs.View.{with_item};
@@ -29,7 +30,8 @@ pub(crate) struct Fault {
 
 /// Sets an item in the working view, which shares it with the file.
 fn put_shared<K: Shelf>(keeper: &mut K, code: Code, item: &SharedItem) -> Result<(), ShelfFault>
-    requires { IsJudging K.seen keeper.old code }
+    requires judging { IsJudging K.seen keeper.old code }
+    requires entry { is_entry item.now ≡ true }
     ensures { MakesView K.seen keeper.old keeper.new result (λ v. with_item v item.now) }
 {
     let shared = item.share()?;
@@ -38,7 +40,8 @@ fn put_shared<K: Shelf>(keeper: &mut K, code: Code, item: &SharedItem) -> Result
 
 /// Does a change on the working view.
 fn perform<K: Shelf>(keeper: &mut K, code: Code, change: &Change) -> Result<(), ShelfFault>
-    requires { IsJudging K.seen keeper.old code }
+    requires judging { IsJudging K.seen keeper.old code }
+    requires entry { is_entry change.now.item ≡ true }
     ensures { MakesView K.seen keeper.old keeper.new result (λ v. effect v change.now) }
 {
     match change.action {
@@ -157,7 +160,7 @@ fn conclude<K: Shelf>(
 /// Judges a good file as its custodian's next volume, which is to be at hand, where all its bases
 /// are reached.
 ///
-/// The changes go into the working view, each asked the record rules (20 to 24) first; then the
+/// The changes go into the working view, each asked the record rules (5, 20 to 24) first; then the
 /// keys that they touched are asked the end rules (30 to 39), in file order. The answer is the
 /// verdict that the keeper then has. After a fault, `Memory` or `Store`, the keeper's board is as
 /// it was. Whatever is answered, no judgement is in progress any more. That `Memory` isn't answered

@@ -1,7 +1,8 @@
 //! The record rules, asked of any keeper.
-ghost use Rattle.std.specs.Prelude.{◌≡◌, false, Some, None, if◌then◌else◌};
+ghost use Rattle.std.specs.Prelude.{◌≡◌, false, true, Some, None, IfNone, IfOk, if◌then◌else◌};
 ghost use Rattle.std.specs.FinMap as map;
 ghost use Rattle.std.specs.Option.{option_map_or};
+ghost use Rattle.gaz_records.specs.Items.{is_entry};
 ghost use Rattle.gaz_records.specs.Keys.{key_of};
 ghost use Rattle.gaz_register.specs.Registers.{Blocks, blocks_of};
 ghost use Rattle.gaz_views.specs.View.{View, holds, was_used};
@@ -22,6 +23,7 @@ fn is_outside(register: &Register, code: Code, item: &Item) -> bool
         Item::Street(street) => !register.allotted_usrn(code, street.usrn),
         Item::Blpu(blpu) => !register.allotted(code, blpu.uprn),
         Item::Descriptor(_) | Item::Xref(_) | Item::Lpi(_) => false,
+        Item::Release(_) | Item::Adopt(_) => false,
     }
 }
 
@@ -88,7 +90,7 @@ fn delete_breach<K: Shelf>(
     Ok(if stays(item) { Some(23) } else { None })
 }
 
-/// The least record rule that a change breaks, its number being the custodian's own.
+/// The least record rule that a change of an entry breaks, its number being the custodian's own.
 fn action_breach<K: Shelf>(
     keeper: &mut K,
     code: Code,
@@ -96,7 +98,8 @@ fn action_breach<K: Shelf>(
 ) -> Result<Option<u8>, ShelfFault>
     requires { IsJudging K.seen keeper.old code }
     ensures { ReadsView K.seen keeper.old keeper.new result (λ view r.
-        (own : Blocks) → is_outside own view change.now.item ≡ false
+        (own : Blocks) → is_entry change.now.item ≡ true
+        → is_outside own view change.now.item ≡ false
         → r ≡ first_broken (record_rules own view change.now.action change.now.item)) }
 {
     let key = key_of(&change.item);
@@ -107,8 +110,8 @@ fn action_breach<K: Shelf>(
     }
 }
 
-/// The least record rule that a change breaks on the working view of its custodian, 20 to 24 (our
-/// profile).
+/// The least record rule that a change breaks on the working view of its custodian, 5 or 20 to 24
+/// (our profile). Whatever the keeper answers, only a change of an entry breaks none.
 pub(crate) fn breach<K: Shelf>(
     keeper: &mut K,
     register: &Register,
@@ -116,9 +119,13 @@ pub(crate) fn breach<K: Shelf>(
     change: &Change,
 ) -> Result<Option<u8>, ShelfFault>
     requires { IsJudging K.seen keeper.old code }
-    ensures { ReadsView K.seen keeper.old keeper.new result (λ view r. r ≡ first_broken
+    ensures rule { ReadsView K.seen keeper.old keeper.new result (λ view r. r ≡ first_broken
         (record_rules (blocks_of register.now code) view change.now.action change.now.item)) }
+    ensures entry { IfOk result (λ r. IfNone r (is_entry change.now.item ≡ true)) }
 {
+    if !change.item.is_entry() {
+        return Ok(Some(5));
+    }
     if is_outside(register, code, &change.item) {
         return Ok(Some(20));
     }
