@@ -51,6 +51,8 @@ record_back order (item.Descriptor x) h = ap ok_of (fields-back (item.Descriptor
 record_back order (item.Blpu x) h = ap ok_of (fields-back (item.Blpu x) h)
 record_back order (item.Xref x) h = ap ok_of (fields-back (item.Xref x) h)
 record_back order (item.Lpi x) h = ap ok_of (fields-back (item.Lpi x) h)
+record_back order (item.Release x) h = ap ok_of (fields-back (item.Release x) h)
+record_back order (item.Adopt x) h = ap ok_of (fields-back (item.Adopt x) h)
 
 abbrev IsAllowed : Item → Type 0
 IsAllowed i = is_item i ≡ true

@@ -46,6 +46,8 @@ identifier_plain kind.Descriptor = refl
 identifier_plain kind.Blpu = refl
 identifier_plain kind.Xref = refl
 identifier_plain kind.Lpi = refl
+identifier_plain kind.Release = refl
+identifier_plain kind.Adopt = refl
 
 record_row : (o id number t : List ℕ) (ts : Fields) → field_text default_writer id ≡ id → field_text default_writer number ≡ number
     → (((((o ++ id) ++ codes ",I,") ++ number) ++ (44 ∷ [])) ++ line_of (t ∷ ts)) ++ (10 ∷ []) ≡ o ++ row_text default_writer (id ∷ codes "I" ∷ number ∷ t ∷ ts)
@@ -59,6 +61,8 @@ record_written o n (item.Descriptor x) h = record_row o _ (decimal n) _ _ (ident
 record_written o n (item.Blpu x) h = record_row o _ (decimal n) _ _ (identifier_plain kind.Blpu) (number_plain n h)
 record_written o n (item.Xref x) h = record_row o _ (decimal n) _ _ (identifier_plain kind.Xref) (number_plain n h)
 record_written o n (item.Lpi x) h = record_row o _ (decimal n) _ _ (identifier_plain kind.Lpi) (number_plain n h)
+record_written o n (item.Release x) h = record_row o _ (decimal n) _ _ (identifier_plain kind.Release) (number_plain n h)
+record_written o n (item.Adopt x) h = record_row o _ (decimal n) _ _ (identifier_plain kind.Adopt) (number_plain n h)
 
 -- a row of two fields or more
 pub row_written : (o : List ℕ) (xs : Fields) → 2 ≤ length xs → (o ++ line_of xs) ++ (10 ∷ []) ≡ o ++ row_text default_writer xs

@@ -38,6 +38,8 @@ nothing_of B register uprn c (item.Street s) a h = refl
 nothing_of B register uprn c (item.Descriptor d) a h = refl
 nothing_of B register uprn c (item.Xref x) a h = refl
 nothing_of B register uprn c (item.Lpi l) a h = refl
+nothing_of B register uprn c (item.Release r) a h = refl
+nothing_of B register uprn c (item.Adopt x) a h = refl
 
 -- an item of another kind in a BLPU's place says nothing
 pub nothing_there : (B : Board) (register : RegisterValue) (uprn c : ℕ) (p : Property) → ((b : BlpuValue) → p.blpu ≡ item.Blpu b → ⊥)

@@ -1,4 +1,5 @@
 ghost use Rattle.std.specs.Prelude.{◌≡◌, ◌≤◌, ◌<◌, None, true, is_some, option_map, IfOk};
+ghost use Rattle.gaz_records.specs.Kinds.{is_entry_kind};
 ghost use Rattle.gaz_views.specs.Reading.{left_after};
 ghost use Rattle.gaz_views.specs.Words.{rest_of};
 ghost use Rattle.gaz_extract.specs.Drafts.{by_kind, with_items};
@@ -30,7 +31,8 @@ fn add_page<K: Shelf>(
     after: Option<Key>,
     draft: Draft,
 ) -> Result<Written, ShelfFault>
-    requires { IsNotJudging K.seen keeper.old }
+    requires idle { IsNotJudging K.seen keeper.old }
+    requires entry { is_entry_kind kind ≡ true }
     ensures tells { LooksAfter K.seen keeper.old keeper.new result code volume
         (λ view w. with_items w.draft (left_after view kind w.next)
         ≡ with_items draft (rest_of view kind after)) }
@@ -53,7 +55,8 @@ fn add_kind<K: Shelf>(
     kind: Kind,
     draft: Draft,
 ) -> Result<Draft, ShelfFault>
-    requires { IsNotJudging K.seen keeper.old }
+    requires idle { IsNotJudging K.seen keeper.old }
+    requires entry { is_entry_kind kind ≡ true }
     ensures tells { LooksAfter K.seen keeper.old keeper.new result code volume
         (λ view d. d ≡ with_items draft (rest_of view kind None)) }
     ensures not_open { IsNotJudging K.seen keeper.new }

@@ -1,6 +1,7 @@
 //! Views page by page.
 ghost use Rattle.std.specs.Prelude.{◌≡◌, ◌≤◌, ◌<◌, ◌++◌, true, is_some, IfOk, Some};
 ghost use Rattle.gaz_records.specs.Keys.{number_in};
+ghost use Rattle.gaz_records.specs.Kinds.{is_entry_kind};
 ghost use Rattle.gaz_records.specs.SortKeys.{has_label, seven_bytes};
 ghost use Rattle.gaz_views.specs.Reading.{left_after, next_after};
 ghost use Rattle.gaz_views.specs.Words.{comes_after, rest_of};
@@ -86,10 +87,10 @@ fn next_after(items: &[SharedItem], after: &Option<Key>) -> Option<Key>
     None
 }
 
-/// The page of a kind after a key, or from the start, after a volume, which is to be reached. With
-/// what comes after it, it is what there is after that key. Whatever the keeper answers, less is
-/// left for the pages that follow: a page whose last key doesn't come after the one before is taken
-/// as the last, and no keeper that stands for a content answers such a one.
+/// The page of a kind of entries after a key, or from the start, after a volume, which is to be
+/// reached. With what comes after it, it is what there is after that key. Whatever the keeper
+/// answers, less is left for the pages that follow: a page whose last key doesn't come after the one
+/// before is taken as the last, and no keeper that stands for a content answers such a one.
 pub fn read_page<K: Shelf>(
     keeper: &mut K,
     code: Code,
@@ -97,7 +98,8 @@ pub fn read_page<K: Shelf>(
     kind: Kind,
     after: Option<Key>,
 ) -> Result<Page, ShelfFault>
-    requires { IsNotJudging K.seen keeper.old }
+    requires idle { IsNotJudging K.seen keeper.old }
+    requires entry { is_entry_kind kind ≡ true }
     ensures tells { LooksAfter K.seen keeper.old keeper.new result code volume
         (λ view p. p.items.items ++ left_after view kind p.next ≡ rest_of view kind after) }
     ensures fewer { is_some after ≡ true → IfOk result (λ p. pages_left p.next < pages_left after) }
