@@ -1,5 +1,5 @@
 -- The ids of keys.
-use Rattle.std.proofs.Common.{◌≡◌, ℕ, ◌+◌, ◌^◌, ◌<◌, ◌≤◌, true, List, ◌++◌, length, take, drop, refl, sym, ap, ◌∙◌, arith, Some}
+use Rattle.std.proofs.Common.{◌≡◌, ℕ, ◌^◌, ◌<◌, ◌≤◌, true, ◌++◌, length, take, drop, refl, sym, ap, ◌∙◌, arith, Some}
 use Rattle.std.proofs.lemmas.Bool.Decides.{nat_tests}
 use Rattle.std.proofs.lemmas.List.{length-append}
 use Rattle.std.proofs.Math.Seq.{drop-append_seam, take-append_seam}
@@ -9,12 +9,10 @@ use Rattle.gaz_ids.specs.Codes.{lang_of, lang_text}
 use Rattle.gaz_ids.specs.declared.lang.Lang.{Lang}
 use Rattle.gaz_ids.specs.declared.lang.Lang.TheVariants.{Cym, Eng}
 use Rattle.gaz_records.specs.Blpus.{is_uprn}
-use Rattle.gaz_records.specs.Keys.{key_cmp, kind_number}
 use Rattle.gaz_records.specs.Streets.{is_usrn}
-use Rattle.gaz_records.specs.declared.key.Key.{Key}
 use Rattle.gaz_records.specs.declared.key.Key.TheVariants as key
 use Rattle.gaz_cells.specs.Digits.{digits_in}
-use Rattle.gaz_cells.specs.Ids.{id_of, is_key, key_named, kind_in, uprn_in, usrn_in}
+use Rattle.gaz_cells.specs.Ids.{id_of, key_named, kind_in, uprn_in, usrn_in}
 use Rattle.gaz_cells.specs.Laws.{IdsAreApart, IdsAreOrdered, IdsReadBack}
 use Rattle.gaz_cells.proofs.Digits.{digits_size, number_back}
 use Rattle.gaz_cells.proofs.Order.{cmp_append, digits_order, then_equal}

@@ -36,6 +36,8 @@ blpu_of (item.Descriptor x) = 0
 blpu_of (item.Blpu x) = parent_number x.parent
 blpu_of (item.Xref x) = x.uprn
 blpu_of (item.Lpi x) = x.uprn
+blpu_of (item.Release x) = 0
+blpu_of (item.Adopt x) = 0
 
 -- the street itself, or the one that a descriptor or an LPI is of; else 0
 abbrev pub street_of : Item → ℕ
@@ -44,6 +46,8 @@ street_of (item.Descriptor x) = x.usrn
 street_of (item.Blpu x) = 0
 street_of (item.Xref x) = 0
 street_of (item.Lpi x) = x.usrn
+street_of (item.Release x) = 0
+street_of (item.Adopt x) = 0
 
 -- the language of a descriptor or an LPI, 1 for ENG and 2 for CYM; else 0
 abbrev pub lang_in : Item → ℕ
@@ -52,6 +56,8 @@ lang_in (item.Descriptor x) = lang_number x.lang
 lang_in (item.Blpu x) = 0
 lang_in (item.Xref x) = 0
 lang_in (item.Lpi x) = lang_number x.lang
+lang_in (item.Release x) = 0
+lang_in (item.Adopt x) = 0
 
 abbrev pub live_number : Status → ℕ
 live_number Approved = 1
@@ -66,6 +72,8 @@ live_of (item.Descriptor x) = 0
 live_of (item.Blpu x) = 0
 live_of (item.Xref x) = 0
 live_of (item.Lpi x) = live_number x.status
+live_of (item.Release x) = 0
+live_of (item.Adopt x) = 0
 
 abbrev pub links_of : Item → LinksValue
 links_of x = record { blpu = blpu_of x; street = street_of x; lang = lang_in x; live = live_of x }

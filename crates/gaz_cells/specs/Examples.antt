@@ -18,3 +18,4 @@ pub record WorkedIds : Type 0 where
   pub zero : key_named kind.Street (codes "00000000") ≡ None
   pub kind : kind_numbered 23 ≡ Some kind.Xref
   pub no_kind : kind_numbered 22 ≡ None
+  pub no_entry : kind_numbered 91 ≡ None

@@ -55,10 +55,13 @@ name_of None lang = None
 name_of (Some n) None = None
 name_of (Some n) (Some l) = Some (key.Descriptor n l)
 
--- the key of a kind that a text names, or none
+-- the key of a kind that a text names, or none, as for a release and an adoption, which have no key
+-- of their own
 abbrev pub key_named : Kind → List ℕ → Option Key
 key_named kind.Street id = option_map key.Street (usrn_in id)
 key_named kind.Descriptor id = if length id == 11 then name_of (usrn_in (take 8 id)) (lang_of (drop 8 id)) else None
 key_named kind.Blpu id = option_map key.Blpu (uprn_in id)
 key_named kind.Xref id = option_map key.Xref (label_of 14 id)
 key_named kind.Lpi id = option_map key.Lpi (label_of 14 id)
+key_named kind.Release id = None
+key_named kind.Adopt id = None

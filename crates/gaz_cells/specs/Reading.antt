@@ -1,10 +1,11 @@
 -- The item that cells say.
-use Rattle.std.specs.Prelude.{◌≡◌, ◌⊎◌, ℕ, ◌==◌, Option, Some, None, Result, Ok, Err, if◌then◌else◌}
+use Rattle.std.specs.Prelude.{◌≡◌, ◌⊎◌, ℕ, ◌==◌, List, Option, Some, None, Result, Ok, Err}
+use Rattle.std.specs.Prelude.{filter, if◌then◌else◌}
 use Rattle.std.specs.List.{find}
 use Rattle.std.specs.Str.{bytes_eq}
 use Rattle.gaz_records.specs.Items.{item_of_text, item_text}
 use Rattle.gaz_records.specs.Keys.{key_of}
-use Rattle.gaz_records.specs.Kinds.{kinds, number_of}
+use Rattle.gaz_records.specs.Kinds.{is_entry_kind, kinds, number_of}
 use Rattle.gaz_records.specs.declared.fields.FieldFault.{FieldFault}
 use Rattle.gaz_records.specs.declared.item.Item.{Item}
 use Rattle.gaz_records.specs.declared.item.Kind.{Kind}
@@ -13,9 +14,13 @@ use Rattle.gaz_cells.specs.Columns.{CellsValue, blpu_of, lang_in, live_of, stree
 use Rattle.gaz_cells.specs.declared.fault.CellFault.{CellFault}
 use Rattle.gaz_cells.specs.declared.fault.CellFault.TheVariants as fault
 
--- the kind of this record identifier, or none
+-- the kinds of what rows say, which is what stands in views
+abbrev pub entry_kinds : List Kind
+entry_kinds = filter is_entry_kind kinds
+
+-- the one of them with this record identifier, or none
 abbrev pub kind_numbered : ℕ → Option Kind
-kind_numbered n = find (λ k. n == number_of k) kinds
+kind_numbered n = find (λ k. n == number_of k) entry_kinds
 
 -- the first cell that isn't the item's own
 abbrev pub disagreement : CellsValue → Item → Option CellFault

@@ -1,5 +1,6 @@
 //! The columns of an item.
-ghost use Rattle.std.specs.Prelude.{◌≡◌, IfOk, Ok};
+ghost use Rattle.std.specs.Prelude.{◌≡◌, IfOk, Ok, true};
+ghost use Rattle.gaz_records.specs.Items.{is_entry};
 ghost use Rattle.gaz_cells.specs.Columns.{cells_of, links_of, live_number, parent_number};
 ghost use Rattle.gaz_cells.specs.Reading.{read_cells};
 
@@ -108,15 +109,22 @@ pub fn links_of(item: &Item) -> Links
             lang: x.lang.number(),
             live: live_number(x.status),
         },
+        Item::Release(_) | Item::Adopt(_) => Links {
+            blpu: 0,
+            street: 0,
+            lang: 0,
+            live: 0,
+        },
     }
 }
 
 impl Cells {
     #[tactic(auto, using(crate::proofs::CellsBack::cells_back))]
-    /// The columns of an item. Read as a row they say the item again.
+    /// The columns of an item. Read as a row those of an entry say it again.
     pub fn of(alloc: Global, item: &Item) -> Result<Cells, AllocError>
         ensures cells { IfOk result (λ cells. cells ≡ cells_of item.now) }
-        ensures reads_back { read_cells (cells_of item.now) ≡ Ok item.now }
+        ensures reads_back { is_entry item.now ≡ true
+            → read_cells (cells_of item.now) ≡ Ok item.now }
     {
         item.known();
         let kind = item.kind().number();

@@ -80,7 +80,8 @@ fn name_in(text: &[u8]) -> Option<Key>
     Some(Key::Descriptor(usrn, lang))
 }
 
-/// The key of a kind that the text names, or none.
+/// The key of a kind that the text names, or none, as for a release and an adoption, which have no
+/// key of their own.
 pub fn key_named(kind: Kind, text: &[u8]) -> Option<Key>
     ensures { result ≡ key_named kind text.now }
 {
@@ -90,5 +91,6 @@ pub fn key_named(kind: Kind, text: &[u8]) -> Option<Key>
         Kind::Blpu => uprn_in(text).map(Key::Blpu),
         Kind::Xref => Label::read(text).map(Key::Xref),
         Kind::Lpi => Label::read(text).map(Key::Lpi),
+        Kind::Release | Kind::Adopt => None,
     }
 }

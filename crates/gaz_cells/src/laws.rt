@@ -1,5 +1,6 @@
 ghost use Rattle.gaz_cells.specs.Examples.{WorkedIds};
-ghost use Rattle.gaz_cells.specs.Laws.{CellsFollow, CellsReadBack, IdsAreApart, IdsAreOrdered, IdsReadBack};
+ghost use Rattle.gaz_cells.specs.Laws.{CellsFollow, CellsReadBack, CellsSayEntries};
+ghost use Rattle.gaz_cells.specs.Laws.{IdsAreApart, IdsAreOrdered, IdsReadBack};
 
 use gaz_records::laws::items_read_back;
 
@@ -18,7 +19,7 @@ pub fn ids_are_ordered()
     ensures { IdsAreOrdered }
 {}
 
-/// An item's cells are those of its key, and say the item.
+/// An entry's cells are those of its key, and say the entry.
 pub fn cells_read_back()
     ensures { CellsReadBack }
 {
@@ -28,6 +29,11 @@ pub fn cells_read_back()
 /// Cells that say an item are the cells of that item.
 pub fn cells_follow()
     ensures { CellsFollow }
+{}
+
+/// What cells say is one of the items that stand in views.
+pub fn cells_say_entries()
+    ensures { CellsSayEntries }
 {}
 
 /// The names of some keys.

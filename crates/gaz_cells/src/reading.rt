@@ -32,7 +32,7 @@ impl<'a> Model for Row<'a> {
     ghost view = { λ x. record { kind = x.kind; id = x.id.now; links = x.links; body = x.body.now } };
 }
 
-/// The kind of this record identifier, or none.
+/// The kind of entries with this record identifier, or none.
 pub fn kind_numbered(number: u64) -> Option<Kind>
     ensures { result ≡ kind_numbered number }
 {

@@ -16,4 +16,5 @@ returns c = record {
   zero = refl;
   kind = refl;
   no_kind = refl;
+  no_entry = refl;
 }
