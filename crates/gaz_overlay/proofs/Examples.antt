@@ -72,12 +72,12 @@ in_turn =
 
 views_hold : WorkedViews
 views_hold =
-    let none = laid_at (without_key (with_item empty_view (street 101)) (key.Street 101)) (lawful_taken (with_item empty_view (street 101)) (key.Street 101) (lawful_put empty_view (street 101) lawful_empty)) (key.Street 101) true None
+    let none = laid_at (without_key (with_item empty_view (street 101)) (key.Street 101)) (lawful_taken (with_item empty_view (street 101)) (key.Street 101) (lawful_put empty_view (street 101) refl lawful_empty)) (key.Street 101) true None
     (one_used (key.Street 101) (street 101)) (finite.get-remove keys_total (with_item empty_view (street 101)).items (key.Street 101) (key.Street 101)) in
     let used = laid_used (without_key (with_item empty_view (street 101)) (key.Street 101)) (key.Street 101) true (one_used (key.Street 101) (street 101)) in
     record {
-      stays = laid_at (with_item empty_view (street 102)) (lawful_put empty_view (street 102) lawful_empty) (key.Street 101) false None (one_used (key.Street 101) (street 102)) (one (key.Street 101) (street 102));
-      comes = laid_at (with_item empty_view (street 102)) (lawful_put empty_view (street 102) lawful_empty) (key.Street 102) true (Some (street 102)) (one_used (key.Street 102) (street 102)) (one (key.Street 102) (street 102));
+      stays = laid_at (with_item empty_view (street 102)) (lawful_put empty_view (street 102) refl lawful_empty) (key.Street 101) false None (one_used (key.Street 101) (street 102)) (one (key.Street 101) (street 102));
+      comes = laid_at (with_item empty_view (street 102)) (lawful_put empty_view (street 102) refl lawful_empty) (key.Street 102) true (Some (street 102)) (one_used (key.Street 102) (street 102)) (one (key.Street 102) (street 102));
       both_used = laid_used (with_item empty_view (street 102)) (key.Street 101) false (one_used (key.Street 101) (street 102));
       third_not_used = laid_used (with_item empty_view (street 102)) (key.Street 103) false (one_used (key.Street 103) (street 102));
       goes = ap (λ (s : View). finite.get (laid one_street (without_key s (key.Street 101))).items (key.Street 101)) copy_is ∙ none;

@@ -8,6 +8,7 @@ use Rattle.std.specs.Cmp.{tied_itself}
 use Rattle.std.specs.Ordering.{eq_by_cmp, is_eq}
 use Rattle.std.specs.declared.cmp.Ordering.TheVariants.{Equal}
 use Rattle.gaz_records.proofs.KeyOrder.{keys_exact, keys_total}
+use Rattle.gaz_records.specs.Items.{is_entry}
 use Rattle.gaz_records.specs.Keys.{key_cmp, key_of}
 use Rattle.gaz_records.specs.declared.item.Item.{Item}
 use Rattle.gaz_records.specs.declared.key.Key.{Key}
@@ -58,11 +59,17 @@ unfolding laid
 used_at v s q = set.contains-union keys_total v.used s.used q
 
 -- views that answer alike are one
-pub same_view : (v w : View) → ((q : Key) → finite.get v.items q ≡ finite.get w.items q) → ((q : Key) → was_used v q ≡ was_used w q) → v ≡ w
-same_view v w items used = λ i. record {
+pub same_view : (v w : View) → v.custody ≡ w.custody → ((q : Key) → finite.get v.items q ≡ finite.get w.items q) → ((q : Key) → was_used v q ≡ was_used w q) → v ≡ w
+same_view v w custody items used = λ i. record {
   items = finite.same_map keys_total keys_exact v.items w.items items i;
   used = set.same_set keys_total keys_exact v.used w.used used i;
+  custody = custody i;
 }
+
+-- changes pass nothing on
+pub custody_laid : (v s : View) → (laid v s).custody ≡ v.custody
+unfolding laid
+custody_laid v s = refl
 
 -- ---- changes
 
@@ -79,25 +86,25 @@ turned true false c = refl
 turned false b c = refl
 
 -- with an item more the changes have it at its key, and else what they had
-more_at : (v s : View) → IsLawfulView s → (i : Item) (q : Key)
+more_at : (v s : View) → IsLawfulView s → (i : Item) → is_entry i ≡ true → (q : Key)
     → finite.get (laid v (with_item s i)).items q ≡ cond (tie q (key_of i) || was_used s q) (cond (tie q (key_of i)) (Some i) (finite.get s.items q)) (finite.get v.items q)
-more_at v s lawful i q =
+more_at v s lawful i entry q =
     let uses = set.contains-insert keys_total s.used (key_of i) q in
     let gets = finite.get-insert keys_total s.items (key_of i) i q in
-    at_key v (with_item s i) (lawful_put s i lawful) q ∙ (λ j. cond (uses j) (gets j) (finite.get v.items q))
+    at_key v (with_item s i) (lawful_put s i entry lawful) q ∙ (λ j. cond (uses j) (gets j) (finite.get v.items q))
 
 more_used : (v s : View) (i : Item) (q : Key) → was_used (laid v (with_item s i)) q ≡ (was_used v q || (tie q (key_of i) || was_used s q))
 more_used v s i q = used_at v (with_item s i) q ∙ ap (λ b. was_used v q || b) (set.contains-insert keys_total s.used (key_of i) q)
 
-pub put : (v s : View) → IsLawfulView s → (i : Item) → with_item (laid v s) i ≡ laid v (with_item s i)
-put v s lawful i = same_view (with_item (laid v s) i) (laid v (with_item s i)) items used
+pub put : (v s : View) → IsLawfulView s → (i : Item) → is_entry i ≡ true → with_item (laid v s) i ≡ laid v (with_item s i)
+put v s lawful i entry = same_view (with_item (laid v s) i) (laid v (with_item s i)) (custody_laid v s ∙ sym (custody_laid v (with_item s i))) items used
   where
     items : (q : Key) → finite.get (with_item (laid v s) i).items q ≡ finite.get (laid v (with_item s i)).items q
     items q =
         finite.get-insert keys_total (laid v s).items (key_of i) i q
         ∙ ap (cond (tie q (key_of i)) (Some i)) (at_key v s lawful q)
         ∙ put_item (tie q (key_of i)) (was_used s q) (Some i) (finite.get s.items q) (finite.get v.items q)
-        ∙ sym (more_at v s lawful i q)
+        ∙ sym (more_at v s lawful i entry q)
 
     used : (q : Key) → was_used (with_item (laid v s) i) q ≡ was_used (laid v (with_item s i)) q
     used q =
@@ -112,7 +119,7 @@ taken_item true false a b h = sym (h refl refl)
 taken_item false u a b h = refl
 
 pub taken : (v s : View) → IsLawfulView s → (k : Key) → (was_used s k ≡ false → finite.get v.items k ≡ None) → without_key (laid v s) k ≡ laid v (without_key s k)
-taken v s lawful k none = same_view (without_key (laid v s) k) (laid v (without_key s k)) items (λ q. used_at v s q ∙ sym (used_at v (without_key s k) q))
+taken v s lawful k none = same_view (without_key (laid v s) k) (laid v (without_key s k)) (custody_laid v s ∙ sym (custody_laid v (without_key s k))) items (λ q. used_at v s q ∙ sym (used_at v (without_key s k) q))
   where
     nothing_there : (q : Key) → tie q k ≡ true → was_used s q ≡ false → finite.get v.items q ≡ None
     nothing_there q is unused =
@@ -132,7 +139,7 @@ absorbed false true u h = absurd (true≢false (sym (h refl)))
 absorbed false false u h = refl
 
 item_copied : (v s : View) → IsLawfulView v → IsLawfulView s → (i : Item) → finite.get v.items (key_of i) ≡ Some i → was_used s (key_of i) ≡ false → laid v (with_item s i) ≡ laid v s
-item_copied v s last lawful i there unused = same_view (laid v (with_item s i)) (laid v s) (λ q. more_at v s lawful i q ∙ by_tie q (tie q (key_of i)) refl ∙ sym (at_key v s lawful q)) used
+item_copied v s last lawful i there unused = same_view (laid v (with_item s i)) (laid v s) (custody_laid v (with_item s i) ∙ sym (custody_laid v s)) (λ q. more_at v s lawful i (last.entries (key_of i) i there) q ∙ by_tie q (tie q (key_of i)) refl ∙ sym (at_key v s lawful q)) used
   where
     by_tie : (q : Key) (t : Bool) → tie q (key_of i) ≡ t → cond (t || was_used s q) (cond t (Some i) (finite.get s.items q)) (finite.get v.items q) ≡ cond (was_used s q) (finite.get s.items q) (finite.get v.items q)
     by_tie q true is =
@@ -175,7 +182,7 @@ or_none true = refl
 or_none false = refl
 
 pub nothing : (v : View) → laid v empty_view ≡ v
-nothing v = same_view (laid v empty_view) v
+nothing v = same_view (laid v empty_view) v (custody_laid v empty_view)
     (λ q. at_key v empty_view lawful_empty q ∙ ap (λ b. cond b (finite.get empty_view.items q) (finite.get v.items q)) (used_none q))
     (λ q. used_at v empty_view q ∙ ap (λ b. was_used v q || b) (used_none q) ∙ or_none (was_used v q))
 
@@ -184,8 +191,15 @@ or_right true = refl
 or_right false = refl
 
 lawful_laid : (v s : View) → IsLawfulView v → IsLawfulView s → IsLawfulView (laid v s)
-lawful_laid v s last lawful = record { keyed = keyed; used = used }
+lawful_laid v s last lawful = record { entries = entries; keyed = keyed; used = used }
   where
+    entries : (k : Key) (i : Item) → finite.get (laid v s).items k ≡ Some i → is_entry i ≡ true
+    entries k i there = by_use (was_used s k) (sym (at_key v s lawful k) ∙ there)
+      where
+        by_use : (u : Bool) → cond u (finite.get s.items k) (finite.get v.items k) ≡ Some i → is_entry i ≡ true
+        by_use true is = lawful.entries k i is
+        by_use false is = last.entries k i is
+
     keyed : (k : Key) (i : Item) → finite.get (laid v s).items k ≡ Some i → key_of i ≡ k
     keyed k i there = by_use (was_used s k) (sym (at_key v s lawful k) ∙ there)
       where

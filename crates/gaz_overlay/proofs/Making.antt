@@ -7,6 +7,7 @@ use Rattle.std.specs.FinSet as set
 use Rattle.std.specs.Option.{option_map_or}
 use Rattle.std.specs.Ordering.{is_eq}
 use Rattle.gaz_records.proofs.KeyOrder.{keys_total}
+use Rattle.gaz_records.specs.Items.{is_entry}
 use Rattle.gaz_records.specs.Keys.{key_cmp, key_of}
 use Rattle.gaz_records.specs.declared.item.Item.{Item}
 use Rattle.gaz_records.specs.declared.key.Key.{Key}
@@ -118,7 +119,7 @@ module _ (v : View) (c : Changes) (last : IsLawfulView v) (over : LieOver v c) (
         copied = λ b since. let both : IsStood (Since b) (key_view v k) = subst (λ (d : Stood). IsStood d (key_view v k)) since so in absurd (true≢false (sym both.0 ∙ ap is_some is));
         last = (λ used. absurd (true≢false (sym used ∙ unused v c over k fresh)), λ there. absurd (true≢false (sym (over.lawful.used k there) ∙ unused v c over k fresh)));
       }
-  touched_over (Some i) is = over_then v c over k first (with_item c.view i) (lawful_put c.view i over.lawful) (λ q other. item_else c.view i q (ap (tie q) key ∙ other)) here
+  touched_over (Some i) is = over_then v c over k first (with_item c.view i) (lawful_put c.view i (last.entries k i is) over.lawful) (λ q other. item_else c.view i q (ap (tie q) key ∙ other)) here
     where
       key : key_of i ≡ k
       key = last.keyed k i is
@@ -138,8 +139,8 @@ module _ (v : View) (c : Changes) (last : IsLawfulView v) (over : LieOver v c) (
 
 -- ---- an item is put
 
-put_over : (v : View) (c : Changes) → LieOver v c → (i : Item) → is_touched c (key_of i) ≡ true → LieOver v (with_put c i)
-put_over v c over i noted = over_then v c over k x (with_item c.view i) (lawful_put c.view i over.lawful) (item_else c.view i) (subst (λ (a : KeyView). IsTouch k x (key_view v k) a) (sym (item_here c.view i)) here)
+put_over : (v : View) (c : Changes) → LieOver v c → (i : Item) → is_entry i ≡ true → is_touched c (key_of i) ≡ true → LieOver v (with_put c i)
+put_over v c over i entry noted = over_then v c over k x (with_item c.view i) (lawful_put c.view i entry over.lawful) (item_else c.view i) (subst (λ (a : KeyView). IsTouch k x (key_view v k) a) (sym (item_here c.view i)) here)
   where
     k : Key
     k = key_of i
@@ -148,13 +149,13 @@ put_over v c over i noted = over_then v c over k x (with_item c.view i) (lawful_
     x = record { stood = stood_in c.touched (key_of i); last = Some i }
 
     here : IsTouch (key_of i) (record { stood = stood_in c.touched (key_of i); last = Some i }) (key_view v (key_of i)) (record { item = Some i; used = true })
-    here = record { stood = stood_so v c over (key_of i) noted; copied = λ b since. refl; last = (refl, λ there. refl, refl) }
+    here = record { stood = stood_so v c over (key_of i) noted; copied = λ b since. refl; last = (refl, λ there. refl, refl, entry) }
 
 -- ---- an item is taken
 
 dropped : (o : Option Item) (k : Key) (before now : KeyView) → IsLast o k before now → IsLast o k before (record { item = None; used = now.used })
 dropped None k before now h = (h.0, λ some. absurd (true≢false (sym some)))
-dropped (Some i) k before now h = (h.0, λ some. absurd (true≢false (sym some)), h.2)
+dropped (Some i) k before now h = (h.0, λ some. absurd (true≢false (sym some)), h.2, h.3)
 
 taken_over : (v : View) (c : Changes) → LieOver v c → (k : Key) → LieOver v (with_taken c k)
 taken_over v c over k = record { lawful = lawful_taken c.view k over.lawful; touched = over.touched; each = each }
@@ -216,18 +217,21 @@ module _ (v : View) (c : Changes) (over : LieOver v c) (k : Key) where
 
 -- ---- what is written
 
-own_row : (v : View) (c : Changes) → LieOver v c → (k : Key) (r : NewRow) → (writing_at c k).adds ≡ Some r → key_of r.item ≡ k
+abbrev IsOwn : Key → NewRow → Type 0
+IsOwn k r = (key_of r.item ≡ k) × (is_entry r.item ≡ true)
+
+own_row : (v : View) (c : Changes) → LieOver v c → (k : Key) (r : NewRow) → (writing_at c k).adds ≡ Some r → IsOwn k r
 own_row v c over k r is = by_touch (finite.get c.touched k) refl is
   where
-    by_last : (t : Touch) → finite.get c.touched k ≡ Some t → (b : Bool) (o : Option Item) → t.last ≡ o → option_map (λ i. let x : NewRow = record { item = i; current = b } in x) o ≡ Some r → key_of r.item ≡ k
+    by_last : (t : Touch) → finite.get c.touched k ≡ Some t → (b : Bool) (o : Option Item) → t.last ≡ o → option_map (λ i. let x : NewRow = record { item = i; current = b } in x) o ≡ Some r → IsOwn k r
     by_last t there b None last h = let none : None ≡ Some r = h in cc
     by_last t there b (Some i) last h =
         let so : IsLast (Some i) k (key_view v k) (key_view c.view k) = subst (λ (o : Option Item). IsLast o k (key_view v k) (key_view c.view k)) last (over.each k t there).last in
         let row : NewRow = record { item = i; current = b } in
         let same : row ≡ r = cc in
-        ap (λ (x : NewRow). key_of x.item) (sym same) ∙ so.2
+        subst (λ (x : NewRow). IsOwn k x) same (so.2, so.3)
 
-    by_touch : (o : Option Touch) → finite.get c.touched k ≡ o → (option_map_or (λ t. writing_of t (is_some (finite.get c.view.items k))) o (record { closes = None; adds = None })).adds ≡ Some r → key_of r.item ≡ k
+    by_touch : (o : Option Touch) → finite.get c.touched k ≡ o → (option_map_or (λ t. writing_of t (is_some (finite.get c.view.items k))) o (record { closes = None; adds = None })).adds ≡ Some r → IsOwn k r
     by_touch None there h = let none : None ≡ Some r = h in cc
     by_touch (Some t) there h = by_last t there (is_some (finite.get c.view.items k)) t.last refl h
 
@@ -245,11 +249,12 @@ changes_make = record {
   nothing = λ v. record { over = nothing_over v; is_laid = sym (nothing v) };
   touched = λ v c w last made k stood fresh so.
       record { over = touched_over v c last made.over k stood fresh so (finite.get v.items k) refl; is_laid = made.is_laid ∙ touched_laid v c last made.over k stood fresh so };
-  put = λ v c w made i noted.
-      record { over = put_over v c made.over i noted; is_laid = ap (λ (u : View). with_item u i) made.is_laid ∙ put v c.view made.over.lawful i };
+  put = λ v c w made i entry noted.
+      record { over = put_over v c made.over i entry noted; is_laid = ap (λ (u : View). with_item u i) made.is_laid ∙ put v c.view made.over.lawful i entry };
   taken = λ v c w made k noted.
       record { over = taken_over v c made.over k; is_laid = ap (λ (u : View). without_key u k) made.is_laid ∙ taken v c.view made.over.lawful k (none_there v c made.over k noted) };
   there = λ v c w made k noted. ap (λ (u : View). key_view u k) made.is_laid ∙ told_there v c made.over k noted;
   elsewhere = λ v c w made k fresh. ap (λ (u : View). key_view u k) made.is_laid ∙ told_elsewhere v c made.over k fresh;
-  own = λ v c w made k r is. own_row v c made.over k r is;
+  own = λ v c w made k r is. (own_row v c made.over k r is).0;
+  entries = λ v c w made k r is. (own_row v c made.over k r is).1;
 }

@@ -23,7 +23,7 @@ use Rattle.gaz_overlay.specs.declared.touch.Stood.{Stood}
 use Rattle.gaz_overlay.specs.declared.touch.Stood.TheVariants.{Never, Past, Since}
 use Rattle.gaz_overlay.specs.declared.touch.Touch.{Touch}
 use Rattle.gaz_overlay.specs.declared.touch.Writing.{Writing}
-use Rattle.gaz_overlay.proofs.Laid.{at_key, besides, same_view, tie, used_at}
+use Rattle.gaz_overlay.proofs.Laid.{at_key, besides, custody_laid, same_view, tie, used_at}
 use Rattle.gaz_overlay.proofs.Making.{unused}
 
 abbrev pub Rows : Type 0
@@ -62,6 +62,11 @@ item_after rows t q = finite.get-from_entries keys_total (map (λ r. (r.key, r.i
 pub used_after : (rows : Rows) (t : ℕ) (q : Key) → was_used (view_after rows t) q ≡ uses t q rows
 unfolding view_after
 used_after rows t q = set.contains-from_list keys_total (map (λ r. r.key) (filter (is_born_by t) rows)) q ∙ uses_is t q rows
+
+-- nothing is passed on
+pub custody_after : (rows : Rows) (t : ℕ) → (view_after rows t).custody ≡ finite.empty
+unfolding view_after
+custody_after rows t = refl
 
 stands_both : (t : ℕ) (q : Key) (a b : Rows) → stands t q (a ++ b) ≡ besides (stands t q a) (stands t q b)
 stands_both t q [] b = refl
@@ -409,6 +414,7 @@ module _ (rows : Rows) (n : ℕ) (c : Changes) (w : View) (h : Given n c rows) (
   unfolding written
   next_view =
       same_view (view_after (written (n + 1) c rows) (n + 1)) (laid last c.view)
+      (custody_after (written (n + 1) c rows) (n + 1) ∙ sym (custody_laid last c.view ∙ custody_after rows n))
       (λ q. item_after (written (n + 1) c rows) (n + 1) q ∙ next_item q ∙ sym (at_key last c.view made.over.lawful q))
       (λ q. used_after (written (n + 1) c rows) (n + 1) q ∙ next_used q ∙ sym (used_at last c.view q))
       ∙ sym made.is_laid
@@ -417,6 +423,7 @@ module _ (rows : Rows) (n : ℕ) (c : Changes) (w : View) (h : Given n c rows) (
   unfolding written
   past_view t le =
       same_view (view_after (written (n + 1) c rows) t) (view_after rows t)
+      (custody_after (written (n + 1) c rows) t ∙ sym (custody_after rows t))
       (λ q. item_after (written (n + 1) c rows) t q ∙ stands_both t q (map (closed (n + 1) c) rows) (filter_map (added (n + 1) c) ks)
       ∙ (λ i. besides (past_stands n c q h.room t le rows h.noted i) (new_none (n + 1) c q t (omega arith) ks i)) ∙ besides_none (stands t q rows) ∙ sym (item_after rows t q))
       (λ q. used_after (written (n + 1) c rows) t q ∙ uses_both t q (map (closed (n + 1) c) rows) (filter_map (added (n + 1) c) ks)

@@ -15,9 +15,10 @@ untouched s k = not (was_used s k)
 abbrev pub any_untouched : View → List Key → Bool
 any_untouched s keys = list_any (untouched s) keys
 
--- at a key that the changes have used what they have, else what the view has; used is what either has used
+-- at a key that the changes have used what they have, else what the view has; used is what either
+-- has used. The changes pass nothing on
 unfoldable pub laid : View → View → View
-laid v s = record {
+laid v s = record v {
   items = map.from_entries (map.entries s.items ++ map.entries (map.retain_keys v.items (untouched s)));
   used = set.union v.used s.used;
 }

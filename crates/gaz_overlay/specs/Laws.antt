@@ -1,6 +1,7 @@
 -- What laid views keep to.
-use Rattle.std.specs.Prelude.{◌≡◌, ◌||◌, false, if◌then◌else◌, None}
+use Rattle.std.specs.Prelude.{◌≡◌, ◌||◌, true, false, if◌then◌else◌, None}
 use Rattle.std.specs.FinMap as map
+use Rattle.gaz_records.specs.Items.{is_entry}
 use Rattle.gaz_records.specs.declared.item.Item.{Item}
 use Rattle.gaz_records.specs.declared.key.Key.{Key}
 use Rattle.gaz_views.specs.Lawful.{IsLawfulView}
@@ -17,7 +18,8 @@ pub record LaidViews : Type 0 where
   pub at : (v s : View) → IsLawfulView s → (k : Key) → LaidAt v s k
   pub nothing : (v : View) → laid v empty_view ≡ v
   pub lawful : (v s : View) → IsLawfulView v → IsLawfulView s → IsLawfulView (laid v s)
-  pub put : (v s : View) → IsLawfulView s → (i : Item) → with_item (laid v s) i ≡ laid v (with_item s i)
+  pub put : (v s : View) → IsLawfulView s → (i : Item) → is_entry i ≡ true
+      → with_item (laid v s) i ≡ laid v (with_item s i)
   -- a key that the changes have used, or at which the view has nothing, is taken
   pub taken : (v s : View) → IsLawfulView s → (k : Key) → (was_used s k ≡ false → map.get v.items k ≡ None) → without_key (laid v s) k ≡ laid v (without_key s k)
   -- to copy what the view has at a key alters nothing, and the key can be taken then

@@ -1,6 +1,7 @@
 -- What each change makes of the working view.
 use Rattle.std.specs.Prelude.{◌≡◌, true, false, Some}
 use Rattle.std.specs.FinMap as map
+use Rattle.gaz_records.specs.Items.{is_entry}
 use Rattle.gaz_records.specs.Keys.{key_of}
 use Rattle.gaz_records.specs.declared.item.Item.{Item}
 use Rattle.gaz_records.specs.declared.key.Key.{Key}
@@ -18,13 +19,16 @@ told c k = record { item = map.get c.view.items k; used = was_used_in c k }
 
 -- no changes make the last view; to touch a key alters nothing, to put and to take do just that; and
 -- the changes alone say what the working view has at touched keys, the last view what it has at others;
--- what is to be written for a key is an item of that key
+-- what is to be written for a key is an entry of that key
 pub record ChangesMake : Type 0 where
   pub nothing : (v : View) → Make v no_changes v
   pub touched : (v : View) (c : Changes) (w : View) → IsLawfulView v → Make v c w → (k : Key) (stood : Stood) → is_touched c k ≡ false
       → IsStood stood (key_view v k) → Make v (with_touched c k stood (map.get v.items k)) w
-  pub put : (v : View) (c : Changes) (w : View) → Make v c w → (i : Item) → is_touched c (key_of i) ≡ true → Make v (with_put c i) (with_item w i)
+  pub put : (v : View) (c : Changes) (w : View) → Make v c w → (i : Item) → is_entry i ≡ true
+      → is_touched c (key_of i) ≡ true → Make v (with_put c i) (with_item w i)
   pub taken : (v : View) (c : Changes) (w : View) → Make v c w → (k : Key) → is_touched c k ≡ true → Make v (with_taken c k) (without_key w k)
   pub there : (v : View) (c : Changes) (w : View) → Make v c w → (k : Key) → is_touched c k ≡ true → key_view w k ≡ told c k
   pub elsewhere : (v : View) (c : Changes) (w : View) → Make v c w → (k : Key) → is_touched c k ≡ false → key_view w k ≡ key_view v k
   pub own : (v : View) (c : Changes) (w : View) → Make v c w → (k : Key) (r : NewRow) → (writing_at c k).adds ≡ Some r → key_of r.item ≡ k
+  pub entries : (v : View) (c : Changes) (w : View) → Make v c w → (k : Key) (r : NewRow)
+      → (writing_at c k).adds ≡ Some r → is_entry r.item ≡ true

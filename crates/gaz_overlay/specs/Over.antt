@@ -1,6 +1,7 @@
 -- Changes that lie over a last view and make a working one of it.
 use Rattle.std.specs.Prelude.{◌≡◌, true, false, ℕ, Bool, Option, Some, None, is_some}
 use Rattle.std.specs.FinMap as map
+use Rattle.gaz_records.specs.Items.{is_entry}
 use Rattle.gaz_records.specs.Keys.{key_of}
 use Rattle.gaz_records.specs.declared.item.Item.{Item}
 use Rattle.gaz_records.specs.declared.key.Key.{Key}
@@ -26,11 +27,13 @@ IsStood Never before = (before.item ≡ None) × (before.used ≡ false)
 IsStood Past before = (before.item ≡ None) × (before.used ≡ true)
 IsStood (Since volume) before = (is_some before.item ≡ true) × (before.used ≡ true)
 
--- this item was put last at a key, so that no other stands there; where none was put, only what
+-- this entry was put last at a key, so that no other stands there; where none was put, only what
 -- stood there before may stand
 abbrev pub IsLast : Option Item → Key → KeyView → KeyView → Type 0
 IsLast None k before now = (now.used ≡ true → before.used ≡ true) × (is_some now.item ≡ true → now.item ≡ before.item)
-IsLast (Some i) k before now = (now.used ≡ true) × (is_some now.item ≡ true → now.item ≡ Some i) × (key_of i ≡ k)
+IsLast (Some i) k before now =
+    (now.used ≡ true) × (is_some now.item ≡ true → now.item ≡ Some i) × (key_of i ≡ k)
+    × (is_entry i ≡ true)
 
 -- what is kept of a touched key is so, and an item that stood there before is copied
 pub record IsTouch (k : Key) (t : Touch) (before now : KeyView) : Type 0 where

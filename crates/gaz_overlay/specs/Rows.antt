@@ -7,7 +7,7 @@ use Rattle.std.specs.List.{AllByRecursion, filter_map}
 use Rattle.std.specs.Option.{option_map_or}
 use Rattle.gaz_records.specs.declared.item.Item.{Item}
 use Rattle.gaz_records.specs.declared.key.Key.{Key}
-use Rattle.gaz_views.specs.View.{View}
+use Rattle.gaz_views.specs.View.{View, view_of}
 use Rattle.gaz_overlay.specs.Changes.{Changes, stood_in}
 use Rattle.gaz_overlay.specs.Over.{Make}
 use Rattle.gaz_overlay.specs.Writings.{writing_at}
@@ -36,10 +36,9 @@ is_born_by t r = nat_le r.born t
 -- the view after a volume; a key was used where it has a row that was born by then, also one that
 -- never held
 unfoldable pub view_after : List HistoryRow → ℕ → View
-view_after rows t = record {
-  items = finite.from_entries (map (λ r. (r.key, r.item)) (filter (holds_after t) rows));
-  used = set.from_list (map (λ r. r.key) (filter (is_born_by t) rows));
-}
+view_after rows t =
+    view_of (finite.from_entries (map (λ r. (r.key, r.item)) (filter (holds_after t) rows)))
+    (set.from_list (map (λ r. r.key) (filter (is_born_by t) rows)))
 
 -- ---- what is written
 
