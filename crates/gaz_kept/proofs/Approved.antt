@@ -54,6 +54,8 @@ by_cells uprn (item.Street x) live blpu = absurd (omega (arith, live))
 by_cells uprn (item.Descriptor x) live blpu = absurd (omega (arith, live))
 by_cells uprn (item.Blpu x) live blpu = absurd (omega (arith, live))
 by_cells uprn (item.Xref x) live blpu = absurd (omega (arith, live))
+by_cells uprn (item.Release x) live blpu = absurd (omega (arith, live))
+by_cells uprn (item.Adopt x) live blpu = absurd (omega (arith, live))
 by_cells uprn (item.Lpi l) live blpu = (and_from (is_approved l.status) (l.uprn == uprn) (status_live l.status live) (eq-eqb l.uprn uprn blpu), refl)
 
 -- what its cells are
@@ -67,6 +69,8 @@ cells_then uprn (item.Street x) is = cc
 cells_then uprn (item.Descriptor x) is = cc
 cells_then uprn (item.Blpu x) is = cc
 cells_then uprn (item.Xref x) is = cc
+cells_then uprn (item.Release x) is = cc
+cells_then uprn (item.Adopt x) is = cc
 cells_then uprn (item.Lpi l) is =
     let both = and_parts (is_approved l.status) (l.uprn == uprn) is in
     record { kind = refl; live = live_status l.status both.0; blpu = eqb-true l.uprn uprn both.1 }
@@ -97,7 +101,7 @@ module _ (c uprn n : ℕ) (rows answer : List Row) (all : AreVersions rows) (roo
       id = ap (λ (d : CellsValue). d.id) s.cells
 
       named : key_named kind.Lpi (text_in (table.id_of r)) ≡ Some (key_of s.item)
-      named = sym (λ i. key_named (cells.1 i) (id i)) ∙ ids_back (key_of s.item) (fits s.item s.known).key
+      named = sym (λ i. key_named (cells.1 i) (id i)) ∙ ids_back (key_of s.item) (fits s.item s.known s.entry).key
 
       h : HistoryRow
       h = living (number_in (table.born_of r)) (number_in (table.gone_of r)) s.item
@@ -159,7 +163,7 @@ module _ (c uprn n : ℕ) (rows answer : List Row) (all : AreVersions rows) (roo
           record {
             approved = record {
               of_cust = whole (table.cust_of r.0) c v.cust cust;
-              of_kind = whole (table.kind_of r.0) 24 v.kind (ap (λ (d : CellsValue). d.kind) (sym s.cells) ∙ ap number_of (sym (fits s.item s.known).kind) ∙ cells.kind);
+              of_kind = whole (table.kind_of r.0) 24 v.kind (ap (λ (d : CellsValue). d.kind) (sym s.cells) ∙ ap number_of (sym (fits s.item s.known s.entry).kind) ∙ cells.kind);
               is_live = whole (table.live_of r.0) 1 v.live (ap (λ (d : CellsValue). d.links.live) (sym s.cells) ∙ cells.live);
               is_current = whole (table.gone_of r.0) never v.gone current;
             };

@@ -13,7 +13,7 @@ use Rattle.sqlite_rules.specs.Lists.{Has}
 use Rattle.sqlite_rules.proofs.ListLemmas.{all_has}
 use Rattle.gaz_records.proofs.ItemsBack.{text-back}
 use Rattle.gaz_records.specs.Fields.{ok_of}
-use Rattle.gaz_records.specs.Items.{is_item}
+use Rattle.gaz_records.specs.Items.{is_entry, is_item}
 use Rattle.gaz_records.specs.declared.item.Item.{Item}
 use Rattle.gaz_records.specs.declared.key.Key.{Key}
 use Rattle.gaz_records.specs.declared.key.Key.TheVariants as key
@@ -42,23 +42,23 @@ use Rattle.gaz_kept.proofs.Said.{cells_same, not_another, says}
 
 -- ---- histories
 
-reads : (x : Item) → is_item x ≡ true → read_cells (cells_of x) ≡ Ok x
-reads x is = cells_back x (text-back x is)
+reads : (x : Item) → is_item x ≡ true → is_entry x ≡ true → read_cells (cells_of x) ≡ Ok x
+reads x is entry = cells_back x entry (text-back x is)
 
-said : (id : Value) (c born gone : ℕ) (x : Item) → is_item x ≡ true → history_in c (id ∷ values_of c born gone x) ≡ Some (living born gone x)
-said id c born gone x is = says id c born gone x (reads x is)
+said : (id : Value) (c born gone : ℕ) (x : Item) → is_item x ≡ true → is_entry x ≡ true → history_in c (id ∷ values_of c born gone x) ≡ Some (living born gone x)
+said id c born gone x is entry = says id c born gone x (reads x is entry)
 
-said_item : (id : Value) (c born gone : ℕ) (x : Item) → is_item x ≡ true → item_in (id ∷ values_of c born gone x) ≡ Some x
-said_item id c born gone x is = ap (λ d. ok_of (read_cells d)) (cells_same id c born gone x) ∙ ap ok_of (reads x is)
+said_item : (id : Value) (c born gone : ℕ) (x : Item) → is_item x ≡ true → is_entry x ≡ true → item_in (id ∷ values_of c born gone x) ≡ Some x
+said_item id c born gone x is entry = ap (λ d. ok_of (read_cells d)) (cells_same id c born gone x) ∙ ap ok_of (reads x is entry)
 
 other : ¬ (◌≡◌ {A = ℕ} 1002 1001)
 other e = absurd (omega arith)
 
 histories_1001 : histories_in four_rows 1001 ≡ living 1 2 (street 101) ∷ living 2 4 changed ∷ living 2 2 (street 102) ∷ []
 histories_1001 = λ i.
-    cons_option (said (Int (pos 1)) 1001 1 2 (street 101) refl i)
-    (cons_option (said (Int (pos 2)) 1001 2 4 changed refl i)
-    (cons_option (said (Int (pos 3)) 1001 2 2 (street 102) refl i)
+    cons_option (said (Int (pos 1)) 1001 1 2 (street 101) refl refl i)
+    (cons_option (said (Int (pos 2)) 1001 2 4 changed refl refl i)
+    (cons_option (said (Int (pos 3)) 1001 2 2 (street 102) refl refl i)
     (cons_option (not_another (Int (pos 4)) 1002 1001 1 1000000 (street 101) other i) [])))
 
 histories_1002 : histories_in four_rows 1002 ≡ living 1 1000000 (street 101) ∷ []
@@ -66,7 +66,7 @@ histories_1002 = λ i.
     cons_option (not_another (Int (pos 1)) 1001 1002 1 2 (street 101) (λ e. other (sym e)) i)
     (cons_option (not_another (Int (pos 2)) 1001 1002 2 4 changed (λ e. other (sym e)) i)
     (cons_option (not_another (Int (pos 3)) 1001 1002 2 2 (street 102) (λ e. other (sym e)) i)
-    (cons_option (said (Int (pos 4)) 1002 1 1000000 (street 101) refl i) [])))
+    (cons_option (said (Int (pos 4)) 1002 1 1000000 (street 101) refl refl i) [])))
 
 abbrev three : List HistoryRow
 three = living 1 2 (street 101) ∷ living 2 4 changed ∷ living 2 2 (street 102) ∷ []
@@ -82,7 +82,7 @@ one = living 1 1000000 (street 101) ∷ []
 
 views_hold : WorkedViews
 views_hold = record {
-  said = said (Int (pos 2)) 1001 2 4 changed refl;
+  said = said (Int (pos 2)) 1001 2 4 changed refl refl;
   of_another = not_another (Int (pos 4)) 1002 1001 1 1000000 (street 101) other;
   nothing_yet = at_1001 0 (key.Street 101);
   inserted = at_1001 1 (key.Street 101);
@@ -202,7 +202,7 @@ version_holds = record {
   body = refl;
   born = refl;
   gone = refl;
-  item = subst (λ o. IsSomeAnd o (λ y. is_item y ≡ true)) (sym (said_item (Int (pos 2)) 1001 2 4 changed refl)) refl;
+  item = subst (λ o. IsSomeAnd o (λ y. is_item y ≡ true)) (sym (said_item (Int (pos 2)) 1001 2 4 changed refl refl)) refl;
   first = omega arith;
   in_turn = omega arith;
 }
@@ -290,8 +290,8 @@ apart_holds = subst AreInTurn (sym histories_1001)
 
 histories_overlap : histories_in overlapping 1001 ≡ living 1 1000000 (street 101) ∷ living 2 1000000 changed ∷ []
 histories_overlap = λ i.
-    cons_option (said (Int (pos 1)) 1001 1 1000000 (street 101) refl i)
-    (cons_option (said (Int (pos 2)) 1001 2 1000000 changed refl i) [])
+    cons_option (said (Int (pos 1)) 1001 1 1000000 (street 101) refl refl i)
+    (cons_option (said (Int (pos 2)) 1001 2 1000000 changed refl refl i) [])
 
 no_overlap : ¬ AreInTurn (histories_in overlapping 1001)
 no_overlap h =

@@ -1,5 +1,5 @@
 -- What is written when a judgement is kept makes one judgement more.
-use Rattle.std.proofs.Common.{◌≡◌, ◌≢◌, ◌∙◌, ◌≤◌, ◌<◌, ◌+◌, ◌⊎◌, inl, inr, ℕ, List, [], ◌∷◌, length, refl, sym, ap, subst, arith}
+use Rattle.std.proofs.Common.{◌≡◌, ◌≢◌, ◌∙◌, ◌≤◌, ◌<◌, ◌+◌, ◌⊎◌, inl, inr, ℕ, List, [], ◌∷◌, length, refl, sym, ap, subst, arith, true}
 use Rattle.std.specs.Prelude.{IsSome, Some}
 use Rattle.std.proofs.lemmas.Bool.{cases_eq}
 use Rattle.std.proofs.lemmas.List.{length-append}
@@ -7,6 +7,7 @@ use Rattle.std.specs.FinMap as finite
 use Rattle.std.specs.List.{range_with_len}
 use Rattle.sqlite.specs.Effect.{Database}
 use Rattle.sqlite_rules.specs.Lists.{Has}
+use Rattle.gaz_records.specs.Items.{is_entry}
 use Rattle.gaz_records.specs.Keys.{key_of}
 use Rattle.gaz_records.specs.declared.key.Key.{Key}
 use Rattle.gaz_views.specs.View.{View, empty_view}
@@ -109,6 +110,9 @@ module _ (c volume : ℕ) (changes : Changes) (working : View) (old new : Databa
   own : (k : Key) (r : NewRow) → (writing_at changes k).adds ≡ Some r → key_of r.item ≡ k
   own = changes_make.own (view_after was n) changes working it.made
 
+  entries : (k : Key) (r : NewRow) → (writing_at changes k).adds ≡ Some r → is_entry r.item ≡ true
+  entries = changes_make.entries (view_after was n) changes working it.made
+
   abbrev keys : List Key
   keys = finite.keys changes.touched
 
@@ -117,7 +121,7 @@ module _ (c volume : ℕ) (changes : Changes) (working : View) (old new : Databa
 
   done : IsUnderWay c (n + 1) changes (onto keys []) (onto keys []) (old.trees versions) (mid.trees versions)
   done =
-      write_keys c n room changes (old.trees versions) through it.told own keys [] (old.trees versions) (mid.trees versions)
+      write_keys c n room changes (old.trees versions) through it.told own entries keys [] (old.trees versions) (mid.trees versions)
       (are_new [] (finite.entries changes.touched) (finite.entries_sorted changes.touched) (λ d none. absurd none))
       (nothing_yet c (n + 1) changes (old.trees versions) it.kept.rows) all_written
 

@@ -29,7 +29,7 @@ use Rattle.gaz_kept.proofs.Statements.{Born, IsBirthOf, Says, birth_of, born_as,
 module _ (r : Row) (s : Says r) (k : Key) (own : key_of s.item ≡ k) where
   pub same_item : (text : List ℕ) (x : Item) → table.body_of r ≡ Text text → item_of_text (kind_in k) text ≡ Ok x → x ≡ s.item
   same_item text x there read =
-      let fit = fits s.item s.known in
+      let fit = fits s.item s.known s.entry in
       let body : text ≡ (cells_of s.item).body = ap text_in (sym there) ∙ ap (λ (d : CellsValue). d.body) (sym s.cells) in
       let kind : kind_in k ≡ kind_of s.item = ap kind_in (sym own) ∙ fit.kind in
       let both : Ok x ≡ Ok s.item = sym read ∙ (λ i. item_of_text (kind i) (body i)) ∙ fit.body in

@@ -28,6 +28,8 @@ live_same (item.Descriptor x) = refl
 live_same (item.Blpu x) = refl
 live_same (item.Xref x) = refl
 live_same (item.Lpi x) = live_status x.status
+live_same (item.Release x) = refl
+live_same (item.Adopt x) = refl
 
 pub cells_same : (id : Value) (c born gone : ℕ) (x : Item) → cells_in (id ∷ values_of c born gone x) ≡ cells_of x
 cells_same id c born gone x = λ i. record (cells_of x) { links = record ((cells_of x).links) { live = live_same x i } }

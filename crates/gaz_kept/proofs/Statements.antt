@@ -1,25 +1,26 @@
 -- What an INSERT and an UPDATE make of the histories.
 use Rattle.std.proofs.Common.{◌≡◌, ◌≢◌, ◌∙◌, ◌≤◌, ◌==◌, ◌⊎◌, inl, inr, ℕ, pos, Bool, true, false, cond, List, [], ◌∷◌, refl, sym, ap, subst, eq-eqb, ne_eqb, eqb-true}
 use Rattle.std.specs.Prelude.{Option, Some, None, Ok, Err, Result, IsSomeAnd, option_map}
-use Rattle.std.specs.List.{cons_option, filter_map}
+use Rattle.std.specs.List.{cons_option, filter_map, find}
 use Rattle.sqlite.specs.declared.types.Value.{Value}
 use Rattle.sqlite.specs.declared.types.Value.TheVariants.{Int, Text}
 use Rattle.sqlite.specs.Order.{Row}
 use Rattle.sqlite_rules.specs.Lists.{Has}
 use Rattle.gaz_records.proofs.ItemsBack.{fields-back, text-back}
 use Rattle.gaz_records.specs.Fields.{ok_of}
-use Rattle.gaz_records.specs.Items.{ItemsReadBack, is_item}
+use Rattle.gaz_records.specs.Items.{ItemsReadBack, is_entry, is_item}
 use Rattle.gaz_records.specs.Keys.{key_of}
-use Rattle.gaz_records.specs.Kinds.{number_of}
+use Rattle.gaz_records.specs.Kinds.{kinds, number_of}
 use Rattle.gaz_records.specs.declared.item.Item.{Item}
 use Rattle.gaz_records.specs.declared.item.Kind.{Kind}
+use Rattle.gaz_records.specs.declared.item.Kind.TheVariants as kind
 use Rattle.gaz_records.specs.declared.key.Key.{Key}
-use Rattle.gaz_cells.proofs.CellsBack.{cells_back, cells_fit, cells_follow, numbered}
+use Rattle.gaz_cells.proofs.CellsBack.{cells_back, cells_fit, cells_follow, cells_say_entries}
 use Rattle.gaz_cells.proofs.Ids.{ids_apart}
 use Rattle.gaz_cells.specs.Columns.{CellsValue, cells_of, live_of}
 use Rattle.gaz_cells.specs.Ids.{id_of, is_key, kind_in}
 use Rattle.gaz_cells.specs.Laws.{CellsFit}
-use Rattle.gaz_cells.specs.Reading.{kind_numbered, read_cells}
+use Rattle.gaz_cells.specs.Reading.{read_cells}
 use Rattle.gaz_cells.specs.declared.fault.CellFault.{CellFault}
 use Rattle.gaz_overlay.specs.Rows.{HistoryRow}
 use Rattle.gaz_tables.specs.Versions as table
@@ -65,13 +66,14 @@ not_none x some none = let e : None ≡ Some x = sym none ∙ some in absurd (cc
 items_read_back : ItemsReadBack
 items_read_back x h = (fields-back x h, text-back x h)
 
-pub fits : (x : Item) → is_item x ≡ true → CellsFit x
-fits x h = cells_fit items_read_back x h
+pub fits : (x : Item) → is_item x ≡ true → is_entry x ≡ true → CellsFit x
+fits x h entry = cells_fit items_read_back x h entry
 
 -- the item of a row
 pub record Says (r : Row) : Type 0 where
   pub item : Item
   pub known : is_item item ≡ true
+  pub entry : is_entry item ≡ true
   pub said : item_in r ≡ Some item
   pub cells : cells_of item ≡ cells_in r
 
@@ -84,7 +86,9 @@ item_of r v = by_item (item_in r) refl v.item
   where
     by_item : (o : Option Item) → item_in r ≡ o → IsSomeAnd o (λ x. is_item x ≡ true) → Says r
     by_item None is known = absurd known
-    by_item (Some x) is known = record { item = x; known = known; said = is; cells = cells_follow (cells_in r) x (ok_is (read_cells (cells_in r)) x is) }
+    by_item (Some x) is known =
+        let read = ok_is (read_cells (cells_in r)) x is in
+        record { item = x; known = known; entry = cells_say_entries (cells_in r) x read; said = is; cells = cells_follow (cells_in r) x read }
 
 -- the history of a row
 pub history_of : (c : ℕ) (r : Row) (s : Says r) → number_in (table.cust_of r) ≡ c → history_in c r ≡ Some (living (number_in (table.born_of r)) (number_in (table.gone_of r)) s.item)
@@ -105,8 +109,20 @@ not_of c r other = ap (λ b. cond b (option_map (living (number_in (table.born_o
 
 -- ---- a row's columns and its key
 
+abbrev of_number : ℕ → Option Kind
+of_number n = find (λ k. n == number_of k) kinds
+
+numbered : (k : Kind) → of_number (number_of k) ≡ Some k
+numbered kind.Street = refl
+numbered kind.Descriptor = refl
+numbered kind.Blpu = refl
+numbered kind.Xref = refl
+numbered kind.Lpi = refl
+numbered kind.Release = refl
+numbered kind.Adopt = refl
+
 pub same_kind : (k l : Kind) → number_of k ≡ number_of l → k ≡ l
-same_kind k l e = some_same k l (numbered k) (ap kind_numbered e ∙ numbered l)
+same_kind k l e = some_same k l (numbered k) (ap of_number e ∙ numbered l)
 
 abbrev pub IsBirthOf : ℕ → Key → ℕ → Row → Type 0
 IsBirthOf c k born r = IsOfBirth c (number_of (kind_in k)) (id_of k) born r
@@ -117,7 +133,7 @@ whole v n is e = is ∙ ap (λ m. Int (pos m)) e
 pub birth_of : (c : ℕ) (r : Row) → IsVersion r → (y : HistoryRow) → history_in c r ≡ Some y → IsBirthOf c y.key y.born r
 birth_of c r v y is =
     let s = item_of r v in
-    let fit = fits s.item s.known in
+    let fit = fits s.item s.known s.entry in
     let h = some_same (living (number_in (table.born_of r)) (number_in (table.gone_of r)) s.item) y (history_of c r s (its_custodian c r y is)) is in
     let kind : number_in (table.kind_of r) ≡ number_of (kind_in (key_of s.item)) = ap (λ (d : CellsValue). d.kind) (sym s.cells) ∙ ap number_of (sym fit.kind) in
     let id : text_in (table.id_of r) ≡ id_of (key_of s.item) = ap (λ (d : CellsValue). d.id) (sym s.cells) in
@@ -140,7 +156,7 @@ pub record Born (c : ℕ) (k : Key) (born : ℕ) (r : Row) : Type 0 where
 pub born_as : (c : ℕ) (k : Key) (born : ℕ) (r : Row) → IsVersion r → is_key k ≡ true → IsBirthOf c k born r → Born c k born r
 born_as c k born r v is b =
     let s = item_of r v in
-    let fit = fits s.item s.known in
+    let fit = fits s.item s.known s.entry in
     let kind : number_of (kind_in (key_of s.item)) ≡ number_of (kind_in k) = ap number_of fit.kind ∙ ap (λ (d : CellsValue). d.kind) s.cells ∙ ap number_in b.of_key.of_kind in
     let id : id_of (key_of s.item) ≡ id_of k = ap (λ (d : CellsValue). d.id) s.cells ∙ ap text_in b.of_key.of_id in
     record {
@@ -188,8 +204,8 @@ born_later c rows all y there =
 
 -- ---- INSERT
 
-written_version : (id : Value) (c born gone : ℕ) (x : Item) → is_item x ≡ true → 1 ≤ born → born ≤ gone → IsVersion (id ∷ values_of c born gone x)
-written_version id c born gone x known first in_turn = record {
+written_version : (id : Value) (c born gone : ℕ) (x : Item) → is_item x ≡ true → is_entry x ≡ true → 1 ≤ born → born ≤ gone → IsVersion (id ∷ values_of c born gone x)
+written_version id c born gone x known entry first in_turn = record {
   cust = refl;
   kind = refl;
   id = refl;
@@ -210,10 +226,10 @@ written_version id c born gone x known first in_turn = record {
     by_test false = refl
 
     said : item_in (id ∷ values_of c born gone x) ≡ Some x
-    said = ap (λ d. ok_of (read_cells d)) (cells_same id c born gone x) ∙ ap ok_of (cells_back x (text-back x known))
+    said = ap (λ d. ok_of (read_cells d)) (cells_same id c born gone x) ∙ ap ok_of (cells_back x entry (text-back x known))
 
 pub insert_adds : InsertAdds
-insert_adds id c born gone x old new known first in_turn all added = record {
+insert_adds id c born gone x old new known entry first in_turn all added = record {
   gain = record {
     only = λ y there. let r = read_from (history_in c) new y there in only_here y r.0 r.2 (added.only r.0 r.1);
     there = read_in (history_in c) new row h added.there said;
@@ -233,7 +249,7 @@ insert_adds id c born gone x old new known first in_turn all added = record {
     h = living born gone x
 
     said : history_in c row ≡ Some h
-    said = says id c born gone x (cells_back x (text-back x known))
+    said = says id c born gone x (cells_back x entry (text-back x known))
 
     only_here : (y : HistoryRow) (r : Row) → history_in c r ≡ Some y → (r ≡ row) ⊎ Has old r → (y ≡ h) ⊎ Has (histories_in old c) y
     only_here y r is (inl same) = inl (some_same y h is (ap (history_in c) same ∙ said))
@@ -244,7 +260,7 @@ insert_adds id c born gone x old new known first in_turn all added = record {
     only_there d other y r is (inr was) = read_in (history_in d) old r y was is
 
     is_row : (r : Row) → (r ≡ row) ⊎ Has old r → IsVersion r
-    is_row r (inl same) = subst IsVersion (sym same) (written_version id c born gone x known first in_turn)
+    is_row r (inl same) = subst IsVersion (sym same) (written_version id c born gone x known entry first in_turn)
     is_row r (inr was) = all r was
 
 -- ---- UPDATE
@@ -264,7 +280,7 @@ module _ (c volume : ℕ) (h : HistoryRow) (old new : List Row) (le : h.born ≤
       let s = item_of its.0 (all its.0 its.1) in
       let born = number_in (table.born_of its.0) in
       let same = some_same (living born (number_in (table.gone_of its.0)) s.item) h (history_of c its.0 s (its_custodian c its.0 h its.2)) its.2 in
-      subst (λ (z : HistoryRow). is_key z.key ≡ true) same (fits s.item s.known).key
+      subst (λ (z : HistoryRow). is_key z.key ≡ true) same (fits s.item s.known s.entry).key
 
   its_birth : IsBirthOf c h.key h.born its.0
   its_birth = birth_of c its.0 (all its.0 its.1) h its.2

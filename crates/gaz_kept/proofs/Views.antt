@@ -145,6 +145,7 @@ same_rows old new apart same t = λ i. record {
   used = same_uses old new t
       (λ q u. record { row = u.row; there = same.only u.row u.there; born = u.born; key = u.key })
       (λ q u. record { row = u.row; there = same.kept u.row u.there; born = u.born; key = u.key }) i;
+  custody = finite.empty;
 }
 
 -- ---- a volume that changes no row
@@ -165,6 +166,7 @@ module _ (n : ℕ) (rows : Rows) (room : n + 1 < never) (through : AreThrough n 
   stays_next = λ i. record {
     items = same_items_at i;
     used = same_uses_at i;
+    custody = finite.empty;
   }
     where
       same_items_at : finite.from_entries {R = key_cmp} (entries_at (n + 1) rows) ≡ finite.from_entries (entries_at n rows)
@@ -187,6 +189,7 @@ unfolding view_after empty_view
 nothing_born rows later = λ i. record {
   items = finite.from_entries (map (λ (r : HistoryRow). (r.key, r.item)) (none_pass (holds_after 0) rows (λ r h. ap (λ b. b && nat_lt 0 r.gone) (not_born r h)) i));
   used = set.from_list (map (λ (r : HistoryRow). r.key) (none_pass (is_born_by 0) rows not_born i));
+  custody = finite.empty;
 }
   where
     not_born : (r : HistoryRow) → Has rows r → nat_le r.born 0 ≡ false
@@ -263,15 +266,16 @@ module _ (h : HistoryRow) (old new : Rows) (apart : AreInTurn old) (next : IsNex
     gain_holding born gone = λ i. record {
       items = inserted keys_total keys_exact (key_of h.item) h.item (entries_at t old) (entries_at t new) (gain_entry (record { born = born; gone = gone })) i;
       used = (gain_use born ∙ ap (set.insert (set.from_list (used_at t old))) next.own) i;
+      custody = finite.empty;
     }
 
     gain_passed : h.born ≤ t → h.gone ≤ t → view_after new t ≡ with_use (view_after old t) h.key
     unfolding view_after
-    gain_passed born gone = λ i. record { items = gain_idle (λ held. let u = held.gone in absurd (omega arith)) i; used = gain_use born i }
+    gain_passed born gone = λ i. record { items = gain_idle (λ held. let u = held.gone in absurd (omega arith)) i; used = gain_use born i; custody = finite.empty }
 
     gain_before : t < h.born → view_after new t ≡ view_after old t
     unfolding view_after
-    gain_before early = λ i. record { items = gain_idle (λ held. let b = held.born in absurd (omega arith)) i; used = gain_unused early i }
+    gain_before early = λ i. record { items = gain_idle (λ held. let b = held.born in absurd (omega arith)) i; used = gain_unused early i; custody = finite.empty }
 
 pub rows_gain : RowsGain
 rows_gain h old new apart next gain = record {
@@ -399,13 +403,14 @@ module _ (h : HistoryRow) (volume : ℕ) (old new : Rows) (apart : AreInTurn old
 
     close_gone : volume ≤ t → view_after new t ≡ without_key (view_after old t) h.key
     unfolding view_after
-    close_gone late = λ i. record { items = removed keys_total keys_exact h.key (entries_at t old) (entries_at t new) (late_without late) i; used = close_uses i }
+    close_gone late = λ i. record { items = removed keys_total keys_exact h.key (entries_at t old) (entries_at t new) (late_without late) i; used = close_uses i; custody = finite.empty }
 
     close_before : t < volume → view_after new t ≡ view_after old t
     unfolding view_after
     close_before early = λ i. record {
       items = same_items old new t apart (λ q x e. early_from early q x e (close.only e.row e.there)) (λ q x e. early_to early q x e (which e.row e.there)) i;
       used = close_uses i;
+      custody = finite.empty;
     }
 
 pub rows_close : RowsClose

@@ -18,6 +18,7 @@ use Rattle.sqlite_rules.specs.Lists.{Has}
 use Rattle.sqlite_rules.proofs.ListLemmas.{has_either, has_left, has_right}
 use Rattle.sqlite_rules.proofs.ProbeLemmas.{has_mapped, mapped_has}
 use Rattle.gaz_records.proofs.KeyOrder.{keys_exact, keys_total}
+use Rattle.gaz_records.specs.Items.{is_entry}
 use Rattle.gaz_records.specs.Keys.{key_cmp, key_of}
 use Rattle.gaz_records.specs.Kinds.{number_of}
 use Rattle.gaz_records.specs.declared.key.Key.{Key}
@@ -115,7 +116,8 @@ nothing_yet c m changes old all = record {
 }
 
 module _ (c n : ℕ) (room : n + 1 < never) (changes : Changes) (old : List Row) (through : AreThrough n (histories_in old c)) (told : AreTold changes (histories_in old c))
-    (own : (k : Key) (r : NewRow) → (writing_at changes k).adds ≡ Some r → key_of r.item ≡ k) where
+    (own : (k : Key) (r : NewRow) → (writing_at changes k).adds ≡ Some r → key_of r.item ≡ k)
+    (entries : (k : Key) (r : NewRow) → (writing_at changes k).adds ≡ Some r → is_entry r.item ≡ true) where
   early : (r : HistoryRow) → Has (histories_in old c) r → r.born < n + 1
   early r there = let le = (through.until r there).born in omega arith
 
@@ -165,7 +167,7 @@ module _ (c n : ℕ) (room : n + 1 < never) (changes : Changes) (old : List Row)
         in_turn false = omega arith
 
         v : AddsVersion c (living (n + 1) (cond r.current never (n + 1)) r.item) mid new
-        v = let first : 1 ≤ n + 1 = omega arith in insert_adds (Int (next_rowid mid)) c (n + 1) (cond r.current never (n + 1)) r.item mid new adds.0 first (in_turn r.current) u.rows adds.1
+        v = let first : 1 ≤ n + 1 = omega arith in insert_adds (Int (next_rowid mid)) c (n + 1) (cond r.current never (n + 1)) r.item mid new adds.0 (entries k r is) first (in_turn r.current) u.rows adds.1
 
         its_gain : Gain (new_row (n + 1) k r) (histories_in mid c) (histories_in new c)
         its_gain = subst (λ q. Gain (record { key = q; born = n + 1; gone = cond r.current never (n + 1); item = r.item }) (histories_in mid c) (histories_in new c)) (own k r is) v.gain

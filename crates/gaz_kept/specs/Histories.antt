@@ -4,7 +4,7 @@ use Rattle.std.specs.FinSet as set
 use Rattle.sqlite.specs.declared.types.Value.{Value}
 use Rattle.sqlite.specs.Order.{Row}
 use Rattle.sqlite_rules.specs.Lists.{Has}
-use Rattle.gaz_records.specs.Items.{is_item}
+use Rattle.gaz_records.specs.Items.{is_entry, is_item}
 use Rattle.gaz_records.specs.Keys.{key_of}
 use Rattle.gaz_records.specs.Kinds.{number_of}
 use Rattle.gaz_records.specs.declared.item.Item.{Item}
@@ -19,7 +19,7 @@ use Rattle.gaz_kept.specs.Versions.{histories_in, living, values_of}
 
 -- the key was used, and nothing stands there that didn't
 abbrev pub with_use : View → Key → View
-with_use v k = record { items = v.items; used = set.insert v.used k }
+with_use v k = record v { used = set.insert v.used k }
 
 -- ---- histories by their rows
 
@@ -115,7 +115,7 @@ AreVersions rows = (r : Row) → Has rows r → IsVersion r
 
 abbrev pub InsertAdds : Type 0
 InsertAdds = (id : Value) (c born gone : ℕ) (x : Item) (old new : List Row)
-    → is_item x ≡ true → 1 ≤ born → born ≤ gone → AreVersions old
+    → is_item x ≡ true → is_entry x ≡ true → 1 ≤ born → born ≤ gone → AreVersions old
     → IsAdded (id ∷ values_of c born gone x) old new → AddsVersion c (living born gone x) old new
 
 abbrev pub UpdateCloses : Type 0
