@@ -10,7 +10,7 @@ import threading
 from dataclasses import dataclass, field
 from pathlib import Path
 
-from checks import kit, measure, outside, preloading, stores, trouble, trying
+from checks import kit, measure, outside, pages, preloading, stores, trouble, trying
 
 SAYING = threading.Lock()
 
@@ -95,6 +95,14 @@ def tell(name: str, fault: str | None, account: Account) -> None:
         say(f"{name}: {fault}")
 
 
+def read_pages(root: Path, account: Account) -> None:
+    """Each page of the repository: whether its links and names are there."""
+    before = measure.spent()
+    for name, fault in pages.run_all(root):
+        tell(f"page {name}", fault, account)
+    account.rest += measure.spent() - before
+
+
 def converse(room: Path, root: Path, account: Account) -> None:
     """What `gazhub` is asked and told, and how it ends."""
     program, before = stores.built(room, "gazhub"), measure.spent()
@@ -177,6 +185,7 @@ def whole(root: Path) -> int:
     """The gate: everything from nothing, in a copy of the tree."""
     clock, account = measure.Clock(), Account()
     own_tests(root, account)
+    read_pages(root, account)
     with tempfile.TemporaryDirectory(prefix="check-tree-") as made:
         room = Path(made)
         copy_of(root, room)
