@@ -87,6 +87,16 @@ class TheSteps(unittest.TestCase):
             gate.keep(Path(made), Path(made), account)
         self.assertEqual((0, ["stores from outside"]), (account.passed, account.failed))
 
+    def test_pages_are_counted(self):
+        account = gate.Account()
+        with tempfile.TemporaryDirectory() as made:
+            small_tree(Path(made))
+            Path(made, "docs").mkdir()
+            Path(made, "README.md").write_text("[It](docs/nowhere.md)\n")
+            Path(made, "docs", "hub.md").write_text("[It](../README.md)\n")
+            gate.read_pages(Path(made), account)
+        self.assertEqual((1, ["page README.md"]), (account.passed, account.failed))
+
     def test_a_fault_is_a_failure(self):
         account = gate.Account()
         for fault in (None, "differs"):
