@@ -11,7 +11,7 @@ use Rattle.sqlite_rules.specs.Lists.{Has}
 use Rattle.sqlite_rules.proofs.ListLemmas.{all_has, has_filtered, has_kept}
 use Rattle.sqlite_trees.specs.Tree.{IsAscending}
 use Rattle.gaz_records.proofs.KeyOrder.{keys_exact, keys_total}
-use Rattle.gaz_records.specs.Items.{kind_of}
+use Rattle.gaz_records.specs.Items.{is_entry, kind_of}
 use Rattle.gaz_records.specs.Keys.{key_cmp, key_of, kind_number}
 use Rattle.gaz_records.specs.Kinds.{number_of}
 use Rattle.gaz_records.specs.declared.item.Item.{Item}
@@ -28,17 +28,19 @@ use Rattle.gaz_tables.specs.Shows.{ShowsPage}
 use Rattle.gaz_tables.specs.Versions.{id_place}
 use Rattle.gaz_kept.specs.Kept.{IsKept}
 use Rattle.gaz_kept.specs.Versions.{history_in, view_in}
-use Rattle.gaz_store.proofs.Holding.{HoldsItem, by_rows, entry_in_view, entry_of, one_row, row_of, said_history}
+use Rattle.gaz_store.proofs.Holding.{HoldsItem, by_rows, entry_in_view, entry_of, one_row, row_of, said_entry, said_history}
 use Rattle.gaz_kept.proofs.Sorted.{same_sorted, sorted_filter, sorted_from, taken_read}
 use Rattle.gaz_kept.proofs.Statements.{read_from, read_in, some_same}
 
--- the number of a key is that of its item's kind
-pub kind_of_key : (x : Item) → kind_number (key_of x) ≡ number_of (kind_of x)
-kind_of_key (item.Street x) = refl
-kind_of_key (item.Descriptor x) = refl
-kind_of_key (item.Blpu x) = refl
-kind_of_key (item.Xref x) = refl
-kind_of_key (item.Lpi x) = refl
+-- the number of a key is that of its entry's kind
+pub kind_of_key : (x : Item) → is_entry x ≡ true → kind_number (key_of x) ≡ number_of (kind_of x)
+kind_of_key (item.Street x) h = refl
+kind_of_key (item.Descriptor x) h = refl
+kind_of_key (item.Blpu x) h = refl
+kind_of_key (item.Xref x) h = refl
+kind_of_key (item.Lpi x) h = refl
+kind_of_key (item.Release x) h = cc
+kind_of_key (item.Adopt x) h = cc
 
 -- the rows that fit are just those that hold an item of a kind whose entry passes a test
 pub record FitJust (db : Database) (c t : ℕ) (k : Kind) (p : Key × Item → Bool) (Fits : Row → Type 0) : Type 0 where
@@ -65,7 +67,9 @@ module _ (db : Database) (kept : IsKept db) (c t : ℕ) (k : Kind) (p : Key × I
   ordered r s _ _ fr fs hr hs =
       let a = just.item r hr fr in
       let b = just.item s hs fs in
-      by_rows r s a.0 b.0 (kept.rows r hr) (kept.rows s hs) a.1.item b.1.item (kind_of_key a.0 ∙ ap number_of (a.2 ∙ sym b.2) ∙ sym (kind_of_key b.0))
+      let one = kind_of_key a.0 (said_entry r (kept.rows r hr) a.0 a.1.item) in
+      let other = kind_of_key b.0 (said_entry s (kept.rows s hs) b.0 b.1.item) in
+      by_rows r s a.0 b.0 (kept.rows r hr) (kept.rows s hs) a.1.item b.1.item (one ∙ ap number_of (a.2 ∙ sym b.2) ∙ sym other)
 
   apart : (r s : Row) → Has rows r → Has rows s → Fits r → Fits s → value_cmp (column r id_place) (column s id_place) ≡ Equal → r ≡ s
   apart r s hr hs fr fs tie =

@@ -17,7 +17,7 @@ use Rattle.gaz_ids.specs.declared.lang.Lang.{Lang}
 use Rattle.gaz_ids.specs.declared.lang.Lang.TheVariants.{Cym, Eng}
 use Rattle.gaz_ids.specs.declared.status.Status.{Status}
 use Rattle.gaz_ids.specs.declared.status.Status.TheVariants.{Approved, Alternative, Provisional, Historical}
-use Rattle.gaz_records.specs.Items.{kind_of}
+use Rattle.gaz_records.specs.Items.{is_entry, kind_of}
 use Rattle.gaz_records.specs.Keys.{key_of}
 use Rattle.gaz_records.specs.Kinds.{number_of}
 use Rattle.gaz_records.specs.declared.item.Item.{Item}
@@ -37,7 +37,7 @@ use Rattle.gaz_kept.specs.Kept.{IsKept, IsVersion}
 use Rattle.gaz_store.specs.Paging.{IsStart, is_behind}
 use Rattle.gaz_kept.specs.Versions.{history_in, item_in, living, number_in}
 use Rattle.gaz_store.proofs.Chosen.{FitJust}
-use Rattle.gaz_store.proofs.Holding.{HoldsItem, said_cells, said_history, said_key, said_known, said_text}
+use Rattle.gaz_store.proofs.Holding.{HoldsItem, said_cells, said_entry, said_history, said_key, said_known, said_text}
 use Rattle.gaz_kept.proofs.Reached.{reached_room}
 use Rattle.gaz_kept.proofs.Statements.{fits, item_of, read_in, same_kind, whole}
 
@@ -62,20 +62,22 @@ module _ (r : Row) (v : IsVersion r) (x : Item) (is : item_in r ≡ Some x) (sta
 
 -- ---- kinds
 
-pub own_kind : (x : Item) → is_of (kind_of x) (key_of x) ≡ true
-own_kind (item.Street x) = refl
-own_kind (item.Descriptor x) = refl
-own_kind (item.Blpu x) = refl
-own_kind (item.Xref x) = refl
-own_kind (item.Lpi x) = refl
+pub own_kind : (x : Item) → is_entry x ≡ true → is_of (kind_of x) (key_of x) ≡ true
+own_kind (item.Street x) h = refl
+own_kind (item.Descriptor x) h = refl
+own_kind (item.Blpu x) h = refl
+own_kind (item.Xref x) h = refl
+own_kind (item.Lpi x) h = refl
+own_kind (item.Release x) h = cc
+own_kind (item.Adopt x) h = cc
 
-kind_is : (k : Kind) (x : Item) → is_of k (key_of x) ≡ true → kind_of x ≡ k
-kind_is kind.Street (item.Street x) e = refl
-kind_is kind.Descriptor (item.Descriptor x) e = refl
-kind_is kind.Blpu (item.Blpu x) e = refl
-kind_is kind.Xref (item.Xref x) e = refl
-kind_is kind.Lpi (item.Lpi x) e = refl
-kind_is k x e = cc
+kind_is : (k : Kind) (x : Item) → is_entry x ≡ true → is_of k (key_of x) ≡ true → kind_of x ≡ k
+kind_is kind.Street (item.Street x) h e = refl
+kind_is kind.Descriptor (item.Descriptor x) h e = refl
+kind_is kind.Blpu (item.Blpu x) h e = refl
+kind_is kind.Xref (item.Xref x) h e = refl
+kind_is kind.Lpi (item.Lpi x) h e = refl
+kind_is k x h e = cc
 
 module _ (r : Row) (v : IsVersion r) (x : Item) (is : item_in r ≡ Some x) where
   cell_kind : number_of (kind_of x) ≡ number_in (table.kind_of r)
@@ -88,7 +90,7 @@ module _ (r : Row) (v : IsVersion r) (x : Item) (is : item_in r ≡ Some x) wher
   kind_cell k same = whole (table.kind_of r) (number_of k) v.kind (sym cell_kind ∙ ap number_of same)
 
   pub key_kind : kind_in (key_of x) ≡ kind_of x
-  key_kind = (fits x (said_known r v x is)).kind
+  key_kind = (fits x (said_known r v x is) (said_entry r v x is)).kind
 
 -- ---- rows of a kind that hold after a volume
 
@@ -111,13 +113,13 @@ module _ (db : Database) (kept : IsKept db) (c t : ℕ) (k : Kind) (after : Opti
           record { cust = ap number_in fit.of_cust; item = s.said; born = omega (arith, ints, early); gone = omega (arith, ints, late) },
           same,
           and_from (is_of k (key_of s.item)) (comes_after after (key_of s.item))
-              (subst (λ j. is_of j (key_of s.item) ≡ true) same (own_kind s.item))
+              (subst (λ j. is_of j (key_of s.item) ≡ true) same (own_kind s.item s.entry))
               (begins (key_of s.item) (said_key r v s.item s.said) (key_kind r v s.item s.said ∙ same) ∙ row_behind r v s.item s.said start fit.behind),
         );
     row = λ r x there h passes.
         let v = kept.rows r there in
         let both = and_parts (is_of k (key_of x)) (comes_after after (key_of x)) passes in
-        let same = kind_is k x both.0 in
+        let same = kind_is k x (said_entry r v x h.item) both.0 in
         let b = h.born in
         let g = h.gone in
         record {
@@ -172,6 +174,8 @@ lpi_on (item.Street x) usrn k live street = absurd (cc)
 lpi_on (item.Descriptor x) usrn k live street = absurd (cc)
 lpi_on (item.Blpu x) usrn k live street = absurd (cc)
 lpi_on (item.Xref x) usrn k live street = absurd (cc)
+lpi_on (item.Release x) usrn k live street = absurd (cc)
+lpi_on (item.Adopt x) usrn k live street = absurd (cc)
 lpi_on (item.Lpi x) usrn k live street =
     and_from (is_approved x.status && x.usrn == usrn) true (and_from (is_approved x.status) (x.usrn == usrn) (approved_status x.status live) (eq-eqb x.usrn usrn street)) refl
 
@@ -185,6 +189,8 @@ on_lpi (item.Street x) usrn e = absurd (cc)
 on_lpi (item.Descriptor x) usrn e = absurd (cc)
 on_lpi (item.Blpu x) usrn e = absurd (cc)
 on_lpi (item.Xref x) usrn e = absurd (cc)
+on_lpi (item.Release x) usrn e = absurd (cc)
+on_lpi (item.Adopt x) usrn e = absurd (cc)
 on_lpi (item.Lpi x) usrn e =
     let both = (and_parts (is_approved x.status && x.usrn == usrn) true e).0 in
     let parts = and_parts (is_approved x.status) (x.usrn == usrn) both in
@@ -210,6 +216,8 @@ in_lang (item.Street x) usrn lang = refl
 in_lang (item.Descriptor x) usrn lang = refl
 in_lang (item.Blpu x) usrn lang = refl
 in_lang (item.Xref x) usrn lang = refl
+in_lang (item.Release x) usrn lang = refl
+in_lang (item.Adopt x) usrn lang = refl
 in_lang (item.Lpi x) usrn lang =
     ap (λ b. (is_approved x.status && x.usrn == usrn) && b) (lang_test lang x.lang) ∙ and_true (is_approved x.status && x.usrn == usrn) _
 
@@ -254,6 +262,8 @@ part_of (item.Street x) uprn some k of = absurd (cc)
 part_of (item.Descriptor x) uprn some k of = absurd (cc)
 part_of (item.Xref x) uprn some k of = absurd (cc)
 part_of (item.Lpi x) uprn some k of = absurd (cc)
+part_of (item.Release x) uprn some k of = absurd (cc)
+part_of (item.Adopt x) uprn some k of = absurd (cc)
 part_of (item.Blpu x) uprn some k of = by_parent x.parent of
   where
     by_parent : (p : Option ℕ) → parent_number p ≡ uprn → option_map_or (λ m. m == uprn) p false ≡ true
@@ -265,6 +275,8 @@ child_is (item.Street x) uprn e = absurd (cc)
 child_is (item.Descriptor x) uprn e = absurd (cc)
 child_is (item.Xref x) uprn e = absurd (cc)
 child_is (item.Lpi x) uprn e = absurd (cc)
+child_is (item.Release x) uprn e = absurd (cc)
+child_is (item.Adopt x) uprn e = absurd (cc)
 child_is (item.Blpu x) uprn e = (refl, by_parent x.parent e)
   where
     by_parent : (p : Option ℕ) → option_map_or (λ m. m == uprn) p false ≡ true → parent_number p ≡ uprn

@@ -12,7 +12,7 @@ use Rattle.sqlite.specs.declared.types.Value.TheVariants.{Text}
 use Rattle.sqlite_rules.specs.Lists.{Has}
 use Rattle.sqlite_value.proofs.OrderLemmas.{value_cmp-Text}
 use Rattle.gaz_records.proofs.KeyOrder.{keys_exact, keys_total}
-use Rattle.gaz_records.specs.Items.{is_item}
+use Rattle.gaz_records.specs.Items.{is_entry, is_item}
 use Rattle.gaz_records.specs.Keys.{key_cmp, key_of, kind_number}
 use Rattle.gaz_records.specs.declared.item.Item.{Item}
 use Rattle.gaz_records.specs.declared.key.Key.{Key}
@@ -50,11 +50,14 @@ module _ (r : Row) (v : IsVersion r) (x : Item) (is : item_in r ≡ Some x) wher
   pub said_known : is_item x ≡ true
   said_known = subst (λ y. is_item y ≡ true) same_item (item_of r v).known
 
+  pub said_entry : is_entry x ≡ true
+  said_entry = subst (λ y. is_entry y ≡ true) same_item (item_of r v).entry
+
   pub said_cells : cells_of x ≡ cells_in r
   said_cells = subst (λ y. cells_of y ≡ cells_in r) same_item (item_of r v).cells
 
   pub said_key : is_key (key_of x) ≡ true
-  said_key = (fits x said_known).key
+  said_key = (fits x said_known said_entry).key
 
   pub said_id : text_in (table.id_of r) ≡ id_of (key_of x)
   said_id = ap (λ (d : CellsValue). d.id) (sym said_cells)

@@ -8,6 +8,7 @@ use Rattle.std.specs.FinMap as finite
 use Rattle.sqlite.specs.Effect.{Database}
 use Rattle.sqlite_rules.specs.Lists.{Has}
 use Rattle.gaz_records.proofs.KeyOrder.{keys_exact, keys_total}
+use Rattle.gaz_records.specs.Items.{is_entry}
 use Rattle.gaz_records.specs.Keys.{key_of}
 use Rattle.gaz_records.specs.declared.item.Item.{Item}
 use Rattle.gaz_records.specs.declared.key.Key.{Key}
@@ -38,6 +39,14 @@ own_key db kept c h there =
     let same = some_same _ h (history_of c r.0 s (its_custodian c r.0 h r.2)) r.2 in
     ap (λ (g : HistoryRow). g.key) (sym same) ∙ ap (λ (g : HistoryRow). key_of g.item) same
 
+-- and its item is an entry
+own_entry : (db : Database) → IsKept db → (c : ℕ) (h : HistoryRow) → Has (histories_in (db.trees versions) c) h → is_entry h.item ≡ true
+own_entry db kept c h there =
+    let r = read_from (history_in c) (db.trees versions) h there in
+    let s = item_of r.0 (kept.rows r.0 r.1) in
+    let same = some_same _ h (history_of c r.0 s (its_custodian c r.0 h r.2)) r.2 in
+    ap (λ (g : HistoryRow). is_entry g.item) (sym same) ∙ s.entry
+
 module _ (db : Database) (kept : IsKept db) (c t : ℕ) where
   abbrev rows : List HistoryRow
   rows = histories_in (db.trees versions) c
@@ -51,6 +60,7 @@ module _ (db : Database) (kept : IsKept db) (c t : ℕ) where
 
   pub view_lawful : IsLawfulView (view_in (db.trees versions) c t)
   view_lawful = record {
+    entries = λ k x is. let e = held k x is in ap is_entry (sym e.item) ∙ own_entry db kept c e.row e.there;
     keyed = λ k x is. let e = held k x is in ap key_of (sym e.item) ∙ sym (own_key db kept c e.row e.there) ∙ e.key;
     used = λ k holds_it. by_item k (finite.get (view_after rows t).items k) refl holds_it;
   }

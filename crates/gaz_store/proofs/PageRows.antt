@@ -40,7 +40,7 @@ use Rattle.gaz_kept.specs.Versions.{text_in, view_in}
 use Rattle.gaz_kept.proofs.Boards.{board_reads}
 use Rattle.gaz_store.proofs.Chosen.{page_read}
 use Rattle.gaz_store.proofs.Fits.{comes_in, holding_just}
-use Rattle.gaz_store.proofs.Holding.{HoldsItem, by_ids, said_cells, said_known}
+use Rattle.gaz_store.proofs.Holding.{HoldsItem, by_ids, said_cells, said_entry, said_known}
 use Rattle.gaz_kept.proofs.Reached.{reached_room}
 use Rattle.gaz_kept.proofs.Statements.{born_later, fits}
 
@@ -105,7 +105,7 @@ module _ (db : Database) (kept : IsKept db) (c t : ℕ) (k : Kind) (after : Opti
   reads : (r : Row) (x : Item) → Has (db.trees versions) r → HoldsItem c t r x → kind_of x ≡ k → item_said k (body_shown r) ≡ Some x
   reads r x there h same =
       let version = kept.rows r there in
-      let body = (fits x (said_known r version x h.item)).body in
+      let body = (fits x (said_known r version x h.item) (said_entry r version x h.item)).body in
       (λ i. ok_of (item_of_text (sym same i) (text_in (table.body_of r))))
       ∙ (λ i. ok_of (item_of_text (kind_of x) ((sym (said_cells r version x h.item) i).body)))
       ∙ ap ok_of body

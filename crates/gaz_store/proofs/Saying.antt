@@ -37,6 +37,8 @@ named_kind kind.Descriptor t q e = by_length (length t == 11) e
 named_kind kind.Blpu t q e = made_kind key.Blpu kind.Blpu (λ a. refl) (uprn_in t) q e
 named_kind kind.Xref t q e = made_kind key.Xref kind.Xref (λ a. refl) (label_of 14 t) q e
 named_kind kind.Lpi t q e = made_kind key.Lpi kind.Lpi (λ a. refl) (label_of 14 t) q e
+named_kind kind.Release t q e = absurd (cc)
+named_kind kind.Adopt t q e = absurd (cc)
 
 -- so the item at the key is the one that the row says
 pub said_told : {E : Type 0} (k : Kind) (r : Row) (q : Key) → key_named k (text_in (column r 0)) ≡ Some q → (found : Result Item E) → IfOk found (IsItemAt r 1 q) → IfOk found (λ x. item_said k r ≡ Some x)

@@ -46,7 +46,7 @@ use Rattle.gaz_store.specs.declared.steps.Step.TheVariants.{Told, Behind}
 use Rattle.gaz_kept.specs.Versions.{item_in, number_in, text_in}
 use Rattle.gaz_tables.specs.Shows.{ShowsPage}
 use Rattle.gaz_store.proofs.Chosen.{FitJust, chosen_fits, chosen_rises, fit_chosen}
-use Rattle.gaz_store.proofs.Fits.{approved_just, in_lang, parts_just}
+use Rattle.gaz_store.proofs.Fits.{approved_just, in_lang, key_kind, parts_just}
 use Rattle.gaz_store.proofs.Holding.{HoldsItem, entry_in_view, entry_of, row_of, said_cells, said_id, said_key, said_text}
 use Rattle.gaz_store.proofs.PageRows.{all_behind}
 
@@ -184,22 +184,17 @@ walk_begins db kept c passes e there pass =
 
 -- ---- a page of a street
 
-kinds_agree : (x : Item) → kind_in (key_of x) ≡ kind_of x
-kinds_agree (item.Street x) = refl
-kinds_agree (item.Descriptor x) = refl
-kinds_agree (item.Blpu x) = refl
-kinds_agree (item.Xref x) = refl
-kinds_agree (item.Lpi x) = refl
-
 -- a row names the key of the item that it holds
 named : (r : Row) (v : IsVersion r) (x : Item) → item_in r ≡ Some x → (k : Kind) → kind_of x ≡ k → key_named k (text_in (table.id_of r)) ≡ Some (key_of x)
-named r v x is k of_kind = ap (key_named k) (said_id r v x is) ∙ ap (λ m. key_named m (id_of (key_of x))) (sym (kinds_agree x ∙ of_kind)) ∙ ids_back (key_of x) (said_key r v x is)
+named r v x is k of_kind = ap (key_named k) (said_id r v x is) ∙ ap (λ m. key_named m (id_of (key_of x))) (sym (key_kind r v x is ∙ of_kind)) ∙ ids_back (key_of x) (said_key r v x is)
 
 an_lpi : (usrn : ℕ) (x : Item) → is_approved_on usrn None x ≡ true → kind_of x ≡ kind.Lpi
 an_lpi usrn (item.Street x) on = cc
 an_lpi usrn (item.Descriptor x) on = cc
 an_lpi usrn (item.Blpu x) on = cc
 an_lpi usrn (item.Xref x) on = cc
+an_lpi usrn (item.Release x) on = cc
+an_lpi usrn (item.Adopt x) on = cc
 an_lpi usrn (item.Lpi x) on = refl
 
 a_blpu : (uprn : ℕ) (x : Item) → is_child_of uprn x ≡ true → kind_of x ≡ kind.Blpu
@@ -208,6 +203,8 @@ a_blpu uprn (item.Descriptor x) on = cc
 a_blpu uprn (item.Blpu x) on = refl
 a_blpu uprn (item.Xref x) on = cc
 a_blpu uprn (item.Lpi x) on = cc
+a_blpu uprn (item.Release x) on = cc
+a_blpu uprn (item.Adopt x) on = cc
 
 module _ (db : Database) (kept : IsKept db) (c usrn : ℕ) (lang : Option Lang) (passed : Option Changes) (start : List ℕ) (most : ℕ) (answer : List Row) (found : FindsApprovedOn c usrn start most (db.trees versions) answer) where
   lang_cell : (r : Row) (x : Item) → Has (db.trees versions) r → HoldsItem c (reached_in (db.trees receiveds) c) r x → lang_in x ≡ number_in (table.lang_of r)

@@ -8,6 +8,7 @@ use Rattle.std.specs.declared.cmp.Ordering.{Ordering}
 use Rattle.std.specs.declared.cmp.Ordering.TheVariants.{Less, Equal, Greater}
 use Rattle.sqlite.specs.Effect.{Database}
 use Rattle.gaz_records.proofs.KeyOrder.{keys_exact, keys_total}
+use Rattle.gaz_records.specs.Items.{is_entry}
 use Rattle.gaz_records.specs.Keys.{key_cmp, key_of}
 use Rattle.gaz_records.specs.declared.item.Item.{Item}
 use Rattle.gaz_records.specs.declared.key.Key.{Key}
@@ -99,8 +100,8 @@ module _ (db : Database) (kept : IsKept db) (j : Judgement) where
     told = told_touched rows j.changes k stood item makes.told tells.current;
   }
 
-  pub put_turns : (i : Item) → is_touched j.changes (key_of i) ≡ true → Turns db j (with_changes j (with_put j.changes i)) (λ w. with_item w i)
-  put_turns i noted w makes = record { made = changes_make.put last j.changes w makes.made i noted; told = told_put rows j.changes i makes.told }
+  pub put_turns : (i : Item) → is_entry i ≡ true → is_touched j.changes (key_of i) ≡ true → Turns db j (with_changes j (with_put j.changes i)) (λ w. with_item w i)
+  put_turns i entry noted w makes = record { made = changes_make.put last j.changes w makes.made i entry noted; told = told_put rows j.changes i makes.told }
 
   pub taken_turns : (k : Key) → is_touched j.changes k ≡ true → Turns db j (with_changes j (with_taken j.changes k)) (λ w. without_key w k)
   taken_turns k noted w makes = record { made = changes_make.taken last j.changes w makes.made k noted; told = record { told = makes.told.told } }

@@ -1,6 +1,7 @@
 //! The judgement in progress of a store: a custodian, and the changes beside its tables.
 ghost use Rattle.std.specs.Prelude.{◌≡◌, true, false, OnOk};
 ghost use Rattle.gaz_overlay.specs.Changes.{is_touched, no_changes};
+ghost use Rattle.gaz_records.specs.Items.{is_entry};
 ghost use Rattle.gaz_records.specs.Keys.{key_of};
 ghost use Rattle.gaz_views.specs.View.{with_item, without_key};
 ghost use Rattle.gaz_store.specs.Asking.{AsksTables};
@@ -62,12 +63,13 @@ impl Judgement {
         self.touch_first(tables, key)
     }
 
-    /// Sets an item.
+    /// Sets an item, an entry.
     pub(crate) fn put<S: Alter>(
         &mut self,
         tables: &mut Tables<S>,
         item: SharedItem,
     ) -> Result<(), ShelfFault>
+        requires { is_entry item ≡ true }
         ensures asks { AsksTables tables.old tables.new result
             (λ db _. Turns db self.old self.new (λ w. with_item w item)) }
         ensures code { self.new.code ≡ self.old.code }

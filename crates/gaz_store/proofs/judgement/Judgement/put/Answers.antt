@@ -11,4 +11,4 @@ pub returns-in-Ok-clause-asks : goal.returns-in-Ok-clause-asks
 returns-in-Ok-clause-asks g c =
     answered_ok _ _ _ c.in_ok-touch.field-0 _ _ _ c.touch.ensures.asks c.in_ok-touch.was (λ db kept turns w makes.
     subst (λ ch. Makes db (with_changes c.touch.new.self ch) (with_item w c.args.item)) (sym c.in-Ok.ensures.ok)
-    (put_turns db kept c.touch.new.self c.args.item (subst (λ k. is_touched c.touch.new.self.changes k ≡ true) (c.key_of-key.ensures ∙ ap key_of c.deref.ensures) c.in_ok-touch.ensures.touched) w (turns w makes)))
+    (put_turns db kept c.touch.new.self c.args.item c.requires (subst (λ k. is_touched c.touch.new.self.changes k ≡ true) (c.key_of-key.ensures ∙ ap key_of c.deref.ensures) c.in_ok-touch.ensures.touched) w (turns w makes)))
