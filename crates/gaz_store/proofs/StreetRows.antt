@@ -31,7 +31,7 @@ use Rattle.gaz_views.specs.View.{View}
 use Rattle.gaz_views.specs.Words.{entries, is_approved_on, is_child_of}
 use Rattle.gaz_cells.specs.Columns.{CellsValue, lang_in}
 use Rattle.gaz_cells.proofs.Ids.{ids_back}
-use Rattle.gaz_cells.specs.Ids.{id_of, key_named, kind_in}
+use Rattle.gaz_cells.specs.Ids.{id_of, key_named}
 use Rattle.gaz_overlay.specs.Changes.{Changes}
 use Rattle.gaz_tables.specs.Schema.{receiveds, versions}
 use Rattle.gaz_tables.specs.Versions as table
