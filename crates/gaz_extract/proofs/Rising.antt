@@ -1,6 +1,6 @@
 -- The pages of a view whose items stand under their own keys rise.
 use Rattle.std.proofs.Common.{◌≡◌, ◌-◌, ℕ, zero, suc, Bool, true, false, cond, ◌&&◌, List, [], ◌∷◌, map, length, take, refl, sym, ap, subst, ◌∙◌, slice_get}
-use Rattle.std.specs.Prelude.{Option, Some, None, filter, nat_le, option_map, is_some}
+use Rattle.std.specs.Prelude.{Option, Some, None, filter, nat_le, option_map}
 use Rattle.std.specs.List.{All}
 use Rattle.std.proofs.lemmas.List.Elements.{All-cons, All-head, All-nil, All-tail}
 use Rattle.gaz_records.specs.Keys.{key_of}

@@ -12,7 +12,7 @@ use Rattle.gaz_changefile.specs.declared.change.Change.{Change}
 use Rattle.gaz_register.specs.Registers.{Blocks}
 use Rattle.gaz_shelf.specs.Board.{Judgement, last_view}
 use Rattle.gaz_views.specs.View.{View}
-use Rattle.gaz_shelf.specs.Keeper.{Content, Counts, Enters, Goes, Idle, IsAtHand, IsLeft, IsNotOpen, IsSound, Keeps, LeavesAtMost, LeavesJust, Open, Progress, Reads, Seen, after_abandon, after_begin, after_keep, after_skip, after_stop, with_judgement}
+use Rattle.gaz_shelf.specs.Keeper.{Content, Counts, Enters, Goes, Idle, IsAtHand, IsLeft, IsNotOpen, IsSound, Keeps, LeavesAtMost, LeavesJust, Open, Progress, Reads, Seen, after_abandon, after_begin, after_skip, after_stop, with_judgement}
 use Rattle.gaz_shelf.specs.declared.fault.ShelfFault.{ShelfFault}
 use Rattle.gaz_shelf.specs.declared.fault.ShelfFault.TheVariants.{Store}
 use Rattle.gaz_views.specs.declared.verdict.Verdict.{Verdict}
