@@ -9,7 +9,9 @@ use gaz_ids::{Code, Uprn, Volume};
 use gaz_records::SharedItem;
 use gaz_register::Register;
 use gaz_rules::judge;
-use gaz_shelf::{Ending, Faulty, Inbox, MemShelf, Seed, ShelfFault, Verdict, are_entries, write_volume};
+use gaz_shelf::{
+    Ending, Faulty, Inbox, MemShelf, Seed, ShelfFault, Verdict, are_entries, write_volume,
+};
 use std::alloc::Global;
 
 /// A keeper that has no judgement open.
