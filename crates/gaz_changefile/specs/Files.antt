@@ -2,7 +2,7 @@
 use Rattle.std.specs.Prelude.{◌≡◌, ◌≢◌, ◌≤◌, ℕ, ◌+◌, List, length, map, true}
 use Rattle.std.specs.List.{All, range_with_len}
 use Rattle.std.specs.List.Sorted.{IsStrictlyIncreasing}
-use Rattle.gaz_ids.specs.Limits.{last_volume}
+use Rattle.gaz_ids.specs.Limits.{last_volume, most_bases, most_changes}
 use Rattle.gaz_records.specs.Days.{is_day}
 use Rattle.gaz_records.specs.Items.{is_item}
 use Rattle.gaz_changefile.specs.Contents.{Contents}
@@ -11,14 +11,14 @@ use Rattle.gaz_changefile.specs.declared.change.Change.{Change}
 
 -- at most 16 bases, by rising custodian, none the own
 pub record AreBases (own : ℕ) (bases : List Basis) : Type 0 where
-  pub few : length bases ≤ 16
+  pub few : length bases ≤ most_bases
   pub rise : IsStrictlyIncreasing (map (λ b. b.custodian) bases)
   pub others : All (λ b. b.custodian ≢ own) bases
 
 -- at most 5,000 changes, each placed by the number of its record: the header is record 1, then come
 -- the bases
 pub record ArePlaced (bases : List Basis) (changes : List Change) : Type 0 where
-  pub few : length changes ≤ 5000
+  pub few : length changes ≤ most_changes
   pub places : map (λ x. x.place) changes ≡ range_with_len (length bases + 2) (length changes)
 
 -- a code and a volume

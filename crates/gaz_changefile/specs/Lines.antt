@@ -2,7 +2,7 @@
 use Rattle.std.specs.Prelude.{ℕ, ◌==◌, ◌||◌, List, [], ◌∷◌, Option, Some, None, if◌then◌else◌}
 use Rattle.std.specs.Prelude.{Bool, true, false, codes}
 use Rattle.std.specs.Str.{bytes_eq}
-use Rattle.gaz_ids.specs.Limits.{last_volume}
+use Rattle.gaz_ids.specs.Limits.{last_volume, most_changes}
 use Rattle.gaz_ids.specs.Numbers.{read_id}
 use Rattle.gaz_rows.specs.Rows.{Fields}
 use Rattle.gaz_records.specs.Fields as Records
@@ -34,10 +34,10 @@ abbrev pub read_volume : List ℕ → Option ℕ
 read_volume text = ok_of (read_id 6 1 last_volume text)
 
 abbrev pub read_order : List ℕ → Option ℕ
-read_order text = ok_of (read_id 4 1 5000 text)
+read_order text = ok_of (read_id 4 1 most_changes text)
 
 abbrev pub read_count : List ℕ → Option ℕ
-read_count text = ok_of (read_id 4 0 5000 text)
+read_count text = ok_of (read_id 4 0 most_changes text)
 
 -- a profile was read, and is known
 abbrev pub is_known : Option ℕ → Bool

@@ -6,6 +6,7 @@ use Rattle.std.specs.Prelude.{option_and_then, option_map, slice_get, if◌then�
 use Rattle.std.specs.Prelude.{false, count_by, codes, Result, Ok, Err}
 use Rattle.std.specs.List.{last_or, list_any}
 use Rattle.std.specs.Str.{bytes_eq}
+use Rattle.gaz_ids.specs.Limits.{most_bases, most_changes}
 use Rattle.gaz_rows.specs.Rows.{Fields}
 use Rattle.gaz_records.specs.Days.{date_of}
 use Rattle.gaz_records.specs.Items.{read_item}
@@ -77,7 +78,7 @@ abbrev pub is_next_basis : ℕ → Before → Option Basis → Bool
 is_next_basis own before None = false
 is_next_basis own before (Some b) =
     not (b.custodian == own) && is_above before.last b.custodian
-    && nat_lt before.bases 16 && (before.changes == 0)
+    && nat_lt before.bases most_bases && (before.changes == 0)
 
 -- a basis line in a file of the own custodian
 unfoldable pub basis_rules : ℕ → Before → Fields → List (ℕ × Bool)
@@ -100,7 +101,7 @@ is_allowed_if_read own (Some a) (Ok x) = may_name own a (named_in x)
 -- of its kind, each in its form and the change allowed, the next order
 unfoldable pub change_rules : ℕ → ℕ → Kind → Fields → List (ℕ × Bool)
 change_rules own before kind row =
-    (9, nat_le 5000 before)
+    (9, nat_le most_changes before)
     ∷ (5, is_miscounted (read_item kind (drop 3 row)))
     ∷ (6, not (is_allowed_if_read own (action_of (field row 1)) (read_item kind (drop 3 row))))
     ∷ (7, not (is_value (before + 1) (read_order (field row 2))))

@@ -1,6 +1,7 @@
 -- How a file is read record by record.
 use Rattle.std.specs.Prelude.{◌≡◌, ◌≤◌, ℕ, ◌+◌, List, [], ◌∷◌, ◌++◌, length, Option, Some, None}
 use Rattle.std.specs.Prelude.{Bool, false, cond}
+use Rattle.gaz_ids.specs.Limits.{most_changes}
 use Rattle.gaz_rows.specs.Rows.{Fields}
 use Rattle.gaz_changefile.specs.Contents.{basis_at, change_at}
 use Rattle.gaz_changefile.specs.Lines.{is_basis, is_change, is_trailer}
@@ -45,7 +46,7 @@ pub record Adds (old new : Draft) (place : ℕ) (row : Fields) : Type 0 where
       length new.bases.items ≡ length old.bases.items + cond (is_basis old.profile row) 1 0
   pub count :
       length new.changes.items ≡ length old.changes.items + cond (is_change old.profile row) 1 0
-  pub few : length new.changes.items ≤ 5000
+  pub few : length new.changes.items ≤ most_changes
   pub last : new.last ≡ custodian_at old.profile row
   pub ended : new.ended ≡ is_trailer old.profile row
   pub own : new.own ≡ old.own

@@ -12,11 +12,9 @@ use crate::line::Line;
 use crate::record::{basis_in, read_change, read_trailer};
 use crate::rule;
 use csv::ByteRecord;
-use gaz_ids::Code;
+use gaz_ids::{Code, MOST_BASES, MOST_CHANGES};
 use gaz_records::Day;
 use std::alloc::Global;
-
-const MOST_BASES: usize = 16;
 
 /// A file as far as it was read.
 #[derive(Drop)]
@@ -80,7 +78,7 @@ impl Draft {
         };
         if basis.custodian.number() == self.own.number()
             || !is_above(self.last, basis.custodian)
-            || self.bases.len() >= MOST_BASES
+            || self.bases.len() as u64 >= MOST_BASES
             || !self.changes.is_empty()
         {
             return Err(FileFault::at(place, rule::BASIS));
@@ -96,7 +94,7 @@ impl Draft {
         row: &ByteRecord,
         place: u64,
     ) -> Result<(), FileFault>
-        requires { length self.old.changes.items ≤ 5000 }
+        requires { length self.old.changes.items ≤ MOST_CHANGES }
         ensures bad { IfErr result (IsFirstOf place
             (later_rules self.old.own (before_in self.old) (Some (fields_of row.now)))) }
         ensures good { OnOk result (Adds self.old self.new place (fields_of row.now)) }

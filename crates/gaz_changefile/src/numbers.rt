@@ -2,7 +2,7 @@ ghost use Rattle.std.specs.Prelude.{◌≡◌};
 ghost use Rattle.gaz_records.specs.Fields.{ok_of};
 ghost use Rattle.gaz_changefile.specs.Lines.{is_known_profile, is_value};
 
-use gaz_ids::{IdFault, Number};
+use gaz_ids::{IdFault, MOST_CHANGES, Number};
 
 /// The profile of files that hold entries alone (our profile, as the next).
 pub(crate) const ENTRIES: u64 = 1;
@@ -13,8 +13,8 @@ pub(crate) const PASSINGS: u64 = 2;
 /// The number of a profile, 1 to 9999.
 pub(crate) type Profile = Number<7, 4, 1, 9999>;
 
-/// A count of change records, 0 to 5000.
-pub(crate) type Count = Number<8, 4, 0, 5000>;
+/// A count of change records, 0 to `MOST_CHANGES`.
+pub(crate) type Count = Number<8, 4, 0, MOST_CHANGES>;
 
 /// Whether files of the profile are read.
 pub(crate) fn is_known_profile(profile: u64) -> bool

@@ -12,11 +12,9 @@ use crate::line::field;
 use crate::numbers::{Count, is_value};
 use crate::rule;
 use csv::ByteRecord;
-use gaz_ids::{Code, Order, Volume};
+use gaz_ids::{Code, MOST_CHANGES, Order, Volume};
 use gaz_records::{FieldFault, Kind, SharedItem, read_item};
 use std::alloc::Global;
-
-const MOST_CHANGES: usize = 5000;
 
 /// The basis that a record of three fields says.
 pub(crate) fn basis_in(row: &ByteRecord) -> Option<Basis>
@@ -45,15 +43,15 @@ pub(crate) fn read_change(
     place: u64,
     before: usize,
 ) -> Result<Change, FileFault>
-    requires { before ≤ 5000 }
+    requires { before ≤ MOST_CHANGES }
     ensures bad { IfErr result (IsFirstOf place
         (change_rules own before kind (fields_of row.now))) }
-    ensures few { OnOk result (before < 5000) }
+    ensures few { OnOk result (before < MOST_CHANGES) }
     ensures good { OnOk result (KeepsAll (change_rules own before kind (fields_of row.now))) }
     ensures change { IfOk result (λ change.
         change_in place kind (fields_of row.now) ≡ Some change) }
 {
-    if before >= MOST_CHANGES {
+    if before as u64 >= MOST_CHANGES {
         return Err(FileFault::at(place, rule::LIMIT));
     }
     let item = match read_item(alloc, kind, row, 3) {
@@ -81,7 +79,7 @@ pub(crate) fn read_change(
 #[tactic(auto, unfolding(crate::specs::Rules::trailer_rules))]
 /// Whether the trailer at `place` counts the change records before it.
 pub(crate) fn read_trailer(row: &ByteRecord, place: u64, before: usize) -> Result<(), FileFault>
-    requires { before ≤ 5000 }
+    requires { before ≤ MOST_CHANGES }
     ensures bad { IfErr result (IsFirstOf place (trailer_rules before (fields_of row.now))) }
     ensures good { OnOk result (KeepsAll (trailer_rules before (fields_of row.now))) }
 {

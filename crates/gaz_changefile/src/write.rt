@@ -9,7 +9,7 @@ ghost use Rattle.gaz_changefile.specs.Writing.{AddsRow, header_row, profile_for,
 use crate::change::{Basis, Change};
 use crate::file::ChangeFile;
 use crate::numbers::{ENTRIES, PASSINGS};
-use gaz_ids::{Code, Volume};
+use gaz_ids::{Code, MOST_CHANGES, Volume};
 use gaz_records::{Day, write_item};
 use gaz_rows::write_row;
 use itoa::Buffer;
@@ -118,7 +118,7 @@ fn add_bases(alloc: Global, out: &mut Vec<u8>, bases: &[Basis]) -> Result<(), Al
 
 // Adds the changes with the orders 1, 2, 3 and so on.
 fn add_changes(alloc: Global, out: &mut Vec<u8>, changes: &[Change]) -> Result<(), AllocError>
-    requires { length changes.now ≤ 5000 }
+    requires { length changes.now ≤ MOST_CHANGES }
     ensures { OnOk result (out.new.items ≡ out.old.items ++ lines_of (change_rows 1 changes.now)) }
 {
     for (i, change) in changes.iter().enumerate() {

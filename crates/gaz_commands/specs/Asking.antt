@@ -2,6 +2,7 @@
 -- order in which they stand, and before the change file.
 use Rattle.std.specs.Prelude.{ℕ, List, Option, Some, None, Result, Ok, Err}
 use Rattle.std.specs.Result.{result_ok}
+use Rattle.gaz_ids.specs.Limits.{last_uprn, last_volume}
 use Rattle.gaz_ids.specs.Numbers.{read_id}
 use Rattle.gaz_hub.specs.Step.{Command, Extract, LookUp, Pose, Stand, Submit}
 use Rattle.gaz_commands.specs.Saying.{turned_away}
@@ -17,11 +18,11 @@ code_named word = result_ok (read_id 4 1 9999 word)
 
 -- the volume that the digits write
 abbrev pub volume_named : List ℕ → Option ℕ
-volume_named word = result_ok (read_id 6 1 999999 word)
+volume_named word = result_ok (read_id 6 1 last_volume word)
 
 -- the UPRN that the digits write
 abbrev pub uprn_named : List ℕ → Option ℕ
-uprn_named word = result_ok (read_id 12 1 999999999999 word)
+uprn_named word = result_ok (read_id 12 1 last_uprn word)
 
 -- a submission of a file; its bytes are given where it could be read
 abbrev pub submission : Option ℕ → Option ℕ → Option (List ℕ) → Result Command Said

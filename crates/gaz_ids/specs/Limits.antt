@@ -8,3 +8,15 @@ last_volume = 999_999
 -- the most bytes of a change file
 abbrev pub most_bytes : ℕ
 most_bytes = 1_048_576
+
+-- the most basis lines of a file
+abbrev pub most_bases : ℕ
+most_bases = 16
+
+-- the most change records of a file
+abbrev pub most_changes : ℕ
+most_changes = 5000
+
+-- the greatest UPRN: twelve digits
+abbrev pub last_uprn : ℕ
+last_uprn = 999_999_999_999

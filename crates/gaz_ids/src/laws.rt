@@ -1,10 +1,10 @@
 ghost use Rattle.std.specs.Prelude.{◌≡◌};
 ghost use Rattle.gaz_ids.specs.Codes.{CodesReadBack};
-ghost use Rattle.gaz_ids.specs.Limits.{last_volume, most_bytes};
+ghost use Rattle.gaz_ids.specs.Limits.{last_uprn, last_volume, most_bases, most_bytes, most_changes};
 ghost use Rattle.gaz_ids.specs.Numbers.{read_id};
 
 use crate::fault::IdFault;
-use crate::limits::{LAST_VOLUME, MOST_BYTES};
+use crate::limits::{LAST_UPRN, LAST_VOLUME, MOST_BASES, MOST_BYTES, MOST_CHANGES};
 use crate::number::Hop;
 
 /// A language and a status read back from their texts.
@@ -14,7 +14,10 @@ pub fn codes_read_back()
 
 /// The limits are those that the definitions name.
 pub fn limits()
+    ensures last_uprn { LAST_UPRN ≡ last_uprn }
     ensures last_volume { LAST_VOLUME ≡ last_volume }
+    ensures most_bases { MOST_BASES ≡ most_bases }
+    ensures most_changes { MOST_CHANGES ≡ most_changes }
     ensures most_bytes { MOST_BYTES ≡ most_bytes }
 {}
 

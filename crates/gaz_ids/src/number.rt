@@ -3,7 +3,7 @@ ghost use Rattle.gaz_ids.specs.Numbers.{of_id, read_id};
 
 use crate::digits::{are_digits, value_of};
 use crate::fault::IdFault;
-use crate::limits::LAST_VOLUME;
+use crate::limits::{LAST_UPRN, LAST_VOLUME, MOST_CHANGES};
 use std::fmt;
 use std::marker::Model;
 
@@ -17,7 +17,7 @@ pub struct Number<const KIND: u64, const WIDTH: u64, const LOW: u64, const HIGH:
 }
 
 /// A unique property reference number: at most 12 digits (BS 7666:2006, Part 2), from 1.
-pub type Uprn = Number<1, 12, 1, 999_999_999_999>;
+pub type Uprn = Number<1, 12, 1, LAST_UPRN>;
 
 /// A unique street reference number: at most 8 digits (BS 7666:2006, Part 1), from 1.
 pub type Usrn = Number<2, 8, 1, 99_999_999>;
@@ -28,8 +28,9 @@ pub type Code = Number<3, 4, 1, 9999>;
 /// The number of a custodian's file, 1 to `LAST_VOLUME` (our profile).
 pub type Volume = Number<4, 6, 1, LAST_VOLUME>;
 
-/// The place of a change record among those of its file, 1 to 5000 (our profile).
-pub type Order = Number<5, 4, 1, 5000>;
+/// The place of a change record among those of its file, 1 to `MOST_CHANGES` (our
+/// profile).
+pub type Order = Number<5, 4, 1, MOST_CHANGES>;
 
 /// How often a property has passed between custodians, once a release or an adoption is counted:
 /// 1 to 9999 (our profile).
