@@ -1,14 +1,15 @@
 //! Times the judgement of a file over the keeper in memory.
 ghost use Rattle.std.specs.Prelude.{OnOk};
-ghost use Rattle.gaz_shelf.specs.Keeper.{IsNotOpen, Seen};
+ghost use Rattle.gaz_keeper.specs.Keeper.{IsNotOpen, Seen};
 
 use anyhow::{Context, Result, ensure};
 use gaz_changefile::{Action, Change, ChangeFile};
 use gaz_ids::{Code, Volume};
+use gaz_keeper::{Inbox, Shelf, Verdict};
 use gaz_records::{Day, Kind, SharedItem, item_of_text};
 use gaz_register::Register;
 use gaz_rules::judge;
-use gaz_shelf::{Ending, Faulty, Inbox, MemShelf, Seed, Shelf, Verdict, are_entries, write_volume};
+use gaz_shelf::{Ending, Faulty, MemShelf, Seed, are_entries, write_volume};
 use std::alloc::Global;
 use std::time::Instant;
 

@@ -1,12 +1,13 @@
 //! Times how the keeper in memory keeps volume after volume.
 ghost use Rattle.std.specs.Prelude.{OnOk};
-ghost use Rattle.gaz_shelf.specs.Keeper.{IsNotOpen, Seen};
+ghost use Rattle.gaz_keeper.specs.Keeper.{IsNotOpen, Seen};
 
 use crate::judging::{add_items, receive};
 use anyhow::{Context, Result, ensure};
 use gaz_ids::Code;
+use gaz_keeper::{Inbox, Shelf};
 use gaz_records::SharedItem;
-use gaz_shelf::{Ending, Inbox, MemShelf, Seed, Shelf, are_entries, write_volume};
+use gaz_shelf::{Ending, MemShelf, Seed, are_entries, write_volume};
 use std::alloc::Global;
 use std::time::Instant;
 

@@ -1,6 +1,6 @@
 -- What a command does to a hub.
 use Rattle.std.specs.Prelude.{◌≡◌, Result, Ok, Err}
-use Rattle.gaz_shelf.specs.Keeper.{Seen}
+use Rattle.gaz_keeper.specs.Keeper.{Seen}
 use Rattle.gaz_hub.specs.Hubs.{MeetsDoor, door_of}
 use Rattle.gaz_hub.specs.Seen.{hub_seen}
 use Rattle.gaz_hub.specs.Step.{Command, Response}

@@ -1,6 +1,6 @@
 -- Worked examples on what commands ask and what they print.
 use Rattle.std.specs.Prelude.{◌≡◌, ℕ, List, [], ◌∷◌, codes, Some, None, Ok, Err}
-use Rattle.gaz_shelf.specs.declared.fault.ShelfFault.TheVariants as cause
+use Rattle.gaz_keeper.specs.declared.fault.ShelfFault.TheVariants as cause
 use Rattle.gaz_hub.specs.Step.{Extract, LookUp, Pose, Replied, Response, Stand, Submit}
 use Rattle.gaz_hub.specs.Step.{Submitted}
 use Rattle.gaz_hub.specs.declared.answer.Answer.{Answer}

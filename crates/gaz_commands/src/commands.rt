@@ -1,6 +1,6 @@
 //! What each command asks of a hub.
 ghost use Rattle.std.specs.Prelude.{◌≡◌, option_map};
-ghost use Rattle.gaz_shelf.specs.Telling.{IsNotJudging};
+ghost use Rattle.gaz_keeper.specs.Telling.{IsNotJudging};
 ghost use Rattle.gaz_commands.specs.Asking.{asks_address, asks_extract, asks_standing};
 ghost use Rattle.gaz_commands.specs.Asking.{asks_to_submit};
 ghost use Rattle.gaz_commands.specs.Obeying.{Obeys};
@@ -9,7 +9,7 @@ use crate::numbers::{code_named, uprn_named, volume_named};
 use crate::printed::{DoorRefusal, PrintedLine};
 use crate::said::{Fault, Said, turned_away};
 use gaz_hub::Hub;
-use gaz_shelf::Inbox;
+use gaz_keeper::Inbox;
 
 /// Submits a change file, whose bytes are given where it could be read.
 ///

@@ -3,7 +3,7 @@ use Rattle.std.proofs.Common.{◌≡◌, ℕ, Bool, true, false, List, [], ◌++
 use Rattle.std.specs.Prelude.{◌||◌}
 use Rattle.std.specs.Io.KnownBytes.{Consumes, IsAtEnd, Keeps}
 use Rattle.httparse.specs.Grammar.{RequestHead}
-use Rattle.gaz_shelf.specs.Keeper.{Seen}
+use Rattle.gaz_keeper.specs.Keeper.{Seen}
 use Rattle.gaz_hub.specs.Step.{Command, Door, Response}
 use Rattle.gaz_hub.proofs.HubRuns.{runs_none, runs_one}
 use Rattle.gaz_exchange.specs.Asking.{asked, call_at, command_of, method_of, with_body}

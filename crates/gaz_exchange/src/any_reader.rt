@@ -1,12 +1,12 @@
 ghost use Rattle.std.specs.Prelude.{◌≡◌};
-ghost use Rattle.gaz_shelf.specs.Keeper.{IsNotOpen};
+ghost use Rattle.gaz_keeper.specs.Keeper.{IsNotOpen};
 ghost use Rattle.gaz_hub.specs.Hubs.{door_of};
 ghost use Rattle.gaz_hub.specs.Seen.{hub_seen};
 ghost use Rattle.gaz_exchange.specs.Conversing.{Conversation, transfer};
 
 use crate::conversation::{Served, Stopped, converse_counted};
 use gaz_hub::Hub;
-use gaz_shelf::Inbox;
+use gaz_keeper::Inbox;
 use std::alloc::Global;
 use std::io::{Read, Write};
 

@@ -1,5 +1,5 @@
 ghost use Rattle.std.specs.Prelude.{◌≡◌, Ok};
-ghost use Rattle.gaz_shelf.specs.Keeper.{IsNotOpen};
+ghost use Rattle.gaz_keeper.specs.Keeper.{IsNotOpen};
 ghost use Rattle.gaz_hub.specs.Hubs.{door_of};
 ghost use Rattle.gaz_hub.specs.Seen.{hub_seen};
 ghost use Rattle.gaz_exchange.specs.Conversing.{CountedConversation, ended_after, transfer};
@@ -13,7 +13,7 @@ use crate::send::send;
 use crate::source::Source;
 use crate::supply::Cause;
 use gaz_hub::Hub;
-use gaz_shelf::Inbox;
+use gaz_keeper::Inbox;
 use std::alloc::Global;
 use std::io::Write;
 

@@ -5,7 +5,7 @@ use Rattle.std.proofs.lemmas.Bool.Decides.{nat_tests}
 use Rattle.csv.specs.Writing.{default_writer, row_text}
 use Rattle.gaz_records.specs.declared.item.Item.{Item}
 use Rattle.gaz_rows.specs.Rows.{lines_of}
-use Rattle.gaz_shelf.specs.Board.{Board, reached, view_after}
+use Rattle.gaz_keeper.specs.Board.{Board, reached, view_after}
 use Rattle.gaz_extract.specs.Drafts.{DraftValue, begun_draft, by_kind, with_items}
 use Rattle.gaz_extract.specs.Extracts.{extract, extract_rows, items_of, header, records_from, trailer}
 use Rattle.gaz_extract.proofs.InOrder.{in_key_order}

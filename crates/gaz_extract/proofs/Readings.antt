@@ -1,8 +1,8 @@
 -- What a call that only reads tells, where the keeper isn't called, and in other words.
 use Rattle.std.proofs.Common.{refl}
 use Rattle.std.specs.Prelude.{Result, Ok, Err, IfOk}
-use Rattle.gaz_shelf.specs.Keeper.{Broken, Idle, IsLeft, Keeps, Open, Progress, Seen}
-use Rattle.gaz_shelf.specs.declared.fault.ShelfFault.{ShelfFault}
+use Rattle.gaz_keeper.specs.Keeper.{Broken, Idle, IsLeft, Keeps, Open, Progress, Seen}
+use Rattle.gaz_keeper.specs.declared.fault.ShelfFault.{ShelfFault}
 use Rattle.gaz_extract.specs.Readings.{Looks}
 
 left_itself : (p : Progress) → IsLeft p p

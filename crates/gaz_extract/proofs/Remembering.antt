@@ -6,7 +6,7 @@ use Rattle.std.specs.Cmp.{Equal-is}
 use Rattle.std.specs.Ordering.{nat_cmp}
 use Rattle.std.proofs.lemmas.Map.Lookups.{exact_unsigned}
 use Rattle.gaz_register.specs.Registers.{RegisterValue}
-use Rattle.gaz_shelf.specs.Board.{Board}
+use Rattle.gaz_keeper.specs.Board.{Board}
 use Rattle.gaz_extract.specs.Closing.{is_closed_elsewhere}
 use Rattle.gaz_extract.specs.Remembering.{AreRight, AskedStreets}
 

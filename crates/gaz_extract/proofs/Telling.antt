@@ -8,7 +8,7 @@ use Rattle.gaz_records.specs.declared.item.Item.{Item}
 use Rattle.gaz_records.specs.declared.item.Item.TheVariants as item
 use Rattle.gaz_records.specs.declared.key.Key.TheVariants as key
 use Rattle.gaz_register.specs.Registers.{RegisterValue}
-use Rattle.gaz_shelf.specs.Board.{Board, last_view}
+use Rattle.gaz_keeper.specs.Board.{Board, last_view}
 use Rattle.gaz_views.specs.Words.{address_of, property_of}
 use Rattle.gaz_views.specs.declared.property.Property.{Property}
 use Rattle.gaz_extract.specs.Finding.{as_blpu, as_lpi}

@@ -4,8 +4,8 @@ use Rattle.std.specs.Prelude.{Option, Some, None, is_some}
 use Rattle.gaz_records.specs.declared.item.Item.{Item}
 use Rattle.gaz_records.specs.declared.item.Kind.{Kind}
 use Rattle.gaz_records.specs.declared.key.Key.{Key}
-use Rattle.gaz_shelf.specs.Board.{reached, view_after}
-use Rattle.gaz_shelf.specs.Keeper.{Content, Keeps, Seen}
+use Rattle.gaz_keeper.specs.Board.{reached, view_after}
+use Rattle.gaz_keeper.specs.Keeper.{Content, Keeps, Seen}
 use Rattle.gaz_views.specs.Reading.{left_after}
 use Rattle.gaz_views.specs.View.{View}
 use Rattle.gaz_views.specs.Words.{rest_of}

@@ -9,7 +9,7 @@ use Rattle.gaz_records.specs.declared.item.Item.TheVariants as item
 use Rattle.gaz_records.specs.declared.item.Kind.TheVariants as kind
 use Rattle.gaz_records.specs.declared.key.Key.{Key}
 use Rattle.gaz_register.specs.Registers.{RegisterValue, owner_of_usrn}
-use Rattle.gaz_shelf.specs.Board.{Board, last_view, view_after}
+use Rattle.gaz_keeper.specs.Board.{Board, last_view, view_after}
 use Rattle.gaz_views.specs.Reading.{left_after}
 use Rattle.gaz_views.specs.Words.{is_approved, rest_of}
 use Rattle.gaz_extract.specs.Finding.{has_closed_street, street_at}

@@ -13,7 +13,7 @@ use Rattle.gaz_records.specs.Lpis.{LpiValue}
 use Rattle.gaz_records.specs.declared.item.Item.{Item}
 use Rattle.gaz_records.specs.declared.item.Item.TheVariants as item
 use Rattle.gaz_register.specs.Registers.{RegisterValue}
-use Rattle.gaz_shelf.specs.Board.{Board}
+use Rattle.gaz_keeper.specs.Board.{Board}
 use Rattle.gaz_views.specs.View.{View, empty_view, with_item}
 use Rattle.gaz_views.specs.declared.verdict.Verdict.TheVariants.{Applied}
 use Rattle.gaz_extract.specs.Closing.{closed_streets, is_closed_elsewhere}

@@ -5,7 +5,7 @@ use Rattle.gaz_records.specs.Items.{item_texts, kind_of}
 use Rattle.gaz_records.specs.Kinds.{identifier}
 use Rattle.gaz_records.specs.declared.item.Item.{Item}
 use Rattle.gaz_rows.specs.Rows.{Fields, lines_of}
-use Rattle.gaz_shelf.specs.Board.{Board, reached, view_after}
+use Rattle.gaz_keeper.specs.Board.{Board, reached, view_after}
 use Rattle.gaz_views.specs.View.{View}
 use Rattle.gaz_views.specs.Words.{entries}
 

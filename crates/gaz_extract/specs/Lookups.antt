@@ -6,7 +6,7 @@ use Rattle.gaz_records.specs.Blpus.{BlpuValue}
 use Rattle.gaz_records.specs.Descriptors.{DescriptorValue}
 use Rattle.gaz_records.specs.Lpis.{LpiValue}
 use Rattle.gaz_register.specs.Registers.{RegisterValue, owner_of_usrn}
-use Rattle.gaz_shelf.specs.Board.{Board, last_view}
+use Rattle.gaz_keeper.specs.Board.{Board, last_view}
 use Rattle.gaz_views.specs.View.{View}
 use Rattle.gaz_views.specs.Words.{address_of, first_of}
 use Rattle.gaz_extract.specs.Finding.{as_lpi, blpu_at, descriptor_at, street_at}

@@ -1,8 +1,8 @@
 -- What calls that only read a keeper tell, one after another, where `seen` is how it is seen.
 use Rattle.std.specs.Prelude.{◌≤◌, ℕ, Result, IfOk}
-use Rattle.gaz_shelf.specs.Board.{Board, last_view, reached, view_after}
-use Rattle.gaz_shelf.specs.Keeper.{Counts, Keeps, Seen}
-use Rattle.gaz_shelf.specs.declared.fault.ShelfFault.{ShelfFault}
+use Rattle.gaz_keeper.specs.Board.{Board, last_view, reached, view_after}
+use Rattle.gaz_keeper.specs.Keeper.{Counts, Keeps, Seen}
+use Rattle.gaz_keeper.specs.declared.fault.ShelfFault.{ShelfFault}
 use Rattle.gaz_views.specs.View.{View}
 
 -- calls that read: the answer is right, and the content is as it was

@@ -4,7 +4,7 @@ use Rattle.std.specs.BTreeMap.{is_at}
 use Rattle.std.specs.Map.{lookup}
 use Rattle.std.specs.Ordering.{nat_cmp}
 use Rattle.gaz_register.specs.Registers.{RegisterValue}
-use Rattle.gaz_shelf.specs.Board.{Board}
+use Rattle.gaz_keeper.specs.Board.{Board}
 use Rattle.gaz_extract.specs.Closing.{is_closed_elsewhere}
 
 -- a street's number, and whether it was told to be closed elsewhere

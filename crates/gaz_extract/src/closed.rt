@@ -1,20 +1,20 @@
 ghost use Rattle.std.specs.Prelude.{◌≡◌, ◌≤◌, ◌<◌, ◌++◌, ◌∷◌, [], ℕ, true, is_some, IfOk, OnOk};
 ghost use Rattle.std.specs.List.{cons_option};
 ghost use Rattle.gaz_register.specs.Registers.{RegisterValue};
-ghost use Rattle.gaz_shelf.specs.Board.{Board, reached};
+ghost use Rattle.gaz_keeper.specs.Board.{Board, reached};
 ghost use Rattle.gaz_extract.specs.Closing.{closed_among, closed_by, closed_from, closed_left};
 ghost use Rattle.gaz_extract.specs.Closing.{closed_of, closed_streets};
 ghost use Rattle.gaz_extract.specs.Paging.{pages_left};
 ghost use Rattle.gaz_extract.specs.Readings.{LooksAtBoard};
 ghost use Rattle.gaz_extract.specs.Remembering.{AreRight, Recalls};
-ghost use Rattle.gaz_shelf.specs.Telling.{IsNotJudging};
+ghost use Rattle.gaz_keeper.specs.Telling.{IsNotJudging};
 
 use crate::page::read_page;
 use crate::streets::is_on_closed;
 use gaz_ids::{Code, Usrn};
+use gaz_keeper::{Shelf, ShelfFault};
 use gaz_records::{Item, Key, Kind, RecordKey, SharedItem};
 use gaz_register::Register;
-use gaz_shelf::{Shelf, ShelfFault};
 use std::alloc::{AllocError, Global};
 use std::collections::BTreeMap;
 

@@ -6,13 +6,13 @@ ghost use Rattle.gaz_extract.specs.Drafts.{by_kind, with_items};
 ghost use Rattle.gaz_extract.specs.Extracts.{extract};
 ghost use Rattle.gaz_extract.specs.Paging.{pages_left};
 ghost use Rattle.gaz_extract.specs.Readings.{LooksAfter, LooksAtBoard};
-ghost use Rattle.gaz_shelf.specs.Telling.{IsNotJudging};
+ghost use Rattle.gaz_keeper.specs.Telling.{IsNotJudging};
 
 use crate::draft::Draft;
 use crate::page::read_page;
 use gaz_ids::{Code, Volume};
+use gaz_keeper::{Shelf, ShelfFault};
 use gaz_records::{Key, Kind};
-use gaz_shelf::{Shelf, ShelfFault};
 use std::alloc::Global;
 
 /// A draft, and the key after which the next page begins, if there is one.

@@ -6,12 +6,12 @@ ghost use Rattle.gaz_views.specs.Words.{property_of};
 ghost use Rattle.gaz_extract.specs.Finding.{as_descriptor, descriptor_at};
 ghost use Rattle.gaz_extract.specs.Finding.{has_closed_street, street_at};
 ghost use Rattle.gaz_extract.specs.Readings.{LooksAtLast};
-ghost use Rattle.gaz_shelf.specs.Telling.{IsNotJudging};
+ghost use Rattle.gaz_keeper.specs.Telling.{IsNotJudging};
 
 use crate::lend::street_in;
 use gaz_ids::{Code, Lang, Uprn, Usrn};
+use gaz_keeper::{Property, Shelf, ShelfFault};
 use gaz_records::{Key, SharedItem};
-use gaz_shelf::{Property, Shelf, ShelfFault};
 
 // The item at a key.
 fn item_now<K: Shelf>(

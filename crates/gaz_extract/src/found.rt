@@ -2,7 +2,7 @@ ghost use Rattle.std.specs.Prelude.{◌≡◌, option_map};
 ghost use Rattle.std.specs.Option.{option_and_then};
 ghost use Rattle.gaz_extract.specs.Finding.{as_descriptor};
 ghost use Rattle.gaz_extract.specs.Readings.{LooksAtBoard};
-ghost use Rattle.gaz_shelf.specs.Telling.{IsNotJudging};
+ghost use Rattle.gaz_keeper.specs.Telling.{IsNotJudging};
 ghost use Rattle.gaz_extract.specs.Lookups.{descriptor_now, line_at, lookup, owner_of_street};
 ghost use Rattle.gaz_extract.specs.Lookups.{said_by};
 
@@ -10,9 +10,9 @@ use crate::address::{AddressLine, line};
 use crate::find::{descriptor_item, has_street, property_now};
 use crate::lend::{descriptor_in, lpi_in};
 use gaz_ids::{Code, Status, Uprn, Usrn};
+use gaz_keeper::{Shelf, ShelfFault};
 use gaz_records::{Blpu, Item, Lpi, SharedItem};
 use gaz_register::Register;
-use gaz_shelf::{Shelf, ShelfFault};
 use std::alloc::Global;
 
 /// Where a property stands, and how it is addressed.

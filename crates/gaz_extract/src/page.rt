@@ -7,11 +7,11 @@ ghost use Rattle.gaz_views.specs.Reading.{left_after, next_after};
 ghost use Rattle.gaz_views.specs.Words.{comes_after, rest_of};
 ghost use Rattle.gaz_extract.specs.Paging.{pages_left, rising};
 ghost use Rattle.gaz_extract.specs.Readings.{LooksAfter};
-ghost use Rattle.gaz_shelf.specs.Telling.{IsNotJudging};
+ghost use Rattle.gaz_keeper.specs.Telling.{IsNotJudging};
 
 use gaz_ids::Code;
+use gaz_keeper::{Shelf, ShelfFault};
 use gaz_records::{Key, Kind, SharedItem, key_of};
-use gaz_shelf::{Shelf, ShelfFault};
 
 /// How many items are read at a time.
 pub const MOST: usize = 512;

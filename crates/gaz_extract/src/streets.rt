@@ -5,13 +5,13 @@ ghost use Rattle.std.specs.Ordering.{nat_cmp};
 ghost use Rattle.gaz_extract.specs.Closing.{closed_at_owner, is_closed_elsewhere, is_on_closed};
 ghost use Rattle.gaz_extract.specs.Readings.{LooksAtBoard};
 ghost use Rattle.gaz_extract.specs.Remembering.{Recalls};
-ghost use Rattle.gaz_shelf.specs.Telling.{IsNotJudging};
+ghost use Rattle.gaz_keeper.specs.Telling.{IsNotJudging};
 
 use crate::find::{has_closed_street, has_street};
 use gaz_ids::{Code, Status, Usrn};
+use gaz_keeper::{Shelf, ShelfFault};
 use gaz_records::Lpi;
 use gaz_register::Register;
-use gaz_shelf::{Shelf, ShelfFault};
 use std::alloc::AllocError;
 use std::collections::BTreeMap;
 

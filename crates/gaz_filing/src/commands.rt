@@ -2,8 +2,8 @@ use crate::files::{NoHub, announce, options, read_change_file, read_register, si
 use crate::serving::{Attending, taken};
 use crate::stores::{ask_store, make_store};
 use gaz_commands::Said;
+use gaz_ledger::Seed;
 use gaz_register::Register;
-use gaz_shelf::Seed;
 use gaz_store::StoreRefusal;
 use gaz_words::{Call, Places};
 use sqlite::{Options, Unknown};

@@ -1,16 +1,17 @@
 //! Connections over the store in a file.
 ghost use Rattle.std.specs.Prelude.{IfOk, IsTrue};
-ghost use Rattle.gaz_shelf.specs.Keeper.{IsNotOpen};
-ghost use Rattle.gaz_shelf.specs.Telling.{IsNotJudging};
+ghost use Rattle.gaz_keeper.specs.Keeper.{IsNotOpen};
+ghost use Rattle.gaz_keeper.specs.Telling.{IsNotJudging};
 ghost use Rattle.gaz_store.specs.Store.{seen_in};
 
 use crate::files::NoHub;
 use crate::stores::{close_store, open_hub};
 use gaz_hub::Hub;
+use gaz_keeper::Inbox;
+use gaz_ledger::Seed;
 use gaz_mirrored::mirrored;
 use gaz_register::Register;
 use gaz_serving::serve_on;
-use gaz_shelf::{Inbox, Seed};
 use gaz_store::Store;
 use sqlite::{File, FileStore, Files, Options};
 use sqlite_disk::Disk;

@@ -1,7 +1,7 @@
 //! Commands over a store's two files, whatever disk they are on.
 ghost use Rattle.std.specs.Prelude.{◌≡◌, IfErr, IfOk, IfSome, IsTrue, option_map};
-ghost use Rattle.gaz_shelf.specs.Keeper.{IsNotOpen};
-ghost use Rattle.gaz_shelf.specs.Telling.{IsNotJudging};
+ghost use Rattle.gaz_keeper.specs.Keeper.{IsNotOpen};
+ghost use Rattle.gaz_keeper.specs.Telling.{IsNotJudging};
 ghost use Rattle.gaz_commands.specs.Obeying.{Obeys};
 ghost use Rattle.gaz_store.specs.Store.{seen_in};
 ghost use Rattle.gaz_filing.specs.Filing.{AsksStore, Connects, MakesNone, MakesStore, OpensHub};
@@ -9,8 +9,9 @@ ghost use Rattle.gaz_filing.specs.Filing.{OpensNone, asked};
 
 use gaz_commands::{PrintedLine, Said, extract, line, status, submit};
 use gaz_hub::Hub;
+use gaz_keeper::Inbox;
+use gaz_ledger::Seed;
 use gaz_register::Register;
-use gaz_shelf::{Inbox, Seed};
 use gaz_store::{Store, StoreRefusal};
 use gaz_words::Call;
 use sqlite::{Connection, FileStore, Files, Options};

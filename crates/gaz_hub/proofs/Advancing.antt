@@ -8,11 +8,11 @@ use Rattle.gaz_changefile.specs.Contents.{Contents}
 use Rattle.gaz_changefile.specs.Reading.{Good, Bad, Reading, reading}
 use Rattle.gaz_changefile.specs.declared.change.Basis.{Basis}
 use Rattle.gaz_register.specs.Registers.{Blocks, RegisterValue}
-use Rattle.gaz_shelf.specs.Board.{Board, Judgement, adds, reached}
-use Rattle.gaz_shelf.specs.Keeper.{Content, Counts, Enters, IsAtHand, IsNotOpen, Seen, after_abandon, after_skip, with_judgement}
-use Rattle.gaz_shelf.specs.Received.{Received}
-use Rattle.gaz_shelf.specs.declared.fault.ShelfFault.{ShelfFault}
-use Rattle.gaz_shelf.specs.declared.fault.ShelfFault.TheVariants.{Store}
+use Rattle.gaz_keeper.specs.Board.{Board, Judgement, adds, reached}
+use Rattle.gaz_keeper.specs.Keeper.{Content, Counts, Enters, IsAtHand, IsNotOpen, Seen, after_abandon, after_skip, with_judgement}
+use Rattle.gaz_keeper.specs.Received.{Received}
+use Rattle.gaz_keeper.specs.declared.fault.ShelfFault.{ShelfFault}
+use Rattle.gaz_keeper.specs.declared.fault.ShelfFault.TheVariants.{Store}
 use Rattle.gaz_views.specs.declared.verdict.Verdict.{Verdict}
 use Rattle.gaz_rules.specs.Bases.{are_reached, judged_on}
 use Rattle.gaz_rules.specs.Judges.{IsReady, Judges}

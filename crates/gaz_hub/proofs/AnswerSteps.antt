@@ -3,12 +3,12 @@ use Rattle.std.proofs.Common.{◌≡◌, ℕ, Bool, true, false, cond, not, List
 use Rattle.std.specs.Cmp.{eq_by_cmp_equiv}
 use Rattle.std.specs.Prelude.{Option, Some, None, is_some, Ok, Err}
 use Rattle.std.specs.FinMap as map
-use Rattle.gaz_shelf.proofs.Pairs.{pairs_total}
-use Rattle.gaz_shelf.specs.Board.{Board}
-use Rattle.gaz_shelf.specs.Keeper.{Content, Enters, IsNew, IsNotOpen, Seen, with_received}
-use Rattle.gaz_shelf.specs.Received.{Received, with_file}
-use Rattle.gaz_shelf.specs.declared.fault.ShelfFault.{ShelfFault}
-use Rattle.gaz_shelf.specs.declared.fault.ShelfFault.TheVariants.{Store}
+use Rattle.gaz_keeper.proofs.Pairs.{pairs_total}
+use Rattle.gaz_keeper.specs.Board.{Board}
+use Rattle.gaz_keeper.specs.Keeper.{Content, Enters, IsNew, IsNotOpen, Seen, with_received}
+use Rattle.gaz_keeper.specs.Received.{Received, with_file}
+use Rattle.gaz_keeper.specs.declared.fault.ShelfFault.{ShelfFault}
+use Rattle.gaz_keeper.specs.declared.fault.ShelfFault.TheVariants.{Store}
 use Rattle.gaz_register.specs.Registers.{knows}
 use Rattle.gaz_hub.specs.Asked.{IsAgain, IsOfBefore, IsOutcome, IsPastDoor, TakesIn}
 use Rattle.gaz_hub.specs.Hubs.{AreKnown, StandsFor, Steps, state_of}

@@ -2,7 +2,7 @@
 use Rattle.std.proofs.Common.{◌≡◌, ℕ, Bool, true, false, cond, ◌&&◌, is_none, List, [], ◌∷◌, refl, sym, ap, ◌∙◌, subst}
 use Rattle.std.specs.Prelude.{Option, Some, None, Ok, Err}
 use Rattle.std.specs.FinMap as map
-use Rattle.gaz_shelf.specs.Received.{Received, with_file}
+use Rattle.gaz_keeper.specs.Received.{Received, with_file}
 use Rattle.gaz_hub.specs.Answers.{AllAnswered, AllReadOff, EveryAnswer, IsAnswerOff, IsReadOff, received_by, then_received}
 use Rattle.gaz_hub.specs.Outcomes.{outcome}
 use Rattle.gaz_hub.specs.Runs.{Run, is_settled}

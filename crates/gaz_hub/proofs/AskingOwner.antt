@@ -6,8 +6,8 @@ use Rattle.gaz_extract.specs.Readings.{Looks}
 use Rattle.gaz_extract.specs.declared.found.Found.{Found}
 use Rattle.gaz_extract.proofs.Readings.{if_ok}
 use Rattle.gaz_register.specs.Registers.{IsRegister, RegisterValue}
-use Rattle.gaz_shelf.specs.Keeper.{Content, Seen}
-use Rattle.gaz_shelf.specs.declared.fault.ShelfFault.{ShelfFault}
+use Rattle.gaz_keeper.specs.Keeper.{Content, Seen}
+use Rattle.gaz_keeper.specs.declared.fault.ShelfFault.{ShelfFault}
 use Rattle.gaz_hub.specs.Hubs.{StandsFor, Steps, door_of}
 use Rattle.gaz_hub.specs.Owners.{told_by_owner}
 use Rattle.gaz_hub.specs.Settling.{AnswersSettled, Tells}

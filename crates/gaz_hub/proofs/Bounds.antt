@@ -5,13 +5,13 @@ use Rattle.std.proofs.lemmas.List.{length_push}
 use Rattle.std.specs.Prelude.{is_some, Some}
 use Rattle.std.specs.List.{find}
 use Rattle.gaz_register.specs.Registers.{CustodianValue, RegisterValue, knows}
-use Rattle.gaz_shelf.specs.Board.{Board, reached}
-use Rattle.gaz_shelf.specs.Received.{Received}
+use Rattle.gaz_keeper.specs.Board.{Board, reached}
+use Rattle.gaz_keeper.specs.Received.{Received}
 use Rattle.gaz_hub.specs.Step.{blocks}
 use Rattle.gaz_hub.specs.Hubs.{AreKnown, StandsFor, door_of}
 use Rattle.gaz_hub.specs.Settling.{Advances, IsAll, capped, judged_by}
 use Rattle.gaz_hub.specs.Standing.{Leads, Register, judge_one, ready, with_next}
-use Rattle.gaz_shelf.specs.Keeper.{Seen}
+use Rattle.gaz_keeper.specs.Keeper.{Seen}
 use Rattle.gaz_hub.proofs.Orders.{judge_one_moved, moved_below, next, ready_gives, with_next_is}
 use Rattle.gaz_hub.proofs.Prefixes.{prefix_length}
 

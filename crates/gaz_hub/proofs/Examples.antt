@@ -7,14 +7,14 @@ use Rattle.std.specs.Str.{chars, is_utf8}
 use Rattle.std.specs.FinMap as map
 use Rattle.gaz_changefile.specs.Reading.{Bad, reading}
 use Rattle.gaz_rules.specs.Judging.{judge}
-use Rattle.gaz_shelf.specs.Board.{Judgement, Board, empty_board}
-use Rattle.gaz_shelf.specs.Received.{Received, pair_cmp, with_file}
+use Rattle.gaz_keeper.specs.Board.{Judgement, Board, empty_board}
+use Rattle.gaz_keeper.specs.Received.{Received, pair_cmp, with_file}
 use Rattle.gaz_hub.specs.Standing.{IsPartial, NothingReady, judge_one, ready, round, standing, with_next}
 use Rattle.gaz_hub.specs.Sample.{sample_register}
 use Rattle.gaz_hub.specs.Examples.{all_sent, first_sent, no_text, no_text_judged, of_1003, one_judged, sent, sent_by_two, three_judged}
 use Rattle.gaz_hub.proofs.Leading.{follows_itself, partial_one}
 use Rattle.gaz_hub.proofs.Orders.{any_order_holds}
-use Rattle.gaz_shelf.proofs.Pairs.{pairs_total}
+use Rattle.gaz_keeper.proofs.Pairs.{pairs_total}
 use Rattle.gaz_hub.proofs.Steps.{pairs_same}
 
 pub no_none : {X : Type 0} (o : Option X) (x : X) → o ≡ Some x → o ≡ None → ⊥

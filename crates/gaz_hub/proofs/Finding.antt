@@ -4,9 +4,9 @@ use Rattle.std.specs.Prelude.{Option, Some, None, is_some}
 use Rattle.std.specs.Option.{option_or}
 use Rattle.std.specs.FinMap as map
 use Rattle.gaz_register.specs.Registers.{knows}
-use Rattle.gaz_shelf.specs.Board.{empty_board}
-use Rattle.gaz_shelf.specs.Keeper.{Content, LeavesOnly, Seen, after_stop}
-use Rattle.gaz_shelf.specs.Received.{with_file}
+use Rattle.gaz_keeper.specs.Board.{empty_board}
+use Rattle.gaz_keeper.specs.Keeper.{Content, LeavesOnly, Seen, after_stop}
+use Rattle.gaz_keeper.specs.Received.{with_file}
 use Rattle.gaz_views.specs.View.{empty_view}
 use Rattle.gaz_hub.specs.Found.{EveryStopOver, HasFilesAfter, HasFilesOf}
 use Rattle.gaz_hub.specs.Hubs.{AreKnown, Runs, state_of}

@@ -9,9 +9,9 @@ use Rattle.gaz_register.specs.Registers.{blocks_of}
 use Rattle.gaz_rules.proofs.SoundBoards.{boards_stay_sound_holds}
 use Rattle.gaz_rules.proofs.OwnNumbers.{own_numbers_stay_holds}
 use Rattle.gaz_rules.specs.Sound.{AllHoldOwn, AreDisjoint, IsSoundBoard, NamesOthers}
-use Rattle.gaz_shelf.specs.Board.{Board, empty_board, reached}
-use Rattle.gaz_shelf.specs.Keeper.{Content, Seen, empty_content}
-use Rattle.gaz_shelf.specs.Received.{Received, pair_cmp}
+use Rattle.gaz_keeper.specs.Board.{Board, empty_board, reached}
+use Rattle.gaz_keeper.specs.Keeper.{Content, Seen, empty_content}
+use Rattle.gaz_keeper.specs.Received.{Received, pair_cmp}
 use Rattle.gaz_hub.specs.Hubs.{MayHave, StandsFor, state_of}
 use Rattle.gaz_hub.specs.Laws.{AllSound, EveryAnswerOver, EveryRunFromOver, EveryRunOver, EverySettledRunFromOver, EverySettledRunOver, StandsForRun}
 use Rattle.gaz_hub.specs.Standing.{Leads, Register, judge_one, ready}

@@ -2,8 +2,8 @@
 use Rattle.std.proofs.Common.{◌≡◌, ◌+◌, ◌⊎◌, inl, inr, ℕ, true, true≢false, List, [], ◌∷◌, ◌++◌, length, refl, sym, ap, ◌∙◌, subst, append-nil, append_assoc, length-append, arith}
 use Rattle.std.specs.Prelude.{Some}
 use Rattle.std.specs.FinMap as map
-use Rattle.gaz_shelf.specs.Received.{Received}
-use Rattle.gaz_shelf.specs.Keeper.{Content, Seen}
+use Rattle.gaz_keeper.specs.Received.{Received}
+use Rattle.gaz_keeper.specs.Keeper.{Content, Seen}
 use Rattle.gaz_hub.specs.Hubs.{Runs, Steps, state_of}
 use Rattle.gaz_hub.specs.Laws.{CallsMakeRuns}
 use Rattle.gaz_hub.specs.Runs.{Run}

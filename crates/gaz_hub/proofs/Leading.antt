@@ -3,8 +3,8 @@ use Rattle.std.proofs.Common.{◌≡◌, ◌≤◌, ◌+◌, ℕ, zero, suc, tru
 use Rattle.std.proofs.Math.Path.{fun_ext}
 use Rattle.std.specs.List.{list_any}
 use Rattle.std.specs.FinMap as map
-use Rattle.gaz_shelf.specs.Board.{Board, empty_board}
-use Rattle.gaz_shelf.specs.Received.{Received}
+use Rattle.gaz_keeper.specs.Board.{Board, empty_board}
+use Rattle.gaz_keeper.specs.Received.{Received}
 use Rattle.gaz_hub.specs.Standing.{HasAllOf, Register, ready, with_next, judge_one, standing, Leads, Follows, IsPartial, NothingReady, StandingIsSettled}
 use Rattle.gaz_hub.proofs.Prefixes.{some_of_any}
 use Rattle.gaz_hub.proofs.Orders.{IsReady, ready_gives, ready_from, with_next_is, any_order_holds, one_counts, done_at_most, done_count, none_ready, standing_closed}

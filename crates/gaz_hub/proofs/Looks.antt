@@ -8,12 +8,12 @@ use Rattle.std.specs.FinMap as map
 use Rattle.gaz_changefile.specs.Contents.{Contents}
 use Rattle.gaz_changefile.specs.Reading.{Good, Bad, Reading, reading}
 use Rattle.gaz_changefile.specs.declared.change.Basis.{Basis}
-use Rattle.gaz_shelf.specs.Board.{Board, reached}
-use Rattle.gaz_shelf.specs.Keeper.{Counts, IsLeft, IsNotOpen, Progress, Idle, Open, Broken, Seen}
-use Rattle.gaz_shelf.specs.Received.{Received}
-use Rattle.gaz_shelf.specs.declared.fault.ShelfFault.{ShelfFault}
-use Rattle.gaz_shelf.specs.declared.fault.ShelfFault.TheVariants.{Store}
-use Rattle.gaz_shelf.proofs.Keeping.{keeps_then}
+use Rattle.gaz_keeper.specs.Board.{Board, reached}
+use Rattle.gaz_keeper.specs.Keeper.{Counts, IsLeft, IsNotOpen, Progress, Idle, Open, Broken, Seen}
+use Rattle.gaz_keeper.specs.Received.{Received}
+use Rattle.gaz_keeper.specs.declared.fault.ShelfFault.{ShelfFault}
+use Rattle.gaz_keeper.specs.declared.fault.ShelfFault.TheVariants.{Store}
+use Rattle.gaz_keeper.proofs.Keeping.{keeps_then}
 use Rattle.gaz_rules.specs.Bases.{are_reached}
 use Rattle.gaz_rules.specs.Judging.{bases_of}
 use Rattle.gaz_extract.specs.Readings.{Looks}

@@ -7,10 +7,10 @@ use Rattle.std.specs.FinMap as finmap
 use Rattle.gaz_changefile.specs.Reading.{Reading}
 use Rattle.gaz_register.specs.Registers.{RegisterValue, blocks_of}
 use Rattle.gaz_rules.specs.Bases.{judged_on}
-use Rattle.gaz_shelf.specs.Board.{Board, reached}
-use Rattle.gaz_shelf.specs.Keeper.{Content, Enters, IsNew, Seen, with_judgement, with_received}
-use Rattle.gaz_shelf.specs.Received.{Received}
-use Rattle.gaz_shelf.specs.declared.fault.ShelfFault.{ShelfFault}
+use Rattle.gaz_keeper.specs.Board.{Board, reached}
+use Rattle.gaz_keeper.specs.Keeper.{Content, Enters, IsNew, Seen, with_judgement, with_received}
+use Rattle.gaz_keeper.specs.Received.{Received}
+use Rattle.gaz_keeper.specs.declared.fault.ShelfFault.{ShelfFault}
 use Rattle.gaz_extract.specs.Readings.{Looks}
 use Rattle.gaz_hub.specs.Hubs.{StandsFor, door_of}
 use Rattle.gaz_hub.specs.Seen.{IsAfterComing, IsKeptOrLost}

@@ -14,8 +14,8 @@ use Rattle.std.specs.FinMap as map
 use Rattle.gaz_views.specs.View.{empty_view}
 use Rattle.gaz_changefile.specs.Reading.{Reading, reading}
 use Rattle.gaz_rules.specs.Judging.{bases_of, judge}
-use Rattle.gaz_shelf.specs.Board.{Judgement, Board, empty_board, reached, view_after}
-use Rattle.gaz_shelf.specs.Received.{Received, pair_cmp}
+use Rattle.gaz_keeper.specs.Board.{Judgement, Board, empty_board, reached, view_after}
+use Rattle.gaz_keeper.specs.Received.{Received, pair_cmp}
 use Rattle.gaz_hub.specs.Standing.{HasAllOf, Register, ready, judgement_after, with_next, judge_one, round, rounds, standing, Leads, NothingReady, IsPrefixOf, AnyOrder, MoreFiles}
 use Rattle.gaz_rules.specs.Bases.{basis_views, are_reached}
 use Rattle.gaz_changefile.specs.declared.change.Basis.{Basis}

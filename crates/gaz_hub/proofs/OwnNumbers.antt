@@ -5,8 +5,8 @@ use Rattle.gaz_changefile.specs.Reading.{reading}
 use Rattle.gaz_register.specs.Registers.{RegisterValue, blocks_of}
 use Rattle.gaz_rules.proofs.OwnNumbers.{own_numbers_stay_holds}
 use Rattle.gaz_rules.specs.Sound.{AllHoldOwn}
-use Rattle.gaz_shelf.specs.Board.{Board, empty_board, reached}
-use Rattle.gaz_shelf.specs.Received.{Received}
+use Rattle.gaz_keeper.specs.Board.{Board, empty_board, reached}
+use Rattle.gaz_keeper.specs.Received.{Received}
 use Rattle.gaz_hub.specs.Standing.{IsPartial, Leads, Register, judge_one, ready}
 use Rattle.gaz_hub.proofs.Advancing.{added_is}
 use Rattle.gaz_hub.proofs.Orders.{ready_gives}

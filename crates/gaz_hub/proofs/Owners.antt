@@ -13,7 +13,7 @@ use Rattle.gaz_records.specs.declared.key.Key.TheVariants as key
 use Rattle.gaz_register.proofs.Ownership.{one-owner}
 use Rattle.gaz_register.specs.Registers.{CustodianValue, IsRegister, RegisterValue, blocks_of, custodian_of, knows, no_blocks, owner_of_uprn, within}
 use Rattle.gaz_rules.specs.Sound.{AllHoldOwn}
-use Rattle.gaz_shelf.specs.Board.{Board, last_view, reached}
+use Rattle.gaz_keeper.specs.Board.{Board, last_view, reached}
 use Rattle.gaz_views.specs.View.{holds}
 use Rattle.gaz_views.specs.Words.{first_of}
 use Rattle.gaz_hub.specs.Owners.{OwnersAlone, can_have, told_by_owner}

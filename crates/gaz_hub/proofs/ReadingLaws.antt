@@ -3,7 +3,7 @@ use Rattle.std.proofs.Common.{◌≡◌, ◌≤◌, ℕ, cond, List, [], ◌∷�
 use Rattle.std.specs.Prelude.{Some, None, Ok}
 use Rattle.gaz_extract.specs.Extracts.{extract, extract_rows, items_of}
 use Rattle.gaz_rows.specs.Rows.{lines_of}
-use Rattle.gaz_shelf.specs.Board.{Board, last_view, reached}
+use Rattle.gaz_keeper.specs.Board.{Board, last_view, reached}
 use Rattle.gaz_hub.specs.Readings.{EqualAnswers, ExtractsStay, OneHolder}
 use Rattle.gaz_hub.specs.Runs.{Run}
 use Rattle.gaz_hub.specs.Standing.{standing}

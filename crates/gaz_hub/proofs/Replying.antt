@@ -2,9 +2,9 @@
 use Rattle.std.proofs.Common.{◌≡◌, refl, sym, ap, ◌∙◌, subst, true≢false}
 use Rattle.std.specs.Prelude.{Some, None, Result, Ok, Err, is_some}
 use Rattle.std.specs.Option.{option_and_then}
-use Rattle.gaz_shelf.specs.Keeper.{Content, Seen}
-use Rattle.gaz_shelf.specs.declared.fault.ShelfFault.{ShelfFault}
-use Rattle.gaz_shelf.specs.declared.fault.ShelfFault.TheVariants.{Store}
+use Rattle.gaz_keeper.specs.Keeper.{Content, Seen}
+use Rattle.gaz_keeper.specs.declared.fault.ShelfFault.{ShelfFault}
+use Rattle.gaz_keeper.specs.declared.fault.ShelfFault.TheVariants.{Store}
 use Rattle.gaz_extract.specs.Readings.{Looks}
 use Rattle.gaz_hub.specs.Hubs.{MeetsDoor, Steps, cause_in, or_not_received, state_of}
 use Rattle.gaz_hub.specs.Settling.{AnswersSettled, Tells}

@@ -2,9 +2,9 @@
 use Rattle.std.proofs.Common.{◌≡◌, ◌⊎◌, inl, inr, ℕ, false, List, refl, sym, ap, ◌∙◌, subst, true≢false}
 use Rattle.std.specs.Prelude.{Some, None, Result, Ok, Err, OnOk, OnErr}
 use Rattle.std.specs.FinMap as map
-use Rattle.gaz_shelf.specs.Keeper.{Content, Enters, IsAtHand, IsNew, IsSound, LeavesAtMost, LeavesJust, Seen, after_abandon, after_skip, after_stop, with_judgement, with_received}
-use Rattle.gaz_shelf.specs.Received.{with_file}
-use Rattle.gaz_shelf.specs.declared.fault.ShelfFault.{ShelfFault}
+use Rattle.gaz_keeper.specs.Keeper.{Content, Enters, IsAtHand, IsNew, IsSound, LeavesAtMost, LeavesJust, Seen, after_abandon, after_skip, after_stop, with_judgement, with_received}
+use Rattle.gaz_keeper.specs.Received.{with_file}
+use Rattle.gaz_keeper.specs.declared.fault.ShelfFault.{ShelfFault}
 use Rattle.gaz_views.specs.declared.verdict.Verdict.{Verdict}
 use Rattle.gaz_changefile.specs.Reading.{Bad, Reading}
 use Rattle.gaz_changefile.specs.declared.change.Basis.{Basis}
@@ -12,7 +12,7 @@ use Rattle.gaz_register.specs.Registers.{Blocks}
 use Rattle.gaz_rules.specs.Bases.{judged_on}
 use Rattle.gaz_rules.specs.Judges.{IsReady, Judges}
 use Rattle.gaz_rules.specs.Judging.{judge}
-use Rattle.gaz_shelf.specs.Board.{Judgement}
+use Rattle.gaz_keeper.specs.Board.{Judgement}
 use Rattle.gaz_extract.specs.Readings.{Looks}
 use Rattle.gaz_hub.specs.Hubs.{IsSoundFor, state_of}
 use Rattle.gaz_hub.specs.Settling.{IsReadyAs}

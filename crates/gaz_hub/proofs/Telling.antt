@@ -5,11 +5,11 @@ use Rattle.std.specs.Option.{option_map, option_map_or}
 use Rattle.std.specs.FinMap as map
 use Rattle.gaz_changefile.specs.Reading.{reading}
 use Rattle.gaz_changefile.specs.declared.change.Basis.{Basis}
-use Rattle.gaz_shelf.specs.Board.{Board, Judgement, reached, verdict_on}
-use Rattle.gaz_shelf.specs.Keeper.{Content, Reads, Seen}
-use Rattle.gaz_shelf.specs.Received.{Received}
-use Rattle.gaz_shelf.specs.declared.fault.ShelfFault.{ShelfFault}
-use Rattle.gaz_shelf.specs.declared.fault.ShelfFault.TheVariants.{Store}
+use Rattle.gaz_keeper.specs.Board.{Board, Judgement, reached, verdict_on}
+use Rattle.gaz_keeper.specs.Keeper.{Content, Reads, Seen}
+use Rattle.gaz_keeper.specs.Received.{Received}
+use Rattle.gaz_keeper.specs.declared.fault.ShelfFault.{ShelfFault}
+use Rattle.gaz_keeper.specs.declared.fault.ShelfFault.TheVariants.{Store}
 use Rattle.gaz_rules.specs.Bases.{are_reached}
 use Rattle.gaz_extract.specs.Readings.{Looks}
 use Rattle.gaz_extract.proofs.Readings.{if_ok}

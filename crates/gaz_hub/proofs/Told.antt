@@ -5,8 +5,8 @@ use Rattle.std.specs.Prelude.{nat_le, Bool, IsSome, Option, Some, None, is_some}
 use Rattle.std.specs.Option.{option_and_then, option_map, option_map_or}
 use Rattle.std.specs.FinMap as map
 use Rattle.sha2.specs.Sha256.{sha256}
-use Rattle.gaz_shelf.specs.Board.{Board, verdict_on}
-use Rattle.gaz_shelf.specs.Received.{Received}
+use Rattle.gaz_keeper.specs.Board.{Board, verdict_on}
+use Rattle.gaz_keeper.specs.Received.{Received}
 use Rattle.gaz_register.specs.Registers.{knows}
 use Rattle.gaz_hub.specs.Asked.{IsToldNow}
 use Rattle.gaz_hub.specs.Laws.{EachIsTold, HasOutcome, NothingOfNothing}

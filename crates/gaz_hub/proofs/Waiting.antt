@@ -18,9 +18,9 @@ use Rattle.gaz_changefile.specs.declared.change.Basis.{Basis}
 use Rattle.gaz_register.specs.Registers.{CustodianValue, RegisterValue, knows}
 use Rattle.gaz_rules.specs.Bases.{are_reached}
 use Rattle.gaz_rules.specs.Judging.{bases_of}
-use Rattle.gaz_shelf.proofs.Pairs.{pairs_exact, pairs_total}
-use Rattle.gaz_shelf.specs.Board.{Board, reached}
-use Rattle.gaz_shelf.specs.Received.{Received, pair_cmp, with_file}
+use Rattle.gaz_keeper.proofs.Pairs.{pairs_exact, pairs_total}
+use Rattle.gaz_keeper.specs.Board.{Board, reached}
+use Rattle.gaz_keeper.specs.Received.{Received, pair_cmp, with_file}
 use Rattle.gaz_hub.specs.Outcomes.{first_unreached, wants, wants_as}
 use Rattle.gaz_hub.specs.Runs.{same_pair}
 use Rattle.gaz_hub.specs.Standing.{Register, judge_one, next_reading, ready, with_next}

@@ -16,9 +16,9 @@ use Rattle.gaz_records.specs.Streets.{read_street}
 use Rattle.gaz_rules.proofs.Worked.{views}
 use Rattle.gaz_rules.specs.Examples.{file_of, insertion}
 use Rattle.gaz_rules.specs.Judging.{judge}
-use Rattle.gaz_shelf.proofs.Pairs.{pairs_total}
-use Rattle.gaz_shelf.specs.Board.{Board, empty_board}
-use Rattle.gaz_shelf.specs.Received.{Received, pair_cmp, with_file}
+use Rattle.gaz_keeper.proofs.Pairs.{pairs_total}
+use Rattle.gaz_keeper.specs.Board.{Board, empty_board}
+use Rattle.gaz_keeper.specs.Received.{Received, pair_cmp, with_file}
 use Rattle.gaz_hub.specs.Sample.{sample_register}
 use Rattle.gaz_hub.specs.Standing.{IsPartial, NothingReady, judge_one, judgement_after, ready, with_next}
 use Rattle.gaz_hub.specs.WorkedBases.{WorkedBases, both_board, both_sent, resting_file, resting_judged, resting_sent, resting_text, street_board, street_judged, street_text}

@@ -5,10 +5,10 @@ use Rattle.std.specs.Prelude.{Some, slice_get}
 use Rattle.std.specs.FinMap as map
 use Rattle.gaz_rules.specs.Judging.{judge}
 use Rattle.gaz_rules.proofs.Worked.{views}
-use Rattle.gaz_shelf.specs.Board.{Judgement, Board, empty_board}
+use Rattle.gaz_keeper.specs.Board.{Judgement, Board, empty_board}
 use Rattle.gaz_views.specs.View.{empty_view}
 use Rattle.gaz_views.specs.declared.verdict.Verdict.TheVariants.{Applied, Rejected}
-use Rattle.gaz_shelf.specs.Received.{Received, with_file}
+use Rattle.gaz_keeper.specs.Received.{Received, with_file}
 use Rattle.gaz_hub.specs.Standing.{Follows, IsPartial, Leads, judge_one, ready, round, rounds, with_next}
 use Rattle.gaz_hub.specs.Sample.{sample_register}
 use Rattle.gaz_hub.specs.Examples.{all_sent, first_sent, no_text, no_text_judged, of_1003, one_judged, sent, sent_by_two, three_judged}
@@ -16,7 +16,7 @@ use Rattle.gaz_hub.specs.WorkedBoards.{WorkedBoards, WorkedJudging, WorkedOrders
 use Rattle.gaz_hub.proofs.Examples.{all_of_1003, closed_gap, closed_sent, empty_is, entries_sent, first_ready, get_all, get_by_two, get_first, get_sent, judge_1003, judge_first, next_0, next_1, next_2, no_none, partial_1, reads, ready_0, ready_1, ready_2, round_1003, stands_all, stands_empty, stands_sent, two_judged}
 use Rattle.gaz_hub.proofs.Leading.{standing_is_settled}
 use Rattle.gaz_hub.proofs.Orders.{any_order_holds, empty_lawful, leads_lawful}
-use Rattle.gaz_shelf.proofs.Pairs.{pairs_total}
+use Rattle.gaz_keeper.proofs.Pairs.{pairs_total}
 use Rattle.gaz_hub.proofs.Prefixes.{prefix_length}
 use Rattle.gaz_hub.proofs.Runs.{follows_below}
 use Rattle.gaz_hub.proofs.Steps.{has_all_with}

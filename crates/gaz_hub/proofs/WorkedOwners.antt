@@ -5,8 +5,8 @@ use Rattle.gaz_extract.proofs.Examples.{found, these}
 use Rattle.gaz_extract.specs.Examples.{two_in_register}
 use Rattle.gaz_extract.specs.Lookups.{lookup}
 use Rattle.gaz_records.specs.declared.key.Key.TheVariants as key
-use Rattle.gaz_shelf.specs.Board.{last_view}
-use Rattle.gaz_shelf.specs.Keeper.{empty_content}
+use Rattle.gaz_keeper.specs.Board.{last_view}
+use Rattle.gaz_keeper.specs.Keeper.{empty_content}
 use Rattle.gaz_views.specs.View.{holds}
 use Rattle.gaz_hub.specs.Hubs.{door_of}
 use Rattle.gaz_hub.specs.Owners.{told_by_owner}

@@ -3,7 +3,7 @@ use Rattle.std.proofs.Common.{◌≡◌, [], ◌∷◌, refl, sym, ap, ◌∙◌
 use Rattle.std.specs.Prelude.{Some, None}
 use Rattle.std.specs.FinMap as map
 use Rattle.sha2.specs.Sha256.{sha256}
-use Rattle.gaz_shelf.specs.Received.{pair_cmp, with_file}
+use Rattle.gaz_keeper.specs.Received.{pair_cmp, with_file}
 use Rattle.gaz_hub.specs.Answers.{AllAnswered, IsReadOff, received_by, standing_hub}
 use Rattle.gaz_hub.specs.Outcomes.{outcome}
 use Rattle.gaz_hub.specs.Runs.{Run}

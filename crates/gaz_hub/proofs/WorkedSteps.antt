@@ -4,8 +4,8 @@ use Rattle.std.specs.Prelude.{Option, Some, None}
 use Rattle.std.specs.Option.{option_map}
 use Rattle.std.specs.FinMap as map
 use Rattle.sha2.specs.Sha256.{sha256}
-use Rattle.gaz_shelf.specs.Board.{Board, empty_board}
-use Rattle.gaz_shelf.specs.Received.{pair_cmp}
+use Rattle.gaz_keeper.specs.Board.{Board, empty_board}
+use Rattle.gaz_keeper.specs.Received.{pair_cmp}
 use Rattle.gaz_hub.specs.Standing.{Follows, standing}
 use Rattle.gaz_hub.specs.Outcomes.{outcome, status}
 use Rattle.gaz_hub.specs.Sample.{sample_door, sample_register}

@@ -1,8 +1,8 @@
 -- The worked examples on what a stop may leave of a hub.
 use Rattle.std.proofs.Common.{◌≡◌, ◌∙◌, ap, inl, inr, refl, sym, true≢false}
 use Rattle.std.specs.FinMap as map
-use Rattle.gaz_shelf.specs.Board.{empty_board}
-use Rattle.gaz_shelf.specs.Received.{Received, pair_cmp}
+use Rattle.gaz_keeper.specs.Board.{empty_board}
+use Rattle.gaz_keeper.specs.Received.{Received, pair_cmp}
 use Rattle.gaz_hub.specs.Examples.{first_sent, no_text}
 use Rattle.gaz_hub.specs.Sample.{sample_register}
 use Rattle.gaz_hub.specs.WorkedStops.{WorkedStops}

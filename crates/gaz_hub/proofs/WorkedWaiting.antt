@@ -3,10 +3,10 @@ use Rattle.std.proofs.Common.{◌≡◌, ℕ, Bool, true, cond, eqb, filter, not
 use Rattle.std.specs.Prelude.{Option, Some, None}
 use Rattle.std.specs.Option.{unwrap_or}
 use Rattle.std.specs.FinMap as finmap
-use Rattle.gaz_shelf.proofs.Pairs.{pairs_total}
-use Rattle.gaz_shelf.specs.Board.{empty_board}
-use Rattle.gaz_shelf.specs.Keeper.{empty_content}
-use Rattle.gaz_shelf.specs.Received.{pair_cmp}
+use Rattle.gaz_keeper.proofs.Pairs.{pairs_total}
+use Rattle.gaz_keeper.specs.Board.{empty_board}
+use Rattle.gaz_keeper.specs.Keeper.{empty_content}
+use Rattle.gaz_keeper.specs.Received.{pair_cmp}
 use Rattle.gaz_hub.specs.Outcomes.{wants}
 use Rattle.gaz_hub.specs.Waiting.{is_among, waiting_for, with_waiter}
 use Rattle.gaz_hub.specs.WorkedHubs.{upper_and_lower}

@@ -2,10 +2,10 @@
 use Rattle.std.specs.Prelude.{◌≡◌, ◌≢◌, ◌≤◌, ◌<◌, ⊤, ℕ, List, Option, Some, None, IsSome}
 use Rattle.std.specs.FinMap as map
 use Rattle.sha2.specs.Sha256.{sha256}
-use Rattle.gaz_shelf.specs.Board.{Board}
-use Rattle.gaz_shelf.specs.Keeper.{IsNew, IsNotOpen, Seen}
-use Rattle.gaz_shelf.specs.Received.{Received}
-use Rattle.gaz_shelf.specs.declared.fault.ShelfFault.TheVariants.{Store}
+use Rattle.gaz_keeper.specs.Board.{Board}
+use Rattle.gaz_keeper.specs.Keeper.{IsNew, IsNotOpen, Seen}
+use Rattle.gaz_keeper.specs.Received.{Received}
+use Rattle.gaz_keeper.specs.declared.fault.ShelfFault.TheVariants.{Store}
 use Rattle.gaz_hub.specs.Hubs.{IsSoundFor, StandsFor, cause_in, cause_in_answer, state_of}
 use Rattle.gaz_hub.specs.Outcomes.{outcome, wants}
 use Rattle.gaz_hub.specs.Standing.{NothingReady}

@@ -1,10 +1,10 @@
 -- What the worked examples speak of.
 use Rattle.std.specs.Prelude.{ℕ, ◌==◌, true, List, [], ◌∷◌, if◌then◌else◌}
 use Rattle.std.specs.FinMap as map
-use Rattle.gaz_shelf.specs.Board.{Judgement, Board, empty_board}
+use Rattle.gaz_keeper.specs.Board.{Judgement, Board, empty_board}
 use Rattle.gaz_views.specs.View.{empty_view}
 use Rattle.gaz_views.specs.declared.verdict.Verdict.TheVariants.{Rejected}
-use Rattle.gaz_shelf.specs.Received.{Received, with_file}
+use Rattle.gaz_keeper.specs.Received.{Received, with_file}
 use Rattle.gaz_hub.specs.Sample.{sample_custodians}
 use Rattle.gaz_hub.specs.Step.{Door, HubState}
 

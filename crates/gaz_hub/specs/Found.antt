@@ -1,8 +1,8 @@
 -- What is found of a hub that was stopped.
 use Rattle.std.specs.Prelude.{◌≡◌, ◌⊎◌, ℕ, List, ◌∷◌, ◌++◌, None}
 use Rattle.std.specs.FinMap as map
-use Rattle.gaz_shelf.specs.Keeper.{Content, LeavesOnly, Seen}
-use Rattle.gaz_shelf.specs.Received.{Received, with_file}
+use Rattle.gaz_keeper.specs.Keeper.{Content, LeavesOnly, Seen}
+use Rattle.gaz_keeper.specs.Received.{Received, with_file}
 use Rattle.gaz_views.specs.View.{empty_view}
 use Rattle.gaz_hub.specs.Hubs.{AreKnown, Runs, state_of}
 use Rattle.gaz_hub.specs.Laws.{StandsForRun}

@@ -8,10 +8,10 @@ use Rattle.gaz_changefile.specs.Profile.{profile_of}
 use Rattle.gaz_register.specs.Registers.{RegisterValue, knows}
 use Rattle.gaz_extract.specs.declared.closed.Closed.{Closed}
 use Rattle.gaz_rules.specs.Sound.{AllHoldOwn}
-use Rattle.gaz_shelf.specs.Received.{Received}
-use Rattle.gaz_shelf.specs.Keeper.{Content, IsNotOpen, Seen}
-use Rattle.gaz_shelf.specs.declared.fault.ShelfFault.{ShelfFault}
-use Rattle.gaz_shelf.specs.declared.fault.ShelfFault.TheVariants.{Memory, Store}
+use Rattle.gaz_keeper.specs.Received.{Received}
+use Rattle.gaz_keeper.specs.Keeper.{Content, IsNotOpen, Seen}
+use Rattle.gaz_keeper.specs.declared.fault.ShelfFault.{ShelfFault}
+use Rattle.gaz_keeper.specs.declared.fault.ShelfFault.TheVariants.{Memory, Store}
 use Rattle.gaz_hub.specs.Step.{Command, Door, HubState, Replied, Response, Step, Submitted}
 use Rattle.gaz_hub.specs.Step.{blocks, early_refusal, refusal_at_door}
 use Rattle.gaz_hub.specs.Runs.{Run}

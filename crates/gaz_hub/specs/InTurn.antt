@@ -1,6 +1,6 @@
 -- Calls of a hub one after another, and what the laws of runs say of them.
 use Rattle.std.specs.Prelude.{List}
-use Rattle.gaz_shelf.specs.Keeper.{Content, LeavesOnly, Seen}
+use Rattle.gaz_keeper.specs.Keeper.{Content, LeavesOnly, Seen}
 use Rattle.gaz_hub.specs.Answers.{AllAnswered}
 use Rattle.gaz_hub.specs.Found.{IsFound}
 use Rattle.gaz_hub.specs.Hubs.{Runs}

@@ -2,9 +2,9 @@
 use Rattle.std.specs.Prelude.{◌≡◌, ℕ, true, List, [], ◌∷◌, ◌++◌, IsSome, None, Ok}
 use Rattle.std.specs.FinMap as map
 use Rattle.gaz_register.specs.Registers.{IsRegister, RegisterValue, blocks_of}
-use Rattle.gaz_shelf.specs.Board.{Board}
-use Rattle.gaz_shelf.specs.Keeper.{Seen, empty_content}
-use Rattle.gaz_shelf.specs.Received.{Received}
+use Rattle.gaz_keeper.specs.Board.{Board}
+use Rattle.gaz_keeper.specs.Keeper.{Seen, empty_content}
+use Rattle.gaz_keeper.specs.Received.{Received}
 use Rattle.gaz_rules.specs.Sound.{IsSoundBoard}
 use Rattle.gaz_hub.specs.Answers.{AllAnswered}
 use Rattle.gaz_hub.specs.Hubs.{Runs, StandsFor, Steps, state_of}

@@ -6,11 +6,11 @@ use Rattle.std.specs.List.{find, count_by}
 use Rattle.std.specs.FinMap as map
 use Rattle.gaz_changefile.specs.Reading.{Reading}
 use Rattle.gaz_changefile.specs.declared.change.Basis.{Basis}
-use Rattle.gaz_shelf.specs.Board.{Board, reached, verdict_on}
+use Rattle.gaz_keeper.specs.Board.{Board, reached, verdict_on}
 use Rattle.gaz_views.specs.declared.verdict.Verdict.{Verdict}
 use Rattle.gaz_views.specs.declared.verdict.Verdict.TheVariants as verdict
 use Rattle.gaz_rules.specs.Judging.{bases_of}
-use Rattle.gaz_shelf.specs.Received.{Received}
+use Rattle.gaz_keeper.specs.Received.{Received}
 use Rattle.gaz_hub.specs.Standing.{next_reading}
 use Rattle.gaz_hub.specs.declared.standing.Standing.{Standing}
 use Rattle.gaz_hub.specs.declared.outcome.Outcome.{Outcome}

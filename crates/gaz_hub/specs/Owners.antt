@@ -6,8 +6,8 @@ use Rattle.gaz_extract.specs.declared.found.Found.{Found}
 use Rattle.gaz_records.specs.declared.key.Key.TheVariants as key
 use Rattle.gaz_register.specs.Registers.{IsRegister, RegisterValue, blocks_of, owner_of_uprn}
 use Rattle.gaz_rules.specs.Rules.{holds_number}
-use Rattle.gaz_shelf.specs.Board.{Board, last_view}
-use Rattle.gaz_shelf.specs.Received.{Received}
+use Rattle.gaz_keeper.specs.Board.{Board, last_view}
+use Rattle.gaz_keeper.specs.Received.{Received}
 use Rattle.gaz_views.specs.View.{holds}
 use Rattle.gaz_hub.specs.Standing.{IsPartial}
 

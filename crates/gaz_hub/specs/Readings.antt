@@ -3,8 +3,8 @@ use Rattle.std.specs.Prelude.{◌≡◌, ◌≤◌, ℕ, true, List, [], ◌∷�
 use Rattle.gaz_extract.specs.Extracts.{extract}
 use Rattle.gaz_records.specs.declared.key.Key.TheVariants as key
 use Rattle.gaz_register.specs.Registers.{IsRegister, RegisterValue, blocks_of}
-use Rattle.gaz_shelf.specs.Board.{Board, last_view, reached}
-use Rattle.gaz_shelf.specs.Received.{Received}
+use Rattle.gaz_keeper.specs.Board.{Board, last_view, reached}
+use Rattle.gaz_keeper.specs.Received.{Received}
 use Rattle.gaz_views.specs.View.{holds}
 use Rattle.gaz_hub.specs.Runs.{Run}
 use Rattle.gaz_hub.specs.Standing.{HasAllOf, IsPartial, Register, standing}

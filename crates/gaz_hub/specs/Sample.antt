@@ -1,7 +1,7 @@
 -- The custodians of the worked examples, and a hub over them.
 use Rattle.std.specs.Prelude.{false, [], ◌∷◌, codes}
 use Rattle.gaz_register.specs.Registers.{RegisterValue, blocks_of}
-use Rattle.gaz_shelf.specs.Received.{Received}
+use Rattle.gaz_keeper.specs.Received.{Received}
 use Rattle.gaz_hub.specs.Standing.{Register, standing}
 use Rattle.gaz_hub.specs.Step.{Door, HubState}
 

@@ -1,8 +1,8 @@
 -- A hub at one moment, as it is seen.
 use Rattle.std.specs.Prelude.{◌≡◌, ◌⊎◌, Option, None, option_map, ℕ, Result}
 use Rattle.gaz_register.specs.Registers.{RegisterValue}
-use Rattle.gaz_shelf.specs.Keeper.{Seen}
-use Rattle.gaz_shelf.specs.declared.fault.ShelfFault.{ShelfFault}
+use Rattle.gaz_keeper.specs.Keeper.{Seen}
+use Rattle.gaz_keeper.specs.declared.fault.ShelfFault.{ShelfFault}
 use Rattle.gaz_hub.specs.Waiting.{Remembered, remembering, with_coming}
 use Rattle.gaz_hub.specs.declared.hub.Hub.{Hub}
 

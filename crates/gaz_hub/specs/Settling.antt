@@ -6,11 +6,11 @@ use Rattle.std.specs.FinMap as map
 use Rattle.gaz_changefile.specs.Contents.{Contents}
 use Rattle.gaz_changefile.specs.Reading.{Good, Bad, Reading, reading}
 use Rattle.gaz_register.specs.Registers.{RegisterValue}
-use Rattle.gaz_shelf.specs.Board.{Board, reached}
-use Rattle.gaz_shelf.specs.Keeper.{IsNotOpen, Seen}
-use Rattle.gaz_shelf.specs.Received.{Received}
-use Rattle.gaz_shelf.specs.declared.fault.ShelfFault.{ShelfFault}
-use Rattle.gaz_shelf.specs.declared.fault.ShelfFault.TheVariants.{Store}
+use Rattle.gaz_keeper.specs.Board.{Board, reached}
+use Rattle.gaz_keeper.specs.Keeper.{IsNotOpen, Seen}
+use Rattle.gaz_keeper.specs.Received.{Received}
+use Rattle.gaz_keeper.specs.declared.fault.ShelfFault.{ShelfFault}
+use Rattle.gaz_keeper.specs.declared.fault.ShelfFault.TheVariants.{Store}
 use Rattle.gaz_hub.specs.Hubs.{IsSoundFor, StandsFor, or_not_received, state_of}
 use Rattle.gaz_hub.specs.Outcomes.{first_unreached, wants}
 use Rattle.gaz_hub.specs.Standing.{Follows, NothingReady, next_reading, ready}

@@ -6,11 +6,11 @@ use Rattle.std.specs.Prelude.{if◌then◌else◌, IsTrue, List, [], ◌∷◌, 
 use Rattle.std.specs.Option.{option_map, option_map_or}
 use Rattle.std.specs.FinMap as map
 use Rattle.gaz_changefile.specs.Reading.{Reading, reading}
-use Rattle.gaz_shelf.specs.Board.{Judgement, Board, empty_board, reached, view_after}
+use Rattle.gaz_keeper.specs.Board.{Judgement, Board, empty_board, reached, view_after}
 use Rattle.gaz_register.specs.Registers.{Blocks}
 use Rattle.gaz_rules.specs.Bases.{are_reached, basis_views}
 use Rattle.gaz_rules.specs.Judging.{bases_of, judge}
-use Rattle.gaz_shelf.specs.Received.{Received}
+use Rattle.gaz_keeper.specs.Received.{Received}
 
 -- each custodian's own blocks
 abbrev pub Register : Type 0

@@ -10,8 +10,8 @@ use Rattle.gaz_extract.specs.Lookups.{lookup}
 use Rattle.gaz_extract.specs.declared.closed.Closed.{Closed}
 use Rattle.gaz_extract.specs.declared.found.Found.{Found}
 use Rattle.gaz_register.specs.Registers.{RegisterValue, blocks_of, knows}
-use Rattle.gaz_shelf.specs.Board.{Board, empty_board}
-use Rattle.gaz_shelf.specs.Received.{Received, with_file}
+use Rattle.gaz_keeper.specs.Board.{Board, empty_board}
+use Rattle.gaz_keeper.specs.Received.{Received, with_file}
 use Rattle.gaz_hub.specs.Standing.{Register, Follows, NothingReady}
 use Rattle.gaz_hub.specs.Outcomes.{outcome, status}
 use Rattle.gaz_hub.specs.declared.answer.Answer.{Answer}

@@ -2,8 +2,8 @@
 use Rattle.std.specs.Prelude.{◌≡◌, ◌⊎◌, ⊤, ℕ, Bool, true, false, List, [], ◌∷◌, ◌++◌, length}
 use Rattle.std.specs.Prelude.{None, Some}
 use Rattle.std.specs.FinMap as map
-use Rattle.gaz_shelf.specs.Keeper.{Content, Seen}
-use Rattle.gaz_shelf.specs.Received.{Received, with_file}
+use Rattle.gaz_keeper.specs.Keeper.{Content, Seen}
+use Rattle.gaz_keeper.specs.Received.{Received, with_file}
 use Rattle.gaz_views.specs.View.{empty_view}
 use Rattle.gaz_hub.specs.Runs.{Run}
 use Rattle.gaz_hub.specs.Standing.{Follows}

@@ -2,10 +2,10 @@
 use Rattle.std.specs.Prelude.{Result}
 use Rattle.gaz_extract.specs.Readings.{Looks}
 use Rattle.gaz_register.specs.Registers.{RegisterValue}
-use Rattle.gaz_shelf.specs.Board.{Board}
-use Rattle.gaz_shelf.specs.Keeper.{Seen}
-use Rattle.gaz_shelf.specs.Received.{Received}
-use Rattle.gaz_shelf.specs.declared.fault.ShelfFault.{ShelfFault}
+use Rattle.gaz_keeper.specs.Board.{Board}
+use Rattle.gaz_keeper.specs.Keeper.{Seen}
+use Rattle.gaz_keeper.specs.Received.{Received}
+use Rattle.gaz_keeper.specs.declared.fault.ShelfFault.{ShelfFault}
 use Rattle.gaz_hub.specs.Hubs.{Steps, door_of}
 use Rattle.gaz_hub.specs.Settling.{Tells}
 use Rattle.gaz_hub.specs.Step.{Command, Pose, Question, Replied, Response, Told}

@@ -5,9 +5,9 @@ use Rattle.std.specs.List.{list_any}
 use Rattle.std.specs.Option.{unwrap_or}
 use Rattle.std.specs.FinMap as finmap
 use Rattle.gaz_register.specs.Registers.{RegisterValue, knows}
-use Rattle.gaz_shelf.specs.Board.{Board}
-use Rattle.gaz_shelf.specs.Keeper.{Content, Seen}
-use Rattle.gaz_shelf.specs.Received.{Received, pair_cmp}
+use Rattle.gaz_keeper.specs.Board.{Board}
+use Rattle.gaz_keeper.specs.Keeper.{Content, Seen}
+use Rattle.gaz_keeper.specs.Received.{Received, pair_cmp}
 use Rattle.gaz_hub.specs.Hubs.{StandsFor}
 use Rattle.gaz_hub.specs.Outcomes.{wants}
 use Rattle.gaz_hub.specs.Standing.{ready}

@@ -1,7 +1,7 @@
 -- Worked examples on what is told of files, and on the sample register.
 use Rattle.std.specs.Prelude.{◌≡◌, true, false, [], Some, None}
 use Rattle.gaz_register.specs.Registers.{knows, within}
-use Rattle.gaz_shelf.specs.Board.{Board, empty_board, reached}
+use Rattle.gaz_keeper.specs.Board.{Board, empty_board, reached}
 use Rattle.gaz_views.specs.declared.verdict.Verdict.TheVariants as verdict
 use Rattle.gaz_hub.specs.Outcomes.{held_count, outcome, outcome_of, status, wants}
 use Rattle.gaz_hub.specs.Sample.{sample_custodians, sample_door, sample_register, state_of}

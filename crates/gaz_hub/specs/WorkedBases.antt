@@ -7,8 +7,8 @@ use Rattle.gaz_views.specs.Examples.{one_street}
 use Rattle.gaz_views.specs.View.{empty_view}
 use Rattle.gaz_views.specs.declared.verdict.Verdict.TheVariants as verdict
 use Rattle.gaz_rules.specs.Examples.{file_of, insertion}
-use Rattle.gaz_shelf.specs.Board.{Board, Judgement, empty_board}
-use Rattle.gaz_shelf.specs.Received.{Received, with_file}
+use Rattle.gaz_keeper.specs.Board.{Board, Judgement, empty_board}
+use Rattle.gaz_keeper.specs.Received.{Received, with_file}
 use Rattle.gaz_hub.specs.Outcomes.{outcome, wants}
 use Rattle.gaz_hub.specs.Sample.{sample_register}
 use Rattle.gaz_hub.specs.Standing.{judge_one, ready, standing}

@@ -4,16 +4,16 @@ use Rattle.std.specs.declared.cmp.Ordering.TheVariants.{Less, Equal, Greater}
 use Rattle.std.specs.FinMap as map
 use Rattle.gaz_changefile.specs.declared.change.Basis.{Basis}
 use Rattle.gaz_changefile.specs.Reading.{Bad}
-use Rattle.gaz_shelf.specs.Board.{Board, empty_board, reached}
+use Rattle.gaz_keeper.specs.Board.{Board, empty_board, reached}
 use Rattle.gaz_views.specs.Examples.{one_street}
-use Rattle.gaz_shelf.specs.Examples.{two_judged}
+use Rattle.gaz_keeper.specs.Examples.{two_judged}
 use Rattle.gaz_views.specs.View.{empty_view}
 use Rattle.gaz_views.specs.declared.verdict.Verdict.TheVariants.{Applied, Rejected}
 use Rattle.gaz_rules.specs.Examples.{file_of, insertion}
 use Rattle.gaz_hub.specs.Standing.{HasAllOf, Follows, IsPartial, IsPrefixOf, Leads, NothingReady}
 use Rattle.gaz_hub.specs.Standing.{StandsSettled, judge_one, judgement_after, next_reading, ready}
 use Rattle.gaz_hub.specs.Standing.{round, rounds, standing, with_next}
-use Rattle.gaz_shelf.specs.Received.{pair_cmp, with_file}
+use Rattle.gaz_keeper.specs.Received.{pair_cmp, with_file}
 use Rattle.gaz_rules.specs.Bases.{are_reached, basis_views}
 use Rattle.gaz_hub.specs.Sample.{sample_register}
 use Rattle.gaz_hub.specs.Examples.{all_sent, first_sent, no_text, no_text_judged, of_1003}

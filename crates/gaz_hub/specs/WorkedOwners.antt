@@ -2,8 +2,8 @@
 use Rattle.std.specs.Prelude.{◌≡◌, ◌==◌, true, false, [], ◌∷◌, None, IsSome, if◌then◌else◌}
 use Rattle.gaz_extract.specs.Examples.{county, two_custodians, two_in_register}
 use Rattle.gaz_extract.specs.Lookups.{lookup, said_by}
-use Rattle.gaz_shelf.specs.Board.{Board}
-use Rattle.gaz_shelf.specs.Keeper.{Content, empty_content}
+use Rattle.gaz_keeper.specs.Board.{Board}
+use Rattle.gaz_keeper.specs.Keeper.{Content, empty_content}
 use Rattle.gaz_views.specs.declared.verdict.Verdict.TheVariants.{Applied}
 use Rattle.gaz_hub.specs.Hubs.{MayHave, door_of}
 use Rattle.gaz_hub.specs.Owners.{can_have, told_by_owner}

@@ -4,7 +4,7 @@ use Rattle.gaz_extract.specs.Extracts.{header, trailer}
 use Rattle.gaz_extract.specs.declared.closed.Closed.{Closed}
 use Rattle.gaz_extract.specs.declared.found.Found.{Found}
 use Rattle.gaz_rows.specs.Rows.{lines_of}
-use Rattle.gaz_shelf.specs.declared.fault.ShelfFault.TheVariants as fault
+use Rattle.gaz_keeper.specs.declared.fault.ShelfFault.TheVariants as fault
 use Rattle.gaz_hub.specs.Examples.{gap_hub, late_hub}
 use Rattle.gaz_hub.specs.Hubs.{cause_of, told, told_all, or_not_received}
 use Rattle.gaz_hub.specs.Runs.{is_settled}

@@ -1,6 +1,6 @@
 -- Worked examples on runs of a hub.
 use Rattle.std.specs.Prelude.{◌≡◌, true, false, List, [], ◌∷◌, Some, None, Ok, Err}
-use Rattle.gaz_shelf.specs.declared.fault.ShelfFault.TheVariants as fault
+use Rattle.gaz_keeper.specs.declared.fault.ShelfFault.TheVariants as fault
 use Rattle.std.specs.FinMap as map
 use Rattle.gaz_hub.specs.Answers.{AllReadOff, IsReadOff, received_by, then_received}
 use Rattle.gaz_hub.specs.Runs.{Abides, ChangesNothing, Run, accepted, first_received}

@@ -1,8 +1,8 @@
 -- Worked examples on the door and on the steps of a hub.
 use Rattle.std.specs.Prelude.{◌≡◌, ℕ, List, true, false, [], Some, None, Ok, Err}
 use Rattle.sha2.specs.Sha256.{sha256}
-use Rattle.gaz_shelf.specs.Board.{empty_board}
-use Rattle.gaz_shelf.specs.declared.fault.ShelfFault.TheVariants as fault
+use Rattle.gaz_keeper.specs.Board.{empty_board}
+use Rattle.gaz_keeper.specs.declared.fault.ShelfFault.TheVariants as fault
 use Rattle.gaz_hub.specs.Step.{Ask, Command, HubState, Pose, Replied, Response, Settle, Settles}
 use Rattle.gaz_hub.specs.Step.{Stand, Step, Submit, Submitted, early_refusal, file_refusal}
 use Rattle.gaz_hub.specs.Step.{is_volume}

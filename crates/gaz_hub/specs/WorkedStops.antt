@@ -1,9 +1,9 @@
 -- Worked examples on what a stop may leave of a hub.
 use Rattle.std.specs.Prelude.{true, false, ◌≡◌, [], ◌∷◌}
 use Rattle.std.specs.FinMap as map
-use Rattle.gaz_shelf.specs.Board.{empty_board}
-use Rattle.gaz_shelf.specs.Keeper.{Content}
-use Rattle.gaz_shelf.specs.declared.fault.ShelfFault.TheVariants as fault
+use Rattle.gaz_keeper.specs.Board.{empty_board}
+use Rattle.gaz_keeper.specs.Keeper.{Content}
+use Rattle.gaz_keeper.specs.declared.fault.ShelfFault.TheVariants as fault
 use Rattle.gaz_views.specs.View.{empty_view}
 use Rattle.gaz_hub.specs.Examples.{first_hub, first_sent, no_text}
 use Rattle.gaz_hub.specs.Sample.{sample_door}

@@ -1,7 +1,7 @@
 -- Worked examples on what a hub remembers of who waits for what.
 use Rattle.std.specs.Prelude.{◌≡◌, true, false, [], ◌∷◌, None, Some}
 use Rattle.std.specs.FinMap as map
-use Rattle.gaz_shelf.specs.Keeper.{Content, empty_content}
+use Rattle.gaz_keeper.specs.Keeper.{Content, empty_content}
 use Rattle.gaz_hub.specs.Examples.{one_judged, sent}
 use Rattle.gaz_hub.specs.Waiting.{IsRight, Remembered, Rests, all_ahead, is_among, waiting_for}
 use Rattle.gaz_hub.specs.Waiting.{with_coming, with_judged, with_waiter}

@@ -1,12 +1,12 @@
 //! How questions of outcomes and standings are answered.
 ghost use Rattle.std.specs.Prelude.{◌≡◌, Some, None};
-ghost use Rattle.gaz_shelf.specs.Board.{reached};
+ghost use Rattle.gaz_keeper.specs.Board.{reached};
 ghost use Rattle.gaz_hub.specs.Asked.{IsToldNow};
 ghost use Rattle.gaz_hub.specs.Hubs.{MeetsDoor, door_of};
 ghost use Rattle.gaz_hub.specs.Outcomes.{held_count, status};
 ghost use Rattle.gaz_hub.specs.Seen.{hub_seen};
 ghost use Rattle.gaz_hub.specs.Step.{Ask, Pose, Replied, Stand};
-ghost use Rattle.gaz_shelf.specs.Telling.{IsNotJudging};
+ghost use Rattle.gaz_keeper.specs.Telling.{IsNotJudging};
 ghost use Rattle.gaz_hub.specs.Telling.{LooksAtKept, RepliesTo};
 
 use crate::admission::{at_door, known_code};
@@ -19,7 +19,7 @@ use crate::remembering::answered;
 use crate::reply::{digest_of, tell};
 use crate::standing::Standing;
 use gaz_ids::{Code, Volume};
-use gaz_shelf::{Inbox, ShelfFault};
+use gaz_keeper::{Inbox, ShelfFault};
 use std::alloc::Global;
 
 // The digest and the outcome of a volume, read off the board as it is.

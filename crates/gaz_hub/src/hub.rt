@@ -1,5 +1,5 @@
 ghost use Rattle.std.specs.Prelude.{◌≡◌};
-ghost use Rattle.gaz_shelf.specs.Telling.{IsNotJudging};
+ghost use Rattle.gaz_keeper.specs.Telling.{IsNotJudging};
 ghost use Rattle.gaz_hub.specs.Seen.{RemembersNothing, hub_seen};
 ghost use Rattle.gaz_hub.specs.Hubs.{or_not_received};
 ghost use Rattle.gaz_hub.specs.Step.{Settle};
@@ -7,8 +7,8 @@ ghost use Rattle.gaz_hub.specs.Telling.{RepliesTo};
 
 use crate::remembering::settle_all;
 use crate::waiters::Waiters;
+use gaz_keeper::{Inbox, ShelfFault};
 use gaz_register::Register;
-use gaz_shelf::{Inbox, ShelfFault};
 use std::alloc::Global;
 
 /// A hub of the custodians of a register, which keeps files and board in a keeper.

@@ -1,6 +1,6 @@
 //! Calls of a hub one after another.
 ghost use Rattle.std.specs.Prelude.{◌≡◌, [], ◌∷◌};
-ghost use Rattle.gaz_shelf.specs.Telling.{IsNotJudging};
+ghost use Rattle.gaz_keeper.specs.Telling.{IsNotJudging};
 ghost use Rattle.gaz_hub.specs.Hubs.{door_of};
 ghost use Rattle.gaz_hub.specs.InTurn.{GoInTurn};
 ghost use Rattle.gaz_hub.specs.Seen.{hub_seen};
@@ -10,7 +10,7 @@ use crate::answer::{Answer, Digest as FileDigest};
 use crate::hub::Hub;
 use crate::outcome::Outcome;
 use crate::refusal::Refusal;
-use gaz_shelf::Inbox;
+use gaz_keeper::Inbox;
 
 /// Submits a file and then asks what became of it: two calls, of which the laws of runs speak as of
 /// any number of them.

@@ -21,7 +21,7 @@ ghost use Rattle.gaz_hub.specs.WorkedReadings.{WorkedReadings};
 ghost use Rattle.gaz_hub.specs.WorkedRuns.{WorkedRuns};
 ghost use Rattle.gaz_hub.specs.WorkedSteps.{WorkedSteps};
 
-use gaz_shelf::Inbox;
+use gaz_keeper::Inbox;
 
 /// Every partial board with nothing ready is the standing one, whichever ready file was judged
 /// first.

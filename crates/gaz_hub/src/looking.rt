@@ -1,7 +1,7 @@
 //! What a custodian's next volume is, and what it waits for.
 ghost use Rattle.std.specs.Prelude.{◌≡◌, ◌≤◌, ◌+◌};
 ghost use Rattle.gaz_changefile.specs.Reading.{Bad, Good};
-ghost use Rattle.gaz_shelf.specs.Board.{reached};
+ghost use Rattle.gaz_keeper.specs.Board.{reached};
 ghost use Rattle.gaz_hub.specs.Settling.{IsNext, IsNextFile, IsReadAs, IsWeighed, wanted_by};
 ghost use Rattle.gaz_hub.specs.Outcomes.{first_unreached, wants};
 ghost use Rattle.gaz_extract.specs.Readings.{LooksAtBoard};
@@ -9,7 +9,7 @@ ghost use Rattle.gaz_hub.specs.Telling.{LooksAtKept};
 
 use gaz_changefile::{Basis, ChangeFile, FileFault, read_file};
 use gaz_ids::{Code, LAST_VOLUME, Volume};
-use gaz_shelf::{Inbox, Shelf, ShelfFault};
+use gaz_keeper::{Inbox, Shelf, ShelfFault};
 use std::alloc::Global;
 
 /// A custodian's next volume.

@@ -4,7 +4,7 @@ ghost use Rattle.std.specs.Prelude.{◌≡◌};
 ghost use Rattle.gaz_hub.specs.Hubs.{MeetsDoor, door_of, told, told_all};
 ghost use Rattle.gaz_hub.specs.Seen.{hub_seen};
 ghost use Rattle.gaz_hub.specs.Step.{Extract, ListClosed, LookUp, Pose, Replied};
-ghost use Rattle.gaz_shelf.specs.Telling.{IsNotJudging};
+ghost use Rattle.gaz_keeper.specs.Telling.{IsNotJudging};
 ghost use Rattle.gaz_extract.specs.Readings.{LooksAtBoard};
 ghost use Rattle.gaz_hub.specs.Owners.{told_by_owner};
 ghost use Rattle.gaz_hub.specs.Telling.{RepliesTo};
@@ -15,8 +15,8 @@ use crate::refusal::Refusal;
 use crate::remembering::answered;
 use gaz_extract::{Closed, Found, closed_streets, extract, lookup_with};
 use gaz_ids::Uprn;
+use gaz_keeper::{Inbox, ShelfFault};
 use gaz_register::Register;
-use gaz_shelf::{Inbox, ShelfFault};
 use std::alloc::Global;
 
 // What the custodian in whose blocks the UPRN lies says of a property. Nobody else can have it.

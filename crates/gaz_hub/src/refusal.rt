@@ -1,4 +1,4 @@
-use gaz_shelf::ShelfFault;
+use gaz_keeper::ShelfFault;
 use thiserror::Error;
 
 /// Why the hub didn't do what it was asked. The door's refusals, the first four, are looked for in

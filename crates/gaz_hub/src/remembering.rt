@@ -2,8 +2,8 @@
 ghost use Rattle.std.specs.Prelude.{◌≡◌, ⊤, None, IfOk};
 ghost use Rattle.std.specs.Fn.{FnOnceReturnsAtMut, FnOnceTakesAtMut};
 ghost use Rattle.std.specs.Option.{unwrap_or};
-ghost use Rattle.gaz_shelf.specs.Keeper.{Enters, IsNew, with_received};
-ghost use Rattle.gaz_shelf.specs.Telling.{IsNotJudging};
+ghost use Rattle.gaz_keeper.specs.Keeper.{Enters, IsNew, with_received};
+ghost use Rattle.gaz_keeper.specs.Telling.{IsNotJudging};
 ghost use Rattle.gaz_hub.specs.Hubs.{door_of};
 ghost use Rattle.gaz_hub.specs.Seen.{CallsKeeper, IsAfterComing, kept_seen};
 ghost use Rattle.gaz_hub.specs.Settling.{AnswersSettled, SettlesAndCalls, TakesIdle, Tells};
@@ -13,8 +13,8 @@ use crate::refusal::Refusal;
 use crate::settling::settle;
 use crate::waiters::Waiters;
 use gaz_ids::{Code, Volume};
+use gaz_keeper::{Inbox, ShelfFault};
 use gaz_register::Register;
-use gaz_shelf::{Inbox, ShelfFault};
 use std::alloc::{AllocError, Global};
 
 // What was remembered, and else that everyone is to be looked at. It is remembered no more.

@@ -9,7 +9,7 @@ use crate::answer::Digest as FileDigest;
 use crate::looking::wants;
 use crate::outcome::Outcome;
 use gaz_ids::{Code, Volume};
-use gaz_shelf::{Inbox, ShelfFault, Verdict};
+use gaz_keeper::{Inbox, ShelfFault, Verdict};
 use sha2::{Digest, Sha256};
 use std::alloc::Global;
 

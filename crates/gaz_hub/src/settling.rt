@@ -3,14 +3,14 @@ ghost use Rattle.std.specs.Prelude.{◌≡◌, ◌≤◌, [], ◌∷◌, ⊤, So
 ghost use Rattle.gaz_hub.specs.Hubs.{door_of};
 ghost use Rattle.gaz_hub.specs.Settling.{Tells, Tries};
 ghost use Rattle.gaz_hub.specs.Waiting.{RestAfter, remembering};
-ghost use Rattle.gaz_shelf.specs.Telling.{IsNotJudging};
+ghost use Rattle.gaz_keeper.specs.Telling.{IsNotJudging};
 
 use crate::looking::{Next, look};
 use crate::waiters::Waiters;
 use gaz_ids::{Code, LAST_VOLUME};
+use gaz_keeper::{Inbox, ShelfFault};
 use gaz_register::Register;
 use gaz_rules::judge;
-use gaz_shelf::{Inbox, ShelfFault};
 use std::alloc::Global;
 
 // Whether one more may be judged. No lawful content asks past the last.

@@ -4,7 +4,7 @@ ghost use Rattle.gaz_hub.specs.Asked.{AnyIsOfBefore, IsAgain, IsOutcome, IsPastD
 ghost use Rattle.gaz_hub.specs.Hubs.{MeetsDoor, door_of};
 ghost use Rattle.gaz_hub.specs.Seen.{hub_seen};
 ghost use Rattle.gaz_hub.specs.Step.{Submit, Submitted, file_refusal};
-ghost use Rattle.gaz_shelf.specs.Telling.{IsNotJudging};
+ghost use Rattle.gaz_keeper.specs.Telling.{IsNotJudging};
 ghost use Rattle.gaz_hub.specs.Telling.{LooksAtKept, StepsTo, TellsKept};
 
 use crate::admission::{at_door, names_unknown_profile};
@@ -15,7 +15,7 @@ use crate::refusal::Refusal;
 use crate::remembering::{receive, settled};
 use crate::reply::{digest_of, tell};
 use gaz_ids::{Code, Volume};
-use gaz_shelf::{Inbox, ShelfFault};
+use gaz_keeper::{Inbox, ShelfFault};
 use std::alloc::Global;
 
 fn are_same(a: &[u8], b: &[u8]) -> bool

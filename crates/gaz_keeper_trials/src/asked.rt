@@ -1,8 +1,9 @@
 //! What a keeper is asked.
 use crate::tried::{Refusal, Tried};
 use gaz_ids::{Code, Lang, Uprn, Usrn, Volume};
+use gaz_keeper::{Inbox, Property, ShelfFault, Verdict};
 use gaz_records::{Key, Kind, SharedItem};
-use gaz_shelf::{Inbox, Property, ShelfFault, Verdict, read_kind};
+use gaz_shelf::read_kind;
 use std::alloc::Global;
 
 impl<K: Inbox + Drop> Tried<K> {

@@ -10,8 +10,9 @@ use crate::volumes::{
     receives_all, second_volume, third_volume,
 };
 use gaz_ids::Lang;
+use gaz_keeper::{Inbox, Verdict};
 use gaz_records::Kind;
-use gaz_shelf::{Inbox, MemShelf, Seed, Verdict};
+use gaz_shelf::{MemShelf, Seed};
 use std::process::Abort;
 use std::test::Fail;
 

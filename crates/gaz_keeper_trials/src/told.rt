@@ -2,8 +2,8 @@
 use crate::fixtures::{custodian, volume};
 use crate::tried::Tried;
 use gaz_ids::{Lang, Uprn, Usrn};
+use gaz_keeper::{Inbox, Property, Verdict};
 use gaz_records::{Key, Kind, SharedItem, item_text};
-use gaz_shelf::{Inbox, Property, Verdict};
 use std::process::Abort;
 use std::test::Fail;
 

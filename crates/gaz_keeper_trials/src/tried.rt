@@ -1,11 +1,12 @@
 //! A keeper as its callers have it. What a call answers is for the tests to find out, so that of
 //! these only the first has a clause, and no test carries what the keeper's own say.
 ghost use Rattle.std.specs.Prelude.{◌≡◌, ℕ, None, Some};
-ghost use Rattle.gaz_shelf.specs.Keeper.{IsNotOpen, Open};
+ghost use Rattle.gaz_keeper.specs.Keeper.{IsNotOpen, Open};
 
 use gaz_ids::{Code, Volume};
+use gaz_keeper::{Inbox, ShelfFault};
 use gaz_records::{Key, SharedItem};
-use gaz_shelf::{Ending, Faulty, Inbox, ShelfFault, are_entries, write_volume};
+use gaz_shelf::{Ending, Faulty, are_entries, write_volume};
 
 /// Why a call came to nothing.
 #[derive(Clone, Copy, Debug, PartialEq, Eq)]

@@ -1,8 +1,9 @@
 //! The volumes that the list of calls writes.
 use crate::fixtures::{custodian, item, lpi_key, volume, xref_key};
 use crate::tried::Tried;
+use gaz_keeper::Inbox;
 use gaz_records::{Kind, SharedItem};
-use gaz_shelf::{Ending, Inbox};
+use gaz_shelf::Ending;
 use std::alloc::Global;
 use std::process::Abort;
 use std::test::Fail;

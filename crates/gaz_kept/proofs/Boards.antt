@@ -14,7 +14,7 @@ use Rattle.gaz_views.proofs.Judgements.{append_judged, count_judged, same_judged
 use Rattle.gaz_views.specs.Judgements.{Judgement, judgements}
 use Rattle.gaz_views.specs.View.{empty_view}
 use Rattle.gaz_views.specs.declared.verdict.Verdict.{Verdict}
-use Rattle.gaz_shelf.specs.Board.{reached, verdict_on, view_after}
+use Rattle.gaz_keeper.specs.Board.{reached, verdict_on, view_after}
 use Rattle.gaz_kept.specs.Contents.{board_in}
 use Rattle.gaz_kept.specs.Files.{judged_volumes, reached_in, verdicts_in}
 use Rattle.gaz_kept.specs.Judging.{AreBornLater, BoardAdds, BoardChanges, BoardReads}

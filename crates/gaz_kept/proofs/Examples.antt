@@ -30,10 +30,10 @@ use Rattle.gaz_overlay.proofs.Rows.{item_after, stands, used_after, uses}
 use Rattle.gaz_overlay.specs.Rows.{HistoryRow, view_after}
 use Rattle.gaz_tables.specs.Receiveds.{judged}
 use Rattle.gaz_kept.specs.Examples.{WorkedBoard, WorkedExamples, WorkedFiles, WorkedNewest, WorkedTables, WorkedViews, changed, changed_101_life, inserted_101, changed_101, four_rows, held_6, overlapping, rejected_3, six_files, with_a_gap, worked_board}
-use Rattle.gaz_shelf.specs.Board.{verdict_on}
-use Rattle.gaz_shelf.specs.Board as board
-use Rattle.gaz_shelf.specs.Received.{pair_cmp}
-use Rattle.gaz_shelf.proofs.Pairs.{pairs_total}
+use Rattle.gaz_keeper.specs.Board.{verdict_on}
+use Rattle.gaz_keeper.specs.Board as board
+use Rattle.gaz_keeper.specs.Received.{pair_cmp}
+use Rattle.gaz_keeper.proofs.Pairs.{pairs_total}
 use Rattle.gaz_kept.specs.Files.{file_in, files_in, judged_in, judged_volumes, verdicts_in}
 use Rattle.gaz_kept.specs.Kept.{AreInTurn, AreFirst, IsFile, IsVersion}
 use Rattle.gaz_kept.specs.Newest.{IsNewest, IsNewestUntil}

@@ -17,7 +17,7 @@ use Rattle.sqlite_rules.specs.Lists.{Has}
 use Rattle.sqlite_rules.proofs.ProbeLemmas.{has_mapped, mapped_has}
 use Rattle.gaz_records.proofs.LabelOrder.{greater}
 use Rattle.gaz_views.specs.declared.verdict.Verdict.{Verdict}
-use Rattle.gaz_shelf.proofs.Pairs.{pairs_exact, pairs_total}
+use Rattle.gaz_keeper.proofs.Pairs.{pairs_exact, pairs_total}
 use Rattle.gaz_sql_facts.specs.Changes.{IsAdded, IsChanged}
 use Rattle.gaz_tables.specs.Receiveds as table
 use Rattle.gaz_tables.specs.Receiveds.{IsVolume, judged, unjudged}

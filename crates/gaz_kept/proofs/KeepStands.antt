@@ -12,7 +12,7 @@ use Rattle.gaz_records.specs.Keys.{key_of}
 use Rattle.gaz_records.specs.declared.key.Key.{Key}
 use Rattle.gaz_views.specs.View.{View, empty_view}
 use Rattle.gaz_views.specs.declared.verdict.Verdict.TheVariants.{Applied}
-use Rattle.gaz_shelf.specs.Board.{adds}
+use Rattle.gaz_keeper.specs.Board.{adds}
 use Rattle.gaz_overlay.specs.Changes.{Changes}
 use Rattle.gaz_overlay.specs.Over.{Make}
 use Rattle.gaz_overlay.specs.Rows.{KeepVolume, never, view_after, written}

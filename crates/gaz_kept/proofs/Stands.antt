@@ -17,8 +17,8 @@ use Rattle.gaz_views.specs.Judgements.{judgements}
 use Rattle.gaz_views.specs.View.{View, empty_view}
 use Rattle.gaz_views.specs.declared.verdict.Verdict.{Verdict}
 use Rattle.gaz_views.specs.declared.verdict.Verdict.TheVariants.{Rejected}
-use Rattle.gaz_shelf.proofs.Pairs.{pairs_exact, pairs_total}
-use Rattle.gaz_shelf.specs.Board.{Board, adds, last_view, view_after}
+use Rattle.gaz_keeper.proofs.Pairs.{pairs_exact, pairs_total}
+use Rattle.gaz_keeper.specs.Board.{Board, adds, last_view, view_after}
 use Rattle.gaz_overlay.specs.Rows.{HistoryRow, IsUntil, never}
 use Rattle.gaz_sql_facts.specs.Changes.{Changes}
 use Rattle.gaz_tables.proofs.ReceivedOnce.{once}

@@ -5,8 +5,8 @@ use Rattle.sqlite.specs.Order.{Row}
 use Rattle.sqlite_trees.specs.Tree.{Trees}
 use Rattle.gaz_views.specs.Judgements.{judgements}
 use Rattle.gaz_views.specs.View.{View}
-use Rattle.gaz_shelf.specs.Board.{Board}
-use Rattle.gaz_shelf.specs.Keeper.{Content}
+use Rattle.gaz_keeper.specs.Board.{Board}
+use Rattle.gaz_keeper.specs.Keeper.{Content}
 use Rattle.gaz_tables.specs.Schema.{receiveds, versions}
 use Rattle.gaz_kept.specs.Files.{files_in, verdicts_in}
 use Rattle.gaz_kept.specs.Versions.{view_in}

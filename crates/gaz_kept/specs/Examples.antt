@@ -9,7 +9,7 @@ use Rattle.gaz_records.specs.declared.key.Key.TheVariants as key
 use Rattle.gaz_views.specs.Examples.{spring, street}
 use Rattle.gaz_views.specs.View.{was_used}
 use Rattle.gaz_views.specs.declared.verdict.Verdict.TheVariants.{Applied, Rejected}
-use Rattle.gaz_shelf.specs.Board.{Board, reached, verdict_on, view_after}
+use Rattle.gaz_keeper.specs.Board.{Board, reached, verdict_on, view_after}
 use Rattle.gaz_overlay.specs.declared.touch.Stood.TheVariants.{Never, Past, Since}
 use Rattle.gaz_tables.specs.Receiveds.{judged, unjudged}
 use Rattle.gaz_kept.specs.Contents.{board_in}

@@ -5,8 +5,8 @@ use Rattle.sqlite.specs.declared.types.Value.{Value}
 use Rattle.sqlite.specs.Order.{Row}
 use Rattle.sqlite_rules.specs.Lists.{Has}
 use Rattle.gaz_views.specs.declared.verdict.Verdict.{Verdict}
-use Rattle.gaz_shelf.specs.Board.{adds, reached, verdict_on, view_after}
-use Rattle.gaz_shelf.specs.Received.{with_file}
+use Rattle.gaz_keeper.specs.Board.{adds, reached, verdict_on, view_after}
+use Rattle.gaz_keeper.specs.Received.{with_file}
 use Rattle.gaz_overlay.specs.Rows.{HistoryRow, never}
 use Rattle.gaz_overlay.specs.Rows as history
 use Rattle.gaz_sql_facts.specs.Changes.{IsAdded, IsChanged}

@@ -15,8 +15,8 @@ use Rattle.gaz_records.specs.declared.key.Key.{Key}
 use Rattle.gaz_views.specs.View.{View, empty_view}
 use Rattle.gaz_views.specs.declared.verdict.Verdict.TheVariants as verdict
 use Rattle.gaz_cells.specs.Ids.{id_of, kind_in}
-use Rattle.gaz_shelf.specs.Board.{Judgement}
-use Rattle.gaz_shelf.specs.Keeper.{IsAtHand, with_judgement}
+use Rattle.gaz_keeper.specs.Board.{Judgement}
+use Rattle.gaz_keeper.specs.Keeper.{IsAtHand, with_judgement}
 use Rattle.gaz_overlay.specs.Changes.{Changes}
 use Rattle.gaz_overlay.specs.Over.{Make}
 use Rattle.gaz_overlay.specs.Rows.{AreTold, never}

@@ -2,7 +2,8 @@
 use Rattle.std.specs.Prelude.{◌≡◌, ◌≤◌, ◌+◌, ℕ, pos, List}
 use Rattle.sqlite.specs.Effect.{Database}
 use Rattle.gaz_views.specs.View.{View, empty_view}
-use Rattle.gaz_shelf.specs.Keeper.{Content, IsAtHand, IsNew, after_skip, empty_content, with_received}
+use Rattle.gaz_keeper.specs.Keeper.{Content, IsAtHand, IsNew, after_skip, empty_content}
+use Rattle.gaz_keeper.specs.Keeper.{with_received}
 use Rattle.gaz_sql_facts.specs.Changes.{Changes}
 use Rattle.gaz_tables.specs.Creating.{IsNewStore}
 use Rattle.gaz_tables.specs.Receiveds.{Rejects, unjudged}

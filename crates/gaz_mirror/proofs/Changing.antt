@@ -1,8 +1,8 @@
 -- What a change of a judgement tells of a keeper over two.
 use Rattle.std.proofs.Common.{◌≡◌, sym, subst, ◌∙◌}
 use Rattle.std.specs.Prelude.{true, Option, None, Some, Result, Ok, Err, OnOk, is_ok}
-use Rattle.gaz_shelf.specs.Keeper.{Content, Goes, IsSound, LeavesAtMost, LeavesJust, Progress, Seen}
-use Rattle.gaz_shelf.specs.declared.fault.ShelfFault.{ShelfFault}
+use Rattle.gaz_keeper.specs.Keeper.{Content, Goes, IsSound, LeavesAtMost, LeavesJust, Progress, Seen}
+use Rattle.gaz_keeper.specs.declared.fault.ShelfFault.{ShelfFault}
 use Rattle.gaz_mirror.specs.Mirroring.{mirrored, stands_below}
 
 module _ {U : Type 0} (seen : U → Seen) (old new : Seen) (was now : Option U) where

@@ -1,8 +1,8 @@
 -- How a keeper over two is seen, and what its calls leave as it was.
 use Rattle.std.specs.Prelude.{◌≡◌, None, IsSome, Result, OnErr}
-use Rattle.gaz_shelf.specs.Keeper.{Seen}
-use Rattle.gaz_shelf.specs.declared.fault.ShelfFault.{ShelfFault}
-use Rattle.gaz_shelf.specs.declared.shelf.Shelf.{Ghosts}
+use Rattle.gaz_keeper.specs.Keeper.{Seen}
+use Rattle.gaz_keeper.specs.declared.fault.ShelfFault.{ShelfFault}
+use Rattle.gaz_keeper.specs.declared.shelf.Shelf.{Ghosts}
 use Rattle.gaz_mirror.specs.Mirroring.{mirrored}
 use Rattle.gaz_mirror.specs.declared.mirror.Mirror.{Mirror}
 

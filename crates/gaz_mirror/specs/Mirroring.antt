@@ -1,6 +1,6 @@
 -- A keeper over two keepers, as it is seen.
 use Rattle.std.specs.Prelude.{◌≡◌, Option, None, Some}
-use Rattle.gaz_shelf.specs.Keeper.{Seen}
+use Rattle.gaz_keeper.specs.Keeper.{Seen}
 
 -- both stand for their contents, which are one
 pub record StandAsOne (below above : Seen) : Type 0 where

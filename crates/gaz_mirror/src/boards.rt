@@ -2,19 +2,20 @@
 ghost use Rattle.std.specs.Prelude.{◌≡◌, ◌≢◌, true};
 ghost use Rattle.gaz_records.specs.Items.{is_entry};
 ghost use Rattle.gaz_records.specs.Kinds.{is_entry_kind};
-ghost use Rattle.gaz_shelf.specs.Keeper.{Idle, IsNotOpen, Refuses};
-ghost use Rattle.gaz_shelf.specs.Telling.{Abandons, Applies, Begins, Puts, Skips, Takes};
-ghost use Rattle.gaz_shelf.specs.Telling.{TellsApprovedOf, TellsApprovedOn, TellsAt, TellsChildren};
-ghost use Rattle.gaz_shelf.specs.Telling.{TellsCurrent, TellsEver, TellsPage, TellsPropertyOf};
-ghost use Rattle.gaz_shelf.specs.Telling.{TellsReached, TellsVerdict};
+ghost use Rattle.gaz_keeper.specs.Keeper.{Idle, IsNotOpen, Refuses};
+ghost use Rattle.gaz_keeper.specs.Telling.{Abandons, Applies, Begins, Puts, Skips, Takes};
+ghost use Rattle.gaz_keeper.specs.Telling.{TellsApprovedOf, TellsApprovedOn, TellsAt};
+ghost use Rattle.gaz_keeper.specs.Telling.{TellsChildren};
+ghost use Rattle.gaz_keeper.specs.Telling.{TellsCurrent, TellsEver, TellsPage, TellsPropertyOf};
+ghost use Rattle.gaz_keeper.specs.Telling.{TellsReached, TellsVerdict};
 ghost use Rattle.gaz_mirror.specs.Mirrored.{DropsUpper, SparesLower, seen_mirrored};
 
 use crate::mirror::Mirror;
 use crate::turns::{change, reading};
 use crate::unshared::Unshared;
 use gaz_ids::{Code, Lang, Uprn, Usrn, Volume};
+use gaz_keeper::{Inbox, Property, Shelf, ShelfFault, Verdict};
 use gaz_records::{Key, Kind, SharedItem};
-use gaz_shelf::{Inbox, Property, Shelf, ShelfFault, Verdict};
 
 // Beside what every keeper tells: a reading of the upper keeper leaves the lower one alone, and a
 // fault leaves no upper one.

@@ -1,13 +1,13 @@
 //! The calls of a keeper over two that concern files.
-ghost use Rattle.gaz_shelf.specs.Keeper.{IsNotOpen};
-ghost use Rattle.gaz_shelf.specs.Telling.{Receives, TellsHeld, TellsReceived};
+ghost use Rattle.gaz_keeper.specs.Keeper.{IsNotOpen};
+ghost use Rattle.gaz_keeper.specs.Telling.{Receives, TellsHeld, TellsReceived};
 ghost use Rattle.gaz_mirror.specs.Mirrored.{DropsUpper, SparesLower, seen_mirrored};
 
 use crate::mirror::Mirror;
 use crate::turns::{change, reading};
 use crate::unshared::Unshared;
 use gaz_ids::{Code, Volume};
-use gaz_shelf::{Inbox, ShelfFault};
+use gaz_keeper::{Inbox, ShelfFault};
 
 impl<L: Inbox + Drop, U: Unshared + Drop> Inbox for Mirror<L, U> {
     fn received(&mut self, code: Code, volume: Volume) -> Result<Option<Vec<u8>>, ShelfFault>

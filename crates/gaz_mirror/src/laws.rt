@@ -1,12 +1,13 @@
 //! What a reader of the definitions may rely on.
 ghost use Rattle.std.specs.Prelude.{◌≡◌, Some, IfOk, option_map};
 ghost use Rattle.std.specs.FinMap as map;
-ghost use Rattle.gaz_shelf.specs.Keeper.{IsNew, IsNotOpen};
+ghost use Rattle.gaz_keeper.specs.Keeper.{IsNew, IsNotOpen};
 ghost use Rattle.gaz_mirror.specs.Mirrored.{seen_mirrored};
 
 use crate::mirror::Mirror;
 use gaz_ids::{Code, Volume};
-use gaz_shelf::{Faulty, Inbox, MemShelf, Seed, ShelfFault};
+use gaz_keeper::{Inbox, ShelfFault};
+use gaz_shelf::{Faulty, MemShelf, Seed};
 use std::alloc::Global;
 
 /// A file that was received is found, whichever call of the upper keeper fails.

@@ -1,11 +1,11 @@
 //! A keeper over two.
 ghost use Rattle.std.specs.Prelude.{◌≡◌, ◌↔◌, None, Some, IsSome, IsTrue};
 ghost use Rattle.std.specs.Option.{ForSome};
-ghost use Rattle.gaz_shelf.specs.Keeper.{Idle};
+ghost use Rattle.gaz_keeper.specs.Keeper.{Idle};
 ghost use Rattle.gaz_mirror.specs.InStep.{IsInStep};
 
 use crate::unshared::Unshared;
-use gaz_shelf::Inbox;
+use gaz_keeper::Inbox;
 
 /// Keeps one content twice: below, where it is to last, and at hand above, where it is read.
 ///

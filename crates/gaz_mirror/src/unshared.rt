@@ -1,5 +1,6 @@
 //! Keepers that nobody else can write on.
-use gaz_shelf::{Faulty, Inbox, MemShelf};
+use gaz_keeper::Inbox;
+use gaz_shelf::{Faulty, MemShelf};
 
 /// A keeper that has what it keeps to itself: nobody else can write on it.
 pub trait Unshared: Inbox {

@@ -6,10 +6,10 @@ use Rattle.std.specs.Option.{option_map, option_map_or}
 use Rattle.std.specs.Prelude.{Option, Some, None, ◌==◌, nat_le}
 use Rattle.std.specs.FinMap as map
 use Rattle.gaz_register.specs.Registers.{knows}
-use Rattle.gaz_shelf.specs.Board.{Board, empty_board, reached}
-use Rattle.gaz_shelf.specs.Keeper.{Content}
-use Rattle.gaz_shelf.specs.Received.{Received, count_above}
-use Rattle.gaz_shelf.proofs.Pairs.{pairs_exact, pairs_total}
+use Rattle.gaz_keeper.specs.Board.{Board, empty_board, reached}
+use Rattle.gaz_keeper.specs.Keeper.{Content}
+use Rattle.gaz_keeper.specs.Received.{Received, count_above}
+use Rattle.gaz_keeper.proofs.Pairs.{pairs_exact, pairs_total}
 use Rattle.gaz_hub.specs.Hubs.{AreKnown}
 use Rattle.gaz_changefile.specs.Reading.{reading}
 use Rattle.gaz_rules.specs.Judging.{bases_of}

@@ -4,8 +4,8 @@ use Rattle.std.specs.Global.{Vec}
 use Rattle.std.specs.Prelude.{Option, Some, None, Ok, Err, OnOk, option_map}
 use Rattle.std.specs.Option.{option_or}
 use Rattle.std.specs.FinMap as map
-use Rattle.gaz_shelf.specs.Keeper.{IsNotOpen, Seen}
-use Rattle.gaz_shelf.specs.Received.{Received}
+use Rattle.gaz_keeper.specs.Keeper.{IsNotOpen, Seen}
+use Rattle.gaz_keeper.specs.Received.{Received}
 use Rattle.gaz_register.specs.Registers.{RegisterValue}
 use Rattle.gaz_hub.specs.Hubs.{Steps, door_of, or_not_received, state_of}
 use Rattle.gaz_hub.specs.Runs.{same_pair}

@@ -5,8 +5,8 @@ use Rattle.std.specs.Prelude.{Option, Some, None, count_by}
 use Rattle.std.specs.FinMap as finite
 use Rattle.std.specs.FinMap.Entries.{where_key, is_sorted-where_key, find-where_key}
 use Rattle.std.specs.List.{AllByRecursion, list_any}
-use Rattle.gaz_shelf.specs.Received.{Received, pair_cmp}
-use Rattle.gaz_shelf.proofs.Pairs.{pairs_exact, pairs_total}
+use Rattle.gaz_keeper.specs.Received.{Received, pair_cmp}
+use Rattle.gaz_keeper.proofs.Pairs.{pairs_exact, pairs_total}
 use Rattle.gaz_hub.specs.Runs.{same_pair}
 use Rattle.gaz_hub.specs.Standing.{HasAllOf}
 use Rattle.gaz_hub.proofs.Steps.{pairs_same}

@@ -5,9 +5,9 @@ use Rattle.std.specs.Option.{ForSome}
 use Rattle.std.specs.FinMap as map
 use Rattle.gaz_register.specs.Registers.{RegisterValue}
 use Rattle.gaz_views.specs.View.{empty_view}
-use Rattle.gaz_shelf.specs.Board.{empty_board}
-use Rattle.gaz_shelf.specs.Keeper.{Content, Idle, Seen}
-use Rattle.gaz_shelf.specs.Received.{Received, pair_cmp}
+use Rattle.gaz_keeper.specs.Board.{empty_board}
+use Rattle.gaz_keeper.specs.Keeper.{Content, Idle, Seen}
+use Rattle.gaz_keeper.specs.Received.{Received, pair_cmp}
 use Rattle.gaz_hub.specs.Hubs.{door_of}
 use Rattle.gaz_hub.specs.Laws.{StandsForRun}
 use Rattle.gaz_hub.specs.Seen.{hub_seen}

@@ -4,8 +4,8 @@ use Rattle.std.proofs.lemmas.List.{take_all, take_more}
 use Rattle.std.specs.List.{find}
 use Rattle.std.specs.Prelude.{Some, None, ◌≢◌}
 use Rattle.gaz_register.specs.Registers.{CustodianValue, RegisterValue, knows}
-use Rattle.gaz_shelf.specs.Keeper.{Broken, Idle, IsLeft, IsNotOpen, Open, Progress, Seen}
-use Rattle.gaz_shelf.proofs.Keeping.{keeps_then}
+use Rattle.gaz_keeper.specs.Keeper.{Broken, Idle, IsLeft, IsNotOpen, Open, Progress, Seen}
+use Rattle.gaz_keeper.proofs.Keeping.{keeps_then}
 use Rattle.gaz_extract.proofs.Readings.{keeps_itself}
 use Rattle.gaz_mirrored.specs.Comparing.{AreLike, AreLikeFor, AreLikeOf, OnlyReads}
 

@@ -1,7 +1,7 @@
 -- What settling a hub comes to.
 use Rattle.std.proofs.Common.{◌≡◌, subst, sym}
 use Rattle.std.specs.Prelude.{Result, Ok, Err, OnOk}
-use Rattle.gaz_shelf.specs.declared.fault.ShelfFault.{ShelfFault}
+use Rattle.gaz_keeper.specs.declared.fault.ShelfFault.{ShelfFault}
 use Rattle.gaz_hub.specs.Hubs.{or_not_received}
 use Rattle.gaz_hub.specs.Standing.{Follows, NothingReady}
 use Rattle.gaz_hub.specs.Step.{Door, HubState, Pose, Replied, Settle, Step, blocks}

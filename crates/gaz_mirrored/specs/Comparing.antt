@@ -1,9 +1,9 @@
 -- Two keepers that keep as much.
 use Rattle.std.specs.Prelude.{◌≡◌, ◌≤◌, ℕ, true}
 use Rattle.gaz_register.specs.Registers.{RegisterValue, knows}
-use Rattle.gaz_shelf.specs.Board.{reached}
-use Rattle.gaz_shelf.specs.Keeper.{Content, Keeps, Seen}
-use Rattle.gaz_shelf.specs.Received.{count_above}
+use Rattle.gaz_keeper.specs.Board.{reached}
+use Rattle.gaz_keeper.specs.Keeper.{Content, Keeps, Seen}
+use Rattle.gaz_keeper.specs.Received.{count_above}
 
 -- calls that only read
 pub record OnlyReads (old new : Seen) : Type 0 where

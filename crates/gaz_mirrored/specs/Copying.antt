@@ -1,6 +1,6 @@
 -- Submitting what a keeper received to a hub over another.
-use Rattle.gaz_shelf.specs.Keeper.{IsNotOpen, Seen}
-use Rattle.gaz_shelf.specs.Received.{Received}
+use Rattle.gaz_keeper.specs.Keeper.{IsNotOpen, Seen}
+use Rattle.gaz_keeper.specs.Received.{Received}
 use Rattle.gaz_hub.specs.Laws.{StandsForRun}
 use Rattle.gaz_hub.specs.Standing.{HasAllOf, NothingReady}
 use Rattle.gaz_hub.specs.Step.{Door}

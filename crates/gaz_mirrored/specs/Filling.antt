@@ -2,8 +2,8 @@
 use Rattle.std.specs.Prelude.{◌≡◌, ◌≤◌, ℕ, List, IsSome}
 use Rattle.std.specs.FinMap as map
 use Rattle.gaz_views.specs.View.{empty_view}
-use Rattle.gaz_shelf.specs.Keeper.{Idle, Seen, empty_content}
-use Rattle.gaz_shelf.specs.Received.{Received}
+use Rattle.gaz_keeper.specs.Keeper.{Idle, Seen, empty_content}
+use Rattle.gaz_keeper.specs.Received.{Received}
 use Rattle.gaz_hub.specs.Laws.{StandsForRun}
 use Rattle.gaz_hub.specs.Runs.{Run}
 use Rattle.gaz_hub.specs.Step.{Command, Door, HubState, Response}

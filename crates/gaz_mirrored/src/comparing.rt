@@ -1,12 +1,12 @@
 //! Whether two keepers keep as much of each custodian.
 ghost use Rattle.std.specs.Prelude.{◌≡◌, OnOk};
-ghost use Rattle.gaz_shelf.specs.Keeper.{Idle};
-ghost use Rattle.gaz_shelf.specs.Telling.{IsNotJudging};
+ghost use Rattle.gaz_keeper.specs.Keeper.{Idle};
+ghost use Rattle.gaz_keeper.specs.Telling.{IsNotJudging};
 ghost use Rattle.gaz_mirrored.specs.Comparing.{AreLikeOf, AreLikeFor, OnlyReads};
 
 use gaz_ids::Code;
+use gaz_keeper::{Inbox, ShelfFault};
 use gaz_register::Register;
-use gaz_shelf::{Inbox, ShelfFault};
 
 // A fault where they differ in how many files of a custodian are judged or held.
 fn compare_custodian<L: Inbox, U: Inbox>(

@@ -1,6 +1,6 @@
 //! Submitting what a keeper received to a hub over another.
 ghost use Rattle.std.specs.Prelude.{◌≡◌, ◌≤◌, IfOk, OnOk};
-ghost use Rattle.gaz_shelf.specs.Telling.{IsNotJudging};
+ghost use Rattle.gaz_keeper.specs.Telling.{IsNotJudging};
 ghost use Rattle.gaz_hub.specs.Hubs.{door_of};
 ghost use Rattle.gaz_hub.specs.Seen.{hub_seen};
 ghost use Rattle.gaz_mirrored.specs.Comparing.{OnlyReads};
@@ -8,7 +8,7 @@ ghost use Rattle.gaz_mirrored.specs.Copying.{Copies, IsSettled};
 
 use gaz_hub::{Answer, Hub};
 use gaz_ids::{Code, LAST_VOLUME, Volume};
-use gaz_shelf::{Inbox, ShelfFault};
+use gaz_keeper::{Inbox, ShelfFault};
 
 // Submits a file of the lower keeper, where it was received; how many were. Any answer but `New` is
 // a fault.

@@ -1,7 +1,7 @@
 //! Filling a keeper with what another keeps.
 ghost use Rattle.std.specs.Prelude.{◌≡◌};
 ghost use Rattle.std.specs.Option.{ForSome};
-ghost use Rattle.gaz_shelf.specs.Telling.{IsNotJudging};
+ghost use Rattle.gaz_keeper.specs.Telling.{IsNotJudging};
 ghost use Rattle.gaz_hub.specs.Hubs.{door_of};
 ghost use Rattle.gaz_mirrored.specs.Comparing.{OnlyReads};
 ghost use Rattle.gaz_mirrored.specs.Filling.{IsFilled};
@@ -10,8 +10,8 @@ use crate::comparing::compare;
 use crate::copying::copy_all;
 use gaz_hub::Hub;
 use gaz_ids::Code;
+use gaz_keeper::Inbox;
 use gaz_register::Register;
-use gaz_shelf::Inbox;
 use std::alloc::{AllocError, Global};
 
 fn codes_of(alloc: Global, register: &Register) -> Result<Vec<Code>, AllocError> {

@@ -1,8 +1,8 @@
 //! A hub over a mirror in place of one over the lower keeper alone.
 ghost use Rattle.std.specs.Prelude.{◌≡◌};
 ghost use Rattle.std.specs.Option.{ForSome};
-ghost use Rattle.gaz_shelf.specs.Keeper.{Idle};
-ghost use Rattle.gaz_shelf.specs.Telling.{IsNotJudging};
+ghost use Rattle.gaz_keeper.specs.Keeper.{Idle};
+ghost use Rattle.gaz_keeper.specs.Telling.{IsNotJudging};
 ghost use Rattle.gaz_hub.specs.Hubs.{door_of};
 ghost use Rattle.gaz_hub.specs.Laws.{StandsForRun};
 ghost use Rattle.gaz_hub.specs.Seen.{RemembersNothing};
@@ -12,9 +12,10 @@ ghost use Rattle.gaz_mirrored.specs.Filling.{CanBeMirrored, RestsBare, StandsEmp
 
 use crate::filling::fill;
 use gaz_hub::Hub;
+use gaz_keeper::Inbox;
 use gaz_mirror::{Mirror, Unshared};
 use gaz_register::Register;
-use gaz_shelf::{Inbox, MemShelf, Seed};
+use gaz_shelf::{MemShelf, Seed};
 use std::alloc::Global;
 
 // A mirror over both, or over the lower one alone.

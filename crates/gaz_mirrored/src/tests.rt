@@ -1,12 +1,13 @@
 //! Whether the mirror is at hand, which no contract tells.
-ghost use Rattle.gaz_shelf.specs.Keeper.{IsNotOpen};
+ghost use Rattle.gaz_keeper.specs.Keeper.{IsNotOpen};
 
 use crate::joining::mirrored_by;
 use gaz_hub::{Answer, Hub};
+use gaz_keeper::Inbox;
 use gaz_mirror::Mirror;
 use gaz_register::Register;
 use gaz_samples::REGISTER;
-use gaz_shelf::{Faulty, Inbox, MemShelf, Seed};
+use gaz_shelf::{Faulty, MemShelf, Seed};
 use std::alloc::Global;
 use std::process::Abort;
 use std::test::Fail;

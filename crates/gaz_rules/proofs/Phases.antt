@@ -10,14 +10,14 @@ use Rattle.gaz_changefile.specs.Reading.{Good}
 use Rattle.gaz_changefile.specs.declared.change.Basis.{Basis}
 use Rattle.gaz_changefile.specs.declared.change.Change.{Change}
 use Rattle.gaz_register.specs.Registers.{Blocks}
-use Rattle.gaz_shelf.specs.Board.{Judgement, last_view}
+use Rattle.gaz_keeper.specs.Board.{Judgement, last_view}
 use Rattle.gaz_views.specs.View.{View}
-use Rattle.gaz_shelf.specs.Keeper.{Content, Counts, Enters, Goes, Idle, IsAtHand, IsLeft, IsNotOpen, IsSound, Keeps, LeavesAtMost, LeavesJust, Open, Progress, Reads, Seen, after_abandon, after_begin, after_skip, after_stop, with_judgement}
-use Rattle.gaz_shelf.specs.declared.fault.ShelfFault.{ShelfFault}
-use Rattle.gaz_shelf.specs.declared.fault.ShelfFault.TheVariants.{Store}
+use Rattle.gaz_keeper.specs.Keeper.{Content, Counts, Enters, Goes, Idle, IsAtHand, IsLeft, IsNotOpen, IsSound, Keeps, LeavesAtMost, LeavesJust, Open, Progress, Reads, Seen, after_abandon, after_begin, after_skip, after_stop, with_judgement}
+use Rattle.gaz_keeper.specs.declared.fault.ShelfFault.{ShelfFault}
+use Rattle.gaz_keeper.specs.declared.fault.ShelfFault.TheVariants.{Store}
 use Rattle.gaz_views.specs.declared.verdict.Verdict.{Verdict}
 use Rattle.gaz_views.specs.declared.verdict.Verdict.TheVariants.{Applied, Rejected}
-use Rattle.gaz_shelf.proofs.Keeping.{keeps_then, still_open}
+use Rattle.gaz_keeper.proofs.Keeping.{keeps_then, still_open}
 use Rattle.gaz_views.proofs.Outcomes.{on_err, on_ok}
 use Rattle.gaz_rules.specs.Bases.{are_reached, basis_views, judged_on}
 use Rattle.gaz_rules.specs.EndRules.{end_rules}

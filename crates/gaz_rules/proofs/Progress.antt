@@ -1,8 +1,8 @@
 -- What readings of a judgement in progress tell together.
 use Rattle.std.proofs.Common.{◌≡◌, ◌≢◌, ◌∙◌, ℕ, arith, refl, subst, sym}
 use Rattle.std.specs.Prelude.{Ok}
-use Rattle.gaz_shelf.specs.Keeper.{Broken, Content, IsLeft, Keeps, Open, Progress, Reads, Seen}
-use Rattle.gaz_shelf.proofs.Keeping.{keeps_then}
+use Rattle.gaz_keeper.specs.Keeper.{Broken, Content, IsLeft, Keeps, Open, Progress, Reads, Seen}
+use Rattle.gaz_keeper.proofs.Keeping.{keeps_then}
 
 pub not_broken : (p : Progress) (c : ℕ) → p ≡ Open c → p ≢ Broken
 not_broken p c e = λ b. let no : Open c ≡ Broken = sym e ∙ b in cc

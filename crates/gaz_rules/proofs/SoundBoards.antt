@@ -14,7 +14,7 @@ use Rattle.gaz_register.proofs.Ownership.{one-owner}
 use Rattle.gaz_register.specs.Registers.{Blocks, IsRegister, RegisterValue, blocks_of, within}
 use Rattle.gaz_views.specs.View.{View, empty_view, holds}
 use Rattle.gaz_views.specs.Words.{approved_of, approved_on}
-use Rattle.gaz_shelf.specs.Board.{Board, Judgement, adds, empty_board, last_view, reached, view_after}
+use Rattle.gaz_keeper.specs.Board.{Board, Judgement, adds, empty_board, last_view, reached, view_after}
 use Rattle.gaz_rules.specs.EndRules.{ancestor, approved_at, as_approved, as_blpu, blpu_named, closed_under_lpi, lacks_own_street, lacks_parent, leaves_lpi, past_under_lpi}
 use Rattle.gaz_rules.specs.Judging.{bases_of, judge}
 use Rattle.gaz_rules.specs.Bases.{basis_views, judged_on}

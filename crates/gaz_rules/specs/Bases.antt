@@ -5,7 +5,7 @@ use Rattle.gaz_changefile.specs.declared.change.Basis.{Basis}
 use Rattle.gaz_changefile.specs.Reading.{Reading}
 use Rattle.gaz_register.specs.Registers.{Blocks}
 use Rattle.gaz_views.specs.View.{View}
-use Rattle.gaz_shelf.specs.Board.{Board, Judgement, last_view, reached, view_after}
+use Rattle.gaz_keeper.specs.Board.{Board, Judgement, last_view, reached, view_after}
 use Rattle.gaz_rules.specs.Judging.{bases_of, judge}
 
 -- the custodian and the view on which each basis line rests, in the order of the file: that after

@@ -9,7 +9,7 @@ use Rattle.gaz_changefile.specs.Reading.{Reading, Good, Bad}
 use Rattle.gaz_changefile.specs.declared.action.Action.{Action}
 use Rattle.gaz_changefile.specs.declared.action.Action.TheVariants.{Insert, Update, Delete}
 use Rattle.gaz_changefile.specs.declared.change.Change.{Change}
-use Rattle.gaz_shelf.specs.Board.{Board, Judgement}
+use Rattle.gaz_keeper.specs.Board.{Board, Judgement}
 use Rattle.gaz_views.specs.Examples.{blpu, council_tax, lpi, name, one_street, street}
 use Rattle.gaz_views.specs.View.{View, empty_view, with_item, without_key}
 use Rattle.gaz_views.specs.declared.verdict.Verdict.TheVariants.{Applied, Rejected}

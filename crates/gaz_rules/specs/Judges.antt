@@ -1,10 +1,10 @@
 -- What a judgement over a keeper tells.
 use Rattle.std.specs.Prelude.{◌≡◌, ℕ, true, List, Result, Some, IfOk, OnOk, OnErr}
 use Rattle.gaz_changefile.specs.declared.change.Basis.{Basis}
-use Rattle.gaz_shelf.specs.Board.{Judgement}
-use Rattle.gaz_shelf.specs.Keeper.{Content, Counts, IsAtHand, IsNotOpen, IsSound, LeavesAtMost}
-use Rattle.gaz_shelf.specs.Keeper.{LeavesJust, Seen, after_abandon, with_judgement}
-use Rattle.gaz_shelf.specs.declared.fault.ShelfFault.{ShelfFault}
+use Rattle.gaz_keeper.specs.Board.{Judgement}
+use Rattle.gaz_keeper.specs.Keeper.{Content, Counts, IsAtHand, IsNotOpen, IsSound, LeavesAtMost}
+use Rattle.gaz_keeper.specs.Keeper.{LeavesJust, Seen, after_abandon, with_judgement}
+use Rattle.gaz_keeper.specs.declared.fault.ShelfFault.{ShelfFault}
 use Rattle.gaz_views.specs.declared.verdict.Verdict.{Verdict}
 use Rattle.gaz_changefile.specs.Contents.{Contents}
 use Rattle.gaz_changefile.specs.Reading.{Good}

@@ -7,7 +7,7 @@ use Rattle.gaz_changefile.specs.Reading.{Reading, Good, Bad}
 use Rattle.gaz_changefile.specs.declared.change.Basis.{Basis}
 use Rattle.gaz_changefile.specs.declared.change.Change.{Change}
 use Rattle.gaz_views.specs.View.{View}
-use Rattle.gaz_shelf.specs.Board.{Judgement}
+use Rattle.gaz_keeper.specs.Board.{Judgement}
 use Rattle.gaz_views.specs.declared.verdict.Verdict.TheVariants.{Applied, Rejected}
 use Rattle.gaz_register.specs.Registers.{Blocks}
 use Rattle.gaz_rules.specs.EndRules.{end_rules}

@@ -5,7 +5,7 @@ use Rattle.gaz_records.specs.declared.key.Key.TheVariants as key
 use Rattle.gaz_changefile.specs.Reading.{Reading}
 use Rattle.gaz_register.specs.Registers.{Blocks, IsRegister, RegisterValue, blocks_of}
 use Rattle.gaz_views.specs.View.{View, empty_view}
-use Rattle.gaz_shelf.specs.Board.{Board, adds, empty_board}
+use Rattle.gaz_keeper.specs.Board.{Board, adds, empty_board}
 use Rattle.gaz_rules.specs.EndRules.{ancestor, is_own_ancestor}
 use Rattle.gaz_rules.specs.Judging.{judge}
 use Rattle.gaz_rules.specs.Rules.{holds_number}

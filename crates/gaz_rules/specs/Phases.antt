@@ -5,11 +5,11 @@ use Rattle.std.specs.Option.{option_map}
 use Rattle.std.specs.List.{fold}
 use Rattle.gaz_changefile.specs.Contents.{Contents}
 use Rattle.gaz_views.specs.View.{View}
-use Rattle.gaz_shelf.specs.Board.{Judgement, last_view}
-use Rattle.gaz_shelf.specs.Keeper.{Content, Counts, Idle, IsAtHand, IsNotOpen, IsSound}
-use Rattle.gaz_shelf.specs.Keeper.{LeavesAtMost, LeavesJust, Seen, after_abandon, with_judgement}
-use Rattle.gaz_shelf.specs.Keeper.{with_working}
-use Rattle.gaz_shelf.specs.declared.fault.ShelfFault.{ShelfFault}
+use Rattle.gaz_keeper.specs.Board.{Judgement, last_view}
+use Rattle.gaz_keeper.specs.Keeper.{Content, Counts, Idle, IsAtHand, IsNotOpen, IsSound}
+use Rattle.gaz_keeper.specs.Keeper.{LeavesAtMost, LeavesJust, Seen, after_abandon, with_judgement}
+use Rattle.gaz_keeper.specs.Keeper.{with_working}
+use Rattle.gaz_keeper.specs.declared.fault.ShelfFault.{ShelfFault}
 use Rattle.gaz_views.specs.declared.verdict.Verdict.{Verdict}
 use Rattle.gaz_views.specs.declared.verdict.Verdict.TheVariants.{Applied, Rejected}
 use Rattle.gaz_register.specs.Registers.{Blocks}

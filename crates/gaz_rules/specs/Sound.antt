@@ -10,7 +10,7 @@ use Rattle.gaz_records.specs.declared.key.Key.TheVariants as key
 use Rattle.gaz_changefile.specs.Reading.{Reading}
 use Rattle.gaz_register.specs.Registers.{Blocks, within}
 use Rattle.gaz_views.specs.View.{View, holds, was_used}
-use Rattle.gaz_shelf.specs.Board.{Board, view_after}
+use Rattle.gaz_keeper.specs.Board.{Board, view_after}
 use Rattle.gaz_rules.specs.Judging.{bases_of}
 use Rattle.gaz_rules.specs.Rules.{holds_number}
 use Rattle.gaz_rules.specs.EndRules.{ancestor, approved_at, closed_under_lpi, is_out_of_date}

@@ -6,8 +6,8 @@ use Rattle.gaz_ids.specs.declared.lang.Lang.{Lang}
 use Rattle.gaz_records.specs.declared.item.Item.{Item}
 use Rattle.gaz_records.specs.declared.key.Key.TheVariants as key
 use Rattle.gaz_views.specs.View.{View, holds}
-use Rattle.gaz_shelf.specs.Board.{reached, view_after}
-use Rattle.gaz_shelf.specs.Keeper.{Content}
+use Rattle.gaz_keeper.specs.Board.{reached, view_after}
+use Rattle.gaz_keeper.specs.Keeper.{Content}
 use Rattle.gaz_rules.specs.EndRules.{as_street, found_in, if_some, is_closed}
 use Rattle.gaz_rules.specs.declared.streets.Place.{Place}
 use Rattle.gaz_rules.specs.declared.streets.Place.TheVariants as place

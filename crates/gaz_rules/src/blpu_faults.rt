@@ -13,8 +13,8 @@ ghost use Rattle.gaz_rules.specs.Working.{IsJudging, ReadsView};
 use crate::key_faults::{KeyFaults, is_there};
 use crate::rings::{Walked, is_on_ring};
 use gaz_ids::{Code, Status, Uprn};
+use gaz_keeper::{Shelf, ShelfFault};
 use gaz_records::{Blpu, Item, Key, SharedItem, item_in};
-use gaz_shelf::{Shelf, ShelfFault};
 
 /// Whether a BLPU's parent isn't there.
 fn lacks_parent<K: Shelf>(keeper: &mut K, code: Code, blpu: &Blpu) -> Result<bool, ShelfFault>

@@ -16,8 +16,8 @@ use crate::name_faults::{NameFaults, name_faults};
 use crate::rings::Walked;
 use gaz_changefile::Basis;
 use gaz_ids::Code;
+use gaz_keeper::{Shelf, ShelfFault};
 use gaz_records::{Item, Key, SharedItem, key_of};
-use gaz_shelf::{Shelf, ShelfFault};
 
 /// The least rule that is broken.
 fn least(names: NameFaults, keys: KeyFaults) -> Option<u8>

@@ -2,22 +2,22 @@
 ghost use Rattle.std.specs.Prelude.{◌≡◌, ◌≢◌, true, Some, None};
 ghost use Rattle.gaz_records.specs.Items.{is_entry};
 ghost use Rattle.gaz_register.specs.Registers.{blocks_of};
-ghost use Rattle.gaz_shelf.specs.Keeper.{Idle};
+ghost use Rattle.gaz_keeper.specs.Keeper.{Idle};
 ghost use Rattle.gaz_views.specs.View.{with_item};
 ghost use Rattle.gaz_rules.specs.Phases.{Concludes, GivesUp};
 ghost use Rattle.gaz_rules.specs.Rules.{effect};
 ghost use Rattle.gaz_rules.specs.Working.{DoesPhases, DoesRecords, FindsEndFault, IsJudging};
 ghost use Rattle.gaz_rules.specs.Working.{MakesView};
-ghost use Rattle.gaz_shelf.specs.Telling.{IsNotJudging};
+ghost use Rattle.gaz_keeper.specs.Telling.{IsNotJudging};
 ghost use Rattle.gaz_rules.specs.Judges.{JudgesFile};
 
 use crate::known::Known;
 use crate::{end_rules, record_rules};
 use gaz_changefile::{Action, Basis, Change, ChangeFile};
 use gaz_ids::Code;
+use gaz_keeper::{Shelf, ShelfFault, Verdict};
 use gaz_records::{SharedItem, key_of};
 use gaz_register::Register;
-use gaz_shelf::{Shelf, ShelfFault, Verdict};
 use std::alloc::Global;
 
 /// A record at fault and the rule that it breaks.

@@ -10,8 +10,8 @@ ghost use Rattle.gaz_rules.specs.Working.{IsJudging, ReadsView};
 
 use crate::streets::StreetState;
 use gaz_ids::{Code, Lang, Usrn};
+use gaz_keeper::{Shelf, ShelfFault};
 use gaz_records::{Key, SharedItem};
-use gaz_shelf::{Shelf, ShelfFault};
 
 /// The end rules that a key breaks by itself.
 #[derive(Clone, Copy)]

@@ -8,7 +8,7 @@ ghost use Rattle.gaz_rules.specs.Working.{IsJudging, ReadsViews};
 use crate::streets::{StreetFaults, street_faults};
 use gaz_changefile::Basis;
 use gaz_ids::{Code, Lang, Usrn};
-use gaz_shelf::{Shelf, ShelfFault};
+use gaz_keeper::{Shelf, ShelfFault};
 
 /// What an approved LPI breaks that names this street in this language.
 #[derive(Clone, Copy)]

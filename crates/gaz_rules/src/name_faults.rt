@@ -14,8 +14,8 @@ ghost use Rattle.gaz_rules.specs.Working.{IsJudging, ReadsView, ReadsViews};
 use crate::last_street::{LastStreet, faults_on};
 use gaz_changefile::Basis;
 use gaz_ids::{Code, Status, Uprn};
+use gaz_keeper::{Shelf, ShelfFault};
 use gaz_records::{Item, Key, Lpi, SharedItem, item_in};
-use gaz_shelf::{Shelf, ShelfFault};
 
 /// The end rules that an item breaks by what it names.
 #[derive(Clone, Copy)]

@@ -12,9 +12,9 @@ ghost use Rattle.gaz_rules.specs.Working.{IsJudging, ReadsView};
 use crate::key_faults::is_there;
 use gaz_changefile::{Action, Change};
 use gaz_ids::Code;
+use gaz_keeper::{Shelf, ShelfFault};
 use gaz_records::{Item, Key, key_of};
 use gaz_register::Register;
-use gaz_shelf::{Shelf, ShelfFault};
 
 fn is_outside(register: &Register, code: Code, item: &Item) -> bool
     ensures { (v : View) → result ≡ is_outside (blocks_of register.now code) v item.now }

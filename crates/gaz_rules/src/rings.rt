@@ -10,8 +10,8 @@ ghost use Rattle.gaz_rules.specs.Rings.{Knows, visit_of};
 ghost use Rattle.gaz_rules.specs.Working.{IsJudging, ReadsView};
 
 use gaz_ids::{Code, Uprn};
+use gaz_keeper::{Shelf, ShelfFault};
 use gaz_records::{Item, Key, item_in};
-use gaz_shelf::{Shelf, ShelfFault};
 use std::alloc::{AllocError, Global};
 use std::collections::BTreeMap;
 

@@ -2,7 +2,7 @@
 ghost use Rattle.std.specs.Prelude.{◌≡◌, ◌≤◌, true, IfSome};
 ghost use Rattle.std.specs.Option.{option_map};
 ghost use Rattle.gaz_views.specs.View.{holds};
-ghost use Rattle.gaz_shelf.specs.Board.{reached, view_after};
+ghost use Rattle.gaz_keeper.specs.Board.{reached, view_after};
 ghost use Rattle.gaz_rules.specs.Bases.{are_reached, basis_views};
 ghost use Rattle.gaz_rules.specs.EndRules.{found_in, is_closed};
 ghost use Rattle.gaz_rules.specs.Streets.{IsReached, state_of, street_faults, street_state};
@@ -11,8 +11,8 @@ ghost use Rattle.gaz_rules.specs.Working.{IsJudging, ReadsContent, ReadsView, Re
 
 use gaz_changefile::Basis;
 use gaz_ids::{Code, Lang, Usrn};
+use gaz_keeper::{Shelf, ShelfFault};
 use gaz_records::{Item, Key, SharedItem, item_in};
-use gaz_shelf::{Shelf, ShelfFault};
 
 /// Whether a street is there, and whether it is closed.
 #[derive(Clone, Copy)]

@@ -1,6 +1,6 @@
 -- Conversations of a hub, one after another.
 use Rattle.std.proofs.Common.{◌≡◌, ◌+◌, ℕ, List, [], ◌∷◌, ◌++◌, length, ap, arith, inl, inr, refl, subst, sym}
-use Rattle.gaz_shelf.specs.Keeper.{Seen}
+use Rattle.gaz_keeper.specs.Keeper.{Seen}
 use Rattle.gaz_hub.specs.Hubs.{Runs, door_of}
 use Rattle.gaz_hub.specs.Seen.{hub_seen}
 use Rattle.gaz_hub.specs.declared.hub.Hub.{Hub}

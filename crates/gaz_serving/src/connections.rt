@@ -1,10 +1,10 @@
 ghost use Rattle.std.specs.Prelude.{◌≡◌};
-ghost use Rattle.gaz_shelf.specs.Keeper.{IsNotOpen};
+ghost use Rattle.gaz_keeper.specs.Keeper.{IsNotOpen};
 ghost use Rattle.gaz_serving.specs.Serving.{Serves, TalksOrRests};
 
 use gaz_exchange::converse;
 use gaz_hub::Hub;
-use gaz_shelf::Inbox;
+use gaz_keeper::Inbox;
 use std::alloc::Global;
 use std::io::{self, BufWriter, Read, Write};
 use std::net::{OpenListener, OpenStream, Shutdown};

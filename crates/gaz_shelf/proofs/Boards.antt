@@ -7,7 +7,7 @@ use Rattle.std.specs.BTreeMap.{is_at}
 use Rattle.std.specs.Map.{lookup}
 use Rattle.std.specs.Ordering.{is_eq, nat_cmp}
 use Rattle.gaz_views.specs.View.{empty_view}
-use Rattle.gaz_shelf.specs.Board.{Judgement, adds, view_after}
+use Rattle.gaz_keeper.specs.Board.{Judgement, adds, view_after}
 use Rattle.gaz_views.specs.Accounts.{Account, empty_account}
 use Rattle.gaz_shelf.specs.Accounts.{account_of, board_of}
 

@@ -13,8 +13,9 @@ use Rattle.std.specs.Option.{option_map_or}
 use Rattle.std.specs.Ordering.{nat_cmp}
 use Rattle.gaz_ids.specs.Numbers.{in_range, of_id}
 use Rattle.gaz_views.proofs.Trees.{get_tree}
-use Rattle.gaz_shelf.specs.Received.{AreBelow, files_between, is_below, is_between, pair_cmp}
-use Rattle.gaz_shelf.proofs.Pairs.{pairs_total}
+use Rattle.gaz_shelf.specs.Highest.{AreBelow, files_between, is_below, is_between}
+use Rattle.gaz_keeper.specs.Received.{pair_cmp}
+use Rattle.gaz_keeper.proofs.Pairs.{pairs_total}
 
 abbrev Volumes : Type 0
 Volumes = List (ℕ × ℕ)

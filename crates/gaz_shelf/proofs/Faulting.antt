@@ -1,11 +1,11 @@
 -- What a keeper around another answers.
 use Rattle.std.proofs.Common.{◌≡◌, ℕ, refl, false}
 use Rattle.std.specs.Prelude.{Result, IfOk}
-use Rattle.gaz_shelf.specs.Board.{reached}
-use Rattle.gaz_shelf.specs.Received.{count_above}
-use Rattle.gaz_shelf.specs.Keeper.{Broken, Content, Idle, IsNotOpen, Open, Progress}
+use Rattle.gaz_keeper.specs.Board.{reached}
+use Rattle.gaz_keeper.specs.Received.{count_above}
+use Rattle.gaz_keeper.specs.Keeper.{Broken, Content, Idle, IsNotOpen, Open, Progress}
 use Rattle.gaz_shelf.specs.Faulting.{content_around, progress_around}
-use Rattle.gaz_shelf.specs.declared.fault.ShelfFault.{ShelfFault}
+use Rattle.gaz_keeper.specs.declared.fault.ShelfFault.{ShelfFault}
 
 abbrev IsHeldIn : Result ℕ ShelfFault → ℕ → Content → Type 0
 IsHeldIn r c k = IfOk r (λ n. n ≡ count_above k.files c (reached k.board c))

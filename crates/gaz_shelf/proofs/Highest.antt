@@ -10,9 +10,10 @@ use Rattle.std.specs.Ordering.{is_eq, nat_cmp}
 use Rattle.std.specs.declared.cmp.Ordering.{Ordering}
 use Rattle.std.specs.declared.cmp.Ordering.TheVariants.{Less, Equal, Greater}
 use Rattle.std.proofs.lemmas.Map.Lookups.{exact_unsigned}
-use Rattle.gaz_shelf.proofs.Pairs.{pairs_exact, pairs_total}
+use Rattle.gaz_keeper.proofs.Pairs.{pairs_exact, pairs_total}
 use Rattle.gaz_views.proofs.Trees.{get_tree}
-use Rattle.gaz_shelf.specs.Received.{AreBelow, is_below, pair_cmp}
+use Rattle.gaz_shelf.specs.Highest.{AreBelow, is_below}
+use Rattle.gaz_keeper.specs.Received.{pair_cmp}
 
 abbrev Volumes : Type 0
 Volumes = List (ℕ × ℕ)

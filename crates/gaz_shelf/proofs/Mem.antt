@@ -1,12 +1,12 @@
 -- What a keeper in memory keeps while a judgement is in progress.
 use Rattle.std.proofs.Common.{◌≡◌, ◌∙◌, ℕ, List, refl, sym, ap, subst}
 use Rattle.std.proofs.Math.Path.{fun_ext}
-use Rattle.gaz_shelf.specs.Board.{adds}
-use Rattle.gaz_shelf.specs.Keeper.{Content, IsLeft, Keeps, Open, after_keep}
+use Rattle.gaz_keeper.specs.Board.{adds}
+use Rattle.gaz_keeper.specs.Keeper.{Content, IsLeft, Keeps, Open, after_keep}
 use Rattle.gaz_views.specs.Accounts.{Account}
 use Rattle.gaz_shelf.specs.Accounts.{account_of, board_of}
 use Rattle.gaz_shelf.specs.Mem.{content_in, progress_of, seen_in, working_of}
-use Rattle.gaz_shelf.specs.Received.{Received}
+use Rattle.gaz_keeper.specs.Received.{Received}
 use Rattle.gaz_views.specs.View.{empty_view}
 use Rattle.gaz_shelf.specs.declared.mem_shelf.Judging.{Judging}
 use Rattle.gaz_shelf.specs.declared.mem_shelf.Judging.TheVariants as judging

@@ -4,9 +4,10 @@ use Rattle.std.specs.Prelude.{◌⊎◌, ⊤, List, None, Some, Result, Ok, Err,
 use Rattle.gaz_records.specs.declared.item.Item.{Item}
 use Rattle.gaz_views.specs.View.{with_item}
 use Rattle.gaz_views.proofs.Outcomes.{on_err, on_ok}
-use Rattle.gaz_shelf.specs.Keeper.{Content, Goes, Idle, IsAtHand, IsSound, Open, Seen, after_abandon, after_begin, after_keep, after_stop, with_working, written}
-use Rattle.gaz_shelf.specs.declared.fault.ShelfFault.{ShelfFault}
-use Rattle.gaz_shelf.specs.declared.fault.ShelfFault.TheVariants.{Store}
+use Rattle.gaz_keeper.specs.Keeper.{Content, Goes, Idle, IsAtHand, IsSound, Open, Seen, after_abandon, after_begin, after_keep, after_stop, with_working}
+use Rattle.gaz_shelf.specs.Writing.{written}
+use Rattle.gaz_keeper.specs.declared.fault.ShelfFault.{ShelfFault}
+use Rattle.gaz_keeper.specs.declared.fault.ShelfFault.TheVariants.{Store}
 use Rattle.gaz_shelf.specs.declared.writing.Ending.TheVariants.{Keep}
 
 further : {T : Type 0} (r : Result T ShelfFault) (m n k : ℕ) → m ≤ n → IfErr r (λ e. e ≡ Store → n < k) → IfErr r (λ e. e ≡ Store → m < k)

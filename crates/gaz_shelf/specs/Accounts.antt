@@ -7,7 +7,7 @@ use Rattle.gaz_views.specs.Judgements.{views}
 use Rattle.gaz_views.specs.Lawful.{IsLawfulView, IsLawfulView-prop}
 use Rattle.gaz_views.specs.Accounts.{Account, empty_account}
 use Rattle.gaz_views.specs.View.{empty_view}
-use Rattle.gaz_shelf.specs.Board.{Board}
+use Rattle.gaz_keeper.specs.Board.{Board}
 
 -- a custodian without an account has an empty one
 abbrev pub account_of : List (ℕ × Account) → ℕ → Account

@@ -5,8 +5,8 @@ use Rattle.gaz_shelf.specs.declared.calls.Call.{Call}
 use Rattle.gaz_shelf.specs.declared.calls.Call.TheVariants as call
 use Rattle.gaz_shelf.specs.declared.calls.Calls.{Calls}
 use Rattle.gaz_shelf.specs.declared.calls.Plan.{Plan}
-use Rattle.gaz_shelf.specs.declared.fault.ShelfFault.{ShelfFault}
-use Rattle.gaz_shelf.specs.declared.fault.ShelfFault.TheVariants.{Memory, Store}
+use Rattle.gaz_keeper.specs.declared.fault.ShelfFault.{ShelfFault}
+use Rattle.gaz_keeper.specs.declared.fault.ShelfFault.TheVariants.{Memory, Store}
 
 -- no call was made
 abbrev pub no_calls : Calls

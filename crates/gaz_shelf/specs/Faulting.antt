@@ -1,8 +1,8 @@
 -- A keeper around another, as it is seen.
 use Rattle.std.specs.Prelude.{◌≡◌, ◌≤◌, ℕ, Bool, true, false, ◌+◌, ◌-◌, ◌^◌, ◌==◌}
 use Rattle.std.proofs.Common.{eqb-true, le-add_left, le_of_eq, le_trans, sym}
-use Rattle.gaz_shelf.specs.Keeper.{Broken, Content, Idle, IsLawful, Open, Progress, Seen}
-use Rattle.gaz_shelf.specs.Keeper.{after_abandon}
+use Rattle.gaz_keeper.specs.Keeper.{Broken, Content, Idle, IsLawful, Open, Progress, Seen}
+use Rattle.gaz_keeper.specs.Keeper.{after_abandon}
 
 -- the progress, where the outer keeper says itself whether a judgement is broken
 abbrev pub progress_around : Bool → Progress → Progress

@@ -1,7 +1,6 @@
-pub mod Board
-pub mod Received
-pub mod Keeper
-pub mod Telling
+pub mod Highest
+pub mod Reading
+pub mod Writing
 pub mod Calls
 pub mod Faulting
 pub mod Around

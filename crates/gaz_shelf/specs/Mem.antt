@@ -5,7 +5,7 @@ use Rattle.gaz_views.specs.Lawful.{IsLawfulView}
 use Rattle.gaz_views.specs.View.{View, empty_view}
 use Rattle.gaz_views.specs.Accounts.{Account}
 use Rattle.gaz_shelf.specs.Accounts.{AreLawful, account_of, board_of}
-use Rattle.gaz_shelf.specs.Keeper.{Broken, Content, Idle, IsLawful, Open, Progress, Seen}
+use Rattle.gaz_keeper.specs.Keeper.{Broken, Content, Idle, IsLawful, Open, Progress, Seen}
 use Rattle.gaz_shelf.specs.declared.mem_shelf.Judging.{Judging}
 use Rattle.gaz_shelf.specs.declared.mem_shelf.Judging.TheVariants as judging
 use Rattle.gaz_shelf.specs.declared.mem_shelf.MemShelf.{MemShelf}

@@ -4,8 +4,8 @@ ghost use Rattle.gaz_records.specs.Items.{is_entry};
 ghost use Rattle.gaz_views.specs.Accounts.{empty_account};
 ghost use Rattle.gaz_views.specs.View.{with_item, without_key};
 ghost use Rattle.gaz_shelf.specs.Accounts.{AreLawful, AreLawful-prop, account_of, board_of};
-ghost use Rattle.gaz_shelf.specs.Board.{adds, last_view};
-ghost use Rattle.gaz_shelf.specs.Telling.{IsPageAt};
+ghost use Rattle.gaz_keeper.specs.Board.{adds, last_view};
+ghost use Rattle.gaz_keeper.specs.Telling.{IsPageAt};
 
 use gaz_ids::Code;
 use gaz_ledger::{CachedLedger, Seed};

@@ -2,7 +2,7 @@
 ghost use Rattle.std.specs.Prelude.{◌≡◌, ◌≤◌, ◌<◌, ◌-◌, ◌==◌, if◌then◌else◌, Some};
 ghost use Rattle.gaz_shelf.specs.Calls.{counted, failure_of, no_calls, plan_from};
 
-use crate::fault::ShelfFault;
+use gaz_keeper::ShelfFault;
 
 /// A call of a keeper.
 #[derive(Clone, Copy, Debug, PartialEq, Eq)]

@@ -3,11 +3,10 @@ ghost use Rattle.std.specs.Prelude.{◌≡◌, ◌≢◌, ◌≤◌, ◌<◌, �
 ghost use Rattle.std.specs.Prelude.{false, ⊤, Some, Err, IfErr, OnErr, OnOk};
 ghost use Rattle.gaz_shelf.specs.Calls.{CountsAs, counted, failure_of, plan_from};
 ghost use Rattle.gaz_shelf.specs.Faulting.{around, progress_around};
-ghost use Rattle.gaz_shelf.specs.Keeper.{Goes, Idle, IsNotOpen, after_abandon};
+ghost use Rattle.gaz_keeper.specs.Keeper.{Goes, Idle, IsNotOpen, after_abandon};
 
 use crate::calls::{Call, Calls, Plan};
-use crate::fault::ShelfFault;
-use crate::shelf::Inbox;
+use gaz_keeper::{Inbox, ShelfFault};
 
 /// Passes every call on to another keeper and counts it; one call, chosen by its number, fails as
 /// if the store did.

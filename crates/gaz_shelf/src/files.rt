@@ -3,8 +3,9 @@ ghost use Rattle.std.specs.Prelude.{count_by};
 ghost use Rattle.std.specs.FinMap as map;
 ghost use Rattle.std.specs.BTreeMap.{keys};
 ghost use Rattle.std.specs.List.Sorted.{IsStrictlySortedBy};
-ghost use Rattle.gaz_shelf.specs.Received.{count_above, files_between, is_below, is_between};
-ghost use Rattle.gaz_shelf.specs.Received.{pair_cmp, with_file};
+ghost use Rattle.gaz_keeper.specs.Received.{count_above};
+ghost use Rattle.gaz_shelf.specs.Highest.{files_between, is_below, is_between};
+ghost use Rattle.gaz_keeper.specs.Received.{pair_cmp, with_file};
 
 use gaz_ids::{Code, Volume};
 use std::alloc::{AllocError, Global};
@@ -46,7 +47,7 @@ pub struct Files {
 impl Model for Files {
     ghost use Rattle.std.specs.FinMap as map;
     ghost use Rattle.std.specs.Coded.{coded_list, coded_ℕ, coded×};
-    ghost use Rattle.gaz_shelf.specs.Received.{Received};
+    ghost use Rattle.gaz_keeper.specs.Received.{Received};
 
     ghost Value = { Received };
 
@@ -54,7 +55,7 @@ impl Model for Files {
 
     ghost view = { λ f. map.from_entries f.by_pair.entries };
 
-    ghost use Rattle.gaz_shelf.specs.Received.{AreBelow};
+    ghost use Rattle.gaz_shelf.specs.Highest.{AreBelow};
 
     ghost invariant = { λ f. AreBelow f.highest.entries (map.from_entries f.by_pair.entries) };
 }

@@ -1,9 +1,8 @@
-//! What a hub keeps: received files and boards, and the keepers of them.
+//! A keeper in memory, one that fails, and what is read and written over any.
 #![tactic(auto)]
 
 mod accounts;
 mod calls;
-mod fault;
 mod faulty;
 mod files;
 pub mod laws;
@@ -13,15 +12,12 @@ mod mem_judging;
 mod mem_shelf;
 mod passing;
 mod reading;
-mod shelf;
 mod writing;
 
 pub use calls::{Call, Calls};
-pub use fault::ShelfFault;
 pub use faulty::Faulty;
+pub use gaz_keeper::{Inbox, Property, Shelf, ShelfFault, Verdict};
 pub use gaz_ledger::Seed;
-pub use gaz_views::{Property, Verdict};
 pub use mem_shelf::MemShelf;
 pub use reading::read_kind;
-pub use shelf::{Inbox, Shelf};
 pub use writing::{Ending, are_entries, put_all, write_volume};

@@ -1,13 +1,12 @@
 //! The calls of a keeper in memory.
 ghost use Rattle.std.specs.Prelude.{IsOk};
-ghost use Rattle.gaz_shelf.specs.Keeper.{Seen};
+ghost use Rattle.gaz_keeper.specs.Keeper.{Seen};
 ghost use Rattle.gaz_shelf.specs.Mem.{seen_in};
-ghost use Rattle.gaz_shelf.specs.Telling.{TellsEver, TellsHeld, TellsReached, TellsVerdict};
+ghost use Rattle.gaz_keeper.specs.Telling.{TellsEver, TellsHeld, TellsReached, TellsVerdict};
 
-use crate::fault::ShelfFault;
 use crate::mem_shelf::{Judging, MemShelf};
-use crate::shelf::{Inbox, Shelf};
 use gaz_ids::{Code, Lang, Uprn, Usrn, Volume};
+use gaz_keeper::{Inbox, Shelf, ShelfFault};
 use gaz_records::{Key, Kind, SharedItem};
 use gaz_views::{Property, Verdict};
 

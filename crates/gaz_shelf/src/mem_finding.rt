@@ -4,10 +4,10 @@ ghost use Rattle.std.specs.FinMap as map;
 ghost use Rattle.gaz_views.specs.Accounts.{view_in};
 ghost use Rattle.gaz_views.specs.View.{empty_view, was_used};
 ghost use Rattle.gaz_views.specs.Words.{approved_of, approved_on, has_children, property_of};
-ghost use Rattle.gaz_shelf.specs.Board.{reached, verdict_on};
-ghost use Rattle.gaz_shelf.specs.Keeper.{Seen, view_of};
+ghost use Rattle.gaz_keeper.specs.Board.{reached, verdict_on};
+ghost use Rattle.gaz_keeper.specs.Keeper.{Seen, view_of};
 ghost use Rattle.gaz_shelf.specs.Mem.{content_in, seen_in};
-ghost use Rattle.gaz_shelf.specs.Telling.{IsItemAt, IsPageAt};
+ghost use Rattle.gaz_keeper.specs.Telling.{IsItemAt, IsPageAt};
 
 use crate::mem_shelf::{Judging, MemShelf};
 use gaz_ids::{Code, Lang, Uprn, Usrn, Volume};

@@ -2,13 +2,13 @@
 ghost use Rattle.std.specs.Prelude.{◌≡◌, ◌≢◌, ◌≤◌, ◌<◌, ◌==◌, ◌^◌, ◌-◌, ℕ, if◌then◌else◌, true};
 ghost use Rattle.std.specs.Prelude.{MatchOption};
 ghost use Rattle.gaz_records.specs.Items.{is_entry};
-ghost use Rattle.gaz_shelf.specs.Keeper.{Broken, Idle, IsNotOpen, Keeps, Open, Seen, view_of};
+ghost use Rattle.gaz_keeper.specs.Keeper.{Broken, Idle, IsNotOpen, Keeps, Open, Seen, view_of};
 ghost use Rattle.gaz_shelf.specs.Mem.{progress_of, seen_in};
-ghost use Rattle.gaz_shelf.specs.Telling.{Applies, Puts, Takes};
+ghost use Rattle.gaz_keeper.specs.Telling.{Applies, Puts, Takes};
 
-use crate::fault::ShelfFault;
 use crate::mem_shelf::{Judging, MemShelf};
 use gaz_ids::Code;
+use gaz_keeper::ShelfFault;
 use gaz_records::{Key, SharedItem};
 use gaz_views::Verdict;
 

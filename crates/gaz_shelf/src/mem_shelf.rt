@@ -1,6 +1,6 @@
 //! A keeper in memory.
 ghost use Rattle.std.specs.Prelude.{◌≡◌};
-ghost use Rattle.gaz_shelf.specs.Keeper.{Idle, empty_content};
+ghost use Rattle.gaz_keeper.specs.Keeper.{Idle, empty_content};
 ghost use Rattle.gaz_shelf.specs.Mem.{content_in, progress_of};
 
 use crate::accounts::Accounts;

@@ -5,18 +5,18 @@ ghost use Rattle.gaz_records.specs.Kinds.{is_entry_kind};
 ghost use Rattle.gaz_shelf.specs.Calls.{CountsAs};
 ghost use Rattle.gaz_shelf.specs.Around.{seen_around};
 ghost use Rattle.gaz_shelf.specs.Faulting.{progress_around};
-ghost use Rattle.gaz_shelf.specs.Keeper.{Idle, IsNotOpen, Refuses};
-ghost use Rattle.gaz_shelf.specs.Telling.{Abandons, Applies, Begins, Puts, Receives, Skips, Takes};
-ghost use Rattle.gaz_shelf.specs.Telling.{TellsApprovedOf, TellsApprovedOn, TellsAt, TellsChildren};
-ghost use Rattle.gaz_shelf.specs.Telling.{TellsCurrent, TellsEver, TellsHeld, TellsPage};
-ghost use Rattle.gaz_shelf.specs.Telling.{TellsPropertyOf, TellsReached, TellsReceived};
-ghost use Rattle.gaz_shelf.specs.Telling.{TellsVerdict};
+ghost use Rattle.gaz_keeper.specs.Keeper.{Idle, IsNotOpen, Refuses};
+ghost use Rattle.gaz_keeper.specs.Telling.{Abandons, Applies, Begins, Puts, Receives, Skips, Takes};
+ghost use Rattle.gaz_keeper.specs.Telling.{TellsApprovedOf, TellsApprovedOn, TellsAt};
+ghost use Rattle.gaz_keeper.specs.Telling.{TellsChildren};
+ghost use Rattle.gaz_keeper.specs.Telling.{TellsCurrent, TellsEver, TellsHeld, TellsPage};
+ghost use Rattle.gaz_keeper.specs.Telling.{TellsPropertyOf, TellsReached, TellsReceived};
+ghost use Rattle.gaz_keeper.specs.Telling.{TellsVerdict};
 
 use crate::calls::Call;
-use crate::fault::ShelfFault;
 use crate::faulty::Faulty;
-use crate::shelf::{Inbox, Shelf};
 use gaz_ids::{Code, Lang, Uprn, Usrn, Volume};
+use gaz_keeper::{Inbox, Shelf, ShelfFault};
 use gaz_records::{Key, Kind, SharedItem};
 use gaz_views::{Property, Verdict};
 

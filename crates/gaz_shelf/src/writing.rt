@@ -2,12 +2,11 @@
 ghost use Rattle.std.specs.Prelude.{◌≡◌, ◌≢◌, [], true};
 ghost use Rattle.std.specs.List.{list_all};
 ghost use Rattle.gaz_records.specs.Items.{is_entry};
-ghost use Rattle.gaz_shelf.specs.Keeper.{Idle, IsNotOpen, Refuses, Seen};
-ghost use Rattle.gaz_shelf.specs.Telling.{PutsAll, Writes};
+ghost use Rattle.gaz_keeper.specs.Keeper.{Idle, IsNotOpen, Refuses, Seen};
+ghost use Rattle.gaz_shelf.specs.Writing.{PutsAll, Writes};
 
-use crate::fault::ShelfFault;
-use crate::shelf::Shelf;
 use gaz_ids::Code;
+use gaz_keeper::{Shelf, ShelfFault};
 use gaz_records::SharedItem;
 
 /// How a judgement is to end.

@@ -8,7 +8,7 @@ use Rattle.sqlite.specs.State.{HasCleanDisk, State, Survives}
 use Rattle.sqlite.proofs.StateLemmas.{survives_then, survives_weaker}
 use Rattle.sqlite_trees.specs.Tree.{Trees}
 use Rattle.sqlite_trees.specs.declared.store.Store.{Ghosts}
-use Rattle.gaz_shelf.specs.declared.fault.ShelfFault.{ShelfFault}
+use Rattle.gaz_keeper.specs.declared.fault.ShelfFault.{ShelfFault}
 use Rattle.gaz_sql_facts.specs.Changes.{IsUndone, LeavesTheCommit}
 use Rattle.gaz_tables.specs.Stores.{HasTables}
 use Rattle.gaz_store.specs.Altering.{Alters, AltersTables, MayWrite}

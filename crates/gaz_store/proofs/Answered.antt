@@ -2,7 +2,7 @@
 use Rattle.std.proofs.Common.{◌≡◌, Result, Ok, Err, IfOk, subst}
 use Rattle.sqlite.specs.Effect.{Database}
 use Rattle.sqlite_trees.specs.declared.store.Store.{Ghosts}
-use Rattle.gaz_shelf.specs.declared.fault.ShelfFault.{ShelfFault}
+use Rattle.gaz_keeper.specs.declared.fault.ShelfFault.{ShelfFault}
 use Rattle.gaz_store.specs.Asking.{AsksTables, Fails, IsAnyway, Tallies}
 use Rattle.gaz_kept.specs.Kept.{IsKept}
 use Rattle.gaz_store.specs.declared.tables.Tables.{Tables}

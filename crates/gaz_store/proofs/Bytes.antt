@@ -7,7 +7,7 @@ use Rattle.sqlite.specs.Order.{Row}
 use Rattle.sqlite_rules.specs.Lists.{Has}
 use Rattle.sqlite_rules.proofs.ListLemmas.{has_filtered, has_kept}
 use Rattle.sqlite_rules.proofs.ProbeLemmas.{mapped_has}
-use Rattle.gaz_shelf.proofs.Pairs.{pairs_exact, pairs_total}
+use Rattle.gaz_keeper.proofs.Pairs.{pairs_exact, pairs_total}
 use Rattle.gaz_sql_facts.proofs.Lists.{has_permuted, permuted_has}
 use Rattle.gaz_tables.specs.Receiveds.{FindsFile, bytes_of, file_shown}
 use Rattle.gaz_store.specs.Answers.{SaysBytes}

@@ -6,7 +6,7 @@ use Rattle.sqlite.specs.declared.error.Error.{Error}
 use Rattle.sqlite.specs.Held.{state}
 use Rattle.sqlite.specs.State.{HasCleanDisk, IsUnchanged, State, Survives}
 use Rattle.sqlite_trees.specs.declared.store.Store.{Ghosts}
-use Rattle.gaz_shelf.specs.declared.fault.ShelfFault.{ShelfFault}
+use Rattle.gaz_keeper.specs.declared.fault.ShelfFault.{ShelfFault}
 use Rattle.gaz_sql_facts.specs.Changes.{IsSpared}
 use Rattle.gaz_tables.specs.Stores.{HasTables}
 use Rattle.gaz_store.specs.Asking.{Asks, AsksTables, Fails, IsAnyway, Tallies, Tells}

@@ -16,8 +16,8 @@ use Rattle.std.proofs.lemmas.List.Kept.{IsStrictlySortedBy-filter}
 use Rattle.std.proofs.lemmas.List.Sums.{length-filter}
 use Rattle.std.proofs.lemmas.Map.Keys.{IsDistinct-cons, IsDistinct-from_sorted}
 use Rattle.std.proofs.lemmas.Map.Made.{is_member-filter, length-from_same_keys}
-use Rattle.gaz_shelf.specs.Received.{Received, count_above, pair_cmp}
-use Rattle.gaz_shelf.proofs.Pairs.{pairs_exact, pairs_total}
+use Rattle.gaz_keeper.specs.Received.{Received, count_above, pair_cmp}
+use Rattle.gaz_keeper.proofs.Pairs.{pairs_exact, pairs_total}
 
 abbrev Pair : Type 0
 Pair = ℕ × ℕ

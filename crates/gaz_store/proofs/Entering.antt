@@ -8,9 +8,9 @@ use Rattle.sqlite.specs.State.{HasCleanDisk, State}
 use Rattle.sqlite_trees.specs.Tree.{Trees}
 use Rattle.sqlite_trees.specs.declared.store.Store.{Ghosts}
 use Rattle.gaz_views.specs.View.{View, empty_view}
-use Rattle.gaz_shelf.specs.Board.{reached}
-use Rattle.gaz_shelf.specs.Keeper.{Broken, Content, Enters, IsAtHand, IsLawful, IsLeft, IsNew, Progress, after_skip, after_stop, with_received}
-use Rattle.gaz_shelf.specs.declared.fault.ShelfFault.{ShelfFault}
+use Rattle.gaz_keeper.specs.Board.{reached}
+use Rattle.gaz_keeper.specs.Keeper.{Broken, Content, Enters, IsAtHand, IsLawful, IsLeft, IsNew, Progress, after_skip, after_stop, with_received}
+use Rattle.gaz_keeper.specs.declared.fault.ShelfFault.{ShelfFault}
 use Rattle.gaz_tables.specs.Schema.{receiveds, versions}
 use Rattle.gaz_tables.specs.Stores.{HasTables}
 use Rattle.gaz_kept.specs.Contents.{board_of, content_in}

@@ -4,7 +4,7 @@ use Rattle.std.specs.Prelude.{⊤, nat_le}
 use Rattle.std.proofs.lemmas.Bool.{leb-false, leb-true}
 use Rattle.sqlite.specs.Effect.{Database}
 use Rattle.sqlite_trees.specs.declared.store.Store.{Ghosts}
-use Rattle.gaz_shelf.specs.declared.fault.ShelfFault.{ShelfFault}
+use Rattle.gaz_keeper.specs.declared.fault.ShelfFault.{ShelfFault}
 use Rattle.gaz_tables.specs.Schema.{receiveds}
 use Rattle.gaz_kept.specs.Files.{reached_in}
 use Rattle.gaz_store.specs.Asking.{AsksTables}

@@ -6,8 +6,8 @@ use Rattle.gaz_views.specs.Judgements.{Judgement, views}
 use Rattle.gaz_views.specs.Lawful.{IsLawfulView}
 use Rattle.gaz_views.specs.View.{empty_view}
 use Rattle.gaz_views.specs.declared.verdict.Verdict.TheVariants.{Rejected}
-use Rattle.gaz_shelf.specs.Board.{Board, adds, last_view, reached, view_after}
-use Rattle.gaz_shelf.specs.Keeper.{Content, IsLawful, after_skip, with_received}
+use Rattle.gaz_keeper.specs.Board.{Board, adds, last_view, reached, view_after}
+use Rattle.gaz_keeper.specs.Keeper.{Content, IsLawful, after_skip, with_received}
 
 abbrev AreLawful : List Judgement → Type 0
 AreLawful js = (n : ℕ) → IsLawfulView (unwrap_or (slice_get (map (λ (j : Judgement). j.view) js) n) empty_view)

@@ -16,9 +16,9 @@ use Rattle.gaz_views.proofs.Lawful.{lawful_empty}
 use Rattle.gaz_views.specs.Lawful.{IsLawfulView}
 use Rattle.gaz_views.specs.View.{View, empty_view, holds, was_used}
 use Rattle.gaz_overlay.specs.Rows.{HistoryRow, view_after}
-use Rattle.gaz_shelf.specs.Board as board
+use Rattle.gaz_keeper.specs.Board as board
 use Rattle.gaz_views.specs.Judgements.{Judgement, views}
-use Rattle.gaz_shelf.specs.Keeper.{IsLawful}
+use Rattle.gaz_keeper.specs.Keeper.{IsLawful}
 use Rattle.gaz_tables.specs.Schema.{receiveds, versions}
 use Rattle.gaz_kept.specs.Contents.{board_of, content_in}
 use Rattle.gaz_kept.specs.Files.{reached_in}

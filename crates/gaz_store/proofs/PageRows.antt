@@ -31,7 +31,7 @@ use Rattle.gaz_tables.specs.Schema.{receiveds, versions}
 use Rattle.gaz_tables.specs.Shows.{ShowsPage}
 use Rattle.gaz_tables.specs.Versions as table
 use Rattle.gaz_tables.specs.Versions.{FindsHolding, IsHolding, body_shown, id_place}
-use Rattle.gaz_shelf.specs.Board.{reached}
+use Rattle.gaz_keeper.specs.Board.{reached}
 use Rattle.gaz_kept.specs.Contents.{board_of}
 use Rattle.gaz_kept.specs.Files.{reached_in}
 use Rattle.gaz_kept.specs.Kept.{IsKept}

@@ -12,8 +12,8 @@ use Rattle.sqlite.specs.Held.{state}
 use Rattle.sqlite.specs.Order.{Row}
 use Rattle.sqlite.specs.State.{State}
 use Rattle.sqlite_trees.specs.declared.store.Store.{Ghosts}
-use Rattle.gaz_shelf.specs.Board.{reached}
-use Rattle.gaz_shelf.specs.declared.fault.ShelfFault.{ShelfFault}
+use Rattle.gaz_keeper.specs.Board.{reached}
+use Rattle.gaz_keeper.specs.declared.fault.ShelfFault.{ShelfFault}
 use Rattle.gaz_tables.specs.Schema.{receiveds, versions}
 use Rattle.gaz_kept.specs.Contents.{board_of}
 use Rattle.gaz_kept.specs.Kept.{IsKept}

@@ -7,9 +7,9 @@ use Rattle.sqlite_trees.specs.declared.store.Store.{Ghosts}
 use Rattle.gaz_views.specs.declared.verdict.Verdict.{Verdict}
 use Rattle.gaz_views.specs.declared.verdict.Verdict.TheVariants.{Rejected}
 use Rattle.gaz_kept.specs.Judging.{IsJudged}
-use Rattle.gaz_shelf.specs.Board.{reached}
-use Rattle.gaz_shelf.specs.declared.fault.ShelfFault.{ShelfFault}
-use Rattle.gaz_shelf.specs.declared.fault.ShelfFault.TheVariants.{Store}
+use Rattle.gaz_keeper.specs.Board.{reached}
+use Rattle.gaz_keeper.specs.declared.fault.ShelfFault.{ShelfFault}
+use Rattle.gaz_keeper.specs.declared.fault.ShelfFault.TheVariants.{Store}
 use Rattle.gaz_sql_facts.specs.Changes.{Changes}
 use Rattle.gaz_tables.specs.Receiveds.{Rejects}
 use Rattle.gaz_tables.specs.Schema.{receiveds, versions}

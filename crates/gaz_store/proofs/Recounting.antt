@@ -14,8 +14,8 @@ use Rattle.sqlite.specs.declared.types.Value.TheVariants.{Int}
 use Rattle.sqlite.specs.Edit.{next_rowid}
 use Rattle.sqlite.specs.Order.{Row}
 use Rattle.gaz_views.specs.declared.verdict.Verdict.{Verdict}
-use Rattle.gaz_shelf.proofs.Pairs.{pairs_total}
-use Rattle.gaz_shelf.specs.Received.{Received, count_above, with_file}
+use Rattle.gaz_keeper.proofs.Pairs.{pairs_total}
+use Rattle.gaz_keeper.specs.Received.{Received, count_above, with_file}
 use Rattle.gaz_sql_facts.specs.Changes.{Changes}
 use Rattle.gaz_tables.specs.Receiveds.{unjudged}
 use Rattle.gaz_tables.specs.Schema.{receiveds}

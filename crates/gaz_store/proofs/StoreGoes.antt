@@ -21,9 +21,9 @@ use Rattle.gaz_overlay.specs.Rows.{AreTold}
 use Rattle.gaz_overlay.specs.declared.touch.Stood.TheVariants.{Never, Since}
 use Rattle.gaz_overlay.proofs.Laid.{nothing}
 use Rattle.gaz_overlay.proofs.Making.{changes_make}
-use Rattle.gaz_shelf.specs.Keeper as keeper
-use Rattle.gaz_shelf.specs.Keeper.{Content, Enters, Goes, IsAtHand, IsLawful, IsNew, IsNotOpen, after_abandon, after_begin, after_keep, after_skip, after_stop, with_judgement, with_received, with_working}
-use Rattle.gaz_shelf.specs.declared.fault.ShelfFault.{ShelfFault}
+use Rattle.gaz_keeper.specs.Keeper as keeper
+use Rattle.gaz_keeper.specs.Keeper.{Content, Enters, Goes, IsAtHand, IsLawful, IsNew, IsNotOpen, after_abandon, after_begin, after_keep, after_skip, after_stop, with_judgement, with_received, with_working}
+use Rattle.gaz_keeper.specs.declared.fault.ShelfFault.{ShelfFault}
 use Rattle.gaz_tables.specs.Schema.{receiveds, versions}
 use Rattle.gaz_kept.specs.Contents.{content_in}
 use Rattle.gaz_kept.specs.Files.{files_in, reached_in}

@@ -10,13 +10,13 @@ use Rattle.sqlite_trees.specs.declared.store.Store.{Ghosts}
 use Rattle.gaz_records.specs.declared.item.Item.{Item}
 use Rattle.gaz_records.specs.declared.key.Key.{Key}
 use Rattle.gaz_views.specs.View.{View}
-use Rattle.gaz_shelf.specs.Board.{reached}
-use Rattle.gaz_shelf.specs.Received.{count_above}
-use Rattle.gaz_shelf.specs.Telling.{IsItemAt}
+use Rattle.gaz_keeper.specs.Board.{reached}
+use Rattle.gaz_keeper.specs.Received.{count_above}
+use Rattle.gaz_keeper.specs.Telling.{IsItemAt}
 use Rattle.gaz_kept.proofs.Boards.{board_reads}
-use Rattle.gaz_shelf.specs.Keeper as keeper
-use Rattle.gaz_shelf.specs.Keeper.{IsLawful, IsLeft, Reads, view_of, viewed}
-use Rattle.gaz_shelf.specs.declared.fault.ShelfFault.{ShelfFault}
+use Rattle.gaz_keeper.specs.Keeper as keeper
+use Rattle.gaz_keeper.specs.Keeper.{IsLawful, IsLeft, Reads, view_of, viewed}
+use Rattle.gaz_keeper.specs.declared.fault.ShelfFault.{ShelfFault}
 use Rattle.gaz_tables.specs.Schema.{receiveds, versions}
 use Rattle.gaz_kept.specs.Contents.{board_of, content_in}
 use Rattle.gaz_kept.specs.Files.{files_in, reached_in}

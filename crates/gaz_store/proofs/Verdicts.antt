@@ -12,7 +12,7 @@ use Rattle.sqlite.specs.Order.{Row}
 use Rattle.sqlite_rules.specs.Lists.{Has}
 use Rattle.sqlite_rules.proofs.ListLemmas.{has_filtered, has_kept}
 use Rattle.gaz_views.specs.declared.verdict.Verdict.{Verdict}
-use Rattle.gaz_shelf.specs.Board.{verdict_on}
+use Rattle.gaz_keeper.specs.Board.{verdict_on}
 use Rattle.gaz_sql_facts.proofs.Lists.{has_permuted, permuted_has}
 use Rattle.gaz_tables.specs.Receiveds as table
 use Rattle.gaz_tables.specs.Receiveds.{FindsVerdict, IsVolume, verdict_shown}

@@ -22,9 +22,9 @@ use Rattle.sqlite_rules.proofs.ProbeLemmas.{has_mapped, mapped_has}
 use Rattle.sqlite_trees.specs.Tree.{IsAscending}
 use Rattle.sqlite_value.proofs.OrderLemmas.{value_cmp_total}
 use Rattle.gaz_views.specs.declared.verdict.Verdict.{Verdict}
-use Rattle.gaz_shelf.proofs.Pairs.{pairs_exact, pairs_total}
-use Rattle.gaz_shelf.specs.Board.{Board, Judgement, reached, verdict_on}
-use Rattle.gaz_shelf.specs.Received.{count_above}
+use Rattle.gaz_keeper.proofs.Pairs.{pairs_exact, pairs_total}
+use Rattle.gaz_keeper.specs.Board.{Board, Judgement, reached, verdict_on}
+use Rattle.gaz_keeper.specs.Received.{count_above}
 use Rattle.gaz_sql_facts.proofs.Lists.{has_permuted, permuted_has}
 use Rattle.gaz_tables.specs.Receiveds.{FindsAbove, IsAbove, bytes_of, volume_of, volume_shown}
 use Rattle.gaz_tables.specs.Schema.{receiveds, versions}

@@ -4,7 +4,7 @@ use Rattle.sqlite.specs.Held.{Held, state}
 use Rattle.sqlite.specs.State.{State, HasCleanDisk, Survives}
 use Rattle.sqlite_trees.specs.declared.store.Store.{Ghosts}
 use Rattle.gaz_views.specs.View.{empty_view}
-use Rattle.gaz_shelf.specs.Keeper.{Idle, LeavesOnly, Seen, empty_content}
+use Rattle.gaz_keeper.specs.Keeper.{Idle, LeavesOnly, Seen, empty_content}
 use Rattle.gaz_tables.specs.Creating.{IsBare, no_schema}
 use Rattle.gaz_tables.specs.Schema.{metas}
 use Rattle.gaz_kept.specs.Contents.{content_in}

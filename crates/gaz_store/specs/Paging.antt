@@ -13,8 +13,8 @@ use Rattle.gaz_records.specs.declared.item.Kind.{Kind}
 use Rattle.gaz_records.specs.declared.key.Key.{Key}
 use Rattle.gaz_views.specs.Words.{comes_after}
 use Rattle.gaz_cells.specs.Ids.{id_of, is_key, kind_in}
-use Rattle.gaz_shelf.specs.Board.{Board}
-use Rattle.gaz_shelf.specs.Telling.{IsPageAt}
+use Rattle.gaz_keeper.specs.Board.{Board}
+use Rattle.gaz_keeper.specs.Telling.{IsPageAt}
 use Rattle.gaz_kept.specs.Versions.{number_in, text_in}
 
 -- ---- where a page begins

@@ -3,7 +3,7 @@ use Rattle.std.specs.Prelude.{◌≡◌, ◌≢◌, ◌+◌, ℕ, List, Some, If
 use Rattle.std.specs.BTreeMap.{BTreeMap, get}
 use Rattle.std.specs.Ordering.{nat_cmp}
 use Rattle.sqlite.specs.Order.{Row}
-use Rattle.gaz_shelf.specs.Received.{count_above}
+use Rattle.gaz_keeper.specs.Received.{count_above}
 use Rattle.gaz_kept.specs.Files.{files_in, reached_in}
 use Rattle.gaz_store.specs.declared.at_hand.AtHand.{AtHand}
 

@@ -5,7 +5,7 @@ use Rattle.sqlite_trees.specs.Tree.{Trees}
 use Rattle.sqlite.specs.Effect.{Database}
 use Rattle.sqlite.specs.State.{HasCleanDisk, State}
 use Rattle.gaz_views.specs.View.{View, empty_view}
-use Rattle.gaz_shelf.specs.Keeper.{Content, IsLawful, Progress, Seen}
+use Rattle.gaz_keeper.specs.Keeper.{Content, IsLawful, Progress, Seen}
 use Rattle.gaz_tables.specs.Schema.{receiveds, store_schema}
 use Rattle.gaz_kept.specs.Contents.{content_in}
 use Rattle.gaz_kept.specs.Kept.{IsKept}

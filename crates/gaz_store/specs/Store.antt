@@ -5,8 +5,8 @@ use Rattle.sqlite.specs.Held.{state}
 use Rattle.sqlite.specs.State.{State}
 use Rattle.sqlite_trees.specs.declared.store.Store.{Ghosts}
 use Rattle.gaz_views.specs.View.{View, empty_view}
-use Rattle.gaz_shelf.specs.Keeper as keeper
-use Rattle.gaz_shelf.specs.Keeper.{IsAtHand, Progress, Seen}
+use Rattle.gaz_keeper.specs.Keeper as keeper
+use Rattle.gaz_keeper.specs.Keeper.{IsAtHand, Progress, Seen}
 use Rattle.gaz_overlay.specs.Laid.{laid}
 use Rattle.gaz_kept.specs.Contents.{content_in}
 use Rattle.gaz_kept.specs.LastViews.{last_in}

@@ -5,9 +5,9 @@ ghost use Rattle.gaz_kept.specs.Keeping.{KeepsVolume};
 
 use crate::tables::Tables;
 use gaz_ids::{Code, Volume};
+use gaz_keeper::ShelfFault;
 use gaz_kept::keeping;
 use gaz_overlay::Overlay;
-use gaz_shelf::ShelfFault;
 use sqlite::Alter;
 
 impl<S: Alter> Tables<S> {

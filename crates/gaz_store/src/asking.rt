@@ -8,8 +8,8 @@ ghost use Rattle.gaz_store.specs.Seen.{IsSettled};
 
 use crate::probing::probe;
 use crate::tables::Tables;
+use gaz_keeper::ShelfFault;
 use gaz_kept::decoding::RowFault;
-use gaz_shelf::ShelfFault;
 use sqlite::{Alter, Error, ErrorCode};
 
 impl<S: Alter> Tables<S> {

@@ -11,8 +11,8 @@ ghost use Rattle.gaz_store.specs.Beside.{Beside};
 use crate::judgement::Judgement;
 use crate::tables::Tables;
 use gaz_ids::{Lang, Uprn, Usrn};
+use gaz_keeper::ShelfFault;
 use gaz_records::{Key, SharedItem};
-use gaz_shelf::ShelfFault;
 use gaz_views::{Property, share_found};
 use sqlite::Alter;
 

@@ -8,9 +8,9 @@ ghost use Rattle.gaz_kept.specs.LastViews.{last_in};
 
 use crate::tables::Tables;
 use gaz_ids::{Code, Uprn};
+use gaz_keeper::ShelfFault;
 use gaz_kept::addresses::{keys_said, least_said};
 use gaz_records::{Key, SharedItem};
-use gaz_shelf::ShelfFault;
 use gaz_tables::versions;
 use gaz_views::Property;
 use sqlite::{Alter, Row};

@@ -1,7 +1,7 @@
 //! How many volumes of a custodian are judged, and how many wait above them.
 ghost use Rattle.std.specs.Prelude.{◌≡◌, ◌≤◌, ◌+◌, ⊤, nat_le, length, IfOk};
-ghost use Rattle.gaz_shelf.specs.Board.{reached};
-ghost use Rattle.gaz_shelf.specs.Received.{count_above};
+ghost use Rattle.gaz_keeper.specs.Board.{reached};
+ghost use Rattle.gaz_keeper.specs.Received.{count_above};
 ghost use Rattle.gaz_tables.specs.Receiveds.{FindsAbove};
 ghost use Rattle.gaz_tables.specs.Schema.{receiveds};
 ghost use Rattle.gaz_store.specs.Asking.{AsksTables, Recalls};
@@ -12,7 +12,7 @@ ghost use Rattle.gaz_store.specs.Remembered.{IsSo, held_in};
 use crate::at_hand::AtHand;
 use crate::tables::Tables;
 use gaz_ids::{Code, LAST_VOLUME, Volume};
-use gaz_shelf::ShelfFault;
+use gaz_keeper::ShelfFault;
 use gaz_tables::receiveds;
 use sqlite::{Alter, Row};
 

@@ -3,7 +3,7 @@ ghost use Rattle.std.specs.Prelude.{◌≡◌, pos, IfOk, IfSome, option_map};
 ghost use Rattle.std.specs.FinMap as map;
 ghost use Rattle.sqlite.specs.Order.{column};
 ghost use Rattle.sqlite.specs.declared.types.Value.TheVariants.{Int};
-ghost use Rattle.gaz_shelf.specs.Board.{verdict_on};
+ghost use Rattle.gaz_keeper.specs.Board.{verdict_on};
 ghost use Rattle.gaz_tables.specs.Receiveds.{FindsFile, FindsVerdict};
 ghost use Rattle.gaz_tables.specs.Schema.{receiveds};
 ghost use Rattle.gaz_store.specs.Answers.{SaysBytes, SaysVerdict};
@@ -13,7 +13,7 @@ ghost use Rattle.gaz_kept.specs.Files.{files_in, verdict_of};
 
 use crate::tables::Tables;
 use gaz_ids::{Code, Volume};
-use gaz_shelf::ShelfFault;
+use gaz_keeper::ShelfFault;
 use gaz_tables::receiveds;
 use gaz_views::Verdict;
 use sqlite::types::ValueRef;

@@ -1,7 +1,7 @@
 //! What a store answers and makes as a keeper of received files.
 use crate::store::Store;
 use gaz_ids::{Code, Volume};
-use gaz_shelf::{Inbox, ShelfFault};
+use gaz_keeper::{Inbox, ShelfFault};
 use sqlite::Alter;
 
 impl<S: Alter> Inbox for Store<S> {

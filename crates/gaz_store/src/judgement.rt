@@ -9,10 +9,10 @@ ghost use Rattle.gaz_store.specs.Beside.{Turns};
 
 use crate::tables::Tables;
 use gaz_ids::Code;
+use gaz_keeper::ShelfFault;
 use gaz_ledger::Seed;
 use gaz_overlay::Overlay;
 use gaz_records::{Key, SharedItem, key_of};
-use gaz_shelf::ShelfFault;
 use sqlite::Alter;
 use std::alloc::Global;
 

@@ -14,11 +14,11 @@ ghost use Rattle.gaz_kept.specs.Versions.{histories_in, view_in};
 
 use crate::tables::Tables;
 use gaz_ids::{Code, LAST_VOLUME};
+use gaz_keeper::ShelfFault;
 use gaz_kept::decoding::{kind_in, name_of};
 use gaz_kept::newest::{Life, current_in, item_after, newest_said, stood_by};
 use gaz_overlay::Stood;
 use gaz_records::{Key, Kind, SharedItem};
-use gaz_shelf::ShelfFault;
 use gaz_tables::versions;
 use sqlite::{Alter, Row};
 

@@ -1,7 +1,7 @@
 //! Pages of what a custodian's gazetteer had after a volume.
 ghost use Rattle.std.specs.Prelude.{◌≡◌, ◌≤◌, IfOk, Some, option_map};
 ghost use Rattle.std.specs.String.{string_bytes};
-ghost use Rattle.gaz_shelf.specs.Telling.{IsPageAt};
+ghost use Rattle.gaz_keeper.specs.Telling.{IsPageAt};
 ghost use Rattle.gaz_records.specs.Kinds.{number_of};
 ghost use Rattle.gaz_tables.specs.Schema.{versions};
 ghost use Rattle.gaz_tables.specs.Versions.{FindsHolding};
@@ -11,9 +11,9 @@ ghost use Rattle.gaz_store.specs.Paging.{IsPageFrom, IsStart, SayItems, item_sai
 
 use crate::tables::Tables;
 use gaz_ids::{Code, LAST_VOLUME};
+use gaz_keeper::ShelfFault;
 use gaz_kept::decoding::{RowFault, item_in, key_in, kind_in, name_of};
 use gaz_records::{Key, Kind, SharedItem};
-use gaz_shelf::ShelfFault;
 use gaz_tables::versions;
 use sqlite::{Alter, Row};
 use std::alloc::Global;

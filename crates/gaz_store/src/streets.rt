@@ -11,8 +11,8 @@ ghost use Rattle.gaz_store.specs.Streets.{IsStep, is_left_on, is_left_part};
 use crate::steps::{PAGE, Step, parts_told, street_told};
 use crate::tables::Tables;
 use gaz_ids::{Code, Lang, Uprn, Usrn};
+use gaz_keeper::ShelfFault;
 use gaz_overlay::Overlay;
-use gaz_shelf::ShelfFault;
 use gaz_tables::versions;
 use sqlite::{Alter, Row};
 

@@ -12,7 +12,7 @@ ghost use Rattle.gaz_store.specs.Writing.{Comes, IsNewIn, IsNextIn, RejectsNext,
 use crate::at_hand::AtHand;
 use crate::tables::Tables;
 use gaz_ids::{Code, Volume};
-use gaz_shelf::ShelfFault;
+use gaz_keeper::ShelfFault;
 use gaz_tables::alone;
 use sqlite::Alter;
 

@@ -13,7 +13,7 @@ use Rattle.gaz_hub.proofs.HubRuns.{runs_one}
 use Rattle.gaz_mirrored.proofs.Filled.{over_parts}
 use Rattle.gaz_hub.specs.Waiting.{Remembered, remembering}
 use Rattle.gaz_register.specs.Registers.{RegisterValue}
-use Rattle.gaz_shelf.specs.Keeper.{Seen}
+use Rattle.gaz_keeper.specs.Keeper.{Seen}
 
 module _ (d : Door) (register other : RegisterValue) (waiters : Option Remembered) (a c : Seen) where
   pub runs_alone : (commands : List Command) (responses : List Response) → Runs d (remembering register None a) (remembering other waiters c) commands responses → Runs d a c commands responses

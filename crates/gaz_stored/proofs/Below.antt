@@ -5,8 +5,8 @@ use Rattle.sqlite.specs.Effect.{Database}
 use Rattle.sqlite.specs.Held.{state}
 use Rattle.sqlite_trees.specs.declared.store.Store.{Ghosts}
 use Rattle.gaz_views.specs.View.{View, empty_view}
-use Rattle.gaz_shelf.specs.Keeper as keeper
-use Rattle.gaz_shelf.specs.Keeper.{IsLeft, IsNotOpen, Progress, Seen}
+use Rattle.gaz_keeper.specs.Keeper as keeper
+use Rattle.gaz_keeper.specs.Keeper.{IsLeft, IsNotOpen, Progress, Seen}
 use Rattle.gaz_tables.specs.Schema.{receiveds}
 use Rattle.gaz_kept.specs.Contents.{content_in}
 use Rattle.gaz_kept.specs.Kept.{IsKept}

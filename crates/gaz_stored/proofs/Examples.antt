@@ -2,7 +2,7 @@
 use Rattle.std.proofs.Common.{[], refl}
 use Rattle.std.specs.FinMap as map
 use Rattle.gaz_kept.proofs.Examples.{worked_examples_hold}
-use Rattle.gaz_shelf.proofs.Pairs.{pairs_total}
+use Rattle.gaz_keeper.proofs.Pairs.{pairs_total}
 use Rattle.gaz_stored.specs.Examples.{WorkedExamples, WorkedHub, WorkedTalks}
 
 hubs_hold : WorkedHub

@@ -4,7 +4,7 @@ use Rattle.sqlite.specs.Held.{state}
 use Rattle.sqlite.specs.State.{State}
 use Rattle.sqlite_trees.specs.declared.store.Store.{Ghosts}
 use Rattle.gaz_register.specs.Registers.{RegisterValue, blocks_of}
-use Rattle.gaz_shelf.specs.Keeper.{Content}
+use Rattle.gaz_keeper.specs.Keeper.{Content}
 use Rattle.gaz_tables.specs.Creating.{IsBare, no_schema}
 use Rattle.gaz_store.specs.Opened.{IsMade, IsOpened}
 use Rattle.gaz_store.specs.Seen.{IsUnharmed}

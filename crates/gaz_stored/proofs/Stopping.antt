@@ -6,7 +6,7 @@ use Rattle.sqlite.specs.State.{HasCleanDisk, State}
 use Rattle.sqlite_trees.specs.declared.store.Store.{Ghosts}
 use Rattle.gaz_register.specs.Registers.{RegisterValue}
 use Rattle.gaz_views.specs.View.{empty_view}
-use Rattle.gaz_shelf.specs.Keeper.{Content, LeavesOnly, after_stop}
+use Rattle.gaz_keeper.specs.Keeper.{Content, LeavesOnly, after_stop}
 use Rattle.gaz_tables.specs.Creating.{IsBare, no_schema}
 use Rattle.gaz_kept.specs.Contents.{content_in}
 use Rattle.gaz_kept.specs.Kept.{IsKept}

@@ -4,7 +4,7 @@ use Rattle.std.specs.FinMap as map
 use Rattle.sqlite.specs.Effect.{Database}
 use Rattle.sqlite_trees.specs.Tree.{no_trees, with_tree}
 use Rattle.gaz_views.specs.declared.verdict.Verdict.TheVariants.{Rejected}
-use Rattle.gaz_shelf.specs.Board.{reached, verdict_on}
+use Rattle.gaz_keeper.specs.Board.{reached, verdict_on}
 use Rattle.gaz_tables.specs.Schema.{receiveds, store_schema, versions}
 use Rattle.gaz_kept.specs.Examples.{four_rows, six_files}
 use Rattle.gaz_hub.specs.Step.{Command, HubState, Pose, Settle, Stand, Submit}

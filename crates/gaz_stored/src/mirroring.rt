@@ -1,6 +1,6 @@
 //! Where what is asked of a store is read.
 ghost use Rattle.std.specs.Prelude.{◌≡◌};
-ghost use Rattle.gaz_shelf.specs.Keeper.{IsNotOpen};
+ghost use Rattle.gaz_keeper.specs.Keeper.{IsNotOpen};
 ghost use Rattle.gaz_hub.specs.Hubs.{door_of};
 ghost use Rattle.gaz_hub.specs.Laws.{StandsForRun};
 ghost use Rattle.gaz_hub.specs.Seen.{RemembersNothing};

@@ -2,10 +2,10 @@
 use crate::items::{Row, custodian, item, volume, writes};
 use crate::keepers::{RestingKeeper, counting_shelf};
 use gaz_ids::Uprn;
+use gaz_keeper::Inbox;
 use gaz_records::{Kind, SharedItem};
 use gaz_register::Register;
 use gaz_samples::REGISTER;
-use gaz_shelf::Inbox;
 use std::alloc::Global;
 use std::process::Abort;
 use std::test::Fail;

@@ -2,9 +2,9 @@
 use crate::keepers::RestingKeeper;
 use gaz_changefile::{Basis, Change, ChangeFile};
 use gaz_ids::{Code, Volume};
+use gaz_keeper::{Inbox, Verdict};
 use gaz_records::{Day, Kind, SharedItem, item_of_text};
 use gaz_register::Register;
-use gaz_shelf::{Inbox, Verdict};
 use std::alloc::Global;
 use std::test::Fail;
 

@@ -1,17 +1,16 @@
 //! A keeper between judgements as its callers have it, which counts its calls. What a call answers is
 //! for the tests to find out, so that of these only the first has a clause, and no test carries what
 //! the keeper's own say.
-ghost use Rattle.gaz_shelf.specs.Keeper.{IsNotOpen};
+ghost use Rattle.gaz_keeper.specs.Keeper.{IsNotOpen};
 
 use gaz_changefile::ChangeFile;
 use gaz_extract::{Closed, Found, closed_streets, lookup_with};
 use gaz_ids::{Code, Uprn, Volume};
+use gaz_keeper::{Inbox, ShelfFault, Verdict};
 use gaz_records::SharedItem;
 use gaz_register::Register;
 use gaz_rules::judge;
-use gaz_shelf::{
-    Ending, Faulty, Inbox, MemShelf, Seed, ShelfFault, Verdict, are_entries, write_volume,
-};
+use gaz_shelf::{Ending, Faulty, MemShelf, Seed, are_entries, write_volume};
 use std::alloc::Global;
 
 /// A keeper that has no judgement open.

@@ -2,10 +2,10 @@
 use crate::items::{Row, custodian, file_of, item_of, judged, writes};
 use crate::keepers::counting_shelf;
 use gaz_changefile::{Action, Change, ChangeFile};
+use gaz_keeper::Verdict;
 use gaz_records::{Kind, SharedItem, item_of_text};
 use gaz_register::Register;
 use gaz_samples::REGISTER;
-use gaz_shelf::Verdict;
 use std::alloc::Global;
 use std::process::Abort;
 use std::test::Fail;

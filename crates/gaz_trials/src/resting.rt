@@ -1,12 +1,13 @@
 //! A hub as its clients have it. What a call does is for the tests to find out, so that none of
 //! these has a clause, and no test carries what the hub's own say.
-ghost use Rattle.gaz_shelf.specs.Keeper.{IsNotOpen};
+ghost use Rattle.gaz_keeper.specs.Keeper.{IsNotOpen};
 
 use gaz_extract::Found;
 use gaz_hub::{Answer, Hub, Refusal, Standing};
 use gaz_ids::Uprn;
+use gaz_keeper::Inbox;
 use gaz_register::Register;
-use gaz_shelf::{Faulty, Inbox, MemShelf, Seed};
+use gaz_shelf::{Faulty, MemShelf, Seed};
 use std::alloc::Global;
 
 /// A hub whose keeper has no judgement open.

@@ -3,8 +3,9 @@
 use crate::items::{custodian, volume};
 use crate::resting::{Resting, counting_hub};
 use gaz_hub::{Answer, Outcome};
+use gaz_keeper::Inbox;
 use gaz_register::Register;
-use gaz_shelf::{Faulty, Inbox, MemShelf};
+use gaz_shelf::{Faulty, MemShelf};
 use std::alloc::Global;
 use std::fmt::Write;
 use std::process::Abort;

@@ -1,12 +1,13 @@
 //! A history while one call of the keeper fails.
-ghost use Rattle.gaz_shelf.specs.Keeper.{IsNotOpen};
+ghost use Rattle.gaz_keeper.specs.Keeper.{IsNotOpen};
 
 use crate::replies::register;
 use crate::resting::Resting;
 use crate::tally::Met;
 use crate::walking::Walk;
 use anyhow::{Result, ensure};
-use gaz_shelf::{Faulty, Inbox};
+use gaz_keeper::Inbox;
+use gaz_shelf::Faulty;
 
 // Goes through the history, and on over the same hub after the first answer that is refused. Where
 // none is, no call failed.

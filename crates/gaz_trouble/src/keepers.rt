@@ -1,6 +1,6 @@
 //! A history over a new keeper of each kind. A function that names the kind of a keeper costs the
 //! proof up to a minute, so that one names each, whatever fails.
-ghost use Rattle.gaz_shelf.specs.Keeper.{IsNotOpen};
+ghost use Rattle.gaz_keeper.specs.Keeper.{IsNotOpen};
 
 use crate::lasting::Resend;
 use crate::lasting_runs::{self, Failing};
@@ -10,7 +10,8 @@ use crate::tally::{Met, Ran};
 use crate::walking::Walk;
 use crate::{call_runs, memory_runs};
 use anyhow::{Result, bail};
-use gaz_shelf::{Inbox, MemShelf, Seed};
+use gaz_keeper::Inbox;
+use gaz_shelf::{MemShelf, Seed};
 use sqlite::{Alter, Connection};
 
 /// What fails in a run.

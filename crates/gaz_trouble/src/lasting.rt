@@ -7,7 +7,8 @@ use crate::resting::{Reply, Resting};
 use crate::walking::{Stop, Walk, fault_of};
 use anyhow::{Result, bail, ensure};
 use gaz_hub::{Answer, Refusal};
-use gaz_shelf::{Inbox, MemShelf};
+use gaz_keeper::Inbox;
+use gaz_shelf::MemShelf;
 
 /// When a command is sent again whose answer was refused.
 #[derive(Clone, Copy)]

@@ -1,6 +1,6 @@
 //! A history while calls of the keeper, or requests for memory, fail more than once.
 ghost use Rattle.gaz_shelf.specs.Around.{seen_around};
-ghost use Rattle.gaz_shelf.specs.Keeper.{IsNotOpen};
+ghost use Rattle.gaz_keeper.specs.Keeper.{IsNotOpen};
 
 use crate::lasting::{Resend, Trouble};
 use crate::memory_runs::made;
@@ -8,7 +8,8 @@ use crate::replies::register;
 use crate::resting::Resting;
 use crate::walking::{Stop, Walk};
 use anyhow::Result;
-use gaz_shelf::{Faulty, Inbox};
+use gaz_keeper::Inbox;
+use gaz_shelf::Faulty;
 use sqlite::{Alter, Connection};
 
 /// How many calls fail one after the other, where they do for a while. Each is a keeper around

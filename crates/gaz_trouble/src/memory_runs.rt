@@ -1,5 +1,5 @@
 //! A history while one request for memory is refused.
-ghost use Rattle.gaz_shelf.specs.Keeper.{IsNotOpen};
+ghost use Rattle.gaz_keeper.specs.Keeper.{IsNotOpen};
 
 use crate::replies::register;
 use crate::resting::Resting;
@@ -7,7 +7,7 @@ use crate::stores::{StoreHub, connection_after, have_surely, make};
 use crate::tally::Met;
 use crate::walking::Walk;
 use anyhow::Result;
-use gaz_shelf::Inbox;
+use gaz_keeper::Inbox;
 use sqlite::{Alter, Connection, MemStore};
 
 // Goes through the history, and on over the same hub after the first answer that is refused.

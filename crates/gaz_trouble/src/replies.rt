@@ -3,9 +3,10 @@
 use crate::histories::{CUSTODIANS, Command, History, PROPERTIES, VOLUMES};
 use crate::resting::{Reply, Resting};
 use anyhow::Result;
+use gaz_keeper::Inbox;
 use gaz_register::Register;
 use gaz_samples::REGISTER;
-use gaz_shelf::{Inbox, MemShelf, Seed};
+use gaz_shelf::{MemShelf, Seed};
 use std::alloc::{AllocError, Global};
 
 /// The replies to the commands of a history, and what is told in the end.

@@ -1,13 +1,13 @@
 //! A hub as its clients have it. What a call does is for the runs to find out, so that none of
 //! these has a clause.
-ghost use Rattle.gaz_shelf.specs.Keeper.{IsNotOpen};
+ghost use Rattle.gaz_keeper.specs.Keeper.{IsNotOpen};
 
 use crate::histories::{Command, Pair};
 use gaz_extract::{Closed, Found};
 use gaz_hub::{Answer, Digest, Hub, Outcome, Refusal, Standing};
 use gaz_ids::Uprn;
+use gaz_keeper::Inbox;
 use gaz_register::Register;
-use gaz_shelf::Inbox;
 use std::alloc::Global;
 
 /// A hub whose keeper has no judgement open.

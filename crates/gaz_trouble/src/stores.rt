@@ -1,6 +1,6 @@
 //! Stores on files that may fail, and hubs over them.
 ghost use Rattle.std.specs.Prelude.{◌≡◌, false, IfOk, OnOk};
-ghost use Rattle.gaz_shelf.specs.Keeper.{IsNotOpen};
+ghost use Rattle.gaz_keeper.specs.Keeper.{IsNotOpen};
 ghost use Rattle.gaz_store.specs.Store.{seen_in};
 
 use crate::refusing::Refuser;

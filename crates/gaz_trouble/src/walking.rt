@@ -6,7 +6,8 @@ use crate::replies::{Wanted, calm_hub, ending, text_of};
 use crate::resting::{Reply, Resting};
 use anyhow::{Result, bail, ensure};
 use gaz_hub::{Answer, Refusal};
-use gaz_shelf::{Inbox, MemShelf};
+use gaz_keeper::Inbox;
+use gaz_shelf::MemShelf;
 
 /// The first answer that was refused: the place of its command, and the refusal.
 #[derive(Clone, Copy)]

@@ -7,7 +7,7 @@ mod obeying;
 mod program;
 mod sample;
 
-use gaz_shelf::Seed;
+use gaz_ledger::Seed;
 use obeying::command;
 use std::alloc::Global;
 use std::io::{BufWriter, Printer};

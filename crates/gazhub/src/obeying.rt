@@ -14,7 +14,7 @@ use clap::error::ErrorKind;
 use gaz_commands::{Said, print};
 use gaz_exchange::write_all;
 use gaz_filing::{NoHub, ask, attend, init};
-use gaz_shelf::Seed;
+use gaz_ledger::Seed;
 use gaz_words::{Command, Places, Serving, asks_play, read};
 use std::io::{Read, Write};
 

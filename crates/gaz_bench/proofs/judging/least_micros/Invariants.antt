@@ -1,4 +1,4 @@
-use Rattle.gaz_shelf.specs.Keeper.{IsNotOpen}
+use Rattle.gaz_keeper.specs.Keeper.{IsNotOpen}
 use Rattle.gaz_bench.proofs.judging.least_micros.Given as goal
 
 abbrev pub invariant-loop-turn : goal.invariant-loop-turn

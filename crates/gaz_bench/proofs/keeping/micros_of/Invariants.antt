@@ -1,5 +1,5 @@
 -- No judgement is in progress between two volumes.
-use Rattle.gaz_shelf.specs.Keeper.{IsNotOpen}
+use Rattle.gaz_keeper.specs.Keeper.{IsNotOpen}
 use Rattle.gaz_bench.proofs.keeping.micros_of.Given as goal
 
 abbrev pub invariant-loop-before : goal.invariant-loop-before

@@ -3,11 +3,11 @@ use Rattle.std.specs.Global.{Vec}
 use Rattle.std.specs.List.{filter_map}
 use Rattle.std.specs.Prelude.{None}
 use Rattle.gaz_records.specs.declared.item.Kind.TheVariants as kind
-use Rattle.gaz_shelf.specs.Board.{last_view, reached, view_after}
-use Rattle.gaz_shelf.specs.Keeper.{Content}
+use Rattle.gaz_keeper.specs.Board.{last_view, reached, view_after}
+use Rattle.gaz_keeper.specs.Keeper.{Content}
 use Rattle.gaz_views.specs.Reading.{left_after}
 use Rattle.gaz_views.specs.Words.{rest_of}
-use Rattle.gaz_shelf.proofs.Keeping.{keeps_then}
+use Rattle.gaz_keeper.proofs.Keeping.{keeps_then}
 use Rattle.gaz_extract.specs.Closing.{closed_by, closed_of}
 use Rattle.gaz_extract.specs.declared.closed.Closed.{Closed}
 use Rattle.gaz_extract.specs.Remembering.{Recalls}

@@ -2,8 +2,8 @@
 use Rattle.std.proofs.Common.{◌≡◌, ◌≤◌, ◌++◌}
 use Rattle.std.specs.List.{filter_map}
 use Rattle.gaz_records.specs.declared.item.Kind.TheVariants as kind
-use Rattle.gaz_shelf.specs.Board.{last_view, reached}
-use Rattle.gaz_shelf.specs.Keeper.{IsNotOpen, Keeps}
+use Rattle.gaz_keeper.specs.Board.{last_view, reached}
+use Rattle.gaz_keeper.specs.Keeper.{IsNotOpen, Keeps}
 use Rattle.gaz_views.specs.Reading.{left_after}
 use Rattle.gaz_extract.specs.Closing.{closed_by, closed_of}
 use Rattle.gaz_extract.specs.Paging.{pages_left}

@@ -2,8 +2,8 @@ use Rattle.std.proofs.Common.{◌≡◌, ◌∙◌, ap, sym, subst, ◌++◌, �
 use Rattle.std.specs.List.{filter_map}
 use Rattle.std.proofs.lemmas.List.{drop_all}
 use Rattle.gaz_records.specs.declared.item.Item.{Item}
-use Rattle.gaz_shelf.specs.Keeper.{Content}
-use Rattle.gaz_shelf.proofs.Keeping.{keeps_then}
+use Rattle.gaz_keeper.specs.Keeper.{Content}
+use Rattle.gaz_keeper.proofs.Keeping.{keeps_then}
 use Rattle.gaz_extract.specs.Closing.{closed_by}
 use Rattle.gaz_extract.specs.Remembering.{Recalls}
 use Rattle.gaz_extract.proofs.Lists.{next_item, told_more}

@@ -2,11 +2,11 @@ use Rattle.std.proofs.Common.{◌≡◌, ◌∙◌, ap, subst, ◌++◌, List, a
 use Rattle.std.specs.List.{filter_map}
 use Rattle.gaz_records.specs.declared.item.Item.{Item}
 use Rattle.gaz_records.specs.declared.item.Kind.TheVariants as kind
-use Rattle.gaz_shelf.specs.Board.{view_after}
-use Rattle.gaz_shelf.specs.Keeper.{Content}
+use Rattle.gaz_keeper.specs.Board.{view_after}
+use Rattle.gaz_keeper.specs.Keeper.{Content}
 use Rattle.gaz_views.specs.Reading.{left_after}
 use Rattle.gaz_views.specs.Words.{rest_of}
-use Rattle.gaz_shelf.proofs.Keeping.{keeps_then}
+use Rattle.gaz_keeper.proofs.Keeping.{keeps_then}
 use Rattle.gaz_extract.specs.Closing.{closed_by}
 use Rattle.gaz_extract.specs.Remembering.{Recalls}
 use Rattle.gaz_extract.proofs.Lists.{told_more}

@@ -1,6 +1,6 @@
 use Rattle.std.proofs.Common.{◌≡◌, ◌≤◌, ◌<◌, ◌∙◌, ap, subst, ◌++◌, List, length, get_or, arith}
-use Rattle.gaz_shelf.specs.Keeper.{Content}
-use Rattle.gaz_shelf.proofs.Keeping.{keeps_then}
+use Rattle.gaz_keeper.specs.Keeper.{Content}
+use Rattle.gaz_keeper.proofs.Keeping.{keeps_then}
 use Rattle.gaz_register.specs.Registers.{CustodianValue}
 use Rattle.gaz_extract.specs.Closing.{closed_of}
 use Rattle.gaz_extract.proofs.Lists.{told_all, told_next}

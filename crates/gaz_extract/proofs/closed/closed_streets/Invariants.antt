@@ -1,7 +1,7 @@
 -- What was told and what is left to tell are all.
 use Rattle.std.proofs.Common.{◌≡◌, ◌≤◌, ◌++◌, drop}
 use Rattle.std.specs.List.{flat_map}
-use Rattle.gaz_shelf.specs.Keeper.{IsNotOpen, Keeps}
+use Rattle.gaz_keeper.specs.Keeper.{IsNotOpen, Keeps}
 use Rattle.gaz_extract.specs.Closing.{closed_of}
 use Rattle.gaz_extract.proofs.closed.closed_streets.Given as goal
 

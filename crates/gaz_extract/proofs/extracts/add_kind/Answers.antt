@@ -1,5 +1,5 @@
 use Rattle.std.proofs.Common.{◌∙◌, sym, ap, not}
-use Rattle.gaz_shelf.specs.Board.{view_after}
+use Rattle.gaz_keeper.specs.Board.{view_after}
 use Rattle.gaz_extract.specs.Drafts.{with_items}
 use Rattle.gaz_extract.proofs.Rows.{with-none}
 use Rattle.gaz_extract.proofs.Turns.{none_left}

@@ -1,7 +1,7 @@
 -- The draft with what is left of the kind is the one with all of it.
 use Rattle.std.proofs.Common.{◌≡◌, ◌≤◌, None}
-use Rattle.gaz_shelf.specs.Board.{reached, view_after}
-use Rattle.gaz_shelf.specs.Keeper.{IsNotOpen, Keeps}
+use Rattle.gaz_keeper.specs.Board.{reached, view_after}
+use Rattle.gaz_keeper.specs.Keeper.{IsNotOpen, Keeps}
 use Rattle.gaz_views.specs.Reading.{left_after}
 use Rattle.gaz_views.specs.Words.{rest_of}
 use Rattle.gaz_extract.specs.Drafts.{with_items}

@@ -1,6 +1,6 @@
 use Rattle.std.proofs.Common.{◌∙◌, ap, List}
 use Rattle.gaz_records.specs.declared.item.Item.{Item}
-use Rattle.gaz_shelf.specs.Board.{view_after}
+use Rattle.gaz_keeper.specs.Board.{view_after}
 use Rattle.gaz_views.specs.Reading.{left_after}
 use Rattle.gaz_extract.specs.Drafts.{DraftValue, with_items}
 use Rattle.gaz_extract.proofs.Rows.{with-append}

@@ -2,7 +2,7 @@ use Rattle.std.proofs.Common.{◌++◌, None, arith}
 use Rattle.gaz_records.specs.declared.item.Kind.TheVariants as kind
 use Rattle.gaz_views.specs.View.{View}
 use Rattle.gaz_views.specs.Words.{rest_of}
-use Rattle.gaz_shelf.proofs.Keeping.{keeps_then}
+use Rattle.gaz_keeper.proofs.Keeping.{keeps_then}
 use Rattle.gaz_extract.proofs.Turns.{then_added}
 use Rattle.gaz_extract.proofs.extracts.add_view.Goals as goal
 

@@ -1,7 +1,7 @@
 use Rattle.std.proofs.Common.{◌≡◌, ◌≤◌, ℕ, subst, arith}
-use Rattle.gaz_shelf.specs.Board.{reached, view_after}
-use Rattle.gaz_shelf.specs.Keeper.{Content}
-use Rattle.gaz_shelf.proofs.Keeping.{keeps_then}
+use Rattle.gaz_keeper.specs.Board.{reached, view_after}
+use Rattle.gaz_keeper.specs.Keeper.{Content}
+use Rattle.gaz_keeper.proofs.Keeping.{keeps_then}
 use Rattle.gaz_extract.specs.Drafts.{by_kind, with_items}
 use Rattle.gaz_extract.proofs.Ends.{extract_is}
 use Rattle.gaz_extract.proofs.extracts.extract.Goals as goal

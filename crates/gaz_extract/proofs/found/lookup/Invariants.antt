@@ -2,7 +2,7 @@
 use Rattle.std.proofs.Common.{◌≡◌, ◌≤◌, drop}
 use Rattle.std.specs.List.{filter_map}
 use Rattle.gaz_extract.specs.Lookups.{said_by}
-use Rattle.gaz_shelf.specs.Keeper.{IsNotOpen, Keeps}
+use Rattle.gaz_keeper.specs.Keeper.{IsNotOpen, Keeps}
 use Rattle.gaz_extract.proofs.found.lookup.Given as goal
 
 abbrev pub invariant-loop-custodian : goal.invariant-loop-custodian

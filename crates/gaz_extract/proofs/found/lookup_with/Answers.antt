@@ -2,8 +2,8 @@ use Rattle.std.proofs.Common.{◌∙◌, sym, ap, arith, option_map, Bor}
 use Rattle.std.specs.Prelude.{Option, Some}
 use Rattle.gaz_records.specs.Blpus.{BlpuValue}
 use Rattle.gaz_records.specs.Lpis.{LpiValue}
-use Rattle.gaz_shelf.proofs.Keeping.{keeps_then}
-use Rattle.gaz_shelf.specs.Keeper.{Content}
+use Rattle.gaz_keeper.proofs.Keeping.{keeps_then}
+use Rattle.gaz_keeper.specs.Keeper.{Content}
 use Rattle.gaz_extract.proofs.Telling.{line_there, nothing_there}
 use Rattle.gaz_extract.specs.Lookups.{line_at}
 use Rattle.gaz_extract.proofs.found.lookup_with.Goals as goal

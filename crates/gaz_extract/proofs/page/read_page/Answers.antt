@@ -1,7 +1,7 @@
 use Rattle.std.proofs.Common.{◌∙◌, ap, refl, List, [], arith}
 use Rattle.gaz_records.specs.declared.item.Item.{Item}
 use Rattle.gaz_views.proofs.Pages.{page_added}
-use Rattle.gaz_shelf.specs.Board.{view_after}
+use Rattle.gaz_keeper.specs.Board.{view_after}
 use Rattle.gaz_views.specs.Reading.{next_after}
 use Rattle.gaz_extract.specs.Paging.{rising}
 use Rattle.gaz_extract.proofs.Rising.{pages_rise}

@@ -1,7 +1,7 @@
 -- One basis line after another.
 use Rattle.std.proofs.Common.{◌≤◌, ap, ◌∙◌, arith}
-use Rattle.gaz_shelf.specs.Board.{reached}
-use Rattle.gaz_shelf.proofs.Keeping.{keeps_then}
+use Rattle.gaz_keeper.specs.Board.{reached}
+use Rattle.gaz_keeper.proofs.Keeping.{keeps_then}
 use Rattle.gaz_hub.proofs.Looks.{finds_none, passes_over}
 use Rattle.gaz_hub.proofs.looking.first_unreached.Goals as goal
 

@@ -1,7 +1,7 @@
 -- The bytes are there.
 use Rattle.std.proofs.Common.{◌≡◌, ℕ, List, subst}
-use Rattle.gaz_shelf.specs.Board.{Board}
-use Rattle.gaz_shelf.specs.Keeper.{Content}
+use Rattle.gaz_keeper.specs.Board.{Board}
+use Rattle.gaz_keeper.specs.Keeper.{Content}
 use Rattle.gaz_hub.specs.Settling.{IsReadAs}
 use Rattle.gaz_hub.specs.declared.looking.Next.{Next}
 use Rattle.gaz_hub.proofs.Looks.{looks_then, next_here}

@@ -2,7 +2,7 @@
 use Rattle.std.proofs.Common.{◌≡◌, sym, subst}
 use Rattle.gaz_changefile.specs.Reading.{Bad, Good}
 use Rattle.gaz_register.specs.Registers.{blocks_of}
-use Rattle.gaz_shelf.specs.declared.fault.ShelfFault.TheVariants.{Memory}
+use Rattle.gaz_keeper.specs.declared.fault.ShelfFault.TheVariants.{Memory}
 use Rattle.gaz_hub.specs.Hubs.{door_of}
 use Rattle.gaz_hub.specs.Settling.{Tries}
 use Rattle.gaz_hub.specs.declared.looking.Next.TheVariants as next

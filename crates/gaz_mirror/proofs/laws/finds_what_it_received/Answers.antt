@@ -1,7 +1,7 @@
 use Rattle.std.proofs.Common.{◌≡◌, Bool, false, ap, ◌∙◌, sym}
 use Rattle.std.specs.FinMap as map
 use Rattle.gaz_shelf.specs.Faulting.{content_around, progress_around}
-use Rattle.gaz_shelf.specs.Keeper.{Content, Idle, Progress, empty_content}
+use Rattle.gaz_keeper.specs.Keeper.{Content, Idle, Progress, empty_content}
 use Rattle.gaz_shelf.specs.Mem.{content_in, progress_of}
 use Rattle.gaz_shelf.specs.declared.mem_shelf.MemShelf.{MemShelf}
 use Rattle.gaz_mirror.proofs.laws.finds_what_it_received.Goals as goal

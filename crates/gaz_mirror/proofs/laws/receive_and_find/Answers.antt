@@ -2,8 +2,8 @@ use Rattle.std.proofs.Common.{◌≡◌, ℕ, Some, ap, ◌∙◌, cond, IfOk, R
 use Rattle.std.specs.Prelude.{List}
 use Rattle.std.specs.Cmp.{eq_by_cmp_equiv}
 use Rattle.std.specs.FinMap as map
-use Rattle.gaz_shelf.proofs.Pairs.{pairs_total}
-use Rattle.gaz_shelf.specs.Keeper.{Content, with_received}
+use Rattle.gaz_keeper.proofs.Pairs.{pairs_total}
+use Rattle.gaz_keeper.specs.Keeper.{Content, with_received}
 use Rattle.gaz_mirror.proofs.laws.receive_and_find.Goals as goal
 
 -- what was received now is there

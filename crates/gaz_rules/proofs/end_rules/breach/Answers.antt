@@ -4,13 +4,13 @@ use Rattle.std.specs.Prelude.{Option}
 use Rattle.std.specs.FinMap as map
 use Rattle.gaz_changefile.specs.declared.change.Basis.{Basis}
 use Rattle.gaz_records.specs.declared.key.Key.{Key}
-use Rattle.gaz_shelf.specs.Keeper.{Content, view_of}
+use Rattle.gaz_keeper.specs.Keeper.{Content, view_of}
 use Rattle.gaz_rules.specs.Bases.{are_reached, basis_views}
 use Rattle.gaz_rules.specs.EndRules.{end_rules}
 use Rattle.gaz_rules.specs.Knowing.{IsRight}
 use Rattle.gaz_rules.specs.Rules.{first_broken}
 use Rattle.gaz_rules.specs.declared.known.Known.{Known}
-use Rattle.gaz_shelf.proofs.Keeping.{view_open}
+use Rattle.gaz_keeper.proofs.Keeping.{view_open}
 use Rattle.gaz_rules.proofs.Progress.{reads_both}
 use Rattle.gaz_rules.proofs.end_rules.breach.Goals as goal
 

@@ -3,7 +3,7 @@ use Rattle.std.proofs.Common.{◌≡◌, ◌≤◌, drop}
 use Rattle.std.specs.List.{fold}
 use Rattle.std.specs.Prelude.{None}
 use Rattle.gaz_register.specs.Registers.{blocks_of}
-use Rattle.gaz_shelf.specs.Keeper.{IsSound, LeavesAtMost, Open, after_abandon, with_working}
+use Rattle.gaz_keeper.specs.Keeper.{IsSound, LeavesAtMost, Open, after_abandon, with_working}
 use Rattle.gaz_rules.specs.Judging.{record_faults}
 use Rattle.gaz_rules.specs.Rules.{effect}
 use Rattle.gaz_rules.proofs.judging.record_phase.Given as goal

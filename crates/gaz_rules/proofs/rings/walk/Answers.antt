@@ -5,8 +5,8 @@ use Rattle.std.specs.Ordering.{nat_cmp}
 use Rattle.gaz_rules.specs.Rings.{IsKnown}
 use Rattle.gaz_rules.specs.Rings.{visit_of}
 use Rattle.gaz_rules.specs.EndRules.{ancestor, parent_of}
-use Rattle.gaz_shelf.specs.Keeper.{IsLeft}
-use Rattle.gaz_shelf.proofs.Keeping.{keeps_then, still_open}
+use Rattle.gaz_keeper.specs.Keeper.{IsLeft}
+use Rattle.gaz_keeper.proofs.Keeping.{keeps_then, still_open}
 use Rattle.gaz_rules.proofs.Progress.{not_broken}
 use Rattle.gaz_rules.proofs.Walks.{Walk, ends_known, ends_ring, ends_top, no_walk, one_more, visited_as, first_seen, first_of_many}
 use Rattle.gaz_rules.proofs.rings.walk.Goals as goal

@@ -1,7 +1,7 @@
 -- The keeper is as it was, and these many were visited.
 use Rattle.std.proofs.Common.{◌≡◌, ◌≤◌, ◌-◌, ◌^◌, length, Some}
 use Rattle.gaz_rules.specs.EndRules.{ancestor}
-use Rattle.gaz_shelf.specs.Keeper.{Keeps, Open}
+use Rattle.gaz_keeper.specs.Keeper.{Keeps, Open}
 use Rattle.gaz_rules.specs.Rings.{visit_of}
 use Rattle.gaz_rules.proofs.Walks.{Walk}
 use Rattle.gaz_rules.proofs.rings.walk.Given as goal

@@ -4,7 +4,7 @@ use Rattle.std.specs.List.{find}
 use Rattle.gaz_records.specs.declared.key.Key.TheVariants as key
 use Rattle.gaz_views.specs.View.{holds}
 use Rattle.gaz_rules.specs.Bases.{are_reached, basis_views}
-use Rattle.gaz_shelf.specs.Keeper.{Keeps, Open}
+use Rattle.gaz_keeper.specs.Keeper.{Keeps, Open}
 use Rattle.gaz_rules.proofs.streets.find_street.Given as goal
 
 abbrev pub invariant-loop-basis : goal.invariant-loop-basis

@@ -1,5 +1,5 @@
 use Rattle.std.proofs.Common.{◌∙◌, ap}
-use Rattle.gaz_shelf.specs.Board.{view_after}
+use Rattle.gaz_keeper.specs.Board.{view_after}
 use Rattle.gaz_views.specs.Reading.{next_after}
 use Rattle.gaz_views.proofs.Pages.{page_added}
 use Rattle.gaz_shelf.proofs.reading.add_page.Goals as goal

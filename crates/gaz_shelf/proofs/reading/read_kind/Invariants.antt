@@ -1,7 +1,7 @@
 -- What was read and what is left are what there was.
 use Rattle.std.proofs.Common.{◌≡◌, ◌≢◌, ◌≤◌, ◌++◌, ◌^◌, ◌+◌, ◌-◌, cond, None, is_some, vec_len}
-use Rattle.gaz_shelf.specs.Board.{reached, view_after}
-use Rattle.gaz_shelf.specs.Keeper.{Broken, Keeps}
+use Rattle.gaz_keeper.specs.Board.{reached, view_after}
+use Rattle.gaz_keeper.specs.Keeper.{Broken, Keeps}
 use Rattle.gaz_views.specs.Reading.{left_after}
 use Rattle.gaz_views.specs.Words.{rest_of}
 use Rattle.gaz_shelf.proofs.reading.read_kind.Given as goal

@@ -5,7 +5,7 @@ use Rattle.std.specs.Prelude.{None, fold}
 use Rattle.std.specs.Vec.Iter.{into_iter_items}
 use Rattle.gaz_records.specs.Items.{is_entry}
 use Rattle.gaz_views.specs.View.{with_item}
-use Rattle.gaz_shelf.specs.Keeper.{Broken, IsSound, LeavesAtMost, after_abandon, with_working}
+use Rattle.gaz_keeper.specs.Keeper.{Broken, IsSound, LeavesAtMost, after_abandon, with_working}
 use Rattle.gaz_shelf.proofs.writing.put_all.Given as goal
 
 abbrev pub invariant-loop-item : goal.invariant-loop-item

@@ -1,5 +1,6 @@
 use Rattle.std.proofs.Common.{subst, sym}
-use Rattle.gaz_shelf.specs.Keeper.{Goes, Idle, IsAtHand, committed_by, written}
+use Rattle.gaz_keeper.specs.Keeper.{Goes, Idle, IsAtHand}
+use Rattle.gaz_shelf.specs.Writing.{committed_by, written}
 use Rattle.gaz_shelf.specs.declared.writing.Ending.{Ending}
 use Rattle.gaz_shelf.proofs.Written.{writes}
 use Rattle.gaz_shelf.proofs.writing.write_volume.Goals as goal

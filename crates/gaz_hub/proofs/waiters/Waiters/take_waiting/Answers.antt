@@ -3,8 +3,8 @@ use Rattle.std.proofs.Common.{◌∙◌, sym, ap, refl, ℕ, []}
 use Rattle.std.specs.FinMap as finmap
 use Rattle.std.specs.Option.{unwrap_or}
 use Rattle.gaz_views.proofs.Trees.{get_tree}
-use Rattle.gaz_shelf.specs.Received.{pair_cmp}
-use Rattle.gaz_shelf.proofs.Pairs.{pairs_total}
+use Rattle.gaz_keeper.specs.Received.{pair_cmp}
+use Rattle.gaz_keeper.proofs.Pairs.{pairs_total}
 use Rattle.gaz_hub.specs.Waiting.{Remembered, without_waiters}
 use Rattle.gaz_hub.proofs.Waiting.{removed}
 use Rattle.gaz_hub.proofs.waiters.Waiters.take_waiting.Goals.{in-Some, in-None}

@@ -2,8 +2,8 @@
 use Rattle.std.proofs.Common.{◌∙◌, ◌++◌, ◌∷◌, ap, refl, ℕ, []}
 use Rattle.std.specs.FinMap as finmap
 use Rattle.gaz_views.proofs.Trees.{inserted}
-use Rattle.gaz_shelf.specs.Received.{pair_cmp}
-use Rattle.gaz_shelf.proofs.Pairs.{pairs_exact, pairs_total}
+use Rattle.gaz_keeper.specs.Received.{pair_cmp}
+use Rattle.gaz_keeper.proofs.Pairs.{pairs_exact, pairs_total}
 use Rattle.gaz_hub.specs.Waiting.{Remembered}
 use Rattle.gaz_hub.proofs.Waiting.{put_back}
 use Rattle.gaz_hub.proofs.waiters.Waiters.wait.Goals as goal

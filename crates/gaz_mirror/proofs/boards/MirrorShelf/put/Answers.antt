@@ -1,6 +1,6 @@
 use Rattle.std.proofs.Common.{ap, ◌∙◌}
 use Rattle.gaz_records.specs.declared.item.Item.{Item}
-use Rattle.gaz_shelf.specs.Keeper.{Content, with_working}
+use Rattle.gaz_keeper.specs.Keeper.{Content, with_working}
 use Rattle.gaz_views.specs.View.{with_item}
 use Rattle.gaz_mirror.proofs.Changing.{goes_below, goes_both}
 use Rattle.gaz_mirror.proofs.boards.MirrorShelf.put.Goals as goal

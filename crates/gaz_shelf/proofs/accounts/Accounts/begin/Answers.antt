@@ -2,7 +2,7 @@ use Rattle.std.proofs.Common.{rules, ◌≡◌, ◌∙◌, ℕ, ap, sym, unwrap_
 use Rattle.std.specs.BTreeMap.{BTreeMap}
 use Rattle.gaz_shelf.proofs.Lawful.{after_insert, after_undo, all_lawful, found_lawful, new_lawful, none_found}
 use Rattle.gaz_shelf.proofs.Boards.{no_more}
-use Rattle.gaz_shelf.specs.Board.{Board}
+use Rattle.gaz_keeper.specs.Board.{Board}
 use Rattle.gaz_views.specs.Accounts.{Account, empty_account}
 use Rattle.gaz_shelf.specs.Accounts.{board_of}
 use Rattle.gaz_shelf.proofs.accounts.Accounts.begin.Goals as goal

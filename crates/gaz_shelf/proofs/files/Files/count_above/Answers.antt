@@ -3,9 +3,9 @@ use Rattle.std.specs.Prelude.{count_by}
 use Rattle.std.specs.FinMap as finite
 use Rattle.std.specs.Option.{option_copied}
 use Rattle.gaz_views.proofs.Trees.{entries_tree}
-use Rattle.gaz_shelf.specs.Received.{Received, pair_cmp}
+use Rattle.gaz_keeper.specs.Received.{Received, pair_cmp}
 use Rattle.gaz_shelf.proofs.Counting.{above, above_highest, above_nothing}
-use Rattle.gaz_shelf.proofs.Pairs.{pairs_total}
+use Rattle.gaz_keeper.proofs.Pairs.{pairs_total}
 use Rattle.gaz_shelf.proofs.files.Files.count_above.Goals as goal
 
 pub returns-in-Some : goal.returns-in-Some

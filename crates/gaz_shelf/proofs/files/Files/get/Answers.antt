@@ -1,8 +1,8 @@
 use Rattle.std.proofs.Common.{◌∙◌, sym, ap, refl, Some}
 use Rattle.std.specs.FinMap as map
 use Rattle.gaz_views.proofs.Trees.{get_tree}
-use Rattle.gaz_shelf.specs.Received.{Received, pair_cmp}
-use Rattle.gaz_shelf.proofs.Pairs.{pairs_total}
+use Rattle.gaz_keeper.specs.Received.{Received, pair_cmp}
+use Rattle.gaz_keeper.proofs.Pairs.{pairs_total}
 use Rattle.gaz_shelf.proofs.files.Files.get.Goals as goal
 
 pub returns-in-Some : goal.returns-in-Some

@@ -1,8 +1,8 @@
 use Rattle.std.proofs.Common.{◌∙◌, ap, refl, ℕ, List}
 use Rattle.std.specs.FinMap as map
 use Rattle.gaz_views.proofs.Trees.{inserted}
-use Rattle.gaz_shelf.specs.Received.{Received, pair_cmp, with_file}
-use Rattle.gaz_shelf.proofs.Pairs.{pairs_total, pairs_exact}
+use Rattle.gaz_keeper.specs.Received.{Received, pair_cmp, with_file}
+use Rattle.gaz_keeper.proofs.Pairs.{pairs_total, pairs_exact}
 use Rattle.gaz_shelf.proofs.Highest.{received_below}
 use Rattle.gaz_shelf.proofs.files.Files.receive.Goals as goal
 

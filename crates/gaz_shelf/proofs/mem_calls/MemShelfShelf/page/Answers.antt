@@ -2,9 +2,9 @@ use Rattle.std.proofs.Common.{rules, subst, sym}
 use Rattle.std.specs.Prelude.{◌≢◌}
 use Rattle.gaz_shelf.proofs.Mem.{keeps_on}
 use Rattle.gaz_shelf.specs.Accounts.{board_of}
-use Rattle.gaz_shelf.specs.Keeper.{Broken}
+use Rattle.gaz_keeper.specs.Keeper.{Broken}
 use Rattle.gaz_shelf.specs.Mem.{progress_of}
-use Rattle.gaz_shelf.specs.Telling.{IsPageAt}
+use Rattle.gaz_keeper.specs.Telling.{IsPageAt}
 use Rattle.gaz_shelf.specs.declared.accounts.Accounts.{Accounts}
 use Rattle.gaz_shelf.specs.declared.mem_shelf.Judging.{Judging}
 use Rattle.gaz_shelf.proofs.mem_calls.MemShelfShelf.page.Goals as goal

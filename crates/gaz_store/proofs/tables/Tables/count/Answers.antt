@@ -1,5 +1,5 @@
 use Rattle.std.proofs.Common.{◌≡◌, ◌∙◌, IfOk, ap, subst}
-use Rattle.gaz_shelf.specs.Received.{count_above}
+use Rattle.gaz_keeper.specs.Received.{count_above}
 use Rattle.gaz_tables.specs.Schema.{receiveds}
 use Rattle.gaz_kept.specs.Files.{files_in, reached_in}
 use Rattle.gaz_store.proofs.Answered.{asked_fault, asked_step}

@@ -1,5 +1,5 @@
 use Rattle.std.proofs.Common.{◌≡◌, ◌∙◌, ◌<◌, arith, length, sym}
-use Rattle.gaz_shelf.specs.Received.{count_above}
+use Rattle.gaz_keeper.specs.Received.{count_above}
 use Rattle.gaz_tables.specs.Schema.{receiveds}
 use Rattle.gaz_kept.specs.Files.{files_in}
 use Rattle.gaz_kept.proofs.Stands.{are_files}

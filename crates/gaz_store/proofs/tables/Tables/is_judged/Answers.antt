@@ -1,6 +1,6 @@
 use Rattle.std.proofs.Common.{◌≡◌, ◌∙◌, subst}
 use Rattle.std.specs.Prelude.{nat_le}
-use Rattle.gaz_shelf.specs.Board.{verdict_on}
+use Rattle.gaz_keeper.specs.Board.{verdict_on}
 use Rattle.gaz_tables.specs.Schema.{receiveds}
 use Rattle.gaz_kept.specs.Contents.{board_of}
 use Rattle.gaz_kept.specs.Files.{reached_in}

@@ -1,7 +1,7 @@
 use Rattle.std.proofs.Common.{Some, ◌∙◌, ap, subst, sym}
 use Rattle.std.specs.Prelude.{option_map}
 use Rattle.std.specs.String.{string_bytes}
-use Rattle.gaz_shelf.specs.Board.{view_after}
+use Rattle.gaz_keeper.specs.Board.{view_after}
 use Rattle.gaz_kept.specs.Contents.{board_of}
 use Rattle.gaz_store.specs.Paging.{IsPageFrom}
 use Rattle.gaz_store.proofs.Answered.{asked_as}

@@ -1,7 +1,7 @@
 -- What two calls after each other tell.
 use Rattle.std.proofs.Common.{◌≡◌, ℕ, refl, ap, ◌∙◌, subst, cond, eq-eqb}
-use Rattle.gaz_shelf.specs.Board.{last_view}
-use Rattle.gaz_shelf.specs.Keeper.{Idle, IsLeft, Keeps, Open, Broken, Progress, Seen, view_of, viewed}
+use Rattle.gaz_keeper.specs.Board.{last_view}
+use Rattle.gaz_keeper.specs.Keeper.{Idle, IsLeft, Keeps, Open, Broken, Progress, Seen, view_of, viewed}
 
 left_then : (p q r : Progress) → IsLeft p q → IsLeft q r → IsLeft p r
 left_then Idle q r a b = subst (λ x. IsLeft x r) a b

@@ -13,7 +13,7 @@ pub enum ShelfFault {
 
 impl From<AllocError> for ShelfFault {
     ghost use Rattle.std.specs.Prelude.{◌≡◌};
-    ghost use Rattle.gaz_shelf.specs.declared.fault.ShelfFault.TheVariants.{Memory};
+    ghost use Rattle.gaz_keeper.specs.declared.fault.ShelfFault.TheVariants.{Memory};
 
     ghost from_gives = { λ _ e. e ≡ Memory };
 

@@ -2,12 +2,13 @@
 ghost use Rattle.std.specs.Prelude.{◌≡◌, ◌≢◌, true};
 ghost use Rattle.gaz_records.specs.Items.{is_entry};
 ghost use Rattle.gaz_records.specs.Kinds.{is_entry_kind};
-ghost use Rattle.gaz_shelf.specs.Keeper.{Idle, IsNotOpen, Refuses, Seen};
-ghost use Rattle.gaz_shelf.specs.Telling.{Abandons, Applies, Begins, Puts, Receives, Skips, Takes};
-ghost use Rattle.gaz_shelf.specs.Telling.{TellsApprovedOf, TellsApprovedOn, TellsAt, TellsChildren};
-ghost use Rattle.gaz_shelf.specs.Telling.{TellsCurrent, TellsEver, TellsHeld, TellsPage};
-ghost use Rattle.gaz_shelf.specs.Telling.{TellsPropertyOf, TellsReached, TellsReceived};
-ghost use Rattle.gaz_shelf.specs.Telling.{TellsVerdict};
+ghost use Rattle.gaz_keeper.specs.Keeper.{Idle, IsNotOpen, Refuses, Seen};
+ghost use Rattle.gaz_keeper.specs.Telling.{Abandons, Applies, Begins, Puts, Receives, Skips, Takes};
+ghost use Rattle.gaz_keeper.specs.Telling.{TellsApprovedOf, TellsApprovedOn, TellsAt};
+ghost use Rattle.gaz_keeper.specs.Telling.{TellsChildren};
+ghost use Rattle.gaz_keeper.specs.Telling.{TellsCurrent, TellsEver, TellsHeld, TellsPage};
+ghost use Rattle.gaz_keeper.specs.Telling.{TellsPropertyOf, TellsReached, TellsReceived};
+ghost use Rattle.gaz_keeper.specs.Telling.{TellsVerdict};
 
 use crate::fault::ShelfFault;
 use gaz_ids::{Code, Lang, Uprn, Usrn, Volume};

@@ -1,26 +1,22 @@
 -- What each call of a keeper tells of it before and after, where `seen` is how it is seen.
-use Rattle.std.specs.Prelude.{◌≡◌, ◌≤◌, ◌++◌, ⊤, ℕ, Bool, List, Option, None, Some, option_map}
-use Rattle.std.specs.Prelude.{Result, fold}
+use Rattle.std.specs.Prelude.{◌≡◌, ◌≤◌, ⊤, ℕ, Bool, List, Option, None, Some, Result, option_map}
 use Rattle.std.specs.FinMap as map
 use Rattle.std.specs.Global.{Vec}
 use Rattle.gaz_ids.specs.declared.lang.Lang.{Lang}
 use Rattle.gaz_records.specs.declared.item.Item.{Item}
 use Rattle.gaz_records.specs.declared.item.Kind.{Kind}
 use Rattle.gaz_records.specs.declared.key.Key.{Key}
-use Rattle.gaz_views.specs.Reading.{left_after}
 use Rattle.gaz_views.specs.View.{was_used, with_item, without_key}
 use Rattle.gaz_views.specs.Words.{approved_of, approved_on, has_children, page, property_of}
-use Rattle.gaz_views.specs.Words.{rest_of}
 use Rattle.gaz_views.specs.declared.property.Property.{Property}
 use Rattle.gaz_views.specs.declared.verdict.Verdict.{Verdict}
-use Rattle.gaz_shelf.specs.Board.{Board, reached, verdict_on, view_after}
-use Rattle.gaz_shelf.specs.Keeper.{Enters, Goes, Idle, IsAtHand, IsNew, IsNotOpen, Open, Reads}
-use Rattle.gaz_shelf.specs.Keeper.{Seen, Sets}
-use Rattle.gaz_shelf.specs.Keeper.{after_abandon, after_begin, after_keep, after_skip}
-use Rattle.gaz_shelf.specs.Keeper.{committed_by, view_of, with_received, written}
-use Rattle.gaz_shelf.specs.Received.{count_above}
-use Rattle.gaz_shelf.specs.declared.fault.ShelfFault.{ShelfFault}
-use Rattle.gaz_shelf.specs.declared.writing.Ending.{Ending}
+use Rattle.gaz_keeper.specs.Board.{Board, reached, verdict_on, view_after}
+use Rattle.gaz_keeper.specs.Keeper.{Enters, Goes, Idle, IsAtHand, IsNew, IsNotOpen, Open, Reads}
+use Rattle.gaz_keeper.specs.Keeper.{Seen, Sets}
+use Rattle.gaz_keeper.specs.Keeper.{after_abandon, after_begin, after_keep, after_skip}
+use Rattle.gaz_keeper.specs.Keeper.{view_of, with_received}
+use Rattle.gaz_keeper.specs.Received.{count_above}
+use Rattle.gaz_keeper.specs.declared.fault.ShelfFault.{ShelfFault}
 
 -- no judgement is in progress
 abbrev pub IsNotJudging : {K : Type 0} → (K → Seen) → K → Type 0
@@ -37,19 +33,6 @@ IsItemAt board c volume key i =
 abbrev pub IsPageAt : Board → ℕ → ℕ → Kind → Option Key → ℕ → List Item → Type 0
 IsPageAt board c volume kind after most items =
     volume ≤ reached board c → items ≡ page (view_after board c volume) kind after most
-
--- all items of a kind
-abbrev pub IsAllAt : Board → ℕ → ℕ → Kind → List Item → Type 0
-IsAllAt board c volume kind items =
-    volume ≤ reached board c → items ≡ rest_of (view_after board c volume) kind None
-
--- these items and those that are left come to what there was before and what was to be read
-abbrev pub IsReadOn : Board → ℕ → ℕ → Kind → Option Key → List Item → List Item → Option Key
-    → Type 0
-IsReadOn board c volume kind after before items next =
-    volume ≤ reached board c
-    → items ++ left_after (view_after board c volume) kind next ≡ before
-    ++ rest_of (view_after board c volume) kind after
 
 -- ---- the calls that read
 
@@ -148,30 +131,3 @@ abbrev pub Receives : {K T : Type 0} → (K → Seen) → K → K → Result T S
 Receives seen old new result c volume bytes =
     Enters (seen old) (seen new) result (IsNew (seen old).content c volume)
     (with_received (seen old).content c volume bytes)
-
--- ---- over any keeper
-
-abbrev pub TellsAll : {K : Type 0} → (K → Seen) → K → K → Result (Vec Item) ShelfFault → ℕ → ℕ
-    → Kind → Type 0
-TellsAll seen old new result c volume kind =
-    Reads (seen old) (seen new) result
-    (λ items. IsAllAt (seen old).content.board c volume kind items.items)
-
--- a page is added to these items
-abbrev pub AddsPage : {K : Type 0} → (K → Seen) → K → K → Result (Option Key) ShelfFault → ℕ → ℕ
-    → Kind → Option Key → Vec Item → Vec Item → Type 0
-AddsPage seen old new result c volume kind after before items =
-    Reads (seen old) (seen new) result
-    (λ next. IsReadOn
-    (seen old).content.board c volume kind after before.items items.items next)
-
-abbrev pub PutsAll : {K T : Type 0} → (K → Seen) → K → K → Result T ShelfFault → List Item → Type 0
-PutsAll seen old new result items =
-    Sets (seen old) (seen new) result (fold with_item (seen old).content.working items)
-
-abbrev pub Writes : {K T : Type 0} → (K → Seen) → K → K → Result T ShelfFault → ℕ → List Item
-    → Ending → Type 0
-Writes seen old new result c items ending =
-    Goes (seen old) (seen new) result (IsAtHand (seen old).content c)
-    (written (seen old).content c items ending)
-    (committed_by ending (written (seen old).content c items ending)) Idle

@@ -1,17 +1,14 @@
 -- A keeper at one moment, and what each of its calls tells.
 use Rattle.std.specs.Prelude.{◌≡◌, ◌≢◌, ◌≤◌, ◌<◌, ◌+◌, ◌-◌, ◌^◌, ◌==◌, ◌⊎◌, ⊤, ℕ, Bool, true}
 use Rattle.std.specs.Prelude.{if◌then◌else◌, List, [], Option, None, Some, IsSome, Result, Err}
-use Rattle.std.specs.Prelude.{IfOk, IfErr, OnOk, OnErr, fold}
+use Rattle.std.specs.Prelude.{IfOk, IfErr, OnOk, OnErr}
 use Rattle.std.specs.FinMap as map
 use Rattle.gaz_views.specs.Lawful.{IsLawfulView}
-use Rattle.gaz_views.specs.View.{View, empty_view, with_item}
-use Rattle.gaz_shelf.specs.Board.{Board, Judgement, adds, last_view, reached, view_after}
-use Rattle.gaz_shelf.specs.Received.{Received, with_file}
-use Rattle.gaz_records.specs.declared.item.Item.{Item}
-use Rattle.gaz_shelf.specs.declared.writing.Ending.{Ending}
-use Rattle.gaz_shelf.specs.declared.writing.Ending.TheVariants.{Keep, Abandon}
-use Rattle.gaz_shelf.specs.declared.fault.ShelfFault.{ShelfFault}
-use Rattle.gaz_shelf.specs.declared.fault.ShelfFault.TheVariants.{Memory, Store}
+use Rattle.gaz_views.specs.View.{View, empty_view}
+use Rattle.gaz_keeper.specs.Board.{Board, Judgement, adds, last_view, reached, view_after}
+use Rattle.gaz_keeper.specs.Received.{Received, with_file}
+use Rattle.gaz_keeper.specs.declared.fault.ShelfFault.{ShelfFault}
+use Rattle.gaz_keeper.specs.declared.fault.ShelfFault.TheVariants.{Memory, Store}
 use Rattle.gaz_views.specs.declared.verdict.Verdict.TheVariants.{Applied, Rejected}
 
 -- ---- what is kept
@@ -213,19 +210,3 @@ Sets old new result w = Goes old new result ⊤ (with_working old.content w) Non
 -- value
 abbrev pub Refuses : {T : Type 0} → Seen → Result T ShelfFault → Type 0
 Refuses old result = old.progress ≡ Broken → result ≡ Err (if old.is_full then Memory else Store)
-
--- ---- a whole judgement
-
--- how a judgement is to end
-abbrev pub ended : Ending → Content → ℕ → View → Content
-ended Keep k c w = with_judgement k c (record { verdict = Applied; view = w })
-ended Abandon k c w = after_abandon k
-
--- what ending a judgement so commits
-abbrev pub committed_by : Ending → Content → Option Content
-committed_by Keep becomes = Some becomes
-committed_by Abandon becomes = None
-
--- items set one after another on a custodian's last view, and the judgement ended
-abbrev pub written : Content → ℕ → List Item → Ending → Content
-written k c items ending = ended ending k c (fold with_item (last_view k.board c) items)

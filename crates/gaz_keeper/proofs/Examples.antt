@@ -3,10 +3,10 @@ use Rattle.std.proofs.Common.{◌≡◌, ◌∙◌, ◌&&◌, inl, inr, ℕ, fal
 use Rattle.std.specs.Prelude.{◌==◌, count_by, nat_le}
 use Rattle.std.specs.FinMap as finite
 use Rattle.gaz_views.proofs.Trees.{no_entries}
-use Rattle.gaz_shelf.proofs.Pairs.{pairs_total}
-use Rattle.gaz_shelf.specs.Examples.{WorkedBoards, WorkedContents, WorkedExamples, WorkedFiles, WorkedStops, first_received, three_files}
-use Rattle.gaz_shelf.specs.Keeper.{Content, after_stop, empty_content}
-use Rattle.gaz_shelf.specs.Received.{Received, count_above, pair_cmp, with_file}
+use Rattle.gaz_keeper.proofs.Pairs.{pairs_total}
+use Rattle.gaz_keeper.specs.Examples.{WorkedBoards, WorkedContents, WorkedExamples, WorkedFiles, WorkedStops, first_received, three_files}
+use Rattle.gaz_keeper.specs.Keeper.{Content, after_stop, empty_content}
+use Rattle.gaz_keeper.specs.Received.{Received, count_above, pair_cmp, with_file}
 
 abbrev Entries : Type 0
 Entries = List ((ℕ × ℕ) × List ℕ)
@@ -67,9 +67,6 @@ worked_examples_hold = record { on_boards = on_boards; on_contents = on_contents
 
     on_files : WorkedFiles
     on_files = record {
-      at_the_highest = refl;
-      above_the_highest = refl;
-      of_nobody = refl;
       above_none = counted 1001 0;
       above_1 = counted 1001 1;
       above_3 = counted 1001 3;

@@ -1,0 +1,5 @@
+pub mod Board
+pub mod Received
+pub mod Keeper
+pub mod Telling
+pub mod Examples
