@@ -5,3 +5,4 @@ mod Stopping
 mod Answered
 mod Chaining
 mod Examples
+mod Serving

@@ -3,3 +3,4 @@ pub mod Chains
 pub mod Stopping
 pub mod Answering
 pub mod Examples
+pub mod Serving

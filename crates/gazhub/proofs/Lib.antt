@@ -1,2 +1,3 @@
 pub mod Playing
 mod Endings
+mod Opening

@@ -1,8 +1,8 @@
 -- The exit statuses, and the lines that name faults.
 use Rattle.std.specs.Prelude.{ℕ, Bool, true, false, List, [], codes}
 use Rattle.gaz_commands.specs.Saying.{error_line}
-use Rattle.gaz_filing.specs.declared.files.NoHub.{NoHub as WhyNoHub}
-use Rattle.gaz_filing.specs.declared.files.NoHub.TheVariants as none
+use Rattle.gazhub.specs.declared.files.NoHub.{NoHub as WhyNoHub}
+use Rattle.gazhub.specs.declared.files.NoHub.TheVariants as none
 use Rattle.gaz_kept.specs.declared.refusal.StoreRefusal.{StoreRefusal}
 use Rattle.gaz_kept.specs.declared.refusal.StoreRefusal.TheVariants as refusal
 use Rattle.gaz_register.specs.declared.fault.RegFault.{RegFault}

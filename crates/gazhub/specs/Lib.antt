@@ -1,3 +1,4 @@
 pub mod Playing
 pub mod Endings
 pub mod Commands
+pub mod Filing

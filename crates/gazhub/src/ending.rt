@@ -4,7 +4,7 @@ ghost use Rattle.gazhub.specs.Endings.{line_of, no_hub_line, refusal_line, regis
 ghost use Rattle.gazhub.specs.Endings.{status_of};
 
 use gaz_commands::Fault;
-use gaz_filing::NoHub;
+use crate::files::NoHub;
 use gaz_register::RegFault;
 use gaz_store::StoreRefusal;
 

@@ -2,10 +2,14 @@
 //! over a store.
 #![tactic(auto)]
 
+mod commands;
 mod ending;
+mod files;
 mod obeying;
 mod program;
 mod sample;
+mod serving;
+mod stores;
 
 use gaz_ledger::Seed;
 use obeying::command;

@@ -6,14 +6,15 @@ ghost use Rattle.gazhub.specs.Commands.{Commands, Ends, EndsAt, EndsAtWords, IsT
 ghost use Rattle.gazhub.specs.Commands.{ending_of, is_play};
 ghost use Rattle.gazhub.specs.Endings.{is_silent, line_of};
 
+use crate::commands::{ask, attend, init};
 use crate::ending::Ending;
+use crate::files::NoHub;
 use crate::program::{MOST, play};
 use crate::sample::SAMPLE;
 use clap::Error;
 use clap::error::ErrorKind;
 use gaz_commands::{Said, print};
 use gaz_exchange::write_all;
-use gaz_filing::{NoHub, ask, attend, init};
 use gaz_ledger::Seed;
 use gaz_words::{Command, Places, Serving, asks_play, read};
 use std::io::{Read, Write};

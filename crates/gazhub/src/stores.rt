@@ -4,8 +4,8 @@ ghost use Rattle.gaz_keeper.specs.Keeper.{IsNotOpen};
 ghost use Rattle.gaz_keeper.specs.Telling.{IsNotJudging};
 ghost use Rattle.gaz_commands.specs.Obeying.{Obeys};
 ghost use Rattle.gaz_store.specs.Store.{seen_in};
-ghost use Rattle.gaz_filing.specs.Filing.{AsksStore, Connects, MakesNone, MakesStore, OpensHub};
-ghost use Rattle.gaz_filing.specs.Filing.{OpensNone, asked};
+ghost use Rattle.gazhub.specs.Filing.{AsksStore, Connects, MakesNone, MakesStore, OpensHub};
+ghost use Rattle.gazhub.specs.Filing.{OpensNone, asked};
 
 use gaz_commands::{PrintedLine, Said, extract, line, status, submit};
 use gaz_hub::Hub;

@@ -1,6 +1,6 @@
 use Rattle.std.proofs.Common.{◌∙◌, refl}
-use Rattle.gaz_serving.proofs.Serving.{none, one_more, same_register}
-use Rattle.gaz_serving.proofs.connections.serve_on.Goals as goal
+use Rattle.gaz_stored.proofs.Serving.{none, one_more, same_register}
+use Rattle.gaz_stored.proofs.connections.serve_on.Goals as goal
 
 pub loop-init : goal.loop-init
 loop-init g c = (none _ _ _, refl)

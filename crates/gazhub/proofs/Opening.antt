@@ -15,7 +15,7 @@ use Rattle.gaz_store.specs.Store.{seen_in}
 use Rattle.gaz_store.specs.declared.store.Store.{Store}
 use Rattle.gaz_hub.specs.Seen.{RemembersNothing}
 use Rattle.gaz_hub.specs.declared.hub.Hub.{Hub}
-use Rattle.gaz_filing.specs.Filing.{Connects, MakesNone, OpensHub}
+use Rattle.gazhub.specs.Filing.{Connects, MakesNone, OpensHub}
 
 module _ {D : Type 0} (g : disk.Ghosts D) (files : Files D) (conn back : Held (FileStore D g)) (connects : Connects g files conn)
     (result : Result (Store (FileStore D g) over_files) (Held (FileStore D g) × StoreRefusal))

@@ -6,7 +6,7 @@ use Rattle.gaz_hub.specs.Seen.{hub_seen}
 use Rattle.gaz_hub.specs.declared.hub.Hub.{Hub}
 use Rattle.gaz_hub.proofs.HubRuns.{runs_none, runs_then}
 use Rattle.gaz_exchange.specs.Exchanges.{commands_of, responses_of}
-use Rattle.gaz_serving.specs.Serving.{InTurn, Serves, Talks, TalksOrRests}
+use Rattle.gaz_stored.specs.Serving.{InTurn, Serves, Talks, TalksOrRests}
 
 module _ {K : Type 0} (seen : K → Seen) (most : ℕ) where
   pub none : (hub : Hub K) → Serves seen most 0 hub hub

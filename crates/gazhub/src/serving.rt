@@ -11,8 +11,8 @@ use gaz_keeper::Inbox;
 use gaz_ledger::Seed;
 use gaz_mirrored::mirrored;
 use gaz_register::Register;
-use gaz_serving::serve_on;
 use gaz_store::Store;
+use gaz_stored::serve_on;
 use sqlite::{File, FileStore, Files, Options};
 use sqlite_disk::Disk;
 use std::alloc::Global;
@@ -111,7 +111,7 @@ impl Attending {
     }
 
     /// Puts all that the store keeps at hand, where memory allows, answers so many connections, one
-    /// after the other, and closes the store: see `serve_on` of `gaz_serving`.
+    /// after the other, and closes the store: see `serve_on` of `gaz_stored`.
     pub fn serve(self, alloc: Global, connections: u64) {
         let Attending {
             seed,

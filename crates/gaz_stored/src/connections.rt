@@ -1,6 +1,6 @@
 ghost use Rattle.std.specs.Prelude.{◌≡◌};
 ghost use Rattle.gaz_keeper.specs.Keeper.{IsNotOpen};
-ghost use Rattle.gaz_serving.specs.Serving.{Serves, TalksOrRests};
+ghost use Rattle.gaz_stored.specs.Serving.{Serves, TalksOrRests};
 
 use gaz_exchange::converse;
 use gaz_hub::Hub;

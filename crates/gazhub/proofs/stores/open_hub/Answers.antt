@@ -1,6 +1,6 @@
 use Rattle.std.proofs.Common.{inr}
-use Rattle.gaz_filing.proofs.Opening.{opens_hub}
-use Rattle.gaz_filing.proofs.stores.open_hub.Goals as goal
+use Rattle.gazhub.proofs.Opening.{opens_hub}
+use Rattle.gazhub.proofs.stores.open_hub.Goals as goal
 
 pub returns-in-Ok-clause-opened : goal.returns-in-Ok-clause-opened
 returns-in-Ok-clause-opened g c = opens_hub _ _ _ _ c.in-Some.ensures _ _ c.new.ensures.register c.new.ensures.keeper c.new.ensures.remembers c.in-Ok.ensures.opened
