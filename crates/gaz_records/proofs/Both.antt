@@ -1,4 +1,4 @@
--- Parts of a test that holds.
+-- Parts of a test that holds, and the whole.
 use Rattle.std.proofs.Common.{◌≡◌, Bool, true, false, refl}
 use Rattle.std.specs.Prelude.{◌&&◌}
 
@@ -9,3 +9,6 @@ and-left false b e = cc e
 pub and-right : (a b : Bool) → a && b ≡ true → b ≡ true
 and-right true b e = e
 and-right false b e = cc e
+
+pub and-both : (a b : Bool) → a ≡ true → b ≡ true → a && b ≡ true
+and-both a b d e = rw (d, e) refl

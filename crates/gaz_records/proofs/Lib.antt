@@ -8,5 +8,8 @@ pub mod Growing
 pub mod Says
 pub mod FieldsBack
 pub mod ItemsBack
+pub mod ReadFields
+pub mod ReadObjects
+pub mod ReadItems
 pub mod KeyOrder
 pub mod SortOrder

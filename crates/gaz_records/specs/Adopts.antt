@@ -1,5 +1,5 @@
 -- Adoptions: what their fields say, and how they are written.
-use Rattle.std.specs.Prelude.{ℕ, ◌&&◌, List, [], ◌∷◌, None, Result, Bool, decimal}
+use Rattle.std.specs.Prelude.{ℕ, ◌&&◌, List, ◌∷◌, None, Result, Bool, decimal}
 use Rattle.gaz_ids.specs.declared.status.Status.TheVariants.{Approved}
 use Rattle.gaz_records.specs.Days.{no_day}
 use Rattle.gaz_records.specs.Fields.{value_or}

@@ -80,3 +80,8 @@ abbrev pub ItemsReadBack : Type 0
 ItemsReadBack = (x : Item) → is_item x ≡ true
     → (read_item (kind_of x) (item_texts x) ≡ Ok x)
     × (item_of_text (kind_of x) (item_text x) ≡ Ok x)
+
+-- what fields say as an item of a kind is of that kind, and such as the table allows
+abbrev pub ReadsItems : Type 0
+ReadsItems = (k : Kind) (f : List (List ℕ)) (x : Item) → read_item k f ≡ Ok x
+    → (kind_of x ≡ k) × (is_item x ≡ true)

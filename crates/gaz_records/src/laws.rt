@@ -1,4 +1,4 @@
-ghost use Rattle.gaz_records.specs.Items.{ItemsReadBack};
+ghost use Rattle.gaz_records.specs.Items.{ItemsReadBack, ReadsItems};
 ghost use Rattle.gaz_records.specs.Keys.{KeysAreOrdered};
 ghost use Rattle.gaz_records.specs.Kinds.{IdentifiersReadBack};
 ghost use Rattle.gaz_records.specs.SortKeys.{WorkedSortKeys};
@@ -6,6 +6,11 @@ ghost use Rattle.gaz_records.specs.SortKeys.{WorkedSortKeys};
 /// An item reads back as the same item, from the texts of its fields and from its row.
 pub fn items_read_back()
     ensures { ItemsReadBack }
+{}
+
+/// What fields say as an item of a kind is of that kind, and such as the table allows.
+pub fn what_is_read()
+    ensures { ReadsItems }
 {}
 
 /// A record identifier is the digits of its number, and says its kind.
