@@ -1,6 +1,7 @@
 pub mod Runs
 pub mod Least
 pub mod Orderly
+pub mod Typed
 pub mod Written
 pub mod Texts
 pub mod Back

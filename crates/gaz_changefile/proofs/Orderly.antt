@@ -54,7 +54,7 @@ all_four true true false d h = cc h
 all_four true false c d h = cc h
 all_four false b c d h = cc h
 
-not_false : (b : Bool) → not b ≡ false → b ≡ true
+pub not_false : (b : Bool) → not b ≡ false → b ≡ true
 not_false true h = refl
 not_false false h = cc h
 
@@ -267,7 +267,7 @@ rows_built c v (row ∷ rows) kept =
     let p = profile_named (row ∷ rows) in
     all_built c v p (row ∷ rows) (row ∷ []) rows refl (omega arith) refl kept (header_built c v p row (not_broken _ (kept 0 (omega arith))))
 
-good_built : (bytes : List ℕ) (c v : ℕ) (contents : Contents) → reading bytes c v ≡ Good contents → IsGood c v bytes contents
+pub good_built : (bytes : List ℕ) (c v : ℕ) (contents : Contents) → reading bytes c v ≡ Good contents → IsGood c v bytes contents
 good_built bytes c v contents e = rw e at (least-fault bytes c v)
 
 pub bases-rise : BasesRise

@@ -68,6 +68,13 @@ ChangesAreAllowed =
     (bytes : List ℕ) (c v : ℕ) (contents : Contents) → reading bytes c v ≡ Good contents
     → AreAllowed c contents.changes
 
+-- what a good file says is such as the types of its parts hold: its date is in the calendar, its
+-- bases are codes and volumes, and its items are such as the table of fields allows
+abbrev pub ReadingsAreTyped : Type 0
+ReadingsAreTyped =
+    (bytes : List ℕ) (c v : ℕ) (contents : Contents) → reading bytes c v ≡ Good contents
+    → IsTyped contents
+
 -- a record begins as a release or an adoption
 abbrev pub BeginsPassing : Fields → Type 0
 BeginsPassing row = (field row 0 ≡ codes "91") ⊎ (field row 0 ≡ codes "92")

@@ -1,6 +1,6 @@
 //! What a reader of the definitions may rely on.
 ghost use Rattle.gaz_changefile.specs.Laws.{BasesRise, ChangesAreAllowed, ChangesArePlaced};
-ghost use Rattle.gaz_changefile.specs.Laws.{EntriesAlone, FilesReadBack, LeastFault};
+ghost use Rattle.gaz_changefile.specs.Laws.{EntriesAlone, FilesReadBack, LeastFault, ReadingsAreTyped};
 ghost use Rattle.gaz_changefile.specs.Worked.{WorkedBases, WorkedFiles, WorkedProfiles};
 
 /// A bad reading names the least place at which a rule is broken and, there, the first that is. A
@@ -24,6 +24,12 @@ pub fn changes_are_placed()
 /// one whose file it is.
 pub fn changes_are_allowed()
     ensures { ChangesAreAllowed }
+{}
+
+/// What a good file says is such as the types of its parts hold: its date is in the calendar, its
+/// bases are codes and volumes, and its items are such as the table of fields allows.
+pub fn readings_are_typed()
+    ensures { ReadingsAreTyped }
 {}
 
 /// A file whose header doesn't name profile 2 is read as if there were entries alone.
