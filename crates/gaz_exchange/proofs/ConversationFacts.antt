@@ -1,8 +1,8 @@
 -- A conversation, turn by turn.
-use Rattle.std.proofs.Common.{◌≡◌, ℕ, ◌+◌, ◌-◌, ◌<◌, ◌≤◌, Bool, true, false, List, [], ◌∷◌, ◌++◌, length, Option, Result, Ok, Err, inl, inr, refl, ap, sym, ◌∙◌, arith, append-nil, length-append}
+use Rattle.std.proofs.Common.{◌≡◌, ◌≢◌, ℕ, ◌+◌, ◌-◌, ◌<◌, ◌≤◌, Bool, true, false, List, [], ◌∷◌, ◌++◌, length, Option, Result, Ok, Err, inl, inr, refl, ap, sym, ◌∙◌, arith, append-nil, length-append}
 use Rattle.std.specs.Prelude.{◌⊎◌, ◌&&◌, ◌||◌, not, nat_lt, ◌==◌, if◌then◌else◌}
-use Rattle.std.specs.Io.KnownBytes.{Appends, Consumes}
-use Rattle.std.proofs.KnownBytes.{Appends-nil, Appends-trans, Consumes-nil, Consumes-trans}
+use Rattle.std.specs.Io.KnownBytes.{Appends, Consumes, Keeps}
+use Rattle.std.proofs.KnownBytes.{Appends-kept, Appends-nil, Appends-trans, Consumes-nil, Consumes-trans}
 use Rattle.std.proofs.lemmas.Bool.Decides.{nat_tests}
 use Rattle.std.proofs.lemmas.List.Elements.{filter_map-append}
 use Rattle.gaz_keeper.specs.Keeper.{Seen}
@@ -14,7 +14,7 @@ use Rattle.gaz_hub.proofs.Answers.{every_answer_holds}
 use Rattle.gaz_hub.proofs.HubRuns.{runs_none, runs_still, runs_then}
 use Rattle.gaz_exchange.specs.declared.conversation.Served.{Served}
 use Rattle.gaz_exchange.specs.declared.conversation.Stopped.{Stopped}
-use Rattle.gaz_exchange.specs.Conversing.{CountedConversation, EndsAs, EndsByReply, Passed, StopsAs, StopsWaiting, ended_after}
+use Rattle.gaz_exchange.specs.Conversing.{AnswersAll, ComesTo, CountedConversation, EndsAs, EndsByReply, FinishesAs, Passed, StopsAs, StopsWaiting, ended_after, replied}
 use Rattle.gaz_exchange.specs.Exchanges.{Comes, Exchange, all_open, command_in, commands_of, ends_after, goes_on, replies, responses_of}
 use Rattle.gaz_exchange.specs.Framing.{is_closing}
 use Rattle.gaz_exchange.specs.Sparing.{OneForEach, OneForEachUsed}
@@ -256,10 +256,10 @@ module _ (d : Door) where
           none_behind = λ last. not_last n (omega arith) last;
         }
 
-    stops_answering : (t : IsTurn d ((n + 1) == most) was routed reads reads_then inlet rest left later holds after mid new (turn.Stopped WriteFault)) (lost : List ℕ) (e : Exchange)
+    stops_answering : (t : IsTurn d ((n + 1) == most) was routed reads reads_then inlet rest left later holds after mid new (turn.Stopped WriteFault)) (lost : List ℕ) (part : lost ≢ []) (e : Exchange)
         → Exchanges d ((n + 1) == most) routed (inlet ++ t.read) e rest mid new → e.reply ≡ t.written ++ lost → OneForEachUsed reads reads_then (inlet ++ t.read) rest
         → Converses d most begun reads_then had later held after old new (Err (record { requests = n; cause = WriteFault }))
-    stops_answering t lost e x cut counted = record {
+    stops_answering t lost part e x cut counted = record {
       conversation = record {
         read = s.read ++ t.read;
         written = replies s.exchanges ++ t.written;
@@ -271,17 +271,17 @@ module _ (d : Door) where
         routes = (all_routes t.read e t.consumed x t.stay).stay;
         runs = all_runs t.read e t.consumed x t.stay;
         answers = answers_off d old new _ _ (all_runs t.read e t.consumed x t.stay);
-        comes_to = inr (inl (record { earlier = s.exchanges; in_hand = e; sent = t.written; lost = lost; split = refl; cut = cut; counted = sym s.count; told = refl }));
+        comes_to = inr (inl (record { earlier = s.exchanges; in_hand = e; sent = t.written; lost = lost; split = refl; cut = cut; part = part; counted = sym s.count; told = refl }));
         answers_all = tt;
       };
       one_for_each = inl (omega (arith, counted_used t.read counted));
       none_behind = λ last. counted_used t.read counted;
     }
 
-    stops_refusing : (t : IsTurn d ((n + 1) == most) was routed reads reads_then inlet rest left later holds after mid new (turn.Stopped WriteFault)) (lost : List ℕ)
+    stops_refusing : (t : IsTurn d ((n + 1) == most) was routed reads reads_then inlet rest left later holds after mid new (turn.Stopped WriteFault)) (lost : List ℕ) (part : lost ≢ [])
         → TurnsAway d reads reads_then (inlet ++ t.read) later mid new (t.written ++ lost)
         → Converses d most begun reads_then had later held after old new (Err (record { requests = n; cause = WriteFault }))
-    stops_refusing t lost (away, rests, counted) = record {
+    stops_refusing t lost part (away, rests, counted) = record {
       conversation = record {
         read = s.read ++ t.read;
         written = replies s.exchanges ++ t.written;
@@ -293,7 +293,7 @@ module _ (d : Door) where
         routes = s.routes.stay;
         runs = still_runs t.read t.consumed rests;
         answers = answers_off d old new _ _ (still_runs t.read t.consumed rests);
-        comes_to = inr (inr (record { open_yet = open_yet; sent = t.written; lost = lost; turned_away = away; counted = sym s.count; told = refl }));
+        comes_to = inr (inr (inl (record { open_yet = open_yet; sent = t.written; lost = lost; turned_away = away; part = part; counted = sym s.count; told = refl })));
         answers_all = tt;
       };
       one_for_each = counted_all t.read _ _ counted inl;
@@ -333,8 +333,45 @@ module _ (d : Door) where
     stops WriteFault t =
         elim t.out [
           | inl w ↦ stops_waiting t.read t.written t.consumed t.appended WriteFault w (inl (waiting t.read t.written t.consumed t.appended WriteFault w))
-          | inr cut ↦ elim cut.1 [ inl w ↦ stops_answering t cut.0 w.0 w.1 w.2 w.3 | inr w ↦ stops_refusing t cut.0 w ]
+          | inr cut ↦ elim cut.2 [ inl w ↦ stops_answering t cut.0 cut.1 w.0 w.1 w.2 w.3 | inr w ↦ stops_refusing t cut.0 cut.1 w ]
         ]
+
+  -- behind the last reply the writer was flushed, or failed in that
+  module _ (most n begun reads : ℕ) (had left held holds after : Option (List ℕ)) (old new : Seen) (kept : Keeps holds after)
+      (c : Converses d most begun reads had left held holds old new (Ok (record { requests = n; ended = ended_after n most }))) where
+    by_reply : (passed : Passed) (is_most : Bool) → EndsAs most passed n (if is_most then ended.Most else ended.Closed) → EndsByReply most passed n
+    by_reply passed true ends = ends.1
+    by_reply passed false ends = ends.1
+
+    flushed : (result : Result Served Stopped) → ComesTo most (passed_in c.conversation.exchanges c.conversation.rest left c.conversation.written) result
+        → AnswersAll most (passed_in c.conversation.exchanges c.conversation.rest left c.conversation.written) result → replied result ≡ n
+        → Converses d most begun reads had left held after old new result
+    flushed result comes_to answers_all same = record {
+      conversation = record {
+        read = c.conversation.read;
+        written = c.conversation.written;
+        exchanges = c.conversation.exchanges;
+        rest = c.conversation.rest;
+        consumed = c.conversation.consumed;
+        appended = Appends-kept held holds after c.conversation.written c.conversation.appended kept;
+        comes = c.conversation.comes;
+        routes = c.conversation.routes;
+        runs = c.conversation.runs;
+        answers = c.conversation.answers;
+        comes_to = comes_to;
+        answers_all = answers_all;
+      };
+      one_for_each = elim c.one_for_each [
+        | inl each ↦ inl each
+        | inr last ↦ elim last.1 [ inl at_end ↦ inr (last.0, inl at_end) | inr failed ↦ absurd failed ]
+      ];
+      none_behind = λ last. c.none_behind (rw same at last);
+    }
+
+    pub finishes : (result : Result Served Stopped) → FinishesAs most n result → Converses d most begun reads had left held after old new result
+    finishes (Ok served) e = rw e (flushed (Ok (record { requests = n; ended = ended_after n most })) c.conversation.comes_to c.conversation.answers_all refl)
+    finishes (Err stopped) e =
+        rw e (flushed (Err (record { requests = n; cause = WriteFault })) (inr (inr (inr (by_reply _ (n == most) c.conversation.comes_to)))) tt refl)
 
   -- so many were answered as were allowed
   pub ends_most : (most n : ℕ) (routed : Bool) (begun reads : ℕ) (had left held holds : Option (List ℕ)) (old new : Seen) (inlet : List ℕ)

@@ -24,7 +24,7 @@ space_inside [] [] rest = refl
 space_inside [] (x ∷ b) rest = ap (λ t. is_line_byte x && t) (space_inside [] b rest) ∙ and_false (is_line_byte x)
 space_inside (x ∷ a) b rest = ap (λ t. is_line_byte x && t) (space_inside a b rest) ∙ and_false (is_line_byte x)
 
-head_inside : (h : RequestHead) (rest : List ℕ) → is_blank (print_request h ++ rest) ≡ false
+pub head_inside : (h : RequestHead) (rest : List ℕ) → is_blank (print_request h ++ rest) ≡ false
 head_inside h rest = ap is_blank (print_request-append h rest) ∙ space_inside (print_blank h.blank) h.method _
 
 none_over : (bytes : List ℕ) → IsOver bytes → NoRequest bytes

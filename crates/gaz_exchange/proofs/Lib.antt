@@ -14,4 +14,6 @@ pub mod WalkFacts
 pub mod BodyFacts
 pub mod StreamLaws
 pub mod EndLaws
+pub mod FailureFacts
 pub mod WorkedStreams
+pub mod WorkedEnds

@@ -1,5 +1,5 @@
 -- Bytes that come and go.
-use Rattle.std.proofs.Common.{◌≡◌, ℕ, ◌+◌, Bool, false, true, refl, subst, append-nil, Option, None, Some, List, [], ◌++◌, take, drop, ap, ◌∙◌, sym, append_assoc, take-append-drop}
+use Rattle.std.proofs.Common.{◌≡◌, ◌≢◌, ◌<◌, ℕ, ◌+◌, arith, length, length-drop, Bool, false, true, refl, subst, append-nil, Option, None, Some, List, [], ◌++◌, take, drop, ap, ◌∙◌, sym, append_assoc, take-append-drop}
 use Rattle.std.proofs.Math.Seq.{take-add}
 use Rattle.std.proofs.KnownBytes.{Appends-nil, Appends-trans}
 use Rattle.std.specs.Io.KnownBytes.{Appends, Keeps}
@@ -13,8 +13,10 @@ body_more begin bs more out was part count n e p k =
     ∙ sym (append_assoc out (take n part) (drop n part)) ∙ ap (λ l. (out ++ l) ++ drop n part) (sym k)
 
 -- a front of the text was written
-pub put_part : (held holds : Option (List ℕ)) (text : List ℕ) (n : ℕ) → Appends held holds (take n text) → IsPut held holds text false
-put_part held holds text n p = record { sent = take n text; lost = drop n text; cut = sym (take-append-drop n text); appended = p; all = λ e. cc }
+pub put_part : (held holds : Option (List ℕ)) (text : List ℕ) (n : ℕ) → n < length text → Appends held holds (take n text) → IsPut held holds text false
+put_part held holds text n short p =
+    let some : drop n text ≢ [] = λ e. omega (arith, short, length-drop n text, ap length e) in
+    record { sent = take n text; lost = drop n text; cut = sym (take-append-drop n text); appended = p; all = λ e. cc; part = λ _. some }
 
 -- n bytes more of the text
 pub put_more : (held mid holds : Option (List ℕ)) (text : List ℕ) (at n : ℕ) → Appends held mid (take at text) → Appends mid holds (take n (drop at text))
@@ -42,4 +44,5 @@ put_behind held mid holds text behind whole a b =
       cut = ap (λ l. text ++ l) b.cut ∙ sym (append_assoc text b.sent b.lost);
       appended = Appends-trans held mid holds text b.sent (subst (λ l. Appends held mid l) (sym none) a.appended) b.appended;
       all = b.all;
+      part = b.part;
     }

@@ -1,5 +1,5 @@
 -- One turn of a conversation.
-use Rattle.std.proofs.Common.{◌≡◌, ℕ, Bool, true, false, List, [], ◌++◌, Option, Some, None, Result, Ok, Err, inl, inr, refl, ap, sym, ◌∙◌, append-nil, subst}
+use Rattle.std.proofs.Common.{◌≡◌, ◌≢◌, ℕ, Bool, true, false, List, [], ◌++◌, Option, Some, None, Result, Ok, Err, inl, inr, refl, ap, sym, ◌∙◌, append-nil, subst}
 use Rattle.std.specs.Prelude.{◌||◌}
 use Rattle.std.specs.Io.KnownBytes.{Consumes, IsAtEnd, Keeps}
 use Rattle.httparse.specs.Grammar.{RequestHead}
@@ -106,22 +106,22 @@ module _ (d : Door) where
   -- the turn after a reply to a request
   module _ (h : RequestHead) (bytes rest text : List ℕ) (is_last routed : Bool) (old new : Seen) (left : Option (List ℕ)) (o : IsOut h bytes rest text is_last routed old new)
       (before after : ℕ) (counted : OneForEachUsed before after bytes rest) where
-    pub answer_turn : (sent lost : List ℕ) (ends whole : Bool) → ends ≡ (is_closing h || is_last) → text ≡ sent ++ lost → (whole ≡ true → lost ≡ [])
+    pub answer_turn : (sent lost : List ℕ) (ends whole : Bool) → ends ≡ (is_closing h || is_last) → text ≡ sent ++ lost → (whole ≡ true → lost ≡ []) → (whole ≡ false → lost ≢ [])
         → TurnsOut d is_last routed before after bytes rest left old new sent (turn_of ends whole)
-    answer_turn sent lost true false e cut all = inr (lost, inl (o.made, o.exchanges, o.of_text ∙ cut, counted))
-    answer_turn sent lost false false e cut all = inr (lost, inl (o.made, o.exchanges, o.of_text ∙ cut, counted))
-    answer_turn sent lost true true e cut all =
+    answer_turn sent lost true false e cut all part = inr (lost, part refl, inl (o.made, o.exchanges, o.of_text ∙ cut, counted))
+    answer_turn sent lost false false e cut all part = inr (lost, part refl, inl (o.made, o.exchanges, o.of_text ∙ cut, counted))
+    answer_turn sent lost true true e cut all part =
         inl (o.made, o.exchanges, sym (o.of_text ∙ cut ∙ ap (λ l. sent ++ l) (all refl) ∙ append-nil sent), ap (λ x. is_closing x || is_last) o.of_head ∙ sym e, counted)
-    answer_turn sent lost false true e cut all =
+    answer_turn sent lost false true e cut all part =
         (o.made, o.exchanges, sym (o.of_text ∙ cut ∙ ap (λ l. sent ++ l) (all refl) ∙ append-nil sent), ap (λ x. is_closing x || is_last) o.of_head ∙ sym e, counted)
 
   -- the turn after a refusal
   pub refuse_turn : (is_last routed : Bool) (before after : ℕ) (bytes rest : List ℕ) (left : Option (List ℕ)) (old new : Seen) (fault : Fault) (text sent lost : List ℕ) (whole : Bool)
-      → IsRefused bytes left fault → text ≡ reply_text (Refused fault) true → text ≡ sent ++ lost → (whole ≡ true → lost ≡ []) → Rests d old new
+      → IsRefused bytes left fault → text ≡ reply_text (Refused fault) true → text ≡ sent ++ lost → (whole ≡ true → lost ≡ []) → (whole ≡ false → lost ≢ []) → Rests d old new
       → OneForEach before after bytes (IsAtEnd left) → TurnsOut d is_last routed before after bytes rest left old new sent (turn_of true whole)
-  refuse_turn is_last routed before after bytes rest left old new fault text sent lost false why told cut all same counted =
-      inr (lost, inr (record { fault = fault; why = why; told = rw cut at told }, same, counted))
-  refuse_turn is_last routed before after bytes rest left old new fault text sent lost true why told cut all same counted =
+  refuse_turn is_last routed before after bytes rest left old new fault text sent lost false why told cut all part same counted =
+      inr (lost, part refl, inr (record { fault = fault; why = why; told = rw cut at told }, same, counted))
+  refuse_turn is_last routed before after bytes rest left old new fault text sent lost true why told cut all part same counted =
       inr (record { fault = fault; why = why; told = rw (cut ∙ ap (λ l. sent ++ l) (all refl) ∙ append-nil sent) at told }, same, counted)
 
   -- the turn of a request that came whole
@@ -131,7 +131,7 @@ module _ (d : Door) where
   turn_of_answer is_last was routed before after pending read bytes rest had left held mid holds old new q h turn stay eaten kept all begins call closing counted a =
       let put = a.sent.put in
       let o = exchange_out h bytes q.body.items rest a.sent.text q.closing is_last routed old new a.reply begins closing a.sent.told q.call call a.asked in
-      let out = answer_turn h bytes rest a.sent.text is_last routed old new left o before after counted put.sent put.lost (q.closing || is_last) a.whole (ap (λ b. b || is_last) closing) put.cut put.all in
+      let out = answer_turn h bytes rest a.sent.text is_last routed old new left o before after counted put.sent put.lost (q.closing || is_last) a.whole (ap (λ b. b || is_last) closing) put.cut put.all put.part in
       record { read = read; written = put.sent; consumed = eaten; appended = kept_appends held mid holds put.sent kept put.appended; stay = stay; out = rw (a.turn_is, ← all) out }
 
   -- the turn of what is refused
@@ -140,7 +140,7 @@ module _ (d : Door) where
       → OneForEach before after bytes (IsAtEnd left) → Refuses mid holds fault turn → IsTurn d is_last was routed before after pending rest had left held holds old old turn
   turn_of_refusal is_last was routed before after pending read bytes rest had left held mid holds old fault turn stay eaten kept all why counted a =
       let put = a.sent.put in
-      let out = refuse_turn is_last routed before after bytes rest left old old fault a.sent.text put.sent put.lost a.whole why (refusal_text fault true a.sent.text a.sent.told) put.cut put.all (runs_none d old) counted in
+      let out = refuse_turn is_last routed before after bytes rest left old old fault a.sent.text put.sent put.lost a.whole why (refusal_text fault true a.sent.text a.sent.told) put.cut put.all put.part (runs_none d old) counted in
       record { read = read; written = put.sent; consumed = eaten; appended = kept_appends held mid holds put.sent kept put.appended; stay = stay; out = rw (a.turn_is, ← all) out }
 
   waits_out : (is_last routed : Bool) (before after : ℕ) (bytes rest : List ℕ) (left : Option (List ℕ)) (old new : Seen) (cause : Cause) → Waits d before after bytes old new [] cause

@@ -89,7 +89,7 @@ asked_request : (rest : List ℕ) → BeginsWithRequest (asking_bytes ++ rest) a
 unfolding length_of httparse_on_literals
 asked_request rest = record { after = rest; head = asked_head rest; framed = refl; whole = refl }
 
-lost_request : (rest : List ℕ) → BeginsWithRequest (lost_bytes ++ rest) lost.head [] rest
+pub lost_request : (rest : List ℕ) → BeginsWithRequest (lost_bytes ++ rest) lost.head [] rest
 unfolding length_of httparse_on_literals
 lost_request rest = record { after = rest; head = lost_head rest; framed = refl; whole = refl }
 

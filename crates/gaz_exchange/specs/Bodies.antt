@@ -1,9 +1,10 @@
 -- The body behind a head.
-use Rattle.std.specs.Prelude.{◌≡◌, ℕ, ◌<◌, List, ◌++◌, length, Option}
+use Rattle.std.specs.Prelude.{◌≡◌, ⊤, ℕ, ◌<◌, List, ◌++◌, length, Option}
 use Rattle.std.specs.Io.KnownBytes.{IsAtEnd}
 use Rattle.gaz_exchange.specs.Sparing.{OneForEach, OneForEachUsed}
 use Rattle.gaz_exchange.specs.declared.body.Body.{Body}
 use Rattle.gaz_exchange.specs.declared.body.Body.TheVariants.{Whole, Short, Memory, Failed}
+use Rattle.gaz_exchange.specs.declared.supply.Cause.{Cause}
 use Rattle.gaz_exchange.specs.declared.supply.Cause.TheVariants.{ReadFault}
 use Rattle.gaz_exchange.specs.declared.supply.Supply.{Supply}
 use Rattle.gaz_exchange.specs.declared.supply.Supply.TheVariants as supply
@@ -29,3 +30,10 @@ abbrev pub IsRefill : List ℕ → Option (List ℕ) → Supply → Type 0
 IsRefill pending left supply.Some = 0 < length pending
 IsRefill pending left supply.End = (length pending ≡ 0) × IsAtEnd left
 IsRefill pending left (supply.Failed cause) = length pending ≡ 0
+
+-- where the reader or the writer failed within a body, the cause is so
+abbrev pub IfBodyFailed : Body → (Cause → Type 0) → Type 0
+IfBodyFailed (Whole body) IsSo = ⊤
+IfBodyFailed Short IsSo = ⊤
+IfBodyFailed Memory IsSo = ⊤
+IfBodyFailed (Failed cause) IsSo = IsSo cause

@@ -1,6 +1,6 @@
 -- A conversation: the requests of a stream, answered in turn.
-use Rattle.std.specs.Prelude.{◌≡◌, ⊤, ℕ, ◌+◌, ◌<◌, ◌⊎◌, ◌==◌, true, false, if◌then◌else◌, List}
-use Rattle.std.specs.Prelude.{[], ◌∷◌, ◌++◌, length, Option, Result, Ok, Err, IsErrAnd}
+use Rattle.std.specs.Prelude.{◌≡◌, ◌≢◌, ⊤, ℕ, ◌+◌, ◌<◌, ◌⊎◌, ◌==◌, true, false, if◌then◌else◌, List}
+use Rattle.std.specs.Prelude.{[], ◌∷◌, ◌++◌, length, Option, Result, Ok, Err, IfErr, IsErrAnd, IsOk}
 use Rattle.std.specs.Io.KnownBytes.{Appends, Consumes, IsAtEnd}
 use Rattle.gaz_keeper.specs.Keeper.{Seen}
 use Rattle.gaz_hub.specs.Answers.{AllAnswered}
@@ -10,6 +10,7 @@ use Rattle.gaz_hub.specs.Step.{Door}
 use Rattle.gaz_exchange.specs.Heads.{IsOver}
 use Rattle.gaz_exchange.specs.Exchanges.{Exchange, Comes, RoutesStay, goes_on, replies, commands_of}
 use Rattle.gaz_exchange.specs.Exchanges.{responses_of}
+use Rattle.gaz_exchange.specs.Failing.{HasFailed, NeverFails}
 use Rattle.gaz_exchange.specs.Refusals.{IsRefused, IsTurnedAway, IsUnfinished}
 use Rattle.gaz_exchange.specs.Sparing.{OneForEach, OneForEachUsed}
 use Rattle.gaz_exchange.specs.Streams.{AreAll}
@@ -80,7 +81,8 @@ pub record StopsWaiting (most : ℕ) (passed : Passed) (count : ℕ) : Type 0 wh
   pub counted : count ≡ length passed.exchanges
   pub told : passed.written ≡ replies passed.exchanges
 
--- the writer failed in the reply to the last exchange: a front of it stands behind the earlier ones
+-- the writer failed in the reply to the last exchange: a front of it, and not all, stands behind the
+-- earlier ones
 pub record StopsAnswering (passed : Passed) (count : ℕ) : Type 0 where
   pub earlier : List Exchange
   pub in_hand : Exchange
@@ -88,6 +90,7 @@ pub record StopsAnswering (passed : Passed) (count : ℕ) : Type 0 where
   pub lost : List ℕ
   pub split : passed.exchanges ≡ earlier ++ in_hand ∷ []
   pub cut : in_hand.reply ≡ sent ++ lost
+  pub part : lost ≢ []
   pub counted : count ≡ length earlier
   pub told : passed.written ≡ replies earlier ++ sent
 
@@ -97,6 +100,7 @@ pub record StopsRefusing (most : ℕ) (passed : Passed) (count : ℕ) : Type 0 w
   pub sent : List ℕ
   pub lost : List ℕ
   pub turned_away : IsTurnedAway passed.rest passed.left (sent ++ lost)
+  pub part : lost ≢ []
   pub counted : count ≡ length passed.exchanges
   pub told : passed.written ≡ replies passed.exchanges ++ sent
 
@@ -114,11 +118,20 @@ EndsAs most passed count InputEnd = EndsWithInput most passed count
 EndsAs most passed count Most = (ended_after count most ≡ Most) × EndsByReply most passed count
 EndsAs most passed count Closed = (ended_after count most ≡ Closed) × EndsByReply most passed count
 
--- the conversation couldn't go on, for this cause
+-- the conversation couldn't go on, for this cause; a writer that failed did so in a flush before the
+-- next request was whole, in a reply, or in the flush behind the last
 abbrev pub StopsAs : ℕ → Passed → ℕ → Cause → Type 0
 StopsAs most passed count ReadFault = StopsWaiting most passed count
 StopsAs most passed count WriteFault =
-    StopsWaiting most passed count ⊎ StopsAnswering passed count ⊎ StopsRefusing most passed count
+    StopsWaiting most passed count ⊎ StopsAnswering passed count
+    ⊎ StopsRefusing most passed count ⊎ EndsByReply most passed count
+
+-- what a conversation comes to behind the last of so many replies, where the writer was flushed, and
+-- where it failed in that
+abbrev pub FinishesAs : ℕ → ℕ → Result Served Stopped → Type 0
+FinishesAs most count (Ok served) =
+    served ≡ record { requests = count; ended = ended_after count most }
+FinishesAs most count (Err stopped) = stopped ≡ record { requests = count; cause = WriteFault }
 
 -- how the conversation ended
 abbrev pub ComesTo : ℕ → Passed → Result Served Stopped → Type 0
@@ -181,3 +194,17 @@ pub record CountedConversation (door : Door) (most : ℕ) (through : Transfer) (
   -- and none for a byte behind the last request
   pub none_behind : AreLast most conversation.exchanges result →
       OneForEachUsed before after conversation.read conversation.rest
+
+-- where a conversation stopped, the reader or the writer failed, as the cause tells, and was left in
+-- this state
+abbrev pub StopsByFault : {R W : Type 0} → (R → R → Type 0) → (W → W → Type 0) → R → W
+    → Result Served Stopped → Type 0
+StopsByFault read_failed write_failed reader writer result =
+    IfErr result (λ stopped. HasFailed read_failed write_failed reader writer stopped.cause)
+
+-- where neither the reader nor the writer can fail, no conversation stops
+abbrev pub NeverStops : {R W : Type 0} → (R → R → Type 0) → (W → W → Type 0) → Type 0
+NeverStops {R} {W} read_failed write_failed =
+    NeverFails read_failed → NeverFails write_failed →
+    (reader : R) (writer : W) (result : Result Served Stopped) →
+    StopsByFault read_failed write_failed reader writer result → IsOk result

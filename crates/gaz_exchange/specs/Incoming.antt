@@ -1,5 +1,5 @@
 -- A request as it is read.
-use Rattle.std.specs.Prelude.{◌≡◌, ◌⊎◌, ◌<◌, ◌++◌, ℕ, Bool, true, false, List, length, Option}
+use Rattle.std.specs.Prelude.{◌≡◌, ◌⊎◌, ◌<◌, ◌++◌, ⊤, ℕ, Bool, true, false, List, length, Option}
 use Rattle.std.specs.Prelude.{Result, Err}
 use Rattle.std.specs.Io.KnownBytes.{IsAtEnd}
 use Rattle.httparse.specs.Grammar.{RequestHead}
@@ -19,6 +19,7 @@ use Rattle.gaz_exchange.specs.declared.calls.Method.{Method}
 use Rattle.gaz_exchange.specs.declared.request.Incoming.{Incoming}
 use Rattle.gaz_exchange.specs.declared.request.Incoming.TheVariants as incoming
 use Rattle.gaz_exchange.specs.declared.request.Needed.{Needed}
+use Rattle.gaz_exchange.specs.declared.supply.Cause.{Cause}
 use Rattle.gaz_exchange.specs.declared.supply.Cause.TheVariants.{ReadFault}
 
 -- what the hub is asked at a target, where the routes were found, and else 51
@@ -73,3 +74,10 @@ IsBehind after needed rest left (incoming.Refused fault) = CantRead after needed
 IsBehind after needed rest left incoming.Over = ⊥
 IsBehind after needed rest left (incoming.Failed cause) =
     (size : ℕ) × (needed.framing ≡ Length size) × (length after < size)
+
+-- where the reader or the writer failed before the request was whole, the cause is so
+abbrev pub IfRequestFailed : Incoming → (Cause → Type 0) → Type 0
+IfRequestFailed (incoming.Request q) IsSo = ⊤
+IfRequestFailed (incoming.Refused fault) IsSo = ⊤
+IfRequestFailed incoming.Over IsSo = ⊤
+IfRequestFailed (incoming.Failed cause) IsSo = IsSo cause

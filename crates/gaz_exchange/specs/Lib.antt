@@ -10,6 +10,7 @@ pub mod Refusals
 pub mod Conversing
 pub mod Streams
 pub mod WorkedStreams
+pub mod WorkedEnds
 pub mod Next
 pub mod Sparing
 pub mod Supplies
@@ -17,4 +18,5 @@ pub mod Bodies
 pub mod Incoming
 pub mod Sending
 pub mod Turns
+pub mod Failing
 pub mod Routing

@@ -1,5 +1,5 @@
 -- What comes next on a stream.
-use Rattle.std.specs.Prelude.{◌≡◌, ℕ, ◌<◌, ◌≤◌, ◌⊎◌, List, length, drop, Option, false}
+use Rattle.std.specs.Prelude.{◌≡◌, ⊤, ℕ, ◌<◌, ◌≤◌, ◌⊎◌, List, length, drop, Option, false}
 use Rattle.std.specs.Io.KnownBytes.{IsAtEnd}
 use Rattle.httparse.specs.Grammar.{RequestHead, print_request}
 use Rattle.httparse.specs.Spans.{IsRequestAt, IsRequestWithin}
@@ -11,6 +11,7 @@ use Rattle.gaz_exchange.specs.declared.heads.Look.{Look}
 use Rattle.gaz_exchange.specs.declared.heads.Look.TheVariants as look
 use Rattle.gaz_exchange.specs.declared.heads.Next.{Next}
 use Rattle.gaz_exchange.specs.declared.heads.Next.TheVariants.{Head, Bad, Over, Failed}
+use Rattle.gaz_exchange.specs.declared.supply.Cause.{Cause}
 use Rattle.gaz_exchange.specs.declared.supply.Cause.TheVariants.{ReadFault}
 
 -- the pending bytes begin with a head, which these spans cover
@@ -45,3 +46,10 @@ IsReadForHead before after pending left Bad = OneForEach before after pending (I
 IsReadForHead before after pending left Over = OneForEach before after pending (IsAtEnd left)
 IsReadForHead before after pending left (Failed cause) =
     OneForEach before after pending (cause ≡ ReadFault)
+
+-- where the reader or the writer failed before the head's end, the cause is so
+abbrev pub IfHeadFailed : Next → (Cause → Type 0) → Type 0
+IfHeadFailed (Head spans) IsSo = ⊤
+IfHeadFailed Bad IsSo = ⊤
+IfHeadFailed Over IsSo = ⊤
+IfHeadFailed (Failed cause) IsSo = IsSo cause

@@ -1,7 +1,8 @@
 -- More bytes of a stream.
-use Rattle.std.specs.Prelude.{◌≡◌, ℕ, ◌+◌, ◌<◌, ◌≤◌, List, [], ◌++◌, length, Option}
+use Rattle.std.specs.Prelude.{◌≡◌, ⊤, ℕ, ◌+◌, ◌<◌, ◌≤◌, List, [], ◌++◌, length, Option}
 use Rattle.std.specs.Io.KnownBytes.{Consumes, IsAtEnd}
 use Rattle.gaz_exchange.specs.Sparing.{OneForEach}
+use Rattle.gaz_exchange.specs.declared.supply.Cause.{Cause}
 use Rattle.gaz_exchange.specs.declared.supply.Cause.TheVariants.{ReadFault}
 use Rattle.gaz_exchange.specs.declared.supply.Supply.{Supply}
 use Rattle.gaz_exchange.specs.declared.supply.Supply.TheVariants.{Some, End, Failed}
@@ -33,3 +34,9 @@ abbrev pub IsReadForMore : ℕ → ℕ → Supply → Type 0
 IsReadForMore before after Some = after ≤ before + 1
 IsReadForMore before after End = after ≤ before + 1
 IsReadForMore before after (Failed cause) = OneForEach before after [] (cause ≡ ReadFault)
+
+-- where more failed to come, the cause is so
+abbrev pub IfSupplyFailed : Supply → (Cause → Type 0) → Type 0
+IfSupplyFailed Some IsSo = ⊤
+IfSupplyFailed End IsSo = ⊤
+IfSupplyFailed (Failed cause) IsSo = IsSo cause

@@ -1,6 +1,6 @@
 -- One turn of a conversation.
-use Rattle.std.specs.Prelude.{◌≡◌, ◌⊎◌, ◌||◌, ℕ, Bool, true, false, List, [], ◌∷◌, ◌++◌, Option}
-use Rattle.std.specs.Prelude.{Result, Ok, Err}
+use Rattle.std.specs.Prelude.{◌≡◌, ◌≢◌, ◌⊎◌, ◌||◌, ⊤, ℕ, Bool, true, false, List, [], ◌∷◌, ◌++◌}
+use Rattle.std.specs.Prelude.{Option, Result, Ok, Err}
 use Rattle.std.specs.Io.KnownBytes.{Appends, Consumes, IsAtEnd}
 use Rattle.gaz_keeper.specs.Keeper.{Seen}
 use Rattle.gaz_hub.specs.Hubs.{Runs, Steps}
@@ -44,6 +44,13 @@ abbrev pub turn_of : Bool → Bool → Turn
 turn_of ends false = Stopped WriteFault
 turn_of true true = Closed
 turn_of false true = Answered
+
+-- where the conversation can't go on after a turn, the cause is so
+abbrev pub IfStopped : Turn → (Cause → Type 0) → Type 0
+IfStopped Answered IsSo = ⊤
+IfStopped Closed IsSo = ⊤
+IfStopped Over IsSo = ⊤
+IfStopped (Stopped cause) IsSo = IsSo cause
 
 -- what the hub said to a request is written
 pub record Answers (door : Door) (held holds : Option (List ℕ)) (old new : Seen) (q : Request)
@@ -99,7 +106,7 @@ TurnsOut door is_last routed before after bytes rest left old new written (Stopp
     Waits door before after bytes old new written ReadFault
 TurnsOut door is_last routed before after bytes rest left old new written (Stopped WriteFault) =
     Waits door before after bytes old new written WriteFault
-    ⊎ ((lost : List ℕ)
+    ⊎ ((lost : List ℕ) × (lost ≢ [])
     × (((e : Exchange) × Exchanges door is_last routed bytes e rest old new
     × (e.reply ≡ written ++ lost) × OneForEachUsed before after bytes rest)
     ⊎ TurnsAway door before after bytes left old new (written ++ lost)))

@@ -1,13 +1,14 @@
 ghost use Rattle.std.specs.Prelude.{◌≡◌, ◌<◌, [], IfErr, IfOk};
 ghost use Rattle.std.specs.Io.KnownBytes.{Keeps};
-ghost use Rattle.gaz_exchange.specs.Bodies.{IsBody, IsReadForBody, IsRefill};
-ghost use Rattle.gaz_exchange.specs.Supplies.{IsReadForMore, Reads, Supplies};
+ghost use Rattle.gaz_exchange.specs.Bodies.{IfBodyFailed, IsBody, IsReadForBody, IsRefill};
+ghost use Rattle.gaz_exchange.specs.Failing.{HasFailed};
+ghost use Rattle.gaz_exchange.specs.Supplies.{IfSupplyFailed, IsReadForMore, Reads, Supplies};
 
 use crate::inlet::Inlet;
+use crate::sink::Sink;
 use crate::source::Source;
 use crate::supply::{Cause, Supply, read_more};
 use std::alloc::{AllocError, Global};
-use std::io::Write;
 
 /// What came of a body.
 #[derive(Debug, Drop)]
@@ -22,11 +23,12 @@ pub enum Body {
 }
 
 // Asks for more where nothing is pending.
-fn refill<R: Source, W: Write>(r: &mut R, w: &mut W, inlet: &mut Inlet) -> Supply
+fn refill<R: Source, W: Sink>(r: &mut R, w: &mut W, inlet: &mut Inlet) -> Supply
     ensures read { Supplies R.remaining r.old r.new inlet.old inlet.new
         (λ _ left. IsRefill inlet.new left result) }
     ensures counted { IsReadForMore (R.reads r.old) (R.reads r.new) result }
     ensures written { Keeps (W.contents w.old) (W.contents w.new) }
+    ensures failed { IfSupplyFailed result (HasFailed R.failed W.failed r.new w.new) }
 {
     if !inlet.pending().is_empty() {
         return Supply::Some;
@@ -56,7 +58,7 @@ fn room_for(alloc: Global, earlier: Vec<u8>, size: usize) -> Result<Vec<u8>, All
 ///
 /// It takes the room of an earlier one. An empty one takes no memory; that a body of 1,048,576
 /// bytes finds it is tested, since no clause can say so.
-pub fn read_body<R: Source, W: Write>(
+pub fn read_body<R: Source, W: Sink>(
     alloc: Global,
     r: &mut R,
     w: &mut W,
@@ -68,6 +70,7 @@ pub fn read_body<R: Source, W: Write>(
         (λ bytes left. IsBody bytes size inlet.new left result
         × IsReadForBody (R.reads r.old) (R.reads r.new) bytes inlet.new left result) }
     ensures written { Keeps (W.contents w.old) (W.contents w.new) }
+    ensures failed { IfBodyFailed result (HasFailed R.failed W.failed r.new w.new) }
 {
     let Ok(mut out) = room_for(alloc, earlier, size) else {
         return Body::Memory;

@@ -1,21 +1,25 @@
-ghost use Rattle.std.specs.Prelude.{◌≡◌, Ok};
+ghost use Rattle.std.specs.Prelude.{◌≡◌, Ok, OnErr};
+ghost use Rattle.std.specs.Io.KnownBytes.{Keeps};
 ghost use Rattle.gaz_keeper.specs.Keeper.{IsNotOpen};
 ghost use Rattle.gaz_hub.specs.Hubs.{door_of};
 ghost use Rattle.gaz_hub.specs.Seen.{hub_seen};
-ghost use Rattle.gaz_exchange.specs.Conversing.{CountedConversation, ended_after, transfer};
-ghost use Rattle.gaz_exchange.specs.Turns.{Answers, Asks, IsAsked, IsTurn, Refuses, turn_of};
+ghost use Rattle.gaz_exchange.specs.Conversing.{CountedConversation, FinishesAs, StopsByFault};
+ghost use Rattle.gaz_exchange.specs.Conversing.{transfer};
+ghost use Rattle.gaz_exchange.specs.Failing.{FailedInto, HasFailed, WriterFailed};
+ghost use Rattle.gaz_exchange.specs.Turns.{Answers, Asks, IfStopped, IsAsked, IsTurn, Refuses};
+ghost use Rattle.gaz_exchange.specs.Turns.{turn_of};
 
 use crate::calls::Call;
 use crate::fault::Fault;
 use crate::reply::Reply;
 use crate::request::{Incoming, Intake, Request, next_request};
 use crate::send::send;
+use crate::sink::Sink;
 use crate::source::Source;
 use crate::supply::Cause;
 use gaz_hub::Hub;
 use gaz_keeper::Inbox;
 use std::alloc::Global;
-use std::io::Write;
 
 /// Why a conversation ended.
 #[derive(Clone, Copy, Debug, PartialEq, Eq)]
@@ -97,7 +101,7 @@ fn turn_after(ends: bool, whole: bool) -> Turn
 }
 
 // Answers a request that came whole; `is_last` where no more may follow.
-fn answer<W: Write, K: Inbox + Drop>(
+fn answer<W: Sink, K: Inbox + Drop>(
     alloc: Global,
     w: &mut W,
     hub: &mut Hub<K>,
@@ -107,6 +111,7 @@ fn answer<W: Write, K: Inbox + Drop>(
     requires idle { IsNotOpen (K.seen hub.old.keeper).progress }
     ensures answered { Answers (door_of hub.old.register) (W.contents w.old) (W.contents w.new)
         (hub_seen K.seen hub.old) (hub_seen K.seen hub.new) request.now is_last result }
+    ensures failed { IfStopped result (WriterFailed W.failed w.new) }
     ensures register { hub.new.register ≡ hub.old.register }
 {
     let ends = request.closing || is_last;
@@ -115,14 +120,15 @@ fn answer<W: Write, K: Inbox + Drop>(
 }
 
 // Answers what is no request, or one whose body can't be read.
-fn refuse<W: Write>(alloc: Global, w: &mut W, fault: Fault) -> Turn
-    ensures { Refuses (W.contents w.old) (W.contents w.new) fault result }
+fn refuse<W: Sink>(alloc: Global, w: &mut W, fault: Fault) -> Turn
+    ensures refused { Refuses (W.contents w.old) (W.contents w.new) fault result }
+    ensures failed { IfStopped result (WriterFailed W.failed w.new) }
 {
     turn_after(true, send(alloc, w, &Reply::Refused(fault), true))
 }
 
 // Reads one request and answers it; `is_last` where no more may follow.
-fn take_turn<R: Source, W: Write, K: Inbox + Drop>(
+fn take_turn<R: Source, W: Sink, K: Inbox + Drop>(
     alloc: Global,
     r: &mut R,
     w: &mut W,
@@ -136,6 +142,7 @@ fn take_turn<R: Source, W: Write, K: Inbox + Drop>(
         intake.old.inlet intake.new.inlet
         (R.remaining r.old) (R.remaining r.new) (W.contents w.old) (W.contents w.new)
         (hub_seen K.seen hub.old) (hub_seen K.seen hub.new) result }
+    ensures failed { IfStopped result (HasFailed R.failed W.failed r.new w.new) }
     ensures register { hub.new.register ≡ hub.old.register }
 {
     match next_request(alloc, r, w, intake) {
@@ -150,22 +157,37 @@ fn take_turn<R: Source, W: Write, K: Inbox + Drop>(
     }
 }
 
-// The end after the last reply.
-fn closed_after(requests: u64, most: u64) -> Served
-    ensures { result ≡ record { requests = requests; ended = ended_after requests most } }
+// The end after the last of so many replies, once the writer has handed on what it holds back.
+fn finish<W: Sink>(w: &mut W, requests: u64, most: u64) -> Result<Served, Stopped>
+    ensures kept { Keeps (W.contents w.old) (W.contents w.new) }
+    ensures finished { FinishesAs most requests result }
+    ensures failed { OnErr result (FailedInto W.failed w.new) }
 {
+    let Ok(()) = w.flush_once() else {
+        return Err(Stopped {
+            requests,
+            cause: Cause::WriteFault,
+        });
+    };
     let ended = if requests == most {
         Ended::Most
     } else {
         Ended::Closed
     };
-    Served { requests, ended }
+    Ok(Served { requests, ended })
 }
 
-/// Does what [`converse`](crate::converse) does, with a reader whose reads are counted: at most one
-/// for each byte, and one more, which finds the end or fails. For bytes behind the last request
-/// there is none.
-pub fn converse_counted<R: Source, W: Write, K: Inbox + Drop>(
+/// Answers the requests of a stream in turn, at most `most` of them.
+///
+/// What is written and how the conversation ends is known whatever the hub's keeper does. Where it
+/// ends, no other request may follow those that were answered, or none stands whole in what was
+/// read behind them, unless there was no memory for the body of the next. The hub's answers are a
+/// run of its steps where the keeper stood for a content before, and nobody else wrote on it.
+///
+/// It stops only where the reader or the writer failed. A reader whose reads are counted is read at
+/// most once for each byte, and once more, which finds the end or fails; for bytes behind the last
+/// request it isn't read.
+pub fn converse<R: Source, W: Sink, K: Inbox + Drop>(
     alloc: Global,
     r: &mut R,
     w: &mut W,
@@ -176,13 +198,14 @@ pub fn converse_counted<R: Source, W: Write, K: Inbox + Drop>(
     ensures conversation { CountedConversation (door_of hub.old.register) most
         (transfer R.remaining W.contents r.old r.new w.old w.new) (R.reads r.old) (R.reads r.new)
         (hub_seen K.seen hub.old) (hub_seen K.seen hub.new) result }
+    ensures failed { StopsByFault R.failed W.failed r.new w.new result }
     ensures register { hub.new.register ≡ hub.old.register }
 {
     let mut intake = Intake::new(alloc);
     for n in 0..most {
         match take_turn(alloc, r, w, hub, &mut intake, n + 1 == most) {
             Turn::Answered => {}
-            Turn::Closed => return Ok(closed_after(n + 1, most)),
+            Turn::Closed => return finish(w, n + 1, most),
             Turn::Over => {
                 return Ok(Served {
                     requests: n,

@@ -1,15 +1,16 @@
 ghost use Rattle.std.specs.Prelude.{◌≡◌};
 ghost use Rattle.std.specs.Io.KnownBytes.{Keeps};
+ghost use Rattle.gaz_exchange.specs.Failing.{HasFailed};
 ghost use Rattle.gaz_exchange.specs.Heads.{is_blank};
-ghost use Rattle.gaz_exchange.specs.Next.{IsLook, IsNext, IsReadForHead};
+ghost use Rattle.gaz_exchange.specs.Next.{IfHeadFailed, IsLook, IsNext, IsReadForHead};
 ghost use Rattle.gaz_exchange.specs.Supplies.{Supplies};
 
 use crate::inlet::{INLET_SIZE, Inlet};
+use crate::sink::Sink;
 use crate::source::Source;
 use crate::supply::{Cause, Supply, read_more};
 use httparse::Status;
 use httparse::spans::{HeaderSpan, RequestSpans, parse_request};
-use std::io::Write;
 
 /// The bytes that a head may have, with the empty lines before it.
 const HEAD_LIMIT: usize = 8192;
@@ -74,7 +75,7 @@ fn parse_head(bytes: &[u8], headers: &mut [HeaderSpan; 32]) -> Look
 }
 
 /// Reads up to the end of the next head.
-pub fn next_head<R: Source, W: Write>(
+pub fn next_head<R: Source, W: Sink>(
     r: &mut R,
     w: &mut W,
     inlet: &mut Inlet,
@@ -85,6 +86,7 @@ pub fn next_head<R: Source, W: Write>(
     ensures counted { IsReadForHead (R.reads r.old) (R.reads r.new) inlet.new (R.remaining r.new)
         result }
     ensures written { Keeps (W.contents w.old) (W.contents w.new) }
+    ensures failed { IfHeadFailed result (HasFailed R.failed W.failed r.new w.new) }
 {
     'reads: loop {
         match parse_head(inlet.pending(), headers) {

@@ -1,5 +1,5 @@
 ghost use Rattle.std.specs.Prelude.{◌≡◌, ◌≤◌, ◌<◌, ◌++◌, ◌+◌, ◌-◌, ℕ, List, [], length, take, drop};
-ghost use Rattle.std.specs.Prelude.{MatchResult};
+ghost use Rattle.std.specs.Prelude.{MatchResult, OnErr};
 ghost use Rattle.std.specs.Io.KnownBytes.{Consumes, IsAtEnd, Keeps};
 
 use crate::source::Source;
@@ -69,6 +69,7 @@ impl Inlet {
             × (self.new ≡ self.old ++ bs) × (length bs ≡ n) × (n ≡ 0 → IsAtEnd (R.remaining r.new)))
             (λ _. Keeps (R.remaining r.old) (R.remaining r.new) × (self.new ≡ self.old)) }
         ensures counted { R.reads r.new ≤ R.reads r.old + 1 }
+        ensures told { OnErr result (R.failed r.old r.new) }
     {
         move_to_front(&mut self.bytes, self.start, self.end);
         self.end -= self.start;

@@ -1,6 +1,11 @@
-//! Laws over the definitions alone: what the bytes of a stream tell.
+//! Laws over the definitions alone: what the bytes of a stream tell, and where none stops.
+ghost use Rattle.gaz_exchange.specs.Conversing.{NeverStops};
 ghost use Rattle.gaz_exchange.specs.Streams.{BytesTellRequests};
+ghost use Rattle.gaz_exchange.specs.WorkedEnds.{WorkedEnds};
 ghost use Rattle.gaz_exchange.specs.WorkedStreams.{WorkedStreams};
+
+use crate::sink::Sink;
+use crate::source::Source;
 
 /// The bytes of a stream determine its requests.
 pub fn bytes_tell_requests()
@@ -11,4 +16,15 @@ pub fn bytes_tell_requests()
 /// examples.
 pub fn worked_streams()
     ensures { WorkedStreams }
+{}
+
+/// How a conversation ends, what it has answered then and how often its reader was read, on worked
+/// examples.
+pub fn worked_ends()
+    ensures { WorkedEnds }
+{}
+
+/// Where neither the reader nor the writer can fail, no conversation stops.
+pub fn no_conversation_stops<R: Source, W: Sink>()
+    ensures { NeverStops R.failed W.failed }
 {}

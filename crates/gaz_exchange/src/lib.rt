@@ -1,7 +1,6 @@
 //! Requests and replies of HTTP/1.x on a stream (RFC 9112), each answered by the hub.
 #![tactic(auto)]
 
-mod any_reader;
 mod bodies;
 mod body;
 mod calls;
@@ -11,18 +10,21 @@ mod fault;
 mod framing;
 mod headers;
 mod heads;
+mod in_memory;
 mod inlet;
 pub mod laws;
 mod reply;
 mod request;
 mod route;
 mod send;
+mod sink;
 mod source;
 mod supply;
 
-pub use any_reader::converse;
-pub use conversation::{Ended, Served, Stopped, converse_counted};
+pub use conversation::{Ended, Served, Stopped, converse};
 pub use counting::Counting;
+pub use in_memory::InMemory;
 pub use send::write_all;
+pub use sink::Sink;
 pub use source::Source;
 pub use supply::Cause;

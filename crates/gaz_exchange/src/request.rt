@@ -2,8 +2,9 @@ ghost use Rattle.std.specs.Prelude.{◌≡◌, [], false, true};
 ghost use Rattle.std.specs.Io.KnownBytes.{Keeps};
 ghost use Rattle.httparse.specs.Grammar.{RequestHead};
 ghost use Rattle.httparse.specs.Spans.{IsRequestAt};
+ghost use Rattle.gaz_exchange.specs.Failing.{HasFailed};
 ghost use Rattle.gaz_exchange.specs.Next.{IsHeadAt};
-ghost use Rattle.gaz_exchange.specs.Incoming.{IsBehind, IsIncoming, IsNeeded};
+ghost use Rattle.gaz_exchange.specs.Incoming.{IfRequestFailed, IsBehind, IsIncoming, IsNeeded};
 ghost use Rattle.gaz_exchange.specs.Incoming.{IsReadForRequest};
 ghost use Rattle.gaz_exchange.specs.Supplies.{Reads};
 
@@ -15,11 +16,11 @@ use crate::headers::closes;
 use crate::heads::{Next, next_head};
 use crate::inlet::Inlet;
 use crate::route::Routes;
+use crate::sink::Sink;
 use crate::source::Source;
 use crate::supply::Cause;
 use httparse::spans::{EMPTY_HEADER_SPAN, HeaderSpan, RequestSpans};
 use std::alloc::Global;
-use std::io::Write;
 use std::mem::replace;
 
 /// A request that came whole.
@@ -99,7 +100,7 @@ fn needed_of(
 }
 
 // Reads the body behind a head, and makes the request whole.
-fn with_body<R: Source, W: Write>(
+fn with_body<R: Source, W: Sink>(
     alloc: Global,
     r: &mut R,
     w: &mut W,
@@ -111,6 +112,7 @@ fn with_body<R: Source, W: Write>(
         (λ bytes left. IsBehind bytes needed inlet.new left result
         × IsReadForRequest (R.reads r.old) (R.reads r.new) bytes inlet.new left result) }
     ensures written { Keeps (W.contents w.old) (W.contents w.new) }
+    ensures failed { IfRequestFailed result (HasFailed R.failed W.failed r.new w.new) }
 {
     let size = match needed.framing {
         Framing::Length(size) => size,
@@ -129,7 +131,7 @@ fn with_body<R: Source, W: Write>(
 }
 
 /// Reads the next request.
-pub fn next_request<R: Source, W: Write>(
+pub fn next_request<R: Source, W: Sink>(
     alloc: Global,
     r: &mut R,
     w: &mut W,
@@ -140,6 +142,7 @@ pub fn next_request<R: Source, W: Write>(
         × IsReadForRequest (R.reads r.old) (R.reads r.new) bytes intake.new.inlet left result) }
     ensures stay { intake.old.routes ≡ true → intake.new.routes ≡ true }
     ensures written { Keeps (W.contents w.old) (W.contents w.new) }
+    ensures failed { IfRequestFailed result (HasFailed R.failed W.failed r.new w.new) }
 {
     match next_head(r, w, &mut intake.inlet, &mut intake.headers) {
         Next::Head(spans) => {

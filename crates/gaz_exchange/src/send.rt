@@ -1,4 +1,5 @@
-ghost use Rattle.std.specs.Prelude.{◌≡◌, ◌++◌, true, ℕ, List, length, IfOk};
+ghost use Rattle.std.specs.Prelude.{◌≡◌, ◌++◌, false, true, ℕ, List, length, IfOk};
+ghost use Rattle.gaz_exchange.specs.Failing.{FailedInto};
 ghost use Rattle.gaz_exchange.specs.Replies.{IsReplyText, end_of, reply_text, takes_memory};
 ghost use Rattle.gaz_exchange.specs.Sending.{IsPut, IsSent, head_of};
 ghost use Rattle.gaz_exchange.specs.declared.fault.Fault.{Fault};
@@ -6,18 +7,19 @@ ghost use Rattle.gaz_exchange.specs.declared.reply.Reply.TheVariants as Reply;
 
 use crate::bodies::{closed_body, found_body, outcome_body, standing_body, taken_body, told_body};
 use crate::reply::{Reply, memory_text};
+use crate::sink::Sink;
 use itoa::Buffer;
 use std::alloc::{AllocError, Global};
-use std::io::Write;
 
 /// Writes the text. At `false` the writer failed, or took nothing, and perhaps a front of the text
-/// is written.
-pub fn write_all<W: Write>(w: &mut W, text: &[u8]) -> bool
-    ensures { IsPut (W.contents w.old) (W.contents w.new) text.now result }
+/// is written, but not all.
+pub fn write_all<W: Sink>(w: &mut W, text: &[u8]) -> bool
+    ensures put { IsPut (W.contents w.old) (W.contents w.new) text.now result }
+    ensures failed { result ≡ false → FailedInto W.failed w.new }
 {
     let mut at = 0;
     'writes: while at < text.len() {
-        let Ok(n) = w.write(&text[at..]) else {
+        let Ok(n) = w.write_once(&text[at..]) else {
             return false;
         };
         if n == 0 {
@@ -26,13 +28,6 @@ pub fn write_all<W: Write>(w: &mut W, text: &[u8]) -> bool
         at += n;
     }
     true
-}
-
-// Writes the text, and flushes the writer where no other follows: before a read the inlet does so.
-fn put<W: Write>(w: &mut W, text: &[u8], is_last: bool) -> bool
-    ensures { IsPut (W.contents w.old) (W.contents w.new) text.now result }
-{
-    write_all(w, text) && (!is_last || w.flush().is_ok())
 }
 
 // What stands before the length of a body.
@@ -68,15 +63,18 @@ fn end_of(is_last: bool) -> &'static str
 }
 
 // Writes a text and another behind it.
-fn write_both<W: Write>(w: &mut W, text: &[u8], behind: &[u8]) -> bool
-    ensures { IsPut (W.contents w.old) (W.contents w.new) (text.now ++ behind.now) result }
+fn write_both<W: Sink>(w: &mut W, text: &[u8], behind: &[u8]) -> bool
+    ensures put { IsPut (W.contents w.old) (W.contents w.new) (text.now ++ behind.now) result }
+    ensures failed { result ≡ false → FailedInto W.failed w.new }
 {
     write_all(w, text) && write_all(w, behind)
 }
 
 // Writes the lines before a body of so many bytes.
-fn write_head<W: Write>(w: &mut W, front: &str, size: usize, is_last: bool) -> bool
-    ensures { IsPut (W.contents w.old) (W.contents w.new) (head_of front.now size is_last) result }
+fn write_head<W: Sink>(w: &mut W, front: &str, size: usize, is_last: bool) -> bool
+    ensures put { IsPut (W.contents w.old) (W.contents w.new) (head_of front.now size is_last)
+        result }
+    ensures failed { result ≡ false → FailedInto W.failed w.new }
 {
     let mut digits = Buffer::new();
     let size = digits.format(size);
@@ -84,15 +82,16 @@ fn write_head<W: Write>(w: &mut W, front: &str, size: usize, is_last: bool) -> b
 }
 
 // Writes a body behind the lines before it.
-fn put_message<W: Write>(w: &mut W, front: &str, body: &[u8], is_last: bool) -> bool
-    ensures { IsPut (W.contents w.old) (W.contents w.new)
+fn put_message<W: Sink>(w: &mut W, front: &str, body: &[u8], is_last: bool) -> bool
+    ensures put { IsPut (W.contents w.old) (W.contents w.new)
         (head_of front.now (length body.now) is_last ++ body.now) result }
+    ensures failed { result ≡ false → FailedInto W.failed w.new }
 {
-    write_head(w, front, body.len(), is_last) && put(w, body, is_last)
+    write_head(w, front, body.len(), is_last) && write_all(w, body)
 }
 
 // Writes a reply whose body was made, or where that found no memory the one that tells so.
-fn put_made<W: Write>(
+fn put_made<W: Sink>(
     w: &mut W,
     reply: &Reply,
     front: &str,
@@ -102,22 +101,20 @@ fn put_made<W: Write>(
     requires takes { takes_memory reply.now ≡ true }
     requires whole { IfOk body (λ made. head_of front.now (length made.items) is_last ++ made.items
         ≡ reply_text reply.now is_last) }
-    ensures { IsSent (W.contents w.old) (W.contents w.new) reply.now is_last result }
+    ensures sent { IsSent (W.contents w.old) (W.contents w.new) reply.now is_last result }
+    ensures failed { result ≡ false → FailedInto W.failed w.new }
 {
     match body {
         Ok(body) => put_message(w, front, &body, is_last),
-        Err(_) => put(
-            w,
-            memory_text(reply.tells_received(), is_last).as_bytes(),
-            is_last,
-        ),
+        Err(_) => write_all(w, memory_text(reply.tells_received(), is_last).as_bytes()),
     }
 }
 
 // Writes a reply that is no refusal.
-fn send_told<W: Write>(alloc: Global, w: &mut W, reply: &Reply, is_last: bool) -> bool
+fn send_told<W: Sink>(alloc: Global, w: &mut W, reply: &Reply, is_last: bool) -> bool
     requires told { (fault : Fault) → reply.now ≡ Reply.Refused fault → ⊥ }
-    ensures { IsSent (W.contents w.old) (W.contents w.new) reply.now is_last result }
+    ensures sent { IsSent (W.contents w.old) (W.contents w.new) reply.now is_last result }
+    ensures failed { result ≡ false → FailedInto W.failed w.new }
 {
     match reply {
         Reply::New(outcome) => put_made(w, reply, CREATED, outcome_body(alloc, *outcome), is_last),
@@ -144,13 +141,15 @@ fn send_told<W: Write>(alloc: Global, w: &mut W, reply: &Reply, is_last: bool) -
     }
 }
 
-/// Writes a reply, or where it finds no memory the one that tells so. At `false` the writer failed.
-pub fn send<W: Write>(alloc: Global, w: &mut W, reply: &Reply, is_last: bool) -> bool
-    ensures { IsSent (W.contents w.old) (W.contents w.new) reply.now is_last result }
+/// Writes a reply, or where it finds no memory the one that tells so. At `false` the writer failed
+/// before all of it was written.
+pub fn send<W: Sink>(alloc: Global, w: &mut W, reply: &Reply, is_last: bool) -> bool
+    ensures sent { IsSent (W.contents w.old) (W.contents w.new) reply.now is_last result }
+    ensures failed { result ≡ false → FailedInto W.failed w.new }
 {
     // Apart from the others, since a function pays at entry for the room of all its locals.
     match reply {
-        Reply::Refused(fault) => put(w, fault.text(is_last).as_bytes(), is_last),
+        Reply::Refused(fault) => write_all(w, fault.text(is_last).as_bytes()),
         _ => send_told(alloc, w, reply, is_last),
     }
 }

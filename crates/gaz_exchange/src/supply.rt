@@ -1,10 +1,11 @@
 ghost use Rattle.std.specs.Prelude.{◌<◌, length};
 ghost use Rattle.std.specs.Io.KnownBytes.{Keeps};
-ghost use Rattle.gaz_exchange.specs.Supplies.{IsReadForMore, IsSupply, Supplies};
+ghost use Rattle.gaz_exchange.specs.Failing.{HasFailed};
+ghost use Rattle.gaz_exchange.specs.Supplies.{IfSupplyFailed, IsReadForMore, IsSupply, Supplies};
 
 use crate::inlet::Inlet;
+use crate::sink::Sink;
 use crate::source::Source;
-use std::io::Write;
 
 /// What failed in a conversation.
 #[derive(Clone, Copy, Debug, PartialEq, Eq)]
@@ -25,16 +26,17 @@ pub enum Supply {
 }
 
 /// Flushes the writer and then reads once, so that no reply waits for bytes that it doesn't need.
-pub fn read_more<R: Source, W: Write>(r: &mut R, w: &mut W, inlet: &mut Inlet) -> Supply
+pub fn read_more<R: Source, W: Sink>(r: &mut R, w: &mut W, inlet: &mut Inlet) -> Supply
     requires { length inlet.old < 8193 }
     ensures read { Supplies R.remaining r.old r.new inlet.old inlet.new
         (λ bytes left. IsSupply bytes left result) }
     ensures counted { IsReadForMore (R.reads r.old) (R.reads r.new) result }
     ensures written { Keeps (W.contents w.old) (W.contents w.new) }
+    ensures failed { IfSupplyFailed result (HasFailed R.failed W.failed r.new w.new) }
 {
-    if w.flush().is_err() {
+    let Ok(()) = w.flush_once() else {
         return Supply::Failed(Cause::WriteFault);
-    }
+    };
     match inlet.fill(r) {
         Ok(0) => Supply::End,
         Ok(_) => Supply::Some,

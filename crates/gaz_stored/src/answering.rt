@@ -6,12 +6,12 @@ ghost use Rattle.gaz_keeper.specs.Keeper.{IsNotOpen};
 ghost use Rattle.gaz_kept.specs.Opening.{Judges, Tells, has_all, has_any};
 ghost use Rattle.gaz_store.specs.Store.{seen_in};
 ghost use Rattle.gaz_hub.specs.Hubs.{or_not_received};
-ghost use Rattle.gaz_exchange.specs.Conversing.{transfer};
+ghost use Rattle.gaz_exchange.specs.Conversing.{StopsByFault, transfer};
 ghost use Rattle.gaz_stored.specs.Answering.{AnswersNew, AnswersOpened, Converses, HoldsNone};
 ghost use Rattle.gaz_stored.specs.Answering.{Settles};
 
 use crate::mirroring::{ReadFrom, mirror};
-use gaz_exchange::{Served, Stopped, converse};
+use gaz_exchange::{Served, Sink, Source, Stopped, converse};
 use gaz_hub::Hub;
 use gaz_keeper::ShelfFault;
 use gaz_register::Register;
@@ -19,7 +19,6 @@ use gaz_shelf::{MemShelf, Seed};
 use gaz_store::{Store, StoreRefusal};
 use sqlite::{Alter, Connection};
 use std::alloc::Global;
-use std::io::{Read, Write};
 
 /// What is left when all is over.
 #[derive(Drop)]
@@ -33,7 +32,7 @@ pub struct HandedBack<S: Alter + Drop> {
 }
 
 // Holds a conversation over a store.
-fn converse_over<S: Alter + Drop, R: Read, W: Write>(
+fn converse_over<S: Alter + Drop, R: Source, W: Sink>(
     alloc: Global,
     seed: Seed,
     store: Store<S>,
@@ -47,6 +46,7 @@ fn converse_over<S: Alter + Drop, R: Read, W: Write>(
     ensures over { result.0.in_transaction ≡ false }
     ensures converses { Converses register most
         (transfer R.remaining W.contents r.old r.new w.old w.new) store result.0 result.2 }
+    ensures failed { StopsByFault R.failed W.failed r.new w.new result.2 }
 {
     let hub = Hub::new(alloc, register, store);
     let mut hub = mirror(alloc, seed, hub, read_from);
@@ -74,12 +74,12 @@ fn settle<S: Alter + Drop>(
 }
 
 /// Makes a store of a register in the empty database behind a connection outside a transaction, and
-/// answers the requests of a stream over it, at most `most` of them. Who picks keys is not to
-/// foresee the seed.
+/// answers the requests of a stream over it, at most `most` of them. It stops only where the reader
+/// or the writer failed. Who picks keys is not to foresee the seed.
 ///
 /// `BadSchema` where a table named as one of a store's is there; `Fault` where memory or the
 /// database failed. No conversation is held then, and the database holds what it held.
-pub fn answer_new<S: Alter + Drop, R: Read, W: Write>(
+pub fn answer_new<S: Alter + Drop, R: Source, W: Sink>(
     alloc: Global,
     seed: Seed,
     conn: Connection<S>,
@@ -96,6 +96,7 @@ pub fn answer_new<S: Alter + Drop, R: Read, W: Write>(
     ensures named { (result.held ≡ Err StoreRefusal.BadSchema)
         ↔ IsTrue (has_any (state S.Store conn).now.schema) }
     ensures causes { result.held ≢ Err StoreRefusal.OtherRegister }
+    ensures failed { IfOk result.held (StopsByFault R.failed W.failed r.new w.new) }
     ensures refused { IfErr result.held (λ _. HoldsNone S.Store
         (transfer R.remaining W.contents r.old r.new w.old w.new) conn result.conn) }
 {
@@ -119,14 +120,14 @@ pub fn answer_new<S: Alter + Drop, R: Read, W: Write>(
 }
 
 /// Takes the database behind a connection outside a transaction as the store of a register, settles
-/// it, and answers the requests of a stream over it, at most `most` of them. Who picks keys is not
-/// to foresee the seed.
+/// it, and answers the requests of a stream over it, at most `most` of them. It stops only where the
+/// reader or the writer failed. Who picks keys is not to foresee the seed.
 ///
 /// In this order: `BadSchema` where a table of a store or a column of one is missing, or the rows of
 /// `meta` aren't just one, of id 1 and number 1; `OtherRegister` where its text isn't the register's
 /// canonical one; `Fault` where memory or the database failed, so that this isn't known. No
 /// conversation is held then, and the database holds what it held.
-pub fn answer_opened<S: Alter + Drop, R: Read, W: Write>(
+pub fn answer_opened<S: Alter + Drop, R: Source, W: Sink>(
     alloc: Global,
     seed: Seed,
     conn: Connection<S>,
@@ -146,6 +147,7 @@ pub fn answer_opened<S: Alter + Drop, R: Read, W: Write>(
         Tells S.Store conn result.conn (Err refusal) (register_text register)) }
     ensures judged { IfErr result.held (λ refusal.
         Judges S.Store conn result.conn (Err refusal) (register_text register)) }
+    ensures failed { IfOk result.held (StopsByFault R.failed W.failed r.new w.new) }
     ensures refused { IfErr result.held (λ _. HoldsNone S.Store
         (transfer R.remaining W.contents r.old r.new w.old w.new) conn result.conn) }
 {

@@ -1,19 +1,18 @@
 //! A conversation of a hub that begins with nothing.
 ghost use Rattle.std.specs.Prelude.{◌≡◌, IfSome, None, Ok};
 ghost use Rattle.gaz_register.specs.Reading.{register_of};
-ghost use Rattle.gaz_exchange.specs.Conversing.{transfer};
+ghost use Rattle.gaz_exchange.specs.Conversing.{StopsByFault, transfer};
 ghost use Rattle.gazhub.specs.Commands.{Holds, Rests};
 ghost use Rattle.gazhub.specs.Playing.{Plays};
 
 use crate::ending::Ending;
 use crate::sample::SAMPLE;
-use gaz_exchange::{Cause, Served, Stopped};
+use gaz_exchange::{Cause, Served, Sink, Source, Stopped};
 use gaz_ledger::Seed;
 use gaz_quiet::new_database;
 use gaz_register::Register;
 use gaz_stored::{HandedBack, ReadFrom, answer_new};
 use std::alloc::Global;
-use std::io::{Read, Write};
 use std::mem::forget;
 
 /// The most requests of one run.
@@ -34,8 +33,10 @@ fn sample_register(alloc: Global) -> Option<Register>
 /// answered, or none stands whole in what was read behind them, unless there was no memory for the
 /// body of the next.
 ///
+/// It stops only where the reader or the writer failed.
+///
 /// Without memory for the register or the store nothing is read or written, and there is no answer.
-pub fn answer_all<R: Read, W: Write>(
+pub fn answer_all<R: Source, W: Sink>(
     alloc: Global,
     seed: Seed,
     r: &mut R,
@@ -43,6 +44,7 @@ pub fn answer_all<R: Read, W: Write>(
 ) -> Option<Result<Served, Stopped>>
     ensures plays { IfSome result (Plays SAMPLE.now MOST
         (transfer R.remaining W.contents r.old r.new w.old w.new)) }
+    ensures failed { IfSome result (StopsByFault R.failed W.failed r.new w.new) }
     ensures rests { result ≡ None → Rests
         (transfer R.remaining W.contents r.old r.new w.old w.new) }
 {
@@ -68,7 +70,7 @@ pub fn answer_all<R: Read, W: Write>(
 }
 
 /// Holds a conversation.
-pub fn play<R: Read, W: Write>(alloc: Global, seed: Seed, r: &mut R, w: &mut W) -> Ending
+pub fn play<R: Source, W: Sink>(alloc: Global, seed: Seed, r: &mut R, w: &mut W) -> Ending
     ensures { Holds SAMPLE.now MOST
         (transfer R.remaining W.contents r.old r.new w.old w.new) result }
 {

@@ -2,6 +2,7 @@
 use Rattle.std.proofs.Common.{◌≡◌, ◌||◌, ◌∙◌, ap, subst, sym}
 use Rattle.gaz_exchange.specs.Sending.{IsSent}
 use Rattle.gaz_exchange.specs.Turns.{turn_of}
+use Rattle.gaz_exchange.proofs.FailureFacts.{stopped_writing}
 use Rattle.gaz_exchange.proofs.conversation.answer.Goals as goal
 use Rattle.gaz_exchange.proofs.conversation.answer.Goals.{else-request, then-request}
 
@@ -17,6 +18,9 @@ returns-clause-answered g c =
       reply = reply;
       whole = whole;
       asked = c.ask-reply.ensures.asked;
-      sent = subst (λ b. IsSent (g.W.Write.contents c.args.w.now) (g.W.Write.contents c.send.new.w) reply b whole) ends c.send.ensures;
+      sent = subst (λ b. IsSent (g.W.Sink.contents c.args.w.now) (g.W.Sink.contents c.send.new.w) reply b whole) ends c.send.ensures.sent;
       turn_is = c.turn_after.ensures ∙ ap (λ b. turn_of b whole) ends;
     }
+
+pub returns-clause-failed : goal.returns-clause-failed
+returns-clause-failed g c = stopped_writing g.W.Sink.failed c.send.new.w c.if-request.ends c.send.result _ c.turn_after.ensures c.send.ensures.failed

@@ -5,7 +5,7 @@ use Rattle.gaz_exchange.proofs.heads.next_head.Given as goal
 
 abbrev pub invariant-reads : goal.invariant-reads
 invariant-reads g l = record {
-  kept : Keeps (g.W.Write.contents l.fn.w) (g.W.Write.contents l.w);
+  kept : Keeps (g.W.Sink.contents l.fn.w) (g.W.Sink.contents l.w);
   came : (bs : List ℕ) × Consumes (g.R.Source.remaining l.fn.r) (g.R.Source.remaining l.r) bs × (l.inlet ≡ l.fn.inlet ++ bs);
   counted : IsReadSoFar (g.R.Source.reads l.fn.r) (g.R.Source.reads l.r) l.inlet;
 }

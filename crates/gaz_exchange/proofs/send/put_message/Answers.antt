@@ -1,5 +1,5 @@
 use Rattle.gaz_exchange.proofs.StreamFacts.{put_behind}
 use Rattle.gaz_exchange.proofs.send.put_message.Goals as goal
 
-pub returns-then-write_head : goal.returns-then-write_head
-returns-then-write_head g c = put_behind _ _ _ _ c.args.body.now c.put.result (rw c.if-write_head.true at c.write_head.ensures) c.put.ensures
+pub returns-then-write_head-clause-put : goal.returns-then-write_head-clause-put
+returns-then-write_head-clause-put g c = put_behind _ _ _ _ c.args.body.now c.write_all.result (rw c.if-write_head.true at c.write_head.ensures.put) c.write_all.ensures.put

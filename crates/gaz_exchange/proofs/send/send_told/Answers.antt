@@ -31,11 +31,11 @@ pub put_made-requires-in-Closed : goal.put_made-requires-in-Closed
 unfolding reply_text
 put_made-requires-in-Closed g c = record { takes = rw c.in-Closed.is refl; whole = rw (c.in-Closed.is, ← c.as_slice-in-Closed.ensures) (made_behind_head _ (λ b. b.items) (codes "200 OK") (codes "application/json") _ c.args.is_last c.closed_body.ensures) }
 
-pub returns-in-Extract : goal.returns-in-Extract
+pub returns-in-Extract-clause-sent : goal.returns-in-Extract-clause-sent
 unfolding reply_text
-returns-in-Extract g c =
+returns-in-Extract-clause-sent g c =
     rw (c.in-Extract.is, ← c.as_slice.ensures)
-    (record { text = _; told = inl (behind_head (codes "200 OK") (codes "text/csv") c.as_slice.result.now c.args.is_last); put = c.put_message.ensures })
+    (record { text = _; told = inl (behind_head (codes "200 OK") (codes "text/csv") c.as_slice.result.now c.args.is_last); put = c.put_message.ensures.put })
 
 pub unreachable-requires : goal.unreachable-requires
 unreachable-requires g c = c.requires.told _ c.in-Refused.is

@@ -1,5 +1,5 @@
 use Rattle.gaz_exchange.proofs.StreamFacts.{put_behind}
 use Rattle.gaz_exchange.proofs.send.write_both.Goals as goal
 
-pub returns-then-write_all : goal.returns-then-write_all
-returns-then-write_all g c = put_behind _ _ _ c.args.text.now c.args.behind.now c.write_all-then-write_all.result (rw c.if-write_all.true at c.write_all.ensures) c.write_all-then-write_all.ensures
+pub returns-then-write_all-clause-put : goal.returns-then-write_all-clause-put
+returns-then-write_all-clause-put g c = put_behind _ _ _ c.args.text.now c.args.behind.now c.write_all-then-write_all.result (rw c.if-write_all.true at c.write_all.ensures.put) c.write_all-then-write_all.ensures.put

@@ -31,9 +31,9 @@ returns-clause-converses g c =
     let made = c.mirror-hub.ensures in
     let last = c.converse-ended.new.hub in
     let ended = c.converse-ended.result in
-    let through = transfer g.R.Read.remaining g.W.Write.contents c.args.r.now c.converse-ended.new.r c.args.w.now c.converse-ended.new.w in
+    let through = transfer g.R.Source.remaining g.W.Sink.contents c.args.r.now c.converse-ended.new.r c.args.w.now c.converse-ended.new.w in
     let told = alone (door_of first.register) first.register last.register last.waiters (seen_mirrored first.keeper) (seen_mirrored last.keeper) c.args.most through ended first.waiters made.remembers
-    c.converse-ended.ensures.conversation in
+    c.converse-ended.ensures.conversation.conversation in
     record {
       begun = first.keeper;
       last = last.keeper;

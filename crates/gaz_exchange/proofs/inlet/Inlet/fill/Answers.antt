@@ -23,4 +23,5 @@ returns g c =
         λ e. a.bytes.1 e (omega (arith, room, c.requires, size, was, c.self.invariant.0, c.self.invariant.1, length-drop start (take end c.self.inside.bytes), length-take end c.self.inside.bytes)),
       );
       counted = a.counted;
+      told = tt;
     }
