@@ -6,7 +6,5 @@ mod copying;
 mod filling;
 mod joining;
 pub mod laws;
-#[cfg(test)]
-mod tests;
 
 pub use joining::{mirrored, mirrored_by};

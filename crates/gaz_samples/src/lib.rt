@@ -1,6 +1,8 @@
 //! What the crates of tests share.
 #![tactic(auto)]
 
+pub mod files;
+
 /// A register of three custodians.
 pub const REGISTER: &[u8] = b"[[custodian]]
 code = 1001

@@ -1,11 +1,12 @@
 //! How often a keeper is asked for closed streets and for a property, by one that counts.
 use crate::items::{Row, custodian, item, volume, writes};
-use crate::keepers::{RestingKeeper, counting_shelf};
+use crate::keepers::tried::{Tried, counting_shelf};
 use gaz_ids::Uprn;
 use gaz_keeper::Inbox;
 use gaz_records::{Kind, SharedItem};
 use gaz_register::Register;
 use gaz_samples::REGISTER;
+use gaz_shelf::Ending;
 use std::alloc::Global;
 use std::process::Abort;
 use std::test::Fail;
@@ -27,12 +28,12 @@ fn addresses(alloc: Global) -> Result<Vec<SharedItem>, Fail> {
 // A volume of a custodian adds them to its view.
 fn adds_addresses<K: Inbox + Drop>(
     alloc: Global,
-    shelf: &mut RestingKeeper<K>,
+    shelf: &mut Tried<K>,
     code: u64,
     number: u64,
 ) -> Result<(), Fail> {
     shelf.receive(custodian(code)?, volume(number)?, b"a file")?;
-    shelf.write_volume(custodian(code)?, addresses(alloc)?)?;
+    shelf.write_volume(custodian(code)?, addresses(alloc)?, Ending::Keep)?;
     Ok(())
 }
 

@@ -2,7 +2,7 @@
 use crate::file_fixtures::*;
 use gaz_changefile::{read_file, write_file};
 use gaz_ids::{Code, Volume};
-use gaz_records::item_text;
+use gaz_samples::files::*;
 use std::alloc::Global;
 use std::test::Fail;
 
@@ -15,13 +15,15 @@ const FILES: &[File<'static>] = &[
     (FLAT_2_HIGH_STREET, 1001, 3),
     (NUMBER_14_HIGH_STREET, 1001, 4),
     (NUMBER_7_HIGH_STREET, 1001, 4),
-    (HIGH_STREET_AND_STREET_101, 1001, 2),
+    (STREET_101_AGAIN, 1001, 2),
     (COUNTY_ROAD, 1001, 1),
     (COUNTY_ROAD_CLOSED, 1001, 2),
     (NUMBER_7_COUNTY_ROAD, 1002, 1),
     (RESTS_ON_1003, 1002, 1),
     (RESTS_ON_1002, 1003, 1),
     (OLD_MILL, 1003, 1),
+    (OLD_MILL_APPROVED, 1003, 2),
+    (NUMBER_9_MILL_LANE, 1002, 1),
     (RING_OF_PARENTS, 1001, 1),
     (OWN_PARENT, 1001, 2),
     (STREET_101_CLOSED, 1001, 4),
@@ -49,29 +51,5 @@ fn written_back(rt: HostRuntime) -> Result<(), Fail> {
         let once = rewritten(rt.alloc(), *file)?;
         assert!(rt; once.as_slice() == file.0, "file {i}");
     }
-    Ok(())
-}
-
-// Leading zeros aren't written: ten of a UPRN.
-#[test]
-fn written_without_leading_zeros(rt: HostRuntime) -> Result<(), Fail> {
-    let once = rewritten(rt.alloc(), (LEADING_ZEROS, 1001, 1))?;
-    let text =
-        b"10,1,1001,1,2024-01-02\n21,I,1,42,1,0,0,,,2020-01-01,\n21,I,2,999999999999,1,700000,1300000,,,2020-01-01,\n99,2\n";
-    assert!(rt; once.as_slice() == text.as_slice());
-    assert!(rt; rewritten(rt.alloc(), (&once, 1001, 1))? == once);
-    Ok(())
-}
-
-// The item that the first change of a file is about.
-#[test]
-fn an_item_outlives_its_file(rt: HostRuntime) -> Result<(), Fail> {
-    let code = Code::of(1001).ok_or("code")?;
-    let volume = Volume::of(2).ok_or("volume")?;
-    let file = read_file(rt.alloc(), HIGH_STREET, code, volume)?;
-    let name = file.changes.first().ok_or("no change")?.item.share()?;
-    drop(file);
-    let text = item_text(rt.alloc(), &name)?;
-    assert!(rt; text.as_slice() == b"101,ENG,High Street,,Arden,Arden".as_slice());
     Ok(())
 }

@@ -1,10 +1,11 @@
 //! Items as text, and the volumes that hold them.
-use crate::keepers::RestingKeeper;
+use crate::keepers::tried::Tried;
 use gaz_changefile::{Basis, Change, ChangeFile};
 use gaz_ids::{Code, Volume};
 use gaz_keeper::{Inbox, Verdict};
 use gaz_records::{Day, Kind, SharedItem, item_of_text};
 use gaz_register::Register;
+use gaz_shelf::Ending;
 use std::alloc::Global;
 use std::test::Fail;
 
@@ -29,7 +30,7 @@ pub(crate) fn file_of(bases: Vec<Basis>, changes: Vec<Change>) -> Result<ChangeF
 // Judges a file as the next volume, which is received first.
 pub(crate) fn judged<K: Inbox + Drop>(
     alloc: Global,
-    shelf: &mut RestingKeeper<K>,
+    shelf: &mut Tried<K>,
     register: &Register,
     code: Code,
     file: &ChangeFile,
@@ -54,7 +55,7 @@ pub(crate) fn item_of(alloc: Global, row: Row) -> Result<SharedItem, Fail> {
 // A custodian's volume 1 puts these items into its view, as a file may or may not.
 pub(crate) fn writes<K: Inbox + Drop>(
     alloc: Global,
-    shelf: &mut RestingKeeper<K>,
+    shelf: &mut Tried<K>,
     code: Code,
     rows: &[Row],
 ) -> Result<(), Fail> {
@@ -63,6 +64,6 @@ pub(crate) fn writes<K: Inbox + Drop>(
         items.push(item_of(alloc, *row)?)?;
     }
     shelf.receive(code, volume(1)?, b"a file")?;
-    shelf.write_volume(code, items)?;
+    shelf.write_volume(code, items, Ending::Keep)?;
     Ok(())
 }

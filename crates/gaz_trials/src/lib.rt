@@ -1,5 +1,6 @@
-//! What no reply, no contract and no run of a program tells: how often a keeper is asked, by one that counts; and numbers, rows, items, files and registers as
-//! callers of the lower crates read and write them.
+//! What no reply, no contract and no run of a program tells: what each keeper answers to one list of
+//! calls, and which databases become a store; how often a keeper is asked, by one that counts; and
+//! objects, items, files and registers as callers of the lower crates read and write them.
 #![tactic(auto)]
 
 #[cfg(test)]
@@ -19,7 +20,7 @@ mod keepers;
 #[cfg(test)]
 mod look_ups;
 #[cfg(test)]
-mod numbers;
+mod mirrored;
 #[cfg(test)]
 mod objects;
 #[cfg(test)]
@@ -30,7 +31,5 @@ mod records;
 mod registers;
 #[cfg(test)]
 mod resting;
-#[cfg(test)]
-mod rows;
 #[cfg(test)]
 mod waiting;

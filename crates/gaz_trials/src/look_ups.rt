@@ -1,6 +1,6 @@
 //! How often a judgement looks an item up, by a keeper that counts.
 use crate::items::{Row, custodian, file_of, item_of, judged, writes};
-use crate::keepers::counting_shelf;
+use crate::keepers::tried::counting_shelf;
 use gaz_changefile::{Action, Change, ChangeFile};
 use gaz_keeper::Verdict;
 use gaz_records::{Kind, SharedItem, item_of_text};

@@ -1,5 +1,5 @@
 //! Addressable objects, their texts and house numbers.
-use gaz_addressable::{HouseNumber, ObjFault, Object, Text, TextFault, is_text};
+use gaz_addressable::{HouseNumber, ObjFault, Object};
 use std::alloc::Global;
 use std::process::Abort;
 use std::test::Fail;
@@ -78,67 +78,9 @@ fn objects_come_back_and_print_their_numbers(rt: HostRuntime) -> Result<(), Fail
     Ok(())
 }
 
-/// No objects, and the first fault of each.
-const FAULTS: &[(Fields, ObjFault)] = &[
-    (["", "", "", "", ""], ObjFault::Empty),
-    (["0", "a", "", "", ""], ObjFault::BadNumber),
-    (["10000", "", "", "", ""], ObjFault::BadNumber),
-    (["00012", "", "", "", ""], ObjFault::BadNumber),
-    (["12", "AB", "x", "", ""], ObjFault::BadSuffix),
-    (["", "A", "", "", "Flat 2"], ObjFault::BadSuffix),
-    (["12", "", "1x", "", ""], ObjFault::BadNumber),
-    (["", "", "14", "a", ""], ObjFault::EndWithoutStart),
-    (["12", "", "10", "a", ""], ObjFault::BadSuffix),
-    (["12", "", "", "A", ""], ObjFault::BadSuffix),
-    (["14", "", "12", "A", "\t"], ObjFault::EndNotAfterStart),
-    (["12", "A", "12", "A", ""], ObjFault::EndNotAfterStart),
-    (["12", "A", "12", "", ""], ObjFault::EndNotAfterStart),
-    (["12", "", "", "", " Mill"], ObjFault::BadText),
-    (["", "", "", "", "Mill "], ObjFault::BadText),
-    (["", "", "", "", "a\tb"], ObjFault::BadText),
-    (["", "", "", "", "\u{7f}"], ObjFault::BadText),
-];
-
-#[test]
-fn the_first_fault_is_told(rt: HostRuntime) {
-    for (fields, fault) in FAULTS {
-        assert!(rt;
-            read(rt.alloc(), *fields).is_err_and(|e| e == *fault),
-            "{fault}"
-        );
-    }
-}
-
-#[test]
-fn characters_count(rt: HostRuntime) -> Result<(), Fail> {
-    let alloc = rt.alloc();
-    let most = vec![in alloc; "é"; 90]?.concat(alloc)?;
-    let text = Text::<90>::read(alloc, most.as_bytes())?;
-    assert!(rt; text.as_bytes() == most.as_bytes());
-    let more = vec![in alloc; "é"; 91]?.concat(alloc)?;
-    let fault = read(alloc, ["", "", "", "", more.as_str()]);
-    assert!(rt; fault.is_err_and(|e| e == ObjFault::TextTooLong));
-    assert!(rt; Text::<90>::read(alloc, more.as_bytes()).is_err_and(|e| e == TextFault::TooLong));
-    assert!(rt; Text::<90>::read(alloc, b"\xff").is_err_and(|e| e == TextFault::BadForm));
-    assert!(rt; is_text(most.as_bytes(), 90) && !is_text(more.as_bytes(), 90));
-    assert!(rt; is_text(b"a", 1) && !is_text(b"", 1) && !is_text(b" a", 2) && !is_text(b"\xff", 1));
-    Ok(())
-}
-
 fn house(alloc: Global, number: &str, suffix: &str) -> Result<HouseNumber, Fail> {
     let object = read(alloc, [number, suffix, "", "", ""])?;
     Ok(object.from().ok_or("no house number")?)
-}
-
-// One house number comes before another.
-fn comes_before(rt: &impl Abort, low: &HouseNumber, high: &HouseNumber) {
-    assert!(rt; low < high && low.is_before(high));
-    assert!(rt; !high.is_before(low) && !high.is_before(high));
-}
-
-fn compares_as_before(rt: &impl Abort, low: &HouseNumber, high: &HouseNumber) {
-    assert!(rt; low.compare(high).is_lt() && high.compare(low).is_gt());
-    assert!(rt; low.compare(low).is_eq());
 }
 
 // By the number first, then no suffix before A before Z.
@@ -153,8 +95,8 @@ fn house_numbers_are_in_order(rt: HostRuntime) -> Result<(), Fail> {
         house(alloc, "13", "")?,
     ];
     for pair in houses.windows(2) {
-        comes_before(&rt, &pair[0], &pair[1]);
-        compares_as_before(&rt, &pair[0], &pair[1]);
+        let (low, high) = (&pair[0], &pair[1]);
+        assert!(rt; low < high && low.is_before(high) && low.compare(high).is_lt());
     }
     Ok(())
 }

@@ -1,9 +1,6 @@
-//! What is no item, and how dates and keys read and compare.
-use gaz_ids::{Lang, Uprn, Usrn};
-use gaz_records::{Day, FieldFault, Key, Kind, RecordKey, item_of_text};
-use std::alloc::Global;
+//! What is no item, and which dates there are.
+use gaz_records::{Day, FieldFault, Kind, item_of_text};
 use std::process::Abort;
-use std::test::Fail;
 
 /// Rows, each with its first field of a wrong form.
 const FAULTS: &[(Kind, &str, u8)] = &[
@@ -94,36 +91,4 @@ fn dates_are_real(rt: HostRuntime) {
         };
         assert!(rt; read == *good, "{text}");
     }
-}
-
-fn usrn(number: u64) -> Result<Usrn, Fail> {
-    Ok(Usrn::of(number).ok_or("a USRN")?)
-}
-
-fn label(text: &str) -> Result<RecordKey, Fail> {
-    Ok(RecordKey::read(text.as_bytes()).ok_or("a key")?)
-}
-
-// Keys of all kinds, from the first to the last.
-fn keys_in_order(alloc: Global) -> Result<Vec<Key>, Fail> {
-    let keys = vec![in alloc;
-        Key::Street(usrn(101)?),
-        Key::Descriptor(usrn(9)?, Lang::Eng),
-        Key::Descriptor(usrn(101)?, Lang::Cym),
-        Key::Descriptor(usrn(101)?, Lang::Eng),
-        Key::Blpu(Uprn::of(1).ok_or("a UPRN")?),
-        Key::Xref(label("L9")?),
-        Key::Lpi(label("L10")?),
-        Key::Lpi(label("L2")?),
-    ]?;
-    Ok(keys)
-}
-
-#[test]
-fn keys_are_in_order(rt: HostRuntime) -> Result<(), Fail> {
-    let keys = keys_in_order(rt.alloc())?;
-    for pair in keys.windows(2) {
-        assert!(rt; pair[0] < pair[1] && pair[0].compare(&pair[1]).is_lt());
-    }
-    Ok(())
 }

@@ -6,9 +6,13 @@ use gaz_extract::Found;
 use gaz_hub::{Answer, Hub, Refusal, Standing};
 use gaz_ids::Uprn;
 use gaz_keeper::Inbox;
+use gaz_mirror::Mirror;
+use gaz_mirrored::mirrored_by;
 use gaz_register::Register;
+use gaz_samples::REGISTER;
 use gaz_shelf::{Faulty, MemShelf, Seed};
 use std::alloc::Global;
+use std::test::Fail;
 
 /// A hub whose keeper has no judgement open.
 #[derive(Drop)]
@@ -21,6 +25,28 @@ pub(crate) struct Resting<K: Inbox + Drop> {
 pub(crate) fn counting_hub(alloc: Global, register: Register) -> Resting<Faulty<MemShelf>> {
     let keeper = Faulty::new(MemShelf::new(alloc, Seed::of(1)), 0);
     Resting::over(alloc, register, keeper)
+}
+
+/// A hub of the sample register that received nothing, over a keeper of whole maps.
+pub(crate) fn sample_hub(alloc: Global) -> Result<Resting<MemShelf>, Fail> {
+    let register = Register::read(alloc, REGISTER)?;
+    Ok(Resting::over(alloc, register, MemShelf::new(alloc, Seed::of(1))))
+}
+
+impl Resting<MemShelf> {
+    /// A hub over a mirror of its keeper, by one of whole maps of which the call of this number
+    /// fails.
+    pub(crate) fn mirrored(
+        self,
+        alloc: Global,
+        fails_at: u64,
+    ) -> Resting<Mirror<MemShelf, Faulty<MemShelf>>> {
+        let Resting { hub } = self;
+        let upper = Faulty::new(MemShelf::new(alloc, Seed::of(1)), fails_at);
+        Resting {
+            hub: mirrored_by(alloc, hub, upper),
+        }
+    }
 }
 
 impl<K: Inbox + Drop> Resting<K> {

@@ -1,0 +1,194 @@
+//! Which databases become a store and which are taken as one; a refused one is left as it was.
+use crate::keepers::databases::{Answer, Attempt, GROUPS, Group, LACKING};
+use crate::keepers::fixtures::new_folder;
+use crate::keepers::reopening::{Reopens, rests};
+use crate::keepers::whereabouts::{Task, in_memory, on_file};
+use gaz_register::Register;
+use gaz_store::StoreRefusal;
+use sqlite::{Alter, Connection};
+use std::alloc::Global;
+use std::fmt::Write;
+use std::fs;
+use std::process::Abort;
+use std::test::Fail;
+
+// Register `one`: its one custodian is named so.
+fn register(alloc: Global) -> Result<Register, Fail> {
+    let text = b"[[custodian]]\ncode = 1001\nname = \"one\"\nuprn = []\nusrn = []\n";
+    Ok(Register::read(alloc, text)?)
+}
+
+// A connection, and what was answered over it.
+type Left<K> = (Connection<<K as Reopens>::Base>, Answer);
+
+// The connection again, and what was answered.
+fn given_back<K: Reopens>(told: Result<K, (Connection<K::Base>, StoreRefusal)>) -> Left<K> {
+    match told {
+        Ok(store) => (store.into_conn(), Ok(())),
+        Err((conn, refusal)) => (conn, Err(refusal)),
+    }
+}
+
+fn create<K: Reopens>(alloc: Global, conn: Connection<K::Base>) -> Result<Left<K>, Fail> {
+    let register = register(alloc)?;
+    Ok(given_back(K::made(alloc, conn, &register)?))
+}
+
+fn open<K: Reopens>(alloc: Global, conn: Connection<K::Base>) -> Result<Left<K>, Fail> {
+    let register = register(alloc)?;
+    Ok(given_back(K::opened(alloc, conn, &register)?))
+}
+
+// The database that these statements make.
+fn made<K: Reopens>(
+    alloc: Global,
+    conn: Connection<K::Base>,
+    attempt: Attempt,
+    statements: &str,
+) -> Result<Connection<K::Base>, Fail> {
+    let mut conn = match attempt {
+        Attempt::OpenMade | Attempt::CreateAgain => create::<K>(alloc, conn)?.0,
+        Attempt::Open | Attempt::Create => conn,
+    };
+    conn.execute_batch(statements)?;
+    Ok(conn)
+}
+
+// Makes the attempt within so many steps.
+fn attempted<K: Reopens>(
+    alloc: Global,
+    mut conn: Connection<K::Base>,
+    attempt: Attempt,
+    limit: Option<u64>,
+) -> Result<Left<K>, Fail> {
+    conn.set_step_limit(limit);
+    let (mut conn, answer) = match attempt {
+        Attempt::Create | Attempt::CreateAgain => create::<K>(alloc, conn)?,
+        Attempt::Open | Attempt::OpenMade => open::<K>(alloc, conn)?,
+    };
+    conn.set_step_limit(None);
+    Ok((conn, answer))
+}
+
+// The names of the tables and views.
+fn names<S: Alter>(alloc: Global, conn: &mut Connection<S>) -> Result<Vec<String>, Fail> {
+    let rows = conn.query_all(
+        "SELECT name FROM sqlite_schema WHERE type <> 'index' ORDER BY rowid",
+        &[],
+    )?;
+    let mut names = Vec::new(alloc);
+    for row in &rows {
+        names.push(row.get(0)?)?;
+    }
+    Ok(names)
+}
+
+/// All that a database holds: how its tables, views and indexes were made, and the rows of each.
+pub(crate) fn held_in<S: Alter>(alloc: Global, conn: &mut Connection<S>) -> Result<String, Fail> {
+    let made = conn.query_all("SELECT type, name, tbl_name, sql FROM sqlite_schema", &[])?;
+    let mut text = format!(in alloc; "{made:?}")?;
+    for name in &names(alloc, conn)? {
+        let query = format!(in alloc; "SELECT * FROM \"{name}\"")?;
+        let rows = conn.query_all(&query, &[])?;
+        write!(text, "\n{name} {rows:?}")?;
+    }
+    Ok(text)
+}
+
+/// Makes the attempt of a group over the database that these statements make; what that then holds.
+/// Only `create` changes it, where it goes well.
+pub(crate) fn tries<K: Reopens>(
+    rt: &(impl Abort + AllocGlobal),
+    conn: Connection<K::Base>,
+    group: &Group,
+    statements: &str,
+) -> Result<String, Fail> {
+    let (attempt, limit, wanted, _) = *group;
+    let alloc = rt.alloc();
+    let mut conn = made::<K>(alloc, conn, attempt, statements)?;
+    let before = held_in(alloc, &mut conn)?;
+    let (mut conn, answer) = attempted::<K>(alloc, conn, attempt, limit)?;
+    assert!(rt; answer == wanted, "{attempt:?} {statements}: {answer:?}");
+    rests(&conn)?;
+    let after = held_in(alloc, &mut conn)?;
+    let is_made = wanted.is_ok() && matches!(attempt, Attempt::Create | Attempt::CreateAgain);
+    assert!(rt; (after != before) == is_made, "{attempt:?} {statements}");
+    Ok(after)
+}
+
+#[test]
+fn databases_become_stores_or_stay_as_they_are(rt: HostRuntime) -> Result<(), Fail> {
+    for group in GROUPS {
+        for statements in group.3 {
+            let _held = in_memory(&rt, Task::Try(group, statements))?;
+        }
+    }
+    Ok(())
+}
+
+// The attempt on a new file in this folder, which is read again afterwards.
+fn tries_on_file(
+    host: &HostRuntime,
+    rt: &(impl Abort + AllocGlobal),
+    folder: &str,
+    group: &Group,
+    statements: &str,
+) -> Result<(), Fail> {
+    let path = format!(in rt.alloc(); "{folder}/store")?;
+    let left = on_file(host, rt, &path, Task::Try(group, statements))?;
+    let found = on_file(host, rt, &path, Task::Tell)?;
+    assert!(rt; found == left, "{statements}");
+    fs::remove_file(host, path.as_str())?;
+    let log = format!(in rt.alloc(); "{path}-wal")?;
+    fs::remove_file(host, log.as_str())?;
+    Ok(())
+}
+
+#[test]
+fn files_become_stores_or_stay_as_they_are(rt: HostRuntime) -> Result<(), Fail> {
+    let folder = new_folder(&rt)?;
+    for group in GROUPS {
+        for statements in group.3 {
+            tries_on_file(&rt, &rt, &folder, group, statements)?;
+        }
+    }
+    fs::remove_dir_all(&rt, folder.as_str())?;
+    Ok(())
+}
+
+/// The tables and their columns.
+const TABLES: [(&str, &[&str]); 3] = [
+    (
+        "version",
+        &[
+            "cust", "kind", "id", "blpu", "street", "lang", "live", "born", "gone", "body",
+        ],
+    ),
+    (
+        "received",
+        &["cust", "volume", "bytes", "state", "place", "rule"],
+    ),
+    ("meta", &["id", "number", "register"]),
+];
+
+// Makes a table anew, where the column of this number has another name.
+fn remade(alloc: Global, table: &str, columns: &[&str], other: usize) -> Result<String, Fail> {
+    let mut text = format!(in alloc; "DROP TABLE {table}; CREATE TABLE {table} (note")?;
+    for (at, column) in columns.iter().enumerate() {
+        let end = if at == other { "_" } else { "" };
+        write!(text, ", {column}{end}")?;
+    }
+    text.push_str(")")?;
+    Ok(text)
+}
+
+#[test]
+fn each_column_is_missed(rt: HostRuntime) -> Result<(), Fail> {
+    for (table, columns) in TABLES {
+        for other in 0..columns.len() {
+            let statements = remade(rt.alloc(), table, columns, other)?;
+            let _held = in_memory(&rt, Task::Try(&LACKING, &statements))?;
+        }
+    }
+    Ok(())
+}

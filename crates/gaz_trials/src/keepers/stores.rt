@@ -1,0 +1,108 @@
+//! The list of calls over a store: in memory, closed and opened between its parts, and on a file.
+
+use crate::keepers::calls::{PARTS, Part, performs, performs_all};
+use crate::keepers::fixtures::new_folder;
+use crate::keepers::reopening::Reopens;
+use crate::keepers::told::{has_counts, has_file, has_verdict};
+use crate::keepers::tried::Tried;
+use crate::keepers::whereabouts::{Task, in_memory, on_file};
+use gaz_register::Register;
+use gaz_samples::REGISTER;
+use sqlite::Connection;
+use std::alloc::Global;
+use std::fs;
+use std::process::Abort;
+use std::test::Fail;
+
+// A new store behind a connection.
+fn created<K: Reopens>(alloc: Global, conn: Connection<K::Base>) -> Result<Tried<K>, Fail> {
+    let register = Register::read(alloc, REGISTER)?;
+    match K::made(alloc, conn, &register)? {
+        Ok(store) => Ok(Tried::new(store)),
+        Err(_) => Err("no store was made".into()),
+    }
+}
+
+// The store behind a connection.
+fn opened<K: Reopens>(alloc: Global, conn: Connection<K::Base>) -> Result<Tried<K>, Fail> {
+    let register = Register::read(alloc, REGISTER)?;
+    match K::opened(alloc, conn, &register)? {
+        Ok(store) => Ok(Tried::new(store)),
+        Err(_) => Err("no store was opened".into()),
+    }
+}
+
+// A new store behind a connection, in which nothing is received or judged.
+fn new_store<K: Reopens>(
+    rt: &(impl Abort + AllocGlobal),
+    conn: Connection<K::Base>,
+) -> Result<Tried<K>, Fail> {
+    let mut store = created::<K>(rt.alloc(), conn)?;
+    has_counts(rt, &mut store, 1001, 0, 0)?;
+    has_file(rt, &mut store, 1001, 1, false)?;
+    has_verdict(rt, &mut store, 1001, 1, None)?;
+    Ok(store)
+}
+
+/// Makes a store.
+pub(crate) fn makes<K: Reopens>(
+    rt: &(impl Abort + AllocGlobal),
+    conn: Connection<K::Base>,
+) -> Result<(), Fail> {
+    drop(new_store::<K>(rt, conn)?);
+    Ok(())
+}
+
+/// Makes the calls of a part over the store that is there.
+pub(crate) fn takes_part<K: Reopens>(
+    rt: &(impl Abort + AllocGlobal),
+    conn: Connection<K::Base>,
+    part: Part,
+) -> Result<(), Fail> {
+    performs(rt, &mut opened::<K>(rt.alloc(), conn)?, part)
+}
+
+/// Makes a store, and all calls over it.
+pub(crate) fn performs_in_all<K: Reopens>(
+    rt: &(impl Abort + AllocGlobal),
+    conn: Connection<K::Base>,
+) -> Result<(), Fail> {
+    performs_all(rt, &mut new_store::<K>(rt, conn)?)
+}
+
+/// Makes a store, and closes and opens it after each part.
+pub(crate) fn performs_anew<K: Reopens>(
+    rt: &(impl Abort + AllocGlobal),
+    conn: Connection<K::Base>,
+) -> Result<(), Fail> {
+    let mut store = new_store::<K>(rt, conn)?;
+    for part in PARTS {
+        performs(rt, &mut store, part)?;
+        store = opened::<K>(rt.alloc(), store.into_keeper().into_conn())?;
+    }
+    Ok(())
+}
+
+#[test]
+fn a_store_answers_so(rt: HostRuntime) -> Result<(), Fail> {
+    let _told = in_memory(&rt, Task::PerformAll)?;
+    Ok(())
+}
+
+#[test]
+fn a_store_closed_and_opened_answers_so(rt: HostRuntime) -> Result<(), Fail> {
+    let _told = in_memory(&rt, Task::PerformAnew)?;
+    Ok(())
+}
+
+#[test]
+fn a_store_on_a_file_closed_and_opened_answers_so(rt: HostRuntime) -> Result<(), Fail> {
+    let folder = new_folder(&rt)?;
+    let path = format!(in rt.alloc(); "{folder}/store")?;
+    let _told = on_file(&rt, &rt, &path, Task::Make)?;
+    for part in PARTS {
+        let _told = on_file(&rt, &rt, &path, Task::Perform(part))?;
+    }
+    fs::remove_dir_all(&rt, folder.as_str())?;
+    Ok(())
+}

@@ -1,0 +1,199 @@
+//! A keeper as its callers have it. What a call answers is for the tests to find out, so that of
+//! these only the first has a clause, and no test carries what the keeper's own say.
+ghost use Rattle.std.specs.Prelude.{◌≡◌, ℕ, None, Some};
+ghost use Rattle.gaz_keeper.specs.Keeper.{IsNotOpen, Open};
+
+use gaz_changefile::ChangeFile;
+use gaz_extract::{Closed, Found, closed_streets, lookup_with};
+use gaz_ids::{Code, Uprn, Volume};
+use gaz_keeper::{Inbox, ShelfFault, Verdict};
+use gaz_records::{Key, SharedItem};
+use gaz_register::Register;
+use gaz_rules::judge;
+use gaz_shelf::{Ending, Faulty, MemShelf, Seed, are_entries, write_volume};
+use std::alloc::Global;
+
+/// Why a call came to nothing.
+#[derive(Clone, Copy, Debug, PartialEq, Eq)]
+pub(crate) enum Refusal {
+    /// The test made it where it is not to be made.
+    Misused,
+    /// The keeper's answer.
+    Fault(ShelfFault),
+}
+
+impl From<ShelfFault> for Refusal {
+    fn from(fault: ShelfFault) -> Refusal {
+        Refusal::Fault(fault)
+    }
+}
+
+/// A keeper, and whose judgement is in progress, where one is known to be.
+#[derive(Drop)]
+pub(crate) struct Tried<K: Inbox + Drop> {
+    pub(crate) keeper: K,
+    judged: Option<Code>,
+    ghost rests: { judged ≡ None → IsNotOpen (K.seen keeper).progress },
+    ghost judges: { (c : ℕ) → judged ≡ Some c → (K.seen keeper).progress ≡ Open c },
+}
+
+/// One around whole maps that counts its calls, and received nothing.
+pub(crate) fn counting_shelf(alloc: Global) -> Tried<Faulty<MemShelf>> {
+    Tried::new(Faulty::new(MemShelf::new(alloc, Seed::of(1)), 0))
+}
+
+impl<K: Inbox + Drop> Tried<K> {
+    /// A keeper between judgements.
+    pub(crate) fn new(keeper: K) -> Tried<K>
+        requires { IsNotOpen (K.seen keeper).progress }
+    {
+        Tried {
+            keeper,
+            judged: None,
+        }
+    }
+
+    /// One around it, of which the call of this number fails, and none where that is 0.
+    pub(crate) fn failing_at(self, number: u64) -> Result<Tried<Faulty<K>>, Refusal> {
+        let Tried { keeper, judged } = self;
+        match judged {
+            None => Ok(Tried::new(Faulty::new(keeper, number))),
+            Some(_) => Err(Refusal::Misused),
+        }
+    }
+
+    pub(crate) fn keeper(&self) -> &K {
+        &self.keeper
+    }
+
+    pub(crate) fn into_keeper(self) -> K {
+        let Tried { keeper, judged: _ } = self;
+        keeper
+    }
+}
+
+// The calls that write.
+impl<K: Inbox + Drop> Tried<K> {
+    pub(crate) fn begin(&mut self, code: Code) -> Result<(), Refusal> {
+        if self.judged.is_some() {
+            return Err(Refusal::Misused);
+        }
+        let begun = self.keeper.begin(code);
+        if begun.is_ok() {
+            self.judged = Some(code);
+        }
+        Ok(begun?)
+    }
+
+    pub(crate) fn put(&mut self, item: SharedItem) -> Result<(), Refusal> {
+        if self.judged.is_none() || !item.is_entry() {
+            return Err(Refusal::Misused);
+        }
+        let done = self.keeper.put(item);
+        if done.is_err() {
+            self.judged = None;
+        }
+        Ok(done?)
+    }
+
+    pub(crate) fn take(&mut self, key: &Key) -> Result<(), Refusal> {
+        if self.judged.is_none() {
+            return Err(Refusal::Misused);
+        }
+        let done = self.keeper.take(key);
+        if done.is_err() {
+            self.judged = None;
+        }
+        Ok(done?)
+    }
+
+    pub(crate) fn keep(&mut self) -> Result<(), Refusal> {
+        if self.judged.is_none() {
+            return Err(Refusal::Misused);
+        }
+        let done = self.keeper.keep();
+        self.judged = None;
+        Ok(done?)
+    }
+
+    pub(crate) fn abandon(&mut self) -> Result<(), Refusal> {
+        if self.judged.is_none() {
+            return Err(Refusal::Misused);
+        }
+        let done = self.keeper.abandon();
+        self.judged = None;
+        Ok(done?)
+    }
+
+    pub(crate) fn write_volume(
+        &mut self,
+        code: Code,
+        items: Vec<SharedItem>,
+        ending: Ending,
+    ) -> Result<(), Refusal> {
+        if self.judged.is_some() || !are_entries(items.as_slice()) {
+            return Err(Refusal::Misused);
+        }
+        let done = write_volume(&mut self.keeper, code, items, ending);
+        Ok(done?)
+    }
+
+    pub(crate) fn skip(&mut self, code: Code, place: u64, rule: u8) -> Result<(), Refusal> {
+        if self.judged.is_some() {
+            return Err(Refusal::Misused);
+        }
+        Ok(self.keeper.skip(code, place, rule)?)
+    }
+
+    pub(crate) fn receive(
+        &mut self,
+        code: Code,
+        volume: Volume,
+        bytes: &[u8],
+    ) -> Result<(), Refusal> {
+        if self.judged.is_some() {
+            return Err(Refusal::Misused);
+        }
+        Ok(self.keeper.receive(code, volume, bytes)?)
+    }
+}
+
+// What goes over any keeper.
+impl<K: Inbox + Drop> Tried<K> {
+    pub(crate) fn judge(
+        &mut self,
+        alloc: Global,
+        register: &Register,
+        code: Code,
+        file: &ChangeFile,
+    ) -> Result<Verdict, Refusal> {
+        if self.judged.is_some() {
+            return Err(Refusal::Misused);
+        }
+        Ok(judge(alloc, &mut self.keeper, register, code, file)?)
+    }
+
+    pub(crate) fn lookup_with(
+        &mut self,
+        alloc: Global,
+        register: &Register,
+        code: Code,
+        uprn: Uprn,
+    ) -> Result<Option<Found>, Refusal> {
+        if self.judged.is_some() {
+            return Err(Refusal::Misused);
+        }
+        Ok(lookup_with(alloc, &mut self.keeper, register, code, uprn)?)
+    }
+
+    pub(crate) fn closed_streets(
+        &mut self,
+        alloc: Global,
+        register: &Register,
+    ) -> Result<Vec<Closed>, Refusal> {
+        if self.judged.is_some() {
+            return Err(Refusal::Misused);
+        }
+        Ok(closed_streets(alloc, &mut self.keeper, register)?)
+    }
+}
