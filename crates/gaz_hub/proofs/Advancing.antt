@@ -22,7 +22,7 @@ use Rattle.gaz_rules.proofs.OwnNumbers.{own_numbers_stay_holds}
 use Rattle.gaz_extract.specs.Readings.{Looks}
 use Rattle.gaz_hub.specs.Hubs.{AreKnown, IsSoundFor, MayHave, door_of, state_of}
 use Rattle.gaz_hub.specs.Settling.{Advances, IsAll, IsNext, IsReadyAs, Tries}
-use Rattle.gaz_hub.specs.Standing.{Follows, Leads, Register, judge_one, judgement_after, next_reading, ready, with_next}
+use Rattle.gaz_hub.specs.Standing.{Follows, Leads, Register, judge_one, next_reading, ready, with_next}
 use Rattle.gaz_hub.specs.Step.{Door, blocks}
 use Rattle.gaz_hub.specs.Stops.{IsLater, Stops}
 use Rattle.gaz_hub.specs.declared.looking.Next.{Next}
@@ -158,7 +158,7 @@ added_is G F B c r e =
       | true ↦ λ t.
           let is : d ≡ c = eqb-true d c t in
           subst (λ x. B x ++ judged_on (G c) B c r ∷ [] ≡ with_next G F B x) (sym is)
-          (sym (ap (λ o. option_map_or (λ (x : Reading). B c ++ judgement_after G B c (reached B c) x ∷ []) o (B c)) e))
+          (sym (ap (λ o. option_map_or (λ (x : Reading). B c ++ judged_on (G c) B c x ∷ []) o (B c)) e))
       | false ↦ λ _. refl
     ] refl)
 

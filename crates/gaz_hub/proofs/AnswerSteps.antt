@@ -13,8 +13,8 @@ use Rattle.gaz_register.specs.Registers.{knows}
 use Rattle.gaz_hub.specs.Asked.{IsAgain, IsOfBefore, IsOutcome, IsPastDoor, TakesIn}
 use Rattle.gaz_hub.specs.Hubs.{AreKnown, StandsFor, Steps, state_of}
 use Rattle.gaz_hub.specs.Settling.{Tells}
-use Rattle.gaz_hub.specs.Standing.{Follows, Leads}
-use Rattle.gaz_hub.specs.Step.{Door, HubState, NotReceived, Submit, Submits, Submitted, Unsettled, WasNew, blocks, file_refusal, or_foreign, turned_away}
+use Rattle.gaz_hub.specs.Standing.{Follows, Leads, NothingReady}
+use Rattle.gaz_hub.specs.Step.{Door, HubState, NotReceived, Step, Submit, Submits, Submitted, Unsettled, WasNew, blocks, file_refusal, or_foreign, turned_away}
 use Rattle.gaz_hub.specs.Runs.{same_pair}
 use Rattle.gaz_hub.specs.Stops.{is_taken_in}
 use Rattle.gaz_hub.specs.declared.answer.Answer.{Answer}
@@ -23,9 +23,10 @@ use Rattle.gaz_hub.specs.declared.outcome.Outcome.{Outcome}
 use Rattle.gaz_hub.specs.declared.refusal.Refusal.{Refusal}
 use Rattle.gaz_hub.specs.declared.refusal.Refusal.TheVariants as refusal
 use Rattle.gaz_hub.proofs.Advancing.{may_keep}
+use Rattle.gaz_hub.proofs.Answers.{reads_standing}
 use Rattle.gaz_hub.proofs.Leading.{follows_itself, follows_more, follows_on}
 use Rattle.gaz_hub.proofs.Steps.{has_all_with, pairs_same}
-use Rattle.gaz_hub.proofs.Stopping.{stops_not_received, stops_received, stops_settled}
+use Rattle.gaz_hub.proofs.Stopping.{stops_judging, stops_not_received, stops_received, stops_settled}
 
 -- ---- the door
 
@@ -220,16 +221,18 @@ pub taken_in : (d : Door) (a b c : Seen) (code volume : ℕ) (bytes : List ℕ) 
     → Tells {T = Option Answer} d a b (Ok None) (IsAgain b.content.files b.content.board code volume bytes) → TakesIn d b c code volume bytes answer
     → Steps d a c (Submit code volume bytes) (Submitted answer)
 taken_in d a b c code volume bytes answer let_in first second =
+    let step : StandsFor d a → c.unharmed → Step d (state_of a.content) (Submit code volume bytes) (Submitted answer) (state_of c.content) = λ stood fine.
+    let mid = second.harm fine in
+    let free = first.right stood mid in
+    submits_from d (state_of a.content) (state_of b.content) (state_of c.content) code volume bytes (first.advances.files stood mid) (first.advances.board stood mid)
+    answer let_in free (second.step (first.advances.stands stood mid) free fine) in
     record {
       harm = λ fine. first.advances.harm (second.harm fine);
       stands = λ stood fine.
           let mid = second.harm fine in
           second.stands (first.advances.stands stood mid) (first.right stood mid) fine;
-      step = λ stood fine.
-          let mid = second.harm fine in
-          let free = first.right stood mid in
-          submits_from d (state_of a.content) (state_of b.content) (state_of c.content) code volume bytes (first.advances.files stood mid) (first.advances.board stood mid)
-          answer let_in free (second.step (first.advances.stands stood mid) free fine);
+      step = step;
+      standing = λ stood fine. reads_standing d (state_of a.content) (Submit code volume bytes) (Submitted answer) (state_of c.content) (step stood fine);
       idle = second.idle;
       failures = let x = first.advances.kept in let y = second.kept in omega arith;
       cause = λ stood fine is.
@@ -243,3 +246,74 @@ taken_in d a b c code volume bytes answer let_in first second =
           (λ fine. first.advances.files (stood fine) fine) (λ fine. first.advances.board (stood fine) fine) (first.advances.stops sound)
           (second.stops (λ fine. first.advances.stands (stood fine) fine) (λ fine. first.right (stood fine) fine));
     }
+
+-- what was there couldn't be settled
+pub unsettled_before : {T : Type 0} (d : Door) (a b : Seen) (code volume : ℕ) (bytes : List ℕ) (fault : ShelfFault) (P : T → Type 0) → file_refusal d code volume bytes ≡ None → Tells d a b (Err fault) P
+    → Steps d a b (Submit code volume bytes) (Submitted (Refused (refusal.NotReceived fault)))
+unsettled_before d a b code volume bytes fault P let_in l =
+    let step : StandsFor d a → b.unharmed → Step d (state_of a.content) (Submit code volume bytes) (Submitted (Refused (refusal.NotReceived fault))) (state_of b.content) = λ stood fine.
+    record {
+      let_in = early_let_in d code volume bytes let_in;
+      received = l.advances.files stood fine;
+      board = l.advances.board stood fine;
+    } in
+    record {
+      harm = l.advances.harm;
+      stands = l.advances.stands;
+      step = step;
+      standing = λ stood fine. reads_standing d (state_of a.content) (Submit code volume bytes) (Submitted (Refused (refusal.NotReceived fault))) (state_of b.content) (step stood fine);
+      idle = l.advances.idle;
+      failures = l.advances.kept;
+      cause = λ stood fine is. let store : fault ≡ Store = cc in l.cause stood fine store;
+      stops = λ sound. stops_judging d a b (state_of a.content) (state_of b.content) (Submit code volume bytes) _ refl (l.advances.stops sound);
+    }
+
+-- it was received before
+pub answered_before : (d : Door) (a b : Seen) (code volume : ℕ) (bytes : List ℕ) (answer : Answer) → file_refusal d code volume bytes ≡ None
+    → Tells {T = Option Answer} d a b (Ok (Some answer)) (IsAgain b.content.files b.content.board code volume bytes) → IsOfBefore answer → Steps d a b (Submit code volume bytes) (Submitted answer)
+answered_before d a b code volume bytes (New told) let_in l before = absurd before
+answered_before d a b code volume bytes (Repeat told) let_in l before =
+    let step : StandsFor d a → b.unharmed → Step d (state_of a.content) (Submit code volume bytes) (Submitted (Repeat told)) (state_of b.content) = λ stood fine.
+    let files = l.advances.files stood fine in
+    let again = l.right stood fine in
+    record {
+      let_in = let_in;
+      there = ap (λ F. map.get F (code, volume)) (sym files) ∙ again.0;
+      received = files;
+      settled = record { follows = l.advances.board stood fine; settled = subst (λ F. NothingReady F b.content.board) files (l.settled stood fine) };
+      answer = again.1 (ap is_some again.0) (l.settled stood fine);
+    } in
+    record {
+      harm = l.advances.harm;
+      stands = l.advances.stands;
+      step = step;
+      standing = λ stood fine. reads_standing d (state_of a.content) (Submit code volume bytes) (Submitted (Repeat told)) (state_of b.content) (step stood fine);
+      idle = l.advances.idle;
+      failures = l.advances.kept;
+      cause = λ stood fine e. cc;
+      stops = λ sound. stops_judging d a b (state_of a.content) (state_of b.content) (Submit code volume bytes) _ refl (l.advances.stops sound);
+    }
+answered_before d a b code volume bytes (Taken digest) let_in l before =
+    let step : StandsFor d a → b.unharmed → Step d (state_of a.content) (Submit code volume bytes) (Submitted (Taken digest)) (state_of b.content) = λ stood fine.
+    let files = l.advances.files stood fine in
+    let again = l.right stood fine in
+    record {
+      let_in = let_in;
+      others = again.others;
+      there = ap (λ F. map.get F (code, volume)) (sym files) ∙ again.there;
+      differ = again.differ;
+      digest_is = again.digest_is;
+      received = files;
+      settled = record { follows = l.advances.board stood fine; settled = subst (λ F. NothingReady F b.content.board) files (l.settled stood fine) };
+    } in
+    record {
+      harm = l.advances.harm;
+      stands = l.advances.stands;
+      step = step;
+      standing = λ stood fine. reads_standing d (state_of a.content) (Submit code volume bytes) (Submitted (Taken digest)) (state_of b.content) (step stood fine);
+      idle = l.advances.idle;
+      failures = l.advances.kept;
+      cause = λ stood fine e. cc;
+      stops = λ sound. stops_judging d a b (state_of a.content) (state_of b.content) (Submit code volume bytes) _ refl (l.advances.stops sound);
+    }
+answered_before d a b code volume bytes (Refused r) let_in l before = absurd before

@@ -3,7 +3,7 @@ use Rattle.std.proofs.Common.{◌≡◌, ℕ, Bool, true, false, cond, ◌&&◌,
 use Rattle.std.specs.Prelude.{Option, Some, None, Ok, Err}
 use Rattle.std.specs.FinMap as map
 use Rattle.gaz_keeper.specs.Received.{Received, with_file}
-use Rattle.gaz_hub.specs.Answers.{AllAnswered, AllReadOff, EveryAnswer, IsAnswerOff, IsReadOff, received_by, then_received}
+use Rattle.gaz_hub.specs.Answers.{AllAnswered, AllReadOff, EveryAnswer, IsAnswerOff, IsReadOff, ReadsStanding, received_by, then_received}
 use Rattle.gaz_hub.specs.Outcomes.{outcome}
 use Rattle.gaz_hub.specs.Runs.{Run, is_settled}
 use Rattle.gaz_hub.specs.Standing.{IsPartial, standing}
@@ -88,6 +88,16 @@ module _ (d : Door) (old new : HubState) (partial : IsPartial (blocks d) old.rec
       (s.0, s.1.answer ∙ (λ i. answer_to p d.register (record { received = s.1.received i; board = board i })))
   read_off (Pose q) (Replied p (Err r)) s = (s.0, tt)
   read_off _ _ s = absurd s
+
+-- what a step from a partial board is read off
+pub reads_standing : (d : Door) (old : HubState) (command : Command) (response : Response) (new : HubState) → Step d old command response new → IsPartial (blocks d) old.received old.board
+    → ReadsStanding d old command response new
+reads_standing d old command response new s partial =
+    record {
+      partial = partial_next d old command response new partial s;
+      board = λ is. stands_then d old command response new new.received partial s is refl;
+      read_off = read_off d old new partial command response s;
+    }
 
 all_answered : (d : Door) (old new : HubState) (commands : List Command) (responses : List Response) → IsPartial (blocks d) old.received old.board → Run d old commands responses new
     → AllAnswered d old.received commands responses new.received

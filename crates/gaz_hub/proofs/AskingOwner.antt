@@ -19,7 +19,7 @@ use Rattle.gaz_hub.proofs.Replying.{steps_read}
 use Rattle.gaz_hub.proofs.Telling.{tells_settled}
 
 -- what is right of each content that the hub may have by then
-tells_as : {T : Type 0} (d : Door) (a c : Seen) (r : Result T ShelfFault) (P Q : T → Type 0) → (StandsFor d c → (x : T) → P x → Q x) → Tells d a c r P → Tells d a c r Q
+pub tells_as : {T : Type 0} (d : Door) (a c : Seen) (r : Result T ShelfFault) (P Q : T → Type 0) → (StandsFor d c → (x : T) → P x → Q x) → Tells d a c r P → Tells d a c r Q
 tells_as d a c r P Q then l =
     record {
       advances = l.advances;

@@ -194,7 +194,7 @@ stands_sent = sym (any_order_holds sample_register sent one_judged partial_sent 
 pub stands_all : standing sample_register all_sent ≡ three_judged
 stands_all = sym (any_order_holds sample_register all_sent three_judged partial_all closed_all)
 
-closed_empty : NothingReady map.empty empty_board
+pub closed_empty : NothingReady map.empty empty_board
 closed_empty c = rw (map.get-empty pair_cmp (c, 1)) refl
 
 pub stands_empty : standing sample_register map.empty ≡ empty_board

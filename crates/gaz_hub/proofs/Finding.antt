@@ -1,22 +1,25 @@
 -- What is found of a hub that was stopped.
-use Rattle.std.proofs.Common.{◌≡◌, inl, inr, ℕ, Bool, true, false, cond, not, ◌&&◌, List, [], ◌∷◌, ◌++◌, refl, sym, ap, ◌∙◌, subst, is_none, true≢false, append_assoc}
+use Rattle.std.proofs.Common.{◌≡◌, inl, inr, ℕ, Bool, true, false, cond, not, ◌&&◌, List, [], ◌∷◌, ◌++◌, refl, sym, ap, ◌∙◌, subst, is_none, true≢false}
 use Rattle.std.specs.Prelude.{Option, Some, None, is_some}
 use Rattle.std.specs.Option.{option_or}
 use Rattle.std.specs.FinMap as map
 use Rattle.gaz_register.specs.Registers.{knows}
 use Rattle.gaz_keeper.specs.Board.{empty_board}
 use Rattle.gaz_keeper.specs.Keeper.{Content, LeavesOnly, Seen, after_stop}
-use Rattle.gaz_keeper.specs.Received.{with_file}
+use Rattle.gaz_keeper.specs.Received.{Received, with_file}
 use Rattle.gaz_views.specs.View.{empty_view}
-use Rattle.gaz_hub.specs.Found.{EveryStopOver, HasFilesAfter, HasFilesOf}
+use Rattle.gaz_hub.specs.Found.{EveryStopOver, HasFilesAfter, HasFilesAt, HasFilesOf}
 use Rattle.gaz_hub.specs.Hubs.{AreKnown, Runs, state_of}
 use Rattle.gaz_hub.specs.Laws.{StandsForRun}
 use Rattle.gaz_hub.specs.Runs.{Run, accepted, is_answered_51, same_pair}
-use Rattle.gaz_hub.specs.Standing.{IsPartial}
+use Rattle.gaz_hub.specs.Standing.{HasAllOf, IsPartial}
 use Rattle.gaz_hub.specs.Step.{Command, Door, HubState, Pose, Replied, Response, Step, Submit, Submitted, blocks, file_refusal}
-use Rattle.gaz_hub.specs.Stops.{IsLater, IsLaterWith, IsLeftAfter, IsLeftBy}
+use Rattle.gaz_hub.specs.Stops.{IsLater, IsLaterWith, IsLeftAfter, IsLeftBy, IsLeftOnceTold}
+use Rattle.gaz_hub.specs.declared.answer.Answer.TheVariants.{New, Repeat, Taken, Refused}
 use Rattle.gaz_hub.specs.declared.refusal.Refusal.{Refusal}
+use Rattle.gaz_hub.specs.declared.refusal.Refusal.TheVariants as refusal
 use Rattle.gaz_hub.proofs.AnswerSteps.{is_known, known_with}
+use Rattle.gaz_hub.proofs.HubRuns.{all_told, run_has_all}
 use Rattle.gaz_hub.proofs.Leading.{follows_more, follows_on}
 use Rattle.gaz_hub.proofs.Runs.{every_run_from_holds}
 use Rattle.gaz_hub.proofs.Steps.{goes, has_all_with, pairs_same}
@@ -81,11 +84,53 @@ left_well d (Submit c volume bytes) hub k known partial (inr l) = with_well d hu
 left_well d (Pose q) hub k known partial l = later_well d hub k known partial l
 
 -- its files
-left_files : (d : Door) (command : Command) (hub : HubState) (k : Content) (commands earlier later : List Command) → commands ≡ earlier ++ command ∷ later → IsLeftBy d command hub k → HasFilesOf d hub commands k.files
-left_files d (Submit c volume bytes) hub k commands earlier later e (inl l) = inl l.files
-left_files d (Submit c volume bytes) hub k commands earlier later e (inr l) =
-    inr (record { c = c; volume = volume; bytes = bytes; earlier = earlier; later = later; commands_are = e; let_in = l.let_in; free = l.free; files_are = l.later.files })
-left_files d (Pose q) hub k commands earlier later e l = inl l.files
+left_files : (d : Door) (command : Command) (hub : HubState) (k : Content) (later : List Command) → IsLeftBy d command hub k → HasFilesAt d hub (command ∷ later) k.files
+left_files d (Submit c volume bytes) hub k later (inl l) = inl l.files
+left_files d (Submit c volume bytes) hub k later (inr l) = inr (record { c = c; volume = volume; bytes = bytes; command_is = refl; let_in = l.let_in; free = l.free; files_are = l.later.files })
+left_files d (Pose q) hub k later l = inl l.files
+
+same_files : (d : Door) (hub : HubState) (commands : List Command) (files : Received) → files ≡ hub.received → HasFilesAt d hub commands files
+same_files d hub [] files e = e
+same_files d hub (command ∷ commands) files e = inl e
+
+-- the files of what was left, and since when nothing has changed
+module _ (d : Door) (before last : HubState) (commands earlier later : List Command) (responses told more : List Response) where
+  since_files : (command : Command) (response : Response) (k : Content) → commands ≡ earlier ++ command ∷ later → responses ≡ told ++ response ∷ more → Run d before (earlier ++ command ∷ []) (told ++ response ∷ []) last
+      → Run d last later more last → IsLeftOnceTold d command response last k → HasFilesOf d before last commands responses k.files
+  since_files (Submit c volume bytes) (Submitted answer) k e f run since (inl l) = inl l.files
+  since_files (Submit c volume bytes) (Submitted (New told)) k e f run since (inr l) = absurd (true≢false (sym l.0))
+  since_files (Submit c volume bytes) (Submitted (Repeat told)) k e f run since (inr l) = absurd (true≢false (sym l.0))
+  since_files (Submit c volume bytes) (Submitted (Taken digest)) k e f run since (inr l) = absurd (true≢false (sym l.0))
+  since_files (Submit c volume bytes) (Submitted (Refused (refusal.NotReceived cause))) k e f run since (inr l) =
+      inr (record {
+        earlier = earlier;
+        told = told;
+        command = Submit c volume bytes;
+        cause = cause;
+        later = later;
+        more = more;
+        commands_are = e;
+        responses_are = f;
+        run = run;
+        since = since;
+        one_more = record { c = c; volume = volume; bytes = bytes; command_is = refl; let_in = l.1.let_in; free = l.1.free; files_are = l.1.later.files };
+      })
+  since_files (Submit c volume bytes) (Submitted (Refused (refusal.ReceivedUnsettled cause))) k e f run since (inr l) = absurd (true≢false (sym l.0))
+  since_files (Submit c volume bytes) (Submitted (Refused refusal.UnknownCustodian)) k e f run since (inr l) = absurd (true≢false (sym l.0))
+  since_files (Submit c volume bytes) (Submitted (Refused refusal.BadVolume)) k e f run since (inr l) = absurd (true≢false (sym l.0))
+  since_files (Submit c volume bytes) (Submitted (Refused refusal.TooLarge)) k e f run since (inr l) = absurd (true≢false (sym l.0))
+  since_files (Submit c volume bytes) (Submitted (Refused refusal.UnknownProfile)) k e f run since (inr l) = absurd (true≢false (sym l.0))
+  since_files (Submit c volume bytes) (Replied q reply) k e f run since l = inl l.files
+  since_files (Pose q) response k e f run since l = inl l.files
+
+-- they have all that was received before
+at_have_all : (d : Door) (hub : HubState) (commands : List Command) (files : Received) → HasFilesAt d hub commands files → HasAllOf files hub.received
+at_have_all d hub [] files same p bytes at = ap (λ F. map.get F p) same ∙ at
+at_have_all d hub (command ∷ commands) files (inl same) p bytes at = ap (λ F. map.get F p) same ∙ at
+at_have_all d hub (command ∷ commands) files (inr more) p bytes at = ap (λ F. map.get F p) more.files_are ∙ has_all_with hub.received more.c more.volume more.bytes more.free p bytes at
+
+pub files_have_all : (d : Door) (hub : HubState) (commands : List Command) (responses : List Response) (files : Received) → HasFilesAfter d hub commands responses files → HasAllOf files hub.received
+files_have_all d hub commands responses files l p bytes at = at_have_all d l.mid l.later files l.files_at p bytes (run_has_all d hub l.mid l.earlier l.told l.run p bytes at)
 
 -- ---- after a run
 
@@ -123,7 +168,7 @@ module _ {K : Type 0} (seen : K → Seen) (d : Door) (old new : K) (commands : L
       responses_are = refl;
       mid = hub;
       run = refl;
-      files_of = inl (ap (λ (m : Content). m.files) (just k before));
+      files_at = same_files d hub commands k.files (ap (λ (m : Content). m.files) (just k before));
     }
     | inr made ↦
         let l = made.1 in
@@ -136,24 +181,28 @@ module _ {K : Type 0} (seen : K → Seen) (d : Door) (old new : K) (commands : L
           responses_are = l.responses_are;
           mid = l.mid;
           run = l.run;
-          files_of = left_files d l.command l.mid k (l.command ∷ l.later) [] l.later refl l.left;
+          files_at = left_files d l.command l.mid k l.later l.left;
         }
   ]
 
-  now : (seen new).leaves k → (seen new).unharmed → HasFilesOf d (state_of (seen new).content) commands k.files
+  now : (seen new).leaves k → (seen new).unharmed → HasFilesOf d hub (state_of (seen new).content) commands responses k.files
   now left fine = elim ((r.stops (λ _. was.stands)).now fine k left) [
     | inl before ↦ inl (ap (λ (m : Content). m.files) (just k before.0) ∙ sym (ap (λ (h : HubState). h.received) before.1))
-    | inr l ↦ left_files d l.command (state_of (seen new).content) k commands l.earlier l.later (l.commands_are ∙ append_assoc l.earlier (l.command ∷ []) l.later) l.left
+    | inr l ↦ since_files d hub (state_of (seen new).content) commands l.earlier l.later responses l.told l.more l.command l.response k l.commands_are l.responses_are l.run l.since l.left
   ]
 
 pub every_stop_over : {K : Type 0} (seen : K → Seen) → EveryStopOver seen
 every_stop_over seen d old new commands responses was just r k left =
     let w = well seen d old new commands responses was just r k left in
+    let later = ever seen d old new commands responses was just r k left in
+    let received = (r.stops (λ _. was.stands)).received k left in
+    let before = state_of (seen old).content in
     record {
       working = w.working;
       known = w.known;
       partial = w.partial;
-      ever = ever seen d old new commands responses was just r k left;
-      received = (r.stops (λ _. was.stands)).received k left;
+      ever = later;
+      received = received;
+      told = all_told d before commands responses k.files (files_have_all d before commands responses k.files later) received;
       now = now seen d old new commands responses was just r k left;
     }

@@ -1,19 +1,21 @@
 -- Calls of a hub over a keeper, one after another.
-use Rattle.std.proofs.Common.{◌≡◌, ◌+◌, ◌⊎◌, inl, inr, ℕ, true, true≢false, List, [], ◌∷◌, ◌++◌, length, refl, sym, ap, ◌∙◌, subst, append-nil, append_assoc, length-append, arith}
-use Rattle.std.specs.Prelude.{Some}
+use Rattle.std.proofs.Common.{◌≡◌, ◌+◌, ◌⊎◌, inl, inr, ℕ, true, false, cond, true≢false, List, [], ◌∷◌, ◌++◌, length, refl, sym, ap, ◌∙◌, subst, append-nil, append_assoc, length-append, arith}
+use Rattle.std.specs.Prelude.{None, Some}
 use Rattle.std.specs.FinMap as map
-use Rattle.gaz_keeper.specs.Received.{Received}
+use Rattle.gaz_keeper.proofs.Pairs.{pairs_total}
+use Rattle.gaz_keeper.specs.Received.{Received, with_file}
 use Rattle.gaz_keeper.specs.Keeper.{Content, Seen}
 use Rattle.gaz_hub.specs.Hubs.{Runs, Steps, state_of}
 use Rattle.gaz_hub.specs.Laws.{CallsMakeRuns}
-use Rattle.gaz_hub.specs.Runs.{Run}
+use Rattle.gaz_hub.specs.Runs.{Run, same_pair}
 use Rattle.gaz_hub.specs.Step.{Command, Door, HubState, Pose, Replied, Response, Step, Submit, Submitted}
 use Rattle.gaz_hub.specs.declared.answer.Answer.TheVariants.{New, Repeat, Taken, Refused}
 use Rattle.gaz_hub.specs.declared.refusal.Refusal.TheVariants as refusal
 use Rattle.gaz_hub.proofs.AnswerSteps.{there_now}
-use Rattle.gaz_hub.proofs.Steps.{goes, has_all_with}
+use Rattle.gaz_hub.proofs.Answers.{received_then}
+use Rattle.gaz_hub.proofs.Steps.{goes, has_all_with, pairs_same}
 use Rattle.gaz_hub.specs.Standing.{HasAllOf}
-use Rattle.gaz_hub.specs.Stops.{HasReceived, IsLeftAfter, IsLeftBy, IsLeftSince, IsLeftWith, StopsCall, StopsRun, is_taken_in}
+use Rattle.gaz_hub.specs.Stops.{HasAllTold, HasReceived, HasTold, IsLeftAfter, IsLeftBy, IsLeftOnceTold, IsLeftSince, IsLeftWith, StopsCall, StopsRun, is_taken_in}
 
 -- one run after another
 pub run_then : (d : Door) (a b c : HubState) (cs ds : List Command) (rs ss : List Response) → Run d a cs rs b → Run d b ds ss c → Run d a (cs ++ ds) (rs ++ ss) c
@@ -32,12 +34,12 @@ received_more (Submit c volume bytes ∷ cs) (r ∷ rs) files bigger all h = (λ
 received_more (Pose q ∷ cs) [] files bigger all h = tt
 received_more (Pose q ∷ cs) (r ∷ rs) files bigger all h = received_more cs rs files bigger all h
 
-received_then : (cs ds : List Command) (rs ss : List Response) (files : Received) → length rs ≡ length cs → HasReceived cs rs files → HasReceived ds ss files → HasReceived (cs ++ ds) (rs ++ ss) files
-received_then [] ds [] ss files e x y = y
-received_then [] ds (r ∷ rs) ss files e x y = absurd (omega (arith, e))
-received_then (c ∷ cs) ds [] ss files e x y = absurd (omega (arith, e))
-received_then (Submit c volume bytes ∷ cs) ds (r ∷ rs) ss files e x y = (x.0, received_then cs ds rs ss files (omega (arith, e)) x.1 y)
-received_then (Pose q ∷ cs) ds (r ∷ rs) ss files e x y = received_then cs ds rs ss files (omega (arith, e)) x y
+received_both : (cs ds : List Command) (rs ss : List Response) (files : Received) → length rs ≡ length cs → HasReceived cs rs files → HasReceived ds ss files → HasReceived (cs ++ ds) (rs ++ ss) files
+received_both [] ds [] ss files e x y = y
+received_both [] ds (r ∷ rs) ss files e x y = absurd (omega (arith, e))
+received_both (c ∷ cs) ds [] ss files e x y = absurd (omega (arith, e))
+received_both (Submit c volume bytes ∷ cs) ds (r ∷ rs) ss files e x y = (x.0, received_both cs ds rs ss files (omega (arith, e)) x.1 y)
+received_both (Pose q ∷ cs) ds (r ∷ rs) ss files e x y = received_both cs ds rs ss files (omega (arith, e)) x y
 
 -- a run loses no file
 pub run_has_all : (d : Door) (old new : HubState) (commands : List Command) (responses : List Response) → Run d old commands responses new → HasAllOf new.received old.received
@@ -72,10 +74,74 @@ run_received d old new (Submit c volume bytes ∷ cs) [] r = absurd r
 run_received d old new (Pose q ∷ cs) [] r = absurd r
 
 -- what a command leaves has all that was there
-left_has_all : (d : Door) (command : Command) (hub : HubState) (k : Content) → IsLeftBy d command hub k → HasAllOf k.files hub.received
+pub left_has_all : (d : Door) (command : Command) (hub : HubState) (k : Content) → IsLeftBy d command hub k → HasAllOf k.files hub.received
 left_has_all d (Submit c volume bytes) hub k (inl l) = subst (λ F. HasAllOf F hub.received) (sym l.files) (λ p there at. at)
 left_has_all d (Submit c volume bytes) hub k (inr l) = subst (λ F. HasAllOf F hub.received) (sym l.later.files) (has_all_with hub.received c volume bytes l.free)
 left_has_all d (Pose q) hub k l = subst (λ F. HasAllOf F hub.received) (sym l.files) (λ p there at. at)
+
+-- what a command leaves of the hub to which it led has its file only where it was answered 51
+left_once : (d : Door) (old new : HubState) (command : Command) (response : Response) (k : Content) → Step d old command response new → IsLeftBy d command new k → IsLeftOnceTold d command response new k
+left_once d old new (Submit c volume bytes) (Submitted answer) k s (inl l) = inl l
+left_once d old new (Submit c volume bytes) (Submitted (New told)) k s (inr l) = let no : Some bytes ≡ None = sym (there_now old.received new.received c volume bytes s.received) ∙ l.free in cc
+left_once d old new (Submit c volume bytes) (Submitted (Repeat told)) k s (inr l) = let no : Some bytes ≡ None = sym s.there ∙ ap (λ F. map.get F (c, volume)) (sym s.received) ∙ l.free in cc
+left_once d old new (Submit c volume bytes) (Submitted (Taken digest)) k s (inr l) = let no : Some s.others ≡ None = sym s.there ∙ ap (λ F. map.get F (c, volume)) (sym s.received) ∙ l.free in cc
+left_once d old new (Submit c volume bytes) (Submitted (Refused (refusal.NotReceived cause))) k s (inr l) = inr (refl, l)
+left_once d old new (Submit c volume bytes) (Submitted (Refused (refusal.ReceivedUnsettled cause))) k s (inr l) =
+    let no : Some bytes ≡ None = sym (there_now old.received new.received c volume bytes s.received) ∙ l.free in cc
+left_once d old new (Submit c volume bytes) (Submitted (Refused refusal.UnknownCustodian)) k s (inr l) = let no : Some refusal.UnknownCustodian ≡ None = sym s.refused ∙ l.let_in in cc
+left_once d old new (Submit c volume bytes) (Submitted (Refused refusal.BadVolume)) k s (inr l) = let no : Some refusal.BadVolume ≡ None = sym s.refused ∙ l.let_in in cc
+left_once d old new (Submit c volume bytes) (Submitted (Refused refusal.TooLarge)) k s (inr l) = let no : Some refusal.TooLarge ≡ None = sym s.refused ∙ l.let_in in cc
+left_once d old new (Submit c volume bytes) (Submitted (Refused refusal.UnknownProfile)) k s (inr l) = let no : Some refusal.UnknownProfile ≡ None = sym s.refused ∙ l.let_in in cc
+left_once d old new (Submit c volume bytes) (Replied q reply) k s l = absurd s
+left_once d old new (Pose q) response k s l = l
+
+-- ---- what is told of a file
+
+-- files that have all of these and the one more have all of both
+all_with : (files F : Received) (c volume : ℕ) (bytes : List ℕ) → HasAllOf files F → map.get files (c, volume) ≡ Some bytes → HasAllOf files (with_file F c volume bytes)
+all_with files F c volume bytes all here p others at =
+    elim (same_pair p (c, volume)) as (λ b. same_pair p (c, volume) ≡ b → cond b (Some bytes) (map.get F p) ≡ Some others → map.get files p ≡ Some others) [
+      | true ↦ λ e is. ap (map.get files) (pairs_same p (c, volume) e) ∙ here ∙ is
+      | false ↦ λ _ is. all p others is
+    ] refl (sym (map.get-insert pairs_total F (c, volume) bytes p) ∙ at)
+
+module _ (d : Door) (old new : HubState) (files : Received) (all : HasAllOf files old.received) where
+  same_all : new.received ≡ old.received → HasAllOf files new.received
+  same_all e = subst (HasAllOf files) (sym e) all
+
+  module _ (c volume : ℕ) (bytes : List ℕ) where
+    one_told : (response : Response) → Step d old (Submit c volume bytes) response new → (is_taken_in response ≡ true → map.get files (c, volume) ≡ Some bytes) → HasTold (Submit c volume bytes) response files
+    one_told (Submitted (New told)) s has = has refl
+    one_told (Submitted (Repeat told)) s has = all (c, volume) bytes s.there
+    one_told (Submitted (Taken digest)) s has = record { others = s.others; there = all (c, volume) s.others s.there; differ = s.differ; digest_is = s.digest_is }
+    one_told (Submitted (Refused (refusal.NotReceived cause))) s has = tt
+    one_told (Submitted (Refused (refusal.ReceivedUnsettled cause))) s has = has refl
+    one_told (Submitted (Refused refusal.UnknownCustodian)) s has = tt
+    one_told (Submitted (Refused refusal.BadVolume)) s has = tt
+    one_told (Submitted (Refused refusal.TooLarge)) s has = tt
+    one_told (Submitted (Refused refusal.UnknownProfile)) s has = tt
+    one_told (Replied q reply) s has = tt
+
+    all_next : (response : Response) → Step d old (Submit c volume bytes) response new → (is_taken_in response ≡ true → map.get files (c, volume) ≡ Some bytes) → HasAllOf files new.received
+    all_next (Submitted (New told)) s has = subst (HasAllOf files) (sym s.received) (all_with files old.received c volume bytes all (has refl))
+    all_next (Submitted (Repeat told)) s has = same_all s.received
+    all_next (Submitted (Taken digest)) s has = same_all s.received
+    all_next (Submitted (Refused (refusal.NotReceived cause))) s has = same_all s.received
+    all_next (Submitted (Refused (refusal.ReceivedUnsettled cause))) s has = subst (HasAllOf files) (sym s.received) (all_with files old.received c volume bytes all (has refl))
+    all_next (Submitted (Refused refusal.UnknownCustodian)) s has = same_all (ap (λ (h : HubState). h.received) s.same)
+    all_next (Submitted (Refused refusal.BadVolume)) s has = same_all (ap (λ (h : HubState). h.received) s.same)
+    all_next (Submitted (Refused refusal.TooLarge)) s has = same_all (ap (λ (h : HubState). h.received) s.same)
+    all_next (Submitted (Refused refusal.UnknownProfile)) s has = same_all (ap (λ (h : HubState). h.received) s.same)
+    all_next (Replied q reply) s has = absurd s
+
+-- files that have what was there before, and that of each command that was answered New or 52, have what each was told of
+pub all_told : (d : Door) (hub : HubState) (commands : List Command) (responses : List Response) (files : Received) → HasAllOf files hub.received → HasReceived commands responses files → HasAllTold d hub commands responses files
+all_told d hub [] rs files all h = tt
+all_told d hub (Submit c volume bytes ∷ cs) [] files all h = tt
+all_told d hub (Submit c volume bytes ∷ cs) (response ∷ rs) files all h = λ mid s.
+    (one_told d hub mid files all c volume bytes response s h.0, all_told d mid cs rs files (all_next d hub mid files all c volume bytes response s h.0) h.1)
+all_told d hub (Pose q ∷ cs) [] files all h = tt
+all_told d hub (Pose q ∷ cs) (response ∷ rs) files all h = λ mid s. (tt, all_told d mid cs rs files (same_all d hub mid files all (received_then d hub (Pose q) response mid s)) h)
 
 one_received : (d : Door) (command : Command) (response : Response) (hub : HubState) (k : Content) → (is_taken_in response ≡ true → IsLeftWith d command hub k) → HasReceived (command ∷ []) (response ∷ []) k.files
 one_received d (Submit c volume bytes) response hub k has = (λ is. there_now hub.received k.files c volume bytes (has is).later.files, tt)
@@ -91,7 +157,7 @@ module _ (d : Door) (old new : Seen) (command : Command) (response : Response) w
   after = state_of new.content
 
   -- of one call
-  run_stops_one : (new.unharmed → Step d before command response after) → StopsCall d old new before after command response → StopsRun d old new before after (command ∷ []) (response ∷ [])
+  pub run_stops_one : (new.unharmed → Step d before command response after) → StopsCall d old new before after command response → StopsRun d old new before after (command ∷ []) (response ∷ [])
   run_stops_one step call =
       let s = call.stops in
       record {
@@ -117,14 +183,16 @@ module _ (d : Door) (old new : Seen) (command : Command) (response : Response) w
           | inl was ↦ inl was
           | inr made ↦ inr (record {
             earlier = [];
-            told = response ∷ [];
+            told = [];
             command = command;
+            response = response;
             later = [];
             more = [];
             commands_are = refl;
             responses_are = refl;
             run = (after, step fine, refl);
-            left = made;
+            since = refl;
+            left = left_once d before after command response k (step fine) made;
           })
         ];
         answered = refl;
@@ -149,18 +217,21 @@ module _ (d : Door) (cs ds : List Command) (rs ss : List Response) (k : Content)
         left = l.left;
       }
 
-  since_on : (hub one two : HubState) → two ≡ one → IsLeftSince d cs rs hub one k → IsLeftSince d (cs ++ ds) (rs ++ ss) hub two k
-  since_on hub one two same l =
+  -- and changed nothing
+  since_on : (hub one two : HubState) → two ≡ one → Run d one ds ss two → IsLeftSince d cs rs hub one k → IsLeftSince d (cs ++ ds) (rs ++ ss) hub two k
+  since_on hub one two same run l =
       record {
         earlier = l.earlier;
         told = l.told;
         command = l.command;
+        response = l.response;
         later = l.later ++ ds;
         more = l.more ++ ss;
-        commands_are = ap (λ xs. xs ++ ds) l.commands_are ∙ append_assoc (l.earlier ++ l.command ∷ []) l.later ds;
-        responses_are = ap (λ xs. xs ++ ss) l.responses_are ∙ append_assoc l.told l.more ss;
-        run = subst (λ h. Run d hub (l.earlier ++ l.command ∷ []) l.told h) (sym same) l.run;
-        left = subst (λ h. IsLeftBy d l.command h k) (sym same) l.left;
+        commands_are = ap (λ xs. xs ++ ds) l.commands_are ∙ append_assoc l.earlier (l.command ∷ l.later) ds;
+        responses_are = ap (λ xs. xs ++ ss) l.responses_are ∙ append_assoc l.told (l.response ∷ l.more) ss;
+        run = subst (λ h. Run d hub (l.earlier ++ l.command ∷ []) (l.told ++ l.response ∷ []) h) (sym same) l.run;
+        since = subst (λ h. Run d h (l.later ++ ds) (l.more ++ ss) two) (sym same) (run_then d one one two l.later ds l.more ss l.since run);
+        left = subst (λ h. IsLeftOnceTold d l.command l.response h k) (sym same) l.left;
       }
 
   -- others had come before
@@ -182,24 +253,28 @@ module _ (d : Door) (cs ds : List Command) (rs ss : List Response) (k : Content)
   since_those : (hub mid last : HubState) → Run d hub cs rs mid → IsLeftSince d ds ss mid last k → IsLeftSince d (cs ++ ds) (rs ++ ss) hub last k
   since_those hub mid last run l =
       let e : cs ++ (l.earlier ++ l.command ∷ []) ≡ (cs ++ l.earlier) ++ l.command ∷ [] = sym (append_assoc cs l.earlier (l.command ∷ [])) in
+      let f : rs ++ (l.told ++ l.response ∷ []) ≡ (rs ++ l.told) ++ l.response ∷ [] = sym (append_assoc rs l.told (l.response ∷ [])) in
       record {
         earlier = cs ++ l.earlier;
         told = rs ++ l.told;
         command = l.command;
+        response = l.response;
         later = l.later;
         more = l.more;
-        commands_are = ap (λ xs. cs ++ xs) l.commands_are ∙ sym (append_assoc cs (l.earlier ++ l.command ∷ []) l.later) ∙ ap (λ xs. xs ++ l.later) e;
-        responses_are = ap (λ xs. rs ++ xs) l.responses_are ∙ sym (append_assoc rs l.told l.more);
-        run = subst (λ xs. Run d hub xs (rs ++ l.told) last) e (run_then d hub mid last cs (l.earlier ++ l.command ∷ []) rs l.told run l.run);
+        commands_are = ap (λ xs. cs ++ xs) l.commands_are ∙ sym (append_assoc cs l.earlier (l.command ∷ l.later));
+        responses_are = ap (λ xs. rs ++ xs) l.responses_are ∙ sym (append_assoc rs l.told (l.response ∷ l.more));
+        run = subst (λ xs. Run d hub xs ((rs ++ l.told) ++ l.response ∷ []) last) e
+            (subst (λ ys. Run d hub (cs ++ (l.earlier ++ l.command ∷ [])) ys last) f (run_then d hub mid last cs (l.earlier ++ l.command ∷ []) rs (l.told ++ l.response ∷ []) run l.run));
+        since = l.since;
         left = l.left;
       }
 
 -- of calls, and then of more of them
 run_stops_then : (d : Door) (old mid new : Seen) (cs ds : List Command) (rs ss : List Response) → (mid.unharmed → old.unharmed) → (new.unharmed → mid.unharmed)
-    → (mid.unharmed → Run d (state_of old.content) cs rs (state_of mid.content))
+    → (mid.unharmed → Run d (state_of old.content) cs rs (state_of mid.content)) → (new.unharmed → Run d (state_of mid.content) ds ss (state_of new.content))
     → StopsRun d old mid (state_of old.content) (state_of mid.content) cs rs → StopsRun d mid new (state_of mid.content) (state_of new.content) ds ss
     → StopsRun d old new (state_of old.content) (state_of new.content) (cs ++ ds) (rs ++ ss)
-run_stops_then d old mid new cs ds rs ss harm harm_then run first second =
+run_stops_then d old mid new cs ds rs ss harm harm_then run run_then_on first second =
     record {
       ever = λ k l. elim (second.ever k l) [
         | inl was ↦ elim (first.ever k was) [
@@ -211,12 +286,12 @@ run_stops_then d old mid new cs ds rs ss harm harm_then run first second =
       now = λ fine k l. elim (second.now fine k l) [
         | inl was ↦ elim (first.now (harm_then fine) k was.0) [
           | inl before ↦ inl (before.0, was.1 ∙ before.1)
-          | inr made ↦ inr (since_on d cs ds rs ss k (state_of old.content) (state_of mid.content) (state_of new.content) was.1 made)
+          | inr made ↦ inr (since_on d cs ds rs ss k (state_of old.content) (state_of mid.content) (state_of new.content) was.1 (run_then_on fine) made)
         ]
         | inr made ↦ inr (since_those d cs ds rs ss k (state_of old.content) (state_of mid.content) (state_of new.content) (run (harm_then fine)) made)
       ];
       answered = length-append rs ss ∙ (λ i. first.answered i + second.answered i) ∙ sym (length-append cs ds);
-      received = λ k l. received_then cs ds rs ss k.files first.answered (before k (second.ever k l)) (second.received k l);
+      received = λ k l. received_both cs ds rs ss k.files first.answered (before k (second.ever k l)) (second.received k l);
       whole = λ all. second.whole (first.whole all);
     }
   where
@@ -266,7 +341,8 @@ runs_then d old mid new cs ds rs ss x y =
       idle = λ i. y.idle (x.idle i);
       failures = omega (arith, first, second);
       stops = λ sound.
-          run_stops_then d old mid new cs ds rs ss x.harm y.harm (λ fine. x.run (sound (x.harm fine)) fine) (x.stops sound)
+          run_stops_then d old mid new cs ds rs ss x.harm y.harm (λ fine. x.run (sound (x.harm fine)) fine)
+          (λ fine. let was = y.harm fine in y.run (x.stands (sound (x.harm was)) was) fine) (x.stops sound)
           (y.stops (λ fine. x.stands (sound (x.harm fine)) fine));
     }
 

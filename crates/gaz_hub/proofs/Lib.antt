@@ -33,3 +33,4 @@ pub mod WorkedOwners
 pub mod WorkedHubs
 pub mod WorkedWaiting
 pub mod WorkedStops
+pub mod WorkedFound

@@ -16,10 +16,14 @@ use Rattle.gaz_changefile.specs.Reading.{Reading, reading}
 use Rattle.gaz_rules.specs.Judging.{bases_of, judge}
 use Rattle.gaz_keeper.specs.Board.{Judgement, Board, empty_board, reached, view_after}
 use Rattle.gaz_keeper.specs.Received.{Received, pair_cmp}
-use Rattle.gaz_hub.specs.Standing.{HasAllOf, Register, ready, judgement_after, with_next, judge_one, round, rounds, standing, Leads, NothingReady, IsPrefixOf, AnyOrder, MoreFiles}
+use Rattle.gaz_hub.specs.Standing.{HasAllOf, Register, ready, with_next, judge_one, round, rounds, standing, Leads, NothingReady, IsPrefixOf, AnyOrder, MoreFiles}
 use Rattle.gaz_rules.specs.Bases.{basis_views, are_reached}
 use Rattle.gaz_changefile.specs.declared.change.Basis.{Basis}
 use Rattle.gaz_hub.proofs.Prefixes.{prefix_length, prefix_same, prefix_push, get_front, get_front_plain, get_pushed, both_parts, joined, gives_some, at_some, count, count_all, one_more_counted, any_of_found, some_of_any}
+
+-- the judgement of a file that reads so and comes after this volume of its custodian
+abbrev pub judgement_after : Register → Board → ℕ → ℕ → Reading → Judgement
+judgement_after G B c volume r = judge (G c) (view_after B c volume) (basis_views B (bases_of r)) r
 
 -- each custodian's list in C goes on from that in B
 abbrev pub Below : Board → Board → Type 0

@@ -6,12 +6,13 @@ use Rattle.gaz_keeper.specs.Keeper.{Content, Seen}
 use Rattle.gaz_keeper.specs.declared.fault.ShelfFault.{ShelfFault}
 use Rattle.gaz_keeper.specs.declared.fault.ShelfFault.TheVariants.{Store}
 use Rattle.gaz_extract.specs.Readings.{Looks}
-use Rattle.gaz_hub.specs.Hubs.{MeetsDoor, Steps, cause_in, or_not_received, state_of}
+use Rattle.gaz_hub.specs.Hubs.{MeetsDoor, StandsFor, Steps, cause_in, or_not_received, state_of}
 use Rattle.gaz_hub.specs.Settling.{AnswersSettled, Tells}
 use Rattle.gaz_hub.specs.Standing.{NothingReady}
-use Rattle.gaz_hub.specs.Step.{Door, Pose, Question, Replied, Told, answer_to, question_refusal}
+use Rattle.gaz_hub.specs.Step.{Door, Pose, Question, Replied, Step, Told, answer_to, question_refusal}
 use Rattle.gaz_hub.specs.declared.refusal.Refusal.{Refusal}
 use Rattle.gaz_hub.specs.declared.refusal.Refusal.TheVariants as refusal
+use Rattle.gaz_hub.proofs.Answers.{reads_standing}
 use Rattle.gaz_hub.proofs.Stopping.{stops_judging}
 use Rattle.gaz_hub.proofs.Telling.{tells_settled}
 
@@ -27,33 +28,37 @@ module _ {T : Type 0} (d : Door) (q : Question) (say : T → Told q) (reply : Re
 
   pub steps_read : (a c : Seen) (r : Result T ShelfFault) → Tells d a c r (IsSaid c.content) → Steps d a c (Pose q) (Replied q (reply (or_not_received r)))
   steps_read a c (Ok x) l =
+      let step : StandsFor d a → c.unharmed → Step d (state_of a.content) (Pose q) (Replied q (Ok (say x))) (state_of c.content) = λ stood fine. (
+        refl,
+        record {
+          let_in = let_in;
+          received = l.advances.files stood fine;
+          settled = record {
+            follows = l.advances.board stood fine;
+            settled = subst (λ F. NothingReady F c.content.board) (l.advances.files stood fine) (l.settled stood fine);
+          };
+          answer = l.right stood fine (l.settled stood fine);
+        },
+      ) in
       subst (λ k. Steps d a c (Pose q) (Replied q k)) (sym (says.ok x))
       (record {
         harm = l.advances.harm;
         stands = l.advances.stands;
-        step = λ stood fine. (
-          refl,
-          record {
-            let_in = let_in;
-            received = l.advances.files stood fine;
-            settled = record {
-              follows = l.advances.board stood fine;
-              settled = subst (λ F. NothingReady F c.content.board) (l.advances.files stood fine) (l.settled stood fine);
-            };
-            answer = l.right stood fine (l.settled stood fine);
-          },
-        );
+        step = step;
+        standing = λ stood fine. reads_standing d (state_of a.content) (Pose q) (Replied q (Ok (say x))) (state_of c.content) (step stood fine);
         idle = l.advances.idle;
         failures = l.advances.kept;
         cause = λ stood fine e. cc;
         stops = λ sound. stops_judging d a c (state_of a.content) (state_of c.content) (Pose q) _ refl (l.advances.stops sound);
       })
   steps_read a c (Err fault) l =
+      let step : StandsFor d a → c.unharmed → Step d (state_of a.content) (Pose q) (Replied q (Err (refusal.NotReceived fault))) (state_of c.content) = λ stood fine. (refl, record { let_in = let_in; received = l.advances.files stood fine; board = l.advances.board stood fine }) in
       subst (λ k. Steps d a c (Pose q) (Replied q k)) (sym (says.err (refusal.NotReceived fault)))
       (record {
         harm = l.advances.harm;
         stands = l.advances.stands;
-        step = λ stood fine. (refl, record { let_in = let_in; received = l.advances.files stood fine; board = l.advances.board stood fine });
+        step = step;
+        standing = λ stood fine. reads_standing d (state_of a.content) (Pose q) (Replied q (Err (refusal.NotReceived fault))) (state_of c.content) (step stood fine);
         idle = l.advances.idle;
         failures = l.advances.kept;
         cause = λ stood fine e. let store : fault ≡ Store = cc in l.cause stood fine store;

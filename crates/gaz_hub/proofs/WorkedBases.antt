@@ -15,12 +15,13 @@ use Rattle.gaz_records.specs.Forms.{says}
 use Rattle.gaz_records.specs.Streets.{read_street}
 use Rattle.gaz_rules.proofs.Worked.{views}
 use Rattle.gaz_rules.specs.Examples.{file_of, insertion}
+use Rattle.gaz_rules.specs.Bases.{judged_on}
 use Rattle.gaz_rules.specs.Judging.{judge}
 use Rattle.gaz_keeper.proofs.Pairs.{pairs_total}
 use Rattle.gaz_keeper.specs.Board.{Board, empty_board}
 use Rattle.gaz_keeper.specs.Received.{Received, pair_cmp, with_file}
 use Rattle.gaz_hub.specs.Sample.{sample_register}
-use Rattle.gaz_hub.specs.Standing.{IsPartial, NothingReady, judge_one, judgement_after, ready, with_next}
+use Rattle.gaz_hub.specs.Standing.{IsPartial, NothingReady, judge_one, ready, with_next}
 use Rattle.gaz_hub.specs.WorkedBases.{WorkedBases, both_board, both_sent, resting_file, resting_judged, resting_sent, resting_text, street_board, street_judged, street_text}
 use Rattle.gaz_hub.proofs.Examples.{no_files, not_of}
 use Rattle.gaz_hub.proofs.Leading.{follows_itself, partial_one}
@@ -61,11 +62,11 @@ others_both c v upper lower = others_with resting_sent 1001 1 street_text c v up
 
 -- ---- judging
 
-judged_street : judgement_after sample_register empty_board 1001 0 (file_of (insertion ∷ [])) ≡ street_judged
+judged_street : judged_on (sample_register 1001) empty_board 1001 (file_of (insertion ∷ [])) ≡ street_judged
 unfolding judge
 judged_street = simp views
 
-judged_resting : judgement_after sample_register street_board 1002 0 resting_file ≡ resting_judged
+judged_resting : judged_on (sample_register 1002) street_board 1002 resting_file ≡ resting_judged
 unfolding judge
 judged_resting = refl
 

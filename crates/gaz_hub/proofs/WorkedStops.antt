@@ -9,7 +9,7 @@ use Rattle.gaz_hub.specs.WorkedStops.{WorkedStops}
 use Rattle.gaz_hub.proofs.Examples.{get_first, no_none, partial_first}
 use Rattle.gaz_hub.proofs.Leading.{follows_itself}
 
-not_empty : first_sent ≡ map.empty → ⊥
+pub not_empty : first_sent ≡ map.empty → ⊥
 not_empty e = no_none (map.get first_sent (1003, 1)) no_text (get_first (1003, 1)) (ap (λ (F : Received). map.get F (1003, 1)) e ∙ map.get-empty pair_cmp (1003, 1))
 
 pub worked_stops_hold : WorkedStops

@@ -1,11 +1,11 @@
 -- Which answers the received files give: those read off the standing board.
-use Rattle.std.specs.Prelude.{◌≡◌, ⊤, ℕ, not, ◌&&◌, if◌then◌else◌, is_none, List, [], ◌∷◌, Option}
-use Rattle.std.specs.Prelude.{Some, None, Result, Ok, Err}
+use Rattle.std.specs.Prelude.{◌≡◌, ◌≢◌, ⊤, ℕ, true, not, ◌&&◌, if◌then◌else◌, is_none, List, []}
+use Rattle.std.specs.Prelude.{◌∷◌, Option, Some, None, Result, Ok, Err}
 use Rattle.std.specs.FinMap as map
+use Rattle.sha2.specs.Sha256.{sha256}
 use Rattle.gaz_keeper.specs.Received.{Received, with_file}
-use Rattle.gaz_hub.specs.Asked.{IsTaken}
 use Rattle.gaz_hub.specs.Outcomes.{outcome}
-use Rattle.gaz_hub.specs.Runs.{Run, is_answered_51}
+use Rattle.gaz_hub.specs.Runs.{Run, is_answered_51, is_settled}
 use Rattle.gaz_hub.specs.Standing.{IsPartial, standing}
 use Rattle.gaz_hub.specs.Step.{Command, Door, HubState, Pose, Question, Replied, Response, Submit}
 use Rattle.gaz_hub.specs.Step.{Submitted, Told, answer_to, blocks, file_refusal}
@@ -38,6 +38,13 @@ received_by door files _ _ = files
 abbrev pub standing_outcome : Door → Received → ℕ → ℕ → Option Outcome
 standing_outcome door files c volume = outcome files (standing (blocks door) files) c volume
 
+-- other bytes were received before, with this digest
+pub record IsTaken (files : Received) (c volume : ℕ) (bytes digest : List ℕ) : Type 0 where
+  pub others : List ℕ
+  pub there : map.get files (c, volume) ≡ Some others
+  pub differ : others ≢ bytes
+  pub digest_is : digest ≡ sha256 others
+
 -- a submission's answer, where these files were received before; a refusal settles nothing
 abbrev pub IsAnswerOff : Door → Received → ℕ → ℕ → List ℕ → Answer → Type 0
 IsAnswerOff door files c volume bytes (New told) =
@@ -64,6 +71,16 @@ IsReadOff door files (Submit c volume bytes) (Submitted answer) =
     IsAnswerOff door files c volume bytes answer
 IsReadOff door files (Pose q) (Replied p reply) = (p ≡ q) × IsReplyOff door files p reply
 IsReadOff door files _ _ = ⊥
+
+-- a step from a board that was partial
+pub record ReadsStanding (door : Door) (old : HubState) (command : Command) (response : Response)
+    (new : HubState) : Type 0 where
+  -- the board stays partial
+  pub partial : IsPartial (blocks door) new.received new.board
+  -- after a response that settles it is the standing board of the files received by then
+  pub board : is_settled response ≡ true → new.board ≡ standing (blocks door) new.received
+  -- and the response is read off that
+  pub read_off : IsReadOff door old.received command response
 
 -- each response is, of the files that are received by then
 abbrev pub AllReadOff : Door → Received → List Command → List Response → Type 0

@@ -1,11 +1,12 @@
 -- What a hub over a keeper reads off a settled board, and how it takes a file in.
-use Rattle.std.specs.Prelude.{◌≡◌, ◌≢◌, ◌≤◌, ◌<◌, ⊤, ℕ, List, Option, Some, None, IsSome}
+use Rattle.std.specs.Prelude.{◌≡◌, ◌≤◌, ◌<◌, ⊤, ℕ, List, Option, Some, None, IsSome}
 use Rattle.std.specs.FinMap as map
 use Rattle.sha2.specs.Sha256.{sha256}
 use Rattle.gaz_keeper.specs.Board.{Board}
 use Rattle.gaz_keeper.specs.Keeper.{IsNew, IsNotOpen, Seen}
 use Rattle.gaz_keeper.specs.Received.{Received}
 use Rattle.gaz_keeper.specs.declared.fault.ShelfFault.TheVariants.{Store}
+use Rattle.gaz_hub.specs.Answers.{IsTaken}
 use Rattle.gaz_hub.specs.Hubs.{IsSoundFor, StandsFor, cause_in, cause_in_answer, state_of}
 use Rattle.gaz_hub.specs.Outcomes.{outcome, wants}
 use Rattle.gaz_hub.specs.Standing.{NothingReady}
@@ -38,13 +39,6 @@ pub record IsToldBy (files : Received) (board : Board) (c volume : ℕ) (digest 
 abbrev pub IsToldNow : Received → Board → ℕ → ℕ → Option (List ℕ × Outcome) → Type 0
 IsToldNow files board c volume None = map.get files (c, volume) ≡ None
 IsToldNow files board c volume (Some told) = IsToldBy files board c volume told.0 told.1
-
--- other bytes were received before, with this digest
-pub record IsTaken (files : Received) (c volume : ℕ) (bytes digest : List ℕ) : Type 0 where
-  pub others : List ℕ
-  pub there : map.get files (c, volume) ≡ Some others
-  pub differ : others ≢ bytes
-  pub digest_is : digest ≡ sha256 others
 
 -- the answer to a file whose pair was received before; none where it wasn't
 abbrev pub IsAgain : Received → Board → ℕ → ℕ → List ℕ → Option Answer → Type 0

@@ -14,7 +14,9 @@ use Rattle.gaz_keeper.specs.declared.fault.ShelfFault.{ShelfFault}
 use Rattle.gaz_keeper.specs.declared.fault.ShelfFault.TheVariants.{Memory, Store}
 use Rattle.gaz_hub.specs.Step.{Command, Door, HubState, Replied, Response, Step, Submitted}
 use Rattle.gaz_hub.specs.Step.{blocks, early_refusal, refusal_at_door}
+use Rattle.gaz_hub.specs.Answers.{ReadsStanding}
 use Rattle.gaz_hub.specs.Runs.{Run}
+use Rattle.gaz_hub.specs.Standing.{IsPartial}
 use Rattle.gaz_hub.specs.Stops.{StopsCall, StopsRun}
 use Rattle.gaz_hub.specs.declared.answer.Answer.{Answer}
 use Rattle.gaz_hub.specs.declared.answer.Answer.TheVariants.{New, Repeat, Taken, Refused}
@@ -125,6 +127,10 @@ pub record Steps (door : Door) (old new : Seen) (command : Command)
   pub stands : StandsFor door old → new.unharmed → StandsFor door new
   pub step : StandsFor door old → new.unharmed
       → Step door (state_of old.content) command response (state_of new.content)
+  -- where the board was partial before: what is told is read off the standing board
+  pub standing : StandsFor door old → new.unharmed
+      → IsPartial (blocks door) old.content.files old.content.board
+      → ReadsStanding door (state_of old.content) command response (state_of new.content)
   -- no judgement is in progress afterwards
   pub idle : IsNotOpen new.progress
   pub failures : old.failures ≤ new.failures

@@ -4,8 +4,8 @@ pub mod Outcomes
 pub mod Step
 pub mod Runs
 pub mod Sample
-pub mod Hubs
 pub mod Answers
+pub mod Hubs
 pub mod Laws
 pub mod Found
 pub mod Readings
@@ -26,4 +26,5 @@ pub mod WorkedOwners
 pub mod WorkedHubs
 pub mod WorkedWaiting
 pub mod WorkedStops
+pub mod WorkedFound
 pub mod InTurn

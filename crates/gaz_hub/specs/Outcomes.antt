@@ -1,16 +1,15 @@
 -- What a custodian is told of its files.
-use Rattle.std.specs.Prelude.{ℕ, ◌+◌, ◌==◌, nat_le, not, ◌&&◌, if◌then◌else◌, List, Option, Some}
-use Rattle.std.specs.Prelude.{None}
+use Rattle.std.specs.Prelude.{ℕ, ◌+◌, nat_le, not, if◌then◌else◌, List, Option, Some, None}
 use Rattle.std.specs.Option.{option_map, option_map_or}
-use Rattle.std.specs.List.{find, count_by}
-use Rattle.std.specs.FinMap as map
+use Rattle.std.specs.List.{find}
+use Rattle.gaz_ids.specs.Limits.{last_volume}
 use Rattle.gaz_changefile.specs.Reading.{Reading}
 use Rattle.gaz_changefile.specs.declared.change.Basis.{Basis}
 use Rattle.gaz_keeper.specs.Board.{Board, reached, verdict_on}
 use Rattle.gaz_views.specs.declared.verdict.Verdict.{Verdict}
 use Rattle.gaz_views.specs.declared.verdict.Verdict.TheVariants as verdict
 use Rattle.gaz_rules.specs.Judging.{bases_of}
-use Rattle.gaz_keeper.specs.Received.{Received}
+use Rattle.gaz_keeper.specs.Received.{Received, count_above}
 use Rattle.gaz_hub.specs.Standing.{next_reading}
 use Rattle.gaz_hub.specs.declared.standing.Standing.{Standing}
 use Rattle.gaz_hub.specs.declared.outcome.Outcome.{Outcome}
@@ -28,10 +27,10 @@ wants_as board c None = Some (c, reached board c + 1)
 wants_as board c (Some r) =
     option_map (λ basis. (basis.custodian, basis.volume)) (first_unreached board (bases_of r))
 
--- what a custodian's next volume waits for, by how it reads; nothing after volume 999,999
+-- what a custodian's next volume waits for, by how it reads; nothing after the last volume
 abbrev pub wants : Received → Board → ℕ → Option (ℕ × ℕ)
 wants files board c =
-    if nat_le (reached board c + 1) 999999 then wants_as board c (next_reading files board c)
+    if nat_le (reached board c + 1) last_volume then wants_as board c (next_reading files board c)
     else None
 
 abbrev pub outcome_of : Verdict → Outcome
@@ -47,8 +46,7 @@ outcome files board c volume =
 
 -- how many files of a custodian were received and aren't judged
 abbrev pub held_count : Received → Board → ℕ → ℕ
-held_count files board c =
-    count_by (λ p. (p.0 == c) && not (nat_le p.1 (reached board c))) (map.keys files)
+held_count files board c = count_above files c (reached board c)
 
 abbrev pub status : Received → Board → ℕ → Standing
 status files board c =

@@ -3,6 +3,7 @@ use Rattle.std.specs.Prelude.{◌≡◌, ◌≤◌, ◌<◌, ◌+◌, ◌*◌, �
 use Rattle.std.specs.Prelude.{false, length, List, [], ◌∷◌, Option, Some, None, Result, Ok, Err}
 use Rattle.std.specs.Prelude.{OnOk, IfOk, IfErr}
 use Rattle.std.specs.FinMap as map
+use Rattle.gaz_ids.specs.Limits.{last_volume}
 use Rattle.gaz_changefile.specs.Contents.{Contents}
 use Rattle.gaz_changefile.specs.Reading.{Good, Bad, Reading, reading}
 use Rattle.gaz_register.specs.Registers.{RegisterValue}
@@ -26,11 +27,11 @@ use Rattle.gaz_hub.specs.declared.looking.Next.TheVariants as next
 
 -- a custodian's next volume, and its bytes where it was received
 abbrev pub IsNextFile : Received → Board → ℕ → NextFile → Type 0
-IsNextFile files board c file.Past = 999_999 ≤ reached board c
+IsNextFile files board c file.Past = last_volume ≤ reached board c
 IsNextFile files board c (file.Missing volume) =
-    (volume ≡ reached board c + 1) × (volume ≤ 999_999) × (map.get files (c, volume) ≡ None)
+    (volume ≡ reached board c + 1) × (volume ≤ last_volume) × (map.get files (c, volume) ≡ None)
 IsNextFile files board c (file.Here volume bytes) =
-    (volume ≡ reached board c + 1) × (volume ≤ 999_999)
+    (volume ≡ reached board c + 1) × (volume ≤ last_volume)
     × (map.get files (c, volume) ≡ Some bytes.items)
 
 -- a good file that came as a volume, or what it waits for
@@ -93,7 +94,7 @@ judged_in (Err fault) = 0
 
 -- a custodian has this many volumes at most
 abbrev pub capped : ℕ → ℕ
-capped n = if nat_le n 999999 then n else 999999
+capped n = if nat_le n last_volume then n else last_volume
 
 -- how many volumes of the custodians of a register are judged
 abbrev pub judged_by : RegisterValue → Board → ℕ
@@ -102,7 +103,8 @@ judged_by (k ∷ register) board = capped (reached board k.code) + judged_by reg
 
 -- with so many judgements more, all volumes of the custodians would be judged
 abbrev pub IsAll : Door → Board → ℕ → Type 0
-IsAll door board left = 999999 * length door.register ≤ judged_by door.register board + left
+IsAll door board left =
+    last_volume * length door.register ≤ judged_by door.register board + left
 
 -- a call that judges at most so many of what is ready among some custodians, and tells how many;
 -- where none was, the board is as before

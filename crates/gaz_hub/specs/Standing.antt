@@ -5,11 +5,12 @@ use Rattle.std.specs.Prelude.{◌≡◌, ℕ, zero, suc, ◌+◌, ◌==◌, nat_
 use Rattle.std.specs.Prelude.{if◌then◌else◌, IsTrue, List, [], ◌∷◌, ◌++◌, Some, Option}
 use Rattle.std.specs.Option.{option_map, option_map_or}
 use Rattle.std.specs.FinMap as map
+use Rattle.gaz_ids.specs.Limits.{last_volume}
 use Rattle.gaz_changefile.specs.Reading.{Reading, reading}
-use Rattle.gaz_keeper.specs.Board.{Judgement, Board, empty_board, reached, view_after}
+use Rattle.gaz_keeper.specs.Board.{Judgement, Board, empty_board, reached}
 use Rattle.gaz_register.specs.Registers.{Blocks}
-use Rattle.gaz_rules.specs.Bases.{are_reached, basis_views}
-use Rattle.gaz_rules.specs.Judging.{bases_of, judge}
+use Rattle.gaz_rules.specs.Bases.{are_reached, judged_on}
+use Rattle.gaz_rules.specs.Judging.{bases_of}
 use Rattle.gaz_keeper.specs.Received.{Received}
 
 -- each custodian's own blocks
@@ -27,18 +28,13 @@ next_reading files board c =
 -- the next volume is in the range, it was received, and all that it rests on is reached
 abbrev pub ready : Received → Board → ℕ → Bool
 ready files board c =
-    nat_le (reached board c + 1) 999999
+    nat_le (reached board c + 1) last_volume
     && option_map_or (λ r. are_reached board (bases_of r)) (next_reading files board c) false
-
--- the judgement of a file that reads so and comes after this volume of its custodian
-abbrev pub judgement_after : Register → Board → ℕ → ℕ → Reading → Judgement
-judgement_after register board c volume r =
-    judge (register c) (view_after board c volume) (basis_views board (bases_of r)) r
 
 -- a custodian's judgements with that of its next file
 abbrev pub with_next : Register → Received → Board → ℕ → List Judgement
 with_next register files board c =
-    option_map_or (λ r. board c ++ judgement_after register board c (reached board c) r ∷ [])
+    option_map_or (λ r. board c ++ judged_on (register c) board c r ∷ [])
     (next_reading files board c) (board c)
 
 -- the next file of one custodian is judged

@@ -4,6 +4,7 @@ use Rattle.std.specs.Prelude.{Option, Some, None, Result, Ok, Err}
 use Rattle.std.specs.Option.{option_and_then, option_map}
 use Rattle.std.specs.FinMap as map
 use Rattle.sha2.specs.Sha256.{sha256}
+use Rattle.gaz_ids.specs.Limits.{last_volume, most_bytes}
 use Rattle.gaz_extract.specs.Closing.{closed_streets}
 use Rattle.gaz_extract.specs.Extracts.{extract}
 use Rattle.gaz_extract.specs.Lookups.{lookup}
@@ -90,14 +91,14 @@ pub data Response : Type 0 where
 -- ---- the door
 
 abbrev pub is_volume : ℕ → Bool
-is_volume v = nat_le 1 v && nat_le v 999999
+is_volume v = nat_le 1 v && nat_le v last_volume
 
 -- the refusals of the door that take no memory: the first that applies
 abbrev pub turned_away : Door → ℕ → ℕ → ℕ → Option Refusal
 turned_away door c volume size =
     if not (knows door.register c) then Some refusal.UnknownCustodian
     else (if not (is_volume volume) then Some refusal.BadVolume
-    else (if not (nat_le size 1048576) then Some refusal.TooLarge else None))
+    else (if not (nat_le size most_bytes) then Some refusal.TooLarge else None))
 
 abbrev pub or_foreign : Bool → Option Refusal → Option Refusal
 or_foreign foreign (Some r) = Some r

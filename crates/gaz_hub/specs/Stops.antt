@@ -5,11 +5,12 @@ use Rattle.std.specs.FinMap as map
 use Rattle.gaz_keeper.specs.Keeper.{Content, Seen}
 use Rattle.gaz_keeper.specs.Received.{Received, with_file}
 use Rattle.gaz_views.specs.View.{empty_view}
-use Rattle.gaz_hub.specs.Runs.{Run}
+use Rattle.gaz_hub.specs.Answers.{IsTaken}
+use Rattle.gaz_hub.specs.Runs.{Run, is_answered_51}
 use Rattle.gaz_hub.specs.Standing.{Follows}
-use Rattle.gaz_hub.specs.Step.{Command, Door, HubState, Pose, Response, Submit, Submitted, blocks}
-use Rattle.gaz_hub.specs.Step.{file_refusal}
-use Rattle.gaz_hub.specs.declared.answer.Answer.TheVariants.{New, Refused}
+use Rattle.gaz_hub.specs.Step.{Command, Door, HubState, Pose, Response, Step, Submit, Submitted}
+use Rattle.gaz_hub.specs.Step.{blocks, file_refusal}
+use Rattle.gaz_hub.specs.declared.answer.Answer.TheVariants.{New, Repeat, Taken, Refused}
 use Rattle.gaz_hub.specs.declared.refusal.Refusal.TheVariants.{ReceivedUnsettled}
 
 -- ---- what is found
@@ -59,7 +60,8 @@ is_taken_in (Submitted (New told)) = true
 is_taken_in (Submitted (Refused (ReceivedUnsettled cause))) = true
 is_taken_in _ = false
 
--- a call of a hub that is asked this and answers that; once it received the file, each stop leaves it
+-- a call of a hub that is asked this and answers that; once it received the file, each stop leaves
+-- it
 pub record StopsCall (door : Door) (old new : Seen) (before after : HubState) (command : Command)
     (response : Response) : Type 0 where
   pub stops : Stops old new before after (IsLeftBy door command)
@@ -82,18 +84,27 @@ pub record IsLeftAfter (door : Door) (commands : List Command) (responses : List
   pub run : Run door hub earlier told mid
   pub left : IsLeftBy door command mid k
 
--- one of them left it, and since then nothing has changed
+-- what a command that was answered so may leave of the hub after it: with its file only after 51
+abbrev pub IsLeftOnceTold : Door → Command → Response → HubState → Content → Type 0
+IsLeftOnceTold door (Submit c volume bytes) (Submitted answer) hub k =
+    IsLater door hub k
+    ⊎ ((is_answered_51 answer ≡ true) × IsLaterWith door hub c volume bytes k)
+IsLeftOnceTold door _ _ hub k = IsLater door hub k
+
+-- one of them left it, and those after it have changed nothing
 pub record IsLeftSince (door : Door) (commands : List Command) (responses : List Response)
     (hub last : HubState) (k : Content) : Type 0 where
   pub earlier : List Command
   pub told : List Response
   pub command : Command
+  pub response : Response
   pub later : List Command
   pub more : List Response
-  pub commands_are : commands ≡ (earlier ++ command ∷ []) ++ later
-  pub responses_are : responses ≡ told ++ more
-  pub run : Run door hub (earlier ++ command ∷ []) told last
-  pub left : IsLeftBy door command last k
+  pub commands_are : commands ≡ earlier ++ command ∷ later
+  pub responses_are : responses ≡ told ++ response ∷ more
+  pub run : Run door hub (earlier ++ command ∷ []) (told ++ response ∷ []) last
+  pub since : Run door last later more last
+  pub left : IsLeftOnceTold door command response last k
 
 -- these files have that of each command which received one
 abbrev pub HasReceived : List Command → List Response → Received → Type 0
@@ -103,6 +114,27 @@ HasReceived (Submit c volume bytes ∷ commands) (response ∷ responses) files 
 HasReceived (Pose q ∷ commands) (response ∷ responses) files =
     HasReceived commands responses files
 HasReceived _ _ files = ⊤
+
+-- these files have what a submission was told of: its file, where it was answered New, Repeat or
+-- 52, and where Taken another one, of the digest that was told
+abbrev pub HasTold : Command → Response → Received → Type 0
+HasTold (Submit c volume bytes) (Submitted (New told)) files =
+    map.get files (c, volume) ≡ Some bytes
+HasTold (Submit c volume bytes) (Submitted (Repeat told)) files =
+    map.get files (c, volume) ≡ Some bytes
+HasTold (Submit c volume bytes) (Submitted (Taken digest)) files =
+    IsTaken files c volume bytes digest
+HasTold (Submit c volume bytes) (Submitted (Refused (ReceivedUnsettled cause))) files =
+    map.get files (c, volume) ≡ Some bytes
+HasTold _ _ files = ⊤
+
+-- these files have what each of the commands was told of, as long as the responses are steps of
+-- this hub
+abbrev pub HasAllTold : Door → HubState → List Command → List Response → Received → Type 0
+HasAllTold door hub (command ∷ commands) (response ∷ responses) files =
+    (mid : HubState) → Step door hub command response mid
+    → HasTold command response files × HasAllTold door mid commands responses files
+HasAllTold door hub _ _ files = ⊤
 
 -- calls one after another
 pub record StopsRun (door : Door) (old new : Seen) (before after : HubState)

@@ -11,10 +11,10 @@ use Rattle.gaz_views.specs.View.{empty_view}
 use Rattle.gaz_views.specs.declared.verdict.Verdict.TheVariants.{Applied, Rejected}
 use Rattle.gaz_rules.specs.Examples.{file_of, insertion}
 use Rattle.gaz_hub.specs.Standing.{HasAllOf, Follows, IsPartial, IsPrefixOf, Leads, NothingReady}
-use Rattle.gaz_hub.specs.Standing.{StandsSettled, judge_one, judgement_after, next_reading, ready}
+use Rattle.gaz_hub.specs.Standing.{StandsSettled, judge_one, next_reading, ready}
 use Rattle.gaz_hub.specs.Standing.{round, rounds, standing, with_next}
 use Rattle.gaz_keeper.specs.Received.{pair_cmp, with_file}
-use Rattle.gaz_rules.specs.Bases.{are_reached, basis_views}
+use Rattle.gaz_rules.specs.Bases.{are_reached, basis_views, judged_on}
 use Rattle.gaz_hub.specs.Sample.{sample_register}
 use Rattle.gaz_hub.specs.Examples.{all_sent, first_sent, no_text, no_text_judged, of_1003}
 use Rattle.gaz_hub.specs.Examples.{one_judged, sent, sent_by_two, three_judged}
@@ -52,9 +52,9 @@ pub record WorkedReadiness : Type 0 where
 pub record WorkedJudging : Type 0 where
   pub bases_seen : basis_views two_judged (basis 1001 0 ∷ basis 1001 1 ∷ basis 1002 0 ∷ [])
       ≡ (1001, empty_view) ∷ (1001, one_street) ∷ (1002, empty_view) ∷ []
-  pub judged_first : judgement_after sample_register two_judged 1001 0 (file_of (insertion ∷ []))
+  pub judged_first : judged_on (sample_register 1001) empty_board 1001 (file_of (insertion ∷ []))
       ≡ record { verdict = Applied; view = one_street }
-  pub judged_later : judgement_after sample_register two_judged 1001 1 (file_of (insertion ∷ []))
+  pub judged_later : judged_on (sample_register 1001) two_judged 1001 (file_of (insertion ∷ []))
       ≡ record { verdict = Rejected 2 21; view = one_street }
   pub next_added : with_next sample_register sent empty_board 1003 ≡ no_text_judged ∷ []
   pub none_added : with_next sample_register sent one_judged 1003 ≡ no_text_judged ∷ []

@@ -13,6 +13,7 @@ ghost use Rattle.gaz_hub.specs.Standing.{AnyOrder, MoreFiles, StandingIsSettled}
 ghost use Rattle.gaz_hub.specs.WorkedAnswers.{WorkedAnswers};
 ghost use Rattle.gaz_hub.specs.WorkedBases.{WorkedBases};
 ghost use Rattle.gaz_hub.specs.WorkedBoards.{WorkedBoards};
+ghost use Rattle.gaz_hub.specs.WorkedFound.{WorkedFound};
 ghost use Rattle.gaz_hub.specs.WorkedHubs.{WorkedHubs};
 ghost use Rattle.gaz_hub.specs.WorkedStops.{WorkedStops};
 ghost use Rattle.gaz_hub.specs.WorkedWaiting.{WorkedWaiting};
@@ -146,7 +147,8 @@ pub fn every_answer_over<K: Inbox + Drop>()
 
 /// What a stop leaves after whatever commands, of any keeper of which it left just a partial run
 /// before: a partial run again, which the next hub can begin with. Its files are those that were
-/// received, and one more at most, of a submission that was let in and not answered as received.
+/// received, and one more at most, of a submission that was answered 51 and since which nothing has
+/// changed.
 pub fn every_stop_over<K: Inbox + Drop>()
     ensures keeper { EveryStopOver K.seen }
     ensures hub { EveryStopOver (hub_seen K.seen) }
@@ -214,4 +216,10 @@ pub fn worked_waiting()
 /// What a stop may leave of a hub, and what it may not, on worked examples.
 pub fn worked_stops()
     ensures { WorkedStops }
+{}
+
+/// What a call, or calls one after another, leave of a keeper that is stopped, and what is found
+/// then, on worked examples, whatever else is so of the keeper.
+pub fn worked_found<K: Inbox + Drop>()
+    ensures { WorkedFound K.seen }
 {}

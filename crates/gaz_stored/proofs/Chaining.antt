@@ -1,18 +1,15 @@
 -- Conversations one after another are one.
-use Rattle.std.proofs.Common.{List, [], ◌∷◌, ◌∙◌, ap, inl, inr, refl, subst, sym}
-use Rattle.std.specs.FinMap as map
+use Rattle.std.proofs.Common.{List, [], ◌∷◌, refl}
 use Rattle.sqlite.specs.Effect.{Database}
 use Rattle.gaz_register.specs.Registers.{RegisterValue, blocks_of}
-use Rattle.gaz_keeper.specs.Received.{Received}
-use Rattle.gaz_hub.specs.Found.{HasFilesAfter}
 use Rattle.gaz_hub.specs.Hubs.{door_of}
 use Rattle.gaz_hub.specs.Runs.{Run}
 use Rattle.gaz_hub.specs.Standing.{HasAllOf, IsPartial}
-use Rattle.gaz_hub.specs.Step.{Command, Door, HubState, Response, new_hub}
+use Rattle.gaz_hub.specs.Step.{HubState, new_hub}
 use Rattle.gaz_hub.proofs.Answers.{every_answer_holds}
-use Rattle.gaz_hub.proofs.HubRuns.{run_has_all, run_then}
+use Rattle.gaz_hub.proofs.Finding.{files_have_all}
+use Rattle.gaz_hub.proofs.HubRuns.{run_then}
 use Rattle.gaz_hub.proofs.Runs.{every_run_from_holds, nothing_partial}
-use Rattle.gaz_hub.proofs.Steps.{goes, has_all_with}
 use Rattle.gaz_stored.specs.Chains.{AreOne, Chain, ChainsAreOne, Talk, after_all, all_commands, all_responses}
 use Rattle.gaz_stored.specs.Runs.{StandForRun, hub_in}
 use Rattle.gaz_stored.specs.Stopping.{GoesOnWith, Stopped, StopsAreSurvived}
@@ -52,15 +49,6 @@ chains_are_one = record {
 }
 
 -- ---- stopped again and again
-
--- what a stop leaves of a run loses no file
-files_have_all : (d : Door) (hub : HubState) (commands : List Command) (responses : List Response) (files : Received) → HasFilesAfter d hub commands responses files → HasAllOf files hub.received
-files_have_all d hub commands responses files l p bytes at =
-    let mid = run_has_all d hub l.mid l.earlier l.told l.run p bytes at in
-    elim l.files_of [
-      | inl same ↦ ap (λ F. map.get F p) same ∙ mid
-      | inr more ↦ ap (λ F. map.get F p) more.files_are ∙ has_all_with l.mid.received more.c more.volume more.bytes more.free p bytes mid
-    ]
 
 stopped_on : (register : RegisterValue) (first db : Database) (talks : List Talk) → StandForRun register db → HasAllOf (hub_in db).received (hub_in first).received → Stopped register (hub_in db) talks
     → GoesOnWith register (hub_in first) (after_all db talks)

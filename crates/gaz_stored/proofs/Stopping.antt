@@ -14,10 +14,11 @@ use Rattle.gaz_store.specs.Opened.{IsMade, IsOpened}
 use Rattle.gaz_store.specs.Seen.{IsUnharmed, LeavesKept}
 use Rattle.gaz_store.specs.Store.{seen_in}
 use Rattle.gaz_store.specs.declared.store.Store.{Store}
-use Rattle.gaz_hub.specs.Found.{HasFilesAfter}
+use Rattle.gaz_hub.specs.Found.{HasFilesAfter, HasFilesOf}
 use Rattle.gaz_hub.specs.Hubs.{Runs, door_of, state_of}
 use Rattle.gaz_hub.specs.Laws.{StandsForRun}
 use Rattle.gaz_hub.specs.Step.{Command, HubState, Response, new_hub}
+use Rattle.gaz_hub.specs.Stops.{HasAllTold}
 use Rattle.gaz_hub.proofs.Finding.{every_stop_over}
 use Rattle.gaz_stored.specs.Runs.{StandForRun, hub_in}
 use Rattle.gaz_stored.specs.Stopping.{FindsLater, LeavesItself}
@@ -43,7 +44,8 @@ module _ {S : Type 0} {g : Ghosts S} (register : RegisterValue) (first last : St
         stands = record { kept = (runs.stops (λ _. was.stands)).whole whole db left.clean left.left left.schema; known = found.known; partial = found.partial };
         ever = subst (λ h. HasFilesAfter (door_of register) h commands responses k.files) begins found.ever;
         received = found.received;
-        now = found.now;
+        told = subst (λ h. HasAllTold (door_of register) h commands responses k.files) begins found.told;
+        now = λ fine. subst (λ h. HasFilesOf (door_of register) h (state_of (seen_in last).content) commands responses k.files) begins (found.now fine);
       }
 
   pub finds_new : (old : State) (text : List ℕ) → IsMade old (state g first.tables.conn) text (seen_in first) → IsBare no_schema old.now

@@ -9,7 +9,7 @@ use Rattle.gaz_hub.specs.Found.{HasFilesAfter, HasFilesOf}
 use Rattle.gaz_hub.specs.Hubs.{door_of}
 use Rattle.gaz_hub.specs.Standing.{HasAllOf}
 use Rattle.gaz_hub.specs.Step.{Command, HubState, Response}
-use Rattle.gaz_hub.specs.Stops.{HasReceived}
+use Rattle.gaz_hub.specs.Stops.{HasAllTold, HasReceived}
 use Rattle.gaz_store.specs.Seen.{IsUnharmed}
 use Rattle.gaz_stored.specs.Chains.{Talk, after_all}
 use Rattle.gaz_stored.specs.Runs.{StandForRun, hub_in}
@@ -30,13 +30,16 @@ LeavesItself s = (trees : Trees) → HasCleanDisk s → s.may_leave trees → tr
 pub record IsFoundLater (register : RegisterValue) (before : HubState) (commands : List Command)
     (responses : List Response) (after : State) (db : Database) : Type 0 where
   pub stands : StandForRun register db
-  -- of files that had been received, whatever became of the connection
+  -- of files that had been received, and that in hand at most, whatever became of the connection
   pub ever : HasFilesAfter (door_of register) before commands responses (hub_in db).received
   -- with each that one of the commands received
   pub received : HasReceived commands responses (hub_in db).received
-  -- and of all that are received, where the connection is open in the end
-  pub now : IsUnharmed after
-      → HasFilesOf (door_of register) (hub_in after.now) commands (hub_in db).received
+  -- and with each that was answered New, Repeat, Taken or 52, as long as the answers are steps
+  pub told : HasAllTold (door_of register) before commands responses (hub_in db).received
+  -- and of all that are received, and at most one more that was answered 51 and since which nothing
+  -- has changed, where the connection is open in the end
+  pub now : IsUnharmed after → HasFilesOf (door_of register) before (hub_in after.now)
+      commands responses (hub_in db).received
 
 -- whatever a stop leaves of it is found so
 abbrev pub FindsLater : RegisterValue → HubState → List Command → List Response → State → Type 0
