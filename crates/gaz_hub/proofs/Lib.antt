@@ -18,6 +18,7 @@ pub mod AskingOwner
 pub mod AnswerSteps
 pub mod HubRuns
 pub mod Headline
+pub mod ReadBack
 pub mod Finding
 pub mod OwnNumbers
 pub mod Owners

@@ -7,6 +7,7 @@ pub mod Sample
 pub mod Answers
 pub mod Hubs
 pub mod Laws
+pub mod ReadBack
 pub mod Found
 pub mod Readings
 pub mod Owners

@@ -5,6 +5,7 @@ ghost use Rattle.gaz_hub.specs.Laws.{AllSound, CallsMakeRuns, EachIsTold, EveryA
 ghost use Rattle.gaz_hub.specs.Laws.{EveryRunFromOver, EveryRunOver, EverySettledRunFromOver};
 ghost use Rattle.gaz_hub.specs.Laws.{EverySettledRunOver};
 ghost use Rattle.gaz_hub.specs.Owners.{OwnersAlone};
+ghost use Rattle.gaz_hub.specs.ReadBack.{BoardsReadBack};
 ghost use Rattle.gaz_hub.specs.Readings.{EqualAnswers, ExtractsStay, OneHolder};
 ghost use Rattle.gaz_hub.specs.Runs.{EqualReceived, EveryRepeat, EveryRun, EveryRunFrom};
 ghost use Rattle.gaz_hub.specs.Runs.{EverySettledRun, EverySettledRunFrom, JudgementsStay};
@@ -105,6 +106,12 @@ pub fn equal_answers()
 /// The extract of a volume that is reached stays, with more files and after every step.
 pub fn extracts_stay()
     ensures { ExtractsStay }
+{}
+
+/// Each item of each view of a partial board is such as the table of fields allows, and so each
+/// extract of the board, read as rows, gives its view back.
+pub fn boards_read_back()
+    ensures { BoardsReadBack }
 {}
 
 /// A property stands in the last view of one custodian at most, on every partial board.

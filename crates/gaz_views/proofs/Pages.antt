@@ -124,7 +124,7 @@ none_tied x (f ∷ es) h k i e =
     ] refl e
 
 -- what holds of each key and item that is found holds of each row
-of_rows : (P : Row → Type 0) (es : List Row) → T (is_sorted key_cmp es) → ((k : Key) (i : Item) → finite.find key_cmp k es ≡ Some i → P (k, i)) → All P es
+pub of_rows : (P : Row → Type 0) (es : List Row) → T (is_sorted key_cmp es) → ((k : Key) (i : Item) → finite.find key_cmp k es ≡ Some i → P (k, i)) → All P es
 of_rows P [] h found = All-nil P
 of_rows P (e ∷ es) h found =
     let two = both_true _ _ h in
