@@ -3,8 +3,8 @@ ghost use Rattle.std.specs.Prelude.{◌≡◌};
 ghost use Rattle.gazhub.specs.Endings.{line_of, no_hub_line, refusal_line, register_line};
 ghost use Rattle.gazhub.specs.Endings.{status_of};
 
-use gaz_commands::Fault;
 use crate::files::NoHub;
+use gaz_commands::Fault;
 use gaz_register::RegFault;
 use gaz_store::StoreRefusal;
 
