@@ -23,8 +23,10 @@ from checks import (
     steps,
     stored,
     tour,
+    wanting,
     words,
 )
+from checks.stores import built
 
 Case = tuple[str, str | None]
 
@@ -53,7 +55,8 @@ def of_program(program: Path, root: Path) -> Iterator[Case]:
 
 
 def of_stores(root: Path, room: Path) -> Iterator[Case]:
-    """Of stores in files: the conversations over them, other people's SQLite, damage, rows as they are written, what they cost, rings."""
+    """Of stores in files: the conversations over them, other people's SQLite, damage, rows as they are written, what they cost, rings;
+    and memory that is wanting."""
     yield from held(stored.run_all(root, room))
     yield from held(in_turn.run_all(root, room))
     yield from named("a store", foreign.run_all(root, room))
@@ -63,3 +66,4 @@ def of_stores(root: Path, room: Path) -> Iterator[Case]:
     yield from named("left:", left.run_all(room))
     yield from held(rings.run_all(room))
     yield from named("breaking:", breaking.stay_all(root, room))
+    yield from named("wanting memory:", wanting.run_all(built(room, "gazhub"), built(room, "gaz_bench")))
