@@ -1,5 +1,5 @@
 -- The items of the views on a board are such as the table allows, so that extracts give views back.
-use Rattle.std.proofs.Common.{◌≡◌, ◌∙◌, ◌+◌, ℕ, Bool, true, cond, List, [], ◌∷◌, ◌++◌, arith, refl, sym, ap, subst}
+use Rattle.std.proofs.Common.{◌≡◌, ◌∙◌, ◌+◌, ℕ, Bool, true, false, cond, List, [], ◌∷◌, ◌++◌, arith, refl, sym, ap, subst}
 use Rattle.std.specs.Prelude.{Option, Some, None, fold}
 use Rattle.std.specs.FinMap as map
 use Rattle.std.specs.List.{All}
