@@ -1,5 +1,5 @@
 -- Bytes that come and go.
-use Rattle.std.proofs.Common.{◌≡◌, ◌≢◌, ◌<◌, ℕ, ◌+◌, arith, length, length-drop, Bool, false, true, refl, subst, append-nil, Option, None, Some, List, [], ◌++◌, take, drop, ap, ◌∙◌, sym, append_assoc, take-append-drop}
+use Rattle.std.proofs.Common.{◌≡◌, ◌≢◌, ◌<◌, ℕ, ◌+◌, arith, length, length-drop, Bool, false, true, refl, subst, append-nil, Option, None, Some, List, [], ◌∷◌, ◌++◌, take, drop, ap, ◌∙◌, sym, append_assoc, take-append-drop}
 use Rattle.std.proofs.Math.Seq.{take-add}
 use Rattle.std.proofs.KnownBytes.{Appends-nil, Appends-trans}
 use Rattle.std.specs.Io.KnownBytes.{Appends, Keeps}
@@ -46,3 +46,18 @@ put_behind held mid holds text behind whole a b =
       all = b.all;
       part = b.part;
     }
+
+begin_none : (xs ys : List ℕ) → xs ++ ys ≡ [] → xs ≡ []
+begin_none [] ys e = refl
+begin_none (x ∷ xs) ys e = absurd (cc e)
+
+-- a text that wasn't wholly written, and what would have followed
+pub put_short : (held holds : Option (List ℕ)) (text behind : List ℕ) → IsPut held holds text false → IsPut held holds (text ++ behind) false
+put_short held holds text behind a = record {
+  sent = a.sent;
+  lost = a.lost ++ behind;
+  cut = ap (λ l. l ++ behind) a.cut ∙ append_assoc a.sent a.lost behind;
+  appended = a.appended;
+  all = λ e. cc;
+  part = λ _ e. a.part refl (begin_none a.lost behind e);
+}

@@ -15,7 +15,7 @@ use Rattle.gaz_exchange.specs.declared.fault.Fault.TheVariants.{NotReceived}
 use Rattle.gaz_exchange.specs.declared.framing.Framing.TheVariants.{Length, Refused}
 use Rattle.gaz_exchange.specs.declared.supply.Cause.TheVariants.{ReadFault, WriteFault}
 use Rattle.gaz_exchange.proofs.EndLaws.{head_inside}
-use Rattle.gaz_exchange.proofs.WorkedStreams.{lost_request}
+use Rattle.gaz_exchange.proofs.WorkedStreams.{lost_head, lost_request}
 
 -- the only exchange is the one in hand, where none is counted
 split_one : (earlier : List Exchange) (in_hand : Exchange) → lost ∷ [] ≡ earlier ++ in_hand ∷ [] → 0 ≡ length earlier → (earlier ≡ []) × (in_hand ≡ lost)
@@ -80,14 +80,14 @@ lost_framed = refl
 
 no_body : (size : ℕ) (after : List ℕ) → HasHead lost_bytes size after → size ≡ 0
 no_body size after has =
-    let same = request_unique lost_bytes lost.head has.head [] after (lost_request []).head.reads has.begins.reads in
+    let same = request_unique lost_bytes lost.head has.head [] after (lost_head []).reads has.begins.reads in
     let size_is : Length 0 ≡ Length size = sym lost_framed ∙ ap length_of same.0 ∙ has.framed in
     sym (cc size_is)
 
 no_want : (left : Option (List ℕ)) → IsRefused lost_bytes left NotReceived → ⊥
 no_want left (no_memory size after has some) = omega (arith, some, no_body size after has)
 no_want left (bad_length fault bad) =
-    let same = request_unique lost_bytes lost.head bad.head [] bad.after (lost_request []).head.reads bad.begins.reads in
+    let same = request_unique lost_bytes lost.head bad.head [] bad.after (lost_head []).reads bad.begins.reads in
     let wrong : Length 0 ≡ Refused NotReceived = sym lost_framed ∙ ap length_of same.0 ∙ bad.framed in
     cc wrong
 

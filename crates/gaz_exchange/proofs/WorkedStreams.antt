@@ -61,7 +61,7 @@ asked_head rest =
     let is = is_head (codes "GET") (codes "/custodians/1001/volumes/2") [] (omega arith) refl (omega arith) refl refl (All-nil IsField) in
     record { reads = (is, refl); short = omega (arith, size); few = omega arith }
 
-lost_head : (rest : List ℕ) → BeginsWith (lost_bytes ++ rest) lost.head rest
+pub lost_head : (rest : List ℕ) → BeginsWith (lost_bytes ++ rest) lost.head rest
 unfolding httparse_on_literals
 lost_head rest =
     let size : length (print_request lost.head) ≡ 25 = refl in

@@ -1,22 +1,5 @@
-use Rattle.std.proofs.Common.{◌≡◌, ℕ, ◌++◌, Option, List, [], ◌∷◌, false, ap, append_assoc, refl, ◌∙◌}
-use Rattle.gaz_exchange.specs.Sending.{IsPut}
-use Rattle.gaz_exchange.proofs.StreamFacts.{put_behind}
+use Rattle.gaz_exchange.proofs.StreamFacts.{put_behind, put_short}
 use Rattle.gaz_exchange.proofs.send.write_head.Goals as goal
-
-begin_none : (xs ys : List ℕ) → xs ++ ys ≡ [] → xs ≡ []
-begin_none [] ys e = refl
-begin_none (x ∷ xs) ys e = absurd (cc e)
-
--- a text that wasn't wholly written, and what would have followed
-put_short : (held holds : Option (List ℕ)) (text behind : List ℕ) → IsPut held holds text false → IsPut held holds (text ++ behind) false
-put_short held holds text behind a = record {
-  sent = a.sent;
-  lost = a.lost ++ behind;
-  cut = ap (λ l. l ++ behind) a.cut ∙ append_assoc a.sent a.lost behind;
-  appended = a.appended;
-  all = λ e. cc;
-  part = λ _ e. a.part refl (begin_none a.lost behind e);
-}
 
 pub returns-else-write_both-clause-put : goal.returns-else-write_both-clause-put
 returns-else-write_both-clause-put g c =
