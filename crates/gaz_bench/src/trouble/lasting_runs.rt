@@ -66,7 +66,7 @@ fn goes_awhile<K: Inbox + Drop>(
 }
 
 // Calls fail so often, and what was refused is sent again then.
-fn failing(failures: usize, resend: Resend) -> Trouble {
+fn so_often(failures: usize, resend: Resend) -> Trouble {
     Trouble { failures, resend }
 }
 
@@ -81,10 +81,10 @@ pub fn run<K: Inbox + Drop>(
 {
     match calls {
         Failing::Two(first, second) => {
-            goes_around(walk, keeper, first, second, failing(2, resend))
+            goes_around(walk, keeper, first, second, so_often(2, resend))
         }
         Failing::Awhile(first, then) => {
-            goes_awhile(walk, keeper, first, then, failing(WHILE, resend))
+            goes_awhile(walk, keeper, first, then, so_often(WHILE, resend))
         }
     }
 }
@@ -93,7 +93,7 @@ pub fn run<K: Inbox + Drop>(
 pub fn run_memory<K: Inbox + Drop>(walk: &Walk<'_>, keeper: K, resend: Resend) -> Result<Vec<Stop>>
     requires { IsNotOpen (K.seen keeper).progress }
 {
-    goes(walk, keeper, failing(2, resend))
+    goes(walk, keeper, so_often(2, resend))
 }
 
 /// Goes through the history over a new store in a database, while memory is refused twice.
@@ -103,5 +103,5 @@ pub fn run_memory_store<K: Reopens>(
     resend: Resend,
 ) -> Result<Vec<Stop>> {
     let (mut hub, _) = made::<K>(walk, conn)?;
-    walk.outlasts(&mut hub, failing(2, resend))
+    walk.outlasts(&mut hub, so_often(2, resend))
 }
