@@ -5,6 +5,7 @@ mod asked;
 mod calls;
 mod databases;
 mod fixtures;
+mod held;
 mod mirrors;
 mod refusals;
 mod reopening;

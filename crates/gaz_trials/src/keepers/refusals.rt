@@ -1,11 +1,10 @@
 //! Which databases become a store and which are taken as one; a refused one is left as it was.
 use crate::keepers::databases::{Answer, Attempt, GROUPS, Group, LACKING};
 use crate::keepers::fixtures::new_folder;
-use crate::keepers::reopening::{Reopens, rests};
+use crate::keepers::reopening::Reopens;
 use crate::keepers::whereabouts::{Task, in_memory, on_file};
 use gaz_register::Register;
 use gaz_store::StoreRefusal;
-use sqlite::{Alter, Connection};
 use std::alloc::Global;
 use std::fmt::Write;
 use std::fs;
@@ -19,22 +18,22 @@ fn register(alloc: Global) -> Result<Register, Fail> {
 }
 
 // A connection, and what was answered over it.
-type Left<K> = (Connection<<K as Reopens>::Base>, Answer);
+type Left<K> = (<K as Reopens>::Conn, Answer);
 
 // The connection again, and what was answered.
-fn given_back<K: Reopens>(told: Result<K, (Connection<K::Base>, StoreRefusal)>) -> Left<K> {
+fn given_back<K: Reopens>(told: Result<K, (K::Conn, StoreRefusal)>) -> Left<K> {
     match told {
         Ok(store) => (store.into_conn(), Ok(())),
         Err((conn, refusal)) => (conn, Err(refusal)),
     }
 }
 
-fn create<K: Reopens>(alloc: Global, conn: Connection<K::Base>) -> Result<Left<K>, Fail> {
+fn create<K: Reopens>(alloc: Global, conn: K::Conn) -> Result<Left<K>, Fail> {
     let register = register(alloc)?;
     Ok(given_back(K::made(alloc, conn, &register)?))
 }
 
-fn open<K: Reopens>(alloc: Global, conn: Connection<K::Base>) -> Result<Left<K>, Fail> {
+fn open<K: Reopens>(alloc: Global, conn: K::Conn) -> Result<Left<K>, Fail> {
     let register = register(alloc)?;
     Ok(given_back(K::opened(alloc, conn, &register)?))
 }
@@ -42,75 +41,50 @@ fn open<K: Reopens>(alloc: Global, conn: Connection<K::Base>) -> Result<Left<K>,
 // The database that these statements make.
 fn made<K: Reopens>(
     alloc: Global,
-    conn: Connection<K::Base>,
+    conn: K::Conn,
     attempt: Attempt,
     statements: &str,
-) -> Result<Connection<K::Base>, Fail> {
+) -> Result<K::Conn, Fail> {
     let mut conn = match attempt {
         Attempt::OpenMade | Attempt::CreateAgain => create::<K>(alloc, conn)?.0,
         Attempt::Open | Attempt::Create => conn,
     };
-    conn.execute_batch(statements)?;
+    K::run(&mut conn, statements)?;
     Ok(conn)
 }
 
 // Makes the attempt within so many steps.
 fn attempted<K: Reopens>(
     alloc: Global,
-    mut conn: Connection<K::Base>,
+    mut conn: K::Conn,
     attempt: Attempt,
     limit: Option<u64>,
 ) -> Result<Left<K>, Fail> {
-    conn.set_step_limit(limit);
+    K::limit(&mut conn, limit);
     let (mut conn, answer) = match attempt {
         Attempt::Create | Attempt::CreateAgain => create::<K>(alloc, conn)?,
         Attempt::Open | Attempt::OpenMade => open::<K>(alloc, conn)?,
     };
-    conn.set_step_limit(None);
+    K::limit(&mut conn, None);
     Ok((conn, answer))
-}
-
-// The names of the tables and views.
-fn names<S: Alter>(alloc: Global, conn: &mut Connection<S>) -> Result<Vec<String>, Fail> {
-    let rows = conn.query_all(
-        "SELECT name FROM sqlite_schema WHERE type <> 'index' ORDER BY rowid",
-        &[],
-    )?;
-    let mut names = Vec::new(alloc);
-    for row in &rows {
-        names.push(row.get(0)?)?;
-    }
-    Ok(names)
-}
-
-/// All that a database holds: how its tables, views and indexes were made, and the rows of each.
-pub(crate) fn held_in<S: Alter>(alloc: Global, conn: &mut Connection<S>) -> Result<String, Fail> {
-    let made = conn.query_all("SELECT type, name, tbl_name, sql FROM sqlite_schema", &[])?;
-    let mut text = format!(in alloc; "{made:?}")?;
-    for name in &names(alloc, conn)? {
-        let query = format!(in alloc; "SELECT * FROM \"{name}\"")?;
-        let rows = conn.query_all(&query, &[])?;
-        write!(text, "\n{name} {rows:?}")?;
-    }
-    Ok(text)
 }
 
 /// Makes the attempt of a group over the database that these statements make; what that then holds.
 /// Only `create` changes it, where it goes well.
 pub(crate) fn tries<K: Reopens>(
     rt: &(impl Abort + AllocGlobal),
-    conn: Connection<K::Base>,
+    conn: K::Conn,
     group: &Group,
     statements: &str,
 ) -> Result<String, Fail> {
     let (attempt, limit, wanted, _) = *group;
     let alloc = rt.alloc();
     let mut conn = made::<K>(alloc, conn, attempt, statements)?;
-    let before = held_in(alloc, &mut conn)?;
+    let before = K::held(alloc, &mut conn)?;
     let (mut conn, answer) = attempted::<K>(alloc, conn, attempt, limit)?;
     assert!(rt; answer == wanted, "{attempt:?} {statements}: {answer:?}");
-    rests(&conn)?;
-    let after = held_in(alloc, &mut conn)?;
+    K::at_rest(&conn)?;
+    let after = K::held(alloc, &mut conn)?;
     let is_made = wanted.is_ok() && matches!(attempt, Attempt::Create | Attempt::CreateAgain);
     assert!(rt; (after != before) == is_made, "{attempt:?} {statements}");
     Ok(after)

@@ -8,14 +8,13 @@ use crate::keepers::tried::Tried;
 use crate::keepers::whereabouts::{Task, in_memory, on_file};
 use gaz_register::Register;
 use gaz_samples::REGISTER;
-use sqlite::Connection;
 use std::alloc::Global;
 use std::fs;
 use std::process::Abort;
 use std::test::Fail;
 
 // A new store behind a connection.
-fn created<K: Reopens>(alloc: Global, conn: Connection<K::Base>) -> Result<Tried<K>, Fail> {
+fn created<K: Reopens>(alloc: Global, conn: K::Conn) -> Result<Tried<K>, Fail> {
     let register = Register::read(alloc, REGISTER)?;
     match K::made(alloc, conn, &register)? {
         Ok(store) => Ok(Tried::new(store)),
@@ -24,7 +23,7 @@ fn created<K: Reopens>(alloc: Global, conn: Connection<K::Base>) -> Result<Tried
 }
 
 // The store behind a connection.
-fn opened<K: Reopens>(alloc: Global, conn: Connection<K::Base>) -> Result<Tried<K>, Fail> {
+fn opened<K: Reopens>(alloc: Global, conn: K::Conn) -> Result<Tried<K>, Fail> {
     let register = Register::read(alloc, REGISTER)?;
     match K::opened(alloc, conn, &register)? {
         Ok(store) => Ok(Tried::new(store)),
@@ -33,10 +32,7 @@ fn opened<K: Reopens>(alloc: Global, conn: Connection<K::Base>) -> Result<Tried<
 }
 
 // A new store behind a connection, in which nothing is received or judged.
-fn new_store<K: Reopens>(
-    rt: &(impl Abort + AllocGlobal),
-    conn: Connection<K::Base>,
-) -> Result<Tried<K>, Fail> {
+fn new_store<K: Reopens>(rt: &(impl Abort + AllocGlobal), conn: K::Conn) -> Result<Tried<K>, Fail> {
     let mut store = created::<K>(rt.alloc(), conn)?;
     has_counts(rt, &mut store, 1001, 0, 0)?;
     has_file(rt, &mut store, 1001, 1, false)?;
@@ -47,7 +43,7 @@ fn new_store<K: Reopens>(
 /// Makes a store.
 pub(crate) fn makes<K: Reopens>(
     rt: &(impl Abort + AllocGlobal),
-    conn: Connection<K::Base>,
+    conn: K::Conn,
 ) -> Result<(), Fail> {
     drop(new_store::<K>(rt, conn)?);
     Ok(())
@@ -56,7 +52,7 @@ pub(crate) fn makes<K: Reopens>(
 /// Makes the calls of a part over the store that is there.
 pub(crate) fn takes_part<K: Reopens>(
     rt: &(impl Abort + AllocGlobal),
-    conn: Connection<K::Base>,
+    conn: K::Conn,
     part: Part,
 ) -> Result<(), Fail> {
     performs(rt, &mut opened::<K>(rt.alloc(), conn)?, part)
@@ -65,7 +61,7 @@ pub(crate) fn takes_part<K: Reopens>(
 /// Makes a store, and all calls over it.
 pub(crate) fn performs_in_all<K: Reopens>(
     rt: &(impl Abort + AllocGlobal),
-    conn: Connection<K::Base>,
+    conn: K::Conn,
 ) -> Result<(), Fail> {
     performs_all(rt, &mut new_store::<K>(rt, conn)?)
 }
@@ -73,7 +69,7 @@ pub(crate) fn performs_in_all<K: Reopens>(
 /// Makes a store, and closes and opens it after each part.
 pub(crate) fn performs_anew<K: Reopens>(
     rt: &(impl Abort + AllocGlobal),
-    conn: Connection<K::Base>,
+    conn: K::Conn,
 ) -> Result<(), Fail> {
     let mut store = new_store::<K>(rt, conn)?;
     for part in PARTS {

@@ -2,7 +2,7 @@
 //! place that names each kind of store, since a function that does costs the proof up to a minute.
 use crate::keepers::calls::Part;
 use crate::keepers::databases::Group;
-use crate::keepers::refusals::{held_in, tries};
+use crate::keepers::refusals::tries;
 use crate::keepers::reopening::Reopens;
 use crate::keepers::stores::{makes, performs_anew, performs_in_all, takes_part};
 use gaz_store::Store;
@@ -30,7 +30,7 @@ pub(crate) enum Task<'a> {
 // Does it; what is told of it.
 fn performed<K: Reopens>(
     rt: &(impl Abort + AllocGlobal),
-    mut conn: Connection<K::Base>,
+    mut conn: K::Conn,
     task: Task<'_>,
 ) -> Result<String, Fail> {
     match task {
@@ -39,7 +39,7 @@ fn performed<K: Reopens>(
         Task::PerformAll => performs_in_all::<K>(rt, conn)?,
         Task::PerformAnew => performs_anew::<K>(rt, conn)?,
         Task::Try(group, statements) => return tries::<K>(rt, conn, group, statements),
-        Task::Tell => return held_in(rt.alloc(), &mut conn),
+        Task::Tell => return K::held(rt.alloc(), &mut conn),
     }
     Ok(String::new(rt.alloc()))
 }
