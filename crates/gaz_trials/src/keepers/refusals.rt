@@ -80,11 +80,11 @@ pub(crate) fn tries<K: Reopens>(
     let (attempt, limit, wanted, _) = *group;
     let alloc = rt.alloc();
     let mut conn = made::<K>(alloc, conn, attempt, statements)?;
-    let before = K::held(alloc, &mut conn)?;
+    let before = K::content(alloc, &mut conn)?;
     let (mut conn, answer) = attempted::<K>(alloc, conn, attempt, limit)?;
     assert!(rt; answer == wanted, "{attempt:?} {statements}: {answer:?}");
     K::at_rest(&conn)?;
-    let after = K::held(alloc, &mut conn)?;
+    let after = K::content(alloc, &mut conn)?;
     let is_made = wanted.is_ok() && matches!(attempt, Attempt::Create | Attempt::CreateAgain);
     assert!(rt; (after != before) == is_made, "{attempt:?} {statements}");
     Ok(after)

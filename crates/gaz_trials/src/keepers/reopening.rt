@@ -48,7 +48,7 @@ pub(crate) trait Reopens: Inbox + Drop {
     fn run(conn: &mut Self::Conn, statements: &str) -> Result<(), Fail>;
 
     /// All that the database holds.
-    fn held(alloc: Global, conn: &mut Self::Conn) -> Result<String, Fail>;
+    fn content(alloc: Global, conn: &mut Self::Conn) -> Result<String, Fail>;
 }
 
 impl<S: Alter + Drop> Reopens for Store<S> {
@@ -95,7 +95,7 @@ impl<S: Alter + Drop> Reopens for Store<S> {
         Ok(())
     }
 
-    fn held(alloc: Global, conn: &mut Connection<S>) -> Result<String, Fail> {
+    fn content(alloc: Global, conn: &mut Connection<S>) -> Result<String, Fail> {
         held_in(alloc, conn)
     }
 }

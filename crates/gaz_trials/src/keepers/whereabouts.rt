@@ -39,7 +39,7 @@ fn performed<K: Reopens>(
         Task::PerformAll => performs_in_all::<K>(rt, conn)?,
         Task::PerformAnew => performs_anew::<K>(rt, conn)?,
         Task::Try(group, statements) => return tries::<K>(rt, conn, group, statements),
-        Task::Tell => return K::held(rt.alloc(), &mut conn),
+        Task::Tell => return K::content(rt.alloc(), &mut conn),
     }
     Ok(String::new(rt.alloc()))
 }
