@@ -127,22 +127,16 @@ def keep(room: Path, root: Path, account: Account) -> None:
 
 def run_trouble(room: Path, root: Path, account: Account) -> None:
     """Histories over keepers that fail."""
-    program = stores.built(room, "gaz_bench")
+    program = stores.built(room, "gaz_trouble")
     if not program.is_file():
-        return tell("trouble", "gaz_bench isn't built", account)
+        return tell("gaz_trouble", "isn't built", account)
     try:
         ran, seconds = trouble.run_all(program)
     except preloading.NoLibrary as why:
         ran, seconds = [("memory", f"the library can't be built: {why}")], 0.0
     account.rest += seconds
     for name, fault in ran:
-        tell(f"trouble {name}", fault, account)
-
-
-def keep_and_trouble(room: Path, root: Path, account: Account) -> None:
-    """All that `gaz_bench` is run for."""
-    keep(room, root, account)
-    run_trouble(room, root, account)
+        tell(f"gaz_trouble {name}", fault, account)
 
 
 def try_edits(crates: list, begin, account: Account) -> None:
@@ -198,7 +192,8 @@ def whole(root: Path) -> int:
         proved = prove(room, account)
         crates = kit.crates(room)
         converse(room, root, account)
-        keep_and_trouble(room, root, account)
+        keep(room, root, account)
+        run_trouble(room, root, account)
         try_edits(with_edits_of(root, [it for it in crates if it.name in proved]), lambda crate, kept: None, account)
     return close([it.name for it in crates], account, clock)
 
@@ -247,7 +242,8 @@ def some(root: Path, names: list[str], edits_alone: bool) -> int:
             prove_one(crate, account)
     for name, needs, run in (
         ("gazhub", ("gazhub",), converse),
-        ("gaz_bench", ("gazhub", "gaz_bench"), keep_and_trouble),
+        ("gaz_bench", ("gazhub", "gaz_bench"), keep),
+        ("gaz_trouble", ("gaz_trouble",), run_trouble),
     ):
         if not edits_alone and name in names:
             for program in needs:

@@ -1,5 +1,5 @@
 // Refuses one request for memory, or two, of the program beside which it is loaded (LD_PRELOAD).
-// The program says which by requests for sizes that nobody can have (crates/gaz_bench/src/trouble/refusing.rt).
+// The program says which by requests for sizes that nobody can have (crates/gaz_trouble/src/refusing.rt).
 typedef unsigned long size;
 
 extern void *__libc_malloc(size);

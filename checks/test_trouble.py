@@ -44,7 +44,7 @@ class Running(unittest.TestCase):
         self.root = Path(folder.name)
 
     def program(self, text: str) -> Path:
-        path = self.root / "gaz_bench"
+        path = self.root / "gaz_trouble"
         path.write_text(text)
         path.chmod(0o755)
         return path
@@ -57,7 +57,7 @@ class Running(unittest.TestCase):
 
     def test_the_words_say_the_part(self) -> None:
         ran = run_part(self.program(RIGHT), FIRST, self.root)
-        self.assertEqual(ran.text, "trouble log 0 9 1\nok\n")
+        self.assertEqual(ran.text, "log 0 9 1\nok\n")
 
     def test_what_differs_is_shown(self) -> None:
         self.assertEqual(self.fault(RIGHT.replace("echo ok", "echo number 3; exit 1")), "exit status 1: number 3")
@@ -84,7 +84,7 @@ class Running(unittest.TestCase):
         self.assertRegex(self.refused(500), r"^\[None, None\] 2 [1-9]\d* False\n")
 
     def test_all_parts_are_run(self) -> None:
-        ran, seconds = run_all(self.program(RIGHT.replace("echo ok", '[ "$2" = log ] || echo ok')))
+        ran, seconds = run_all(self.program(RIGHT.replace("echo ok", '[ "$1" = log ] || echo ok')))
         self.assertEqual([name for name, _ in ran], [it.name for it in PARTS])
         self.assertEqual([name for name, fault in ran if fault], ["log"])
         self.assertGreater(seconds, 0)

@@ -1,4 +1,4 @@
-"""Histories of three custodians over keepers that fail, which `gaz_bench trouble` runs part by part."""
+"""Histories of three custodians over keepers that fail, which the program `gaz_trouble` runs part by part."""
 
 import os
 import tempfile
@@ -49,7 +49,7 @@ PARTS = (
 
 def run_part(program: Path, part: Part, refuser: Path) -> measure.Ran:
     """Runs a part, over the library that refuses memory where the part says so."""
-    words = [str(program), "trouble", part.name, *map(str, (part.first, part.last, part.stride))]
+    words = [str(program), part.name, *map(str, (part.first, part.last, part.stride))]
     return measure.run(["env", f"LD_PRELOAD={refuser}", *words] if part.refuses_memory() else words, program.parent)
 
 

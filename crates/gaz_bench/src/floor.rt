@@ -3,29 +3,30 @@
 mod asking;
 mod filling;
 mod marking;
+mod resting;
 mod timing;
 mod volumes;
 
-use crate::files::open;
-use crate::idle::rests;
 use anyhow::Result;
 use gaz_tables::creating::create;
-use sqlite::{Alter, Connection, Error};
+use sqlite::{Alter, Connection, Error, ErrorCode, File, FileStore, Options, Unknown};
 
-/// What is timed over a database in a file.
-#[derive(Clone, Copy)]
-pub enum Timed {
-    /// Each statement over so many rows.
-    Statements(u32),
-    /// What so many volumes need.
-    Volumes(u32),
-    /// Nothing: it is opened and closed.
-    Opening,
+// A connection to the file at this path, with a cache of so many pages.
+fn open(rt: &HostRuntime, path: &str, pages: usize) -> Result<Connection<FileStore<File>>, Error> {
+    let Ok(files) = sqlite_std_file::open(rt, path, Unknown) else {
+        return Err(Error::SqliteFailure(ErrorCode::CannotOpen));
+    };
+    let mut options = Options::new(1);
+    options.cache_pages = pages;
+    match Connection::open_files(rt.alloc(), files, options) {
+        Ok(conn) => Ok(conn),
+        Err((error, _)) => Err(error),
+    }
 }
 
 // Makes the tables.
 fn furnish<S: Alter>(conn: &mut Connection<S>) -> Result<(), Error> {
-    rests(conn)?;
+    resting::rests(conn)?;
     create(conn, 1, "register")
 }
 
@@ -40,22 +41,30 @@ fn time_all<S: Alter>(rt: &HostRuntime, conn: &mut Connection<S>, count: u32) ->
     marking::time_files(rt, conn)
 }
 
-fn time_over<S: Alter>(rt: &HostRuntime, conn: &mut Connection<S>, timed: Timed) -> Result<()> {
-    match timed {
-        Timed::Statements(count) => time_all(rt, conn, count),
-        Timed::Volumes(count) => {
-            furnish(conn)?;
-            volumes::time_volumes(rt, conn, count)
-        }
-        Timed::Opening => Ok(()),
-    }
+fn time_over<S: Alter + Drop>(rt: &HostRuntime, mut conn: Connection<S>, count: u32) -> Result<()> {
+    time_all(rt, &mut conn, count)
 }
 
-/// Times it over the database in the file at this path, with a cache of so many pages, and closes it.
-/// The one function here that names the kind of a store: each such costs the proof up to a minute.
-pub fn time_file(rt: &HostRuntime, path: &str, pages: usize, timed: Timed) -> Result<()> {
-    let mut conn = open(rt, path, pages)?;
-    time_over(rt, &mut conn, timed)?;
+/// Times the statements over so many rows in the file at this path, with a cache of so many pages.
+pub fn time_file(rt: &HostRuntime, path: &str, count: u32, pages: usize) -> Result<()> {
+    let conn = open(rt, path, pages)?;
+    time_over(rt, conn, count)
+}
+
+fn keep_over<S: Alter + Drop>(rt: &HostRuntime, mut conn: Connection<S>, count: u32) -> Result<()> {
+    furnish(&mut conn)?;
+    volumes::time_volumes(rt, &mut conn, count)
+}
+
+/// Times what so many volumes need in the file at this path, with a cache of so many pages.
+pub fn time_volumes(rt: &HostRuntime, path: &str, count: u32, pages: usize) -> Result<()> {
+    let conn = open(rt, path, pages)?;
+    keep_over(rt, conn, count)
+}
+
+/// Opens the database in the file at this path, with a cache of so many pages, and closes it.
+pub fn open_and_close(rt: &HostRuntime, path: &str, pages: usize) -> Result<()> {
+    let conn = open(rt, path, pages)?;
     conn.close()?;
     Ok(())
 }

@@ -17,38 +17,103 @@
 //! `gaz_bench replies REQUESTS REPLIES` learns the replies to requests, which are in two files, and answers the requests on standard input, each by
 //! the reply that it learned for its target and body.
 //! `gaz_bench play REGISTER` answers the requests on standard input at a hub of the register in a file, over a keeper in memory.
-//! `gaz_bench trouble PART FIRST LAST` runs histories over keepers that fail (`trouble.rt`).
 //! `gaz_bench IDENTIFIER FILE ROUNDS` takes a record identifier and a file of rows of that kind, which begin behind the order field. It prints a
 //! line with the least time in nanoseconds of reading all items and that of writing all rows, and then the rows.
 #![tactic(auto)]
 
-mod files;
 mod floor;
-mod idle;
 mod judging;
 mod keeping;
 mod playing;
-mod reading;
 mod records;
 mod replying;
 mod stored;
-mod trouble;
 
-use anyhow::{Context, Result};
-use floor::{Timed, time_file};
+use anyhow::{Context, Result, ensure};
+use gaz_changefile::{FileFault, read_file};
+use gaz_ids::{Code, Volume};
 use gaz_records::Kind;
+use gaz_register::Register;
 use gaz_store::StoreRefusal;
 use gaz_stored::ReadFrom;
 use judging::{judging_calls, judging_micros};
 use keeping::keeping_micros;
 use playing::play;
-use reading::print_reading;
-use records::print_records;
+use records::records_nanos;
 use replying::reply_as_learned;
-use std::env;
 use std::process::ExitCode;
+use std::time::Instant;
+use std::{env, fs};
 use stored::{stored, stored_each};
-use trouble::run_part;
+
+// What a file is read as.
+#[derive(Clone, Copy)]
+enum What {
+    GoodFile,
+    AnyFile,
+    Register,
+}
+
+fn what_of(word: &str) -> Option<What> {
+    match word {
+        "file" => Some(What::GoodFile),
+        "any" => Some(What::AnyFile),
+        "register" => Some(What::Register),
+        _ => None,
+    }
+}
+
+// Reads the bytes as the file of volume 1 of custodian 1001. Whether they are as expected: good, or any that memory sufficed for.
+fn reads_file(rt: &HostRuntime, bytes: &[u8], has_to_be_good: bool) -> bool {
+    let (Some(code), Some(volume)) = (Code::of(1001), Volume::of(1)) else {
+        return false;
+    };
+    match read_file(rt.alloc(), bytes, code, volume) {
+        Ok(_) => true,
+        Err(FileFault::Bad { .. }) => !has_to_be_good,
+        Err(FileFault::Memory) => false,
+    }
+}
+
+// Whether the bytes read as expected.
+fn reads(rt: &HostRuntime, what: What, bytes: &[u8]) -> bool {
+    match what {
+        What::GoodFile => reads_file(rt, bytes, true),
+        What::AnyFile => reads_file(rt, bytes, false),
+        What::Register => Register::read(rt.alloc(), bytes).is_ok(),
+    }
+}
+
+// The least time of so many readings, in microseconds. Each has to be as expected.
+fn best_micros(rt: &HostRuntime, what: What, bytes: &[u8], rounds: u32) -> Result<u128> {
+    let mut best = u128::MAX;
+    for _ in 0..rounds {
+        let start = Instant::now(rt)?;
+        let reads = reads(rt, what, bytes);
+        let spent = start.elapsed(rt)?.as_micros();
+        ensure!(reads, "the file has a fault");
+        best = best.min(spent);
+    }
+    Ok(best)
+}
+
+// Prints the least time of so many readings of a file.
+fn print_reading(rt: &HostRuntime, word: &str, path: &str, rounds: &str) -> Result<()> {
+    let what = what_of(word).context("neither a change file nor a register")?;
+    let bytes = fs::read(rt, path)?;
+    let best = best_micros(rt, what, &bytes, rounds.parse::<u32>()?)?;
+    println!(rt; "{best}")?;
+    Ok(())
+}
+
+// Prints the least times of reading and writing rows of a kind, and the rows.
+fn print_records(rt: &HostRuntime, kind: Kind, path: &str, rounds: &str) -> Result<()> {
+    let text = fs::read_to_string(rt, path)?;
+    let timed = records_nanos(rt, kind, &text, rounds.parse::<u32>()?)?;
+    println!(rt; "{} {}", timed.reading, timed.writing)?;
+    print!(rt; "{}", String::from_utf8(timed.rows)?)?;
+    Ok(())
+}
 
 // Times what takes a file and a number of rounds.
 fn print_rounds(rt: &HostRuntime, word: &str, path: &str, rounds: &str) -> Result<()> {
@@ -73,17 +138,28 @@ fn print_calls(rt: &HostRuntime, items: &str) -> Result<()> {
     Ok(())
 }
 
-// Times what a word and the one word behind it name.
-fn print_times(rt: &HostRuntime, word: &str, given: &str) -> Result<()> {
+// Times what a word and what it is given name.
+fn print_times(rt: &HostRuntime, word: &str, given: &str, rounds: Option<String>) -> Result<()> {
     match word {
         "judge" => print_judging(rt, given),
         "calls" => print_calls(rt, given),
         "play" => play(rt, given),
+        "opening" => {
+            floor::open_and_close(
+                rt,
+                given,
+                rounds.context("a number of pages")?.parse::<usize>()?,
+            )
+        }
+        "replies" => reply_as_learned(rt, given, &rounds.context("a file of replies")?),
         "keeping" => {
             println!(rt; "{}", keeping_micros(rt, given.parse::<u64>()?)?)?;
             Ok(())
         }
-        _ => Ok(()),
+        _ => match rounds {
+            Some(rounds) => print_rounds(rt, word, given, &rounds),
+            None => Ok(()),
+        },
     }
 }
 
@@ -106,50 +182,42 @@ fn number_in(word: Option<String>) -> Result<Option<u64>> {
     }
 }
 
-// Times it over a database in a file, with a cache of as many pages as a word says.
-fn time_database(rt: &HostRuntime, path: &str, timed: Timed, pages: &str) -> Result<()> {
-    time_file(rt, path, pages.parse::<usize>()?, timed)
-}
-
-// Does what a word and those behind it name; why there is no store, where there is none.
-fn done(
+// Times the statements of the tables: each over so many rows, or all that so many volumes need.
+fn print_floor(
     rt: &HostRuntime,
     word: &str,
-    given: &str,
-    other: &str,
-    third: Option<String>,
-    fourth: Option<String>,
-) -> Result<Option<StoreRefusal>> {
+    path: &str,
+    count: &str,
+    pages: Option<String>,
+) -> Result<()> {
+    let pages = pages.context("a number of pages")?.parse::<usize>()?;
+    let count = count.parse::<u32>()?;
     match word {
-        "stored" => return stored(rt, given, other, number_in(third)?, ReadFrom::Tables),
-        "at-hand" => return stored(rt, given, other, None, ReadFrom::Memory),
-        "stored-each" => return stored_each(rt, given, other),
-        "trouble" => run_part(rt, given, other, third, fourth)?,
-        "opening" => time_database(rt, given, Timed::Opening, other)?,
-        "floor" => {
-            let timed = Timed::Statements(other.parse::<u32>()?);
-            time_database(rt, given, timed, &third.context("a number of pages")?)?;
-        }
-        "volumes" => {
-            let timed = Timed::Volumes(other.parse::<u32>()?);
-            time_database(rt, given, timed, &third.context("a number of pages")?)?;
-        }
-        "replies" => reply_as_learned(rt, given, other)?,
-        _ => print_rounds(rt, word, given, other)?,
+        "volumes" => floor::time_volumes(rt, path, count, pages),
+        _ => floor::time_file(rt, path, count, pages),
     }
-    Ok(None)
 }
 
 fn main(rt: HostRuntime) -> Result<ExitCode> {
     let mut words = env::args(&rt)?.skip(1);
-    let (Some(word), Some(given)) = (words.next(), words.next()) else {
+    let (Some(word), Some(given), other) = (words.next(), words.next(), words.next()) else {
         return Ok(ExitCode::SUCCESS);
     };
-    let Some(other) = words.next() else {
-        print_times(&rt, &word, &given)?;
-        return Ok(ExitCode::SUCCESS);
+    let refusal = match (word.as_str(), &other) {
+        ("stored", Some(register)) => {
+            let steps = number_in(words.next())?;
+            stored(&rt, &given, register, steps, ReadFrom::Tables)?
+        }
+        ("at-hand", Some(register)) => stored(&rt, &given, register, None, ReadFrom::Memory)?,
+        ("stored-each", Some(register)) => stored_each(&rt, &given, register)?,
+        ("floor" | "volumes", Some(count)) => {
+            print_floor(&rt, &word, &given, count, words.next())?;
+            None
+        }
+        _ => {
+            print_times(&rt, &word, &given, other)?;
+            None
+        }
     };
-    let (third, fourth) = (words.next(), words.next());
-    let refusal = done(&rt, &word, &given, &other, third, fourth)?;
     status_of(&rt, refusal)
 }

@@ -1,12 +1,13 @@
 //! A hub over a keeper in memory, of any register.
 
-use crate::files::register_in;
 use anyhow::{Result, ensure};
 use gaz_exchange::converse;
 use gaz_hub::Hub;
+use gaz_register::Register;
 use gaz_shelf::{MemShelf, Seed};
-use std::io::{self, BufWriter};
+use std::io::BufWriter;
 use std::mem::forget;
+use std::{fs, io};
 
 /// The most requests of one run.
 const MOST: u64 = 1_000_000;
@@ -14,7 +15,7 @@ const MOST: u64 = 1_000_000;
 /// Answers the requests on standard input at a hub of the register in a file, which begins with
 /// nothing.
 pub fn play(rt: &HostRuntime, path: &str) -> Result<()> {
-    let register = register_in(rt, path)?;
+    let register = Register::read(rt.alloc(), &fs::read(rt, path)?)?;
     let keeper = MemShelf::new(rt.alloc(), Seed::of(1));
     let mut hub = Hub::new(rt.alloc(), register, keeper);
     let mut w = BufWriter::new(rt.alloc(), io::writer(rt))?;

@@ -4,7 +4,6 @@ use csv::ByteRecord;
 use gaz_records::{Item, Kind, read_item, write_item};
 use gaz_rows::read_row;
 use std::alloc::Global;
-use std::fs;
 use std::time::Instant;
 
 // The fields of each line.
@@ -34,18 +33,18 @@ fn write_items(items: &[Item], out: &mut Vec<u8>) -> Result<()> {
     Ok(())
 }
 
-// The rows of a kind, as they are read and written back.
+/// The rows of a kind, as they are read and written back.
 #[derive(Drop)]
-struct Timed {
-    // The least time of reading all items, in nanoseconds.
-    reading: u128,
-    // That of writing all rows.
-    writing: u128,
-    rows: Vec<u8>,
+pub struct Timed {
+    /// The least time of reading all items, in nanoseconds.
+    pub reading: u128,
+    /// That of writing all rows.
+    pub writing: u128,
+    pub rows: Vec<u8>,
 }
 
-// Reads the rows of a text as items, and writes them, so many times.
-fn records_nanos(rt: &HostRuntime, kind: Kind, text: &str, rounds: u32) -> Result<Timed> {
+/// Reads the rows of a text as items, and writes them, so many times.
+pub fn records_nanos(rt: &HostRuntime, kind: Kind, text: &str, rounds: u32) -> Result<Timed> {
     let fields = rows_of(rt.alloc(), text)?;
     let mut timed = Timed {
         reading: u128::MAX,
@@ -61,13 +60,4 @@ fn records_nanos(rt: &HostRuntime, kind: Kind, text: &str, rounds: u32) -> Resul
         timed.writing = timed.writing.min(start.elapsed(rt)?.as_nanos());
     }
     Ok(timed)
-}
-
-/// Prints the least times of reading and writing rows of a kind, and the rows.
-pub fn print_records(rt: &HostRuntime, kind: Kind, path: &str, rounds: &str) -> Result<()> {
-    let text = fs::read_to_string(rt, path)?;
-    let timed = records_nanos(rt, kind, &text, rounds.parse::<u32>()?)?;
-    println!(rt; "{} {}", timed.reading, timed.writing)?;
-    print!(rt; "{}", String::from_utf8(timed.rows)?)?;
-    Ok(())
 }

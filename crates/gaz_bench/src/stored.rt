@@ -1,14 +1,13 @@
 //! A hub over a store, of any register.
+ghost use Rattle.std.specs.Prelude.{◌≡◌, false, OnOk};
 
-use crate::files::{open, register_in};
-use crate::idle::rests;
 use anyhow::{Context, Result, ensure};
 use gaz_exchange::{Served, Stopped};
 use gaz_register::Register;
 use gaz_shelf::Seed;
 use gaz_store::StoreRefusal;
 use gaz_stored::{HandedBack, ReadFrom, answer_new, answer_opened};
-use sqlite::{Alter, Connection};
+use sqlite::{Alter, Connection, File, FileStore, Options, Unknown};
 use std::alloc::Global;
 use std::io::{BufWriter, Read, Write};
 use std::{fs, io};
@@ -28,6 +27,14 @@ const MOST_PAGES: u64 = 64_000;
 enum Beginning {
     Made,
     Opened,
+}
+
+/// The connection is in no transaction, or an error.
+fn rests<S: Alter>(conn: &Connection<S>) -> Result<()>
+    ensures { OnOk result (conn.now.in_transaction ≡ false) }
+{
+    ensure!(conn.is_autocommit(), "a transaction is open");
+    Ok(())
 }
 
 /// Answers the requests of a reader over a store behind a connection.
@@ -77,6 +84,14 @@ fn pages_at(rt: &HostRuntime, path: &str) -> usize {
     pages.saturating_add(pages / 2).clamp(FEWEST, MOST_PAGES) as usize
 }
 
+/// A connection to the file at this path, which is made where there is none.
+fn open(rt: &HostRuntime, path: &str) -> Option<Connection<FileStore<File>>> {
+    let mut options = Options::new(1);
+    options.cache_pages = pages_at(rt, path);
+    let files = sqlite_std_file::open(rt, path, Unknown).ok()?;
+    Connection::open_files(rt.alloc(), files, options).ok()
+}
+
 /// Answers the requests of a reader over the store in a file, which is made where there is none. The
 /// one function that names the kind of the store: each such costs the proof a minute.
 fn answer_at<R: Read, W: Write>(
@@ -89,13 +104,17 @@ fn answer_at<R: Read, W: Write>(
     w: &mut W,
 ) -> Result<Option<StoreRefusal>> {
     let beginning = beginning_at(rt, path);
-    let Ok(mut conn) = open(rt, path, pages_at(rt, path)) else {
+    let Some(mut conn) = open(rt, path) else {
         return Ok(Some(StoreRefusal::Fault));
     };
     conn.set_step_limit(steps);
     let left = answer(rt.alloc(), conn, register, beginning, read_from, r, w)?;
     left.conn.close()?;
     refusal_of(left.held)
+}
+
+fn register_in(rt: &HostRuntime, path: &str) -> Result<Register> {
+    Ok(Register::read(rt.alloc(), &fs::read(rt, path)?)?)
 }
 
 /// Answers the requests on standard input over the store in a file, whose statements take so many

@@ -1,7 +1,7 @@
 //! Times how rows are added, 5,000 a transaction, and closed.
 
+use crate::floor::resting::begun;
 use crate::floor::timing::{ADDRESS, CUST, scattered, tell};
-use crate::idle::begun;
 use anyhow::Result;
 use gaz_tables::versions;
 use sqlite::{Alter, Connection, Error, Transaction};

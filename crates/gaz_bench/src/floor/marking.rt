@@ -1,7 +1,7 @@
 //! Times how files are received and marked, each in a transaction of its own.
 
+use crate::floor::resting::rests;
 use crate::floor::timing::{CUST, tell};
-use crate::idle::rests;
 use anyhow::Result;
 use gaz_tables::{alone, receiveds};
 use sqlite::{Alter, Connection, Error};

@@ -2,8 +2,8 @@
 //! and 100 are changed that came with the volume before. Each file is received, each key that it
 //! touches asked for once, and each address's property for its addresses; then rows are written.
 
+use crate::floor::resting::{begun, rests};
 use crate::floor::timing::tell_nanos;
-use crate::idle::{begun, rests};
 use anyhow::Result;
 use gaz_tables::{alone, receiveds, versions};
 use sqlite::{Alter, Connection, Error, Transaction};

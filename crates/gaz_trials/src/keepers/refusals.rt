@@ -1,13 +1,11 @@
 //! Which databases become a store and which are taken as one; a refused one is left as it was.
 use crate::keepers::databases::{Answer, Attempt, GROUPS, Group, LACKING};
-use crate::keepers::fixtures::new_folder;
 use crate::keepers::reopening::Reopens;
-use crate::keepers::whereabouts::{Task, in_memory, on_file};
+use crate::keepers::whereabouts::{Task, in_memory};
 use gaz_register::Register;
 use gaz_store::StoreRefusal;
 use std::alloc::Global;
 use std::fmt::Write;
-use std::fs;
 use std::process::Abort;
 use std::test::Fail;
 
@@ -97,36 +95,6 @@ fn databases_become_stores_or_stay_as_they_are(rt: HostRuntime) -> Result<(), Fa
             let _held = in_memory(&rt, Task::Try(group, statements))?;
         }
     }
-    Ok(())
-}
-
-// The attempt on a new file in this folder, which is read again afterwards.
-fn tries_on_file(
-    host: &HostRuntime,
-    rt: &(impl Abort + AllocGlobal),
-    folder: &str,
-    group: &Group,
-    statements: &str,
-) -> Result<(), Fail> {
-    let path = format!(in rt.alloc(); "{folder}/store")?;
-    let left = on_file(host, rt, &path, Task::Try(group, statements))?;
-    let found = on_file(host, rt, &path, Task::Tell)?;
-    assert!(rt; found == left, "{statements}");
-    fs::remove_file(host, path.as_str())?;
-    let log = format!(in rt.alloc(); "{path}-wal")?;
-    fs::remove_file(host, log.as_str())?;
-    Ok(())
-}
-
-#[test]
-fn files_become_stores_or_stay_as_they_are(rt: HostRuntime) -> Result<(), Fail> {
-    let folder = new_folder(&rt)?;
-    for group in GROUPS {
-        for statements in group.3 {
-            tries_on_file(&rt, &rt, &folder, group, statements)?;
-        }
-    }
-    fs::remove_dir_all(&rt, folder.as_str())?;
     Ok(())
 }
 

@@ -1,15 +1,13 @@
-//! The list of calls over a store: in memory, closed and opened between its parts, and on a file.
+//! The list of calls over a store in memory, and over one that is closed and opened between its parts.
 
-use crate::keepers::calls::{PARTS, Part, performs, performs_all};
-use crate::keepers::fixtures::new_folder;
+use crate::keepers::calls::{PARTS, performs, performs_all};
 use crate::keepers::reopening::Reopens;
 use crate::keepers::told::{has_counts, has_file, has_verdict};
 use crate::keepers::tried::Tried;
-use crate::keepers::whereabouts::{Task, in_memory, on_file};
+use crate::keepers::whereabouts::{Task, in_memory};
 use gaz_register::Register;
 use gaz_samples::REGISTER;
 use std::alloc::Global;
-use std::fs;
 use std::process::Abort;
 use std::test::Fail;
 
@@ -38,24 +36,6 @@ fn new_store<K: Reopens>(rt: &(impl Abort + AllocGlobal), conn: K::Conn) -> Resu
     has_file(rt, &mut store, 1001, 1, false)?;
     has_verdict(rt, &mut store, 1001, 1, None)?;
     Ok(store)
-}
-
-/// Makes a store.
-pub(crate) fn makes<K: Reopens>(
-    rt: &(impl Abort + AllocGlobal),
-    conn: K::Conn,
-) -> Result<(), Fail> {
-    drop(new_store::<K>(rt, conn)?);
-    Ok(())
-}
-
-/// Makes the calls of a part over the store that is there.
-pub(crate) fn takes_part<K: Reopens>(
-    rt: &(impl Abort + AllocGlobal),
-    conn: K::Conn,
-    part: Part,
-) -> Result<(), Fail> {
-    performs(rt, &mut opened::<K>(rt.alloc(), conn)?, part)
 }
 
 /// Makes a store, and all calls over it.
@@ -88,17 +68,5 @@ fn a_store_answers_so(rt: HostRuntime) -> Result<(), Fail> {
 #[test]
 fn a_store_closed_and_opened_answers_so(rt: HostRuntime) -> Result<(), Fail> {
     let _told = in_memory(&rt, Task::PerformAnew)?;
-    Ok(())
-}
-
-#[test]
-fn a_store_on_a_file_closed_and_opened_answers_so(rt: HostRuntime) -> Result<(), Fail> {
-    let folder = new_folder(&rt)?;
-    let path = format!(in rt.alloc(); "{folder}/store")?;
-    let _told = on_file(&rt, &rt, &path, Task::Make)?;
-    for part in PARTS {
-        let _told = on_file(&rt, &rt, &path, Task::Perform(part))?;
-    }
-    fs::remove_dir_all(&rt, folder.as_str())?;
     Ok(())
 }

@@ -1,10 +1,10 @@
 //! A history at a hub whose trouble lasts, beside a calm hub that is sent just the files that the
 //! other received: each answer that isn't refused is the calm one's.
 
-use crate::trouble::histories::Command;
-use crate::trouble::replies::{calm_hub, questions};
-use crate::trouble::resting::{Reply, Resting};
-use crate::trouble::walking::{Stop, Walk, fault_of};
+use crate::histories::Command;
+use crate::replies::{calm_hub, questions};
+use crate::resting::{Reply, Resting};
+use crate::walking::{Stop, Walk, fault_of};
 use anyhow::{Result, bail, ensure};
 use gaz_hub::{Answer, Refusal};
 use gaz_keeper::Inbox;

@@ -1,10 +1,10 @@
 //! A history while one call of the keeper fails.
 ghost use Rattle.gaz_keeper.specs.Keeper.{IsNotOpen};
 
-use crate::trouble::replies::register;
-use crate::trouble::resting::Resting;
-use crate::trouble::tally::Met;
-use crate::trouble::walking::Walk;
+use crate::replies::register;
+use crate::resting::Resting;
+use crate::tally::Met;
+use crate::walking::Walk;
 use anyhow::{Result, ensure};
 use gaz_keeper::Inbox;
 use gaz_shelf::Faulty;

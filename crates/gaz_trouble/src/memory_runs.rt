@@ -1,14 +1,14 @@
 //! A history while one request for memory is refused.
 ghost use Rattle.gaz_keeper.specs.Keeper.{IsNotOpen};
 
-use crate::trouble::replies::register;
-use crate::trouble::resting::Resting;
-use crate::trouble::stores::{Reopens, conn_after, have_surely, make};
-use crate::trouble::tally::Met;
-use crate::trouble::walking::Walk;
+use crate::replies::register;
+use crate::resting::Resting;
+use crate::stores::{StoreHub, connection_after, have_surely, make};
+use crate::tally::Met;
+use crate::walking::Walk;
 use anyhow::Result;
 use gaz_keeper::Inbox;
-use sqlite::{Connection, MemStore};
+use sqlite::{Alter, Connection, MemStore};
 
 // Goes through the history, and on over the same hub after the first answer that is refused.
 fn goes<K: Inbox + Drop>(walk: &Walk<'_>, hub: &mut Resting<K>) -> Result<Met> {
@@ -41,19 +41,19 @@ pub fn connected(walk: &Walk<'_>) -> Result<(Connection<MemStore>, bool)> {
 }
 
 /// A hub over a new store, where memory may be refused once, and whether it was.
-pub fn made<K: Reopens>(walk: &Walk<'_>, conn: K::Conn) -> Result<(Resting<K>, bool)> {
-    match make::<K>(walk.rt.alloc(), conn, walk.refuser)? {
+pub fn made<S: Alter + Drop>(walk: &Walk<'_>, conn: Connection<S>) -> Result<(StoreHub<S>, bool)> {
+    match make(walk.rt.alloc(), conn, walk.refuser)? {
         Ok(hub) => Ok((hub, false)),
         Err(refused) => {
-            let conn = conn_after(refused)?;
+            let conn = connection_after(refused)?;
             Ok((have_surely(walk.rt.alloc(), conn)?, true))
         }
     }
 }
 
-/// Goes through the history over a new store in a database.
-pub fn run_store<K: Reopens>(walk: &Walk<'_>, conn: K::Conn) -> Result<Met> {
-    let (mut hub, was_refused) = made::<K>(walk, conn)?;
+/// Goes through the history over a new store behind a connection.
+pub fn run_store<S: Alter + Drop>(walk: &Walk<'_>, conn: Connection<S>) -> Result<Met> {
+    let (mut hub, was_refused) = made(walk, conn)?;
     match goes(walk, &mut hub)? {
         Met::Nothing if was_refused => Ok(Met::Opening),
         met => Ok(met),

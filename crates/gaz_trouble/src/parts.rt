@@ -1,16 +1,16 @@
 //! What fails in the runs of a part, by a number that rises.
 
-use crate::trouble::disk_runs::{self, Again, Failed};
-use crate::trouble::disks::{Left, Which, failing_files};
-use crate::trouble::histories::History;
-use crate::trouble::keepers::{self, Failure};
-use crate::trouble::lasting::Resend;
-use crate::trouble::lasting_runs::Failing;
-use crate::trouble::refusing::Refuser;
-use crate::trouble::replies::Wanted;
-use crate::trouble::statement_runs::Since;
-use crate::trouble::tally::{Met, Tally};
-use crate::trouble::walking::Walk;
+use crate::disk_runs::{self, Again, Failed};
+use crate::disks::{Left, Which, failing_files};
+use crate::histories::History;
+use crate::keepers::{self, Failure};
+use crate::lasting::Resend;
+use crate::lasting_runs::Failing;
+use crate::refusing::Refuser;
+use crate::replies::Wanted;
+use crate::statement_runs::Since;
+use crate::tally::{Met, Tally};
+use crate::walking::Walk;
 use anyhow::{Result, bail, ensure};
 
 /// More calls of a file than any history makes.

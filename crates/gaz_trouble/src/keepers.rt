@@ -1,19 +1,18 @@
-//! A history over a new keeper of each kind. One function names each kind, whatever fails, since such
-//! a function costs the proof up to a minute; `disk_runs` has that of stores on files.
+//! A history over a new keeper of each kind. A function that names the kind of a keeper costs the
+//! proof up to a minute, so that one names each, whatever fails.
 ghost use Rattle.gaz_keeper.specs.Keeper.{IsNotOpen};
 
-use crate::trouble::lasting::Resend;
-use crate::trouble::lasting_runs::{self, Failing};
-use crate::trouble::statement_runs::{self, Since};
-use crate::trouble::stores::{Reopens, keeper_in};
-use crate::trouble::tally::{Met, Ran};
-use crate::trouble::walking::Walk;
-use crate::trouble::{call_runs, memory_runs};
+use crate::lasting::Resend;
+use crate::lasting_runs::{self, Failing};
+use crate::statement_runs::{self, Since};
+use crate::stores::store_in;
+use crate::tally::{Met, Ran};
+use crate::walking::Walk;
+use crate::{call_runs, memory_runs};
 use anyhow::{Result, bail};
 use gaz_keeper::Inbox;
 use gaz_shelf::{MemShelf, Seed};
-use gaz_store::Store;
-use sqlite::MemStore;
+use sqlite::{Alter, Connection};
 
 /// What fails in a run.
 #[derive(Clone, Copy)]
@@ -47,18 +46,22 @@ fn over_keeper<K: Inbox + Drop>(walk: &Walk<'_>, keeper: K, failure: Failure) ->
     }
 }
 
-// Goes through the history over a new store in a database.
-fn over_store<K: Reopens>(walk: &Walk<'_>, conn: K::Conn, failure: Failure) -> Result<Ran> {
+// Goes through the history over a new store behind a connection.
+fn over_store<S: Alter + Drop>(
+    walk: &Walk<'_>,
+    conn: Connection<S>,
+    failure: Failure,
+) -> Result<Ran> {
     match failure {
         Failure::Statements(steps, since) => {
-            Ok(Ran::Once(statement_runs::run::<K>(walk, conn, steps, since)?))
+            Ok(Ran::Once(statement_runs::run(walk, conn, steps, since)?))
         }
-        Failure::Memory => Ok(Ran::Once(memory_runs::run_store::<K>(walk, conn)?)),
+        Failure::Memory => Ok(Ran::Once(memory_runs::run_store(walk, conn)?)),
         Failure::MemoryTwice(resend) => {
-            Ok(Ran::Each(lasting_runs::run_memory_store::<K>(walk, conn, resend)?))
+            Ok(Ran::Each(lasting_runs::run_memory_store(walk, conn, resend)?))
         }
         Failure::Call(_) | Failure::Calls(..) => {
-            over_keeper(walk, keeper_in::<K>(walk.rt.alloc(), conn)?, failure)
+            over_keeper(walk, store_in(walk.rt.alloc(), conn)?, failure)
         }
     }
 }
@@ -71,7 +74,7 @@ pub fn run_maps(walk: &Walk<'_>, failure: Failure) -> Result<Ran> {
 /// Goes through the history over a new store in memory.
 pub fn run_store(walk: &Walk<'_>, failure: Failure) -> Result<Ran> {
     let (conn, was_refused) = memory_runs::connected(walk)?;
-    match over_store::<Store<MemStore>>(walk, conn, failure)? {
+    match over_store(walk, conn, failure)? {
         Ran::Once(Met::Nothing) if was_refused => Ok(Ran::Once(Met::Opening)),
         ran => Ok(ran),
     }

@@ -1,7 +1,7 @@
 //! What a hub without trouble answers, and what all is told of it in the end.
 
-use crate::trouble::histories::{CUSTODIANS, Command, History, PROPERTIES, VOLUMES};
-use crate::trouble::resting::{Reply, Resting};
+use crate::histories::{CUSTODIANS, Command, History, PROPERTIES, VOLUMES};
+use crate::resting::{Reply, Resting};
 use anyhow::Result;
 use gaz_keeper::Inbox;
 use gaz_register::Register;

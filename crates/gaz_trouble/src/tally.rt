@@ -1,7 +1,7 @@
 //! How many runs met their trouble where.
 
-use crate::trouble::histories::History;
-use crate::trouble::walking::Stop;
+use crate::histories::History;
+use crate::walking::Stop;
 use anyhow::Result;
 use gaz_hub::Refusal;
 use std::alloc::Global;

@@ -1,9 +1,9 @@
 //! A history at a hub that may be in trouble: each answer is the right one, until one is refused.
 
-use crate::trouble::histories::{Command, History};
-use crate::trouble::refusing::Refuser;
-use crate::trouble::replies::{Wanted, calm_hub, ending, text_of};
-use crate::trouble::resting::{Reply, Resting};
+use crate::histories::{Command, History};
+use crate::refusing::Refuser;
+use crate::replies::{Wanted, calm_hub, ending, text_of};
+use crate::resting::{Reply, Resting};
 use anyhow::{Result, bail, ensure};
 use gaz_hub::{Answer, Refusal};
 use gaz_keeper::Inbox;

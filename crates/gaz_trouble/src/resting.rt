@@ -2,7 +2,7 @@
 //! these has a clause.
 ghost use Rattle.gaz_keeper.specs.Keeper.{IsNotOpen};
 
-use crate::trouble::histories::{Command, Pair};
+use crate::histories::{Command, Pair};
 use gaz_extract::{Closed, Found};
 use gaz_hub::{Answer, Digest, Hub, Outcome, Refusal, Standing};
 use gaz_ids::Uprn;

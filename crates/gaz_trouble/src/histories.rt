@@ -1,6 +1,6 @@
 //! What clients ask of a hub, one after the other.
 
-use gaz_samples::files::{
+use crate::files::{
     COUNTY_ROAD, COUNTY_ROAD_CLOSED, FLAT_2_HIGH_STREET, HIGH_STREET, NUMBER_7_COUNTY_ROAD,
     NUMBER_9_MILL_LANE, OLD_MILL, OLD_MILL_APPROVED, STREET_101, STREET_101_AGAIN,
 };

@@ -1,15 +1,12 @@
 //! A history over a store on files of which one fails.
 
-use crate::trouble::disks::{Left, Mend, mended};
-use crate::trouble::histories::Command;
-use crate::trouble::resting::Resting;
-use crate::trouble::stores::{Reopens, conn_after, conn_of, connect, have, make};
-use crate::trouble::tally::Met;
-use crate::trouble::walking::{Reached, Stop, Walk, fault_of};
+use crate::disks::{Left, Mend, mended};
+use crate::histories::Command;
+use crate::stores::{StoreHub, connect, connection_after, connection_of, have, make};
+use crate::tally::Met;
+use crate::walking::{Reached, Stop, Walk, fault_of};
 use anyhow::{Result, ensure};
-use gaz_keeper::Inbox;
-use gaz_store::Store;
-use sqlite::{FileStore, Files};
+use sqlite::{Alter, Connection, Files};
 
 /// What is left on files that failed, and after how many calls both fail once more.
 #[derive(Clone, Copy)]
@@ -46,10 +43,10 @@ enum Ended {
 }
 
 // Makes a store, and goes through the history.
-fn begin<K: Reopens>(walk: &Walk<'_>, conn: K::Conn) -> Result<(K::Conn, Ended)> {
-    let mut hub = match make::<K>(walk.rt.alloc(), conn, walk.refuser)? {
+fn begin<S: Alter + Drop>(walk: &Walk<'_>, conn: Connection<S>) -> Result<(Connection<S>, Ended)> {
+    let mut hub = match make(walk.rt.alloc(), conn, walk.refuser)? {
         Ok(hub) => hub,
-        Err(refused) => return Ok((conn_after(refused)?, Ended::Refused)),
+        Err(refused) => return Ok((connection_after(refused)?, Ended::Refused)),
     };
     let ended = match walk.goes(&mut hub, 0, usize::MAX)? {
         Some(stop) => Ended::Stopped(stop),
@@ -58,27 +55,30 @@ fn begin<K: Reopens>(walk: &Walk<'_>, conn: K::Conn) -> Result<(K::Conn, Ended)>
             Ended::Well
         }
     };
-    Ok((conn_of(hub), ended))
+    Ok((connection_of(hub), ended))
 }
 
 // A hub over the store that is there, or over a new one, with all judged that is ready.
-fn settled<K: Reopens>(walk: &Walk<'_>, conn: K::Conn) -> Result<Result<Resting<K>, K::Conn>> {
-    match have::<K>(walk.rt.alloc(), conn)? {
+fn settled<S: Alter + Drop>(
+    walk: &Walk<'_>,
+    conn: Connection<S>,
+) -> Result<Result<StoreHub<S>, Connection<S>>> {
+    match have(walk.rt.alloc(), conn)? {
         Ok(mut hub) => {
             let told = hub.reply(&Command::Status(1001));
             match fault_of(&told) {
-                Some(_) => Ok(Err(conn_of(hub))),
+                Some(_) => Ok(Err(connection_of(hub))),
                 None => Ok(Ok(hub)),
             }
         }
-        Err(refused) => Ok(Err(conn_after(refused)?)),
+        Err(refused) => Ok(Err(connection_after(refused)?)),
     }
 }
 
 // Goes on with the history, behind the answer that was refused, if one was.
-fn goes_on<K: Inbox + Drop>(
+fn goes_on<S: Alter + Drop>(
     walk: &Walk<'_>,
-    hub: &mut Resting<K>,
+    hub: &mut StoreHub<S>,
     stop: Option<Stop>,
 ) -> Result<()> {
     match stop {
@@ -94,16 +94,20 @@ fn goes_on<K: Inbox + Drop>(
 }
 
 // Takes a step over a connection.
-fn over<K: Reopens>(walk: &Walk<'_>, conn: K::Conn, step: Step) -> Result<(K::Conn, Ended)> {
+fn over<S: Alter + Drop>(
+    walk: &Walk<'_>,
+    conn: Connection<S>,
+    step: Step,
+) -> Result<(Connection<S>, Ended)> {
     if let Step::Begin = step {
-        return begin::<K>(walk, conn);
+        return begin(walk, conn);
     }
-    match settled::<K>(walk, conn)? {
+    match settled(walk, conn)? {
         Ok(mut hub) => {
             if let Step::Finish(stop) = step {
                 goes_on(walk, &mut hub, stop)?;
             }
-            Ok((conn_of(hub), Ended::Well))
+            Ok((connection_of(hub), Ended::Well))
         }
         Err(conn) => Ok((conn, Ended::Refused)),
     }
@@ -114,7 +118,7 @@ fn over<K: Reopens>(walk: &Walk<'_>, conn: K::Conn, step: Step) -> Result<(K::Co
 fn on_files<D: Mend>(walk: &Walk<'_>, files: Files<D>, step: Step) -> Result<(Files<D>, Ended)> {
     match connect(walk.rt.alloc(), files) {
         Ok(conn) => {
-            let (conn, ended) = over::<Store<FileStore<D>>>(walk, conn, step)?;
+            let (conn, ended) = over(walk, conn, step)?;
             Ok((conn.into_store().close(), ended))
         }
         Err(files) => Ok((files, Ended::Refused)),

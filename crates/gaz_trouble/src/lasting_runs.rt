@@ -1,18 +1,19 @@
 //! A history while calls of the keeper, or requests for memory, fail more than once.
+ghost use Rattle.gaz_shelf.specs.Around.{seen_around};
 ghost use Rattle.gaz_keeper.specs.Keeper.{IsNotOpen};
 
-use crate::trouble::lasting::{Resend, Trouble};
-use crate::trouble::memory_runs::made;
-use crate::trouble::replies::register;
-use crate::trouble::resting::Resting;
-use crate::trouble::stores::Reopens;
-use crate::trouble::walking::{Stop, Walk};
+use crate::lasting::{Resend, Trouble};
+use crate::memory_runs::made;
+use crate::replies::register;
+use crate::resting::Resting;
+use crate::walking::{Stop, Walk};
 use anyhow::Result;
 use gaz_keeper::Inbox;
 use gaz_shelf::Faulty;
+use sqlite::{Alter, Connection};
 
 /// How many calls fail one after the other, where they do for a while. Each is a keeper around
-/// another; more than two of them in one function cost the proof a minute.
+/// another, and twice as many cost the proof many times as much.
 const WHILE: usize = 4;
 
 /// Which calls of a keeper fail.
@@ -33,59 +34,62 @@ fn goes<K: Inbox + Drop>(walk: &Walk<'_>, keeper: K, trouble: Trouble) -> Result
     walk.outlasts(&mut hub, trouble)
 }
 
-// Goes through the history over a keeper of which the call of the first number fails, and of those
-// that come to the keeper within that of the second.
-fn goes_around<K: Inbox + Drop>(
-    walk: &Walk<'_>,
-    keeper: K,
-    first: u64,
-    second: u64,
-    trouble: Trouble,
-) -> Result<Vec<Stop>>
+// A keeper of which the call of the first number fails, and of those that come to the keeper within
+// that of the second.
+fn failing_twice<K: Inbox + Drop>(keeper: K, first: u64, second: u64) -> Faulty<Faulty<K>>
     requires { IsNotOpen (K.seen keeper).progress }
+    ensures { IsNotOpen (seen_around result).progress }
 {
-    goes(
-        walk,
-        Faulty::new(Faulty::new(keeper, second), first),
-        trouble,
-    )
+    Faulty::new(Faulty::new(keeper, second), first)
 }
 
-// The same of a keeper that is around another, twice: within it all calls fail from a number on.
+// Goes through the history over a keeper of which the call of the first number fails, and then all
+// for a while from one of the second number on.
 fn goes_awhile<K: Inbox + Drop>(
     walk: &Walk<'_>,
     keeper: K,
     first: u64,
     then: u64,
-    trouble: Trouble,
+    resend: Resend,
 ) -> Result<Vec<Stop>>
     requires { IsNotOpen (K.seen keeper).progress }
 {
-    let within = Faulty::new(Faulty::new(keeper, then), then);
-    goes_around(walk, within, first, then, trouble)
-}
-
-// Calls fail so often, and what was refused is sent again then.
-fn so_often(failures: usize, resend: Resend) -> Trouble {
-    Trouble { failures, resend }
+    let two = failing_twice(keeper, then, then);
+    let failures = WHILE;
+    goes(
+        walk,
+        failing_twice(two, first, then),
+        Trouble { failures, resend },
+    )
 }
 
 /// Goes through the history over a keeper of which these calls fail.
 pub fn run<K: Inbox + Drop>(
     walk: &Walk<'_>,
     keeper: K,
-    calls: Failing,
+    failing: Failing,
     resend: Resend,
 ) -> Result<Vec<Stop>>
     requires { IsNotOpen (K.seen keeper).progress }
 {
-    match calls {
+    match failing {
         Failing::Two(first, second) => {
-            goes_around(walk, keeper, first, second, so_often(2, resend))
+            let failures = 2;
+            goes(
+                walk,
+                failing_twice(keeper, first, second),
+                Trouble { failures, resend },
+            )
         }
-        Failing::Awhile(first, then) => {
-            goes_awhile(walk, keeper, first, then, so_often(WHILE, resend))
-        }
+        Failing::Awhile(first, then) => goes_awhile(walk, keeper, first, then, resend),
+    }
+}
+
+// What fails where two requests for memory are refused.
+fn twice(resend: Resend) -> Trouble {
+    Trouble {
+        failures: 2,
+        resend,
     }
 }
 
@@ -93,15 +97,15 @@ pub fn run<K: Inbox + Drop>(
 pub fn run_memory<K: Inbox + Drop>(walk: &Walk<'_>, keeper: K, resend: Resend) -> Result<Vec<Stop>>
     requires { IsNotOpen (K.seen keeper).progress }
 {
-    goes(walk, keeper, so_often(2, resend))
+    goes(walk, keeper, twice(resend))
 }
 
-/// Goes through the history over a new store in a database, while memory is refused twice.
-pub fn run_memory_store<K: Reopens>(
+/// Goes through the history over a new store behind a connection, while memory is refused twice.
+pub fn run_memory_store<S: Alter + Drop>(
     walk: &Walk<'_>,
-    conn: K::Conn,
+    conn: Connection<S>,
     resend: Resend,
 ) -> Result<Vec<Stop>> {
-    let (mut hub, _) = made::<K>(walk, conn)?;
-    walk.outlasts(&mut hub, so_often(2, resend))
+    let (mut hub, _) = made(walk, conn)?;
+    walk.outlasts(&mut hub, twice(resend))
 }
