@@ -97,7 +97,7 @@ fn add_view<K: Shelf>(
 /// docs/extracts.md). None where the volume isn't reached.
 ///
 /// It takes memory for itself and a page. That `Memory` isn't answered without need no clause says:
-/// `the_largest_file_is_judged_and_told` of `gaz_hub_trials` asks it of 5,000 items.
+/// `checks/large.py` asks it of 5,000 items.
 pub fn extract<K: Shelf>(
     alloc: Global,
     keeper: &mut K,

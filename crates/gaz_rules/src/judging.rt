@@ -164,8 +164,7 @@ fn conclude<K: Shelf>(
 /// keys that they touched are asked the end rules (30 to 39), in file order. The answer is the
 /// verdict that the keeper then has. After a fault, `Memory` or `Store`, the keeper's board is as
 /// it was. Whatever is answered, no judgement is in progress any more. That `Memory` isn't answered
-/// without need no clause says: `the_largest_file_is_judged_and_told` of `gaz_hub_trials` asks it
-/// of 5,000 changes.
+/// without need no clause says: `checks/large.py` asks it of 5,000 changes.
 pub fn judge<K: Shelf>(
     alloc: Global,
     keeper: &mut K,
