@@ -6,9 +6,8 @@ use Rattle.gaz_exchange.specs.declared.conversation.Served.{Served}
 use Rattle.gaz_exchange.specs.declared.conversation.Stopped.{Stopped}
 use Rattle.gaz_hub.specs.Hubs.{Runs, Steps, door_of}
 use Rattle.gaz_hub.specs.Seen.{hub_seen}
-use Rattle.gaz_hub.specs.Step.{Command, Door, Pose, Replied, Response, Settle}
+use Rattle.gaz_hub.specs.Step.{Command, Door, Response}
 use Rattle.gaz_hub.specs.declared.hub.Hub.{Hub}
-use Rattle.gaz_hub.specs.declared.refusal.Refusal.{Refusal}
 use Rattle.gaz_hub.proofs.HubRuns.{runs_one}
 use Rattle.gaz_mirrored.proofs.Filled.{over_parts}
 use Rattle.gaz_hub.specs.Waiting.{Remembered, remembering}
@@ -48,12 +47,12 @@ module _ (d : Door) (register other : RegisterValue) (waiters : Option Remembere
         answers_all = l.answers_all;
       }
 
--- a hub over a store was told to settle, when it remembered nothing
-pub settles_alone : {K : Type 0} (seen : K → Seen) (register : RegisterValue) (hub new : Hub K) (first last : K) (told : Result (Unit {0}) Refusal) → hub.register ≡ register → hub.keeper ≡ first → hub.waiters ≡ None
-    → new.keeper ≡ last → Steps (door_of hub.register) (hub_seen seen hub) (hub_seen seen new) (Pose Settle) (Replied Settle told)
-    → Runs (door_of register) (seen first) (seen last) (Pose Settle ∷ []) (Replied Settle told ∷ [])
-settles_alone seen register hub new first last told e f fresh back steps =
-    let one = runs_one (door_of hub.register) (hub_seen seen hub) (hub_seen seen new) (Pose Settle) (Replied Settle told) steps in
-    let over = over_parts seen (λ r s. Runs (door_of r) s (hub_seen seen new) (Pose Settle ∷ []) (Replied Settle told ∷ [])) hub register first e f fresh one in
-    subst (λ k. Runs (door_of register) (seen first) (seen k) (Pose Settle ∷ []) (Replied Settle told ∷ [])) back
-    (runs_alone (door_of register) register new.register new.waiters (seen first) (seen new.keeper) (Pose Settle ∷ []) (Replied Settle told ∷ []) over)
+-- a hub over a keeper made a step, when it remembered nothing
+pub steps_alone : {K : Type 0} (seen : K → Seen) (register : RegisterValue) (hub new : Hub K) (first last : K) (command : Command) (response : Response) → hub.register ≡ register → hub.keeper ≡ first
+    → hub.waiters ≡ None → new.keeper ≡ last → Steps (door_of hub.register) (hub_seen seen hub) (hub_seen seen new) command response
+    → Runs (door_of register) (seen first) (seen last) (command ∷ []) (response ∷ [])
+steps_alone seen register hub new first last command response e f fresh back steps =
+    let one = runs_one (door_of hub.register) (hub_seen seen hub) (hub_seen seen new) command response steps in
+    let over = over_parts seen (λ r s. Runs (door_of r) s (hub_seen seen new) (command ∷ []) (response ∷ [])) hub register first e f fresh one in
+    subst (λ k. Runs (door_of register) (seen first) (seen k) (command ∷ []) (response ∷ [])) back
+    (runs_alone (door_of register) register new.register new.waiters (seen first) (seen new.keeper) (command ∷ []) (response ∷ []) over)

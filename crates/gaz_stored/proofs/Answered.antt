@@ -25,9 +25,10 @@ use Rattle.gaz_exchange.specs.declared.conversation.Stopped.{Stopped}
 use Rattle.gaz_stored.specs.Answering.{AnswersNew, AnswersOpened, Converses, Settles}
 use Rattle.gaz_stored.specs.Runs.{GoesOn, StandForRun, hub_in}
 use Rattle.gaz_stored.specs.Stopping.{FindsLater}
-use Rattle.gaz_stored.proofs.Going.{begins_new, begins_opened, goes_on_new, goes_on_opened}
+use Rattle.gaz_stored.proofs.Going.{begins_new, begins_opened, goes_on_new}
 use Rattle.gaz_stored.proofs.Below.{runs_below}
-use Rattle.gaz_stored.proofs.Stopping.{finds_new, finds_opened}
+use Rattle.gaz_stored.proofs.Stopping.{finds_new}
+use Rattle.gaz_stored.proofs.Using.{uses}
 
 module _ {S : Type 0} {g : Ghosts S} (register : RegisterValue) (most : ℕ) (through : Transfer) (first : Store S g) (before after : Held S) (ended : Result Served Stopped) where
   abbrev d : Door
@@ -62,7 +63,7 @@ module _ {S : Type 0} {g : Ghosts S} (register : RegisterValue) (most : ℕ) (th
       }
 
 -- a store that stood for a partial run does after settling
-settled_stands : {S : Type 0} {g : Ghosts S} (register : RegisterValue) (old new : Store S g) (told : Result (Unit {0}) Refusal) → Settles register old new told
+pub settled_stands : {S : Type 0} {g : Ghosts S} (register : RegisterValue) (old new : Store S g) (told : Result (Unit {0}) Refusal) → Settles register old new told
     → ((seen_in old).unharmed → StandsForRun (door_of register) (seen_in old)) → (seen_in new).unharmed → StandsForRun (door_of register) (seen_in new)
 settled_stands register old new told settles was fine =
     let d = door_of register in
@@ -93,16 +94,9 @@ module _ {S : Type 0} {g : Ghosts S} (register : RegisterValue) (most : ℕ) (th
         first = first;
         settled = settled;
         told_settled = told_settled;
-        opened = opened;
-        told = told_before;
         settles = settles;
         converses = told;
-        goes_on =
-            subst (λ h. IsUnharmed (state g h) → StandForRun register (state g before).now → GoesOn register (hub_in (state g before).now) all replies (state g h).now) told.back
-            (λ fine stood. goes_on_opened register first last all replies (runs stood) fine (state g before) text opened stood);
-        stops = λ is_fine stood itself.
-            subst (λ h. FindsLater register (hub_in (state g before).now) all replies (state g h)) told.back
-            (finds_opened register first last all replies (runs stood) is_fine (state g before) text opened stood itself);
+        uses = uses register first last before after all replies opened told_before told.back runs;
       }
 
 -- the register that settling handed back is the one that was given

@@ -1,8 +1,12 @@
 mod Alone
+mod Parts
 mod Below
 mod Going
 mod Stopping
+mod Using
 mod Answered
+mod Calling
+mod Connecting
 mod Chaining
 mod Examples
 mod Serving

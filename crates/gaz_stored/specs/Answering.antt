@@ -1,36 +1,29 @@
 -- A conversation over a database, from the connection that is given to the one that is handed back.
-use Rattle.std.specs.Prelude.{◌≡◌, ℕ, [], ◌∷◌, Ok, Result}
+use Rattle.std.specs.Prelude.{◌≡◌, ℕ, [], ◌∷◌, Result}
 use Rattle.std.specs.Io.KnownBytes.{Keeps}
 use Rattle.sqlite.specs.Held.{Held, state}
 use Rattle.sqlite_trees.specs.declared.store.Store.{Ghosts}
 use Rattle.gaz_register.specs.Registers.{RegisterValue}
 use Rattle.gaz_register.specs.Texts.{register_text}
 use Rattle.gaz_tables.specs.Creating.{IsBare, no_schema}
-use Rattle.gaz_kept.specs.Opening.{Tells}
-use Rattle.gaz_store.specs.Opened.{IsMade, IsOpened, IsRefused}
+use Rattle.gaz_store.specs.Opened.{IsMade, IsRefused}
 use Rattle.gaz_store.specs.Seen.{IsUnharmed}
 use Rattle.gaz_store.specs.Store.{seen_in}
 use Rattle.gaz_store.specs.declared.store.Store.{Store}
-use Rattle.gaz_shelf.specs.Mem.{seen_in as memory}
-use Rattle.gaz_shelf.specs.declared.mem_shelf.MemShelf.{MemShelf}
 use Rattle.gaz_hub.specs.Hubs.{Runs, door_of}
 use Rattle.gaz_hub.specs.Laws.{StandsForRun}
 use Rattle.gaz_hub.specs.Runs.{Abides}
 use Rattle.gaz_hub.specs.Step.{Pose, Replied, Settle, new_hub}
 use Rattle.gaz_hub.specs.declared.refusal.Refusal.{Refusal}
 use Rattle.gaz_mirror.specs.Mirrored.{seen_mirrored}
-use Rattle.gaz_mirror.specs.declared.mirror.Mirror.{Mirror}
 use Rattle.gaz_mirrored.specs.Comparing.{OnlyReads}
 use Rattle.gaz_exchange.specs.Conversing.{Conversation, Transfer}
 use Rattle.gaz_exchange.specs.Exchanges.{commands_of, responses_of}
 use Rattle.gaz_exchange.specs.declared.conversation.Served.{Served}
 use Rattle.gaz_exchange.specs.declared.conversation.Stopped.{Stopped}
-use Rattle.gaz_stored.specs.Runs.{GoesOn, StandForRun, hub_in}
-use Rattle.gaz_stored.specs.Stopping.{FindsLater, LeavesItself}
-
--- a store, with all of it at hand or without
-abbrev pub Mirrored : {S : Type 0} → Ghosts S → Type 0
-Mirrored {S} g = Mirror (Store S g) MemShelf (record { seen = seen_in }) (record { seen = memory })
+use Rattle.gaz_stored.specs.Runs.{GoesOn, hub_in}
+use Rattle.gaz_stored.specs.Stopping.{FindsLater}
+use Rattle.gaz_stored.specs.Using.{Mirrored, Uses}
 
 -- a hub of this register answers at most so many requests over a store that is mirrored, of which
 -- this connection is left
@@ -83,27 +76,12 @@ pub record AnswersOpened {S : Type 0} (g : Ghosts S) (register : RegisterValue) 
   pub first : Store S g
   pub settled : Store S g
   pub told_settled : Result (Unit {0}) Refusal
-  pub opened : IsOpened (state g before) (state g first.tables.conn) (register_text register)
-      (seen_in first)
-  -- the only row of `meta` was of this register
-  pub told : Tells g before first.tables.conn (Ok tt) (register_text register)
   -- the hub settles first
   pub settles : Settles register first settled told_settled
   pub converses : Converses register most through settled after ended
-  -- where the tables stand for a partial run, the hub begins with that
-  pub goes_on : IsUnharmed (state g after) → StandForRun register (state g before).now
-      → GoesOn register (hub_in (state g before).now)
+  pub uses : Uses g register first before after
       (Pose Settle ∷ commands_of converses.conversation.exchanges)
       (Replied Settle told_settled ∷ responses_of converses.conversation.exchanges)
-      (state g after).now
-  -- where a stop left just these tables at the beginning and the connection is open once the store
-  -- is opened: what a stop leaves at the end
-  pub stops : IsUnharmed (state g first.tables.conn) → StandForRun register (state g before).now
-      → LeavesItself (state g before)
-      → FindsLater register (hub_in (state g before).now)
-      (Pose Settle ∷ commands_of converses.conversation.exchanges)
-      (Replied Settle told_settled ∷ responses_of converses.conversation.exchanges)
-      (state g after)
 
 -- no conversation is held: nothing is read or written, and the connection is handed back over what
 -- was there

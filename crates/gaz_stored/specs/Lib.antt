@@ -1,6 +1,9 @@
 pub mod Runs
 pub mod Chains
 pub mod Stopping
+pub mod Using
 pub mod Answering
 pub mod Examples
 pub mod Serving
+pub mod Asking
+pub mod Attending

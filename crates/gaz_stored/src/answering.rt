@@ -56,8 +56,8 @@ fn converse_over<S: Alter + Drop, R: Source, W: Sink>(
     (store.into_connection(), at_hand, ended)
 }
 
-// Judges what is ready in a store, and whether that went well.
-fn settle<S: Alter + Drop>(
+/// Judges what is ready in a store, and whether that went well.
+pub(crate) fn settle<S: Alter + Drop>(
     alloc: Global,
     register: Register,
     store: Store<S>,

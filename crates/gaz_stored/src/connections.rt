@@ -11,7 +11,7 @@ use std::net::{OpenListener, OpenStream, Shutdown};
 use std::time::Duration;
 
 /// The most requests of a connection.
-const MOST: u64 = 1_000;
+pub const MOST_REQUESTS: u64 = 1_000;
 
 /// The seconds for which a peer is waited for that sends nothing or takes nothing.
 const PATIENCE: u64 = 28;
@@ -55,7 +55,7 @@ fn hold<S: Read + Write + OpenStream + Drop, K: Inbox + Drop>(
     hub: &mut Hub<K>,
 )
     requires { IsNotOpen (K.seen hub.old.keeper).progress }
-    ensures { TalksOrRests K.seen MOST hub.old hub.new }
+    ensures { TalksOrRests K.seen MOST_REQUESTS hub.old hub.new }
 {
     let mut r = stream;
     let Ok(w) = writer_of(&r) else {
@@ -64,7 +64,7 @@ fn hold<S: Read + Write + OpenStream + Drop, K: Inbox + Drop>(
     let Ok(mut w) = BufWriter::new(alloc, w) else {
         return;
     };
-    if converse(alloc, &mut r, &mut w, hub, MOST).is_ok() {
+    if converse(alloc, &mut r, &mut w, hub, MOST_REQUESTS).is_ok() {
         part(&mut r);
     }
 }
@@ -74,7 +74,7 @@ fn serve_next<L: OpenListener, K: Inbox + Drop>(alloc: Global, listener: &L, hub
 where
     L::Stream: Read + Write + OpenStream,
     requires { IsNotOpen (K.seen hub.old.keeper).progress }
-    ensures { TalksOrRests K.seen MOST hub.old hub.new }
+    ensures { TalksOrRests K.seen MOST_REQUESTS hub.old hub.new }
 {
     if let Ok((stream, _)) = listener.accept() {
         hold(alloc, stream, hub);
@@ -87,7 +87,7 @@ where
 /// Whatever the peers do, the hub holds so many conversations at most, one after another, and makes a
 /// run of its steps: what was received stays received. A peer that sends nothing, or takes nothing,
 /// for 28 seconds is given up.
-pub fn serve_on<L: OpenListener, K: Inbox + Drop>(
+pub(crate) fn serve_on<L: OpenListener, K: Inbox + Drop>(
     alloc: Global,
     listener: &L,
     hub: &mut Hub<K>,
@@ -96,7 +96,7 @@ pub fn serve_on<L: OpenListener, K: Inbox + Drop>(
 where
     L::Stream: Read + Write + OpenStream,
     requires { IsNotOpen (K.seen hub.old.keeper).progress }
-    ensures serves { Serves K.seen MOST connections hub.old hub.new }
+    ensures serves { Serves K.seen MOST_REQUESTS connections hub.old hub.new }
     ensures register { hub.new.register ≡ hub.old.register }
 {
     for _ in 0..connections {

@@ -1,12 +1,16 @@
-//! Conversations of a hub over a store, over one that is made and over one that is opened, and those
-//! of a listener's connections over one hub.
+//! A hub over the store behind a connection: a conversation over one that is made or opened, one
+//! call, and the connections of a listener.
 #![tactic(auto)]
 
 mod answering;
+mod asking;
+mod attending;
 mod connections;
 pub mod laws;
 mod mirroring;
 
 pub use answering::{HandedBack, answer_new, answer_opened};
-pub use connections::serve_on;
+pub use asking::{Asked, ask_opened};
+pub use attending::{Attended, Unserved, serve_opened};
+pub use connections::MOST_REQUESTS;
 pub use mirroring::ReadFrom;

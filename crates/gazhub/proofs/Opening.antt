@@ -1,21 +1,23 @@
 -- Why no store was made in the files, and why there is no hub over the one that is there.
-use Rattle.std.proofs.Common.{◌≡◌, ◌≢◌, ◌↔◌, Err, Result, IsTrue, ℕ, List, inl, inr, refl, subst, sym}
+use Rattle.std.proofs.Common.{◌≡◌, ◌≢◌, ◌↔◌, Ok, Err, Result, IsTrue, IfOk, IfErr, ℕ, inl, inr, refl}
 use Rattle.sqlite.specs.Files.{file_state, over_files}
 use Rattle.sqlite.specs.Held.{Held}
 use Rattle.sqlite_disk.specs.declared.Disk as disk
 use Rattle.sqlite_disk.specs.declared.Files.{Files}
 use Rattle.sqlite_store.specs.declared.store.FileStore.{FileStore}
-use Rattle.gaz_kept.specs.Opening.{has_any}
+use Rattle.gaz_kept.specs.Opening.{Tells, has_any}
 use Rattle.gaz_kept.specs.declared.refusal.StoreRefusal.{StoreRefusal}
 use Rattle.gaz_kept.specs.declared.refusal.StoreRefusal.TheVariants.{BadSchema, OtherRegister, Fault}
 use Rattle.gaz_register.specs.Registers.{RegisterValue}
 use Rattle.gaz_register.specs.Texts.{register_text}
-use Rattle.gaz_store.specs.Opened.{IsOpened, answer_of}
-use Rattle.gaz_store.specs.Store.{seen_in}
+use Rattle.gaz_store.specs.Opened.{answer_of}
 use Rattle.gaz_store.specs.declared.store.Store.{Store}
-use Rattle.gaz_hub.specs.Seen.{RemembersNothing}
-use Rattle.gaz_hub.specs.declared.hub.Hub.{Hub}
-use Rattle.gazhub.specs.Filing.{Connects, MakesNone, OpensHub}
+use Rattle.gaz_hub.specs.Step.{Command}
+use Rattle.gaz_commands.specs.declared.said.Said.{Said}
+use Rattle.gaz_stored.specs.Asking.{Asks}
+use Rattle.gaz_stored.specs.Attending.{Attends}
+use Rattle.gaz_stored.specs.declared.attending.Unserved.{Unserved}
+use Rattle.gazhub.specs.Filing.{AsksStore, Connects, MakesNone, OpensNone, ServesStore}
 
 module _ {D : Type 0} (g : disk.Ghosts D) (files : Files D) (conn back : Held (FileStore D g)) (connects : Connects g files conn)
     (result : Result (Store (FileStore D g) over_files) (Held (FileStore D g) × StoreRefusal))
@@ -25,14 +27,19 @@ module _ {D : Type 0} (g : disk.Ghosts D) (files : Files D) (conn back : Held (F
   makes_none OtherRegister is = absurd (causes (rw is refl))
   makes_none Fault is = inl refl
 
-module _ {D : Type 0} (g : disk.Ghosts D) (files : Files D) (register : RegisterValue) (conn : Held (FileStore D g)) (connects : Connects g files conn)
-    (store : Store (FileStore D g) over_files) (hub : Hub (Store (FileStore D g) over_files)) where
-  pub opens_hub : hub.register ≡ register → hub.keeper ≡ store → RemembersNothing hub
-      → IsOpened (file_state conn) (file_state store.tables.conn) (register_text register) (seen_in store) → OpensHub g files register hub
-  opens_hub of_register keeper fresh opened = record {
-    conn = conn;
-    connects = connects;
-    of_register = of_register;
-    fresh = fresh;
-    opened = subst (λ (s : Store (FileStore D g) over_files). IsOpened (file_state conn) (file_state s.tables.conn) (register_text register) (seen_in s)) (sym keeper) opened;
-  }
+module _ {D : Type 0} (g : disk.Ghosts D) (files : Files D) (register : RegisterValue) (conn back : Held (FileStore D g)) (connects : Connects g files conn) where
+  -- why there was no hub
+  pub opens_none : {T : Type 0} (held : Result T StoreRefusal) → IfErr held (λ refusal. Tells over_files conn back (Err refusal) (register_text register)) → IfErr held (OpensNone g files register)
+  opens_none (Ok held) told = tt
+  opens_none (Err refusal) told = inr (conn, connects, (back, told))
+
+  -- what a call came to
+  pub asks_store : (call : Result Command Said) (held : Result Said StoreRefusal) → IfOk held (Asks over_files register call conn back) → IfOk held (AsksStore g files register call)
+  asks_store call (Ok said) told = record { conn = conn; connects = connects; after = back; asks = told }
+  asks_store call (Err refusal) told = tt
+
+  -- what connections came to
+  pub serves_store : (most connections : ℕ) (held : Result (Result (Unit {0}) Unserved) StoreRefusal) → IfOk held (Attends over_files register most connections conn back)
+      → IfOk held (ServesStore g files register most connections)
+  serves_store most connections (Ok how) told = record { conn = conn; connects = connects; after = back; attends = told }
+  serves_store most connections (Err refusal) told = tt

@@ -1,12 +1,19 @@
+//! Commands over the files at paths.
+ghost use Rattle.std.specs.Prelude.{◌≡◌, false, IfErr};
+ghost use Rattle.std.specs.Io.KnownBytes.{Keeps};
+ghost use Rattle.gaz_stored.specs.Attending.{is_told};
+
 use crate::files::{NoHub, announce, options, read_change_file, read_register, size_at};
-use crate::serving::{Attending, taken};
-use crate::stores::{ask_store, make_store};
+use crate::stores::{ask_store, make_store, serve_store};
 use gaz_commands::Said;
 use gaz_ledger::Seed;
 use gaz_register::Register;
 use gaz_store::StoreRefusal;
-use gaz_words::{Call, Places};
+use gaz_stored::Unserved;
+use gaz_words::{Call, Places, Serving};
 use sqlite::{Options, Unknown};
+use std::io::Write;
+use std::net::{Ipv4Addr, TcpListener};
 
 // The answer of a store, or why there is none.
 fn of_store(answer: Result<Said, StoreRefusal>) -> Result<Said, NoHub> {
@@ -58,17 +65,43 @@ pub fn ask(
     of_store(ask_store(rt.alloc(), files, options, seed, register, call, file))
 }
 
-/// Opens the store that is there, and a port for connections over it. No file is made.
-pub fn attend(
+// Whether connections were answered, or why there was no hub or no port for them.
+fn of_serving(held: Result<Result<(), Unserved>, StoreRefusal>) -> Result<bool, NoHub>
+    ensures { IfErr result (λ _. is_told held ≡ false) }
+{
+    match held {
+        Ok(Ok(())) => Ok(true),
+        Ok(Err(Unserved::Unwritten)) => Ok(false),
+        Ok(Err(Unserved::NoPort)) => Err(NoHub::NoPort),
+        Err(refusal) => Err(NoHub::Store(refusal)),
+    }
+}
+
+/// Answers connections over the store that is there, at a port of 127.0.0.1; for 0 the system chooses
+/// one. It says first where; false where that can't be written. No file is made.
+pub fn attend<W: Write>(
     rt: &HostRuntime,
     seed: Seed,
     places: Places<'_>,
-    port: u16,
-) -> Result<Attending, NoHub> {
+    serving: Serving,
+    w: &mut W,
+) -> Result<bool, NoHub>
+    ensures { IfErr result (λ _. Keeps (W.contents w.old) (W.contents w.new)) }
+{
     let (register, options) = placed(rt, places)?;
     let Ok(files) = sqlite_std_file::open(rt, places.store, Unknown) else {
         return Err(NoHub::Store(StoreRefusal::Fault));
     };
-    let hub = taken(rt.alloc(), files, options, seed, register)?;
-    Attending::at(rt, seed, hub, port)
+    let listener = TcpListener::bind(rt, (Ipv4Addr::LOCALHOST, serving.port)).ok();
+    let listener = listener.as_ref();
+    of_serving(serve_store(
+        rt.alloc(),
+        files,
+        options,
+        seed,
+        register,
+        listener,
+        w,
+        serving.connections,
+    ))
 }

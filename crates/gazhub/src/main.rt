@@ -8,7 +8,6 @@ mod files;
 mod obeying;
 mod program;
 mod sample;
-mod serving;
 mod stores;
 
 use gaz_ledger::Seed;

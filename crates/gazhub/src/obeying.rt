@@ -71,15 +71,11 @@ fn serve<W: Write>(
 ) -> Ending
     ensures { is_silent result ≡ true → Keeps (W.contents w.old) (W.contents w.new) }
 {
-    let attending = match attend(rt, seed, places, serving.port) {
-        Ok(attending) => attending,
-        Err(no_hub) => return Ending::NoHub(no_hub),
-    };
-    if attending.tell(w).is_err() {
-        return Ending::WriteFault;
+    match attend(rt, seed, places, serving, w) {
+        Ok(true) => Ending::Done,
+        Ok(false) => Ending::WriteFault,
+        Err(no_hub) => Ending::NoHub(no_hub),
     }
-    attending.serve(rt.alloc(), serving.connections);
-    Ending::Done
 }
 
 // Does what a command asks.

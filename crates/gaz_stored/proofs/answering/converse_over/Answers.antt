@@ -1,27 +1,14 @@
 -- The hub has the register and the store that it was given, and the connection is that of the store that is left.
-use Rattle.std.proofs.Common.{◌≡◌, ◌∙◌, ap, subst, sym}
-use Rattle.sqlite.specs.Held.{Held}
-use Rattle.sqlite_trees.specs.declared.store.Store.{Ghosts}
-use Rattle.gaz_register.specs.Registers.{RegisterValue}
+use Rattle.std.proofs.Common.{◌∙◌, subst}
 use Rattle.gaz_hub.specs.Hubs.{door_of}
 use Rattle.gaz_hub.specs.Laws.{StandsForRun}
 use Rattle.gaz_exchange.specs.Conversing.{Conversation, transfer}
 use Rattle.gaz_mirror.specs.Mirrored.{seen_mirrored}
 use Rattle.gaz_mirrored.specs.Comparing.{OnlyReads}
 use Rattle.gaz_store.specs.Store.{seen_in}
-use Rattle.gaz_store.specs.declared.store.Store.{Store}
-use Rattle.gaz_stored.specs.Answering.{Mirrored}
 use Rattle.gaz_stored.proofs.Alone.{alone}
+use Rattle.gaz_stored.proofs.Parts.{of_given, of_left}
 use Rattle.gaz_stored.proofs.answering.converse_over.Goals as goal
-
--- the connection that is handed back is that of the store that is left
-of_left : {S : Type 0} {g : Ghosts S} (register : RegisterValue) (last : Mirrored g) (parts : RegisterValue × Mirrored g) (store : Store S g) (after : Held S)
-    → parts ≡ (register, last) → store ≡ parts.1.lower → after ≡ store.tables.conn → last.lower.tables.conn ≡ after
-of_left {S} {g} register last parts store after same below e = sym (e ∙ ap (λ (t : Store S g). t.tables.conn) (below ∙ ap (λ (p : RegisterValue × Mirrored g). p.1.lower) same))
-
--- what is said of the store that was given is said of the hub's
-of_given : {S : Type 0} {g : Ghosts S} (register was : RegisterValue) (store first : Store S g) → was ≡ register → first ≡ store → StandsForRun (door_of register) (seen_in store) → StandsForRun (door_of was) (seen_in first)
-of_given {S} {g} register was store first e f = subst (λ (t : RegisterValue × Store S g). StandsForRun (door_of t.0) (seen_in t.1)) (λ i. (sym e i, sym f i))
 
 pub returns-clause-converses : goal.returns-clause-converses
 returns-clause-converses g c =

@@ -1,0 +1,68 @@
+-- What is said of connections over a store, from the connection that is given to the one that is handed back.
+use Rattle.std.proofs.Common.{◌≡◌, ℕ, [], ◌∷◌, refl}
+use Rattle.std.specs.Prelude.{Ok, None, Result}
+use Rattle.sqlite.specs.Held.{Held, state}
+use Rattle.sqlite_trees.specs.declared.store.Store.{Ghosts}
+use Rattle.gaz_register.specs.Registers.{RegisterValue}
+use Rattle.gaz_register.specs.Texts.{register_text}
+use Rattle.gaz_kept.specs.Opening.{Tells}
+use Rattle.gaz_store.specs.Opened.{IsOpened}
+use Rattle.gaz_store.specs.Store.{seen_in}
+use Rattle.gaz_store.specs.declared.store.Store.{Store}
+use Rattle.gaz_shelf.specs.Mem.{seen_in as memory}
+use Rattle.gaz_hub.specs.Hubs.{Runs, door_of}
+use Rattle.gaz_hub.specs.Laws.{StandsForRun}
+use Rattle.gaz_hub.specs.Seen.{hub_seen}
+use Rattle.gaz_hub.specs.Step.{Pose, Replied, Settle}
+use Rattle.gaz_hub.specs.declared.hub.Hub.{Hub}
+use Rattle.gaz_hub.specs.declared.refusal.Refusal.{Refusal}
+use Rattle.gaz_hub.proofs.HubRuns.{runs_then}
+use Rattle.gaz_mirror.specs.Mirrored.{seen_mirrored}
+use Rattle.gaz_mirrored.specs.Comparing.{OnlyReads}
+use Rattle.gaz_mirrored.proofs.Filled.{over_parts}
+use Rattle.gaz_stored.specs.Answering.{Settles}
+use Rattle.gaz_stored.specs.Attending.{ServesOpened, ServesOver}
+use Rattle.gaz_stored.specs.Serving.{Serves}
+use Rattle.gaz_stored.specs.Using.{Mirrored}
+use Rattle.gaz_stored.proofs.Alone.{runs_alone}
+use Rattle.gaz_stored.proofs.Answered.{settled_stands}
+use Rattle.gaz_stored.proofs.Below.{runs_below}
+use Rattle.gaz_stored.proofs.Going.{begins_opened}
+use Rattle.gaz_stored.proofs.Using.{uses}
+
+module _ {S : Type 0} {g : Ghosts S} (register : RegisterValue) (most connections : ℕ) where
+  -- what connections made of a hub over a mirror of a store that was settled, they made of the store
+  pub serves_over : (first settled : Store S g) (told : Result (Unit {0}) Refusal) (begun last : Hub (Mirrored g)) (after : Held S) → Settles register first settled told → begun.register ≡ register
+      → begun.waiters ≡ None → OnlyReads (seen_in settled) (seen_in begun.keeper.lower)
+      → (StandsForRun (door_of register) (seen_in settled) → (seen_mirrored begun.keeper).unharmed → StandsForRun (door_of register) (seen_mirrored begun.keeper))
+      → Serves seen_mirrored most connections begun last → last.keeper.lower.tables.conn ≡ after → ServesOver register most connections first after
+  serves_over first settled told begun last after settles same fresh reads mirrors serves back =
+      let d = door_of register in
+      let commands = serves.commands in
+      let responses = serves.responses in
+      let over = over_parts seen_mirrored (λ r s. Runs (door_of r) s (hub_seen seen_mirrored last) commands responses) begun register begun.keeper same refl fresh serves.runs in
+      let alone = runs_alone d register last.register last.waiters (seen_mirrored begun.keeper) (seen_mirrored last.keeper) commands responses over in
+      record {
+        told_settled = told;
+        begun = begun;
+        last = last;
+        serves = serves;
+        runs = λ was.
+            let below = runs_below memory d (seen_in settled) (seen_in begun.keeper.lower) (seen_in last.keeper.lower) begun.keeper.upper last.keeper.upper commands responses reads
+            (settled_stands register first settled told settles was) mirrors alone in
+            runs_then d (seen_in first) (seen_in settled) (seen_in last.keeper.lower) (Pose Settle ∷ []) commands (Replied Settle told ∷ []) responses settles below;
+        back = back;
+      }
+
+  pub serves_opened : (first : Store S g) (before after : Held S) → IsOpened (state g before) (state g first.tables.conn) (register_text register) (seen_in first)
+      → Tells g before first.tables.conn (Ok tt) (register_text register) → ServesOver register most connections first after → ServesOpened g register most connections before after
+  serves_opened first before after opened told is = record {
+    first = first;
+    told_settled = is.told_settled;
+    begun = is.begun;
+    last = is.last;
+    serves = is.serves;
+    back = is.back;
+    uses = uses register first is.last.keeper.lower before after (Pose Settle ∷ is.serves.commands) (Replied Settle is.told_settled ∷ is.serves.responses) opened told is.back
+        (λ stood. is.runs (λ fine. begins_opened register first fine (state g before) (register_text register) opened stood));
+  }

@@ -1,0 +1,35 @@
+-- What is said of a hub that was used over a store, from the connection that is given to the one that is handed back.
+use Rattle.std.proofs.Common.{◌≡◌, ◌∙◌, ℕ, List, [], ◌∷◌, ap, refl, subst, sym}
+use Rattle.std.specs.Prelude.{Option, Ok, Err, None, Result}
+use Rattle.sqlite.specs.Held.{Held, state}
+use Rattle.sqlite_trees.specs.declared.store.Store.{Ghosts}
+use Rattle.gaz_register.specs.Registers.{RegisterValue}
+use Rattle.gaz_register.specs.Texts.{register_text}
+use Rattle.gaz_kept.specs.Opening.{Tells}
+use Rattle.gaz_store.specs.Opened.{IsOpened}
+use Rattle.gaz_store.specs.Seen.{IsUnharmed}
+use Rattle.gaz_store.specs.Store.{seen_in}
+use Rattle.gaz_store.specs.declared.store.Store.{Store}
+use Rattle.gaz_hub.specs.Hubs.{Runs, door_of}
+use Rattle.gaz_hub.specs.Step.{Command, Response}
+use Rattle.gaz_stored.specs.Runs.{GoesOn, StandForRun, hub_in}
+use Rattle.gaz_stored.specs.Stopping.{FindsLater}
+use Rattle.gaz_stored.specs.Using.{Uses}
+use Rattle.gaz_stored.proofs.Going.{goes_on_opened}
+use Rattle.gaz_stored.proofs.Stopping.{finds_opened}
+
+module _ {S : Type 0} {g : Ghosts S} (register : RegisterValue) (first last : Store S g) (before after : Held S) (commands : List Command) (responses : List Response) where
+  pub uses : IsOpened (state g before) (state g first.tables.conn) (register_text register) (seen_in first) → Tells g before first.tables.conn (Ok tt) (register_text register) → last.tables.conn ≡ after
+      → (StandForRun register (state g before).now → Runs (door_of register) (seen_in first) (seen_in last) commands responses) → Uses g register first before after commands responses
+  uses opened told back runs =
+      let text = register_text register in
+      record {
+        opened = opened;
+        told = told;
+        goes_on =
+            subst (λ h. IsUnharmed (state g h) → StandForRun register (state g before).now → GoesOn register (hub_in (state g before).now) commands responses (state g h).now) back
+            (λ fine stood. goes_on_opened register first last commands responses (runs stood) fine (state g before) text opened stood);
+        stops = λ is_fine stood itself.
+            subst (λ h. FindsLater register (hub_in (state g before).now) commands responses (state g h)) back
+            (finds_opened register first last commands responses (runs stood) is_fine (state g before) text opened stood itself);
+      }

@@ -1,0 +1,63 @@
+-- Connections over the store behind a connection.
+use Rattle.std.specs.Prelude.{◌≡◌, ℕ, Bool, true, false, ◌∷◌, Result, Ok, Err}
+use Rattle.sqlite.specs.Held.{Held}
+use Rattle.sqlite_trees.specs.declared.store.Store.{Ghosts}
+use Rattle.gaz_register.specs.Registers.{RegisterValue}
+use Rattle.gaz_kept.specs.declared.refusal.StoreRefusal.{StoreRefusal}
+use Rattle.gaz_store.specs.Store.{seen_in}
+use Rattle.gaz_store.specs.declared.store.Store.{Store}
+use Rattle.gaz_hub.specs.Hubs.{Runs, door_of}
+use Rattle.gaz_hub.specs.Laws.{StandsForRun}
+use Rattle.gaz_hub.specs.Step.{Pose, Replied, Settle}
+use Rattle.gaz_hub.specs.declared.hub.Hub.{Hub}
+use Rattle.gaz_hub.specs.declared.refusal.Refusal.{Refusal}
+use Rattle.gaz_mirror.specs.Mirrored.{seen_mirrored}
+use Rattle.gaz_stored.specs.Asking.{RestsOpened}
+use Rattle.gaz_stored.specs.Serving.{Serves}
+use Rattle.gaz_stored.specs.Using.{Mirrored, Uses}
+use Rattle.gaz_stored.specs.declared.attending.Unserved.{Unserved}
+use Rattle.gaz_stored.specs.declared.attending.Unserved.TheVariants.{NoPort}
+
+-- a hub of this register over a store settled, and then held so many conversations at most with all
+-- that the store keeps at hand or without; of that store this connection is left
+pub record ServesOver {S : Type 0} {g : Ghosts S} (register : RegisterValue) (most connections : ℕ)
+    (first : Store S g) (after : Held S) : Type 0 where
+  pub told_settled : Result (Unit {0}) Refusal
+  pub begun : Hub (Mirrored g)
+  pub last : Hub (Mirrored g)
+  pub serves : Serves seen_mirrored most connections begun last
+  -- where the store stood for a partial run, that is a run of its hub
+  pub runs : ((seen_in first).unharmed → StandsForRun (door_of register) (seen_in first))
+      → Runs (door_of register) (seen_in first) (seen_in last.keeper.lower)
+      (Pose Settle ∷ serves.commands) (Replied Settle told_settled ∷ serves.responses)
+  pub back : last.keeper.lower.tables.conn ≡ after
+
+-- so did the hub over the store that is there
+pub record ServesOpened {S : Type 0} (g : Ghosts S) (register : RegisterValue)
+    (most connections : ℕ) (before after : Held S) : Type 0 where
+  pub first : Store S g
+  pub told_settled : Result (Unit {0}) Refusal
+  pub begun : Hub (Mirrored g)
+  pub last : Hub (Mirrored g)
+  pub serves : Serves seen_mirrored most connections begun last
+  pub back : last.keeper.lower.tables.conn ≡ after
+  pub uses : Uses g register first before after (Pose Settle ∷ serves.commands)
+      (Replied Settle told_settled ∷ serves.responses)
+
+-- by how it ended: where nobody was told where connections come, all stays as it is
+abbrev pub Attends : {S : Type 0} → (g : Ghosts S) → RegisterValue → ℕ → ℕ → Held S → Held S
+    → Result (Unit {0}) Unserved → Type 0
+Attends g register most connections before after (Ok served) =
+    ServesOpened g register most connections before after
+Attends g register most connections before after (Err why) = RestsOpened g register before after
+
+-- whether something was written of it
+abbrev pub is_told : Result (Result (Unit {0}) Unserved) StoreRefusal → Bool
+is_told (Ok (Err NoPort)) = false
+is_told (Ok _) = true
+is_told (Err refusal) = false
+
+-- whoever is to be served
+abbrev pub unserved : {L : Type 0} → Result L Unserved → Result (Unit {0}) Unserved
+unserved (Ok listener) = Ok tt
+unserved (Err why) = Err why

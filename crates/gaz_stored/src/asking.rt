@@ -1,0 +1,106 @@
+//! One call over the store behind a connection, which is handed back.
+ghost use Rattle.std.specs.Prelude.{◌≡◌, false, Err, IfErr, IfOk, option_map};
+ghost use Rattle.sqlite.specs.Held.{state};
+ghost use Rattle.gaz_register.specs.Texts.{register_text};
+ghost use Rattle.gaz_keeper.specs.Keeper.{IsNotOpen};
+ghost use Rattle.gaz_keeper.specs.Telling.{IsNotJudging};
+ghost use Rattle.gaz_kept.specs.Opening.{Judges, Tells, has_all};
+ghost use Rattle.gaz_store.specs.Opened.{IsRefused};
+ghost use Rattle.gaz_store.specs.Store.{seen_in};
+ghost use Rattle.gaz_commands.specs.Obeying.{Obeys};
+ghost use Rattle.gaz_stored.specs.Asking.{Asks, ObeysOrRests, asked};
+
+use gaz_commands::{Said, extract, line, status, submit};
+use gaz_hub::Hub;
+use gaz_keeper::Inbox;
+use gaz_register::Register;
+use gaz_shelf::Seed;
+use gaz_store::{Store, StoreRefusal};
+use gaz_words::Call;
+use sqlite::{Alter, Connection};
+use std::alloc::Global;
+
+/// What is left when a call was answered.
+#[derive(Drop)]
+pub struct Asked<S: Alter + Drop> {
+    /// The connection, outside a transaction.
+    pub conn: Connection<S>,
+    /// What is said, or why there was no hub to ask.
+    pub said: Result<Said, StoreRefusal>,
+}
+
+// What a hub is asked, and what is said.
+fn ask_hub<K: Inbox + Drop>(hub: &mut Hub<K>, call: Call<'_>, file: Option<&[u8]>) -> Said
+    requires { IsNotJudging K.seen hub.old.keeper }
+    ensures { Obeys K.seen (asked call.entry (option_map (λ bytes. bytes.now) file.entry))
+        hub.old hub.new result }
+{
+    match call {
+        Call::Submit { code, volume, .. } => submit(hub, code, volume, file),
+        Call::Status { code } => status(hub, code),
+        Call::Line { uprn } => line(hub, uprn),
+        Call::Extract { code, volume } => extract(hub, code, volume),
+    }
+}
+
+// Asks a hub over a store, whose connection is left.
+fn ask_over<S: Alter + Drop>(
+    alloc: Global,
+    store: Store<S>,
+    register: Register,
+    call: Call<'_>,
+    file: Option<&[u8]>,
+) -> (Connection<S>, Said)
+    requires { IsNotOpen (seen_in store).progress }
+    ensures over { result.0.in_transaction ≡ false }
+    ensures asks { ObeysOrRests register
+        (asked call.entry (option_map (λ bytes. bytes.now) file.entry)) store result.0 result.1 }
+{
+    let mut hub = Hub::new(alloc, register, store);
+    let said = ask_hub(&mut hub, call, file);
+    let (_register, store) = hub.into_parts();
+    (store.into_connection(), said)
+}
+
+/// Takes the database behind a connection outside a transaction as the store of a register, and asks
+/// a hub over it once. A submission is of these bytes, none where its file can't be read. Who picks
+/// keys is not to foresee the seed.
+///
+/// In this order: `BadSchema` where a table of a store or a column of one is missing, or the rows of
+/// `meta` aren't just one, of id 1 and number 1; `OtherRegister` where its text isn't the register's
+/// canonical one; `Fault` where memory or the database failed, so that this isn't known. Nothing is
+/// asked then, and the database holds what it held.
+pub fn ask_opened<S: Alter + Drop>(
+    alloc: Global,
+    seed: Seed,
+    conn: Connection<S>,
+    register: Register,
+    call: Call<'_>,
+    file: Option<&[u8]>,
+) -> Asked<S>
+    requires { conn.in_transaction ≡ false }
+    ensures over { result.conn.in_transaction ≡ false }
+    ensures asks { IfOk result.said (Asks S.Store register
+        (asked call.entry (option_map (λ bytes. bytes.now) file.entry)) conn result.conn) }
+    ensures lacking { has_all (state S.Store conn).now.schema ≡ false
+        → result.said ≡ Err StoreRefusal.BadSchema }
+    ensures told { IfErr result.said (λ refusal.
+        Tells S.Store conn result.conn (Err refusal) (register_text register)) }
+    ensures judged { IfErr result.said (λ refusal.
+        Judges S.Store conn result.conn (Err refusal) (register_text register)) }
+    ensures refused { IfErr result.said (λ _. IsRefused S.Store conn result.conn) }
+{
+    match Store::open(alloc, seed, conn, &register) {
+        Ok(store) => {
+            let (conn, said) = ask_over(alloc, store, register, call, file);
+            Asked {
+                conn,
+                said: Ok(said),
+            }
+        }
+        Err((conn, refusal)) => Asked {
+            conn,
+            said: Err(refusal),
+        },
+    }
+}
