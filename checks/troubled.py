@@ -1,0 +1,263 @@
+"""Histories over keepers that fail: a statement, a call of the store's files or of the keeper, or a request for memory, one moment a run.
+
+Each answer is what a plain hub in Python says, but 51 and 52, where something failed. After a 51 the hub is as before, and after a 52 the
+file is in. In the end all is sent again and asked; over a store in a file by a further process, once the trouble is over.
+"""
+
+import functools
+import itertools
+import os
+import shutil
+import subprocess
+import tempfile
+from collections import Counter
+from collections.abc import Callable, Iterator
+from concurrent.futures import ThreadPoolExecutor
+from dataclasses import dataclass
+from pathlib import Path
+
+from checks import wanting
+from checks.allowed import STOPPED, Along, Ended
+from checks.conversations import DEADLINE, replies_in
+from checks.preloading import library
+from checks.stores import SAMPLE
+from checks.three_histories import HISTORIES, QUESTIONS
+
+SOURCE = Path(__file__).resolve().parent / "failing.c"
+
+Requests = tuple[bytes, ...]
+
+CALM = 8  # so many runs one behind the other that met nothing are the last
+CUTS = (1, 2, 8, 9, 17, 40)  # blocks of 512 bytes; a page in the log takes eight and a bit
+FARTHEST = 5  # so far behind the first call or request that fails the second one is
+
+
+@dataclass(frozen=True)
+class Came:
+    """What is wrong with a run, and what it met: refusals, stops, and where there was no store."""
+
+    fault: str | None
+    met: Counter[str]
+
+
+@dataclass(frozen=True)
+class Room:
+    """The program, what is loaded before it, and a folder for runs."""
+
+    bench: Path
+    folder: Path
+    failing: Path
+    wanting: Path
+
+    def run(self, words: list[str], requests: Requests, **env: str) -> Ended:
+        """Runs the program over a stream."""
+        with tempfile.NamedTemporaryFile(dir=self.folder) as counted:
+            env |= {"FAILING_TOLD": counted.name, "WANTED": counted.name}
+            ran = subprocess.run(
+                [self.bench, *words], input=b"".join(requests), capture_output=True, timeout=DEADLINE, env=os.environ | env
+            )
+            counts = [int(it) for it in Path(counted.name).read_text().split()]
+        if "WANTING" in env:
+            failed = sum(int(it) < counts[0] for it in set(env["WANTING"].split()))
+        else:
+            failed = counts[1] if counts else 0
+        return Ended(ran.returncode, replies_in(ran.stdout), ran.stderr, failed)
+
+    def words(self, way: str, store: Path) -> list[str]:
+        return [way, str(store), str(self.folder / "register.toml")]
+
+    def files(self, store: Path, calls: str, left: str | None = None) -> dict[str, str]:
+        """An environment in which calls of a store's files fail, or stop the machine where something is said of what is left."""
+        env = {"LD_PRELOAD": str(self.failing), "FAILING_STORE": str(store), "FAILING_CALLS": calls}
+        return env | ({} if left is None else {"FAILING_SYNCED": str(store.parent), "FAILING_LEFT": left})
+
+    def memory(self, *numbers: int) -> dict[str, str]:
+        return {"LD_PRELOAD": str(self.wanting), "WANTING": " ".join(map(str, numbers))}
+
+
+def met_in(ended: Ended) -> Counter[str]:
+    met = Counter(str(it) for it in ended.refusals() if it)
+    if ended.failed and not met:
+        met["stop" if ended.status == STOPPED else "end" if ended.replies else "no store"] += 1
+    return met
+
+
+def files_of(store: Path) -> list[Path]:
+    """The database file and its log, as far as they are there."""
+    return [it for it in (store, store.with_name(f"{store.name}-wal")) if it.exists()]
+
+
+def within(room: Room, words: list[str], history: Requests, failures: int | None = None, **env: str) -> Came:
+    """A run over one hub, where so many calls fail at most; all is sent again to it and asked."""
+    requests = (*history, *history, *QUESTIONS)
+    ended = room.run(words, requests, **env)
+    if failures is not None:
+        ended = Ended(ended.status, ended.replies, ended.said, min(failures, sum(map(bool, ended.refusals()))))
+    return Came(Along().fault(requests, ended), met_in(ended))
+
+
+def in_file(room: Room, way: str, store: Path, history: Requests, **env: str) -> Came:
+    """A run over a store in a file, which is opened once more afterwards."""
+    along, ended = Along(), room.run(room.words(way, store), history, **env)
+    fault = along.fault(history, ended)
+    return Came(fault or opened_again(room, way, store, history, along), met_in(ended))
+
+
+def opened_again(room: Room, way: str, store: Path, history: Requests, along: Along) -> str | None:
+    """What is wrong with a store that is opened without trouble; where none was made, it is made then."""
+    requests = (*QUESTIONS, *history, *QUESTIONS)
+    ended = room.run(room.words(way, store), requests)
+    if ended.said == b"gaz_bench: BadSchema\n" and not along.hub.files:
+        for it in files_of(store):
+            it.unlink()
+        ended = room.run(room.words(way, store), requests)
+    return along.fault_opened(requests, ended)
+
+
+def statements(room: Room, way: str, store: Path, history: Requests, number: int) -> Came:
+    """Statements of more steps than the number are refused, from the making of the store on or from a request on."""
+    met: Counter[str] = Counter()
+    for place in range(0, len(history), 3):
+        at = Path(tempfile.mkdtemp(dir=store.parent)) / "store"
+        along = Along()
+        before, behind = history[:place], history[place:]
+        fault = place and along.fault(before, room.run(room.words(way, at), before))
+        ended = room.run([*room.words(way, at), str(number)], behind)
+        refused = sum(map(bool, ended.refusals()))
+        ended = Ended(ended.status, ended.replies, ended.said, refused or (ended.status == 3))
+        met += met_in(ended)
+        fault = fault or along.fault(behind, ended) or opened_again(room, way, at, history, along)
+        if fault:
+            return Came(f"from request {place + 1} on: {fault}", met)
+    return Came(None, met)
+
+
+def files(which: str, room: Room, way: str, store: Path, history: Requests, number: int) -> Came:
+    """Calls of these files fail once so many passed, and they are opened again as they were written."""
+    return in_file(room, way, store, history, **room.files(store, f"{which} {number}"))
+
+
+def stop(room: Room, way: str, store: Path, history: Requests, number: int, left: str = "0 0") -> Came:
+    """The machine stops once so many calls of the files passed."""
+    return in_file(room, way, store, history, **room.files(store, f"both {number}", left))
+
+
+def cut(which: str, room: Room, way: str, store: Path, history: Requests, number: int) -> Came:
+    """The same, but of what wasn't synced to a file its first blocks are there."""
+    met: Counter[str] = Counter()
+    for blocks in CUTS:
+        at = Path(tempfile.mkdtemp(dir=store.parent)) / "store"
+        came = stop(room, way, at, history, number, f"{blocks} 0" if which == "log" else f"0 {blocks}")
+        met += came.met
+        if came.fault:
+            return Came(f"{blocks} blocks: {came.fault}", met)
+    return Came(None, met)
+
+
+def twice(stride: int, room: Room, way: str, store: Path, history: Requests, number: int) -> Came:
+    """The machine stops, and once more at each call, by this stride, by which the store is opened again and closed."""
+    along, ended = Along(), room.run(room.words(way, store), history, **room.files(store, f"both {number}", "0 0"))
+    fault, met = along.fault(history, ended), met_in(ended)
+    for more in itertools.count(number % stride, stride):
+        if fault or not ended.failed:
+            return Came(fault, met)
+        at = Path(tempfile.mkdtemp(dir=store.parent)) / "store"
+        for it in files_of(store):
+            shutil.copy(it, at.with_name(it.name))
+        ended = room.run(room.words(way, at), (), **room.files(at, f"both {more}", "0 0"))
+        met += Counter(stop=ended.failed)
+        beside = Along(doubtful=[*along.doubtful])
+        beside.hub.files = along.hub.files
+        fault = opened_again(room, way, at, history, beside)
+    raise AssertionError
+
+
+def memory(room: Room, way: str, store: Path, history: Requests, number: int) -> Came:
+    """A request for memory is refused over a store in a file."""
+    return in_file(room, way, store, history, **room.memory(number))
+
+
+def memory_twice(room: Room, way: str, store: Path, history: Requests, number: int) -> Came:
+    """A request for memory is refused and one of the next, over a keeper in memory."""
+    words = ["failing", way, str(room.folder / "register.toml")]
+    return within(room, words, history, **room.memory(number, number + 1 + number % FARTHEST))
+
+
+def calls(behinds: tuple[int, ...], room: Room, way: str, store: Path, history: Requests, number: int) -> Came:
+    """The keeper's call of a number fails, and perhaps one of the next."""
+    met: Counter[str] = Counter()
+    for behind in behinds:
+        second = number + 1 + behind if behind >= 0 else 0
+        words = ["failing", way, str(room.folder / "register.toml"), str(number + 1), str(second)]
+        came = within(room, words, history, 1 + (behind >= 0))
+        met += came.met
+        if came.fault:
+            return Came(f"and {second}: {came.fault}", met)
+    return Came(None, met)
+
+
+@dataclass(frozen=True)
+class Part:
+    """What fails, over which keepers, by how much the number of a run rises, and what has to be met."""
+
+    name: str
+    run: Callable[[Room, str, Path, Requests, int], Came]
+    ways: tuple[str, ...]
+    stride: int
+    met: tuple[str, ...] = ("51", "52")
+
+
+STORES, KEEPERS = ("stored", "at-hand"), ("maps", "store")
+PARTS = (
+    Part("statements", statements, ("stored",), 1, ("51", "no store")),
+    Part("log", functools.partial(files, "log"), STORES, 1, ("51", "52", "no store")),
+    Part("file", functools.partial(files, "file"), STORES, 1, ("end", "no store")),
+    Part("both", functools.partial(files, "both"), STORES, 1, ("51", "52", "no store")),
+    Part("stop", stop, STORES, 1, ("stop",)),
+    Part("cut-log", functools.partial(cut, "log"), STORES, 5, ("stop",)),
+    Part("cut-file", functools.partial(cut, "file"), STORES, 5, ("stop",)),
+    Part("twice", functools.partial(twice, 3), STORES, 7, ("stop",)),
+    Part("memory", memory, STORES, 31, ("51", "no store")),
+    Part("memory twice", memory_twice, KEEPERS, 31),
+    Part("calls", functools.partial(calls, (-1,)), KEEPERS, 1),
+    Part("calls twice", functools.partial(calls, tuple(range(FARTHEST + 1))), KEEPERS, 11),
+)
+
+
+def rising(once: Callable[[int], Came], stride: int, workers: ThreadPoolExecutor) -> Iterator[tuple[int, Came]]:
+    """Runs of rising numbers, up to some that met nothing, or to a fault."""
+    for first in itertools.count(0, CALM * stride):
+        numbers = range(first, first + CALM * stride, stride)
+        came = list(workers.map(once, numbers))
+        yield from zip(numbers, came)
+        if any(it.fault for it in came) or not any(it.met for it in came):
+            return
+
+
+def run_part(room: Room, part: Part, workers: ThreadPoolExecutor) -> tuple[str | None, Counter[str]]:
+    """What is wrong with the first run that goes wrong, and what all runs met."""
+    met: Counter[str] = Counter()
+    for way, (name, history) in itertools.product(part.ways, HISTORIES.items()):
+
+        def once(number: int) -> Came:
+            with tempfile.TemporaryDirectory(dir=room.folder) as made:
+                return part.run(room, way, Path(made) / "store", history, number)
+
+        for number, came in rising(once, part.stride, workers):
+            met += came.met
+            met["runs"] += 1
+            if came.fault:
+                return f"{way}, {name}, number {number}: {came.fault}", met
+    lacking = [it for it in part.met if not met[it]]
+    return f"it met no {lacking[0]}" if lacking else None, met
+
+
+def run_all(bench: Path, parts: tuple[Part, ...] = PARTS) -> Iterator[tuple[str, str | None]]:
+    """Each part, and what is wrong with it."""
+    with tempfile.TemporaryDirectory(prefix="check-troubled-") as made:
+        folder = Path(made).resolve()
+        (folder / "register.toml").write_text(SAMPLE)
+        room = Room(bench, folder, library(SOURCE, folder), library(wanting.SOURCE, folder))
+        with ThreadPoolExecutor(len(os.sched_getaffinity(0))) as workers:
+            for part in parts:
+                yield part.name, run_part(room, part, workers)[0]
