@@ -4,10 +4,12 @@ Each answer is what a plain hub in Python says, but 51 and 52, where something f
 file is in. In the end all is sent again and asked; over a store in a file by a further process, once the trouble is over.
 """
 
+import contextlib
 import functools
 import itertools
 import os
 import shutil
+import socket
 import subprocess
 import tempfile
 from collections import Counter
@@ -50,12 +52,10 @@ class Room:
     wanting: Path
 
     def run(self, words: list[str], requests: Requests, **env: str) -> Ended:
-        """Runs the program over a stream."""
-        with tempfile.NamedTemporaryFile(dir=self.folder) as counted:
+        """Runs the program over a stream, of which it reads a request at a time."""
+        with sent(requests) as given, tempfile.NamedTemporaryFile(dir=self.folder) as counted:
             env |= {"FAILING_TOLD": counted.name, "WANTED": counted.name}
-            ran = subprocess.run(
-                [self.bench, *words], input=b"".join(requests), capture_output=True, timeout=DEADLINE, env=os.environ | env
-            )
+            ran = subprocess.run([self.bench, *words], stdin=given, capture_output=True, timeout=DEADLINE, env=os.environ | env)
             counts = [int(it) for it in Path(counted.name).read_text().split()]
         if "WANTING" in env:
             failed = sum(int(it) < counts[0] for it in set(env["WANTING"].split()))
@@ -73,6 +73,17 @@ class Room:
 
     def memory(self, *numbers: int) -> dict[str, str]:
         return {"LD_PRELOAD": str(self.wanting), "WANTING": " ".join(map(str, numbers))}
+
+
+@contextlib.contextmanager
+def sent(requests: Requests) -> Iterator[socket.socket]:
+    """A socket from which each read takes one request: so the replies before it are told before it is taken in hand."""
+    ours, theirs = socket.socketpair(socket.AF_UNIX, socket.SOCK_SEQPACKET)
+    with ours, theirs:
+        for it in requests:
+            ours.send(it)
+        ours.shutdown(socket.SHUT_WR)
+        yield theirs
 
 
 def met_in(ended: Ended) -> Counter[str]:
