@@ -29,6 +29,8 @@ SOURCE = Path(__file__).resolve().parent / "failing.c"
 
 Requests = tuple[bytes, ...]
 
+# No disk is waited for: what a sync leaves is for the library to say.
+QUICK = next((it for it in ("/dev/shm",) if os.access(it, os.W_OK)), None)
 CALM = 8  # so many runs one behind the other that met nothing are the last
 CUTS = (1, 2, 8, 9, 17, 40)  # blocks of 512 bytes; a page in the log takes eight and a bit
 FARTHEST = 5  # so far behind the first call or request that fails the second one is
@@ -148,17 +150,18 @@ def files(which: str, room: Room, way: str, store: Path, history: Requests, numb
     return in_file(room, way, store, history, **room.files(store, f"{which} {number}"))
 
 
-def stop(room: Room, way: str, store: Path, history: Requests, number: int, left: str = "0 0") -> Came:
+def stop(room: Room, way: str, store: Path, history: Requests, number: int) -> Came:
     """The machine stops once so many calls of the files passed."""
-    return in_file(room, way, store, history, **room.files(store, f"both {number}", left))
+    return in_file(room, way, store, history, **room.files(store, f"both {number}", "0 0"))
 
 
 def cut(which: str, room: Room, way: str, store: Path, history: Requests, number: int) -> Came:
-    """The same, but of what wasn't synced to a file its first blocks are there."""
+    """The machine stops once so many calls of this file passed, and of what wasn't synced to it its first blocks are there."""
     met: Counter[str] = Counter()
     for blocks in CUTS:
         at = Path(tempfile.mkdtemp(dir=store.parent)) / "store"
-        came = stop(room, way, at, history, number, f"{blocks} 0" if which == "log" else f"0 {blocks}")
+        left = f"{blocks} 0" if which == "log" else f"0 {blocks}"
+        came = in_file(room, way, at, history, **room.files(at, f"{which} {number}", left))
         met += came.met
         if came.fault:
             return Came(f"{blocks} blocks: {came.fault}", met)
@@ -223,12 +226,12 @@ PARTS = (
     Part("statements", statements, ("stored",), 1, ("51", "no store")),
     Part("log", functools.partial(files, "log"), STORES, 1, ("51", "52", "no store")),
     Part("file", functools.partial(files, "file"), STORES, 1, ("end", "no store")),
-    Part("both", functools.partial(files, "both"), STORES, 1, ("51", "52", "no store")),
+    Part("both", functools.partial(files, "both"), STORES, 2, ("51", "52", "no store")),
     Part("stop", stop, STORES, 1, ("stop",)),
-    Part("cut-log", functools.partial(cut, "log"), STORES, 5, ("stop",)),
-    Part("cut-file", functools.partial(cut, "file"), STORES, 5, ("stop",)),
-    Part("twice", functools.partial(twice, 3), STORES, 7, ("stop",)),
-    Part("memory", memory, STORES, 31, ("51", "no store")),
+    Part("cut-log", functools.partial(cut, "log"), STORES, 7, ("stop",)),
+    Part("cut-file", functools.partial(cut, "file"), STORES, 3, ("stop",)),
+    Part("twice", functools.partial(twice, 5), STORES, 23, ("stop",)),
+    Part("memory", memory, STORES, 61, ("51", "no store")),
     Part("memory twice", memory_twice, KEEPERS, 31),
     Part("calls", functools.partial(calls, (-1,)), KEEPERS, 1),
     Part("calls twice", functools.partial(calls, tuple(range(FARTHEST + 1))), KEEPERS, 11),
@@ -265,7 +268,7 @@ def run_part(room: Room, part: Part, workers: ThreadPoolExecutor) -> tuple[str |
 
 def run_all(bench: Path, parts: tuple[Part, ...] = PARTS) -> Iterator[tuple[str, str | None]]:
     """Each part, and what is wrong with it."""
-    with tempfile.TemporaryDirectory(prefix="check-troubled-") as made:
+    with tempfile.TemporaryDirectory(prefix="check-troubled-", dir=QUICK) as made:
         folder = Path(made).resolve()
         (folder / "register.toml").write_text(SAMPLE)
         room = Room(bench, folder, library(SOURCE, folder), library(wanting.SOURCE, folder))
