@@ -34,12 +34,14 @@ class Received(Plain):
 
 @dataclass(frozen=True)
 class Ended:
-    """How a process ended: its exit status, the replies, what stands on standard error, and how often something failed."""
+    """How a process ended: its exit status, the replies, what stands on standard error, how often something failed; and whether it
+    opens the store for each request, so that it ends where that is refused."""
 
     status: int
     replies: list[bytes]
     said: bytes
     failed: int
+    in_turn: bool = False
 
     def refusals(self) -> list[int | None]:
         return [WANTS.get(body_of(it)) for it in self.replies]
@@ -59,7 +61,7 @@ def end_fault(requests: tuple[bytes, ...], ended: Ended) -> str | None:
     if ended.status not in (0, 1, 3) or bool(ended.status) != bool(ended.said):
         return f"exit status {ended.status}, said {ended.said[:80]!r}"
     is_whole = len(ended.replies) == len(requests) or ended.replies and ends_early(ended.replies)
-    if not is_whole and not (ended.status and not ended.replies):
+    if not is_whole and not (ended.status and (ended.in_turn or not ended.replies)):
         return f"{len(ended.replies)} replies to {len(requests)} requests"
     if not ended.failed and (ended.status or not is_whole):
         return "nothing failed, and it didn't end well"

@@ -1,4 +1,4 @@
-"""Tests of `troubled` and `allowed`: that the library fails just the calls asked for and puts back what was synced, and what is found wrong."""
+"""Tests of `troubled`: that the library fails just the calls asked for and puts back what was synced, and what is found wrong."""
 
 import os
 import subprocess
@@ -10,10 +10,11 @@ from concurrent.futures import ThreadPoolExecutor
 from pathlib import Path
 
 from checks.allowed import STOPPED, Along, Ended, Received, is_few
+from checks.failing import SOURCE, framed, sent
 from checks.preloading import library
 from checks.test_wanting import LINE_51, LINE_52, reply
 from checks.three_histories import HISTORIES, QUESTIONS, outcome_of
-from checks.troubled import SOURCE, Came, rising
+from checks.troubled import Came, rising
 
 # Writes to a store's two files and to another one, and syncs in between; says which calls failed.
 WRITING = """
@@ -126,6 +127,8 @@ class Judging(unittest.TestCase):
         self.assertIsNone(self.fault({}, 1, 0, 3, b"gaz_bench: Fault\n"))
         self.assertIn("didn't end well", self.fault({}, 0, 0, 3, b"gaz_bench: Fault\n"))
         self.assertIn("exit status 3", self.fault({}, 1, 0, 3))
+        self.assertIsNone(Along().fault(FILES, Ended(3, told(FILES, {})[:5], b"gaz_bench: Fault\n", 1, True)))
+        self.assertIn("5 replies", Along().fault(FILES, Ended(0, told(FILES, {})[:5], b"", 1, True)))
         self.assertIn("exit status -11", self.fault({}, 1, 0, -11, b"said"))
 
     def test_a_stop_refuses_nothing(self):
@@ -173,6 +176,16 @@ class Judging(unittest.TestCase):
     def test_a_file_is_asked_for_by_its_own_question(self):
         for history in HISTORIES.values():
             self.assertTrue(all(outcome_of(it) in QUESTIONS for it in history if it.startswith(b"POST ")))
+
+
+class Streams(unittest.TestCase):
+    def test_each_read_takes_one_request(self):
+        with sent(FILES) as given:
+            self.assertEqual([os.read(given.fileno(), 1 << 16) for _ in range(len(FILES) + 1)], [*FILES, b""])
+
+    def test_each_request_is_a_piece(self):
+        with framed(FILES[:1]) as given:
+            self.assertEqual(given.read(), b"%d\n%s" % (len(FILES[0]), FILES[0]))
 
 
 class Rising(unittest.TestCase):

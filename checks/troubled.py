@@ -4,13 +4,10 @@ Each answer is what a plain hub in Python says, but 51 and 52, where something f
 file is in. In the end all is sent again and asked; over a store in a file by a further process, once the trouble is over.
 """
 
-import contextlib
 import functools
 import itertools
 import os
 import shutil
-import socket
-import subprocess
 import tempfile
 from collections import Counter
 from collections.abc import Callable, Iterator
@@ -20,17 +17,14 @@ from pathlib import Path
 
 from checks import wanting
 from checks.allowed import STOPPED, Along, Ended
-from checks.conversations import DEADLINE, replies_in
+from checks.failing import QUICK, SOURCE, Requests, Room, files_of
 from checks.preloading import library
 from checks.stores import SAMPLE
 from checks.three_histories import HISTORIES, QUESTIONS
 
-SOURCE = Path(__file__).resolve().parent / "failing.c"
+STORES, KEEPERS = ("stored", "at-hand"), ("maps", "store")
+IN_TURN = "stored-each"  # the store is closed and opened between two requests
 
-Requests = tuple[bytes, ...]
-
-# No disk is waited for: what a sync leaves is for the library to say.
-QUICK = next((it for it in ("/dev/shm",) if os.access(it, os.W_OK)), None)
 CALM = 8  # so many runs one behind the other that met nothing are the last
 CUTS = (1, 2, 8, 9, 17, 40)  # blocks of 512 bytes; a page in the log takes eight and a bit
 FARTHEST = 5  # so far behind the first call or request that fails the second one is
@@ -44,60 +38,11 @@ class Came:
     met: Counter[str]
 
 
-@dataclass(frozen=True)
-class Room:
-    """The program, what is loaded before it, and a folder for runs."""
-
-    bench: Path
-    folder: Path
-    failing: Path
-    wanting: Path
-
-    def run(self, words: list[str], requests: Requests, **env: str) -> Ended:
-        """Runs the program over a stream, of which it reads a request at a time."""
-        with sent(requests) as given, tempfile.NamedTemporaryFile(dir=self.folder) as counted:
-            env |= {"FAILING_TOLD": counted.name, "WANTED": counted.name}
-            ran = subprocess.run([self.bench, *words], stdin=given, capture_output=True, timeout=DEADLINE, env=os.environ | env)
-            counts = [int(it) for it in Path(counted.name).read_text().split()]
-        if "WANTING" in env:
-            failed = sum(int(it) < counts[0] for it in set(env["WANTING"].split()))
-        else:
-            failed = counts[1] if counts else 0
-        return Ended(ran.returncode, replies_in(ran.stdout), ran.stderr, failed)
-
-    def words(self, way: str, store: Path) -> list[str]:
-        return [way, str(store), str(self.folder / "register.toml")]
-
-    def files(self, store: Path, calls: str, left: str | None = None) -> dict[str, str]:
-        """An environment in which calls of a store's files fail, or stop the machine where something is said of what is left."""
-        env = {"LD_PRELOAD": str(self.failing), "FAILING_STORE": str(store), "FAILING_CALLS": calls}
-        return env | ({} if left is None else {"FAILING_SYNCED": str(store.parent), "FAILING_LEFT": left})
-
-    def memory(self, *numbers: int) -> dict[str, str]:
-        return {"LD_PRELOAD": str(self.wanting), "WANTING": " ".join(map(str, numbers))}
-
-
-@contextlib.contextmanager
-def sent(requests: Requests) -> Iterator[socket.socket]:
-    """A socket from which each read takes one request: so the replies before it are told before it is taken in hand."""
-    ours, theirs = socket.socketpair(socket.AF_UNIX, socket.SOCK_SEQPACKET)
-    with ours, theirs:
-        for it in requests:
-            ours.send(it)
-        ours.shutdown(socket.SHUT_WR)
-        yield theirs
-
-
 def met_in(ended: Ended) -> Counter[str]:
     met = Counter(str(it) for it in ended.refusals() if it)
     if ended.failed and not met:
         met["stop" if ended.status == STOPPED else "end" if ended.replies else "no store"] += 1
     return met
-
-
-def files_of(store: Path) -> list[Path]:
-    """The database file and its log, as far as they are there."""
-    return [it for it in (store, store.with_name(f"{store.name}-wal")) if it.exists()]
 
 
 def within(room: Room, words: list[str], history: Requests, failures: int | None = None, **env: str) -> Came:
@@ -119,11 +64,12 @@ def in_file(room: Room, way: str, store: Path, history: Requests, **env: str) ->
 def opened_again(room: Room, way: str, store: Path, history: Requests, along: Along) -> str | None:
     """What is wrong with a store that is opened without trouble; where none was made, it is made then."""
     requests = (*QUESTIONS, *history, *QUESTIONS)
-    ended = room.run(room.words(way, store), requests)
+    words = room.words("stored" if way == IN_TURN else way, store)
+    ended = room.run(words, requests)
     if ended.said == b"gaz_bench: BadSchema\n" and not along.hub.files:
         for it in files_of(store):
             it.unlink()
-        ended = room.run(room.words(way, store), requests)
+        ended = room.run(words, requests)
     return along.fault_opened(requests, ended)
 
 
@@ -221,14 +167,15 @@ class Part:
     met: tuple[str, ...] = ("51", "52")
 
 
-STORES, KEEPERS = ("stored", "at-hand"), ("maps", "store")
 PARTS = (
     Part("statements", statements, ("stored",), 1, ("51", "no store")),
     Part("log", functools.partial(files, "log"), STORES, 1, ("51", "52", "no store")),
     Part("file", functools.partial(files, "file"), STORES, 1, ("end", "no store")),
     Part("both", functools.partial(files, "both"), STORES, 2, ("51", "52", "no store")),
     Part("stop", stop, STORES, 1, ("stop",)),
-    Part("cut-log", functools.partial(cut, "log"), STORES, 7, ("stop",)),
+    Part("both in turn", functools.partial(files, "both"), (IN_TURN,), 11, ("51", "52", "no store", "end")),
+    Part("stop in turn", stop, (IN_TURN,), 11, ("stop",)),
+    Part("cut-log", functools.partial(cut, "log"), STORES, 9, ("stop",)),
     Part("cut-file", functools.partial(cut, "file"), STORES, 3, ("stop",)),
     Part("twice", functools.partial(twice, 5), STORES, 23, ("stop",)),
     Part("memory", memory, STORES, 61, ("51", "no store")),
