@@ -12,7 +12,7 @@ import tempfile
 from collections import Counter
 from collections.abc import Callable, Iterator
 from concurrent.futures import ThreadPoolExecutor
-from dataclasses import dataclass
+from dataclasses import dataclass, replace
 from pathlib import Path
 
 from checks import wanting
@@ -50,7 +50,7 @@ def within(room: Room, words: list[str], history: Requests, failures: int | None
     requests = (*history, *history, *QUESTIONS)
     ended = room.run(words, requests, **env)
     if failures is not None:
-        ended = Ended(ended.status, ended.replies, ended.said, min(failures, sum(map(bool, ended.refusals()))))
+        ended = replace(ended, failed=min(failures, sum(map(bool, ended.refusals()))))
     return Came(Along().fault(requests, ended), met_in(ended))
 
 
@@ -80,10 +80,9 @@ def statements(room: Room, way: str, store: Path, history: Requests, number: int
         at = Path(tempfile.mkdtemp(dir=store.parent)) / "store"
         along = Along()
         before, behind = history[:place], history[place:]
-        fault = place and along.fault(before, room.run(room.words(way, at), before))
+        fault = along.fault(before, room.run(room.words(way, at), before)) if place else None
         ended = room.run([*room.words(way, at), str(number)], behind)
-        refused = sum(map(bool, ended.refusals()))
-        ended = Ended(ended.status, ended.replies, ended.said, refused or (ended.status == 3))
+        ended = replace(ended, failed=sum(map(bool, ended.refusals())) or int(ended.status == 3))
         met += met_in(ended)
         fault = fault or along.fault(behind, ended) or opened_again(room, way, at, history, along)
         if fault:
@@ -118,9 +117,8 @@ def twice(stride: int, room: Room, way: str, store: Path, history: Requests, num
     """The machine stops, and once more at each call, by this stride, by which the store is opened again and closed."""
     along, ended = Along(), room.run(room.words(way, store), history, **room.files(store, f"both {number}", "0 0"))
     fault, met = along.fault(history, ended), met_in(ended)
-    for more in itertools.count(number % stride, stride):
-        if fault or not ended.failed:
-            return Came(fault, met)
+    more = number % stride
+    while ended.failed and not fault:
         at = Path(tempfile.mkdtemp(dir=store.parent)) / "store"
         for it in files_of(store):
             shutil.copy(it, at.with_name(it.name))
@@ -128,8 +126,10 @@ def twice(stride: int, room: Room, way: str, store: Path, history: Requests, num
         met += Counter(stop=ended.failed)
         beside = Along(doubtful=[*along.doubtful])
         beside.hub.files = along.hub.files
-        fault = opened_again(room, way, at, history, beside)
-    raise AssertionError
+        fault = None if ended.status in (0, 3, STOPPED) else f"opened: exit status {ended.status}"
+        fault = fault or opened_again(room, way, at, history, beside)
+        more += stride
+    return Came(fault, met)
 
 
 def memory(room: Room, way: str, store: Path, history: Requests, number: int) -> Came:
@@ -179,7 +179,7 @@ PARTS = (
     Part("cut-file", functools.partial(cut, "file"), STORES, 3, ("stop",)),
     Part("twice", functools.partial(twice, 5), STORES, 23, ("stop",)),
     Part("memory", memory, STORES, 61, ("51", "no store")),
-    Part("memory twice", memory_twice, KEEPERS, 31),
+    Part("memory twice", memory_twice, KEEPERS, 13),
     Part("calls", functools.partial(calls, (-1,)), KEEPERS, 1),
     Part("calls twice", functools.partial(calls, tuple(range(FARTHEST + 1))), KEEPERS, 11),
 )
