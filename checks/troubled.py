@@ -215,10 +215,10 @@ def run_part(room: Room, part: Part, workers: ThreadPoolExecutor) -> tuple[str |
 
 def run_all(bench: Path, parts: tuple[Part, ...] = PARTS) -> Iterator[tuple[str, str | None]]:
     """Each part, and what is wrong with it."""
-    with tempfile.TemporaryDirectory(prefix="check-troubled-", dir=QUICK) as made:
-        folder = Path(made).resolve()
+    with tempfile.TemporaryDirectory(prefix="check-troubled-", dir=QUICK) as made, tempfile.TemporaryDirectory() as built:
+        folder, libraries = Path(made).resolve(), Path(built)  # (from a folder in memory none may be loaded)
         (folder / "register.toml").write_text(SAMPLE)
-        room = Room(bench, folder, library(SOURCE, folder), library(wanting.SOURCE, folder))
+        room = Room(bench, folder, library(SOURCE, libraries), library(wanting.SOURCE, libraries))
         with ThreadPoolExecutor(len(os.sched_getaffinity(0))) as workers:
             for part in parts:
                 yield part.name, run_part(room, part, workers)[0]

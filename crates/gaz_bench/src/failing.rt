@@ -1,9 +1,10 @@
 //! A hub over a keeper of which calls fail.
-ghost use Rattle.std.specs.Prelude.{◌≡◌, false, IfOk, OnOk};
+ghost use Rattle.std.specs.Prelude.{IfOk};
 ghost use Rattle.gaz_shelf.specs.Around.{seen_around};
 ghost use Rattle.gaz_keeper.specs.Keeper.{IsNotOpen};
 ghost use Rattle.gaz_store.specs.Store.{seen_in};
 
+use crate::stored::rests;
 use anyhow::{Result, bail, ensure};
 use gaz_exchange::converse;
 use gaz_hub::Hub;
@@ -58,14 +59,6 @@ fn answer_failing<K: Inbox + Drop>(
     requires { IsNotOpen (K.seen keeper).progress }
 {
     answer(rt, register, failing_twice(keeper, calls))
-}
-
-// The connection is in no transaction.
-fn rests<S: Alter>(conn: &Connection<S>) -> Result<()>
-    ensures { OnOk result (conn.now.in_transaction ≡ false) }
-{
-    ensure!(conn.is_autocommit(), "a transaction is open");
-    Ok(())
 }
 
 // A new store behind a connection.
