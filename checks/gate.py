@@ -10,7 +10,7 @@ import threading
 from dataclasses import dataclass, field
 from pathlib import Path
 
-from checks import kit, measure, outside, pages, preloading, stores, trouble, trying
+from checks import kit, measure, outside, pages, stores, trying
 
 SAYING = threading.Lock()
 
@@ -125,20 +125,6 @@ def keep(room: Path, root: Path, account: Account) -> None:
     account.rest += measure.spent() - before
 
 
-def run_trouble(room: Path, root: Path, account: Account) -> None:
-    """Histories over keepers that fail."""
-    program = stores.built(room, "gaz_trouble")
-    if not program.is_file():
-        return tell("gaz_trouble", "isn't built", account)
-    try:
-        ran, seconds = trouble.run_all(program)
-    except preloading.NoLibrary as why:
-        ran, seconds = [("memory", f"the library can't be built: {why}")], 0.0
-    account.rest += seconds
-    for name, fault in ran:
-        tell(f"gaz_trouble {name}", fault, account)
-
-
 def try_edits(crates: list, begin, account: Account) -> None:
     """Tries the edits of these crates side by side. `begin` fills a crate's folder of kept work, or leaves it empty."""
     rt = kit.load()
@@ -193,7 +179,6 @@ def whole(root: Path) -> int:
         crates = kit.crates(room)
         converse(room, root, account)
         keep(room, root, account)
-        run_trouble(room, root, account)
         try_edits(with_edits_of(root, [it for it in crates if it.name in proved]), lambda crate, kept: None, account)
     return close([it.name for it in crates], account, clock)
 
@@ -243,7 +228,6 @@ def some(root: Path, names: list[str], edits_alone: bool) -> int:
     for name, needs, run in (
         ("gazhub", ("gazhub",), converse),
         ("gaz_bench", ("gazhub", "gaz_bench"), keep),
-        ("gaz_trouble", ("gaz_trouble",), run_trouble),
     ):
         if not edits_alone and name in names:
             for program in needs:

@@ -23,6 +23,7 @@ from checks import (
     steps,
     stored,
     tour,
+    troubled,
     wanting,
     words,
 )
@@ -56,7 +57,7 @@ def of_program(program: Path, root: Path) -> Iterator[Case]:
 
 def of_stores(root: Path, room: Path) -> Iterator[Case]:
     """Of stores in files: the conversations over them, other people's SQLite, damage, rows as they are written, what they cost, rings;
-    and memory that is wanting."""
+    memory that is wanting, and histories over stores and keepers that fail."""
     yield from held(stored.run_all(root, room))
     yield from held(in_turn.run_all(root, room))
     yield from named("a store", foreign.run_all(root, room))
@@ -67,3 +68,4 @@ def of_stores(root: Path, room: Path) -> Iterator[Case]:
     yield from held(rings.run_all(room))
     yield from named("breaking:", breaking.stay_all(root, room))
     yield from named("wanting memory:", wanting.run_all(built(room, "gazhub"), built(room, "gaz_bench")))
+    yield from named("trouble:", troubled.run_all(built(room, "gaz_bench")))

@@ -1,5 +1,5 @@
-// Refuses one request for memory of the program beside which it is loaded (LD_PRELOAD): that of the
-// number WANTING, from 0. At the end it writes, to the file WANTED, how many requests there were.
+// Refuses one request for memory, or two, of the program beside which it is loaded (LD_PRELOAD): those
+// of the numbers in WANTING, from 0. At the end it writes, to the file WANTED, how many requests there were.
 typedef unsigned long size;
 
 extern void *__libc_malloc(size);
@@ -10,19 +10,25 @@ extern long write(int, const void *, size);
 
 static const int WRITE_ANEW = 01 | 0100 | 01000;
 
-static size came, refused = ~0ul;
+static size came, first = ~0ul, second = ~0ul;
 static int is_known;
+
+static const char *read_number(const char *text, size *into) {
+    if (*text < '0' || *text > '9') return text;
+    for (*into = 0; *text >= '0' && *text <= '9'; text++) *into = *into * 10 + (size)(*text - '0');
+    return *text == ' ' ? text + 1 : text;
+}
 
 static void know(void) {
     const char *text = getenv("WANTING");
     is_known = 1;
-    if (!text) return;
-    for (refused = 0; *text >= '0' && *text <= '9'; text++) refused = refused * 10 + (size)(*text - '0');
+    if (text) read_number(read_number(text, &first), &second);
 }
 
 static int refuses(void) {
     if (!is_known) know();
-    return came++ == refused;
+    size number = came++;
+    return number == first || number == second;
 }
 
 void *malloc(size wanted) { return refuses() ? 0 : __libc_malloc(wanted); }

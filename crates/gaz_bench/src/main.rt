@@ -17,10 +17,14 @@
 //! `gaz_bench replies REQUESTS REPLIES` learns the replies to requests, which are in two files, and answers the requests on standard input, each by
 //! the reply that it learned for its target and body.
 //! `gaz_bench play REGISTER` answers the requests on standard input at a hub of the register in a file, over a keeper in memory.
+//! `gaz_bench failing maps REGISTER FIRST SECOND` does as `play`, but the keeper's call of the number FIRST fails, from 1, and of the calls that
+//! come to the keeper within that which fails so, the one of the number SECOND; 0, or no word, is none. `gaz_bench failing store ..` does so over a
+//! store in memory.
 //! `gaz_bench IDENTIFIER FILE ROUNDS` takes a record identifier and a file of rows of that kind, which begin behind the order field. It prints a
 //! line with the least time in nanoseconds of reading all items and that of writing all rows, and then the rows.
 #![tactic(auto)]
 
+mod failing;
 mod floor;
 mod judging;
 mod keeping;
@@ -30,6 +34,7 @@ mod replying;
 mod stored;
 
 use anyhow::{Context, Result, ensure};
+use failing::{Failing, answer_over};
 use gaz_changefile::{FileFault, read_file};
 use gaz_ids::{Code, Volume};
 use gaz_records::Kind;
@@ -210,6 +215,15 @@ fn main(rt: HostRuntime) -> Result<ExitCode> {
         }
         ("at-hand", Some(register)) => stored(&rt, &given, register, None, ReadFrom::Memory)?,
         ("stored-each", Some(register)) => stored_each(&rt, &given, register)?,
+        ("failing", Some(register)) => {
+            let (first, second) = (number_in(words.next())?, number_in(words.next())?);
+            let calls = Failing {
+                first: first.unwrap_or(0),
+                second: second.unwrap_or(0),
+            };
+            answer_over(&rt, &given, register, calls)?;
+            None
+        }
         ("floor" | "volumes", Some(count)) => {
             print_floor(&rt, &word, &given, count, words.next())?;
             None

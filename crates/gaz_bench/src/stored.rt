@@ -30,7 +30,7 @@ enum Beginning {
 }
 
 /// The connection is in no transaction, or an error.
-fn rests<S: Alter>(conn: &Connection<S>) -> Result<()>
+pub fn rests<S: Alter>(conn: &Connection<S>) -> Result<()>
     ensures { OnOk result (conn.now.in_transaction ≡ false) }
 {
     ensure!(conn.is_autocommit(), "a transaction is open");

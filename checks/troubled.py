@@ -1,0 +1,224 @@
+"""Histories over keepers that fail: a statement, a call of the store's files or of the keeper, or a request for memory, one moment a run.
+
+Each answer is what a plain hub in Python says, but 51 and 52, where something failed. After a 51 the hub is as before, and after a 52 the
+file is in. In the end all is sent again and asked; over a store in a file by a further process, once the trouble is over.
+"""
+
+import functools
+import itertools
+import os
+import shutil
+import tempfile
+from collections import Counter
+from collections.abc import Callable, Iterator
+from concurrent.futures import ThreadPoolExecutor
+from dataclasses import dataclass, replace
+from pathlib import Path
+
+from checks import wanting
+from checks.allowed import STOPPED, Along, Ended
+from checks.failing import QUICK, SOURCE, Requests, Room, files_of
+from checks.preloading import library
+from checks.stores import SAMPLE
+from checks.three_histories import HISTORIES, QUESTIONS
+
+STORES, KEEPERS = ("stored", "at-hand"), ("maps", "store")
+IN_TURN = "stored-each"  # the store is closed and opened between two requests
+
+CALM = 8  # so many runs one behind the other that met nothing are the last
+CUTS = (1, 2, 8, 9, 17, 40)  # blocks of 512 bytes; a page in the log takes eight and a bit
+FARTHEST = 5  # so far behind the first call or request that fails the second one is
+
+
+@dataclass(frozen=True)
+class Came:
+    """What is wrong with a run, and what it met: refusals, stops, and where there was no store."""
+
+    fault: str | None
+    met: Counter[str]
+
+
+def met_in(ended: Ended) -> Counter[str]:
+    met = Counter(str(it) for it in ended.refusals() if it)
+    if ended.failed and not met:
+        met["stop" if ended.status == STOPPED else "end" if ended.replies else "no store"] += 1
+    return met
+
+
+def within(room: Room, words: list[str], history: Requests, failures: int | None = None, **env: str) -> Came:
+    """A run over one hub, where so many calls fail at most; all is sent again to it and asked."""
+    requests = (*history, *history, *QUESTIONS)
+    ended = room.run(words, requests, **env)
+    if failures is not None:
+        ended = replace(ended, failed=min(failures, sum(map(bool, ended.refusals()))))
+    return Came(Along().fault(requests, ended), met_in(ended))
+
+
+def in_file(room: Room, way: str, store: Path, history: Requests, **env: str) -> Came:
+    """A run over a store in a file, which is opened once more afterwards."""
+    along, ended = Along(), room.run(room.words(way, store), history, **env)
+    fault = along.fault(history, ended)
+    return Came(fault or opened_again(room, way, store, history, along), met_in(ended))
+
+
+def opened_again(room: Room, way: str, store: Path, history: Requests, along: Along) -> str | None:
+    """What is wrong with a store that is opened without trouble; where none was made, it is made then."""
+    requests = (*QUESTIONS, *history, *QUESTIONS)
+    words = room.words("stored" if way == IN_TURN else way, store)
+    ended = room.run(words, requests)
+    if ended.said == b"gaz_bench: BadSchema\n" and not along.hub.files:
+        for it in files_of(store):
+            it.unlink()
+        ended = room.run(words, requests)
+    return along.fault_opened(requests, ended)
+
+
+def statements(room: Room, way: str, store: Path, history: Requests, number: int) -> Came:
+    """Statements of more steps than the number are refused, from the making of the store on or from a request on."""
+    met: Counter[str] = Counter()
+    for place in range(0, len(history), 3):
+        at = Path(tempfile.mkdtemp(dir=store.parent)) / "store"
+        along = Along()
+        before, behind = history[:place], history[place:]
+        fault = along.fault(before, room.run(room.words(way, at), before)) if place else None
+        ended = room.run([*room.words(way, at), str(number)], behind)
+        ended = replace(ended, failed=sum(map(bool, ended.refusals())) or int(ended.status == 3))
+        met += met_in(ended)
+        fault = fault or along.fault(behind, ended) or opened_again(room, way, at, history, along)
+        if fault:
+            return Came(f"from request {place + 1} on: {fault}", met)
+    return Came(None, met)
+
+
+def files(which: str, room: Room, way: str, store: Path, history: Requests, number: int) -> Came:
+    """Calls of these files fail once so many passed, and they are opened again as they were written."""
+    return in_file(room, way, store, history, **room.files(store, f"{which} {number}"))
+
+
+def stop(room: Room, way: str, store: Path, history: Requests, number: int) -> Came:
+    """The machine stops once so many calls of the files passed."""
+    return in_file(room, way, store, history, **room.files(store, f"both {number}", "0 0"))
+
+
+def cut(which: str, room: Room, way: str, store: Path, history: Requests, number: int) -> Came:
+    """The machine stops once so many calls of this file passed, and of what wasn't synced to it its first blocks are there."""
+    met: Counter[str] = Counter()
+    for blocks in CUTS:
+        at = Path(tempfile.mkdtemp(dir=store.parent)) / "store"
+        left = f"{blocks} 0" if which == "log" else f"0 {blocks}"
+        came = in_file(room, way, at, history, **room.files(at, f"{which} {number}", left))
+        met += came.met
+        if came.fault:
+            return Came(f"{blocks} blocks: {came.fault}", met)
+    return Came(None, met)
+
+
+def twice(stride: int, room: Room, way: str, store: Path, history: Requests, number: int) -> Came:
+    """The machine stops, and once more at each call, by this stride, by which the store is opened again and closed."""
+    along, ended = Along(), room.run(room.words(way, store), history, **room.files(store, f"both {number}", "0 0"))
+    fault, met = along.fault(history, ended), met_in(ended)
+    more = number % stride
+    while ended.failed and not fault:
+        at = Path(tempfile.mkdtemp(dir=store.parent)) / "store"
+        for it in files_of(store):
+            shutil.copy(it, at.with_name(it.name))
+        ended = room.run(room.words(way, at), (), **room.files(at, f"both {more}", "0 0"))
+        met += Counter(stop=ended.failed)
+        beside = Along(doubtful=[*along.doubtful])
+        beside.hub.files = along.hub.files
+        fault = None if ended.status in (0, 3, STOPPED) else f"opened: exit status {ended.status}"
+        fault = fault or opened_again(room, way, at, history, beside)
+        more += stride
+    return Came(fault, met)
+
+
+def memory(room: Room, way: str, store: Path, history: Requests, number: int) -> Came:
+    """A request for memory is refused over a store in a file."""
+    return in_file(room, way, store, history, **room.memory(number))
+
+
+def memory_twice(room: Room, way: str, store: Path, history: Requests, number: int) -> Came:
+    """A request for memory is refused and one of the next, over a keeper in memory."""
+    words = ["failing", way, str(room.folder / "register.toml")]
+    return within(room, words, history, **room.memory(number, number + 1 + number % FARTHEST))
+
+
+def calls(behinds: tuple[int, ...], room: Room, way: str, store: Path, history: Requests, number: int) -> Came:
+    """The keeper's call of a number fails, and perhaps one of the next."""
+    met: Counter[str] = Counter()
+    for behind in behinds:
+        second = number + 1 + behind if behind >= 0 else 0
+        words = ["failing", way, str(room.folder / "register.toml"), str(number + 1), str(second)]
+        came = within(room, words, history, 1 + (behind >= 0))
+        met += came.met
+        if came.fault:
+            return Came(f"and {second}: {came.fault}", met)
+    return Came(None, met)
+
+
+@dataclass(frozen=True)
+class Part:
+    """What fails, over which keepers, by how much the number of a run rises, and what has to be met."""
+
+    name: str
+    run: Callable[[Room, str, Path, Requests, int], Came]
+    ways: tuple[str, ...]
+    stride: int
+    met: tuple[str, ...] = ("51", "52")
+
+
+PARTS = (
+    Part("statements", statements, ("stored",), 1, ("51", "no store")),
+    Part("log", functools.partial(files, "log"), STORES, 1, ("51", "52", "no store")),
+    Part("file", functools.partial(files, "file"), STORES, 1, ("end", "no store")),
+    Part("both", functools.partial(files, "both"), STORES, 2, ("51", "52", "no store")),
+    Part("stop", stop, STORES, 1, ("stop",)),
+    Part("both in turn", functools.partial(files, "both"), (IN_TURN,), 11, ("51", "52", "no store", "end")),
+    Part("stop in turn", stop, (IN_TURN,), 11, ("stop",)),
+    Part("cut-log", functools.partial(cut, "log"), STORES, 9, ("stop",)),
+    Part("cut-file", functools.partial(cut, "file"), STORES, 4, ("stop",)),
+    Part("twice", functools.partial(twice, 5), STORES, 29, ("stop",)),
+    Part("memory", memory, STORES, 61, ("51", "no store")),
+    Part("memory twice", memory_twice, KEEPERS, 13),
+    Part("calls", functools.partial(calls, (-1,)), KEEPERS, 1),
+    Part("calls twice", functools.partial(calls, tuple(range(FARTHEST + 1))), KEEPERS, 11),
+)
+
+
+def rising(once: Callable[[int], Came], stride: int, workers: ThreadPoolExecutor) -> Iterator[tuple[int, Came]]:
+    """Runs of rising numbers, up to some that met nothing, or to a fault."""
+    for first in itertools.count(0, CALM * stride):
+        numbers = range(first, first + CALM * stride, stride)
+        came = list(workers.map(once, numbers))
+        yield from zip(numbers, came)
+        if any(it.fault for it in came) or not any(it.met for it in came):
+            return
+
+
+def run_part(room: Room, part: Part, workers: ThreadPoolExecutor) -> tuple[str | None, Counter[str]]:
+    """What is wrong with the first run that goes wrong, and what all runs met."""
+    met: Counter[str] = Counter()
+    for way, (name, history) in itertools.product(part.ways, HISTORIES.items()):
+
+        def once(number: int) -> Came:
+            with tempfile.TemporaryDirectory(dir=room.folder) as made:
+                return part.run(room, way, Path(made) / "store", history, number)
+
+        for number, came in rising(once, part.stride, workers):
+            met += came.met
+            met["runs"] += 1
+            if came.fault:
+                return f"{way}, {name}, number {number}: {came.fault}", met
+    lacking = [it for it in part.met if not met[it]]
+    return f"it met no {lacking[0]}" if lacking else None, met
+
+
+def run_all(bench: Path, parts: tuple[Part, ...] = PARTS) -> Iterator[tuple[str, str | None]]:
+    """Each part, and what is wrong with it."""
+    with tempfile.TemporaryDirectory(prefix="check-troubled-", dir=QUICK) as made, tempfile.TemporaryDirectory() as built:
+        folder, libraries = Path(made).resolve(), Path(built)  # (from a folder in memory none may be loaded)
+        (folder / "register.toml").write_text(SAMPLE)
+        room = Room(bench, folder, library(SOURCE, libraries), library(wanting.SOURCE, libraries))
+        with ThreadPoolExecutor(len(os.sched_getaffinity(0))) as workers:
+            for part in parts:
+                yield part.name, run_part(room, part, workers)[0]
