@@ -1,5 +1,5 @@
 -- The hub has the register and the store that it was given, and the connection is that of the store that is left.
-use Rattle.std.proofs.Common.{◌∙◌, ap, sym}
+use Rattle.std.proofs.Common.{ap, sym}
 use Rattle.gaz_stored.proofs.Calling.{obeys_or_rests}
 use Rattle.gaz_stored.proofs.asking.ask_over.Goals as goal
 
