@@ -4,7 +4,7 @@ import tempfile
 import unittest
 from pathlib import Path
 
-from checks.tour import PAGE, Shown, run_all, shown_in
+from checks.tour import FILES, PAGES, Shown, run_all, shown_in
 
 TEXT = """# A page
 
@@ -34,11 +34,13 @@ class Touring(unittest.TestCase):
             root, path = Path(made), Path(made) / "program"
             path.write_text(program)
             path.chmod(0o755)
-            (root / PAGE).parent.mkdir(parents=True)
-            (root / PAGE).write_text(text)
+            (root / FILES).mkdir(parents=True)
+            for page in PAGES:
+                (root / page).write_text(text)
             faults = [fault for _, fault in run_all(path, root)]
-            self.assertEqual([Path(PAGE).name], [it.name for it in (root / PAGE).parent.iterdir()])
-            return faults
+            self.assertEqual([Path(PAGES[0]).name], [it.name for it in (root / FILES).iterdir()])
+            self.assertEqual(faults[: len(faults) // 2], faults[len(faults) // 2 :])  # (the pages are the same)
+            return faults[: len(faults) // 2]
 
     def test_commands_are_read_off_the_page(self) -> None:
         self.assertEqual(

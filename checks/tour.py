@@ -1,4 +1,4 @@
-"""The tour by commands: each command of its page, what it prints and how it ends, in the order in which they stand there."""
+"""Pages of commands, the tour and how a hub is operated: each command, what it prints and how it ends, in the order in which they stand there."""
 
 import contextlib
 import re
@@ -13,7 +13,8 @@ from pathlib import Path
 
 from checks.conversations import DEADLINE, difference
 
-PAGE = "docs/tour/commands.md"
+PAGES = ("docs/tour/commands.md", "docs/operating.md")
+FILES = "docs/tour"  # in a copy of this folder the commands of each page run
 
 
 @dataclass(frozen=True)
@@ -71,11 +72,16 @@ def fault_of(program: Path, folder: Path, shown: Shown) -> str | None:
     return "; ".join(fault for fault in faults if fault) or None
 
 
-def run_all(program: Path, root: Path) -> Iterator[tuple[str, str | None]]:
-    """Each command of the tour, in a copy of its folder, and what is wrong with it."""
-    page = root / PAGE
+def run_page(program: Path, root: Path, page: Path) -> Iterator[tuple[str, str | None]]:
+    """Each command of a page, in a copy of the tour's folder, and what is wrong with it."""
     with tempfile.TemporaryDirectory(prefix="check-tour-") as made:
         folder = Path(made) / "tour"
-        shutil.copytree(page.parent, folder)
+        shutil.copytree(root / FILES, folder)
         for at, shown in enumerate(shown_in(page.read_text()), 1):
-            yield f"command {at}, {shown.command}", fault_of(program.resolve(), folder, shown)
+            yield f"{page.stem} {at}, {shown.command}", fault_of(program.resolve(), folder, shown)
+
+
+def run_all(program: Path, root: Path) -> Iterator[tuple[str, str | None]]:
+    """Each command of each page, and what is wrong with it."""
+    for page in PAGES:
+        yield from run_page(program, root, root / page)
