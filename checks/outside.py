@@ -50,7 +50,7 @@ def of_program(program: Path, root: Path) -> Iterator[Case]:
     yield from named("gazhub", words.run_all(program))
     yield from named("a register:", registers.run_all(program))
     yield from named("commands:", sessions.run_all(program))
-    yield from named("tour,", tour.run_all(program, root))
+    yield from named("page", tour.run_all(program, root))
     yield from named("opening", opening.run_all(program))
     yield from named("serving:", serving.run_all(program, (*serving.CASES, killing.killed_while_files_come)))
 
