@@ -1,4 +1,7 @@
-"""Streams that break: a reader or a writer that fails at a byte, gives or takes pieces of one byte, is interrupted, or takes nothing."""
+"""Streams that break: a reader or a writer that fails at a byte, gives or takes pieces of one byte, is interrupted, or takes nothing.
+
+Whatever breaks, the input is read at most once for each byte, and once more.
+"""
 
 import errno
 import os
@@ -22,10 +25,11 @@ EVER = 1 << 40  # calls: more than any program makes
 
 STRIDE = 11  # bytes: so far from each other is what isn't tried at each of them
 
-STREAM = "docs/tour/3-a-held-file"
+STREAM = "conversations/a-volume-that-fills-a-gap-frees-what-waits"
 BLANK = b"\r\n\r\n"  # no request, behind the last one
 
-QUESTIONS = b"".join(map(get, ("/custodians/1001", "/custodians/1002", "/custodians/1001/volumes/1", "/custodians/1002/volumes/1")))
+ASKED = ("/custodians/1001", *(f"/custodians/1001/volumes/{volume}" for volume in (1, 2, 3)), "/uprn/42")
+QUESTIONS = b"".join(map(get, ASKED))
 
 
 @dataclass(frozen=True)
@@ -80,8 +84,8 @@ class Stream:
         return next((k for k, told in enumerate(self.told) if len(told) > written), len(self.told) - 1)
 
 
-def tour(root: Path) -> Stream:
-    """The conversation of the tour in which files are sent and asked for."""
+def worked(root: Path) -> Stream:
+    """The conversation that is broken, as one stream."""
     return Stream(*((root / f"{STREAM}{suffix}").read_bytes() for suffix in (".http", ".replies")))
 
 
@@ -180,7 +184,7 @@ def first_fault(program: Path, preloaded: Path, runs: Iterator[Broken]) -> str |
 
 def run_all(program: Path, root: Path) -> Iterator[tuple[str, str | None]]:
     """Each kind of runs, and the first in which something is wrong."""
-    stream = tour(root)
+    stream = worked(root)
     with tempfile.TemporaryDirectory(prefix="check-breaking-") as made:
         preloaded = library(SOURCE, Path(made))
         for name, runs in KINDS:
@@ -198,7 +202,7 @@ def stays(hubs: Hubs, preloaded: Path, folder: Path, stream: Stream, at: int) ->
 
 def stay_all(root: Path, room: Path, stride: int = 29) -> Iterator[tuple[str, str | None]]:
     """What was received stays received where the writer fails at a byte, and where at none."""
-    stream = tour(root)
+    stream = worked(root)
     with hubs_of(room) as (hubs, folder):
         preloaded = library(SOURCE, folder)
         for at in (*range(0, len(stream.replies), stride), len(stream.replies)):

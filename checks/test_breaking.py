@@ -6,7 +6,7 @@ import tempfile
 import unittest
 from pathlib import Path
 
-from checks.breaking import EVER, SOURCE, Broken, Side, Stream, breaks, calm, fault_of, prefixes, readers, stays, tour, writers
+from checks.breaking import EVER, SOURCE, Broken, Side, Stream, breaks, calm, fault_of, prefixes, readers, stays, worked, writers
 from checks.preloading import library
 from checks.runs import CUT_OFF, GET, READ_FAULT, REPLY, WRITE_FAULT
 from checks.stores import Hubs
@@ -130,6 +130,13 @@ class Running(unittest.TestCase):
         interrupted = Broken("", GET, Side(), Side(at=9, error=errno.EINTR, times=1), 0, b"", REPLY, REPLY)
         self.assertIn("exit status 3, wanted 0", self.faults(RIGHT.replace(f"!= {errno.EINTR}", "!= 0"), [interrupted])[0])
 
+    def test_a_program_that_polls_its_input_is_reported(self) -> None:
+        once = "    n = libc.read(0, room, 4096)\n"
+        polls = RIGHT.replace(once, f"{once}    n = n or libc.read(0, room, 4096)\n")
+        run = Broken("", GET, Side(1), Side(), 0, b"", REPLY, REPLY)
+        self.assertEqual(self.faults(RIGHT, [run]), [None])
+        self.assertIn("exit status 97, wanted 0", self.faults(polls, [run])[0])
+
     def test_a_front_is_enough_where_the_writer_goes_on(self) -> None:
         once = Broken("", GET, Side(), Side(at=9, times=1), 3, WRITE_FAULT, REPLY[:9], REPLY)
         self.assertEqual(self.faults(RIGHT, [once]), [None])
@@ -194,8 +201,8 @@ class Expecting(unittest.TestCase):
         wanted = {0: b"", 1: CUT_OFF, size: REPLY, size + 1: REPLY + CUT_OFF, 2 * size: REPLY * 2, 2 * size + 4: REPLY * 2}
         self.assertEqual({at: fronts[at] for at in wanted}, wanted)
 
-    def test_each_byte_of_the_tour_breaks(self) -> None:
-        stream = tour(TOP)
+    def test_each_byte_of_the_stream_breaks(self) -> None:
+        stream = worked(TOP)
         self.assertEqual({run.reads.at for run in readers(stream)}, set(range(len(stream.requests) + 1)))
         self.assertEqual({run.writes.at for run in writers(stream)}, set(range(len(stream.replies))))
 

@@ -20,7 +20,10 @@ from checks.allowed import STOPPED, Along, Ended
 from checks.failing import QUICK, SOURCE, Requests, Room, files_of
 from checks.preloading import library
 from checks.stores import SAMPLE
-from checks.three_histories import HISTORIES, QUESTIONS
+from checks.three_histories import HISTORIES, QUESTIONS, outcome_of
+from checks.wanting import body_of
+
+WAITING = ("a file waits for a neighbour's",)
 
 STORES, KEEPERS = ("stored", "at-hand"), ("maps", "store")
 IN_TURN = "stored-each"  # the store is closed and opened between two requests
@@ -156,6 +159,19 @@ def calls(behinds: tuple[int, ...], room: Room, way: str, store: Path, history: 
     return Came(None, met)
 
 
+def sent_again(room: Room, way: str, store: Path, history: Requests, number: int) -> Came:
+    """The keeper's call of a number fails, as that which keeps the judgement of the file for which the others wait. That file is then
+    answered 52; it is sent once more, and is applied, as those are that waited for it."""
+    words = ["failing", way, str(room.folder / "register.toml"), str(number + 1), "0"]
+    ended = room.run(words, (*history[:3], history[2], *map(outcome_of, history[:2])))
+    met = met_in(ended)
+    if ended.refusals()[2:3] != [52]:
+        return Came(None, met)
+    said = [body_of(it) for it in ended.replies[3:]]
+    are_applied = [it.endswith(b'"outcome":"applied"}\n') for it in said] == [True] * 3
+    return Came(None if are_applied else f"52, and then {said!r}", met + Counter(freed=1))
+
+
 @dataclass(frozen=True)
 class Part:
     """What fails, over which keepers, by how much the number of a run rises, and what has to be met."""
@@ -165,6 +181,7 @@ class Part:
     ways: tuple[str, ...]
     stride: int
     met: tuple[str, ...] = ("51", "52")
+    histories: tuple[str, ...] = tuple(HISTORIES)
 
 
 PARTS = (
@@ -181,6 +198,7 @@ PARTS = (
     Part("memory", memory, STORES, 61, ("51", "no store")),
     Part("memory twice", memory_twice, KEEPERS, 13),
     Part("calls", functools.partial(calls, (-1,)), KEEPERS, 1),
+    Part("sent again", sent_again, KEEPERS, 1, ("freed",), WAITING),
     Part("calls twice", functools.partial(calls, tuple(range(FARTHEST + 1))), KEEPERS, 11),
 )
 
@@ -198,7 +216,8 @@ def rising(once: Callable[[int], Came], stride: int, workers: ThreadPoolExecutor
 def run_part(room: Room, part: Part, workers: ThreadPoolExecutor) -> tuple[str | None, Counter[str]]:
     """What is wrong with the first run that goes wrong, and what all runs met."""
     met: Counter[str] = Counter()
-    for way, (name, history) in itertools.product(part.ways, HISTORIES.items()):
+    for way, name in itertools.product(part.ways, part.histories):
+        history = HISTORIES[name]
 
         def once(number: int) -> Came:
             with tempfile.TemporaryDirectory(dir=room.folder) as made:

@@ -1,10 +1,15 @@
 -- A hub at one moment, as it is seen.
-use Rattle.std.specs.Prelude.{◌≡◌, ◌⊎◌, Option, None, option_map, ℕ, Result}
+use Rattle.std.specs.Prelude.{◌≡◌, ◌⊎◌, Option, None, Some, option_map, ℕ, List, Result, OnErr}
 use Rattle.gaz_register.specs.Registers.{RegisterValue}
 use Rattle.gaz_keeper.specs.Keeper.{Seen}
 use Rattle.gaz_keeper.specs.declared.fault.ShelfFault.{ShelfFault}
+use Rattle.gaz_keeper.specs.declared.fault.ShelfFault.TheVariants.{Store}
+use Rattle.gaz_hub.specs.Hubs.{cause_in_answer, door_of}
+use Rattle.gaz_hub.specs.Step.{Question, file_refusal, question_refusal}
 use Rattle.gaz_hub.specs.Waiting.{Remembered, remembering, with_coming}
+use Rattle.gaz_hub.specs.declared.answer.Answer.{Answer}
 use Rattle.gaz_hub.specs.declared.hub.Hub.{Hub}
+use Rattle.gaz_hub.specs.declared.refusal.Refusal.{Refusal}
 
 -- a keeper, where `seen` is how that is seen, with what is remembered of it
 abbrev pub kept_seen : {K : Type 0} → (K → Seen) → RegisterValue → K × Option Remembered → Seen
@@ -17,6 +22,17 @@ hub_seen seen hub = kept_seen seen hub.register (hub.keeper, hub.waiters)
 -- a hub that looks at everyone when it settles next
 abbrev pub RemembersNothing : {K : Type 0} → Hub K → Type 0
 RemembersNothing hub = hub.waiters ≡ None
+
+-- it does after a fault, in a question that the door lets in
+abbrev pub ForgetsOver : {K T : Type 0} → Question → Result T Refusal → Hub K → Type 0
+ForgetsOver q reply hub =
+    question_refusal (door_of hub.register) q ≡ None → OnErr reply (RemembersNothing hub)
+
+-- and after one of the keeper in a file that the door lets in
+abbrev pub ForgetsTaking : {K : Type 0} → ℕ → ℕ → List ℕ → Answer → Hub K → Type 0
+ForgetsTaking c volume bytes answer hub =
+    file_refusal (door_of hub.register) c volume bytes ≡ None
+    → cause_in_answer answer ≡ Some Store → RemembersNothing hub
 
 -- all is remembered, or nothing
 abbrev pub IsKeptOrLost : Option Remembered → Option Remembered → Type 0

@@ -4,7 +4,7 @@ ghost use Rattle.gaz_keeper.specs.Board.{reached};
 ghost use Rattle.gaz_hub.specs.Asked.{IsToldNow};
 ghost use Rattle.gaz_hub.specs.Hubs.{MeetsDoor, door_of};
 ghost use Rattle.gaz_hub.specs.Outcomes.{held_count, status};
-ghost use Rattle.gaz_hub.specs.Seen.{hub_seen};
+ghost use Rattle.gaz_hub.specs.Seen.{ForgetsOver, hub_seen};
 ghost use Rattle.gaz_hub.specs.Step.{Ask, Pose, Replied, Stand};
 ghost use Rattle.gaz_keeper.specs.Telling.{IsNotJudging};
 ghost use Rattle.gaz_hub.specs.Telling.{LooksAtKept, RepliesTo};
@@ -78,6 +78,7 @@ impl<K: Inbox + Drop> Hub<K> {
         requires idle { IsNotJudging K.seen self.old.keeper }
         ensures steps { RepliesTo (hub_seen K.seen) self.old.register self.old self.new
             (Ask code volume) result }
+        ensures forgets { ForgetsOver (Ask code volume) result self.new }
         ensures door { MeetsDoor (door_of self.old.register) self.old.keeper self.new.keeper
             (Pose (Ask code volume)) (Replied (Ask code volume) result) }
         ensures register { self.new.register ≡ self.old.register }
@@ -102,6 +103,7 @@ impl<K: Inbox + Drop> Hub<K> {
         requires idle { IsNotJudging K.seen self.old.keeper }
         ensures steps { RepliesTo (hub_seen K.seen) self.old.register self.old self.new
             (Stand code) result }
+        ensures forgets { ForgetsOver (Stand code) result self.new }
         ensures door { MeetsDoor (door_of self.old.register) self.old.keeper self.new.keeper
             (Pose (Stand code)) (Replied (Stand code) result) }
         ensures register { self.new.register ≡ self.old.register }

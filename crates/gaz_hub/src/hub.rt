@@ -1,4 +1,4 @@
-ghost use Rattle.std.specs.Prelude.{◌≡◌};
+ghost use Rattle.std.specs.Prelude.{◌≡◌, OnErr};
 ghost use Rattle.gaz_keeper.specs.Telling.{IsNotJudging};
 ghost use Rattle.gaz_hub.specs.Seen.{RemembersNothing, hub_seen};
 ghost use Rattle.gaz_hub.specs.Hubs.{or_not_received};
@@ -51,6 +51,7 @@ impl<K: Inbox + Drop> Hub<K> {
         requires idle { IsNotJudging K.seen self.old.keeper }
         ensures steps { RepliesTo (hub_seen K.seen) self.old.register self.old self.new
             Settle (or_not_received result) }
+        ensures forgets { OnErr result (RemembersNothing self.new) }
         ensures register { self.new.register ≡ self.old.register }
     {
         settle_all(

@@ -2,7 +2,7 @@
 //! streets.
 ghost use Rattle.std.specs.Prelude.{◌≡◌};
 ghost use Rattle.gaz_hub.specs.Hubs.{MeetsDoor, door_of, told, told_all};
-ghost use Rattle.gaz_hub.specs.Seen.{hub_seen};
+ghost use Rattle.gaz_hub.specs.Seen.{ForgetsOver, hub_seen};
 ghost use Rattle.gaz_hub.specs.Step.{Extract, ListClosed, LookUp, Pose, Replied};
 ghost use Rattle.gaz_keeper.specs.Telling.{IsNotJudging};
 ghost use Rattle.gaz_extract.specs.Readings.{LooksAtBoard};
@@ -42,6 +42,7 @@ impl<K: Inbox + Drop> Hub<K> {
         requires idle { IsNotJudging K.seen self.old.keeper }
         ensures steps { RepliesTo (hub_seen K.seen) self.old.register self.old self.new
             (LookUp uprn) result }
+        ensures forgets { ForgetsOver (LookUp uprn) result self.new }
         ensures door { MeetsDoor (door_of self.old.register) self.old.keeper self.new.keeper
             (Pose (LookUp uprn)) (Replied (LookUp uprn) result) }
         ensures register { self.new.register ≡ self.old.register }
@@ -58,6 +59,7 @@ impl<K: Inbox + Drop> Hub<K> {
         requires idle { IsNotJudging K.seen self.old.keeper }
         ensures steps { RepliesTo (hub_seen K.seen) self.old.register self.old self.new
             (Extract code volume) (told result) }
+        ensures forgets { ForgetsOver (Extract code volume) result self.new }
         ensures door { MeetsDoor (door_of self.old.register) self.old.keeper self.new.keeper
             (Pose (Extract code volume)) (Replied (Extract code volume) (told result)) }
         ensures register { self.new.register ≡ self.old.register }
@@ -83,6 +85,7 @@ impl<K: Inbox + Drop> Hub<K> {
         requires idle { IsNotJudging K.seen self.old.keeper }
         ensures steps { RepliesTo (hub_seen K.seen) self.old.register self.old self.new
             ListClosed (told_all result) }
+        ensures forgets { ForgetsOver ListClosed result self.new }
         ensures door { MeetsDoor (door_of self.old.register) self.old.keeper self.new.keeper
             (Pose ListClosed) (Replied ListClosed (told_all result)) }
         ensures register { self.new.register ≡ self.old.register }

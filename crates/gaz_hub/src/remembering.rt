@@ -1,5 +1,5 @@
 //! What is done with a keeper while it is remembered who waits for what.
-ghost use Rattle.std.specs.Prelude.{◌≡◌, ⊤, None, IfOk};
+ghost use Rattle.std.specs.Prelude.{◌≡◌, ⊤, None, IfOk, OnErr};
 ghost use Rattle.std.specs.Fn.{FnOnceReturnsAtMut, FnOnceTakesAtMut};
 ghost use Rattle.std.specs.Option.{unwrap_or};
 ghost use Rattle.gaz_keeper.specs.Keeper.{Enters, IsNew, with_received};
@@ -54,10 +54,11 @@ pub fn receive<K: Inbox>(
     file: &[u8],
 ) -> Result<(), ShelfFault>
     requires { IsNotJudging K.seen keeper.old }
-    ensures { Enters (kept_seen K.seen register.now (keeper.old, waiters.old))
+    ensures enters { Enters (kept_seen K.seen register.now (keeper.old, waiters.old))
         (kept_seen K.seen register.now (keeper.new, waiters.new)) result
         (IsNew (K.seen keeper.old).content code volume)
         (with_received (K.seen keeper.old).content code volume file.now) }
+    ensures forgets { OnErr result (waiters.new ≡ None) }
 {
     let received = keeper.receive(code, volume, file);
     match &received {
@@ -75,9 +76,10 @@ pub fn settle_all<K: Inbox>(
     waiters: &mut Option<Waiters>,
 ) -> Result<(), ShelfFault>
     requires { IsNotJudging K.seen keeper.old }
-    ensures { Tells (door_of register.now)
+    ensures tells { Tells (door_of register.now)
         (kept_seen K.seen register.now (keeper.old, waiters.old))
         (kept_seen K.seen register.now (keeper.new, waiters.new)) result (λ done. ⊤) }
+    ensures forgets { OnErr result (waiters.new ≡ None) }
 {
     let mut known = recall(alloc, register, waiters)?;
     settle(alloc, register, keeper, &mut known)?;
@@ -96,9 +98,10 @@ pub fn settled<K: Inbox, T, F: FnOnce(&mut K) -> Result<T, ShelfFault>>(
 ) -> Result<T, ShelfFault>
     requires idle { IsNotJudging K.seen keeper.old }
     requires callable { TakesIdle K.seen (λ mid. FnOnceTakesAtMut F.FnOnce read mid) }
-    ensures { SettlesAndCalls (door_of register.now) (kept_seen K.seen register.now)
+    ensures calls { SettlesAndCalls (door_of register.now) (kept_seen K.seen register.now)
         (CallsKeeper (λ mid told after. FnOnceReturnsAtMut F.FnOnce read mid told after))
         (keeper.old, waiters.old) (keeper.new, waiters.new) result }
+    ensures forgets { OnErr result (waiters.new ≡ None) }
 {
     match settle_all(alloc, register, keeper, waiters) {
         Ok(()) => read_kept(keeper, waiters, read),
@@ -113,8 +116,9 @@ fn read_kept<K: Inbox, T, F: FnOnce(&mut K) -> Result<T, ShelfFault>>(
     read: F,
 ) -> Result<T, ShelfFault>
     requires callable { FnOnceTakesAtMut F.FnOnce read keeper.old }
-    ensures { CallsKeeper (λ mid told after. FnOnceReturnsAtMut F.FnOnce read mid told after)
+    ensures calls { CallsKeeper (λ mid told after. FnOnceReturnsAtMut F.FnOnce read mid told after)
         (keeper.old, waiters.old) result (keeper.new, waiters.new) }
+    ensures forgets { OnErr result (waiters.new ≡ None) }
 {
     let told = read(keeper);
     if told.is_err() {
@@ -134,9 +138,10 @@ pub fn answered<K: Inbox, T, F: FnOnce(&mut K) -> Result<T, ShelfFault>>(
 ) -> Result<T, Refusal>
     requires idle { IsNotJudging K.seen keeper.old }
     requires callable { TakesIdle K.seen (λ mid. FnOnceTakesAtMut F.FnOnce read mid) }
-    ensures { AnswersSettled (door_of register.now) (kept_seen K.seen register.now)
+    ensures answers { AnswersSettled (door_of register.now) (kept_seen K.seen register.now)
         (CallsKeeper (λ mid told after. FnOnceReturnsAtMut F.FnOnce read mid told after))
         (keeper.old, waiters.old) (keeper.new, waiters.new) result }
+    ensures forgets { OnErr result (waiters.new ≡ None) }
 {
     match settled(alloc, register, keeper, waiters, read) {
         Ok(told) => Ok(told),

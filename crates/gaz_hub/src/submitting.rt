@@ -1,8 +1,8 @@
 //! How a submission is answered.
-ghost use Rattle.std.specs.Prelude.{◌≡◌, ◌↔◌, IfOk, IsTrue, Some, None, true, false};
+ghost use Rattle.std.specs.Prelude.{◌≡◌, ◌↔◌, IfOk, IsSome, IsTrue, OnErr, Some, None, true, false};
 ghost use Rattle.gaz_hub.specs.Asked.{AnyIsOfBefore, IsAgain, IsOutcome, IsPastDoor, TakesIn};
-ghost use Rattle.gaz_hub.specs.Hubs.{MeetsDoor, door_of};
-ghost use Rattle.gaz_hub.specs.Seen.{hub_seen};
+ghost use Rattle.gaz_hub.specs.Hubs.{MeetsDoor, cause_in_answer, door_of};
+ghost use Rattle.gaz_hub.specs.Seen.{ForgetsTaking, RemembersNothing, hub_seen};
 ghost use Rattle.gaz_hub.specs.Step.{Submit, Submitted, file_refusal};
 ghost use Rattle.gaz_keeper.specs.Telling.{IsNotJudging};
 ghost use Rattle.gaz_hub.specs.Telling.{LooksAtKept, StepsTo, TellsKept};
@@ -60,6 +60,7 @@ impl<K: Inbox + Drop> Hub<K> {
         ensures tells { TellsKept (hub_seen K.seen) self.old.register self.old self.new result
             (λ files board. IsAgain files board code volume file.now) }
         ensures of_before { IfOk result AnyIsOfBefore }
+        ensures forgets { OnErr result (RemembersNothing self.new) }
         ensures register { self.new.register ≡ self.old.register }
     {
         let alloc = self.alloc;
@@ -78,6 +79,7 @@ impl<K: Inbox + Drop> Hub<K> {
         requires { IsNotJudging K.seen self.old.keeper }
         ensures tells { TellsKept (hub_seen K.seen) self.old.register self.old self.new result
             (λ files board. IsOutcome files board code volume) }
+        ensures forgets { OnErr result (RemembersNothing self.new) }
         ensures register { self.new.register ≡ self.old.register }
     {
         let alloc = self.alloc;
@@ -98,6 +100,7 @@ impl<K: Inbox + Drop> Hub<K> {
         ensures takes_in { TakesIn (door_of self.old.register) (hub_seen K.seen self.old)
             (hub_seen K.seen self.new) code volume file.now result }
         ensures past_door { IsPastDoor result }
+        ensures forgets { IsSome (cause_in_answer result) → RemembersNothing self.new }
         ensures register { self.new.register ≡ self.old.register }
     {
         let received = receive(
@@ -125,6 +128,7 @@ impl<K: Inbox + Drop> Hub<K> {
         ensures steps { StepsTo (hub_seen K.seen) self.old.register self.old self.new
             (Submit code volume file.now) (Submitted result) }
         ensures past_door { IsPastDoor result }
+        ensures forgets { IsSome (cause_in_answer result) → RemembersNothing self.new }
         ensures register { self.new.register ≡ self.old.register }
     {
         match self.settle_and_answer(code, volume, file) {
@@ -145,6 +149,7 @@ impl<K: Inbox + Drop> Hub<K> {
             (Submit code volume file.now) (Submitted result) }
         ensures door { MeetsDoor (door_of self.old.register) self.old.keeper self.new.keeper
             (Submit code volume file.now) (Submitted result) }
+        ensures forgets { ForgetsTaking code volume file.now result self.new }
         ensures register { self.new.register ≡ self.old.register }
     {
         let (code, volume) = match at_door(&self.register, code, volume, file.len()) {

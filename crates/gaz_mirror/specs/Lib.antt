@@ -1,3 +1,4 @@
 pub mod InStep
 pub mod Mirroring
 pub mod Mirrored
+pub mod Examples

@@ -2,6 +2,7 @@
 ghost use Rattle.std.specs.Prelude.{◌≡◌, Some, IfOk, option_map};
 ghost use Rattle.std.specs.FinMap as map;
 ghost use Rattle.gaz_keeper.specs.Keeper.{IsNew, IsNotOpen};
+ghost use Rattle.gaz_mirror.specs.Examples.{WorkedExamples};
 ghost use Rattle.gaz_mirror.specs.Mirrored.{seen_mirrored};
 
 use crate::mirror::Mirror;
@@ -41,3 +42,8 @@ fn receive_and_find<K: Inbox>(
     keeper.receive(code, volume, bytes)?;
     keeper.received(code, volume)
 }
+
+/// What the definitions come to on worked examples.
+pub fn worked_examples()
+    ensures { WorkedExamples }
+{}

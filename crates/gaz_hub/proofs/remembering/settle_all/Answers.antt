@@ -8,8 +8,8 @@ use Rattle.gaz_hub.proofs.Advancing.{is_err}
 use Rattle.gaz_hub.proofs.Memory.{forgotten, recalled_as, tells_kept}
 use Rattle.gaz_hub.proofs.remembering.settle_all.Goals as goal
 
-pub returns-in_err-settle : goal.returns-in_err-settle
-returns-in_err-settle g c =
+pub returns-in_err-settle-clause-tells : goal.returns-in_err-settle-clause-tells
+returns-in_err-settle-clause-tells g c =
     let reg = c.args.register.now in
     let a = g.K.Shelf.seen c.args.keeper.now in
     let b = g.K.Shelf.seen c.settle.new.keeper in
@@ -19,8 +19,8 @@ returns-in_err-settle g c =
     (recalled_as reg c.args.waiters.now c.in_ok-known.known a.content c.in_ok-known.ensures.recalled) c.in_err-settle.ensures.tells
     (λ stood fine. forgotten reg c.recall.new.waiters b.content c.in_ok-known.ensures.left))
 
-pub returns : goal.returns
-returns g c =
+pub returns-clause-tells : goal.returns-clause-tells
+returns-clause-tells g c =
     let reg = c.args.register.now in
     let a = g.K.Shelf.seen c.args.keeper.now in
     let b = g.K.Shelf.seen c.settle.new.keeper in

@@ -12,11 +12,11 @@ use Rattle.gaz_hub.proofs.hub.Hub.lookup.Goals as goal
 pub returns-clause-steps : goal.returns-clause-steps
 returns-clause-steps g c =
     let hub = c.args.self.now in
-    owner_steps (kept_seen g.K.Shelf.seen hub.register) hub.register c.args.uprn _ (hub.keeper, hub.waiters) (c.answered.new.keeper, c.answered.new.waiters) c.answered.result c.custodians-custodians.ensures.lawful c.answered.ensures
+    owner_steps (kept_seen g.K.Shelf.seen hub.register) hub.register c.args.uprn _ (hub.keeper, hub.waiters) (c.answered.new.keeper, c.answered.new.waiters) c.answered.result c.custodians-custodians.ensures.lawful c.answered.ensures.answers
     (λ mid r called. looks_kept hub.register _ _ _ _ _ _ called.1 (rw (← called.0.shows, ← called.0.leaves) (looks_as _ _ _ _ _ (λ x is. is) (search rules))))
 
 pub returns-clause-door : goal.returns-clause-door
 returns-clause-door g c =
     let hub = c.args.self.now in
     answered_door (door_of hub.register) (LookUp c.args.uprn) (λ x. x) (λ r. r) (record { ok = λ x. refl; err = λ r. refl }) refl
-    (kept_seen g.K.Shelf.seen hub.register) _ (hub.keeper, hub.waiters) (c.answered.new.keeper, c.answered.new.waiters) hub.keeper c.answered.new.keeper c.answered.result c.answered.ensures
+    (kept_seen g.K.Shelf.seen hub.register) _ (hub.keeper, hub.waiters) (c.answered.new.keeper, c.answered.new.waiters) hub.keeper c.answered.new.keeper c.answered.result c.answered.ensures.answers

@@ -17,4 +17,4 @@ returns-clause-steps g c =
     let b = kept_seen g.K.Shelf.seen hub.register (c.settle_all.new.keeper, c.settle_all.new.waiters) in
     steps_read d Settle (λ (done : Unit {0}). tt) (λ r. r) (record { ok = λ x. refl; err = λ r. refl }) refl a b c.settle_all.result
     (tells_as d a b c.settle_all.result (λ (done : Unit {0}). ⊤)
-    (λ (done : Unit {0}). NothingReady b.content.files b.content.board → tt ≡ answer_to Settle d.register (state_of b.content)) (λ stood x is closed. refl) c.settle_all.ensures)
+    (λ (done : Unit {0}). NothingReady b.content.files b.content.board → tt ≡ answer_to Settle d.register (state_of b.content)) (λ stood x is closed. refl) c.settle_all.ensures.tells)

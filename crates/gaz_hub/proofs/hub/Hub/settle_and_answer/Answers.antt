@@ -11,11 +11,11 @@ pub returns-clause-tells : goal.returns-clause-tells
 returns-clause-tells g c =
     let hub = c.args.self.now in
     tells_settled (door_of hub.register) (kept_seen g.K.Shelf.seen hub.register) _ (hub.keeper, hub.waiters) (c.settled.new.keeper, c.settled.new.waiters) c.settled.result
-    (λ k x. IsAgain k.files k.board c.args.code c.args.volume c.args.file.now x) c.settled.ensures
+    (λ k x. IsAgain k.files k.board c.args.code c.args.volume c.args.file.now x) c.settled.ensures.calls
     (λ mid called. looks_kept hub.register _ _ _ _ _ _ called.1 (rw (← called.0.shows, ← called.0.leaves) (search rules)))
 
 pub returns-clause-of_before : goal.returns-clause-of_before
 returns-clause-of_before g c =
     let hub = c.args.self.now in
     calls_tell (door_of hub.register) (kept_seen g.K.Shelf.seen hub.register) _ (hub.keeper, hub.waiters) (c.settled.new.keeper, c.settled.new.waiters) c.settled.result
-    AnyIsOfBefore c.settled.ensures (λ mid called. search rules)
+    AnyIsOfBefore c.settled.ensures.calls (λ mid called. search rules)

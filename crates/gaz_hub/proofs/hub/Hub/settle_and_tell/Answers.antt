@@ -11,5 +11,5 @@ pub returns-clause-tells : goal.returns-clause-tells
 returns-clause-tells g c =
     let hub = c.args.self.now in
     tells_settled (door_of hub.register) (kept_seen g.K.Shelf.seen hub.register) _ (hub.keeper, hub.waiters) (c.settled.new.keeper, c.settled.new.waiters) c.settled.result
-    (λ k x. IsOutcome k.files k.board c.args.code c.args.volume x) c.settled.ensures
+    (λ k x. IsOutcome k.files k.board c.args.code c.args.volume x) c.settled.ensures.calls
     (λ mid called. looks_kept hub.register _ _ _ _ _ _ called.1 (rw (← called.0.shows, ← called.0.leaves) (search rules)))

@@ -14,11 +14,11 @@ pub returns-clause-steps : goal.returns-clause-steps
 returns-clause-steps g c =
     let hub = c.args.self.now in
     answered_steps (door_of hub.register) (Stand c.args.code) (λ x. x) (λ r. r) (record { ok = λ x. refl; err = λ r. refl }) (ap (λ b. cond (not b) (Some refusal.UnknownCustodian) None) c.in-Ok.ensures.known.1)
-    (kept_seen g.K.Shelf.seen hub.register) _ (hub.keeper, hub.waiters) (c.answered.new.keeper, c.answered.new.waiters) c.answered.result c.answered.ensures
+    (kept_seen g.K.Shelf.seen hub.register) _ (hub.keeper, hub.waiters) (c.answered.new.keeper, c.answered.new.waiters) c.answered.result c.answered.ensures.answers
     (λ mid r called. looks_kept hub.register _ _ _ _ _ _ called.1 (rw (← called.0.shows, ← called.0.leaves) (looks_as _ _ _ _ _ (λ x is _. is ∙ ap (status (g.K.Shelf.seen called.0.shown.now).content.files (g.K.Shelf.seen called.0.shown.now).content.board) c.in-Ok.ensures.known.0) (search rules))))
 
 pub returns-clause-door : goal.returns-clause-door
 returns-clause-door g c =
     let hub = c.args.self.now in
     answered_door (door_of hub.register) (Stand c.args.code) (λ x. x) (λ r. r) (record { ok = λ x. refl; err = λ r. refl }) (ap (λ b. cond (not b) (Some refusal.UnknownCustodian) None) c.in-Ok.ensures.known.1)
-    (kept_seen g.K.Shelf.seen hub.register) _ (hub.keeper, hub.waiters) (c.answered.new.keeper, c.answered.new.waiters) hub.keeper c.answered.new.keeper c.answered.result c.answered.ensures
+    (kept_seen g.K.Shelf.seen hub.register) _ (hub.keeper, hub.waiters) (c.answered.new.keeper, c.answered.new.waiters) hub.keeper c.answered.new.keeper c.answered.result c.answered.ensures.answers

@@ -8,10 +8,10 @@ pub returns-in-Ok-settle_and_tell-clause-takes_in : goal.returns-in-Ok-settle_an
 returns-in-Ok-settle_and_tell-clause-takes_in g c =
     let hub = c.args.self.now in
     taken_new (door_of hub.register) (hub_seen g.K.Shelf.seen hub) (kept_seen g.K.Shelf.seen hub.register (c.receive-received.new.keeper, c.receive-received.new.waiters)) (hub_seen g.K.Shelf.seen c.settle_and_tell.new.self)
-    c.args.code c.args.volume c.args.file.now c.requires.let_in c.in-Ok.ensures c.in-Ok-settle_and_tell.told c.in-Ok-settle_and_tell.ensures.tells
+    c.args.code c.args.volume c.args.file.now c.requires.let_in c.in-Ok.ensures.enters c.in-Ok-settle_and_tell.told c.in-Ok-settle_and_tell.ensures.tells
 
 pub returns-in-Err-settle_and_tell-clause-takes_in : goal.returns-in-Err-settle_and_tell-clause-takes_in
 returns-in-Err-settle_and_tell-clause-takes_in g c =
     let hub = c.args.self.now in
     taken_unsettled (door_of hub.register) (hub_seen g.K.Shelf.seen hub) (kept_seen g.K.Shelf.seen hub.register (c.receive-received.new.keeper, c.receive-received.new.waiters)) (hub_seen g.K.Shelf.seen c.settle_and_tell.new.self)
-    c.args.code c.args.volume c.args.file.now c.requires.let_in c.in-Ok.ensures c.in-Err-settle_and_tell.fault c.in-Err-settle_and_tell.ensures.tells
+    c.args.code c.args.volume c.args.file.now c.requires.let_in c.in-Ok.ensures.enters c.in-Err-settle_and_tell.fault c.in-Err-settle_and_tell.ensures.tells
