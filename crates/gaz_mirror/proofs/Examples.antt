@@ -1,6 +1,6 @@
 -- What the definitions come to on worked examples.
 use Rattle.std.proofs.Common.{◌≡◌, ◌∙◌, sym, ap, refl}
-use Rattle.std.specs.Prelude.{Option, None, Some}
+use Rattle.std.specs.Prelude.{zero, suc}
 use Rattle.gaz_keeper.proofs.Examples.{worked_examples_hold}
 use Rattle.gaz_keeper.specs.Examples.{first_received}
 use Rattle.gaz_keeper.specs.Keeper.{Content, IsLawful, after_stop, empty_content}
@@ -12,7 +12,7 @@ apart : ¬ (empty_content ≡ first_received)
 apart same = worked_examples_hold.on_stops.read_more (λ k left. left ∙ ap after_stop (sym same))
 
 lawful : IsLawful first_received
-lawful = record { views = λ c volume. lawful_empty; working = lawful_empty }
+lawful = record { views = λ c. elim [ zero ↦ lawful_empty | suc n ↦ lawful_empty ]; working = lawful_empty }
 
 pub examples_hold : WorkedExamples
 examples_hold = record { on_steps = on_steps; on_mirrors = on_mirrors; on_calls = on_calls }
@@ -38,8 +38,8 @@ examples_hold = record { on_steps = on_steps; on_mirrors = on_mirrors; on_calls 
     on_calls : WorkedCalls
     on_calls = record {
       spared = λ there. refl;
-      asked_below = λ there. absurd there;
-      not_spared = λ spared. apart (sym (spared tt));
+      asked_below = λ there. cc;
+      not_spared = λ spared. apart (sym (spared refl));
       answered = tt;
       dropped = refl;
       not_dropped = λ none. cc;

@@ -1,8 +1,7 @@
 -- Worked examples, computed from the definitions.
-use Rattle.std.specs.Prelude.{◌≡◌, ¬, None, Some, Option, Result, Ok, Err}
+use Rattle.std.specs.Prelude.{◌≡◌, ◌≢◌, refl, None, Some, Option, Ok, Err}
 use Rattle.gaz_keeper.specs.Examples.{first_received, kept_safe}
-use Rattle.gaz_keeper.specs.Keeper.{Broken, Content, Idle, Open, Seen, after_stop, empty_content}
-use Rattle.gaz_keeper.specs.declared.fault.ShelfFault.{ShelfFault}
+use Rattle.gaz_keeper.specs.Keeper.{Broken, Content, Idle, Open, after_stop, empty_content}
 use Rattle.gaz_keeper.specs.declared.fault.ShelfFault.TheVariants.{Store}
 use Rattle.gaz_keeper.specs.declared.shelf.Shelf.{Ghosts}
 use Rattle.gaz_mirror.specs.InStep.{IsInStep}
@@ -12,18 +11,25 @@ use Rattle.gaz_mirror.specs.declared.mirror.Mirror.{Mirror}
 -- two keepers in step, and such as aren't
 pub record WorkedSteps : Type 0 where
   pub idle : IsInStep Idle Idle
-  pub in_one_judgement : IsInStep (Open 1001) (Open 1001)
-  pub behind : ¬ IsInStep (Open 1001) Idle
-  pub in_another : ¬ IsInStep (Open 1001) (Open 1002)
+  pub in_one_judgement : IsInStep (Open 1) (Open 1)
+  pub behind : ¬ IsInStep (Open 1) Idle
+  pub in_another : ¬ IsInStep (Open 1) (Open 2)
   pub broken : ¬ IsInStep Broken Broken
 
 -- keepers that are just their content
 abbrev pub contents : Ghosts Content
 contents = record { seen = kept_safe }
 
--- a keeper over two such, of which neither is judging
+pub idle_is_whole : Idle ≢ Broken
+idle_is_whole is = cc
+
+-- a keeper over one such or two, of which none is judging
 abbrev pub over : Content → Option Content → Mirror Content Content contents contents
-over lower upper = record { lower = lower; upper = upper }
+over lower upper = record {
+  lower = lower;
+  upper = upper;
+  in_step = λ u is. record { same = refl; whole = idle_is_whole };
+}
 
 -- where both have one content, it is seen as that; where not, it stands for nothing
 pub record WorkedMirrors : Type 0 where
