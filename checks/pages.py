@@ -27,21 +27,7 @@ UNSEEN = {".git", "out", "__pycache__"}
 COMMENTS = {".rt": "//", ".c": "//", ".antt": "--", ".sql": "--", ".py": "#", ".toml": "#", "": "#"}
 
 # Names that a page says and no source here has: whose they are.
-OTHERS = {
-    "Rust, and Rattle lacks it": ("include_str",),
-    "programs and calls of the system, which measuring is said by": ("perf", "memset", "memmove"),
-    "the kit's maps, in which time was measured": ("Tree::find",),
-    "the kit's database, in which time was measured": (
-        "AtRecordAim::compare",
-        "Cursor::seek",
-        "FileStoreStore::insert",
-        "Pager::write",
-        "accepts_program",
-        "any_clashes",
-        "make_keys",
-        "with_key",
-    ),
-}
+OTHERS = {"Rust, and Rattle lacks it": ("include_str",)}
 OF_OTHERS = frozenset(name for names in OTHERS.values() for name in names)
 
 SPAN = r"`((?:[^`\n]|\n(?!\n))+)`"
@@ -160,5 +146,5 @@ def run_all(root: Path) -> Iterator[tuple[str, str | None]]:
     """Each page, and what is dead on it."""
     tree = Tree(root)
     for page in tree.files:
-        if re.fullmatch(r"README\.md|docs/.*\.md", page):
+        if re.fullmatch(r"(bench/|checks/)?README\.md|docs/.*\.md", page):
             yield page, "; ".join(f"line {line}: {fault}" for line, fault in sorted(tree.faults(page))) or None
