@@ -3,38 +3,23 @@ use Rattle.std.specs.Prelude.{ℕ, Bool, false, Option, Some, None, is_some}
 use Rattle.std.specs.Option.{option_and_then, option_map_or}
 use Rattle.std.specs.FinMap as map
 use Rattle.gaz_ids.specs.declared.lang.Lang.{Lang}
-use Rattle.gaz_records.specs.Blpus.{BlpuValue}
 use Rattle.gaz_records.specs.Descriptors.{DescriptorValue}
 use Rattle.gaz_records.specs.Lpis.{LpiValue}
-use Rattle.gaz_records.specs.Streets.{StreetValue}
 use Rattle.gaz_records.specs.declared.item.Item.{Item}
 use Rattle.gaz_records.specs.declared.item.Item.TheVariants as item
 use Rattle.gaz_records.specs.declared.key.Key.TheVariants as key
 use Rattle.gaz_views.specs.View.{View}
-
--- the street, where an item is one
-abbrev pub as_street : Item → Option StreetValue
-as_street (item.Street s) = Some s
-as_street _ = None
+pub use Rattle.gaz_views.specs.Numbered.{as_blpu, as_street, blpu_at, street_at}
 
 -- the descriptor, where an item is one
 abbrev pub as_descriptor : Item → Option DescriptorValue
 as_descriptor (item.Descriptor d) = Some d
 as_descriptor _ = None
 
--- the BLPU, where an item is one
-abbrev pub as_blpu : Item → Option BlpuValue
-as_blpu (item.Blpu b) = Some b
-as_blpu _ = None
-
 -- the LPI, where an item is one
 abbrev pub as_lpi : Item → Option LpiValue
 as_lpi (item.Lpi l) = Some l
 as_lpi _ = None
-
--- the street of this number
-abbrev pub street_at : View → ℕ → Option StreetValue
-street_at v usrn = option_and_then as_street (map.get v.items (key.Street usrn))
 
 -- the street of this number is there and has an end date
 abbrev pub has_closed_street : View → ℕ → Bool
@@ -44,7 +29,3 @@ has_closed_street v usrn = option_map_or (λ s. is_some s.end) (street_at v usrn
 abbrev pub descriptor_at : View → ℕ → Lang → Option DescriptorValue
 descriptor_at v usrn lang =
     option_and_then as_descriptor (map.get v.items (key.Descriptor usrn lang))
-
--- the BLPU of this number
-abbrev pub blpu_at : View → ℕ → Option BlpuValue
-blpu_at v uprn = option_and_then as_blpu (map.get v.items (key.Blpu uprn))

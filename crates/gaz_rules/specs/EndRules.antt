@@ -7,15 +7,14 @@ use Rattle.std.specs.Ordering.{eq_by_cmp}
 use Rattle.std.specs.FinMap as fin
 use Rattle.gaz_ids.specs.declared.status.Status.{Status}
 use Rattle.gaz_ids.specs.declared.status.Status.TheVariants.{Historical}
-use Rattle.gaz_records.specs.Blpus.{BlpuValue}
 use Rattle.gaz_records.specs.Keys.{key_cmp}
 use Rattle.gaz_records.specs.Lpis.{LpiValue}
-use Rattle.gaz_records.specs.Streets.{StreetValue}
 use Rattle.gaz_records.specs.declared.item.Item.{Item}
 use Rattle.gaz_records.specs.declared.item.Item.TheVariants as item
 use Rattle.gaz_records.specs.declared.key.Key.{Key}
 use Rattle.gaz_records.specs.declared.key.Key.TheVariants as key
 use Rattle.gaz_views.specs.View.{View, holds}
+pub use Rattle.gaz_views.specs.Numbered.{as_blpu, as_street, blpu_at, street_at}
 use Rattle.gaz_views.specs.Words.{approved_of, approved_on, is_approved}
 
 -- ---- what stands in a view
@@ -25,14 +24,6 @@ if_some o p = option_map_or p o false
 
 abbrev pub same_key : Key → Key → Bool
 same_key = eq_by_cmp key_cmp
-
-abbrev pub as_street : Item → Option StreetValue
-as_street (item.Street s) = Some s
-as_street _ = None
-
-abbrev pub as_blpu : Item → Option BlpuValue
-as_blpu (item.Blpu b) = Some b
-as_blpu _ = None
 
 -- an approved LPI
 abbrev pub as_approved : Item → Option LpiValue
@@ -44,12 +35,6 @@ abbrev pub blpu_named : Item → Option ℕ
 blpu_named (item.Lpi l) = Some l.uprn
 blpu_named (item.Xref x) = Some x.uprn
 blpu_named _ = None
-
-abbrev pub street_at : View → ℕ → Option StreetValue
-street_at v usrn = option_and_then as_street (fin.get v.items (key.Street usrn))
-
-abbrev pub blpu_at : View → ℕ → Option BlpuValue
-blpu_at v uprn = option_and_then as_blpu (fin.get v.items (key.Blpu uprn))
 
 -- the approved LPI under a key
 abbrev pub approved_at : View → Key → Option LpiValue

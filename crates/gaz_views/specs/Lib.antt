@@ -3,6 +3,7 @@ pub mod View
 pub mod Words
 pub mod Reading
 pub mod Lawful
+pub mod Numbered
 pub mod Judgements
 pub mod Accounts
 pub mod ViewCode

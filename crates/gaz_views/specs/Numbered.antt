@@ -1,0 +1,28 @@
+-- What stands in a view under a number.
+use Rattle.std.specs.Prelude.{ℕ, Option, Some, None}
+use Rattle.std.specs.Option.{option_and_then}
+use Rattle.std.specs.FinMap as map
+use Rattle.gaz_records.specs.Blpus.{BlpuValue}
+use Rattle.gaz_records.specs.Streets.{StreetValue}
+use Rattle.gaz_records.specs.declared.item.Item.{Item}
+use Rattle.gaz_records.specs.declared.item.Item.TheVariants as item
+use Rattle.gaz_records.specs.declared.key.Key.TheVariants as key
+use Rattle.gaz_views.specs.View.{View}
+
+-- the street, where an item is one
+abbrev pub as_street : Item → Option StreetValue
+as_street (item.Street s) = Some s
+as_street _ = None
+
+-- the BLPU, where an item is one
+abbrev pub as_blpu : Item → Option BlpuValue
+as_blpu (item.Blpu b) = Some b
+as_blpu _ = None
+
+-- the street of this number
+abbrev pub street_at : View → ℕ → Option StreetValue
+street_at v usrn = option_and_then as_street (map.get v.items (key.Street usrn))
+
+-- the BLPU of this number
+abbrev pub blpu_at : View → ℕ → Option BlpuValue
+blpu_at v uprn = option_and_then as_blpu (map.get v.items (key.Blpu uprn))
