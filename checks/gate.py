@@ -9,10 +9,15 @@ import tempfile
 import threading
 from dataclasses import dataclass, field
 from pathlib import Path
+from typing import Callable
 
 from checks import kit, measure, outside, pages, stores, trying
+from checks.beside import Beside
 
 SAYING = threading.Lock()
+PROVED = re.compile(r"^rt: (\w+) proved$")
+# What edits leave free beside proofs, of which rt ci starts as many as it found memory for: bytes.
+SPARE = 4_000_000_000
 
 
 def say(text: str) -> None:
@@ -73,10 +78,15 @@ def own_tests(root: Path, account: Account) -> None:
     account.count("the gate's own tests", ran.status == 0)
 
 
-def prove(room: Path, account: Account) -> set[str]:
-    """Everything from nothing, by the kit's own gate: HANDLES, layout, proofs, tests, and the programs by two compilers. The names
-    of the crates that are proved."""
-    ran, costs = measure.watch(["rt", "ci"], room, say)
+def prove(room: Path, account: Account, proved: set[str]) -> None:
+    """Everything from nothing, by the kit's own gate: HANDLES, layout, proofs, tests, and the programs by two compilers. The name of
+    each crate is among the proved ones once it is."""
+
+    def hear(line: str) -> None:
+        say(line)
+        proved.update(PROVED.findall(line))
+
+    ran, costs = measure.watch(["rt", "ci"], room, hear)
     for (name, tests), seconds in costs.seconds.items():
         column = account.tests if tests else account.proof
         column[name] = column.get(name, 0.0) + seconds
@@ -85,7 +95,6 @@ def prove(room: Path, account: Account) -> set[str]:
     passed, _, failed = ran.text.rstrip("\n").rpartition("\n")[2].partition(" passed, ")
     account.passed += int(passed) if passed.isdigit() else 0
     account.count("rt ci", ran.status == 0 and failed == "0 failed")
-    return set(re.findall(r"(?m)^rt: (\w+) proved$", ran.text))
 
 
 def tell(name: str, fault: str | None, account: Account) -> None:
@@ -125,25 +134,41 @@ def keep(room: Path, root: Path, account: Account) -> None:
     account.rest += measure.spent() - before
 
 
-def try_edits(crates: list, begin, account: Account) -> None:
-    """Tries the edits of these crates side by side. `begin` fills a crate's folder of kept work, or leaves it empty."""
-    rt = kit.load()
+@dataclass
+class Edits:
+    """The must-fail edits of crates: where those of a crate stand, how its folder of kept work begins, and what they cost."""
 
-    def work(crate) -> None:
+    folder_of: Callable[[object], Path]
+    begin: Callable[[object, Path], None]
+    account: Account
+
+    def have(self, crates: list) -> list:
+        """Those of the crates that have edits."""
+        return [it for it in crates if (self.folder_of(it) / "must-fail").is_dir()]
+
+    def try_crate(self, crate) -> None:
         with tempfile.TemporaryDirectory(prefix="check-kept-") as kept:
-            begin(crate, Path(kept))
-            outcome = trying.try_crate(crate, Path(kept), say)
+            self.begin(crate, Path(kept))
+            outcome = trying.try_crate(crate, self.folder_of(crate), Path(kept), say)
         with SAYING:
-            account.edits[crate.name] = outcome.seconds
-            account.peak = max(account.peak, outcome.peak)
+            self.account.edits[crate.name] = outcome.seconds
+            self.account.peak = max(self.account.peak, outcome.peak)
+            for it in outcome.tried:
+                self.account.count(f"{crate.name}/{it.name}", it.is_refused)
         for it in outcome.tried:
             say(f"must-fail {crate.name}/{it.name}: {'refused' if it.is_refused else 'FAILED'}: {it.why}")
-            account.count(f"{crate.name}/{it.name}", it.is_refused)
 
-    having = [it for it in crates if (Path(it.folder) / "must-fail").is_dir()]
-    lines = {it.name: it.count(rb"\n") for it in having}
-    tasks = {it.name: ([], lines[it.name], rt.need(it), lambda given, jobs, it=it: work(it)) for it in having}
-    rt.in_lanes(tasks)
+    def try_all(self, crates: list) -> None:
+        """Tries those of these crates side by side."""
+        rt = kit.load()
+        lines = {it.name: it.count(rb"\n") for it in crates}
+        tasks = {it.name: ([], lines[it.name], rt.need(it), lambda given, jobs, it=it: self.try_crate(it)) for it in crates}
+        rt.in_lanes(tasks)
+
+    def beside(self, crates: list, proved: set[str]) -> Beside:
+        """Tries those of each crate that is proved beside other work, in what that leaves idle."""
+        rt = kit.load()
+        return Beside(crates, lambda it: it.name in proved, lambda it: rt.need(it) + SPARE < rt.free(), self.try_crate)
 
 
 def close(names: list[str], account: Account, clock: measure.Clock) -> int:
@@ -158,28 +183,30 @@ def close(names: list[str], account: Account, clock: measure.Clock) -> int:
     return 1 if account.failed else 0
 
 
-def with_edits_of(root: Path, crates: list) -> list:
-    """The crates of the room, each with the edits that its folder in the repository has."""
-    for crate in crates:
-        edits = root / "crates" / crate.name / "must-fail"
-        if edits.is_dir():
-            shutil.copytree(edits, Path(crate.folder) / "must-fail", dirs_exist_ok=True)
-    return crates
+def copy_edits(root: Path, room: Path) -> None:
+    """Copies the must-fail edits alone, a folder a crate."""
+    for edits in (root / "crates").glob("*/must-fail"):
+        shutil.copytree(edits, room / edits.parent.name / "must-fail")
 
 
 def whole(root: Path) -> int:
     """The gate: everything from nothing, in a copy of the tree."""
-    clock, account = measure.Clock(), Account()
+    clock, account, proved = measure.Clock(), Account(), set()
     own_tests(root, account)
     read_pages(root, account)
-    with tempfile.TemporaryDirectory(prefix="check-tree-") as made:
+    with tempfile.TemporaryDirectory(prefix="check-tree-") as made, tempfile.TemporaryDirectory(prefix="check-edits-") as apart:
         room = Path(made)
         copy_of(root, room)
-        proved = prove(room, account)
+        copy_edits(root, Path(apart))
         crates = kit.crates(room)
+        edits = Edits(lambda crate: Path(apart) / crate.name, lambda crate, kept: None, account)
+        beside = edits.beside(edits.have(crates), proved)
+        beside.start()
+        prove(room, account, proved)
         converse(room, root, account)
         keep(room, root, account)
-        try_edits(with_edits_of(root, [it for it in crates if it.name in proved]), lambda crate, kept: None, account)
+        edits.try_all([it for it in beside.end() if it.name in proved])
+        beside.wait()
     return close([it.name for it in crates], account, clock)
 
 
@@ -235,5 +262,6 @@ def some(root: Path, names: list[str], edits_alone: bool) -> int:
                 account.count(f"{program}: rt run", ran.status == 0)
             run(root, root, account)
     build_below(crates)
-    try_edits(crates, kept_of, account)
+    edits = Edits(lambda crate: Path(crate.folder), kept_of, account)
+    edits.try_all(edits.have(crates))
     return close(names, account, clock)

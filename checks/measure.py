@@ -59,13 +59,27 @@ class Running:
 RUNNING = Running()
 
 
+class Apart:
+    """The processor seconds of commands that are counted by themselves."""
+
+    def __init__(self) -> None:
+        self.lock, self.seconds = threading.Lock(), 0.0
+
+    def add(self, seconds: float) -> None:
+        with self.lock:
+            self.seconds += seconds
+
+
+APART = Apart()
+
+
 def spent() -> float:
-    """The processor seconds of this process so far, and of what it started and has seen end."""
+    """The processor seconds of this process so far, and of what it started and has seen end, but for what is counted apart."""
     own, theirs = (resource.getrusage(whose) for whose in (resource.RUSAGE_SELF, resource.RUSAGE_CHILDREN))
-    return own.ru_utime + own.ru_stime + theirs.ru_utime + theirs.ru_stime
+    return own.ru_utime + own.ru_stime + theirs.ru_utime + theirs.ru_stime - APART.seconds
 
 
-def run(words: list[str], cwd: Path) -> Ran:
+def run(words: list[str], cwd: Path, is_apart: bool = False) -> Ran:
     """Runs a command to its end, and tells what it said and what it cost."""
     started = RUNNING.start(words, cwd, stdout=subprocess.PIPE)
     try:
@@ -75,7 +89,10 @@ def run(words: list[str], cwd: Path) -> Ran:
         started.returncode = os.waitstatus_to_exitcode(status)
     finally:
         RUNNING.ended(started)
-    return Ran(started.returncode, text, used.ru_utime + used.ru_stime, used.ru_maxrss * 1024)
+    seconds = used.ru_utime + used.ru_stime
+    if is_apart:
+        APART.add(seconds)
+    return Ran(started.returncode, text, seconds, used.ru_maxrss * 1024)
 
 
 @dataclass

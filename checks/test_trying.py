@@ -73,7 +73,8 @@ def small_crate(root: Path, edits: dict[str, tuple[str, str]]):
 class OverASmallCrate(unittest.TestCase):
     def tried(self, edits: dict[str, tuple[str, str]]) -> tuple[dict[str, trying.Tried], trying.Outcome]:
         with tempfile.TemporaryDirectory() as made, tempfile.TemporaryDirectory() as kept:
-            outcome = trying.try_crate(small_crate(Path(made), edits), Path(kept), lambda line: None)
+            crate = small_crate(Path(made), edits)
+            outcome = trying.try_crate(crate, Path(crate.folder), Path(kept), lambda line: None)
         return {it.name: it for it in outcome.tried}, outcome
 
     def test_edits_that_turn_a_meaning_are_refused_where_they_stand(self):

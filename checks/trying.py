@@ -64,7 +64,7 @@ class Bench:
                     shutil.copytree(Path(self.crate.folder) / part, room / part)
             for path, text in texts.items():
                 (room / path).write_text(text, encoding="utf-8")
-            ran = measure.run(kit.check_words(self.crate, self.kept, only), room)
+            ran = measure.run(kit.check_words(self.crate, self.kept, only), room, is_apart=True)
         self.seconds, self.peak, self.checks = self.seconds + ran.seconds, max(self.peak, ran.peak), self.checks + 1
         return ran
 
@@ -179,10 +179,11 @@ def plain_fault(bench: Bench, edits: list[Edit]) -> str:
     return "" if ran.status == 0 else ran.text.strip()[-300:]
 
 
-def try_crate(crate, kept: Path, say: Callable[[str], None]) -> Outcome:
-    """Tries the edits of a crate whose libraries are built. Where the crate isn't proved without them, none counts as refused."""
+def try_crate(crate, edits: Path, kept: Path, say: Callable[[str], None]) -> Outcome:
+    """Tries the edits, which stand under `edits`, of a crate whose libraries are built. Where the crate isn't proved without them, none
+    counts as refused."""
     sources = sources_of(Path(crate.folder))
-    good, bad = read_edits(Path(crate.folder), sources)
+    good, bad = read_edits(edits, sources)
     outcome = Outcome(crate.name, [Tried(name, False, f"BAD EDIT: {why}") for name, why in bad])
     bench = Bench(crate, sources, kept, began_over=any(kept.iterdir()))
     tried = [it for group in groups(good) for it in try_together(bench, group)]

@@ -1,0 +1,65 @@
+"""Work that fills what other work leaves idle of a machine."""
+
+import os
+import threading
+import time
+from concurrent.futures import Future, ThreadPoolExecutor
+from pathlib import Path
+from typing import Callable
+
+TICK = os.sysconf("SC_CLK_TCK")
+
+
+class Idle:
+    """How many processors nothing has used since it was last asked."""
+
+    def __init__(self) -> None:
+        self.before = self.now()
+
+    @staticmethod
+    def now() -> tuple[float, float]:
+        """The seconds that all processors together were idle or waited for a disk, and the time."""
+        words = Path("/proc/stat").read_text().split("\n", 1)[0].split()
+        return (int(words[4]) + int(words[5])) / TICK, time.monotonic()
+
+    def processors(self) -> float:
+        (idle, at), before = self.now(), self.before
+        self.before = idle, at
+        return (idle - before[0]) / max(at - before[1], 0.001)
+
+
+class Beside(threading.Thread):
+    """Does one piece of work after the other, each as soon as it may begin and there is room for it: a processor that was idle for a
+    while, and what `has_room` asks for. What isn't begun in the end is left to others."""
+
+    def __init__(self, pieces: list, may_begin: Callable, has_room: Callable, work: Callable, every: float = 2.0) -> None:
+        super().__init__(daemon=True)
+        self.left, self.may_begin, self.has_room, self.work, self.every = [*pieces], may_begin, has_room, work, every
+        self.idle = Idle()
+        # (one processor is left to what it is beside)
+        self.pool = ThreadPoolExecutor(max(len(os.sched_getaffinity(0)) - 1, 1))
+        self.begun: list[Future] = []
+        self.is_over = threading.Event()
+
+    def run(self) -> None:
+        while not self.is_over.wait(self.every):
+            if self.idle.processors() >= 1:
+                self.begin_one()
+
+    def begin_one(self) -> None:
+        piece = next((it for it in self.left if self.may_begin(it) and self.has_room(it)), None)
+        if piece is not None:
+            self.left.remove(piece)
+            self.begun.append(self.pool.submit(self.work, piece))
+
+    def end(self) -> list:
+        """Begins no more, and gives what isn't begun."""
+        self.is_over.set()
+        self.join()
+        return self.left
+
+    def wait(self) -> None:
+        """Waits for what was begun."""
+        for it in self.begun:
+            it.result()
+        self.pool.shutdown()
