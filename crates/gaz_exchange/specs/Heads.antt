@@ -1,12 +1,20 @@
 -- The heads of requests on a stream (RFC 9112, sections 2 to 5).
-use Rattle.std.specs.Prelude.{◌≡◌, ℕ, ◌≤◌, ◌==◌, ◌||◌, List, ◌++◌, length, Bool, true}
+use Rattle.std.specs.Prelude.{◌≡◌, ℕ, ◌+◌, ◌≤◌, ◌==◌, ◌||◌, List, ◌++◌, length, Bool, true}
 use Rattle.std.specs.List.{list_all}
 use Rattle.httparse.specs.Grammar.{ReadsRequest, RequestHead, print_request}
 
--- the bytes begin with this head, of at most 8,192 bytes and 32 headers, and rest follows
+-- the most bytes of a head, with the empty lines before it
+abbrev pub most_head : ℕ
+most_head = 8192
+
+-- the bytes that are held of a stream: as many, and one more, which shows that a head has too many
+abbrev pub inlet_size : ℕ
+inlet_size = most_head + 1
+
+-- the bytes begin with this head, of at most so many bytes and 32 headers, and rest follows
 pub record BeginsWith (bytes : List ℕ) (h : RequestHead) (rest : List ℕ) : Type 0 where
   pub reads : ReadsRequest bytes h rest
-  pub short : length (print_request h) ≤ 8192
+  pub short : length (print_request h) ≤ most_head
   pub few : length h.fields ≤ 32
 
 -- the bytes begin with no head
@@ -25,7 +33,7 @@ is_line_byte b = (b == 13) || (b == 10)
 abbrev pub is_blank : List ℕ → Bool
 is_blank bytes = list_all is_line_byte bytes
 
--- no further request: nothing but CR and LF, in at most 8,192 bytes
+-- no further request: nothing but CR and LF, in no more bytes than a head may have
 pub record IsOver (bytes : List ℕ) : Type 0 where
-  pub short : length bytes ≤ 8192
+  pub short : length bytes ≤ most_head
   pub blank : is_blank bytes ≡ true

@@ -5,7 +5,7 @@ use Rattle.httparse.specs.Grammar.{RequestHead, print_request}
 use Rattle.httparse.specs.Spans.{IsRequestAt, IsRequestWithin}
 use Rattle.httparse.specs.declared.spans.HeaderSpan.{HeaderSpan}
 use Rattle.httparse.specs.declared.spans.RequestSpans.{RequestSpans}
-use Rattle.gaz_exchange.specs.Heads.{IsOver, NeverHead, NoHead, is_blank}
+use Rattle.gaz_exchange.specs.Heads.{IsOver, NeverHead, NoHead, is_blank, most_head}
 use Rattle.gaz_exchange.specs.Sparing.{OneForEach, OneForEachUsed}
 use Rattle.gaz_exchange.specs.declared.heads.Look.{Look}
 use Rattle.gaz_exchange.specs.declared.heads.Look.TheVariants as look
@@ -18,16 +18,16 @@ use Rattle.gaz_exchange.specs.declared.supply.Cause.TheVariants.{ReadFault}
 abbrev pub IsHeadAt : List ℕ → List HeaderSpan → RequestSpans → Type 0
 IsHeadAt pending headers spans = IsRequestWithin pending headers spans
     × (h : RequestHead) × IsRequestAt pending headers spans h
-    × (length (print_request h) ≤ 8192) × (length h.fields ≤ 32)
+    × (length (print_request h) ≤ most_head) × (length h.fields ≤ 32)
 
--- the pending bytes aren't CR and LF alone, in at most 8,192 bytes
+-- the pending bytes aren't CR and LF alone, in no more bytes than a head may have
 abbrev pub IsMore : List ℕ → Type 0
-IsMore pending = (is_blank pending ≡ false) ⊎ (8192 < length pending)
+IsMore pending = (is_blank pending ≡ false) ⊎ (most_head < length pending)
 
 -- what the pending bytes begin with
 abbrev pub IsLook : List ℕ → List HeaderSpan → Look → Type 0
 IsLook pending headers (look.Head spans) = IsHeadAt pending headers spans
-IsLook pending headers look.Open = NoHead pending × (8192 < length pending → NeverHead pending)
+IsLook pending headers look.Open = NoHead pending × (most_head < length pending → NeverHead pending)
 IsLook pending headers look.Never = NeverHead pending × IsMore pending
 
 -- what comes next, by the bytes that were read and not used, and those that the reader has left

@@ -1,6 +1,7 @@
 ghost use Rattle.std.specs.Prelude.{◌≡◌, ◌≤◌, ◌<◌, ◌++◌, ◌+◌, ◌-◌, ℕ, List, [], length, take, drop};
 ghost use Rattle.std.specs.Prelude.{MatchResult, OnErr};
 ghost use Rattle.std.specs.Io.KnownBytes.{Consumes, IsAtEnd, Keeps};
+ghost use Rattle.gaz_exchange.specs.Heads.{inlet_size};
 
 use crate::source::Source;
 use std::io;
@@ -22,14 +23,14 @@ impl Model for Inlet {
 
     ghost view = { λ b. drop b.start (take b.end b.bytes) };
 
-    ghost invariant = { λ b. (b.start ≤ b.end) × (b.end ≤ 8193) };
+    ghost invariant = { λ b. (b.start ≤ b.end) × (b.end ≤ inlet_size) };
 }
 
 // Moves a part to the front.
 fn move_to_front(bytes: &mut [u8; INLET_SIZE], start: usize, end: usize)
-    requires { (start ≤ end) × (end ≤ 8193) }
+    requires { (start ≤ end) × (end ≤ inlet_size) }
     ensures part { take (end - start) bytes.new ≡ drop start (take end bytes.old) }
-    ensures length { length bytes.new ≡ 8193 }
+    ensures length { length bytes.new ≡ inlet_size }
 {
     bytes.copy_within(start..end, 0);
 }
@@ -48,7 +49,7 @@ impl Inlet {
     /// The bytes.
     pub fn pending(&self) -> &[u8]
         ensures pending { result.now ≡ self.now }
-        ensures short { length self.now ≤ 8193 }
+        ensures short { length self.now ≤ inlet_size }
     {
         &self.bytes[self.start..self.end]
     }
@@ -63,7 +64,7 @@ impl Inlet {
 
     /// Reads once. No bytes come only at the end of the input.
     pub fn fill<R: Source>(&mut self, r: &mut R) -> io::Result<usize>
-        requires { length self.old < 8193 }
+        requires { length self.old < inlet_size }
         ensures read { MatchResult result
             (λ n. (bs : List ℕ) × Consumes (R.remaining r.old) (R.remaining r.new) bs
             × (self.new ≡ self.old ++ bs) × (length bs ≡ n) × (n ≡ 0 → IsAtEnd (R.remaining r.new)))

@@ -1,6 +1,7 @@
 ghost use Rattle.std.specs.Prelude.{◌<◌, length};
 ghost use Rattle.std.specs.Io.KnownBytes.{Keeps};
 ghost use Rattle.gaz_exchange.specs.Failing.{HasFailed};
+ghost use Rattle.gaz_exchange.specs.Heads.{inlet_size};
 ghost use Rattle.gaz_exchange.specs.Supplies.{IfSupplyFailed, IsReadForMore, IsSupply, Supplies};
 
 use crate::inlet::Inlet;
@@ -27,7 +28,7 @@ pub enum Supply {
 
 /// Flushes the writer and then reads once, so that no reply waits for bytes that it doesn't need.
 pub fn read_more<R: Source, W: Sink>(r: &mut R, w: &mut W, inlet: &mut Inlet) -> Supply
-    requires { length inlet.old < 8193 }
+    requires { length inlet.old < inlet_size }
     ensures read { Supplies R.remaining r.old r.new inlet.old inlet.new
         (λ bytes left. IsSupply bytes left result) }
     ensures counted { IsReadForMore (R.reads r.old) (R.reads r.new) result }

@@ -4,6 +4,10 @@ use Rattle.gaz_records.specs.SortKeys.{high_of, low_of, seven_bytes}
 use Rattle.gaz_records.specs.declared.key.Key.{Key}
 use Rattle.gaz_views.specs.Words.{comes_after}
 
+-- the most items of a page
+abbrev pub most_page : ℕ
+most_page = 512
+
 -- the key after which the next page would begin, where it comes after the one after which this page
 -- began
 abbrev pub rising : Option Key → Option Key → Option Key

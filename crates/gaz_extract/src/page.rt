@@ -5,7 +5,7 @@ ghost use Rattle.gaz_records.specs.Kinds.{is_entry_kind};
 ghost use Rattle.gaz_records.specs.SortKeys.{has_label, seven_bytes};
 ghost use Rattle.gaz_views.specs.Reading.{left_after, next_after};
 ghost use Rattle.gaz_views.specs.Words.{comes_after, rest_of};
-ghost use Rattle.gaz_extract.specs.Paging.{pages_left, rising};
+ghost use Rattle.gaz_extract.specs.Paging.{most_page, pages_left, rising};
 ghost use Rattle.gaz_extract.specs.Readings.{LooksAfter};
 ghost use Rattle.gaz_keeper.specs.Telling.{IsNotJudging};
 
@@ -60,7 +60,7 @@ fn is_later(before: &Key, key: &Key) -> bool
 
 // The key of a page's last item, where the page is full.
 fn last_key(items: &[SharedItem]) -> Option<Key>
-    ensures { result ≡ next_after 512 items.now }
+    ensures { result ≡ next_after most_page items.now }
 {
     if items.len() < MOST {
         return None;
@@ -74,7 +74,7 @@ fn last_key(items: &[SharedItem]) -> Option<Key>
 // The key after which the next page begins, where this one is full and its last key comes after the
 // one after which it began.
 fn next_after(items: &[SharedItem], after: &Option<Key>) -> Option<Key>
-    ensures next { result ≡ rising after.now (next_after 512 items.now) }
+    ensures next { result ≡ rising after.now (next_after most_page items.now) }
     ensures fewer { is_some after.now ≡ true → pages_left result < pages_left after.now }
 {
     let key = last_key(items)?;

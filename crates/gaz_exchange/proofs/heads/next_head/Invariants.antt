@@ -1,5 +1,6 @@
 use Rattle.std.proofs.Common.{◌≡◌, ◌-◌, ◌++◌, ℕ, List, length}
 use Rattle.std.specs.Io.KnownBytes.{Consumes, Keeps}
+use Rattle.gaz_exchange.specs.Heads.{inlet_size}
 use Rattle.gaz_exchange.proofs.SparingFacts.{IsReadSoFar}
 use Rattle.gaz_exchange.proofs.heads.next_head.Given as goal
 
@@ -11,4 +12,4 @@ invariant-reads g l = record {
 }
 
 abbrev pub decreases-reads : goal.decreases-reads
-decreases-reads g l = 8193 - length l.inlet
+decreases-reads g l = inlet_size - length l.inlet

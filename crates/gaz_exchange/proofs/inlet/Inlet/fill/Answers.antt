@@ -1,4 +1,5 @@
 use Rattle.std.proofs.Common.{arith, length, rules, ◌-◌, ◌≡◌, take, ap, ◌∙◌, sym, ◌++◌, length-drop, length-take}
+use Rattle.gaz_exchange.specs.Heads.{inlet_size}
 use Rattle.gaz_exchange.proofs.Bytes.{filled}
 use Rattle.gaz_exchange.proofs.inlet.Inlet.fill.Goals as goal
 
@@ -9,9 +10,9 @@ returns g c =
     let end = c.self.inside.end in
     let m = c.move_to_front.ensures.part in
     let long = c.move_to_front.ensures.length in
-    let room : length c.read_once.new.buf ≡ 8193 - (end - start) = search rules in
-    let f = filled (end - start) (8193 - (end - start)) c.in_ok-n.n c.move_to_front.new.bytes c.read_once.new.buf (omega (arith, c.self.invariant.1, long)) a.bound.0 in
-    let was : length c.self.inside.bytes ≡ 8193 = search rules in
+    let room : length c.read_once.new.buf ≡ inlet_size - (end - start) = search rules in
+    let f = filled (end - start) (inlet_size - (end - start)) c.in_ok-n.n c.move_to_front.new.bytes c.read_once.new.buf (omega (arith, c.self.invariant.1, long)) a.bound.0 in
+    let was : length c.self.inside.bytes ≡ inlet_size = search rules in
     let size = ap length c.self.view_is in
     let read = take c.in_ok-n.n c.read_once.new.buf in
     record {
