@@ -14,7 +14,7 @@ use Rattle.gaz_hub.proofs.Answers.{every_answer_holds}
 use Rattle.gaz_hub.proofs.HubRuns.{runs_none, runs_still, runs_then}
 use Rattle.gaz_exchange.specs.declared.conversation.Served.{Served}
 use Rattle.gaz_exchange.specs.declared.conversation.Stopped.{Stopped}
-use Rattle.gaz_exchange.specs.Conversing.{AnswersAll, ComesTo, CountedConversation, EndsAs, EndsByReply, FinishesAs, Passed, StopsAs, StopsWaiting, ended_after, replied}
+use Rattle.gaz_exchange.specs.Conversing.{AnswersAll, ComesTo, CountedConversation, EndsAs, EndsByReply, FinishesAs, Passed, SomeAnswered, StopsAs, StopsWaiting, ended_after, replied}
 use Rattle.gaz_exchange.specs.Exchanges.{Comes, Exchange, all_open, command_in, commands_of, ends_after, goes_on, replies, responses_of}
 use Rattle.gaz_exchange.specs.Framing.{is_closing}
 use Rattle.gaz_exchange.specs.Sparing.{OneForEach, OneForEachUsed}
@@ -50,6 +50,13 @@ answers_off : (d : Door) (old new : Seen) (commands : List Command) (responses :
     → StandsForRun d old → new.unharmed → AllAnswered d old.content.files commands responses new.content.files
 answers_off d old new commands responses r was fine =
     every_answer_holds d (state_of old.content) (state_of new.content) commands responses was.partial (r.run was.stands fine)
+
+-- and whatever a failure shut
+ever_off : (d : Door) (old new : Seen) (commands : List Command) (responses : List Response) → Runs d old new commands responses
+    → StandsForRun d old → new.trusted → SomeAnswered d old.content.files commands responses
+ever_off d old new commands responses r was t =
+    let reached = r.reaches was.stands t in
+    (reached.0.received, every_answer_holds d (state_of old.content) reached.0 commands responses was.partial reached.1)
 
 module _ (d : Door) where
   -- n requests were answered, and none of them ends the conversation
@@ -190,6 +197,7 @@ module _ (d : Door) where
             routes = (all_routes t.read e t.consumed x t.stay).stay;
             runs = all_runs t.read e t.consumed x t.stay;
             answers = answers_off d old new _ _ (all_runs t.read e t.consumed x t.stay);
+            answers_ever = ever_off d old new _ _ (all_runs t.read e t.consumed x t.stay);
             comes_to = how;
             answers_all = ends_all most passed (n + 1) (ended_after (n + 1) most) how;
           };
@@ -220,6 +228,7 @@ module _ (d : Door) where
             routes = s.routes.stay;
             runs = still_runs t.read t.consumed rests;
             answers = answers_off d old new _ _ (still_runs t.read t.consumed rests);
+            answers_ever = ever_off d old new _ _ (still_runs t.read t.consumed rests);
             comes_to = how;
             answers_all = ends_all most passed (n + 1) (ended_after (n + 1) most) how;
           };
@@ -249,6 +258,7 @@ module _ (d : Door) where
             routes = s.routes.stay;
             runs = still_runs t.read t.consumed rests;
             answers = answers_off d old new _ _ (still_runs t.read t.consumed rests);
+            answers_ever = ever_off d old new _ _ (still_runs t.read t.consumed rests);
             comes_to = how;
             answers_all = ends_all most passed n ended.InputEnd how;
           };
@@ -271,6 +281,7 @@ module _ (d : Door) where
         routes = (all_routes t.read e t.consumed x t.stay).stay;
         runs = all_runs t.read e t.consumed x t.stay;
         answers = answers_off d old new _ _ (all_runs t.read e t.consumed x t.stay);
+        answers_ever = ever_off d old new _ _ (all_runs t.read e t.consumed x t.stay);
         comes_to = inr (inl (record { earlier = s.exchanges; in_hand = e; sent = t.written; lost = lost; split = refl; cut = cut; part = part; counted = sym s.count; told = refl }));
         answers_all = tt;
       };
@@ -293,6 +304,7 @@ module _ (d : Door) where
         routes = s.routes.stay;
         runs = still_runs t.read t.consumed rests;
         answers = answers_off d old new _ _ (still_runs t.read t.consumed rests);
+        answers_ever = ever_off d old new _ _ (still_runs t.read t.consumed rests);
         comes_to = inr (inr (inl (record { open_yet = open_yet; sent = t.written; lost = lost; turned_away = away; part = part; counted = sym s.count; told = refl })));
         answers_all = tt;
       };
@@ -320,6 +332,7 @@ module _ (d : Door) where
           routes = s.routes.stay;
           runs = still_runs read consumed w.1;
           answers = answers_off d old new _ _ (still_runs read consumed w.1);
+          answers_ever = ever_off d old new _ _ (still_runs read consumed w.1);
           comes_to = how;
           answers_all = tt;
         };
@@ -358,6 +371,7 @@ module _ (d : Door) where
         routes = c.conversation.routes;
         runs = c.conversation.runs;
         answers = c.conversation.answers;
+        answers_ever = c.conversation.answers_ever;
         comes_to = comes_to;
         answers_all = answers_all;
       };
@@ -398,6 +412,7 @@ module _ (d : Door) where
           routes = s.routes.stay;
           runs = s.runs;
           answers = answers_off d old new _ _ s.runs;
+          answers_ever = ever_off d old new _ _ s.runs;
           comes_to = how;
           answers_all = ends_all most passed most ended.Most how;
         };

@@ -9,6 +9,7 @@ use Rattle.gaz_hub.proofs.HubRuns.{runs_none, runs_one}
 use Rattle.gaz_exchange.specs.Asking.{asked, call_at, command_of, method_of, with_body}
 use Rattle.gaz_exchange.specs.Exchanges.{BeginsWithRequest, Exchange, IsAnswered, IsReplyTo}
 use Rattle.gaz_exchange.specs.Framing.{is_closing}
+use Rattle.gaz_exchange.specs.Heads.{IsOver}
 use Rattle.gaz_exchange.specs.Incoming.{IsCall}
 use Rattle.gaz_exchange.specs.Refusals.{IsRefused, IsUnfinished}
 use Rattle.gaz_exchange.specs.Replies.{IsReplyText, reply_text, reply_to}
@@ -16,7 +17,7 @@ use Rattle.gaz_exchange.specs.Sparing.{OneForEach, OneForEachUsed}
 use Rattle.gaz_exchange.specs.Targets.{target_of}
 use Rattle.gaz_exchange.specs.Turns.{Answers, Asks, Exchanges, IsTurn, Refuses, Rests, TurnsOut, Waits, turn_of}
 use Rattle.gaz_exchange.specs.declared.conversation.Turn.{Turn}
-use Rattle.gaz_exchange.specs.declared.conversation.Turn.TheVariants.{Stopped}
+use Rattle.gaz_exchange.specs.declared.conversation.Turn.TheVariants.{Over, Stopped}
 use Rattle.gaz_exchange.specs.declared.supply.Cause.{Cause}
 use Rattle.gaz_exchange.specs.declared.supply.Cause.TheVariants.{ReadFault, WriteFault}
 use Rattle.gaz_exchange.specs.declared.fault.Fault.{Fault}
@@ -31,6 +32,10 @@ use Rattle.gaz_exchange.proofs.StreamFacts.{kept_appends, kept_appends_none}
 pub refusal_text : (fault : Fault) (is_last : Bool) (text : List ℕ) → IsReplyText (Refused fault) is_last text → text ≡ reply_text (Refused fault) is_last
 refusal_text fault is_last text (inl e) = e
 refusal_text fault is_last text (inr none) = let wrong : false ≡ true = none.took in cc
+
+-- what isn't for the hub leaves it as it is
+pub not_asked : (d : Door) (body : List ℕ) (old : Seen) (called : Result Call Fault) (fault : Fault) → called ≡ Err fault → Asks d called body old old (Refused fault)
+not_asked d body old called fault is = subst (λ (r : Result Call Fault). Asks d r body old old (Refused fault)) (sym is) (runs_none d old, refl)
 
 -- the exchange where the hub wasn't asked
 abbrev unasked_exchange : RequestHead → List ℕ → Bool → List ℕ → Exchange
@@ -155,6 +160,13 @@ module _ (d : Door) where
   turn_of_failure is_last was routed before after pending read rest had left held mid old cause stay eaten kept short counted =
       let out = waits_out is_last routed before after (pending ++ read) rest left old old cause (short, runs_none d old, refl, counted) in
       record { read = read; written = []; consumed = eaten; appended = kept_appends_none held mid kept; stay = stay; out = out }
+
+  -- the turn at the end
+  pub turn_of_end : (is_last was routed : Bool) (before after : ℕ) (pending read rest : List ℕ) (had left held mid : Option (List ℕ)) (old : Seen)
+      → (was ≡ true → routed ≡ true) → Consumes had left read → Keeps held mid → IsOver (pending ++ read) → IsAtEnd left
+      → OneForEach before after (pending ++ read) (IsAtEnd left) → IsTurn d is_last was routed before after pending rest had left held mid old old Over
+  turn_of_end is_last was routed before after pending read rest had left held mid old stay eaten kept over at_end counted =
+      record { read = read; written = []; consumed = eaten; appended = kept_appends_none held mid kept; stay = stay; out = (over, at_end, runs_none d old, refl, counted) }
 
 -- a turn at one door is a turn at the same door by another name
 pub turn_at : (d e : Door) (is_last was routed : Bool) (before after : ℕ) (pending rest : List ℕ) (had left held holds : Option (List ℕ)) (old new : Seen) (turn : Turn) → d ≡ e

@@ -3,10 +3,11 @@ use Rattle.std.specs.Prelude.{◌≡◌, ◌≢◌, ⊤, ℕ, ◌+◌, ◌<◌, 
 use Rattle.std.specs.Prelude.{[], ◌∷◌, ◌++◌, length, Option, Result, Ok, Err, IfErr, IsErrAnd, IsOk}
 use Rattle.std.specs.Io.KnownBytes.{Appends, Consumes, IsAtEnd}
 use Rattle.gaz_keeper.specs.Keeper.{Seen}
+use Rattle.gaz_keeper.specs.Received.{Received}
 use Rattle.gaz_hub.specs.Answers.{AllAnswered}
 use Rattle.gaz_hub.specs.Hubs.{Runs}
 use Rattle.gaz_hub.specs.Laws.{StandsForRun}
-use Rattle.gaz_hub.specs.Step.{Door}
+use Rattle.gaz_hub.specs.Step.{Command, Door, Response}
 use Rattle.gaz_exchange.specs.Heads.{IsOver}
 use Rattle.gaz_exchange.specs.Exchanges.{Exchange, Comes, RoutesStay, goes_on, replies, commands_of}
 use Rattle.gaz_exchange.specs.Exchanges.{responses_of}
@@ -145,6 +146,12 @@ AnswersAll most passed (Ok served) =
     AreAll most passed.exchanges passed.rest ⊎ IsRefused passed.rest passed.left NotReceived
 AnswersAll most passed (Err stopped) = ⊤
 
+-- each answer is read off the standing board of the files that were received by then, which are
+-- these and what came first
+abbrev pub SomeAnswered : Door → Received → List Command → List Response → Type 0
+SomeAnswered door files commands responses =
+    (all : Received) × AllAnswered door files commands responses all
+
 -- a conversation of a hub with this door, of at most so many requests; old and new are the hub
 -- before and after, as it is seen with what it remembers
 pub record Conversation (door : Door) (most : ℕ) (through : Transfer) (old new : Seen)
@@ -164,6 +171,9 @@ pub record Conversation (door : Door) (most : ℕ) (through : Transfer) (old new
   pub answers : StandsForRun door old → new.unharmed →
       AllAnswered door old.content.files (commands_of exchanges) (responses_of exchanges)
       new.content.files
+  -- so it is of the files of some hub, whatever a failure shut by then
+  pub answers_ever : StandsForRun door old → new.trusted →
+      SomeAnswered door old.content.files (commands_of exchanges) (responses_of exchanges)
   pub comes_to : ComesTo most
       (record { exchanges = exchanges; rest = rest; left = through.left; written = written }) result
   pub answers_all : AnswersAll most

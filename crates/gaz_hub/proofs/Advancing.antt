@@ -51,6 +51,7 @@ advances_looking d a b r P l idle =
       many = λ stood fine. omega arith;
       idle = left_not_open a.progress b.progress l.keeps.progress idle;
       kept = l.counts.kept;
+      trust = l.counts.trust;
       stops = stops_look d a b r P l;
     }
 
@@ -77,6 +78,7 @@ advances_then d m n a b c first second =
           many_of m n (first.board stood mid).order (second.board (first.stands stood mid) fine).order (first.many stood mid) (second.many (first.stands stood mid) fine);
       idle = second.idle;
       kept = let f = first.kept in let s = second.kept in omega arith;
+      trust = λ t. first.trust (second.trust t);
       stops = λ sound.
           stops_then a b c (state_of a.content) (state_of b.content) (state_of c.content) (IsLater d) (IsLater d) first.harm second.harm
           (λ fine k. let stood = sound (first.harm fine) in later_on d (state_of a.content) (state_of b.content) (first.files stood fine) (first.board stood fine) k)
@@ -93,6 +95,7 @@ advances_less d m n a b h l =
       many = λ stood fine. let f = l.many stood fine in omega arith;
       idle = l.idle;
       kept = l.kept;
+      trust = l.trust;
       stops = l.stops;
     }
 
@@ -193,7 +196,7 @@ adds_after a b c x r code rd own asked P l asks g =
           let same = l.keeps.content stood mid in
           on_err r (λ e. e ∙ ap after_abandon same) (g.undone (l.keeps.stands stood mid) (asks (now_in _ _ code rd (sym same) met)) fine);
       idle = g.idle;
-      counts = counts_then a b c r l.counts.kept g.counts;
+      counts = counts_then a b c r l.counts.kept l.counts.trust g.counts;
     }
 
 abbrev follows_judged : (d : Door) (k m : Content) (code : ℕ) (rd : Reading) → IsNow k code rd → m ≡ with_judgement k code (judged_on ((blocks d) code) k.board code rd) → Follows (blocks d) k.files k.board m.board
@@ -223,6 +226,7 @@ module _ {T : Type 0} (d : Door) (a c : Seen) (code : ℕ) (rd : Reading) (met :
         many = λ stood fine. omega arith;
         idle = g.idle;
         kept = g.counts.kept;
+        trust = g.counts.trust;
         stops = stops;
       }
 
@@ -240,6 +244,7 @@ module _ {T : Type 0} (d : Door) (a c : Seen) (code : ℕ) (rd : Reading) (met :
         many = λ stood fine. omega arith;
         idle = g.idle;
         kept = g.counts.kept;
+        trust = g.counts.trust;
         stops = stops;
       }
 
@@ -311,6 +316,7 @@ tries_nothing d left a IsAmong idle nobody =
         many = λ stood fine. omega arith;
         idle = idle;
         kept = omega arith;
+        trust = λ t. t;
         stops = λ sound. stops_still a (state_of a.content) (IsLater d);
       };
       within = omega arith;

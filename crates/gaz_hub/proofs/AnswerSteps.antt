@@ -1,5 +1,5 @@
 -- Answers as steps.
-use Rattle.std.proofs.Common.{◌≡◌, ℕ, Bool, true, false, cond, not, List, length, refl, sym, ap, ◌∙◌, subst, arith}
+use Rattle.std.proofs.Common.{◌≡◌, ℕ, Bool, true, false, true≢false, cond, not, List, length, refl, sym, ap, ◌∙◌, subst, arith}
 use Rattle.std.specs.Cmp.{eq_by_cmp_equiv}
 use Rattle.std.specs.Prelude.{Option, Some, None, is_some, Ok, Err}
 use Rattle.std.specs.FinMap as map
@@ -11,7 +11,7 @@ use Rattle.gaz_keeper.specs.declared.fault.ShelfFault.{ShelfFault}
 use Rattle.gaz_keeper.specs.declared.fault.ShelfFault.TheVariants.{Store}
 use Rattle.gaz_register.specs.Registers.{knows}
 use Rattle.gaz_hub.specs.Asked.{IsAgain, IsOfBefore, IsOutcome, IsPastDoor, TakesIn}
-use Rattle.gaz_hub.specs.Hubs.{AreKnown, StandsFor, Steps, state_of}
+use Rattle.gaz_hub.specs.Hubs.{AreKnown, Reaches, StandsFor, Steps, is_declined, state_of}
 use Rattle.gaz_hub.specs.Settling.{Tells}
 use Rattle.gaz_hub.specs.Standing.{Follows, Leads, NothingReady}
 use Rattle.gaz_hub.specs.Step.{Door, HubState, NotReceived, Step, Submit, Submits, Submitted, Unsettled, WasNew, blocks, file_refusal, or_foreign, turned_away}
@@ -86,38 +86,50 @@ module _ (d : Door) (a b c : Seen) (code volume : ℕ) (bytes : List ℕ) (let_i
       let start = ap (λ (k : Content). k.board) (came.done stood.0 free mid) in
       record { order = f.order; leads = subst (λ (x : Received × Board). Leads (blocks d) x.0 x.1 f.order c.content.board) (λ i. (sym (l.advances.files now fine) i, start i)) f.leads }
 
-  pub taken_new : (told : Outcome) → Tells d b c (Ok told) (IsOutcome c.content.files c.content.board code volume) → TakesIn d a c code volume bytes (New told)
-  taken_new told l =
+  pub taken_new : (told : Outcome) → (c.trusted → c.unharmed) → Tells d b c (Ok told) (IsOutcome c.content.files c.content.board code volume) → TakesIn d a c code volume bytes (New told)
+  taken_new told sure l =
+      let step : StandsFor d a → IsNew a.content code volume → c.unharmed → Submits d (state_of a.content) code volume bytes (New told) (state_of c.content) = λ stood free fine.
+      let now = stood_then stood free (l.advances.harm fine) in
+      let files = files_then _ _ l stood free fine in
+      let closed = l.settled now fine in
+      record {
+        let_in = let_in;
+        free = free;
+        received = files;
+        settled = record { follows = board_then _ _ l stood free fine; settled = closed };
+        answer = l.right now fine (ap is_some (there_now a.content.files c.content.files code volume bytes files)) closed;
+      } in
       record {
         harm = λ fine. came.harm (l.advances.harm fine);
         stands = λ stood free fine. l.advances.stands (stood_then stood free (l.advances.harm fine)) fine;
-        step = λ stood free fine.
-            let now = stood_then stood free (l.advances.harm fine) in
-            let files = files_then _ _ l stood free fine in
-            let closed = l.settled now fine in
-            record {
-              let_in = let_in;
-              free = free;
-              received = files;
-              settled = record { follows = board_then _ _ l stood free fine; settled = closed };
-              answer = l.right now fine (ap is_some (there_now a.content.files c.content.files code volume bytes files)) closed;
-            };
+        step = step;
+        was_open = λ no t. came.harm (l.advances.harm (sure t));
+        is_open = λ none. sure;
+        reaches = λ stood free t. (state_of c.content, step stood free (sure t));
         idle = l.advances.idle;
         kept = let x = came.counts.kept in let y = l.advances.kept in omega arith;
+        trust = λ t. came.counts.trust (l.advances.trust t);
         cause = λ stood free fine e. cc;
         stops = λ sound free.
             stops_received d a b code volume bytes let_in sound free c (Submitted (New told)) came l.advances.harm (l.advances.stops (λ fine. stood_then (sound (came.harm fine)) (free (came.harm fine)) fine));
       }
 
-  pub taken_unsettled : (e : ShelfFault) → Tells {T = Outcome} d b c (Err e) (IsOutcome c.content.files c.content.board code volume) → TakesIn d a c code volume bytes (Refused (refusal.ReceivedUnsettled e))
-  taken_unsettled e l =
+  pub taken_unsettled : (e : ShelfFault) → (b.trusted → b.unharmed) → Tells {T = Outcome} d b c (Err e) (IsOutcome c.content.files c.content.board code volume) → TakesIn d a c code volume bytes (Refused (refusal.ReceivedUnsettled e))
+  taken_unsettled e opened l =
       record {
         harm = λ fine. came.harm (l.advances.harm fine);
         stands = λ stood free fine. l.advances.stands (stood_then stood free (l.advances.harm fine)) fine;
         step = λ stood free fine.
             record { let_in = let_in; free = free; received = files_then _ _ l stood free fine; board = board_then _ _ l stood free fine };
+        was_open = λ no t. came.harm (opened (l.advances.trust t));
+        is_open = λ none. let no : Some (refusal.ReceivedUnsettled e) ≡ None = none in cc;
+        reaches = λ stood free t. (
+          record { received = with_file a.content.files code volume bytes; board = a.content.board },
+          record { let_in = let_in; free = free; received = refl; board = follows_itself (blocks d) _ _ _ refl },
+        );
         idle = l.advances.idle;
         kept = let x = came.counts.kept in let y = l.advances.kept in omega arith;
+        trust = λ t. came.counts.trust (l.advances.trust t);
         cause = λ stood free fine is.
             let store : e ≡ Store = cc in
             let more = l.cause (stood_then stood free (l.advances.harm fine)) fine store in
@@ -144,8 +156,15 @@ taken_not d a b code volume bytes e let_in idle came =
             received = ap (λ (k : Content). k.files) same;
             board = follows_itself (blocks d) _ _ _ (ap (λ (k : Content). k.board) same);
           };
+      was_open = λ no t. absurd (true≢false no);
+      is_open = λ none. let no : Some (refusal.NotReceived e) ≡ None = none in cc;
+      reaches = λ stood free t. (
+        state_of a.content,
+        record { let_in = early_let_in d code volume bytes let_in; received = refl; board = follows_itself (blocks d) _ _ _ refl },
+      );
       idle = idle;
       kept = came.counts.kept;
+      trust = came.counts.trust;
       cause = λ stood free fine is. let store : e ≡ Store = cc in came.counts.store store;
       stops = λ sound free. stops_not_received d a b code volume bytes let_in sound free e (Submitted (Refused (refusal.NotReceived e))) refl came;
     }
@@ -217,10 +236,24 @@ module _ (d : Door) (old mid new : HubState) (c volume : ℕ) (bytes : List ℕ)
   submits_from (Refused refusal.TooLarge) let_in free w = let no : Some refusal.TooLarge ≡ None = sym w.refused ∙ let_in in cc
   submits_from (Refused refusal.UnknownProfile) let_in free w = let no : Some refusal.UnknownProfile ≡ None = sym w.refused ∙ let_in in cc
 
+-- what declines a file that the door lets in leaves any hub as it is
+declined_stays : (d : Door) (c volume : ℕ) (bytes : List ℕ) (answer : Answer) → file_refusal d c volume bytes ≡ None → IsPastDoor answer → is_declined (Submitted answer) ≡ true → (hub : HubState)
+    → Submits d hub c volume bytes answer hub
+declined_stays d c volume bytes (New told) let_in past is hub = absurd (true≢false (sym is))
+declined_stays d c volume bytes (Repeat told) let_in past is hub = absurd (true≢false (sym is))
+declined_stays d c volume bytes (Taken digest) let_in past is hub = absurd (true≢false (sym is))
+declined_stays d c volume bytes (Refused (refusal.NotReceived cause)) let_in past is hub =
+    record { let_in = early_let_in d c volume bytes let_in; received = refl; board = follows_itself (blocks d) _ _ _ refl }
+declined_stays d c volume bytes (Refused (refusal.ReceivedUnsettled cause)) let_in past is hub = absurd (true≢false (sym is))
+declined_stays d c volume bytes (Refused refusal.UnknownCustodian) let_in past is hub = absurd (true≢false (sym past))
+declined_stays d c volume bytes (Refused refusal.BadVolume) let_in past is hub = absurd (true≢false (sym past))
+declined_stays d c volume bytes (Refused refusal.TooLarge) let_in past is hub = absurd (true≢false (sym past))
+declined_stays d c volume bytes (Refused refusal.UnknownProfile) let_in past is hub = absurd (true≢false (sym past))
+
 pub taken_in : (d : Door) (a b c : Seen) (code volume : ℕ) (bytes : List ℕ) (answer : Answer) → file_refusal d code volume bytes ≡ None
-    → Tells {T = Option Answer} d a b (Ok None) (IsAgain b.content.files b.content.board code volume bytes) → TakesIn d b c code volume bytes answer
+    → Tells {T = Option Answer} d a b (Ok None) (IsAgain b.content.files b.content.board code volume bytes) → TakesIn d b c code volume bytes answer → IsPastDoor answer
     → Steps d a c (Submit code volume bytes) (Submitted answer)
-taken_in d a b c code volume bytes answer let_in first second =
+taken_in d a b c code volume bytes answer let_in first second past =
     let step : StandsFor d a → c.unharmed → Step d (state_of a.content) (Submit code volume bytes) (Submitted answer) (state_of c.content) = λ stood fine.
     let mid = second.harm fine in
     let free = first.right stood mid in
@@ -233,8 +266,13 @@ taken_in d a b c code volume bytes answer let_in first second =
           second.stands (first.advances.stands stood mid) (first.right stood mid) fine;
       step = step;
       standing = λ stood fine. reads_standing d (state_of a.content) (Submit code volume bytes) (Submitted answer) (state_of c.content) (step stood fine);
+      stays = declined_stays d code volume bytes answer let_in past;
+      was_open = λ no t. first.advances.harm (second.was_open no t);
+      is_open = second.is_open;
+      reaches = λ stood t. by_answer stood t (is_declined (Submitted answer)) refl;
       idle = second.idle;
       failures = let x = first.advances.kept in let y = second.kept in omega arith;
+      trust = λ t. first.advances.trust (second.trust t);
       cause = λ stood fine is.
           let mid = second.harm fine in
           let more = second.cause (first.advances.stands stood mid) (first.right stood mid) fine is in
@@ -246,6 +284,14 @@ taken_in d a b c code volume bytes answer let_in first second =
           (λ fine. first.advances.files (stood fine) fine) (λ fine. first.advances.board (stood fine) fine) (first.advances.stops sound)
           (second.stops (λ fine. first.advances.stands (stood fine) fine) (λ fine. first.right (stood fine) fine));
     }
+  where
+    by_answer : StandsFor d a → c.trusted → (declined : Bool) → is_declined (Submitted answer) ≡ declined → Reaches d (state_of a.content) (Submit code volume bytes) (Submitted answer)
+    by_answer stood t true is = (state_of a.content, declined_stays d code volume bytes answer let_in past is (state_of a.content))
+    by_answer stood t false is =
+        let mid = second.was_open is t in
+        let free = first.right stood mid in
+        let reached = second.reaches (first.advances.stands stood mid) free t in
+        (reached.0, submits_from d (state_of a.content) (state_of b.content) reached.0 code volume bytes (first.advances.files stood mid) (first.advances.board stood mid) answer let_in free reached.1)
 
 -- what was there couldn't be settled
 pub unsettled_before : {T : Type 0} (d : Door) (a b : Seen) (code volume : ℕ) (bytes : List ℕ) (fault : ShelfFault) (P : T → Type 0) → file_refusal d code volume bytes ≡ None → Tells d a b (Err fault) P
@@ -257,22 +303,29 @@ unsettled_before d a b code volume bytes fault P let_in l =
       received = l.advances.files stood fine;
       board = l.advances.board stood fine;
     } in
+    let stays : (hub : HubState) → Step d hub (Submit code volume bytes) (Submitted (Refused (refusal.NotReceived fault))) hub = λ hub.
+    record { let_in = early_let_in d code volume bytes let_in; received = refl; board = follows_itself (blocks d) _ _ _ refl } in
     record {
       harm = l.advances.harm;
       stands = l.advances.stands;
       step = step;
       standing = λ stood fine. reads_standing d (state_of a.content) (Submit code volume bytes) (Submitted (Refused (refusal.NotReceived fault))) (state_of b.content) (step stood fine);
+      stays = λ is hub. stays hub;
+      was_open = λ no t. absurd (true≢false no);
+      is_open = λ none. let no : Some (refusal.NotReceived fault) ≡ None = none in cc;
+      reaches = λ stood t. (state_of a.content, stays (state_of a.content));
       idle = l.advances.idle;
       failures = l.advances.kept;
+      trust = l.advances.trust;
       cause = λ stood fine is. let store : fault ≡ Store = cc in l.cause stood fine store;
       stops = λ sound. stops_judging d a b (state_of a.content) (state_of b.content) (Submit code volume bytes) _ refl (l.advances.stops sound);
     }
 
 -- it was received before
 pub answered_before : (d : Door) (a b : Seen) (code volume : ℕ) (bytes : List ℕ) (answer : Answer) → file_refusal d code volume bytes ≡ None
-    → Tells {T = Option Answer} d a b (Ok (Some answer)) (IsAgain b.content.files b.content.board code volume bytes) → IsOfBefore answer → Steps d a b (Submit code volume bytes) (Submitted answer)
-answered_before d a b code volume bytes (New told) let_in l before = absurd before
-answered_before d a b code volume bytes (Repeat told) let_in l before =
+    → Tells {T = Option Answer} d a b (Ok (Some answer)) (IsAgain b.content.files b.content.board code volume bytes) → (b.trusted → b.unharmed) → IsOfBefore answer → Steps d a b (Submit code volume bytes) (Submitted answer)
+answered_before d a b code volume bytes (New told) let_in l sure before = absurd before
+answered_before d a b code volume bytes (Repeat told) let_in l sure before =
     let step : StandsFor d a → b.unharmed → Step d (state_of a.content) (Submit code volume bytes) (Submitted (Repeat told)) (state_of b.content) = λ stood fine.
     let files = l.advances.files stood fine in
     let again = l.right stood fine in
@@ -288,12 +341,17 @@ answered_before d a b code volume bytes (Repeat told) let_in l before =
       stands = l.advances.stands;
       step = step;
       standing = λ stood fine. reads_standing d (state_of a.content) (Submit code volume bytes) (Submitted (Repeat told)) (state_of b.content) (step stood fine);
+      stays = λ is hub. absurd (true≢false (sym is));
+      was_open = λ no t. l.advances.harm (sure t);
+      is_open = λ none. sure;
+      reaches = λ stood t. (state_of b.content, step stood (sure t));
       idle = l.advances.idle;
       failures = l.advances.kept;
+      trust = l.advances.trust;
       cause = λ stood fine e. cc;
       stops = λ sound. stops_judging d a b (state_of a.content) (state_of b.content) (Submit code volume bytes) _ refl (l.advances.stops sound);
     }
-answered_before d a b code volume bytes (Taken digest) let_in l before =
+answered_before d a b code volume bytes (Taken digest) let_in l sure before =
     let step : StandsFor d a → b.unharmed → Step d (state_of a.content) (Submit code volume bytes) (Submitted (Taken digest)) (state_of b.content) = λ stood fine.
     let files = l.advances.files stood fine in
     let again = l.right stood fine in
@@ -311,9 +369,14 @@ answered_before d a b code volume bytes (Taken digest) let_in l before =
       stands = l.advances.stands;
       step = step;
       standing = λ stood fine. reads_standing d (state_of a.content) (Submit code volume bytes) (Submitted (Taken digest)) (state_of b.content) (step stood fine);
+      stays = λ is hub. absurd (true≢false (sym is));
+      was_open = λ no t. l.advances.harm (sure t);
+      is_open = λ none. sure;
+      reaches = λ stood t. (state_of b.content, step stood (sure t));
       idle = l.advances.idle;
       failures = l.advances.kept;
+      trust = l.advances.trust;
       cause = λ stood fine e. cc;
       stops = λ sound. stops_judging d a b (state_of a.content) (state_of b.content) (Submit code volume bytes) _ refl (l.advances.stops sound);
     }
-answered_before d a b code volume bytes (Refused r) let_in l before = absurd before
+answered_before d a b code volume bytes (Refused r) let_in l sure before = absurd before

@@ -41,4 +41,4 @@ owner_steps seen register uprn Calls old new result is a looks =
     let found = tells_as d (seen old) (seen new) a.read (IsTold (seen new).content) IsFound
     (λ stood x e closed. e ∙ sym (owner_tells register (seen new).content.board uprn is stood.1.own)) told in
     subst (λ k. Steps d (seen old) (seen new) (Pose (LookUp uprn)) (Replied (LookUp uprn) k)) (sym a.told)
-    (steps_read d (LookUp uprn) (λ x. x) (λ r. r) (record { ok = λ x. refl; err = λ r. refl }) refl (seen old) (seen new) a.read found)
+    (steps_read d (LookUp uprn) (λ x. x) (λ r. r) (record { ok = λ x. refl; err = λ r. refl }) refl (seen old) (seen new) a.read a.is_open found)

@@ -16,6 +16,7 @@ pub mod Told
 pub mod Replying
 pub mod AskingOwner
 pub mod AnswerSteps
+pub mod Declining
 pub mod HubRuns
 pub mod Headline
 pub mod ReadBack

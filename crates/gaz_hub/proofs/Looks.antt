@@ -31,14 +31,18 @@ left_not_open Broken q e h = e
 
 -- an answer without a call
 pub looks_nowhere : {T : Type 0} (a : Seen) (x : T) (P : T → Type 0) → P x → Looks a a (Ok x) P
-looks_nowhere a x P h = record { keeps = keeps_itself a; right = λ _ _. h; counts = record { kept = omega arith; store = tt } }
+looks_nowhere a x P h = record { keeps = keeps_itself a; right = λ _ _. h; counts = record { kept = omega arith; store = tt; trust = λ t. t } }
+
+-- the same of a keeper that is as it was
+pub looks_still : {T : Type 0} (a b : Seen) (r : Result T ShelfFault) (x : T) (P : T → Type 0) → b ≡ a → r ≡ Ok x → P x → Looks a b r P
+looks_still a b r x P still is h = rw (still, is) (looks_nowhere a x P h)
 
 if_err : {T : Type 0} (r : Result T ShelfFault) (m n k : ℕ) → m ≤ n → IfErr r (λ e. e ≡ Store → n < k) → IfErr r (λ e. e ≡ Store → m < k)
 if_err (Ok x) m n k h g = tt
 if_err (Err e) m n k h g = λ is. let more = g is in omega arith
 
-pub counts_then : {T : Type 0} (a b c : Seen) (r : Result T ShelfFault) → a.failures ≤ b.failures → Counts b c r → Counts a c r
-counts_then a b c r h g = record { kept = let more = g.kept in omega arith; store = if_err r a.failures b.failures c.failures h g.store }
+pub counts_then : {T : Type 0} (a b c : Seen) (r : Result T ShelfFault) → a.failures ≤ b.failures → (b.trusted → a.trusted) → Counts b c r → Counts a c r
+counts_then a b c r h trust g = record { kept = let more = g.kept in omega arith; store = if_err r a.failures b.failures c.failures h g.store; trust = λ t. trust (g.trust t) }
 
 -- a look after one that went well
 pub looks_then : {T U : Type 0} (a b c : Seen) (x : T) (r : Result U ShelfFault) (P : T → Type 0) (Q R : U → Type 0)
@@ -49,12 +53,12 @@ looks_then a b c x r P Q R first second both =
       right = λ stood fine.
           let mid = second.keeps.harm fine in
           if_ok r Q R (both (first.keeps.content stood mid) (first.right stood mid)) (second.right (first.keeps.stands stood mid) fine);
-      counts = counts_then a b c r first.counts.kept second.counts;
+      counts = counts_then a b c r first.counts.kept first.counts.trust second.counts;
     }
 
 -- an answer that is made of what was read
 pub looks_to : {T U : Type 0} (a b : Seen) (x : T) (y : U) (P : T → Type 0) (Q : U → Type 0) → Looks a b (Ok x) P → (P x → Q y) → Looks a b (Ok y) Q
-looks_to a b x y P Q l f = record { keeps = l.keeps; right = λ stood fine. f (l.right stood fine); counts = record { kept = l.counts.kept; store = tt } }
+looks_to a b x y P Q l f = record { keeps = l.keeps; right = λ stood fine. f (l.right stood fine); counts = record { kept = l.counts.kept; store = tt; trust = l.counts.trust } }
 
 -- ---- basis lines
 

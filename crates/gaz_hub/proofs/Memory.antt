@@ -1,7 +1,7 @@
 -- A hub's calls, with what it remembers.
-use Rattle.std.proofs.Common.{◌≡◌, ◌≤◌, ◌+◌, ℕ, true, false, ◌||◌, eqb, eqb-true, ◌<◌, List, [], ◌∷◌, ◌++◌, take, length, get_or, refl, sym, ap, ◌∙◌, subst, true≢false, append_assoc, inl, inr}
+use Rattle.std.proofs.Common.{◌≡◌, ◌≤◌, ◌+◌, ℕ, true, false, ◌||◌, eqb, eqb-true, ◌<◌, List, [], ◌∷◌, ◌++◌, take, length, get_or, refl, sym, ap, ◌∙◌, subst, true≢false, append_assoc, inl, inr, arith, le_trans}
 use Rattle.std.proofs.lemmas.List.{take_all, take_more}
-use Rattle.std.specs.Prelude.{Option, Some, None, Result, Ok, Err, OnOk}
+use Rattle.std.specs.Prelude.{⊤, Option, Some, None, Result, Ok, Err, OnOk}
 use Rattle.std.specs.Option.{option_map, unwrap_or}
 use Rattle.std.specs.FinMap as finmap
 use Rattle.gaz_changefile.specs.Reading.{Reading}
@@ -12,8 +12,9 @@ use Rattle.gaz_keeper.specs.Keeper.{Content, Enters, IsNew, Seen, with_judgement
 use Rattle.gaz_keeper.specs.Received.{Received}
 use Rattle.gaz_keeper.specs.declared.fault.ShelfFault.{ShelfFault}
 use Rattle.gaz_extract.specs.Readings.{Looks}
+use Rattle.gaz_keeper.proofs.Keeping.{keeps_then}
 use Rattle.gaz_hub.specs.Hubs.{StandsFor, door_of}
-use Rattle.gaz_hub.specs.Seen.{IsAfterComing, IsKeptOrLost}
+use Rattle.gaz_hub.specs.Seen.{CallsKeeper, IsAfterComing, IsKeptOrLost, kept_seen, sured}
 use Rattle.gaz_hub.specs.Settling.{Advances, IsNext, Tells}
 use Rattle.gaz_hub.specs.Step.{Door}
 use Rattle.gaz_hub.specs.Waiting.{IsRight, Remembered, RestAfter, RestBut, Rests, all_ahead, is_among, remembering, with_coming, with_judged, with_waiter}
@@ -136,6 +137,7 @@ tells_kept door register old was new a c r P up l right =
         many = λ stood fine. l.advances.many (stands_up stood) fine;
         idle = l.advances.idle;
         kept = l.advances.kept;
+        trust = l.advances.trust;
         stops = λ sound. let s = l.advances.stops (λ fine. stands_up (sound fine)) in record { ever = s.ever; now = s.now; whole = s.whole };
       };
       settled = λ stood fine. l.settled (stands_up stood) fine;
@@ -159,6 +161,7 @@ tells_over door register was a c r P l =
         many = λ stood fine. l.advances.many (stood.0.0, stood.1) fine;
         idle = l.advances.idle;
         kept = l.advances.kept;
+        trust = l.advances.trust;
         stops = λ sound. stops_of_remembering register was a c (l.advances.stops (λ fine. let stood = sound fine in (stood.0.0, stood.1)));
       };
       settled = λ stood fine. l.settled (stood.0.0, stood.1) fine;
@@ -198,8 +201,45 @@ looks_kept register old new b c r P kept l =
         whole = λ sound. l.keeps.whole (λ fine. (sound fine).0);
       };
       right = λ stood fine. l.right stood.0 fine;
-      counts = record { kept = l.counts.kept; store = l.counts.store };
+      counts = record { kept = l.counts.kept; store = l.counts.store; trust = l.counts.trust };
     }
+
+-- what was told and is sure
+pub looks_sured : {T : Type 0} (a b c : Seen) (told : Result T ShelfFault) (done : Result (Unit {0}) ShelfFault) (r : Result T ShelfFault) (P : T → Type 0)
+    → Looks a b told P → Looks b c done (λ _. ⊤) → r ≡ sured told done → Looks a c r P
+looks_sured {T} a b c told done r P first second is = subst (λ q. Looks a c q P) (sym is) (by_told told done first second)
+  where
+    by_told : (told : Result T ShelfFault) (done : Result (Unit {0}) ShelfFault) → Looks a b told P → Looks b c done (λ _. ⊤) → Looks a c (sured told done) P
+    by_told (Ok x) (Ok d) first second = record {
+      keeps = keeps_then a b c first.keeps second.keeps;
+      right = λ stood fine. first.right stood (second.keeps.harm fine);
+      counts = record { kept = le_trans first.counts.kept second.counts.kept; store = tt; trust = λ t. first.counts.trust (second.counts.trust t) };
+    }
+    by_told (Ok x) (Err e) first second = record {
+      keeps = keeps_then a b c first.keeps second.keeps;
+      right = λ stood fine. tt;
+      counts = record {
+        kept = le_trans first.counts.kept second.counts.kept;
+        store = λ is. let more = second.counts.store is in let le = first.counts.kept in omega arith;
+        trust = λ t. first.counts.trust (second.counts.trust t);
+      };
+    }
+    by_told (Err e) done first second = record {
+      keeps = keeps_then a b c first.keeps second.keeps;
+      right = λ stood fine. tt;
+      counts = record {
+        kept = le_trans first.counts.kept second.counts.kept;
+        store = λ is. let more = first.counts.store is in let le = second.counts.kept in omega arith;
+        trust = λ t. first.counts.trust (second.counts.trust t);
+      };
+    }
+
+-- a call of the keeper, of which something is remembered
+pub looks_called : {K T : Type 0} (seen : K → Seen) (register : RegisterValue) (Calls : K → Result T ShelfFault → K → Type 0) (old new : K × Option Remembered) (r : Result T ShelfFault) (P : T → Type 0)
+    → (called : CallsKeeper seen Calls old r new) → Looks (seen old.0) (seen called.last) called.told P → Looks (kept_seen seen register old) (kept_seen seen register new) r P
+looks_called seen register Calls old new r P called looks =
+    looks_kept register old.1 new.1 (seen old.0) (seen new.0) r P called.kept
+    (looks_sured (seen old.0) (seen called.last) (seen new.0) called.told called.sure.done r P looks called.sure.asked called.sure.result_is)
 
 -- ---- a file comes
 
@@ -223,7 +263,7 @@ module _ (register : RegisterValue) (old new : Option Remembered) (a b : Seen) (
         undone = λ stood free fine. tt;
         progress = l.progress;
         cleared = l.cleared;
-        counts = record { kept = l.counts.kept; store = l.counts.store };
+        counts = record { kept = l.counts.kept; store = l.counts.store; trust = l.counts.trust };
         leaves = λ sound free. l.leaves (λ fine. (sound fine).0) free;
         committed = λ sound free. l.committed (λ fine. (sound fine).0) free;
         whole = λ sound free. l.whole (λ fine. (sound fine).0) free;
@@ -239,7 +279,7 @@ module _ (register : RegisterValue) (old new : Option Remembered) (a b : Seen) (
         undone = λ stood free fine. l.undone stood.0 free fine;
         progress = l.progress;
         cleared = l.cleared;
-        counts = record { kept = l.counts.kept; store = l.counts.store };
+        counts = record { kept = l.counts.kept; store = l.counts.store; trust = l.counts.trust };
         leaves = λ sound free. l.leaves (λ fine. (sound fine).0) free;
         committed = λ sound free. tt;
         whole = λ sound free. l.whole (λ fine. (sound fine).0) free;

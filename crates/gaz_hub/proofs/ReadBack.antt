@@ -1,6 +1,6 @@
 -- The items of the views on a board are such as the table allows, so that extracts give views back.
-use Rattle.std.proofs.Common.{◌≡◌, ◌∙◌, ◌+◌, ℕ, Bool, true, false, cond, List, [], ◌∷◌, ◌++◌, arith, refl, sym, ap, subst}
-use Rattle.std.specs.Prelude.{Option, Some, None, fold}
+use Rattle.std.proofs.Common.{◌≡◌, ◌∙◌, ◌+◌, ℕ, Bool, true, false, cond, List, [], ◌∷◌, ◌++◌, refl, sym, ap, subst}
+use Rattle.std.specs.Prelude.{Some, None, fold}
 use Rattle.std.specs.FinMap as map
 use Rattle.std.specs.List.{All}
 use Rattle.std.specs.Option.{option_map}
@@ -28,7 +28,6 @@ use Rattle.gaz_rules.specs.Rules.{effect, effect_of}
 use Rattle.gaz_keeper.specs.Board.{Board, empty_board, last_view, reached, view_after}
 use Rattle.gaz_keeper.specs.Received.{Received}
 use Rattle.gaz_extract.proofs.ReadBack.{extracts_back}
-use Rattle.gaz_extract.specs.Extracts.{items_of}
 use Rattle.gaz_extract.specs.Laws.{HasItems}
 use Rattle.gaz_hub.specs.ReadBack.{AllAllowed, AllGivenBack, BoardsReadBack, HasAllowed}
 use Rattle.gaz_hub.specs.Standing.{Leads, Register, judge_one, ready}

@@ -43,6 +43,7 @@ settled_now register m left w v a b c P first second rest nobody =
         many = λ stood fine. l.many (stood.0.0, stood.1) fine;
         idle = l.idle;
         kept = l.kept;
+        trust = l.trust;
         stops = λ sound. stops_of_remembering register (Some w) a c (l.stops (λ fine. let stood = sound fine in (stood.0.0, stood.1)));
       };
       settled = λ stood fine.

@@ -1,8 +1,8 @@
 -- The worked examples on what calls leave of a keeper that is stopped.
 use Rattle.std.proofs.Common.{◌≡◌, ◌∙◌, ap, inl, inr, [], ◌∷◌, ◌++◌, List, refl, subst, sym, true≢false}
-use Rattle.std.specs.Prelude.{Some, None, is_some}
+use Rattle.std.specs.Prelude.{Some, is_some}
 use Rattle.std.specs.FinMap as map
-use Rattle.gaz_keeper.specs.Board.{Board, Judgement, empty_board}
+use Rattle.gaz_keeper.specs.Board.{empty_board}
 use Rattle.gaz_keeper.specs.Keeper.{Content, Seen}
 use Rattle.gaz_keeper.specs.Received.{Received, pair_cmp}
 use Rattle.gaz_hub.specs.Examples.{first_hub, first_sent, no_text, no_text_judged, one_judged}
@@ -10,8 +10,8 @@ use Rattle.gaz_hub.specs.Found.{HasOneMore, HasOneSince}
 use Rattle.gaz_hub.specs.Hubs.{AreKnown}
 use Rattle.gaz_hub.specs.Sample.{sample_door, sample_register}
 use Rattle.gaz_hub.specs.Step.{HubState, Pose, Settle, Step, new_hub}
-use Rattle.gaz_hub.specs.Stops.{IsLater, IsLaterWith, IsLeftOnceTold, IsLeftSince, Stops, StopsCall}
-use Rattle.gaz_hub.specs.WorkedFound.{WorkedCalls, WorkedFound, WorkedRunsStopped, WorkedSince, WorkedTold, keeps, leaving, told_51, told_new, told_repeat, told_settled}
+use Rattle.gaz_hub.specs.Stops.{IsLater, IsLaterWith, IsLeftOnceTold, IsLeftSince, StopsCall}
+use Rattle.gaz_hub.specs.WorkedFound.{WorkedCalls, WorkedFound, WorkedRunsStopped, WorkedSince, WorkedTold, keeps, told_51, told_new, told_repeat, told_settled}
 use Rattle.gaz_hub.specs.WorkedStops.{at_rest, sends, unjudged_hub}
 use Rattle.gaz_hub.proofs.AnswerSteps.{known_with, there_now}
 use Rattle.gaz_hub.proofs.Examples.{closed_empty, closed_first, get_first, no_none, partial_first}

@@ -1,5 +1,5 @@
 -- What a hub over a keeper reads off a settled board, and how it takes a file in.
-use Rattle.std.specs.Prelude.{◌≡◌, ◌≤◌, ◌<◌, ⊤, ℕ, List, Option, Some, None, IsSome}
+use Rattle.std.specs.Prelude.{◌≡◌, ◌≤◌, ◌<◌, ⊤, ℕ, false, List, Option, Some, None, IsSome}
 use Rattle.std.specs.FinMap as map
 use Rattle.sha2.specs.Sha256.{sha256}
 use Rattle.gaz_keeper.specs.Board.{Board}
@@ -7,7 +7,8 @@ use Rattle.gaz_keeper.specs.Keeper.{IsNew, IsNotOpen, Seen}
 use Rattle.gaz_keeper.specs.Received.{Received}
 use Rattle.gaz_keeper.specs.declared.fault.ShelfFault.TheVariants.{Store}
 use Rattle.gaz_hub.specs.Answers.{IsTaken}
-use Rattle.gaz_hub.specs.Hubs.{IsSoundFor, StandsFor, cause_in, cause_in_answer, state_of}
+use Rattle.gaz_hub.specs.Hubs.{IsSoundFor, Reaches, StandsFor, cause_in, cause_in_answer}
+use Rattle.gaz_hub.specs.Hubs.{is_declined, refusal_in_answer, state_of}
 use Rattle.gaz_hub.specs.Outcomes.{outcome, wants}
 use Rattle.gaz_hub.specs.Standing.{NothingReady}
 use Rattle.gaz_hub.specs.Step.{Door, Submit, Submits, Submitted}
@@ -74,8 +75,13 @@ pub record TakesIn (door : Door) (old new : Seen) (c volume : ℕ) (bytes : List
   pub stands : StandsFor door old → IsNew old.content c volume → new.unharmed → StandsFor door new
   pub step : StandsFor door old → IsNew old.content c volume → new.unharmed
       → Submits door (state_of old.content) c volume bytes answer (state_of new.content)
+  pub was_open : is_declined (Submitted answer) ≡ false → new.trusted → old.unharmed
+  pub is_open : refusal_in_answer answer ≡ None → new.trusted → new.unharmed
+  pub reaches : StandsFor door old → IsNew old.content c volume → new.trusted
+      → Reaches door (state_of old.content) (Submit c volume bytes) (Submitted answer)
   pub idle : IsNotOpen new.progress
   pub kept : old.failures ≤ new.failures
+  pub trust : new.trusted → old.trusted
   pub cause : StandsFor door old → IsNew old.content c volume → new.unharmed
       → cause_in_answer answer ≡ Some Store → old.failures < new.failures
   pub stops : IsSoundFor door old → (old.unharmed → IsNew old.content c volume)

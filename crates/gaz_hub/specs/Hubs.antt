@@ -1,5 +1,6 @@
 -- A hub over a keeper: what each of its calls tells.
-use Rattle.std.specs.Prelude.{◌≡◌, ◌≤◌, ◌<◌, ◌⊎◌, ℕ, ◌==◌, Bool, true, false, not, IsSome, List}
+use Rattle.std.specs.Prelude.{◌≡◌, ◌≤◌, ◌<◌, ◌⊎◌, ℕ, ◌==◌, Bool, true, false, not, ◌&&◌, IsSome}
+use Rattle.std.specs.Prelude.{List, [], ◌∷◌}
 use Rattle.std.specs.Prelude.{Option, Some, None, Result, Ok, Err}
 use Rattle.std.specs.Global.{Vec}
 use Rattle.std.specs.Option.{option_and_then, option_map, option_map_or}
@@ -84,6 +85,19 @@ abbrev pub refusal_of : Response → Option Refusal
 refusal_of (Submitted answer) = refusal_in_answer answer
 refusal_of (Replied q reply) = refusal_in reply
 
+-- by the door, or by 51: nothing was received, and nothing is answered
+abbrev pub is_declined_by : Option Refusal → Bool
+is_declined_by None = false
+is_declined_by (Some (refusal.ReceivedUnsettled cause)) = false
+is_declined_by (Some _) = true
+
+abbrev pub is_declined : Response → Bool
+is_declined response = is_declined_by (refusal_of response)
+
+abbrev pub all_declined : List Response → Bool
+all_declined [] = true
+all_declined (response ∷ responses) = is_declined response && all_declined responses
+
 abbrev pub cause_in_answer : Answer → Option ShelfFault
 cause_in_answer answer = option_and_then cause_in (refusal_in_answer answer)
 
@@ -119,8 +133,16 @@ pub record MeetsDoor {K : Type 0} (door : Door) (old new : K) (command : Command
   -- nor is the keeper called where the door refuses
   pub unasked : IsSome (refusal_at_door door command) → new ≡ old
 
--- one call: where the keeper stood for a content before and nobody else wrote on it, a step of the
--- hub on that content
+-- some hub to which this response may lead
+abbrev pub Reaches : Door → HubState → Command → Response → Type 0
+Reaches door hub command response = (after : HubState) × Step door hub command response after
+
+-- some hub to which these responses may lead
+abbrev pub ReachesAll : Door → HubState → List Command → List Response → Type 0
+ReachesAll door hub commands responses = (after : HubState) × Run door hub commands responses after
+
+-- one call: where the keeper stood for a content before, and nobody else wrote on it nor did a
+-- failure shut it, a step of the hub on that content
 pub record Steps (door : Door) (old new : Seen) (command : Command)
     (response : Response) : Type 0 where
   pub harm : new.unharmed → old.unharmed
@@ -131,9 +153,19 @@ pub record Steps (door : Door) (old new : Seen) (command : Command)
   pub standing : StandsFor door old → new.unharmed
       → IsPartial (blocks door) old.content.files old.content.board
       → ReadsStanding door (state_of old.content) command response (state_of new.content)
+  -- what is declined is a step of any hub to itself
+  pub stays : is_declined response ≡ true → (hub : HubState) → Step door hub command response hub
+  -- all else is told of a keeper that no failure had shut before
+  pub was_open : is_declined response ≡ false → new.trusted → old.unharmed
+  -- nor, where it is an answer, by its end
+  pub is_open : refusal_of response ≡ None → new.trusted → new.unharmed
+  -- so that it is a step of the hub before, whatever became of the keeper in the call
+  pub reaches : StandsFor door old → new.trusted
+      → Reaches door (state_of old.content) command response
   -- no judgement is in progress afterwards
   pub idle : IsNotOpen new.progress
   pub failures : old.failures ≤ new.failures
+  pub trust : new.trusted → old.trusted
   -- 51 and 52 carry Store only where the keeper's count of failures rose
   pub cause : StandsFor door old → new.unharmed → cause_of response ≡ Some Store
       → old.failures < new.failures
@@ -150,5 +182,14 @@ pub record Runs (door : Door) (old new : Seen) (commands : List Command)
       → Run door (state_of old.content) commands responses (state_of new.content)
   pub idle : IsNotOpen old.progress → IsNotOpen new.progress
   pub failures : old.failures ≤ new.failures
+  pub trust : new.trusted → old.trusted
+  -- what is declined is a run of any hub to itself
+  pub stays : all_declined responses ≡ true → (hub : HubState)
+      → Run door hub commands responses hub
+  -- all else is told of a keeper that no failure had shut before
+  pub was_open : all_declined responses ≡ false → new.trusted → old.unharmed
+  -- so that it is a run of the hub before, whatever became of the keeper in the end
+  pub reaches : StandsFor door old → new.trusted
+      → ReachesAll door (state_of old.content) commands responses
   pub stops : IsSoundFor door old
       → StopsRun door old new (state_of old.content) (state_of new.content) commands responses

@@ -1,5 +1,7 @@
 -- A hub at one moment, as it is seen.
-use Rattle.std.specs.Prelude.{◌≡◌, ◌⊎◌, Option, None, Some, option_map, ℕ, List, Result, OnErr}
+use Rattle.std.specs.Prelude.{◌≡◌, ◌⊎◌, ⊤, Option, None, Some, option_map, ℕ, List, Result, Ok, Err}
+use Rattle.std.specs.Prelude.{OnErr}
+use Rattle.gaz_extract.specs.Readings.{Looks}
 use Rattle.gaz_register.specs.Registers.{RegisterValue}
 use Rattle.gaz_keeper.specs.Keeper.{Seen}
 use Rattle.gaz_keeper.specs.declared.fault.ShelfFault.{ShelfFault}
@@ -38,10 +40,29 @@ ForgetsTaking c volume bytes answer hub =
 abbrev pub IsKeptOrLost : Option Remembered → Option Remembered → Type 0
 IsKeptOrLost old new = (new ≡ old) ⊎ (new ≡ None)
 
--- a call of the keeper alone
-abbrev pub CallsKeeper : {K T : Type 0} → (K → Result T ShelfFault → K → Type 0)
-    → K × Option Remembered → Result T ShelfFault → K × Option Remembered → Type 0
-CallsKeeper Calls old result new = Calls old.0 result new.0 × IsKeptOrLost old.1 new.1
+-- what was told, where it is sure that the keeper could be asked; else why it isn't
+abbrev pub sured : {T : Type 0} → Result T ShelfFault → Result (Unit {0}) ShelfFault
+    → Result T ShelfFault
+sured (Ok x) (Ok done) = Ok x
+sured (Ok x) (Err fault) = Err fault
+sured (Err fault) done = Err fault
+
+-- after something was told the keeper is asked whether it can still be asked
+pub record IsSured {K T : Type 0} (seen : K → Seen) (old new : K)
+    (told result : Result T ShelfFault) : Type 0 where
+  pub done : Result (Unit {0}) ShelfFault
+  pub asked : Looks (seen old) (seen new) done (λ _. ⊤)
+  pub result_is : result ≡ sured told done
+
+-- a call of the keeper alone, after which it is sure that it could be asked
+pub record CallsKeeper {K T : Type 0} (seen : K → Seen)
+    (Calls : K → Result T ShelfFault → K → Type 0) (old : K × Option Remembered)
+    (result : Result T ShelfFault) (new : K × Option Remembered) : Type 0 where
+  pub last : K
+  pub told : Result T ShelfFault
+  pub called : Calls old.0 told last
+  pub sure : IsSured seen last new.0 told result
+  pub kept : IsKeptOrLost old.1 new.1
 
 -- after a file came as this volume
 abbrev pub IsAfterComing : ℕ × ℕ → Option Remembered → Option Remembered → Type 0

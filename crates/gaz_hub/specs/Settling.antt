@@ -8,7 +8,7 @@ use Rattle.gaz_changefile.specs.Contents.{Contents}
 use Rattle.gaz_changefile.specs.Reading.{Good, Bad, Reading, reading}
 use Rattle.gaz_register.specs.Registers.{RegisterValue}
 use Rattle.gaz_keeper.specs.Board.{Board, reached}
-use Rattle.gaz_keeper.specs.Keeper.{IsNotOpen, Seen}
+use Rattle.gaz_keeper.specs.Keeper.{IsNotOpen, IsOpen, Seen}
 use Rattle.gaz_keeper.specs.Received.{Received}
 use Rattle.gaz_keeper.specs.declared.fault.ShelfFault.{ShelfFault}
 use Rattle.gaz_keeper.specs.declared.fault.ShelfFault.TheVariants.{Store}
@@ -84,6 +84,7 @@ pub record Advances (door : Door) (least : ℕ) (old new : Seen) : Type 0 where
       → least ≤ length (board stood fine).order
   pub idle : IsNotOpen new.progress
   pub kept : old.failures ≤ new.failures
+  pub trust : new.trusted → old.trusted
   pub stops : IsSoundFor door old
       → Stops old new (state_of old.content) (state_of new.content) (IsLater door)
 
@@ -163,3 +164,4 @@ pub record AnswersSettled {K T : Type 0} (door : Door) (seen : K → Seen)
   pub read : Result T ShelfFault
   pub told : result ≡ or_not_received read
   pub calls : SettlesAndCalls door seen Calls old new read
+  pub is_open : IsOpen (seen new) read

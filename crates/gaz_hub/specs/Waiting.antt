@@ -81,6 +81,7 @@ remembering register waiters s = record {
   content = s.content;
   stands = s.stands × IsRight register waiters s.content;
   lawful = λ stood. s.lawful stood.0;
+  trusted = s.trusted;
   unharmed = s.unharmed;
   progress = s.progress;
   failures = s.failures;

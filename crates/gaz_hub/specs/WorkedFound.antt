@@ -1,5 +1,5 @@
 -- Worked examples on what a call, or calls one after another, leave of a keeper that is stopped.
-use Rattle.std.specs.Prelude.{◌≡◌, List, [], ◌∷◌, Ok}
+use Rattle.std.specs.Prelude.{◌≡◌, [], ◌∷◌, Ok}
 use Rattle.std.specs.FinMap as map
 use Rattle.sha2.specs.Sha256.{sha256}
 use Rattle.gaz_keeper.specs.Keeper.{Content, IsLawful, Seen}
@@ -7,7 +7,7 @@ use Rattle.gaz_keeper.specs.declared.fault.ShelfFault.TheVariants as fault
 use Rattle.gaz_hub.specs.Examples.{first_hub, first_sent, no_text}
 use Rattle.gaz_hub.specs.Found.{HasOneMore, HasOneSince, IsFound}
 use Rattle.gaz_hub.specs.Sample.{sample_door}
-use Rattle.gaz_hub.specs.Step.{Command, HubState, Pose, Replied, Response, Settle, Submit}
+use Rattle.gaz_hub.specs.Step.{HubState, Pose, Replied, Response, Settle, Submit}
 use Rattle.gaz_hub.specs.Step.{Submitted, new_hub}
 use Rattle.gaz_hub.specs.Stops.{HasAllTold, HasTold, IsLater, IsLeftOnceTold, IsLeftSince, Stops}
 use Rattle.gaz_hub.specs.Stops.{StopsCall, StopsRun}
@@ -24,6 +24,7 @@ keeping s hub Leaves = record {
   content = at_rest hub;
   stands = IsLawful (at_rest hub);
   lawful = λ is. is;
+  trusted = s.trusted;
   unharmed = s.unharmed;
   progress = s.progress;
   failures = s.failures;

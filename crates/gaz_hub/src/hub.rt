@@ -5,7 +5,7 @@ ghost use Rattle.gaz_hub.specs.Hubs.{or_not_received};
 ghost use Rattle.gaz_hub.specs.Step.{Settle};
 ghost use Rattle.gaz_hub.specs.Telling.{RepliesTo};
 
-use crate::remembering::settle_all;
+use crate::remembering::settled;
 use crate::waiters::Waiters;
 use gaz_keeper::{Inbox, ShelfFault};
 use gaz_register::Register;
@@ -54,11 +54,13 @@ impl<K: Inbox + Drop> Hub<K> {
         ensures forgets { OnErr result (RemembersNothing self.new) }
         ensures register { self.new.register ≡ self.old.register }
     {
-        settle_all(
+        let read = |_keeper: &mut K| Ok(());
+        settled(
             self.alloc,
             &self.register,
             &mut self.keeper,
             &mut self.waiters,
+            read,
         )
     }
 

@@ -2,10 +2,10 @@
 ghost use Rattle.std.specs.Prelude.{◌≡◌, ⊤, None, IfOk, OnErr};
 ghost use Rattle.std.specs.Fn.{FnOnceReturnsAtMut, FnOnceTakesAtMut};
 ghost use Rattle.std.specs.Option.{unwrap_or};
-ghost use Rattle.gaz_keeper.specs.Keeper.{Enters, IsNew, with_received};
+ghost use Rattle.gaz_keeper.specs.Keeper.{Enters, IsNew, IsOpen, with_received};
 ghost use Rattle.gaz_keeper.specs.Telling.{IsNotJudging};
 ghost use Rattle.gaz_hub.specs.Hubs.{door_of};
-ghost use Rattle.gaz_hub.specs.Seen.{CallsKeeper, IsAfterComing, kept_seen};
+ghost use Rattle.gaz_hub.specs.Seen.{CallsKeeper, IsAfterComing, IsSured, kept_seen};
 ghost use Rattle.gaz_hub.specs.Settling.{AnswersSettled, SettlesAndCalls, TakesIdle, Tells};
 ghost use Rattle.gaz_hub.specs.Waiting.{all_ahead};
 
@@ -58,6 +58,7 @@ pub fn receive<K: Inbox>(
         (kept_seen K.seen register.now (keeper.new, waiters.new)) result
         (IsNew (K.seen keeper.old).content code volume)
         (with_received (K.seen keeper.old).content code volume file.now) }
+    ensures open { IsOpen (K.seen keeper.new) result }
     ensures forgets { OnErr result (waiters.new ≡ None) }
 {
     let received = keeper.receive(code, volume, file);
@@ -89,7 +90,7 @@ pub fn settle_all<K: Inbox>(
 
 /// What a reading tells, once all is settled. It may be any that can be made while no judgement is
 /// open. After a fault nothing is remembered.
-pub fn settled<K: Inbox, T, F: FnOnce(&mut K) -> Result<T, ShelfFault>>(
+pub fn settled<K: Inbox, T: Drop, F: FnOnce(&mut K) -> Result<T, ShelfFault>>(
     alloc: Global,
     register: &Register,
     keeper: &mut K,
@@ -99,8 +100,9 @@ pub fn settled<K: Inbox, T, F: FnOnce(&mut K) -> Result<T, ShelfFault>>(
     requires idle { IsNotJudging K.seen keeper.old }
     requires callable { TakesIdle K.seen (λ mid. FnOnceTakesAtMut F.FnOnce read mid) }
     ensures calls { SettlesAndCalls (door_of register.now) (kept_seen K.seen register.now)
-        (CallsKeeper (λ mid told after. FnOnceReturnsAtMut F.FnOnce read mid told after))
+        (CallsKeeper K.seen (λ mid told after. FnOnceReturnsAtMut F.FnOnce read mid told after))
         (keeper.old, waiters.old) (keeper.new, waiters.new) result }
+    ensures open { IsOpen (K.seen keeper.new) result }
     ensures forgets { OnErr result (waiters.new ≡ None) }
 {
     match settle_all(alloc, register, keeper, waiters) {
@@ -109,18 +111,39 @@ pub fn settled<K: Inbox, T, F: FnOnce(&mut K) -> Result<T, ShelfFault>>(
     }
 }
 
-// What a reading tells. After a fault nothing is remembered.
-fn read_kept<K: Inbox, T, F: FnOnce(&mut K) -> Result<T, ShelfFault>>(
+// What was told, where it is sure that the keeper could still be asked.
+fn once_sure<K: Inbox, T: Drop>(
+    keeper: &mut K,
+    told: Result<T, ShelfFault>,
+) -> Result<T, ShelfFault>
+    ensures sured { IsSured K.seen keeper.old keeper.new told result }
+    ensures open { IsOpen (K.seen keeper.new) result }
+{
+    match told {
+        Ok(told) => match keeper.sure() {
+            Ok(()) => Ok(told),
+            Err(fault) => Err(fault),
+        },
+        Err(fault) => Err(fault),
+    }
+}
+
+// What a reading tells, once it is sure that the keeper could be asked. After a fault nothing is
+// remembered.
+fn read_kept<K: Inbox, T: Drop, F: FnOnce(&mut K) -> Result<T, ShelfFault>>(
     keeper: &mut K,
     waiters: &mut Option<Waiters>,
     read: F,
 ) -> Result<T, ShelfFault>
     requires callable { FnOnceTakesAtMut F.FnOnce read keeper.old }
-    ensures calls { CallsKeeper (λ mid told after. FnOnceReturnsAtMut F.FnOnce read mid told after)
+    ensures calls { CallsKeeper K.seen
+        (λ mid told after. FnOnceReturnsAtMut F.FnOnce read mid told after)
         (keeper.old, waiters.old) result (keeper.new, waiters.new) }
+    ensures open { IsOpen (K.seen keeper.new) result }
     ensures forgets { OnErr result (waiters.new ≡ None) }
 {
-    let told = read(keeper);
+    let read = read(keeper);
+    let told = once_sure(keeper, read);
     if told.is_err() {
         *waiters = None;
     }
@@ -129,7 +152,7 @@ fn read_kept<K: Inbox, T, F: FnOnce(&mut K) -> Result<T, ShelfFault>>(
 
 /// What a reading tells, once all is settled, as the reply to a question: a fault is `NotReceived`
 /// (51).
-pub fn answered<K: Inbox, T, F: FnOnce(&mut K) -> Result<T, ShelfFault>>(
+pub fn answered<K: Inbox, T: Drop, F: FnOnce(&mut K) -> Result<T, ShelfFault>>(
     alloc: Global,
     register: &Register,
     keeper: &mut K,
@@ -139,7 +162,7 @@ pub fn answered<K: Inbox, T, F: FnOnce(&mut K) -> Result<T, ShelfFault>>(
     requires idle { IsNotJudging K.seen keeper.old }
     requires callable { TakesIdle K.seen (λ mid. FnOnceTakesAtMut F.FnOnce read mid) }
     ensures answers { AnswersSettled (door_of register.now) (kept_seen K.seen register.now)
-        (CallsKeeper (λ mid told after. FnOnceReturnsAtMut F.FnOnce read mid told after))
+        (CallsKeeper K.seen (λ mid told after. FnOnceReturnsAtMut F.FnOnce read mid told after))
         (keeper.old, waiters.old) (keeper.new, waiters.new) result }
     ensures forgets { OnErr result (waiters.new ≡ None) }
 {

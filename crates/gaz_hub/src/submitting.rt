@@ -4,6 +4,7 @@ ghost use Rattle.gaz_hub.specs.Asked.{AnyIsOfBefore, IsAgain, IsOutcome, IsPastD
 ghost use Rattle.gaz_hub.specs.Hubs.{MeetsDoor, cause_in_answer, door_of};
 ghost use Rattle.gaz_hub.specs.Seen.{ForgetsTaking, RemembersNothing, hub_seen};
 ghost use Rattle.gaz_hub.specs.Step.{Submit, Submitted, file_refusal};
+ghost use Rattle.gaz_keeper.specs.Keeper.{IsOpen};
 ghost use Rattle.gaz_keeper.specs.Telling.{IsNotJudging};
 ghost use Rattle.gaz_hub.specs.Telling.{LooksAtKept, StepsTo, TellsKept};
 
@@ -60,6 +61,7 @@ impl<K: Inbox + Drop> Hub<K> {
         ensures tells { TellsKept (hub_seen K.seen) self.old.register self.old self.new result
             (λ files board. IsAgain files board code volume file.now) }
         ensures of_before { IfOk result AnyIsOfBefore }
+        ensures open { IsOpen (hub_seen K.seen self.new) result }
         ensures forgets { OnErr result (RemembersNothing self.new) }
         ensures register { self.new.register ≡ self.old.register }
     {
@@ -79,6 +81,7 @@ impl<K: Inbox + Drop> Hub<K> {
         requires { IsNotJudging K.seen self.old.keeper }
         ensures tells { TellsKept (hub_seen K.seen) self.old.register self.old self.new result
             (λ files board. IsOutcome files board code volume) }
+        ensures open { IsOpen (hub_seen K.seen self.new) result }
         ensures forgets { OnErr result (RemembersNothing self.new) }
         ensures register { self.new.register ≡ self.old.register }
     {

@@ -84,6 +84,7 @@ kept_safe k = record {
   content = k;
   stands = IsLawful k;
   lawful = λ stands. stands;
+  trusted = Unit {0};
   unharmed = Unit {0};
   progress = Idle;
   failures = 0;

@@ -44,6 +44,8 @@ pub record Seen : Type 1 where
   -- which is then a lawful one
   pub lawful : stands → IsLawful content
   -- nobody else wrote on what it keeps
+  pub trusted : Type 0
+  -- nor did a failure shut it
   pub unharmed : Type 0
   pub progress : Progress
   -- how often it failed
@@ -118,7 +120,7 @@ view_of s c = viewed s.progress s.content c
 
 -- ---- what a stop may leave after a call
 
--- its state stands for its content, unless somebody wrote on what it keeps
+-- its state stands for its content, unless somebody wrote on what it keeps or a failure shut it
 abbrev pub IsSound : Seen → Type 0
 IsSound s = s.unharmed → s.stands
 
@@ -141,10 +143,16 @@ LeavesJust (Some becomes) old new =
 
 -- ---- what a call tells
 
--- no failure is forgotten, and one of the store is counted
+-- no failure is forgotten, and one of the store is counted; nor is it forgotten that somebody wrote
+-- on what is kept
 pub record Counts {T : Type 0} (old new : Seen) (result : Result T ShelfFault) : Type 0 where
   pub kept : old.failures ≤ new.failures
   pub store : IfErr result (λ e. e ≡ Store → old.failures < new.failures)
+  pub trust : new.trusted → old.trusted
+
+-- an Ok says that no failure has shut it
+abbrev pub IsOpen : {T : Type 0} → Seen → Result T ShelfFault → Type 0
+IsOpen now result = OnOk result (now.trusted → now.unharmed)
 
 -- a judgement in progress goes on, and a broken one stays so or is cleared
 abbrev pub IsLeft : Progress → Progress → Type 0

@@ -92,6 +92,10 @@ TellsReceived seen old new result c volume =
     Reads (seen old) (seen new) result
     (λ bytes. option_map (λ b. b.items) bytes ≡ map.get (seen old).content.files (c, volume))
 
+-- a call that asks nothing
+abbrev pub TellsNothing : {K T : Type 0} → (K → Seen) → K → K → Result T ShelfFault → Type 0
+TellsNothing seen old new result = Reads (seen old) (seen new) result (λ _. ⊤)
+
 abbrev pub TellsHeld : {K : Type 0} → (K → Seen) → K → K → Result ℕ ShelfFault → ℕ → Type 0
 TellsHeld seen old new result c =
     Reads (seen old) (seen new) result

@@ -2,11 +2,12 @@
 ghost use Rattle.std.specs.Prelude.{◌≡◌, ◌≢◌, true};
 ghost use Rattle.gaz_records.specs.Items.{is_entry};
 ghost use Rattle.gaz_records.specs.Kinds.{is_entry_kind};
-ghost use Rattle.gaz_keeper.specs.Keeper.{Idle, IsNotOpen, Refuses, Seen};
+ghost use Rattle.gaz_keeper.specs.Keeper.{Idle, IsNotOpen, IsOpen, Refuses, Seen};
 ghost use Rattle.gaz_keeper.specs.Telling.{Abandons, Applies, Begins, Puts, Receives, Skips, Takes};
 ghost use Rattle.gaz_keeper.specs.Telling.{TellsApprovedOf, TellsApprovedOn, TellsAt};
 ghost use Rattle.gaz_keeper.specs.Telling.{TellsChildren};
-ghost use Rattle.gaz_keeper.specs.Telling.{TellsCurrent, TellsEver, TellsHeld, TellsPage};
+ghost use Rattle.gaz_keeper.specs.Telling.{TellsCurrent, TellsEver, TellsHeld, TellsNothing};
+ghost use Rattle.gaz_keeper.specs.Telling.{TellsPage};
 ghost use Rattle.gaz_keeper.specs.Telling.{TellsPropertyOf, TellsReached, TellsReceived};
 ghost use Rattle.gaz_keeper.specs.Telling.{TellsVerdict};
 
@@ -126,9 +127,16 @@ pub trait Inbox: Shelf {
     /// Receives a file, which is to be a new one.
     fn receive(&mut self, code: Code, volume: Volume, bytes: &[u8]) -> Result<(), ShelfFault>
         requires { IsNotOpen (Self.seen self.old).progress }
-        ensures { Receives Self.seen self.old self.new result code volume bytes.now };
+        ensures enters { Receives Self.seen self.old self.new result code volume bytes.now }
+        ensures open { IsOpen (Self.seen self.new) result };
 
     /// How many files of a custodian are received and not judged.
     fn held(&mut self, code: Code) -> Result<u64, ShelfFault>
         ensures { TellsHeld Self.seen self.old self.new result code };
+
+    /// Makes sure that it can still be asked. What it told before, by an `Ok`, was told while it
+    /// could, where this answers so.
+    fn sure(&mut self) -> Result<(), ShelfFault>
+        ensures reads { TellsNothing Self.seen self.old self.new result }
+        ensures open { IsOpen (Self.seen self.new) result };
 }

@@ -1,9 +1,9 @@
 -- What a change of a judgement tells of a keeper over two.
-use Rattle.std.proofs.Common.{◌≡◌, sym, subst, ◌∙◌}
-use Rattle.std.specs.Prelude.{true, Option, None, Some, Result, Ok, Err, OnOk, is_ok}
-use Rattle.gaz_keeper.specs.Keeper.{Content, Goes, IsSound, LeavesAtMost, LeavesJust, Progress, Seen}
+use Rattle.std.proofs.Common.{◌≡◌, ◌≢◌, refl, sym, subst, ◌∙◌}
+use Rattle.std.specs.Prelude.{⊤, true, Option, None, Some, Result, Ok, Err, OnOk, is_ok}
+use Rattle.gaz_keeper.specs.Keeper.{Broken, Content, Enters, Goes, Idle, IsLeft, IsSound, LeavesAtMost, LeavesJust, Open, Progress, Reads, Seen}
 use Rattle.gaz_keeper.specs.declared.fault.ShelfFault.{ShelfFault}
-use Rattle.gaz_mirror.specs.Mirroring.{mirrored, stands_below}
+use Rattle.gaz_mirror.specs.Mirroring.{StandsWith, mirrored, stands_below}
 
 module _ {U : Type 0} (seen : U → Seen) (old new : Seen) (was now : Option U) where
   -- what the lower one leaves, both leave
@@ -31,7 +31,7 @@ goes_below seen old new was r asked becomes commits after goes = record {
   undone = λ stood. goes.undone (stands_below seen old was stood);
   on = goes.on;
   broken = goes.broken;
-  counts = record { kept = goes.counts.kept; store = goes.counts.store };
+  counts = record { kept = goes.counts.kept; store = goes.counts.store; trust = goes.counts.trust };
   leaves = λ sound met. leaves_at_most seen old new was None commits (goes.leaves (from_below seen old new was None sound) met);
   whole = λ sound. goes.whole (from_below seen old new was None sound);
   committed = λ sound met. leaves_just seen old new was None r commits (goes.committed (from_below seen old new was None sound) met);
@@ -54,7 +54,7 @@ both seen sole old new was now (Ok x) (Ok y) asked asked' becomes becomes' commi
   undone = λ _ _ _. tt;
   on = goes.on;
   broken = tt;
-  counts = record { kept = goes.counts.kept; store = tt };
+  counts = record { kept = goes.counts.kept; store = tt; trust = goes.counts.trust };
   leaves = λ sound met. leaves_at_most seen old new (Some was) (Some now) commits (goes.leaves (λ fine. (sound fine).lower) met);
   whole = λ sound. goes.whole (λ fine. (sound fine).lower);
   committed = λ sound met. leaves_just seen old new (Some was) (Some now) (Ok x) commits (goes.committed (λ fine. (sound fine).lower) met);
@@ -70,3 +70,80 @@ pub goes_both : {U T : Type 0} (seen : U → Seen) (sole : (u : U) → (seen u).
 goes_both seen sole old new upper was now r r' asked asked' becomes becomes' commits commits' after after' is ok ok' goes above asks same =
     subst (λ o. Goes (mirrored seen old o) (mirrored seen new (Some now)) r asked becomes commits after) (sym is)
     (both seen sole old new was now r r' asked asked' becomes becomes' commits commits' after after' ok ok' goes above asks same)
+
+-- ---- a call while no judgement is in progress
+
+-- only the lower one is left
+pub enters_below : {U T : Type 0} (seen : U → Seen) (old new : Seen) (was : Option U) (r : Result T ShelfFault) (asked : Type 0) (becomes : Content)
+    → Enters old new r asked becomes → Enters (mirrored seen old was) (mirrored seen new None) r asked becomes
+enters_below seen old new was r asked becomes enters = record {
+  harm = enters.harm;
+  stands = λ stood. enters.stands (stands_below seen old was stood);
+  done = λ stood. enters.done (stands_below seen old was stood);
+  undone = λ stood. enters.undone (stands_below seen old was stood);
+  progress = enters.progress;
+  cleared = enters.cleared;
+  counts = record { kept = enters.counts.kept; store = enters.counts.store; trust = enters.counts.trust };
+  leaves = λ sound met. leaves_at_most seen old new was None (Some becomes) (enters.leaves (from_below seen old new was None sound) met);
+  whole = λ sound. enters.whole (from_below seen old new was None sound);
+  committed = λ sound met. leaves_just seen old new was None r (Some becomes) (enters.committed (from_below seen old new was None sound) met);
+}
+
+-- both were changed
+both_enter : {U T : Type 0} (seen : U → Seen) (sole : (u : U) → (seen u).unharmed) (old new : Seen) (was now : U) (r r' : Result T ShelfFault) (asked asked' : Type 0)
+    (becomes becomes' : Content) → is_ok r ≡ true → is_ok r' ≡ true → Enters old new r asked becomes → Enters (seen was) (seen now) r' asked' becomes'
+    → ((seen was).content ≡ old.content → asked → asked') → ((seen was).content ≡ old.content → becomes' ≡ becomes)
+    → Enters (mirrored seen old (Some was)) (mirrored seen new (Some now)) r asked becomes
+both_enter seen sole old new was now (Ok x) (Ok y) asked asked' becomes becomes' ok ok' enters above asks same = record {
+  harm = enters.harm;
+  stands = λ stood met fine. record {
+    lower = enters.stands stood.lower met fine;
+    upper = above.stands stood.upper (asks stood.same met) (sole now);
+    same = above.done stood.upper (asks stood.same met) (sole now) ∙ same stood.same ∙ sym (enters.done stood.lower met fine);
+  };
+  done = λ stood. enters.done stood.lower;
+  undone = λ _ _ _. tt;
+  progress = enters.progress;
+  cleared = enters.cleared;
+  counts = record { kept = enters.counts.kept; store = tt; trust = enters.counts.trust };
+  leaves = λ sound met. leaves_at_most seen old new (Some was) (Some now) (Some becomes) (enters.leaves (λ fine. (sound fine).lower) met);
+  whole = λ sound. enters.whole (λ fine. (sound fine).lower);
+  committed = λ sound met. leaves_just seen old new (Some was) (Some now) (Ok x) (Some becomes) (enters.committed (λ fine. (sound fine).lower) met);
+}
+both_enter seen sole old new was now (Ok x) (Err e) asked asked' becomes becomes' ok ok' enters above asks same = cc
+both_enter seen sole old new was now (Err e) r' asked asked' becomes becomes' ok ok' enters above asks same = cc
+
+pub enters_both : {U T : Type 0} (seen : U → Seen) (sole : (u : U) → (seen u).unharmed) (old new : Seen) (upper : Option U) (was now : U) (r r' : Result T ShelfFault) (asked asked' : Type 0)
+    (becomes becomes' : Content) → upper ≡ Some was → is_ok r ≡ true → is_ok r' ≡ true → Enters old new r asked becomes → Enters (seen was) (seen now) r' asked' becomes'
+    → ((seen was).content ≡ old.content → asked → asked') → ((seen was).content ≡ old.content → becomes' ≡ becomes)
+    → Enters (mirrored seen old upper) (mirrored seen new (Some now)) r asked becomes
+enters_both seen sole old new upper was now r r' asked asked' becomes becomes' is ok ok' enters above asks same =
+    subst (λ o. Enters (mirrored seen old o) (mirrored seen new (Some now)) r asked becomes) (sym is)
+    (both_enter seen sole old new was now r r' asked asked' becomes becomes' ok ok' enters above asks same)
+
+-- ---- a call of the lower one that reads
+
+-- what wasn't broken is as it was
+pub left_same : (p q : Progress) → p ≢ Broken → IsLeft p q → q ≡ p
+left_same Idle q whole left = left
+left_same (Open c) q whole left = left
+left_same Broken q whole left = absurd (whole refl)
+
+pub reads_below : {U T : Type 0} (seen : U → Seen) (old new : Seen) (upper : Option U) (r : Result T ShelfFault) → Reads old new r (λ _. ⊤) → Reads (mirrored seen old upper) (mirrored seen new upper) r (λ _. ⊤)
+reads_below {U} seen old new upper r reads = record {
+  keeps = record {
+    harm = reads.keeps.harm;
+    stands = still upper;
+    content = λ stood fine. reads.keeps.content (stands_below seen old upper stood) fine;
+    progress = reads.keeps.progress;
+    leaves = λ sound. reads.keeps.leaves (from_below seen old new upper upper sound);
+    whole = λ sound. reads.keeps.whole (from_below seen old new upper upper sound);
+  };
+  right = λ stood fine. reads.right (stands_below seen old upper stood) fine;
+  cleared = reads.cleared;
+  counts = record { kept = reads.counts.kept; store = reads.counts.store; trust = reads.counts.trust };
+}
+  where
+    still : (o : Option U) → StandsWith seen old o → new.unharmed → StandsWith seen new o
+    still None stood fine = reads.keeps.stands stood fine
+    still (Some u) stood fine = record { lower = reads.keeps.stands stood.lower fine; upper = stood.upper; same = stood.same ∙ sym (reads.keeps.content stood.lower fine) }

@@ -25,6 +25,7 @@ mirrored seen lower upper = record {
   content = lower.content;
   stands = StandsWith seen lower upper;
   lawful = λ stood. lower.lawful (stands_below seen lower upper stood);
+  trusted = lower.trusted;
   unharmed = lower.unharmed;
   progress = lower.progress;
   failures = lower.failures;

@@ -1,6 +1,6 @@
 //! The calls of a keeper over two that concern files.
-ghost use Rattle.gaz_keeper.specs.Keeper.{IsNotOpen};
-ghost use Rattle.gaz_keeper.specs.Telling.{Receives, TellsHeld, TellsReceived};
+ghost use Rattle.gaz_keeper.specs.Keeper.{IsNotOpen, IsOpen};
+ghost use Rattle.gaz_keeper.specs.Telling.{Receives, TellsHeld, TellsNothing, TellsReceived};
 ghost use Rattle.gaz_mirror.specs.Mirrored.{DropsUpper, SparesLower, seen_mirrored};
 
 use crate::mirror::Mirror;
@@ -20,6 +20,7 @@ impl<L: Inbox + Drop, U: Unshared + Drop> Inbox for Mirror<L, U> {
     fn receive(&mut self, code: Code, volume: Volume, bytes: &[u8]) -> Result<(), ShelfFault>
         requires { IsNotOpen (L.seen self.old.lower).progress }
         ensures enters { Receives seen_mirrored self.old self.new result code volume bytes.now }
+        ensures open { IsOpen (seen_mirrored self.new) result }
         ensures drops { DropsUpper result self.new }
     {
         change!(self, receive(code, volume, bytes))
@@ -30,5 +31,12 @@ impl<L: Inbox + Drop, U: Unshared + Drop> Inbox for Mirror<L, U> {
         ensures spares { SparesLower self.old self.new }
     {
         reading!(self, held(code))
+    }
+
+    fn sure(&mut self) -> Result<(), ShelfFault>
+        ensures reads { TellsNothing seen_mirrored self.old self.new result }
+        ensures open { IsOpen (seen_mirrored self.new) result }
+    {
+        self.lower.sure()
     }
 }

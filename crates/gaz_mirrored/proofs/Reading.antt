@@ -10,13 +10,13 @@ use Rattle.gaz_extract.proofs.Readings.{keeps_itself}
 use Rattle.gaz_mirrored.specs.Comparing.{AreLike, AreLikeFor, AreLikeOf, OnlyReads}
 
 pub reads_nothing : (a : Seen) → OnlyReads a a
-reads_nothing a = record { keeps = keeps_itself a; failures = omega arith }
+reads_nothing a = record { keeps = keeps_itself a; failures = omega arith; trust = λ t. t }
 
 pub reads_then : (a b c : Seen) → OnlyReads a b → OnlyReads b c → OnlyReads a c
 reads_then a b c first second =
     let one = first.failures in
     let two = second.failures in
-    record { keeps = keeps_then a b c first.keeps second.keeps; failures = omega arith }
+    record { keeps = keeps_then a b c first.keeps second.keeps; failures = omega arith; trust = λ t. first.trust (second.trust t) }
 
 -- what is said of both before a call is said before the calls before it
 pub alike_then : (code : ℕ) (a b c w x y : Seen) → OnlyReads a b → OnlyReads b c → OnlyReads w x → OnlyReads x y → AreLikeOf code b c x y → AreLikeOf code a c w y

@@ -9,6 +9,7 @@ use Rattle.gaz_keeper.specs.Received.{count_above}
 pub record OnlyReads (old new : Seen) : Type 0 where
   pub keeps : Keeps old new
   pub failures : old.failures ≤ new.failures
+  pub trust : new.trusted → old.trusted
 
 -- as many files of a custodian are judged in both, and as many are held
 pub record AreLike (c : ℕ) (k m : Content) : Type 0 where

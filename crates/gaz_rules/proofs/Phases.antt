@@ -37,6 +37,7 @@ pub record AskedSoFar (old now : Seen) (c : ℕ) (bases : List Basis) (all left 
   pub keeps : Keeps old now
   pub open_for : now.progress ≡ Open c
   pub counted : old.failures ≤ now.failures
+  pub trust : now.trusted → old.trusted
   pub knows : old.stands → now.unharmed → are_reached old.content.board bases ≡ true → IsRight old.content.working (basis_views old.content.board bases) known
   pub faults : old.stands → now.unharmed → are_reached old.content.board bases ≡ true →
       end_faults old.content.working (basis_views old.content.board bases) left ≡ end_faults old.content.working (basis_views old.content.board bases) all
@@ -52,6 +53,7 @@ asked_none s c bases all known is_open right =
       keeps = keeps_itself s c is_open;
       open_for = is_open;
       counted = omega arith;
+      trust = λ t. t;
       knows = λ _ _ _. right s.content.working (basis_views s.content.board bases);
       faults = λ _ _ _. refl;
     }
@@ -82,6 +84,7 @@ asked_on old now next c bases all i ch before after h e so_far asked =
       keeps = keeps_then old now next so_far.keeps asked.keeps;
       open_for = still_open now next c asked.keeps so_far.open_for;
       counted = let a = so_far.counted in let b = asked.counts.kept in omega arith;
+      trust = λ t. so_far.trust (asked.counts.trust t);
       knows = λ stood fine ready. (next_is stood fine ready).0;
       faults = λ stood fine ready. sym (next_is stood fine ready).1;
     }
@@ -98,7 +101,7 @@ asked_last old now next c bases all i ch before after rule f h e so_far asked is
       right = λ stood fine ready. ap first_of (asked_next old now next c bases all i ch before after (Some rule) h e so_far asked stood fine ready).1
           ∙ ap (λ (x : found.Fault). Some (record { place = x.place; rule = x.rule })) (sym is);
       cleared = asked.cleared;
-      counts = record { kept = let a = so_far.counted in let b = asked.counts.kept in omega arith; store = tt };
+      counts = record { kept = let a = so_far.counted in let b = asked.counts.kept in omega arith; store = tt; trust = λ t. so_far.trust (asked.counts.trust t) };
     }
 
 -- ---- the two phases together
@@ -119,9 +122,9 @@ on_ok_of : {T E : Type 0} (r : Result T E) (P : Type 0) → P → OnOk r P
 on_ok_of (Ok x) P p = p
 on_ok_of (Err e) P p = tt
 
-counts_after : {T : Type 0} (a b c : Seen) (r : Result T ShelfFault) → a.failures ≤ b.failures → Counts b c r → Counts a c r
-counts_after a b c (Ok x) h k = record { kept = let more = k.kept in omega arith; store = tt }
-counts_after a b c (Err e) h k = record { kept = let more = k.kept in omega arith; store = λ is. let more = k.store is in omega arith }
+counts_after : {T : Type 0} (a b c : Seen) (r : Result T ShelfFault) → a.failures ≤ b.failures → (b.trusted → a.trusted) → Counts b c r → Counts a c r
+counts_after a b c (Ok x) h trust k = record { kept = let more = k.kept in omega arith; store = tt; trust = λ t. trust (k.trust t) }
+counts_after a b c (Err e) h trust k = record { kept = let more = k.kept in omega arith; store = λ is. let more = k.store is in omega arith; trust = λ t. trust (k.trust t) }
 
 -- what the end rules find on a content
 abbrev EndsFind : Contents → Option found.Fault → Content → Type 0
@@ -155,7 +158,7 @@ phases_together old mid new c own file r is_open first second =
           ap after_abandon (second.keeps.content (first.stands stood fine_mid) fine) ∙ first.stay stood fine_mid;
       on = on_ok_of r _ (now_open ∙ sym is_open);
       going = λ e. cc;
-      counts = counts_after _ _ _ r first.counts.kept second.counts;
+      counts = counts_after _ _ _ r first.counts.kept first.counts.trust second.counts;
       leaves = λ sound k left. first.leaves sound k (second.keeps.leaves (λ fine. first.stands (sound (first.harm fine)) fine) k left);
       whole = λ sound all. second.keeps.whole (λ fine. first.stands (sound (first.harm fine)) fine) (first.whole sound all);
     }
@@ -209,6 +212,7 @@ module _ (old mid new : Seen) (c : ℕ) (f : found.Fault) (e : ShelfFault)
           counts_failed failed = record {
             kept = let a = gone.counts.kept in let b = enters.counts.kept in omega arith;
             store = λ is. let a = gone.counts.kept in let b = failed is in omega arith;
+            trust = λ t. gone.counts.trust (enters.counts.trust t);
           }
 
 -- ---- a whole judgement
@@ -329,7 +333,7 @@ judged old opened mid new c own file o r begins did ends =
       undone = λ stood ready fine.
           on_err r (λ is. is ∙ same stood ready fine) (ends.undone (stood_mid stood ready fine) (at_hand stood ready fine) fine);
       idle = ends.idle;
-      counts = counts_after _ _ _ r (let a = begins.counts.kept in let b = did.counts.kept in omega arith) ends.counts;
+      counts = counts_after _ _ _ r (let a = begins.counts.kept in let b = did.counts.kept in omega arith) (λ t. begins.counts.trust (did.counts.trust t)) ends.counts;
       leaves = stops.leaves;
       committed = stops.committed;
       whole = stops.whole;

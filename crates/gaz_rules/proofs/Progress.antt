@@ -25,7 +25,7 @@ reads_none a c x P e right =
       keeps = keeps_itself a c e;
       right = right;
       cleared = not_broken a.progress c e;
-      counts = record { kept = omega arith; store = tt };
+      counts = record { kept = omega arith; store = tt; trust = λ t. t };
     }
 
 -- two calls, whose answers give a third
@@ -38,5 +38,5 @@ reads_both a b c x y z P Q R first second both =
           let mid = second.keeps.harm fine in
           both (first.right stood mid) (subst (λ k. Q k y) (first.keeps.content stood mid) (second.right (first.keeps.stands stood mid) fine));
       cleared = second.cleared;
-      counts = record { kept = let h = first.counts.kept in let more = second.counts.kept in omega arith; store = tt };
+      counts = record { kept = let h = first.counts.kept in let more = second.counts.kept in omega arith; store = tt; trust = λ t. first.counts.trust (second.counts.trust t) };
     }

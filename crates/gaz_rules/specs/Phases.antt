@@ -91,5 +91,6 @@ pub record GivesUp (old new : Seen) : Type 0 where
   pub content : old.stands → new.unharmed → new.content ≡ after_abandon old.content
   pub idle : IsNotOpen new.progress
   pub counted : old.failures ≤ new.failures
+  pub trust : new.trusted → old.trusted
   pub leaves : IsSound old → LeavesAtMost None old new
   pub whole : IsSound old → old.whole → new.whole

@@ -61,6 +61,7 @@ module _ (a b c d : Seen) (code : ℕ) (items : List Item) (r : Result (Unit {0}
     counts = record {
       kept = le_trans (le_trans begins.counts.kept puts.counts.kept) keeps.counts.kept;
       store = further r a.failures c.failures d.failures (le_trans begins.counts.kept puts.counts.kept) keeps.counts.store;
+      trust = λ t. begins.counts.trust (puts.counts.trust (keeps.counts.trust t));
     };
     leaves = left;
     whole = λ sound met all. keeps.whole (set sound met) (λ _. tt) (puts.whole (begun sound met) (λ _. tt) (begins.whole sound met all));

@@ -30,6 +30,7 @@ no_calls = record {
   received = 0;
   receive = 0;
   held = 0;
+  sure = 0;
 }
 
 -- a count and one more; it stays at its last value
@@ -57,6 +58,7 @@ counted call.Skip n = record n { skip = one_more n.skip }
 counted call.Received n = record n { received = one_more n.received }
 counted call.Receive n = record n { receive = one_more n.receive }
 counted call.Held n = record n { held = one_more n.held }
+counted call.Sure n = record n { sure = one_more n.sure }
 
 -- no call was made, and the one of this number is to fail, from 1; none where it is 0
 abbrev pub plan_from : ℕ → Plan

@@ -33,6 +33,7 @@ around s broken failures = record {
   content = content_around (progress_around broken s.progress) s.content;
   stands = s.stands;
   lawful = λ stood. lawful_around (progress_around broken s.progress) s.content (s.lawful stood);
+  trusted = s.trusted;
   unharmed = s.unharmed;
   progress = progress_around broken s.progress;
   failures = s.failures + failures;

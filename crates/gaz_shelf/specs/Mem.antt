@@ -50,6 +50,7 @@ seen_in s = record {
   content = content_in s;
   stands = ⊤;
   lawful = λ _. lawful_in s;
+  trusted = ⊤;
   unharmed = ⊤;
   progress = progress_of s.judging;
   failures = s.failures;

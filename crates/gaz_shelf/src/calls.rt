@@ -26,6 +26,7 @@ pub enum Call {
     Received,
     Receive,
     Held,
+    Sure,
 }
 
 /// How often each call was made; a count stays at its last value.
@@ -50,6 +51,7 @@ pub struct Calls {
     pub received: u64,
     pub receive: u64,
     pub held: u64,
+    pub sure: u64,
 }
 
 impl Calls {
@@ -77,6 +79,7 @@ impl Calls {
             received: 0,
             receive: 0,
             held: 0,
+            sure: 0,
         }
     }
 
@@ -104,6 +107,7 @@ impl Calls {
             Call::Received => self.received = self.received.saturating_add(1),
             Call::Receive => self.receive = self.receive.saturating_add(1),
             Call::Held => self.held = self.held.saturating_add(1),
+            Call::Sure => self.sure = self.sure.saturating_add(1),
         }
     }
 }

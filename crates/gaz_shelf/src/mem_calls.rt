@@ -2,7 +2,8 @@
 ghost use Rattle.std.specs.Prelude.{IsOk};
 ghost use Rattle.gaz_keeper.specs.Keeper.{Seen};
 ghost use Rattle.gaz_shelf.specs.Mem.{seen_in};
-ghost use Rattle.gaz_keeper.specs.Telling.{TellsEver, TellsHeld, TellsReached, TellsVerdict};
+ghost use Rattle.gaz_keeper.specs.Telling.{TellsEver, TellsHeld, TellsNothing, TellsReached};
+ghost use Rattle.gaz_keeper.specs.Telling.{TellsVerdict};
 
 use crate::mem_shelf::{Judging, MemShelf};
 use gaz_ids::{Code, Lang, Uprn, Usrn, Volume};
@@ -155,5 +156,13 @@ impl Inbox for MemShelf {
     {
         self.clear();
         Ok(self.files.count_above(code, self.count_reached(code)))
+    }
+
+    fn sure(&mut self) -> Result<(), ShelfFault>
+        ensures reads { TellsNothing seen_in self.old self.new result }
+        ensures answers { IsOk result }
+    {
+        self.clear();
+        Ok(())
     }
 }

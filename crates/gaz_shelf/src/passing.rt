@@ -5,11 +5,12 @@ ghost use Rattle.gaz_records.specs.Kinds.{is_entry_kind};
 ghost use Rattle.gaz_shelf.specs.Calls.{CountsAs};
 ghost use Rattle.gaz_shelf.specs.Around.{seen_around};
 ghost use Rattle.gaz_shelf.specs.Faulting.{progress_around};
-ghost use Rattle.gaz_keeper.specs.Keeper.{Idle, IsNotOpen, Refuses};
+ghost use Rattle.gaz_keeper.specs.Keeper.{Idle, IsNotOpen, IsOpen, Refuses};
 ghost use Rattle.gaz_keeper.specs.Telling.{Abandons, Applies, Begins, Puts, Receives, Skips, Takes};
 ghost use Rattle.gaz_keeper.specs.Telling.{TellsApprovedOf, TellsApprovedOn, TellsAt};
 ghost use Rattle.gaz_keeper.specs.Telling.{TellsChildren};
-ghost use Rattle.gaz_keeper.specs.Telling.{TellsCurrent, TellsEver, TellsHeld, TellsPage};
+ghost use Rattle.gaz_keeper.specs.Telling.{TellsCurrent, TellsEver, TellsHeld, TellsNothing};
+ghost use Rattle.gaz_keeper.specs.Telling.{TellsPage};
 ghost use Rattle.gaz_keeper.specs.Telling.{TellsPropertyOf, TellsReached, TellsReceived};
 ghost use Rattle.gaz_keeper.specs.Telling.{TellsVerdict};
 
@@ -218,6 +219,7 @@ impl<K: Inbox + Drop> Inbox for Faulty<K> {
     fn receive(&mut self, code: Code, volume: Volume, bytes: &[u8]) -> Result<(), ShelfFault>
         requires { IsNotOpen (progress_around self.old.broken (K.seen self.old.inner).progress) }
         ensures enters { Receives seen_around self.old self.new result code volume bytes.now }
+        ensures open { IsOpen (seen_around self.new) result }
         ensures counts { CountsAs Call.Receive self.old.plan self.new.plan self.old.broken result }
     {
         self.admit(Call::Receive)?;
@@ -230,5 +232,14 @@ impl<K: Inbox + Drop> Inbox for Faulty<K> {
     {
         self.admit(Call::Held)?;
         self.inner.held(code)
+    }
+
+    fn sure(&mut self) -> Result<(), ShelfFault>
+        ensures reads { TellsNothing seen_around self.old self.new result }
+        ensures open { IsOpen (seen_around self.new) result }
+        ensures counts { CountsAs Call.Sure self.old.plan self.new.plan self.old.broken result }
+    {
+        self.admit(Call::Sure)?;
+        self.inner.sure()
     }
 }

@@ -61,6 +61,7 @@ module _ {A B : Type 0} (old mid new : State) (first : Result B ShelfFault) (ans
   pub alters_once : Alters old new result Becomes
   alters_once = record {
     harm = λ h. asks.harm (early h.clean);
+    trust = λ clean. asks.trust (early clean).clean;
     is_open = opens result told;
     done = λ h has. changes result told (asks.rests (early h.clean) has) (written h.clean (moved (early h.clean) has));
     undone = λ h has. on_err result (nothing result answer fault h (undone h.clean)) (asks.rests (early h.clean) has);
@@ -89,6 +90,7 @@ pub alters_then : {A B : Type 0} (old mid new : State) (first : Result A ShelfFa
     → Asks old mid first P → Alters mid new r Becomes → (IsUnharmed mid → (db : Database) → Becomes old.now db → Whole old.now db) → Alters old new r Whole
 alters_then {A} {B} old mid new first r P Becomes Whole asks alters goes = record {
   harm = λ h. asks.harm (alters.harm h);
+  trust = λ clean. asks.trust (alters.trust clean);
   is_open = alters.is_open;
   done = λ h has. now_done r (alters.harm h) (asks.rests (alters.harm h) has) (alters.done h (moved (alters.harm h) has));
   undone = λ h has. now_undone r (asks.rests (alters.harm h) has) (alters.undone h (moved (alters.harm h) has));
@@ -124,6 +126,7 @@ pub alters_not : {A B : Type 0} (old new : State) (one : Result A ShelfFault) (e
     → Asks old new one P → Alters {T = B} old new (Err e) Becomes
 alters_not old new one e P Becomes asks = record {
   harm = asks.harm;
+  trust = asks.trust;
   is_open = λ clean. tt;
   done = λ h has. tt;
   undone = λ h has. asks.rests h has;

@@ -59,7 +59,7 @@ module _ {T : Type 0} (old new : State) (before after : Remembered) (p q : Progr
     undone = λ stood ask h. on_err r (λ same. ap content same) (alters.undone h stood.kept.tables);
     progress = left;
     cleared = cleared;
-    counts = record { kept = tallies.kept; store = tallies.store };
+    counts = record { kept = tallies.kept; store = tallies.store; trust = alters.trust };
     leaves = λ sound ask k l. by_trees sound ask k l;
     committed = λ sound ask. commits sound ask r alters.is_open (λ h. alters.done h) (λ h. alters.committed h);
     whole = λ sound ask. whole_then old new (MayWrite old Becomes) (alters.leaves (λ h. (sound h).kept.tables))

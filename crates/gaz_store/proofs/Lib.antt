@@ -24,6 +24,7 @@ pub mod Recounting
 pub mod Entering
 pub mod Receiving
 pub mod Noting
+pub mod Opens
 pub mod StoreReads
 pub mod StoreGoes
 pub mod Beginning

@@ -39,6 +39,7 @@ if_ok_map (Err e) P Q f h = tt
 pub asks_nothing : {T : Type 0} (s : State) (r : Result T ShelfFault) (P : Database → T → Type 0) → (IsUnharmed s → IsKept s.now → IfOk r (P s.now)) → Asks s s r P
 asks_nothing s r P right = record {
   harm = λ h. h;
+  trust = λ clean. clean;
   rests = λ h has. refl;
   right = right;
   leaves = λ sound. survives_still s;
@@ -52,6 +53,7 @@ pub asks_then : {A B T : Type 0} (old mid new : State) (first : Result A ShelfFa
     → Asks old new r R
 asks_then old mid new first second r P Q R one two goes = record {
   harm = λ h. one.harm (two.harm h);
+  trust = λ clean. one.trust (two.trust clean);
   rests = λ h has. two.rests h (moved h has) ∙ one.rests (two.harm h) has;
   right = λ h kept.
       let still = one.rests (two.harm h) kept.tables in
@@ -68,6 +70,7 @@ pub asks_as : {A T : Type 0} (old new : State) (first : Result A ShelfFault) (r 
     → Asks old new first P → ((db : Database) → IsKept db → IfOk first (P db) → IfOk r (R db)) → Asks old new r R
 asks_as old new first r P R one goes = record {
   harm = one.harm;
+  trust = one.trust;
   rests = one.rests;
   right = λ h kept. goes old.now kept (one.right h kept);
   leaves = one.leaves;
@@ -107,6 +110,7 @@ pub asks_probe : {A T : Type 0} (old new : State) (answer : Result A Error) (r :
     → Asks old new r (λ _ _. ⊤)
 asks_probe old new answer r settled stays spared leaves = record {
   harm = λ h. record { clean = omega (arith, leaves.clean, h.clean); is_open = (rests h.clean h.is_open).0 };
+  trust = λ clean. omega (arith, leaves.clean, clean);
   rests = λ h has. (rests h.clean h.is_open).1;
   right = λ h kept. if_ok_any r (λ _. ⊤) (λ _. tt);
   leaves = λ sound. leaves;
@@ -133,6 +137,7 @@ module _ {A : Type 0} (old new : State) (answer : Result A Error) (result : Resu
   pub asks_query : Asks old new result IsAnswer
   asks_query = record {
     harm = λ h. record { clean = early h.clean; is_open = sure (early h.clean) };
+    trust = early;
     rests = λ h has. (spared_rests old new answer settled spared (λ clean. stays clean has) h.clean h.is_open).1;
     right = λ h kept. right result told (found h.clean kept.tables);
     leaves = λ sound. leaves (λ clean. sound (record { clean = clean; is_open = sure clean }));

@@ -65,7 +65,7 @@ goes_idle s a j f = record {
   undone = λ stood ask h. tt;
   on = refl;
   broken = tt;
-  counts = record { kept = le_refl f; store = tt };
+  counts = record { kept = le_refl f; store = tt; trust = λ t. t };
   leaves = λ sound ask k l. l;
   committed = λ sound ask. tt;
   whole = λ sound ask all. all;
@@ -105,7 +105,7 @@ module _ (s : State) (a : Remembered) (j : Judging) (f c : ℕ) where
     undone = λ stood ask h. tt;
     on = refl;
     broken = tt;
-    counts = record { kept = le_refl f; store = tt };
+    counts = record { kept = le_refl f; store = tt; trust = λ t. t };
     leaves = λ sound ask k l. l;
     committed = λ sound ask. tt;
     whole = λ sound ask all. all;
@@ -157,7 +157,7 @@ module _ (old new : State) (a b : Remembered) (m n : Judgement) (f g : ℕ) (bec
     undone = λ stood ask h. tt;
     on = ap keeper.Open code;
     broken = tt;
-    counts = record { kept = tallies.kept; store = tt };
+    counts = record { kept = tallies.kept; store = tt; trust = asks.trust };
     leaves = λ sound ask k l. stays old new _ _ asks (λ h. (sound h).tables.kept) k l;
     committed = λ sound ask. tt;
     whole = λ sound ask. whole_still old new (asks.leaves (λ h. (sound h).tables.kept.tables));
@@ -176,7 +176,7 @@ goes_wrong {T} old new a b j f g e one P becomes after asks tallies same = recor
   undone = λ stood ask h. ap (λ (db : Database). content_in db.trees empty_view) (asks.rests h stood.tables.kept.tables);
   on = tt;
   broken = refl;
-  counts = record { kept = tallies.kept; store = tallies.store };
+  counts = record { kept = tallies.kept; store = tallies.store; trust = asks.trust };
   leaves = λ sound ask k l. stays old new one P asks (λ h. (sound h).tables.kept) k l;
   committed = λ sound ask. tt;
   whole = λ sound ask. whole_still old new (asks.leaves (λ h. (sound h).tables.kept.tables));
@@ -241,7 +241,7 @@ module _ (old new : State) (a b : Remembered) (m : Judgement) (f g : ℕ) (r : R
     undone = λ stood ask h. tt;
     on = refl;
     broken = tt;
-    counts = record { kept = tallies.kept; store = tt };
+    counts = record { kept = tallies.kept; store = tt; trust = alters.trust };
     leaves = λ sound ask k l. may_be sound k l;
     committed = λ sound ask k l.
         let h : IsUnharmed new = record { clean = l.clean; is_open = subst (λ q. OnOk q (IsTrue new.is_open)) is (alters.is_open l.clean) } in
@@ -266,7 +266,7 @@ module _ (old new : State) (a b : Remembered) (m : Judgement) (f g : ℕ) (r : R
     undone = λ stood ask h. ap (λ (db : Database). content_in db.trees empty_view) (subst (λ q. OnErr q (new.now ≡ old.now)) is (alters.undone h stood.tables.kept.tables));
     on = tt;
     broken = refl;
-    counts = record { kept = tallies.kept; store = (subst (λ q. Tallies f g q) is tallies).store };
+    counts = record { kept = tallies.kept; store = (subst (λ q. Tallies f g q) is tallies).store; trust = alters.trust };
     leaves = λ sound ask k l. may_be sound k l;
     committed = λ sound ask. tt;
     whole = λ sound ask. still_whole sound;
@@ -287,7 +287,7 @@ enters_beside old new a b Idle f g r Asked makes not e = record {
   undone = λ stood ask h. e.undone stood.tables ask h;
   progress = e.progress;
   cleared = e.cleared;
-  counts = record { kept = e.counts.kept; store = e.counts.store };
+  counts = record { kept = e.counts.kept; store = e.counts.store; trust = e.counts.trust };
   leaves = λ sound ask. e.leaves (λ h. (sound h).tables) ask;
   committed = λ sound ask. e.committed (λ h. (sound h).tables) ask;
   whole = λ sound ask. e.whole (λ h. (sound h).tables) ask;
@@ -299,7 +299,7 @@ enters_beside old new a b Broken f g r Asked makes not e = record {
   undone = λ stood ask h. e.undone stood.tables ask h;
   progress = e.progress;
   cleared = e.cleared;
-  counts = record { kept = e.counts.kept; store = e.counts.store };
+  counts = record { kept = e.counts.kept; store = e.counts.store; trust = e.counts.trust };
   leaves = λ sound ask. e.leaves (λ h. (sound h).tables) ask;
   committed = λ sound ask. e.committed (λ h. (sound h).tables) ask;
   whole = λ sound ask. e.whole (λ h. (sound h).tables) ask;

@@ -112,7 +112,7 @@ module _ {T : Type 0} (old new : State) (before after : Remembered) (j : Judging
     };
     right = λ stood h. if_ok r (IsRight old.now) Q (λ x is. goes x stood is) (asks.right h stood.tables.kept);
     cleared = on_ok_all r (not_broken j);
-    counts = record { kept = tallies.kept; store = tallies.store };
+    counts = record { kept = tallies.kept; store = tallies.store; trust = asks.trust };
   }
 
 -- ---- what is seen of a custodian

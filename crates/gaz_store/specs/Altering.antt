@@ -25,6 +25,7 @@ pub record MayWrite (old : State) (Becomes : Database → Database → Type 0) (
 pub record Alters {T : Type 0} (old new : State) (result : Result T ShelfFault)
     (Becomes : Database → Database → Type 0) : Type 0 where
   pub harm : IsUnharmed new → IsUnharmed old
+  pub trust : HasCleanDisk new → HasCleanDisk old
   pub is_open : HasCleanDisk new → OnOk result (IsTrue new.is_open)
   pub done : IsUnharmed new → HasTables old.now → OnOk result (Becomes old.now new.now)
   pub undone : IsUnharmed new → HasTables old.now → OnErr result (new.now ≡ old.now)

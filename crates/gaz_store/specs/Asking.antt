@@ -3,7 +3,7 @@ use Rattle.std.specs.Prelude.{◌≡◌, ◌≤◌, ◌<◌, ⊤, ℕ, Result, O
 use Rattle.sqlite.specs.declared.error.Error.{Error}
 use Rattle.sqlite.specs.Effect.{Database}
 use Rattle.sqlite.specs.Held.{state}
-use Rattle.sqlite.specs.State.{State, Survives}
+use Rattle.sqlite.specs.State.{HasCleanDisk, State, Survives}
 use Rattle.sqlite_trees.specs.declared.store.Store.{Ghosts}
 use Rattle.gaz_keeper.specs.declared.fault.ShelfFault.{ShelfFault}
 use Rattle.gaz_keeper.specs.declared.fault.ShelfFault.TheVariants.{Store}
@@ -23,6 +23,7 @@ pub record Tallies {T : Type 0} (before after : ℕ) (result : Result T ShelfFau
 pub record Asks {T : Type 0} (old new : State) (result : Result T ShelfFault)
     (IsRight : Database → T → Type 0) : Type 0 where
   pub harm : IsUnharmed new → IsUnharmed old
+  pub trust : HasCleanDisk new → HasCleanDisk old
   pub rests : IsUnharmed new → HasTables old.now → new.now ≡ old.now
   pub right : IsUnharmed new → IsKept old.now → IfOk result (IsRight old.now)
   pub leaves : (IsUnharmed old → HasTables old.now) → Survives old new (λ _. ⊥)

@@ -43,6 +43,7 @@ seen_of s at_hand progress working failures = record {
   content = content_in s.now.trees working;
   stands = StandsFor s at_hand working;
   lawful = λ stood. stood.lawful;
+  trusted = HasCleanDisk s;
   unharmed = IsUnharmed s;
   progress = progress;
   failures = failures;

@@ -2,7 +2,7 @@
 use Rattle.std.specs.Prelude.{◌≢◌, ◌-◌, ◌^◌, ◌==◌, ⊤, ℕ}
 use Rattle.sqlite.specs.Effect.{Database}
 use Rattle.sqlite.specs.Held.{state}
-use Rattle.sqlite.specs.State.{State}
+use Rattle.sqlite.specs.State.{HasCleanDisk, State}
 use Rattle.sqlite_trees.specs.declared.store.Store.{Ghosts}
 use Rattle.gaz_views.specs.View.{View, empty_view}
 use Rattle.gaz_keeper.specs.Keeper as keeper
@@ -69,6 +69,7 @@ seen_beside s at_hand judging failures = record {
   content = content_in s.now.trees (working_of s.now judging);
   stands = StoreStands s at_hand judging;
   lawful = λ stood. stood.tables.lawful;
+  trusted = HasCleanDisk s;
   unharmed = IsUnharmed s;
   progress = progress_of judging;
   failures = failures;

@@ -20,4 +20,9 @@ impl<S: Alter> Inbox for Store<S> {
         self.judging.clear();
         self.tables.held(code)
     }
+
+    fn sure(&mut self) -> Result<(), ShelfFault> {
+        self.judging.clear();
+        self.tables.make_sure()
+    }
 }

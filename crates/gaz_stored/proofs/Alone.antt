@@ -23,6 +23,10 @@ module _ (d : Door) (register other : RegisterValue) (waiters : Option Remembere
         run = λ stood fine. l.run ((stood.0, tt), stood.1) fine;
         idle = l.idle;
         failures = l.failures;
+        trust = l.trust;
+        stays = l.stays;
+        was_open = l.was_open;
+        reaches = λ stood t. l.reaches ((stood.0, tt), stood.1) t;
         stops = λ sound.
             let s = l.stops (λ fine. let stood = sound fine in ((stood.0, tt), stood.1)) in
             record { ever = s.ever; now = s.now; answered = s.answered; received = s.received; whole = s.whole };
@@ -43,6 +47,7 @@ module _ (d : Door) (register other : RegisterValue) (waiters : Option Remembere
         routes = l.routes;
         runs = runs_alone _ _ l.runs;
         answers = λ stood fine. l.answers (record { stands = ((stood.stands.0, tt), stood.stands.1); partial = stood.partial }) fine;
+        answers_ever = λ stood t. l.answers_ever (record { stands = ((stood.stands.0, tt), stood.stands.1); partial = stood.partial }) t;
         comes_to = l.comes_to;
         answers_all = l.answers_all;
       }

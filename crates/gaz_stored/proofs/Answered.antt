@@ -2,6 +2,7 @@
 use Rattle.std.proofs.Common.{◌≡◌, ℕ, [], ◌∷◌, refl, subst}
 use Rattle.std.specs.Prelude.{Ok, Result}
 use Rattle.sqlite.specs.Held.{Held, state}
+use Rattle.sqlite.specs.State.{HasCleanDisk}
 use Rattle.sqlite_trees.specs.declared.store.Store.{Ghosts}
 use Rattle.gaz_register.specs.Registers.{RegisterValue}
 use Rattle.gaz_register.specs.Texts.{register_text}
@@ -23,9 +24,9 @@ use Rattle.gaz_exchange.specs.Exchanges.{commands_of, responses_of}
 use Rattle.gaz_exchange.specs.declared.conversation.Served.{Served}
 use Rattle.gaz_exchange.specs.declared.conversation.Stopped.{Stopped}
 use Rattle.gaz_stored.specs.Answering.{AnswersNew, AnswersOpened, Converses, Settles}
-use Rattle.gaz_stored.specs.Runs.{GoesOn, StandForRun, hub_in}
+use Rattle.gaz_stored.specs.Runs.{GoesOn, StandForRun, WentOn, hub_in}
 use Rattle.gaz_stored.specs.Stopping.{FindsLater}
-use Rattle.gaz_stored.proofs.Going.{begins_new, begins_opened, goes_on_new}
+use Rattle.gaz_stored.proofs.Going.{begins_new, begins_opened, goes_on_new, went_on_new}
 use Rattle.gaz_stored.proofs.Below.{runs_below}
 use Rattle.gaz_stored.proofs.Stopping.{finds_new}
 use Rattle.gaz_stored.proofs.Using.{uses}
@@ -55,6 +56,9 @@ module _ {S : Type 0} {g : Ghosts S} (register : RegisterValue) (most : ℕ) (th
         first = first;
         made = made;
         converses = told;
+        went_on =
+            subst (λ h. HasCleanDisk (state g h) → IsBare no_schema (state g before).now → WentOn register new_hub commands responses) told.back
+            (λ clean bare. went_on_new register first told.last.lower commands responses (runs bare) clean (state g before) text made bare);
         goes_on = goes;
         abides = λ fine bare. abides_after d new_hub commands responses (hub_in (state g after).now) refl (goes fine bare).abides;
         stops = λ is_fine bare.

@@ -1,5 +1,5 @@
 -- A conversation over a store with all of it at hand is one over the store.
-use Rattle.std.proofs.Common.{◌≡◌, ◌∙◌, ◌≤◌, inl, List, [], refl, ap, subst, sym, arith}
+use Rattle.std.proofs.Common.{◌≡◌, ◌∙◌, ◌≤◌, inl, List, [], refl, ap, subst, sym, arith, true≢false}
 use Rattle.std.specs.Prelude.{Option}
 use Rattle.sqlite.specs.Effect.{Database}
 use Rattle.sqlite.specs.Held.{state}
@@ -70,6 +70,10 @@ module _ {U : Type 0} (seen : U → Seen) (d : Door) (a lower last : Seen) (uppe
         run = λ stood fine. ap state_of (keeps.content stood.0 fine);
         idle = not_open a.progress lower.progress keeps.progress;
         failures = reads.failures;
+        trust = reads.trust;
+        stays = λ all hub. refl;
+        was_open = λ no t. absurd (true≢false no);
+        reaches = λ stood t. (state_of a.content, refl);
         stops = λ sound. record {
           ever = λ k l. inl (keeps.leaves (λ fine. (sound fine).0) k l);
           now = λ fine k l. inl (keeps.leaves (λ fine. (sound fine).0) k l, ap state_of (keeps.content (sound (keeps.harm fine)).0 fine));
@@ -87,6 +91,10 @@ module _ {U : Type 0} (seen : U → Seen) (d : Door) (a lower last : Seen) (uppe
     run = λ _ _. refl;
     idle = λ idle. idle;
     failures = omega arith;
+    trust = λ t. t;
+    stays = λ all hub. refl;
+    was_open = λ no t. absurd (true≢false no);
+    reaches = λ stood t. (state_of last.content, refl);
     stops = λ sound. record { ever = λ k l. inl l; now = λ fine k l. inl (l, refl); answered = refl; received = λ k l. tt; whole = λ all. all };
   }
 

@@ -1,7 +1,7 @@
 -- What a conversation over a store leaves the tables standing for.
-use Rattle.std.proofs.Common.{◌≡◌, ℕ, List, ap, subst, sym}
+use Rattle.std.proofs.Common.{◌≡◌, ℕ, Bool, true, false, List, ap, refl, subst, sym}
 use Rattle.sqlite.specs.Held.{state}
-use Rattle.sqlite.specs.State.{State}
+use Rattle.sqlite.specs.State.{HasCleanDisk, State}
 use Rattle.sqlite_trees.specs.declared.store.Store.{Ghosts}
 use Rattle.gaz_register.specs.Registers.{RegisterValue, blocks_of}
 use Rattle.gaz_keeper.specs.Keeper.{Content}
@@ -10,7 +10,7 @@ use Rattle.gaz_store.specs.Opened.{IsMade, IsOpened}
 use Rattle.gaz_store.specs.Seen.{IsUnharmed}
 use Rattle.gaz_store.specs.Store.{seen_in}
 use Rattle.gaz_store.specs.declared.store.Store.{Store}
-use Rattle.gaz_hub.specs.Hubs.{AreKnown, Runs, door_of, state_of}
+use Rattle.gaz_hub.specs.Hubs.{AreKnown, Runs, all_declined, door_of, state_of}
 use Rattle.gaz_hub.specs.Laws.{StandsForRun}
 use Rattle.gaz_hub.specs.Runs.{Run}
 use Rattle.gaz_hub.specs.Standing.{IsPartial}
@@ -19,7 +19,7 @@ use Rattle.gaz_hub.proofs.Answers.{every_answer_holds}
 use Rattle.gaz_hub.proofs.Headline.{may_begin}
 use Rattle.gaz_hub.proofs.OwnNumbers.{all_own_holds}
 use Rattle.gaz_hub.proofs.Runs.{every_run_from_holds, nothing_partial}
-use Rattle.gaz_stored.specs.Runs.{GoesOn, StandForRun, hub_in}
+use Rattle.gaz_stored.specs.Runs.{GoesOn, StandForRun, WentOn, hub_in}
 
 -- the board is partial over what was received
 abbrev partly : RegisterValue → HubState → Type 0
@@ -80,3 +80,38 @@ module _ {S : Type 0} {g : Ghosts S} (register : RegisterValue) (first last : St
   goes_on_opened old text opened stood =
       let is_fine = runs.harm fine in
       goes_on (hub_in old.now) (begins_opened register first is_fine old text opened stood) (ap state_of (opened.content is_fine stood.kept))
+
+-- ---- where it went, whatever a failure shut
+
+module _ {S : Type 0} {g : Ghosts S} (register : RegisterValue) (first last : Store S g) (commands : List Command) (responses : List Response)
+    (runs : Runs (door_of register) (seen_in first) (seen_in last) commands responses) (clean : HasCleanDisk (state g last.tables.conn)) where
+  abbrev Begins : HubState → Type 0
+  Begins before = StandsForRun (door_of register) (seen_in first) × (state_of (seen_in first).content ≡ before)
+
+  -- what is declined leads nowhere, and all else was told of a store that was open
+  went_on : (before : HubState) → partly register before → (IsUnharmed (state g first.tables.conn) → Begins before) → WentOn register before commands responses
+  went_on before partial begins = by_responses (all_declined responses) refl
+    where
+      to : (after : HubState) → Run (door_of register) before commands responses after → WentOn register before commands responses
+      to after run = record {
+        last = after;
+        run = run;
+        abides = every_run_from_holds (door_of register) before after commands responses partial run;
+        answers = every_answer_holds (door_of register) before after commands responses partial run;
+      }
+
+      by_responses : (b : Bool) → all_declined responses ≡ b → WentOn register before commands responses
+      by_responses true is = to before (runs.stays is before)
+      by_responses false is =
+          let began = begins (runs.was_open is clean) in
+          let reached = runs.reaches began.0.stands clean in
+          to reached.0 (subst (λ h. Run (door_of register) h commands responses reached.0) began.1 reached.1)
+
+  -- from a store that was made where there was no table
+  pub went_on_new : (old : State) (text : List ℕ) → IsMade old (state g first.tables.conn) text (seen_in first) → IsBare no_schema old.now → WentOn register new_hub commands responses
+  went_on_new old text made bare = went_on new_hub (nothing_partial (door_of register)) (λ fine. (begins_new register first fine old text made bare, ap state_of (made.content fine bare)))
+
+  -- from one that was opened where the tables stood for a partial run
+  pub went_on_opened : (old : State) (text : List ℕ) → IsOpened old (state g first.tables.conn) text (seen_in first) → StandForRun register old.now → WentOn register (hub_in old.now) commands responses
+  went_on_opened old text opened stood =
+      went_on (hub_in old.now) stood.partial (λ fine. (begins_opened register first fine old text opened stood, ap state_of (opened.content fine stood.kept)))

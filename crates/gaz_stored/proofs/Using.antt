@@ -2,6 +2,7 @@
 use Rattle.std.proofs.Common.{◌≡◌, List, subst}
 use Rattle.std.specs.Prelude.{Ok}
 use Rattle.sqlite.specs.Held.{Held, state}
+use Rattle.sqlite.specs.State.{HasCleanDisk}
 use Rattle.sqlite_trees.specs.declared.store.Store.{Ghosts}
 use Rattle.gaz_register.specs.Registers.{RegisterValue}
 use Rattle.gaz_register.specs.Texts.{register_text}
@@ -12,10 +13,10 @@ use Rattle.gaz_store.specs.Store.{seen_in}
 use Rattle.gaz_store.specs.declared.store.Store.{Store}
 use Rattle.gaz_hub.specs.Hubs.{Runs, door_of}
 use Rattle.gaz_hub.specs.Step.{Command, Response}
-use Rattle.gaz_stored.specs.Runs.{GoesOn, StandForRun, hub_in}
+use Rattle.gaz_stored.specs.Runs.{GoesOn, StandForRun, WentOn, hub_in}
 use Rattle.gaz_stored.specs.Stopping.{FindsLater}
 use Rattle.gaz_stored.specs.Using.{Uses}
-use Rattle.gaz_stored.proofs.Going.{goes_on_opened}
+use Rattle.gaz_stored.proofs.Going.{goes_on_opened, went_on_opened}
 use Rattle.gaz_stored.proofs.Stopping.{finds_opened}
 
 module _ {S : Type 0} {g : Ghosts S} (register : RegisterValue) (first last : Store S g) (before after : Held S) (commands : List Command) (responses : List Response) where
@@ -26,6 +27,9 @@ module _ {S : Type 0} {g : Ghosts S} (register : RegisterValue) (first last : St
       record {
         opened = opened;
         told = told;
+        went_on =
+            subst (λ h. HasCleanDisk (state g h) → StandForRun register (state g before).now → WentOn register (hub_in (state g before).now) commands responses) back
+            (λ clean stood. went_on_opened register first last commands responses (runs stood) clean (state g before) text opened stood);
         goes_on =
             subst (λ h. IsUnharmed (state g h) → StandForRun register (state g before).now → GoesOn register (hub_in (state g before).now) commands responses (state g h).now) back
             (λ fine stood. goes_on_opened register first last commands responses (runs stood) fine (state g before) text opened stood);

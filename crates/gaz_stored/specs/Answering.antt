@@ -2,6 +2,7 @@
 use Rattle.std.specs.Prelude.{◌≡◌, ℕ, [], ◌∷◌, Result}
 use Rattle.std.specs.Io.KnownBytes.{Keeps}
 use Rattle.sqlite.specs.Held.{Held, state}
+use Rattle.sqlite.specs.State.{HasCleanDisk}
 use Rattle.sqlite_trees.specs.declared.store.Store.{Ghosts}
 use Rattle.gaz_register.specs.Registers.{RegisterValue}
 use Rattle.gaz_register.specs.Texts.{register_text}
@@ -21,7 +22,7 @@ use Rattle.gaz_exchange.specs.Conversing.{Conversation, Transfer}
 use Rattle.gaz_exchange.specs.Exchanges.{commands_of, responses_of}
 use Rattle.gaz_exchange.specs.declared.conversation.Served.{Served}
 use Rattle.gaz_exchange.specs.declared.conversation.Stopped.{Stopped}
-use Rattle.gaz_stored.specs.Runs.{GoesOn, hub_in}
+use Rattle.gaz_stored.specs.Runs.{GoesOn, WentOn, hub_in}
 use Rattle.gaz_stored.specs.Stopping.{FindsLater}
 use Rattle.gaz_stored.specs.Using.{Mirrored, Uses}
 
@@ -47,8 +48,7 @@ Settles register old new told =
     Runs (door_of register) (seen_in old) (seen_in new) (Pose Settle ∷ [])
     (Replied Settle told ∷ [])
 
--- Below, before and after are the connection that is given and the one that is handed back. What is
--- said of the tables is said where the disk stayed clean and the connection is open in the end.
+-- Below, before and after are the connection that is given and the one that is handed back.
 
 -- over a store that is made
 pub record AnswersNew {S : Type 0} (g : Ghosts S) (register : RegisterValue) (most : ℕ)
@@ -57,7 +57,12 @@ pub record AnswersNew {S : Type 0} (g : Ghosts S) (register : RegisterValue) (mo
   pub made : IsMade (state g before) (state g first.tables.conn) (register_text register)
       (seen_in first)
   pub converses : Converses register most through first after ended
-  -- where there was no table, the hub begins with nothing
+  -- where there was no table, the hub begins with nothing and goes on from it, whatever a failure
+  -- shut
+  pub went_on : HasCleanDisk (state g after) → IsBare no_schema (state g before).now
+      → WentOn register new_hub (commands_of converses.conversation.exchanges)
+      (responses_of converses.conversation.exchanges)
+  -- and to what the tables stand for, where the connection is open in the end
   pub goes_on : IsUnharmed (state g after) → IsBare no_schema (state g before).now
       → GoesOn register new_hub (commands_of converses.conversation.exchanges)
       (responses_of converses.conversation.exchanges) (state g after).now

@@ -21,6 +21,17 @@ pub record StandForRun (register : RegisterValue) (db : Database) : Type 0 where
   pub known : AreKnown (door_of register) (hub_in db).received
   pub partial : IsPartial (blocks_of register) (hub_in db).received (hub_in db).board
 
+-- commands and responses of a hub that was this one before, whatever became of its tables
+pub record WentOn (register : RegisterValue) (before : HubState) (commands : List Command)
+    (responses : List Response) : Type 0 where
+  -- step by step it went to some hub
+  pub last : HubState
+  pub run : Run (door_of register) before commands responses last
+  -- what is received is what was there and what then came first, and the board is partial over it
+  pub abides : AbidesFrom (door_of register) before commands responses last
+  -- each answer is read off the standing board of all files that were received by then
+  pub answers : AllAnswered (door_of register) before.received commands responses last.received
+
 -- a conversation of these commands and responses, where the tables stood for this hub before
 pub record GoesOn (register : RegisterValue) (before : HubState) (commands : List Command)
     (responses : List Response) (after : Database) : Type 0 where

@@ -1,6 +1,6 @@
 use Rattle.std.proofs.Common.{refl}
 use Rattle.gaz_exchange.proofs.FailureFacts.{stopped_either}
-use Rattle.gaz_exchange.proofs.TurnFacts.{turn_of_answer, turn_of_failure, turn_of_refusal}
+use Rattle.gaz_exchange.proofs.TurnFacts.{turn_of_answer, turn_of_end, turn_of_failure, turn_of_refusal}
 use Rattle.gaz_exchange.proofs.conversation.take_turn.Goals as goal
 
 pub returns-in-Request-clause-turn : goal.returns-in-Request-clause-turn
@@ -24,3 +24,8 @@ returns-in-Request-clause-failed g c = stopped_either g.R.Source.failed g.W.Sink
 
 pub returns-in-Refused-clause-failed : goal.returns-in-Refused-clause-failed
 returns-in-Refused-clause-failed g c = stopped_either g.R.Source.failed g.W.Sink.failed c.next_request.new.r c.refuse.new.w c.refuse.result c.refuse.ensures.failed
+
+pub returns-in-Over-clause-turn : goal.returns-in-Over-clause-turn
+returns-in-Over-clause-turn g c =
+    let (read, eaten, (over, counted)) = c.in-Over.ensures.read in
+    turn_of_end _ c.args.is_last _ _ _ _ _ read _ _ _ _ _ _ c.in-Over.ensures.stay eaten c.in-Over.ensures.written over.0 over.1 counted

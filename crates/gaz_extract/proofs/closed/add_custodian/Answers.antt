@@ -43,6 +43,7 @@ pages-preserved g c =
       keeps = keeps_then _ _ _ so_far.keeps more.keeps;
       not_open = c.in_ok-next-2.ensures.not_open;
       counted = (let one = so_far.counted in let two = more.counts.kept in omega arith);
+      trust = λ t. so_far.trust (more.counts.trust t);
       volume = λ stood fine. so_far.volume stood (more.keeps.harm fine);
       right = λ stood fine. (added stood fine).0;
       left = λ stood fine.
@@ -80,6 +81,7 @@ pages-init g c =
       keeps = keeps_then _ _ _ first.keeps second.keeps;
       not_open = c.in_ok-next.ensures.not_open;
       counted = (let one = first.counts.kept in let two = second.counts.kept in omega arith);
+      trust = λ t. first.counts.trust (second.counts.trust t);
       volume = λ stood fine. first.right stood (second.keeps.harm fine);
       right = λ stood fine. (added stood fine).0;
       left = λ stood fine. (added stood fine).1 ∙ ap (λ (v : Vec Closed). v.items ++ closed_of was.content.board register code) c.forget.ensures.closed;

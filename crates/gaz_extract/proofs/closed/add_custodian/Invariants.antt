@@ -19,6 +19,7 @@ invariant-pages g l =
       keeps : Keeps was now;
       not_open : IsNotOpen now.progress;
       counted : was.failures ≤ now.failures;
+      trust : now.trusted → was.trusted;
       volume : was.stands → now.unharmed → l.volume ≡ reached B l.code;
       right : was.stands → now.unharmed → AreRight B l.register l.code l.walk.asked.entries;
       left : was.stands → now.unharmed → l.walk.closed.items ++ filter_map (closed_by B l.register l.code) (left_after (last_view B l.code) kind.Lpi l.next) ≡ l.fn.walk.closed.items ++ closed_of B l.register l.code;

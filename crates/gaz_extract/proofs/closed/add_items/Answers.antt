@@ -25,6 +25,7 @@ loop-item-preserved g c =
       keeps = keeps_then _ _ _ so_far.keeps more.keeps;
       not_open = c.in_ok-add_item.ensures.not_open;
       counted = (let one = so_far.counted in let two = more.counts.kept in omega arith);
+      trust = λ t. so_far.trust (more.counts.trust t);
       left = λ stood fine right.
           let mid = more.keeps.harm fine in
           let before = so_far.left stood mid right in
@@ -45,5 +46,5 @@ returns-clause-tells g c =
       right = λ stood fine right.
           let both = so_far.left stood fine right in
           (both.0, sym (append-nil new) ∙ ap (λ (xs : List Item). new ++ filter_map told xs) (sym (drop_all c.loop-item.item-index c.args.items.now c.loop-item-test.false)) ∙ both.1);
-      counts = record { kept = so_far.counted; store = tt };
+      counts = record { kept = so_far.counted; store = tt; trust = so_far.trust };
     }

@@ -15,6 +15,7 @@ invariant-loop-item g l =
       keeps : Keeps was now;
       not_open : IsNotOpen now.progress;
       counted : was.failures ≤ now.failures;
+      trust : now.trusted → was.trusted;
       left : was.stands → now.unharmed → Recalls was.content.board l.register l.code l.fn.walk.asked.entries l.walk.asked.entries
           (l.walk.closed.items ++ filter_map told (drop l.item-index l.items) ≡ l.fn.walk.closed.items ++ filter_map told l.items);
     }

@@ -31,5 +31,5 @@ returns-clause-tells g c =
           (first.keeps.content stood mid) (second.right (first.keeps.stands stood mid) fine) was_right in
           let added = both.1 ∙ ap (λ (is : List Item). before ++ filter_map told is) c.as_slice.ensures.value in
           (both.0, told_more told before _ c.in_ok-page.page.items.items (left_after v kind.Lpi c.in_ok-page.page.next) (rest_of v kind.Lpi c.args.after) added (first.right stood mid within));
-      counts = record { kept = (let one = first.counts.kept in let two = second.counts.kept in omega arith); store = tt };
+      counts = record { kept = (let one = first.counts.kept in let two = second.counts.kept in omega arith); store = tt; trust = λ t. first.counts.trust (second.counts.trust t) };
     }

@@ -15,7 +15,7 @@ returns-clause-tells g c =
           let both = told.right stood fine right in
           let on_closed : is_on_closed B c.args.register.now c.args.code c.in-Lpi.lpi ≡ true = sym both.1 ∙ c.if-not-branch.false in
           (both.0, ap tells c.lpi.view_is ∙ sym (ap (closed_by B c.args.register.now c.args.code) c.in-Lpi.is ∙ ap (λ (b : Bool). cond b (tells c.in-Lpi.lpi) None) on_closed));
-      counts = record { kept = told.counts.kept; store = tt };
+      counts = record { kept = told.counts.kept; store = tt; trust = told.counts.trust };
     }
 
 pub returns-then-not-branch-clause-tells : goal.returns-then-not-branch-clause-tells
@@ -29,5 +29,5 @@ returns-then-not-branch-clause-tells g c =
           let both = told.right stood fine right in
           let off : is_on_closed B c.args.register.now c.args.code c.in-Lpi.lpi ≡ false = sym both.1 ∙ c.if-not-branch.true in
           (both.0, sym (ap (closed_by B c.args.register.now c.args.code) c.in-Lpi.is ∙ ap (λ (b : Bool). cond b (tells c.in-Lpi.lpi) None) off));
-      counts = record { kept = told.counts.kept; store = tt };
+      counts = record { kept = told.counts.kept; store = tt; trust = told.counts.trust };
     }

@@ -21,6 +21,7 @@ loop-custodian-preserved g c =
       keeps = keeps_then _ _ _ so_far.keeps more.keeps;
       not_open = c.in_ok-add_custodian.ensures.not_open;
       counted = (let one = so_far.counted in let two = more.counts.kept in omega arith);
+      trust = λ t. so_far.trust (more.counts.trust t);
       left = λ stood fine.
           let mid = more.keeps.harm fine in
           let told = subst (λ (k : Content). new ≡ old ++ closed_of k.board register c.code.result)
@@ -40,5 +41,5 @@ returns g c =
     record {
       keeps = so_far.keeps;
       right = λ stood fine. told_all (λ (x : CustodianValue). closed_of B register x.code) c.loop-custodian.walk.closed.items _ register c.loop-custodian.custodian-index past (so_far.left stood fine);
-      counts = record { kept = so_far.counted; store = tt };
+      counts = record { kept = so_far.counted; store = tt; trust = so_far.trust };
     }

@@ -14,5 +14,6 @@ invariant-loop-custodian g l =
       keeps : Keeps was now;
       not_open : IsNotOpen now.progress;
       counted : was.failures ≤ now.failures;
+      trust : now.trusted → was.trusted;
       left : was.stands → now.unharmed → l.walk.closed.items ++ flat_map (λ c. closed_of B l.fn.register c.code) (drop l.custodian-index l.fn.register) ≡ flat_map (λ c. closed_of B l.fn.register c.code) l.fn.register;
     }

@@ -14,7 +14,7 @@ returns-then-is_none-clause-tells g c =
     record {
       keeps = so_far.keeps;
       right = λ stood fine within. sym (with-none draft) ∙ ap (with_items draft) (sym none) ∙ so_far.left stood fine within;
-      counts = record { kept = so_far.counted; store = tt };
+      counts = record { kept = so_far.counted; store = tt; trust = so_far.trust };
     }
 
 pub pages-smaller : goal.pages-smaller

@@ -17,6 +17,7 @@ invariant-pages g l =
       keeps : Keeps was now;
       not_open : IsNotOpen now.progress;
       counted : was.failures ≤ now.failures;
+      trust : now.trusted → was.trusted;
       left : was.stands → now.unharmed → l.volume ≤ reached was.content.board l.code → with_items l.written.draft (left_after v l.kind l.written.next) ≡ with_items l.fn.draft (rest_of v l.kind None);
     }
 

@@ -17,5 +17,5 @@ returns-clause-tells g c =
       right = λ stood fine within.
           ap (λ (d : DraftValue). with_items d left) added ∙ with-append c.args.draft c.in_ok-page.page.items.items left
           ∙ ap (with_items c.args.draft) (read.right stood fine within);
-      counts = record { kept = read.counts.kept; store = tt };
+      counts = record { kept = read.counts.kept; store = tt; trust = read.counts.trust };
     }

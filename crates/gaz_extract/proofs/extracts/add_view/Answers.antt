@@ -36,5 +36,5 @@ returns-clause-tells g c =
     record {
       keeps = keeps_then s0 s1 s5 k1.keeps from2;
       right = then_added s0 s1 s5 code volume d0 d1 d5 (λ (v : View). rest_of v kind.Street None) (λ (v : View). rest_of v kind.Descriptor None ++ (rest_of v kind.Blpu None ++ (rest_of v kind.Xref None ++ rest_of v kind.Lpi None))) k1.keeps from2 k1.right a2;
-      counts = record { kept = (let n1 = k1.counts.kept in let n2 = k2.counts.kept in let n3 = k3.counts.kept in let n4 = k4.counts.kept in let n5 = k5.counts.kept in omega arith); store = tt };
+      counts = record { kept = (let n1 = k1.counts.kept in let n2 = k2.counts.kept in let n3 = k3.counts.kept in let n4 = k4.counts.kept in let n5 = k5.counts.kept in omega arith); store = tt; trust = λ t. k1.counts.trust (k2.counts.trust (k3.counts.trust (k4.counts.trust (k5.counts.trust t)))) };
     }

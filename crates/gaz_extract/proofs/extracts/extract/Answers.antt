@@ -25,5 +25,5 @@ returns g c =
           (first.keeps.content stood mid) (second.right (first.keeps.stands stood mid) fine) in
           let here = subst (λ (n : ℕ). n ≤ reached B code → d2 ≡ with_items d1 (by_kind (view_after B code n))) c.number-2.ensures.value then in
           extract_is B code volume d1 d2 c.in_ok-text.text.items within c.in_ok-draft.ensures (here within) c.in_ok-text.ensures;
-      counts = record { kept = (let one = first.counts.kept in let two = second.counts.kept in omega arith); store = tt };
+      counts = record { kept = (let one = first.counts.kept in let two = second.counts.kept in omega arith); store = tt; trust = λ t. first.counts.trust (second.counts.trust t) };
     }

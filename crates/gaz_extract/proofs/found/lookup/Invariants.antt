@@ -14,5 +14,6 @@ invariant-loop-custodian g l =
       keeps : Keeps was now;
       not_open : IsNotOpen now.progress;
       counted : was.failures ≤ now.failures;
+      trust : now.trusted → was.trusted;
       left : was.stands → now.unharmed → filter_map (λ c. said_by B l.fn.register l.fn.uprn c.code) (drop l.custodian-index l.fn.register) ≡ filter_map (λ c. said_by B l.fn.register l.fn.uprn c.code) l.fn.register;
     }

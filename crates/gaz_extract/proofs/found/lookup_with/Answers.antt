@@ -17,7 +17,7 @@ returns-in_default-as_item-clause-tells g c =
       right = λ stood fine.
           let there = sym c.in-Some.is ∙ asked.right stood fine in
           nothing_there was.content.board c.args.register.now c.args.uprn c.args.code c.in-Some.property (λ b is. c.in_default-as_item.not-Blpu b (c.as_item.ensures ∙ is)) there;
-      counts = record { kept = asked.counts.kept; store = tt };
+      counts = record { kept = asked.counts.kept; store = tt; trust = asked.counts.trust };
     }
 
 pub returns-clause-tells : goal.returns-clause-tells
@@ -35,5 +35,5 @@ returns-clause-tells g c =
           ∙ ap (λ (o : Option LpiValue). line_at was.content.board c.args.register.now c.args.code o c.in-Blpu.blpu) c.lpi_in-address.ensures in
           ap (λ (b : BlpuValue). Some (record { custodian = c.args.code; uprn = c.args.uprn; status = b.status; line = c.in_ok-line.line })) c.blpu.view_is
           ∙ line_there was.content.board c.args.register.now c.args.uprn c.args.code c.in-Some.property c.in-Blpu.blpu c.in_ok-line.line (sym c.as_item.ensures ∙ c.in-Blpu.is) there line;
-      counts = record { kept = let one = asked.counts.kept in let two = told.counts.kept in omega arith; store = tt };
+      counts = record { kept = let one = asked.counts.kept in let two = told.counts.kept in omega arith; store = tt; trust = λ t. asked.counts.trust (told.counts.trust t) };
     }

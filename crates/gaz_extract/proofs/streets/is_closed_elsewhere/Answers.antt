@@ -8,7 +8,7 @@ returns-in-Some-clause-tells g c =
     record {
       keeps = keeps_itself (g.K.Shelf.seen c.args.keeper.now);
       right = λ stood fine right. (right, right c.args.usrn c.in-Some.closed.now (sym c.in-Some.ensures.value));
-      counts = record { kept = omega arith; store = tt };
+      counts = record { kept = omega arith; store = tt; trust = λ t. t };
     }
 
 pub returns-clause-tells : goal.returns-clause-tells
@@ -19,5 +19,5 @@ returns-clause-tells g c =
       right = λ stood fine right.
           let told = asked.right stood fine in
           (one_more (g.K.Shelf.seen c.args.keeper.now).content.board c.args.register.now c.args.code c.args.asked.now c.remember.new.asked c.args.usrn c.in_ok-closed.closed c.in_ok-remember.ensures told right, told);
-      counts = record { kept = asked.counts.kept; store = tt };
+      counts = record { kept = asked.counts.kept; store = tt; trust = asked.counts.trust };
     }

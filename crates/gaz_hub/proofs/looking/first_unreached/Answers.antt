@@ -14,6 +14,7 @@ loop-basis-preserved g c =
     record {
       keeps = keeps_then _ _ _ inv.keeps asked.keeps;
       counted = let a = inv.counted in let b = asked.counts.kept in omega arith;
+      trust = λ t. inv.trust (asked.counts.trust t);
       left = λ stood fine.
           let mid = asked.keeps.harm fine in
           let n = asked.right (inv.keeps.stands stood mid) fine ∙ ap (λ k. reached k.board d.custodian) (inv.keeps.content stood mid) in
@@ -27,5 +28,5 @@ returns g c =
     record {
       keeps = inv.keeps;
       right = λ stood fine. finds_none _ c.args.bases.now c.loop-basis.basis-index c.loop-basis-test.false ∙ inv.left stood fine;
-      counts = record { kept = inv.counted; store = tt };
+      counts = record { kept = inv.counted; store = tt; trust = inv.trust };
     }

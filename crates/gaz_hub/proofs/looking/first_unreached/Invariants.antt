@@ -11,5 +11,6 @@ invariant-loop-basis g l =
     record {
       keeps : Keeps was now;
       counted : was.failures ≤ now.failures;
+      trust : now.trusted → was.trusted;
       left : was.stands → now.unharmed → first_unreached was.content.board (drop l.basis-index l.bases) ≡ first_unreached was.content.board l.bases;
     }

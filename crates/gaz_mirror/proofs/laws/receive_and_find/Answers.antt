@@ -19,7 +19,7 @@ renamed (Err e') f x y e h = tt
 
 pub returns : goal.returns
 returns g c stood fresh fine =
-    let entered = c.in_ok-receive.ensures {u = tt} in
+    let entered = c.in_ok-receive.ensures.enters in
     let unharmed = c.received.ensures.keeps.harm fine in
     renamed c.received.result _ _ _ (there_now _ _ c.args.code c.args.volume c.args.bytes.now (entered.done stood fresh unharmed))
     (c.received.ensures.right (entered.stands stood fresh unharmed) fine)

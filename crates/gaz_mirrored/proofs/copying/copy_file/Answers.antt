@@ -10,7 +10,7 @@ returns-in-New-clause-copies g c =
     let a = g.L.Shelf.seen c.args.lower.now in
     let b = g.L.Shelf.seen c.received.new.self in
     let read = c.in_ok-file.ensures in
-    copies_submitted (door_of c.args.above.now.register) a b (hub_seen g.U.Shelf.seen c.args.above.now) (hub_seen g.U.Shelf.seen c.submit.new.self) c.number.result c.number-2.result c.deref.result.now c.submit.result (record { keeps = read.keeps; failures = read.counts.kept })
+    copies_submitted (door_of c.args.above.now.register) a b (hub_seen g.U.Shelf.seen c.args.above.now) (hub_seen g.U.Shelf.seen c.submit.new.self) c.number.result c.number-2.result c.deref.result.now c.submit.result (record { keeps = read.keeps; failures = read.counts.kept; trust = read.counts.trust })
     (λ stood fine. there_as a.content.files c.number.result c.number-2.result c.args.code c.args.volume c.deref.result.now c.number.ensures.value c.number-2.ensures.value (there_by c.in_ok-file.field-0 c.in-Some.file c.deref.result.now (map.get a.content.files (c.args.code, c.args.volume)) (read.right stood fine) c.in-Some.is c.deref.ensures.value)) c.submit.ensures.steps
 
 pub returns-clause-copies : goal.returns-clause-copies
@@ -18,5 +18,5 @@ returns-clause-copies g c =
     let a = g.L.Shelf.seen c.args.lower.now in
     let b = g.L.Shelf.seen c.received.new.self in
     let read = c.in_ok-file.ensures in
-    copies_submitted (door_of c.args.above.now.register) a b (hub_seen g.U.Shelf.seen c.args.above.now) (hub_seen g.U.Shelf.seen c.submit.new.self) c.number.result c.number-2.result c.deref.result.now c.submit.result (record { keeps = read.keeps; failures = read.counts.kept })
+    copies_submitted (door_of c.args.above.now.register) a b (hub_seen g.U.Shelf.seen c.args.above.now) (hub_seen g.U.Shelf.seen c.submit.new.self) c.number.result c.number-2.result c.deref.result.now c.submit.result (record { keeps = read.keeps; failures = read.counts.kept; trust = read.counts.trust })
     (λ stood fine. there_as a.content.files c.number.result c.number-2.result c.args.code c.args.volume c.deref.result.now c.number.ensures.value c.number-2.ensures.value (there_by c.in_ok-file.field-0 c.in-Some.file c.deref.result.now (map.get a.content.files (c.args.code, c.args.volume)) (read.right stood fine) c.in-Some.is c.deref.ensures.value)) c.submit.ensures.steps

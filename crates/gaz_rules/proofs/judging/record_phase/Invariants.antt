@@ -19,6 +19,7 @@ invariant-loop-change g l =
       stands : was.stands → now.unharmed → now.stands;
       open_for : now.progress ≡ Open l.code;
       counted : was.failures ≤ now.failures;
+      trust : now.trusted → was.trusted;
       stay : was.stands → now.unharmed → after_abandon now.content ≡ after_abandon was.content;
       faults : was.stands → now.unharmed → record_faults own now.content.working left ≡ record_faults own was.content.working l.changes;
       leaves : IsSound was → LeavesAtMost None was now;

@@ -18,5 +18,5 @@ returns g c =
           let told = did.right stood fine reached in
           (c.set.ensures was.working (basis_views was.board c.args.bases.now) told, told);
       cleared = did.cleared;
-      counts = record { kept = did.counts.kept; store = tt };
+      counts = record { kept = did.counts.kept; store = tt; trust = did.counts.trust };
     }

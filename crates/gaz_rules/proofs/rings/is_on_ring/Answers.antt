@@ -11,5 +11,5 @@ returns g c =
           let now = did.right stood fine known in
           (now.0, λ up. mark_right _ _ _ _ _ _ now.0 now.1 up c.is_on_ring.ensures.visited c.is_on_ring.ensures.never);
       cleared = did.cleared;
-      counts = record { kept = did.counts.kept; store = tt };
+      counts = record { kept = did.counts.kept; store = tt; trust = did.counts.trust };
     }

@@ -22,7 +22,7 @@ returns-then-visit-start g c =
         first_seen _ _ _ _ _ _ _ _ _ (inv.visits stood fine) (inv.here stood fine) stamp,
       );
       cleared = not_broken _ c.args.code inv.open_for;
-      counts = record { kept = inv.counted; store = tt };
+      counts = record { kept = inv.counted; store = tt; trust = inv.trust };
     }
 
 pub returns-in-Some : goal.returns-in-Some
@@ -40,7 +40,7 @@ returns-in-Some g c =
         ap (λ s. is_some (s c.args.uprn)) same ∙ first_seen _ _ _ _ _ _ _ _ _ (inv.visits stood fine) (inv.here stood fine) stamp,
       );
       cleared = not_broken _ c.args.code inv.open_for;
-      counts = record { kept = inv.counted; store = tt };
+      counts = record { kept = inv.counted; store = tt; trust = inv.trust };
     }
 
 pub returns-in_default-2 : goal.returns-in_default-2
@@ -60,7 +60,7 @@ returns-in_default-2 g c =
             first_of_many _ _ _ _ _ _ _ (visits stood fine),
           );
       cleared = up.cleared;
-      counts = record { kept = let a = inv.counted in let b = up.counts.kept in omega arith; store = tt };
+      counts = record { kept = let a = inv.counted in let b = up.counts.kept in omega arith; store = tt; trust = λ t. inv.trust (up.counts.trust t) };
     }
 
 pub up-init : goal.up-init
@@ -72,6 +72,7 @@ up-init g c =
       keeps = record { harm = λ f. f; stands = λ s f. s; content = λ s f. refl; progress = subst (λ p. IsLeft p p) (sym c.requires) refl; leaves = λ _ k left. left; whole = λ _ whole. whole };
       open_for = c.requires;
       counted = omega arith;
+      trust = λ t. t;
       more = omega arith;
       here = λ stood fine. ap (λ m. ancestor was.content.working m c.args.uprn) none;
       visits = λ stood fine.
@@ -96,6 +97,7 @@ up-preserved g c =
       keeps = keeps_then _ _ _ inv.keeps up.keeps;
       open_for = still_open _ _ c.args.code up.keeps inv.open_for;
       counted = let a = inv.counted in let b = up.counts.kept in omega arith;
+      trust = λ t. inv.trust (up.counts.trust t);
       more = omega arith;
       here = λ stood fine.
           let mid = up.keeps.harm fine in

@@ -17,6 +17,7 @@ invariant-up g l =
       keeps : Keeps was now;
       open_for : now.progress ≡ Open l.fn.code;
       counted : was.failures ≤ now.failures;
+      trust : now.trusted → was.trusted;
       more : length old ≤ length flags;
       here : was.stands → now.unharmed → ancestor v (length flags - length old) l.fn.uprn ≡ Some l.at;
       visits : was.stands → now.unharmed → Walk v l.fn.uprn (visit_of l.fn.walked) old (visit_of l.walked) flags (length flags - length old);

@@ -16,6 +16,7 @@ invariant-loop-basis g l =
       keeps : Keeps was now;
       open_for : now.progress ≡ Open l.fn.code;
       counted : was.failures ≤ now.failures;
+      trust : now.trusted → was.trusted;
       reached : are_reached was.content.board l.bases ≡ true → are_reached was.content.board left ≡ true;
       rest : was.stands → now.unharmed → are_reached was.content.board l.bases ≡ true → find (λ w. holds w (key.Street l.fn.usrn)) (was.content.working ∷ map (λ b. b.1) (basis_views was.content.board l.bases)) ≡ find (λ w. holds w (key.Street l.fn.usrn)) (map (λ b. b.1) (basis_views was.content.board left));
     }

@@ -15,5 +15,5 @@ returns-clause-reads g c =
       right = λ stood fine within.
           page_added v c.args.kind c.args.after c.args.most c.args.items.now.items c.in_ok-page.page.items c.append.new.self.items c.next_after-next.result ((was.lawful stood).views c.args.code c.args.volume).keyed c.requires.size (read.right stood fine within) c.in_ok-append.ensures.items next;
       cleared = read.cleared;
-      counts = record { kept = read.counts.kept; store = tt };
+      counts = record { kept = read.counts.kept; store = tt; trust = read.counts.trust };
     }

@@ -15,6 +15,7 @@ invariant-loop-next g l =
       keeps : Keeps was now;
       cleared : now.progress ≢ Broken;
       counted : was.failures ≤ now.failures;
+      trust : now.trusted → was.trusted;
       left : was.stands → now.unharmed → l.volume ≤ reached was.content.board l.code → l.items.items ++ left_after view l.kind l.next ≡ rest_of view l.kind None;
     }
 

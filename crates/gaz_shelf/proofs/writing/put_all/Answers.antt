@@ -17,6 +17,7 @@ loop-item-preserved g c = record {
   stands = search rules;
   going = search rules;
   counted = search rules;
+  trust = search rules;
   left = search rules;
   undone = search rules;
   leaves = search rules;

@@ -17,6 +17,7 @@ invariant-loop-item g l =
       stands : was.stands → now.unharmed → now.stands;
       going : now.progress ≡ was.progress;
       counted : was.failures ≤ now.failures;
+      trust : now.trusted → was.trusted;
       left : was.stands → now.unharmed → with_working now.content (fold with_item now.content.working (into_iter_items l.item-iterator)) ≡ with_working was.content (fold with_item was.content.working l.fn.items.items);
       undone : was.stands → now.unharmed → after_abandon now.content ≡ after_abandon was.content;
       leaves : IsSound was → LeavesAtMost None was now;

@@ -7,7 +7,7 @@ use Rattle.gaz_hub.specs.Hubs.{door_of, told_all}
 use Rattle.gaz_hub.specs.Step.{ListClosed}
 use Rattle.gaz_hub.specs.Seen.{kept_seen}
 use Rattle.gaz_hub.proofs.Replying.{answered_door, answered_steps}
-use Rattle.gaz_hub.proofs.Memory.{looks_kept}
+use Rattle.gaz_hub.proofs.Memory.{looks_called}
 use Rattle.gaz_hub.proofs.hub.Hub.closed_streets.Goals as goal
 
 pub returns-clause-steps : goal.returns-clause-steps
@@ -15,7 +15,7 @@ returns-clause-steps g c =
     let hub = c.args.self.now in
     answered_steps (door_of hub.register) ListClosed (λ (x : Vec Closed). x.items) told_all (record { ok = λ x. refl; err = λ r. refl }) refl
     (kept_seen g.K.Shelf.seen hub.register) _ (hub.keeper, hub.waiters) (c.answered.new.keeper, c.answered.new.waiters) c.answered.result c.answered.ensures.answers
-    (λ mid r called. looks_kept hub.register _ _ _ _ _ _ called.1 (rw (← called.0.shows, ← called.0.leaves) (looks_as _ _ _ _ _ (λ x is _. is) (search rules))))
+    (λ mid r called. looks_called g.K.Shelf.seen hub.register _ _ _ _ _ called (rw (← called.called.shows, ← called.called.leaves) (looks_as _ _ _ _ _ (λ x is _. is) (search rules))))
 
 pub returns-clause-door : goal.returns-clause-door
 returns-clause-door g c =

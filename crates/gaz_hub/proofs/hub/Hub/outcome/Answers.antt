@@ -2,10 +2,11 @@
 use Rattle.std.proofs.Common.{rules, refl, ap, ◌∙◌, ℕ}
 use Rattle.gaz_extract.proofs.Readings.{looks_as}
 use Rattle.gaz_hub.specs.Hubs.{door_of, state_of}
-use Rattle.gaz_hub.specs.Seen.{kept_seen}
+use Rattle.gaz_hub.specs.Seen.{hub_seen, kept_seen}
 use Rattle.gaz_hub.specs.Step.{Ask, told_of}
+use Rattle.gaz_hub.proofs.Declining.{away_by_door, declines_question}
 use Rattle.gaz_hub.proofs.Replying.{answered_door, answered_steps}
-use Rattle.gaz_hub.proofs.Memory.{looks_kept}
+use Rattle.gaz_hub.proofs.Memory.{looks_called}
 use Rattle.gaz_hub.proofs.Told.{told_is}
 use Rattle.gaz_hub.proofs.hub.Hub.outcome.Goals as goal
 
@@ -14,10 +15,16 @@ returns-clause-steps g c =
     let hub = c.args.self.now in
     answered_steps (door_of hub.register) (Ask c.args.code c.args.volume) (λ x. x) (λ r. r) (record { ok = λ x. refl; err = λ r. refl }) c.in-Ok.ensures.let_in.0
     (kept_seen g.K.Shelf.seen hub.register) _ (hub.keeper, hub.waiters) (c.answered.new.keeper, c.answered.new.waiters) c.answered.result c.answered.ensures.answers
-    (λ mid r called. looks_kept hub.register _ _ _ _ _ _ called.1 (rw (← called.0.shows, ← called.0.leaves) (looks_as _ _ _ _ _ (λ x is closed. told_is (state_of (g.K.Shelf.seen called.0.shown.now).content) _ _ x is closed ∙ ap (λ (p : ℕ × ℕ). told_of (state_of (g.K.Shelf.seen called.0.shown.now).content) p.0 p.1) c.in-Ok.ensures.let_in.1) (search rules))))
+    (λ mid r called. looks_called g.K.Shelf.seen hub.register _ _ _ _ _ called (rw (← called.called.shows, ← called.called.leaves) (looks_as _ _ _ _ _ (λ x is closed. told_is (state_of (g.K.Shelf.seen called.called.shown.now).content) _ _ x is closed ∙ ap (λ (p : ℕ × ℕ). told_of (state_of (g.K.Shelf.seen called.called.shown.now).content) p.0 p.1) c.in-Ok.ensures.let_in.1) (search rules))))
 
 pub returns-clause-door : goal.returns-clause-door
 returns-clause-door g c =
     let hub = c.args.self.now in
     answered_door (door_of hub.register) (Ask c.args.code c.args.volume) (λ x. x) (λ r. r) (record { ok = λ x. refl; err = λ r. refl }) c.in-Ok.ensures.let_in.0
     (kept_seen g.K.Shelf.seen hub.register) _ (hub.keeper, hub.waiters) (c.answered.new.keeper, c.answered.new.waiters) hub.keeper c.answered.new.keeper c.answered.result c.answered.ensures.answers
+
+pub returns-in-Err-clause-steps : goal.returns-in-Err-clause-steps
+returns-in-Err-clause-steps g c =
+    let hub = c.args.self.now in
+    declines_question (door_of hub.register) (hub_seen g.K.Shelf.seen hub) (Ask c.args.code c.args.volume) c.in-Err.refusal c.in-Err.ensures.refused
+    (away_by_door (door_of hub.register) c.args.code c.args.volume 0 c.in-Err.refusal c.in-Err.ensures.refused) c.requires.idle

@@ -1,20 +1,22 @@
 -- All is settled, and nothing is read.
-use Rattle.std.proofs.Common.{refl}
-use Rattle.std.specs.Prelude.{◌≡◌, ⊤}
+use Rattle.std.proofs.Common.{◌≡◌, ap, refl, rules}
+use Rattle.gaz_keeper.specs.Keeper.{Content}
 use Rattle.gaz_hub.specs.Hubs.{door_of, state_of}
 use Rattle.gaz_hub.specs.Seen.{hub_seen, kept_seen}
 use Rattle.gaz_hub.specs.Standing.{NothingReady}
 use Rattle.gaz_hub.specs.Step.{Settle, answer_to}
-use Rattle.gaz_hub.proofs.AskingOwner.{tells_as}
+use Rattle.gaz_hub.proofs.Looks.{looks_still}
+use Rattle.gaz_hub.proofs.Memory.{looks_called}
 use Rattle.gaz_hub.proofs.Replying.{steps_read}
+use Rattle.gaz_hub.proofs.Telling.{tells_settled}
 use Rattle.gaz_hub.proofs.hub.Hub.settle.Goals as goal
 
 pub returns-clause-steps : goal.returns-clause-steps
 returns-clause-steps g c =
     let hub = c.args.self.now in
     let d = door_of hub.register in
-    let a = hub_seen g.K.Shelf.seen hub in
-    let b = kept_seen g.K.Shelf.seen hub.register (c.settle_all.new.keeper, c.settle_all.new.waiters) in
-    steps_read d Settle (λ (done : Unit {0}). tt) (λ r. r) (record { ok = λ x. refl; err = λ r. refl }) refl a b c.settle_all.result
-    (tells_as d a b c.settle_all.result (λ (done : Unit {0}). ⊤)
-    (λ (done : Unit {0}). NothingReady b.content.files b.content.board → tt ≡ answer_to Settle d.register (state_of b.content)) (λ stood x is closed. refl) c.settle_all.ensures.tells)
+    let IsTold = λ (k : Content) (done : Unit {0}). NothingReady k.files k.board → tt ≡ answer_to Settle d.register (state_of k) in
+    steps_read d Settle (λ (done : Unit {0}). tt) (λ r. r) (record { ok = λ x. refl; err = λ r. refl }) refl (hub_seen g.K.Shelf.seen hub)
+    (kept_seen g.K.Shelf.seen hub.register (c.settled.new.keeper, c.settled.new.waiters)) c.settled.result c.settled.ensures.open
+    (tells_settled d (kept_seen g.K.Shelf.seen hub.register) _ (hub.keeper, hub.waiters) (c.settled.new.keeper, c.settled.new.waiters) c.settled.result IsTold c.settled.ensures.calls
+    (λ mid called. looks_called g.K.Shelf.seen hub.register _ _ _ _ _ called (rw (← called.called.shows, ← called.called.leaves) (looks_still (g.K.Shelf.seen called.called.shown.now) (g.K.Shelf.seen called.called.left.now) _ tt _ (ap g.K.Shelf.seen (search rules)) (search rules) (λ closed. refl)))))

@@ -3,7 +3,7 @@ use Rattle.std.proofs.Common.{rules}
 use Rattle.gaz_hub.specs.Asked.{AnyIsOfBefore, IsAgain}
 use Rattle.gaz_hub.specs.Hubs.{door_of}
 use Rattle.gaz_hub.specs.Seen.{kept_seen}
-use Rattle.gaz_hub.proofs.Memory.{looks_kept}
+use Rattle.gaz_hub.proofs.Memory.{looks_called}
 use Rattle.gaz_hub.proofs.Telling.{calls_tell, tells_settled}
 use Rattle.gaz_hub.proofs.hub.Hub.settle_and_answer.Goals as goal
 
@@ -12,7 +12,7 @@ returns-clause-tells g c =
     let hub = c.args.self.now in
     tells_settled (door_of hub.register) (kept_seen g.K.Shelf.seen hub.register) _ (hub.keeper, hub.waiters) (c.settled.new.keeper, c.settled.new.waiters) c.settled.result
     (λ k x. IsAgain k.files k.board c.args.code c.args.volume c.args.file.now x) c.settled.ensures.calls
-    (λ mid called. looks_kept hub.register _ _ _ _ _ _ called.1 (rw (← called.0.shows, ← called.0.leaves) (search rules)))
+    (λ mid called. looks_called g.K.Shelf.seen hub.register _ _ _ _ _ called (rw (← called.called.shows, ← called.called.leaves) (search rules)))
 
 pub returns-clause-of_before : goal.returns-clause-of_before
 returns-clause-of_before g c =

@@ -3,11 +3,12 @@ use Rattle.std.proofs.Common.{rules, refl, ap, ◌∙◌, cond, not, Some, None}
 use Rattle.gaz_extract.proofs.Readings.{looks_as}
 use Rattle.gaz_hub.specs.Hubs.{door_of}
 use Rattle.gaz_hub.specs.Outcomes.{status}
-use Rattle.gaz_hub.specs.Seen.{kept_seen}
+use Rattle.gaz_hub.specs.Seen.{hub_seen, kept_seen}
 use Rattle.gaz_hub.specs.Step.{Stand}
 use Rattle.gaz_hub.specs.declared.refusal.Refusal.TheVariants as refusal
+use Rattle.gaz_hub.proofs.Declining.{declines_question}
 use Rattle.gaz_hub.proofs.Replying.{answered_door, answered_steps}
-use Rattle.gaz_hub.proofs.Memory.{looks_kept}
+use Rattle.gaz_hub.proofs.Memory.{looks_called}
 use Rattle.gaz_hub.proofs.hub.Hub.status.Goals as goal
 
 pub returns-clause-steps : goal.returns-clause-steps
@@ -15,10 +16,17 @@ returns-clause-steps g c =
     let hub = c.args.self.now in
     answered_steps (door_of hub.register) (Stand c.args.code) (λ x. x) (λ r. r) (record { ok = λ x. refl; err = λ r. refl }) (ap (λ b. cond (not b) (Some refusal.UnknownCustodian) None) c.in-Ok.ensures.known.1)
     (kept_seen g.K.Shelf.seen hub.register) _ (hub.keeper, hub.waiters) (c.answered.new.keeper, c.answered.new.waiters) c.answered.result c.answered.ensures.answers
-    (λ mid r called. looks_kept hub.register _ _ _ _ _ _ called.1 (rw (← called.0.shows, ← called.0.leaves) (looks_as _ _ _ _ _ (λ x is _. is ∙ ap (status (g.K.Shelf.seen called.0.shown.now).content.files (g.K.Shelf.seen called.0.shown.now).content.board) c.in-Ok.ensures.known.0) (search rules))))
+    (λ mid r called. looks_called g.K.Shelf.seen hub.register _ _ _ _ _ called (rw (← called.called.shows, ← called.called.leaves) (looks_as _ _ _ _ _ (λ x is _. is ∙ ap (status (g.K.Shelf.seen called.called.shown.now).content.files (g.K.Shelf.seen called.called.shown.now).content.board) c.in-Ok.ensures.known.0) (search rules))))
 
 pub returns-clause-door : goal.returns-clause-door
 returns-clause-door g c =
     let hub = c.args.self.now in
     answered_door (door_of hub.register) (Stand c.args.code) (λ x. x) (λ r. r) (record { ok = λ x. refl; err = λ r. refl }) (ap (λ b. cond (not b) (Some refusal.UnknownCustodian) None) c.in-Ok.ensures.known.1)
     (kept_seen g.K.Shelf.seen hub.register) _ (hub.keeper, hub.waiters) (c.answered.new.keeper, c.answered.new.waiters) hub.keeper c.answered.new.keeper c.answered.result c.answered.ensures.answers
+
+pub returns-in-Err-clause-steps : goal.returns-in-Err-clause-steps
+returns-in-Err-clause-steps g c =
+    let hub = c.args.self.now in
+    rw c.in-Err.ensures.refused.0
+    (declines_question (door_of hub.register) (hub_seen g.K.Shelf.seen hub) (Stand c.args.code) refusal.UnknownCustodian
+    (ap (λ b. cond (not b) (Some refusal.UnknownCustodian) None) c.in-Err.ensures.refused.1) refl c.requires.idle)

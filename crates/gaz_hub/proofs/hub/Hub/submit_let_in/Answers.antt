@@ -13,7 +13,7 @@ returns-in-Ok-None-clause-steps g c =
     let last = hub_seen g.K.Shelf.seen c.take_in.new.self in
     taken_in (door_of c.args.self.now.register) (hub_seen g.K.Shelf.seen c.args.self.now) mid last
     c.args.code c.args.volume c.args.file.now c.take_in.result c.requires.let_in (rw c.in-Ok-None.field-0-is at c.in-Ok-None.ensures.tells)
-    (subst (λ (r : RegisterValue). TakesIn (door_of r) mid last c.args.code c.args.volume c.args.file.now c.take_in.result) c.in-Ok-None.ensures.register c.take_in.ensures.takes_in)
+    (subst (λ (r : RegisterValue). TakesIn (door_of r) mid last c.args.code c.args.volume c.args.file.now c.take_in.result) c.in-Ok-None.ensures.register c.take_in.ensures.takes_in) c.take_in.ensures.past_door
 
 pub returns-in-Err-clause-steps : goal.returns-in-Err-clause-steps
 returns-in-Err-clause-steps g c =
@@ -23,4 +23,4 @@ returns-in-Err-clause-steps g c =
 pub returns-in-Ok-Some-clause-steps : goal.returns-in-Ok-Some-clause-steps
 returns-in-Ok-Some-clause-steps g c =
     answered_before (door_of c.args.self.now.register) (hub_seen g.K.Shelf.seen c.args.self.now) (hub_seen g.K.Shelf.seen c.settle_and_answer.new.self)
-    c.args.code c.args.volume c.args.file.now c.in-Ok-Some.answer c.requires.let_in (rw c.in-Ok-Some.field-0-is at c.in-Ok-Some.ensures.tells) (rw c.in-Ok-Some.field-0-is at c.in-Ok-Some.ensures.of_before)
+    c.args.code c.args.volume c.args.file.now c.in-Ok-Some.answer c.requires.let_in (rw c.in-Ok-Some.field-0-is at c.in-Ok-Some.ensures.tells) c.in-Ok-Some.ensures.open (rw c.in-Ok-Some.field-0-is at c.in-Ok-Some.ensures.of_before)

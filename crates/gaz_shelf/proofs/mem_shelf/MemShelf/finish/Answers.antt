@@ -13,7 +13,7 @@ returns-in-Ok c =
       undone = λ _ _ _. tt;
       on = refl;
       broken = tt;
-      counts = record { kept = omega arith; store = tt };
+      counts = record { kept = omega arith; store = tt; trust = λ t. t };
       leaves = λ _ _ k left. absurd left;
       whole = λ _ _ whole. tt;
       committed = λ _ _ k left. absurd left;
