@@ -1,3 +1,6 @@
 pub mod Playing
 mod Endings
+mod Closing
+mod Resting
 mod Opening
+mod Joining

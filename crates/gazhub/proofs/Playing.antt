@@ -1,11 +1,14 @@
 -- What is told of a conversation over a store in memory.
-use Rattle.std.proofs.Common.{◌≡◌, ℕ, List, Ok, Result, IsTrue, subst}
+use Rattle.std.proofs.Common.{◌≡◌, ℕ, List, Ok, Result, IsTrue, refl, subst}
 use Rattle.std.specs.Prelude.{IfOk}
 use Rattle.sqlite.specs.Files.{over_files}
 use Rattle.gaz_quiet.specs.Databases.{Quiet, no_tables, quiet_state}
 use Rattle.gaz_quiet.proofs.Clean.{quiet_is_clean}
 use Rattle.gaz_register.specs.Reading.{register_of}
 use Rattle.gaz_register.specs.Registers.{RegisterValue}
+use Rattle.gaz_hub.specs.Hubs.{door_of}
+use Rattle.gaz_hub.specs.Step.{new_hub}
+use Rattle.gaz_hub.proofs.Runs.{abides_after}
 use Rattle.gaz_exchange.specs.Conversing.{Transfer}
 use Rattle.gaz_exchange.specs.declared.conversation.Served.{Served}
 use Rattle.gaz_exchange.specs.declared.conversation.Stopped.{Stopped}
@@ -24,6 +27,7 @@ pub plays : (text : List ℕ) (most : ℕ) (through : Transfer) (ended : Result 
     → Plays text most through ended
 plays text most through ended register before after described empty told =
     let bare : IsBare no_schema (quiet_state before).now = record { schema_is = empty; empty = tt } in
+    let went = told.went_on (quiet_is_clean after) bare in
     record {
       register = register;
       described = described;
@@ -31,8 +35,10 @@ plays text most through ended register before after described empty told =
       after = after;
       empty = empty;
       answers_new = told;
-      abides = λ is_open. told.abides (unharmed after is_open) bare;
-      answers = λ is_open. (told.goes_on (unharmed after is_open) bare).answers;
+      hub = went.last;
+      abides = abides_after (door_of register) new_hub _ _ went.last refl went.abides;
+      answers = went.answers;
+      tables = λ is_open. told.abides (unharmed after is_open) bare;
     }
 
 -- the same of what is left once a conversation was held

@@ -1,4 +1,6 @@
 pub mod Playing
 pub mod Endings
 pub mod Commands
+pub mod Visits
 pub mod Filing
+pub mod Joined

@@ -8,6 +8,7 @@ use Rattle.gaz_register.specs.Registers.{RegisterValue}
 use Rattle.gaz_hub.specs.Answers.{AllAnswered}
 use Rattle.gaz_hub.specs.Hubs.{door_of}
 use Rattle.gaz_hub.specs.Runs.{Abides}
+use Rattle.gaz_hub.specs.Step.{HubState}
 use Rattle.gaz_exchange.specs.Conversing.{Transfer}
 use Rattle.gaz_exchange.specs.Exchanges.{commands_of, responses_of}
 use Rattle.gaz_exchange.specs.declared.conversation.Served.{Served}
@@ -25,14 +26,17 @@ pub record Plays (text : List ℕ) (most : ℕ) (through : Transfer) (ended : Re
   pub after : Quiet
   pub empty : (quiet_state before).now.schema ≡ no_tables
   pub answers_new : AnswersNew over_files register most through before after ended
-  -- Unless a want of memory shut the database: what was received is what came first, and the board
-  -- is partial over it,
-  pub abides : IsTrue (quiet_state after).is_open → Abides (door_of register)
+  -- step by step the hub went to one of which this is so: what was received is what came first, and
+  -- the board is partial over it,
+  pub hub : HubState
+  pub abides : Abides (door_of register) (commands_of answers_new.converses.conversation.exchanges)
+      (responses_of answers_new.converses.conversation.exchanges) hub
+  -- and each answer is read off the standing board of the files that were received by then
+  pub answers : AllAnswered (door_of register) map.empty
+      (commands_of answers_new.converses.conversation.exchanges)
+      (responses_of answers_new.converses.conversation.exchanges) hub.received
+  -- so it is of what the tables stand for in the end, unless a want of memory shut the database
+  pub tables : IsTrue (quiet_state after).is_open → Abides (door_of register)
       (commands_of answers_new.converses.conversation.exchanges)
       (responses_of answers_new.converses.conversation.exchanges)
       (hub_in (quiet_state after).now)
-  -- and each answer is read off the standing board of the files that were received by then.
-  pub answers : IsTrue (quiet_state after).is_open → AllAnswered (door_of register) map.empty
-      (commands_of answers_new.converses.conversation.exchanges)
-      (responses_of answers_new.converses.conversation.exchanges)
-      (hub_in (quiet_state after).now).received

@@ -27,7 +27,8 @@ pub fn init(rt: &HostRuntime, seed: Seed, places: Places<'_>) -> Result<Said, No
     let Ok(files) = sqlite_std_file::open(rt, places.store, Unknown) else {
         return Err(NoHub::Store(StoreRefusal::Fault));
     };
-    of_store(make_store(rt.alloc(), files, options, seed, &register))
+    let (_closed, made) = make_store(rt.alloc(), files, options, seed, &register);
+    of_store(made)
 }
 
 // The bytes of the change file, where a call names one that can be read.
@@ -62,7 +63,8 @@ pub fn ask(
     };
     let bytes = bytes_for(rt, call);
     let file = bytes.as_ref().map(|bytes| bytes.as_slice());
-    of_store(ask_store(rt.alloc(), files, options, seed, register, call, file))
+    let (_closed, said) = ask_store(rt.alloc(), files, options, seed, register, call, file);
+    of_store(said)
 }
 
 // Whether connections were answered, or why there was no hub or no port for them.
@@ -94,7 +96,7 @@ pub fn attend<W: Write>(
     };
     let listener = TcpListener::bind(rt, (Ipv4Addr::LOCALHOST, serving.port)).ok();
     let listener = listener.as_ref();
-    of_serving(serve_store(
+    let (_closed, held) = serve_store(
         rt.alloc(),
         files,
         options,
@@ -103,5 +105,6 @@ pub fn attend<W: Write>(
         listener,
         w,
         serving.connections,
-    ))
+    );
+    of_serving(held)
 }

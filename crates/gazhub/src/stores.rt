@@ -3,8 +3,8 @@ ghost use Rattle.std.specs.Prelude.{◌≡◌, false, IfErr, IfOk, IfSome, IsTru
 ghost use Rattle.std.specs.Io.KnownBytes.{Keeps};
 ghost use Rattle.gaz_stored.specs.Asking.{asked};
 ghost use Rattle.gaz_stored.specs.Attending.{is_told};
-ghost use Rattle.gazhub.specs.Filing.{AsksStore, Connects, MakesNone, MakesStore, OpensNone};
-ghost use Rattle.gazhub.specs.Filing.{ServesStore};
+ghost use Rattle.gazhub.specs.Filing.{AsksStore, MakesNone, MakesStore, OpensNone, ServesStore};
+ghost use Rattle.gazhub.specs.Visits.{Closes, Connects};
 
 use gaz_commands::{PrintedLine, Said};
 use gaz_ledger::Seed;
@@ -35,13 +35,24 @@ fn connect<D: Disk + Drop>(
     }
 }
 
-// Closes a store's files. What was answered is in its log, where the next opening finds it, even if
-// it can't be copied into the database now.
-fn close<D: Disk + Drop>(conn: Connection<FileStore<D>>) {
-    let _copied = conn.close();
+// Gives a store's files back. What was answered is in its log, where the next opening finds it, even
+// if it can't be copied into the database now; then the files are closed and none are given back.
+fn close<D: Disk + Drop>(conn: Connection<FileStore<D>>) -> Option<Files<D>>
+    requires { conn.in_transaction ≡ false }
+    ensures { Closes D.Disk conn result }
+{
+    let _schema = conn.schema();
+    let _is_settled = conn.is_autocommit();
+    match conn.close_files() {
+        Ok(files) => Some(files),
+        Err((_, store)) => {
+            drop(store.close());
+            None
+        }
+    }
 }
 
-/// Makes a store of the register in the files.
+/// Makes a store of the register in the files, which are given back where they can be closed.
 ///
 /// `BadSchema` where a table named as one of a store's is there; `Fault` where memory or the
 /// database failed.
@@ -51,26 +62,30 @@ pub fn make_store<D: Disk + Drop>(
     options: Options,
     seed: Seed,
     register: &Register,
-) -> Result<Said, StoreRefusal>
+) -> (Option<Files<D>>, Result<Said, StoreRefusal>)
     requires log { IsTrue (D.Disk.is_usable files.log) }
     requires db { IsTrue (D.Disk.is_usable files.db) }
-    ensures made { IfOk result (MakesStore D.Disk files register.now) }
-    ensures none { IfErr result (MakesNone D.Disk files) }
+    ensures made { IfOk result.1 (MakesStore D.Disk files result.0 register.now) }
+    ensures none { IfErr result.1 (MakesNone D.Disk files result.0) }
 {
     let Some(conn) = connect(alloc, files, options) else {
-        return Err(StoreRefusal::Fault);
+        return (None, Err(StoreRefusal::Fault));
     };
     match Store::create(alloc, seed, conn, register) {
         Ok(store) => {
-            close(store.into_connection());
-            Ok(Said::Line(PrintedLine::Ready))
+            let left = close(store.into_connection());
+            (left, Ok(Said::Line(PrintedLine::Ready)))
         }
-        Err((_, refusal)) => Err(refusal),
+        Err((conn, refusal)) => {
+            let left = close(conn);
+            (left, Err(refusal))
+        }
     }
 }
 
-/// Asks a hub of the register over the store in the files. A submission is of these bytes, none where
-/// its file can't be read. Why there is none, and in which order, is said of `ask_opened`.
+/// Asks a hub of the register over the store in the files, which are given back where they can be
+/// closed. A submission is of these bytes, none where its file can't be read. Why there is none, and
+/// in which order, is said of `ask_opened`.
 pub fn ask_store<D: Disk + Drop>(
     alloc: Global,
     files: Files<D>,
@@ -79,24 +94,24 @@ pub fn ask_store<D: Disk + Drop>(
     register: Register,
     call: Call<'_>,
     file: Option<&[u8]>,
-) -> Result<Said, StoreRefusal>
+) -> (Option<Files<D>>, Result<Said, StoreRefusal>)
     requires log { IsTrue (D.Disk.is_usable files.log) }
     requires db { IsTrue (D.Disk.is_usable files.db) }
-    ensures asked { IfOk result (AsksStore D.Disk files register
+    ensures asked { IfOk result.1 (AsksStore D.Disk files result.0 register
         (asked call.entry (option_map (λ bytes. bytes.now) file.entry))) }
-    ensures none { IfErr result (OpensNone D.Disk files register) }
+    ensures none { IfErr result.1 (OpensNone D.Disk files result.0 register) }
 {
     let Some(conn) = connect(alloc, files, options) else {
-        return Err(StoreRefusal::Fault);
+        return (None, Err(StoreRefusal::Fault));
     };
     let Asked { conn, said } = ask_opened(alloc, seed, conn, register, call, file);
-    close(conn);
-    said
+    let left = close(conn);
+    (left, said)
 }
 
 /// Answers so many connections of a listener at a hub of the register over the store in the files,
-/// and says first where they come. Why there is no hub, and in which order, is said of
-/// `serve_opened`.
+/// which are given back where they can be closed, and says first where they come. Why there is no
+/// hub, and in which order, is said of `serve_opened`.
 pub fn serve_store<D: Disk + Drop, L: OpenListener, W: Write>(
     alloc: Global,
     files: Files<D>,
@@ -106,17 +121,18 @@ pub fn serve_store<D: Disk + Drop, L: OpenListener, W: Write>(
     listener: Option<&L>,
     w: &mut W,
     connections: u64,
-) -> Result<Result<(), Unserved>, StoreRefusal>
+) -> (Option<Files<D>>, Result<Result<(), Unserved>, StoreRefusal>)
 where
     L::Stream: Read + Write + OpenStream,
     requires log { IsTrue (D.Disk.is_usable files.log) }
     requires db { IsTrue (D.Disk.is_usable files.db) }
-    ensures served { IfOk result (ServesStore D.Disk files register MOST_REQUESTS connections) }
-    ensures none { IfErr result (OpensNone D.Disk files register) }
-    ensures silent { is_told result ≡ false → Keeps (W.contents w.old) (W.contents w.new) }
+    ensures served { IfOk result.1
+        (ServesStore D.Disk files result.0 register MOST_REQUESTS connections) }
+    ensures none { IfErr result.1 (OpensNone D.Disk files result.0 register) }
+    ensures silent { is_told result.1 ≡ false → Keeps (W.contents w.old) (W.contents w.new) }
 {
     let Some(conn) = connect(alloc, files, options) else {
-        return Err(StoreRefusal::Fault);
+        return (None, Err(StoreRefusal::Fault));
     };
     let Attended {
         conn,
@@ -126,6 +142,6 @@ where
     // The program ends, and the system takes back at once what would take longer to free piece by
     // piece.
     forget(at_hand);
-    close(conn);
-    held
+    let left = close(conn);
+    (left, held)
 }

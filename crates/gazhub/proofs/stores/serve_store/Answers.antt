@@ -2,7 +2,11 @@ use Rattle.gazhub.proofs.Opening.{opens_none, serves_store}
 use Rattle.gazhub.proofs.stores.serve_store.Goals as goal
 
 pub returns-clause-served : goal.returns-clause-served
-returns-clause-served g c = serves_store _ c.args.files c.args.register c.in-Some.conn c.serve_opened-conn.result.conn c.in-Some.ensures 1000 c.args.connections c.serve_opened-conn.result.held c.serve_opened-conn.ensures.attends
+returns-clause-served g c =
+    serves_store _ c.args.files c.close-left.result c.in-Some.conn c.serve_opened-conn.result.conn c.in-Some.ensures c.close-left.ensures c.args.register 1000 c.args.connections c.serve_opened-conn.result.held
+    c.serve_opened-conn.ensures.attends
 
 pub returns-clause-none : goal.returns-clause-none
-returns-clause-none g c = opens_none _ c.args.files c.args.register c.in-Some.conn c.serve_opened-conn.result.conn c.in-Some.ensures c.serve_opened-conn.result.held c.serve_opened-conn.ensures.told
+returns-clause-none g c =
+    opens_none _ c.args.files c.close-left.result c.in-Some.conn c.serve_opened-conn.result.conn c.in-Some.ensures c.close-left.ensures c.args.register c.serve_opened-conn.result.held c.serve_opened-conn.ensures.told
+    c.serve_opened-conn.ensures.refused
