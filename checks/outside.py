@@ -12,6 +12,7 @@ from checks import (
     killing,
     large,
     left,
+    making,
     opening,
     registers,
     rings,
@@ -41,7 +42,7 @@ def held(ran: Iterable[tuple[str, str, str | None]]) -> Iterator[Case]:
 
 
 def of_program(program: Path, root: Path) -> Iterator[Case]:
-    """Of `gazhub`: conversations, how it ends, streams that break, commands over a store's file, connections."""
+    """Of `gazhub`: conversations, how it ends, streams that break, commands over a store's file, what becomes a store, connections."""
     yield from held(conversations.run_all(program, root))
     yield from large.run_all(program)
     yield from sizes.run_all(program)
@@ -50,6 +51,7 @@ def of_program(program: Path, root: Path) -> Iterator[Case]:
     yield from named("gazhub", words.run_all(program))
     yield from named("a register:", registers.run_all(program))
     yield from named("commands:", sessions.run_all(program))
+    yield from named("making:", making.run_all(program))
     yield from named("page", tour.run_all(program, root))
     yield from named("opening", opening.run_all(program))
     yield from named("serving:", serving.run_all(program, (*serving.CASES, killing.killed_while_files_come)))

@@ -1,5 +1,6 @@
 //! Whom a hub asks for a property, by a keeper that counts.
 use crate::resting::{Resting, counting_hub};
+use crate::wanted::{counts, holds};
 use gaz_hub::{Answer, Outcome};
 use gaz_ids::Uprn;
 use gaz_register::Register;
@@ -16,10 +17,8 @@ const PROPERTY: &[u8] =
 // A hub in which the property stands.
 fn hub_with_property(rt: &(impl Abort + AllocGlobal)) -> Result<Resting<Faulty<MemShelf>>, Fail> {
     let mut hub = counting_hub(rt.alloc(), Register::read(rt.alloc(), REGISTER)?);
-    assert_eq!(rt;
-        hub.submit(1002, 1, PROPERTY),
-        Answer::New(Outcome::Applied)
-    );
+    let answer = hub.submit(1002, 1, PROPERTY);
+    holds(rt, answer == Answer::New(Outcome::Applied), "it is applied");
     Ok(hub)
 }
 
@@ -33,10 +32,12 @@ fn is_asked(
     let mut hub = hub_with_property(rt)?;
     let before = hub.shelf().counted().property_of;
     let found = hub.lookup(Uprn::of(uprn).ok_or("a UPRN")?)?;
-    assert_eq!(rt; found.map(|found| found.custodian.number()), custodian);
-    assert_eq!(rt;
+    let found = found.map(|found| found.custodian.number());
+    holds(rt, found == custodian, "whose it is");
+    counts(
+        rt,
         hub.shelf().counted().property_of,
-        before.saturating_add(asked)
+        before.saturating_add(asked),
     );
     Ok(())
 }

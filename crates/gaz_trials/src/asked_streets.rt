@@ -1,6 +1,7 @@
 //! How often a keeper is asked for closed streets and for a property, by one that counts.
 use crate::items::{Row, custodian, item, volume, writes};
 use crate::keepers::tried::{Tried, counting_shelf};
+use crate::wanted::{counts, holds};
 use gaz_ids::Uprn;
 use gaz_keeper::Inbox;
 use gaz_records::{Kind, SharedItem};
@@ -54,10 +55,11 @@ fn are_listed(
     }
     let before = shelf.keeper().counted().current;
     let closed = shelf.closed_streets(alloc, &register)?;
-    assert_eq!(rt; closed.len(), listed);
-    assert_eq!(rt;
+    holds(rt, closed.len() == listed, "how many are listed");
+    counts(
+        rt,
         shelf.keeper().counted().current,
-        before.saturating_add(asked)
+        before.saturating_add(asked),
     );
     Ok(())
 }
@@ -82,10 +84,14 @@ fn one_custodian_is_asked_for_a_property(rt: HostRuntime) -> Result<(), Fail> {
     let mut shelf = counting_shelf(alloc);
     writes(alloc, &mut shelf, custodian(1002)?, &[HOUSE])?;
     let owner = shelf.lookup_with(alloc, &register, custodian(1002)?, uprn)?;
-    assert!(rt; owner.is_some_and(|found| found.uprn == uprn));
-    assert_eq!(rt; shelf.keeper().counted().property_of, 1);
+    holds(
+        &rt,
+        owner.is_some_and(|found| found.uprn == uprn),
+        "the owner has it",
+    );
+    counts(&rt, shelf.keeper().counted().property_of, 1);
     let other = shelf.lookup_with(alloc, &register, custodian(1001)?, uprn)?;
-    assert!(rt; other.is_none());
-    assert_eq!(rt; shelf.keeper().counted().property_of, 2);
+    holds(&rt, other.is_none(), "another hasn't");
+    counts(&rt, shelf.keeper().counted().property_of, 2);
     Ok(())
 }

@@ -1,5 +1,6 @@
 //! Change files that are read, written and read again.
 use crate::file_fixtures::*;
+use crate::wanted::holds;
 use gaz_changefile::{read_file, write_file};
 use gaz_ids::{Code, Volume};
 use gaz_samples::files::*;
@@ -47,9 +48,9 @@ fn rewritten(alloc: Global, file: File<'_>) -> Result<Vec<u8>, Fail> {
 
 #[test]
 fn written_back(rt: HostRuntime) -> Result<(), Fail> {
-    for (i, file) in FILES.iter().enumerate() {
+    for file in FILES {
         let once = rewritten(rt.alloc(), *file)?;
-        assert!(rt; once.as_slice() == file.0, "file {i}");
+        holds(&rt, once.as_slice() == file.0, "as it was read");
     }
     Ok(())
 }

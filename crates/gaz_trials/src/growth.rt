@@ -1,5 +1,6 @@
 //! What a register grows into, and what it doesn't.
 use crate::registers::SAMPLE;
+use crate::wanted::holds;
 use gaz_ids::Code;
 use gaz_register::{GrowFault, Register};
 use std::process::Abort;
@@ -53,12 +54,20 @@ fn grown(
 ) -> Result<Register, Fail> {
     let mut register = Register::read(rt.alloc(), SAMPLE.as_bytes())?;
     let other = Register::read(rt.alloc(), toml.as_bytes())?;
-    assert!(rt; register.growth(&other).err() == fault);
+    holds(
+        rt,
+        register.growth(&other).err() == fault,
+        "what is said of it",
+    );
     let before = register.text(rt.alloc())?;
     let wanted = other.text(rt.alloc())?;
-    assert!(rt; register.extend(other).err() == fault);
+    holds(rt, register.extend(other).err() == fault, "the fault");
     let left = if fault.is_none() { wanted } else { before };
-    assert!(rt; register.text(rt.alloc())?.as_str() == left.as_str());
+    holds(
+        rt,
+        register.text(rt.alloc())?.as_str() == left.as_str(),
+        &left,
+    );
     Ok(register)
 }
 
@@ -67,7 +76,8 @@ fn a_new_custodian_is_taken(rt: HostRuntime) -> Result<(), Fail> {
     let toml = format!(in rt.alloc(); "{SAMPLE}{NEW_TOWN}")?;
     let register = grown(&rt, &toml, None)?;
     let code = Code::of(1004).ok_or("no code")?;
-    assert!(rt; register.holds(code) && register.name(code) == Some("New Town"));
+    holds(&rt, register.holds(code), "the new one is there");
+    holds(&rt, register.name(code) == Some("New Town"), "its name");
     grown(&rt, SAMPLE, None)?;
     Ok(())
 }
@@ -76,7 +86,7 @@ fn a_new_custodian_is_taken(rt: HostRuntime) -> Result<(), Fail> {
 fn another_name_and_order_are_taken(rt: HostRuntime) -> Result<(), Fail> {
     let register = grown(&rt, RENAMED, None)?;
     let code = Code::of(1003).ok_or("no code")?;
-    assert!(rt; register.name(code) == Some("Bay"));
+    holds(&rt, register.name(code) == Some("Bay"), "its name");
     Ok(())
 }
 
@@ -84,7 +94,11 @@ fn another_name_and_order_are_taken(rt: HostRuntime) -> Result<(), Fail> {
 fn a_custodian_stays_with_its_blocks(rt: HostRuntime) -> Result<(), Fail> {
     let removed = format!(in rt.alloc(); "{COUNTY}{DISTRICT}")?;
     let register = grown(&rt, &removed, Some(GrowFault::RemovedCustodian))?;
-    assert!(rt; register.holds(Code::of(1003).ok_or("no code")?));
+    holds(
+        &rt,
+        register.holds(Code::of(1003).ok_or("no code")?),
+        "it stays",
+    );
     let changed = format!(in rt.alloc(); "{COUNTY}{DISTRICT}{BAY}")?;
     grown(&rt, &changed, Some(GrowFault::ChangedBlocks))?;
     let both = format!(in rt.alloc(); "{COUNTY}{BAY}")?;

@@ -1,13 +1,9 @@
-//! Keepers as their callers use them: one list of calls over all of them, and which databases become a
-//! store or are taken as one.
+//! Keepers as their callers use them: one list of calls over all of them.
 
 mod asked;
 mod calls;
-mod databases;
 mod fixtures;
-mod held;
 mod mirrors;
-mod refusals;
 mod reopening;
 mod stores;
 mod told;

@@ -1,6 +1,6 @@
 //! What no reply, no contract and no run of a program tells: what each keeper answers to one list of
-//! calls, and which databases become a store; how often a keeper is asked, by one that counts; and
-//! objects, items, files and registers as callers of the lower crates read and write them.
+//! calls; how often a keeper is asked, by one that counts; and objects, items, files and registers as
+//! callers of the lower crates read and write them.
 #![tactic(auto)]
 
 #[cfg(test)]
@@ -33,3 +33,5 @@ mod registers;
 mod resting;
 #[cfg(test)]
 mod waiting;
+#[cfg(test)]
+mod wanted;

@@ -1,6 +1,7 @@
 //! How often a judgement looks an item up, by a keeper that counts.
 use crate::items::{Row, custodian, file_of, item_of, judged, writes};
 use crate::keepers::tried::counting_shelf;
+use crate::wanted::{counts, holds};
 use gaz_changefile::{Action, Change, ChangeFile};
 use gaz_keeper::Verdict;
 use gaz_records::{Kind, SharedItem, item_of_text};
@@ -103,11 +104,8 @@ fn looks_up(rt: &(impl Abort + AllocGlobal), action: Action, case: &Case) -> Res
     writes(alloc, &mut shelf, custodian(1001)?, before)?;
     let file = changes(alloc, action, rows)?;
     let verdict = judged(alloc, &mut shelf, &register, custodian(1001)?, &file)?;
-    assert!(rt; verdict == verdict_of(fault), "{looked}, {fault:?}");
-    assert!(rt;
-        shelf.keeper().counted().current == looked,
-        "{looked}, {fault:?}"
-    );
+    holds(rt, verdict == verdict_of(fault), "the verdict");
+    counts(rt, shelf.keeper().counted().current, looked);
     Ok(())
 }
 
@@ -160,9 +158,12 @@ fn asks_little(rt: &(impl Abort + AllocGlobal), backwards: bool) -> Result<(), F
     let file = chain(alloc, backwards)?;
     let mut shelf = counting_shelf(alloc);
     let verdict = judged(alloc, &mut shelf, &register, custodian(1001)?, &file)?;
-    assert!(rt; verdict == Verdict::Applied);
-    let looked = shelf.keeper().counted().current;
-    assert!(rt; looked <= 50_000, "{looked}");
+    holds(rt, verdict == Verdict::Applied, "it is applied");
+    holds(
+        rt,
+        shelf.keeper().counted().current <= 50_000,
+        "few look-ups",
+    );
     Ok(())
 }
 

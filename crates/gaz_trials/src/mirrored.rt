@@ -1,5 +1,6 @@
 //! Whether the mirror is at hand, which no contract tells.
 use crate::resting::{Resting, sample_hub};
+use crate::wanted::{counts, holds};
 use gaz_hub::Answer;
 use gaz_keeper::Inbox;
 use gaz_shelf::MemShelf;
@@ -15,7 +16,7 @@ fn receives<K: Inbox + Drop>(
 ) -> Result<(), Fail> {
     let file = format!(in rt.alloc(); "10,1,{code},{volume},2024-01-02\n99,0\n")?;
     let answer = hub.submit(code, volume, file.as_bytes());
-    assert!(rt; matches!(answer, Answer::New(_)), "{code} {volume}");
+    holds(rt, matches!(answer, Answer::New(_)), "a new file");
     Ok(())
 }
 
@@ -24,7 +25,12 @@ fn receives<K: Inbox + Drop>(
 fn filled(rt: &(impl Abort + AllocGlobal)) -> Result<Resting<MemShelf>, Fail> {
     let mut hub = sample_hub(rt.alloc())?;
     receives(rt, &mut hub, 1001, 1)?;
-    assert!(rt; matches!(hub.submit(1001, 2, b"nothing"), Answer::New(_)));
+    let answer = hub.submit(1001, 2, b"nothing");
+    holds(
+        rt,
+        matches!(answer, Answer::New(_)),
+        "a new file that can't be read",
+    );
     receives(rt, &mut hub, 1001, 4)?;
     receives(rt, &mut hub, 1002, 2)?;
     Ok(hub)
@@ -35,10 +41,12 @@ fn stands<K: Inbox + Drop>(
     rt: &impl Abort,
     hub: &mut Resting<K>,
     code: u64,
-    counts: (u64, u64),
+    judged: u64,
+    held: u64,
 ) -> Result<(), Fail> {
     let standing = hub.status(code)?;
-    assert_eq!(rt; (standing.judged, standing.held), counts, "{code}");
+    counts(rt, standing.judged, judged);
+    counts(rt, standing.held, held);
     Ok(())
 }
 
@@ -47,11 +55,11 @@ fn goes_on<K: Inbox + Drop>(
     rt: &(impl Abort + AllocGlobal),
     hub: &mut Resting<K>,
 ) -> Result<(), Fail> {
-    stands(rt, hub, 1001, (2, 1))?;
-    stands(rt, hub, 1002, (0, 1))?;
-    stands(rt, hub, 1003, (0, 0))?;
+    stands(rt, hub, 1001, 2, 1)?;
+    stands(rt, hub, 1002, 0, 1)?;
+    stands(rt, hub, 1003, 0, 0)?;
     receives(rt, hub, 1001, 3)?;
-    stands(rt, hub, 1001, (4, 0))
+    stands(rt, hub, 1001, 4, 0)
 }
 
 // Whether a mirror by a keeper of which the call of this number fails is at hand, and whether it is
@@ -65,14 +73,14 @@ fn is_at_hand(rt: &(impl Abort + AllocGlobal), fails_at: u64) -> Result<(bool, b
 
 #[test]
 fn it_is_at_hand_where_nothing_failed(rt: HostRuntime) -> Result<(), Fail> {
-    assert_eq!(rt; is_at_hand(&rt, 0)?, (true, true));
+    holds(&rt, is_at_hand(&rt, 0)? == (true, true), "it is at hand");
     let mut without = 0;
     for fails_at in 1..200_u64 {
         if !is_at_hand(&rt, fails_at)?.0 {
-            assert_eq!(rt; without, fails_at - 1);
+            counts(&rt, without, fails_at - 1);
             without = fails_at;
         }
     }
-    assert!(rt; without > 20 && without < 199, "{without}");
+    holds(&rt, without > 20 && without < 199, "so many calls fill it");
     Ok(())
 }

@@ -1,4 +1,5 @@
 //! Addressable objects, their texts and house numbers.
+use crate::wanted::holds;
 use gaz_addressable::{HouseNumber, ObjFault, Object};
 use std::alloc::Global;
 use std::process::Abort;
@@ -55,15 +56,14 @@ fn has(
     text: &str,
 ) -> Result<(), Fail> {
     let written = object.numbers_text(rt.alloc())?;
-    assert!(rt; written.as_slice() == numbers.as_bytes(), "{numbers}");
-    assert!(rt;
-        object.text.as_ref().map_or("", |text| text.as_str()) == text,
-        "{text}"
-    );
-    assert!(rt; object.from().is_none() == numbers.is_empty(), "{numbers}");
-    assert!(rt;
+    holds(rt, written.as_slice() == numbers.as_bytes(), numbers);
+    let found = object.text.as_ref().map_or("", |text| text.as_str());
+    holds(rt, found == text, text);
+    holds(rt, object.from().is_none() == numbers.is_empty(), numbers);
+    holds(
+        rt,
         object.to().is_some() == numbers.as_bytes().contains(&b'-'),
-        "{numbers}"
+        numbers,
     );
     Ok(())
 }
@@ -96,7 +96,12 @@ fn house_numbers_are_in_order(rt: HostRuntime) -> Result<(), Fail> {
     ];
     for pair in houses.windows(2) {
         let (low, high) = (&pair[0], &pair[1]);
-        assert!(rt; low < high && low.is_before(high) && low.compare(high).is_lt());
+        holds(&rt, low < high, "less");
+        holds(
+            &rt,
+            low.is_before(high) && low.compare(high).is_lt(),
+            "before",
+        );
     }
     Ok(())
 }

@@ -1,4 +1,5 @@
 //! Releases and adoptions in files of either profile.
+use crate::wanted::holds;
 use gaz_changefile::{FileFault, read_file, rule};
 use gaz_ids::{Code, Volume};
 use std::alloc::Global;
@@ -45,7 +46,7 @@ fn expect_fault(
     });
     for record in [release.as_str(), adoption.as_str()] {
         let file = file_with(alloc, profile, streets, record)?;
-        assert!(rt; first_fault(alloc, &file)? == fault, "{record}");
+        holds(rt, first_fault(alloc, &file)? == fault, record);
     }
     Ok(())
 }

@@ -1,4 +1,5 @@
 //! What is no item, and which dates there are.
+use crate::wanted::holds;
 use gaz_records::{Day, FieldFault, Kind, item_of_text};
 use std::process::Abort;
 
@@ -53,7 +54,7 @@ const COUNTS: &[&str] = &[
 
 fn has_fault(rt: &(impl Abort + AllocGlobal), kind: Kind, row: &str, fault: FieldFault) {
     let told = item_of_text(rt.alloc(), kind, row.as_bytes());
-    assert!(rt; told.is_err_and(|e| e == fault), "{row}");
+    holds(rt, told.is_err_and(|e| e == fault), row);
 }
 
 #[test]
@@ -89,6 +90,6 @@ fn dates_are_real(rt: HostRuntime) {
             Some(day) => day.digits().as_slice() == text.as_bytes(),
             None => false,
         };
-        assert!(rt; read == *good, "{text}");
+        holds(&rt, read == *good, text);
     }
 }

@@ -1,4 +1,5 @@
 //! What a register says.
+use crate::wanted::holds;
 use gaz_register::Register;
 use std::process::Abort;
 use std::test::Fail;
@@ -32,7 +33,7 @@ const SAMPLE_TEXT: &str =
 // The text reads as a register of this canonical text.
 fn has_text(rt: &(impl Abort + AllocGlobal), toml: &str, text: &str) -> Result<(), Fail> {
     let register = Register::read(rt.alloc(), toml.as_bytes())?;
-    assert!(rt; register.text(rt.alloc())?.as_str() == text, "{text}");
+    holds(rt, register.text(rt.alloc())?.as_str() == text, text);
     Ok(())
 }
 
@@ -55,12 +56,29 @@ fn custodians_and_blocks_stand_in_order(rt: HostRuntime) -> Result<(), Fail> {
     let register = Register::read(rt.alloc(), TWO.as_bytes())?;
     let custodians = register.custodians();
     let first = custodians.first().ok_or("no custodian")?;
-    assert!(rt; custodians.len() == 2 && first.code().number() == 3 && first.name() == "é");
-    assert!(rt; first.uprn().is_empty());
+    holds(&rt, custodians.len() == 2, "two custodians");
+    holds(
+        &rt,
+        first.code().number() == 3 && first.name() == "é",
+        "the first",
+    );
+    holds(&rt, first.uprn().is_empty(), "no block of the first");
     let block = first.usrn().first().ok_or("no block")?;
-    assert!(rt; block.first() == 2 && block.last() == 2);
-    assert!(rt; block.holds(2) && !block.holds(1) && !block.holds(3));
+    holds(
+        &rt,
+        block.first() == 2 && block.last() == 2,
+        "a block of one",
+    );
+    holds(
+        &rt,
+        block.holds(2) && !block.holds(1) && !block.holds(3),
+        "it holds 2",
+    );
     let second = custodians.get(1).ok_or("one custodian")?;
-    assert!(rt; second.uprn().len() == 2 && second.usrn().is_empty());
+    holds(
+        &rt,
+        second.uprn().len() == 2 && second.usrn().is_empty(),
+        "the second",
+    );
     Ok(())
 }

@@ -2,6 +2,7 @@
 
 use crate::items::{custodian, volume};
 use crate::resting::{Resting, counting_hub};
+use crate::wanted::{counts, holds};
 use gaz_hub::{Answer, Outcome};
 use gaz_keeper::Inbox;
 use gaz_register::Register;
@@ -54,11 +55,8 @@ fn submits<K: Inbox + Drop>(
     answer: Answer,
 ) -> Result<(), Fail> {
     let file = file_on(rt.alloc(), pair.0, pair.1, bases)?;
-    assert_eq!(rt;
-        hub.submit(pair.0, pair.1, file.as_bytes()),
-        answer,
-        "{pair:?}"
-    );
+    let told = hub.submit(pair.0, pair.1, file.as_bytes());
+    holds(rt, told == answer, "the answer");
     Ok(())
 }
 
@@ -90,7 +88,7 @@ fn are_judged<K: Inbox + Drop>(
     codes: &[u64],
 ) -> Result<(), Fail> {
     for code in codes {
-        assert_eq!(rt; hub.status(*code)?.judged, 1);
+        counts(rt, hub.status(*code)?.judged, 1);
     }
     Ok(())
 }
@@ -100,16 +98,17 @@ fn nobody_is_looked_at_in_vain(rt: HostRuntime) -> Result<(), Fail> {
     let mut hub = hub_of_400(rt.alloc())?;
     let _settled = hub.status(1)?;
     let before = asked(&hub);
-    assert!(rt; before >= CUSTODIANS, "everyone is looked at once");
+    holds(&rt, before >= CUSTODIANS, "everyone is looked at once");
     let _settled = hub.status(2)?;
-    assert_eq!(rt;
-        asked(&hub).saturating_sub(before),
-        3,
-        "what is told of 2, and nothing else"
-    );
+    // What is told of 2, and nothing else.
+    counts(&rt, asked(&hub).saturating_sub(before), 3);
     let before = asked(&hub);
     submits(&rt, &mut hub, (7, 1), &[], APPLIED)?;
-    assert!(rt; asked(&hub).saturating_sub(before) <= 12, "nobody waits");
+    holds(
+        &rt,
+        asked(&hub).saturating_sub(before) <= 12,
+        "nobody waits",
+    );
     Ok(())
 }
 
@@ -120,7 +119,7 @@ fn who_waits_is_looked_at_once(rt: HostRuntime) -> Result<(), Fail> {
     all_wait(&rt, &mut hub, codes, 7)?;
     let before = asked(&hub);
     submits(&rt, &mut hub, (7, 1), &[], APPLIED)?;
-    assert!(rt; asked(&hub).saturating_sub(before) <= 48, "three wait");
+    holds(&rt, asked(&hub).saturating_sub(before) <= 48, "three wait");
     are_judged(&rt, &mut hub, codes)
 }
 
@@ -130,9 +129,9 @@ fn who_waits_for_two_volumes_is_looked_at_for_each(rt: HostRuntime) -> Result<()
     let on_both: &[(u64, u64)] = &[(7, 1), (8, 1)];
     submits(&rt, &mut hub, (9, 1), on_both, waits_for(7)?)?;
     submits(&rt, &mut hub, (7, 1), &[], APPLIED)?;
-    assert_eq!(rt; hub.status(9)?.judged, 0);
+    counts(&rt, hub.status(9)?.judged, 0);
     submits(&rt, &mut hub, (8, 1), &[], APPLIED)?;
-    assert_eq!(rt; hub.status(9)?.judged, 1);
+    counts(&rt, hub.status(9)?.judged, 1);
     Ok(())
 }
 
@@ -146,9 +145,7 @@ fn three_hundred_and_ninety_nine_wait_for_one(rt: HostRuntime) -> Result<(), Fai
     all_wait(&rt, &mut hub, codes.as_slice(), CUSTODIANS)?;
     let before = asked(&hub);
     submits(&rt, &mut hub, (CUSTODIANS, 1), &[], APPLIED)?;
-    assert!(rt;
-        asked(&hub).saturating_sub(before) <= 6 * CUSTODIANS,
-        "each is looked at"
-    );
+    let looks = asked(&hub).saturating_sub(before);
+    holds(&rt, looks <= 6 * CUSTODIANS, "each is looked at");
     are_judged(&rt, &mut hub, codes.as_slice())
 }

@@ -91,6 +91,10 @@ impl<K: Inbox + Drop> Tried<K> {
         self.keeper.held(code)
     }
 
+    pub(crate) fn sure(&mut self) -> Result<(), ShelfFault> {
+        self.keeper.sure()
+    }
+
     /// All items of a kind after a volume, read so many at a time, which is at least 1.
     pub(crate) fn all(
         &mut self,

@@ -10,6 +10,7 @@ use crate::keepers::volumes::{
     CLOSED, FELIN, FLAT, HOUSE, MAIN, MILL, NAME, OPEN, OTHER, TAX, begins_again, first_volume,
     receives_all, second_volume, third_volume,
 };
+use crate::wanted::holds;
 use gaz_ids::Lang;
 use gaz_keeper::{Inbox, Verdict};
 use gaz_records::Kind;
@@ -190,7 +191,13 @@ fn a_keeper_around_another_answers_so(rt: HostRuntime) -> Result<(), Fail> {
     let mut shelf = shelf.failing_at(0)?;
     performs_all(&rt, &mut shelf)?;
     let calls = shelf.keeper().counted();
-    assert_eq!(rt; (calls.current, calls.reached, calls.received), (5, 3, 2));
-    assert_eq!(rt; (calls.approved_of, calls.property_of), (2, 4));
+    let reads = (calls.current, calls.reached, calls.received);
+    holds(
+        &rt,
+        reads == (5, 3, 2),
+        "each reading is counted as the kind that it is",
+    );
+    let links = (calls.approved_of, calls.property_of);
+    holds(&rt, links == (2, 4), "so is each of what is linked");
     Ok(())
 }

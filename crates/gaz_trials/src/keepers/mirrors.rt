@@ -1,6 +1,7 @@
 //! A keeper over two answers the list from the one at hand, and goes on without it.
 use crate::keepers::calls::performs_all;
 use crate::keepers::tried::Tried;
+use crate::wanted::holds;
 use gaz_mirror::Mirror;
 use gaz_shelf::{Faulty, MemShelf, Seed};
 use std::process::Abort;
@@ -14,20 +15,19 @@ fn the_upper_keeper_answers_so(rt: HostRuntime) -> Result<(), Fail> {
     performs_all(&rt, &mut shelf)?;
     let (lower, upper) = shelf.into_keeper().into_parts();
     let below = lower.counted();
-    assert_eq!(rt;
-        (below.current, below.reached, below.received, below.page),
-        (0, 0, 0, 0)
-    );
+    let reads = (below.current, below.reached, below.received, below.page);
+    holds(&rt, reads == (0, 0, 0, 0), "the lower one isn't read");
     let Some(upper) = upper else {
-        assert!(rt; false, "it was dropped");
-        return Ok(());
+        return Err("it was dropped".into());
     };
     let above = upper.counted();
-    assert_eq!(rt; (above.current, above.reached, above.received), (5, 3, 2));
-    assert_eq!(rt;
+    let reads = (above.current, above.reached, above.received);
+    holds(&rt, reads == (5, 3, 2), "the upper one is");
+    let (ours, theirs) = (
         (above.put, above.keep, above.receive),
-        (below.put, below.keep, below.receive)
+        (below.put, below.keep, below.receive),
     );
+    holds(&rt, ours == theirs, "both are written");
     Ok(())
 }
 

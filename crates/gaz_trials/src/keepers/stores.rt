@@ -11,27 +11,16 @@ use std::alloc::Global;
 use std::process::Abort;
 use std::test::Fail;
 
-// A new store behind a connection.
-fn created<K: Reopens>(alloc: Global, conn: K::Conn) -> Result<Tried<K>, Fail> {
-    let register = Register::read(alloc, REGISTER)?;
-    match K::made(alloc, conn, &register)? {
-        Ok(store) => Ok(Tried::new(store)),
-        Err(_) => Err("no store was made".into()),
-    }
-}
-
 // The store behind a connection.
 fn opened<K: Reopens>(alloc: Global, conn: K::Conn) -> Result<Tried<K>, Fail> {
     let register = Register::read(alloc, REGISTER)?;
-    match K::opened(alloc, conn, &register)? {
-        Ok(store) => Ok(Tried::new(store)),
-        Err(_) => Err("no store was opened".into()),
-    }
+    Ok(Tried::new(K::opened(alloc, conn, &register)?))
 }
 
 // A new store behind a connection, in which nothing is received or judged.
 fn new_store<K: Reopens>(rt: &(impl Abort + AllocGlobal), conn: K::Conn) -> Result<Tried<K>, Fail> {
-    let mut store = created::<K>(rt.alloc(), conn)?;
+    let register = Register::read(rt.alloc(), REGISTER)?;
+    let mut store = Tried::new(K::made(rt.alloc(), conn, &register)?);
     has_counts(rt, &mut store, 1001, 0, 0)?;
     has_file(rt, &mut store, 1001, 1, false)?;
     has_verdict(rt, &mut store, 1001, 1, None)?;
@@ -61,12 +50,10 @@ pub(crate) fn performs_anew<K: Reopens>(
 
 #[test]
 fn a_store_answers_so(rt: HostRuntime) -> Result<(), Fail> {
-    let _told = in_memory(&rt, Task::PerformAll)?;
-    Ok(())
+    in_memory(&rt, Task::PerformAll)
 }
 
 #[test]
 fn a_store_closed_and_opened_answers_so(rt: HostRuntime) -> Result<(), Fail> {
-    let _told = in_memory(&rt, Task::PerformAnew)?;
-    Ok(())
+    in_memory(&rt, Task::PerformAnew)
 }

@@ -1,6 +1,7 @@
 //! What a keeper between judgements tells, against what it is to tell.
 use crate::items::{custodian, volume};
 use crate::keepers::tried::Tried;
+use crate::wanted::{counts, holds};
 use gaz_ids::{Lang, Uprn, Usrn};
 use gaz_keeper::{Inbox, Property, Verdict};
 use gaz_records::{Key, Kind, SharedItem, item_text};
@@ -16,18 +17,18 @@ fn is_row(
     match (found, row) {
         (None, None) => {}
         (Some(item), Some(row)) => {
-            assert_eq!(rt;
-                item_text(rt.alloc(), item)?.as_slice(),
-                row.as_bytes(),
-                "{row}"
+            holds(
+                rt,
+                item_text(rt.alloc(), item)?.as_slice() == row.as_bytes(),
+                row,
             );
         }
-        _ => assert!(rt; false, "another row"),
+        _ => holds(rt, false, "another row"),
     }
     Ok(())
 }
 
-// How many volumes are judged and held.
+// It can be asked, and so many volumes are judged and held.
 pub(crate) fn has_counts<K: Inbox + Drop>(
     rt: &(impl Abort + AllocGlobal),
     shelf: &mut Tried<K>,
@@ -36,9 +37,9 @@ pub(crate) fn has_counts<K: Inbox + Drop>(
     held: u64,
 ) -> Result<(), Fail> {
     let code = custodian(code)?;
-    assert_eq!(rt; shelf.reached(code)?, reached);
-    assert_eq!(rt; shelf.held(code)?, held);
-    Ok(())
+    counts(rt, shelf.reached(code)?, reached);
+    counts(rt, shelf.held(code)?, held);
+    Ok(shelf.sure()?)
 }
 
 // The item in the last view, and in the view after a volume.
@@ -73,7 +74,11 @@ pub(crate) fn has_used<K: Inbox + Drop>(
     key: &Key,
     used: bool,
 ) -> Result<(), Fail> {
-    assert_eq!(rt; shelf.ever(custodian(code)?, key)?, used);
+    holds(
+        rt,
+        shelf.ever(custodian(code)?, key)? == used,
+        "whether it was used",
+    );
     Ok(())
 }
 
@@ -85,7 +90,11 @@ pub(crate) fn has_parts<K: Inbox + Drop>(
     has: bool,
 ) -> Result<(), Fail> {
     let uprn = Uprn::of(uprn).ok_or("a UPRN")?;
-    assert_eq!(rt; shelf.children(custodian(code)?, uprn)?, has);
+    holds(
+        rt,
+        shelf.children(custodian(code)?, uprn)? == has,
+        "whether it has parts",
+    );
     Ok(())
 }
 
@@ -98,7 +107,7 @@ pub(crate) fn has_addresses<K: Inbox + Drop>(
 ) -> Result<(), Fail> {
     let uprn = Uprn::of(uprn).ok_or("a UPRN")?;
     let found = shelf.approved_of(custodian(code)?, uprn)?;
-    assert!(rt; found.as_slice() == keys);
+    holds(rt, found.as_slice() == keys, "the keys of its addresses");
     Ok(())
 }
 
@@ -113,7 +122,7 @@ fn is_property(
             is_row(rt, &Some(found.blpu), Some(blpu))?;
             is_row(rt, &found.address, Some(address))?;
         }
-        _ => assert!(rt; false, "another property"),
+        _ => holds(rt, false, "another property"),
     }
     Ok(())
 }
@@ -140,7 +149,8 @@ pub(crate) fn has_address_on<K: Inbox + Drop>(
     has: bool,
 ) -> Result<(), Fail> {
     let usrn = Usrn::of(usrn).ok_or("a USRN")?;
-    assert_eq!(rt; shelf.approved_on(custodian(code)?, usrn, lang)?, has);
+    let found = shelf.approved_on(custodian(code)?, usrn, lang)?;
+    holds(rt, found == has, "whether an approved address is on it");
     Ok(())
 }
 
@@ -151,7 +161,8 @@ pub(crate) fn has_verdict<K: Inbox + Drop>(
     number: u64,
     verdict: Option<Verdict>,
 ) -> Result<(), Fail> {
-    assert!(rt; shelf.verdict(custodian(code)?, volume(number)?)? == verdict);
+    let found = shelf.verdict(custodian(code)?, volume(number)?)?;
+    holds(rt, found == verdict, "the verdict");
     Ok(())
 }
 
@@ -163,10 +174,8 @@ pub(crate) fn has_file<K: Inbox + Drop>(
     has: bool,
 ) -> Result<(), Fail> {
     let found = shelf.received(custodian(code)?, volume(number)?)?;
-    assert_eq!(rt;
-        found.is_some_and(|bytes| bytes.as_slice() == b"a file".as_slice()),
-        has
-    );
+    let is_there = found.is_some_and(|bytes| bytes.as_slice() == b"a file".as_slice());
+    holds(rt, is_there == has, "whether the file is there");
     Ok(())
 }
 
@@ -182,14 +191,14 @@ pub(crate) fn has_page<K: Inbox + Drop>(
     row: &str,
 ) -> Result<(), Fail> {
     let page = shelf.page(custodian(1001)?, after, kind, from, most)?;
-    assert_eq!(rt; page.len(), len);
+    holds(rt, page.len() == len, "how many items");
     match page.first() {
-        Some(item) => assert_eq!(rt;
-            item_text(rt.alloc(), item)?.as_slice(),
-            row.as_bytes(),
-            "{row}"
+        Some(item) => holds(
+            rt,
+            item_text(rt.alloc(), item)?.as_slice() == row.as_bytes(),
+            row,
         ),
-        None => assert!(rt; row.is_empty(), "{row}"),
+        None => holds(rt, row.is_empty(), row),
     }
     Ok(())
 }
@@ -200,12 +209,12 @@ fn are_rows(
     items: &[SharedItem],
     rows: &[&str],
 ) -> Result<(), Fail> {
-    assert_eq!(rt; items.len(), rows.len());
+    holds(rt, items.len() == rows.len(), "how many items");
     for (item, row) in items.iter().zip(rows) {
-        assert_eq!(rt;
-            item_text(rt.alloc(), item)?.as_slice(),
-            row.as_bytes(),
-            "{row}"
+        holds(
+            rt,
+            item_text(rt.alloc(), item)?.as_slice() == row.as_bytes(),
+            row,
         );
     }
     Ok(())
