@@ -7,21 +7,20 @@ mod resting;
 mod timing;
 mod volumes;
 
-use anyhow::Result;
+use crate::at_file::{Work, over_file};
+use anyhow::{Context, Result};
 use gaz_tables::creating::create;
-use sqlite::{Alter, Connection, Error, ErrorCode, File, FileStore, Options, Unknown};
+use sqlite::{Alter, Connection, Error};
 
-// A connection to the file at this path, with a cache of so many pages.
-fn open(rt: &HostRuntime, path: &str, pages: usize) -> Result<Connection<FileStore<File>>, Error> {
-    let Ok(files) = sqlite_std_file::open(rt, path, Unknown) else {
-        return Err(Error::SqliteFailure(ErrorCode::CannotOpen));
-    };
-    let mut options = Options::new(1);
-    options.cache_pages = pages;
-    match Connection::open_files(rt.alloc(), files, options) {
-        Ok(conn) => Ok(conn),
-        Err((error, _)) => Err(error),
-    }
+/// What is timed.
+#[derive(Clone, Copy)]
+pub enum Run {
+    /// The statements over so many rows.
+    Rows(u32),
+    /// What so many volumes need.
+    Volumes(u32),
+    /// That the database is opened and closed, which the caller times.
+    Opening,
 }
 
 // Makes the tables.
@@ -31,7 +30,7 @@ fn furnish<S: Alter>(conn: &mut Connection<S>) -> Result<(), Error> {
 }
 
 // Times each statement over so many rows.
-fn time_all<S: Alter>(rt: &HostRuntime, conn: &mut Connection<S>, count: u32) -> Result<()> {
+fn time_rows<S: Alter>(rt: &HostRuntime, conn: &mut Connection<S>, count: u32) -> Result<()> {
     furnish(conn)?;
     filling::time_inserts(rt, conn, count)?;
     asking::time_keys(rt, conn, count)?;
@@ -41,30 +40,27 @@ fn time_all<S: Alter>(rt: &HostRuntime, conn: &mut Connection<S>, count: u32) ->
     marking::time_files(rt, conn)
 }
 
-fn time_over<S: Alter + Drop>(rt: &HostRuntime, mut conn: Connection<S>, count: u32) -> Result<()> {
-    time_all(rt, &mut conn, count)
+impl Work for Run {
+    type Told = ();
+
+    fn done<S: Alter + Drop>(
+        self,
+        rt: &HostRuntime,
+        mut conn: Connection<S>,
+    ) -> Result<(Connection<S>, ())> {
+        match self {
+            Run::Rows(count) => time_rows(rt, &mut conn, count)?,
+            Run::Volumes(count) => {
+                furnish(&mut conn)?;
+                volumes::time_volumes(rt, &mut conn, count)?;
+            }
+            Run::Opening => {}
+        }
+        Ok((conn, ()))
+    }
 }
 
-/// Times the statements over so many rows in the file at this path, with a cache of so many pages.
-pub fn time_file(rt: &HostRuntime, path: &str, count: u32, pages: usize) -> Result<()> {
-    let conn = open(rt, path, pages)?;
-    time_over(rt, conn, count)
-}
-
-fn keep_over<S: Alter + Drop>(rt: &HostRuntime, mut conn: Connection<S>, count: u32) -> Result<()> {
-    furnish(&mut conn)?;
-    volumes::time_volumes(rt, &mut conn, count)
-}
-
-/// Times what so many volumes need in the file at this path, with a cache of so many pages.
-pub fn time_volumes(rt: &HostRuntime, path: &str, count: u32, pages: usize) -> Result<()> {
-    let conn = open(rt, path, pages)?;
-    keep_over(rt, conn, count)
-}
-
-/// Opens the database in the file at this path, with a cache of so many pages, and closes it.
-pub fn open_and_close(rt: &HostRuntime, path: &str, pages: usize) -> Result<()> {
-    let conn = open(rt, path, pages)?;
-    conn.close()?;
-    Ok(())
+/// Times the statements in the file at this path, with a cache of so many pages.
+pub fn time(rt: &HostRuntime, path: &str, timing: Run, pages: usize) -> Result<()> {
+    over_file(rt, path, pages, timing)?.context("no connection")
 }

@@ -1,8 +1,5 @@
 //! Times reading, for `bench/run`: `gaz_bench file FILE ROUNDS` that of a good change file, `gaz_bench any FILE ROUNDS` that of a change
 //! file whatever its outcome, `gaz_bench register FILE ROUNDS` that of a register. It prints the least time in microseconds.
-//! `gaz_bench judge ITEMS` times the judgement of a file of 1,000 changes into a gazetteer of so many items, and beside it that of a file
-//! without changes; `gaz_bench calls ITEMS` prints how often the keeper was called before that judgement and after it.
-//! `gaz_bench keeping VOLUMES` times how the keeper in memory keeps so many volumes of 1,000 items.
 //! `gaz_bench stored STORE REGISTER` answers the requests on standard input at a hub of the register in a file, over the store in a file, which is
 //! made where there is none; `gaz_bench stored-each STORE REGISTER` takes pieces of a stream, each behind a line with its length in bytes, and
 //! opens and closes the store for each of them. Why there is no store is said on standard error, as `gaz_bench: BadSchema`, and the status is 3.
@@ -24,10 +21,9 @@
 //! line with the least time in nanoseconds of reading all items and that of writing all rows, and then the rows.
 #![tactic(auto)]
 
+mod at_file;
 mod failing;
 mod floor;
-mod judging;
-mod keeping;
 mod playing;
 mod records;
 mod replying;
@@ -35,14 +31,13 @@ mod stored;
 
 use anyhow::{Context, Result, ensure};
 use failing::{Failing, answer_over};
+use floor::Run;
 use gaz_changefile::{FileFault, read_file};
 use gaz_ids::{Code, Volume};
 use gaz_records::Kind;
 use gaz_register::Register;
 use gaz_store::StoreRefusal;
 use gaz_stored::ReadFrom;
-use judging::{judging_calls, judging_micros};
-use keeping::keeping_micros;
 use playing::play;
 use records::records_nanos;
 use replying::reply_as_learned;
@@ -128,39 +123,15 @@ fn print_rounds(rt: &HostRuntime, word: &str, path: &str, rounds: &str) -> Resul
     }
 }
 
-// Prints the times of judging into a gazetteer of so many items.
-fn print_judging(rt: &HostRuntime, items: &str) -> Result<()> {
-    let (with, without) = judging_micros(rt, items.parse::<u64>()?)?;
-    println!(rt; "{with} {without}")?;
-    Ok(())
-}
-
-// Prints the counts of calls before judging into a gazetteer of so many items, and after it.
-fn print_calls(rt: &HostRuntime, items: &str) -> Result<()> {
-    let (before, after) = judging_calls(rt, items.parse::<u64>()?)?;
-    println!(rt; "{before}")?;
-    println!(rt; "{after}")?;
-    Ok(())
-}
-
 // Times what a word and what it is given name.
 fn print_times(rt: &HostRuntime, word: &str, given: &str, rounds: Option<String>) -> Result<()> {
     match word {
-        "judge" => print_judging(rt, given),
-        "calls" => print_calls(rt, given),
         "play" => play(rt, given),
         "opening" => {
-            floor::open_and_close(
-                rt,
-                given,
-                rounds.context("a number of pages")?.parse::<usize>()?,
-            )
+            let pages = rounds.context("a number of pages")?.parse::<usize>()?;
+            floor::time(rt, given, Run::Opening, pages)
         }
         "replies" => reply_as_learned(rt, given, &rounds.context("a file of replies")?),
-        "keeping" => {
-            println!(rt; "{}", keeping_micros(rt, given.parse::<u64>()?)?)?;
-            Ok(())
-        }
         _ => match rounds {
             Some(rounds) => print_rounds(rt, word, given, &rounds),
             None => Ok(()),
@@ -197,10 +168,11 @@ fn print_floor(
 ) -> Result<()> {
     let pages = pages.context("a number of pages")?.parse::<usize>()?;
     let count = count.parse::<u32>()?;
-    match word {
-        "volumes" => floor::time_volumes(rt, path, count, pages),
-        _ => floor::time_file(rt, path, count, pages),
-    }
+    let timing = match word {
+        "volumes" => Run::Volumes(count),
+        _ => Run::Rows(count),
+    };
+    floor::time(rt, path, timing, pages)
 }
 
 fn main(rt: HostRuntime) -> Result<ExitCode> {

@@ -1,13 +1,14 @@
 //! A hub over a store, of any register.
 ghost use Rattle.std.specs.Prelude.{◌≡◌, false, OnOk};
 
+use crate::at_file::{Work, over_file};
 use anyhow::{Context, Result, ensure};
 use gaz_exchange::{Served, Stopped};
 use gaz_register::Register;
 use gaz_shelf::Seed;
 use gaz_store::StoreRefusal;
 use gaz_stored::{HandedBack, ReadFrom, answer_new, answer_opened};
-use sqlite::{Alter, Connection, File, FileStore, Options, Unknown};
+use sqlite::{Alter, Connection};
 use std::alloc::Global;
 use std::io::{BufWriter, Read, Write};
 use std::{fs, io};
@@ -84,16 +85,41 @@ fn pages_at(rt: &HostRuntime, path: &str) -> usize {
     pages.saturating_add(pages / 2).clamp(FEWEST, MOST_PAGES) as usize
 }
 
-/// A connection to the file at this path, which is made where there is none.
-fn open(rt: &HostRuntime, path: &str) -> Option<Connection<FileStore<File>>> {
-    let mut options = Options::new(1);
-    options.cache_pages = pages_at(rt, path);
-    let files = sqlite_std_file::open(rt, path, Unknown).ok()?;
-    Connection::open_files(rt.alloc(), files, options).ok()
+/// A conversation with a hub of a register, over a store that begins so, whose statements take so many
+/// steps at most.
+#[derive(Drop)]
+struct Talk<'a, R, W> {
+    beginning: Beginning,
+    register: Register,
+    steps: Option<u64>,
+    read_from: ReadFrom,
+    r: &'a mut R,
+    w: &'a mut W,
 }
 
-/// Answers the requests of a reader over the store in a file, which is made where there is none. The
-/// one function that names the kind of the store: each such costs the proof a minute.
+impl<R: Read, W: Write> Work for Talk<'_, R, W> {
+    type Told = Option<StoreRefusal>;
+
+    fn done<S: Alter + Drop>(
+        self,
+        rt: &HostRuntime,
+        mut conn: Connection<S>,
+    ) -> Result<(Connection<S>, Option<StoreRefusal>)> {
+        let Talk {
+            beginning,
+            register,
+            steps,
+            read_from,
+            r,
+            w,
+        } = self;
+        conn.set_step_limit(steps);
+        let left = answer(rt.alloc(), conn, register, beginning, read_from, r, w)?;
+        Ok((left.conn, refusal_of(left.held)?))
+    }
+}
+
+/// Answers the requests of a reader over the store in a file, which is made where there is none.
 fn answer_at<R: Read, W: Write>(
     rt: &HostRuntime,
     path: &str,
@@ -103,14 +129,18 @@ fn answer_at<R: Read, W: Write>(
     r: &mut R,
     w: &mut W,
 ) -> Result<Option<StoreRefusal>> {
-    let beginning = beginning_at(rt, path);
-    let Some(mut conn) = open(rt, path) else {
-        return Ok(Some(StoreRefusal::Fault));
+    let talk = Talk {
+        beginning: beginning_at(rt, path),
+        register,
+        steps,
+        read_from,
+        r,
+        w,
     };
-    conn.set_step_limit(steps);
-    let left = answer(rt.alloc(), conn, register, beginning, read_from, r, w)?;
-    left.conn.close()?;
-    refusal_of(left.held)
+    match over_file(rt, path, pages_at(rt, path), talk)? {
+        Some(refusal) => Ok(refusal),
+        None => Ok(Some(StoreRefusal::Fault)),
+    }
 }
 
 fn register_in(rt: &HostRuntime, path: &str) -> Result<Register> {
