@@ -12,6 +12,7 @@ from dataclasses import dataclass
 from pathlib import Path
 
 from checks.conversations import DEADLINE
+from checks.ground import alter
 from checks.stocks import FEW, MANY, REGISTER, Asked, Size, cases, history
 from checks.stores import Answered, Hubs, get, hubs_of
 
@@ -19,6 +20,10 @@ MOST = 64  # steps within which each request has to pass over few rows
 
 # The row behind a range may be looked at, and so may that before it, and where a table ends there is none. Nothing else may depend on other rows.
 SPARE = 2
+
+
+# What is told where no statement may take a step of a store to which this was done: that a table is missing is seen without one.
+WITHOUT_STEPS = {"SELECT 1": "Fault", "UPDATE meta SET register = 'x'": "Fault", "DROP TABLE version": "BadSchema"}
 
 
 class Stepping(Hubs):
@@ -40,11 +45,13 @@ class Store:
     hubs: Stepping
     ready: Path
 
-    def within(self, request: bytes, steps: int) -> Answered:
-        """The reply to a request within so many steps a statement."""
+    def within(self, request: bytes, steps: int, sql: str = "") -> Answered:
+        """The reply to a request within so many steps a statement, once this was done to the store."""
         with tempfile.TemporaryDirectory(dir=self.ready.parent) as made:
             copy = Path(made) / "store"
             shutil.copyfile(self.ready, copy)
+            if sql:
+                alter(copy, sql)
             return self.hubs.within(copy, request, steps)
 
     def passes(self, asked: Asked, steps: int) -> bool:
@@ -88,6 +95,12 @@ def reads_all(many: Store) -> str | None:
     return None if found.replies.endswith(b'{"refusal":51}\n') else f"an extract is told {found.replies[:200]}"
 
 
+def refused(store: Store, sql: str, word: str) -> str | None:
+    """What is wrong with the refusal of a store to which this was done, where no statement may take a step."""
+    found, wanted = store.within(b"", 0, sql), Answered(3, b"", f"gaz_bench: {word}\n")
+    return None if found == wanted else f"{found}, wanted {wanted}"
+
+
 def run_all(root: Path, room: Path) -> Iterator[tuple[str, str | None]]:
     """Each request, and what is wrong with its steps."""
     with hubs_of(room) as (hubs, folder):
@@ -97,5 +110,6 @@ def run_all(root: Path, room: Path) -> Iterator[tuple[str, str | None]]:
         few, many = store_of(stepping, folder / "few", FEW), store_of(stepping, folder / "many", MANY)
         of_many = cases(MANY)
         yield "an extract of many rows", reads_all(many)
+        yield from ((f"none, and {sql}", refused(few, sql, word)) for sql, word in WITHOUT_STEPS.items())
         for name, asked in cases(FEW).items():
             yield name, walks(few, many, asked, of_many[name])

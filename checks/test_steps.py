@@ -69,6 +69,10 @@ class Limiting(unittest.TestCase):
     def test_another_reply_is_reported(self) -> None:
         self.assertIn("wanted b'rejected'", self.fault(told=b"rejected"))
 
+    def test_another_refusal_is_reported(self) -> None:
+        few, _ = self.stores()
+        self.assertIn("wanted", steps.refused(few, "", "Fault"))
+
     def test_tries_leave_nothing_behind(self) -> None:
         few, _ = self.stores()
         few.least((get("/closed"), b"an extract"), 64)
