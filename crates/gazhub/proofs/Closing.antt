@@ -2,7 +2,7 @@
 use Rattle.std.proofs.Common.{◌≡◌, IsTrue}
 use Rattle.std.specs.Prelude.{Some, None}
 use Rattle.sqlite.specs.Closing.{IsCopied}
-use Rattle.sqlite.specs.Files.{FailsToClose, file_state}
+use Rattle.sqlite.specs.Files.{FailsToClose, IsClosed, file_state}
 use Rattle.sqlite.specs.Held.{Held}
 use Rattle.sqlite.specs.State.{IsLive}
 use Rattle.sqlite.specs.declared.error.Error.{Error}
@@ -19,5 +19,5 @@ module _ {D : Type 0} (g : disk.Ghosts D) (conn : Held (FileStore D g)) (live : 
   pub closes : (files : Files D) → (AreClean g files.log files.db → IsCopied conn files) → Closes g conn (Some files)
   closes files copied = record { live = live; settled = settled; files = copied }
 
-  pub closes_not : (last : FileStore D g) (e : Error) → (IsClean (view last) → FailsToClose conn last e) → Closes g conn None
-  closes_not last e fails = record { live = live; settled = settled; files = (last, e, fails) }
+  pub closes_not : (last : FileStore D g) (e : Error) → IsClosed conn last → (IsClean (view last) → FailsToClose conn last e) → Closes g conn None
+  closes_not last e closed fails = record { live = live; settled = settled; files = (last, (e, (closed, fails))) }

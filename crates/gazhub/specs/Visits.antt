@@ -3,7 +3,7 @@ use Rattle.std.specs.Prelude.{◌≡◌, ⊤, false, List, [], ◌∷◌, map, O
 use Rattle.std.specs.List.{AllByRecursion}
 use Rattle.sqlite.specs.Closing.{IsCopied}
 use Rattle.sqlite.specs.Effect.{Database}
-use Rattle.sqlite.specs.Files.{FailsToClose, Finds, IsOpened, file_state}
+use Rattle.sqlite.specs.Files.{FailsToClose, Finds, IsClosed, IsOpened, file_state}
 use Rattle.sqlite.specs.Held.{Held}
 use Rattle.sqlite.specs.State.{HasCleanDisk, IsLive}
 use Rattle.sqlite.specs.declared.error.Error.{Error}
@@ -32,7 +32,8 @@ module _ {D : Type 0} (g : disk.Ghosts D) where
   abbrev pub CopiesOrFails : Held (FileStore D g) → Option (Files D) → Type 0
   CopiesOrFails conn (Some files) = AreClean g files.log files.db → IsCopied conn files
   CopiesOrFails conn None =
-      (last : FileStore D g) × (e : Error) × (IsClean (view last) → FailsToClose conn last e)
+      (last : FileStore D g) × ((e : Error) × (IsClosed conn last
+      × (IsClean (view last) → FailsToClose conn last e)))
 
   -- a connection with nothing left to commit is closed, and these files are given back
   pub record Closes (conn : Held (FileStore D g)) (left : Option (Files D)) : Type 0 where

@@ -8,4 +8,4 @@ returns-in-Ok g c = closes _ c.args.conn c.schema-schema.ensures.live (c.is_auto
 pub returns-in-Err : goal.returns-in-Err
 returns-in-Err g c =
     closes_not _ c.args.conn c.schema-schema.ensures.live (c.is_autocommit-is_settled.ensures.settled (c.is_autocommit-is_settled.ensures.value ∙ ap not c.requires)) c.in-Err.store c.in-Err.field-0-0
-    c.in-Err.ensures.err.1
+    c.in-Err.ensures.err.0 c.in-Err.ensures.err.1
