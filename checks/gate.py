@@ -16,7 +16,7 @@ from checks.beside import Beside
 
 SAYING = threading.Lock()
 PROVED = re.compile(r"^rt: (\w+) proved$")
-# What edits leave free beside proofs, of which rt ci starts as many as it found memory for: bytes.
+# What edits leave free beside proofs, which grow once they have begun: bytes.
 SPARE = 4_000_000_000
 
 
@@ -78,6 +78,12 @@ def own_tests(root: Path, account: Account) -> None:
     account.count("the gate's own tests", ran.status == 0)
 
 
+def lanes() -> int:
+    """How many checks there are at a time, each of one job, since one of four jobs costs a third more. One processor of more than two is
+    left to edits, and memory for three checks is there."""
+    return min(max(len(os.sched_getaffinity(0)) - 1, 2), 3)
+
+
 def prove(room: Path, account: Account, proved: set[str]) -> None:
     """Everything from nothing, by the kit's own gate: HANDLES, layout, proofs, tests, and the programs by two compilers. The name of
     each crate is among the proved ones once it is."""
@@ -86,7 +92,7 @@ def prove(room: Path, account: Account, proved: set[str]) -> None:
         say(line)
         proved.update(PROVED.findall(line))
 
-    ran, costs = measure.watch(["rt", "ci"], room, hear)
+    ran, costs = measure.watch(["env", f"RT_JOBS={lanes()}", "rt", "ci"], room, hear)
     for (name, tests), seconds in costs.seconds.items():
         column = account.tests if tests else account.proof
         column[name] = column.get(name, 0.0) + seconds

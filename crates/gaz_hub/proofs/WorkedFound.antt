@@ -1,9 +1,13 @@
 -- The worked examples on what calls leave of a keeper that is stopped.
-use Rattle.std.proofs.Common.{◌≡◌, ◌∙◌, ap, inl, inr, [], ◌∷◌, ◌++◌, List, refl, subst, sym, true≢false}
-use Rattle.std.specs.Prelude.{Some, is_some}
+use Rattle.std.proofs.Common.{◌≡◌, ◌∙◌, ap, inl, inr, ℕ, zero, suc, Bool, true, false, [], ◌∷◌, ◌++◌, List, refl, subst, sym, true≢false}
+use Rattle.std.specs.Prelude.{◌==◌, if◌then◌else◌, Some, is_some, slice_get, unwrap_or}
 use Rattle.std.specs.FinMap as map
 use Rattle.gaz_keeper.specs.Board.{empty_board}
-use Rattle.gaz_keeper.specs.Keeper.{Content, Seen}
+use Rattle.gaz_keeper.specs.Keeper.{Content, IsLawful, Seen}
+use Rattle.gaz_views.proofs.Lawful.{lawful_empty}
+use Rattle.gaz_views.specs.Judgements.{views}
+use Rattle.gaz_views.specs.Lawful.{IsLawfulView}
+use Rattle.gaz_views.specs.View.{empty_view}
 use Rattle.gaz_keeper.specs.Received.{Received, pair_cmp}
 use Rattle.gaz_hub.specs.Examples.{first_hub, first_sent, no_text, no_text_judged, one_judged}
 use Rattle.gaz_hub.specs.Found.{HasOneMore, HasOneSince}
@@ -49,6 +53,27 @@ repeated = record {
   answer = refl;
 }
 
+-- ---- what is kept is lawful: each of its views is the empty one
+
+no_view : (t : ℕ) → unwrap_or (slice_get (empty_view ∷ []) t) empty_view ≡ empty_view
+no_view zero = refl
+no_view (suc t) = refl
+
+one_view : (t : ℕ) → unwrap_or (slice_get (empty_view ∷ empty_view ∷ []) t) empty_view ≡ empty_view
+one_view zero = refl
+one_view (suc zero) = refl
+one_view (suc (suc t)) = refl
+
+by_custodian : (is_1003 : Bool) (t : ℕ) → unwrap_or (slice_get (views (if is_1003 then no_text_judged ∷ [] else [])) t) empty_view ≡ empty_view
+by_custodian true t = one_view t
+by_custodian false t = no_view t
+
+first_lawful : (k : Content) → k ≡ at_rest first_hub → IsLawful k
+first_lawful k e = subst IsLawful (sym e) (record { views = λ c t. subst IsLawfulView (sym (by_custodian (c == 1003) t)) lawful_empty; working = lawful_empty })
+
+unjudged_lawful : (k : Content) → k ≡ at_rest unjudged_hub → IsLawful k
+unjudged_lawful k e = subst IsLawful (sym e) (record { views = λ c t. subst IsLawfulView (sym (no_view t)) lawful_empty; working = lawful_empty })
+
 -- ---- what is left
 
 abbrev nothing : Received
@@ -88,7 +113,7 @@ taken s fine = record {
   stops = record {
     ever = λ k e. inr (fine, inr (with_first k e));
     now = λ _ k e. inr (inl (itself first_hub k e));
-    whole = λ all. all;
+    whole = λ all. first_lawful;
   };
   received = λ _ k e. (fine, with_first k e);
 }
@@ -98,7 +123,7 @@ on_calls seen = record {
   judging = λ s fine. record {
     ever = λ k e. inr (fine, judged_later k e);
     now = λ _ k e. inr (itself first_hub k e);
-    whole = λ all. all;
+    whole = λ all. first_lawful;
   };
   judging_brings_none = λ s stops. elim (stops.ever (at_rest first_hub) refl) [
     | inl was ↦ not_empty (same_files (at_rest first_hub) (at_rest new_hub) was)
@@ -114,7 +139,7 @@ on_calls seen = record {
     stops = record {
       ever = λ k e. inr (fine, inr (with_unjudged k e));
       now = λ _ k e. inr (inr (with_unjudged k e));
-      whole = λ all. all;
+      whole = λ all. unjudged_lawful;
     };
     received = λ is. absurd (true≢false (sym is));
   };

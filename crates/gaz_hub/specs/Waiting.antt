@@ -89,4 +89,5 @@ remembering register waiters s = record {
   full = s.full;
   leaves = s.leaves;
   whole = s.whole;
+  left_lawful = s.left_lawful;
 }

@@ -31,7 +31,8 @@ keeping s hub Leaves = record {
   is_full = s.is_full;
   full = s.full;
   leaves = Leaves;
-  whole = s.whole;
+  whole = (left : Content) → Leaves left → IsLawful left;
+  left_lawful = λ lawful. lawful;
 }
 
 -- a stop leaves what is kept

@@ -1,5 +1,6 @@
 -- Worked examples, computed from the definitions.
 use Rattle.std.specs.Prelude.{◌≡◌, ◌≤◌, ◌-◌, ◌^◌, ◌==◌, true, false, [], ◌∷◌, if◌then◌else◌, Some, None}
+use Rattle.std.proofs.Common.{subst, sym}
 use Rattle.std.specs.FinMap as map
 use Rattle.gaz_views.specs.Examples.{no_more, one_street}
 use Rattle.gaz_views.specs.View.{empty_view}
@@ -91,7 +92,8 @@ kept_safe k = record {
   is_full = false;
   full = not_full;
   leaves = λ left. left ≡ after_stop k;
-  whole = Unit {0};
+  whole = IsLawful (after_stop k);
+  left_lawful = λ lawful left is. subst IsLawful (sym is) lawful;
 }
 
 -- volume 1 of 1001 was received, and nothing else

@@ -58,6 +58,8 @@ pub record Seen : Type 1 where
   pub leaves : Content → Type 0
   -- whatever it leaves stands for that again
   pub whole : Type 0
+  -- which is then a lawful one
+  pub left_lawful : whole → (left : Content) → leaves left → IsLawful left
 
 -- ---- the content before and after
 

@@ -21,3 +21,4 @@ pub mod Writes
 pub mod Examples
 pub mod MetaRows
 pub mod WorkedOpening
+pub mod LawfulViews

@@ -33,4 +33,5 @@ mirrored seen lower upper = record {
   full = lower.full;
   leaves = lower.leaves;
   whole = lower.whole;
+  left_lawful = lower.left_lawful;
 }

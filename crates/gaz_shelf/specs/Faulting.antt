@@ -41,4 +41,5 @@ around s broken failures = record {
   full = full_around s.failures failures;
   leaves = s.leaves;
   whole = s.whole;
+  left_lawful = s.left_lawful;
 }

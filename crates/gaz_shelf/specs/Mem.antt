@@ -58,4 +58,5 @@ seen_in s = record {
   full = full_in s.failures;
   leaves = λ _. ⊥;
   whole = ⊤;
+  left_lawful = λ _ _ never. absurd never;
 }

@@ -16,7 +16,7 @@ use Rattle.gaz_store.specs.Opened.{IsMade, IsOpened}
 use Rattle.gaz_store.specs.Remembered.{AreSo, Remembered}
 use Rattle.gaz_store.specs.Store.{StoreStands, seen_beside}
 use Rattle.gaz_store.specs.declared.progress.Judging.TheVariants.{Idle}
-use Rattle.gaz_store.proofs.LawfulViews.{content_lawful}
+use Rattle.gaz_kept.proofs.LawfulViews.{content_lawful}
 use Rattle.gaz_store.proofs.Whole.{kept_as, whole_still}
 
 module _ (new : State) (a : Remembered) (so : (files : List Row) → AreSo a files) where

@@ -10,7 +10,6 @@ pub mod PageRows
 pub mod StreetRows
 pub mod Saying
 pub mod Verdicts
-pub mod LawfulViews
 pub mod Turning
 pub mod Counts
 pub mod Waiting

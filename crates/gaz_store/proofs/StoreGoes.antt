@@ -48,7 +48,7 @@ use Rattle.gaz_store.specs.declared.tables.Tables.{Tables}
 use Rattle.gaz_store.proofs.Seeing.{asks_nothing}
 use Rattle.gaz_store.proofs.Entering.{receive_enters, skip_enters}
 use Rattle.gaz_store.proofs.StoreReads.{left_cleared, not_broken, on_ok_all}
-use Rattle.gaz_store.proofs.LawfulViews.{content_lawful, last_is, view_lawful}
+use Rattle.gaz_kept.proofs.LawfulViews.{content_lawful, last_is, view_lawful}
 use Rattle.gaz_store.proofs.Whole.{kept_as, whole_still, whole_then}
 
 -- ---- a judgement is given up, or begins

@@ -34,7 +34,7 @@ use Rattle.gaz_store.specs.declared.progress.Judging.TheVariants.{Idle, Open, Br
 use Rattle.gaz_store.specs.declared.store.Store.{Store}
 use Rattle.gaz_store.specs.declared.tables.Tables.{Tables}
 use Rattle.gaz_store.proofs.Whole.{whole_still}
-use Rattle.gaz_store.proofs.LawfulViews.{board_view, last_is}
+use Rattle.gaz_kept.proofs.LawfulViews.{board_view, last_is}
 
 -- ---- a cleared judgement
 

@@ -41,7 +41,7 @@ use Rattle.gaz_kept.specs.Newest.{TellsStood}
 use Rattle.gaz_kept.specs.Versions.{histories_in}
 use Rattle.gaz_store.specs.Beside.{Makes, Turns}
 use Rattle.gaz_store.specs.declared.judgement.Judgement.{Judgement}
-use Rattle.gaz_store.proofs.LawfulViews.{view_lawful}
+use Rattle.gaz_kept.proofs.LawfulViews.{view_lawful}
 
 abbrev pub with_changes : Judgement → Changes → Judgement
 with_changes j c = record { code = j.code; changes = c }

@@ -1,7 +1,7 @@
 -- What a crash may leave is a store's again.
 use Rattle.std.proofs.Common.{◌≡◌, ◌∙◌, inl, inr, arith, subst, sym}
 use Rattle.sqlite.specs.Effect.{Database}
-use Rattle.sqlite.specs.State.{HasCleanDisk, State, Survives}
+use Rattle.sqlite.specs.State.{State, Survives}
 use Rattle.sqlite_trees.specs.Tree.{Trees}
 use Rattle.gaz_tables.specs.Schema.{store_schema}
 use Rattle.gaz_kept.specs.Kept.{IsKept}

@@ -1,14 +1,16 @@
 -- How the tables of a store are seen.
 use Rattle.std.specs.Prelude.{◌≡◌, ◌≤◌, ◌-◌, ◌^◌, ◌==◌, ℕ, true, IsTrue}
-use Rattle.std.proofs.Common.{eqb-true, le_of_eq, sym}
+use Rattle.std.proofs.Common.{eqb-true, le_of_eq, refl, subst, sym}
 use Rattle.sqlite_trees.specs.Tree.{Trees}
 use Rattle.sqlite.specs.Effect.{Database}
 use Rattle.sqlite.specs.State.{HasCleanDisk, State}
+use Rattle.gaz_views.proofs.Lawful.{lawful_empty}
 use Rattle.gaz_views.specs.View.{View, empty_view}
 use Rattle.gaz_keeper.specs.Keeper.{Content, IsLawful, Progress, Seen}
 use Rattle.gaz_tables.specs.Schema.{receiveds, store_schema}
 use Rattle.gaz_kept.specs.Contents.{content_in}
 use Rattle.gaz_kept.specs.Kept.{IsKept}
+use Rattle.gaz_kept.proofs.LawfulViews.{content_lawful}
 use Rattle.gaz_store.specs.Remembered.{AreSo, Remembered}
 
 -- the tables are those of a store, what is at hand is so of them, and what they stand for is lawful
@@ -34,6 +36,14 @@ abbrev pub LeavesKept : State → Type 0
 LeavesKept s =
     (db : Database) → HasCleanDisk s → s.may_leave db.trees → db.schema ≡ store_schema → IsKept db
 
+-- what such databases stand for is lawful
+pub left_lawful : (s : State) → LeavesKept s → (left : Content) → MayLeave s left → IsLawful left
+left_lawful s kept left may =
+    subst IsLawful (sym may.content)
+    (content_lawful (record { schema = store_schema; trees = may.trees })
+    (kept (record { schema = store_schema; trees = may.trees }) may.clean may.left refl)
+    empty_view lawful_empty)
+
 pub full_at : (failures : ℕ) → (failures == 2 ^ 64 - 1) ≡ true → 2 ^ 64 - 1 ≤ failures
 full_at failures full = le_of_eq (sym (eqb-true failures (2 ^ 64 - 1) full))
 
@@ -51,6 +61,7 @@ seen_of s at_hand progress working failures = record {
   full = full_at failures;
   leaves = MayLeave s;
   whole = LeavesKept s;
+  left_lawful = left_lawful s;
 }
 
 -- ---- what a call leaves of what is seen

@@ -12,7 +12,7 @@ use Rattle.gaz_kept.specs.Contents.{content_in}
 use Rattle.gaz_kept.specs.LastViews.{last_in}
 use Rattle.gaz_store.specs.Beside.{Makes}
 use Rattle.gaz_store.specs.Remembered.{Remembered}
-use Rattle.gaz_store.specs.Seen.{IsUnharmed, LeavesKept, MayLeave, StandsFor, full_at}
+use Rattle.gaz_store.specs.Seen.{IsUnharmed, LeavesKept, MayLeave, StandsFor, full_at, left_lawful}
 use Rattle.gaz_store.specs.declared.judgement.Judgement.{Judgement}
 use Rattle.gaz_store.specs.declared.progress.Judging.{Judging}
 use Rattle.gaz_store.specs.declared.progress.Judging.TheVariants.{Idle, Open, Broken}
@@ -77,6 +77,7 @@ seen_beside s at_hand judging failures = record {
   full = full_at failures;
   leaves = MayLeave s;
   whole = LeavesKept s;
+  left_lawful = left_lawful s;
 }
 
 abbrev pub seen_in : {S : Type 0} → {store : Ghosts S} → Store S store → Seen

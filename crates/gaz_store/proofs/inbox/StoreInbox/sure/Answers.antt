@@ -1,4 +1,3 @@
-use Rattle.sqlite.specs.Held.{state}
 use Rattle.gaz_store.proofs.Opens.{open_where_sure}
 use Rattle.gaz_store.proofs.StoreReads.{tells}
 use Rattle.gaz_store.proofs.inbox.StoreInbox.sure.Goals as goal

@@ -3,7 +3,7 @@ use Rattle.gaz_tables.specs.Schema.{receiveds}
 use Rattle.gaz_kept.specs.Files.{reached_in}
 use Rattle.gaz_store.proofs.Answered.{asked_as}
 use Rattle.gaz_store.proofs.Composing.{asked_nothing}
-use Rattle.gaz_store.proofs.LawfulViews.{view_lawful}
+use Rattle.gaz_kept.proofs.LawfulViews.{view_lawful}
 use Rattle.gaz_store.proofs.Turning.{approved_on_beside, or_false, or_true}
 use Rattle.gaz_store.proofs.judgement.Judgement.approved_on.Goals as goal
 
