@@ -18,9 +18,9 @@ class Idle:
 
     @staticmethod
     def now() -> tuple[float, float]:
-        """The seconds that all processors together were idle or waited for a disk, and the time."""
+        """The seconds that all processors together were idle, waited for a disk or had only what gives way (`nice`), and the time."""
         words = Path("/proc/stat").read_text().split("\n", 1)[0].split()
-        return (int(words[4]) + int(words[5])) / TICK, time.monotonic()
+        return (int(words[2]) + int(words[4]) + int(words[5])) / TICK, time.monotonic()
 
     def processors(self) -> float:
         (idle, at), before = self.now(), self.before
