@@ -1,2 +1,3 @@
 pub mod Vectors
 pub mod Searches
+pub mod Lives

@@ -1,5 +1,5 @@
 -- What a history's vector of versions is in its value.
-use Rattle.std.proofs.Common.{◌≡◌, ◌≢◌, ◌≤◌, ◌<◌, ◌+◌, ◌-◌, ℕ, zero, suc, List, [], ◌∷◌, ◌++◌, length, take, refl, sym, ap, ◌∙◌, arith, slice_index_or, set}
+use Rattle.std.proofs.Common.{◌≡◌, ◌≢◌, ◌≤◌, ◌<◌, ◌+◌, ◌-◌, ℕ, zero, suc, List, [], ◌∷◌, ◌++◌, length, take, refl, sym, ap, ◌∙◌, arith, slice_index_or, set, append_assoc}
 use Rattle.std.specs.Prelude.{None, Some, fold, nat_le, slice_get}
 use Rattle.std.proofs.lemmas.List.{get_or-map, length-map, map-append, take-map, take_more_set}
 use Rattle.gaz_histories.specs.Histories.{Ascends, Versions, before, standing_at, until, was_used_at}
@@ -33,3 +33,10 @@ put_in vs ws count volume v lt first is =
 -- those before a volume alone
 pub cut_to : {T : Type 0} (vs ws : List (declared.Version T)) (count volume : ℕ) → before (versions_of vs) volume ≡ take count (versions_of vs) → ws ≡ take count vs → versions_of ws ≡ before (versions_of vs) volume
 cut_to vs ws count volume first is = ap versions_of is ∙ sym (take-map version_in count vs) ∙ sym first
+
+-- two versions behind those before a volume
+pub two_in : {T : Type 0} (vs ws : List (declared.Version T)) (count volume : ℕ) (v w : declared.Version T) → before (versions_of vs) volume ≡ take count (versions_of vs) → ws ≡ (take count vs ++ v ∷ []) ++ w ∷ []
+    → versions_of ws ≡ before (versions_of vs) volume ++ version_in v ∷ version_in w ∷ []
+two_in vs ws count volume v w first is =
+    ap versions_of is ∙ map-append version_in (take count vs ++ v ∷ []) (w ∷ []) ∙ ap (λ l. l ++ version_in w ∷ []) (map-append version_in (take count vs) (v ∷ []))
+    ∙ append_assoc (versions_of (take count vs)) (version_in v ∷ []) (version_in w ∷ []) ∙ ap (λ l. l ++ version_in v ∷ version_in w ∷ []) (sym (take-map version_in count vs) ∙ sym first)

@@ -1,6 +1,6 @@
 -- What stood at a key through the volumes of a gazetteer.
-use Rattle.std.specs.Prelude.{ℕ, nat_le, nat_lt, Bool, true, false, List, [], ◌∷◌, filter, map}
-use Rattle.std.specs.Prelude.{fold, Option, None}
+use Rattle.std.specs.Prelude.{◌≡◌, ◌≤◌, ℕ, nat_le, nat_lt, Bool, true, false, List, [], ◌∷◌, ◌++◌}
+use Rattle.std.specs.Prelude.{filter, map, fold, Option, None, Some}
 use Rattle.std.specs.List.{list_any}
 use Rattle.std.specs.List.Sorted.{IsStrictlySortedBy}
 use Rattle.std.specs.Ordering.{nat_cmp}
@@ -36,3 +36,17 @@ standing_at vs volume = fold (λ i v. v.1) None (until vs volume)
 -- the key was used at a volume or before it
 abbrev pub was_used_at : {T : Type 0} → Versions T → ℕ → Bool
 was_used_at vs volume = list_any (λ v. nat_le v.0 volume) vs
+
+-- nothing stands at the key after a volume, nor after any later one
+abbrev pub IsOverBy : {T : Type 0} → Versions T → ℕ → Type 0
+IsOverBy vs volume = (later : ℕ) → volume ≤ later → standing_at vs later ≡ None
+
+-- from a volume on this stands at the key, or nothing; what began at the volume or after it is
+-- forgotten
+abbrev pub with_version : {T : Type 0} → Versions T → ℕ → Option T → Versions T
+with_version vs volume standing = before vs volume ++ (volume, standing) ∷ []
+
+-- this stands at the key from a volume on, and until another where one is given
+abbrev pub lived : {T : Type 0} → Versions T → ℕ → Option ℕ → T → Versions T
+lived vs born None x = with_version vs born (Some x)
+lived vs born (Some gone) x = with_version (with_version vs born (Some x)) gone None

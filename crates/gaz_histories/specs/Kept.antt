@@ -1,5 +1,6 @@
 -- The versions that a history keeps.
-use Rattle.std.specs.Prelude.{ℕ, nat_lt, Bool, true, false, ◌∷◌, [], List, map, None, Some}
+use Rattle.std.specs.Prelude.{◌&&◌, ℕ, nat_lt, Bool, true, false, ◌∷◌, [], List, map, None, Some}
+use Rattle.std.specs.Prelude.{is_some}
 use Rattle.gaz_histories.specs.Histories.{Version, Versions}
 use Rattle.gaz_histories.specs.declared.kept.Kept.{Kept}
 use Rattle.gaz_histories.specs.declared.kept.Kept.TheVariants.{Gone, Never, Several, Standing}
@@ -10,6 +11,10 @@ version_in v = (v.since, v.standing)
 
 abbrev pub versions_of : {T : Type 0} → List (declared.Version T) → Versions T
 versions_of vs = map version_in vs
+
+-- the version begins after a volume, and something stands from it on
+abbrev pub stands_after : {T : Type 0} → ℕ → Version T → Bool
+stands_after volume v = nat_lt volume v.0 && is_some v.1
 
 -- none, one of two kinds, or those of a vector
 abbrev pub versions_in : {T : Type 0} → Kept T → Versions T

@@ -1,12 +1,12 @@
 //! The versions of one key.
-ghost use Rattle.std.specs.Prelude.{◌≡◌, ◌++◌, ◌∷◌, [], ◌≤◌, take, length, nat_le, nat_lt};
-ghost use Rattle.std.specs.Prelude.{OnOk, OnErr, IfOk, IsOk, option_map};
-ghost use Rattle.gaz_histories.specs.Histories.{Ascends, before, is_empty, standing_at, until};
-ghost use Rattle.gaz_histories.specs.Histories.{was_used_at};
+ghost use Rattle.std.specs.Prelude.{◌≡◌, ◌↔◌, ◌++◌, ◌∷◌, [], ◌≤◌, take, length, nat_le, nat_lt};
+ghost use Rattle.std.specs.Prelude.{OnOk, OnErr, IfOk, IsOk, IsTrue, option_map};
+ghost use Rattle.gaz_histories.specs.Histories.{Ascends, IsOverBy, before, is_empty, lived};
+ghost use Rattle.gaz_histories.specs.Histories.{standing_at, until, was_used_at};
 ghost use Rattle.gaz_histories.specs.Kept.{versions_in};
 
 use crate::kept::Kept;
-use crate::versions::{Version, begins_until, last_standing};
+use crate::versions::{Version, are_over_by, begins_until, last_standing};
 use std::alloc::{AllocError, Global};
 use std::marker::Model;
 
@@ -76,6 +76,17 @@ impl<T: Drop> History<T> {
         }
     }
 
+    /// Whether nothing stands at the key after a volume, nor after any later one.
+    pub fn is_over_by(&self, volume: u64) -> bool
+        ensures { IsTrue result ↔ IsOverBy self.now volume }
+    {
+        match &self.kept {
+            Kept::Standing(_, _) => false,
+            Kept::Several(versions) => are_over_by(versions, volume),
+            _ => true,
+        }
+    }
+
     /// From a volume on this stands at the key, or nothing. What began at the volume or after it is
     /// forgotten. The first version of all needs no memory.
     pub fn set(&mut self, volume: u64, standing: Option<T>) -> Result<(), AllocError>
@@ -88,6 +99,29 @@ impl<T: Drop> History<T> {
             standing,
         };
         Ok(self.kept.put(self.alloc, version)?)
+    }
+
+    /// This stands at the key from a volume on, and until another where one is given. What began at
+    /// the volume or after it is forgotten. Where memory runs out, nothing changes.
+    pub fn live(&mut self, born: u64, gone: Option<u64>, standing: T) -> Result<(), AllocError>
+        ensures ok { OnOk result (self.new ≡ lived self.old born gone standing) }
+        ensures err { OnErr result (self.new ≡ self.old) }
+    {
+        let Some(gone) = gone else {
+            return self.set(born, Some(standing));
+        };
+        if gone <= born {
+            return self.set(gone, None);
+        }
+        let first = Version {
+            since: born,
+            standing: Some(standing),
+        };
+        let second = Version {
+            since: gone,
+            standing: None,
+        };
+        Ok(self.kept.put_both(self.alloc, first, second)?)
     }
 
     /// Forgets what began at a volume or after it.

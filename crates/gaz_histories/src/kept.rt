@@ -3,7 +3,7 @@ ghost use Rattle.std.specs.Prelude.{◌≡◌, ◌++◌, ◌∷◌, [], false, I
 ghost use Rattle.gaz_histories.specs.Histories.{Ascends, before};
 ghost use Rattle.gaz_histories.specs.Kept.{is_one, is_one_before, version_in, versions_in};
 
-use crate::versions::{Version, count_before, put_last};
+use crate::versions::{Version, count_before, put_last, put_two};
 use std::alloc::{AllocError, AllocFailed, Global};
 use std::mem::replace;
 
@@ -61,6 +61,28 @@ impl<T: Drop> Kept<T> {
             }
         }
         *self = Kept::one(version);
+        Ok(())
+    }
+
+    /// Puts two versions behind those that begin before the first of them, and forgets the others.
+    /// Where memory runs out, nothing changes.
+    pub fn put_both(
+        &mut self,
+        alloc: Global,
+        first: Version<T>,
+        second: Version<T>,
+    ) -> Result<(), AllocError>
+        requires { Ascends (versions_in self.old) }
+        ensures ok { OnOk result (versions_in self.new ≡ before (versions_in self.old) first.since
+            ++ version_in first ∷ version_in second ∷ []) }
+        ensures err { OnErr result (versions_in self.new ≡ versions_in self.old) }
+    {
+        self.spread(alloc)?;
+        if let Kept::Several(versions) = self {
+            return put_two(versions, first, second);
+        }
+        let both = Box::new(alloc, both(alloc, first, second)?)?;
+        *self = Kept::Several(both);
         Ok(())
     }
 
@@ -127,5 +149,19 @@ fn boxed<T: Drop>(
         return Err(AllocFailed { value: version });
     };
     versions.push(version)?;
+    Ok(versions)
+}
+
+// A vector with two versions.
+fn both<T: Drop>(
+    alloc: Global,
+    first: Version<T>,
+    second: Version<T>,
+) -> Result<Vec<Version<T>>, AllocError>
+    ensures { IfOk result (λ v. v.items ≡ first ∷ second ∷ []) }
+{
+    let mut versions = Vec::with_capacity(alloc, 2)?;
+    versions.push(first)?;
+    versions.push(second)?;
     Ok(versions)
 }

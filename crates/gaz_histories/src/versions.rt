@@ -1,8 +1,10 @@
 //! Versions in a vector.
-ghost use Rattle.std.specs.Prelude.{◌≡◌, ◌++◌, ◌∷◌, [], ◌≤◌, take, length, OnOk, OnErr, option_map};
-ghost use Rattle.gaz_histories.specs.Histories.{Ascends, before, standing_at, until};
+ghost use Rattle.std.specs.Prelude.{◌≡◌, ◌↔◌, ◌++◌, ◌∷◌, [], ◌≤◌, take, length, OnOk, OnErr, option_map};
+ghost use Rattle.std.specs.Prelude.{IsTrue};
+ghost use Rattle.std.specs.List.{list_any};
+ghost use Rattle.gaz_histories.specs.Histories.{Ascends, IsOverBy, before, standing_at, until};
 ghost use Rattle.gaz_histories.specs.Histories.{was_used_at};
-ghost use Rattle.gaz_histories.specs.Kept.{version_in, versions_of};
+ghost use Rattle.gaz_histories.specs.Kept.{stands_after, version_in, versions_of};
 
 use std::alloc::AllocError;
 
@@ -84,4 +86,50 @@ pub fn put_last<T: Drop>(
     versions[count] = version;
     versions.truncate(count + 1);
     Ok(())
+}
+
+/// Puts two versions behind those that begin before the first of them, and forgets the others.
+/// Where memory runs out, nothing changes.
+pub fn put_two<T: Drop>(
+    versions: &mut Vec<Version<T>>,
+    first: Version<T>,
+    second: Version<T>,
+) -> Result<(), AllocError>
+    requires { Ascends (versions_of versions.old.items) }
+    ensures ok { OnOk result (versions_of versions.new.items
+        ≡ before (versions_of versions.old.items) first.since
+        ++ version_in first ∷ version_in second ∷ []) }
+    ensures err { OnErr result (versions.new.items ≡ versions.old.items) }
+{
+    versions.reserve(2)?;
+    let count = count_before(versions, first.since);
+    versions.truncate(count);
+    versions.push_reserved(first);
+    versions.push_reserved(second);
+    Ok(())
+}
+
+// Whether a version begins after a volume, and something stands from it on.
+fn stands_later<T>(version: &Version<T>, volume: u64) -> bool
+    ensures { result ≡ stands_after volume (version_in version.now) }
+{
+    volume < version.since && version.standing.is_some()
+}
+
+// Whether something comes to stand after a volume, by one of these versions.
+fn any_later<T>(versions: &[Version<T>], volume: u64) -> bool
+    ensures { result ≡ list_any (λ v. stands_after volume (version_in v)) versions.now }
+{
+    versions.iter().any(|v| stands_later(v, volume))
+}
+
+/// Whether nothing stands after a volume, by these versions, nor after any later one.
+pub fn are_over_by<T>(versions: &[Version<T>], volume: u64) -> bool
+    requires { Ascends (versions_of versions.now) }
+    ensures { IsTrue result ↔ IsOverBy (versions_of versions.now) volume }
+{
+    if any_later(versions, volume) {
+        return false;
+    }
+    last_standing(versions, volume).is_none()
 }

@@ -13,4 +13,7 @@ returns c = record {
   used = refl;
   stays_used = refl;
   set_again = refl;
+  lives_on = refl;
+  lives_again = refl;
+  comes_and_goes = refl;
 }
