@@ -1,18 +1,19 @@
 -- What the definitions come to on worked examples.
-use Rattle.std.proofs.Common.{◌≡◌, ◌∙◌, ◌||◌, ℕ, Bool, cond, ap, refl, true, false, [], ◌∷◌, unwrap_or}
+use Rattle.std.proofs.Common.{◌≤◌, arith, ◌≡◌, ◌∙◌, ◌||◌, ℕ, Bool, cond, ap, refl, true, false, [], ◌∷◌, unwrap_or}
 use Rattle.std.specs.Prelude.{Some, None, is_some}
 use Rattle.std.specs.Ordering.{eq_by_cmp}
 use Rattle.std.specs.FinMap as map
+use Rattle.std.specs.FinSet as set
 use Rattle.gaz_records.proofs.KeyOrder.{keys_total}
-use Rattle.gaz_records.specs.Keys.{key_cmp}
+use Rattle.gaz_records.specs.Keys.{key_cmp, key_of}
 use Rattle.gaz_records.specs.declared.key.Key.{Key}
 use Rattle.gaz_records.specs.declared.key.Key.TheVariants as key
 use Rattle.gaz_histories.specs.Histories.{standing_at, was_used_at}
 use Rattle.gaz_views.specs.Examples.{street}
 use Rattle.gaz_views.specs.Judgements.{judgements}
-use Rattle.gaz_views.specs.View.{was_used}
+use Rattle.gaz_views.specs.View.{empty_view, was_used, with_item}
 use Rattle.gaz_ledger.proofs.KeyHistories.{contains_at, get_at}
-use Rattle.gaz_ledger.specs.Examples.{WorkedExamples, WorkedGazetteers, WorkedKeeping, three_volumes}
+use Rattle.gaz_ledger.specs.Examples.{WorkedExamples, WorkedGazetteers, WorkedKeeping, WorkedLives, three_volumes}
 use Rattle.gaz_ledger.specs.KeyHistories.{view_at}
 
 versions_in_three : (k : Key) → map.get three_volumes k ≡ cond (eq_by_cmp key_cmp k (key.Street 102)) (Some ((2, Some (street 102)) ∷ [])) (cond (eq_by_cmp key_cmp k (key.Street 101)) (Some ((1, Some (street 101)) ∷ (3, None) ∷ [])) None)
@@ -67,5 +68,20 @@ keeping_holds = record {
   a_street = refl;
 }
 
+lives_hold : WorkedLives
+lives_hold = record {
+  not_born = refl;
+  born = map.get-insert keys_total empty_view.items (key_of (street 101)) (street 101) (key.Street 101);
+  lives = map.get-insert keys_total empty_view.items (key_of (street 101)) (street 101) (key.Street 101);
+  gone = map.get-remove keys_total (with_item empty_view (street 101)).items (key_of (street 101)) (key.Street 101);
+  used_once_gone = set.contains-insert keys_total empty_view.used (key_of (street 101)) (key.Street 101);
+  never_gone = map.get-insert keys_total empty_view.items (key_of (street 101)) (street 101) (key.Street 101);
+  comes_and_goes = map.get-remove keys_total (with_item empty_view (street 101)).items (key_of (street 101)) (key.Street 101);
+  within = record { first = omega arith; begun = omega arith; ended = (omega arith, omega arith) };
+  ends_too_late = λ life. let late : 4 ≤ 3 = life.ended.1 in omega arith;
+  ends_too_early = λ life. let early : 2 ≤ 1 = life.ended.0 in omega arith;
+  begins_too_late = λ life. let late : 2 ≤ 1 = life.begun in omega arith;
+}
+
 pub worked_examples_hold : WorkedExamples
-worked_examples_hold = record { on_gazetteers = gazetteers_hold; on_keeping = keeping_holds }
+worked_examples_hold = record { on_gazetteers = gazetteers_hold; on_keeping = keeping_holds; on_lives = lives_hold }

@@ -34,17 +34,17 @@ use Rattle.gaz_ledger.specs.declared.index.Mark.{Mark}
 
 -- ---- what is found
 
-abbrev Found : Index → Mark → Key → Option Item → Type 0
+abbrev pub Found : Index → Mark → Key → Option Item → Type 0
 Found x m k o = IfSome o (λ i. has_mark m i ≡ true → is_under x m k ≡ true)
 
 -- in an item's marks
 pub found_at : (x : Index) (v : View) → FindsAll x (entries v) → (m : Mark) (k : Key) → Found x m k (finite.get v.items k)
 found_at x v finds m k = subst (Found x m k) (sym (get-entries v.items k)) (finds m k)
 
-finds_by : (x : Index) (v : View) → ((m : Mark) (k : Key) → Found x m k (finite.get v.items k)) → FindsAll x (entries v)
+pub finds_by : (x : Index) (v : View) → ((m : Mark) (k : Key) → Found x m k (finite.get v.items k)) → FindsAll x (entries v)
 finds_by x v found m k = subst (Found x m k) (get-entries v.items k) (found m k)
 
-abbrev More : Index → Index → Type 0
+abbrev pub More : Index → Index → Type 0
 More x y = (m : Mark) (k : Key) → is_under x m k ≡ true → is_under y m k ≡ true
 
 pub finds_more : (x y : Index) (g : KeyHistories) (n : ℕ) → More x y → Finds x g n → Finds y g n

@@ -13,3 +13,4 @@ pub mod Known
 pub mod Ranges
 pub mod Ledgers
 pub mod Closings
+pub mod Lives

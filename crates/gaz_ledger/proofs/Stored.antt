@@ -120,6 +120,14 @@ keys_put ks ls es fs hs key vs all put new h k is = put k ∙ by_same (eq_by_cmp
     by_same true e = refl
     by_same false e = all k e
 
+-- a key that is noted, with or without a history
+pub keys_noted : (ks ls : List Key) (es fs : Rows) (key : Key) → HasTheKeysOf ks es → AddsKey ks ls key → fs ≡ es → HasTheKeysOf ls fs
+keys_noted ks ls es fs key all put same k is = put k ∙ either (eq_by_cmp key_cmp key k) (has ks k) (all k (ap (λ (l : Rows). is_some (stored l k)) (sym same) ∙ is))
+  where
+    either : (a b : Bool) → b ≡ true → (a || b) ≡ true
+    either true b e = refl
+    either false b e = e
+
 -- the same keys in another order
 pub keys_arranged : (ks ls : List Key) (es : Rows) → HasTheKeysOf ks es → ((k : Key) → has ls k ≡ has ks k) → HasTheKeysOf ls es
 keys_arranged ks ls es all same k is = same k ∙ all k is

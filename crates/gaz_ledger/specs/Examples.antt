@@ -1,5 +1,5 @@
 -- Worked examples, computed from the definitions.
-use Rattle.std.specs.Prelude.{◌≡◌, true, false, List, [], ◌∷◌, slice_get, Some, None, codes}
+use Rattle.std.specs.Prelude.{◌≡◌, ℕ, true, false, List, [], ◌∷◌, slice_get, Some, None, codes}
 use Rattle.std.specs.FinMap as map
 use Rattle.gaz_ids.specs.declared.lang.Lang.TheVariants.{Eng}
 use Rattle.gaz_ids.specs.declared.status.Status.TheVariants.{Approved}
@@ -8,12 +8,13 @@ use Rattle.gaz_records.specs.declared.key.Key.{Key}
 use Rattle.gaz_records.specs.declared.key.Key.TheVariants as key
 use Rattle.gaz_views.specs.Examples.{blpu, lpi, street}
 use Rattle.gaz_views.specs.Judgements.{judgements}
-use Rattle.gaz_views.specs.View.{was_used}
+use Rattle.gaz_views.specs.View.{View, empty_view, was_used}
 use Rattle.gaz_views.specs.declared.verdict.Verdict.{Verdict}
 use Rattle.gaz_views.specs.declared.verdict.Verdict.TheVariants.{Applied, Rejected}
 use Rattle.gaz_ledger.specs.KeyHistories.{HasTheKeysOf, ItemVersions, KeyHistories, view_at}
 use Rattle.gaz_ledger.specs.KeyHistories.{with_versions}
 use Rattle.gaz_ledger.specs.Indexes.{marked_item, same_mark}
+use Rattle.gaz_ledger.specs.Lives.{IsLifeWithin, with_life}
 use Rattle.gaz_ledger.specs.Properties.{is_address_of, is_blpu}
 use Rattle.gaz_ledger.specs.declared.index.Mark.TheVariants.{AddressOf, PartOf}
 
@@ -82,6 +83,29 @@ pub record WorkedKeeping : Type 0 where
   pub another_blpu : is_blpu 1001 (key.Blpu 1002) ≡ false
   pub a_street : is_blpu 101 (key.Street 101) ≡ false
 
+-- ---- an item's life
+
+-- the view after a volume, where street 101 stood from volume 2 until volume 4
+abbrev pub with_a_street : ℕ → View
+with_a_street t = with_life 2 (Some 4) (street 101) t empty_view
+
+pub record WorkedLives : Type 0 where
+  pub not_born : with_a_street 1 ≡ empty_view
+  pub born : map.get (with_a_street 2).items (key.Street 101) ≡ Some (street 101)
+  pub lives : map.get (with_a_street 3).items (key.Street 101) ≡ Some (street 101)
+  pub gone : map.get (with_a_street 4).items (key.Street 101) ≡ None
+  pub used_once_gone : was_used (with_a_street 4) (key.Street 101) ≡ true
+  pub never_gone :
+      map.get (with_life 2 None (street 101) 9 empty_view).items (key.Street 101)
+      ≡ Some (street 101)
+  pub comes_and_goes :
+      map.get (with_life 2 (Some 2) (street 101) 2 empty_view).items (key.Street 101) ≡ None
+  pub within : IsLifeWithin 4 2 (Some 4)
+  pub ends_too_late : IsLifeWithin 3 2 (Some 4) → ⊥
+  pub ends_too_early : IsLifeWithin 4 2 (Some 1) → ⊥
+  pub begins_too_late : IsLifeWithin 1 2 None → ⊥
+
 pub record WorkedExamples : Type 0 where
   pub on_gazetteers : WorkedGazetteers
   pub on_keeping : WorkedKeeping
+  pub on_lives : WorkedLives

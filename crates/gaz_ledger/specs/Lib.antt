@@ -6,3 +6,4 @@ pub mod Ledgers
 pub mod Properties
 pub mod Changing
 pub mod Examples
+pub mod Lives

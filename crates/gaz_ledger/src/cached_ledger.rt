@@ -21,13 +21,13 @@ use std::marker::Model;
 /// look-up finds both items by one search.
 #[derive(Drop)]
 pub struct CachedLedger {
-    ledger: Ledger,
+    pub(crate) ledger: Ledger,
     // Each of them is so in the last view and in the working one.
     // What isn't known is read off the ledger.
-    known: Properties,
+    pub(crate) known: Properties,
     // The BLPUs of those that the next volume has changed.
     // They are known again when it is judged or undone.
-    changed: Vec<Key>,
+    pub(crate) changed: Vec<Key>,
 }
 
 impl Model for CachedLedger {
@@ -167,9 +167,9 @@ fn forget_addresses(known: &mut Properties, changed: &mut Vec<Key>, marks: &Mark
     forget_address(known, changed, &marks.1);
 }
 
-// Forgets what a change at a key tells otherwise: the BLPU of the key, and the properties that
-// lost or got an address.
-fn forget_changed(
+/// Forgets what a change at a key tells otherwise: the BLPU of the key, and the properties that
+/// lost or got an address.
+pub fn forget_changed(
     known: &mut Properties,
     changed: &mut Vec<Key>,
     key: &Key,

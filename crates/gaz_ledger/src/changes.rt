@@ -38,9 +38,9 @@ fn forget_mark(
     }
 }
 
-// Forgets each of two marks of a key where its item has it neither in the last view nor in the
-// working one.
-fn forget(histories: &Histories, index: &mut Index, reached: u64, key: &Key, marks: Marks)
+/// Forgets each of two marks of a key where its item has it neither in the last view nor in the
+/// working one.
+pub fn forget(histories: &Histories, index: &mut Index, reached: u64, key: &Key, marks: Marks)
     requires { reached < 2 ^ 64 - 1 }
     ensures { Finds index.old histories.now reached → Finds index.new histories.now reached }
 {

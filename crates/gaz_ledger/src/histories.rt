@@ -21,11 +21,11 @@ use std::marker::Model;
 /// The history of each key that was ever used.
 #[derive(Drop)]
 pub struct Histories {
-    alloc: Global,
-    by_key: HashMap<SortKey, History<SharedItem>, Seed>,
+    pub(crate) alloc: Global,
+    pub(crate) by_key: HashMap<SortKey, History<SharedItem>, Seed>,
     // The keys of `by_key`, and some that aren't there any more: pages go by their order, and all
     // else by the hashes.
-    order: KeyOrder,
+    pub(crate) order: KeyOrder,
 }
 
 impl Model for Histories {

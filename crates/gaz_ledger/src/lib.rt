@@ -10,8 +10,10 @@ mod keys;
 pub mod laws;
 mod ledger;
 mod ledger_finding;
+mod living;
 mod marked_items;
 mod properties;
+mod restoring;
 mod seed;
 mod words;
 
