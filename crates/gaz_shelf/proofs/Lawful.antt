@@ -51,7 +51,7 @@ closed_lawful a d was = record {
 
 -- ---- after a call that may fail
 
-by_result : {T E : Type 0} (r : Result T E) (P Q X : Type 0) → OnOk r P → OnErr r Q → (P → X) → (Q → X) → X
+pub by_result : {T E : Type 0} (r : Result T E) (P Q X : Type 0) → OnOk r P → OnErr r Q → (P → X) → (Q → X) → X
 by_result (Ok x) P Q X ok err f g = f ok
 by_result (Err e) P Q X ok err f g = g err
 

@@ -5,3 +5,4 @@ pub mod Mem
 pub mod Faulting
 pub mod Written
 pub mod Counting
+pub mod Restored

@@ -2,7 +2,7 @@
 use Rattle.std.proofs.Common.{◌≡◌, ◌∙◌, ℕ, List, refl, sym, ap, subst}
 use Rattle.std.proofs.Math.Path.{fun_ext}
 use Rattle.gaz_keeper.specs.Board.{adds}
-use Rattle.gaz_keeper.specs.Keeper.{Content, IsLeft, Keeps, Open, after_keep}
+use Rattle.gaz_keeper.specs.Keeper.{Content, Idle, IsLeft, Keeps, Open, after_keep}
 use Rattle.gaz_views.specs.Accounts.{Account}
 use Rattle.gaz_shelf.specs.Accounts.{account_of, board_of}
 use Rattle.gaz_shelf.specs.Mem.{content_in, progress_of, seen_in, working_of}
@@ -34,6 +34,12 @@ same_content j files es fs same =
     working judging.Idle = refl
     working (judging.Open c) = ap (λ (a : Account). a.working) (same c)
     working judging.Broken = refl
+
+-- the same board again, where nothing is judged
+pub same_board : (j : Judging) (files : Received) (es fs : List (ℕ × Account)) → progress_of j ≡ Idle → board_of fs ≡ board_of es → kept j files fs ≡ kept j files es
+same_board judging.Idle files es fs idle same = λ i. record { files = files; board = same i; working = empty_view }
+same_board (judging.Open c) files es fs idle same = cc
+same_board judging.Broken files es fs idle same = cc
 
 -- what goes on keeping where the content stays and so does the judgement in progress
 pub keeps_on : (old mid new : MemShelf) → Keeps (seen_in old) (seen_in mid) → content_in new ≡ content_in mid → new.judging ≡ mid.judging → Keeps (seen_in old) (seen_in new)

@@ -7,3 +7,4 @@ pub mod Around
 pub mod Accounts
 pub mod Mem
 pub mod Examples
+pub mod Restoring

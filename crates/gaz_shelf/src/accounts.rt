@@ -6,10 +6,12 @@ ghost use Rattle.gaz_views.specs.View.{with_item, without_key};
 ghost use Rattle.gaz_shelf.specs.Accounts.{AreLawful, AreLawful-prop, account_of, board_of};
 ghost use Rattle.gaz_keeper.specs.Board.{adds, last_view};
 ghost use Rattle.gaz_keeper.specs.Telling.{IsPageAt};
+ghost use Rattle.gaz_shelf.specs.Restoring.{IsRestored};
 
+use crate::restoring::is_life_within;
 use gaz_ids::Code;
 use gaz_ledger::{CachedLedger, Seed};
-use gaz_records::{Key, Kind, SharedItem};
+use gaz_records::{Key, Kind, SharedItem, key_of};
 use gaz_views::Verdict;
 use std::alloc::{AllocError, Global};
 use std::collections::BTreeMap;
@@ -128,6 +130,35 @@ impl Accounts {
             return Err(AllocError);
         };
         account.close(verdict)?;
+        Ok(())
+    }
+
+    /// Puts an item's life, that of an entry, back into the views of a custodian. It is refused
+    /// where it isn't within the volumes that are reached, and where something stands under its key
+    /// from then on. Then nothing changes, nor does it where memory runs out.
+    pub fn restore(
+        &mut self,
+        code: Code,
+        born: u64,
+        gone: Option<u64>,
+        item: SharedItem,
+    ) -> Result<(), AllocError>
+        requires { is_entry item ≡ true }
+        ensures ok { OnOk result (IsRestored (board_of self.old.by_code.entries)
+            (board_of self.new.by_code.entries) code born gone item) }
+        ensures err { OnErr result ((c : ℕ) → account_of self.new.by_code.entries c
+            ≡ account_of self.old.by_code.entries c) }
+    {
+        let Some(account) = self.by_code.get_mut(&code) else {
+            return Err(AllocError);
+        };
+        if !is_life_within(account.ledger().reached(), born, gone) {
+            return Err(AllocError);
+        }
+        if !account.ledger().is_free(born, &key_of(&item)) {
+            return Err(AllocError);
+        }
+        account.restore(born, gone, item)?;
         Ok(())
     }
 }

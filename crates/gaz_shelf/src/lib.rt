@@ -12,6 +12,7 @@ mod mem_judging;
 mod mem_shelf;
 mod passing;
 mod reading;
+mod restoring;
 mod writing;
 
 pub use calls::{Call, Calls};
