@@ -1,17 +1,19 @@
 -- What the definitions come to on worked examples.
 use Rattle.std.proofs.Common.{◌≡◌, ◌⊎◌, ◌∙◌, inl, inr, ℕ, ◌<◌, ◌+◌, ◌≤◌, zero, suc, ℤ, pos, ◌≤ℤ◌, ◌<ℤ◌, Bool, true, false, List, [], ◌∷◌, refl, sym, ap, subst, arith, codes}
+use Rattle.std.proofs.lemmas.Int.{ints}
 use Rattle.std.specs.Prelude.{◌==◌, ◌||◌, slice_index_or}
 use Rattle.std.specs.Ordering.{is_lt, nat_cmp}
 use Rattle.std.specs.Cmp.Lexicographic.{slice_cmp}
 use Rattle.std.specs.declared.cmp.Ordering.TheVariants.{Greater}
-use Rattle.sqlite_value.proofs.OrderLemmas.{value_cmp-Text}
+use Rattle.sqlite_value.proofs.OrderLemmas.{value_cmp-Int, value_cmp-Text}
 use Rattle.sqlite.specs.Order.{Row, column, value_cmp}
 use Rattle.sqlite.specs.declared.types.Value.{Value}
 use Rattle.sqlite.specs.declared.types.Value.TheVariants.{Int, Text}
 use Rattle.sqlite_rules.specs.Lists.{Has}
 use Rattle.gaz_tables.specs.Shows.{Picks}
-use Rattle.gaz_tables.specs.Examples.{WorkedVersions, WorkedReceiveds, WorkedExamples, flat_2, flat_3, shop, house, four_rows, rejected_1, held_3, of_1002, three_files}
+use Rattle.gaz_tables.specs.Examples.{WorkedVersions, WorkedRowids, WorkedReceiveds, WorkedExamples, flat_2, flat_3, shop, house, four_rows, rejected_1, held_3, of_1002, three_files}
 use Rattle.gaz_tables.specs.Receiveds.{IsVolume, IsAbove}
+use Rattle.gaz_tables.specs.Rowids.{IsAnyRow, IsPlacedBehind}
 use Rattle.gaz_tables.specs.Versions.{IsOfKey, IsOfKeyUntil, IsApprovedOf, IsHolding, IsOfBirth, Closes, FindsNewest, FindsNewestUntil, gone_at, id_place, life_shown}
 
 -- the row of this rowid
@@ -208,6 +210,79 @@ on_versions = record {
   closed_row = refl;
 }
 
+all_four : Picks IsAnyRow four_rows four_rows
+all_four = record {
+  test = λ r. true;
+  sound = λ r there e. tt;
+  complete = λ r there fits. refl;
+  same = record { moves = []; below = tt; is = refl };
+}
+
+four_rise : (k : ℕ) (d : Row) → 0 ≤ k → k + 1 < 4 → is_lt (value_cmp (column (slice_index_or four_rows (k + 1) d) 0) (column (slice_index_or four_rows k d) 0)) ≡ false
+four_rise zero d low high = ap is_lt (value_cmp-Int (pos 2) (pos 1))
+four_rise (suc zero) d low high = ap is_lt (value_cmp-Int (pos 3) (pos 2))
+four_rise (suc (suc zero)) d low high = ap is_lt (value_cmp-Int (pos 4) (pos 3))
+four_rise (suc (suc (suc k))) d low high = absurd (omega (arith, high))
+
+-- a row of a rowid that isn't above the number
+not_behind : {A : Type 0} (m n : ℤ) (r : Row) → column r 0 ≡ Int m → m ≤ℤ n → IsPlacedBehind n r → A
+not_behind m n r is low f = let wrong : n <ℤ m = subst (λ i. n <ℤ i) (sym (int_same m f.0 (sym is ∙ f.1))) f.2 in absurd (omega (arith, ints, wrong, low))
+
+abbrev last_two : Row → Bool
+last_two r = numbered 3 r || numbered 4 r
+
+two_behind : Picks (IsPlacedBehind (pos 2)) four_rows (shop ∷ house ∷ [])
+two_behind = record {
+  test = last_two;
+  sound = of_four (λ r. last_two r ≡ true → IsPlacedBehind (pos 2) r)
+      (λ e. absurd (cc))
+      (λ e. absurd (cc))
+      (λ e. (pos 3, refl, omega arith))
+      (λ e. (pos 4, refl, omega arith));
+  complete = of_four (λ r. IsPlacedBehind (pos 2) r → last_two r ≡ true)
+      (λ f. not_behind (pos 1) (pos 2) flat_2 refl (omega arith) f)
+      (λ f. not_behind (pos 2) (pos 2) flat_3 refl (omega arith) f)
+      (λ f. refl)
+      (λ f. refl);
+  same = record { moves = []; below = tt; is = refl };
+}
+
+behind_rise : (k : ℕ) (d : Row) → 0 ≤ k → k + 1 < 2 → is_lt (value_cmp (column (slice_index_or (shop ∷ house ∷ []) (k + 1) d) 0) (column (slice_index_or (shop ∷ house ∷ []) k d) 0)) ≡ false
+behind_rise zero d low high = ap is_lt (value_cmp-Int (pos 4) (pos 3))
+behind_rise (suc k) d low high = absurd (omega (arith, high))
+
+none_behind : Picks (IsPlacedBehind (pos 4)) four_rows []
+none_behind = record {
+  test = λ r. false;
+  sound = λ r there e. absurd (cc);
+  complete = of_four (λ r. IsPlacedBehind (pos 4) r → false ≡ true)
+      (λ f. not_behind (pos 1) (pos 4) flat_2 refl (omega arith) f)
+      (λ f. not_behind (pos 2) (pos 4) flat_3 refl (omega arith) f)
+      (λ f. not_behind (pos 3) (pos 4) shop refl (omega arith) f)
+      (λ f. not_behind (pos 4) (pos 4) house refl (omega arith) f);
+  same = record { moves = []; below = tt; is = refl };
+}
+
+on_rowids : WorkedRowids
+on_rowids = record {
+  first_two = record {
+    page = record { chosen = four_rows; picks = all_four; rising = four_rise; shown = refl };
+    strict = (
+      (value_cmp-Int (pos 1) (pos 2), (value_cmp-Int (pos 1) (pos 3), (value_cmp-Int (pos 1) (pos 4), tt))),
+      ((value_cmp-Int (pos 2) (pos 3), (value_cmp-Int (pos 2) (pos 4), tt)), ((value_cmp-Int (pos 3) (pos 4), tt), (tt, tt))),
+    );
+  };
+  behind_2 = record {
+    page = record { chosen = shop ∷ house ∷ []; picks = two_behind; rising = behind_rise; shown = refl };
+    strict = ((value_cmp-Int (pos 3) (pos 4), tt), (tt, tt));
+  };
+  behind_all = record {
+    page = record { chosen = []; picks = none_behind; rising = λ k d low high. absurd (omega (arith, high)); shown = refl };
+    strict = tt;
+  };
+  whole_row = refl;
+}
+
 rejected : Picks (IsVolume 1001 1) three_files (rejected_1 ∷ [])
 rejected = record {
   test = numbered 1;
@@ -248,4 +323,4 @@ on_receiveds = record {
 }
 
 pub worked_examples_hold : WorkedExamples
-worked_examples_hold = record { on_versions = on_versions; on_receiveds = on_receiveds }
+worked_examples_hold = record { on_versions = on_versions; on_rowids = on_rowids; on_receiveds = on_receiveds }

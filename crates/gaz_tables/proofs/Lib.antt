@@ -7,6 +7,8 @@ pub mod ReceivedOnce
 pub mod ReceivedQueries
 pub mod ReceivedRows
 pub mod ReceivedWrites
+pub mod RowidMeanings
+pub mod RowidQueries
 pub mod Shown
 pub mod Staying
 pub mod Steps

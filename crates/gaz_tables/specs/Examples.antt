@@ -5,6 +5,7 @@ use Rattle.sqlite.specs.Order.{Row}
 use Rattle.sqlite.specs.declared.types.Value.TheVariants.{Int, Text, Blob}
 use Rattle.gaz_tables.specs.Metas.{meta_row, meta_shown}
 use Rattle.gaz_tables.specs.Receiveds.{FindsAbove, FindsVerdict, file_shown, judged, unjudged}
+use Rattle.gaz_tables.specs.Rowids.{FindsBehind, FindsFirst, row_shown}
 use Rattle.gaz_tables.specs.Versions.{Closes, FindsApprovedOf, FindsHolding, FindsNewest}
 use Rattle.gaz_tables.specs.Versions.{FindsNewestUntil, gone_at, version_values}
 
@@ -57,6 +58,13 @@ pub record WorkedVersions : Type 0 where
   pub closed_row : gone_at 5 flat_3
       ≡ Int (pos 2) ∷ version_values 1001 24 (codes "K1") (pos 42) 101 1 true 3 5 (codes "flat 3")
 
+-- a row that ended is found as well, and one of any custodian
+pub record WorkedRowids : Type 0 where
+  pub first_two : FindsFirst 2 four_rows (row_shown flat_2 ∷ row_shown flat_3 ∷ [])
+  pub behind_2 : FindsBehind (pos 2) 9 four_rows (row_shown shop ∷ row_shown house ∷ [])
+  pub behind_all : FindsBehind (pos 4) 9 four_rows []
+  pub whole_row : row_shown shop ≡ shop
+
 -- volumes 1 and 3 of 1001, of which the first is rejected at record 4 by rule 22, and volume 2 of
 -- 1002
 abbrev pub rejected_1 : Row
@@ -82,4 +90,5 @@ pub record WorkedReceiveds : Type 0 where
 
 pub record WorkedExamples : Type 0 where
   pub on_versions : WorkedVersions
+  pub on_rowids : WorkedRowids
   pub on_receiveds : WorkedReceiveds

@@ -3,6 +3,7 @@ pub mod Examples
 pub mod Laws
 pub mod Metas
 pub mod Receiveds
+pub mod Rowids
 pub mod Schema
 pub mod Shows
 pub mod Stores

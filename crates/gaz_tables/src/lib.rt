@@ -6,4 +6,5 @@ pub mod creating;
 pub mod laws;
 pub mod metas;
 pub mod receiveds;
+pub mod rowids;
 pub mod versions;
