@@ -1,6 +1,7 @@
 pub mod Pairs
 pub mod Said
 pub mod Views
+pub mod GoneRows
 pub mod Statements
 pub mod AtKeys
 pub mod NewestRows

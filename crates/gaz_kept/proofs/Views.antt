@@ -16,7 +16,7 @@ use Rattle.gaz_records.specs.declared.key.Key.{Key}
 use Rattle.gaz_views.proofs.SameKeys.{same_key}
 use Rattle.gaz_views.specs.View.{empty_view, with_item, without_key}
 use Rattle.gaz_overlay.specs.Rows.{HistoryRow, holds_after, is_born_by, never, view_after}
-use Rattle.gaz_kept.specs.Histories.{Close, Gain, GoesWith, HistoriesChange, IsLast, IsNext, RowsClose, RowsGain, SameRows, gone_with, with_use}
+use Rattle.gaz_kept.specs.Histories.{Close, Gain, GoesWith, HistoriesChange, IsLast, IsNext, RowsClose, RowsGain, RowsJoin, SameRows, gone_with, with_use}
 use Rattle.gaz_kept.specs.Kept.{AreInTurn, AreThrough}
 use Rattle.gaz_kept.specs.Judging.{AreBornLater}
 use Rattle.gaz_kept.proofs.Pairs.{AreSingle, IsWith, IsWithout, alike, alike_set, inserted, inserted_set, removed}
@@ -24,7 +24,7 @@ use Rattle.gaz_kept.proofs.Pairs.{AreSingle, IsWith, IsWithout, alike, alike_set
 pub ties : (q k : Key) → q ≡ k → eq_by_cmp key_cmp q k ≡ true
 ties q k is = subst (λ x. eq_by_cmp key_cmp q x ≡ true) is (ap is_eq (tied_itself keys_total q))
 
-abbrev Rows : Type 0
+abbrev pub Rows : Type 0
 Rows = List HistoryRow
 
 -- ---- when a row holds
@@ -117,7 +117,7 @@ single_at rows apart t k x y hx hy =
 
 -- ---- the same rows
 
-same_items : (old new : Rows) (t : ℕ) → AreInTurn old → ((q : Key) (x : Item) → IsEntry t new q x → IsEntry t old q x) → ((q : Key) (x : Item) → IsEntry t old q x → IsEntry t new q x)
+pub same_items : (old new : Rows) (t : ℕ) → AreInTurn old → ((q : Key) (x : Item) → IsEntry t new q x → IsEntry t old q x) → ((q : Key) (x : Item) → IsEntry t old q x → IsEntry t new q x)
     → finite.from_entries {R = key_cmp} (entries_at t new) ≡ finite.from_entries (entries_at t old)
 same_items old new t apart only kept =
     alike keys_total keys_exact (entries_at t new) (entries_at t old) (single_at old apart t)
@@ -131,7 +131,7 @@ same_entries old new t apart only kept =
     (λ q x e. record { row = e.row; there = only e.row e.there e.held; held = e.held; key = e.key; item = e.item })
     (λ q x e. record { row = e.row; there = kept e.row e.there e.held; held = e.held; key = e.key; item = e.item })
 
-same_uses : (old new : Rows) (t : ℕ) → ((q : Key) → IsUse t new q → IsUse t old q) → ((q : Key) → IsUse t old q → IsUse t new q)
+pub same_uses : (old new : Rows) (t : ℕ) → ((q : Key) → IsUse t new q → IsUse t old q) → ((q : Key) → IsUse t old q → IsUse t new q)
     → set.from_list {R = key_cmp} (used_at t new) ≡ set.from_list (used_at t old)
 same_uses old new t only kept =
     alike_set keys_total keys_exact (used_at t new) (used_at t old)
@@ -197,42 +197,31 @@ nothing_born rows later = λ i. record {
 
 -- ---- a row more
 
-module _ (h : HistoryRow) (old new : Rows) (apart : AreInTurn old) (next : IsNext h old) (gain : Gain h old new) where
+-- that is apart from those there
+module _ (h : HistoryRow) (old new : Rows) (apart : AreInTurn new) (own : h.key ≡ key_of h.item) (gain : Gain h old new) where
   born_is : (r : HistoryRow) → r ≡ h → r.born ≡ h.born
   born_is r is = ap (λ (s : HistoryRow). s.born) is
 
   key_is : (r : HistoryRow) → r ≡ h → r.key ≡ h.key
   key_is r is = ap (λ (s : HistoryRow). s.key) is
 
-  gain_once : (a b : HistoryRow) → (a ≡ h) ⊎ Has old a → (b ≡ h) ⊎ Has old b → a.key ≡ b.key → a.born ≡ b.born → a ≡ b
-  gain_once a b (inl ha) (inl hb) key born = ha ∙ sym hb
-  gain_once a b (inl ha) (inr hb) key born = let less = next.later b hb (sym key ∙ key_is a ha) in let e = born_is a ha in absurd (omega arith)
-  gain_once a b (inr ha) (inl hb) key born = let less = next.later a ha (key ∙ key_is b hb) in let e = born_is b hb in absurd (omega arith)
-  gain_once a b (inr ha) (inr hb) key born = apart.once a b ha hb key born
-
-  gain_turn : (a b : HistoryRow) → (a ≡ h) ⊎ Has old a → (b ≡ h) ⊎ Has old b → a.key ≡ b.key → a.born < b.born → a.gone ≤ b.born
-  gain_turn a b (inl ha) (inl hb) key less = let e = born_is a ha in let f = born_is b hb in absurd (omega arith)
-  gain_turn a b (inl ha) (inr hb) key less = let later = next.later b hb (sym key ∙ key_is a ha) in let e = born_is a ha in absurd (omega arith)
-  gain_turn a b (inr ha) (inl hb) key less = let free = next.free a ha (key ∙ key_is b hb) in let e = born_is b hb in omega arith
-  gain_turn a b (inr ha) (inr hb) key less = apart.in_turn a b ha hb key less
-
-  gain_apart : AreInTurn new
-  gain_apart = record {
-    once = λ a b ha hb. gain_once a b (gain.only a ha) (gain.only b hb);
-    in_turn = λ a b ha hb. gain_turn a b (gain.only a ha) (gain.only b hb);
+  was_apart : AreInTurn old
+  was_apart = record {
+    once = λ a b ha hb. apart.once a b (gain.kept a ha) (gain.kept b hb);
+    in_turn = λ a b ha hb. apart.in_turn a b (gain.kept a ha) (gain.kept b hb);
   }
 
   module _ (t : ℕ) where
     gain_entry : Holds t h → IsWith (key_of h.item) h.item (entries_at t old) (entries_at t new)
     gain_entry held = record {
-      single = single_at new gain_apart t;
-      there = entered_as t new (key_of h.item) h.item (record { row = h; there = gain.there; held = held; key = next.own; item = refl });
+      single = single_at new apart t;
+      there = entered_as t new (key_of h.item) h.item (record { row = h; there = gain.there; held = held; key = own; item = refl });
       only = λ q y there. let e = entry t new q y there in by_row q y e (gain.only e.row e.there);
       kept = λ q y there other. let e = entry t old q y there in entered_as t new q y (record { row = e.row; there = gain.kept e.row e.there; held = e.held; key = e.key; item = e.item });
     }
       where
         by_row : (q : Key) (y : Item) (e : IsEntry t new q y) → (e.row ≡ h) ⊎ Has old e.row → (q ≡ key_of h.item) ⊎ Has (entries_at t old) (q, y)
-        by_row q y e (inl is) = inl (sym e.key ∙ key_is e.row is ∙ next.own)
+        by_row q y e (inl is) = inl (sym e.key ∙ key_is e.row is ∙ own)
         by_row q y e (inr there) = inr (entered_as t old q y (record { row = e.row; there = there; held = e.held; key = e.key; item = e.item }))
 
     gain_use : h.born ≤ t → set.from_list {R = key_cmp} (used_at t new) ≡ set.insert (set.from_list (used_at t old)) h.key
@@ -246,7 +235,7 @@ module _ (h : HistoryRow) (old new : Rows) (apart : AreInTurn old) (next : IsNex
         by_row q u (inr there) = inr (used_as t old q (record { row = u.row; there = there; born = u.born; key = u.key }))
 
     gain_idle : ¬ Holds t h → finite.from_entries {R = key_cmp} (entries_at t new) ≡ finite.from_entries (entries_at t old)
-    gain_idle idle = same_entries old new t apart (λ r there held. by_row r held (gain.only r there)) (λ r there held. gain.kept r there)
+    gain_idle idle = same_entries old new t was_apart (λ r there held. by_row r held (gain.only r there)) (λ r there held. gain.kept r there)
       where
         by_row : (r : HistoryRow) → Holds t r → (r ≡ h) ⊎ Has old r → Has old r
         by_row r held (inl is) = absurd (idle (subst (Holds t) is held))
@@ -265,7 +254,7 @@ module _ (h : HistoryRow) (old new : Rows) (apart : AreInTurn old) (next : IsNex
     unfolding view_after
     gain_holding born gone = λ i. record {
       items = inserted keys_total keys_exact (key_of h.item) h.item (entries_at t old) (entries_at t new) (gain_entry (record { born = born; gone = gone })) i;
-      used = (gain_use born ∙ ap (set.insert (set.from_list (used_at t old))) next.own) i;
+      used = (gain_use born ∙ ap (set.insert (set.from_list (used_at t old))) own) i;
       custody = finite.empty;
     }
 
@@ -277,148 +266,39 @@ module _ (h : HistoryRow) (old new : Rows) (apart : AreInTurn old) (next : IsNex
     unfolding view_after
     gain_before early = λ i. record { items = gain_idle (λ held. let b = held.born in absurd (omega arith)) i; used = gain_unused early i; custody = finite.empty }
 
-pub rows_gain : RowsGain
-rows_gain h old new apart next gain = record {
-  apart = gain_apart h old new apart next gain;
-  holding = gain_holding h old new apart next gain;
-  passed = gain_passed h old new apart next gain;
-  before = gain_before h old new apart next gain;
+pub rows_join : RowsJoin
+rows_join h old new apart own gain = record {
+  apart = apart;
+  holding = gain_holding h old new apart own gain;
+  passed = gain_passed h old new apart own gain;
+  before = gain_before h old new apart own gain;
 }
 
--- ---- a row that goes
+-- that comes after those there
+module _ (h : HistoryRow) (old new : Rows) (apart : AreInTurn old) (next : IsNext h old) (gain : Gain h old new) where
+  next_born : (r : HistoryRow) → r ≡ h → r.born ≡ h.born
+  next_born r is = ap (λ (s : HistoryRow). s.born) is
 
-module _ (h : HistoryRow) (volume : ℕ) (old new : Rows) (apart : AreInTurn old) (last : IsLast h old) (goes : GoesWith h volume) (close : Close h volume old new) where
-  abbrev closed : HistoryRow
-  closed = gone_with volume h
+  next_key : (r : HistoryRow) → r ≡ h → r.key ≡ h.key
+  next_key r is = ap (λ (s : HistoryRow). s.key) is
 
-  closed_born : (r : HistoryRow) → r ≡ closed → r.born ≡ h.born
-  closed_born r is = ap (λ (s : HistoryRow). s.born) is
+  gain_once : (a b : HistoryRow) → (a ≡ h) ⊎ Has old a → (b ≡ h) ⊎ Has old b → a.key ≡ b.key → a.born ≡ b.born → a ≡ b
+  gain_once a b (inl ha) (inl hb) key born = ha ∙ sym hb
+  gain_once a b (inl ha) (inr hb) key born = let less = next.later b hb (sym key ∙ next_key a ha) in let e = next_born a ha in absurd (omega arith)
+  gain_once a b (inr ha) (inl hb) key born = let less = next.later a ha (key ∙ next_key b hb) in let e = next_born b hb in absurd (omega arith)
+  gain_once a b (inr ha) (inr hb) key born = apart.once a b ha hb key born
 
-  closed_gone : (r : HistoryRow) → r ≡ closed → r.gone ≡ volume
-  closed_gone r is = ap (λ (s : HistoryRow). s.gone) is
+  gain_turn : (a b : HistoryRow) → (a ≡ h) ⊎ Has old a → (b ≡ h) ⊎ Has old b → a.key ≡ b.key → a.born < b.born → a.gone ≤ b.born
+  gain_turn a b (inl ha) (inl hb) key less = let e = next_born a ha in let f = next_born b hb in absurd (omega arith)
+  gain_turn a b (inl ha) (inr hb) key less = let later = next.later b hb (sym key ∙ next_key a ha) in let e = next_born a ha in absurd (omega arith)
+  gain_turn a b (inr ha) (inl hb) key less = let free = next.free a ha (key ∙ next_key b hb) in let e = next_born b hb in omega arith
+  gain_turn a b (inr ha) (inr hb) key less = apart.in_turn a b ha hb key less
 
-  closed_key : (r : HistoryRow) → r ≡ closed → r.key ≡ h.key
-  closed_key r is = ap (λ (s : HistoryRow). s.key) is
-
-  abbrev FromOld : HistoryRow → Type 0
-  FromOld r = (Has old r × (r ≢ h)) ⊎ (r ≡ closed)
-
-  close_once : (a b : HistoryRow) → FromOld a → FromOld b → a.key ≡ b.key → a.born ≡ b.born → a ≡ b
-  close_once a b (inl ha) (inl hb) key born = apart.once a b ha.0 hb.0 key born
-  close_once a b (inl ha) (inr hb) key born = absurd (ha.1 (apart.once a h ha.0 last.there (key ∙ closed_key b hb) (born ∙ closed_born b hb)))
-  close_once a b (inr ha) (inl hb) key born = absurd (hb.1 (apart.once b h hb.0 last.there (sym key ∙ closed_key a ha) (sym born ∙ closed_born a ha)))
-  close_once a b (inr ha) (inr hb) key born = ha ∙ sym hb
-
-  close_turn : (a b : HistoryRow) → FromOld a → FromOld b → a.key ≡ b.key → a.born < b.born → a.gone ≤ b.born
-  close_turn a b (inl ha) (inl hb) key less = apart.in_turn a b ha.0 hb.0 key less
-  close_turn a b (inl ha) (inr hb) key less =
-      let e = closed_born b hb in
-      let early : a.born < h.born = omega arith in
-      let turn = apart.in_turn a h ha.0 last.there (key ∙ closed_key b hb) early in
-      omega arith
-  close_turn a b (inr ha) (inl hb) key less = let e = closed_born a ha in let le = last.last b hb.0 (sym key ∙ closed_key a ha) in absurd (omega arith)
-  close_turn a b (inr ha) (inr hb) key less = let e = closed_born a ha in let f = closed_born b hb in absurd (omega arith)
-
-  close_apart : AreInTurn new
-  close_apart = record {
-    once = λ a b ha hb. close_once a b (close.only a ha) (close.only b hb);
-    in_turn = λ a b ha hb. close_turn a b (close.only a ha) (close.only b hb);
+  gain_apart : AreInTurn new
+  gain_apart = record {
+    once = λ a b ha hb. gain_once a b (gain.only a ha) (gain.only b hb);
+    in_turn = λ a b ha hb. gain_turn a b (gain.only a ha) (gain.only b hb);
   }
 
-  -- whether a row is the one that goes
-  which : (r : HistoryRow) → Has old r → (r ≡ h) ⊎ (r ≢ h)
-  which r there = by_key (eq_by_cmp key_cmp r.key h.key) refl
-    where
-      by_birth : r.key ≡ h.key → (b : Bool) → (r.born == h.born) ≡ b → (r ≡ h) ⊎ (r ≢ h)
-      by_birth key true is = let e : r.born ≡ h.born = grind (arith, nat_tests) in inl (apart.once r h there last.there key e)
-      by_birth key false is = inr (λ same. let e = ap (λ (s : HistoryRow). s.born) same in absurd (grind (arith, nat_tests)))
-
-      by_key : (b : Bool) → eq_by_cmp key_cmp r.key h.key ≡ b → (r ≡ h) ⊎ (r ≢ h)
-      by_key true is = by_birth (same_key r.key h.key is) (r.born == h.born) refl
-      by_key false is = inr (λ same. true≢false (sym (ties r.key h.key (ap (λ (s : HistoryRow). s.key) same)) ∙ is))
-
-  module _ (t : ℕ) where
-    -- before the volume
-    early_from : t < volume → (q : Key) (x : Item) (e : IsEntry t new q x) → FromOld e.row → IsEntry t old q x
-    early_from early q x e (inl was) = record { row = e.row; there = was.0; held = e.held; key = e.key; item = e.item }
-    early_from early q x e (inr is) = record {
-      row = h;
-      there = last.there;
-      held = let b = e.held.born in let f = closed_born e.row is in let g = goes.gone in record { born = omega arith; gone = omega arith };
-      key = sym (closed_key e.row is) ∙ e.key;
-      item = sym (ap (λ (s : HistoryRow). s.item) is) ∙ e.item;
-    }
-
-    early_to : t < volume → (q : Key) (x : Item) (e : IsEntry t old q x) → (e.row ≡ h) ⊎ (e.row ≢ h) → IsEntry t new q x
-    early_to early q x e (inl is) = record {
-      row = closed;
-      there = close.there;
-      held = let b = e.held.born in let f = ap (λ (s : HistoryRow). s.born) is in record { born = omega arith; gone = early };
-      key = sym (ap (λ (s : HistoryRow). s.key) is) ∙ e.key;
-      item = sym (ap (λ (s : HistoryRow). s.item) is) ∙ e.item;
-    }
-    early_to early q x e (inr other) = record { row = e.row; there = close.kept e.row e.there other; held = e.held; key = e.key; item = e.item }
-
-    -- from the volume on
-    free_then : volume ≤ t → (r : HistoryRow) → FromOld r → r.key ≡ h.key → ¬ Holds t r
-    free_then late r (inr is) key held = let g = closed_gone r is in let u = held.gone in absurd (omega arith)
-    free_then late r (inl was) key held = by_birth (cases_lt r.born h.born)
-      where
-        le : r.born ≤ h.born
-        le = last.last r was.0 key
-
-        by_birth : (r.born < h.born) ⊎ (h.born ≤ r.born) → ⊥
-        by_birth (inl less) = let turn = apart.in_turn r h was.0 last.there key less in let u = held.gone in let b = goes.born in absurd (omega arith)
-        by_birth (inr ge) = let e : r.born ≡ h.born = omega arith in was.1 (apart.once r h was.0 last.there key e)
-
-    late_without : volume ≤ t → IsWithout h.key (entries_at t old) (entries_at t new)
-    late_without late = record {
-      single = single_at old apart t;
-      gone = λ y there. let e = entry t new h.key y there in free_then late e.row (close.only e.row e.there) e.key e.held;
-      only = λ q y there. let e = entry t new q y there in by_row q y e (close.only e.row e.there);
-      kept = λ q y there other.
-          let e = entry t old q y there in
-          entered_as t new q y (record { row = e.row; there = close.kept e.row e.there (λ is. other (sym e.key ∙ ap (λ (s : HistoryRow). s.key) is)); held = e.held; key = e.key; item = e.item });
-    }
-      where
-        by_row : (q : Key) (y : Item) (e : IsEntry t new q y) → FromOld e.row → Has (entries_at t old) (q, y)
-        by_row q y e (inl was) = entered_as t old q y (record { row = e.row; there = was.0; held = e.held; key = e.key; item = e.item })
-        by_row q y e (inr is) = absurd (free_then late e.row (inr is) (closed_key e.row is) e.held)
-
-    use_from : (q : Key) (u : IsUse t new q) → FromOld u.row → IsUse t old q
-    use_from q u (inl was) = record { row = u.row; there = was.0; born = u.born; key = u.key }
-    use_from q u (inr is) = record { row = h; there = last.there; born = let b = u.born in let f = closed_born u.row is in omega arith; key = sym (closed_key u.row is) ∙ u.key }
-
-    use_to : (q : Key) (u : IsUse t old q) → (u.row ≡ h) ⊎ (u.row ≢ h) → IsUse t new q
-    use_to q u (inl is) = record {
-      row = closed;
-      there = close.there;
-      born = let b = u.born in let f = ap (λ (s : HistoryRow). s.born) is in omega arith;
-      key = sym (ap (λ (s : HistoryRow). s.key) is) ∙ u.key;
-    }
-    use_to q u (inr other) = record { row = u.row; there = close.kept u.row u.there other; born = u.born; key = u.key }
-
-    close_uses : set.from_list {R = key_cmp} (used_at t new) ≡ set.from_list (used_at t old)
-    close_uses = same_uses old new t (λ q u. use_from q u (close.only u.row u.there)) (λ q u. use_to q u (which u.row u.there))
-
-    close_gone : volume ≤ t → view_after new t ≡ without_key (view_after old t) h.key
-    unfolding view_after
-    close_gone late = λ i. record { items = removed keys_total keys_exact h.key (entries_at t old) (entries_at t new) (late_without late) i; used = close_uses i; custody = finite.empty }
-
-    close_before : t < volume → view_after new t ≡ view_after old t
-    unfolding view_after
-    close_before early = λ i. record {
-      items = same_items old new t apart (λ q x e. early_from early q x e (close.only e.row e.there)) (λ q x e. early_to early q x e (which e.row e.there)) i;
-      used = close_uses i;
-      custody = finite.empty;
-    }
-
-pub rows_close : RowsClose
-rows_close h volume old new apart last goes close = record {
-  apart = close_apart h volume old new apart last goes close;
-  gone = close_gone h volume old new apart last goes close;
-  before = close_before h volume old new apart last goes close;
-}
-
-pub histories_change : HistoriesChange
-histories_change = record { same = same_rows; gain = rows_gain; close = rows_close }
+pub rows_gain : RowsGain
+rows_gain h old new apart next gain = rows_join h old new (gain_apart h old new apart next gain) next.own gain

@@ -87,6 +87,11 @@ abbrev pub RowsGain : Type 0
 RowsGain = (h : HistoryRow) (old new : List HistoryRow) → AreInTurn old → IsNext h old
     → Gain h old new → Gained h old new
 
+-- a row that is apart from those there makes the same of the views, in whatever order rows come
+abbrev pub RowsJoin : Type 0
+RowsJoin = (h : HistoryRow) (old new : List HistoryRow) → AreInTurn new → h.key ≡ key_of h.item
+    → Gain h old new → Gained h old new
+
 abbrev pub RowsClose : Type 0
 RowsClose = (h : HistoryRow) (volume : ℕ) (old new : List HistoryRow) → AreInTurn old → IsLast h old
     → GoesWith h volume → Close h volume old new → Closed h volume old new
@@ -94,6 +99,7 @@ RowsClose = (h : HistoryRow) (volume : ℕ) (old new : List HistoryRow) → AreI
 pub record HistoriesChange : Type 0 where
   pub same : SameRows
   pub gain : RowsGain
+  pub join : RowsJoin
   pub close : RowsClose
 
 -- ---- what a statement makes of the histories
