@@ -1,15 +1,18 @@
 """How a program of this repository is run and measured. They are those that `rt run` leaves in crates/*/out, built where missing."""
 import fcntl
 import os
+import select
+import statistics
 import subprocess
 import sys
 import tempfile
-import threading
 import time
 
 TOP = os.path.dirname(os.path.dirname(os.path.abspath(__file__)))
 sys.path.insert(0, TOP)
 from checks.stores import BLOCKS, SAMPLE, TEXT, register_of  # noqa: E402, F401
+
+ROUNDS = int(os.environ.get("ROUNDS", "7"))  # of which a median is taken; ROUNDS=1 before a part tries it
 
 
 def program(name):
@@ -24,11 +27,6 @@ def output_of(name, *words):
     return subprocess.run([program(name), *map(str, words)], check=True, capture_output=True).stdout
 
 
-def in_memory(folder):
-    """The words of a hub of the sample register over the keeper in memory."""
-    return [program("gaz_bench"), "play", in_file(folder, "sample.toml", SAMPLE.encode())]
-
-
 def in_file(folder, name, data):
     path = os.path.join(folder, name)
     with open(path, "wb") as f:
@@ -36,18 +34,51 @@ def in_file(folder, name, data):
     return path
 
 
-def seconds(command, stdin_path, rounds=3, environment=None):
-    """The least time of a command over a file as its input, and its output. It finds these words in its environment too."""
-    best, output = None, None
-    for _ in range(rounds):
-        with open(stdin_path, "rb") as given, tempfile.TemporaryFile() as taken:
-            start = time.perf_counter()
-            subprocess.run(command, stdin=given, stdout=taken, check=True, env=os.environ | (environment or {}))
-            spent = time.perf_counter() - start
-            taken.seek(0)
-            output = taken.read()
-        best = spent if best is None else min(best, spent)
-    return best, output
+def seconds(command, stdin_path, environment=None):
+    """The time of a command over a file as its input, and its output. It finds these words in its environment too."""
+    with open(stdin_path, "rb") as given, tempfile.TemporaryFile() as taken:
+        start = time.perf_counter()
+        subprocess.run(command, stdin=given, stdout=taken, check=True, env=os.environ | (environment or {}))
+        spent = time.perf_counter() - start
+        taken.seek(0)
+        return spent, taken.read()
+
+
+def seconds_behind(command, stdin_path, before, output):
+    """The time of a command over a file as its input, once it has written so many bytes, until it has written all of this output. No pipe is in its way."""
+    with open(stdin_path, "rb") as given, tempfile.TemporaryFile() as taken:
+        child = subprocess.Popen(command, stdin=given, stdout=taken)
+        begun, ended = (moment_of(child, taken, size) for size in (before, len(output)))
+        assert child.wait() == 0
+        taken.seek(0)
+        assert taken.read() == output, "the hub replies otherwise"
+    return ended - begun
+
+
+def moment_of(child, taken, size):
+    """When a child has written so many bytes to a file."""
+    is_over = False
+    while os.fstat(taken.fileno()).st_size < size:
+        assert not is_over, "the hub ended"
+        is_over = child.poll() is not None
+        time.sleep(0.0001)
+    return time.perf_counter()
+
+
+def medians(rounds):
+    """The median of each column of rounds."""
+    return [statistics.median(column) for column in zip(*rounds, strict=True)]
+
+
+def run_in_turn(commands, stdin_path):
+    """The median times of commands over a file as their input, each of which runs once a round; all have to print the same, which is told too."""
+    rounds, told = [], set()
+    for _ in range(ROUNDS):
+        ran = [seconds(command, stdin_path) for command in commands]
+        rounds.append([spent for spent, _ in ran])
+        told.update(output for _, output in ran)
+    assert len(told) == 1, "the programs print different things"
+    return medians(rounds), told.pop()
 
 
 def least_seconds(action, rounds):
@@ -98,14 +129,56 @@ def blocked_peak(command, stdin_path):
     return peak, output
 
 
-class Talk:
-    """A conversation with a hub, some requests at a time. So what comes before them isn't in their time."""
+def piece_of(taken, most):
+    """Some of the bytes that come, at most so many."""
+    piece = os.read(taken, min(most, MIB))
+    assert piece, "the hub ended"
+    return piece
 
-    def __init__(self, command):
-        self.command = command
+
+def exchanged(given, taken, requests, size):
+    """Writes requests to one file and takes so many bytes of another, neither behind the other: how long it took, and the bytes."""
+    left, pieces = memoryview(requests), []
+    for file in (given, taken):
+        os.set_blocking(file, False)
+    start = time.perf_counter()
+    while size:
+        ready, free, _ = select.select([taken], [given] if left else [], [])
+        if free:
+            left = left[os.write(given, left[:MIB]) :]
+        if ready:
+            pieces.append(piece_of(taken, size))
+            size -= len(pieces[-1])
+    spent = time.perf_counter() - start
+    for file in (given, taken):
+        os.set_blocking(file, True)
+    return spent, b"".join(pieces)
+
+
+def one_by_one(given, taken, requests, replies):
+    """Writes each request once the reply to the one before is there: how long it took."""
+    start = time.perf_counter()
+    for request, reply in zip(requests, replies, strict=True):
+        left, told = memoryview(request), b""
+        while left:
+            left = left[os.write(given, left) :]
+        while len(told) < len(reply):
+            told += piece_of(taken, len(reply) - len(told))
+        assert told == reply, "the hub replies otherwise"
+    return time.perf_counter() - start
+
+
+class Talk:
+    """A conversation with a hub over its standard input and output, some requests at a time. So what comes before them isn't in their time."""
+
+    def __init__(self, command, environment=None):
+        self.command, self.environment = command, os.environ | (environment or {})
 
     def __enter__(self):
-        self.child = subprocess.Popen(self.command, stdin=subprocess.PIPE, stdout=subprocess.PIPE, bufsize=0)
+        self.child = subprocess.Popen(self.command, stdin=subprocess.PIPE, stdout=subprocess.PIPE, bufsize=0, env=self.environment)
+        self.files = self.child.stdin.fileno(), self.child.stdout.fileno()
+        for file in self.files:
+            fcntl.fcntl(file, fcntl.F_SETPIPE_SZ, MIB)
         return self
 
     def __exit__(self, *_fault):
@@ -114,32 +187,21 @@ class Talk:
         self.child.stdout.close()
         assert self.child.wait() == 0
 
-    def send(self, requests):
-        view = memoryview(requests)
-        while view:
-            view = view[self.child.stdin.write(view) :]
-
     def ask(self, requests, replies):
-        """Sends these requests and awaits their replies, which are to be these bytes."""
-        sender = threading.Thread(target=self.send, args=(requests,))
-        left, pieces = len(replies), []
-        sender.start()
-        while left:
-            piece = self.child.stdout.read(min(left, 1 << 20))
-            assert piece, "the hub ended"
-            left -= len(piece)
-            pieces.append(piece)
-        sender.join()
-        assert b"".join(pieces) == replies, "the hub replies otherwise"
+        """Sends these requests and awaits their replies, which are to be these bytes: how long it took."""
+        spent, told = exchanged(*self.files, requests, len(replies))
+        assert told == replies, "the hub replies otherwise"
+        return spent
+
+    def begin(self, load):
+        """The hub takes what is loaded."""
+        self.spent(load)
+
+    def spent(self, asked):
+        return self.ask(*asked.whole)
+
+    def spent_one_by_one(self, asked):
+        return one_by_one(*self.files, asked.requests, asked.replies)
 
     def memory(self, word):
         return memory_of(self.child.pid, word)
-
-
-def talked_seconds(command, begun, asked):
-    """What some requests take a hub behind others. Either are requests with their replies."""
-    with Talk(command) as talk:
-        talk.ask(*begun)
-        start = time.perf_counter()
-        talk.ask(*asked)
-        return time.perf_counter() - start

@@ -4,7 +4,8 @@ import hub
 import items
 import registers
 import streams
-from measure import Talk, in_file, in_memory, least_seconds, output_of, register_of
+from measure import MIB, blocked_peak, in_file, least_seconds, output_of, register_of
+from sides import IN_MEMORY, Place, played
 
 KINDS = {
     "11": ("streets", "{k},1,2001-04-01,", "{k},1,1990-01-01,2024-04-30"),
@@ -27,12 +28,16 @@ def file_row(folder, title, data, read):
     return f"reading a file of {title}", f"{theirs / ours:.1f} times the baseline", f"{len(data) / ours / 1e6:,.0f} MB/s"
 
 
-def peak_over(folder, body):
-    """The most memory that a hub over the keeper in memory has when it has answered a file of these bytes."""
-    with Talk(in_memory(folder)) as talk:
-        talk.send(streams.post((1001, 1), body))
-        talk.child.stdout.read(1)
-        return talk.memory("VmHWM")
+def peaks_over(folder, *bodies):
+    """The most memory that the program has, and a hub over the keeper in memory, when it has answered one of these files."""
+    posts = [in_file(folder, f"posted{k}", streams.post((1001, 1), body)) for k, body in enumerate(bodies)]
+    return [max(blocked_peak(words, path)[0] for path in posts) for words in (played(), Place(folder).in_memory())]
+
+
+def peak_rows(title, ratio, peaks):
+    ours, memory = peaks
+    yield title, ratio, f"peak memory {ours / MIB:.1f} MiB"
+    yield IN_MEMORY, "", f"peak memory {memory / MIB:.1f} MiB"
 
 
 def hostile_rows(folder):
@@ -40,17 +45,16 @@ def hostile_rows(folder):
     good = streams.long_file()
     assert len(good) == streams.MIB
     measure = reading_seconds("file", folder, good, 100)
-    yield "a good file of 1 MiB", f"{len(good) / measure / 1e6:,.0f} MB/s", f"peak memory {peak_over(folder, good) / 2**20:.1f} MiB"
+    yield from peak_rows("a good file of 1 MiB", f"{len(good) / measure / 1e6:,.0f} MB/s", peaks_over(folder, good))
     for title, bodies in streams.hostile_files():
         times = [reading_seconds("any", folder, body, 100) for body in bodies]
-        peak = max(peak_over(folder, body) for body in bodies)
-        yield f"a file of 1 MiB of {title}", f"{max(times) / measure:.2f} times the good file's time", f"peak memory {peak / 2**20:.1f} MiB"
+        yield from peak_rows(f"a file of 1 MiB of {title}", f"{max(times) / measure:.2f} times the good file's time", peaks_over(folder, *bodies))
 
 
-def memory_row(folder):
+def memory_rows(folder):
     body = b"," * streams.MIB
-    peak = peak_over(folder, body)
-    return "a file of one record with a million fields", f"peak memory {peak / len(body):.1f} times the file", f"{peak / 2**20:.1f} MiB"
+    peaks = peaks_over(folder, body)
+    yield from peak_rows("a file of one record with a million fields", f"peak memory {peaks[0] / len(body):.1f} times the file", peaks)
 
 
 def register_row(folder, count=400):
@@ -77,7 +81,7 @@ def rows(folder):
     yield file_row(folder, "5,000 streets", streams.streets_file(5000), baseline.read)
     yield file_row(folder, "5,000 mixed changes", streams.mixed_file(), hub.read)
     yield from hostile_rows(folder)
-    yield memory_row(folder)
+    yield from memory_rows(folder)
     yield register_row(folder)
     for kind in KINDS:
         yield from item_rows(folder, kind)

@@ -1,10 +1,14 @@
-"""What it costs that others wait: look-ups while a file is held, and a hub of 400 custodians beside one of 3."""
-import statistics
+"""What it costs that others wait: what is asked by `gazhub play` while a file is held, and a hub of 400 custodians beside one of 3.
 
+`play` has the register of three custodians alone. So 400 are asked by `gazhub serve` over a store in a file. Each is beside the keeper in memory.
+"""
 import streams
-from measure import BLOCKS, in_file, in_memory, program, register_of, seconds
+from measure import BLOCKS, ROUNDS, Talk, register_of
+from sides import Place, anew, begun, behind, in_turn, plain, played, with_memory
 
-LOOK_UPS, REQUESTS, SUBMISSIONS, ROUNDS = 50_000, 400_000, 20_000, 5
+LOOK_UPS, HOMES = 12_000, 2_500  # look-ups of a round
+REQUESTS, SUBMISSIONS = 20_000, 1_000  # of a round over 400 custodians
+LARGE = 5_000  # changes of a file that waits
 SIZE = 300_000_000  # of a block of UPRNs; those of USRNs have 30,000
 
 
@@ -22,71 +26,104 @@ def thousand_items(code):
     return streams.file_with(code, 1, rows)
 
 
-def beyond(command, loading, path):
-    """What a stream takes beyond the loading that it begins with: the median over the rounds."""
-    spent = []
-    for _ in range(ROUNDS):
-        alone, _ = seconds(command, loading, rounds=1)
-        whole, replies = seconds(command, path, rounds=1)
-        spent.append(whole - alone)
-    return statistics.median(spent), replies
+def while_waits(changes):
+    """What is loaded: a district, and a file of so many changes that waits for a volume that doesn't come."""
+    return [*streams.gazetteer(HOMES), *([streams.waiting_file(changes, ((1001, 999),))] if changes else [])]
 
 
-def held_rows(folder):
-    """Look-ups while a file of so many changes waits for a volume that doesn't come."""
+def held_rows(place):
+    """Look-ups while a file waits."""
+    asked = [streams.look_ups(turns, 1, HOMES) for turns in streams.parts(LOOK_UPS, ROUNDS)]
     base = None
-    for changes in (0, 100, 1_000, 5_000):
-        load = b"".join(streams.gazetteer(homes=2_500))
-        if changes:
-            rows = [f"11,I,{300 + k},1,2001-04-01," for k in range(changes)]
-            load += streams.post((1003, 1), streams.file_with(1003, 1, rows, ((1001, 999),)))
-        asked = b"".join(streams.get(f"/uprn/{streams.FIRST + k % 2_500}") for k in range(LOOK_UPS))
-        spent, _ = beyond(in_memory(folder), in_file(folder, "loading", load), in_file(folder, "stream", load + asked))
+    for changes in (0, 100, 1_000, LARGE):
+        load, *batches = place.asked(while_waits(changes), *asked)
+        spent = behind((Talk(played()), Talk(place.in_memory())), load, batches)
         base = base or spent
-        title = f"{LOOK_UPS:,} look-ups while {'a file of ' + format(changes, ',') + ' changes' if changes else 'nothing'} waits"
-        yield title, f"{spent / base:.2f} times those while nothing waits", f"{LOOK_UPS / spent:,.0f} look-ups/s"
+        title = f"look-ups while {'a file of ' + format(changes, ',') + ' changes' if changes else 'nothing'} waits"
+        yield from with_memory(title, *zip(spent, base), lambda it: (f"{it[0] / it[1]:.2f} times those while nothing waits", f"{LOOK_UPS / it[0]:,.0f} look-ups/s"))
+
+
+def about_a_file(bases):
+    """A custodian's first file is there, which waits where it rests on something: its standing, files behind it that wait in either case, and repeats of it."""
+    first = streams.waiting_file(LARGE, bases)
+    yield "its custodian's standing", [[streams.get("/custodians/1003")] * 2_000] * ROUNDS
+    yield "a file of one change behind it", [list(streams.small_files(volumes)) for volumes in streams.parts(400, ROUNDS, 3)]
+    yield "a repeat of it", [[first] * 30] * ROUNDS
+
+
+def spent_about(place, bases):
+    """Seconds of each of these requests, by the program, by the keeper in memory, and by Python."""
+    titles, asked = zip(*about_a_file(bases))
+    first = [streams.waiting_file(LARGE, bases)]
+    load, *batches = place.asked(first, *(batch for batches in asked for batch in batches))
+    with begun((Talk(played()), Talk(place.in_memory()), Talk(plain())), load) as hubs:
+        for k, title in enumerate(titles):
+            mine = batches[ROUNDS * k : ROUNDS * (k + 1)]
+            yield title, [took / len(mine[0].requests) for took in in_turn(hubs, mine)]
+
+
+def behind_rows(place):
+    """What is asked about a custodian while its large file waits, and once that is judged."""
+    for (title, waiting), (_, judged) in zip(spent_about(place, ((1001, 999),)), spent_about(place, ())):
+        *both, (theirs, _) = zip(waiting, judged)
+
+        def cells(it):
+            told = f"{1e6 * it[0]:,.1f} µs, else {1e6 * it[1]:,.1f}; the plain hub {1e6 * theirs:,.1f}"
+            return f"{it[0] / it[1]:.2f} times as when none waits (at most 1.5)", told
+
+        yield from with_memory(f"while a file of {LARGE:,} changes waits: {title}", *both, cells)
 
 
 def requests_of():
-    """Look-ups, standings and repeats of three custodians, and small files of the first for which nobody waits."""
-    def small(volume):
-        return streams.post((1, volume), streams.file_with(1, volume, [f"11,I,{2 + volume},1,2001-04-01,"]))
-
+    """Of each round: look-ups, standings and repeats of three custodians, and small files of the first for which nobody waits."""
     def code(k):
         return 1 + k % 3
 
-    asked = b"".join(streams.get(f"/uprn/{first_number(code(k))[0] + k % 499}") for k in range(REQUESTS))
-    yield "look-ups", REQUESTS, 1.3, asked
-    yield "standings", REQUESTS, 1.3, b"".join(streams.get(f"/custodians/{code(k)}") for k in range(REQUESTS))
-    yield "repeats", REQUESTS, 1.3, small(2) * REQUESTS
-    yield "files that nobody waits for", SUBMISSIONS, 1.2, b"".join(small(v) for v in range(2, SUBMISSIONS + 2))
+    asked = [streams.get(f"/uprn/{first_number(code(k))[0] + k % 499}") for k in range(REQUESTS)]
+    yield "look-ups", 1.3, [asked] * ROUNDS
+    yield "standings", 1.3, [[streams.get(f"/custodians/{code(k)}") for k in range(REQUESTS)]] * ROUNDS
+    yield "repeats", 1.3, [[small(2)] * REQUESTS] * ROUNDS
+    yield "files that nobody waits for", 1.2, [list(map(small, volumes)) for volumes in streams.parts(SUBMISSIONS, ROUNDS, 3)]
+
+
+def small(volume):
+    return streams.post((1, volume), streams.file_with(1, volume, [f"11,I,{2 + volume},1,2001-04-01,"]))
 
 
 def times_of(folder, custodians):
-    register = in_file(folder, f"register{custodians}", register_of(custodians).encode())
-    load = b"".join(streams.post((code, 1), thousand_items(code)) for code in range(1, custodians + 1))
-    loading = in_file(folder, "loading", load)
-    for title, count, most, asked in requests_of():
-        spent, replies = beyond([program("gaz_bench"), "play", register], loading, in_file(folder, "stream", load + asked))
-        assert b'"rejected"' not in replies and b'"refused"' not in replies, title
-        yield title, count, most, spent
+    """What these requests take the program over a store, and the keeper in memory."""
+    place, (titles, most, asked) = Place(folder, register_of(custodians)), zip(*requests_of())
+    load = [*(streams.post((code, 1), thousand_items(code)) for code in range(1, custodians + 1)), small(2)]
+    load, *batches = place.asked(load, *(batch for batches in asked for batch in batches))
+    assert not any(it.count(b'"rejected"') or it.count(b'"refusal"') for it in (load, *batches))
+    with begun((place.served(place.loaded(load)), Talk(place.in_memory())), load) as hubs:
+        for k, title in enumerate(titles):
+            mine = batches[ROUNDS * k : ROUNDS * (k + 1)]
+            yield title, most[k], len(mine[0].requests), in_turn(hubs, mine)
 
 
 def custodian_rows(folder):
-    for (title, count, most, few), (_, _, _, many) in zip(times_of(folder, 3), times_of(folder, 400)):
-        yield f"{count:,} {title} over 400 custodians", f"{many / few:.2f} times over 3 (at most {most})", f"{count / many:,.0f} requests/s"
+    for (title, most, count, few), (_, _, _, many) in zip(times_of(folder, 3), times_of(folder, 400)):
+        yield from with_memory(
+            f"{title} by `serve` over 400 custodians",
+            *zip(many, few),
+            lambda it: (f"{it[0] / it[1]:.2f} times over 3 (at most {most})", f"{count / it[0]:,.0f} requests/s"),
+        )
 
 
 def freed_rows(folder):
     """399 custodians hold a file that waits for the 400th, whose file frees them all."""
-    register = in_file(folder, "register400", register_of(400).encode())
-    load = b"".join(streams.post((code, 1), streams.file_with(code, 1, [], ((400, 1),))) for code in range(1, 400))
-    frees = streams.post((400, 1), streams.file_with(400, 1, []))
-    spent, replies = beyond([program("gaz_bench"), "play", register], in_file(folder, "loading", load), in_file(folder, "stream", load + frees))
-    yield "one volume that frees 399 custodians", f"{spent * 1e6 / 399:.1f} µs a custodian", ""
+    place = Place(folder, register_of(400))
+    load = [streams.post((code, 1), streams.file_with(code, 1, [], ((400, 1),))) for code in range(1, 400)]
+    load, frees = place.asked(load, [streams.post((400, 1), streams.file_with(400, 1, []))])
+    store = place.loaded(load)
+    spent = anew((lambda: place.served(place.fresh(store)), lambda: Talk(place.in_memory())), load, frees)
+    yield from with_memory("one volume that frees 399 custodians, by `serve`", *spent, lambda took: (f"{took * 1e6 / 399:.1f} µs a custodian", ""))
 
 
 def rows(folder):
-    yield from held_rows(folder)
+    place = Place(folder)
+    yield from held_rows(place)
+    yield from behind_rows(place)
     yield from custodian_rows(folder)
     yield from freed_rows(folder)

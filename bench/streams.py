@@ -71,10 +71,13 @@ def hostile_files():
         yield title, (alone, (header + alone)[:MIB])
 
 
+FIRST_UPRN = {1001: 1, 1002: 100_000, 1003: 200_000}  # of each custodian of the sample register
+FIRST_USRN = {1001: 100, 1002: 200, 1003: 300}
+
+
 def volume_of(code, volume):
     """A file of 1,000 mixed changes: new properties with addresses and cross references, and updates of those of the volume before."""
-    first = {1001: 1, 1002: 100_000, 1003: 200_000}[code]
-    usrn = {1001: 100, 1002: 200, 1003: 300}[code]
+    first, usrn = FIRST_UPRN[code], FIRST_USRN[code]
     new, old = (range(first + 300 * (v - 1), first + 300 * v) for v in (volume, volume - 1))
     rows = [f"11,I,{usrn},1,2001-04-01,", f"15,I,{usrn},ENG,High Street,,Arden,Arden"] if volume == 1 else []
     rows += [f"21,I,{n},1,450000,250000,,AR1 2DN,2001-04-01," for n in new]
@@ -84,7 +87,14 @@ def volume_of(code, volume):
     return file_with(code, volume, rows)
 
 
-FIRST = 100_000
+def files_in_turn(volumes):
+    """The posts of so many such volumes of each of three custodians, in turn."""
+    for volume in range(1, volumes + 1):
+        for code in FIRST_UPRN:
+            yield post((code, volume), volume_of(code, volume))
+
+
+FIRST = FIRST_UPRN[1002]
 HOMES = 50_000
 
 
@@ -105,9 +115,14 @@ def gazetteer(homes=HOMES, each=2500):
     yield post((1001, 2), file_with(1001, 2, ["11,U,150,1,1990-01-01,2024-04-30"]))
 
 
-def look_ups(count, step, homes=HOMES):
-    """Look-ups of that district's properties, each so many behind the one before, from the start again behind the last."""
-    return b"".join(get(f"/uprn/{FIRST + k * step % homes}") for k in range(count))
+def look_ups(turns, step, homes=HOMES):
+    """Look-ups of that district's properties, each so many behind the one before, from the start again behind the last; these turns of them."""
+    return [get(f"/uprn/{FIRST + k * step % homes}") for k in turns]
+
+
+def parts(count, rounds, first=0):
+    """As many ranges of so many numbers, one behind the other."""
+    return [range(first + count * k, first + count * (k + 1)) for k in range(rounds)]
 
 
 def address_changes(volumes, homes, first):
@@ -125,26 +140,69 @@ def late_fault(volume, changes=5000):
     return file_with(1001, volume, [*rows, "11,D,100,1,2001-04-01,"])
 
 
-USRN, UPRN = 1, 1  # the first numbers of custodian 1 in a register of several
+def waiting_file(changes, bases=()):
+    """The post of a custodian's first file, of so many new properties, which waits where it rests on a volume that doesn't come."""
+    rows = [f"21,I,{FIRST_UPRN[1003] + k},1,450000,250000,,AR1 2DN,2001-04-01," for k in range(changes)]
+    return post((1003, 1), file_with(1003, 1, rows, bases))
 
 
-def growing_loads(homes, each=2_500):
-    """The posts that load one custodian's gazetteer: a street, and so many properties with an address."""
-    street = [f"11,I,{USRN},1,2001-04-01,", f"15,I,{USRN},ENG,High Street,,Arden,Arden"]
-    yield post((1, 1), file_with(1, 1, street))
-    for volume, first in enumerate(range(0, homes, each), 2):
-        numbers = range(UPRN + first, UPRN + min(first + each, homes))
-        rows = [f"21,I,{n},1,450000,250000,,AR1 2DN,2001-04-01," for n in numbers]
-        rows += [f"24,I,L{n},{n},ENG,1,{USRN},,,,,Flat 2,12,A,14,,,2001-04-01," for n in numbers]
-        yield post((1, volume), file_with(1, volume, rows))
+def small_files(volumes):
+    """The posts of these volumes of that custodian, each of which has one change."""
+    for v in volumes:
+        yield post((1003, v), file_with(1003, v, [f"11,{'I' if v == 1 else 'U'},300,1,2001-04-01,"]))
 
 
-def growing_changes(homes, first, volumes):
-    """The posts of volumes of 1,000 changes into that gazetteer, from this volume on: 250 new properties with an address, and 500 updates all over it."""
-    for k in range(volumes):
-        new = range(UPRN + homes + 250 * k, UPRN + homes + 250 * (k + 1))
-        old = [UPRN + (500 * k + j) * 7919 % homes for j in range(500)]
-        rows = [f"21,I,{n},1,450000,250000,,AR1 2DN,2001-04-01," for n in new]
-        rows += [f"21,U,{n},1,{450_001 + k},250001,,AR1 2DN,2001-04-01," for n in old]
-        rows += [f"24,I,L{n},{n},ENG,1,{USRN},,,,,Flat 2,12,A,14,,,2001-04-01," for n in new]
-        yield post((1, first + k), file_with(1, first + k, rows))
+def many_volumes(volumes=4_000, bases=((1002, 1),)):
+    """The posts of a district's street, of a county's file of 5,000 changes, which rests on that, and of its further volumes of one change."""
+    yield post((1002, 1), file_with(1002, 1, ["11,I,200,1,2001-04-01,"]))
+    rows = [f"21,I,{k},1,450000,250000,,AR1 2DN,2001-04-01," for k in range(1, 5_000 + volumes)]
+    yield post((1001, 1), file_with(1001, 1, rows[:5_000], bases))
+    for volume, row in enumerate(rows[5_000:], 2):
+        yield post((1001, volume), file_with(1001, volume, [row]))
+
+
+STREETS = 100  # of each custodian of a growing gazetteer
+LOADED = 1_250  # properties of a volume that loads it
+CHANGED = 250  # properties of a volume of 1,000 changes
+
+
+def home_rows(code, numbers, action, turn=0):
+    """The rows of properties with these numbers: of each a BLPU, an address, an address that was, and a cross reference."""
+    for n in numbers:
+        usrn = FIRST_USRN[code] + n % STREETS
+        yield f"21,{action},{n},1,{450_000 + turn},250000,,AR1 2DN,2001-04-01,"
+        yield f"24,{action},L{n},{n},ENG,1,{usrn},,,,,Flat 2,{12 + turn},A,{14 + turn},,,2001-04-01,"
+        yield f"24,{action},M{n},{n},ENG,8,{usrn},,,,,,{12 + turn},,,,,2001-04-01,2004-04-01"
+        yield f"23,{action},X{n},{n},TAX01,A/{17 + turn},2001-04-01,"
+
+
+def homes_of(items):
+    """The properties of each of three custodians that have so many items."""
+    return (items // 3 - 2 * STREETS) // 4
+
+
+def growing_loads(items):
+    """The posts that load the gazetteers of three custodians with so many items: streets with a descriptor each, and properties."""
+    for code, usrn in FIRST_USRN.items():
+        rows = [row for k in range(usrn, usrn + STREETS) for row in (f"11,I,{k},1,2001-04-01,", f"15,I,{k},ENG,High Street,,Arden,Arden")]
+        yield post((code, 1), file_with(code, 1, rows))
+    homes = homes_of(items)
+    for volume, first in enumerate(range(0, homes, LOADED), 2):
+        for code, uprn in FIRST_UPRN.items():
+            numbers = range(uprn + first, uprn + min(first + LOADED, homes))
+            yield post((code, volume), file_with(code, volume, list(home_rows(code, numbers, "I"))))
+
+
+def growing_changes(items, files):
+    """The posts of so many files of 1,000 updates all over those gazetteers, one custodian's behind the other's, and then of as many of 1,000 inserts."""
+    homes = homes_of(items)
+    first = 2 - -homes // LOADED  # the volume behind those that were loaded
+    for k in range(2 * files):
+        code, volume = 1001 + k % 3, first + k // 3
+        start = FIRST_UPRN[code]
+        if k < files:
+            rows = home_rows(code, (start + (CHANGED * k + j) * 7919 % homes for j in range(CHANGED)), "U", 1 + k)
+        else:
+            new = start + homes + CHANGED * (volume - first)
+            rows = home_rows(code, range(new, new + CHANGED), "I")
+        yield post((code, volume), file_with(code, volume, list(rows)))
