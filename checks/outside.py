@@ -4,6 +4,7 @@ from collections.abc import Iterable, Iterator
 from pathlib import Path
 
 from checks import (
+    at_hand,
     breaking,
     conversations,
     damaged,
@@ -54,7 +55,7 @@ def of_program(program: Path, root: Path) -> Iterator[Case]:
     yield from named("making:", making.run_all(program))
     yield from named("page", tour.run_all(program, root))
     yield from named("opening", opening.run_all(program))
-    yield from named("serving:", serving.run_all(program, (*serving.CASES, killing.killed_while_files_come)))
+    yield from named("serving:", serving.run_all(program, (*serving.CASES, *at_hand.CASES, killing.killed_while_files_come)))
 
 
 def of_stores(root: Path, room: Path) -> Iterator[Case]:

@@ -1,9 +1,13 @@
 -- A keeper that is filled with what another keeps.
-use Rattle.std.specs.Prelude.{◌≡◌, ◌≤◌, ℕ, List, IsSome}
-use Rattle.std.specs.FinMap as map
+use Rattle.std.specs.Prelude.{◌≡◌, ◌≤◌, ℕ, List, IsSome, map}
+use Rattle.std.specs.FinMap as finite
+use Rattle.gaz_register.specs.Registers.{CustodianValue, RegisterValue}
 use Rattle.gaz_views.specs.View.{empty_view}
-use Rattle.gaz_keeper.specs.Keeper.{Idle, Seen, empty_content}
+use Rattle.gaz_keeper.specs.Keeper.{Idle, Seen}
 use Rattle.gaz_keeper.specs.Received.{Received}
+use Rattle.gaz_shelf.specs.Mem.{seen_in}
+use Rattle.gaz_shelf.specs.declared.mem_shelf.MemShelf.{MemShelf}
+use Rattle.gaz_loaded.specs.Loading.{IsLoaded}
 use Rattle.gaz_hub.specs.Laws.{StandsForRun}
 use Rattle.gaz_hub.specs.Runs.{Run}
 use Rattle.gaz_hub.specs.Step.{Command, Door, HubState, Response}
@@ -15,7 +19,7 @@ RestsBare {K} seen =
 
 -- each file came as a volume from 1 on
 abbrev pub AreVolumes : Received → Type 0
-AreVolumes files = (p : ℕ × ℕ) → IsSome (map.get files p) → 1 ≤ p.1
+AreVolumes files = (p : ℕ × ℕ) → IsSome (finite.get files p) → 1 ≤ p.1
 
 -- they do after whatever commands come to a hub
 abbrev pub VolumesStay : Type 0
@@ -28,22 +32,12 @@ pub record CanBeMirrored (door : Door) (s : Seen) : Type 0 where
   pub run : StandsForRun door s
   pub volumes : AreVolumes s.content.files
 
--- a keeper stands for nothing
-pub record StandsEmpty (s : Seen) : Type 0 where
-  pub stands : s.stands
-  pub empty : s.content ≡ empty_content
+-- the codes of a register's custodians
+abbrev pub codes_of : RegisterValue → List ℕ
+codes_of register = map (λ (x : CustodianValue). x.code) register
 
--- both stand, for the same files and the same board
-pub record StandAlike (below above : Seen) : Type 0 where
-  pub lower : below.stands
-  pub upper : above.stands
-  pub files : above.content.files ≡ below.content.files
-  pub board : above.content.board ≡ below.content.board
-
--- both are idle; and where the one could be mirrored and nothing was in the other, both keep the
--- same now
-pub record IsFilled (door : Door) (old new was now : Seen) : Type 0 where
+-- both are idle, and all that was kept of a register's custodians was loaded
+pub record IsFilled (register : RegisterValue) (old new : Seen) (shelf : MemShelf) : Type 0 where
   pub lower : new.progress ≡ Idle
-  pub upper : now.progress ≡ Idle
-  pub alike : CanBeMirrored door old → StandsEmpty was → new.unharmed → now.unharmed
-      → StandAlike new now
+  pub upper : (seen_in shelf).progress ≡ Idle
+  pub loaded : IsLoaded (codes_of register) old new shelf

@@ -1,3 +1,1 @@
-pub mod Comparing
-pub mod Copying
 pub mod Filling

@@ -1,20 +1,19 @@
-//! Filling a keeper with what another keeps.
-ghost use Rattle.std.specs.Prelude.{◌≡◌};
+//! A keeper in memory with what another keeps.
+ghost use Rattle.std.specs.Prelude.{◌≡◌, map, IfOk};
 ghost use Rattle.std.specs.Option.{ForSome};
-ghost use Rattle.gaz_keeper.specs.Telling.{IsNotJudging};
-ghost use Rattle.gaz_hub.specs.Hubs.{door_of};
-ghost use Rattle.gaz_mirrored.specs.Comparing.{OnlyReads};
-ghost use Rattle.gaz_mirrored.specs.Filling.{IsFilled};
+ghost use Rattle.gaz_keeper.specs.Keeper.{IsNotOpen};
+ghost use Rattle.gaz_loaded.specs.Files.{OnlyReads};
+ghost use Rattle.gaz_mirrored.specs.Filling.{IsFilled, codes_of};
 
-use crate::comparing::compare;
-use crate::copying::copy_all;
-use gaz_hub::Hub;
 use gaz_ids::Code;
-use gaz_keeper::Inbox;
+use gaz_loaded::{Listed, load};
 use gaz_register::Register;
+use gaz_shelf::{MemShelf, Seed};
 use std::alloc::{AllocError, Global};
 
-fn codes_of(alloc: Global, register: &Register) -> Result<Vec<Code>, AllocError> {
+fn codes_of(alloc: Global, register: &Register) -> Result<Vec<Code>, AllocError>
+    ensures { IfOk result (λ codes. codes.items ≡ codes_of register.now) }
+{
     register
         .custodians()
         .iter()
@@ -22,33 +21,24 @@ fn codes_of(alloc: Global, register: &Register) -> Result<Vec<Code>, AllocError>
         .collect(alloc)
 }
 
-/// The upper keeper, which is to be an empty one, with all that the lower one keeps; none where
-/// that isn't sure.
-pub fn fill<L: Inbox, U: Inbox + Drop>(
+/// A keeper in memory with all that a keeper lists of a register's custodians; none where memory or
+/// that keeper failed, or where what it lists isn't in order.
+pub(crate) fn fill<L: Listed>(
     alloc: Global,
-    register: Register,
+    seed: Seed,
+    register: &Register,
     lower: &mut L,
-    upper: U,
-) -> (Register, Option<U>)
-    requires lower { IsNotJudging L.seen lower.old }
-    requires upper { IsNotJudging U.seen upper }
-    ensures register { result.0 ≡ register }
+) -> Option<MemShelf>
+    requires { IsNotOpen (L.seen lower.old).progress }
     ensures reads { OnlyReads (L.seen lower.old) (L.seen lower.new) }
-    ensures filled { ForSome result.1 (λ u. IsFilled (door_of register)
-        (L.seen lower.old) (L.seen lower.new) (U.seen upper) (U.seen u)) }
+    ensures filled { ForSome result
+        (IsFilled register.now (L.seen lower.old) (L.seen lower.new)) }
 {
-    let Ok(codes) = codes_of(alloc, &register) else {
-        return (register, None);
+    let Ok(codes) = codes_of(alloc, register) else {
+        return None;
     };
-    let mut above = Hub::new(alloc, register, upper);
-    let copied = copy_all(lower, &mut above, codes.as_slice());
-    let (register, mut filled) = above.into_parts();
-    match copied {
-        Ok(()) => {}
-        Err(_) => return (register, None),
-    }
-    match compare(&register, lower, &mut filled) {
-        Ok(()) => (register, Some(filled)),
-        Err(_) => (register, None),
+    match load(alloc, seed, lower, &codes) {
+        Ok(shelf) => Some(shelf),
+        Err(_) => None,
     }
 }

@@ -1,10 +1,8 @@
 //! A hub over a mirror, filled with what a hub's keeper keeps.
 #![tactic(auto)]
 
-mod comparing;
-mod copying;
 mod filling;
 mod joining;
 pub mod laws;
 
-pub use joining::{mirrored, mirrored_by};
+pub use joining::mirrored;

@@ -7,6 +7,7 @@ pub mod Holding
 pub mod Chosen
 pub mod Fits
 pub mod PageRows
+pub mod Taken
 pub mod StreetRows
 pub mod Saying
 pub mod Verdicts
@@ -27,3 +28,9 @@ pub mod Opens
 pub mod StoreReads
 pub mod StoreGoes
 pub mod Beginning
+pub mod LifeRows
+pub mod Paired
+pub mod LivesTold
+pub mod VolumesTold
+pub mod Listed
+pub mod WorkedLives

@@ -1,12 +1,12 @@
 -- What pages of current rows tell of a street and of the parts of a BLPU.
-use Rattle.std.proofs.Common.{◌≡◌, ◌∙◌, ◌≤◌, ◌<◌, ◌⊎◌, ◌&&◌, ◌==◌, ℕ, zero, suc, pos, Bool, true, false, List, [], ◌∷◌, drop, length, take, inl, inr, refl, sym, ap, subst, arith, true≢false}
+use Rattle.std.proofs.Common.{◌≡◌, ◌∙◌, ◌≤◌, ◌<◌, ◌&&◌, ◌==◌, ℕ, zero, suc, pos, Bool, true, false, List, [], ◌∷◌, drop, length, take, inl, inr, refl, sym, ap, subst, arith, true≢false}
 use Rattle.std.specs.Prelude.{◌||◌, Option, None, Some}
 use Rattle.std.proofs.Math.Bool.{and_assoc}
 use Rattle.std.specs.Option.{option_map_or}
 use Rattle.std.specs.List.{list_any}
 use Rattle.std.specs.String.{string_bytes}
 use Rattle.std.proofs.lemmas.Bool.{and_from, and_parts}
-use Rattle.std.proofs.lemmas.List.{length-map, length-take, take-append-drop, take_all}
+use Rattle.std.proofs.lemmas.List.{length-map, length-take, take_all}
 use Rattle.std.specs.Ordering.{is_gt, nat_cmp, ordering_reverse}
 use Rattle.std.specs.Cmp.Lexicographic.{nat_list_cmp_total, slice_cmp}
 use Rattle.std.specs.declared.cmp.Ordering.TheVariants.{Less}
@@ -14,9 +14,8 @@ use Rattle.sqlite.specs.Effect.{Database}
 use Rattle.sqlite.specs.Order.{Row, column, value_cmp}
 use Rattle.sqlite.specs.declared.types.Value.TheVariants.{Text}
 use Rattle.sqlite_rules.specs.Lists.{Has}
-use Rattle.sqlite_rules.proofs.ListLemmas.{all_has, has_either, has_left, some_from, some_has}
+use Rattle.sqlite_rules.proofs.ListLemmas.{some_from, some_has}
 use Rattle.sqlite_rules.proofs.ProbeLemmas.{has_mapped, mapped_has}
-use Rattle.sqlite_trees.specs.Tree.{IsAscending}
 use Rattle.sqlite_value.proofs.OrderLemmas.{value_cmp-Text}
 use Rattle.gaz_ids.specs.Codes.{lang_number}
 use Rattle.gaz_ids.specs.declared.lang.Lang.{Lang}
@@ -49,26 +48,9 @@ use Rattle.gaz_store.proofs.Chosen.{FitJust, chosen_fits, chosen_rises, fit_chos
 use Rattle.gaz_store.proofs.Fits.{approved_just, in_lang, key_kind, parts_just}
 use Rattle.gaz_store.proofs.Holding.{HoldsItem, entry_in_view, entry_of, row_of, said_cells, said_id, said_key, said_text}
 use Rattle.gaz_store.proofs.PageRows.{all_behind}
+use Rattle.gaz_store.proofs.Taken.{before, taken, taken_or_not}
 
 -- ---- lists
-
-taken : {X : Type 0} (n : ℕ) (xs : List X) (x : X) → Has (take n xs) x → Has xs x
-taken n xs x h = subst (λ l. Has l x) (take-append-drop n xs) (has_left (take n xs) (drop n xs) x h)
-
-taken_or_not : {X : Type 0} (n : ℕ) (xs : List X) (x : X) → Has xs x → Has (take n xs) x ⊎ Has (drop n xs) x
-taken_or_not n xs x h = has_either (take n xs) (drop n xs) x (subst (λ l. Has l x) (sym (take-append-drop n xs)) h)
-
-dropped : {X : Type 0} (n : ℕ) (xs : List X) (x : X) → Has (drop n xs) x → Has xs x
-dropped zero xs x h = h
-dropped (suc n) [] x h = absurd h
-dropped (suc n) (y ∷ xs) x h = inr (dropped n xs x h)
-
--- what is taken is below what is not
-before : {X : Type 0} (R : X → X → Type 0) (n : ℕ) (xs : List X) (a b : X) → IsAscending R xs → Has (take n xs) a → Has (drop n xs) b → R a b
-before R zero xs a b up ha hb = absurd ha
-before R (suc n) [] a b up ha hb = absurd ha
-before R (suc n) (x ∷ xs) a b up (inl same) hb = subst (λ y. R y b) (sym same) (all_has (R x) xs b up.0 (dropped n xs b hb))
-before R (suc n) (x ∷ xs) a b up (inr later) hb = before R n xs a b up.1 later hb
 
 any_none : {X : Type 0} (p : X → Bool) (xs : List X) → ((x : X) → Has xs x → ¬ (p x ≡ true)) → list_any p xs ≡ false
 any_none p xs none = by_test (list_any p xs) refl

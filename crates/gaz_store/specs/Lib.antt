@@ -9,3 +9,8 @@ pub mod Paging
 pub mod Streets
 pub mod Altering
 pub mod Writing
+pub mod Lives
+pub mod Volumes
+pub mod Listing
+pub mod Made
+pub mod WorkedLives

@@ -105,23 +105,28 @@ impl<S: Alter> Tables<S> {
         ensures { AsksTables self.old self.new result
             (λ db n. n ≡ count_above (files_in (db.trees receiveds)) code volume) }
     {
-        let rows = self.volumes_above(code, volume)?;
+        let rows = self.rows_above(code, volume, MANY)?;
         if rows.len() >= MANY as usize {
             return Err(self.fail());
         }
         Ok(rows.len() as u64)
     }
 
-    /// The volumes of a custodian above one, each once.
-    fn volumes_above(&mut self, code: Code, volume: u64) -> Result<Vec<Row>, ShelfFault>
+    /// The volumes of a custodian above one, each once, as they rise: the first so many.
+    pub(crate) fn rows_above(
+        &mut self,
+        code: Code,
+        volume: u64,
+        most: u32,
+    ) -> Result<Vec<Row>, ShelfFault>
         requires { volume ≤ 999_999 }
         ensures { AsksTables self.old self.new result
-            (λ db rows. FindsAbove code volume 1_000_000 (db.trees receiveds) rows.items) }
+            (λ db rows. FindsAbove code volume most (db.trees receiveds) rows.items) }
     {
         self.make_sure()?;
         self.known();
         self.sure = false;
-        let found = receiveds::above(&mut self.conn, code.number() as u32, volume as u32, MANY);
+        let found = receiveds::above(&mut self.conn, code.number() as u32, volume as u32, most);
         self.told(found)
     }
 }

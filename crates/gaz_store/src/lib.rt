@@ -11,6 +11,10 @@ mod files;
 mod inbox;
 mod judgement;
 mod keys;
+pub mod laws;
+mod life_rows;
+mod listing;
+mod lives;
 mod opening;
 mod pages;
 mod probing;
@@ -20,6 +24,7 @@ mod steps;
 mod store;
 mod streets;
 mod tables;
+mod volumes;
 mod writing;
 
 pub use gaz_kept::StoreRefusal;

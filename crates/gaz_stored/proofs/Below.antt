@@ -21,9 +21,9 @@ use Rattle.gaz_hub.specs.Laws.{StandsForRun}
 use Rattle.gaz_hub.specs.Step.{Command, Door, Response}
 use Rattle.gaz_hub.proofs.HubRuns.{runs_still, runs_then}
 use Rattle.gaz_mirror.specs.Mirroring.{mirrored, stands_below}
-use Rattle.gaz_mirrored.specs.Comparing.{OnlyReads}
+use Rattle.gaz_loaded.specs.Files.{OnlyReads}
 use Rattle.gaz_mirrored.specs.Filling.{AreVolumes, CanBeMirrored, RestsBare}
-use Rattle.gaz_mirrored.proofs.Reading.{reads_nothing}
+use Rattle.gaz_loaded.proofs.Reading.{reads_nothing}
 
 -- ---- what a store is mirrored by
 

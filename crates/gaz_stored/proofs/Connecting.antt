@@ -18,7 +18,7 @@ use Rattle.gaz_hub.specs.declared.hub.Hub.{Hub}
 use Rattle.gaz_hub.specs.declared.refusal.Refusal.{Refusal}
 use Rattle.gaz_hub.proofs.HubRuns.{runs_then}
 use Rattle.gaz_mirror.specs.Mirrored.{seen_mirrored}
-use Rattle.gaz_mirrored.specs.Comparing.{OnlyReads}
+use Rattle.gaz_loaded.specs.Files.{OnlyReads}
 use Rattle.gaz_mirrored.proofs.Filled.{over_parts}
 use Rattle.gaz_stored.specs.Answering.{Settles}
 use Rattle.gaz_stored.specs.Attending.{ServesOpened, ServesOver}

@@ -17,7 +17,7 @@ use Rattle.gaz_hub.specs.Runs.{Abides}
 use Rattle.gaz_hub.specs.Step.{Pose, Replied, Settle, new_hub}
 use Rattle.gaz_hub.specs.declared.refusal.Refusal.{Refusal}
 use Rattle.gaz_mirror.specs.Mirrored.{seen_mirrored}
-use Rattle.gaz_mirrored.specs.Comparing.{OnlyReads}
+use Rattle.gaz_loaded.specs.Files.{OnlyReads}
 use Rattle.gaz_exchange.specs.Conversing.{Conversation, Transfer}
 use Rattle.gaz_exchange.specs.Exchanges.{commands_of, responses_of}
 use Rattle.gaz_exchange.specs.declared.conversation.Served.{Served}

@@ -5,7 +5,7 @@ ghost use Rattle.gaz_hub.specs.Hubs.{door_of};
 ghost use Rattle.gaz_hub.specs.Laws.{StandsForRun};
 ghost use Rattle.gaz_hub.specs.Seen.{RemembersNothing};
 ghost use Rattle.gaz_mirror.specs.Mirrored.{seen_mirrored};
-ghost use Rattle.gaz_mirrored.specs.Comparing.{OnlyReads};
+ghost use Rattle.gaz_loaded.specs.Files.{OnlyReads};
 ghost use Rattle.gaz_store.specs.Store.{seen_in};
 
 use gaz_hub::Hub;

@@ -1,9 +1,10 @@
 //! Whether the mirror is at hand, which no contract tells.
-use crate::resting::{Resting, sample_hub};
+use crate::keepers::reopening::Reopens;
+use crate::keepers::whereabouts::{Task, in_memory};
+use crate::resting::{Resting, hub_in};
 use crate::wanted::{counts, holds};
 use gaz_hub::Answer;
 use gaz_keeper::Inbox;
-use gaz_shelf::MemShelf;
 use std::process::Abort;
 use std::test::Fail;
 
@@ -22,8 +23,8 @@ fn receives<K: Inbox + Drop>(
 
 // Two files of the first custodian are judged, the second of which can't be read, and one after a
 // gap isn't; nor is one of the second custodian, of which the first is missing.
-fn filled(rt: &(impl Abort + AllocGlobal)) -> Result<Resting<MemShelf>, Fail> {
-    let mut hub = sample_hub(rt.alloc())?;
+fn filled<K: Reopens>(rt: &(impl Abort + AllocGlobal), conn: K::Conn) -> Result<Resting<K>, Fail> {
+    let mut hub = hub_in(rt.alloc(), conn)?;
     receives(rt, &mut hub, 1001, 1)?;
     let answer = hub.submit(1001, 2, b"nothing");
     holds(
@@ -62,25 +63,19 @@ fn goes_on<K: Inbox + Drop>(
     stands(rt, hub, 1001, 4, 0)
 }
 
-// Whether a mirror by a keeper of which the call of this number fails is at hand, and whether it is
-// when the hub went on, as it does in either case.
-fn is_at_hand(rt: &(impl Abort + AllocGlobal), fails_at: u64) -> Result<(bool, bool), Fail> {
-    let mut hub = filled(rt)?.mirrored(rt.alloc(), fails_at);
-    let at_first = hub.shelf().has_upper();
+/// Whether all is at hand where nothing failed, and still is when the hub went on.
+pub(crate) fn is_at_hand<K: Reopens>(
+    rt: &(impl Abort + AllocGlobal),
+    conn: K::Conn,
+) -> Result<(), Fail> {
+    let mut hub = filled::<K>(rt, conn)?.mirrored(rt.alloc());
+    holds(rt, hub.shelf().has_upper(), "all is at hand");
     goes_on(rt, &mut hub)?;
-    Ok((at_first, hub.shelf().has_upper()))
+    holds(rt, hub.shelf().has_upper(), "it stays so");
+    Ok(())
 }
 
 #[test]
 fn it_is_at_hand_where_nothing_failed(rt: HostRuntime) -> Result<(), Fail> {
-    holds(&rt, is_at_hand(&rt, 0)? == (true, true), "it is at hand");
-    let mut without = 0;
-    for fails_at in 1..200_u64 {
-        if !is_at_hand(&rt, fails_at)?.0 {
-            counts(&rt, without, fails_at - 1);
-            without = fails_at;
-        }
-    }
-    holds(&rt, without > 20 && without < 199, "so many calls fill it");
-    Ok(())
+    in_memory(&rt, Task::Mirror)
 }

@@ -2,12 +2,14 @@
 //! these has a clause, and no test carries what the hub's own say.
 ghost use Rattle.gaz_keeper.specs.Keeper.{IsNotOpen};
 
+use crate::keepers::reopening::Reopens;
 use gaz_extract::Found;
 use gaz_hub::{Answer, Hub, Refusal, Standing};
 use gaz_ids::Uprn;
 use gaz_keeper::Inbox;
+use gaz_loaded::Listed;
 use gaz_mirror::Mirror;
-use gaz_mirrored::mirrored_by;
+use gaz_mirrored::mirrored;
 use gaz_register::Register;
 use gaz_samples::REGISTER;
 use gaz_shelf::{Faulty, MemShelf, Seed};
@@ -27,24 +29,19 @@ pub(crate) fn counting_hub(alloc: Global, register: Register) -> Resting<Faulty<
     Resting::over(alloc, register, keeper)
 }
 
-/// A hub of the sample register that received nothing, over a keeper of whole maps.
-pub(crate) fn sample_hub(alloc: Global) -> Result<Resting<MemShelf>, Fail> {
+/// A hub of the sample register that received nothing, over a store that is made in a database.
+pub(crate) fn hub_in<K: Reopens>(alloc: Global, conn: K::Conn) -> Result<Resting<K>, Fail> {
     let register = Register::read(alloc, REGISTER)?;
-    Ok(Resting::over(alloc, register, MemShelf::new(alloc, Seed::of(1))))
+    let keeper = K::made(alloc, conn, &register)?;
+    Ok(Resting::over(alloc, register, keeper))
 }
 
-impl Resting<MemShelf> {
-    /// A hub over a mirror of its keeper, by one of whole maps of which the call of this number
-    /// fails.
-    pub(crate) fn mirrored(
-        self,
-        alloc: Global,
-        fails_at: u64,
-    ) -> Resting<Mirror<MemShelf, Faulty<MemShelf>>> {
+impl<K: Listed + Drop> Resting<K> {
+    /// A hub over a mirror of its keeper, with all of it at hand.
+    pub(crate) fn mirrored(self, alloc: Global) -> Resting<Mirror<K, MemShelf>> {
         let Resting { hub } = self;
-        let upper = Faulty::new(MemShelf::new(alloc, Seed::of(1)), fails_at);
         Resting {
-            hub: mirrored_by(alloc, hub, upper),
+            hub: mirrored(alloc, Seed::of(1), hub),
         }
     }
 }

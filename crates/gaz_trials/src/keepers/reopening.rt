@@ -3,7 +3,7 @@
 ghost use Rattle.std.specs.Prelude.{◌≡◌, false, IfOk, OnOk};
 ghost use Rattle.gaz_keeper.specs.Keeper.{IsNotOpen};
 
-use gaz_keeper::Inbox;
+use gaz_loaded::Listed;
 use gaz_register::Register;
 use gaz_shelf::Seed;
 use gaz_store::Store;
@@ -23,7 +23,7 @@ fn rests<S: Alter>(conn: &Connection<S>) -> Result<(), Fail>
 }
 
 /// A keeper in a database, which is made there, and opened again.
-pub(crate) trait Reopens: Inbox + Drop {
+pub(crate) trait Reopens: Listed + Drop {
     /// The way to the database.
     type Conn: Drop;
 

@@ -3,6 +3,7 @@
 //! steps than the prover allows: what is so of files is run from outside.
 use crate::keepers::reopening::Reopens;
 use crate::keepers::stores::{performs_anew, performs_in_all};
+use crate::mirrored::is_at_hand;
 use gaz_store::Store;
 use sqlite::{Connection, MemStore};
 use std::process::Abort;
@@ -15,6 +16,8 @@ pub(crate) enum Task {
     PerformAll,
     /// The same, and the store is closed and opened behind each part.
     PerformAnew,
+    /// A hub over it goes on over a mirror.
+    Mirror,
 }
 
 // Does it.
@@ -26,6 +29,7 @@ fn performed<K: Reopens>(
     match task {
         Task::PerformAll => performs_in_all::<K>(rt, conn),
         Task::PerformAnew => performs_anew::<K>(rt, conn),
+        Task::Mirror => is_at_hand::<K>(rt, conn),
     }
 }
 

@@ -4,7 +4,7 @@ use Rattle.gaz_hub.specs.Hubs.{door_of}
 use Rattle.gaz_hub.specs.Laws.{StandsForRun}
 use Rattle.gaz_exchange.specs.Conversing.{Conversation, transfer}
 use Rattle.gaz_mirror.specs.Mirrored.{seen_mirrored}
-use Rattle.gaz_mirrored.specs.Comparing.{OnlyReads}
+use Rattle.gaz_loaded.specs.Files.{OnlyReads}
 use Rattle.gaz_store.specs.Store.{seen_in}
 use Rattle.gaz_stored.proofs.Alone.{alone}
 use Rattle.gaz_stored.proofs.Parts.{of_given, of_left}

@@ -3,7 +3,7 @@ use Rattle.std.proofs.Common.{◌∙◌, subst}
 use Rattle.gaz_hub.specs.Hubs.{door_of, or_not_received}
 use Rattle.gaz_hub.specs.Laws.{StandsForRun}
 use Rattle.gaz_mirror.specs.Mirrored.{seen_mirrored}
-use Rattle.gaz_mirrored.specs.Comparing.{OnlyReads}
+use Rattle.gaz_loaded.specs.Files.{OnlyReads}
 use Rattle.gaz_store.specs.Store.{seen_in}
 use Rattle.gaz_stored.proofs.Connecting.{serves_over}
 use Rattle.gaz_stored.proofs.Parts.{of_given, of_left}

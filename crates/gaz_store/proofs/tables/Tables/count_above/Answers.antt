@@ -11,5 +11,5 @@ pub returns : goal.returns
 returns g c =
     let few : length c.in_ok-rows.rows.items < 1000000 = omega arith in
     let all : c.len-2.result ≡ length c.in_ok-rows.rows.items = omega arith in
-    answered_ok _ _ c.volumes_above.result c.in_ok-rows.rows c.len-2.result _ (λ db n. n ≡ count_above (files_in (db.trees receiveds)) c.args.code c.args.volume) c.volumes_above.ensures c.in_ok-rows.was (λ db kept found.
+    answered_ok _ _ c.rows_above.result c.in_ok-rows.rows c.len-2.result _ (λ db n. n ≡ count_above (files_in (db.trees receiveds)) c.args.code c.args.volume) c.rows_above.ensures c.in_ok-rows.was (λ db kept found.
     all ∙ sym (counted_above c.args.code c.args.volume 1000000 (db.trees receiveds) c.in_ok-rows.rows.items (are_files db kept) found few))

@@ -1,12 +1,18 @@
-use Rattle.std.proofs.Common.{refl}
-use Rattle.gaz_tables.specs.Receiveds.{FindsAbove}
+use Rattle.std.proofs.Common.{arith, subst}
 use Rattle.gaz_tables.specs.Schema.{receiveds}
-use Rattle.gaz_store.proofs.Composing.{query_asks}
+use Rattle.gaz_kept.proofs.Stands.{are_files}
+use Rattle.gaz_store.specs.Volumes.{SayVolumes}
+use Rattle.gaz_store.proofs.Answered.{answered_ok}
+use Rattle.gaz_store.proofs.Composing.{asked_nothing}
+use Rattle.gaz_store.proofs.VolumesTold.{none_above, volumes_told}
 use Rattle.gaz_store.proofs.tables.Tables.volumes_above.Goals as goal
 
-pub returns : goal.returns
-returns g c =
-    query_asks _ _ _ _ _ _ _ (λ db rows. FindsAbove c.args.code c.args.volume 1000000 (db.trees receiveds) rows.items)
-    c.make_sure.ensures.asks (c.make_sure.new.self.is_open c.in_ok-make_sure.ensures.sure) c.known.ensures
-    (rw c.number.ensures.value at c.above-found.ensures.found) c.above-found.ensures.stays c.above-found.ensures.spared c.above-found.ensures.leaves
-    refl refl c.told.ensures.tells
+pub returns-then-volume-gt-LAST_VOLUME : goal.returns-then-volume-gt-LAST_VOLUME
+returns-then-volume-gt-LAST_VOLUME g c =
+    asked_nothing _ c.new.result _ (λ db kept. none_above db kept c.args.code c.args.volume c.new.result.items (omega arith) c.new.ensures.items)
+
+pub returns-in-Ok : goal.returns-in-Ok
+returns-in-Ok g c =
+    answered_ok _ _ _ c.in_ok-rows.rows c.in-Ok.volumes _ _ c.rows_above.ensures c.in_ok-rows.was (λ db kept found.
+    volumes_told c.args.code c.args.volume (db.trees receiveds) c.in_ok-rows.rows.items (are_files db kept) found c.in-Ok.volumes.items
+    (subst (λ rows. SayVolumes rows c.in-Ok.volumes.items) c.deref.ensures.value c.in-Ok.ensures))

@@ -1,0 +1,9 @@
+pub mod Boards
+pub mod Entered
+pub mod Reading
+pub mod Copied
+pub mod LifeViews
+pub mod Lives
+pub mod Custodian
+pub mod Brought
+pub mod Loaded

@@ -1,0 +1,5 @@
+pub mod Files
+pub mod Lives
+pub mod Telling
+pub mod Restoring
+pub mod Loading

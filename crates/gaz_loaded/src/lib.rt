@@ -1,0 +1,13 @@
+//! A keeper in memory, filled with what another lists.
+#![tactic(auto)]
+
+mod copying;
+mod custodians;
+mod entering;
+pub mod laws;
+mod listed;
+mod loading;
+mod restoring;
+
+pub use listed::{Life, Listed};
+pub use loading::load;

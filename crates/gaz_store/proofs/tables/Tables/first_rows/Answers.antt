@@ -1,0 +1,12 @@
+use Rattle.std.proofs.Common.{refl}
+use Rattle.gaz_tables.specs.Rowids.{FindsFirst}
+use Rattle.gaz_tables.specs.Schema.{versions}
+use Rattle.gaz_store.proofs.Composing.{query_asks}
+use Rattle.gaz_store.proofs.tables.Tables.first_rows.Goals as goal
+
+pub returns : goal.returns
+returns g c =
+    query_asks _ _ _ _ _ _ _ (λ db rows. FindsFirst 512 (db.trees versions) rows.items)
+    c.make_sure.ensures.asks (c.make_sure.new.self.is_open c.in_ok-make_sure.ensures.sure) c.known.ensures
+    c.first-found.ensures.found c.first-found.ensures.stays c.first-found.ensures.spared c.first-found.ensures.leaves
+    refl refl c.told.ensures.tells

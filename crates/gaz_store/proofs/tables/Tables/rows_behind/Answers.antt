@@ -1,0 +1,13 @@
+use Rattle.std.proofs.Common.{refl, w64}
+use Rattle.std.proofs.lemmas.Int.{to_z-of_z}
+use Rattle.gaz_tables.specs.Rowids.{FindsBehind}
+use Rattle.gaz_tables.specs.Schema.{versions}
+use Rattle.gaz_store.proofs.Composing.{query_asks}
+use Rattle.gaz_store.proofs.tables.Tables.rows_behind.Goals as goal
+
+pub returns : goal.returns
+returns g c =
+    query_asks _ _ _ _ _ _ _ (λ db rows. FindsBehind c.args.after 512 (db.trees versions) rows.items)
+    c.make_sure.ensures.asks (c.make_sure.new.self.is_open c.in_ok-make_sure.ensures.sure) c.known.ensures
+    (rw (to_z-of_z w64 c.args.after c.ranges.after) at c.behind-found.ensures.found) c.behind-found.ensures.stays c.behind-found.ensures.spared c.behind-found.ensures.leaves
+    refl refl c.told.ensures.tells

@@ -1,0 +1,30 @@
+-- What a store lists of the items that it has.
+use Rattle.std.specs.Prelude.{List, Option, option_map}
+use Rattle.std.specs.List.{filter_map}
+use Rattle.sqlite.specs.Edit.{id_in}
+use Rattle.sqlite.specs.Order.{Row}
+use Rattle.sqlite_trees.specs.declared.store.Store.{Ghosts}
+use Rattle.gaz_records.specs.declared.item.Item.{Item}
+use Rattle.gaz_tables.specs.Rowids.{rowid_of}
+use Rattle.gaz_tables.specs.Schema.{versions}
+use Rattle.gaz_tables.specs.Versions.{born_of, cust_of, gone_of}
+use Rattle.gaz_kept.specs.Versions.{item_in, living, number_in}
+use Rattle.gaz_loaded.specs.Lives.{Told}
+use Rattle.gaz_store.specs.Lives.{database_of}
+use Rattle.gaz_store.specs.declared.store.Store.{Store}
+
+-- a row of `version` tells of its item at its rowid
+abbrev pub told_with : Row → Item → Told
+told_with r x = record {
+  place = id_in (rowid_of r);
+  code = number_in (cust_of r);
+  life = living (number_in (born_of r)) (number_in (gone_of r)) x;
+}
+
+-- where its cells say one
+abbrev pub told_in : Row → Option Told
+told_in r = option_map (told_with r) (item_in r)
+
+-- what the rows of `version` tell
+abbrev pub lives_kept : {S : Type 0} → {store : Ghosts S} → Store S store → List Told
+lives_kept t = filter_map told_in ((database_of t).trees versions)

@@ -1,0 +1,85 @@
+-- What the rows of `version` say one after the other, in the order of their rowids.
+use Rattle.std.specs.Prelude.{◌≡◌, ◌≤◌, ◌==◌, ℕ, ℤ, pos, ◌<ℤ◌, ◌≤ℤ◌, if◌then◌else◌}
+use Rattle.std.specs.Prelude.{List, [], length, map, Option, None, Some, option_map}
+use Rattle.sqlite.specs.declared.types.Value.TheVariants.{Int}
+use Rattle.sqlite.specs.Edit.{id_in}
+use Rattle.sqlite.specs.Effect.{Database}
+use Rattle.sqlite.specs.Held.{state}
+use Rattle.sqlite.specs.Order.{Row}
+use Rattle.sqlite_rules.specs.Lists.{Has}
+use Rattle.sqlite_trees.specs.Tree.{IsAscending}
+use Rattle.sqlite_trees.specs.declared.store.Store.{Ghosts}
+use Rattle.gaz_records.specs.declared.item.Item.{Item}
+use Rattle.gaz_overlay.specs.Rows.{never}
+use Rattle.gaz_tables.specs.Rowids.{IsAnyRow, IsPlacedBehind, rowid_of}
+use Rattle.gaz_tables.specs.Versions.{born_of, cust_of, gone_of}
+use Rattle.gaz_kept.specs.Versions.{history_in, item_in, number_in}
+use Rattle.gaz_loaded.specs.Telling.{told}
+use Rattle.gaz_loaded.specs.declared.listed.Life.{Life}
+use Rattle.gaz_store.specs.Store.{seen_in}
+use Rattle.gaz_store.specs.declared.store.Store.{Store}
+
+-- ---- the tables of a store
+
+abbrev pub database_of : {S : Type 0} → {store : Ghosts S} → Store S store → Database
+database_of {S} {store} t = (state store t.tables.conn).now
+
+-- after a call that reads they are as they were
+abbrev pub TablesRest : {S : Type 0} → {store : Ghosts S} → Store S store → Store S store → Type 0
+TablesRest old new =
+    (seen_in old).stands → (seen_in new).unharmed → database_of new ≡ database_of old
+
+-- ---- what a row says
+
+-- the volume in which an item went, or none while it is current
+abbrev pub gone_in : ℕ → Option ℕ
+gone_in n = if n == never then None else Some n
+
+abbrev pub life_with : Row → Item → Life
+life_with r x = record {
+  place = id_in (rowid_of r);
+  code = number_in (cust_of r);
+  born = number_in (born_of r);
+  gone = gone_in (number_in (gone_of r));
+  item = x;
+}
+
+-- what a row says, where its cells say an item
+abbrev pub life_in : Row → Option Life
+life_in r = option_map (life_with r) (item_in r)
+
+-- each row says a life, and these are they in turn
+abbrev pub SayLives : List Row → List Life → Type 0
+SayLives rows lives = map life_in rows ≡ map Some lives
+
+-- a life has a row's rowid and custodian, and is that row's history
+pub record SaysLife (r : Row) (life : Life) : Type 0 where
+  pub place : rowid_of r ≡ Int life.place
+  pub custodian : cust_of r ≡ Int (pos life.code)
+  pub history : history_in life.code r ≡ Some (told life).life
+
+-- ---- what is told of a table's rows
+
+-- the row's rowid comes behind one, or any row where none is given
+abbrev pub IsRowBehind : Option ℤ → Row → Type 0
+IsRowBehind None = IsAnyRow
+IsRowBehind (Some after) = IsPlacedBehind after
+
+-- the row's rowid isn't behind one
+abbrev pub IsRowUntil : ℤ → Row → Type 0
+IsRowUntil last r = (n : ℤ) × (rowid_of r ≡ Int n) × (n ≤ℤ last)
+
+-- these are the lives of the rows behind a rowid, from the first on, with none left out between
+pub record TellsLives (after : Option ℤ) (lives : List Life) (rows : List Row)
+    : Type 0 where
+  -- each is that of a row
+  pub said : (life : Life) → Has lives life
+      → (r : Row) × Has rows r × IsRowBehind after r × SaysLife r life
+  -- each row that isn't behind one of them is said
+  pub complete : (r : Row) (last : Life) → Has rows r → Has lives last
+      → IsRowBehind after r → IsRowUntil last.place r
+      → (life : Life) × Has lives life × SaysLife r life
+  pub rising : IsAscending (λ a b. a.place <ℤ b.place) lives
+  -- there is none only where no row is left
+  pub ends : lives ≡ [] → (r : Row) → Has rows r → ¬ IsRowBehind after r
+  pub few : length lives ≤ 512

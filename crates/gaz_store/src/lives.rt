@@ -1,0 +1,68 @@
+//! The rows of `version` one after the other, in the order of their rowids.
+ghost use Rattle.std.specs.Prelude.{◌≡◌, true, All, IfOk};
+ghost use Rattle.gaz_records.specs.Items.{is_entry};
+ghost use Rattle.gaz_tables.specs.Rowids.{FindsBehind, FindsFirst, FindsInTurn};
+ghost use Rattle.gaz_tables.specs.Schema.{versions};
+ghost use Rattle.gaz_store.specs.Asking.{AsksTables};
+ghost use Rattle.gaz_store.specs.Lives.{IsRowBehind, TellsLives};
+
+use crate::life_rows::lives_in;
+use crate::tables::Tables;
+use gaz_keeper::ShelfFault;
+use gaz_loaded::Life;
+use gaz_tables::rowids;
+use sqlite::{Alter, Row};
+
+// The most rows of one answer.
+const MOST: u32 = 512;
+
+impl<S: Alter> Tables<S> {
+    // The rows, by rising rowids: the first so many.
+    fn first_rows(&mut self) -> Result<Vec<Row>, ShelfFault>
+        ensures { AsksTables self.old self.new result
+            (λ db rows. FindsFirst MOST (db.trees versions) rows.items) }
+    {
+        self.make_sure()?;
+        self.known();
+        self.sure = false;
+        let found = rowids::first(&mut self.conn, MOST);
+        self.told(found)
+    }
+
+    // Those behind a rowid.
+    fn rows_behind(&mut self, after: i64) -> Result<Vec<Row>, ShelfFault>
+        ensures { AsksTables self.old self.new result
+            (λ db rows. FindsBehind after MOST (db.trees versions) rows.items) }
+    {
+        self.make_sure()?;
+        self.known();
+        self.sure = false;
+        let found = rowids::behind(&mut self.conn, &after, MOST);
+        self.told(found)
+    }
+
+    // The same, or from the first row.
+    fn rows_in_turn(&mut self, after: Option<i64>) -> Result<Vec<Row>, ShelfFault>
+        ensures { AsksTables self.old self.new result (λ db rows.
+            FindsInTurn (IsRowBehind after) MOST (db.trees versions) rows.items) }
+    {
+        match after {
+            Some(after) => self.rows_behind(after),
+            None => self.first_rows(),
+        }
+    }
+
+    /// What the rows behind a rowid say, or those from the first, by rising rowids: at most 512.
+    pub fn lives_behind(&mut self, after: Option<i64>) -> Result<Vec<Life>, ShelfFault>
+        ensures asks { AsksTables self.old self.new result
+            (λ db lives. TellsLives after lives.items (db.trees versions)) }
+        ensures entries { IfOk result
+            (λ lives. All (λ life. is_entry life.item ≡ true) lives.items) }
+    {
+        let rows = self.rows_in_turn(after)?;
+        match lives_in(self.alloc, &rows) {
+            Ok(lives) => Ok(lives),
+            Err(fault) => Err(self.row_fault(fault)),
+        }
+    }
+}
