@@ -1,5 +1,5 @@
 #!/usr/bin/env python3
-"""The plain hub with everything in Python's `sqlite3`, by schema 1: the replies of `hub.py`, over the store in a file, which is made where there is none.
+"""The plain hub with everything in Python's `sqlite3`, by schema 2: the replies of `hub.py`, over the store in a file, which is made where there is none.
 
     bench/hub_sqlite.py STORE < REQUESTS
 
@@ -28,15 +28,20 @@ CREATE INDEX by_street ON version (cust, kind, street, gone);
 CREATE TABLE received (cust INTEGER NOT NULL, volume INTEGER NOT NULL, bytes BLOB NOT NULL, state INTEGER NOT NULL,
   place INTEGER NOT NULL, rule INTEGER NOT NULL, PRIMARY KEY (cust, volume)) STRICT;
 CREATE TABLE meta (id INTEGER NOT NULL PRIMARY KEY, number INTEGER NOT NULL, register TEXT NOT NULL) STRICT;
+CREATE TABLE version2 (cust INTEGER NOT NULL, kind INTEGER NOT NULL CHECK (kind IN (11, 15, 21, 23, 24, 92)), id TEXT NOT NULL,
+  blpu INTEGER NOT NULL, street INTEGER NOT NULL, lang INTEGER NOT NULL, live INTEGER NOT NULL, born INTEGER NOT NULL,
+  gone INTEGER NOT NULL, body TEXT NOT NULL, hop INTEGER NOT NULL, PRIMARY KEY (cust, kind, id, born)) STRICT;
+CREATE INDEX by_blpu2 ON version2 (cust, kind, blpu, gone);
+CREATE INDEX by_street2 ON version2 (cust, kind, street, gone);
 """
-NEWEST = "SELECT born, gone, body FROM version WHERE cust = ? AND kind = ? AND id = ? ORDER BY born DESC LIMIT 1"
-NEWEST_UNTIL = "SELECT gone, body FROM version WHERE cust = ? AND kind = ? AND id = ? AND born <= ? ORDER BY born DESC LIMIT 1"
-APPROVED_OF = "SELECT id, body FROM version WHERE cust = ? AND kind = 24 AND blpu = ? AND gone = 1000000 AND live = 1"
-APPROVED_ON = "SELECT id, lang FROM version WHERE cust = ? AND kind = 24 AND street = ? AND gone = 1000000 AND live = 1"
-HOLDING = "SELECT kind, body FROM version WHERE cust = ? AND born <= ? AND gone > ? ORDER BY kind, id"
-STREETS = "SELECT DISTINCT street FROM version WHERE cust = ? AND kind = 24 AND gone = 1000000 AND live = 1"
-INSERT = "INSERT INTO version VALUES (?, ?, ?, ?, ?, ?, ?, ?, ?, ?)"
-CLOSE = "UPDATE version SET gone = ? WHERE cust = ? AND kind = ? AND id = ? AND born = ?"
+NEWEST = "SELECT born, gone, body FROM version2 WHERE cust = ? AND kind = ? AND id = ? ORDER BY born DESC LIMIT 1"
+NEWEST_UNTIL = "SELECT gone, body FROM version2 WHERE cust = ? AND kind = ? AND id = ? AND born <= ? ORDER BY born DESC LIMIT 1"
+APPROVED_OF = "SELECT id, body FROM version2 WHERE cust = ? AND kind = 24 AND blpu = ? AND gone = 1000000 AND live = 1"
+APPROVED_ON = "SELECT id, lang FROM version2 WHERE cust = ? AND kind = 24 AND street = ? AND gone = 1000000 AND live = 1"
+HOLDING = "SELECT kind, body FROM version2 WHERE cust = ? AND born <= ? AND gone > ? ORDER BY kind, id"
+STREETS = "SELECT DISTINCT street FROM version2 WHERE cust = ? AND kind = 24 AND gone = 1000000 AND live = 1"
+INSERT = "INSERT INTO version2 VALUES (?, ?, ?, ?, ?, ?, ?, ?, ?, ?, 0)"
+CLOSE = "UPDATE version2 SET gone = ? WHERE cust = ? AND kind = ? AND id = ? AND born = ?"
 
 
 # ---- cells
@@ -203,7 +208,7 @@ class StoredHub(Hub):
 
     def make(self):
         self.conn.executescript("BEGIN;" + TABLES)
-        self.conn.execute("INSERT INTO meta VALUES (1, 1, ?)", (TEXT,))
+        self.conn.execute("INSERT INTO meta VALUES (1, 2, ?)", (TEXT,))
         self.conn.execute("COMMIT")
 
     @contextlib.contextmanager

@@ -68,7 +68,7 @@ def opening_rows(place, count):
 def scanned(store):
     """All rows of a store, by Python's sqlite3."""
     with closing(sqlite3.connect(store)) as conn:
-        return [conn.execute(f"SELECT * FROM {table}").fetchall() for table in ("version", "received")]
+        return [conn.execute(f"SELECT * FROM {table}").fetchall() for table in ("version2", "received")]
 
 
 def filling_rows(place):

@@ -68,7 +68,7 @@ class Floor:
         start = time.perf_counter_ns()
         for first in range(0, self.count, VOLUME):
             places = (scattered(turn, self.count) for turn in range(first, min(first + VOLUME, self.count)))
-            self.write(self.versions["insert"], ((CUST, ADDRESS, f"{k:012}", k, k // 50, 1, 1, 1, 1_000_000, BODY) for k in places))
+            self.write(self.versions["insert"], ((CUST, ADDRESS, f"{k:012}", k, k // 50, 1, 1, 1, 1_000_000, BODY, 0) for k in places))
         self.tell("insert", self.count, self.count, start)
         self.conn.execute("ANALYZE")  # without it sqlite3 walks all rows of a kind for the first on a street
 
@@ -116,7 +116,7 @@ def ours_of(path, count):
 def same_rows(folder, names):
     """Whether two files have the same rows, as sqlite3 reads them."""
     ours, theirs = (sqlite3.connect(os.path.join(folder, name)) for name in names)
-    tables = ("version ORDER BY cust, kind, id, born", "received ORDER BY cust, volume")
+    tables = ("version2 ORDER BY cust, kind, id, born", "received ORDER BY cust, volume")
     pairs = [(it.execute(f"SELECT * FROM {table}") for it in (ours, theirs)) for table in tables]
     return all(all(a == b for a, b in zip(*pair, strict=True)) for pair in pairs)
 

@@ -25,7 +25,7 @@ def a_row_that_cant_be_read_is_told(room: Room) -> str | None:
     store = room.store()
     submit(room, store, 1001, 1, STREET)
     with contextlib.closing(sqlite3.connect(store, isolation_level=None)) as conn:
-        conn.execute("UPDATE version SET body = 'nothing'")
+        conn.execute("UPDATE version2 SET body = 'nothing'")
     asked = subprocess.run(room.words("extract", store, "1001", "1"), capture_output=True)
     if (asked.returncode, asked.stderr) != (3, b"gazhub: NotReceived\n"):
         return f"the command says {asked.stderr!r} with status {asked.returncode}"

@@ -29,7 +29,7 @@ MAY_REFUSE = "no UTF-8"
 
 
 def is_spared(place: int, harmed: int) -> bool:
-    """Whether the question at a place of QUESTIONS reads no row of `version` of this custodian: it is about files, or another's extract."""
+    """Whether the question at a place of QUESTIONS reads no row of `version2` of this custodian: it is about files, or another's extract."""
     if place < len(FILES):
         return True
     if place < FIRST_STANDING:
@@ -52,7 +52,7 @@ def contents(store: Path) -> list | str:
     try:
         with opened(store) as conn:
             conn.text_factory = bytes
-            return [conn.execute(f"SELECT * FROM {table} NOT INDEXED").fetchall() for table in COLUMNS]
+            return [conn.execute(f"SELECT * FROM {table} NOT INDEXED").fetchall() for table in (*COLUMNS, "version")]
     except (sqlite3.DatabaseError, UnicodeDecodeError) as why:
         return str(why)
 
@@ -91,15 +91,22 @@ def first_other(got: list[bytes], right: list[bytes], harmed: int) -> str | None
     return next((f"question {at} is told {it[:200]}" for at, (it, wanted) in pairs if it != wanted and is_spared(at, harmed)), None)
 
 
+def has_other_files(now: list | str, then: list | str) -> bool:
+    """Whether a damage, of a page say, was one to the received files."""
+    received = list(COLUMNS).index("received")
+    return isinstance(now, list) and isinstance(then, list) and now[received] != then[received]
+
+
 def asks(on: Ground, store: Path, damage: Damage, right: list[bytes]) -> str | None:
     """What is wrong with questions alone: also, they are told as before where they read no damaged row, and write nothing. But among the received
     files a damage may make one ready, which is judged before a question is answered."""
     before = contents(store)
+    may_make_ready = damage.name.startswith("received") or has_other_files(before, contents(on.ready))
     it = told(on, store, QUESTIONS)
     fault = it.fault(len(right))
     if fault:
         return fault
-    if not damage.name.startswith("received") and contents(store) != before:
+    if not may_make_ready and contents(store) != before:
         return "a question has written"
     if damage.harms is None:
         return None

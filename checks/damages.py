@@ -10,7 +10,7 @@ from pathlib import Path
 from checks.tables import opened
 
 COLUMNS = {
-    "version": ("cust", "kind", "id", "blpu", "street", "lang", "live", "born", "gone", "body"),
+    "version2": ("cust", "kind", "id", "blpu", "street", "lang", "live", "born", "gone", "body", "hop"),
     "received": ("cust", "volume", "bytes", "state", "place", "rule"),
     "meta": ("id", "number", "register"),
 }
@@ -29,19 +29,27 @@ VALUES = {
     "a megabyte": "zeroblob(1048576)",
 }
 
+# A row of custody beside another: whose it is, and which number passes to or from custodian 1002.
+CUSTODY = "INSERT INTO version2 SELECT cust, 92, printf('%012d', rowid), rowid, 1002, 0,"
+
 ROWS = {
-    "version": {
-        "is gone": "DELETE FROM version WHERE rowid = {row}",
-        "is there twice": "INSERT INTO version SELECT * FROM version WHERE rowid = {row}",
-        "is there under another id": "INSERT INTO version SELECT cust, kind, id || '0', blpu, street, lang, live, born, gone, body FROM version WHERE rowid = {row}",
-        "is there of another kind": "INSERT INTO version SELECT cust, 35 - kind, id, blpu, street, lang, live, born, gone, body FROM version WHERE rowid = {row}",
-        "is there for nobody": "INSERT INTO version SELECT 9999, kind, id, blpu, street, lang, live, born, gone, body FROM version WHERE rowid = {row}",
-        "is born twice": "INSERT INTO version SELECT cust, kind, id, blpu, street, lang, live, born + 1, gone, body FROM version WHERE rowid = {row}",
-        "is born at once": "UPDATE version SET born = 1 WHERE rowid = {row}",
-        "is born late": "UPDATE version SET born = 999999 WHERE rowid = {row}",
-        "never goes": "UPDATE version SET gone = 1000000 WHERE rowid = {row}",
-        "goes before it is born": "UPDATE version SET gone = born - 1 WHERE rowid = {row}",
-        "has another body": "UPDATE version SET body = (SELECT body FROM version WHERE rowid <> {row} LIMIT 1) WHERE rowid = {row}",
+    "version2": {
+        "is gone": "DELETE FROM version2 WHERE rowid = {row}",
+        "is there twice": "INSERT INTO version2 SELECT * FROM version2 WHERE rowid = {row}",
+        "is there under another id": "INSERT INTO version2 SELECT cust, kind, id || '0', blpu, street, lang, live, born, gone, body, hop FROM version2 WHERE rowid = {row}",
+        "is there of another kind": "INSERT INTO version2 SELECT cust, 35 - kind, id, blpu, street, lang, live, born, gone, body, hop FROM version2 WHERE rowid = {row}",
+        "is there for nobody": "INSERT INTO version2 SELECT 9999, kind, id, blpu, street, lang, live, born, gone, body, hop FROM version2 WHERE rowid = {row}",
+        "is born twice": "INSERT INTO version2 SELECT cust, kind, id, blpu, street, lang, live, born + 1, gone, body, hop FROM version2 WHERE rowid = {row}",
+        "is born at once": "UPDATE version2 SET born = 1 WHERE rowid = {row}",
+        "is born late": "UPDATE version2 SET born = 999999 WHERE rowid = {row}",
+        "never goes": "UPDATE version2 SET gone = 1000000 WHERE rowid = {row}",
+        "goes before it is born": "UPDATE version2 SET gone = born - 1 WHERE rowid = {row}",
+        "has another body": "UPDATE version2 SET body = (SELECT body FROM version2 WHERE rowid <> {row} LIMIT 1) WHERE rowid = {row}",
+        "has a hop": "UPDATE version2 SET hop = 1 WHERE rowid = {row}",
+        "has a hop of 10000": "UPDATE version2 SET hop = 10000 WHERE rowid = {row}",
+        "is one of custody": "UPDATE version2 SET kind = 92 WHERE rowid = {row}",
+        "is of a number that was released, too": f"{CUSTODY} 0, born, 1000000, '', 1 FROM version2 WHERE rowid = {{row}}",
+        "is of a number that was adopted, too": f"{CUSTODY} 1, born, 1000000, '', 2 FROM version2 WHERE rowid = {{row}}",
     },
     "received": {
         "is gone": "DELETE FROM received WHERE rowid = {row}",
@@ -57,17 +65,20 @@ ROWS = {
 }
 
 SCHEMAS = {
-    "an index is gone": "DROP INDEX by_blpu",
-    "both indexes are gone": "DROP INDEX by_blpu; DROP INDEX by_street",
-    "an index is over other columns": "sql = replace(sql, 'blpu, gone', 'gone, blpu') WHERE name = 'by_blpu'",
-    "an index says that it is one of keys": "sql = replace(sql, 'CREATE INDEX', 'CREATE UNIQUE INDEX') WHERE name = 'by_street'",
-    "an index is the other one": "rootpage = (SELECT rootpage FROM sqlite_schema WHERE name = 'by_street') WHERE name = 'by_blpu'",
-    "an index is a table": "rootpage = (SELECT rootpage FROM sqlite_schema WHERE name = 'version') WHERE name = 'by_blpu'",
-    "a table is an index": "rootpage = (SELECT rootpage FROM sqlite_schema WHERE name = 'by_blpu') WHERE name = 'version'",
-    "a table is another one": "rootpage = (SELECT rootpage FROM sqlite_schema WHERE name = 'received') WHERE name = 'version'",
+    "an index is gone": "DROP INDEX by_blpu2",
+    "both indexes are gone": "DROP INDEX by_blpu2; DROP INDEX by_street2",
+    "an index is over other columns": "sql = replace(sql, 'blpu, gone', 'gone, blpu') WHERE name = 'by_blpu2'",
+    "an index says that it is one of keys": "sql = replace(sql, 'CREATE INDEX', 'CREATE UNIQUE INDEX') WHERE name = 'by_street2'",
+    "the indexes of the table that is empty are gone": "DROP INDEX by_blpu; DROP INDEX by_street",
+    "an index is the other one": "rootpage = (SELECT rootpage FROM sqlite_schema WHERE name = 'by_street2') WHERE name = 'by_blpu2'",
+    "an index is a table": "rootpage = (SELECT rootpage FROM sqlite_schema WHERE name = 'version2') WHERE name = 'by_blpu2'",
+    "a table is an index": "rootpage = (SELECT rootpage FROM sqlite_schema WHERE name = 'by_blpu2') WHERE name = 'version2'",
+    "a table is another one": "rootpage = (SELECT rootpage FROM sqlite_schema WHERE name = 'received') WHERE name = 'version2'",
+    "a table is the one that is empty": "rootpage = (SELECT rootpage FROM sqlite_schema WHERE name = 'version') WHERE name = 'version2'",
+    "a table that is empty isn't": "rootpage = (SELECT rootpage FROM sqlite_schema WHERE name = 'version2') WHERE name = 'version'",
     "a table is the schema": "rootpage = 1 WHERE name = 'received'",
-    "a table is behind the file": "rootpage = 99999 WHERE name = 'version'",
-    "a table's declaration is none": "sql = 'CREATE TABLE version (' WHERE name = 'version'",
+    "a table is behind the file": "rootpage = 99999 WHERE name = 'version2'",
+    "a table's declaration is none": "sql = 'CREATE TABLE version2 (' WHERE name = 'version2'",
 }
 
 # Tables that take each value, with the same indexes and one in place of each key.
@@ -75,8 +86,8 @@ LOOSE = "".join(
     f"ALTER TABLE {table} RENAME TO it; CREATE TABLE {table} ({', '.join(columns)}); INSERT INTO {table} SELECT * FROM it; DROP TABLE it;"
     for table, columns in COLUMNS.items()
 ) + (
-    "CREATE INDEX by_blpu ON version (cust, kind, blpu, gone); CREATE INDEX by_street ON version (cust, kind, street, gone);"
-    "CREATE INDEX by_key ON version (cust, kind, id, born); CREATE INDEX by_volume ON received (cust, volume);"
+    "CREATE INDEX by_blpu2 ON version2 (cust, kind, blpu, gone); CREATE INDEX by_street2 ON version2 (cust, kind, street, gone);"
+    "CREATE INDEX by_key ON version2 (cust, kind, id, born); CREATE INDEX by_volume ON received (cust, volume);"
 )
 # What a page is overwritten with.
 WRITTEN = ("zeros", "noise", "noise at its head", *(f"five other bytes, {turn}" for turn in range(1, 6)))
@@ -89,7 +100,7 @@ class Damage:
 
     name: str
     do: Callable[[Path], None]
-    harms: int | None = None  # the custodian of the one row of `version` that it touches
+    harms: int | None = None  # the custodian of the one row of `version2` that it touches
 
 
 def by_sql(store: Path, sql: str) -> None:
@@ -142,7 +153,7 @@ def of_cells(store: Path) -> Iterator[Damage]:
             for column in columns:
                 for name, value in VALUES.items():
                     sql = f"UPDATE {table} SET {column} = {value} WHERE rowid = {row}"
-                    yield Damage(f"{table} {row}: {name} as {column}", lambda it, sql=sql: by_any_sql(it, sql), whose if table == "version" else None)
+                    yield Damage(f"{table} {row}: {name} as {column}", lambda it, sql=sql: by_any_sql(it, sql), whose if table == "version2" else None)
 
 
 def of_rows(store: Path) -> Iterator[Damage]:
@@ -151,7 +162,7 @@ def of_rows(store: Path) -> Iterator[Damage]:
         for row, whose in rows_in(store, table):
             for name, sql in them.items():
                 text = sql.format(row=row)
-                yield Damage(f"{table} {row} {name}", lambda it, text=text: by_any_sql(it, text), whose if table == "version" else None)
+                yield Damage(f"{table} {row} {name}", lambda it, text=text: by_any_sql(it, text), whose if table == "version2" else None)
 
 
 def of_pages(store: Path, small: Path) -> Iterator[Damage]:

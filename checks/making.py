@@ -17,12 +17,14 @@ REGISTER = '[[custodian]]\ncode = 1001\nname = "one"\nuprn = []\nusrn = []\n'
 LOOSE = (
     "CREATE TABLE Meta (register TEXT, number INTEGER, id INTEGER PRIMARY KEY);"
     "CREATE TABLE VERSION (born, gone, body, cust, kind, id, blpu, street, lang, live, note);"
+    "CREATE TABLE Version2 (hop, born, gone, body, cust, kind, id, note, blpu, street, lang, live);"
     "CREATE TABLE received (place, rule, STATE, bytes, volume, cust);"
-    "INSERT INTO meta (id, number, register) VALUES (1, 1, '1001,one,,' || char(10))"
+    "INSERT INTO meta (id, number, register) VALUES (1, 2, '1001,one,,' || char(10))"
 )
-NO_TABLES = "DROP TABLE meta; DROP TABLE received; DROP TABLE version"
+NO_TABLES = "DROP TABLE meta; DROP TABLE received; DROP TABLE version; DROP TABLE version2"
 COLUMNS = {
     "version": ("cust", "kind", "id", "blpu", "street", "lang", "live", "born", "gone", "body"),
+    "version2": ("cust", "kind", "id", "blpu", "street", "lang", "live", "born", "gone", "body", "hop"),
     "received": ("cust", "volume", "bytes", "state", "place", "rule"),
     "meta": ("id", "number", "register"),
 }
@@ -51,22 +53,24 @@ def lacking() -> Iterator[str]:
 GROUPS = (
     Group("init", False, "", ("", "CREATE TABLE note (id)")),
     Group("init", True, "", (NO_TABLES,)),
-    # A table of one of the three names, in whatever case, with whatever in it.
+    # A table of one of the four names, in whatever case, with whatever in it.
     Group(
         "init",
         False,
         "BadSchema",
         (
             "CREATE TABLE version (id)",
+            "CREATE TABLE version2 (id)",
             "CREATE TABLE received (id)",
             "CREATE TABLE meta (id)",
             "CREATE TABLE VERSION (id)",
+            "CREATE TABLE Version2 (id)",
             "CREATE TABLE Received (id); INSERT INTO Received VALUES (7)",
             "CREATE TABLE mETA (id); CREATE INDEX by_id ON mETA (id); CREATE TABLE note (id)",
             LOOSE,
         ),
     ),
-    Group("init", True, "BadSchema", ("", "DROP TABLE meta")),
+    Group("init", True, "BadSchema", ("", "DROP TABLE meta", "DROP TABLE version2", "DROP TABLE meta; DROP TABLE received; DROP TABLE version")),
     # What else has one of these names, or that of an index.
     Group(
         "init",
@@ -74,16 +78,28 @@ GROUPS = (
         "Fault",
         (
             "CREATE VIEW version AS SELECT 1",
+            "CREATE VIEW version2 AS SELECT 1",
             "CREATE VIEW received AS SELECT 1",
             "CREATE VIEW meta AS SELECT 1",
             "CREATE TABLE note (id); CREATE INDEX meta ON note (id)",
             "CREATE TABLE by_blpu (id)",
             "CREATE TABLE note (id); CREATE INDEX by_street ON note (id)",
+            "CREATE TABLE by_blpu2 (id)",
+            "CREATE TABLE note (id); CREATE INDEX by_street2 ON note (id)",
         ),
     ),
     # Whoever has made the tables, in whatever order.
     Group("status", False, "", (LOOSE,)),
-    Group("status", True, "", ("", "DROP INDEX by_blpu; CREATE TABLE note (id)")),
+    Group(
+        "status",
+        True,
+        "",
+        (
+            "",
+            "DROP INDEX by_blpu; DROP INDEX by_blpu2; CREATE TABLE note (id)",
+            "INSERT INTO version VALUES (1001, 11, 'x', 0, 0, 0, 0, 1, 2, '')",
+        ),
+    ),
     # No tables, or not all, or not all columns.
     Group("status", False, "BadSchema", ("", "CREATE TABLE note (id)")),
     Group(
@@ -93,10 +109,11 @@ GROUPS = (
         (
             NO_TABLES,
             "DROP TABLE version",
+            "DROP TABLE version2",
             "DROP TABLE received",
             "DROP TABLE meta",
             "DROP TABLE meta; CREATE TABLE metas (id, number, register)",
-            "DROP TABLE meta; CREATE VIEW meta AS SELECT 1 AS id, 1 AS number, '' AS register",
+            "DROP TABLE meta; CREATE VIEW meta AS SELECT 1 AS id, 2 AS number, '' AS register",
             *lacking(),
         ),
     ),
@@ -109,8 +126,10 @@ GROUPS = (
             "DELETE FROM meta",
             "INSERT INTO meta SELECT 2, number, register FROM meta",
             "UPDATE meta SET id = 2",
-            "UPDATE meta SET number = 2",
-            "UPDATE meta SET register = 'x', number = 2",
+            "UPDATE meta SET number = 1",
+            "UPDATE meta SET number = 3",
+            "UPDATE meta SET number = 1; DROP TABLE version2",
+            "UPDATE meta SET register = 'x', number = 1",
             "UPDATE meta SET register = 'x'; DROP TABLE version",
         ),
     ),
@@ -121,7 +140,7 @@ GROUPS = (
         (
             "UPDATE meta SET register = '1001,two,,' || char(10)",
             "UPDATE meta SET register = ''",
-            "DROP TABLE meta; CREATE TABLE meta (id, number, register); INSERT INTO meta VALUES (1, 1, NULL)",
+            "DROP TABLE meta; CREATE TABLE meta (id, number, register); INSERT INTO meta VALUES (1, 2, NULL)",
         ),
     ),
 )

@@ -16,9 +16,11 @@ from checks import (
     making,
     opening,
     registers,
+    reopening,
     rings,
     runs,
     schema1,
+    schema2,
     serving,
     sessions,
     sizes,
@@ -55,17 +57,18 @@ def of_program(program: Path, root: Path) -> Iterator[Case]:
     yield from named("making:", making.run_all(program))
     yield from named("page", tour.run_all(program, root))
     yield from named("opening", opening.run_all(program))
-    yield from named("serving:", serving.run_all(program, (*serving.CASES, *at_hand.CASES, killing.killed_while_files_come)))
+    yield from named("serving:", serving.run_all(program, (*serving.CASES, *at_hand.CASES, killing.killed_while_files_come, reopening.what_failed_once_is_opened_again)))
 
 
 def of_stores(root: Path, room: Path) -> Iterator[Case]:
-    """Of stores in files: the conversations over them, other people's SQLite, damage, rows as they are written, what they cost, rings;
+    """Of stores in files: the conversations over them, other people's SQLite, damage, stores of the schema before, rows as they are written, what they cost, rings;
     memory that is wanting, and histories over stores and keepers that fail."""
     yield from held(stored.run_all(root, room))
     yield from held(in_turn.run_all(root, room))
     yield from named("a store", foreign.run_all(root, room))
     yield from named("damaged:", damaged.run_all(root, room))
     yield from named("schema 1,", schema1.run_all(root, room))
+    yield from named("schema 2,", schema2.run_all(root, room))
     yield from named("steps:", steps.run_all(root, room))
     yield from named("left:", left.run_all(room))
     yield from held(rings.run_all(room))

@@ -2,6 +2,7 @@
 
 import contextlib
 import http.client
+import os
 import re
 import shutil
 import socket
@@ -58,21 +59,30 @@ class Room:
         return store
 
     @contextlib.contextmanager
-    def serves(self, connections: int, store: Path | None = None) -> Iterator[Served]:
-        """Serves so many connections, on a port that the system chooses."""
+    def serves(self, connections: int, store: Path | None = None, **env: str) -> Iterator[Served]:
+        """Serves so many connections, on a port that the system chooses, in an environment with these besides."""
         store = store or self.store()
         words = self.words("serve", store, "--port", "0", "--connections", str(connections))
-        child = subprocess.Popen(words, stdout=subprocess.PIPE, stderr=subprocess.PIPE)
+        child = subprocess.Popen(words, stdout=subprocess.PIPE, stderr=subprocess.PIPE, env=os.environ | env)
         try:
             line = child.stdout.readline().decode()
             found = re.fullmatch(r"listening 127\.0\.0\.1:(\d+)\n", line)
-            assert found, f"it says {line!r}, {child.stderr.read() if child.poll() is not None else b''!r}"
+            assert found, f"it says {line!r}, {last_words(child)!r}"
             yield Served(child, int(found[1]), store)
         finally:
             child.kill()
             child.wait()
             child.stdout.close()
             child.stderr.close()
+
+
+def last_words(child: subprocess.Popen) -> bytes:
+    """What a program that ends says on standard error; nothing of one that goes on."""
+    try:
+        child.wait(10)
+    except subprocess.TimeoutExpired:
+        return b""
+    return child.stderr.read()
 
 
 def replied(client: http.client.HTTPConnection, method: str, target: str, body: bytes | None = None) -> tuple[int, bytes]:

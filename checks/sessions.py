@@ -22,6 +22,14 @@ uprn = [[100000, 199999]]
 usrn = [[200, 299]]
 """
 
+NEW_TOWN = b"""
+[[custodian]]
+code = 1004
+name = "New Town"
+uprn = [[300000, 399999]]
+usrn = [[400, 499]]
+"""
+
 STREET = b"10,1,1001,1,2024-01-02\n11,I,1,101,1,2001-04-01,\n99,1\n"
 DESCRIPTOR = b"10,1,1001,2,2024-02-01\n15,I,1,101,ENG,High Street,,Arden,Arden\n99,1\n"
 FLAT = (
@@ -38,6 +46,12 @@ EXTRACT = b"10,E,1001,2\n11,I,1,101,1,2001-04-01,\n15,I,2,101,ENG,High Street,,A
 FILES = {
     "r.toml": REGISTER,
     "other.toml": REGISTER.replace(b"Upper", b"Lower"),
+    "grown.toml": REGISTER + NEW_TOWN,
+    "smaller.toml": REGISTER[: REGISTER.index(b"\n[[custodian]]", 1)],
+    "changed.toml": REGISTER.replace(b"299]]", b"298]]"),
+    "both.toml": (REGISTER[: REGISTER.index(b"\n[[custodian]]", 1)] + NEW_TOWN).replace(b"199]]", b"198]]"),
+    "based.csv": b"10,1,1002,1,2024-06-01\n90,1004,1\n99,0\n",
+    "town.csv": b"10,1,1004,1,2024-06-01\n99,0\n",
     "no.toml": b"[[custodian",
     "empty.toml": b"",
     "400.toml": register_of(400).encode(),
@@ -77,10 +91,12 @@ def fails(name: str) -> bytes:
 
 
 STORE = "--store s.db --register r.toml"
+GROWN = "--store s.db --register grown.toml"
 MANY = "--store s.db --register 400.toml"
 INIT = Step(f"init {STORE}", 0, b"ready\n")
 FIRST = Step(f"submit {STORE} 1001 1 street.csv", 0, b"new applied\n")
 SECOND = Step(f"submit {STORE} 1001 2 descriptor.csv", 0, b"new applied\n")
+EXTEND = Step(f"extend {STORE} --grown grown.toml", 0, b"extended\n")
 
 SESSIONS = (
     Session(
@@ -177,6 +193,51 @@ SESSIONS = (
             Step(f"extract {STORE} 12345 x", 1, b"refused 11\n"),
             Step(f"extract {STORE} 9998 x", 1, b"refused 12\n"),
         ),
+    ),
+    Session(
+        "a register that grows by the custodian for whom a file waits",
+        (
+            INIT,
+            Step(f"submit {STORE} 1002 1 based.csv", 1, b"new held wants 1004/1\n"),
+            Step(f"submit {STORE} 1004 1 town.csv", 1, b"refused 11\n"),
+            EXTEND,
+            Step(f"submit {GROWN} 1002 1 based.csv", 1, b"repeat held wants 1004/1\n"),
+            Step(f"submit {GROWN} 1004 1 town.csv", 0, b"new applied\n"),
+            Step(f"submit {GROWN} 1002 1 based.csv", 0, b"repeat applied\n"),
+            Step(f"status {STORE} 1002", 3, said=fails("OtherRegister")),
+            Step(EXTEND.words, 3, said=fails("OtherRegister")),
+            Step(f"extend {GROWN} --grown grown.toml", 0, b"extended\n"),
+            Step(f"extend {GROWN} --grown r.toml", 1, b"refused 61\n"),
+        ),
+        there=("s.db",),
+    ),
+    Session(
+        "a register that is no growth, and what stays where it is refused",
+        (
+            INIT,
+            FIRST,
+            Step(f"extend {STORE} --grown smaller.toml", 1, b"refused 61\n"),
+            Step(f"extend {STORE} --grown changed.toml", 1, b"refused 62\n"),
+            Step(f"extend {STORE} --grown both.toml", 1, b"refused 61\n"),
+            Step(f"status {STORE} 1001", 0, b"custodian 1001 judged 1 held 0 wants 1001/2\n"),
+            Step(f"extend {STORE} --grown other.toml", 0, b"extended\n"),
+            Step("status --store s.db --register other.toml 1001", 0, b"custodian 1001 judged 1 held 0 wants 1001/2\n"),
+        ),
+    ),
+    Session(
+        "of two faults of a growth the first is told, and no file is made",
+        (
+            Step(f"extend {STORE}", 2, said=None),
+            Step("extend --store s.db --register missing.toml --grown no.toml", 3, said=fails("Unreadable")),
+            Step("extend --store s.db --register empty.toml --grown missing.toml", 3, said=fails("Shape")),
+            Step(f"extend {STORE} --grown missing.toml", 3, said=fails("Unreadable")),
+            Step(f"extend {STORE} --grown no.toml", 3, said=fails("NotToml")),
+            Step(f"extend {STORE} --grown smaller.toml", 3, said=fails("Fault")),
+            Step("extend --store no.db --register r.toml --grown smaller.toml", 3, said=fails("Fault")),
+            Step("init --store o.db --register other.toml", 0, b"ready\n"),
+            Step("extend --store o.db --register r.toml --grown smaller.toml", 3, said=fails("OtherRegister")),
+        ),
+        not_there=("s.db", "s.db-wal"),
     ),
 )
 

@@ -83,7 +83,7 @@ def in_use(on: Ground) -> str | None:
     store = on.damaged()
     with opened(store) as conn:
         conn.execute("BEGIN IMMEDIATE")
-        conn.execute("UPDATE meta SET number = 1")
+        conn.execute("UPDATE meta SET number = 2")
         found = on.hubs.over(store, QUESTIONS)
         conn.execute("COMMIT")
     if found != FAULT:
@@ -95,7 +95,7 @@ def left_in_transaction(on: Ground) -> str | None:
     """What is wrong with a store that Python left within a transaction: only SQLite can take it back, and then a hub finds what was there."""
     store, left = on.damaged(), on.place()
     with opened(store) as conn:
-        conn.executescript("PRAGMA journal_mode = DELETE; PRAGMA cache_size = 1; BEGIN; DELETE FROM version; CREATE TABLE other (x)")
+        conn.executescript("PRAGMA journal_mode = DELETE; PRAGMA cache_size = 1; BEGIN; DELETE FROM version2; CREATE TABLE other (x)")
         conn.execute("INSERT INTO other VALUES (zeroblob(1000000))")
         for end in ("", "-journal"):
             shutil.copyfile(f"{store}{end}", f"{left}{end}")

@@ -23,7 +23,12 @@ SPARE = 2
 
 
 # What is told where no statement may take a step of a store to which this was done: that a table is missing is seen without one.
-WITHOUT_STEPS = {"SELECT 1": "Fault", "UPDATE meta SET register = 'x'": "Fault", "DROP TABLE version": "BadSchema"}
+WITHOUT_STEPS = {
+    "SELECT 1": "Fault",
+    "UPDATE meta SET register = 'x'": "Fault",
+    "DROP TABLE version": "BadSchema",
+    "DROP TABLE version2": "BadSchema",
+}
 
 
 class Stepping(Hubs):

@@ -80,6 +80,10 @@ class Hubs:
         """The same, but the store is closed and opened between these pieces of the stream, within one process."""
         return _run([self.bench, "stored-each", store, self.register], framed(pieces))
 
+    def at_hand(self, store: Path, requests: bytes) -> Answered:
+        """The same as `over`, but read from memory where the store can be brought to hand."""
+        return _run([self.bench, "at-hand", store, self.register], requests)
+
     def without_store(self, requests: bytes) -> Answered:
         """The answers over the keeper in memory."""
         return _run([self.bench, "play", self.register], requests)

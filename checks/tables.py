@@ -7,6 +7,9 @@ import sqlite3
 from collections.abc import Iterator
 from pathlib import Path
 
+# The tables of a store, each with its key. Those of items are schema 2's, and schema 1's, which schema 2 has beside it and leaves empty.
+KEYS = {"meta": "id", "received": "cust, volume", "version": "cust, kind, id, born", "version2": "cust, kind, id, born"}
+
 
 @contextlib.contextmanager
 def opened(store: Path) -> Iterator[sqlite3.Connection]:
@@ -33,19 +36,16 @@ def write_store(path: Path, schema: list[str], rows: dict[str, list[tuple]]) -> 
 
 
 def rows_of(store: Path) -> dict[str, list[tuple]]:
-    """The rows of a store's tables, in the order of their keys."""
+    """The rows of a store's tables, of those that are there, in the order of their keys."""
     with opened(store) as conn:
-        return {
-            "meta": conn.execute("SELECT * FROM meta ORDER BY id").fetchall(),
-            "received": conn.execute("SELECT * FROM received ORDER BY cust, volume").fetchall(),
-            "version": conn.execute("SELECT * FROM version ORDER BY cust, kind, id, born").fetchall(),
-        }
+        there = {name for (name,) in conn.execute("SELECT name FROM sqlite_schema WHERE type = 'table'")}
+        return {table: conn.execute(f"SELECT * FROM {table} ORDER BY {key}").fetchall() for table, key in KEYS.items() if table in there}
 
 
 def view_in(conn: sqlite3.Connection, code: int, volume: int) -> bytes:
     """The extract of a volume, by a query of Python's own."""
     rows = conn.execute(
-        "SELECT kind, body FROM version WHERE cust = ? AND born <= ? AND gone > ? ORDER BY kind, id", (code, volume, volume)
+        "SELECT kind, body FROM version2 WHERE cust = ? AND born <= ? AND gone > ? ORDER BY kind, id", (code, volume, volume)
     ).fetchall()
     lines = [f"{kind},I,{order},{body}" for order, (kind, body) in enumerate(rows, 1)]
     return "\n".join((f"10,E,{code},{volume}", *lines, f"99,{len(rows)}", "")).encode()

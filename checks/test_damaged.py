@@ -10,15 +10,16 @@ from checks.conversations import requests_in
 from checks.foreign import REFUSED
 from checks.history import QUESTIONS
 from checks.stores import TEXT, Answered, Hubs
+from checks.written import SECOND
 
-SCHEMA = tables.schema_in(Path(__file__).resolve().parent.parent / "docs" / "tables.md")
+SCHEMA = SECOND.statements()
 ROWS = {
-    "meta": [(1, 1, TEXT)],
+    "meta": [(1, 2, TEXT)],
     "received": [(1001, 1, b"one", 1, 0, 0), (1001, 2, b"two", 2, 3, 21), (1002, 1, b"three", 0, 0, 0)],
-    "version": [
-        (1001, 11, "00000101", 0, 101, 0, 0, 1, 2, "101,1,2001-04-01,"),
-        (1001, 11, "00000101", 0, 101, 0, 0, 2, 1_000_000, "101,1,2001-04-01,2024-04-30"),
-        (1001, 21, "000000000042", 0, 0, 0, 0, 2, 1_000_000, "42,1,1,1,,,2001-04-01,"),
+    "version2": [
+        (1001, 11, "00000101", 0, 101, 0, 0, 1, 2, "101,1,2001-04-01,", 0),
+        (1001, 11, "00000101", 0, 101, 0, 0, 2, 1_000_000, "101,1,2001-04-01,2024-04-30", 0),
+        (1001, 21, "000000000042", 0, 0, 0, 0, 2, 1_000_000, "42,1,1,1,,,2001-04-01,", 0),
     ],
 }
 OK = b'HTTP/1.1 200 OK\r\nContent-Type: application/json\r\nContent-Length: 3\r\n\r\n{}\n'
@@ -46,8 +47,8 @@ class Telling(Hubs):
 
 
 RIGHT = [OK] * len(requests_in(QUESTIONS))
-OF_A_ROW = damages.Damage("a row", lambda it: damages.by_sql(it, "UPDATE version SET body = 'x' WHERE rowid = 1"), 1001)
-OF_A_TEXT = damages.Damage("no UTF-8", lambda it: damages.by_sql(it, "UPDATE version SET body = CAST(x'ff' AS TEXT) WHERE rowid = 1"), 1001)
+OF_A_ROW = damages.Damage("a row", lambda it: damages.by_sql(it, "UPDATE version2 SET body = 'x' WHERE rowid = 1"), 1001)
+OF_A_TEXT = damages.Damage("no UTF-8", lambda it: damages.by_sql(it, "UPDATE version2 SET body = CAST(x'ff' AS TEXT) WHERE rowid = 1"), 1001)
 OF_A_PAGE = damages.Damage("a page", lambda it: damages.by_bytes(it, 1, "noise"))
 
 
@@ -130,11 +131,11 @@ class Damaging(InAFolder):
         damages.by_any_sql(store, "UPDATE received SET state = NULL WHERE rowid = 2")
         with tables.opened(store) as conn:
             self.assertEqual([(1,), (None,), (0,)], conn.execute("SELECT state FROM received").fetchall())
-            self.assertEqual(ROWS["version"], conn.execute("SELECT * FROM version").fetchall())
+            self.assertEqual(ROWS["version2"], conn.execute("SELECT * FROM version2").fetchall())
 
     def test_what_python_cannot_read_is_told(self) -> None:
         store = ground.ground(Telling(Path(), Path()), self.folder).ready
-        self.assertEqual(3, len(damaged.contents(store)))
+        self.assertEqual(4, len(damaged.contents(store)))
         damages.by_bytes(store, 0, "noise")
         self.assertEqual("file is not a database", damaged.contents(store))
 

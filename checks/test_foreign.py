@@ -1,25 +1,25 @@
-"""Tests of `foreign` and `schema1`, over hubs that answer what they are told to."""
+"""Tests of `foreign`, `sharing`, `tables` and `schema2`, over hubs that answer what they are told to."""
 
-import sqlite3
 import tempfile
 import unittest
 from dataclasses import dataclass, field
 from pathlib import Path
 
-from checks import foreign, ground, history, schema1, sharing, tables
-from checks.conversations import find
+from checks import foreign, ground, history, schema2, sharing, tables
 from checks.stores import TEXT, Answered, Hubs, get
+from checks.written import SECOND, STORES
 
 TOP = Path(__file__).resolve().parent.parent
-SCHEMA = tables.schema_in(TOP / "docs" / "tables.md")
+SCHEMA = SECOND.statements()
 ROWS = {
-    "meta": [(1, 1, TEXT)],
+    "meta": [(1, 2, TEXT)],
     "received": [(1001, 1, b"a 'file'\n", 1, 0, 0), (1001, 2, b"", 2, 3, 21), (1001, 4, b"x", 0, 0, 0)],
-    "version": [
-        (1001, 11, "00000101", 0, 101, 0, 0, 1, 2, "101,1,2001-04-01,"),
-        (1001, 11, "00000101", 0, 101, 0, 0, 2, 1_000_000, "101,1,2001-04-01,2024-04-30"),
-        (1001, 15, "00000101CYM", 0, 101, 2, 0, 1, 1, "101,CYM,Ffordd,,Arden,Arden"),
-        (1002, 11, "00000201", 0, 201, 0, 0, 1, 1_000_000, "201,1,2001-04-01,"),
+    "version": [],
+    "version2": [
+        (1001, 11, "00000101", 0, 101, 0, 0, 1, 2, "101,1,2001-04-01,", 0),
+        (1001, 11, "00000101", 0, 101, 0, 0, 2, 1_000_000, "101,1,2001-04-01,2024-04-30", 0),
+        (1001, 15, "00000101CYM", 0, 101, 2, 0, 1, 1, "101,CYM,Ffordd,,Arden,Arden", 0),
+        (1002, 11, "00000201", 0, 201, 0, 0, 1, 1_000_000, "201,1,2001-04-01,", 0),
     ],
 }
 
@@ -34,10 +34,12 @@ class Telling(Hubs):
     answered: Answered = Answered(0, b"", "")
     written: bytes = b""
     rows: dict = field(default_factory=lambda: ROWS)
+    tables: list = field(default_factory=lambda: SCHEMA)
 
     def over(self, store: Path, requests: bytes) -> Answered:
         if not store.exists():
-            tables.write_store(store, ["PRAGMA journal_mode = WAL", *SCHEMA], self.rows)
+            there = {it: them for it, them in self.rows.items() if any(f"TABLE {it} " in made for made in self.tables)}
+            tables.write_store(store, ["PRAGMA journal_mode = WAL", *self.tables], there)
             return Answered(0, b"", "")
         with store.open("ab") as file:
             file.write(self.written)
@@ -56,9 +58,11 @@ class InAFolder(unittest.TestCase):
 
 
 class Reading(InAFolder):
-    def test_the_page_has_five_statements(self) -> None:
-        words = [" ".join(statement.split()[:3]) for statement in SCHEMA]
-        self.assertEqual(["CREATE TABLE version", "CREATE INDEX by_blpu", "CREATE INDEX by_street", "CREATE TABLE received", "CREATE TABLE meta"], words)
+    def test_the_page_has_the_statements(self) -> None:
+        self.assertEqual(SCHEMA, tables.schema_in(TOP / "docs" / "tables.md"))
+        words = [" ".join(statement.split()[1:3]) for statement in SCHEMA]
+        self.assertEqual(["TABLE version", "INDEX by_blpu", "INDEX by_street", "TABLE received", "TABLE meta"], words[:5])
+        self.assertEqual(["TABLE version2", "INDEX by_blpu2", "INDEX by_street2"], words[5:])
 
     def test_rows_come_back(self) -> None:
         store = self.folder / "store"
@@ -102,6 +106,11 @@ class Damaging(InAFolder):
         for sql in [it.sql for it in foreign.REFUSALS] + list(foreign.HARMLESS.values()):
             self.assertTrue(on.ready.read_bytes() != on.damaged(sql).read_bytes(), sql)
 
+    def test_each_row_is_handed_on(self) -> None:
+        on = ground.ground(telling(rows=schema2.left_rows(self.folder)), self.folder)
+        for name, sql in foreign.HANDED_ON.items():
+            self.assertNotEqual(tables.rows_of(on.ready)["version2"], tables.rows_of(on.damaged(sql))["version2"], name)
+
     def test_names_differ(self) -> None:
         names = [it.name for it in (*foreign.REFUSALS, *foreign.FAULTS)]
         self.assertEqual(len(names), len(set(names)))
@@ -116,31 +125,51 @@ class TheHistory(unittest.TestCase):
             self.assertIn(get(f"/custodians/{code}/volumes/{volume}"), history.QUESTIONS)
 
 
-class Written(InAFolder):
-    def test_a_cell_is_readable(self) -> None:
-        self.assertEqual(["7", "'it''s'", "CAST('10,1\n' AS BLOB)"], [schema1.literal(cell) for cell in (7, "it's", b"10,1\n")])
+class ByOtherSchemas(InAFolder):
+    def test_each_can_be_made(self) -> None:
+        for at, (name, schema, rows) in enumerate(foreign.schemas(SCHEMA, ROWS)):
+            store = self.folder / str(at)
+            tables.write_store(store, schema, rows)
+            self.assertEqual({*ROWS}, {*tables.rows_of(store)}, name)
 
-    def test_rows_come_back_from_their_text(self) -> None:
-        with sqlite3.connect(":memory:") as conn:
-            conn.executescript((schema1.FOLDER / "tables.sql").read_text() + schema1.text_of(ROWS))
-            self.assertEqual(ROWS["received"], conn.execute("SELECT * FROM received").fetchall())
+    def test_each_is_another(self) -> None:
+        made = [(schema, rows) for _, schema, rows in foreign.schemas(SCHEMA, ROWS)]
+        self.assertTrue(all(it not in made[:at] for at, it in enumerate(made)))
 
-    def test_each_store_can_be_written(self) -> None:
-        for written in schema1.STORES:
-            store = self.folder / written.name
-            schema1.write(store, written)
-            self.assertEqual(written.path().read_text(), schema1.text_of(tables.rows_of(store)), written.name)
+    def test_columns_have_their_cells(self) -> None:
+        for at, (name, schema, rows) in enumerate(foreign.schemas(SCHEMA, ROWS)):
+            store = self.folder / str(at)
+            tables.write_store(store, schema, rows)
+            with tables.opened(store) as conn:
+                columns = "cust, kind, id, blpu, street, lang, live, born, gone, body, hop"
+                self.assertEqual(ROWS["version2"], conn.execute(f"SELECT {columns} FROM version2 ORDER BY rowid").fetchall(), name)
 
-    def test_each_file_of_rows_is_one_of_them(self) -> None:
-        self.assertEqual({"tables", *(it.name for it in schema1.STORES)}, {path.stem for path in schema1.FOLDER.glob("*.sql")})
+    def test_a_further_column_has_to_be_something(self) -> None:
+        on = ground.ground(telling(), self.folder)
+        for table, (_, sql) in foreign.TAKING_NONE.items():
+            with tables.opened(on.damaged(sql)) as conn:
+                self.assertIn("x", [row[1] for row in conn.execute(f"PRAGMA table_info({table})")])
 
-    def test_their_conversations_are_there(self) -> None:
-        names = {one.name for one in find(TOP)}
-        self.assertEqual(set(), {it.conversation for it in schema1.STORES} - names)
 
+class ThatAreWritten(InAFolder):
     def test_other_rows_are_reported(self) -> None:
-        hubs, written = telling(), schema1.STORES[0]
-        self.assertIn("wanted", schema1.holds(hubs, TOP, self.folder, written))
+        self.assertIn("wanted", schema2.holds(telling(), TOP, self.folder, STORES[0]))
+        self.assertIn("wanted", schema2.holds_history(telling(), self.folder))
+
+    def test_rows_that_are_missing_are_reported(self) -> None:
+        self.assertEqual("line 2: b, wanted c", schema2.first_other("a\nc\n", "a\nb\n"))
+        self.assertEqual("1 lines, wanted 2", schema2.first_other("a\nc\n", "a\n"))
+        self.assertIsNone(schema2.first_other("a\nc\n", "a\nc\n"))
+
+    def test_other_tables_are_reported(self) -> None:
+        self.assertIsNone(schema2.same_tables(telling(), self.folder))
+        (self.folder / "tables").unlink()
+        self.assertIn("differ in", schema2.same_tables(Telling(Path(), Path(), tables=SCHEMA[:5]), self.folder))
+
+    def test_the_rows_of_the_history_are_moved(self) -> None:
+        rows = schema2.left_rows(self.folder)
+        self.assertEqual(([(1, 2, TEXT)], [], 9), (rows["meta"], rows["version"], len(rows["received"])))
+        self.assertEqual({0}, {row[-1] for row in rows["version2"]})
 
 
 if __name__ == "__main__":

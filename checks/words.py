@@ -55,6 +55,7 @@ TOLD = (
     usage(f"status {STORE}", f"{MISSING}  <CODE>\n"),
     usage(f"line {STORE} 42 43", f"{UNEXPECTED}'43'"),
     usage(f"extract {STORE} 1001", f"{MISSING}  <VOLUME>\n"),
+    usage(f"extend {STORE}", f"{MISSING}  --grown <GROWN>\n"),
     Told("--help", "A hub for street and property gazetteers\n\nUsage: gazhub [COMMAND]\n", 0, most=24),
     Told(
         "help submit",

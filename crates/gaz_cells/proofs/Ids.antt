@@ -29,7 +29,7 @@ usrn_back n h =
     let to : n ≤ 99_999_999 = grind (arith, nat_tests) in
     rw (digits_size 8 n, number_back 8 99_999_999 n (omega arith) (usrn_short n h) from to) refl
 
-uprn_back : (n : ℕ) → is_uprn n ≡ true → uprn_in (digits_in 12 n) ≡ Some n
+pub uprn_back : (n : ℕ) → is_uprn n ≡ true → uprn_in (digits_in 12 n) ≡ Some n
 uprn_back n h =
     let from : 1 ≤ n = grind (arith, nat_tests) in
     let to : n ≤ 999_999_999_999 = grind (arith, nat_tests) in

@@ -2,3 +2,5 @@ pub mod Digits
 pub mod Order
 pub mod Ids
 pub mod CellsBack
+pub mod CustodyBack
+pub mod Fitting

@@ -4,3 +4,5 @@ pub mod Columns
 pub mod Reading
 pub mod Laws
 pub mod Examples
+pub mod Custody
+pub mod CustodyExamples

@@ -59,7 +59,7 @@ fn usrn_in(text: &[u8]) -> Option<Usrn>
 }
 
 // The UPRN that just 12 digits write.
-fn uprn_in(text: &[u8]) -> Option<Uprn>
+pub(crate) fn uprn_in(text: &[u8]) -> Option<Uprn>
     ensures { result ≡ uprn_in text.now }
 {
     if text.len() != UPRN_DIGITS {

@@ -1,3 +1,5 @@
+ghost use Rattle.gaz_cells.specs.Custody.{CustodyReadsBack};
+ghost use Rattle.gaz_cells.specs.CustodyExamples.{WorkedCustody};
 ghost use Rattle.gaz_cells.specs.Examples.{WorkedIds};
 ghost use Rattle.gaz_cells.specs.Laws.{CellsFollow, CellsReadBack, CellsSayEntries};
 ghost use Rattle.gaz_cells.specs.Laws.{IdsAreApart, IdsAreOrdered, IdsReadBack};
@@ -39,4 +41,14 @@ pub fn cells_say_entries()
 /// The names of some keys.
 pub fn worked_ids()
     ensures { WorkedIds }
+{}
+
+/// What became of a number is what its cells say.
+pub fn custody_reads_back()
+    ensures { CustodyReadsBack }
+{}
+
+/// The cells of what became of a number, and what others say.
+pub fn worked_custody()
+    ensures { WorkedCustody }
 {}

@@ -1,13 +1,17 @@
 //! The columns in which tables keep the items of a gazetteer, and back: the texts that name keys, the numbers by which items are looked for.
 #![tactic(auto)]
 
+mod bodies;
 mod cells;
+mod custody;
 mod fault;
 mod id;
 pub mod laws;
 mod reading;
 
+pub use bodies::Bodies;
 pub use cells::{Cells, Links, links_of};
+pub use custody::{CustodyCells, CustodyRow};
 pub use fault::CellFault;
 pub use id::{id_of, key_named};
 pub use reading::{Row, kind_numbered};

@@ -52,16 +52,13 @@ pub fn kind_numbered(number: u64) -> Option<Kind>
 }
 
 impl<'a> Row<'a> {
-    // The first cell that isn't the item's own, of which these are the id and the row.
-    fn disagreement(&self, item: &Item, id: &[u8], body: &[u8]) -> Option<CellFault>
+    // The first cell beside the body that isn't the item's own, of which this is the id.
+    fn disagreement(&self, item: &Item, id: &[u8]) -> Option<CellFault>
         requires id { id.now ≡ id_of (key_of item.now) }
-        requires body { body.now ≡ item_text item.now }
+        requires body { item_text item.now ≡ self.now.body }
         ensures { result ≡ disagreement self.now item.now }
     {
         let links = links_of(item);
-        if self.body != body {
-            return Some(CellFault::Body);
-        }
         if self.id != id {
             return Some(CellFault::Id);
         }
@@ -80,20 +77,31 @@ impl<'a> Row<'a> {
         None
     }
 
-    // The item of the body, where the other cells are its own.
-    fn checked(&self, alloc: Global, item: Item) -> Result<Item, CellFault>
+    /// The item whose row is the body, where the other cells are its own.
+    pub(crate) fn compared(&self, alloc: Global, item: Item) -> Result<Item, CellFault>
+        requires { item_text item ≡ self.now.body }
         ensures { OrMemory result (agreed self.now (Ok item)) }
     {
         let Ok(id) = id_of(alloc, &key_of(&item)) else {
             return Err(CellFault::Memory);
         };
-        let Ok(body) = item_text(alloc, &item) else {
-            return Err(CellFault::Memory);
-        };
-        match self.disagreement(&item, &id, &body) {
+        match self.disagreement(&item, &id) {
             Some(fault) => Err(fault),
             None => Ok(item),
         }
+    }
+
+    // The item of the body, where all cells are its own.
+    fn checked(&self, alloc: Global, item: Item) -> Result<Item, CellFault>
+        ensures { OrMemory result (agreed self.now (Ok item)) }
+    {
+        let Ok(body) = item_text(alloc, &item) else {
+            return Err(CellFault::Memory);
+        };
+        if self.body != body.as_slice() {
+            return Err(CellFault::Body);
+        }
+        self.compared(alloc, item)
     }
 
     #[tactic(auto, unfolding(crate::specs::Reading::read_cells))]

@@ -5,6 +5,9 @@ use Rattle.hex.specs.Hex.{encode_lower}
 use Rattle.gaz_hub.specs.declared.outcome.Outcome.{Outcome}
 use Rattle.gaz_hub.specs.declared.outcome.Outcome.TheVariants.{Applied, Rejected, Held}
 use Rattle.gaz_hub.specs.declared.standing.Standing.{Standing}
+use Rattle.gaz_register.specs.declared.growth.GrowFault.{GrowFault}
+use Rattle.gaz_register.specs.declared.growth.GrowFault.TheVariants.{RemovedCustodian}
+use Rattle.gaz_register.specs.declared.growth.GrowFault.TheVariants.{ChangedBlocks}
 use Rattle.gaz_commands.specs.declared.printed.DoorRefusal.{DoorRefusal}
 use Rattle.gaz_commands.specs.declared.printed.DoorRefusal.TheVariants.{UnknownCustodian}
 use Rattle.gaz_commands.specs.declared.printed.DoorRefusal.TheVariants.{BadVolume, TooLarge}
@@ -12,7 +15,8 @@ use Rattle.gaz_commands.specs.declared.printed.DoorRefusal.TheVariants.{UnknownP
 use Rattle.gaz_commands.specs.declared.printed.PrintedLine.{PrintedLine}
 use Rattle.gaz_commands.specs.declared.printed.PrintedLine.TheVariants.{Ready, New, Repeat, Taken}
 use Rattle.gaz_commands.specs.declared.printed.PrintedLine.TheVariants.{Stands, Address, Nothing}
-use Rattle.gaz_commands.specs.declared.printed.PrintedLine.TheVariants.{Refused}
+use Rattle.gaz_commands.specs.declared.printed.PrintedLine.TheVariants.{Refused, Extended}
+use Rattle.gaz_commands.specs.declared.printed.PrintedLine.TheVariants.{NotExtended}
 
 -- the number of a refusal
 abbrev pub number_of : DoorRefusal → ℕ
@@ -20,6 +24,11 @@ number_of UnknownCustodian = 11
 number_of BadVolume = 12
 number_of TooLarge = 13
 number_of UnknownProfile = 16
+
+-- the number that is told where a register is no growth of another
+abbrev pub growth_number : GrowFault → ℕ
+growth_number RemovedCustodian = 61
+growth_number ChangedBlocks = 62
 
 -- a custodian's volume, as 1001/2
 abbrev pub pair_text : ℕ → ℕ → List ℕ
@@ -52,6 +61,8 @@ hex_text digest = encode_lower digest
 -- a line, without its end
 abbrev pub line_text : PrintedLine → List ℕ
 line_text Ready = codes "ready"
+line_text Extended = codes "extended"
+line_text (NotExtended why) = codes "refused " ++ decimal (growth_number why)
 line_text (New outcome) = codes "new " ++ became_text outcome
 line_text (Repeat outcome) = codes "repeat " ++ became_text outcome
 line_text (Taken digest) = codes "taken " ++ hex_text digest
@@ -69,6 +80,8 @@ is_applied (Held custodian volume) = false
 -- what was asked for was done: a file is applied, or what is asked for is there
 abbrev pub is_done : PrintedLine → Bool
 is_done Ready = true
+is_done Extended = true
+is_done (NotExtended why) = false
 is_done (New outcome) = is_applied outcome
 is_done (Repeat outcome) = is_applied outcome
 is_done (Taken digest) = false

@@ -8,11 +8,13 @@ use Rattle.gaz_hub.specs.declared.answer.Answer.TheVariants as answer
 use Rattle.gaz_hub.specs.declared.outcome.Outcome.TheVariants.{Applied, Rejected, Held}
 use Rattle.gaz_hub.specs.declared.refusal.Refusal.TheVariants as refusal
 use Rattle.gaz_hub.specs.declared.standing.Standing.{Standing}
+use Rattle.gaz_register.specs.declared.growth.GrowFault.TheVariants as growth
 use Rattle.gaz_commands.specs.Asking.{asks_address, asks_extract, asks_standing, asks_to_submit}
 use Rattle.gaz_commands.specs.Saying.{error_of, said_to, status_of, text_of, turned_away}
 use Rattle.gaz_commands.specs.declared.printed.DoorRefusal.TheVariants as door
 use Rattle.gaz_commands.specs.declared.printed.PrintedLine.TheVariants as line
 use Rattle.gaz_commands.specs.declared.said.Fault.TheVariants as fault
+use Rattle.gaz_commands.specs.declared.said.Said.{Said}
 use Rattle.gaz_commands.specs.declared.said.Said.TheVariants as said
 
 -- what is printed on standard output, what on standard error, and the exit status
@@ -64,6 +66,17 @@ pub record WorkedQuestions : Type 0 where
   pub failed : Prints (Replied (LookUp 42) (Err (refusal.NotReceived cause.Memory))) []
       (codes "gazhub: NotReceived\n") 3
 
+-- what is printed where a store's register grew or didn't, and the exit status
+pub record Ends (says : Said) (out : List ℕ) (status : ℕ) : Type 0 where
+  pub out_is : text_of says ≡ out
+  pub errors_are : error_of says ≡ []
+  pub status_is : status_of says ≡ status
+
+pub record WorkedGrowth : Type 0 where
+  pub extended : Ends (said.Line line.Extended) (codes "extended\n") 0
+  pub removed : Ends (said.Line (line.NotExtended growth.RemovedCustodian)) (codes "refused 61\n") 1
+  pub changed : Ends (said.Line (line.NotExtended growth.ChangedBlocks)) (codes "refused 62\n") 1
+
 pub record WorkedWords : Type 0 where
   pub submitted : asks_to_submit (codes "01001") (codes "1") (Some [])
       ≡ Err (turned_away door.UnknownCustodian)
@@ -87,4 +100,5 @@ pub record WorkedWords : Type 0 where
 pub record WorkedCommands : Type 0 where
   pub on_submissions : WorkedSubmissions
   pub on_questions : WorkedQuestions
+  pub on_growth : WorkedGrowth
   pub on_words : WorkedWords

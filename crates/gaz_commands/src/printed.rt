@@ -1,11 +1,13 @@
 //! The lines that commands print.
 ghost use Rattle.std.specs.Prelude.{◌≡◌, Some};
-ghost use Rattle.gaz_commands.specs.Lines.{became_text, is_done, line_text, number_of, pair_text};
-ghost use Rattle.gaz_commands.specs.Lines.{hex_text, standing_text, wanted_text};
+ghost use Rattle.gaz_commands.specs.Lines.{became_text, growth_number, hex_text, is_done};
+ghost use Rattle.gaz_commands.specs.Lines.{line_text, number_of, pair_text, standing_text};
+ghost use Rattle.gaz_commands.specs.Lines.{wanted_text};
 
 use gaz_extract::AddressLine;
 use gaz_hub::{Digest, Outcome, Standing};
 use gaz_ids::{Code, Volume};
+use gaz_register::GrowFault;
 use std::fmt;
 
 /// Why the hub's door, or a word that doesn't read, turned a command away.
@@ -35,11 +37,25 @@ impl DoorRefusal {
     }
 }
 
+// The number that is printed where a register is no growth of a store's.
+fn growth_number(fault: GrowFault) -> u8
+    ensures { result ≡ growth_number fault }
+{
+    match fault {
+        GrowFault::RemovedCustodian => 61,
+        GrowFault::ChangedBlocks => 62,
+    }
+}
+
 /// A line of what a command answers.
 #[derive(Debug, Drop)]
 pub enum PrintedLine {
     /// A store was made.
     Ready,
+    /// A store's register grew.
+    Extended,
+    /// It didn't, since what it was to grow to is no growth of it.
+    NotExtended(GrowFault),
     /// What became of a file that was received now.
     New(Outcome),
     /// What became of a file that was received before.
@@ -64,8 +80,10 @@ impl PrintedLine {
             PrintedLine::New(outcome) | PrintedLine::Repeat(outcome) => {
                 matches!(outcome, Outcome::Applied)
             }
-            PrintedLine::Ready | PrintedLine::Stands(_) | PrintedLine::Address(_) => true,
-            PrintedLine::Taken(_) | PrintedLine::Nothing | PrintedLine::Refused(_) => false,
+            PrintedLine::Ready | PrintedLine::Extended => true,
+            PrintedLine::Stands(_) | PrintedLine::Address(_) => true,
+            PrintedLine::Taken(_) | PrintedLine::Nothing => false,
+            PrintedLine::Refused(_) | PrintedLine::NotExtended(_) => false,
         }
     }
 }
@@ -164,6 +182,8 @@ impl fmt::Display for PrintedLine {
     fn fmt<W: fmt::Write>(&self, f: &mut fmt::Formatter<W>) -> fmt::Result {
         match self {
             PrintedLine::Ready => write!(f, "ready"),
+            PrintedLine::Extended => write!(f, "extended"),
+            PrintedLine::NotExtended(fault) => write!(f, "refused {}", growth_number(*fault)),
             PrintedLine::New(outcome) => write!(f, "new {}", Became(*outcome)),
             PrintedLine::Repeat(outcome) => write!(f, "repeat {}", Became(*outcome)),
             PrintedLine::Taken(digest) => write!(f, "taken {}", InHex(*digest)),

@@ -38,7 +38,7 @@ or_none foreign (Some r) e = cc
 pub early_let_in : (d : Door) (c volume : ℕ) (bytes : List ℕ) → file_refusal d c volume bytes ≡ None → turned_away d c volume (length bytes) ≡ None
 early_let_in d c volume bytes e = or_none (d.is_foreign bytes) (turned_away d c volume (length bytes)) e
 
-known_at : (b : Bool) (o : Option Refusal) → cond (not b) (Some refusal.UnknownCustodian) o ≡ None → b ≡ true
+pub known_at : (b : Bool) (o : Option Refusal) → cond (not b) (Some refusal.UnknownCustodian) o ≡ None → b ≡ true
 known_at true o e = refl
 known_at false o e = cc
 

@@ -49,7 +49,7 @@ step_known d old new command response s known p h =
     either_known (knows d.register p.0 ≡ true) (map.get old.received p) (accepted d p command response)
     (ap is_some (sym ((goes d old command response new s).first p)) ∙ h) (known p) (accepted_known d p command response)
 
-run_known : (d : Door) (old new : HubState) (commands : List Command) (responses : List Response) → Run d old commands responses new → AreKnown d old.received → AreKnown d new.received
+pub run_known : (d : Door) (old new : HubState) (commands : List Command) (responses : List Response) → Run d old commands responses new → AreKnown d old.received → AreKnown d new.received
 run_known d old new [] [] r known = subst (λ (hub : HubState). AreKnown d hub.received) (sym r) known
 run_known d old new (command ∷ commands) (response ∷ responses) r known = run_known d r.0 new commands responses r.2 (step_known d old r.0 command response r.1 known)
 run_known d old new [] (response ∷ responses) r known = absurd r

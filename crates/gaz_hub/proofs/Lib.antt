@@ -22,6 +22,7 @@ pub mod Headline
 pub mod ReadBack
 pub mod Finding
 pub mod OwnNumbers
+pub mod Growing
 pub mod Owners
 pub mod ReadingLaws
 pub mod Examples
@@ -34,5 +35,6 @@ pub mod WorkedReadings
 pub mod WorkedOwners
 pub mod WorkedHubs
 pub mod WorkedWaiting
+pub mod WorkedGrowth
 pub mod WorkedStops
 pub mod WorkedFound

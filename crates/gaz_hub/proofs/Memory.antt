@@ -1,27 +1,29 @@
 -- A hub's calls, with what it remembers.
-use Rattle.std.proofs.Common.{◌≡◌, ◌≤◌, ◌+◌, ℕ, true, false, ◌||◌, eqb, eqb-true, ◌<◌, List, [], ◌∷◌, ◌++◌, take, length, get_or, refl, sym, ap, ◌∙◌, subst, true≢false, append_assoc, inl, inr, arith, le_trans}
+use Rattle.std.proofs.Common.{◌≡◌, ◌≤◌, ◌+◌, ℕ, true, false, cond, ◌||◌, eqb, eqb-true, ◌<◌, List, [], ◌∷◌, ◌++◌, take, length, get_or, refl, sym, ap, ◌∙◌, subst, true≢false, append_assoc, inl, inr, arith, le_trans}
 use Rattle.std.proofs.lemmas.List.{take_all, take_more}
 use Rattle.std.specs.Prelude.{⊤, Option, Some, None, Result, Ok, Err, OnOk}
 use Rattle.std.specs.Option.{option_map, unwrap_or}
 use Rattle.std.specs.FinMap as finmap
 use Rattle.gaz_changefile.specs.Reading.{Reading}
-use Rattle.gaz_register.specs.Registers.{RegisterValue, blocks_of}
+use Rattle.gaz_register.specs.Registers.{RegisterValue, blocks_of, knows}
 use Rattle.gaz_rules.specs.Bases.{judged_on}
 use Rattle.gaz_keeper.specs.Board.{Board, reached}
 use Rattle.gaz_keeper.specs.Keeper.{Content, Enters, IsNew, Seen, with_judgement, with_received}
 use Rattle.gaz_keeper.specs.Received.{Received}
 use Rattle.gaz_keeper.specs.declared.fault.ShelfFault.{ShelfFault}
+use Rattle.gaz_extract.proofs.Readings.{if_ok}
 use Rattle.gaz_extract.specs.Readings.{Looks}
 use Rattle.gaz_keeper.proofs.Keeping.{keeps_then}
 use Rattle.gaz_hub.specs.Hubs.{StandsFor, door_of}
+use Rattle.gaz_hub.specs.Outcomes.{wants}
 use Rattle.gaz_hub.specs.Seen.{CallsKeeper, IsAfterComing, IsKeptOrLost, kept_seen, sured}
 use Rattle.gaz_hub.specs.Settling.{Advances, IsNext, Tells}
 use Rattle.gaz_hub.specs.Step.{Door}
-use Rattle.gaz_hub.specs.Waiting.{IsRight, Remembered, RestAfter, RestBut, Rests, all_ahead, is_among, remembering, with_coming, with_judged, with_waiter}
+use Rattle.gaz_hub.specs.Waiting.{IsRight, IsSo, Remembered, RestAfter, RestBut, Rests, all_ahead, is_among, known_in, remembering, wanted_by, with_coming, with_judged, with_nothing_wanted, with_waiter}
 use Rattle.gaz_hub.specs.declared.looking.Next.TheVariants as next
 use Rattle.gaz_hub.proofs.Advancing.{Adds, IsNow, added_is}
 use Rattle.gaz_hub.proofs.Rounds.{stops_of_remembering}
-use Rattle.gaz_hub.proofs.Waiting.{in_neither, known_among, now_waits, rests_on, rests_with, still_waits, unwoken}
+use Rattle.gaz_hub.proofs.Waiting.{in_neither, known_among, nothing_wanted, now_waits, now_wanted, others_wanted, rests_on, rests_with, still_waits, still_wanted, unwoken}
 
 -- ---- one custodian
 
@@ -62,12 +64,16 @@ rest_waiting register a b code whom volume m k looked noted stood fine others re
       | true ↦ λ t. itself (eqb-true code d t) found
       | false ↦ λ t.
           let was = rest d known unahead (ap (λ y. y || is_among others d) t ∙ among) in
-          record { unready = was.unready; waits = λ p want. still_waits m (whom, volume) p code d (was.waits p want) }
+          record {
+            unready = was.unready;
+            waits = λ p want. still_waits m (whom, volume) p code d (was.waits p want);
+            wanted = still_wanted m (whom, volume) code d t ∙ was.wanted;
+          }
     ] refl))
   where
     waiting_at : Option (ℕ × ℕ) → List ℕ
     waiting_at None = []
-    waiting_at (Some q) = unwrap_or (finmap.get (with_waiter m (whom, volume) code).1 q) []
+    waiting_at (Some q) = unwrap_or (finmap.get (with_waiter m (whom, volume) code).1.0 q) []
 
     itself : code ≡ d → IsNext a.content.files a.content.board code (next.Waits whom volume) → Rests (with_waiter m (whom, volume) code) a.content.files a.content.board d
     itself is found =
@@ -77,6 +83,34 @@ rest_waiting register a b code whom volume m k looked noted stood fine others re
           waits = λ p want.
               let e : Some (whom, volume) ≡ Some p = sym found.1 ∙ want in
               subst (λ (q : Option (ℕ × ℕ)). is_among (waiting_at q) code ≡ true) e (now_waits m (whom, volume) code);
+          wanted = now_wanted m (whom, volume) code ∙ sym found.1;
+        })
+
+-- a custodian waits for nothing
+pub rest_done : (register : RegisterValue) (a b : Seen) (code : ℕ) (m k : Remembered)
+    → Looks a b (Ok next.Done) (IsNext a.content.files a.content.board code)
+    → k ≡ with_nothing_wanted m code → RestAfter (code ∷ []) (door_of register) m a k b
+rest_done register a b code m k looked noted stood fine others rest d known ahead among =
+    let found = looked.right stood.0 fine in
+    let same = looked.keeps.content stood.0 fine in
+    let w = with_nothing_wanted m code in
+    let unahead = ap (λ (y : Remembered). is_among y.0 d) (sym noted) ∙ ahead in
+    subst (λ (y : Remembered). Rests y b.content.files b.content.board d) (sym noted)
+    (rests_in w a.content b.content d same
+    (elim (eqb code d) as (λ t. eqb code d ≡ t → Rests w a.content.files a.content.board d) [
+      | true ↦ λ t. itself (eqb-true code d t) found
+      | false ↦ λ t.
+          let was = rest d known unahead (ap (λ y. y || is_among others d) t ∙ among) in
+          record { unready = was.unready; waits = was.waits; wanted = others_wanted m code d t ∙ was.wanted }
+    ] refl))
+  where
+    itself : code ≡ d → IsNext a.content.files a.content.board code next.Done → Rests (with_nothing_wanted m code) a.content.files a.content.board d
+    itself is found =
+        subst (λ e. Rests (with_nothing_wanted m code) a.content.files a.content.board e) is
+        (record {
+          unready = found.0;
+          waits = λ p want. let no : None ≡ Some p = sym found.1 ∙ want in cc;
+          wanted = nothing_wanted m code ∙ sym found.1;
         })
 
 -- ---- one after another
@@ -104,7 +138,7 @@ rest_taken door m codes taken k a b e f rest stood fine others was =
     rest stood fine others (λ c known ahead among.
     let no = in_neither codes others c among in
     let r = was c known (ap (λ xs. is_among xs c) (sym e) ∙ no.0) no.1 in
-    subst (λ (w : Remembered). Rests w a.content.files a.content.board c) (sym f) (record { unready = r.unready; waits = r.waits }))
+    subst (λ (w : Remembered). Rests w a.content.files a.content.board c) (sym f) (record { unready = r.unready; waits = r.waits; wanted = r.wanted }))
 
 pub rest_of_taken : {T : Type 0} (door : Door) (m : Remembered) (codes : List ℕ) (taken k : Remembered) (a b : Seen) (r : Result T ShelfFault) → codes ≡ m.0 → taken ≡ ([], m.1)
     → OnOk r (RestAfter codes door taken a k b) → OnOk r (RestAfter [] door m a k b)
@@ -240,6 +274,31 @@ pub looks_called : {K T : Type 0} (seen : K → Seen) (register : RegisterValue)
 looks_called seen register Calls old new r P called looks =
     looks_kept register old.1 new.1 (seen old.0) (seen new.0) r P called.kept
     (looks_sured (seen old.0) (seen called.last) (seen new.0) called.told called.sure.done r P looks called.sure.asked called.sure.result_is)
+
+-- ---- what is known of what a custodian waits for
+
+-- it is so where what is remembered is right
+pub known_is_so : (register : RegisterValue) (w : Option Remembered) (k : Content) (c : ℕ) → knows register c ≡ true → IsRight register w k → IsSo k.files k.board c (known_in w c)
+known_is_so register None k c known right p is = let no : None ≡ Some p = is in cc
+known_is_so register (Some m) k c known right p is =
+    elim (is_among m.0 c) as (λ b. is_among m.0 c ≡ b → cond b None (wanted_by m c) ≡ Some p → wants k.files k.board c ≡ Some p) [
+      | true ↦ λ t e. let no : None ≡ Some p = e in cc
+      | false ↦ λ t e. sym (right c known t refl).wanted ∙ e
+    ] refl is
+
+-- a call of the keeper that is told what is known, of which something is remembered
+pub looks_knowing : {K T : Type 0} (seen : K → Seen) (register : RegisterValue) (Calls : K → Result T ShelfFault → K → Type 0) (old new : K × Option Remembered) (r : Result T ShelfFault) (c : ℕ) (P : T → Type 0)
+    → knows register c ≡ true → (called : CallsKeeper seen Calls old r new)
+    → Looks (seen old.0) (seen called.last) called.told (λ x. IsSo (seen old.0).content.files (seen old.0).content.board c (known_in old.1 c) → P x)
+    → Looks (kept_seen seen register old) (kept_seen seen register new) r P
+looks_knowing seen register Calls old new r c P known called looks =
+    let l = looks_called seen register Calls old new r (λ x. IsSo (seen old.0).content.files (seen old.0).content.board c (known_in old.1 c) → P x) called looks in
+    record {
+      keeps = l.keeps;
+      right = λ stood fine.
+          if_ok r _ P (λ x says. says (known_is_so register old.1 (seen old.0).content c known stood.1)) (l.right stood fine);
+      counts = l.counts;
+    }
 
 -- ---- a file comes
 

@@ -18,6 +18,7 @@ use Rattle.gaz_hub.specs.Outcomes.{first_unreached, outcome_of, wants, wants_as}
 use Rattle.gaz_hub.specs.Settling.{SettlesAndCalls, Tells}
 use Rattle.gaz_hub.specs.Standing.{NothingReady}
 use Rattle.gaz_hub.specs.Step.{Door}
+use Rattle.gaz_hub.specs.Waiting.{IsSo}
 use Rattle.gaz_hub.specs.declared.outcome.Outcome.{Outcome}
 use Rattle.gaz_hub.specs.declared.outcome.Outcome.TheVariants.{Held}
 use Rattle.gaz_hub.proofs.Advancing.{advances_looking, advances_then}
@@ -111,9 +112,12 @@ calls_tell d seen Calls old new r P (inl x) tells = tells x.mid x.called
 calls_tell d seen Calls old new r P (inr x) tells = subst (λ k. IfOk k P) (sym x.told) tt
 
 -- what isn't judged is held
-pub looks_held : (a b c : Seen) (code volume : ℕ) (r : Result Outcome ShelfFault) → 1 ≤ volume → volume ≤ 999999
-    → Reads a b (Ok None) (λ v. v ≡ verdict_on a.content.board code volume) → Looks b c r (IsHeld b.content.files b.content.board code) → Looks a c r (IsOutcome a.content.files a.content.board code volume)
-looks_held a b c code volume r one most first second =
-    looks_then a b c None r (λ v. v ≡ verdict_on a.content.board code volume) (IsHeld b.content.files b.content.board code) (IsOutcome a.content.files a.content.board code volume)
+pub looks_held : (a b c : Seen) (code volume : ℕ) (known : Option (ℕ × ℕ)) (r : Result Outcome ShelfFault) → 1 ≤ volume → volume ≤ 999999
+    → Reads a b (Ok None) (λ v. v ≡ verdict_on a.content.board code volume)
+    → Looks b c r (λ told. IsSo b.content.files b.content.board code known → IsHeld b.content.files b.content.board code told)
+    → Looks a c r (λ told. IsSo a.content.files a.content.board code known → IsOutcome a.content.files a.content.board code volume told)
+looks_held a b c code volume known r one most first second =
+    looks_then a b c None r (λ v. v ≡ verdict_on a.content.board code volume) _ _
     (record { keeps = first.keeps; right = first.right; counts = first.counts }) second
-    (λ same none told held. told_held a.content.files a.content.board code volume told one most none (subst (λ (k : Content). IsHeld k.files k.board code told) same held))
+    (λ same none told held so. told_held a.content.files a.content.board code volume told one most none
+    (subst (λ (k : Content). IsHeld k.files k.board code told) same (held (subst (λ (k : Content). IsSo k.files k.board code known) (sym same) so))))

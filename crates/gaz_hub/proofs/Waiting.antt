@@ -4,14 +4,17 @@ use Rattle.std.proofs.lemmas.Bool.Decides.{leb_tells}
 use Rattle.std.proofs.lemmas.List.Elements.{filter_more}
 use Rattle.std.proofs.lemmas.List.Folds.{list_any-append}
 use Rattle.std.proofs.lemmas.List.{length_push}
-use Rattle.std.specs.Cmp.{eq_by_cmp_equiv}
+use Rattle.std.proofs.lemmas.Map.Lookups.{exact_unsigned}
+use Rattle.std.specs.Cmp.{Equal-is, IsTotalOrder, eq_by_cmp_equiv, nat_cmp_total}
+use Rattle.std.specs.declared.cmp.Ordering.{Ordering}
+use Rattle.std.specs.declared.cmp.Ordering.TheVariants.{Equal}
 use Rattle.std.specs.Prelude.{nat_le, is_some, is_none, length, Option, Some, None}
 use Rattle.std.specs.List.{find}
 use Rattle.std.specs.Option.{option_map, option_map_or, unwrap_or}
 use Rattle.std.specs.BTreeMap.{is_at}
 use Rattle.std.specs.FinMap as finmap
 use Rattle.std.specs.Map.{lookup}
-use Rattle.std.specs.Ordering.{eq_by_cmp}
+use Rattle.std.specs.Ordering.{eq_by_cmp, nat_cmp}
 use Rattle.gaz_views.proofs.Trees.{get_tree}
 use Rattle.gaz_changefile.specs.Reading.{Reading, reading}
 use Rattle.gaz_changefile.specs.declared.change.Basis.{Basis}
@@ -24,7 +27,7 @@ use Rattle.gaz_keeper.specs.Received.{Received, pair_cmp, with_file}
 use Rattle.gaz_hub.specs.Outcomes.{first_unreached, wants, wants_as}
 use Rattle.gaz_hub.specs.Runs.{same_pair}
 use Rattle.gaz_hub.specs.Standing.{Register, judge_one, next_reading, ready, with_next}
-use Rattle.gaz_hub.specs.Waiting.{Remembered, Rests, is_among, waiting_for, with_coming, with_judged, with_waiter}
+use Rattle.gaz_hub.specs.Waiting.{Remembered, Rests, is_among, waiting_for, wanted_by, with_coming, with_judged, with_nothing_wanted, with_waiter}
 use Rattle.gaz_hub.proofs.Orders.{next, ready_gives, with_next_is}
 use Rattle.gaz_hub.proofs.Steps.{pairs_same}
 
@@ -82,39 +85,73 @@ known_among (k ∷ register) c e =
 
 -- ---- who waits for what
 
+naturals_apart : (a c : ℕ) → eqb a c ≡ false → eq_by_cmp nat_cmp c a ≡ false
+naturals_apart a c e =
+    elim (eq_by_cmp nat_cmp c a) as (λ b. eq_by_cmp nat_cmp c a ≡ b → b ≡ false) [
+      | true ↦ λ t. sym (eq-eqb a c (sym (exact_unsigned c a ((Equal-is (nat_cmp c a)).0 t)))) ∙ e
+      | false ↦ λ _. refl
+    ] refl
+
 itself : (p : ℕ × ℕ) → same_pair p p ≡ true
 itself p = (eq_by_cmp_equiv pairs_total).refl p
 
 -- who waits after one more does
-pub waiting_with : (m : Remembered) (p q : ℕ × ℕ) (a : ℕ) → waiting_for (with_waiter m p a) q ≡ unwrap_or (cond (same_pair q p) (Some (waiting_for m p ++ a ∷ [])) (finmap.get m.1 q)) []
-waiting_with m p q a = ap (λ o. unwrap_or o []) (finmap.get-insert pairs_total m.1 p (waiting_for m p ++ a ∷ []) q)
+pub waiting_with : (m : Remembered) (p q : ℕ × ℕ) (a : ℕ) → waiting_for (with_waiter m p a) q ≡ unwrap_or (cond (same_pair q p) (Some (waiting_for m p ++ a ∷ [])) (finmap.get m.1.0 q)) []
+waiting_with m p q a = ap (λ o. unwrap_or o []) (finmap.get-insert pairs_total m.1.0 p (waiting_for m p ++ a ∷ []) q)
 
 pub still_waits : (m : Remembered) (p q : ℕ × ℕ) (a c : ℕ) → is_among (waiting_for m q) c ≡ true → is_among (waiting_for (with_waiter m p a) q) c ≡ true
 still_waits m p q a c e =
     ap (λ xs. is_among xs c) (waiting_with m p q a)
-    ∙ elim (same_pair q p) as (λ b. same_pair q p ≡ b → is_among (unwrap_or (cond b (Some (waiting_for m p ++ a ∷ [])) (finmap.get m.1 q)) []) c ≡ true) [
+    ∙ elim (same_pair q p) as (λ b. same_pair q p ≡ b → is_among (unwrap_or (cond b (Some (waiting_for m p ++ a ∷ [])) (finmap.get m.1.0 q)) []) c ≡ true) [
       | true ↦ λ t. in_joined (waiting_for m p) (a ∷ []) c (ap (λ r. is_among (waiting_for m r) c) (sym (pairs_same q p t)) ∙ e)
       | false ↦ λ _. e
     ] refl
 
 pub now_waits : (m : Remembered) (p : ℕ × ℕ) (a : ℕ) → is_among (waiting_for (with_waiter m p a) p) a ≡ true
 now_waits m p a =
-    ap (λ xs. is_among xs a) (waiting_with m p p a ∙ ap (λ b. unwrap_or (cond b (Some (waiting_for m p ++ a ∷ [])) (finmap.get m.1 p)) []) (itself p))
+    ap (λ xs. is_among xs a) (waiting_with m p p a ∙ ap (λ b. unwrap_or (cond b (Some (waiting_for m p ++ a ∷ [])) (finmap.get m.1.0 p)) []) (itself p))
     ∙ in_pushed (waiting_for m p) a
+
+-- what it waits for is remembered, and of others what was
+pub now_wanted : (m : Remembered) (p : ℕ × ℕ) (a : ℕ) → wanted_by (with_waiter m p a) a ≡ Some p
+now_wanted m p a =
+    finmap.get-insert nat_cmp_total m.1.1 a p a
+    ∙ ap (λ b. cond b (Some p) (finmap.get m.1.1 a)) ((eq_by_cmp_equiv nat_cmp_total).refl a)
+
+pub still_wanted : (m : Remembered) (p : ℕ × ℕ) (a c : ℕ) → eqb a c ≡ false → wanted_by (with_waiter m p a) c ≡ wanted_by m c
+still_wanted m p a c e =
+    finmap.get-insert nat_cmp_total m.1.1 a p c
+    ∙ ap (λ b. cond b (Some p) (finmap.get m.1.1 c)) (naturals_apart a c e)
+
+-- a custodian that waits for nothing, and others
+pub nothing_wanted : (m : Remembered) (a : ℕ) → wanted_by (with_nothing_wanted m a) a ≡ None
+nothing_wanted m a =
+    finmap.get-remove nat_cmp_total m.1.1 a a
+    ∙ ap (λ b. cond b None (finmap.get m.1.1 a)) ((eq_by_cmp_equiv nat_cmp_total).refl a)
+
+pub others_wanted : (m : Remembered) (a c : ℕ) → eqb a c ≡ false → wanted_by (with_nothing_wanted m a) c ≡ wanted_by m c
+others_wanted m a c e =
+    finmap.get-remove nat_cmp_total m.1.1 a c
+    ∙ ap (λ b. cond b None (finmap.get m.1.1 c)) (naturals_apart a c e)
 
 -- those who wait for another volume than the judged one are the same
 pub others_wait : (m : Remembered) (p q : ℕ × ℕ) → same_pair q p ≡ false → waiting_for (with_judged m p) q ≡ waiting_for m q
 others_wait m p q e =
-    ap (λ o. unwrap_or o []) (finmap.get-remove pairs_total m.1 p q)
-    ∙ ap (λ b. unwrap_or (cond b None (finmap.get m.1 q)) []) e
+    ap (λ o. unwrap_or o []) (finmap.get-remove pairs_total m.1.0 p q)
+    ∙ ap (λ b. unwrap_or (cond b None (finmap.get m.1.0 q)) []) e
 
 -- what a tree map without a key is as a finite map
+pub taken_out : {K X : Type 0} {R : K → K → Ordering} → IsTotalOrder R → ((a b : K) → R a b ≡ Equal → a ≡ b) → (es fs : List (K × X)) (p : K)
+    → ((q : K) → lookup (is_at (R q)) fs ≡ cond (is_at (R p) q) None (lookup (is_at (R q)) es))
+    → finmap.from_entries {R = R} fs ≡ finmap.remove (finmap.from_entries es) p
+taken_out {R} total exact es fs p h = finmap.same_map total exact _ _ (λ q.
+    get_tree {S = R} (λ a b. refl) total fs q ∙ h q
+    ∙ ap (λ b. cond b None (lookup (is_at (R q)) es)) ((eq_by_cmp_equiv total).symm p q)
+    ∙ sym (finmap.get-remove total (finmap.from_entries es) p q ∙ ap (cond (eq_by_cmp R q p) None) (get_tree {S = R} (λ a b. refl) total es q)))
+
 pub removed : {X : Type 0} (es fs : List ((ℕ × ℕ) × X)) (p : ℕ × ℕ) → ((q : ℕ × ℕ) → lookup (is_at (pair_cmp q)) fs ≡ cond (is_at (pair_cmp p) q) None (lookup (is_at (pair_cmp q)) es))
     → finmap.from_entries {R = pair_cmp} fs ≡ finmap.remove (finmap.from_entries es) p
-removed es fs p h = finmap.same_map pairs_total pairs_exact _ _ (λ q.
-    get_tree {S = pair_cmp} (λ a b. refl) pairs_total fs q ∙ h q
-    ∙ ap (λ b. cond b None (lookup (is_at (pair_cmp q)) es)) ((eq_by_cmp_equiv pairs_total).symm p q)
-    ∙ sym (finmap.get-remove pairs_total (finmap.from_entries es) p q ∙ ap (cond (eq_by_cmp pair_cmp q p) None) (get_tree {S = pair_cmp} (λ a b. refl) pairs_total es q)))
+removed es fs p h = taken_out pairs_total pairs_exact es fs p h
 
 -- what is put back over what was taken
 pub put_back : {X : Type 0} (m : finmap.FinMap pair_cmp X) (p : ℕ × ℕ) (v : X) → finmap.insert (finmap.remove m p) p v ≡ finmap.insert m p v
@@ -250,6 +287,7 @@ module _ (register : Register) (files : Received) (board : Board) (c : ℕ) (is_
         waits = λ q w.
             let was = sym (wants_stays d apart never) ∙ w in
             ap (λ xs. is_among xs d) (others_wait m p q (differs q was)) ∙ rests.waits q was;
+        wanted = rests.wanted ∙ sym (wants_stays d apart never);
       }
     where
       p : ℕ × ℕ
@@ -288,16 +326,22 @@ module _ (files : Received) (board : Board) (p : ℕ × ℕ) (bytes : List ℕ) 
       record {
         unready = ap (λ n. nat_le (reached board d + 1) 999999 && option_map_or (λ r. are_reached board (bases_of r)) n false) (there_as d e) ∙ rests.unready;
         waits = λ q w.
-            ap (λ x. is_among (unwrap_or (finmap.get x q) []) d) same
+            ap (λ x. is_among (unwrap_or (finmap.get x.0 q) []) d) same
             ∙ rests.waits q (sym (ap (λ n. cond (nat_le (reached board d + 1) 999999) (wants_as board d n) None) (there_as d e)) ∙ w);
+        wanted =
+            ap (λ x. finmap.get x.1 d) same ∙ rests.wanted
+            ∙ sym (ap (λ n. cond (nat_le (reached board d + 1) 999999) (wants_as board d n) None) (there_as d e));
       }
 
   -- beyond the last volume
-  rests_past : (m k : Remembered) (d : ℕ) → nat_le (reached board d + 1) 999999 ≡ false → Rests k bigger board d
-  rests_past m k d e =
+  rests_past : (m : Remembered) (d : ℕ) → nat_le (reached board d + 1) 999999 ≡ false → Rests m files board d → Rests m bigger board d
+  rests_past m d e rests =
       record {
         unready = ap (λ b. b && option_map_or (λ r. are_reached board (bases_of r)) (next_reading bigger board d) false) e;
         waits = λ q w. let no : None ≡ Some q = sym (ap (λ b. cond b (wants_as board d (next_reading bigger board d)) None) e) ∙ w in cc;
+        wanted =
+            rests.wanted ∙ ap (λ b. cond b (wants_as board d (next_reading files board d)) None) e
+            ∙ sym (ap (λ b. cond b (wants_as board d (next_reading bigger board d)) None) e);
       }
 
   -- whoever waited for the file is looked at
@@ -316,7 +360,7 @@ module _ (files : Received) (board : Board) (p : ℕ × ℕ) (bytes : List ℕ) 
                   let is = pairs_same (d, reached board d + 1) p h in
                   elim (nat_le (reached board d + 1) 999999) as (λ x. nat_le (reached board d + 1) 999999 ≡ x → Rests m bigger board d) [
                     | true ↦ λ within. absurd (true≢false (sym (rests.waits p (waited d is within)) ∙ ap (λ x. is_among (waiting_for m p) x) (ap (λ (q : ℕ × ℕ). q.0) is) ∙ t))
-                    | false ↦ λ past. rests_past m m d past
+                    | false ↦ λ past. rests_past m d past rests
                   ] refl
               | false ↦ λ h. rests_apart m m d refl h rests
             ] refl

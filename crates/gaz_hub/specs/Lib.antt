@@ -15,7 +15,9 @@ pub mod Settling
 pub mod Telling
 pub mod Waiting
 pub mod Seen
+pub mod Knowing
 pub mod Asked
+pub mod Growth
 pub mod Examples
 pub mod WorkedBoards
 pub mod WorkedBases
@@ -26,6 +28,7 @@ pub mod WorkedReadings
 pub mod WorkedOwners
 pub mod WorkedHubs
 pub mod WorkedWaiting
+pub mod WorkedGrowth
 pub mod WorkedStops
 pub mod WorkedFound
 pub mod InTurn

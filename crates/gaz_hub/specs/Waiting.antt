@@ -4,6 +4,7 @@ use Rattle.std.specs.Prelude.{◌++◌, filter, map, Option, Some, None}
 use Rattle.std.specs.List.{list_any}
 use Rattle.std.specs.Option.{unwrap_or}
 use Rattle.std.specs.FinMap as finmap
+use Rattle.std.specs.Ordering.{nat_cmp}
 use Rattle.gaz_register.specs.Registers.{RegisterValue, knows}
 use Rattle.gaz_keeper.specs.Board.{Board}
 use Rattle.gaz_keeper.specs.Keeper.{Content, Seen}
@@ -13,35 +14,47 @@ use Rattle.gaz_hub.specs.Outcomes.{wants}
 use Rattle.gaz_hub.specs.Standing.{ready}
 use Rattle.gaz_hub.specs.Step.{Door}
 
--- the custodians whose next volume is to be looked at, and for each volume those who wait for it
+-- the custodians whose next volume is to be looked at; for each volume those who wait for it; and
+-- for each custodian the volume that its next one waits for
 abbrev pub Remembered : Type 0
-Remembered = List ℕ × finmap.FinMap pair_cmp (List ℕ)
+Remembered = List ℕ × (finmap.FinMap pair_cmp (List ℕ) × finmap.FinMap nat_cmp (ℕ × ℕ))
 
 abbrev pub is_among : List ℕ → ℕ → Bool
 is_among codes c = list_any (λ x. x == c) codes
 
 -- those who wait for a volume of a custodian
 abbrev pub waiting_for : Remembered → ℕ × ℕ → List ℕ
-waiting_for m p = unwrap_or (finmap.get m.1 p) []
+waiting_for m p = unwrap_or (finmap.get m.1.0 p) []
+
+-- what a custodian's next volume is remembered to wait for
+abbrev pub wanted_by : Remembered → ℕ → Option (ℕ × ℕ)
+wanted_by m c = finmap.get m.1.1 c
 
 -- ---- what becomes of it
 
 -- all custodians of a register are to be looked at, and nobody is known to wait
 abbrev pub all_ahead : RegisterValue → Remembered
-all_ahead register = (map (λ k. k.code) register, finmap.empty)
+all_ahead register = (map (λ k. k.code) register, (finmap.empty, finmap.empty))
 
 -- nobody waits for a volume any more
 abbrev pub without_waiters : Remembered → ℕ × ℕ → Remembered
-without_waiters m p = (m.0, finmap.remove m.1 p)
+without_waiters m p = (m.0, (finmap.remove m.1.0 p, m.1.1))
 
 -- a custodian waits for a volume
 abbrev pub with_waiter : Remembered → ℕ × ℕ → ℕ → Remembered
-with_waiter m p c = (m.0, finmap.insert m.1 p (waiting_for m p ++ c ∷ []))
+with_waiter m p c =
+    (m.0, (finmap.insert m.1.0 p (waiting_for m p ++ c ∷ []), finmap.insert m.1.1 c p))
+
+-- a custodian waits for nothing
+abbrev pub with_nothing_wanted : Remembered → ℕ → Remembered
+with_nothing_wanted m c = (m.0, (m.1.0, finmap.remove m.1.1 c))
 
 -- a volume was judged: its custodian is to be looked at, and so are the others who waited for it
 abbrev pub with_judged : Remembered → ℕ × ℕ → Remembered
-with_judged m p =
-    (m.0 ++ p.0 ∷ filter (λ c. not (c == p.0)) (waiting_for m p), finmap.remove m.1 p)
+with_judged m p = (
+  m.0 ++ p.0 ∷ filter (λ c. not (c == p.0)) (waiting_for m p),
+  (finmap.remove m.1.0 p, m.1.1),
+)
 
 -- a file came: its custodian is to be looked at, where it waited for it
 abbrev pub with_coming : Remembered → ℕ × ℕ → Remembered
@@ -49,10 +62,12 @@ with_coming m p = if is_among (waiting_for m p) p.0 then (m.0 ++ p.0 ∷ [], m.1
 
 -- ---- when it is right
 
--- a custodian's next volume isn't ready, and it is among those who wait for what it waits for
+-- a custodian's next volume isn't ready, it is among those who wait for what it waits for, and that
+-- is what is remembered of it
 pub record Rests (m : Remembered) (files : Received) (board : Board) (c : ℕ) : Type 0 where
   pub unready : ready files board c ≡ false
   pub waits : (p : ℕ × ℕ) → wants files board c ≡ Some p → is_among (waiting_for m p) c ≡ true
+  pub wanted : wanted_by m c ≡ wants files board c
 
 -- each custodian of the register that is neither to be looked at nor among these others rests
 abbrev pub RestBut : List ℕ → RegisterValue → Remembered → Content → Type 0
@@ -64,6 +79,15 @@ RestBut others register m k =
 abbrev pub IsRight : RegisterValue → Option Remembered → Content → Type 0
 IsRight register None k = ⊤
 IsRight register (Some m) k = RestBut [] register m k
+
+-- what is known of what a custodian waits for; nothing while it is to be looked at
+abbrev pub known_in : Option Remembered → ℕ → Option (ℕ × ℕ)
+known_in None c = None
+known_in (Some m) c = if is_among m.0 c then None else wanted_by m c
+
+-- what is known of it is so
+abbrev pub IsSo : Received → Board → ℕ → Option (ℕ × ℕ) → Type 0
+IsSo files board c known = (p : ℕ × ℕ) → known ≡ Some p → wants files board c ≡ Some p
 
 -- who rested, but for these, rests afterwards too, also with others left out
 abbrev pub RestAfter : List ℕ → Door → Remembered → Seen → Remembered → Seen → Type 0

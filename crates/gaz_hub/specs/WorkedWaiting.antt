@@ -3,13 +3,14 @@ use Rattle.std.specs.Prelude.{◌≡◌, true, false, [], ◌∷◌, None, Some}
 use Rattle.std.specs.FinMap as map
 use Rattle.gaz_keeper.specs.Keeper.{Content, empty_content}
 use Rattle.gaz_hub.specs.Examples.{one_judged, sent}
-use Rattle.gaz_hub.specs.Waiting.{IsRight, Remembered, Rests, all_ahead, is_among, waiting_for}
-use Rattle.gaz_hub.specs.Waiting.{with_coming, with_judged, with_waiter}
+use Rattle.gaz_hub.specs.Waiting.{IsRight, IsSo, Remembered, Rests, all_ahead, is_among, known_in}
+use Rattle.gaz_hub.specs.Waiting.{waiting_for, wanted_by, with_coming, with_judged}
+use Rattle.gaz_hub.specs.Waiting.{with_nothing_wanted, with_waiter}
 use Rattle.gaz_hub.specs.WorkedHubs.{upper_and_lower}
 
 -- nobody is to be looked at, and nobody waits
 abbrev pub nobody : Remembered
-nobody = ([], map.empty)
+nobody = ([], (map.empty, map.empty))
 
 -- custodian 1003 waits for its own volume 2, and 1002 for volume 1 of 1001 before 1003 does
 abbrev pub waits_for_itself : Remembered
@@ -37,9 +38,19 @@ pub record WorkedWaiting : Type 0 where
   pub came : (with_coming waits_for_itself (1003, 2)).0 ≡ 1003 ∷ []
   pub came_too_early : (with_coming waits_for_itself (1003, 3)).0 ≡ []
   pub came_for_others : (with_coming two_wait (1001, 1)).0 ≡ []
+  -- what each waits for is known, but of who is to be looked at, or waits for nothing
+  pub wanted : wanted_by two_wait 1002 ≡ Some (1001, 1)
+  pub wanted_later : wanted_by (with_waiter two_wait (1003, 2) 1002) 1002 ≡ Some (1003, 2)
+  pub wants_nothing : wanted_by (with_nothing_wanted two_wait 1002) 1002 ≡ None
+  pub known : known_in (Some waits_for_itself) 1003 ≡ Some (1003, 2)
+  pub not_known_ahead : known_in (Some (with_coming waits_for_itself (1003, 2))) 1003 ≡ None
+  pub known_of_nothing : known_in None 1003 ≡ None
+  pub is_so : IsSo sent one_judged 1003 (Some (1003, 2))
+  pub never_so : IsSo sent one_judged 1003 (Some (1003, 3)) → ⊥
   -- volume 1 of 1003 is judged, volume 2 is missing and volume 3 was received
   pub rests : Rests waits_for_itself sent one_judged 1003
   pub never_forgotten : Rests nobody sent one_judged 1003 → ⊥
+  pub never_of_another : Rests (with_waiter waits_for_itself (1001, 9) 1003) sent one_judged 1003 → ⊥
   pub right_of_nothing : (k : Content) → IsRight upper_and_lower None k
   pub right_at_first : IsRight upper_and_lower (Some (all_ahead upper_and_lower)) empty_content
   pub never_right_of_nobody : IsRight upper_and_lower (Some nobody) empty_content → ⊥

@@ -8,14 +8,15 @@ ghost use Rattle.gaz_hub.specs.Seen.{ForgetsOver, hub_seen};
 ghost use Rattle.gaz_hub.specs.Step.{Ask, Pose, Replied, Stand};
 ghost use Rattle.gaz_keeper.specs.Telling.{IsNotJudging};
 ghost use Rattle.gaz_hub.specs.Telling.{LooksAtKept, RepliesTo};
+ghost use Rattle.gaz_hub.specs.Waiting.{IsSo};
 
 use crate::admission::{at_door, known_code};
 use crate::answer::Digest as FileDigest;
 use crate::hub::Hub;
-use crate::looking::wants;
+use crate::looking::wants_as_known;
 use crate::outcome::Outcome;
 use crate::refusal::Refusal;
-use crate::remembering::answered;
+use crate::remembering::answered_knowing;
 use crate::reply::{digest_of, tell};
 use crate::standing::Standing;
 use gaz_ids::{Code, Volume};
@@ -28,14 +29,16 @@ fn tell_of<K: Inbox>(
     keeper: &mut K,
     code: Code,
     volume: Volume,
+    known: Option<(Code, Volume)>,
 ) -> Result<Option<(FileDigest, Outcome)>, ShelfFault>
     ensures { LooksAtKept K.seen keeper.old keeper.new result
-        (λ files board. IsToldNow files board code volume) }
+        (λ files board told. IsSo files board code known
+        → IsToldNow files board code volume told) }
 {
     let Some(there) = keeper.received(code, volume)? else {
         return Ok(None);
     };
-    let told = tell(alloc, keeper, code, volume)?;
+    let told = tell(alloc, keeper, code, volume, known)?;
     Ok(Some((digest_of(&there), told)))
 }
 
@@ -54,12 +57,13 @@ fn status_of<K: Inbox>(
     alloc: Global,
     keeper: &mut K,
     custodian: Code,
+    known: Option<(Code, Volume)>,
 ) -> Result<Standing, ShelfFault>
     ensures { LooksAtKept K.seen keeper.old keeper.new result
-        (λ files board s. s ≡ status files board custodian) }
+        (λ files board s. IsSo files board custodian known → s ≡ status files board custodian) }
 {
     let (judged, held) = count_files(keeper, custodian)?;
-    let wants = wants(alloc, keeper, custodian)?;
+    let wants = wants_as_known(alloc, keeper, custodian, known)?;
     Ok(Standing {
         custodian,
         held,
@@ -88,12 +92,15 @@ impl<K: Inbox + Drop> Hub<K> {
             Err(refusal) => return Err(refusal),
         };
         let alloc = self.alloc;
-        let read = |keeper: &mut K| tell_of(alloc, keeper, code, volume);
-        answered(
+        let read = |keeper: &mut K, known: Option<(Code, Volume)>| {
+            tell_of(alloc, keeper, code, volume, known)
+        };
+        answered_knowing(
             alloc,
             &self.register,
             &mut self.keeper,
             &mut self.waiters,
+            code,
             read,
         )
     }
@@ -113,12 +120,15 @@ impl<K: Inbox + Drop> Hub<K> {
             Err(refusal) => return Err(refusal),
         };
         let alloc = self.alloc;
-        let read = |keeper: &mut K| status_of(alloc, keeper, custodian);
-        answered(
+        let read = |keeper: &mut K, known: Option<(Code, Volume)>| {
+            status_of(alloc, keeper, custodian, known)
+        };
+        answered_knowing(
             alloc,
             &self.register,
             &mut self.keeper,
             &mut self.waiters,
+            custodian,
             read,
         )
     }

@@ -1,6 +1,7 @@
 //! Laws over the definitions alone: whichever ready file is judged first, whatever commands come.
 ghost use Rattle.gaz_hub.specs.Answers.{EveryAnswer};
 ghost use Rattle.gaz_hub.specs.Found.{EveryStopOver};
+ghost use Rattle.gaz_hub.specs.Growth.{EveryGrownRun, GrowthKeeps, GrowthStands};
 ghost use Rattle.gaz_hub.specs.Laws.{AllSound, CallsMakeRuns, EachIsTold, EveryAnswerOver};
 ghost use Rattle.gaz_hub.specs.Laws.{EveryRunFromOver, EveryRunOver, EverySettledRunFromOver};
 ghost use Rattle.gaz_hub.specs.Laws.{EverySettledRunOver};
@@ -15,6 +16,7 @@ ghost use Rattle.gaz_hub.specs.WorkedAnswers.{WorkedAnswers};
 ghost use Rattle.gaz_hub.specs.WorkedBases.{WorkedBases};
 ghost use Rattle.gaz_hub.specs.WorkedBoards.{WorkedBoards};
 ghost use Rattle.gaz_hub.specs.WorkedFound.{WorkedFound};
+ghost use Rattle.gaz_hub.specs.WorkedGrowth.{WorkedGrowth};
 ghost use Rattle.gaz_hub.specs.WorkedHubs.{WorkedHubs};
 ghost use Rattle.gaz_hub.specs.WorkedStops.{WorkedStops};
 ghost use Rattle.gaz_hub.specs.WorkedWaiting.{WorkedWaiting};
@@ -84,6 +86,24 @@ pub fn judgements_stay()
 /// whatever order.
 pub fn equal_received()
     ensures { EqualReceived }
+{}
+
+/// Under a register that grew the received files are of custodians that it knows, a partial board
+/// stays one, and the standing board is the same.
+pub fn growth_keeps()
+    ensures { GrowthKeeps }
+{}
+
+/// A keeper that stood for a partial run stands for one under a register that grew.
+pub fn growth_stands<K: Inbox + Drop>()
+    ensures { GrowthStands K.seen }
+{}
+
+/// Whatever commands come, and however often the register grows between them, what is received is
+/// what was there and then what came first, the board stays partial over it, and each response that
+/// settles is the one read off the standing board of the files that are received by then.
+pub fn every_grown_run()
+    ensures { EveryGrownRun }
 {}
 
 /// Every view of a partial board is sound.
@@ -213,6 +233,11 @@ pub fn worked_owners()
 /// The door and the blocks of a hub over a register, on worked examples.
 pub fn worked_hubs()
     ensures { WorkedHubs }
+{}
+
+/// What the definitions on a register that grows come to on worked examples.
+pub fn worked_growth()
+    ensures { WorkedGrowth }
 {}
 
 /// Who is remembered to wait for what, and when that is right, on worked examples.

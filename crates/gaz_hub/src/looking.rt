@@ -6,6 +6,7 @@ ghost use Rattle.gaz_hub.specs.Settling.{IsNext, IsNextFile, IsReadAs, IsWeighed
 ghost use Rattle.gaz_hub.specs.Outcomes.{first_unreached, wants};
 ghost use Rattle.gaz_extract.specs.Readings.{LooksAtBoard};
 ghost use Rattle.gaz_hub.specs.Telling.{LooksAtKept};
+ghost use Rattle.gaz_hub.specs.Waiting.{IsSo};
 
 use gaz_changefile::{Basis, ChangeFile, FileFault, read_file};
 use gaz_ids::{Code, LAST_VOLUME, Volume};
@@ -131,7 +132,7 @@ pub fn look<K: Inbox>(alloc: Global, keeper: &mut K, code: Code) -> Result<Next,
 }
 
 /// What a custodian's next volume waits for; nothing where it is ready, or after volume 999,999.
-pub fn wants<K: Inbox>(
+fn wants<K: Inbox>(
     alloc: Global,
     keeper: &mut K,
     code: Code,
@@ -141,4 +142,21 @@ pub fn wants<K: Inbox>(
 {
     let next = look(alloc, keeper, code)?;
     Ok(next.wanted())
+}
+
+/// What a custodian's next volume waits for, where what is known of it is so. Where nothing is, its
+/// file is read.
+pub fn wants_as_known<K: Inbox>(
+    alloc: Global,
+    keeper: &mut K,
+    code: Code,
+    known: Option<(Code, Volume)>,
+) -> Result<Option<(Code, Volume)>, ShelfFault>
+    ensures { LooksAtKept K.seen keeper.old keeper.new result
+        (λ files board w. IsSo files board code known → w ≡ wants files board code) }
+{
+    match known {
+        Some(wanted) => Ok(Some(wanted)),
+        None => wants(alloc, keeper, code),
+    }
 }

@@ -5,9 +5,11 @@ ghost use Rattle.std.specs.Option.{unwrap_or};
 ghost use Rattle.gaz_keeper.specs.Keeper.{Enters, IsNew, IsOpen, with_received};
 ghost use Rattle.gaz_keeper.specs.Telling.{IsNotJudging};
 ghost use Rattle.gaz_hub.specs.Hubs.{door_of};
+ghost use Rattle.gaz_hub.specs.Knowing.{CallsKnowing, ReturnsKnowing, TakesIdleKnowing};
+ghost use Rattle.gaz_hub.specs.Knowing.{TakesKnowing};
 ghost use Rattle.gaz_hub.specs.Seen.{CallsKeeper, IsAfterComing, IsSured, kept_seen};
 ghost use Rattle.gaz_hub.specs.Settling.{AnswersSettled, SettlesAndCalls, TakesIdle, Tells};
-ghost use Rattle.gaz_hub.specs.Waiting.{all_ahead};
+ghost use Rattle.gaz_hub.specs.Waiting.{all_ahead, known_in};
 
 use crate::refusal::Refusal;
 use crate::settling::settle;
@@ -108,6 +110,77 @@ pub fn settled<K: Inbox, T: Drop, F: FnOnce(&mut K) -> Result<T, ShelfFault>>(
     match settle_all(alloc, register, keeper, waiters) {
         Ok(()) => read_kept(keeper, waiters, read),
         Err(fault) => Err(fault),
+    }
+}
+
+// What is remembered of what a custodian waits for.
+fn known_of(waiters: &Option<Waiters>, code: Code) -> Option<(Code, Volume)>
+    ensures { result ≡ known_in waiters.now code }
+{
+    match waiters {
+        Some(waiters) => waiters.known(code),
+        None => None,
+    }
+}
+
+/// What a reading tells that is given what a custodian is known to wait for, once all is settled. It
+/// may be any that can be made while no judgement is open. After a fault nothing is remembered.
+pub fn settled_knowing<
+    K: Inbox,
+    T: Drop,
+    F: FnOnce(&mut K, Option<(Code, Volume)>) -> Result<T, ShelfFault>,
+>(
+    alloc: Global,
+    register: &Register,
+    keeper: &mut K,
+    waiters: &mut Option<Waiters>,
+    code: Code,
+    read: F,
+) -> Result<T, ShelfFault>
+    requires idle { IsNotJudging K.seen keeper.old }
+    requires callable { TakesIdleKnowing K.seen F.FnOnce read }
+    ensures calls { SettlesAndCalls (door_of register.now) (kept_seen K.seen register.now)
+        (CallsKnowing K.seen F.FnOnce read code)
+        (keeper.old, waiters.old) (keeper.new, waiters.new) result }
+    ensures open { IsOpen (K.seen keeper.new) result }
+    ensures forgets { OnErr result (waiters.new ≡ None) }
+{
+    match settle_all(alloc, register, keeper, waiters) {
+        Ok(()) => {
+            let known = known_of(waiters, code);
+            let knowing = move |keeper: &mut K| -> Result<T, ShelfFault>
+                requires { TakesKnowing F.FnOnce read keeper.old known }
+                ensures { ReturnsKnowing F.FnOnce read keeper.old known result keeper.new }
+            { read(keeper, known) };
+            read_kept(keeper, waiters, knowing)
+        }
+        Err(fault) => Err(fault),
+    }
+}
+
+/// The same as the reply to a question: a fault is `NotReceived` (51).
+pub fn answered_knowing<
+    K: Inbox,
+    T: Drop,
+    F: FnOnce(&mut K, Option<(Code, Volume)>) -> Result<T, ShelfFault>,
+>(
+    alloc: Global,
+    register: &Register,
+    keeper: &mut K,
+    waiters: &mut Option<Waiters>,
+    code: Code,
+    read: F,
+) -> Result<T, Refusal>
+    requires idle { IsNotJudging K.seen keeper.old }
+    requires callable { TakesIdleKnowing K.seen F.FnOnce read }
+    ensures answers { AnswersSettled (door_of register.now) (kept_seen K.seen register.now)
+        (CallsKnowing K.seen F.FnOnce read code)
+        (keeper.old, waiters.old) (keeper.new, waiters.new) result }
+    ensures forgets { OnErr result (waiters.new ≡ None) }
+{
+    match settled_knowing(alloc, register, keeper, waiters, code, read) {
+        Ok(told) => Ok(told),
+        Err(fault) => Err(Refusal::NotReceived(fault)),
     }
 }
 

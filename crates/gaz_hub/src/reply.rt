@@ -3,10 +3,11 @@ ghost use Rattle.std.specs.Prelude.{◌≡◌, Some, None};
 ghost use Rattle.sha2.specs.Sha256.{sha256};
 ghost use Rattle.gaz_hub.specs.Asked.{IsHeld, IsOutcome};
 ghost use Rattle.gaz_hub.specs.Outcomes.{outcome_of};
+ghost use Rattle.gaz_hub.specs.Waiting.{IsSo};
 ghost use Rattle.gaz_hub.specs.Telling.{LooksAtKept};
 
 use crate::answer::Digest as FileDigest;
-use crate::looking::wants;
+use crate::looking::wants_as_known;
 use crate::outcome::Outcome;
 use gaz_ids::{Code, Volume};
 use gaz_keeper::{Inbox, ShelfFault, Verdict};
@@ -29,21 +30,24 @@ pub fn digest_of(bytes: &[u8]) -> FileDigest
     Sha256::digest(bytes)
 }
 
-/// The outcome of a received file, read off the board as it is.
+/// The outcome of a received file, read off the board as it is, where what is known of what its
+/// custodian waits for is so.
 pub fn tell<K: Inbox>(
     alloc: Global,
     keeper: &mut K,
     code: Code,
     volume: Volume,
+    known: Option<(Code, Volume)>,
 ) -> Result<Outcome, ShelfFault>
     ensures { LooksAtKept K.seen keeper.old keeper.new result
-        (λ files board. IsOutcome files board code volume) }
+        (λ files board told. IsSo files board code known
+        → IsOutcome files board code volume told) }
 {
     // From 1 to 999,999.
     let _number = volume.number();
     match keeper.verdict(code, volume)? {
         Some(verdict) => Ok(outcome_of(verdict)),
-        None => tell_held(alloc, keeper, code, volume),
+        None => tell_held(alloc, keeper, code, volume, known),
     }
 }
 
@@ -53,11 +57,12 @@ fn tell_held<K: Inbox>(
     keeper: &mut K,
     code: Code,
     volume: Volume,
+    known: Option<(Code, Volume)>,
 ) -> Result<Outcome, ShelfFault>
     ensures { LooksAtKept K.seen keeper.old keeper.new result
-        (λ files board. IsHeld files board code) }
+        (λ files board told. IsSo files board code known → IsHeld files board code told) }
 {
-    match wants(alloc, keeper, code)? {
+    match wants_as_known(alloc, keeper, code, known)? {
         Some((custodian, volume)) => Ok(Outcome::Held { custodian, volume }),
         // A board on which something is ready; no settled one.
         None => Ok(Outcome::Held {

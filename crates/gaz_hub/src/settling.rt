@@ -63,7 +63,10 @@ fn judge_next<K: Inbox>(
             waiters.wait(code, *custodian, *volume)?;
             Ok(0)
         }
-        Next::Done => Ok(0),
+        Next::Done => {
+            waiters.want_nothing(code);
+            Ok(0)
+        }
     }
 }
 

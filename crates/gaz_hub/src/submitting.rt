@@ -1,5 +1,6 @@
 //! How a submission is answered.
 ghost use Rattle.std.specs.Prelude.{◌≡◌, ◌↔◌, IfOk, IsSome, IsTrue, OnErr, Some, None, true, false};
+ghost use Rattle.gaz_register.specs.Registers.{knows};
 ghost use Rattle.gaz_hub.specs.Asked.{AnyIsOfBefore, IsAgain, IsOutcome, IsPastDoor, TakesIn};
 ghost use Rattle.gaz_hub.specs.Hubs.{MeetsDoor, cause_in_answer, door_of};
 ghost use Rattle.gaz_hub.specs.Seen.{ForgetsTaking, RemembersNothing, hub_seen};
@@ -7,13 +8,14 @@ ghost use Rattle.gaz_hub.specs.Step.{Submit, Submitted, file_refusal};
 ghost use Rattle.gaz_keeper.specs.Keeper.{IsOpen};
 ghost use Rattle.gaz_keeper.specs.Telling.{IsNotJudging};
 ghost use Rattle.gaz_hub.specs.Telling.{LooksAtKept, StepsTo, TellsKept};
+ghost use Rattle.gaz_hub.specs.Waiting.{IsSo};
 
 use crate::admission::{at_door, names_unknown_profile};
 use crate::answer::Answer;
 use crate::hub::Hub;
 use crate::outcome::Outcome;
 use crate::refusal::Refusal;
-use crate::remembering::{receive, settled};
+use crate::remembering::{receive, settled_knowing};
 use crate::reply::{digest_of, tell};
 use gaz_ids::{Code, Volume};
 use gaz_keeper::{Inbox, ShelfFault};
@@ -32,9 +34,11 @@ fn answer_again<K: Inbox>(
     code: Code,
     volume: Volume,
     file: &[u8],
+    known: Option<(Code, Volume)>,
 ) -> Result<Option<Answer>, ShelfFault>
     ensures looks { LooksAtKept K.seen keeper.old keeper.new result
-        (λ files board. IsAgain files board code volume file.now) }
+        (λ files board told. IsSo files board code known
+        → IsAgain files board code volume file.now told) }
     ensures of_before { IfOk result AnyIsOfBefore }
 {
     let Some(there) = keeper.received(code, volume)? else {
@@ -45,7 +49,7 @@ fn answer_again<K: Inbox>(
             digest: digest_of(&there),
         }));
     }
-    Ok(Some(Answer::Repeat(tell(alloc, keeper, code, volume)?)))
+    Ok(Some(Answer::Repeat(tell(alloc, keeper, code, volume, known)?)))
 }
 
 impl<K: Inbox + Drop> Hub<K> {
@@ -57,7 +61,8 @@ impl<K: Inbox + Drop> Hub<K> {
         volume: Volume,
         file: &[u8],
     ) -> Result<Option<Answer>, ShelfFault>
-        requires { IsNotJudging K.seen self.old.keeper }
+        requires idle { IsNotJudging K.seen self.old.keeper }
+        requires known { knows self.old.register code ≡ true }
         ensures tells { TellsKept (hub_seen K.seen) self.old.register self.old self.new result
             (λ files board. IsAgain files board code volume file.now) }
         ensures of_before { IfOk result AnyIsOfBefore }
@@ -66,19 +71,23 @@ impl<K: Inbox + Drop> Hub<K> {
         ensures register { self.new.register ≡ self.old.register }
     {
         let alloc = self.alloc;
-        let read = |keeper: &mut K| answer_again(alloc, keeper, code, volume, file);
-        settled(
+        let again = |keeper: &mut K, known: Option<(Code, Volume)>| {
+            answer_again(alloc, keeper, code, volume, file, known)
+        };
+        settled_knowing(
             alloc,
             &self.register,
             &mut self.keeper,
             &mut self.waiters,
-            read,
+            code,
+            again,
         )
     }
 
     // The outcome of a received file once all is settled.
     fn settle_and_tell(&mut self, code: Code, volume: Volume) -> Result<Outcome, ShelfFault>
-        requires { IsNotJudging K.seen self.old.keeper }
+        requires idle { IsNotJudging K.seen self.old.keeper }
+        requires known { knows self.old.register code ≡ true }
         ensures tells { TellsKept (hub_seen K.seen) self.old.register self.old self.new result
             (λ files board. IsOutcome files board code volume) }
         ensures open { IsOpen (hub_seen K.seen self.new) result }
@@ -86,13 +95,16 @@ impl<K: Inbox + Drop> Hub<K> {
         ensures register { self.new.register ≡ self.old.register }
     {
         let alloc = self.alloc;
-        let read = |keeper: &mut K| tell(alloc, keeper, code, volume);
-        settled(
+        let anew = |keeper: &mut K, known: Option<(Code, Volume)>| {
+            tell(alloc, keeper, code, volume, known)
+        };
+        settled_knowing(
             alloc,
             &self.register,
             &mut self.keeper,
             &mut self.waiters,
-            read,
+            code,
+            anew,
         )
     }
 

@@ -1,7 +1,8 @@
 //! Who waits for which volume.
-ghost use Rattle.std.specs.Prelude.{◌≡◌, ◌++◌, ◌==◌, ◌∷◌, [], not, filter, map, IfOk, OnOk};
-ghost use Rattle.gaz_hub.specs.Waiting.{all_ahead, is_among, waiting_for, with_coming};
-ghost use Rattle.gaz_hub.specs.Waiting.{with_judged, with_waiter, without_waiters};
+ghost use Rattle.std.specs.Prelude.{◌≡◌, ◌++◌, ◌==◌, ◌∷◌, [], not, filter, map, IfOk, OnOk, Some};
+ghost use Rattle.gaz_hub.specs.Waiting.{all_ahead, is_among, known_in, waiting_for, with_coming};
+ghost use Rattle.gaz_hub.specs.Waiting.{with_judged, with_nothing_wanted, with_waiter};
+ghost use Rattle.gaz_hub.specs.Waiting.{without_waiters};
 
 use gaz_ids::{Code, Volume};
 use gaz_register::{Custodian, Register};
@@ -49,15 +50,17 @@ impl Codes {
     }
 }
 
-/// The custodians whose next volume is to be looked at, and for each volume those who wait for it.
+/// The custodians whose next volume is to be looked at; for each volume those who wait for it; and
+/// what each custodian waits for.
 ///
-/// Only what a hub needs in order to look at nobody in vain: it can be built anew at any time, by
-/// looking at everyone.
+/// Only what a hub needs in order to look at nobody, and to read no file, in vain: it can be built
+/// anew at any time, by looking at everyone.
 #[derive(Drop)]
 pub struct Waiters {
     alloc: Global,
     ahead: Vec<Code>,
     by_volume: BTreeMap<(Code, Volume), Codes>,
+    wanted: BTreeMap<Code, (Code, Volume)>,
 }
 
 impl Model for Waiters {
@@ -67,9 +70,14 @@ impl Model for Waiters {
 
     ghost Value = { Remembered };
 
-    ghost coded = { coded× (coded_list coded_ℕ) (map.code (coded× coded_ℕ coded_ℕ) (coded_list coded_ℕ)) };
+    ghost coded = { coded× (coded_list coded_ℕ) (coded×
+        (map.code (coded× coded_ℕ coded_ℕ) (coded_list coded_ℕ))
+        (map.code coded_ℕ (coded× coded_ℕ coded_ℕ))) };
 
-    ghost view = { λ w. (w.ahead.items, map.from_entries w.by_volume.entries) };
+    ghost view = { λ w. (
+      w.ahead.items,
+      (map.from_entries w.by_volume.entries, map.from_entries w.wanted.entries),
+    ) };
 }
 
 impl Waiters {
@@ -81,6 +89,7 @@ impl Waiters {
             alloc,
             ahead: codes_of(alloc, register.custodians())?,
             by_volume: BTreeMap::new(alloc),
+            wanted: BTreeMap::new(alloc),
         })
     }
 
@@ -110,7 +119,25 @@ impl Waiters {
         let mut codes = self.take_waiting(custodian, volume);
         codes.push(waiter)?;
         self.by_volume.insert((custodian, volume), codes)?;
+        self.wanted.insert(waiter, (custodian, volume))?;
         Ok(())
+    }
+
+    /// A custodian waits for nothing.
+    pub fn want_nothing(&mut self, custodian: Code)
+        ensures { self.new ≡ with_nothing_wanted self.old custodian }
+    {
+        let _ = self.wanted.remove(&custodian);
+    }
+
+    /// What a custodian waits for; none while it is to be looked at.
+    pub fn known(&self, custodian: Code) -> Option<(Code, Volume)>
+        ensures { result ≡ known_in (Some self.now) custodian }
+    {
+        if self.ahead.as_slice().contains(&custodian) {
+            return None;
+        }
+        self.wanted.get(&custodian).copied()
     }
 
     /// A volume was judged: its custodian is to be looked at, and so are the others who waited for

@@ -29,7 +29,7 @@ use Rattle.gaz_cells.specs.Reading.{read_cells}
 use Rattle.gaz_overlay.proofs.Rows.{item_after, stands, used_after, uses}
 use Rattle.gaz_overlay.specs.Rows.{HistoryRow, view_after}
 use Rattle.gaz_tables.specs.Receiveds.{judged}
-use Rattle.gaz_kept.specs.Examples.{WorkedBoard, WorkedExamples, WorkedFiles, WorkedNewest, WorkedTables, WorkedViews, changed, changed_101_life, inserted_101, changed_101, four_rows, held_6, overlapping, rejected_3, six_files, with_a_gap, worked_board}
+use Rattle.gaz_kept.specs.Examples.{WorkedBoard, WorkedExamples, WorkedFiles, WorkedNewest, WorkedTables, WorkedViews, changed, changed_101_life, inserted_101, changed_101, four_rows, handed_on, held_6, overlapping, rejected_3, six_files, with_a_gap, worked_board}
 use Rattle.gaz_keeper.specs.Board.{verdict_on}
 use Rattle.gaz_keeper.specs.Board as board
 use Rattle.gaz_keeper.specs.Received.{pair_cmp}
@@ -202,10 +202,14 @@ version_holds = record {
   body = refl;
   born = refl;
   gone = refl;
+  hop = refl;
   item = subst (λ o. IsSomeAnd o (λ y. is_item y ≡ true)) (sym (said_item (Int (pos 2)) 1001 2 4 changed refl refl)) refl;
   first = omega arith;
   in_turn = omega arith;
 }
+
+no_hop_1 : ¬ IsVersion handed_on
+no_hop_1 v = let e : ◌≡◌ {A = Value} (Int (pos 1)) (Int (pos 0)) = v.hop in absurd (cc)
 
 first_holds : AreFirst six_files 1001
 first_holds = ap (map (λ e. e.0)) judged_1001 ∙ sym (ap (range_with_len 1) (ap length verdicts_are))
@@ -305,6 +309,7 @@ tables_hold = record {
   held = held_holds;
   state_7 = no_state_7;
   version = version_holds;
+  with_a_hop = no_hop_1;
   first = first_holds;
   gap = no_gap;
   apart = apart_holds;

@@ -22,7 +22,7 @@ use Rattle.gaz_overlay.proofs.Apart.{writings_keep}
 use Rattle.gaz_overlay.proofs.Making.{changes_make}
 use Rattle.gaz_tables.proofs.Staying.{stays}
 use Rattle.gaz_tables.specs.Receiveds.{Applies}
-use Rattle.gaz_tables.specs.Schema.{received, receiveds, version, versions}
+use Rattle.gaz_tables.specs.Schema.{received, receiveds, version2, versions}
 use Rattle.gaz_tables.specs.Stores.{HasTables}
 use Rattle.gaz_kept.specs.Contents.{board_in}
 use Rattle.gaz_kept.specs.Files.{Judged, files_in, reached_in, verdicts_in, volume_in}
@@ -73,7 +73,7 @@ module _ (c volume : ℕ) (changes : Changes) (working : View) (old new : Databa
   marked : HasTables new × (new.trees versions ≡ mid.trees versions)
   marked =
       let s = stays receiveds _ mid new rows_written.0 keeps.mark in
-      (s.0, s.1 version (inl refl) (λ e. absurd (omega (arith, e))))
+      (s.0, s.1 version2 (inr (inr (inr (inl refl)))) (λ e. absurd (omega (arith, e))))
 
   -- ---- the mark
 

@@ -1,4 +1,5 @@
 pub mod Pairs
+pub mod Decoded
 pub mod Said
 pub mod Views
 pub mod GoneRows
@@ -23,3 +24,4 @@ pub mod Examples
 pub mod MetaRows
 pub mod WorkedOpening
 pub mod LawfulViews
+pub mod Rewritten

@@ -17,7 +17,8 @@ use Rattle.sqlite_trees.specs.declared.store.Store.{Ghosts}
 use Rattle.std.specs.declared.cmp.Ordering.TheVariants.{Less}
 use Rattle.gaz_tables.specs.Metas.{FindsTwo, meta_row, meta_shown, rows_text}
 use Rattle.gaz_tables.specs.Schema.{metas, store_schema}
-use Rattle.gaz_kept.specs.Opening.{CreateOpens, IsAnswer, IsJudged, IsNumbered, IsOne, IsTold, has_all}
+use Rattle.gaz_kept.specs.Opening.{CreateOpens, IsAnswer, IsJudged, IsNumbered, IsOne, IsTold, has_all, schema_number}
+use Rattle.gaz_kept.proofs.Rewritten.{alone}
 use Rattle.gaz_kept.specs.declared.refusal.StoreRefusal.{StoreRefusal}
 use Rattle.gaz_kept.specs.declared.refusal.StoreRefusal.TheVariants.{BadSchema, OtherRegister, Fault}
 
@@ -62,7 +63,7 @@ module _ (rows shown : List Row) (h : FindsTwo rows shown) where
   numbered : (x : Row) → IsOne x shown → (r : Row) × IsNumbered r rows × (x ≡ meta_shown r)
   numbered x one =
       let it = one_there x one.only in
-      (it.0, record { only = it.1; id = subst (λ y. column y 0 ≡ Int (pos 1)) it.2 one.id; number = subst (λ y. column y 1 ≡ Int (pos 1)) it.2 one.number }, it.2)
+      (it.0, record { only = it.1; id = subst (λ y. column y 0 ≡ Int (pos 1)) it.2 one.id; number = subst (λ y. column y 1 ≡ Int (pos schema_number)) it.2 one.number }, it.2)
 
   pub judged : (register : List ℕ) (result : Result (Unit {0}) StoreRefusal) → IsTold register shown result → IsJudged register rows result
   judged register (Ok done) told =
@@ -76,17 +77,7 @@ module _ (rows shown : List Row) (h : FindsTwo rows shown) where
 
 -- ---- a new store
 
-never_twice : (r : Row) (register : List ℕ) → r ≡ meta_row 1 register → ¬ (value_cmp (rowid r) (rowid r) ≡ Less)
-never_twice r register is less = absurd (let e = subst (λ x. value_cmp (rowid x) (rowid x) ≡ Less) is less in cc (value_cmp-Int (pos 1) (pos 1)))
-
-alone : (register : List ℕ) (rows : List Row) → IsTable rows → Has rows (meta_row 1 register) → ((r : Row) → Has rows r → r ≡ meta_row 1 register) → rows ≡ meta_row 1 register ∷ []
-alone register [] rises there only = absurd there
-alone register (r ∷ []) rises there only = ap (λ x. x ∷ []) (only r (inl refl))
-alone register (r ∷ s ∷ more) rises there only =
-    let e : s ≡ r = only s (inr (inl refl)) ∙ sym (only r (inl refl)) in
-    absurd (never_twice r register (only r (inl refl)) (subst (λ x. value_cmp (rowid r) (rowid x) ≡ Less) e rises.0.0))
-
 pub create_opens : CreateOpens
 create_opens register db new =
-    let only : (r : Row) → Has (db.trees metas) r → r ≡ meta_row 1 register = λ r there. elim (new.meta_alone.only r there) [ inl is ↦ is | inr none ↦ absurd none ] in
-    (meta_row 1 register, record { only = alone register (db.trees metas) new.tables.metas_shaped.0 new.meta_alone.there only; id = refl; number = refl }, refl)
+    let only : (r : Row) → Has (db.trees metas) r → r ≡ meta_row schema_number register = λ r there. elim (new.meta_alone.only r there) [ inl is ↦ is | inr none ↦ absurd none ] in
+    (meta_row schema_number register, record { only = alone schema_number register (db.trees metas) new.tables.metas_shaped.0 new.meta_alone.there only; id = refl; number = refl }, refl)

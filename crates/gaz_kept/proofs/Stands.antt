@@ -25,7 +25,7 @@ use Rattle.gaz_tables.proofs.ReceivedOnce.{once}
 use Rattle.gaz_tables.proofs.Staying.{stays}
 use Rattle.gaz_tables.specs.Receiveds as table
 use Rattle.gaz_tables.specs.Receiveds.{IsVolume, Rejects, unjudged}
-use Rattle.gaz_tables.specs.Schema.{receiveds, version, versions}
+use Rattle.gaz_tables.specs.Schema.{receiveds, version2, versions}
 use Rattle.gaz_tables.specs.Stores.{HasTables}
 use Rattle.gaz_kept.specs.Contents.{board_in}
 use Rattle.gaz_kept.specs.Files.{Judged, custodian_in, file_in, files_in, judged_volumes, reached_in, verdicts_in, volume_in}
@@ -82,12 +82,12 @@ are_files db kept = record { each = kept.files; once = λ r s hr hs same. once_e
         let g = kept.files s hs in
         sym (once db kept.tables r s hr hs (pos (custodian_in r)) (pos (volume_in r)) f.cust (whole (table.cust_of s) (custodian_in r) g.cust (sym cust)) f.volume (whole (table.volume_of s) (volume_in r) g.volume (sym vol)))
 
--- a write of `received` leaves the rows of `version`
+-- a write of `received` leaves the rows of `version2`
 module _ (Becomes : List Row → List Row → Type 0) (old new : Database) (kept : IsKept old) (changes : Changes receiveds Becomes old new) where
   both : HasTables new × (new.trees versions ≡ old.trees versions)
   both =
       let s = stays receiveds Becomes old new kept.tables changes in
-      (s.0, s.1 version (inl refl) (λ e. absurd (omega (arith, e))))
+      (s.0, s.1 version2 (inr (inr (inr (inl refl)))) (λ e. absurd (omega (arith, e))))
 
   still_rows : (r : Row) → Has (new.trees versions) r → IsVersion r
   still_rows r there = kept.rows r (subst (λ l. Has l r) both.1 there)

@@ -15,16 +15,18 @@ schemas_hold = record {
   empty_is_no_store = refl;
   store_is_taken = refl;
   store_has_all = refl;
+  first_is_taken = refl;
+  first_is_no_store = refl;
   without_meta = refl;
   other_case = refl;
   no_columns = refl;
   column_in_other_case = refl;
 }
 
-numbered : IsNumbered (meta_row 1 ours) (meta_row 1 ours ∷ [])
+numbered : IsNumbered (meta_row 2 ours) (meta_row 2 ours ∷ [])
 numbered = record { only = refl; id = refl; number = refl }
 
-numbered_others : IsNumbered (meta_row 1 others) (meta_row 1 others ∷ [])
+numbered_others : IsNumbered (meta_row 2 others) (meta_row 2 others ∷ [])
 numbered_others = record { only = refl; id = refl; number = refl }
 
 abbrev head_of : Value → ℕ
@@ -37,26 +39,26 @@ differ e = let heads : ◌≡◌ {A = ℕ} 50 49 = ap head_of e in absurd (omega
 no_row : (r : Row) → ¬ IsNumbered r []
 no_row r h = let e = h.only in absurd (cc)
 
-no_two : (r : Row) → ¬ IsNumbered r (meta_row 1 ours ∷ second_row ∷ [])
+no_two : (r : Row) → ¬ IsNumbered r (meta_row 2 ours ∷ second_row ∷ [])
 no_two r h = let e = h.only in absurd (cc)
 
 abbrev first_of : List Row → Row
 first_of [] = []
 first_of (r ∷ rows) = r
 
-no_number_2 : (r : Row) → ¬ IsNumbered r (meta_row 2 ours ∷ [])
-no_number_2 r h = let e : ◌≡◌ {A = Value} (Int (pos 2)) (Int (pos 1)) = ap (λ l. column (first_of l) 2) h.only ∙ h.number in absurd (cc)
+no_number_1 : (r : Row) → ¬ IsNumbered r (meta_row 1 ours ∷ [])
+no_number_1 r h = let e : ◌≡◌ {A = Value} (Int (pos 1)) (Int (pos 2)) = ap (λ l. column (first_of l) 2) h.only ∙ h.number in absurd (cc)
 
 no_id_2 : (r : Row) → ¬ IsNumbered r (second_row ∷ [])
 no_id_2 r h = let e : ◌≡◌ {A = Value} (Int (pos 2)) (Int (pos 1)) = ap (λ l. column (first_of l) 0) h.only ∙ h.id in absurd (cc)
 
 registers_hold : WorkedRegisters
 registers_hold = record {
-  taken = (meta_row 1 ours, numbered, refl);
-  of_another = (meta_row 1 others, numbered_others, differ);
+  taken = (meta_row 2 ours, numbered, refl);
+  of_another = (meta_row 2 others, numbered_others, differ);
   no_row = no_row;
   two_rows = no_two;
-  of_number_2 = no_number_2;
+  of_number_1 = no_number_1;
   of_id_2 = no_id_2;
 }
 

@@ -1,4 +1,4 @@
--- One write of `version` after another, within a transaction.
+-- One write of `version2` after another, within a transaction.
 use Rattle.std.proofs.Common.{◌≡◌, ◌∙◌, ℕ, false, true, List, [], ◌∷◌, ◌++◌, refl, sym, ap, subst, inl, le_refl, arith}
 use Rattle.std.specs.Prelude.{Result, Ok, Err, OnOk, IsTrue}
 use Rattle.sqlite.proofs.StateLemmas.{survives_then}

@@ -1,5 +1,5 @@
 -- Worked examples, computed from the definitions.
-use Rattle.std.specs.Prelude.{◌≡◌, ℕ, pos, true, false, codes, List, [], ◌∷◌, Some, None}
+use Rattle.std.specs.Prelude.{◌≡◌, ℕ, pos, true, false, codes, List, [], ◌∷◌, ◌++◌, take, Some, None}
 use Rattle.std.specs.FinMap as map
 use Rattle.sqlite.specs.Order.{Row}
 use Rattle.sqlite.specs.declared.types.Value.TheVariants.{Int}
@@ -36,6 +36,10 @@ memory_of_102 = Int (pos 3) ∷ values_of 1001 2 2 (street 102)
 
 abbrev pub of_1002 : Row
 of_1002 = Int (pos 4) ∷ values_of 1002 1 1000000 (street 101)
+
+-- the changed street, as a row that was handed on
+abbrev pub handed_on : Row
+handed_on = take 11 changed_101 ++ Int (pos 1) ∷ []
 
 abbrev pub four_rows : List Row
 four_rows = row_101 ∷ changed_101 ∷ memory_of_102 ∷ of_1002 ∷ []
@@ -106,6 +110,7 @@ pub record WorkedTables : Type 0 where
   pub held : IsFile held_6
   pub state_7 : ¬ IsFile (judged 7 (pos 0) 0 held_6)
   pub version : IsVersion changed_101
+  pub with_a_hop : ¬ IsVersion handed_on
   pub first : AreFirst six_files 1001
   pub gap : ¬ AreFirst with_a_gap 1001
   pub apart : AreInTurn (histories_in four_rows 1001)

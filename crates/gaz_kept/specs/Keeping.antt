@@ -102,7 +102,7 @@ KeepStands = (c volume : ℕ) (changes : Changes) (working : View) (old new : Da
 -- the values of a row of a custodian's, with these cells
 abbrev pub row_values : ℕ → ℕ → ℕ → RowCells → Row
 row_values c born gone cells = version_values c cells.kind (string_bytes cells.id) cells.blpu
-    cells.street cells.lang cells.live born gone (string_bytes cells.body)
+    cells.street cells.lang cells.live born gone (string_bytes cells.body) 0
 
 -- they are an item's
 abbrev pub AreCellsOf : Item → RowCells → Type 0
@@ -118,7 +118,7 @@ module _ {S : Type 0} (g : Ghosts S) (before after : Held S) where
   abbrev new : State
   new = state g after
 
-  -- within a transaction, the rows of `version` become others
+  -- within a transaction, the rows of `version2` become others
   abbrev pub WritesVersions : {A : Type 0} → Result A Error → (List Row → List Row → Type 0)
       → Type 0
   WritesVersions result Becomes = HasCleanDisk new → HasTables old.now

@@ -12,7 +12,7 @@ use Rattle.gaz_overlay.specs.Rows.{HistoryRow, IsUntil}
 use Rattle.gaz_tables.specs.Receiveds as file
 use Rattle.gaz_tables.specs.Schema.{receiveds, versions}
 use Rattle.gaz_tables.specs.Stores.{HasTables}
-use Rattle.gaz_tables.specs.Versions.{blpu_of, body_of, born_of, cust_of, gone_of, id_of, kind_of, lang_of, live_of, street_of}
+use Rattle.gaz_tables.specs.Versions.{blpu_of, body_of, born_of, cust_of, gone_of, hop_of, id_of, kind_of, lang_of, live_of, street_of}
 use Rattle.gaz_kept.specs.Files.{bytes_in, judged_volumes, reached_in, volume_in}
 use Rattle.gaz_kept.specs.Versions.{histories_in, item_in, number_in, text_in}
 
@@ -48,9 +48,9 @@ pub record IsFile (r : Row) : Type 0 where
 abbrev pub AreFirst : List Row → ℕ → Type 0
 AreFirst rows c = finite.keys (judged_volumes rows c) ≡ range_with_len 1 (reached_in rows c)
 
--- ---- the rows of `version`
+-- ---- the rows of `version2`
 
--- an item of a custodian, from one volume until another
+-- an item of a custodian, from one volume until another, where nothing was handed on
 pub record IsVersion (r : Row) : Type 0 where
   pub cust : IsWhole (cust_of r)
   pub kind : IsWhole (kind_of r)
@@ -62,6 +62,7 @@ pub record IsVersion (r : Row) : Type 0 where
   pub body : IsText (body_of r)
   pub born : IsWhole (born_of r)
   pub gone : IsWhole (gone_of r)
+  pub hop : hop_of r ≡ Int (pos 0)
   pub item : IsSomeAnd (item_in r) (λ x. is_item x ≡ true)
   pub first : 1 ≤ number_in (born_of r)
   pub in_turn : number_in (born_of r) ≤ number_in (gone_of r)

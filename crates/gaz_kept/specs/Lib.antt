@@ -13,3 +13,4 @@ pub mod Keeping
 pub mod Examples
 pub mod Opening
 pub mod WorkedOpening
+pub mod Rewriting

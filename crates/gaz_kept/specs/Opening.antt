@@ -14,7 +14,7 @@ use Rattle.sqlite_schema.specs.Names.{same_name}
 use Rattle.sqlite_trees.specs.declared.store.Store.{Ghosts}
 use Rattle.gaz_tables.specs.Creating.{IsBare, IsNewStore, no_schema}
 use Rattle.gaz_tables.specs.Metas.{id_of, number_of, register_of, rows_text}
-use Rattle.gaz_tables.specs.Schema.{meta, metas, received, version}
+use Rattle.gaz_tables.specs.Schema.{meta, metas, received, version, version2}
 use Rattle.gaz_tables.specs.Stores.{HasTables}
 use Rattle.gaz_kept.specs.declared.refusal.StoreRefusal.{StoreRefusal}
 use Rattle.gaz_kept.specs.declared.refusal.StoreRefusal.TheVariants.{BadSchema, Fault}
@@ -37,7 +37,8 @@ has_name name schema =
 unfoldable pub has_any : Schema → Bool
 has_any schema =
     has_name (codes "version") schema
-    || (has_name (codes "received") schema || has_name (codes "meta") schema)
+    || (has_name (codes "version2") schema
+    || (has_name (codes "received") schema || has_name (codes "meta") schema))
 
 -- a table has a column of this name
 abbrev pub has_column : Table → List ℕ → Bool
@@ -52,15 +53,20 @@ is_like like t =
 unfoldable pub has_all : Schema → Bool
 has_all schema =
     list_any (is_like version) schema.tables
-    && (list_any (is_like received) schema.tables && list_any (is_like meta) schema.tables)
+    && (list_any (is_like version2) schema.tables
+    && (list_any (is_like received) schema.tables && list_any (is_like meta) schema.tables))
 
 -- ---- the row of `meta`
 
--- it is the only one, of id 1 and number 1
+-- the number of the schema of a store
+abbrev pub schema_number : ℕ
+schema_number = 2
+
+-- it is the only one, of id 1 and the schema's number
 pub record IsNumbered (r : Row) (rows : List Row) : Type 0 where
   pub only : rows ≡ r ∷ []
   pub id : id_of r ≡ Int (pos 1)
-  pub number : number_of r ≡ Int (pos 1)
+  pub number : number_of r ≡ Int (pos schema_number)
 
 -- it has this register's text
 abbrev pub IsOf : List ℕ → List Row → Type 0
@@ -77,11 +83,11 @@ IsJudged register rows (Err OtherRegister) = IsOfAnother register rows
 IsJudged register rows (Err BadSchema) = (r : Row) → ¬ IsNumbered r rows
 IsJudged register rows (Err Fault) = ⊤
 
--- only one is shown, of id 1 and number 1
+-- only one is shown, of id 1 and the schema's number
 pub record IsOne (x : Row) (shown : List Row) : Type 0 where
   pub only : shown ≡ x ∷ []
   pub id : column x 0 ≡ Int (pos 1)
-  pub number : column x 1 ≡ Int (pos 1)
+  pub number : column x 1 ≡ Int (pos schema_number)
 
 -- what is told of id, number and register of at most two of its rows
 abbrev pub IsTold : List ℕ → List Row → Result (Unit {0}) StoreRefusal → Type 0
@@ -94,7 +100,7 @@ IsTold register shown (Err Fault) = ⊥
 -- a new store is one of its register
 abbrev pub CreateOpens : Type 0
 CreateOpens = (register : List ℕ) (db : Database)
-    → IsNewStore 1 register db → IsOf register (db.trees metas)
+    → IsNewStore schema_number register db → IsOf register (db.trees metas)
 
 -- ---- a call on a connection, whose state `g` shows
 
@@ -138,7 +144,7 @@ module _ {S : Type 0} (g : Ghosts S) (before after : Held S)
   -- the empty database becomes a new store of the register and is committed
   abbrev pub Makes : List ℕ → Type 0
   Makes register = HasCleanDisk new → IsBare no_schema old.now
-      → OnOk result (IsNewStore 1 register new.now × (new.committed ≡ new.now))
+      → OnOk result (IsNewStore schema_number register new.now × (new.committed ≡ new.now))
 
   -- what is told of the rows of `meta` where the tables are there, whatever they are
   abbrev pub Tells : List ℕ → Type 0

@@ -1,4 +1,4 @@
--- What the rows of `version` stand for.
+-- What the rows of `version2` stand for.
 use Rattle.std.specs.Prelude.{ℕ, pos, negsuc, ◌==◌, if◌then◌else◌, List, [], Option, None, option_map}
 use Rattle.std.specs.List.{filter_map}
 use Rattle.sqlite.specs.declared.types.Value.{Value}
@@ -77,4 +77,4 @@ values_of c born gone x =
     let cells = cells_of x in
     let links = cells.links in
     version_values c cells.kind cells.id (pos links.blpu) links.street links.lang (links.live == 1)
-    born gone cells.body
+    born gone cells.body 0

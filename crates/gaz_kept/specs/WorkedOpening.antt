@@ -6,7 +6,7 @@ use Rattle.sqlite.specs.Table.{Table}
 use Rattle.sqlite.specs.declared.types.Value.TheVariants.{Int, Text, Null}
 use Rattle.gaz_tables.specs.Creating.{no_schema, with_received}
 use Rattle.gaz_tables.specs.Metas.{meta_row}
-use Rattle.gaz_tables.specs.Schema.{meta, store_schema}
+use Rattle.gaz_tables.specs.Schema.{first_schema, meta, store_schema}
 use Rattle.gaz_kept.specs.Opening.{IsJudged, has_all, has_any, has_column, is_like}
 use Rattle.gaz_kept.specs.declared.refusal.StoreRefusal.TheVariants.{BadSchema, OtherRegister}
 
@@ -22,6 +22,8 @@ pub record WorkedSchemas : Type 0 where
   pub empty_is_no_store : has_all no_schema ≡ false
   pub store_is_taken : has_any store_schema ≡ true
   pub store_has_all : has_all store_schema ≡ true
+  pub first_is_taken : has_any first_schema ≡ true
+  pub first_is_no_store : has_all first_schema ≡ false
   pub without_meta : has_all with_received ≡ false
   pub other_case : has_any schema_of_another ≡ true
   pub no_columns : is_like meta meta_of_another ≡ false
@@ -36,14 +38,14 @@ others = codes "2001,Upper County,1-99999,100-199\n"
 
 -- a second row, of id 2
 abbrev pub second_row : Row
-second_row = Int (pos 2) ∷ Null ∷ Int (pos 1) ∷ Text ours ∷ []
+second_row = Int (pos 2) ∷ Null ∷ Int (pos 2) ∷ Text ours ∷ []
 
 pub record WorkedRegisters : Type 0 where
-  pub taken : IsJudged ours (meta_row 1 ours ∷ []) (Ok tt)
-  pub of_another : IsJudged ours (meta_row 1 others ∷ []) (Err OtherRegister)
+  pub taken : IsJudged ours (meta_row 2 ours ∷ []) (Ok tt)
+  pub of_another : IsJudged ours (meta_row 2 others ∷ []) (Err OtherRegister)
   pub no_row : IsJudged ours [] (Err BadSchema)
-  pub two_rows : IsJudged ours (meta_row 1 ours ∷ second_row ∷ []) (Err BadSchema)
-  pub of_number_2 : IsJudged ours (meta_row 2 ours ∷ []) (Err BadSchema)
+  pub two_rows : IsJudged ours (meta_row 2 ours ∷ second_row ∷ []) (Err BadSchema)
+  pub of_number_1 : IsJudged ours (meta_row 1 ours ∷ []) (Err BadSchema)
   pub of_id_2 : IsJudged ours (second_row ∷ []) (Err BadSchema)
 
 pub record WorkedOpening : Type 0 where

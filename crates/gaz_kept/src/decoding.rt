@@ -7,7 +7,7 @@ ghost use Rattle.gaz_cells.specs.Ids.{id_of, is_key, key_named, kind_in};
 ghost use Rattle.gaz_kept.specs.Decoding.{IsBodyOf, IsItemAt};
 ghost use Rattle.gaz_kept.specs.Versions.{text_in};
 
-use gaz_cells::{id_of, key_named};
+use gaz_cells::{Bodies, id_of, key_named};
 use gaz_records::{FieldFault, Item, Key, Kind, SharedItem, item_of_text, key_of};
 use sqlite::Row;
 use sqlite::types::ValueRef;
@@ -97,6 +97,17 @@ fn item_of(alloc: Global, key: &Key, body: &[u8]) -> Result<Item, RowFault>
     }
 }
 
+// The same by a reader of many bodies.
+fn next_item(bodies: &mut Bodies<'_>, key: &Key, body: &[u8]) -> Result<Item, RowFault>
+    ensures { IfOk result (IsBodyOf key.now body.now) }
+{
+    match bodies.item(kind_in(key), body) {
+        Ok(item) if are_one(&key_of(&item), key) => Ok(item),
+        Err(FieldFault::Memory) => Err(RowFault::Memory),
+        _ => Err(RowFault::Wrong),
+    }
+}
+
 /// The item at a key that the body in a column says.
 pub fn item_in(alloc: Global, key: &Key, row: &Row, at: usize) -> Result<SharedItem, RowFault>
     ensures { IfOk result (IsItemAt row.now at key.now) }
@@ -106,4 +117,33 @@ pub fn item_in(alloc: Global, key: &Key, row: &Row, at: usize) -> Result<SharedI
         Ok(item) => Ok(item),
         Err(_) => Err(RowFault::Memory),
     }
+}
+
+/// The same by a reader of the bodies of many rows.
+pub fn next_item_in(
+    alloc: Global,
+    bodies: &mut Bodies<'_>,
+    key: &Key,
+    row: &Row,
+    at: usize,
+) -> Result<SharedItem, RowFault>
+    ensures { IfOk result (IsItemAt row.now at key.now) }
+{
+    let item = next_item(bodies, key, text(row, at)?)?;
+    match SharedItem::new(alloc, item) {
+        Ok(item) => Ok(item),
+        Err(_) => Err(RowFault::Memory),
+    }
+}
+
+/// The bodies in a column of rows, each ended by LF, as lines for one reader.
+pub fn body_lines(alloc: Global, rows: &[Row], at: usize) -> Result<Vec<u8>, RowFault> {
+    let mut lines = Vec::new(alloc);
+    for row in rows {
+        let body = text(row, at)?;
+        if lines.extend_from_slice(body).is_err() || lines.push(b'\n').is_err() {
+            return Err(RowFault::Memory);
+        }
+    }
+    Ok(lines)
 }

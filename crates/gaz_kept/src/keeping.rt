@@ -52,6 +52,7 @@ fn add_row<S: Alter>(
         born,
         gone,
         &cells.body,
+        0,
     )?;
     Ok(())
 }

@@ -4,6 +4,7 @@ ghost use Rattle.gaz_kept.specs.Histories.{HistoriesChange, StatementsChange};
 ghost use Rattle.gaz_kept.specs.Judging.{BoardChanges, FilesChange};
 ghost use Rattle.gaz_kept.specs.Keeping.{KeepStands};
 ghost use Rattle.gaz_kept.specs.Opening.{CreateOpens};
+ghost use Rattle.gaz_kept.specs.Rewriting.{RewritesStand};
 ghost use Rattle.gaz_kept.specs.Stands.{TablesStand};
 ghost use Rattle.gaz_kept.specs.WorkedOpening.{WorkedOpening};
 
@@ -55,4 +56,10 @@ pub fn volumes_are_kept()
 /// A new store is one of its register, so that it is opened for that one and refused to another.
 pub fn create_opens()
     ensures { CreateOpens }
+{}
+
+/// A row of `meta` that gets another register keeps what the tables stand for, and makes of a store of
+/// one register one of the other.
+pub fn rewrites_stand()
+    ensures { RewritesStand }
 {}

@@ -10,6 +10,7 @@ mod naming;
 pub mod newest;
 pub mod opening;
 mod refusal;
+pub mod rewriting;
 mod row_cells;
 
 pub use refusal::StoreRefusal;

@@ -2,7 +2,7 @@
 ghost use Rattle.std.specs.Prelude.{◌≡◌, ◌&&◌};
 ghost use Rattle.std.specs.List.{list_all, list_any};
 ghost use Rattle.sqlite_schema.specs.Names.{same_name};
-ghost use Rattle.gaz_tables.specs.Schema.{meta, received, version};
+ghost use Rattle.gaz_tables.specs.Schema.{meta, received, version, version2};
 ghost use Rattle.gaz_kept.specs.Opening.{has_all, has_any, has_column, has_name, is_like};
 ghost use Rattle.gaz_kept.specs.Opening.{is_owner};
 
@@ -47,7 +47,8 @@ fn has_name(schema: &Schema, name: &str) -> bool
 pub(crate) fn has_any(schema: &Schema) -> bool
     ensures { result ≡ has_any schema.now }
 {
-    has_name(schema, "version") | (has_name(schema, "received") | has_name(schema, "meta"))
+    has_name(schema, "version")
+        | (has_name(schema, "version2") | (has_name(schema, "received") | has_name(schema, "meta")))
 }
 
 // Whether a table has a column of this name.
@@ -85,6 +86,15 @@ fn has_version(tables: &[Table]) -> bool
     tables.iter().any(|t| is_like(t, "version", &columns))
 }
 
+fn has_version2(tables: &[Table]) -> bool
+    ensures { result ≡ list_any (is_like version2) tables.now }
+{
+    let columns = [
+        "cust", "kind", "id", "blpu", "street", "lang", "live", "born", "gone", "body", "hop",
+    ];
+    tables.iter().any(|t| is_like(t, "version2", &columns))
+}
+
 fn has_received(tables: &[Table]) -> bool
     ensures { result ≡ list_any (is_like received) tables.now }
 {
@@ -105,5 +115,5 @@ pub(crate) fn has_all(schema: &Schema) -> bool
     ensures { result ≡ has_all schema.now }
 {
     let tables = schema.tables.as_slice();
-    has_version(tables) & (has_received(tables) & has_meta(tables))
+    has_version(tables) & (has_version2(tables) & (has_received(tables) & has_meta(tables)))
 }

@@ -11,6 +11,7 @@ ghost use Rattle.gaz_tables.specs.Schema.{metas};
 ghost use Rattle.gaz_tables.specs.Stores.{Finds};
 ghost use Rattle.gaz_kept.specs.Opening.{IsAnswer, IsOpen, IsSettled, IsTold, Judges, Makes, Rests};
 ghost use Rattle.gaz_kept.specs.Opening.{RestsRefused, Tells, WasOpen, has_all, has_any};
+ghost use Rattle.gaz_kept.specs.Opening.{schema_number};
 ghost use Rattle.gaz_register.specs.Texts.{register_text};
 
 use crate::naming::{has_all, has_any};
@@ -20,6 +21,9 @@ use gaz_tables::{creating, metas};
 use sqlite::types::ValueRef;
 use sqlite::{Alter, Connection, Error, Row};
 use std::alloc::Global;
+
+// The number of the schema of a store.
+pub(crate) const NUMBER: u32 = 2;
 
 // Outside a transaction a connection shows what was committed.
 fn known<S: Alter>(conn: &Connection<S>)
@@ -48,12 +52,12 @@ fn asked<S: Alter>(conn: &mut Connection<S>) -> Result<Vec<Row>, Error>
     found
 }
 
-// Whether the number 1 stands in a column.
-fn is_one(row: &Row, at: usize) -> bool
-    ensures { IsTrue result ↔ (column row.now at ≡ Int (pos 1)) }
+// Whether a number stands in a column.
+fn is_number(row: &Row, at: usize, number: u32) -> bool
+    ensures { IsTrue result ↔ (column row.now at ≡ Int (pos number)) }
 {
     match row.get_ref(at) {
-        Ok(ValueRef::Int(n)) => n == 1,
+        Ok(ValueRef::Int(n)) => n == i64::from(number),
         _ => false,
     }
 }
@@ -75,7 +79,7 @@ fn told(rows: &[Row], register: &str) -> Result<(), StoreRefusal>
     let Some(row) = rows.first() else {
         return Err(StoreRefusal::BadSchema);
     };
-    if rows.len() > 1 || !is_one(row, 0) || !is_one(row, 1) {
+    if rows.len() > 1 || !is_number(row, 0, 1) || !is_number(row, 1, NUMBER) {
         return Err(StoreRefusal::BadSchema);
     }
     if is_text(row, 2, register) {
@@ -120,7 +124,7 @@ pub fn create<S: Alter>(
         ↔ IsTrue (has_any (state S.Store conn.old).now.schema) }
     ensures causes { result ≢ Err StoreRefusal.OtherRegister }
     ensures rests { RestsRefused S.Store conn.old conn.new result }
-    ensures leaves { MayCreate S.Store conn.old conn.new 1 (register_text register.now) }
+    ensures leaves { MayCreate S.Store conn.old conn.new schema_number (register_text register.now) }
     ensures certain { OnOk result (LeavesTheCommit (state S.Store conn.new)) }
 {
     if has_any(conn.schema()) {
@@ -130,7 +134,7 @@ pub fn create<S: Alter>(
     let Ok(text) = register.text(alloc) else {
         return Err(StoreRefusal::Fault);
     };
-    match creating::create(conn, 1, &text) {
+    match creating::create(conn, NUMBER, &text) {
         Ok(()) => Ok(()),
         Err(_) => Err(StoreRefusal::Fault),
     }
@@ -139,7 +143,7 @@ pub fn create<S: Alter>(
 /// Tells that the database is a store of a register. It changes nothing, whatever the answer.
 ///
 /// In this order: `BadSchema` where a table of a store or a column of one is missing, or the rows
-/// of `meta` aren't just one, of id 1 and number 1; `OtherRegister` where its text isn't the
+/// of `meta` aren't just one, of id 1 and number 2; `OtherRegister` where its text isn't the
 /// register's canonical one; `Fault` where memory or the database failed, so that this isn't known.
 pub fn check<S: Alter>(
     alloc: Global,

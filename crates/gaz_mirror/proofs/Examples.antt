@@ -37,9 +37,9 @@ examples_hold = record { on_steps = on_steps; on_mirrors = on_mirrors; on_calls 
 
     on_calls : WorkedCalls
     on_calls = record {
-      spared = λ there. refl;
-      asked_below = λ there. cc;
-      not_spared = λ spared. apart (sym (spared refl));
+      kept = λ there. refl;
+      none_to_keep = λ there. there;
+      not_kept = λ kept. let no = kept refl in cc;
       answered = tt;
       dropped = refl;
       not_dropped = λ none. cc;

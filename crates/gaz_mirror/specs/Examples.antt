@@ -5,7 +5,7 @@ use Rattle.gaz_keeper.specs.Keeper.{Broken, Content, Idle, Open, after_stop, emp
 use Rattle.gaz_keeper.specs.declared.fault.ShelfFault.TheVariants.{Store}
 use Rattle.gaz_keeper.specs.declared.shelf.Shelf.{Ghosts}
 use Rattle.gaz_mirror.specs.InStep.{IsInStep}
-use Rattle.gaz_mirror.specs.Mirrored.{DropsUpper, SparesLower, seen_mirrored}
+use Rattle.gaz_mirror.specs.Mirrored.{DropsUpper, KeepsUpper, seen_mirrored}
 use Rattle.gaz_mirror.specs.declared.mirror.Mirror.{Mirror}
 
 -- two keepers in step, and such as aren't
@@ -42,12 +42,11 @@ pub record WorkedMirrors : Type 0 where
 
 -- what a call leaves of the two
 pub record WorkedCalls : Type 0 where
-  pub spared : SparesLower (over first_received (Some first_received))
-      (over first_received (Some empty_content))
-  pub asked_below : SparesLower (over empty_content (Some empty_content))
-      (over first_received None)
-  pub not_spared : ¬ SparesLower (over empty_content (Some empty_content))
+  pub kept : KeepsUpper (over first_received (Some first_received))
       (over first_received (Some first_received))
+  pub none_to_keep : KeepsUpper (over empty_content None) (over first_received None)
+  pub not_kept : ¬ KeepsUpper (over first_received (Some first_received))
+      (over first_received None)
   pub answered : DropsUpper {T = Unit {0}} (Ok tt) (over first_received (Some first_received))
   pub dropped : DropsUpper {T = Unit {0}} (Err Store) (over first_received None)
   pub not_dropped : ¬ DropsUpper {T = Unit {0}} (Err Store)

@@ -10,10 +10,10 @@ abbrev pub seen_mirrored : {L U : Type 0} → {lower : Ghosts L} → {upper : Gh
     → Mirror L U lower upper → Seen
 seen_mirrored {L} {U} {lower} {upper} m = mirrored upper.seen (lower.seen m.lower) m.upper
 
--- where there still is an upper one, the lower one is as it was
-abbrev pub SparesLower : {L U : Type 0} → {lower : Ghosts L} → {upper : Ghosts U}
+-- where there was an upper one, there is one still
+abbrev pub KeepsUpper : {L U : Type 0} → {lower : Ghosts L} → {upper : Ghosts U}
     → Mirror L U lower upper → Mirror L U lower upper → Type 0
-SparesLower old new = IsSome new.upper → new.lower ≡ old.lower
+KeepsUpper old new = IsSome old.upper → IsSome new.upper
 
 -- a fault leaves no upper one
 abbrev pub DropsUpper : {L U T : Type 0} → {lower : Ghosts L} → {upper : Ghosts U}

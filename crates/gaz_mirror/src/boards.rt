@@ -8,7 +8,7 @@ ghost use Rattle.gaz_keeper.specs.Telling.{TellsApprovedOf, TellsApprovedOn, Tel
 ghost use Rattle.gaz_keeper.specs.Telling.{TellsChildren};
 ghost use Rattle.gaz_keeper.specs.Telling.{TellsCurrent, TellsEver, TellsPage, TellsPropertyOf};
 ghost use Rattle.gaz_keeper.specs.Telling.{TellsReached, TellsVerdict};
-ghost use Rattle.gaz_mirror.specs.Mirrored.{DropsUpper, SparesLower, seen_mirrored};
+ghost use Rattle.gaz_mirror.specs.Mirrored.{DropsUpper, KeepsUpper, seen_mirrored};
 
 use crate::mirror::Mirror;
 use crate::turns::{change, reading};
@@ -17,56 +17,56 @@ use gaz_ids::{Code, Lang, Uprn, Usrn, Volume};
 use gaz_keeper::{Inbox, Property, Shelf, ShelfFault, Verdict};
 use gaz_records::{Key, Kind, SharedItem};
 
-// Beside what every keeper tells: a reading of the upper keeper leaves the lower one alone, and a
-// fault leaves no upper one.
+// Beside what every keeper tells: a reading keeps the upper keeper, and a fault of a change, or of
+// making sure, leaves none.
 impl<L: Inbox + Drop, U: Unshared + Drop> Shelf for Mirror<L, U> {
     ghost seen = { seen_mirrored };
 
     fn reached(&mut self, code: Code) -> Result<u64, ShelfFault>
         ensures reads { TellsReached seen_mirrored self.old self.new result code }
-        ensures spares { SparesLower self.old self.new }
+        ensures keeps { KeepsUpper self.old self.new }
     {
         reading!(self, reached(code))
     }
 
     fn verdict(&mut self, code: Code, volume: Volume) -> Result<Option<Verdict>, ShelfFault>
         ensures reads { TellsVerdict seen_mirrored self.old self.new result code volume }
-        ensures spares { SparesLower self.old self.new }
+        ensures keeps { KeepsUpper self.old self.new }
     {
         reading!(self, verdict(code, volume))
     }
 
     fn current(&mut self, code: Code, key: &Key) -> Result<Option<SharedItem>, ShelfFault>
         ensures reads { TellsCurrent seen_mirrored self.old self.new result code key.now }
-        ensures spares { SparesLower self.old self.new }
+        ensures keeps { KeepsUpper self.old self.new }
     {
         reading!(self, current(code, key))
     }
 
     fn at(&mut self, code: Code, volume: u64, key: &Key) -> Result<Option<SharedItem>, ShelfFault>
         ensures reads { TellsAt seen_mirrored self.old self.new result code volume key.now }
-        ensures spares { SparesLower self.old self.new }
+        ensures keeps { KeepsUpper self.old self.new }
     {
         reading!(self, at(code, volume, key))
     }
 
     fn ever(&mut self, code: Code, key: &Key) -> Result<bool, ShelfFault>
         ensures reads { TellsEver seen_mirrored self.old self.new result code key.now }
-        ensures spares { SparesLower self.old self.new }
+        ensures keeps { KeepsUpper self.old self.new }
     {
         reading!(self, ever(code, key))
     }
 
     fn approved_of(&mut self, code: Code, uprn: Uprn) -> Result<Vec<Key>, ShelfFault>
         ensures reads { TellsApprovedOf seen_mirrored self.old self.new result code uprn }
-        ensures spares { SparesLower self.old self.new }
+        ensures keeps { KeepsUpper self.old self.new }
     {
         reading!(self, approved_of(code, uprn))
     }
 
     fn property_of(&mut self, code: Code, uprn: Uprn) -> Result<Option<Property>, ShelfFault>
         ensures reads { TellsPropertyOf seen_mirrored self.old self.new result code uprn }
-        ensures spares { SparesLower self.old self.new }
+        ensures keeps { KeepsUpper self.old self.new }
     {
         reading!(self, property_of(code, uprn))
     }
@@ -78,14 +78,14 @@ impl<L: Inbox + Drop, U: Unshared + Drop> Shelf for Mirror<L, U> {
         lang: Option<Lang>,
     ) -> Result<bool, ShelfFault>
         ensures reads { TellsApprovedOn seen_mirrored self.old self.new result code usrn lang }
-        ensures spares { SparesLower self.old self.new }
+        ensures keeps { KeepsUpper self.old self.new }
     {
         reading!(self, approved_on(code, usrn, lang))
     }
 
     fn children(&mut self, code: Code, uprn: Uprn) -> Result<bool, ShelfFault>
         ensures reads { TellsChildren seen_mirrored self.old self.new result code uprn }
-        ensures spares { SparesLower self.old self.new }
+        ensures keeps { KeepsUpper self.old self.new }
     {
         reading!(self, children(code, uprn))
     }
@@ -101,7 +101,7 @@ impl<L: Inbox + Drop, U: Unshared + Drop> Shelf for Mirror<L, U> {
         requires { is_entry_kind kind ≡ true }
         ensures reads { TellsPage
             seen_mirrored self.old self.new result code volume kind after most }
-        ensures spares { SparesLower self.old self.new }
+        ensures keeps { KeepsUpper self.old self.new }
     {
         let from = after;
         if let Some(upper) = &mut self.upper
@@ -109,7 +109,6 @@ impl<L: Inbox + Drop, U: Unshared + Drop> Shelf for Mirror<L, U> {
         {
             return Ok(items);
         }
-        self.upper = None;
         self.lower.page(code, volume, kind, after, most)
     }
 

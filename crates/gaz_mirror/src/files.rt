@@ -1,7 +1,7 @@
 //! The calls of a keeper over two that concern files.
 ghost use Rattle.gaz_keeper.specs.Keeper.{IsNotOpen, IsOpen};
 ghost use Rattle.gaz_keeper.specs.Telling.{Receives, TellsHeld, TellsNothing, TellsReceived};
-ghost use Rattle.gaz_mirror.specs.Mirrored.{DropsUpper, SparesLower, seen_mirrored};
+ghost use Rattle.gaz_mirror.specs.Mirrored.{DropsUpper, KeepsUpper, seen_mirrored};
 
 use crate::mirror::Mirror;
 use crate::turns::{change, reading};
@@ -12,7 +12,7 @@ use gaz_keeper::{Inbox, ShelfFault};
 impl<L: Inbox + Drop, U: Unshared + Drop> Inbox for Mirror<L, U> {
     fn received(&mut self, code: Code, volume: Volume) -> Result<Option<Vec<u8>>, ShelfFault>
         ensures reads { TellsReceived seen_mirrored self.old self.new result code volume }
-        ensures spares { SparesLower self.old self.new }
+        ensures keeps { KeepsUpper self.old self.new }
     {
         reading!(self, received(code, volume))
     }
@@ -28,7 +28,7 @@ impl<L: Inbox + Drop, U: Unshared + Drop> Inbox for Mirror<L, U> {
 
     fn held(&mut self, code: Code) -> Result<u64, ShelfFault>
         ensures reads { TellsHeld seen_mirrored self.old self.new result code }
-        ensures spares { SparesLower self.old self.new }
+        ensures keeps { KeepsUpper self.old self.new }
     {
         reading!(self, held(code))
     }
@@ -36,7 +36,12 @@ impl<L: Inbox + Drop, U: Unshared + Drop> Inbox for Mirror<L, U> {
     fn sure(&mut self) -> Result<(), ShelfFault>
         ensures reads { TellsNothing seen_mirrored self.old self.new result }
         ensures open { IsOpen (seen_mirrored self.new) result }
+        ensures drops { DropsUpper result self.new }
     {
-        self.lower.sure()
+        let sure = self.lower.sure();
+        if sure.is_err() {
+            self.upper = None;
+        }
+        sure
     }
 }

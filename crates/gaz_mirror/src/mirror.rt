@@ -10,8 +10,9 @@ use gaz_keeper::Inbox;
 /// Keeps one content twice: below, where it is to last, and at hand above, where it is read.
 ///
 /// Each change goes to the lower keeper first, and is answered by it; each reading is answered by
-/// the upper one. After any fault of the upper one, and after any of the lower one in a change, the
-/// upper one is dropped, and the lower one answers everything.
+/// the upper one, or by the lower one where the upper one can't. After any fault of either in a
+/// change, and of the lower one where it is to make sure, the upper one is dropped, and the lower
+/// one answers everything.
 #[derive(Drop)]
 pub struct Mirror<L: Inbox + Drop, U: Unshared + Drop> {
     pub(crate) lower: L,

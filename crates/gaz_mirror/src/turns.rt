@@ -1,6 +1,6 @@
 //! Whose turn it is in a call of a keeper over two.
 
-// The upper keeper answers. Where it can't, it is dropped, and the lower one answers.
+// The upper keeper answers. Where it can't, the lower one answers this once.
 macro_rules! reading {
     ($mirror:ident, $call:ident($($argument:expr),*)) => {{
         if let Some(upper) = &mut $mirror.upper
@@ -8,7 +8,6 @@ macro_rules! reading {
         {
             return Ok(answer);
         }
-        $mirror.upper = None;
         $mirror.lower.$call($($argument),*)
     }};
 }

@@ -9,7 +9,7 @@ use Rattle.gaz_tables.specs.Creating.{IsBare, IsNewStore, no_schema}
 use Rattle.gaz_tables.specs.Schema.{metas, receiveds}
 use Rattle.gaz_kept.specs.Contents.{content_in}
 use Rattle.gaz_kept.specs.Kept.{IsKept}
-use Rattle.gaz_kept.specs.Opening.{IsOf, Rests}
+use Rattle.gaz_kept.specs.Opening.{IsOf, Rests, schema_number}
 use Rattle.gaz_kept.proofs.MetaRows.{create_opens}
 use Rattle.gaz_kept.proofs.Stands.{tables_stand}
 use Rattle.gaz_store.specs.Opened.{IsMade, IsOpened}
@@ -24,18 +24,18 @@ module _ (new : State) (a : Remembered) (so : (files : List Row) → AreSo a fil
   standing kept = record { tables = record { kept = kept; so = so (new.now.trees receiveds); lawful = content_lawful new.now kept empty_view lawful_empty }; beside = tt }
 
   pub is_made : (old : State) (register : List ℕ) (f : ℕ) → f ≡ 0
-      → (HasCleanDisk new → IsBare no_schema old.now → IsNewStore 1 register new.now × (new.committed ≡ new.now)) → LeavesTheCommit new
+      → (HasCleanDisk new → IsBare no_schema old.now → IsNewStore schema_number register new.now × (new.committed ≡ new.now)) → LeavesTheCommit new
       → IsMade old new register (seen_beside new a Idle f)
   is_made old register f none made certain = record {
     idle = refl;
     failures = none;
-    stands = λ h bare. standing (tables_stand.create 1 register new.now (made h.clean bare).0).kept;
-    content = λ h bare. (tables_stand.create 1 register new.now (made h.clean bare).0).content;
+    stands = λ h bare. standing (tables_stand.create schema_number register new.now (made h.clean bare).0).kept;
+    content = λ h bare. (tables_stand.create schema_number register new.now (made h.clean bare).0).content;
     leaves = λ h bare k l.
         l.content ∙ ap (λ t. content_in t empty_view) (certain h.is_open l.trees l.left ∙ ap (λ d. d.trees) (made h.clean bare).1)
-        ∙ (tables_stand.create 1 register new.now (made h.clean bare).0).content;
+        ∙ (tables_stand.create schema_number register new.now (made h.clean bare).0).content;
     whole = λ h bare db clean left schema.
-        kept_as new.now db (certain h.is_open db.trees left ∙ ap (λ d. d.trees) (made h.clean bare).1) schema (tables_stand.create 1 register new.now (made h.clean bare).0).kept;
+        kept_as new.now db (certain h.is_open db.trees left ∙ ap (λ d. d.trees) (made h.clean bare).1) schema (tables_stand.create schema_number register new.now (made h.clean bare).0).kept;
     of_register = λ h bare. create_opens register new.now (made h.clean bare).0;
   }
 
@@ -46,6 +46,7 @@ module _ (new : State) (a : Remembered) (so : (files : List Row) → AreSo a fil
     idle = refl;
     failures = none;
     harm = λ h. harm h.clean;
+    rests = rests;
     stands = λ h kept. standing (subst IsKept (sym ((rests h.clean).now h.is_open)) kept);
     content = λ h kept. ap (λ d. content_in d.trees empty_view) ((rests h.clean).now h.is_open);
     of_register = λ h kept. told h.clean kept;

@@ -287,7 +287,7 @@ module _ (db : Database) (kept : IsKept db) (c uprn : ℕ) (some : 1 ≤ uprn) (
   abbrev pub part_left : Key × Item → Bool
   part_left e = is_child_of uprn e.1 && is_behind start e.0
 
-  pub parts_just : FitJust db c (reached_in (db.trees receiveds) c) kind.Blpu part_left (IsPartOf c (pos uprn) start)
+  pub parts_just : FitJust db c (reached_in (db.trees receiveds) c) kind.Blpu part_left (IsPartOf c 21 (pos uprn) start)
   parts_just = record {
     item = λ r there fit.
         let v = kept.rows r there in

@@ -34,3 +34,5 @@ pub mod LivesTold
 pub mod VolumesTold
 pub mod Listed
 pub mod WorkedLives
+pub mod Grown
+pub mod WorkedGrowing

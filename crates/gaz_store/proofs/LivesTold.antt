@@ -1,4 +1,4 @@
--- What is told of the rows of `version` in the order of their rowids.
+-- What is told of the rows of `version2` in the order of their rowids.
 use Rattle.std.proofs.Common.{◌≡◌, ◌∙◌, ◌==◌, ◌<ℤ◌, ℕ, ℤ, Bool, true, false, cond, List, map, take, inl, inr, refl, sym, ap, subst, arith, eq-eqb, eqb-true}
 use Rattle.std.specs.Prelude.{Option, Some, None, option_map}
 use Rattle.std.proofs.lemmas.Int.{ints}

@@ -211,14 +211,14 @@ module _ (db : Database) (kept : IsKept db) (c usrn : ℕ) (lang : Option Lang) 
           let on = (and_parts (is_approved_on usrn lang e.1) (leaves passed (Some e.0)) pass).0 in
           (and_parts (is_approved_on usrn None e.1) (option_map_or (λ l. lang_in e.1 == lang_number l) lang true) (sym (in_lang e.1 usrn lang) ∙ on)).0
 
-module _ (db : Database) (kept : IsKept db) (c uprn : ℕ) (some : 1 ≤ uprn) (passed : Option Changes) (start : List ℕ) (most : ℕ) (answer : List Row) (found : FindsParts c (pos uprn) start most (db.trees versions) answer) where
+module _ (db : Database) (kept : IsKept db) (c uprn : ℕ) (some : 1 ≤ uprn) (passed : Option Changes) (start : List ℕ) (most : ℕ) (answer : List Row) (found : FindsParts c 21 (pos uprn) start most (db.trees versions) answer) where
   part_test : (r : Row) (x : Item) → Has (db.trees versions) r → HoldsItem c (reached_in (db.trees receiveds) c) r x → kind_of x ≡ kind.Blpu
       → is_left_part uprn passed (entry_of x) ≡ (is_child_of uprn x && names_left passed (id_shown r))
   part_test r x there h of_kind = ap (λ k. is_child_of uprn x && leaves passed k) (sym (named r (kept.rows r there) x h.item kind.Blpu of_kind))
 
   pub parts_told : (step : Step) → IsStepOf most answer (names_left passed) step → IsStep (is_left_part uprn passed) (last_in db c) start step
   parts_told =
-      walk_told db kept c kind.Blpu start (is_child_of uprn) (IsPartOf c (pos uprn) start) (parts_just db kept c uprn some start) most id_shown answer found
+      walk_told db kept c kind.Blpu start (is_child_of uprn) (IsPartOf c 21 (pos uprn) start) (parts_just db kept c uprn some start) most id_shown answer found
       (names_left passed) (is_left_part uprn passed) part_test (a_blpu uprn) (λ e pass. (and_parts (is_child_of uprn e.1) (leaves passed (Some e.0)) pass).0) (λ r. refl)
 
 -- ---- what is left of a view where nothing is passed over, or what changes haven't touched

@@ -14,3 +14,5 @@ pub mod Volumes
 pub mod Listing
 pub mod Made
 pub mod WorkedLives
+pub mod Growing
+pub mod WorkedGrowing

@@ -13,7 +13,7 @@ use Rattle.gaz_loaded.specs.Lives.{Told}
 use Rattle.gaz_store.specs.Lives.{database_of}
 use Rattle.gaz_store.specs.declared.store.Store.{Store}
 
--- a row of `version` tells of its item at its rowid
+-- a row of `version2` tells of its item at its rowid
 abbrev pub told_with : Row → Item → Told
 told_with r x = record {
   place = id_in (rowid_of r);
@@ -25,6 +25,6 @@ told_with r x = record {
 abbrev pub told_in : Row → Option Told
 told_in r = option_map (told_with r) (item_in r)
 
--- what the rows of `version` tell
+-- what the rows of `version2` tell
 abbrev pub lives_kept : {S : Type 0} → {store : Ghosts S} → Store S store → List Told
 lives_kept t = filter_map told_in ((database_of t).trees versions)

@@ -1,4 +1,4 @@
--- What the rows of `version` say one after the other, in the order of their rowids.
+-- What the rows of `version2` say one after the other, in the order of their rowids.
 use Rattle.std.specs.Prelude.{◌≡◌, ◌≤◌, ◌==◌, ℕ, ℤ, pos, ◌<ℤ◌, ◌≤ℤ◌, if◌then◌else◌}
 use Rattle.std.specs.Prelude.{List, [], length, map, Option, None, Some, option_map}
 use Rattle.sqlite.specs.declared.types.Value.TheVariants.{Int}

@@ -31,6 +31,7 @@ pub record IsOpened (old new : State) (register : List ℕ) (now : Seen) : Type 
   pub idle : now.progress ≡ Idle
   pub failures : now.failures ≡ 0
   pub harm : now.unharmed → HasCleanDisk old
+  pub rests : HasCleanDisk new → Rests old new
   pub stands : now.unharmed → IsKept old.now → now.stands
   pub content : now.unharmed → IsKept old.now → now.content ≡ content_in old.now.trees empty_view
   pub of_register : now.unharmed → IsKept old.now → IsOf register (old.now.trees metas)

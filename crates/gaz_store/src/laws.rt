@@ -1,7 +1,13 @@
 //! What a reader of the definitions may rely on.
+ghost use Rattle.gaz_store.specs.WorkedGrowing.{WorkedGrowing};
 ghost use Rattle.gaz_store.specs.WorkedLives.{WorkedTelling};
 
 /// What is told of a table's rows in turn, on worked examples.
 pub fn worked_telling()
     ensures { WorkedTelling }
+{}
+
+/// What is told where a store's register grows, on worked examples.
+pub fn worked_growing()
+    ensures { WorkedGrowing }
 {}

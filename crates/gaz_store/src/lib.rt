@@ -8,6 +8,7 @@ mod beside;
 mod blpus;
 mod counting;
 mod files;
+mod growing;
 mod inbox;
 mod judgement;
 mod keys;
@@ -28,5 +29,6 @@ mod volumes;
 mod writing;
 
 pub use gaz_kept::StoreRefusal;
+pub use growing::ExtendFault;
 pub use store::Store;
 pub use tables::Tables;

@@ -1,20 +1,24 @@
-//! What the rows of `version` say, each with all its columns.
+//! What the rows of `version2` say, each with all its columns.
 ghost use Rattle.std.specs.Prelude.{◌≡◌, pos, true, All, IfOk, Some};
 ghost use Rattle.sqlite.specs.Order.{column};
 ghost use Rattle.sqlite.specs.declared.types.Value.TheVariants.{Int};
 ghost use Rattle.gaz_records.specs.Items.{is_entry};
+ghost use Rattle.gaz_tables.specs.Versions.{hop_of};
 ghost use Rattle.gaz_kept.specs.Versions.{cells_in, item_in};
 ghost use Rattle.gaz_store.specs.Lives.{SayLives, gone_in, life_in};
 
-use gaz_cells::{CellFault, Links, Row as Cells};
+use gaz_cells::{Bodies, CellFault, Links, Row as Cells};
 use gaz_ids::Code;
-use gaz_kept::decoding::{RowFault, number, text};
+use gaz_kept::decoding::{RowFault, body_lines, number, text};
 use gaz_kept::newest::NEVER;
 use gaz_loaded::Life;
 use gaz_records::SharedItem;
 use sqlite::Row;
 use sqlite::types::ValueRef;
 use std::alloc::Global;
+
+// The column of the body.
+const BODY: usize = 10;
 
 // The whole number in a column, also one below 0, where one stands there.
 fn signed(row: &Row, at: usize) -> Result<i64, RowFault>
@@ -50,21 +54,21 @@ fn links_in(row: &Row) -> Result<Links, RowFault>
 }
 
 // The item that the cells say, all of which are its own.
-fn item_in(alloc: Global, row: &Row) -> Result<SharedItem, RowFault>
+fn item_in(alloc: Global, bodies: &mut Bodies<'_>, row: &Row) -> Result<SharedItem, RowFault>
     ensures said { IfOk result (λ item. item_in row.now ≡ Some item) }
     ensures entry { IfOk result (λ item. is_entry item ≡ true) }
 {
     let kind = number(row, 2)?;
     let id = text(row, 3)?;
     let links = links_in(row)?;
-    let body = text(row, 10)?;
+    let body = text(row, BODY)?;
     let cells = Cells {
         kind,
         id,
         links,
         body,
     };
-    match cells.item(alloc) {
+    match bodies.item_in(&cells) {
         Ok(item) => match SharedItem::new(alloc, item) {
             Ok(item) => Ok(item),
             Err(_) => Err(RowFault::Memory),
@@ -91,16 +95,29 @@ fn gone_in(gone: u64) -> Option<u64>
     if gone == NEVER { None } else { Some(gone) }
 }
 
+// Nothing was handed on.
+fn check_hop(row: &Row) -> Result<(), RowFault>
+    ensures { IfOk result (λ done. hop_of row.now ≡ Int (pos 0)) }
+{
+    if number(row, 11)? == 0 {
+        Ok(())
+    } else {
+        Err(RowFault::Wrong)
+    }
+}
+
 // What a row says.
-fn life_in(alloc: Global, row: &Row) -> Result<Life, RowFault>
+fn life_in(alloc: Global, bodies: &mut Bodies<'_>, row: &Row) -> Result<Life, RowFault>
     ensures said { IfOk result (λ life. life_in row.now ≡ Some life) }
     ensures entry { IfOk result (λ life. is_entry life.item ≡ true) }
+    ensures hop { IfOk result (λ life. hop_of row.now ≡ Int (pos 0)) }
 {
     let place = signed(row, 0)?;
     let code = code_in(row)?;
     let born = number(row, 8)?;
     let gone = number(row, 9)?;
-    let item = item_in(alloc, row)?;
+    check_hop(row)?;
+    let item = item_in(alloc, bodies, row)?;
     Ok(Life {
         place,
         code,
@@ -115,9 +132,11 @@ pub(crate) fn lives_in(alloc: Global, rows: &[Row]) -> Result<Vec<Life>, RowFaul
     ensures said { IfOk result (λ lives. SayLives rows.now lives.items) }
     ensures entries { IfOk result (λ lives. All (λ life. is_entry life.item ≡ true) lives.items) }
 {
+    let lines = body_lines(alloc, rows, BODY)?;
+    let mut bodies = Bodies::of(alloc, &lines);
     let mut lives = Vec::new(alloc);
     for row in rows {
-        let life = life_in(alloc, row)?;
+        let life = life_in(alloc, &mut bodies, row)?;
         if lives.push(life).is_err() {
             return Err(RowFault::Memory);
         }

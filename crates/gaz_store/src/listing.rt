@@ -31,7 +31,7 @@ impl<S: Alter> Listed for Store<S> {
         self.tables.volumes_above(code, volume)
     }
 
-    /// What the rows of `version` say, each with its custodian and the volumes in which its item
+    /// What the rows of `version2` say, each with its custodian and the volumes in which its item
     /// stands, by rising rowids: at most 512.
     ///
     /// A row that doesn't read, or whose cells aren't all those of its item, is a counted failure.

@@ -1,4 +1,4 @@
-//! The rows of `version` one after the other, in the order of their rowids.
+//! The rows of `version2` one after the other, in the order of their rowids.
 ghost use Rattle.std.specs.Prelude.{◌≡◌, true, All, IfOk};
 ghost use Rattle.gaz_records.specs.Items.{is_entry};
 ghost use Rattle.gaz_tables.specs.Rowids.{FindsBehind, FindsFirst, FindsInTurn};

@@ -4,7 +4,7 @@ ghost use Rattle.sqlite.specs.Held.{state};
 ghost use Rattle.sqlite.specs.State.{Survives};
 ghost use Rattle.gaz_register.specs.Texts.{register_text};
 ghost use Rattle.gaz_tables.specs.Creating.{MayCreate};
-ghost use Rattle.gaz_kept.specs.Opening.{Judges, Tells, has_all, has_any};
+ghost use Rattle.gaz_kept.specs.Opening.{Judges, Tells, has_all, has_any, schema_number};
 ghost use Rattle.gaz_store.specs.Opened.{IsMade, IsOpened, IsRefused, answer_of, conn_of};
 ghost use Rattle.gaz_store.specs.Store.{seen_in};
 
@@ -37,7 +37,8 @@ impl<S: Alter> Store<S> {
             ↔ IsTrue (has_any (state S.Store conn).now.schema) }
         ensures causes { answer_of result ≢ Err StoreRefusal.OtherRegister }
         ensures refused { IfErr result (λ e. IsRefused S.Store conn e.0) }
-        ensures leaves { MayCreate S.Store conn (conn_of result) 1 (register_text register.now) }
+        ensures leaves { MayCreate S.Store conn (conn_of result) schema_number
+            (register_text register.now) }
     {
         let mut conn = conn;
         match opening::create(alloc, &mut conn, register) {
@@ -53,7 +54,7 @@ impl<S: Alter> Store<S> {
     /// Takes the database behind a connection outside a transaction as the store of a register.
     ///
     /// In this order: `BadSchema` where a table of a store or a column of one is missing, or the
-    /// rows of `meta` aren't just one, of id 1 and number 1; `OtherRegister` where its text isn't
+    /// rows of `meta` aren't just one, of id 1 and number 2; `OtherRegister` where its text isn't
     /// the register's canonical one; `Fault` where memory or the database failed, so that this isn't
     /// known. After a refusal the connection is handed back, over what was there. A stop within the
     /// call leaves what was there.

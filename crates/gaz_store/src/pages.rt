@@ -10,9 +10,10 @@ ghost use Rattle.gaz_kept.specs.Contents.{board_of};
 ghost use Rattle.gaz_store.specs.Paging.{IsPageFrom, IsStart, SayItems, item_said};
 
 use crate::tables::Tables;
+use gaz_cells::Bodies;
 use gaz_ids::{Code, LAST_VOLUME};
 use gaz_keeper::ShelfFault;
-use gaz_kept::decoding::{RowFault, item_in, key_in, kind_in, name_of};
+use gaz_kept::decoding::{RowFault, body_lines, key_in, kind_in, name_of, next_item_in};
 use gaz_records::{Key, Kind, SharedItem};
 use gaz_tables::versions;
 use sqlite::{Alter, Row};
@@ -48,20 +49,27 @@ fn start_of(alloc: Global, kind: Kind, after: Option<Key>) -> Result<Option<Stri
 }
 
 // The item of a kind that a row of id and body says.
-fn said(alloc: Global, kind: Kind, row: &Row) -> Result<SharedItem, RowFault>
+fn said(
+    alloc: Global,
+    bodies: &mut Bodies<'_>,
+    kind: Kind,
+    row: &Row,
+) -> Result<SharedItem, RowFault>
     ensures { IfOk result (λ item. item_said kind row.now ≡ Some item) }
 {
     let key = key_in(kind, row, 0)?;
-    item_in(alloc, &key, row, 1)
+    next_item_in(alloc, bodies, &key, row, 1)
 }
 
 // The items of a kind that rows of id and body say.
 fn all_said(alloc: Global, kind: Kind, rows: &[Row]) -> Result<Vec<SharedItem>, RowFault>
     ensures { IfOk result (λ items. SayItems kind rows.now items.items) }
 {
+    let lines = body_lines(alloc, rows, 1)?;
+    let mut bodies = Bodies::of(alloc, &lines);
     let mut items = Vec::new(alloc);
     for row in rows {
-        let item = said(alloc, kind, row)?;
+        let item = said(alloc, &mut bodies, kind, row)?;
         if items.push(item).is_err() {
             return Err(RowFault::Memory);
         }

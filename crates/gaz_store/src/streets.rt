@@ -16,6 +16,9 @@ use gaz_overlay::Overlay;
 use gaz_tables::versions;
 use sqlite::{Alter, Row};
 
+// The kind of a property's row.
+const PROPERTY: u32 = 21;
+
 impl<S: Alter> Tables<S> {
     // Id and language of the approved rows on a street, behind an id: the first so many.
     fn street_rows(
@@ -46,7 +49,7 @@ impl<S: Alter> Tables<S> {
         most: u32,
     ) -> Result<Vec<Row>, ShelfFault>
         ensures asks { AsksTables self.old self.new result (λ db rows.
-            FindsParts code (pos uprn) start.now most (db.trees versions) rows.items) }
+            FindsParts code PROPERTY (pos uprn) start.now most (db.trees versions) rows.items) }
         ensures some { 1 ≤ uprn }
     {
         let blpu = uprn.number() as i64;
@@ -54,7 +57,7 @@ impl<S: Alter> Tables<S> {
         self.known();
         self.sure = false;
         let cust = code.number() as u32;
-        let found = versions::parts_of(&mut self.conn, cust, &blpu, start, most);
+        let found = versions::parts_of(&mut self.conn, cust, PROPERTY, &blpu, start, most);
         self.told(found)
     }
 

@@ -30,12 +30,12 @@ use Rattle.gaz_stored.proofs.Below.{runs_below}
 use Rattle.gaz_stored.proofs.Going.{begins_opened}
 use Rattle.gaz_stored.proofs.Using.{uses}
 
-module _ {S : Type 0} {g : Ghosts S} (register : RegisterValue) (most connections : ℕ) where
+module _ {S : Type 0} {g : Ghosts S} (register : RegisterValue) (most served : ℕ) where
   -- what connections made of a hub over a mirror of a store that was settled, they made of the store
   pub serves_over : (first settled : Store S g) (told : Result (Unit {0}) Refusal) (begun last : Hub (Mirrored g)) (after : Held S) → Settles register first settled told → begun.register ≡ register
       → begun.waiters ≡ None → OnlyReads (seen_in settled) (seen_in begun.keeper.lower)
       → (StandsForRun (door_of register) (seen_in settled) → (seen_mirrored begun.keeper).unharmed → StandsForRun (door_of register) (seen_mirrored begun.keeper))
-      → Serves seen_mirrored most connections begun last → last.keeper.lower.tables.conn ≡ after → ServesOver register most connections first after
+      → Serves seen_mirrored most served begun last → last.keeper.lower.tables.conn ≡ after → ServesOver register most served first after
   serves_over first settled told begun last after settles same fresh reads mirrors serves back =
       let d = door_of register in
       let commands = serves.commands in
@@ -55,7 +55,7 @@ module _ {S : Type 0} {g : Ghosts S} (register : RegisterValue) (most connection
       }
 
   pub serves_opened : (first : Store S g) (before after : Held S) → IsOpened (state g before) (state g first.tables.conn) (register_text register) (seen_in first)
-      → Tells g before first.tables.conn (Ok tt) (register_text register) → ServesOver register most connections first after → ServesOpened g register most connections before after
+      → Tells g before first.tables.conn (Ok tt) (register_text register) → ServesOver register most served first after → ServesOpened g register most served before after
   serves_opened first before after opened told is = record {
     first = first;
     told_settled = is.told_settled;

@@ -10,3 +10,5 @@ mod Connecting
 mod Chaining
 mod Examples
 mod Serving
+pub mod ExtendsOpened
+pub mod GrownChains

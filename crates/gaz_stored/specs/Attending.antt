@@ -20,12 +20,12 @@ use Rattle.gaz_stored.specs.declared.attending.Unserved.TheVariants.{NoPort}
 
 -- a hub of this register over a store settled, and then held so many conversations at most with all
 -- that the store keeps at hand or without; of that store this connection is left
-pub record ServesOver {S : Type 0} {g : Ghosts S} (register : RegisterValue) (most connections : ℕ)
+pub record ServesOver {S : Type 0} {g : Ghosts S} (register : RegisterValue) (most served : ℕ)
     (first : Store S g) (after : Held S) : Type 0 where
   pub told_settled : Result (Unit {0}) Refusal
   pub begun : Hub (Mirrored g)
   pub last : Hub (Mirrored g)
-  pub serves : Serves seen_mirrored most connections begun last
+  pub serves : Serves seen_mirrored most served begun last
   -- where the store stood for a partial run, that is a run of its hub
   pub runs : ((seen_in first).unharmed → StandsForRun (door_of register) (seen_in first))
       → Runs (door_of register) (seen_in first) (seen_in last.keeper.lower)
@@ -34,25 +34,25 @@ pub record ServesOver {S : Type 0} {g : Ghosts S} (register : RegisterValue) (mo
 
 -- so did the hub over the store that is there
 pub record ServesOpened {S : Type 0} (g : Ghosts S) (register : RegisterValue)
-    (most connections : ℕ) (before after : Held S) : Type 0 where
+    (most served : ℕ) (before after : Held S) : Type 0 where
   pub first : Store S g
   pub told_settled : Result (Unit {0}) Refusal
   pub begun : Hub (Mirrored g)
   pub last : Hub (Mirrored g)
-  pub serves : Serves seen_mirrored most connections begun last
+  pub serves : Serves seen_mirrored most served begun last
   pub back : last.keeper.lower.tables.conn ≡ after
   pub uses : Uses g register first before after (Pose Settle ∷ serves.commands)
       (Replied Settle told_settled ∷ serves.responses)
 
--- by how it ended: where nobody was told where connections come, all stays as it is
-abbrev pub Attends : {S : Type 0} → (g : Ghosts S) → RegisterValue → ℕ → ℕ → Held S → Held S
-    → Result (Unit {0}) Unserved → Type 0
-Attends g register most connections before after (Ok served) =
-    ServesOpened g register most connections before after
-Attends g register most connections before after (Err why) = RestsOpened g register before after
+-- by how it ended: so many connections were answered; where nobody was told where they come, all
+-- stays as it is
+abbrev pub Attends : {S : Type 0} → (g : Ghosts S) → RegisterValue → ℕ → Held S → Held S
+    → Result ℕ Unserved → Type 0
+Attends g register most before after (Ok served) = ServesOpened g register most served before after
+Attends g register most before after (Err why) = RestsOpened g register before after
 
 -- whether something was written of it
-abbrev pub is_told : Result (Result (Unit {0}) Unserved) StoreRefusal → Bool
+abbrev pub is_told : {N : Type 0} → Result (Result N Unserved) StoreRefusal → Bool
 is_told (Ok (Err NoPort)) = false
 is_told (Ok _) = true
 is_told (Err refusal) = false

@@ -7,3 +7,5 @@ pub mod Examples
 pub mod Serving
 pub mod Asking
 pub mod Attending
+pub mod Extending
+pub mod GrownChains

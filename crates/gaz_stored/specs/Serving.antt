@@ -1,5 +1,5 @@
 -- What becomes of a hub while connections come and go.
-use Rattle.std.specs.Prelude.{◌≡◌, ◌≤◌, ◌⊎◌, ℕ, List, [], ◌∷◌, length, Result}
+use Rattle.std.specs.Prelude.{◌≡◌, ◌≤◌, ◌<◌, ◌⊎◌, ℕ, List, [], ◌∷◌, length, Option, None, Result}
 use Rattle.gaz_keeper.specs.Keeper.{Seen}
 use Rattle.gaz_hub.specs.Hubs.{Runs, door_of}
 use Rattle.gaz_hub.specs.Seen.{hub_seen}
@@ -35,3 +35,10 @@ pub record Serves {K : Type 0} (seen : K → Seen) (most connections : ℕ) (old
   pub commands : List Command
   pub responses : List Response
   pub runs : Runs (door_of old.register) (hub_seen seen old) (hub_seen seen new) commands responses
+
+-- so many connections of those that were wanted were answered, where this is at hand at last: not
+-- none, and all of them unless what was at hand was dropped
+pub record EndsEarly {U : Type 0} (connections served : ℕ) (upper : Option U) : Type 0 where
+  pub most : served ≤ connections
+  pub some : 1 ≤ connections → 1 ≤ served
+  pub dropped : served < connections → upper ≡ None

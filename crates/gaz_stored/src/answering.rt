@@ -124,7 +124,7 @@ pub fn answer_new<S: Alter + Drop, R: Source, W: Sink>(
 /// reader or the writer failed. Who picks keys is not to foresee the seed.
 ///
 /// In this order: `BadSchema` where a table of a store or a column of one is missing, or the rows of
-/// `meta` aren't just one, of id 1 and number 1; `OtherRegister` where its text isn't the register's
+/// `meta` aren't just one, of id 1 and number 2; `OtherRegister` where its text isn't the register's
 /// canonical one; `Fault` where memory or the database failed, so that this isn't known. No
 /// conversation is held then, and the database holds what it held.
 pub fn answer_opened<S: Alter + Drop, R: Source, W: Sink>(

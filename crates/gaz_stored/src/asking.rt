@@ -67,7 +67,7 @@ fn ask_over<S: Alter + Drop>(
 /// keys is not to foresee the seed.
 ///
 /// In this order: `BadSchema` where a table of a store or a column of one is missing, or the rows of
-/// `meta` aren't just one, of id 1 and number 1; `OtherRegister` where its text isn't the register's
+/// `meta` aren't just one, of id 1 and number 2; `OtherRegister` where its text isn't the register's
 /// canonical one; `Fault` where memory or the database failed, so that this isn't known. Nothing is
 /// asked then, and the database holds what it held.
 pub fn ask_opened<S: Alter + Drop>(

@@ -8,6 +8,7 @@ ghost use Rattle.gaz_kept.specs.Opening.{Judges, Tells, has_all};
 ghost use Rattle.gaz_store.specs.Opened.{IsRefused};
 ghost use Rattle.gaz_store.specs.Store.{seen_in};
 ghost use Rattle.gaz_stored.specs.Attending.{Attends, ServesOver, is_told, unserved};
+ghost use Rattle.gaz_stored.specs.Serving.{EndsEarly};
 
 use crate::answering::settle;
 use crate::connections::{MOST_REQUESTS, serve_on};
@@ -37,8 +38,8 @@ pub struct Attended<S: Alter + Drop> {
     pub conn: Connection<S>,
     /// What was at hand at last, to be freed, or forgotten by a program that ends.
     pub at_hand: Option<MemShelf>,
-    /// Whether connections were answered, or why there was no hub.
-    pub held: Result<Result<(), Unserved>, StoreRefusal>,
+    /// How many connections were answered, or why there was no hub.
+    pub held: Result<Result<u64, Unserved>, StoreRefusal>,
 }
 
 // Says where connections come.
@@ -49,7 +50,7 @@ fn say_where<L: OpenListener, W: Write>(listener: &L, w: &mut W) -> io::Result<(
 }
 
 // Answers connections over a store, once it is settled and all of it put at hand, where memory
-// allows; the connection to it, and what is at hand, are left.
+// allows; the connection to it, what is at hand, and how many were answered are left.
 fn serve_over<S: Alter + Drop, L: OpenListener>(
     alloc: Global,
     seed: Seed,
@@ -57,20 +58,21 @@ fn serve_over<S: Alter + Drop, L: OpenListener>(
     register: Register,
     listener: &L,
     connections: u64,
-) -> (Connection<S>, Option<MemShelf>)
+) -> (Connection<S>, Option<MemShelf>, u64)
 where
     L::Stream: Read + Write + OpenStream,
     requires { IsNotOpen (seen_in store).progress }
     ensures over { result.0.in_transaction ≡ false }
-    ensures serves { ServesOver register MOST_REQUESTS connections store result.0 }
+    ensures serves { ServesOver register MOST_REQUESTS result.2 store result.0 }
+    ensures many { EndsEarly connections result.2 result.1 }
 {
     let (register, store, _settled) = settle(alloc, register, store);
     let hub = Hub::new(alloc, register, store);
     let mut hub = mirror(alloc, seed, hub, ReadFrom::Memory);
-    serve_on(alloc, listener, &mut hub, connections);
+    let served = serve_on(alloc, listener, &mut hub, connections);
     let (_register, mirror) = hub.into_parts();
     let (store, at_hand) = mirror.into_parts();
-    (store.into_connection(), at_hand)
+    (store.into_connection(), at_hand, served)
 }
 
 // The listener, once it is said where connections come.
@@ -78,7 +80,7 @@ fn announced<'a, L: OpenListener, W: Write>(
     listener: Option<&'a L>,
     w: &mut W,
 ) -> Result<&'a L, Unserved>
-    ensures { is_told (Ok (unserved result)) ≡ false
+    ensures { is_told {N = Unit {0}} (Ok (unserved result)) ≡ false
         → Keeps (W.contents w.old) (W.contents w.new) }
 {
     let Some(listener) = listener else {
@@ -92,15 +94,16 @@ fn announced<'a, L: OpenListener, W: Write>(
 
 /// Takes the database behind a connection outside a transaction as the store of a register, says by
 /// the writer where connections come, as `listening 127.0.0.1:8080`, settles the store, puts all of
-/// it at hand, where memory allows, and answers so many connections, one after the other, of each
-/// at most 1,000 requests. A connection that can't be accepted counts as one. Who picks keys is not
-/// to foresee the seed.
+/// it at hand, where memory allows, and answers at most so many connections, one after the other,
+/// of each at most 1,000 requests. A connection that can't be accepted counts as one. It ends early
+/// behind one where nothing is at hand any more, since something failed: who opens the store again
+/// answers those that are left. Who picks keys is not to foresee the seed.
 ///
 /// Whatever the peers do, the hub makes a run of its steps: what was received stays received. A peer
 /// that sends nothing, or takes nothing, for 28 seconds is given up.
 ///
 /// In this order: `BadSchema` where a table of a store or a column of one is missing, or the rows of
-/// `meta` aren't just one, of id 1 and number 1; `OtherRegister` where its text isn't the register's
+/// `meta` aren't just one, of id 1 and number 2; `OtherRegister` where its text isn't the register's
 /// canonical one; `Fault` where memory or the database failed, so that this isn't known; then
 /// `NoPort` where there is no listener. Nothing is written then, and the database holds what it held.
 pub fn serve_opened<S: Alter + Drop, L: OpenListener, W: Write>(
@@ -116,8 +119,9 @@ where
     L::Stream: Read + Write + OpenStream,
     requires { conn.in_transaction ≡ false }
     ensures over { result.conn.in_transaction ≡ false }
-    ensures attends { IfOk result.held
-        (Attends S.Store register MOST_REQUESTS connections conn result.conn) }
+    ensures attends { IfOk result.held (Attends S.Store register MOST_REQUESTS conn result.conn) }
+    ensures many { IfOk result.held (λ served.
+        IfOk served (λ n. EndsEarly connections n result.at_hand)) }
     ensures silent { is_told result.held ≡ false → Keeps (W.contents w.old) (W.contents w.new) }
     ensures lacking { has_all (state S.Store conn).now.schema ≡ false
         → result.held ≡ Err StoreRefusal.BadSchema }
@@ -130,7 +134,7 @@ where
     match Store::open(alloc, seed, conn, &register) {
         Ok(store) => match announced(listener, w) {
             Ok(listener) => {
-                let (conn, at_hand) = serve_over(
+                let (conn, at_hand, served) = serve_over(
                     alloc,
                     seed,
                     store,
@@ -141,7 +145,7 @@ where
                 Attended {
                     conn,
                     at_hand,
-                    held: Ok(Ok(())),
+                    held: Ok(Ok(served)),
                 }
             }
             Err(why) => Attended {

@@ -1,10 +1,12 @@
 ghost use Rattle.std.specs.Prelude.{◌≡◌};
 ghost use Rattle.gaz_keeper.specs.Keeper.{IsNotOpen};
-ghost use Rattle.gaz_stored.specs.Serving.{Serves, TalksOrRests};
+ghost use Rattle.gaz_mirror.specs.Mirrored.{seen_mirrored};
+ghost use Rattle.gaz_stored.specs.Serving.{EndsEarly, Serves, TalksOrRests};
 
 use gaz_exchange::converse;
 use gaz_hub::Hub;
 use gaz_keeper::Inbox;
+use gaz_mirror::{Mirror, Unshared};
 use std::alloc::Global;
 use std::io::{self, BufWriter, Read, Write};
 use std::net::{OpenListener, OpenStream, Shutdown};
@@ -81,25 +83,31 @@ where
     }
 }
 
-/// Accepts so many connections, one after the other, and answers the requests of each in turn, at
-/// most 1,000 of them. A connection that can't be accepted counts as one.
+/// Accepts at most so many connections, one after the other, and answers the requests of each in
+/// turn, at most 1,000 of them. Gives how many. A connection that can't be accepted counts as one.
+/// It ends early behind one where nothing is at hand: something failed.
 ///
 /// Whatever the peers do, the hub holds so many conversations at most, one after another, and makes a
 /// run of its steps: what was received stays received. A peer that sends nothing, or takes nothing,
 /// for 28 seconds is given up.
-pub(crate) fn serve_on<L: OpenListener, K: Inbox + Drop>(
+pub(crate) fn serve_on<L: OpenListener, B: Inbox + Drop, U: Unshared + Drop>(
     alloc: Global,
     listener: &L,
-    hub: &mut Hub<K>,
+    hub: &mut Hub<Mirror<B, U>>,
     connections: u64,
-)
+) -> u64
 where
     L::Stream: Read + Write + OpenStream,
-    requires { IsNotOpen (K.seen hub.old.keeper).progress }
-    ensures serves { Serves K.seen MOST_REQUESTS connections hub.old hub.new }
+    requires { IsNotOpen (seen_mirrored hub.old.keeper).progress }
+    ensures serves { Serves seen_mirrored MOST_REQUESTS result hub.old hub.new }
     ensures register { hub.new.register ≡ hub.old.register }
+    ensures many { EndsEarly connections result hub.new.keeper.upper }
 {
-    for _ in 0..connections {
+    for behind in 0..connections {
         serve_next(alloc, listener, hub);
+        if !hub.shelf().has_upper() {
+            return behind + 1;
+        }
     }
+    connections
 }

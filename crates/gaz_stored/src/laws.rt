@@ -1,6 +1,7 @@
 //! What a reader of the definitions may rely on.
 ghost use Rattle.gaz_stored.specs.Chains.{ChainsAreOne};
 ghost use Rattle.gaz_stored.specs.Examples.{WorkedExamples};
+ghost use Rattle.gaz_stored.specs.GrownChains.{GrownChainsAreOne};
 ghost use Rattle.gaz_stored.specs.Stopping.{StopsAreSurvived};
 
 /// What the definitions come to on worked examples.
@@ -13,6 +14,13 @@ pub fn worked_examples()
 /// of one hub at all their commands.
 pub fn chains_are_one()
     ensures { ChainsAreOne }
+{}
+
+/// Tables that stood for a partial run stand for one under a register that grew; and conversations one
+/// after another, each under a register that extends the one before, are one run of one hub over
+/// these registers.
+pub fn grown_chains_are_one()
+    ensures { GrownChainsAreOne }
 {}
 
 /// Conversations one after another, each of which was stopped and goes on from what was left of the

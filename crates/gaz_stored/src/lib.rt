@@ -6,6 +6,7 @@ mod answering;
 mod asking;
 mod attending;
 mod connections;
+mod extending;
 pub mod laws;
 mod mirroring;
 
@@ -13,4 +14,5 @@ pub use answering::{HandedBack, answer_new, answer_opened};
 pub use asking::{Asked, ask_opened};
 pub use attending::{Attended, Unserved, serve_opened};
 pub use connections::MOST_REQUESTS;
+pub use extending::{Extended, extend_opened};
 pub use mirroring::ReadFrom;

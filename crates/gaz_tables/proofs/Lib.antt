@@ -1,7 +1,10 @@
 pub mod Examples
+pub mod CustodyMeanings
+pub mod CustodyQueries
 pub mod Growing
 pub mod Making
 pub mod MetaTexts
+pub mod Moving
 pub mod ReceivedMeanings
 pub mod ReceivedOnce
 pub mod ReceivedQueries

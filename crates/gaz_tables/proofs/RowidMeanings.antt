@@ -1,4 +1,4 @@
--- What the queries answer that go through `version` in the order of its rowids.
+-- What the queries answer that go through `version2` in the order of its rowids.
 use Rattle.std.proofs.Common.{◌≡◌, ℕ, ℤ, pos, List, [], ◌∷◌, Some, Result, IfOk, Vec, refl}
 use Rattle.std.specs.Prelude.{IsTrue}
 use Rattle.std.specs.declared.alloc.Global.{Global}

@@ -9,7 +9,7 @@ use Rattle.sqlite.specs.Order.{Row}
 use Rattle.sqlite.specs.View.{IsShaped}
 use Rattle.gaz_sql_facts.specs.Changes.{Changes}
 use Rattle.gaz_tables.specs.Laws.{TablesStay}
-use Rattle.gaz_tables.specs.Schema.{store_schema, version, received, meta, versions, receiveds, metas}
+use Rattle.gaz_tables.specs.Schema.{store_schema, version, received, meta, version2, old_versions, versions, receiveds, metas}
 use Rattle.gaz_tables.specs.Stores.{HasTables}
 
 module _ (tree : ℕ) (Becomes : List Row → List Row → Type 0) (old new : Database) (has : HasTables old) (h : Changes tree Becomes old new) where
@@ -31,7 +31,8 @@ module _ (tree : ℕ) (Becomes : List Row → List Row → Type 0) (old new : Da
     record {
       schema_is = h.schema_stays ∙ has.schema_is;
       sound = h.sound;
-      versions_shaped = shaped_as version (told versions) (inl refl) has.versions_shaped;
+      old_versions_shaped = shaped_as version (told old_versions) (inl refl) has.old_versions_shaped;
+      versions_shaped = shaped_as version2 (told versions) (inr (inr (inr (inl refl)))) has.versions_shaped;
       receiveds_shaped = shaped_as received (told receiveds) (inr (inl refl)) has.receiveds_shaped;
       metas_shaped = shaped_as meta (told metas) (inr (inr (inl refl))) has.metas_shaped;
     },

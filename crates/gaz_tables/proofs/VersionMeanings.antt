@@ -1,4 +1,4 @@
--- What the queries of `version` answer, by value.
+-- What the queries of `version2` answer, by value.
 use Rattle.std.proofs.Common.{ℕ, ℤ, pos, List, [], ◌∷◌, None, Some, Result, IfOk, Vec, refl}
 use Rattle.std.specs.declared.alloc.Global.{Global}
 use Rattle.sqlite_rules.specs.Lists.{Has}
@@ -98,18 +98,18 @@ module _ (db : Database) (has : HasTables db) where
         (λ r there fits. met approved_on_wanted r (approved_on_suits r there) (fits.approved.of_cust, (fits.approved.of_kind, (fits.on_street, (fits.approved.is_live, (fits.approved.is_current, (fits.behind, tt)))))))
         3 most answer s) h
 
-  module _ (cust : ℕ) (blpu : ℤ) (after : List ℕ) (most : ℕ) where
+  module _ (cust kind : ℕ) (blpu : ℤ) (after : List ℕ) (most : ℕ) where
     abbrev pub parts_of_params : Row
-    parts_of_params = Int (pos cust) ∷ Int blpu ∷ Text after ∷ Int (pos most) ∷ []
+    parts_of_params = Int (pos cust) ∷ Int (pos kind) ∷ Int blpu ∷ Text after ∷ Int (pos most) ∷ []
 
     abbrev parts_of_wanted : List Test
-    parts_of_wanted = (1, Eq, Int (pos cust)) ∷ (2, Eq, Int (pos 21)) ∷ (4, Eq, Int blpu) ∷ (9, Eq, Int (pos 1000000)) ∷ (3, Gt, Text after) ∷ []
+    parts_of_wanted = (1, Eq, Int (pos cust)) ∷ (2, Eq, Int (pos kind)) ∷ (4, Eq, Int blpu) ∷ (9, Eq, Int (pos 1000000)) ∷ (3, Gt, Text after) ∷ []
 
     parts_of_suits : (r : Row) → Has (db.trees versions) r → SuitsAll parts_of_wanted r
     parts_of_suits r there = (cust_is db has r there, (kind_is db has r there, (blpu_is db has r there, (gone_is db has r there, (id_is db has r there, tt)))))
 
-    pub parts_of_found : (r : Result (Vec Row Global) Error) → IfOk r (λ rows. Selects parts_of_tests parts_of_terms ((col 1 3, rising) ∷ []) (Some most) (db.trees versions) parts_of_params rows.items) → IfOk r (λ rows. FindsParts cust blpu after most (db.trees versions) rows.items)
-    parts_of_found r h = answered r (λ answer s. shows_page parts_of_tests parts_of_terms parts_of_params (db.trees versions) (IsPartOf cust blpu after)
+    pub parts_of_found : (r : Result (Vec Row Global) Error) → IfOk r (λ rows. Selects parts_of_tests parts_of_terms ((col 1 3, rising) ∷ []) (Some most) (db.trees versions) parts_of_params rows.items) → IfOk r (λ rows. FindsParts cust kind blpu after most (db.trees versions) rows.items)
+    parts_of_found r h = answered r (λ answer s. shows_page parts_of_tests parts_of_terms parts_of_params (db.trees versions) (IsPartOf cust kind blpu after)
         (λ r there p. let m = means parts_of_wanted r refl (parts_of_suits r there) p in record { of_cust = m.0; of_kind = m.1.0; of_blpu = m.1.1.0; is_current = m.1.1.1.0; behind = m.1.1.1.1.0 })
         (λ r there fits. met parts_of_wanted r (parts_of_suits r there) (fits.of_cust, (fits.of_kind, (fits.of_blpu, (fits.is_current, (fits.behind, tt))))))
         3 most answer s) h

@@ -1,5 +1,5 @@
 -- No two rows of one key are born in one volume.
-use Rattle.std.proofs.Common.{◌≡◌, inl, ℕ, ℤ, pos, List, true, refl, sym, subst}
+use Rattle.std.proofs.Common.{◌≡◌, inl, inr, ℕ, ℤ, pos, List, true, refl, sym, subst}
 use Rattle.std.proofs.lemmas.Bool.{and_from}
 use Rattle.sqlite_rules.specs.Lists.{Has}
 use Rattle.sqlite_schema.specs.Rules.{agree}
@@ -9,13 +9,13 @@ use Rattle.sqlite.specs.Order.{Row}
 use Rattle.gaz_sql_facts.proofs.Equal.{same_int, same_text}
 use Rattle.gaz_tables.proofs.Unique.{one_row}
 use Rattle.gaz_tables.specs.Laws.{BornOnce}
-use Rattle.gaz_tables.specs.Schema.{version, of_keys}
+use Rattle.gaz_tables.specs.Schema.{version2, of_keys2}
 use Rattle.gaz_tables.specs.Versions.{born_of, cust_of, id_of, kind_of}
 
 agreed : (r s : Row) (cust kind born : ℤ) (id : List ℕ)
     → cust_of r ≡ Int cust → kind_of r ≡ Int kind → id_of r ≡ Text id → born_of r ≡ Int born
     → cust_of s ≡ Int cust → kind_of s ≡ Int kind → id_of s ≡ Text id → born_of s ≡ Int born
-    → agree of_keys.order of_keys.columns s of_keys.columns r ≡ true
+    → agree of_keys2.order of_keys2.columns s of_keys2.columns r ≡ true
 unfolding first_key
 agreed r s cust kind born id cr kr ir br cs ks is bs =
     rw (cr, kr, ir, br) (and_from _ _ (same_int (cust_of s) cust cs) (and_from _ _ (same_int (kind_of s) kind ks)
@@ -23,6 +23,6 @@ agreed r s cust kind born id cr kr ir br cs ks is bs =
 
 pub born_once : BornOnce
 born_once db cust kind id born r s has there here fr fs =
-    one_row db has.sound version of_keys (subst (λ t. Has t.tables version) (sym has.schema_is) (inl refl)) (subst (λ t. Has t.indexes of_keys) (sym has.schema_is) (inl refl)) refl
+    one_row db has.sound version2 of_keys2 (subst (λ t. Has t.tables version2) (sym has.schema_is) (inr (inr (inr (inl refl))))) (subst (λ t. Has t.indexes of_keys2) (sym has.schema_is) (inr (inr (inr (inr (inl refl)))))) refl
     has.versions_shaped r s there here (agreed r s (pos cust) (pos kind) (pos born) id
     fr.of_key.of_cust fr.of_key.of_kind fr.of_key.of_id fr.of_born fs.of_key.of_cust fs.of_key.of_kind fs.of_key.of_id fs.of_born)

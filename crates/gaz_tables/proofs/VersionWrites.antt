@@ -1,5 +1,5 @@
--- What the texts that write `version` do.
-use Rattle.std.proofs.Common.{ℕ, ℤ, pos, Bool, if◌then◌else◌, List, [], ◌∷◌, codes, None, inl, Ok, Err, Result, OnOk, refl}
+-- What the texts that write `version2` do.
+use Rattle.std.proofs.Common.{ℕ, ℤ, pos, Bool, if◌then◌else◌, List, [], ◌∷◌, codes, None, inl, inr, Ok, Err, Result, OnOk, refl}
 use Rattle.sqlite_tied.specs.Compute.{everything}
 use Rattle.sqlite_rules.specs.Lists.{Has}
 use Rattle.sqlite_sql.specs.declared.ops.CompareOp.TheVariants.{Eq}
@@ -17,7 +17,7 @@ use Rattle.gaz_sql_facts.proofs.Inserts.{inserted, kept_row}
 use Rattle.gaz_tables.proofs.Tests.{Test, SuitsAll, means, met}
 use Rattle.gaz_sql_facts.proofs.Texts.{IsCommand}
 use Rattle.gaz_sql_facts.proofs.Updates.{updated, kept_values, changed_to}
-use Rattle.gaz_tables.specs.Schema.{store_schema, versions, version, version_columns}
+use Rattle.gaz_tables.specs.Schema.{store_schema, versions, version2, version2_columns}
 use Rattle.gaz_tables.specs.Stores.{HasTables, AddsRow}
 use Rattle.gaz_tables.specs.Versions.{version_values, Closes, gone_at}
 use Rattle.gaz_tables.proofs.VersionRows.{cust_is, kind_is, id_is, born_is}
@@ -26,35 +26,35 @@ abbrev version_uniques : List (List ℕ)
 version_uniques = (1 ∷ 2 ∷ 3 ∷ 8 ∷ []) ∷ []
 
 abbrev pub insert_text : List ℕ
-insert_text = codes "INSERT INTO version VALUES (?1, ?2, ?3, ?4, ?5, ?6, ?7, ?8, ?9, ?10)"
+insert_text = codes "INSERT INTO version2 (cust, kind, id, blpu, street, lang, live, born, gone, body, hop) VALUES (?1, ?2, ?3, ?4, ?5, ?6, ?7, ?8, ?9, ?10, ?11)"
 
 abbrev pub insert_terms : List Term
-insert_terms = lit Null ∷ col 0 0 ∷ col 0 1 ∷ col 0 2 ∷ col 0 3 ∷ col 0 4 ∷ col 0 5 ∷ col 0 6 ∷ col 0 7 ∷ col 0 8 ∷ col 0 9 ∷ []
+insert_terms = lit Null ∷ col 0 0 ∷ col 0 1 ∷ col 0 2 ∷ col 0 3 ∷ col 0 4 ∷ col 0 5 ∷ col 0 6 ∷ col 0 7 ∷ col 0 8 ∷ col 0 9 ∷ col 0 10 ∷ []
 
-pub insert_is : IsCommand store_schema insert_text (Insert 0 (Values insert_terms 11))
+pub insert_is : IsCommand store_schema insert_text (Insert 3 (Values insert_terms 12))
 unfolding understood everything
 insert_is = record { is = refl; plain = (refl, refl) }
 
-module _ (old new : State) (has : HasTables old.now) (cust kind : ℕ) (id : List ℕ) (blpu : ℤ) (street lang : ℕ) (live : Bool) (born gone : ℕ) (body : List ℕ) where
+module _ (old new : State) (has : HasTables old.now) (cust kind : ℕ) (id : List ℕ) (blpu : ℤ) (street lang : ℕ) (live : Bool) (born gone : ℕ) (body : List ℕ) (hop : ℕ) where
   abbrev pub insert_params : Row
-  insert_params = Int (pos cust) ∷ Int (pos kind) ∷ Text id ∷ Int blpu ∷ Int (pos street) ∷ Int (pos lang) ∷ Int (if live then pos 1 else pos 0) ∷ Int (pos born) ∷ Int (pos gone) ∷ Text body ∷ []
+  insert_params = Int (pos cust) ∷ Int (pos kind) ∷ Text id ∷ Int blpu ∷ Int (pos street) ∷ Int (pos lang) ∷ Int (if live then pos 1 else pos 0) ∷ Int (pos born) ∷ Int (pos gone) ∷ Text body ∷ Int (pos hop) ∷ []
 
-  pub insert_done : (r : Result ℕ Error) → ExecutesInside 0 insert_text insert_params old new r → OnOk r (Changes versions (AddsRow (version_values cust kind id blpu street lang live born gone body)) old.now new.now × InPlace old new)
+  pub insert_done : (r : Result ℕ Error) → ExecutesInside 0 insert_text insert_params old new r → OnOk r (Changes versions (AddsRow (version_values cust kind id blpu street lang live born gone body hop)) old.now new.now × InPlace old new)
   insert_done (Err e) h = tt
   insert_done (Ok count) h =
-      inserted store_schema 0 versions None _ _ version_uniques version_columns _ insert_terms 11 insert_params Null (version_values cust kind id blpu street lang live born gone body) refl (λ _ _ _. refl) refl
-      (kept_row version_columns (version_values cust kind id blpu street lang live born gone body) ((pos cust, refl), ((pos kind, refl), ((id, refl), ((blpu, refl), ((pos street, refl), ((pos lang, refl), ((if live then pos 1 else pos 0, refl), ((pos born, refl), ((pos gone, refl), ((body, refl), tt))))))))))) insert_text insert_is old new has.schema_is count h.0
+      inserted store_schema 3 versions None _ _ version_uniques version2_columns _ insert_terms 12 insert_params Null (version_values cust kind id blpu street lang live born gone body hop) refl (λ _ _ _. refl) refl
+      (kept_row version2_columns (version_values cust kind id blpu street lang live born gone body hop) ((pos cust, refl), ((pos kind, refl), ((id, refl), ((blpu, refl), ((pos street, refl), ((pos lang, refl), ((if live then pos 1 else pos 0, refl), ((pos born, refl), ((pos gone, refl), ((body, refl), ((pos hop, refl), tt)))))))))))) insert_text insert_is old new has.schema_is count h.0
 
 abbrev pub close_text : List ℕ
-close_text = codes "UPDATE version SET gone = ?5 WHERE cust = ?1 AND kind = ?2 AND id = ?3 AND born = ?4"
+close_text = codes "UPDATE version2 SET gone = ?5 WHERE cust = ?1 AND kind = ?2 AND id = ?3 AND born = ?4"
 
 abbrev pub close_tests : List Term
 close_tests = equals (col 1 1) (col 0 0) ∷ equals (col 1 2) (col 0 1) ∷ equals (col 1 3) (col 0 2) ∷ equals (col 1 8) (col 0 3) ∷ []
 
 abbrev pub close_terms : List Term
-close_terms = col 1 0 ∷ col 1 0 ∷ col 1 1 ∷ col 1 2 ∷ col 1 3 ∷ col 1 4 ∷ col 1 5 ∷ col 1 6 ∷ col 1 7 ∷ col 1 8 ∷ col 0 4 ∷ col 1 10 ∷ []
+close_terms = col 1 0 ∷ col 1 0 ∷ col 1 1 ∷ col 1 2 ∷ col 1 3 ∷ col 1 4 ∷ col 1 5 ∷ col 1 6 ∷ col 1 7 ∷ col 1 8 ∷ col 0 4 ∷ col 1 10 ∷ col 1 11 ∷ []
 
-pub close_is : IsCommand store_schema close_text (Update 0 (record { lets = []; body = selecting versions close_tests close_terms [] every }))
+pub close_is : IsCommand store_schema close_text (Update 3 (record { lets = []; body = selecting versions close_tests close_terms [] every }))
 unfolding understood everything
 close_is = record { is = refl; plain = (refl, refl) }
 
@@ -71,9 +71,9 @@ module _ (old new : State) (has : HasTables old.now) (cust kind : ℕ) (id : Lis
   pub close_done : (r : Result ℕ Error) → ExecutesInside 0 close_text close_params old new r → OnOk r (Changes versions (Closes cust kind id born gone) old.now new.now × InPlace old new)
   close_done (Err e) h = tt
   close_done (Ok count) h =
-      let set = λ (r : Row). column r 1 ∷ column r 2 ∷ column r 3 ∷ column r 4 ∷ column r 5 ∷ column r 6 ∷ column r 7 ∷ column r 8 ∷ Int (pos gone) ∷ column r 10 ∷ [] in
-      let it = updated store_schema 0 versions None _ _ version_uniques version_columns _ close_tests close_terms close_params set refl (λ _ _ _. refl) (λ r. refl)
-      (kept_values store_schema version set (inl refl) refl refl (λ r t. (t.0, (t.1.0, (t.1.1.0, (t.1.1.1.0, (t.1.1.1.1.0, (t.1.1.1.1.1.0, (t.1.1.1.1.1.1.0, (t.1.1.1.1.1.1.1.0, ((pos gone, refl), (t.1.1.1.1.1.1.1.1.1.0, tt)))))))))))) close_text close_is old new has.schema_is count has.sound has.versions_shaped h.0 in (
+      let set = λ (r : Row). column r 1 ∷ column r 2 ∷ column r 3 ∷ column r 4 ∷ column r 5 ∷ column r 6 ∷ column r 7 ∷ column r 8 ∷ Int (pos gone) ∷ column r 10 ∷ column r 11 ∷ [] in
+      let it = updated store_schema 3 versions None _ _ version_uniques version2_columns _ close_tests close_terms close_params set refl (λ _ _ _. refl) (λ r. refl)
+      (kept_values store_schema version2 set (inr (inr (inr (inl refl)))) refl refl (λ r t. (t.0, (t.1.0, (t.1.1.0, (t.1.1.1.0, (t.1.1.1.1.0, (t.1.1.1.1.1.0, (t.1.1.1.1.1.1.0, (t.1.1.1.1.1.1.1.0, ((pos gone, refl), (t.1.1.1.1.1.1.1.1.1.0, (t.1.1.1.1.1.1.1.1.1.1.0, tt))))))))))))) close_text close_is old new has.schema_is count has.sound has.versions_shaped h.0 in (
         changed_to versions (gone_at gone) old.now new.now
             (λ r there p. let m = means close_wanted r refl (close_suits r there) p in record { of_key = record { of_cust = m.0; of_kind = m.1.0; of_id = m.1.1.0 }; of_born = m.1.1.1.0 })
             (λ r there fits. met close_wanted r (close_suits r there) (fits.of_key.of_cust, (fits.of_key.of_kind, (fits.of_key.of_id, (fits.of_born, tt))))) it.0,

@@ -1,4 +1,4 @@
--- Worked examples: what is found among four rows of `version` and three of `received`, and what a
+-- Worked examples: what is found among four rows of `version2` and three of `received`, and what a
 -- write makes of a row.
 use Rattle.std.specs.Prelude.{◌≡◌, ℕ, ℤ, pos, List, [], ◌∷◌, codes, true, false}
 use Rattle.sqlite.specs.Order.{Row}
@@ -12,19 +12,19 @@ use Rattle.gaz_tables.specs.Versions.{FindsNewestUntil, gone_at, version_values}
 -- an address of 1001 that was changed at volume 3, a historical one of the same BLPU, and one that
 -- is 1002's
 abbrev pub flat_2 : Row
-flat_2 = Int (pos 1) ∷ version_values 1001 24 (codes "K1") (pos 42) 101 1 true 1 3 (codes "flat 2")
+flat_2 = Int (pos 1) ∷ version_values 1001 24 (codes "K1") (pos 42) 101 1 true 1 3 (codes "flat 2") 0
 
 abbrev pub flat_3 : Row
 flat_3 = Int (pos 2)
-    ∷ version_values 1001 24 (codes "K1") (pos 42) 101 1 true 3 1000000 (codes "flat 3")
+    ∷ version_values 1001 24 (codes "K1") (pos 42) 101 1 true 3 1000000 (codes "flat 3") 0
 
 abbrev pub shop : Row
 shop = Int (pos 3)
-    ∷ version_values 1001 24 (codes "K2") (pos 42) 101 2 false 2 1000000 (codes "shop")
+    ∷ version_values 1001 24 (codes "K2") (pos 42) 101 2 false 2 1000000 (codes "shop") 0
 
 abbrev pub house : Row
 house = Int (pos 4)
-    ∷ version_values 1002 24 (codes "K1") (pos 42) 101 1 true 1 1000000 (codes "house")
+    ∷ version_values 1002 24 (codes "K1") (pos 42) 101 1 true 1 1000000 (codes "house") 0
 
 abbrev pub four_rows : List Row
 four_rows = flat_2 ∷ flat_3 ∷ shop ∷ house ∷ []
@@ -56,7 +56,8 @@ pub record WorkedVersions : Type 0 where
   pub closed : Closes 1001 24 (codes "K1") 3 5
       (flat_3 ∷ house ∷ []) (gone_at 5 flat_3 ∷ house ∷ [])
   pub closed_row : gone_at 5 flat_3
-      ≡ Int (pos 2) ∷ version_values 1001 24 (codes "K1") (pos 42) 101 1 true 3 5 (codes "flat 3")
+      ≡ Int (pos 2)
+      ∷ version_values 1001 24 (codes "K1") (pos 42) 101 1 true 3 5 (codes "flat 3") 0
 
 -- a row that ended is found as well, and one of any custodian
 pub record WorkedRowids : Type 0 where

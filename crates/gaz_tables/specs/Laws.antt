@@ -26,7 +26,7 @@ ReceivedOnce = (db : Database) (cust volume : ℕ) (r s : Row) → HasTables db
 abbrev pub BecomesAny : List Row → List Row → Type 0
 BecomesAny old new = Unit {0}
 
--- where a table's rows become others, the database still is of the three tables, and the other two
+-- where a table's rows become others, the database still is of the four tables, and the other three
 -- have the same rows
 abbrev pub TablesStay : Type 0
 TablesStay = (tree : ℕ) (old new : Database) → HasTables old → Changes tree BecomesAny old new

@@ -1,7 +1,9 @@
 pub mod Creating
+pub mod Custody
 pub mod Examples
 pub mod Laws
 pub mod Metas
+pub mod Migrating
 pub mod Receiveds
 pub mod Rowids
 pub mod Schema

@@ -1,4 +1,4 @@
--- What the queries find that go through `version` in the order of its rowids.
+-- What the queries find that go through `version2` in the order of its rowids.
 use Rattle.std.specs.Prelude.{◌≡◌, ⊤, ℕ, ℤ, ◌<ℤ◌, List, [], ◌∷◌}
 use Rattle.std.specs.declared.cmp.Ordering.TheVariants.{Less}
 use Rattle.sqlite.specs.declared.types.Value.{Value}
@@ -7,7 +7,7 @@ use Rattle.sqlite.specs.Order.{Row, column, value_cmp}
 use Rattle.sqlite_trees.specs.Tree.{IsAscending}
 use Rattle.gaz_tables.specs.Shows.{ShowsPage}
 use Rattle.gaz_tables.specs.Versions.{blpu_of, body_of, born_of, cust_of, gone_of, id_of, kind_of}
-use Rattle.gaz_tables.specs.Versions.{lang_of, live_of, street_of}
+use Rattle.gaz_tables.specs.Versions.{hop_of, lang_of, live_of, street_of}
 
 abbrev pub rowid_of : Row → Value
 rowid_of r = column r 0
@@ -27,7 +27,7 @@ IsAnyRow r = ⊤
 -- all of a row is shown
 abbrev pub row_shown : Row → Row
 row_shown r = rowid_of r ∷ cust_of r ∷ kind_of r ∷ id_of r ∷ blpu_of r ∷ street_of r ∷ lang_of r
-    ∷ live_of r ∷ born_of r ∷ gone_of r ∷ body_of r ∷ []
+    ∷ live_of r ∷ born_of r ∷ gone_of r ∷ body_of r ∷ hop_of r ∷ []
 
 -- the rows that fit, as rowids rise, each once: the first so many
 pub record FindsInTurn (Fits : Row → Type 0) (most : ℕ) (rows answer : List Row) : Type 0 where

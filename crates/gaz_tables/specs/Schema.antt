@@ -1,4 +1,4 @@
--- The three tables and the two further indexes, as their texts read.
+-- The tables of schema 1 and what schema 2 adds to them, as their texts read.
 use Rattle.std.specs.Prelude.{false, [], ◌∷◌, Some, codes, List, ℕ, Result, Ok, Err}
 use Rattle.sqlite.specs.Kind.TheVariants.{Integer, Text, Blob}
 use Rattle.sqlite.specs.Table.{Table}
@@ -26,6 +26,16 @@ by_blpu_text = codes "CREATE INDEX by_blpu ON version (cust, kind, blpu, gone)"
 abbrev pub by_street_text : List ℕ
 by_street_text = codes "CREATE INDEX by_street ON version (cust, kind, street, gone)"
 
+-- `version` with one kind and one column more
+abbrev pub version2_text : List ℕ
+version2_text = codes "CREATE TABLE version2 (cust INTEGER NOT NULL, kind INTEGER NOT NULL CHECK (kind IN (11, 15, 21, 23, 24, 92)), id TEXT NOT NULL, blpu INTEGER NOT NULL, street INTEGER NOT NULL, lang INTEGER NOT NULL, live INTEGER NOT NULL, born INTEGER NOT NULL, gone INTEGER NOT NULL, body TEXT NOT NULL, hop INTEGER NOT NULL, PRIMARY KEY (cust, kind, id, born)) STRICT"
+
+abbrev pub by_blpu2_text : List ℕ
+by_blpu2_text = codes "CREATE INDEX by_blpu2 ON version2 (cust, kind, blpu, gone)"
+
+abbrev pub by_street2_text : List ℕ
+by_street2_text = codes "CREATE INDEX by_street2 ON version2 (cust, kind, street, gone)"
+
 abbrev pub checks_of : Result Table CompileError → List Term
 checks_of (Ok t) = t.checks
 checks_of (Err e) = []
@@ -34,12 +44,23 @@ checks_of (Err e) = []
 unfoldable pub version_checks : List Term
 version_checks = checks_of (table_defined_by version_text)
 
+unfoldable pub version2_checks : List Term
+version2_checks = checks_of (table_defined_by version2_text)
+
 abbrev pub version_columns : List Column
 version_columns = required (codes "cust") Integer ∷ required (codes "kind") Integer
     ∷ required (codes "id") Text ∷ required (codes "blpu") Integer
     ∷ required (codes "street") Integer ∷ required (codes "lang") Integer
     ∷ required (codes "live") Integer ∷ required (codes "born") Integer
     ∷ required (codes "gone") Integer ∷ required (codes "body") Text ∷ []
+
+abbrev pub version2_columns : List Column
+version2_columns = required (codes "cust") Integer ∷ required (codes "kind") Integer
+    ∷ required (codes "id") Text ∷ required (codes "blpu") Integer
+    ∷ required (codes "street") Integer ∷ required (codes "lang") Integer
+    ∷ required (codes "live") Integer ∷ required (codes "born") Integer
+    ∷ required (codes "gone") Integer ∷ required (codes "body") Text
+    ∷ required (codes "hop") Integer ∷ []
 
 abbrev pub received_columns : List Column
 received_columns = required (codes "cust") Integer ∷ required (codes "volume") Integer
@@ -51,8 +72,8 @@ meta_columns = required (codes "id") Integer ∷ required (codes "number") Integ
     ∷ required (codes "register") Text ∷ []
 
 -- where the tables stand
-abbrev pub versions : ℕ
-versions = 0
+abbrev pub old_versions : ℕ
+old_versions = 0
 
 abbrev pub receiveds : ℕ
 receiveds = 4
@@ -60,8 +81,13 @@ receiveds = 4
 abbrev pub metas : ℕ
 metas = 6
 
+-- the rows of a store's items
+abbrev pub versions : ℕ
+versions = 7
+
+-- the table of schema 1
 abbrev pub version : Table
-version = strict (codes "version") versions version_columns (1 ∷ 2 ∷ 3 ∷ 8 ∷ []) version_checks
+version = strict (codes "version") old_versions version_columns (1 ∷ 2 ∷ 3 ∷ 8 ∷ []) version_checks
 
 abbrev pub received : Table
 received = strict (codes "received") receiveds received_columns (1 ∷ 2 ∷ []) []
@@ -70,11 +96,14 @@ received = strict (codes "received") receiveds received_columns (1 ∷ 2 ∷ [])
 abbrev pub meta : Table
 meta = keyed (Some 0) (codes "meta") metas meta_columns (0 ∷ []) [] []
 
-abbrev pub index_of : List ℕ → ℕ → List ℕ → Index
-index_of name tree columns = record {
+abbrev pub version2 : Table
+version2 = strict (codes "version2") versions version2_columns (1 ∷ 2 ∷ 3 ∷ 8 ∷ []) version2_checks
+
+abbrev pub index_of : List ℕ → ℕ → ℕ → List ℕ → Index
+index_of name tree table columns = record {
   name = name;
   tree = tree;
-  table = versions;
+  table = table;
   columns = columns;
   order = record { digits = 0 };
   is_unique = false;
@@ -85,18 +114,36 @@ abbrev pub of_keys : Index
 of_keys = automatic version 0 (1 ∷ 2 ∷ 3 ∷ 8 ∷ []) 1
 
 abbrev pub by_blpu : Index
-by_blpu = index_of (codes "by_blpu") 2 (1 ∷ 2 ∷ 4 ∷ 9 ∷ [])
+by_blpu = index_of (codes "by_blpu") 2 old_versions (1 ∷ 2 ∷ 4 ∷ 9 ∷ [])
 
 abbrev pub by_street : Index
-by_street = index_of (codes "by_street") 3 (1 ∷ 2 ∷ 5 ∷ 9 ∷ [])
+by_street = index_of (codes "by_street") 3 old_versions (1 ∷ 2 ∷ 5 ∷ 9 ∷ [])
 
 abbrev pub of_volumes : Index
 of_volumes = automatic received 0 (1 ∷ 2 ∷ []) 5
 
--- what reads as the three tables and nothing else
-abbrev pub store_schema : Schema
-store_schema = record {
+abbrev pub of_keys2 : Index
+of_keys2 = automatic version2 0 (1 ∷ 2 ∷ 3 ∷ 8 ∷ []) 8
+
+abbrev pub by_blpu2 : Index
+by_blpu2 = index_of (codes "by_blpu2") 9 versions (1 ∷ 2 ∷ 4 ∷ 9 ∷ [])
+
+abbrev pub by_street2 : Index
+by_street2 = index_of (codes "by_street2") 10 versions (1 ∷ 2 ∷ 5 ∷ 9 ∷ [])
+
+-- schema 1: what reads as its three tables and nothing else
+abbrev pub first_schema : Schema
+first_schema = record {
   tables = version ∷ received ∷ meta ∷ [];
   indexes = of_keys ∷ by_blpu ∷ by_street ∷ of_volumes ∷ [];
+  views = [];
+}
+
+-- schema 2: what reads as the tables of schema 1, `version2` behind them, and nothing else
+abbrev pub store_schema : Schema
+store_schema = record {
+  tables = version ∷ received ∷ meta ∷ version2 ∷ [];
+  indexes =
+      of_keys ∷ by_blpu ∷ by_street ∷ of_volumes ∷ of_keys2 ∷ by_blpu2 ∷ by_street2 ∷ [];
   views = [];
 }

@@ -1,4 +1,4 @@
--- A store of the three tables, and what a statement makes of it.
+-- A store of the four tables, and what a statement makes of it.
 use Rattle.std.specs.Prelude.{◌≡◌, ℕ, List, [], ◌∷◌, Result, Vec, IfOk, OnOk, OnErr, IsTrue}
 use Rattle.std.specs.declared.alloc.Global.{Global}
 use Rattle.sqlite.specs.Order.{Row}
@@ -12,12 +12,13 @@ use Rattle.sqlite.specs.View.{IsShaped}
 use Rattle.sqlite_trees.specs.declared.store.Store.{Ghosts}
 use Rattle.sqlite_trees.specs.declared.store.Shape.TheVariants as shape
 use Rattle.gaz_sql_facts.specs.Changes.{AreTreesOf, Changes, InPlace, IsAdded, IsSpared, IsUndone}
-use Rattle.gaz_tables.specs.Schema.{store_schema, versions, receiveds, metas}
+use Rattle.gaz_tables.specs.Schema.{store_schema, old_versions, versions, receiveds, metas}
 
--- the database is one of the three tables, in order
+-- the database is one of the four tables, in order
 pub record HasTables (db : Database) : Type 0 where
   pub schema_is : db.schema ≡ store_schema
   pub sound : IsDatabase db
+  pub old_versions_shaped : IsShaped shape.Table (db.trees old_versions)
   pub versions_shaped : IsShaped shape.Table (db.trees versions)
   pub receiveds_shaped : IsShaped shape.Table (db.trees receiveds)
   pub metas_shaped : IsShaped shape.Table (db.trees metas)
@@ -90,7 +91,7 @@ module _ {S : Type 0} (g : Ghosts S) (before after : Held S) where
   WritesInside table result Becomes = HasCleanDisk new → HasTables old.now
       → OnOk result (Changes table Becomes old.now new.now × InPlace old new)
 
-  -- the database stays one of the three tables
+  -- the database stays one of the four tables
   abbrev pub KeepsTables : {A : Type 0} → Result A Error → Type 0
   KeepsTables result = HasCleanDisk new → HasTables old.now → OnOk result (HasTables new.now)
 

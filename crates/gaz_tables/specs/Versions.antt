@@ -1,4 +1,4 @@
--- The rows of `version`, by their columns, and what its queries find.
+-- The rows of `version2`, by their columns, and what its queries find.
 use Rattle.std.specs.Prelude.{◌≡◌, ℕ, ℤ, pos, ◌≤ℤ◌, ◌<ℤ◌, Bool, if◌then◌else◌, List, [], ◌∷◌}
 use Rattle.std.specs.Ordering.{nat_cmp}
 use Rattle.std.specs.Cmp.Lexicographic.{slice_cmp}
@@ -39,6 +39,9 @@ gone_of r = column r 9
 
 abbrev pub body_of : Row → Value
 body_of r = column r 10
+
+abbrev pub hop_of : Row → Value
+hop_of r = column r 11
 
 -- where `id` and `born` stand
 abbrev pub id_place : ℕ
@@ -98,10 +101,10 @@ pub record IsApprovedOn (cust street : ℕ) (after : List ℕ) (r : Row) : Type 
   pub on_street : street_of r ≡ Int (pos street)
   pub behind : IsBehind after r
 
--- the row is a current one of kind 21 with this `blpu`, and comes behind an id
-pub record IsPartOf (cust : ℕ) (blpu : ℤ) (after : List ℕ) (r : Row) : Type 0 where
+-- the row is a current one of a kind with this `blpu`, and comes behind an id
+pub record IsPartOf (cust kind : ℕ) (blpu : ℤ) (after : List ℕ) (r : Row) : Type 0 where
   pub of_cust : cust_of r ≡ Int (pos cust)
-  pub of_kind : kind_of r ≡ Int (pos 21)
+  pub of_kind : kind_of r ≡ Int (pos kind)
   pub of_blpu : blpu_of r ≡ Int blpu
   pub is_current : gone_of r ≡ Int never
   pub behind : IsBehind after r
@@ -143,16 +146,17 @@ abbrev pub FindsApprovedOn : ℕ → ℕ → List ℕ → ℕ → List Row → L
 FindsApprovedOn cust street after most rows answer =
     ShowsPage (IsApprovedOn cust street after) id_place most lang_shown rows answer
 
--- the parts of a BLPU, behind an id and as ids rise: the first so many
-abbrev pub FindsParts : ℕ → ℤ → List ℕ → ℕ → List Row → List Row → Type 0
-FindsParts cust blpu after most rows answer =
-    ShowsPage (IsPartOf cust blpu after) id_place most id_shown rows answer
+-- what of a kind is of a BLPU, behind an id and as ids rise: the first so many
+abbrev pub FindsParts : ℕ → ℕ → ℤ → List ℕ → ℕ → List Row → List Row → Type 0
+FindsParts cust kind blpu after most rows answer =
+    ShowsPage (IsPartOf cust kind blpu after) id_place most id_shown rows answer
 
 -- the values of a row
-abbrev pub version_values : ℕ → ℕ → List ℕ → ℤ → ℕ → ℕ → Bool → ℕ → ℕ → List ℕ → Row
-version_values cust kind id blpu street lang live born gone body =
+abbrev pub version_values : ℕ → ℕ → List ℕ → ℤ → ℕ → ℕ → Bool → ℕ → ℕ → List ℕ → ℕ → Row
+version_values cust kind id blpu street lang live born gone body hop =
     Int (pos cust) ∷ Int (pos kind) ∷ Text id ∷ Int blpu ∷ Int (pos street) ∷ Int (pos lang)
-    ∷ Int (if live then pos 1 else pos 0) ∷ Int (pos born) ∷ Int (pos gone) ∷ Text body ∷ []
+    ∷ Int (if live then pos 1 else pos 0) ∷ Int (pos born) ∷ Int (pos gone) ∷ Text body
+    ∷ Int (pos hop) ∷ []
 
 -- the row of a key that was born in a volume
 pub record IsOfBirth (cust kind : ℕ) (id : List ℕ) (born : ℕ) (r : Row) : Type 0 where
@@ -163,7 +167,7 @@ pub record IsOfBirth (cust kind : ℕ) (id : List ℕ) (born : ℕ) (r : Row) : 
 abbrev pub gone_at : ℕ → Row → Row
 gone_at volume r =
     column r 0 ∷ cust_of r ∷ kind_of r ∷ id_of r ∷ blpu_of r ∷ street_of r ∷ lang_of r ∷ live_of r
-    ∷ born_of r ∷ Int (pos volume) ∷ body_of r ∷ []
+    ∷ born_of r ∷ Int (pos volume) ∷ body_of r ∷ hop_of r ∷ []
 
 -- the rows, and the one of this birth is gone at a volume
 abbrev pub Closes : ℕ → ℕ → List ℕ → ℕ → ℕ → List Row → List Row → Type 0

@@ -2,10 +2,11 @@
 ghost use Rattle.std.specs.Prelude.{◌≡◌, false, OnOk};
 ghost use Rattle.sqlite.specs.Held.{state};
 ghost use Rattle.gaz_sql_facts.specs.Changes.{LeavesTheCommit};
-ghost use Rattle.gaz_tables.specs.Creating.{Creates, Furnishes, Grows, MayCreate, no_schema};
-ghost use Rattle.gaz_tables.specs.Creating.{with_by_blpu, with_by_street, with_received};
-ghost use Rattle.gaz_tables.specs.Creating.{with_version};
-ghost use Rattle.gaz_tables.specs.Schema.{store_schema};
+ghost use Rattle.gaz_tables.specs.Creating.{Creates, Furnishes, Grows, MayCreate, Widens};
+ghost use Rattle.gaz_tables.specs.Creating.{with_by_blpu, with_by_blpu2, with_by_street};
+ghost use Rattle.gaz_tables.specs.Creating.{no_schema, with_received, with_version};
+ghost use Rattle.gaz_tables.specs.Creating.{with_version2};
+ghost use Rattle.gaz_tables.specs.Schema.{first_schema, store_schema};
 ghost use Rattle.gaz_tables.specs.Stores.{StaysInside, Undoes, WasOpen};
 
 use crate::metas;
@@ -64,11 +65,50 @@ fn make_received<S: Alter>(tx: &mut Transaction<'_, S>) -> Result<usize, Error>
 /// Makes the table `meta`, within a transaction.
 fn make_meta<S: Alter>(tx: &mut Transaction<'_, S>) -> Result<usize, Error>
     ensures same_reference { tx.new.conn.ghost_name ≡ tx.old.conn.ghost_name }
-    ensures made { Grows S.Store tx.old.conn.now tx.new.conn.now with_received store_schema result }
+    ensures made { Grows S.Store tx.old.conn.now tx.new.conn.now with_received first_schema result }
     ensures inside { StaysInside S.Store tx.old.conn.now tx.new.conn.now result }
 {
     tx.execute(
         "CREATE TABLE meta (id INTEGER NOT NULL PRIMARY KEY, number INTEGER NOT NULL, register TEXT NOT NULL) STRICT",
+        &[],
+    )
+}
+
+/// Makes the table `version2`, within a transaction.
+fn make_version2<S: Alter>(tx: &mut Transaction<'_, S>) -> Result<usize, Error>
+    ensures same_reference { tx.new.conn.ghost_name ≡ tx.old.conn.ghost_name }
+    ensures made { Widens S.Store tx.old.conn.now tx.new.conn.now
+        first_schema with_version2 result }
+    ensures inside { StaysInside S.Store tx.old.conn.now tx.new.conn.now result }
+{
+    tx.execute(
+        "CREATE TABLE version2 (cust INTEGER NOT NULL, kind INTEGER NOT NULL CHECK (kind IN (11, 15, 21, 23, 24, 92)), id TEXT NOT NULL, blpu INTEGER NOT NULL, street INTEGER NOT NULL, lang INTEGER NOT NULL, live INTEGER NOT NULL, born INTEGER NOT NULL, gone INTEGER NOT NULL, body TEXT NOT NULL, hop INTEGER NOT NULL, PRIMARY KEY (cust, kind, id, born)) STRICT",
+        &[],
+    )
+}
+
+/// Makes the index of `blpu` in `version2`, within a transaction.
+fn make_by_blpu2<S: Alter>(tx: &mut Transaction<'_, S>) -> Result<usize, Error>
+    ensures same_reference { tx.new.conn.ghost_name ≡ tx.old.conn.ghost_name }
+    ensures made { Widens S.Store tx.old.conn.now tx.new.conn.now
+        with_version2 with_by_blpu2 result }
+    ensures inside { StaysInside S.Store tx.old.conn.now tx.new.conn.now result }
+{
+    tx.execute(
+        "CREATE INDEX by_blpu2 ON version2 (cust, kind, blpu, gone)",
+        &[],
+    )
+}
+
+/// Makes the index of `street` in `version2`, within a transaction.
+fn make_by_street2<S: Alter>(tx: &mut Transaction<'_, S>) -> Result<usize, Error>
+    ensures same_reference { tx.new.conn.ghost_name ≡ tx.old.conn.ghost_name }
+    ensures made { Widens S.Store tx.old.conn.now tx.new.conn.now
+        with_by_blpu2 store_schema result }
+    ensures inside { StaysInside S.Store tx.old.conn.now tx.new.conn.now result }
+{
+    tx.execute(
+        "CREATE INDEX by_street2 ON version2 (cust, kind, street, gone)",
         &[],
     )
 }
@@ -89,11 +129,35 @@ fn make_versions<S: Alter>(tx: &mut Transaction<'_, S>) -> Result<(), Error>
 fn make_others<S: Alter>(tx: &mut Transaction<'_, S>) -> Result<(), Error>
     ensures same_reference { tx.new.conn.ghost_name ≡ tx.old.conn.ghost_name }
     ensures made { Grows S.Store tx.old.conn.now tx.new.conn.now
-        with_by_street store_schema result }
+        with_by_street first_schema result }
     ensures inside { StaysInside S.Store tx.old.conn.now tx.new.conn.now result }
 {
     make_received(tx)?;
     make_meta(tx)?;
+    Ok(())
+}
+
+/// Makes the tables of schema 1 and their indexes, within a transaction.
+fn make_first<S: Alter>(tx: &mut Transaction<'_, S>) -> Result<(), Error>
+    ensures same_reference { tx.new.conn.ghost_name ≡ tx.old.conn.ghost_name }
+    ensures made { Grows S.Store tx.old.conn.now tx.new.conn.now no_schema first_schema result }
+    ensures inside { StaysInside S.Store tx.old.conn.now tx.new.conn.now result }
+{
+    make_versions(tx)?;
+    make_others(tx)?;
+    Ok(())
+}
+
+/// Makes the table `version2` and its indexes, within a transaction.
+pub(crate) fn make_second<S: Alter>(tx: &mut Transaction<'_, S>) -> Result<(), Error>
+    ensures same_reference { tx.new.conn.ghost_name ≡ tx.old.conn.ghost_name }
+    ensures made { Widens S.Store tx.old.conn.now tx.new.conn.now
+        first_schema store_schema result }
+    ensures inside { StaysInside S.Store tx.old.conn.now tx.new.conn.now result }
+{
+    make_version2(tx)?;
+    make_by_blpu2(tx)?;
+    make_by_street2(tx)?;
     Ok(())
 }
 
@@ -103,13 +167,13 @@ fn furnish<S: Alter>(tx: &mut Transaction<'_, S>, number: u32, register: &str) -
     ensures made { Furnishes S.Store tx.old.conn.now tx.new.conn.now number register.now result }
     ensures inside { StaysInside S.Store tx.old.conn.now tx.new.conn.now result }
 {
-    make_versions(tx)?;
-    make_others(tx)?;
+    make_first(tx)?;
+    make_second(tx)?;
     metas::insert(tx, number, register)?;
     Ok(())
 }
 
-/// Makes the three tables, their indexes and the row of `meta`, in a transaction of its own.
+/// Makes the four tables, their indexes and the row of `meta`, in a transaction of its own.
 pub fn create<S: Alter>(conn: &mut Connection<S>, number: u32, register: &str) -> Result<(), Error>
     requires { conn.old.in_transaction ≡ false }
     ensures over { conn.new.in_transaction ≡ false }

@@ -17,7 +17,7 @@ pub fn received_once()
     ensures { ReceivedOnce }
 {}
 
-/// A write leaves the database one of the three tables, and the other two as they were.
+/// A write leaves the database one of the four tables, and the other three as they were.
 pub fn tables_stay()
     ensures { TablesStay }
 {}

@@ -1,4 +1,4 @@
-//! The statements that go through the table `version` in the order of its rowids.
+//! The statements that go through the table `version2` in the order of its rowids.
 ghost use Rattle.gaz_tables.specs.Schema.{versions};
 ghost use Rattle.std.specs.Prelude.{◌≡◌, false};
 ghost use Rattle.gaz_tables.specs.Stores.{Finds, LeavesAsBefore, Spares, Stays, WasOpen};
@@ -16,7 +16,7 @@ pub fn first<S: Alter>(conn: &mut Connection<S>, most: u32) -> Result<Vec<Row>, 
     ensures mode { conn.old.in_transaction ≡ false → conn.new.in_transaction ≡ false }
 {
     conn.query_all(
-        "SELECT rowid, cust, kind, id, blpu, street, lang, live, born, gone, body FROM version ORDER BY rowid LIMIT ?1",
+        "SELECT rowid, cust, kind, id, blpu, street, lang, live, born, gone, body, hop FROM version2 ORDER BY rowid LIMIT ?1",
         params![most],
     )
 }
@@ -31,7 +31,7 @@ pub fn behind<S: Alter>(conn: &mut Connection<S>, after: &i64, most: u32) -> Res
     ensures mode { conn.old.in_transaction ≡ false → conn.new.in_transaction ≡ false }
 {
     conn.query_all(
-        "SELECT rowid, cust, kind, id, blpu, street, lang, live, born, gone, body FROM version WHERE rowid > ?1 ORDER BY rowid LIMIT ?2",
+        "SELECT rowid, cust, kind, id, blpu, street, lang, live, born, gone, body, hop FROM version2 WHERE rowid > ?1 ORDER BY rowid LIMIT ?2",
         params![after, most],
     )
 }

@@ -1,4 +1,4 @@
-//! The statements of the table `version`.
+//! The statements of the table `version2`.
 ghost use Rattle.gaz_tables.specs.Schema.{versions};
 ghost use Rattle.std.specs.Prelude.{◌≡◌, false};
 ghost use Rattle.gaz_tables.specs.Stores.{AddsRow, Finds, LeavesAsBefore, Spares, SparesInside};
@@ -24,7 +24,7 @@ pub fn newest<S: Alter>(
     ensures mode { conn.old.in_transaction ≡ false → conn.new.in_transaction ≡ false }
 {
     conn.query_all(
-        "SELECT born, gone, body FROM version WHERE cust = ?1 AND kind = ?2 AND id = ?3 ORDER BY born DESC LIMIT 1",
+        "SELECT born, gone, body FROM version2 WHERE cust = ?1 AND kind = ?2 AND id = ?3 ORDER BY born DESC LIMIT 1",
         params![cust, kind, id],
     )
 }
@@ -47,7 +47,7 @@ pub fn newest_until<S: Alter>(
     ensures mode { conn.old.in_transaction ≡ false → conn.new.in_transaction ≡ false }
 {
     conn.query_all(
-        "SELECT born, gone, body FROM version WHERE cust = ?1 AND kind = ?2 AND id = ?3 AND born <= ?4 ORDER BY born DESC LIMIT 1",
+        "SELECT born, gone, body FROM version2 WHERE cust = ?1 AND kind = ?2 AND id = ?3 AND born <= ?4 ORDER BY born DESC LIMIT 1",
         params![cust, kind, id, volume],
     )
 }
@@ -71,7 +71,7 @@ pub fn holding<S: Alter>(
     ensures mode { conn.old.in_transaction ≡ false → conn.new.in_transaction ≡ false }
 {
     conn.query_all(
-        "SELECT id, body FROM version WHERE cust = ?1 AND kind = ?2 AND id > ?3 AND born <= ?4 AND gone > ?4 ORDER BY id LIMIT ?5",
+        "SELECT id, body FROM version2 WHERE cust = ?1 AND kind = ?2 AND id > ?3 AND born <= ?4 AND gone > ?4 ORDER BY id LIMIT ?5",
         params![cust, kind, after, volume, most],
     )
 }
@@ -91,7 +91,7 @@ pub fn approved_of<S: Alter>(
     ensures mode { conn.old.in_transaction ≡ false → conn.new.in_transaction ≡ false }
 {
     conn.query_all(
-        "SELECT id, body FROM version WHERE cust = ?1 AND kind = 24 AND blpu = ?2 AND live = 1 AND gone = 1000000",
+        "SELECT id, body FROM version2 WHERE cust = ?1 AND kind = 24 AND blpu = ?2 AND live = 1 AND gone = 1000000",
         params![cust, blpu],
     )
 }
@@ -114,22 +114,23 @@ pub fn approved_on<S: Alter>(
     ensures mode { conn.old.in_transaction ≡ false → conn.new.in_transaction ≡ false }
 {
     conn.query_all(
-        "SELECT id, lang FROM version WHERE cust = ?1 AND kind = 24 AND street = ?2 AND live = 1 AND gone = 1000000 AND id > ?3 ORDER BY id LIMIT ?4",
+        "SELECT id, lang FROM version2 WHERE cust = ?1 AND kind = 24 AND street = ?2 AND live = 1 AND gone = 1000000 AND id > ?3 ORDER BY id LIMIT ?4",
         params![cust, street, after, most],
     )
 }
 
-/// `id` of the current rows of kind 21 that have this `blpu`, behind an id, by rising ids: at most
+/// `id` of the current rows of a kind that have this `blpu`, behind an id, by rising ids: at most
 /// so many.
 pub fn parts_of<S: Alter>(
     conn: &mut Connection<S>,
     cust: u32,
+    kind: u32,
     blpu: &i64,
     after: &str,
     most: u32,
 ) -> Result<Vec<Row>, Error>
     ensures found { Finds S.Store conn.old conn.new versions result
-        (FindsParts cust blpu.now after.now most) }
+        (FindsParts cust kind blpu.now after.now most) }
     ensures stays { Stays S.Store conn.old conn.new result }
     ensures open { WasOpen S.Store conn.old conn.new result }
     ensures spared { Spares S.Store conn.old conn.new result }
@@ -137,8 +138,8 @@ pub fn parts_of<S: Alter>(
     ensures mode { conn.old.in_transaction ≡ false → conn.new.in_transaction ≡ false }
 {
     conn.query_all(
-        "SELECT id FROM version WHERE cust = ?1 AND kind = 21 AND blpu = ?2 AND gone = 1000000 AND id > ?3 ORDER BY id LIMIT ?4",
-        params![cust, blpu, after, most],
+        "SELECT id FROM version2 WHERE cust = ?1 AND kind = ?2 AND blpu = ?3 AND gone = 1000000 AND id > ?4 ORDER BY id LIMIT ?5",
+        params![cust, kind, blpu, after, most],
     )
 }
 
@@ -155,18 +156,21 @@ pub fn insert<S: Alter>(
     born: u32,
     gone: u32,
     body: &str,
+    hop: u32,
 ) -> Result<usize, Error>
     ensures same_reference { tx.new.conn.ghost_name ≡ tx.old.conn.ghost_name }
     ensures added { WritesInside S.Store tx.old.conn.now tx.new.conn.now
         versions result (AddsRow
-        (version_values cust kind id.now blpu.now street lang live born gone body.now)) }
+        (version_values cust kind id.now blpu.now street lang live born gone body.now hop)) }
     ensures spared { SparesInside S.Store tx.old.conn.now tx.new.conn.now result }
     ensures open { WasOpen S.Store tx.old.conn.now tx.new.conn.now result }
     ensures inside { StaysInside S.Store tx.old.conn.now tx.new.conn.now result }
 {
     tx.execute(
-        "INSERT INTO version VALUES (?1, ?2, ?3, ?4, ?5, ?6, ?7, ?8, ?9, ?10)",
-        params![cust, kind, id, blpu, street, lang, live, born, gone, body],
+        "INSERT INTO version2 (cust, kind, id, blpu, street, lang, live, born, gone, body, hop) VALUES (?1, ?2, ?3, ?4, ?5, ?6, ?7, ?8, ?9, ?10, ?11)",
+        params![
+            cust, kind, id, blpu, street, lang, live, born, gone, body, hop
+        ],
     )
 }
 
@@ -187,7 +191,7 @@ pub fn close<S: Alter>(
     ensures inside { StaysInside S.Store tx.old.conn.now tx.new.conn.now result }
 {
     tx.execute(
-        "UPDATE version SET gone = ?5 WHERE cust = ?1 AND kind = ?2 AND id = ?3 AND born = ?4",
+        "UPDATE version2 SET gone = ?5 WHERE cust = ?1 AND kind = ?2 AND id = ?3 AND born = ?4",
         params![cust, kind, id, born, gone],
     )
 }

@@ -50,5 +50,13 @@ pub(crate) const HIGH_STREET_DELETED: &[u8] =
 pub(crate) const FLAT_2_IN_WELSH: &[u8] =
     b"10,1,1001,8,2024-07-01\n24,U,1,L1,42,CYM,1,101,,,,,Flat 2,12,A,14,,,2001-04-01,\n99,1\n";
 
+/// The address of property 42, deleted.
+pub(crate) const FLAT_2_DELETED: &[u8] =
+    b"10,1,1001,4,2024-05-01\n24,D,1,L1,42,ENG,1,101,,,,,Flat 2,12,A,14,,,2001-04-01,\n99,1\n";
+
+/// It is to come again.
+pub(crate) const FLAT_2_AGAIN: &[u8] =
+    b"10,1,1001,5,2024-06-01\n24,I,1,L1,42,ENG,1,101,,,,,Flat 2,12,A,14,,,2001-04-01,\n99,1\n";
+
 /// Neither bases nor changes.
 pub(crate) const NOTHING: &[u8] = b"10,1,1001,1,2024-01-02\n99,0\n";

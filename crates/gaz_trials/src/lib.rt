@@ -32,6 +32,8 @@ mod registers;
 #[cfg(test)]
 mod resting;
 #[cfg(test)]
+mod schema1_rows;
+#[cfg(test)]
 mod waiting;
 #[cfg(test)]
 mod wanted;

@@ -100,8 +100,8 @@ fn nobody_is_looked_at_in_vain(rt: HostRuntime) -> Result<(), Fail> {
     let before = asked(&hub);
     holds(&rt, before >= CUSTODIANS, "everyone is looked at once");
     let _settled = hub.status(2)?;
-    // What is told of 2, and nothing else.
-    counts(&rt, asked(&hub).saturating_sub(before), 3);
+    // What is judged of 2, and nothing else: what it waits for is remembered.
+    counts(&rt, asked(&hub).saturating_sub(before), 1);
     let before = asked(&hub);
     submits(&rt, &mut hub, (7, 1), &[], APPLIED)?;
     holds(

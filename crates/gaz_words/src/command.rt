@@ -60,6 +60,8 @@ pub enum Command<'a> {
     Ask(Places<'a>, Call<'a>),
     /// Connections are answered over a store.
     Serve(Places<'a>, Serving),
+    /// A store's register grows to the one whose file stands at this path.
+    Extend(Places<'a>, &'a str),
 }
 
 // The word that was written for an argument. `clap` asks for each, so that none is missing.
@@ -117,6 +119,7 @@ fn named<'a>(name: &str, given: &ArgMatches<'a>) -> Command<'a> {
         ),
         "extract" => Command::Ask(places, extracting(given)),
         "serve" => Command::Serve(places, serving_at(given)),
+        "extend" => Command::Extend(places, word(given, "grown")),
         _ => Command::Play,
     }
 }

@@ -19,6 +19,8 @@ const EXTRACT: &str = "Prints a custodian's gazetteer after a volume";
 
 const SERVE: &str = "Answers HTTP requests on 127.0.0.1, over a store";
 
+const EXTEND: &str = "Gives a store a register that grew";
+
 const INIT_EXAMPLE: &str = "Example: gazhub init --store hub.db --register register.toml";
 
 const SUBMIT_EXAMPLE: &str =
@@ -47,6 +49,14 @@ const SERVE_EXAMPLE: &str =
 
 Prints: listening 127.0.0.1:8080
 Answers connections one after the other, and ends behind the last of them.";
+
+const EXTEND_EXAMPLE: &str =
+    "Example: gazhub extend --store hub.db --register register.toml --grown grown.toml
+
+Prints: extended
+  refused 61                      a custodian is no longer there
+  refused 62                      a custodian has other blocks
+Exit status: 0 extended, 1 refused, 2 usage, 3 fault";
 
 /// The greatest port, and the most connections.
 const MOST_PORT: u64 = 65_535;
@@ -140,6 +150,16 @@ fn serve<'a>(alloc: Global) -> Result<Command<'a>, AllocError> {
         .arg(connections)
 }
 
+fn extend<'a>(alloc: Global) -> Result<Command<'a>, AllocError> {
+    let grown = path(
+        alloc,
+        "grown",
+        "GROWN",
+        "The file of the register that it grows to, in TOML",
+    );
+    over_store(alloc, "extend", EXTEND, EXTEND_EXAMPLE)?.arg(grown)
+}
+
 /// All words that the program takes, behind its name.
 pub fn grammar<'a>(alloc: Global) -> Result<Command<'a>, AllocError> {
     let play = Command::new(alloc, "play").about(PLAY);
@@ -154,5 +174,6 @@ pub fn grammar<'a>(alloc: Global) -> Result<Command<'a>, AllocError> {
         .subcommand(status(alloc)?)?
         .subcommand(line(alloc)?)?
         .subcommand(extract(alloc)?)?
-        .subcommand(serve(alloc)?)
+        .subcommand(serve(alloc)?)?
+        .subcommand(extend(alloc)?)
 }

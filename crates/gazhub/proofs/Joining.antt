@@ -23,7 +23,7 @@ same_parts s t a b p q = ap (λ (x : Schema). database x a) p ∙ ap (λ (x : Tr
 
 module _ {D : Type 0} (g : disk.Ghosts D) where
   -- what a visit leaves is what the next finds
-  found_again : (old next : Visit g) → Closes g old.after old.left → old.left ≡ Some next.files → IsWhole g old → IsWhole g next → (register : RegisterValue) → Visits g register next
+  pub found_again : (old next : Visit g) → Closes g old.after old.left → old.left ≡ Some next.files → IsWhole g old → IsWhole g next → (register : RegisterValue) → Visits g register next
       → found_by g next ≡ left_by g old
   found_again old next closes gives was is register visits =
       let copied = subst (λ left. Closes g old.after left) gives closes in

@@ -3,4 +3,6 @@ mod Endings
 mod Closing
 mod Resting
 mod Opening
+mod Extends
 mod Joining
+mod GrownCalls

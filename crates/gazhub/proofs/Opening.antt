@@ -1,5 +1,5 @@
 -- What is said of calls over a store's files, and why no store was made, or there is no hub over the one that is there.
-use Rattle.std.proofs.Common.{◌≡◌, ◌≢◌, ◌↔◌, Ok, Err, Result, IsTrue, IfOk, IfErr, ℕ, [], inl, inr, refl, subst}
+use Rattle.std.proofs.Common.{◌≡◌, ◌≢◌, ◌≤◌, ◌↔◌, Ok, Err, Result, IsTrue, IfOk, IfErr, ℕ, [], inl, inr, refl, subst}
 use Rattle.std.specs.Prelude.{Option}
 use Rattle.sqlite.specs.Files.{file_state, over_files}
 use Rattle.sqlite.specs.Held.{Held}
@@ -20,6 +20,7 @@ use Rattle.gaz_commands.specs.declared.said.Said.{Said}
 use Rattle.gaz_commands.specs.declared.said.Said.TheVariants as said
 use Rattle.gaz_stored.specs.Asking.{Asks}
 use Rattle.gaz_stored.specs.Attending.{Attends}
+use Rattle.gaz_stored.specs.Serving.{EndsEarly}
 use Rattle.gaz_stored.specs.declared.attending.Unserved.{Unserved}
 use Rattle.gazhub.specs.Filing.{AsksStore, FindsTables, MakesNone, MakesStore, OpensNone, ServesStore, asked_by, asked_in, told_by, told_in}
 use Rattle.gazhub.specs.Visits.{Closes, Connects, Visits}
@@ -57,16 +58,16 @@ module _ {D : Type 0} (g : disk.Ghosts D) (files : Files D) (left : Option (File
     asks_store call (Ok answer) asks = record { conn = conn; after = back; asks = asks; visits = visits_asked call answer asks }
     asks_store call (Err refusal) asks = tt
 
-    visits_attended : (most connections : ℕ) (held : Result (Unit {0}) Unserved) (attends : Attends over_files register most connections conn back held)
-        → Visits g register (record { files = files; conn = conn; after = back; left = left; commands = asked_by g register most connections conn back held attends; responses = told_by g register most connections conn back held attends })
-    visits_attended most connections (Ok served) attends = record { connects = connects; goes_on = attends.uses.goes_on; closes = closes }
-    visits_attended most connections (Err why) attends = record { connects = connects; goes_on = attends.uses.goes_on; closes = closes }
+    visits_attended : (most : ℕ) (held : Result ℕ Unserved) (attends : Attends over_files register most conn back held)
+        → Visits g register (record { files = files; conn = conn; after = back; left = left; commands = asked_by g register most conn back held attends; responses = told_by g register most conn back held attends })
+    visits_attended most (Ok served) attends = record { connects = connects; goes_on = attends.uses.goes_on; closes = closes }
+    visits_attended most (Err why) attends = record { connects = connects; goes_on = attends.uses.goes_on; closes = closes }
 
     -- what connections came to
-    pub serves_store : (most connections : ℕ) (held : Result (Result (Unit {0}) Unserved) StoreRefusal) → IfOk held (Attends over_files register most connections conn back)
-        → IfOk held (ServesStore g files left register most connections)
-    serves_store most connections (Ok how) attends = record { conn = conn; after = back; attends = attends; visits = visits_attended most connections how attends }
-    serves_store most connections (Err refusal) attends = tt
+    pub serves_store : (most : ℕ) (held : Result (Result ℕ Unserved) StoreRefusal) → IfOk held (Attends over_files register most conn back)
+        → IfOk held (ServesStore g files left register most)
+    serves_store most (Ok how) attends = record { conn = conn; after = back; attends = attends; visits = visits_attended most how attends }
+    serves_store most (Err refusal) attends = tt
 
 -- a store that was made
 pub makes_store : {D : Type 0} (g : disk.Ghosts D) (files : Files D) (left : Option (Files D)) (conn back : Held (FileStore D g)) (store : Store (FileStore D g) over_files) (register : RegisterValue)
@@ -80,3 +81,10 @@ makes_store g files left conn back store register connects made is closes =
       founds = record { connects = connects; goes_on = goes_on_none register (file_state conn) store (register_text register) made; closes = subst (λ k. Closes g k left) is closes };
       says = refl;
     }
+
+-- how many connections were answered
+pub many_served : {U : Type 0} (connections : ℕ) (at_hand : Option U) (held : Result (Result ℕ Unserved) StoreRefusal) → IfOk held (λ served. IfOk served (λ n. EndsEarly connections n at_hand))
+    → IfOk held (λ served. IfOk served (λ n. (n ≤ connections) × (1 ≤ connections → 1 ≤ n)))
+many_served connections at_hand (Ok (Ok n)) ends = (ends.most, ends.some)
+many_served connections at_hand (Ok (Err why)) ends = tt
+many_served connections at_hand (Err why) ends = tt

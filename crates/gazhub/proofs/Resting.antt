@@ -18,6 +18,7 @@ use Rattle.gaz_store.specs.Opened.{IsMade, IsRefused}
 use Rattle.gaz_store.specs.Seen.{IsUnharmed}
 use Rattle.gaz_store.specs.Store.{seen_in}
 use Rattle.gaz_store.specs.declared.store.Store.{Store}
+use Rattle.gaz_stored.specs.Extending.{StandsStill}
 use Rattle.gaz_stored.specs.Runs.{GoesOn, StandForRun, hub_in}
 
 -- over tables that stay as they are
@@ -30,6 +31,17 @@ goes_on_resting register old new same stood =
       abides = every_run_from_holds d (hub_in old) (hub_in new) [] [] stood.partial run;
       answers = every_answer_holds d (hub_in old) (hub_in new) [] [] stood.partial run;
       stands = subst (StandForRun register) (sym same) stood;
+    }
+
+-- over tables that stand for the same hub
+pub goes_on_still : (register : RegisterValue) (old new : Database) → StandForRun register old → StandsStill register old new → GoesOn register (hub_in old) [] [] new
+goes_on_still register old new stood is =
+    let d = door_of register in
+    record {
+      run = is.hub;
+      abides = every_run_from_holds d (hub_in old) (hub_in new) [] [] stood.partial is.hub;
+      answers = every_answer_holds d (hub_in old) (hub_in new) [] [] stood.partial is.hub;
+      stands = is.stands;
     }
 
 module _ {D : Type 0} {g : disk.Ghosts D} (register : RegisterValue) where

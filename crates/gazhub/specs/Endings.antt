@@ -9,7 +9,7 @@ use Rattle.gaz_register.specs.declared.fault.RegFault.{RegFault}
 use Rattle.gaz_register.specs.declared.fault.RegFault.TheVariants as fault
 use Rattle.gazhub.specs.declared.ending.Ending.{Ending}
 use Rattle.gazhub.specs.declared.ending.Ending.TheVariants.{Done, NotDone, Usage, Memory}
-use Rattle.gazhub.specs.declared.ending.Ending.TheVariants.{ReadFault, WriteFault, NoHub, Failed}
+use Rattle.gazhub.specs.declared.ending.Ending.TheVariants.{ReadFault, WriteFault, NoHub, Lost, Failed}
 
 -- the exit status
 abbrev pub status_of : Ending → ℕ
@@ -20,6 +20,7 @@ status_of Memory = 3
 status_of ReadFault = 3
 status_of WriteFault = 3
 status_of (NoHub why) = 3
+status_of (Lost why) = 3
 status_of (Failed why) = 3
 
 -- the line that names the fault of a register
@@ -46,6 +47,7 @@ no_hub_line none.Unreadable = codes "gazhub: Unreadable\n"
 no_hub_line (none.Register why) = register_line why
 no_hub_line (none.Store why) = refusal_line why
 no_hub_line none.NoPort = codes "gazhub: NoPort\n"
+no_hub_line none.Memory = codes "gazhub: Memory\n"
 
 -- the line on standard error, which names the fault
 abbrev pub line_of : Ending → List ℕ
@@ -56,11 +58,14 @@ line_of Memory = codes "gazhub: Memory\n"
 line_of ReadFault = codes "gazhub: ReadFault\n"
 line_of WriteFault = codes "gazhub: WriteFault\n"
 line_of (NoHub why) = no_hub_line why
+line_of (Lost why) = no_hub_line why
 line_of (Failed why) = error_line why
 
--- nothing is printed on standard output: at usage, and at each fault but that of the output
+-- nothing is printed on standard output: at usage, and at each fault but that of the output and that
+-- of a hub that was lost
 abbrev pub is_silent : Ending → Bool
 is_silent Done = false
 is_silent NotDone = false
 is_silent WriteFault = false
+is_silent (Lost why) = false
 is_silent _ = true

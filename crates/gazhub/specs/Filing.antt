@@ -36,19 +36,19 @@ module _ {D : Type 0} (g : disk.Ghosts D) where
   told_in register before after answer (Err at_once) asks = []
 
   -- and where connections came to this
-  abbrev pub asked_by : (register : RegisterValue) (most connections : ℕ)
-      (before after : Held (FileStore D g)) (held : Result (Unit {0}) Unserved)
-      → Attends over_files register most connections before after held → List Command
-  asked_by register most connections before after (Ok served) attends =
+  abbrev pub asked_by : (register : RegisterValue) (most : ℕ)
+      (before after : Held (FileStore D g)) (held : Result ℕ Unserved)
+      → Attends over_files register most before after held → List Command
+  asked_by register most before after (Ok served) attends =
       Pose Settle ∷ attends.serves.commands
-  asked_by register most connections before after (Err why) attends = []
+  asked_by register most before after (Err why) attends = []
 
-  abbrev pub told_by : (register : RegisterValue) (most connections : ℕ)
-      (before after : Held (FileStore D g)) (held : Result (Unit {0}) Unserved)
-      → Attends over_files register most connections before after held → List Response
-  told_by register most connections before after (Ok served) attends =
+  abbrev pub told_by : (register : RegisterValue) (most : ℕ)
+      (before after : Held (FileStore D g)) (held : Result ℕ Unserved)
+      → Attends over_files register most before after held → List Response
+  told_by register most before after (Ok served) attends =
       Replied Settle attends.told_settled ∷ attends.serves.responses
-  told_by register most connections before after (Err why) attends = []
+  told_by register most before after (Err why) attends = []
 
   -- Below, the files are those that are given, and those that are given back.
   module _ (files : Files D) (left : Option (Files D)) where
@@ -115,17 +115,17 @@ module _ {D : Type 0} (g : disk.Ghosts D) where
         responses = told_in register conn after answer call asks;
       })
 
-    -- it answered so many connections at most, or there was no port, or nobody was told of it
-    pub record ServesStore (register : RegisterValue) (most connections : ℕ)
-        (held : Result (Unit {0}) Unserved) : Type 0 where
+    -- it answered so many connections, or there was no port, or nobody was told of it
+    pub record ServesStore (register : RegisterValue) (most : ℕ) (held : Result ℕ Unserved)
+        : Type 0 where
       pub conn : Held (FileStore D g)
       pub after : Held (FileStore D g)
-      pub attends : Attends over_files register most connections conn after held
+      pub attends : Attends over_files register most conn after held
       pub visits : Visits g register (record {
         files = files;
         conn = conn;
         after = after;
         left = left;
-        commands = asked_by register most connections conn after held attends;
-        responses = told_by register most connections conn after held attends;
+        commands = asked_by register most conn after held attends;
+        responses = told_by register most conn after held attends;
       })

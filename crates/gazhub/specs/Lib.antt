@@ -4,3 +4,5 @@ pub mod Commands
 pub mod Visits
 pub mod Filing
 pub mod Joined
+pub mod Growing
+pub mod Grown

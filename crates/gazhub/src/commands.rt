@@ -12,7 +12,7 @@ use gaz_store::StoreRefusal;
 use gaz_stored::Unserved;
 use gaz_words::{Call, Places, Serving};
 use sqlite::{Options, Unknown};
-use std::io::Write;
+use std::io::{Write, sink};
 use std::net::{Ipv4Addr, TcpListener};
 
 // The answer of a store, or why there is none.
@@ -39,14 +39,20 @@ fn bytes_for(rt: &HostRuntime, call: Call<'_>) -> Option<Vec<u8>> {
     }
 }
 
-// The register, and how the files of the store that is there are used.
-fn placed(rt: &HostRuntime, places: Places<'_>) -> Result<(Register, Options), NoHub> {
-    let register = read_register(rt, places.register)?;
-    let Some(bytes) = size_at(rt, places.store) else {
+/// How the files of the store that is there are used.
+pub(crate) fn options_at(rt: &HostRuntime, store: &str) -> Result<Options, NoHub> {
+    let Some(bytes) = size_at(rt, store) else {
         return Err(NoHub::Store(StoreRefusal::Fault));
     };
     let options = options(rt, bytes)?;
     announce(rt, bytes);
+    Ok(options)
+}
+
+// The register, and how the files of the store that is there are used.
+fn placed(rt: &HostRuntime, places: Places<'_>) -> Result<(Register, Options), NoHub> {
+    let register = read_register(rt, places.register)?;
+    let options = options_at(rt, places.store)?;
     Ok((register, options))
 }
 
@@ -67,44 +73,103 @@ pub fn ask(
     of_store(said)
 }
 
-// Whether connections were answered, or why there was no hub or no port for them.
-fn of_serving(held: Result<Result<(), Unserved>, StoreRefusal>) -> Result<bool, NoHub>
+/// How connections were answered, once there was a hub and a port.
+#[derive(Clone, Copy, Debug, PartialEq, Eq)]
+pub enum Attendance {
+    /// As many as were wanted.
+    Whole,
+    /// It couldn't be said where they come.
+    Unwritten,
+    /// The store failed, and then there was no hub any more.
+    Lost(NoHub),
+}
+
+// How many connections were answered, none where it couldn't be said where they come; or why there
+// was no hub or no port for them.
+fn of_serving(held: Result<Result<u64, Unserved>, StoreRefusal>) -> Result<Option<u64>, NoHub>
     ensures { IfErr result (λ _. is_told held ≡ false) }
 {
     match held {
-        Ok(Ok(())) => Ok(true),
-        Ok(Err(Unserved::Unwritten)) => Ok(false),
+        Ok(Ok(served)) => Ok(Some(served)),
+        Ok(Err(Unserved::Unwritten)) => Ok(None),
         Ok(Err(Unserved::NoPort)) => Err(NoHub::NoPort),
         Err(refusal) => Err(NoHub::Store(refusal)),
     }
 }
 
-/// Answers connections over the store that is there, at a port of 127.0.0.1; for 0 the system chooses
-/// one. It says first where; false where that can't be written. No file is made.
-pub fn attend<W: Write>(
+// Answers connections over the store that is there until something fails. It is opened before it is
+// asked whether there is a port.
+fn attend_once<W: Write>(
     rt: &HostRuntime,
     seed: Seed,
     places: Places<'_>,
     serving: Serving,
+    listener: &mut Option<TcpListener>,
     w: &mut W,
-) -> Result<bool, NoHub>
+) -> Result<Option<u64>, NoHub>
     ensures { IfErr result (λ _. Keeps (W.contents w.old) (W.contents w.new)) }
 {
     let (register, options) = placed(rt, places)?;
     let Ok(files) = sqlite_std_file::open(rt, places.store, Unknown) else {
         return Err(NoHub::Store(StoreRefusal::Fault));
     };
-    let listener = TcpListener::bind(rt, (Ipv4Addr::LOCALHOST, serving.port)).ok();
-    let listener = listener.as_ref();
+    if listener.is_none() {
+        *listener = TcpListener::bind(rt, (Ipv4Addr::LOCALHOST, serving.port)).ok();
+    }
     let (_closed, held) = serve_store(
         rt.alloc(),
         files,
         options,
         seed,
         register,
-        listener,
+        listener.as_ref(),
         w,
         serving.connections,
     );
     of_serving(held)
+}
+
+// Answers those that are left of the connections: what failed is opened again between two of them.
+fn attend_on(
+    rt: &HostRuntime,
+    seed: Seed,
+    places: Places<'_>,
+    serving: Serving,
+    listener: &mut Option<TcpListener>,
+) -> Attendance {
+    let mut left = serving;
+    for _opening in 0..serving.connections {
+        if left.connections == 0 {
+            return Attendance::Whole;
+        }
+        match attend_once(rt, seed, places, left, listener, &mut sink()) {
+            Ok(Some(served)) => left.connections = left.connections.saturating_sub(served),
+            Ok(None) => return Attendance::Unwritten,
+            Err(why) => return Attendance::Lost(why),
+        }
+    }
+    Attendance::Whole
+}
+
+/// Answers connections over the store that is there, at a port of 127.0.0.1; for 0 the system chooses
+/// one. It says first where. A store that failed is opened again before the next connection is
+/// answered. No file is made.
+pub fn attend<W: Write>(
+    rt: &HostRuntime,
+    seed: Seed,
+    places: Places<'_>,
+    serving: Serving,
+    w: &mut W,
+) -> Result<Attendance, NoHub>
+    ensures { IfErr result (λ _. Keeps (W.contents w.old) (W.contents w.new)) }
+{
+    let mut listener = None;
+    let Some(served) = attend_once(rt, seed, places, serving, &mut listener, w)? else {
+        return Ok(Attendance::Unwritten);
+    };
+    let left = Serving {
+        port: serving.port,
+        connections: serving.connections.saturating_sub(served),
+    };
+    Ok(attend_on(rt, seed, places, left, &mut listener))
 }

@@ -25,6 +25,8 @@ pub enum Ending {
     WriteFault,
     /// There was no hub to ask.
     NoHub(NoHub),
+    /// There was none any more, after connections were answered.
+    Lost(NoHub),
     /// The change file couldn't be read, or the hub failed.
     Failed(Fault),
 }
@@ -66,6 +68,7 @@ fn no_hub_line(why: NoHub) -> &'static str
         NoHub::Register(fault) => register_line(fault),
         NoHub::Store(refusal) => refusal_line(refusal),
         NoHub::NoPort => "gazhub: NoPort\n",
+        NoHub::Memory => "gazhub: Memory\n",
     }
 }
 
@@ -79,7 +82,7 @@ impl Ending {
             Ending::NotDone => 1,
             Ending::Usage => 2,
             Ending::Memory | Ending::ReadFault | Ending::WriteFault => 3,
-            Ending::NoHub(_) | Ending::Failed(_) => 3,
+            Ending::NoHub(_) | Ending::Lost(_) | Ending::Failed(_) => 3,
         }
     }
 
@@ -92,7 +95,7 @@ impl Ending {
             Ending::Memory => "gazhub: Memory\n",
             Ending::ReadFault => "gazhub: ReadFault\n",
             Ending::WriteFault => "gazhub: WriteFault\n",
-            Ending::NoHub(why) => no_hub_line(why),
+            Ending::NoHub(why) | Ending::Lost(why) => no_hub_line(why),
             Ending::Failed(fault) => fault.line(),
         }
     }

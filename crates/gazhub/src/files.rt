@@ -18,6 +18,8 @@ pub enum NoHub {
     Store(StoreRefusal),
     /// The port can't be had.
     NoPort,
+    /// There was no memory for it.
+    Memory,
 }
 
 /// A register, read from its file.

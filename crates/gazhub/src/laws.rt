@@ -1,7 +1,8 @@
 //! What a reader of the definitions may rely on.
+ghost use Rattle.gazhub.specs.Grown.{GrownCallsAreOne};
 ghost use Rattle.gazhub.specs.Joined.{CallsAreOne};
 
-use gaz_stored::laws::chains_are_one;
+use gaz_stored::laws::{chains_are_one, grown_chains_are_one};
 use sqlite_disk::Disk;
 
 /// Calls over the same files, each of which opens what the one before gave back, are one run of one
@@ -11,4 +12,12 @@ pub fn calls_are_one<D: Disk>()
     ensures { CallsAreOne D.Disk }
 {
     chains_are_one();
+}
+
+/// So are calls between which the store's register grows: one run over registers of which each extends
+/// the one before. A call at which it grows asks nothing of a hub of either.
+pub fn grown_calls_are_one<D: Disk>()
+    ensures { GrownCallsAreOne D.Disk }
+{
+    grown_chains_are_one();
 }

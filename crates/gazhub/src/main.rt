@@ -5,6 +5,7 @@
 mod commands;
 mod ending;
 mod files;
+mod growing;
 mod laws;
 mod obeying;
 mod program;

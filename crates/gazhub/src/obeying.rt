@@ -6,9 +6,10 @@ ghost use Rattle.gazhub.specs.Commands.{Commands, Ends, EndsAt, EndsAtWords, IsT
 ghost use Rattle.gazhub.specs.Commands.{ending_of, is_play};
 ghost use Rattle.gazhub.specs.Endings.{is_silent, line_of};
 
-use crate::commands::{ask, attend, init};
+use crate::commands::{Attendance, ask, attend, init};
 use crate::ending::Ending;
 use crate::files::NoHub;
+use crate::growing::extend;
 use crate::program::{MOST, play};
 use crate::sample::SAMPLE;
 use clap::Error;
@@ -72,8 +73,9 @@ fn serve<W: Write>(
     ensures { is_silent result ≡ true → Keeps (W.contents w.old) (W.contents w.new) }
 {
     match attend(rt, seed, places, serving, w) {
-        Ok(true) => Ending::Done,
-        Ok(false) => Ending::WriteFault,
+        Ok(Attendance::Whole) => Ending::Done,
+        Ok(Attendance::Unwritten) => Ending::WriteFault,
+        Ok(Attendance::Lost(no_hub)) => Ending::Lost(no_hub),
         Err(no_hub) => Ending::NoHub(no_hub),
     }
 }
@@ -94,6 +96,7 @@ fn obey<R: Read, W: Write>(
         Command::Init(places) => finish(w, init(rt, seed, places)),
         Command::Ask(places, call) => finish(w, ask(rt, seed, places, call)),
         Command::Serve(places, serving) => serve(rt, seed, places, serving, w),
+        Command::Extend(places, grown) => finish(w, extend(rt, seed, places, grown)),
     }
 }
 
@@ -158,7 +161,8 @@ pub fn report<E: Write>(errors: &mut E, ending: Ending)
 }
 
 /// Does what the words ask: holds a conversation where there are none, or `play` alone; makes a store,
-/// asks a hub over one, or answers connections over it. Gives the exit status.
+/// asks a hub over one, answers connections over it, or lets its register grow. Gives the exit
+/// status.
 ///
 /// `words` are those behind the program's name, none where they can't be read; `seed` is none where
 /// the system gives no random bytes. What files hold no contract can say: what is asked of a hub

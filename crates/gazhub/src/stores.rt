@@ -1,5 +1,5 @@
 //! Commands over a store's two files, whatever disk they are on.
-ghost use Rattle.std.specs.Prelude.{◌≡◌, false, IfErr, IfOk, IfSome, IsTrue, option_map};
+ghost use Rattle.std.specs.Prelude.{◌≡◌, ◌≤◌, false, IfErr, IfOk, IfSome, IsTrue, option_map};
 ghost use Rattle.std.specs.Io.KnownBytes.{Keeps};
 ghost use Rattle.gaz_stored.specs.Asking.{asked};
 ghost use Rattle.gaz_stored.specs.Attending.{is_told};
@@ -19,8 +19,8 @@ use std::io::{Read, Write};
 use std::mem::forget;
 use std::net::{OpenListener, OpenStream};
 
-// A connection to the database in the files, where one can be had.
-fn connect<D: Disk + Drop>(
+/// A connection to the database in the files, where one can be had.
+pub(crate) fn connect<D: Disk + Drop>(
     alloc: Global,
     files: Files<D>,
     options: Options,
@@ -35,9 +35,9 @@ fn connect<D: Disk + Drop>(
     }
 }
 
-// Gives a store's files back. What was answered is in its log, where the next opening finds it, even
-// if it can't be copied into the database now; then the files are closed and none are given back.
-fn close<D: Disk + Drop>(conn: Connection<FileStore<D>>) -> Option<Files<D>>
+/// Gives a store's files back. What was answered is in its log, where the next opening finds it, even
+/// if it can't be copied into the database now; then the files are closed and none are given back.
+pub(crate) fn close<D: Disk + Drop>(conn: Connection<FileStore<D>>) -> Option<Files<D>>
     requires { conn.in_transaction ≡ false }
     ensures { Closes D.Disk conn result }
 {
@@ -109,9 +109,10 @@ pub fn ask_store<D: Disk + Drop>(
     (left, said)
 }
 
-/// Answers so many connections of a listener at a hub of the register over the store in the files,
-/// which are given back where they can be closed, and says first where they come. Why there is no
-/// hub, and in which order, is said of `serve_opened`.
+/// Answers at most so many connections of a listener at a hub of the register over the store in the
+/// files, which are given back where they can be closed, and says first where they come. Gives how
+/// many: not all of them where something failed, but one at least. Why there is no hub, and in which
+/// order, is said of `serve_opened`.
 pub fn serve_store<D: Disk + Drop, L: OpenListener, W: Write>(
     alloc: Global,
     files: Files<D>,
@@ -121,13 +122,17 @@ pub fn serve_store<D: Disk + Drop, L: OpenListener, W: Write>(
     listener: Option<&L>,
     w: &mut W,
     connections: u64,
-) -> (Option<Files<D>>, Result<Result<(), Unserved>, StoreRefusal>)
+) -> (
+    Option<Files<D>>,
+    Result<Result<u64, Unserved>, StoreRefusal>,
+)
 where
     L::Stream: Read + Write + OpenStream,
     requires log { IsTrue (D.Disk.is_usable files.log) }
     requires db { IsTrue (D.Disk.is_usable files.db) }
-    ensures served { IfOk result.1
-        (ServesStore D.Disk files result.0 register MOST_REQUESTS connections) }
+    ensures served { IfOk result.1 (ServesStore D.Disk files result.0 register MOST_REQUESTS) }
+    ensures many { IfOk result.1 (λ served.
+        IfOk served (λ n. (n ≤ connections) × (1 ≤ connections → 1 ≤ n))) }
     ensures none { IfErr result.1 (OpensNone D.Disk files result.0 register) }
     ensures silent { is_told result.1 ≡ false → Keeps (W.contents w.old) (W.contents w.new) }
 {

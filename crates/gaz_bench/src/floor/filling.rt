@@ -28,6 +28,7 @@ fn add<S: Alter>(alloc: Global, tx: &mut Transaction<'_, S>, place: u32) -> Resu
         1,
         1_000_000,
         BODY,
+        0,
     )
 }
 

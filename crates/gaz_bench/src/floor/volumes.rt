@@ -128,6 +128,7 @@ fn add_property<S: Alter>(
         born,
         NEVER,
         PROPERTY_BODY,
+        0,
     )?;
     Ok(())
 }
@@ -152,6 +153,7 @@ fn add_reference<S: Alter>(
         born,
         NEVER,
         REFERENCE_BODY,
+        0,
     )?;
     Ok(())
 }
@@ -176,6 +178,7 @@ fn add_address<S: Alter>(
         born,
         NEVER,
         ADDRESS_BODY,
+        0,
     )?;
     Ok(())
 }

@@ -32,6 +32,11 @@ returns c = record {
     no_volume = record { out_is = refl; errors_are = refl; status_is = refl };
     failed = record { out_is = refl; errors_are = refl; status_is = refl };
   };
+  on_growth = record {
+    extended = record { out_is = refl; errors_are = refl; status_is = refl };
+    removed = record { out_is = refl; errors_are = refl; status_is = refl };
+    changed = record { out_is = refl; errors_are = refl; status_is = refl };
+  };
   on_words = record {
     submitted = refl;
     four_digits = refl;

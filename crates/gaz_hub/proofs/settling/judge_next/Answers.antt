@@ -7,7 +7,7 @@ use Rattle.gaz_hub.specs.Hubs.{door_of}
 use Rattle.gaz_hub.specs.Settling.{Tries}
 use Rattle.gaz_hub.specs.declared.looking.Next.TheVariants as next
 use Rattle.gaz_hub.proofs.Advancing.{adds_after, adds_judged, adds_skipped, asks_bad, asks_good, is_err, stops_after, tries_broken, tries_forgotten, tries_judged, tries_past}
-use Rattle.gaz_hub.proofs.Memory.{rest_judged, rest_waiting}
+use Rattle.gaz_hub.proofs.Memory.{rest_done, rest_judged, rest_waiting}
 use Rattle.gaz_hub.proofs.Looks.{left_not_open}
 use Rattle.gaz_hub.proofs.Stopping.{marks_judged, marks_skipped}
 use Rattle.gaz_hub.proofs.settling.judge_next.Goals as goal
@@ -143,3 +143,8 @@ returns-in_err-skip-in-Bad-clause-tries g c =
     (adds_after a b _ _ _ c.args.code rd own _ _ looked (asks_bad b.content c.args.code c.in-Bad.place c.in-Bad.rule)
     (adds_skipped b _ _ c.args.code own c.in-Bad.place c.in-Bad.rule (left_not_open a.progress b.progress looked.keeps.progress c.requires) c.in_err-skip-in-Bad.ensures)) in
     subst (λ r. Tries d c.args.left a (g.K.Shelf.seen c.skip.new.self) r (λ k. k ≡ c.args.code)) (sym (is_err c.from_residual-in_err-skip-in-Bad.result e c.from_residual-in_err-skip-in-Bad.ensures.1)) told
+
+pub returns-clause-rest : goal.returns-clause-rest
+returns-clause-rest g c =
+    let looked = rw c.in-Done.is at c.in_ok-next.ensures in
+    rest_done c.args.register.now (g.K.Shelf.seen c.args.keeper.now) (g.K.Shelf.seen c.look.new.keeper) c.args.code _ _ looked c.want_nothing.ensures

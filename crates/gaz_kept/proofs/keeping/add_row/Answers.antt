@@ -11,9 +11,9 @@ use Rattle.gaz_kept.proofs.keeping.add_row.Goals as goal
 pub returns-clause-added : goal.returns-clause-added
 returns-clause-added g c clean has =
     let cells = c.in_ok-cells.cells in
-    let values : Row = version_values c.number-cust.result cells.kind c.deref.result.now cells.blpu cells.street cells.lang cells.live c.number-born.result c.args.gone c.deref-2.result.now in
-    let same : values ≡ version_values c.args.code cells.kind (string_bytes cells.id) cells.blpu cells.street cells.lang cells.live c.args.born c.args.gone (string_bytes cells.body) =
-    λ i. version_values (c.number-cust.ensures.value i) cells.kind (c.deref.ensures i) cells.blpu cells.street cells.lang cells.live (c.number-born.ensures.value i) c.args.gone (c.deref-2.ensures i)
+    let values : Row = version_values c.number-cust.result cells.kind c.deref.result.now cells.blpu cells.street cells.lang cells.live c.number-born.result c.args.gone c.deref-2.result.now 0 in
+    let same : values ≡ version_values c.args.code cells.kind (string_bytes cells.id) cells.blpu cells.street cells.lang cells.live c.args.born c.args.gone (string_bytes cells.body) 0 =
+    λ i. version_values (c.number-cust.ensures.value i) cells.kind (c.deref.ensures i) cells.blpu cells.street cells.lang cells.live (c.number-born.ensures.value i) c.args.gone (c.deref-2.ensures i) 0
     in
     subst (λ row. Changes versions (AddsRow row) (state g.S.Store c.args.tx.now.conn.now).now (state g.S.Store c.insert.new.tx.conn.now).now)
     (same ∙ c.in_ok-cells.ensures c.args.code c.args.born c.args.gone) (c.in_ok-insert.ensures.added clean has).0

@@ -1,12 +1,20 @@
 use Rattle.std.proofs.Common.{◌∙◌, refl}
+use Rattle.gaz_mirror.specs.Mirrored.{seen_mirrored}
 use Rattle.gaz_stored.proofs.Serving.{none, one_more, same_register}
 use Rattle.gaz_stored.proofs.connections.serve_on.Goals as goal
 
-pub loop-init : goal.loop-init
-loop-init g c = (none _ _ _, refl)
+pub loop-behind-init : goal.loop-behind-init
+loop-behind-init g c = (none _ _ _, refl)
 
-pub loop-preserved : goal.loop-preserved
-loop-preserved g c = (
-  one_more g.K.Shelf.seen 1000 c.loop.counter c.args.hub.now c.loop.hub c.serve_next.new.hub c.loop.invariant.1 c.loop.invariant.0 c.serve_next.ensures,
-  same_register g.K.Shelf.seen 1000 c.loop.hub c.serve_next.new.hub c.serve_next.ensures ∙ c.loop.invariant.1,
+pub loop-behind-preserved : goal.loop-behind-preserved
+loop-behind-preserved g c = (
+  one_more seen_mirrored 1000 c.loop-behind.behind c.args.hub.now c.loop-behind.hub c.serve_next.new.hub c.loop-behind.invariant.1 c.loop-behind.invariant.0 c.serve_next.ensures,
+  same_register seen_mirrored 1000 c.loop-behind.hub c.serve_next.new.hub c.serve_next.ensures ∙ c.loop-behind.invariant.1,
 )
+
+pub returns-then-not-has_upper-clause-serves : goal.returns-then-not-has_upper-clause-serves
+returns-then-not-has_upper-clause-serves g c =
+    one_more seen_mirrored 1000 c.loop-behind.behind c.args.hub.now c.loop-behind.hub c.serve_next.new.hub c.loop-behind.invariant.1 c.loop-behind.invariant.0 c.serve_next.ensures
+
+pub returns-then-not-has_upper-clause-register : goal.returns-then-not-has_upper-clause-register
+returns-then-not-has_upper-clause-register g c = same_register seen_mirrored 1000 c.loop-behind.hub c.serve_next.new.hub c.serve_next.ensures ∙ c.loop-behind.invariant.1

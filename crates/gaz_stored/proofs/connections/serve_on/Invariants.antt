@@ -1,6 +1,7 @@
 use Rattle.std.proofs.Common.{◌≡◌}
+use Rattle.gaz_mirror.specs.Mirrored.{seen_mirrored}
 use Rattle.gaz_stored.specs.Serving.{Serves}
 use Rattle.gaz_stored.proofs.connections.serve_on.Given as goal
 
-abbrev pub invariant-loop : goal.invariant-loop
-invariant-loop g l = Serves g.K.Shelf.seen 1000 l.counter l.fn.hub l.hub × (l.hub.register ≡ l.fn.hub.register)
+abbrev pub invariant-loop-behind : goal.invariant-loop-behind
+invariant-loop-behind g l = Serves seen_mirrored 1000 l.behind l.fn.hub l.hub × (l.hub.register ≡ l.fn.hub.register)

@@ -6,9 +6,9 @@ use Rattle.gaz_tables.proofs.versions.parts_of.Goals as goal
 
 pub returns-clause-found : goal.returns-clause-found
 returns-clause-found g c clean has =
-    parts_of_found (state g.S.Store c.args.conn.now).now has c.args.cust c.args.blpu.now c.args.after.now c.args.most c.query_all.result
+    parts_of_found (state g.S.Store c.args.conn.now).now has c.args.cust c.args.kind c.args.blpu.now c.args.after.now c.args.most c.query_all.result
     (answers _ _ _ _ _ _ _ _ parts_of_is _ (state g.S.Store c.args.conn.now) (state g.S.Store c.query_all.new.self) has.schema_is c.query_all.result
-    (rw (c.params-to_sql.ensures, c.params-to_sql-2.ensures, c.params-to_sql-3.ensures, c.params-to_sql-4.ensures) at (c.query_all.ensures.ok clean)))
+    (rw (c.params-to_sql.ensures, c.params-to_sql-2.ensures, c.params-to_sql-3.ensures, c.params-to_sql-4.ensures, c.params-to_sql-5.ensures) at (c.query_all.ensures.ok clean)))
 
 pub returns-clause-stays : goal.returns-clause-stays
 returns-clause-stays g c clean has =

@@ -1,6 +1,9 @@
--- One more waits.
+-- One more waits, and it is remembered for what.
 use Rattle.std.proofs.Common.{◌∙◌, ◌++◌, ◌∷◌, ap, refl, ℕ, []}
+use Rattle.std.proofs.lemmas.Map.Lookups.{exact_unsigned}
+use Rattle.std.specs.Cmp.{nat_cmp_total}
 use Rattle.std.specs.FinMap as finmap
+use Rattle.std.specs.Ordering.{nat_cmp}
 use Rattle.gaz_views.proofs.Trees.{inserted}
 use Rattle.gaz_keeper.specs.Received.{pair_cmp}
 use Rattle.gaz_keeper.proofs.Pairs.{pairs_exact, pairs_total}
@@ -13,6 +16,9 @@ returns c =
     let p : ℕ × ℕ = (c.args.custodian, c.args.volume) in
     let v = c.push.new.self in
     let before = c.args.self.now in
-    ap (λ x. (c.self.inside.ahead.items, x)) (inserted {S = pair_cmp} (λ a b. refl) pairs_total pairs_exact c.self.inside.by_volume.entries c.insert.new.self.entries p v c.in_ok-insert.ensures.updates.0)
-    ∙ ap (λ (m : Remembered). (m.0, finmap.insert m.1 p v)) (c.self.view_is ∙ c.take_waiting-codes.ensures.left)
-    ∙ ap (λ x. (before.0, x)) (put_back before.1 p v ∙ ap (finmap.insert before.1 p) (c.in_ok-push.ensures ∙ ap (λ xs. xs ++ c.args.waiter ∷ []) c.take_waiting-codes.ensures.codes))
+    let waits = inserted {S = pair_cmp} (λ a b. refl) pairs_total pairs_exact c.self.inside.by_volume.entries c.insert.new.self.entries p v c.in_ok-insert.ensures.updates.0 in
+    let wants = inserted {S = nat_cmp} (λ a b. refl) nat_cmp_total exact_unsigned c.self.inside.wanted.entries c.insert-2.new.self.entries c.args.waiter p c.in_ok-insert-2.ensures.updates.0 in
+    (λ i. (c.self.inside.ahead.items, (waits i, wants i)))
+    ∙ ap (λ (m : Remembered). (m.0, (finmap.insert m.1.0 p v, finmap.insert m.1.1 c.args.waiter p))) (c.self.view_is ∙ c.take_waiting-codes.ensures.left)
+    ∙ ap (λ x. (before.0, (x, finmap.insert before.1.1 c.args.waiter p)))
+    (put_back before.1.0 p v ∙ ap (finmap.insert before.1.0 p) (c.in_ok-push.ensures ∙ ap (λ xs. xs ++ c.args.waiter ∷ []) c.take_waiting-codes.ensures.codes))

@@ -1,0 +1,162 @@
+"""Tests of what is kept of schema 1: its rows are written twice, in SQL and in the repository's own language, and lie in files as the last program
+of that schema left them. All three say the same. Tests of `written` and `schema1`, too."""
+
+import ast
+import re
+import shutil
+import sqlite3
+import tempfile
+import unittest
+from pathlib import Path
+
+from checks import schema1, tables, written
+from checks.conversations import find
+from checks.history import FILES, file_of
+from checks.stores import TEXT, Hubs
+from checks.written import FIRST, SECOND, STORES
+
+TOP = Path(__file__).resolve().parent.parent
+MODULE = TOP / "crates" / "gaz_trials" / "src" / "schema1_rows.rt"
+COLUMNS = {
+    "meta": ["id", "number", "register"],
+    "received": ["cust", "volume", "bytes", "state", "place", "rule"],
+    "version": ["cust", "kind", "id", "blpu", "street", "lang", "live", "born", "gone", "body"],
+}
+FIELD = re.compile(r'(\w+): (b?"(?:[^"\\]|\\.)*"|[0-9_]+)')
+ROWS = {
+    "meta": [(1, 1, TEXT)],
+    "received": [(1001, 1, b"a 'file'\n", 1, 0, 0), (1001, 2, b"", 2, 3, 21), (1001, 4, b"x", 0, 0, 0)],
+    "version": [(1001, 11, "00000101", 0, 101, 0, 0, 1, 2, "101,1,2001-04-01,"), (1002, 15, "00000201CYM", 0, 201, 2, 0, 1, 1_000_000, "it's")],
+}
+
+
+def rows_in(text: str, table: str) -> list[tuple]:
+    """The rows of a table as a module has them: values of a struct with a field for each column, which Python writes alike."""
+    found = [FIELD.findall(it) for it in re.findall(rf"\b{table.capitalize()} \{{([^{{}}]*)\}}[,;\]]", text)]
+    assert all([name for name, _ in fields] == COLUMNS[table] for fields in found), table
+    return [tuple(ast.literal_eval(value) for _, value in fields) for fields in found]
+
+
+def rows_of_module(name: str) -> dict[str, list[tuple]]:
+    text = (MODULE.with_suffix("") / f"{name}.rt").read_text()
+    return {"meta": rows_in(MODULE.read_text(), "meta"), **{table: rows_in(text, table) for table in ("received", "version")}}
+
+
+class InAFolder(unittest.TestCase):
+    def setUp(self) -> None:
+        folder = tempfile.TemporaryDirectory()
+        self.addCleanup(folder.cleanup)
+        self.folder = Path(folder.name)
+
+    def left(self, name: str) -> Path:
+        """A copy of a file as the last program of schema 1 left it: Python changes what it reads."""
+        shutil.copyfile(FIRST.folder / f"{name}.db", self.folder / f"{name}.db")
+        return self.folder / f"{name}.db"
+
+
+class Writing(InAFolder):
+    def test_a_cell_is_readable(self) -> None:
+        self.assertEqual(["7", "'it''s'", "CAST('10,1\n' AS BLOB)"], [written.literal(cell) for cell in (7, "it's", b"10,1\n")])
+
+    def test_rows_come_back_from_their_text(self) -> None:
+        for schema, rows in ((FIRST, ROWS), (SECOND, written.moved(ROWS))):
+            with sqlite3.connect(":memory:") as conn:
+                conn.executescript(schema.tables() + written.text_of(rows))
+                for table, them in rows.items():
+                    self.assertEqual(them, conn.execute(f"SELECT * FROM {table}").fetchall())
+
+    def test_each_store_can_be_written(self) -> None:
+        for at, schema in enumerate((FIRST, SECOND)):
+            for it in STORES:
+                store = self.folder / f"{it.name}{at}"
+                schema.write(store, it)
+                self.assertEqual(schema.rows(it), written.text_of(tables.rows_of(store)), it.name)
+
+    def test_each_file_of_rows_is_one_of_them(self) -> None:
+        names = {it.name for it in STORES}
+        self.assertEqual({"tables", *names}, {path.stem for path in FIRST.folder.glob("*.sql")})
+        self.assertEqual({"tables", *names}, {path.stem for path in SECOND.folder.glob("*.sql")})
+        self.assertEqual({"history", *names}, {path.stem for path in FIRST.folder.glob("*.db")})
+        self.assertEqual(names, {path.stem for path in MODULE.with_suffix("").glob("*.rt")})
+
+    def test_their_conversations_are_there(self) -> None:
+        names = {one.name for one in find(TOP)}
+        self.assertEqual(set(), {it.conversation for it in STORES} - names)
+
+
+class TheSameRows(InAFolder):
+    def test_the_module_has_those_in_sql(self) -> None:
+        for it in STORES:
+            self.assertEqual(FIRST.rows(it), written.text_of(rows_of_module(it.name)), it.name)
+
+    def test_another_row_or_column_of_a_module_is_seen(self) -> None:
+        text = (MODULE.with_suffix("") / "a_street_and_a_held_file.rt").read_text()
+        self.assertEqual([0, 0], [rows_in(text.replace("street: 101", "street: 0"), "version")[0][at] for at in (3, 4)])
+        self.assertEqual(1, len(rows_in(text, "version")))
+        with self.assertRaises(AssertionError):
+            rows_in(text.replace("blpu: 0,", ""), "version")
+
+    def test_the_last_program_left_them(self) -> None:
+        for it in STORES:
+            self.assertEqual(FIRST.rows(it), written.text_of(tables.rows_of(self.left(it.name))), it.name)
+
+    def test_the_history_is_in_a_file(self) -> None:
+        rows = tables.rows_of(self.left("history"))
+        self.assertEqual([(1, 1, TEXT)], rows["meta"])
+        self.assertEqual({pair: file_of(*pair, *lines) for pair, lines in FILES.items()}, {row[:2]: row[2] for row in rows["received"]})
+        self.assertEqual({11, 15, 21, 23, 24}, {row[1] for row in rows["version"]})
+
+    def test_each_file_has_the_tables_of_schema_1(self) -> None:
+        with sqlite3.connect(":memory:") as conn:
+            conn.executescript(FIRST.tables())
+            wanted = conn.execute("SELECT type, name, tbl_name, rootpage, sql FROM sqlite_schema ORDER BY rowid").fetchall()
+        for name in ("history", *(it.name for it in STORES)):
+            with tables.opened(self.left(name)) as conn:
+                self.assertEqual(wanted, conn.execute("SELECT type, name, tbl_name, rootpage, sql FROM sqlite_schema ORDER BY rowid").fetchall())
+                self.assertEqual([("ok",)], conn.execute("PRAGMA integrity_check").fetchall())
+
+    def test_schema_2_has_them_moved(self) -> None:
+        for it in STORES:
+            self.assertEqual(SECOND.rows(it), written.text_of(written.moved(rows_of_module(it.name))), it.name)
+
+
+# What a program may do with a store that it is given.
+PROGRAM = """#!/usr/bin/env python3
+import pathlib, sys
+words = sys.argv[1:]
+store = pathlib.Path(words[words.index("--store") + 1])
+{does}
+print("gazhub: {word}", file=sys.stderr)
+sys.exit(3)
+"""
+
+
+class Refusing(InAFolder):
+    def refusal(self, does: str = "", word: str = "BadSchema") -> str | None:
+        program = self.folder / "gazhub"
+        program.write_text(PROGRAM.format(does=does, word=word))
+        program.chmod(0o755)
+        return schema1.refuses_all(program, self.left("history"))
+
+    def test_a_right_program_passes(self) -> None:
+        self.assertIsNone(self.refusal())
+
+    def test_another_refusal_or_none_is_reported(self) -> None:
+        self.assertIn("init r.toml: (3, b'', b'gazhub: Fault", self.refusal(word="Fault"))
+        self.assertIn("status other.toml 1001: ", self.refusal("if 'other.toml' in words: print('ready')"))
+        self.assertIn("serve r.toml", self.refusal("if words[0] == 'serve': sys.exit(0)"))
+
+    def test_a_store_that_is_written_is_reported(self) -> None:
+        self.assertIn("submit r.toml 1001 1 file.csv: the refused file was written", self.refusal("if words[0] == 'submit': store.write_bytes(b'')"))
+
+    def test_a_hub_that_answers_is_reported(self) -> None:
+        bench = self.folder / "gaz_bench"
+        bench.write_text(PROGRAM.format(does="", word="").replace('words[words.index("--store") + 1]', "words[1]").replace("gazhub: ", "gaz_bench: BadSchema"))
+        bench.chmod(0o755)
+        self.assertIsNone(schema1.holds_on(Hubs(bench, Path()), self.left("history")))
+        bench.write_text(bench.read_text().replace("sys.exit(3)", "sys.exit(0)"))
+        self.assertIn("wanted", schema1.holds_on(Hubs(bench, Path()), self.left("history")))
+
+
+if __name__ == "__main__":
+    unittest.main()

@@ -1,0 +1,54 @@
+-- Worked examples on a register that grows beneath a hub.
+use Rattle.std.specs.Prelude.{◌≡◌, ℕ, List, [], ◌∷◌, ◌++◌, None, Some, codes}
+use Rattle.gaz_changefile.specs.Profile.{profile_of}
+use Rattle.gaz_register.specs.Growing.{Extends}
+use Rattle.gaz_register.specs.Registers.{RegisterValue}
+use Rattle.gaz_hub.specs.Growth.{AbidesGrown, Period, first_ever, last_register}
+use Rattle.gaz_hub.specs.Hubs.{door_of}
+use Rattle.gaz_hub.specs.Runs.{first_received}
+use Rattle.gaz_hub.specs.Sample.{sample_custodians}
+use Rattle.gaz_hub.specs.Step.{Command, Response, Submit, Submitted, new_hub}
+use Rattle.gaz_hub.specs.declared.answer.Answer.TheVariants.{New, Refused}
+use Rattle.gaz_hub.specs.declared.outcome.Outcome.TheVariants.{Rejected}
+use Rattle.gaz_hub.specs.declared.refusal.Refusal.TheVariants.{UnknownCustodian}
+
+-- a fourth custodian joins
+abbrev pub with_new_town : RegisterValue
+with_new_town =
+    sample_custodians
+    ++ record {
+      code = 1004;
+      name = codes "New Town";
+      own = record { uprn = []; usrn = (400, 499) ∷ [] };
+    }
+    ∷ []
+
+-- it sends an empty file
+abbrev pub sends : List Command
+sends = Submit 1004 1 [] ∷ []
+
+abbrev pub refused : List Response
+refused = Submitted (Refused UnknownCustodian) ∷ []
+
+abbrev pub answered : List Response
+answered = Submitted (New (Rejected 1 1)) ∷ []
+
+-- before it joined, and again afterwards
+abbrev pub sends_twice : List Period
+sends_twice =
+    record { register = sample_custodians; commands = sends; responses = refused }
+    ∷ record { register = with_new_town; commands = sends; responses = answered } ∷ []
+
+pub record WorkedGrowth : Type 0 where
+  pub joins : Extends sample_custodians with_new_town
+  pub never_leaves : Extends with_new_town sample_custodians → ⊥
+  pub last : last_register sample_custodians sends_twice ≡ with_new_town
+  pub last_of_none : last_register sample_custodians [] ≡ sample_custodians
+  -- a file that was refused for an unknown custodian is none; the same one afterwards is the first
+  pub refused_is_none : first_received (door_of sample_custodians) (1004, 1) sends refused ≡ None
+  pub first : profile_of [] ≡ None → first_ever (1004, 1) sends_twice ≡ Some []
+  pub nothing_else : first_ever (1003, 1) sends_twice ≡ None
+  pub of_none : first_ever (1004, 1) [] ≡ None
+  -- a hub that has it not doesn't abide
+  pub never_lost : profile_of [] ≡ None
+      → AbidesGrown sample_custodians new_hub sends_twice new_hub → ⊥

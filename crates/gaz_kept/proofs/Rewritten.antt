@@ -1,0 +1,90 @@
+-- A row of `meta` that gets another register keeps what the tables stand for.
+use Rattle.std.proofs.Common.{◌≡◌, ◌∙◌, inl, inr, ℕ, pos, List, [], ◌∷◌, refl, sym, ap, subst, arith}
+use Rattle.std.specs.declared.cmp.Ordering.TheVariants.{Less}
+use Rattle.sqlite.specs.Effect.{Database}
+use Rattle.sqlite.specs.Order.{Row, value_cmp}
+use Rattle.sqlite.specs.declared.types.Value.{Value}
+use Rattle.sqlite.specs.declared.types.Value.TheVariants.{Null, Int, Text}
+use Rattle.sqlite_rules.specs.Lists.{Has}
+use Rattle.sqlite_trees.specs.Tree.{IsTable, rowid}
+use Rattle.sqlite_value.proofs.OrderLemmas.{value_cmp-Int}
+use Rattle.gaz_views.specs.View.{View}
+use Rattle.gaz_tables.proofs.Staying.{stays}
+use Rattle.gaz_tables.specs.Metas.{IsFirst, Rewrites, id_of, meta_row}
+use Rattle.gaz_tables.specs.Schema.{metas, received, receiveds, version2, versions}
+use Rattle.gaz_tables.specs.Stores.{HasTables}
+use Rattle.gaz_kept.specs.Contents.{board_in, content_in}
+use Rattle.gaz_kept.specs.Files.{files_in, reached_in}
+use Rattle.gaz_kept.specs.Kept.{AreFirst, AreThrough, IsKept}
+use Rattle.gaz_kept.specs.Opening.{IsOf, schema_number}
+use Rattle.gaz_kept.specs.Rewriting.{Registers, RewritesStand}
+use Rattle.gaz_kept.specs.Stands.{Stands}
+use Rattle.gaz_kept.specs.Versions.{histories_in}
+
+-- ---- what the tables stand for
+
+module _ (register : List ℕ) (old new : Database) (has : HasTables old) (writes : Registers register old new) where
+  abbrev Becomes : List Row → List Row → Type 0
+  Becomes = Rewrites schema_number register
+
+  pub tables_still : HasTables new
+  tables_still = (stays metas Becomes old new has writes).0
+
+  pub files_still : new.trees receiveds ≡ old.trees receiveds
+  files_still = (stays metas Becomes old new has writes).1 received (inr (inl refl)) (λ e. absurd (omega (arith, e)))
+
+  pub versions_still : new.trees versions ≡ old.trees versions
+  versions_still = (stays metas Becomes old new has writes).1 version2 (inr (inr (inr (inl refl)))) (λ e. absurd (omega (arith, e)))
+
+stands : (register : List ℕ) (working : View) (old new : Database) → IsKept old → Registers register old new → Stands new working (content_in old.trees working)
+stands register working old new kept writes =
+    let files = files_still register old new kept.tables writes in
+    let rows = versions_still register old new kept.tables writes in
+    record {
+      kept = record {
+        tables = tables_still register old new kept.tables writes;
+        files = λ r there. kept.files r (subst (λ l. Has l r) files there);
+        first = λ c. subst (λ l. AreFirst l c) (sym files) (kept.first c);
+        rows = λ r there. kept.rows r (subst (λ l. Has l r) rows there);
+        histories = λ c. subst (λ l. AreThrough (reached_in (new.trees receiveds) c) (histories_in l c)) (sym rows) (subst (λ l. AreThrough (reached_in l c) (histories_in (old.trees versions) c)) (sym files) (kept.histories c));
+      };
+      content = λ i. record { files = files_in (files i); board = board_in (files i) (rows i); working = working };
+    }
+
+-- ---- whose store it is
+
+never_twice : (r : Row) (n : ℕ) (register : List ℕ) → r ≡ meta_row n register → ¬ (value_cmp (rowid r) (rowid r) ≡ Less)
+never_twice r n register is less = absurd (let e = subst (λ x. value_cmp (rowid x) (rowid x) ≡ Less) is less in cc (value_cmp-Int (pos 1) (pos 1)))
+
+-- rows that are all one row of `meta` are that row alone
+pub alone : (n : ℕ) (register : List ℕ) (rows : List Row) → IsTable rows → Has rows (meta_row n register) → ((r : Row) → Has rows r → r ≡ meta_row n register) → rows ≡ meta_row n register ∷ []
+alone n register [] rises there only = absurd there
+alone n register (r ∷ []) rises there only = ap (λ x. x ∷ []) (only r (inl refl))
+alone n register (r ∷ s ∷ more) rises there only =
+    let e : s ≡ r = only s (inr (inl refl)) ∙ sym (only r (inl refl)) in
+    absurd (never_twice r n register (only r (inl refl)) (subst (λ x. value_cmp (rowid r) (rowid x) ≡ Less) e rises.0.0))
+
+-- what the row of id 1 becomes
+becomes : (register : List ℕ) (v : Value) → v ≡ Int (pos 1) → v ∷ Null ∷ Int (pos schema_number) ∷ Text register ∷ [] ≡ meta_row schema_number register
+becomes register v is = ap (λ (x : Value). x ∷ Null ∷ Int (pos schema_number) ∷ Text register ∷ []) is
+
+one_there : (r x : Row) → Has (r ∷ []) x → x ≡ r
+one_there r x there = elim there [ inl is ↦ is | inr none ↦ absurd none ]
+
+is_of : (one other : List ℕ) (old new : Database) → HasTables old → IsOf one (old.trees metas) → Registers other old new → IsOf other (new.trees metas)
+is_of one other old new has was writes =
+    let r = was.0 in
+    let n = was.1 in
+    let there : Has (new.trees metas) (meta_row schema_number other) =
+    subst (Has (new.trees metas)) (becomes other (id_of r) n.id) (writes.rows.done r (subst (λ l. Has l r) (sym n.only) (inl refl)) n.id) in
+    let only : (x : Row) → Has (new.trees metas) x → x ≡ meta_row schema_number other = λ x found. elim (writes.rows.only x found) [
+      | inl kept ↦ absurd (kept.1 (subst IsFirst (sym (one_there r x (subst (λ l. Has l x) n.only kept.0))) n.id))
+      | inr made ↦ made.3 ∙ becomes other (id_of made.0) made.2
+    ] in (
+      meta_row schema_number other,
+      record { only = alone schema_number other (new.trees metas) (tables_still other old new has writes).metas_shaped.0 there only; id = refl; number = refl },
+      refl,
+    )
+
+pub rewrites_stand : RewritesStand
+rewrites_stand = record { stands = stands; is_of = is_of }

@@ -1,0 +1,96 @@
+-- What is told where a store's register grows.
+use Rattle.std.specs.Prelude.{◌≡◌, ◌↔◌, ⊤, ℕ, Bool, List, Result, Ok, Err, IfOk, IsTrue}
+use Rattle.sqlite.specs.Held.{Held, state}
+use Rattle.sqlite.specs.State.{HasCleanDisk, State}
+use Rattle.sqlite_trees.specs.declared.store.Store.{Ghosts}
+use Rattle.gaz_register.specs.Growing.{Extends, growth_of}
+use Rattle.gaz_register.specs.Registers.{RegisterValue}
+use Rattle.gaz_register.specs.Texts.{register_text}
+use Rattle.gaz_register.specs.declared.growth.GrowFault.{GrowFault}
+use Rattle.gaz_register.specs.declared.growth.GrowFault.TheVariants as growth
+use Rattle.gaz_keeper.specs.Keeper.{Enters, Seen}
+use Rattle.gaz_keeper.specs.declared.fault.ShelfFault.{ShelfFault}
+use Rattle.gaz_keeper.specs.declared.fault.ShelfFault.TheVariants as shelf
+use Rattle.gaz_tables.specs.Schema.{metas}
+use Rattle.gaz_tables.specs.Stores.{HasTables}
+use Rattle.gaz_kept.specs.Opening.{IsOf}
+use Rattle.gaz_kept.specs.Rewriting.{Registers}
+use Rattle.gaz_store.specs.Altering.{Alters}
+use Rattle.gaz_store.specs.declared.growing.ExtendFault.{ExtendFault}
+use Rattle.gaz_store.specs.declared.growing.ExtendFault.TheVariants.{OtherRegister}
+use Rattle.gaz_store.specs.declared.growing.ExtendFault.TheVariants.{RemovedCustodian}
+use Rattle.gaz_store.specs.declared.growing.ExtendFault.TheVariants.{ChangedBlocks, Fault, Memory}
+
+-- ---- faults
+
+-- a fault of a keeper
+abbrev pub of_keeper : ShelfFault → ExtendFault
+of_keeper shelf.Memory = Memory
+of_keeper shelf.Store = Fault
+
+-- why a register is no growth of another
+abbrev pub of_growth : GrowFault → ExtendFault
+of_growth growth.RemovedCustodian = RemovedCustodian
+of_growth growth.ChangedBlocks = ChangedBlocks
+
+-- as a keeper tells it: a failure is `Store`, and every other fault changes nothing as a want of
+-- memory does
+abbrev pub as_keeper : ExtendFault → ShelfFault
+as_keeper OtherRegister = shelf.Memory
+as_keeper RemovedCustodian = shelf.Memory
+as_keeper ChangedBlocks = shelf.Memory
+as_keeper Fault = shelf.Store
+as_keeper Memory = shelf.Memory
+
+abbrev pub as_kept : Result (Unit {0}) ExtendFault → Result (Unit {0}) ShelfFault
+as_kept (Ok done) = Ok done
+as_kept (Err fault) = Err (as_keeper fault)
+
+-- ---- what is told
+
+-- the content stays as it is, whatever the answer; an Ok commits it again, and of a fault no more is
+-- known than of one of a keeper's calls
+abbrev pub KeepsContent : Seen → Seen → Result (Unit {0}) ExtendFault → Type 0
+KeepsContent old new result = Enters old new (as_kept result) ⊤ old.content
+
+-- the row of `meta` gets the text of the register and that is committed, or a fault changes nothing
+abbrev pub WritesRegister : State → State → RegisterValue → Result (Unit {0}) ExtendFault → Type 0
+WritesRegister old new grown result =
+    Alters old new (as_kept result) (Registers (register_text grown))
+
+-- an Ok is told of a growth alone, and a refusal of none just as its registers are
+abbrev pub TellsGrowth : RegisterValue → RegisterValue → Result (Unit {0}) ExtendFault → Type 0
+TellsGrowth old grown (Ok done) = Extends old grown
+TellsGrowth old grown (Err OtherRegister) = ⊤
+TellsGrowth old grown (Err RemovedCustodian) = growth_of old grown ≡ Err growth.RemovedCustodian
+TellsGrowth old grown (Err ChangedBlocks) = growth_of old grown ≡ Err growth.ChangedBlocks
+TellsGrowth old grown (Err Fault) = ⊤
+TellsGrowth old grown (Err Memory) = ⊤
+
+module _ {S : Type 0} (g : Ghosts S) (before after : Held S) where
+  -- the only row of `meta` was of this register, and is of that one
+  abbrev pub WasOf : RegisterValue → Type 0
+  WasOf register = IsOf (register_text register) ((state g before).now.trees metas)
+
+  abbrev pub NowOf : RegisterValue → Type 0
+  NowOf register = IsOf (register_text register) ((state g after).now.trees metas)
+
+  -- whether it was of this text, as it is told
+  abbrev pub TellsWhose : List ℕ → Result Bool ShelfFault → Type 0
+  TellsWhose register result = HasCleanDisk (state g after) → HasTables (state g before).now
+      → IfOk result (λ b. IsTrue b ↔ IsOf register ((state g before).now.trees metas))
+
+  -- `OtherRegister` where it wasn't of the old register, before anything is looked for; then it is
+  -- of the grown one just where that is told
+  abbrev pub ToldOf : RegisterValue → RegisterValue → Result (Unit {0}) ExtendFault → Type 0
+  ToldOf old grown (Ok done) = WasOf old × NowOf grown
+  ToldOf old grown (Err OtherRegister) = ¬ WasOf old
+  ToldOf old grown (Err RemovedCustodian) = WasOf old
+  ToldOf old grown (Err ChangedBlocks) = WasOf old
+  ToldOf old grown (Err Fault) = ⊤
+  ToldOf old grown (Err Memory) = ⊤
+
+  -- so it is of a store's tables, on a disk that returned what was written
+  abbrev pub TellsRegisters : RegisterValue → RegisterValue → Result (Unit {0}) ExtendFault → Type 0
+  TellsRegisters old grown result =
+      HasCleanDisk (state g after) → HasTables (state g before).now → ToldOf old grown result

@@ -1,0 +1,157 @@
+//! How a store's register grows.
+ghost use Rattle.std.specs.Prelude.{◌≡◌, false, Ok, Err, OnErr, OnOk};
+ghost use Rattle.sqlite.specs.Held.{state};
+ghost use Rattle.gaz_register.specs.Texts.{register_text};
+ghost use Rattle.gaz_keeper.specs.Keeper.{IsNotOpen};
+ghost use Rattle.gaz_kept.specs.Opening.{has_all};
+ghost use Rattle.gaz_kept.specs.Rewriting.{Registers};
+ghost use Rattle.gaz_store.specs.Altering.{AltersTables};
+ghost use Rattle.gaz_store.specs.Asking.{AsksTables, IsAnyway};
+ghost use Rattle.gaz_store.specs.Growing.{KeepsContent, TellsGrowth, TellsRegisters, TellsWhose};
+ghost use Rattle.gaz_store.specs.Growing.{WritesRegister, as_kept, of_growth, of_keeper};
+ghost use Rattle.gaz_store.specs.Store.{seen_in};
+
+use crate::store::Store;
+use crate::tables::Tables;
+use gaz_keeper::ShelfFault;
+use gaz_kept::{StoreRefusal, opening, rewriting};
+use gaz_register::{GrowFault, Register};
+use sqlite::Alter;
+use thiserror::Error;
+
+/// Why a store's register didn't grow. They are looked for in this order; `Memory` may come in place
+/// of any.
+#[derive(Clone, Copy, Debug, PartialEq, Eq, Error)]
+pub enum ExtendFault {
+    #[error("the store is of another register")]
+    OtherRegister,
+    #[error("a custodian is no longer there")]
+    RemovedCustodian,
+    #[error("a custodian has other blocks")]
+    ChangedBlocks,
+    /// The database failed.
+    #[error("the database failed")]
+    Fault,
+    #[error("out of memory")]
+    Memory,
+}
+
+// A fault of the tables, as it is told.
+fn of_keeper(fault: ShelfFault) -> ExtendFault
+    ensures { result ≡ of_keeper fault }
+{
+    match fault {
+        ShelfFault::Memory => ExtendFault::Memory,
+        ShelfFault::Store => ExtendFault::Fault,
+    }
+}
+
+// Why a register is no growth of another, as it is told.
+fn of_growth(fault: GrowFault) -> ExtendFault
+    ensures { result ≡ of_growth fault }
+{
+    match fault {
+        GrowFault::RemovedCustodian => ExtendFault::RemovedCustodian,
+        GrowFault::ChangedBlocks => ExtendFault::ChangedBlocks,
+    }
+}
+
+impl<S: Alter> Tables<S> {
+    // Whether the row of `meta` is of this register.
+    fn is_of(&mut self, register: &Register) -> Result<bool, ShelfFault>
+        ensures asks { AsksTables self.old self.new result IsAnyway }
+        ensures told { TellsWhose S.Store self.old.conn self.new.conn
+            (register_text register.now) result }
+        ensures lacking { has_all (state S.Store self.old.conn).now.schema ≡ false
+            → result ≡ Ok false }
+    {
+        self.sure = false;
+        match opening::check(self.alloc, &mut self.conn, register) {
+            Ok(()) => Ok(true),
+            Err(StoreRefusal::BadSchema) => Ok(false),
+            Err(StoreRefusal::OtherRegister) => Ok(false),
+            Err(StoreRefusal::Fault) => Err(self.fail()),
+        }
+    }
+
+    // Gives the row of `meta` this text of a register.
+    fn rewrite(&mut self, register: &str) -> Result<(), ShelfFault>
+        ensures { AltersTables self.old self.new result (Registers register.now) }
+    {
+        self.make_sure()?;
+        self.known();
+        self.sure = false;
+        let done = rewriting::rewrite(&mut self.conn, register);
+        self.told(done)
+    }
+
+    // Gives it that of this register.
+    fn write_register(&mut self, register: &Register) -> Result<(), ShelfFault>
+        ensures { AltersTables self.old self.new result (Registers (register_text register.now)) }
+    {
+        match register.text(self.alloc) {
+            Ok(text) => self.rewrite(&text),
+            Err(_) => Err(ShelfFault::Memory),
+        }
+    }
+
+    // Gives the row of `meta`, where it is of this register, one that the register grew to.
+    fn grow(&mut self, register: &Register, grown: &Register) -> Result<(), ExtendFault>
+        ensures alters { AltersTables self.old self.new (as_kept result)
+            (Registers (register_text grown.now)) }
+        ensures growth { TellsGrowth register.now grown.now result }
+        ensures told { TellsRegisters S.Store self.old.conn self.new.conn
+            register.now grown.now result }
+        ensures lacking { has_all (state S.Store self.old.conn).now.schema ≡ false
+            → result ≡ Err ExtendFault.OtherRegister }
+    {
+        let own = match self.is_of(register) {
+            Ok(own) => own,
+            Err(fault) => return Err(of_keeper(fault)),
+        };
+        if !own {
+            return Err(ExtendFault::OtherRegister);
+        }
+        if let Err(fault) = register.growth(grown) {
+            return Err(of_growth(fault));
+        }
+        match self.write_register(grown) {
+            Ok(()) => Ok(()),
+            Err(fault) => Err(of_keeper(fault)),
+        }
+    }
+}
+
+impl<S: Alter> Store<S> {
+    /// Puts a grown register in place of the store's, which is to be the given one, in the tables
+    /// and then in the caller's hands. No judgement is in progress.
+    ///
+    /// In this order: `OtherRegister` where the store isn't of the given one, `RemovedCustodian`
+    /// where one of its custodians isn't in the grown one, `ChangedBlocks` where one has other
+    /// blocks there, `Fault` where the database failed; `Memory` may come in place of any. After
+    /// each of them tables and register are as before. What is received and judged stays, whatever
+    /// the answer. A stop within the call leaves what it could before, or the same under the grown
+    /// register.
+    pub fn extend(&mut self, register: &mut Register, grown: Register) -> Result<(), ExtendFault>
+        requires { IsNotOpen (seen_in self.old).progress }
+        ensures keeps { KeepsContent (seen_in self.old) (seen_in self.new) result }
+        ensures writes { WritesRegister (state S.Store self.old.tables.conn)
+            (state S.Store self.new.tables.conn) grown result }
+        ensures growth { TellsGrowth register.old grown result }
+        ensures told { TellsRegisters S.Store self.old.tables.conn self.new.tables.conn
+            register.old grown result }
+        ensures lacking { has_all (state S.Store self.old.tables.conn).now.schema ≡ false
+            → result ≡ Err ExtendFault.OtherRegister }
+        ensures grown { OnOk result (register.new ≡ grown) }
+        ensures unchanged { OnErr result (register.new ≡ register.old) }
+    {
+        self.judging.clear();
+        match self.tables.grow(register, &grown) {
+            Ok(()) => {
+                *register = grown;
+                Ok(())
+            }
+            Err(fault) => Err(fault),
+        }
+    }
+}

@@ -1,0 +1,136 @@
+-- What is told of a register that grows over a store, from the connection that is given to the one that is handed back.
+use Rattle.std.proofs.Common.{◌≡◌, ◌∙◌, inl, inr, List, ℕ, Result, Ok, Err, OnErr, OnOk, refl, sym, ap, subst, arith}
+use Rattle.std.specs.Prelude.{⊤, IsTrue}
+use Rattle.sqlite.specs.Effect.{Database}
+use Rattle.sqlite.specs.Held.{Held, state}
+use Rattle.sqlite.specs.State.{HasCleanDisk, State}
+use Rattle.sqlite_trees.specs.declared.store.Store.{Ghosts}
+use Rattle.gaz_register.specs.Registers.{RegisterValue, blocks_of}
+use Rattle.gaz_register.specs.Texts.{register_text}
+use Rattle.gaz_keeper.specs.Keeper.{Content}
+use Rattle.gaz_tables.specs.Schema.{metas}
+use Rattle.gaz_tables.specs.Stores.{HasTables}
+use Rattle.gaz_views.specs.View.{empty_view}
+use Rattle.gaz_kept.specs.Contents.{content_in}
+use Rattle.gaz_kept.specs.Kept.{IsKept}
+use Rattle.gaz_kept.specs.Opening.{IsOf, Tells}
+use Rattle.gaz_kept.proofs.Rewritten.{rewrites_stand}
+use Rattle.gaz_store.specs.Growing.{KeepsContent, TellsGrowth, TellsRegisters, ToldOf, WritesRegister, as_kept}
+use Rattle.gaz_store.specs.Opened.{IsOpened}
+use Rattle.gaz_store.specs.Seen.{IsUnharmed}
+use Rattle.gaz_store.specs.Store.{seen_in}
+use Rattle.gaz_store.specs.declared.growing.ExtendFault.{ExtendFault}
+use Rattle.gaz_store.specs.declared.growing.ExtendFault.TheVariants.{OtherRegister, RemovedCustodian, ChangedBlocks, Fault, Memory}
+use Rattle.gaz_store.specs.declared.store.Store.{Store}
+use Rattle.gaz_store.proofs.Whole.{kept_as}
+use Rattle.gaz_hub.specs.Hubs.{AreKnown, door_of, state_of}
+use Rattle.gaz_hub.specs.Standing.{IsPartial}
+use Rattle.gaz_hub.specs.Step.{HubState}
+use Rattle.gaz_stored.specs.Extending.{ExtendsOpened, StandsStill, StopsBetween}
+use Rattle.gaz_stored.specs.Runs.{StandForRun, hub_in}
+use Rattle.gaz_stored.specs.Stopping.{LeavesItself, MayBeLeft}
+
+-- a store's tables that stand for the same hub stand for a partial run as before
+still : (register : RegisterValue) (old new : Database) → StandForRun register old → IsKept new → hub_in new ≡ hub_in old → StandsStill register old new
+still register old new stood kept same = record {
+  hub = same;
+  stands = record {
+    kept = kept;
+    known = subst (λ (h : HubState). AreKnown (door_of register) h.received) (sym same) stood.known;
+    partial = subst (λ (h : HubState). IsPartial (blocks_of register) h.received h.board) (sym same) stood.partial;
+  };
+}
+
+-- whose the store is, of another connection that showed the same
+told_before : {S : Type 0} (g : Ghosts S) (one other after : Held S) (register grown : RegisterValue) (told : Result (Unit {0}) ExtendFault) → (state g other).now ≡ (state g one).now
+    → ToldOf g one after register grown told → ToldOf g other after register grown told
+told_before g one other after register grown (Ok done) same it = (subst (λ (db : Database). IsOf (register_text register) (db.trees metas)) (sym same) it.0, it.1)
+told_before g one other after register grown (Err OtherRegister) same it = λ mine. it (subst (λ (db : Database). IsOf (register_text register) (db.trees metas)) same mine)
+told_before g one other after register grown (Err RemovedCustodian) same it = subst (λ (db : Database). IsOf (register_text register) (db.trees metas)) (sym same) it
+told_before g one other after register grown (Err ChangedBlocks) same it = subst (λ (db : Database). IsOf (register_text register) (db.trees metas)) (sym same) it
+told_before g one other after register grown (Err Fault) same it = tt
+told_before g one other after register grown (Err Memory) same it = tt
+
+module _ {S : Type 0} {g : Ghosts S} (register grown : RegisterValue) (first last : Store S g) (before : Held S) (told : Result (Unit {0}) ExtendFault)
+    (opened : IsOpened (state g before) (state g first.tables.conn) (register_text register) (seen_in first))
+    (keeps : KeepsContent (seen_in first) (seen_in last) told)
+    (writes : WritesRegister (state g first.tables.conn) (state g last.tables.conn) grown told)
+    (registers : TellsRegisters g first.tables.conn last.tables.conn register grown told) where
+  abbrev was : State
+  was = state g before
+
+  abbrev mid : State
+  mid = state g first.tables.conn
+
+  abbrev is : State
+  is = state g last.tables.conn
+
+  -- what is shown once the store is opened
+  shown : IsUnharmed mid → mid.now ≡ was.now
+  shown h = (opened.rests h.clean).now h.is_open
+
+  moved : IsUnharmed mid → HasTables was.now → HasTables mid.now
+  moved h has = subst HasTables (sym (shown h)) has
+
+  registers_so : IsUnharmed is → HasTables was.now → ToldOf g before last.tables.conn register grown told
+  registers_so h has =
+      let fine = writes.harm h in
+      told_before g first.tables.conn before last.tables.conn register grown told (sym (shown fine)) (registers h.clean (moved fine has))
+
+  undone_so : IsUnharmed is → HasTables was.now → OnErr told (is.now ≡ was.now)
+  undone_so h has = by_told told (writes.undone h (moved (writes.harm h) has))
+    where
+      by_told : (t : Result (Unit {0}) ExtendFault) → OnErr (as_kept t) (is.now ≡ mid.now) → OnErr t (is.now ≡ was.now)
+      by_told (Ok done) same = tt
+      by_told (Err why) same = same ∙ shown (writes.harm h)
+
+  same_content : (t : Result (Unit {0}) ExtendFault) → OnOk (as_kept t) ((seen_in last).content ≡ (seen_in first).content) → OnErr (as_kept t) ((seen_in last).content ≡ (seen_in first).content) → (seen_in last).content ≡ (seen_in first).content
+  same_content (Ok done) one other = one
+  same_content (Err why) one other = other
+
+  stays_so : IsUnharmed is → StandForRun register was.now → StandsStill register was.now is.now
+  stays_so h stood =
+      let fine = keeps.harm h in
+      let stands = opened.stands fine stood.kept in
+      still register was.now is.now stood (keeps.stands stands tt h).tables.kept
+      (ap state_of (same_content told (keeps.done stands tt h) (keeps.undone stands tt h)) ∙ ap state_of (opened.content fine stood.kept))
+
+  stops_so : IsUnharmed mid → StandForRun register was.now → LeavesItself was → (db : Database) → MayBeLeft is db → StopsBetween register grown was.now db
+  stops_so fine stood itself db left =
+      elim ((writes.leaves (λ h. moved h stood.kept.tables)).crash left.clean db.trees left.left) [
+        | inl here ↦
+            let trees = itself db.trees (opened.harm fine) (as_before here) in
+            record {
+              still = still register was.now db stood (kept_as was.now db trees left.schema stood.kept) (ap (λ t. state_of (content_in t empty_view)) trees);
+              whose = inl (subst (λ t. IsOf (register_text register) (t metas)) (sym trees) (opened.of_register fine stood.kept));
+            }
+        | inr made ↦
+            let kept = subst IsKept (sym (shown fine)) stood.kept in
+            let s = rewrites_stand.stands (register_text grown) empty_view mid.now made.db kept made.becomes in
+            record {
+              still = still register was.now db stood (kept_as made.db db made.shown left.schema s.kept)
+                  (ap (λ t. state_of (content_in t empty_view)) made.shown ∙ ap state_of s.content ∙ ap hub_in (shown fine));
+              whose = inr (subst (λ t. IsOf (register_text grown) (t metas)) (sym made.shown)
+                  (rewrites_stand.is_of (register_text register) (register_text grown) mid.now made.db kept.tables (subst (λ (d : Database). IsOf (register_text register) (d.trees metas)) (sym (shown fine)) (opened.of_register fine stood.kept)) made.becomes));
+            }
+      ]
+    where
+      as_before : mid.may_leave db.trees → was.may_leave db.trees
+      as_before here = elim (opened.leaves.crash fine.clean db.trees here) [
+        | inl before ↦ before
+        | inr never ↦ absurd never
+      ]
+
+  pub extends_opened : (after : Held S) → last.tables.conn ≡ after → Tells g before first.tables.conn (Ok tt) (register_text register) → TellsGrowth register grown told
+      → ExtendsOpened g register grown before after told
+  extends_opened after back opened_to growth =
+      subst (λ h. ExtendsOpened g register grown before h told) back (record {
+        first = first;
+        opened = opened;
+        opened_to = opened_to;
+        growth = growth;
+        registers = registers_so;
+        undone = undone_so;
+        stays = stays_so;
+        stops = stops_so;
+      })

@@ -1,0 +1,38 @@
+-- What the queries of the rows of kind 92 mean.
+use Rattle.std.proofs.Common.{ℕ, pos, List, [], ◌∷◌, codes, refl}
+use Rattle.sqlite_tied.specs.Compute.{everything}
+use Rattle.sqlite.specs.Collation.TheVariants.{Binary}
+use Rattle.sqlite.specs.declared.types.Value.TheVariants.{Int}
+use Rattle.sqlite.specs.Listing.{understood}
+use Rattle.sqlite.specs.Term.{Term, lit, col, op2}
+use Rattle.sqlite_sql.specs.declared.ops.BinaryOp.TheVariants.{Compare}
+use Rattle.sqlite_sql.specs.declared.ops.CompareOp.TheVariants.{Le}
+use Rattle.gaz_sql_facts.specs.Selects.{selecting, equals, falling}
+use Rattle.gaz_sql_facts.proofs.Texts.{IsSelect}
+use Rattle.gaz_tables.specs.Schema.{store_schema, versions}
+
+abbrev pub custody_terms : List Term
+custody_terms = col 1 8 ∷ col 1 9 ∷ col 1 7 ∷ col 1 5 ∷ col 1 11 ∷ []
+
+abbrev pub custody_names : List (List ℕ)
+custody_names = codes "born" ∷ codes "gone" ∷ codes "live" ∷ codes "street" ∷ codes "hop" ∷ []
+
+abbrev pub newest_text : List ℕ
+newest_text = codes "SELECT born, gone, live, street, hop FROM version2 WHERE cust = ?1 AND kind = 92 AND id = ?2 ORDER BY born DESC LIMIT 1"
+
+abbrev pub newest_tests : List Term
+newest_tests = equals (col 1 1) (col 0 0) ∷ equals (col 1 2) (lit (Int (pos 92))) ∷ equals (col 1 3) (col 0 1) ∷ []
+
+pub newest_is : IsSelect store_schema newest_text (selecting versions newest_tests custody_terms ((col 1 8, falling) ∷ []) (lit (Int (pos 1)))) custody_names
+unfolding understood everything
+newest_is = record { is = refl; plain = (refl, refl); unlisted = refl }
+
+abbrev pub newest_until_text : List ℕ
+newest_until_text = codes "SELECT born, gone, live, street, hop FROM version2 WHERE cust = ?1 AND kind = 92 AND id = ?2 AND born <= ?3 ORDER BY born DESC LIMIT 1"
+
+abbrev pub newest_until_tests : List Term
+newest_until_tests = equals (col 1 1) (col 0 0) ∷ equals (col 1 2) (lit (Int (pos 92))) ∷ equals (col 1 3) (col 0 1) ∷ op2 (Compare Le Binary) (col 1 8) (col 0 2) ∷ []
+
+pub newest_until_is : IsSelect store_schema newest_until_text (selecting versions newest_until_tests custody_terms ((col 1 8, falling) ∷ []) (lit (Int (pos 1)))) custody_names
+unfolding understood everything
+newest_until_is = record { is = refl; plain = (refl, refl); unlisted = refl }

@@ -1,0 +1,78 @@
+-- How a database of schema 1 becomes one of schema 2, with the same rows.
+use Rattle.std.specs.Prelude.{◌≡◌, ℕ, pos, List, [], ◌∷◌, Result, OnOk}
+use Rattle.sqlite.specs.declared.error.Error.{Error}
+use Rattle.sqlite.specs.declared.types.Value.TheVariants.{Int}
+use Rattle.sqlite.specs.Effect.{Database, IsDatabase}
+use Rattle.sqlite.specs.Held.{Held, state}
+use Rattle.sqlite.specs.Order.{Row, column}
+use Rattle.sqlite.specs.State.{State, HasCleanDisk, Survives}
+use Rattle.sqlite.specs.View.{IsShaped}
+use Rattle.sqlite_trees.specs.declared.store.Shape.TheVariants as shape
+use Rattle.sqlite_trees.specs.declared.store.Store.{Ghosts}
+use Rattle.gaz_sql_facts.specs.Changes.{AreTreesOf}
+use Rattle.gaz_sql_facts.specs.Copies.{AreCopied}
+use Rattle.gaz_tables.specs.Metas.{Rewrites}
+use Rattle.gaz_tables.specs.Schema.{first_schema, old_versions, versions, receiveds, metas}
+use Rattle.gaz_tables.specs.Stores.{HasTables}
+
+-- the database is one of the three tables of schema 1, in order
+pub record HasFirstTables (db : Database) : Type 0 where
+  pub schema_is : db.schema ≡ first_schema
+  pub sound : IsDatabase db
+  pub versions_shaped : IsShaped shape.Table (db.trees old_versions)
+  pub receiveds_shaped : IsShaped shape.Table (db.trees receiveds)
+  pub metas_shaped : IsShaped shape.Table (db.trees metas)
+
+-- the values of a row of `version`, and hop 0 behind them
+abbrev pub with_hop : Row → Row
+with_hop r = column r 1 ∷ column r 2 ∷ column r 3 ∷ column r 4 ∷ column r 5 ∷ column r 6
+    ∷ column r 7 ∷ column r 8 ∷ column r 9 ∷ column r 10 ∷ Int (pos 0) ∷ []
+
+-- `version2` gets each row of `version` once, and keeps what it had
+abbrev pub CopiesRows : Database → List Row → List Row → Type 0
+CopiesRows db old new = AreCopied with_hop (db.trees old_versions) old new
+
+-- the rows of `version` stand in `version2`, where none stood, and nothing else changes
+pub record MovesRows (old new : Database) : Type 0 where
+  pub tables : HasTables new
+  pub rows : CopiesRows old [] (new.trees versions)
+  pub emptied : new.trees old_versions ≡ []
+  pub files : new.trees receiveds ≡ old.trees receiveds
+  pub meta : new.trees metas ≡ old.trees metas
+
+-- a database of schema 1 becomes one of schema 2 with the same rows and files, whose row of `meta`
+-- has this number and register
+pub record Migrates (number : ℕ) (register : List ℕ) (old new : Database) : Type 0 where
+  pub tables : HasTables new
+  pub rows : CopiesRows old [] (new.trees versions)
+  pub emptied : new.trees old_versions ≡ []
+  pub files : new.trees receiveds ≡ old.trees receiveds
+  pub meta : Rewrites number register (old.trees metas) (new.trees metas)
+
+-- a call on a connection, whose state `g` shows
+module _ {S : Type 0} (g : Ghosts S) (before after : Held S) where
+  abbrev old : State
+  old = state g before
+
+  abbrev new : State
+  new = state g after
+
+  -- within a transaction, the rows of `version` are moved
+  abbrev pub MovesInside : {A : Type 0} → Result A Error → Type 0
+  MovesInside result = HasCleanDisk new → HasTables old.now → old.now.trees versions ≡ []
+      → OnOk result (MovesRows old.now new.now)
+
+  -- within a transaction, the database of schema 1 becomes one of schema 2
+  abbrev pub MigratesInside : {A : Type 0} → ℕ → List ℕ → Result A Error → Type 0
+  MigratesInside number register result = HasCleanDisk new → HasFirstTables old.now
+      → OnOk result (Migrates number register old.now new.now)
+
+  -- in a transaction of its own it does, and that is committed
+  abbrev pub MigratesAlone : {A : Type 0} → ℕ → List ℕ → Result A Error → Type 0
+  MigratesAlone number register result = HasCleanDisk new → HasFirstTables old.now
+      → OnOk result (Migrates number register old.now new.now × (new.committed ≡ new.now))
+
+  -- a stop leaves what it could before, or the database of schema 2
+  abbrev pub MayMigrate : ℕ → List ℕ → Type 0
+  MayMigrate number register = (HasCleanDisk old → HasFirstTables old.now)
+      → Survives old new (AreTreesOf (Migrates number register old.now))

@@ -1,0 +1,128 @@
+//! Stores of schema 1 as written tables: the rows that the last program of that schema left, with
+//! which a migration has to begin.
+use crate::file_fixtures::*;
+use crate::wanted::{counts, holds};
+use gaz_register::Register;
+use gaz_samples::REGISTER;
+use gaz_samples::files::*;
+use std::process::Abort;
+use std::test::Fail;
+
+pub(crate) mod a_closed_street_with_a_neighbours_address;
+pub(crate) mod a_deleted_address;
+pub(crate) mod a_street_and_a_held_file;
+pub(crate) mod rejected_volumes;
+
+/// A row of `meta`.
+#[derive(Drop)]
+pub(crate) struct Meta {
+    pub(crate) id: i64,
+    pub(crate) number: i64,
+    pub(crate) register: &'static str,
+}
+
+/// A row of `received`: a file, its custodian and volume, and its verdict.
+#[derive(Drop)]
+pub(crate) struct Received {
+    pub(crate) cust: i64,
+    pub(crate) volume: i64,
+    pub(crate) bytes: &'static [u8],
+    pub(crate) state: i64,
+    pub(crate) place: i64,
+    pub(crate) rule: i64,
+}
+
+/// A row of `version`: an item, which holds from one volume until before another.
+#[derive(Drop)]
+pub(crate) struct Version {
+    pub(crate) cust: i64,
+    pub(crate) kind: i64,
+    pub(crate) id: &'static str,
+    pub(crate) blpu: i64,
+    pub(crate) street: i64,
+    pub(crate) lang: i64,
+    pub(crate) live: i64,
+    pub(crate) born: i64,
+    pub(crate) gone: i64,
+    pub(crate) body: &'static str,
+}
+
+/// The one row of `meta`, of each store alike.
+pub(crate) const META: Meta = Meta {
+    id: 1,
+    number: 1,
+    register: "1001,Upper County,1-99999 999999999000-999999999999,100-199 99999999-99999999\n1002,Lower District,100000-199999,200-299\n1003,Bay District,200000-299999,300-399\n",
+};
+
+/// The `gone` of a row that is current.
+const NEVER: i64 = 1_000_000;
+
+#[test]
+fn they_are_of_the_sample_register(rt: HostRuntime) -> Result<(), Fail> {
+    let register = Register::read(rt.alloc(), REGISTER)?;
+    let text = register.text(rt.alloc())?;
+    holds(&rt, text.as_str() == META.register, "the register's text");
+    holds(&rt, META.id == 1 && META.number == 1, "the number");
+    Ok(())
+}
+
+// A volume was applied, by these rows.
+fn is_applied(rows: &[Received], cust: i64, volume: i64) -> bool {
+    rows.iter().any(|row| row.cust == cust && row.volume == volume && row.state == 1)
+}
+
+// The rows are of these files, in this order, and each item was born in a volume that was applied,
+// and is current or went in another.
+fn are_of(rt: &impl Abort, files: &[&[u8]], received: &[Received], version: &[Version]) {
+    counts(rt, received.len() as u64, files.len() as u64);
+    for (row, file) in received.iter().zip(files) {
+        holds(rt, row.bytes == *file, "the bytes of a file");
+    }
+    for row in version {
+        let went = row.gone == NEVER || is_applied(received, row.cust, row.gone);
+        let is_so = is_applied(received, row.cust, row.born) && went;
+        holds(rt, is_so, row.body);
+    }
+}
+
+#[test]
+fn rows_of_files_that_wait_or_are_rejected(rt: HostRuntime) {
+    let waiting: [&[u8]; 2] = [STREET_101, FLAT_2_HIGH_STREET];
+    let rejected: [&[u8]; 3] = [STREET_101, STREET_101_AGAIN, FLAT_2_HIGH_STREET];
+    are_of(
+        &rt,
+        &waiting,
+        a_street_and_a_held_file::RECEIVED,
+        a_street_and_a_held_file::VERSION,
+    );
+    are_of(
+        &rt,
+        &rejected,
+        rejected_volumes::RECEIVED,
+        rejected_volumes::VERSION,
+    );
+}
+
+#[test]
+fn rows_of_items_that_went(rt: HostRuntime) {
+    let closed: [&[u8]; 3] = [COUNTY_ROAD, COUNTY_ROAD_CLOSED, NUMBER_7_COUNTY_ROAD];
+    let deleted: [&[u8]; 5] = [
+        STREET_101,
+        HIGH_STREET,
+        FLAT_2_HIGH_STREET,
+        FLAT_2_DELETED,
+        FLAT_2_AGAIN,
+    ];
+    are_of(
+        &rt,
+        &closed,
+        a_closed_street_with_a_neighbours_address::RECEIVED,
+        a_closed_street_with_a_neighbours_address::VERSION,
+    );
+    are_of(
+        &rt,
+        &deleted,
+        a_deleted_address::RECEIVED,
+        a_deleted_address::VERSION,
+    );
+}

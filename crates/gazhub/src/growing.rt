@@ -1,0 +1,87 @@
+//! A store's register grows.
+ghost use Rattle.std.specs.Prelude.{◌≡◌, IfErr, IfOk, IsTrue};
+ghost use Rattle.gazhub.specs.Filing.{OpensNone};
+ghost use Rattle.gazhub.specs.Growing.{ExtendsStore, not_extended, said_of_growth};
+
+use crate::commands::options_at;
+use crate::files::{NoHub, read_register};
+use crate::stores::{close, connect};
+use gaz_commands::{PrintedLine, Said};
+use gaz_ledger::Seed;
+use gaz_register::{GrowFault, Register};
+use gaz_store::{ExtendFault, StoreRefusal};
+use gaz_stored::{Extended, extend_opened};
+use gaz_words::Places;
+use sqlite::{Files, Options, Unknown};
+use sqlite_disk::Disk;
+use std::alloc::Global;
+
+/// Lets the register of the store in the files grow, which are given back where they can be closed. Why
+/// there is no store, or its register didn't grow, and in which order, is said of `extend_opened`.
+pub fn extend_store<D: Disk + Drop>(
+    alloc: Global,
+    files: Files<D>,
+    options: Options,
+    seed: Seed,
+    register: Register,
+    grown: Register,
+) -> (
+    Option<Files<D>>,
+    Result<Result<(), ExtendFault>, StoreRefusal>,
+)
+    requires log { IsTrue (D.Disk.is_usable files.log) }
+    requires db { IsTrue (D.Disk.is_usable files.db) }
+    ensures extends { IfOk result.1 (ExtendsStore D.Disk files result.0 register grown) }
+    ensures none { IfErr result.1 (OpensNone D.Disk files result.0 register) }
+{
+    let Some(conn) = connect(alloc, files, options) else {
+        return (None, Err(StoreRefusal::Fault));
+    };
+    let Extended { conn, told } = extend_opened(alloc, seed, conn, register, grown);
+    let left = close(conn);
+    (left, told)
+}
+
+// What is said where a store's register didn't grow: that what it was to grow to is no growth of it is
+// printed, the others are faults.
+fn not_extended(fault: ExtendFault) -> Result<Said, NoHub>
+    ensures { result ≡ not_extended fault }
+{
+    let why = match fault {
+        ExtendFault::RemovedCustodian => GrowFault::RemovedCustodian,
+        ExtendFault::ChangedBlocks => GrowFault::ChangedBlocks,
+        ExtendFault::OtherRegister => return Err(NoHub::Store(StoreRefusal::OtherRegister)),
+        ExtendFault::Fault => return Err(NoHub::Store(StoreRefusal::Fault)),
+        ExtendFault::Memory => return Err(NoHub::Memory),
+    };
+    Ok(Said::Line(PrintedLine::NotExtended(why)))
+}
+
+// What is said of a store's register that was to grow, or why there is no store.
+fn said_of_growth(told: Result<Result<(), ExtendFault>, StoreRefusal>) -> Result<Said, NoHub>
+    ensures { result ≡ said_of_growth told }
+{
+    match told {
+        Ok(Ok(())) => Ok(Said::Line(PrintedLine::Extended)),
+        Ok(Err(fault)) => not_extended(fault),
+        Err(refusal) => Err(NoHub::Store(refusal)),
+    }
+}
+
+/// Lets the register of the store that is there grow to the one whose file stands at a path. The
+/// register is read first, then the grown one, then the store. No file is made.
+pub fn extend(
+    rt: &HostRuntime,
+    seed: Seed,
+    places: Places<'_>,
+    grown: &str,
+) -> Result<Said, NoHub> {
+    let register = read_register(rt, places.register)?;
+    let grown = read_register(rt, grown)?;
+    let options = options_at(rt, places.store)?;
+    let Ok(files) = sqlite_std_file::open(rt, places.store, Unknown) else {
+        return Err(NoHub::Store(StoreRefusal::Fault));
+    };
+    let (_closed, told) = extend_store(rt.alloc(), files, options, seed, register, grown);
+    said_of_growth(told)
+}
