@@ -41,6 +41,7 @@ impl MemShelf {
         requires { progress_of self.old.judging ≡ Idle }
         ensures same { content_in self.new ≡ content_in self.old }
         ensures idle { progress_of self.new.judging ≡ Idle }
+        ensures count { self.new.failures ≡ self.old.failures }
     {
         self.accounts.undo(code);
     }
