@@ -1,6 +1,6 @@
 -- What was gathered above comes below.
 use Rattle.std.proofs.Common.{◌≡◌, ◌∙◌, ap, refl, subst, sym}
-use Rattle.std.specs.Prelude.{⊤, ℕ, Bool, true, false, Option, None, Some, IsSome, Result, Ok, Err, is_some}
+use Rattle.std.specs.Prelude.{⊤, ℕ, Bool, true, false, Option, None, Some, IsSome, Result, Ok, Err, OnOk, is_ok, is_some}
 use Rattle.std.specs.Option.{ForSome}
 use Rattle.gaz_views.proofs.Outcomes.{on_err, on_ok}
 use Rattle.gaz_views.specs.View.{View}
@@ -61,3 +61,22 @@ module _ {U : Type 0} (seen : U → Seen) (below new : Seen) (u : U) (g : Gather
         whole = alone.whole;
         committed = λ _ _. tt;
       }
+
+-- what two are, those are that are called so
+pub ahead_by : {U : Type 0} (seen : U → Seen) (low : Progress) (v : U) (x : Gathered) → IsAhead low (seen v).progress x → (y : Gathered) → Some x ≡ Some y → (u : U) → Some v ≡ Some u → IsAhead low (seen u).progress y
+ahead_by {U} seen low v x ahead y is u there_is =
+    let same : x ≡ y = cc in
+    let upper : v ≡ u = cc in
+    subst (λ (p : U × Gathered). IsAhead low (seen p.0).progress p.1) (λ i. (upper i, same i)) ahead
+
+pub where_ok : {T P : Type 0} (r : Result T ShelfFault) → is_ok r ≡ true → OnOk r P → P
+where_ok (Ok x) ok h = h
+where_ok (Err e) ok h = cc
+
+-- a change was made above and noted
+pub ahead_on : (low above new : Progress) (r : Result (Unit {0}) ShelfFault) (x y : Gathered) → IsAhead low above x → is_ok r ≡ true → OnOk r (new ≡ above) → y.code ≡ x.code → y.tried ≡ x.tried → IsAhead low new y
+ahead_on low above new r x y ahead ok on code tried = record {
+  judging = where_ok r ok on ∙ ahead.judging ∙ sym (ap Open code);
+  closed = ahead.closed;
+  untried = λ no. ahead.untried (sym tried ∙ no);
+}

@@ -1,9 +1,10 @@
 -- What a change of a judgement tells of a keeper over two.
-use Rattle.std.proofs.Common.{◌≡◌, ◌≢◌, refl, sym, subst, ◌∙◌}
+use Rattle.std.proofs.Common.{◌≡◌, refl, sym, subst, ◌∙◌}
 use Rattle.std.specs.Prelude.{⊤, true, Option, None, Some, Result, Ok, Err, OnOk, is_ok}
-use Rattle.gaz_keeper.specs.Keeper.{Broken, Content, Enters, Goes, Idle, IsLeft, IsSound, LeavesAtMost, LeavesJust, Open, Progress, Reads, Seen}
+use Rattle.gaz_keeper.specs.Keeper.{Content, Enters, Goes, IsNotOpen, IsSound, LeavesAtMost, LeavesJust, Open, Progress, Seen}
 use Rattle.gaz_keeper.specs.declared.fault.ShelfFault.{ShelfFault}
-use Rattle.gaz_mirror.specs.Mirroring.{StandsWith, mirrored, stands_below}
+use Rattle.gaz_mirror.specs.Mirroring.{mirrored, progress_with, stands_below}
+use Rattle.gaz_mirror.specs.declared.gathered.Gathered.{Gathered}
 
 module _ {U : Type 0} (seen : U → Seen) (old new : Seen) (was now : Option U) where
   -- what the lower one leaves, both leave
@@ -120,3 +121,25 @@ pub enters_both : {U T : Type 0} (seen : U → Seen) (sole : (u : U) → (seen u
 enters_both seen sole old new upper was now r r' asked asked' becomes becomes' is ok ok' enters above asks same =
     subst (λ o. Enters (mirrored seen old o None) (mirrored seen new (Some now) None) r asked becomes) (sym is)
     (both_enter seen sole old new was now r r' asked asked' becomes becomes' ok ok' enters above asks same)
+
+-- ---- where nothing is gathered
+
+pub goes_settled : {U T : Type 0} (seen : U → Seen) (old new : Seen) (was now : Option U) (gathered : Option Gathered) (r : Result T ShelfFault) (f : Progress → Content → Content)
+    (commits : Content → Option Content) (after : Progress → Progress) → gathered ≡ None
+    → Goes (mirrored seen old was None) (mirrored seen new now None) r ⊤ (f old.progress old.content) (commits (f old.progress old.content)) (after old.progress)
+    → Goes (mirrored seen old was gathered) (mirrored seen new now gathered) r ⊤ (f (mirrored seen old was gathered).progress (mirrored seen old was gathered).content)
+      (commits (f (mirrored seen old was gathered).progress (mirrored seen old was gathered).content)) (after (mirrored seen old was gathered).progress)
+goes_settled seen old new was now gathered r f commits after none =
+    subst (λ (o : Option Gathered). Goes (mirrored seen old was o) (mirrored seen new now o) r ⊤ (f (mirrored seen old was o).progress (mirrored seen old was o).content)
+    (commits (f (mirrored seen old was o).progress (mirrored seen old was o).content)) (after (mirrored seen old was o).progress)) (sym none)
+
+pub enters_settled : {U T : Type 0} (seen : U → Seen) (old new : Seen) (was now : Option U) (gathered : Option Gathered) (r : Result T ShelfFault) (asked : Content → Type 0) (f : Content → Content)
+    → gathered ≡ None → Enters (mirrored seen old was None) (mirrored seen new now None) r (asked old.content) (f old.content)
+    → Enters (mirrored seen old was gathered) (mirrored seen new now gathered) r (asked (mirrored seen old was gathered).content) (f (mirrored seen old was gathered).content)
+enters_settled seen old new was now gathered r asked f none =
+    subst (λ (o : Option Gathered). Enters (mirrored seen old was o) (mirrored seen new now o) r (asked (mirrored seen old was o).content) (f (mirrored seen old was o).content)) (sym none)
+
+-- a judgement that is gathered is open
+pub settled : (lower : Progress) (gathered : Option Gathered) → IsNotOpen (progress_with lower gathered) → gathered ≡ None
+settled lower None closed = refl
+settled lower (Some g) closed = absurd (closed g.code refl)

@@ -2,9 +2,10 @@
 use Rattle.std.proofs.Common.{◌≡◌, ◌≢◌, ◌≤◌, ◌∙◌, ℕ, ap, le_trans, refl, subst, sym}
 use Rattle.std.specs.Prelude.{⊤, Option, None, Some, IsSome, Result, Ok, Err, IfOk}
 use Rattle.gaz_views.specs.View.{View}
-use Rattle.gaz_keeper.specs.Keeper.{Broken, Content, Counts, Idle, IsLeft, IsSound, Keeps, Open, Progress, Reads, Seen, after_stop, view_of, viewed, with_working}
+use Rattle.gaz_keeper.specs.Keeper.{Broken, Content, Idle, IsLeft, IsNotOpen, Keeps, Open, Progress, Reads, Seen, after_stop, view_of, viewed, with_working}
 use Rattle.gaz_keeper.specs.declared.fault.ShelfFault.{ShelfFault}
 use Rattle.gaz_keeper.proofs.Keeping.{keeps_then}
+use Rattle.gaz_mirror.specs.InStep.{IsAhead, IsInStep}
 use Rattle.gaz_mirror.specs.Mirroring.{StandsWith, mirrored, stands_below}
 use Rattle.gaz_mirror.specs.declared.gathered.Gathered.{Gathered}
 use Rattle.gaz_mirror.proofs.Then.{further}
@@ -115,3 +116,24 @@ pub keeps_asked : {U : Type 0} (seen : U → Seen) (sole : (u : U) → (seen u).
     → Keeps (mirrored seen below upper gathered) (mirrored seen below (Some v) gathered)
 keeps_asked {U} seen sole below upper u v gathered is keeps =
     subst (λ (o : Option U). Keeps (mirrored seen below o gathered) (mirrored seen below (Some v) gathered)) (sym is) (keeps_above seen sole below u v gathered keeps)
+
+-- ---- the two behind a reading of the lower one
+
+still_closed : (p q : Progress) → IsNotOpen p → IsLeft p q → IsNotOpen q
+still_closed Idle q closed left = λ c is. let clash = sym left ∙ is in cc
+still_closed (Open whom) q closed left = absurd (closed whom refl)
+still_closed Broken q closed left = left
+
+pub still_in_step : (p q above : Progress) → IsLeft p q → IsInStep p above → IsInStep q above
+still_in_step p q above left step =
+    let same = left_same p q step.whole left in
+    record { same = step.same ∙ sym same; whole = λ broken. step.whole (sym same ∙ broken) }
+
+pub still_ahead : (p q above : Progress) (g : Gathered) → IsLeft p q → IsAhead p above g → IsAhead q above g
+still_ahead p q above g left ahead = record {
+  judging = ahead.judging;
+  closed = still_closed p q ahead.closed left;
+  untried = λ no.
+      let idle = ahead.untried no in
+      left_same p q (λ broken. let clash = sym idle ∙ broken in cc) left ∙ idle;
+}

@@ -153,6 +153,9 @@ impl<L: Inbox + Drop, U: Unshared + Drop> Shelf for Mirror<L, U> {
         ensures refuses { Refuses (seen_mirrored self.old) result }
         ensures drops { DropsUpper result self.new }
     {
+        if self.gathered.is_none() {
+            return self.keep_both();
+        }
         self.hand_down()?;
         self.keep_both()
     }

@@ -1,7 +1,7 @@
 //! What was gathered is handed down.
-ghost use Rattle.std.specs.Prelude.{◌≡◌, ⊤, None, IsSome, OnOk};
+ghost use Rattle.std.specs.Prelude.{◌≡◌, ⊤, None, OnOk};
 ghost use Rattle.gaz_keeper.specs.Keeper.{Counts, Goes, Keeps, Reads, view_of};
-ghost use Rattle.gaz_mirror.specs.Mirrored.{DropsUpper, KeepsUpper, seen_mirrored};
+ghost use Rattle.gaz_mirror.specs.Mirrored.{DropsUpper, Gathers, KeepsUpper, seen_mirrored};
 
 use crate::changes::hand_to;
 use crate::mirror::Mirror;
@@ -10,15 +10,16 @@ use crate::unshared::Unshared;
 use gaz_keeper::{Inbox, ShelfFault};
 
 impl<L: Inbox + Drop, U: Unshared + Drop> Mirror<L, U> {
-    /// Hands down what was gathered, where anything was. After a fault the upper keeper is dropped.
+    /// Hands down what was gathered. After a fault the upper keeper is dropped.
     pub(crate) fn hand_down(&mut self) -> Result<(), ShelfFault>
+        requires { Gathers self.old }
         ensures goes { Goes (seen_mirrored self.old) (seen_mirrored self.new) result ⊤
             (seen_mirrored self.old).content None (seen_mirrored self.old).progress }
         ensures settled { self.new.gathered ≡ None }
         ensures drops { DropsUpper result self.new }
     {
         let Some(gathered) = self.gathered.take() else {
-            return Ok(());
+            unreachable!()
         };
         if let Err(fault) = hand_to(&mut self.lower, gathered) {
             self.upper = None;

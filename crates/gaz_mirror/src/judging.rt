@@ -1,5 +1,5 @@
 //! A judgement over two keepers.
-ghost use Rattle.std.specs.Prelude.{◌≡◌, ◌≢◌, None, IsSome};
+ghost use Rattle.std.specs.Prelude.{◌≡◌, ◌≢◌, None};
 ghost use Rattle.gaz_keeper.specs.Keeper.{Idle, Refuses};
 ghost use Rattle.gaz_keeper.specs.Telling.{Abandons, Applies};
 ghost use Rattle.gaz_mirror.specs.Gathering.{Makes};
