@@ -1,34 +1,35 @@
 -- What a change of a judgement tells of a keeper over two.
-use Rattle.std.proofs.Common.{◌≡◌, ◌≢◌, refl, sym, subst, ◌∙◌}
+use Rattle.std.proofs.Common.{◌≡◌, refl, sym, subst, ◌∙◌}
 use Rattle.std.specs.Prelude.{⊤, true, Option, None, Some, Result, Ok, Err, OnOk, is_ok}
-use Rattle.gaz_keeper.specs.Keeper.{Broken, Content, Enters, Goes, Idle, IsLeft, IsSound, LeavesAtMost, LeavesJust, Open, Progress, Reads, Seen}
+use Rattle.gaz_keeper.specs.Keeper.{Content, Enters, Goes, IsNotOpen, IsSound, LeavesAtMost, LeavesJust, Open, Progress, Seen}
 use Rattle.gaz_keeper.specs.declared.fault.ShelfFault.{ShelfFault}
-use Rattle.gaz_mirror.specs.Mirroring.{StandsWith, mirrored, stands_below}
+use Rattle.gaz_mirror.specs.Mirroring.{mirrored, progress_with, stands_below}
+use Rattle.gaz_mirror.specs.declared.gathered.Gathered.{Gathered}
 
 module _ {U : Type 0} (seen : U → Seen) (old new : Seen) (was now : Option U) where
   -- what the lower one leaves, both leave
-  leaves_at_most : (commits : Option Content) → LeavesAtMost commits old new → LeavesAtMost commits (mirrored seen old was) (mirrored seen new now)
+  leaves_at_most : (commits : Option Content) → LeavesAtMost commits old new → LeavesAtMost commits (mirrored seen old was None) (mirrored seen new now None)
   leaves_at_most None h = h
   leaves_at_most (Some becomes) h = h
 
   leaves_just : {T : Type 0} (r : Result T ShelfFault) (commits : Option Content) → OnOk r (LeavesJust commits old new)
-      → OnOk r (LeavesJust commits (mirrored seen old was) (mirrored seen new now))
+      → OnOk r (LeavesJust commits (mirrored seen old was None) (mirrored seen new now None))
   leaves_just (Ok x) None h = h
   leaves_just (Ok x) (Some becomes) h = h
   leaves_just (Err e) commits h = h
 
   -- it is sound where both are
-  from_below : IsSound (mirrored seen old was) → IsSound old
-  from_below sound fine = stands_below seen old was (sound fine)
+  from_below : IsSound (mirrored seen old was None) → IsSound old
+  from_below sound fine = stands_below seen old was None (sound fine)
 
 -- only the lower one is left
 pub goes_below : {U T : Type 0} (seen : U → Seen) (old new : Seen) (was : Option U) (r : Result T ShelfFault) (asked : Type 0) (becomes : Content) (commits : Option Content) (after : Progress)
-    → Goes old new r asked becomes commits after → Goes (mirrored seen old was) (mirrored seen new None) r asked becomes commits after
+    → Goes old new r asked becomes commits after → Goes (mirrored seen old was None) (mirrored seen new None None) r asked becomes commits after
 goes_below seen old new was r asked becomes commits after goes = record {
   harm = goes.harm;
-  stands = λ stood. goes.stands (stands_below seen old was stood);
-  done = λ stood. goes.done (stands_below seen old was stood);
-  undone = λ stood. goes.undone (stands_below seen old was stood);
+  stands = λ stood. goes.stands (stands_below seen old was None stood);
+  done = λ stood. goes.done (stands_below seen old was None stood);
+  undone = λ stood. goes.undone (stands_below seen old was None stood);
   on = goes.on;
   broken = goes.broken;
   counts = record { kept = goes.counts.kept; store = goes.counts.store; trust = goes.counts.trust };
@@ -42,7 +43,7 @@ both : {U T : Type 0} (seen : U → Seen) (sole : (u : U) → (seen u).unharmed)
     (becomes becomes' : Content) (commits commits' : Option Content) (after after' : Progress) → is_ok r ≡ true → is_ok r' ≡ true
     → Goes old new r asked becomes commits after → Goes (seen was) (seen now) r' asked' becomes' commits' after'
     → ((seen was).content ≡ old.content → asked → asked') → ((seen was).content ≡ old.content → becomes' ≡ becomes)
-    → Goes (mirrored seen old (Some was)) (mirrored seen new (Some now)) r asked becomes commits after
+    → Goes (mirrored seen old (Some was) None) (mirrored seen new (Some now) None) r asked becomes commits after
 both seen sole old new was now (Ok x) (Ok y) asked asked' becomes becomes' commits commits' after after' ok ok' goes above asks same = record {
   harm = goes.harm;
   stands = λ stood met fine. record {
@@ -66,21 +67,21 @@ pub goes_both : {U T : Type 0} (seen : U → Seen) (sole : (u : U) → (seen u).
     (becomes becomes' : Content) (commits commits' : Option Content) (after after' : Progress) → upper ≡ Some was → is_ok r ≡ true → is_ok r' ≡ true
     → Goes old new r asked becomes commits after → Goes (seen was) (seen now) r' asked' becomes' commits' after'
     → ((seen was).content ≡ old.content → asked → asked') → ((seen was).content ≡ old.content → becomes' ≡ becomes)
-    → Goes (mirrored seen old upper) (mirrored seen new (Some now)) r asked becomes commits after
+    → Goes (mirrored seen old upper None) (mirrored seen new (Some now) None) r asked becomes commits after
 goes_both seen sole old new upper was now r r' asked asked' becomes becomes' commits commits' after after' is ok ok' goes above asks same =
-    subst (λ o. Goes (mirrored seen old o) (mirrored seen new (Some now)) r asked becomes commits after) (sym is)
+    subst (λ o. Goes (mirrored seen old o None) (mirrored seen new (Some now) None) r asked becomes commits after) (sym is)
     (both seen sole old new was now r r' asked asked' becomes becomes' commits commits' after after' ok ok' goes above asks same)
 
 -- ---- a call while no judgement is in progress
 
 -- only the lower one is left
 pub enters_below : {U T : Type 0} (seen : U → Seen) (old new : Seen) (was : Option U) (r : Result T ShelfFault) (asked : Type 0) (becomes : Content)
-    → Enters old new r asked becomes → Enters (mirrored seen old was) (mirrored seen new None) r asked becomes
+    → Enters old new r asked becomes → Enters (mirrored seen old was None) (mirrored seen new None None) r asked becomes
 enters_below seen old new was r asked becomes enters = record {
   harm = enters.harm;
-  stands = λ stood. enters.stands (stands_below seen old was stood);
-  done = λ stood. enters.done (stands_below seen old was stood);
-  undone = λ stood. enters.undone (stands_below seen old was stood);
+  stands = λ stood. enters.stands (stands_below seen old was None stood);
+  done = λ stood. enters.done (stands_below seen old was None stood);
+  undone = λ stood. enters.undone (stands_below seen old was None stood);
   progress = enters.progress;
   cleared = enters.cleared;
   counts = record { kept = enters.counts.kept; store = enters.counts.store; trust = enters.counts.trust };
@@ -93,7 +94,7 @@ enters_below seen old new was r asked becomes enters = record {
 both_enter : {U T : Type 0} (seen : U → Seen) (sole : (u : U) → (seen u).unharmed) (old new : Seen) (was now : U) (r r' : Result T ShelfFault) (asked asked' : Type 0)
     (becomes becomes' : Content) → is_ok r ≡ true → is_ok r' ≡ true → Enters old new r asked becomes → Enters (seen was) (seen now) r' asked' becomes'
     → ((seen was).content ≡ old.content → asked → asked') → ((seen was).content ≡ old.content → becomes' ≡ becomes)
-    → Enters (mirrored seen old (Some was)) (mirrored seen new (Some now)) r asked becomes
+    → Enters (mirrored seen old (Some was) None) (mirrored seen new (Some now) None) r asked becomes
 both_enter seen sole old new was now (Ok x) (Ok y) asked asked' becomes becomes' ok ok' enters above asks same = record {
   harm = enters.harm;
   stands = λ stood met fine. record {
@@ -116,34 +117,29 @@ both_enter seen sole old new was now (Err e) r' asked asked' becomes becomes' ok
 pub enters_both : {U T : Type 0} (seen : U → Seen) (sole : (u : U) → (seen u).unharmed) (old new : Seen) (upper : Option U) (was now : U) (r r' : Result T ShelfFault) (asked asked' : Type 0)
     (becomes becomes' : Content) → upper ≡ Some was → is_ok r ≡ true → is_ok r' ≡ true → Enters old new r asked becomes → Enters (seen was) (seen now) r' asked' becomes'
     → ((seen was).content ≡ old.content → asked → asked') → ((seen was).content ≡ old.content → becomes' ≡ becomes)
-    → Enters (mirrored seen old upper) (mirrored seen new (Some now)) r asked becomes
+    → Enters (mirrored seen old upper None) (mirrored seen new (Some now) None) r asked becomes
 enters_both seen sole old new upper was now r r' asked asked' becomes becomes' is ok ok' enters above asks same =
-    subst (λ o. Enters (mirrored seen old o) (mirrored seen new (Some now)) r asked becomes) (sym is)
+    subst (λ o. Enters (mirrored seen old o None) (mirrored seen new (Some now) None) r asked becomes) (sym is)
     (both_enter seen sole old new was now r r' asked asked' becomes becomes' ok ok' enters above asks same)
 
--- ---- a call of the lower one that reads
+-- ---- where nothing is gathered
 
--- what wasn't broken is as it was
-pub left_same : (p q : Progress) → p ≢ Broken → IsLeft p q → q ≡ p
-left_same Idle q whole left = left
-left_same (Open c) q whole left = left
-left_same Broken q whole left = absurd (whole refl)
+pub goes_settled : {U T : Type 0} (seen : U → Seen) (old new : Seen) (was now : Option U) (gathered : Option Gathered) (r : Result T ShelfFault) (f : Progress → Content → Content)
+    (commits : Content → Option Content) (after : Progress → Progress) → gathered ≡ None
+    → Goes (mirrored seen old was None) (mirrored seen new now None) r ⊤ (f old.progress old.content) (commits (f old.progress old.content)) (after old.progress)
+    → Goes (mirrored seen old was gathered) (mirrored seen new now gathered) r ⊤ (f (mirrored seen old was gathered).progress (mirrored seen old was gathered).content)
+      (commits (f (mirrored seen old was gathered).progress (mirrored seen old was gathered).content)) (after (mirrored seen old was gathered).progress)
+goes_settled seen old new was now gathered r f commits after none =
+    subst (λ (o : Option Gathered). Goes (mirrored seen old was o) (mirrored seen new now o) r ⊤ (f (mirrored seen old was o).progress (mirrored seen old was o).content)
+    (commits (f (mirrored seen old was o).progress (mirrored seen old was o).content)) (after (mirrored seen old was o).progress)) (sym none)
 
-pub reads_below : {U T : Type 0} (seen : U → Seen) (old new : Seen) (upper : Option U) (r : Result T ShelfFault) → Reads old new r (λ _. ⊤) → Reads (mirrored seen old upper) (mirrored seen new upper) r (λ _. ⊤)
-reads_below {U} seen old new upper r reads = record {
-  keeps = record {
-    harm = reads.keeps.harm;
-    stands = still upper;
-    content = λ stood fine. reads.keeps.content (stands_below seen old upper stood) fine;
-    progress = reads.keeps.progress;
-    leaves = λ sound. reads.keeps.leaves (from_below seen old new upper upper sound);
-    whole = λ sound. reads.keeps.whole (from_below seen old new upper upper sound);
-  };
-  right = λ stood fine. reads.right (stands_below seen old upper stood) fine;
-  cleared = reads.cleared;
-  counts = record { kept = reads.counts.kept; store = reads.counts.store; trust = reads.counts.trust };
-}
-  where
-    still : (o : Option U) → StandsWith seen old o → new.unharmed → StandsWith seen new o
-    still None stood fine = reads.keeps.stands stood fine
-    still (Some u) stood fine = record { lower = reads.keeps.stands stood.lower fine; upper = stood.upper; same = stood.same ∙ sym (reads.keeps.content stood.lower fine) }
+pub enters_settled : {U T : Type 0} (seen : U → Seen) (old new : Seen) (was now : Option U) (gathered : Option Gathered) (r : Result T ShelfFault) (asked : Content → Type 0) (f : Content → Content)
+    → gathered ≡ None → Enters (mirrored seen old was None) (mirrored seen new now None) r (asked old.content) (f old.content)
+    → Enters (mirrored seen old was gathered) (mirrored seen new now gathered) r (asked (mirrored seen old was gathered).content) (f (mirrored seen old was gathered).content)
+enters_settled seen old new was now gathered r asked f none =
+    subst (λ (o : Option Gathered). Enters (mirrored seen old was o) (mirrored seen new now o) r (asked (mirrored seen old was o).content) (f (mirrored seen old was o).content)) (sym none)
+
+-- a judgement that is gathered is open
+pub settled : (lower : Progress) (gathered : Option Gathered) → IsNotOpen (progress_with lower gathered) → gathered ≡ None
+settled lower None closed = refl
+settled lower (Some g) closed = absurd (closed g.code refl)

@@ -1,11 +1,25 @@
 -- What the definitions come to on worked examples.
-use Rattle.std.proofs.Common.{◌≡◌, ◌∙◌, sym, ap, refl}
-use Rattle.std.specs.Prelude.{zero, suc}
+use Rattle.std.proofs.Common.{◌≡◌, ◌≢◌, ◌∙◌, ℕ, List, [], ◌∷◌, true, false, sym, ap, refl, subst, is_some}
+use Rattle.std.specs.Prelude.{zero, suc, Some, None, Option}
+use Rattle.std.specs.FinMap as finite
+use Rattle.std.specs.declared.alloc.Global.{Global}
 use Rattle.gaz_keeper.proofs.Examples.{worked_examples_hold}
+use Rattle.gaz_keeper.proofs.Pairs.{pairs_total}
+use Rattle.gaz_keeper.specs.Board.{last_view}
+use Rattle.gaz_keeper.specs.Received.{pair_cmp}
 use Rattle.gaz_keeper.specs.Examples.{first_received}
-use Rattle.gaz_keeper.specs.Keeper.{Content, IsLawful, after_stop, empty_content}
-use Rattle.gaz_mirror.specs.Examples.{WorkedCalls, WorkedExamples, WorkedMirrors, WorkedSteps}
-use Rattle.gaz_views.proofs.Lawful.{lawful_empty}
+use Rattle.gaz_keeper.specs.Keeper.{Broken, Content, Idle, IsAtHand, IsLawful, Open, after_stop, empty_content, with_working}
+use Rattle.gaz_mirror.specs.Examples.{WorkedCalls, WorkedChanges, WorkedExamples, WorkedGathered, WorkedLeads, WorkedMirrors, WorkedSteps, comes, gathered_above, goes}
+use Rattle.gaz_mirror.specs.Gathering.{made}
+use Rattle.gaz_mirror.specs.InStep.{IsAhead}
+use Rattle.gaz_mirror.specs.Mirroring.{StandApart}
+use Rattle.gaz_mirror.specs.declared.gathered.Change.{Change}
+use Rattle.gaz_mirror.specs.declared.gathered.Gathered.{Gathered}
+use Rattle.gaz_records.specs.declared.key.Key.TheVariants as key
+use Rattle.gaz_views.proofs.Lawful.{lawful_empty, lawful_put, lawful_taken}
+use Rattle.gaz_views.specs.Examples.{no_more, one_street, street}
+use Rattle.gaz_views.specs.View.{View, empty_view, holds, with_item, without_key}
+use Rattle.gaz_records.proofs.KeyOrder.{keys_total}
 
 -- a received file tells them apart
 apart : ¬ (empty_content ≡ first_received)
@@ -14,9 +28,40 @@ apart same = worked_examples_hold.on_stops.read_more (λ k left. left ∙ ap aft
 lawful : IsLawful first_received
 lawful = record { views = λ c. elim [ zero ↦ lawful_empty | suc n ↦ lawful_empty ]; working = lawful_empty }
 
+lawful_above : IsLawful (with_working first_received no_more)
+lawful_above = record { views = lawful.views; working = lawful_taken one_street (key.Street 101) (lawful_put empty_view (street 101) refl lawful_empty) }
+
+street_there : (v : View) → holds (with_item v (street 101)) (key.Street 101) ≡ true
+street_there v = ap is_some (finite.get-insert keys_total v.items (key.Street 101) (street 101) (key.Street 101))
+
+street_gone : (v : View) → holds (without_key v (key.Street 101)) (key.Street 101) ≡ false
+street_gone v = ap is_some (finite.get-remove keys_total v.items (key.Street 101) (key.Street 101))
+
+-- a street that is there tells views apart
+told_apart : (v w : View) → with_item v (street 101) ≢ without_key w (key.Street 101)
+told_apart v w same =
+    let clash = sym (street_there v) ∙ ap (λ (x : View). holds x (key.Street 101)) same ∙ street_gone w in
+    cc
+
+volume_1 : IsAtHand first_received 1001
+volume_1 = ap is_some (finite.get-insert pairs_total (finite.empty {X = List ℕ} {R = pair_cmp}) (1001, 1) [] (1001, 1))
+
 pub examples_hold : WorkedExamples
-examples_hold = record { on_steps = on_steps; on_mirrors = on_mirrors; on_calls = on_calls }
+examples_hold = record { on_changes = on_changes; on_steps = on_steps; on_leads = on_leads; on_mirrors = on_mirrors; on_gathered = on_gathered; on_calls = on_calls }
   where
+    on_changes : WorkedChanges
+    on_changes = record {
+      none = refl;
+      one = refl;
+      both = refl;
+      in_order = told_apart (without_key empty_view (key.Street 101)) one_street;
+      same = λ view. refl;
+      not_same = λ same. told_apart empty_view empty_view (sym (same empty_view));
+      added = λ view. refl;
+      not_added = λ view. refl;
+      lost = λ are. told_apart empty_view one_street (are empty_view);
+    }
+
     on_steps : WorkedSteps
     on_steps = record {
       idle = record { same = refl; whole = λ is. cc };
@@ -26,21 +71,53 @@ examples_hold = record { on_steps = on_steps; on_mirrors = on_mirrors; on_calls 
       broken = λ in_step. in_step.whole refl;
     }
 
-    on_mirrors : WorkedMirrors
-    on_mirrors = record {
+    on_leads : (gathered : Gathered) (of_one : gathered.code ≡ 1) → WorkedLeads gathered of_one
+    on_leads gathered of_one = record {
+      ahead = record { judging = ap Open (sym of_one); closed = λ c is. cc; untried = λ no. refl };
+      both_in_it = λ ahead. ahead.closed 1 refl;
+      of_another = λ ahead. let same = ahead.judging ∙ ap Open of_one in cc;
+      tried = λ is. record { judging = ap Open (sym of_one); closed = λ c is. cc; untried = λ no. let clash = sym is ∙ no in cc };
+      untried = λ no ahead. let clash = ahead.untried no in cc;
+    }
+
+    on_mirrors : (alloc : Global) → WorkedMirrors alloc
+    on_mirrors alloc = record {
       alone = lawful;
       alike = record { lower = lawful; upper = lawful; same = refl };
       apart = λ stood. apart stood.same;
       content = refl;
       stops = refl;
+      gathers = λ is. cc;
     }
 
-    on_calls : WorkedCalls
-    on_calls = record {
+    on_gathered : (gathered : Gathered) (of_1001 : gathered.code ≡ 1001) (these : gathered.changes.items ≡ comes ∷ goes ∷ []) → WorkedGathered gathered of_1001 these
+    on_gathered gathered of_1001 these = record {
+      stands = record {
+        lower = lawful;
+        upper = lawful_above;
+        same = refl;
+        at_hand = subst (IsAtHand first_received) (sym of_1001) volume_1;
+        working = sym (made_of gathered these);
+      };
+      content = refl;
+      progress = ap Open of_1001;
+      stops = refl;
+      not_these = λ stood. told_apart empty_view one_street (stood.working ∙ made_of gathered these);
+      no_file = λ stood. apart stood.same;
+    }
+      where
+        made_of : (g : Gathered) → g.changes.items ≡ comes ∷ goes ∷ [] → made (last_view first_received.board g.code) g.changes.items ≡ no_more
+        made_of g is = ap (made (last_view first_received.board g.code)) is
+
+    on_calls : (alloc : Global) → WorkedCalls alloc
+    on_calls alloc = record {
       kept = λ there. refl;
       none_to_keep = λ there. there;
       not_kept = λ kept. let no = kept refl in cc;
       answered = tt;
       dropped = refl;
       not_dropped = λ none. cc;
+      spared = λ there. refl;
+      none_to_spare_for = λ there. cc;
+      not_spared = λ spared. apart (sym (spared refl));
     }

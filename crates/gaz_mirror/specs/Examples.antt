@@ -1,20 +1,66 @@
 -- Worked examples, computed from the definitions.
-use Rattle.std.specs.Prelude.{◌≡◌, ◌≢◌, refl, None, Some, Option, Ok, Err}
+use Rattle.std.specs.Prelude.{◌≡◌, ◌≢◌, refl, true, false, List, [], ◌∷◌}
+use Rattle.std.specs.Prelude.{None, Some, Option, Ok, Err}
+use Rattle.std.specs.declared.alloc.Global.{Global}
 use Rattle.gaz_keeper.specs.Examples.{first_received, kept_safe}
-use Rattle.gaz_keeper.specs.Keeper.{Broken, Content, Idle, Open, after_stop, empty_content}
+use Rattle.gaz_keeper.specs.Keeper.{Broken, Content, Idle, Open, Seen, after_stop, empty_content}
+use Rattle.gaz_keeper.specs.Keeper.{with_working}
 use Rattle.gaz_keeper.specs.declared.fault.ShelfFault.TheVariants.{Store}
 use Rattle.gaz_keeper.specs.declared.shelf.Shelf.{Ghosts}
-use Rattle.gaz_mirror.specs.InStep.{IsInStep}
-use Rattle.gaz_mirror.specs.Mirrored.{DropsUpper, KeepsUpper, seen_mirrored}
+use Rattle.gaz_mirror.specs.Gathering.{AreThen, IsSameChange, made}
+use Rattle.gaz_mirror.specs.InStep.{IsAhead, IsInStep}
+use Rattle.gaz_mirror.specs.Mirrored.{DropsUpper, Gathers, KeepsUpper, SparesLower}
+use Rattle.gaz_mirror.specs.Mirrored.{seen_mirrored}
+use Rattle.gaz_mirror.specs.Mirroring.{mirrored}
+use Rattle.gaz_mirror.specs.declared.gathered.Change.{Change}
+use Rattle.gaz_mirror.specs.declared.gathered.Change.TheVariants.{Put, Take}
+use Rattle.gaz_mirror.specs.declared.gathered.Gathered.{Gathered}
 use Rattle.gaz_mirror.specs.declared.mirror.Mirror.{Mirror}
+use Rattle.gaz_records.specs.declared.key.Key.TheVariants as key
+use Rattle.gaz_views.specs.Examples.{no_more, one_street, street}
+use Rattle.gaz_views.specs.View.{empty_view}
 
--- two keepers in step, and such as aren't
+-- ---- what is gathered
+
+-- street 101 comes
+abbrev pub comes : Change
+comes = Put (record { item = street 101; entry = refl })
+
+-- it goes
+abbrev pub goes : Change
+goes = Take (key.Street 101)
+
+-- changes are made in their order
+pub record WorkedChanges : Type 0 where
+  pub none : made empty_view [] ≡ empty_view
+  pub one : made empty_view (comes ∷ []) ≡ one_street
+  pub both : made empty_view (comes ∷ goes ∷ []) ≡ no_more
+  pub in_order : made empty_view (goes ∷ comes ∷ []) ≢ no_more
+  pub same : IsSameChange comes comes
+  pub not_same : ¬ IsSameChange comes goes
+  pub added : AreThen (comes ∷ []) (comes ∷ goes ∷ []) true goes
+  pub not_added : AreThen (comes ∷ []) (comes ∷ []) false goes
+  pub lost : ¬ AreThen (comes ∷ []) (comes ∷ []) true goes
+
+-- ---- two keepers
+
+-- two in step, and such as aren't
 pub record WorkedSteps : Type 0 where
   pub idle : IsInStep Idle Idle
   pub in_one_judgement : IsInStep (Open 1) (Open 1)
   pub behind : ¬ IsInStep (Open 1) Idle
   pub in_another : ¬ IsInStep (Open 1) (Open 2)
   pub broken : ¬ IsInStep Broken Broken
+
+-- one ahead of the other by what was gathered of custodian 1
+pub record WorkedLeads (gathered : Gathered) (of_one : gathered.code ≡ 1) : Type 0 where
+  pub ahead : IsAhead Idle (Open 1) gathered
+  pub both_in_it : ¬ IsAhead (Open 1) (Open 1) gathered
+  pub of_another : ¬ IsAhead Idle (Open 2) gathered
+  pub tried : gathered.tried ≡ true → IsAhead Broken (Open 1) gathered
+  pub untried : gathered.tried ≡ false → ¬ IsAhead Broken (Open 1) gathered
+
+-- ---- keepers over two
 
 -- keepers that are just their content
 abbrev pub contents : Ghosts Content
@@ -23,36 +69,75 @@ contents = record { seen = kept_safe }
 pub idle_is_whole : Idle ≢ Broken
 idle_is_whole is = cc
 
+pub none_is_none : {X : Type 0} (x : X) → ¬ (◌≡◌ {A = Option X} None (Some x))
+none_is_none x is = cc
+
 -- a keeper over one such or two, of which none is judging
-abbrev pub over : Content → Option Content → Mirror Content Content contents contents
-over lower upper = record {
+abbrev pub over : Global → Content → Option Content → Mirror Content Content contents contents
+over alloc lower upper = record {
   lower = lower;
   upper = upper;
-  in_step = λ u is. record { same = refl; whole = idle_is_whole };
+  gathered = None;
+  alloc = alloc;
+  in_step = λ none u is. record { same = refl; whole = idle_is_whole };
+  at_hand = λ g is. absurd (none_is_none g is);
+  ahead = λ g is. absurd (none_is_none g is);
 }
 
 -- where both have one content, it is seen as that; where not, it stands for nothing
-pub record WorkedMirrors : Type 0 where
-  pub alone : (seen_mirrored (over first_received None)).stands
-  pub alike : (seen_mirrored (over first_received (Some first_received))).stands
-  pub apart : ¬ (seen_mirrored (over first_received (Some empty_content))).stands
-  pub content : (seen_mirrored (over first_received (Some empty_content))).content ≡ first_received
-  pub stops : (seen_mirrored (over first_received (Some empty_content))).leaves
+pub record WorkedMirrors (alloc : Global) : Type 0 where
+  pub alone : (seen_mirrored (over alloc first_received None)).stands
+  pub alike : (seen_mirrored (over alloc first_received (Some first_received))).stands
+  pub apart : ¬ (seen_mirrored (over alloc first_received (Some empty_content))).stands
+  pub content : (seen_mirrored (over alloc first_received (Some empty_content))).content
+      ≡ first_received
+  pub stops : (seen_mirrored (over alloc first_received (Some empty_content))).leaves
       (after_stop first_received)
+  pub gathers : ¬ Gathers (over alloc first_received (Some first_received))
+
+-- what was gathered, where the upper keeper's content is this one
+abbrev pub gathered_above : Gathered → Content → Seen
+gathered_above gathered above =
+    mirrored kept_safe (kept_safe first_received) (Some above) (Some gathered)
+
+-- the first volume of 1001 is judged, of which street 101 came and went
+pub record WorkedGathered (gathered : Gathered) (of_1001 : gathered.code ≡ 1001)
+    (these : gathered.changes.items ≡ comes ∷ goes ∷ []) : Type 0 where
+  pub stands : (gathered_above gathered (with_working first_received no_more)).stands
+  pub content : (gathered_above gathered (with_working first_received no_more)).content
+      ≡ with_working first_received no_more
+  pub progress : (gathered_above gathered (with_working first_received no_more)).progress
+      ≡ Open 1001
+  pub stops : (gathered_above gathered (with_working first_received no_more)).leaves
+      (after_stop first_received)
+  pub not_these : ¬ (gathered_above gathered (with_working first_received one_street)).stands
+  pub no_file : ¬ (gathered_above gathered (with_working empty_content no_more)).stands
 
 -- what a call leaves of the two
-pub record WorkedCalls : Type 0 where
-  pub kept : KeepsUpper (over first_received (Some first_received))
-      (over first_received (Some first_received))
-  pub none_to_keep : KeepsUpper (over empty_content None) (over first_received None)
-  pub not_kept : ¬ KeepsUpper (over first_received (Some first_received))
-      (over first_received None)
-  pub answered : DropsUpper {T = Unit {0}} (Ok tt) (over first_received (Some first_received))
-  pub dropped : DropsUpper {T = Unit {0}} (Err Store) (over first_received None)
+pub record WorkedCalls (alloc : Global) : Type 0 where
+  pub kept : KeepsUpper (over alloc first_received (Some first_received))
+      (over alloc first_received (Some first_received))
+  pub none_to_keep : KeepsUpper (over alloc empty_content None) (over alloc first_received None)
+  pub not_kept : ¬ KeepsUpper (over alloc first_received (Some first_received))
+      (over alloc first_received None)
+  pub answered : DropsUpper {T = Unit {0}} (Ok tt)
+      (over alloc first_received (Some first_received))
+  pub dropped : DropsUpper {T = Unit {0}} (Err Store) (over alloc first_received None)
   pub not_dropped : ¬ DropsUpper {T = Unit {0}} (Err Store)
-      (over first_received (Some first_received))
+      (over alloc first_received (Some first_received))
+  pub spared : SparesLower (over alloc first_received (Some empty_content))
+      (over alloc first_received (Some first_received))
+  pub none_to_spare_for : SparesLower (over alloc empty_content (Some empty_content))
+      (over alloc first_received None)
+  pub not_spared : ¬ SparesLower (over alloc empty_content (Some empty_content))
+      (over alloc first_received (Some first_received))
 
 pub record WorkedExamples : Type 0 where
+  pub on_changes : WorkedChanges
   pub on_steps : WorkedSteps
-  pub on_mirrors : WorkedMirrors
-  pub on_calls : WorkedCalls
+  pub on_leads : (gathered : Gathered) (of_one : gathered.code ≡ 1)
+      → WorkedLeads gathered of_one
+  pub on_mirrors : (alloc : Global) → WorkedMirrors alloc
+  pub on_gathered : (gathered : Gathered) (of_1001 : gathered.code ≡ 1001)
+      (these : gathered.changes.items ≡ comes ∷ goes ∷ []) → WorkedGathered gathered of_1001 these
+  pub on_calls : (alloc : Global) → WorkedCalls alloc

@@ -1,3 +1,5 @@
+pub mod Bare
+pub mod Gathering
 pub mod InStep
 pub mod Mirroring
 pub mod Mirrored

@@ -8,7 +8,8 @@ use Rattle.gaz_mirror.specs.declared.mirror.Mirror.{Mirror}
 
 abbrev pub seen_mirrored : {L U : Type 0} → {lower : Ghosts L} → {upper : Ghosts U}
     → Mirror L U lower upper → Seen
-seen_mirrored {L} {U} {lower} {upper} m = mirrored upper.seen (lower.seen m.lower) m.upper
+seen_mirrored {L} {U} {lower} {upper} m =
+    mirrored upper.seen (lower.seen m.lower) m.upper m.gathered
 
 -- where there was an upper one, there is one still
 abbrev pub KeepsUpper : {L U : Type 0} → {lower : Ghosts L} → {upper : Ghosts U}
@@ -19,3 +20,13 @@ KeepsUpper old new = IsSome old.upper → IsSome new.upper
 abbrev pub DropsUpper : {L U T : Type 0} → {lower : Ghosts L} → {upper : Ghosts U}
     → Result T ShelfFault → Mirror L U lower upper → Type 0
 DropsUpper result new = OnErr result (new.upper ≡ None)
+
+-- where there is an upper one still, the lower one is as it was
+abbrev pub SparesLower : {L U : Type 0} → {lower : Ghosts L} → {upper : Ghosts U}
+    → Mirror L U lower upper → Mirror L U lower upper → Type 0
+SparesLower old new = IsSome new.upper → new.lower ≡ old.lower
+
+-- a judgement is gathered above
+abbrev pub Gathers : {L U : Type 0} → {lower : Ghosts L} → {upper : Ghosts U}
+    → Mirror L U lower upper → Type 0
+Gathers m = IsSome m.gathered

@@ -8,17 +8,21 @@ ghost use Rattle.gaz_keeper.specs.Telling.{TellsApprovedOf, TellsApprovedOn, Tel
 ghost use Rattle.gaz_keeper.specs.Telling.{TellsChildren};
 ghost use Rattle.gaz_keeper.specs.Telling.{TellsCurrent, TellsEver, TellsPage, TellsPropertyOf};
 ghost use Rattle.gaz_keeper.specs.Telling.{TellsReached, TellsVerdict};
-ghost use Rattle.gaz_mirror.specs.Mirrored.{DropsUpper, KeepsUpper, seen_mirrored};
+ghost use Rattle.gaz_mirror.specs.Mirrored.{DropsUpper, Gathers, KeepsUpper, SparesLower};
+ghost use Rattle.gaz_mirror.specs.Mirrored.{seen_mirrored};
 
+use crate::asked::{ApprovedOf, ApprovedOn, At, Children, Current, Ever};
+use crate::asked::{Page, PropertyOf, Reached, VerdictOn};
+use crate::gathered::{Change, Entry, Gathered};
 use crate::mirror::Mirror;
-use crate::turns::{change, reading};
+use crate::turns::change;
 use crate::unshared::Unshared;
 use gaz_ids::{Code, Lang, Uprn, Usrn, Volume};
 use gaz_keeper::{Inbox, Property, Shelf, ShelfFault, Verdict};
 use gaz_records::{Key, Kind, SharedItem};
 
-// Beside what every keeper tells: a reading keeps the upper keeper, and a fault of a change, or of
-// making sure, leaves none.
+// Beside what every keeper tells: a reading keeps the upper keeper, and a fault of a change leaves
+// none. While a judgement is gathered, the lower keeper is as it was.
 impl<L: Inbox + Drop, U: Unshared + Drop> Shelf for Mirror<L, U> {
     ghost seen = { seen_mirrored };
 
@@ -26,49 +30,49 @@ impl<L: Inbox + Drop, U: Unshared + Drop> Shelf for Mirror<L, U> {
         ensures reads { TellsReached seen_mirrored self.old self.new result code }
         ensures keeps { KeepsUpper self.old self.new }
     {
-        reading!(self, reached(code))
+        self.read(&Reached { code })
     }
 
     fn verdict(&mut self, code: Code, volume: Volume) -> Result<Option<Verdict>, ShelfFault>
         ensures reads { TellsVerdict seen_mirrored self.old self.new result code volume }
         ensures keeps { KeepsUpper self.old self.new }
     {
-        reading!(self, verdict(code, volume))
+        self.read(&VerdictOn { code, volume })
     }
 
     fn current(&mut self, code: Code, key: &Key) -> Result<Option<SharedItem>, ShelfFault>
         ensures reads { TellsCurrent seen_mirrored self.old self.new result code key.now }
         ensures keeps { KeepsUpper self.old self.new }
     {
-        reading!(self, current(code, key))
+        self.read(&Current { code, key: *key })
     }
 
     fn at(&mut self, code: Code, volume: u64, key: &Key) -> Result<Option<SharedItem>, ShelfFault>
         ensures reads { TellsAt seen_mirrored self.old self.new result code volume key.now }
         ensures keeps { KeepsUpper self.old self.new }
     {
-        reading!(self, at(code, volume, key))
+        self.read(&At { code, volume, key: *key })
     }
 
     fn ever(&mut self, code: Code, key: &Key) -> Result<bool, ShelfFault>
         ensures reads { TellsEver seen_mirrored self.old self.new result code key.now }
         ensures keeps { KeepsUpper self.old self.new }
     {
-        reading!(self, ever(code, key))
+        self.read(&Ever { code, key: *key })
     }
 
     fn approved_of(&mut self, code: Code, uprn: Uprn) -> Result<Vec<Key>, ShelfFault>
         ensures reads { TellsApprovedOf seen_mirrored self.old self.new result code uprn }
         ensures keeps { KeepsUpper self.old self.new }
     {
-        reading!(self, approved_of(code, uprn))
+        self.read(&ApprovedOf { code, uprn })
     }
 
     fn property_of(&mut self, code: Code, uprn: Uprn) -> Result<Option<Property>, ShelfFault>
         ensures reads { TellsPropertyOf seen_mirrored self.old self.new result code uprn }
         ensures keeps { KeepsUpper self.old self.new }
     {
-        reading!(self, property_of(code, uprn))
+        self.read(&PropertyOf { code, uprn })
     }
 
     fn approved_on(
@@ -80,14 +84,14 @@ impl<L: Inbox + Drop, U: Unshared + Drop> Shelf for Mirror<L, U> {
         ensures reads { TellsApprovedOn seen_mirrored self.old self.new result code usrn lang }
         ensures keeps { KeepsUpper self.old self.new }
     {
-        reading!(self, approved_on(code, usrn, lang))
+        self.read(&ApprovedOn { code, usrn, lang })
     }
 
     fn children(&mut self, code: Code, uprn: Uprn) -> Result<bool, ShelfFault>
         ensures reads { TellsChildren seen_mirrored self.old self.new result code uprn }
         ensures keeps { KeepsUpper self.old self.new }
     {
-        reading!(self, children(code, uprn))
+        self.read(&Children { code, uprn })
     }
 
     fn page(
@@ -103,71 +107,74 @@ impl<L: Inbox + Drop, U: Unshared + Drop> Shelf for Mirror<L, U> {
             seen_mirrored self.old self.new result code volume kind after most }
         ensures keeps { KeepsUpper self.old self.new }
     {
-        let from = after;
-        if let Some(upper) = &mut self.upper
-            && let Ok(items) = upper.page(code, volume, kind, from, most)
-        {
-            return Ok(items);
-        }
-        self.lower.page(code, volume, kind, after, most)
+        self.read(&Page { code, volume, kind, after, most })
     }
 
     fn begin(&mut self, code: Code) -> Result<(), ShelfFault>
-        requires { IsNotOpen (L.seen self.old.lower).progress }
+        requires { IsNotOpen (seen_mirrored self.old).progress }
         ensures goes { Begins seen_mirrored self.old self.new result code }
         ensures drops { DropsUpper result self.new }
+        ensures spares { SparesLower self.old self.new }
     {
-        change!(self, begin(code))
+        if let Some(upper) = &mut self.upper
+            && upper.begin(code).is_ok()
+        {
+            self.gathered = Some(Gathered::new(self.alloc, code));
+            return Ok(());
+        }
+        self.upper = None;
+        self.lower.begin(code)
     }
 
     fn put(&mut self, item: SharedItem) -> Result<(), ShelfFault>
-        requires begun { (L.seen self.old.lower).progress ≢ Idle }
+        requires begun { (seen_mirrored self.old).progress ≢ Idle }
         requires entry { is_entry item ≡ true }
         ensures sets { Puts seen_mirrored self.old self.new result item }
         ensures refuses { Refuses (seen_mirrored self.old) result }
         ensures drops { DropsUpper result self.new }
+        ensures spares { Gathers self.old → SparesLower self.old self.new }
     {
-        let shared = item.share();
-        let put = self.lower.put(item);
-        if put.is_ok()
-            && let Ok(item) = shared
-            && let Some(upper) = &mut self.upper
-            && upper.put(item).is_ok()
-        {
-            return put;
-        }
-        self.upper = None;
-        put
+        self.change(Change::Put(Entry { item }))
     }
 
     fn take(&mut self, key: &Key) -> Result<(), ShelfFault>
-        requires { (L.seen self.old.lower).progress ≢ Idle }
+        requires { (seen_mirrored self.old).progress ≢ Idle }
         ensures sets { Takes seen_mirrored self.old self.new result key.now }
         ensures refuses { Refuses (seen_mirrored self.old) result }
         ensures drops { DropsUpper result self.new }
+        ensures spares { Gathers self.old → SparesLower self.old self.new }
     {
-        change!(self, take(key))
+        self.change(Change::Take(*key))
     }
 
     fn keep(&mut self) -> Result<(), ShelfFault>
-        requires { (L.seen self.old.lower).progress ≢ Idle }
+        requires { (seen_mirrored self.old).progress ≢ Idle }
         ensures keeps { Applies seen_mirrored self.old self.new result }
         ensures refuses { Refuses (seen_mirrored self.old) result }
         ensures drops { DropsUpper result self.new }
     {
-        change!(self, keep())
+        if self.gathered.is_none() {
+            return self.keep_both();
+        }
+        self.hand_down()?;
+        self.keep_both()
     }
 
     fn abandon(&mut self) -> Result<(), ShelfFault>
-        requires { (L.seen self.old.lower).progress ≢ Idle }
+        requires { (seen_mirrored self.old).progress ≢ Idle }
         ensures goes { Abandons seen_mirrored self.old self.new result }
         ensures drops { DropsUpper result self.new }
+        ensures spares { Gathers self.old → SparesLower self.old self.new }
     {
-        change!(self, abandon())
+        if self.gathered.is_some() {
+            self.abandon_above()
+        } else {
+            self.abandon_both()
+        }
     }
 
     fn skip(&mut self, code: Code, place: u64, rule: u8) -> Result<(), ShelfFault>
-        requires { IsNotOpen (L.seen self.old.lower).progress }
+        requires { IsNotOpen (seen_mirrored self.old).progress }
         ensures enters { Skips seen_mirrored self.old self.new result code place rule }
         ensures drops { DropsUpper result self.new }
     {

@@ -23,7 +23,7 @@ pub fn finds_what_it_received(
     ensures { IfOk result (λ found. option_map (λ b. b.items) found ≡ Some bytes.now) }
 {
     let upper = Faulty::new(MemShelf::new(alloc, seed), fails_at);
-    let mut mirror = Mirror::with(MemShelf::new(alloc, seed), upper);
+    let mut mirror = Mirror::with(alloc, MemShelf::new(alloc, seed), upper);
     receive_and_find(&mut mirror, code, volume, bytes)
 }
 

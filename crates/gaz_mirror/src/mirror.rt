@@ -2,48 +2,67 @@
 ghost use Rattle.std.specs.Prelude.{◌≡◌, ◌↔◌, None, Some, IsSome, IsTrue};
 ghost use Rattle.std.specs.Option.{ForSome};
 ghost use Rattle.gaz_keeper.specs.Keeper.{Idle};
-ghost use Rattle.gaz_mirror.specs.InStep.{IsInStep};
+ghost use Rattle.gaz_mirror.specs.InStep.{IsAhead, IsInStep};
 
+use crate::gathered::Gathered;
 use crate::unshared::Unshared;
 use gaz_keeper::Inbox;
+use std::alloc::Global;
 
 /// Keeps one content twice: below, where it is to last, and at hand above, where it is read.
 ///
-/// Each change goes to the lower keeper first, and is answered by it; each reading is answered by
-/// the upper one, or by the lower one where the upper one can't. After any fault of either in a
-/// change, and of the lower one where it is to make sure, the upper one is dropped, and the lower
-/// one answers everything.
+/// A judgement is made above and gathered, and handed down in one go when it is kept; one that is
+/// given up never comes below. Every other change goes to the lower keeper first, and is answered by
+/// it. Each reading is answered by the upper one, or by the lower one where the upper one can't: what
+/// is gathered is handed down before. After any fault of the lower one in a change, or of the upper
+/// one, the upper one is dropped, and the lower one answers everything; so too where the lower one
+/// can't make sure between judgements.
 #[derive(Drop)]
 pub struct Mirror<L: Inbox + Drop, U: Unshared + Drop> {
     pub(crate) lower: L,
     pub(crate) upper: Option<U>,
-    ghost in_step: { ForSome upper (λ u. IsInStep (L.seen lower).progress (U.seen u).progress) },
+    pub(crate) gathered: Option<Gathered>,
+    pub(crate) alloc: Global,
+    ghost in_step: { gathered ≡ None
+        → ForSome upper (λ u. IsInStep (L.seen lower).progress (U.seen u).progress) },
+    ghost at_hand: { ForSome gathered (λ _. IsSome upper) },
+    ghost ahead: { ForSome gathered (λ g.
+        ForSome upper (λ u. IsAhead (L.seen lower).progress (U.seen u).progress g)) },
 }
 
 impl<L: Inbox + Drop, U: Unshared + Drop> Mirror<L, U> {
     ghost use Rattle.gaz_mirror.specs.Mirrored.{seen_mirrored};
 
     /// Over a keeper, without one at hand.
-    pub fn over(lower: L) -> Mirror<L, U>
+    pub fn over(alloc: Global, lower: L) -> Mirror<L, U>
         ensures lower { result.lower ≡ lower }
         ensures alone { result.upper ≡ None }
+        ensures apart { result.gathered ≡ None }
         ensures stands { (L.seen lower).stands → (seen_mirrored result).stands }
     {
-        Mirror { lower, upper: None }
+        Mirror {
+            lower,
+            upper: None,
+            gathered: None,
+            alloc,
+        }
     }
 
     /// Over a keeper, with one at hand that has the same content. Neither may be judging.
-    pub fn with(lower: L, upper: U) -> Mirror<L, U>
+    pub fn with(alloc: Global, lower: L, upper: U) -> Mirror<L, U>
         requires lower { (L.seen lower).progress ≡ Idle }
         requires upper { (U.seen upper).progress ≡ Idle }
         ensures lower { result.lower ≡ lower }
         ensures upper { result.upper ≡ Some upper }
+        ensures apart { result.gathered ≡ None }
         ensures stands { (L.seen lower).stands → (U.seen upper).stands
             → (U.seen upper).content ≡ (L.seen lower).content → (seen_mirrored result).stands }
     {
         Mirror {
             lower,
             upper: Some(upper),
+            gathered: None,
+            alloc,
         }
     }
 
@@ -54,12 +73,13 @@ impl<L: Inbox + Drop, U: Unshared + Drop> Mirror<L, U> {
         self.upper.is_some()
     }
 
-    /// The lower keeper, and the one at hand where there is one.
+    /// The lower keeper, and the one at hand where there is one. A judgement that was gathered is
+    /// lost: the lower keeper never knew of it.
     pub fn into_parts(self) -> (L, Option<U>)
         ensures lower { result.0 ≡ self.lower }
         ensures upper { result.1 ≡ self.upper }
     {
-        let Mirror { lower, upper } = self;
+        let Mirror { lower, upper, .. } = self;
         (lower, upper)
     }
 }

@@ -17,6 +17,7 @@ use Rattle.gaz_hub.specs.declared.hub.Hub.{Hub}
 use Rattle.gaz_hub.proofs.Advancing.{may_keep}
 use Rattle.gaz_loaded.specs.Files.{OnlyReads}
 use Rattle.gaz_mirror.specs.Mirroring.{StandsWith, mirrored}
+use Rattle.gaz_mirror.specs.declared.gathered.Gathered.{Gathered}
 use Rattle.gaz_mirrored.specs.Filling.{CanBeMirrored, IsFilled}
 use Rattle.gaz_mirrored.proofs.Alike.{of_these}
 
@@ -31,7 +32,7 @@ module _ (reg : RegisterValue) (b c : Seen) (reads : OnlyReads b c) (can : CanBe
   rests : c.content.working ≡ empty_view → after_stop c.content ≡ c.content
   rests bare = λ i. record { files = c.content.files; board = c.content.board; working = sym bare i }
 
-  both_stand : (upper : Option MemShelf) → ForSome upper (IsFilled reg b c) → StandsWith seen_in c upper
+  both_stand : (upper : Option MemShelf) → ForSome upper (IsFilled reg b c) → StandsWith seen_in c upper None
   both_stand None filled = stood
   both_stand (Some u) filled =
       let is = filled u refl in
@@ -41,7 +42,7 @@ module _ (reg : RegisterValue) (b c : Seen) (reads : OnlyReads b c) (can : CanBe
         same = is.loaded can.run.stands.0 fine (of_these reg b can) ∙ ap after_stop (sym same) ∙ rests (lower_bare is.lower);
       }
 
-  pub stands_mirrored : (upper : Option MemShelf) → ForSome upper (IsFilled reg b c) → StandsForRun (door_of reg) (mirrored seen_in c upper)
+  pub stands_mirrored : (upper : Option MemShelf) → ForSome upper (IsFilled reg b c) → StandsForRun (door_of reg) (mirrored seen_in c upper None)
   stands_mirrored upper filled =
       let d = door_of reg in
       record {
@@ -59,10 +60,10 @@ pub over_parts : {K : Type 0} (seen : K → Seen) (P : RegisterValue → Seen �
     → P hub.register (hub_seen seen hub) → P reg (remembering reg None (seen keeper))
 over_parts {K} seen P hub reg keeper e f g = subst (λ (t : RegisterValue × K × Option Remembered). P t.0 (remembering t.0 t.2 (seen t.1))) (λ i. (e i, f i, g i))
 
--- also where the two have other names
-pub of_made : {L K : Type 0} (low : L → Seen) (seen : K → Seen) (reg : RegisterValue) (x y : L) (u v : Option K) → x ≡ y → u ≡ v
-    → ((low y).unharmed → StandsForRun (door_of reg) (mirrored seen (low y) v)) → (low x).unharmed → StandsForRun (door_of reg) (mirrored seen (low x) u)
-of_made {L} {K} low seen reg x y u v e f = subst (λ (t : L × Option K). (low t.0).unharmed → StandsForRun (door_of reg) (mirrored seen (low t.0) t.1)) (λ i. (sym e i, sym f i))
+-- also where the three have other names
+pub of_made : {L K : Type 0} (low : L → Seen) (seen : K → Seen) (reg : RegisterValue) (x y : L) (u v : Option K) (gathered : Option Gathered) → x ≡ y → u ≡ v → gathered ≡ None
+    → ((low y).unharmed → StandsForRun (door_of reg) (mirrored seen (low y) v None)) → (low x).unharmed → StandsForRun (door_of reg) (mirrored seen (low x) u gathered)
+of_made {L} {K} low seen reg x y u v gathered e f none = subst (λ (t : L × Option K × Option Gathered). (low t.0).unharmed → StandsForRun (door_of reg) (mirrored seen (low t.0) t.1 t.2)) (λ i. (sym e i, sym f i, sym none i))
 
 pub of_lower : {L : Type 0} (low : L → Seen) (reg was : RegisterValue) (x y : L) → was ≡ reg → x ≡ y → CanBeMirrored (door_of reg) (low y) → CanBeMirrored (door_of was) (low x)
 of_lower {L} low reg was x y e f = subst (λ (t : RegisterValue × L). CanBeMirrored (door_of t.0) (low t.1)) (λ i. (sym e i, sym f i))

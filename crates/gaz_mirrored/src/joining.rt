@@ -1,5 +1,5 @@
 //! A hub over a mirror in place of one over the lower keeper alone.
-ghost use Rattle.std.specs.Prelude.{◌≡◌};
+ghost use Rattle.std.specs.Prelude.{◌≡◌, None};
 ghost use Rattle.std.specs.Option.{ForSome};
 ghost use Rattle.gaz_keeper.specs.Keeper.{Idle};
 ghost use Rattle.gaz_keeper.specs.Telling.{IsNotJudging};
@@ -20,15 +20,20 @@ use gaz_shelf::{MemShelf, Seed};
 use std::alloc::Global;
 
 // A mirror over both, or over the lower one alone.
-fn join<L: Inbox + Drop>(lower: L, upper: Option<MemShelf>) -> Mirror<L, MemShelf>
+fn join<L: Inbox + Drop>(
+    alloc: Global,
+    lower: L,
+    upper: Option<MemShelf>,
+) -> Mirror<L, MemShelf>
     requires { ForSome upper (λ u. ((L.seen lower).progress ≡ Idle)
         × ((seen_in u).progress ≡ Idle)) }
     ensures lower { result.lower ≡ lower }
     ensures upper { result.upper ≡ upper }
+    ensures apart { result.gathered ≡ None }
 {
     match upper {
-        Some(upper) => Mirror::with(lower, upper),
-        None => Mirror::over(lower),
+        Some(upper) => Mirror::with(alloc, lower, upper),
+        None => Mirror::over(alloc, lower),
     }
 }
 
@@ -55,5 +60,5 @@ pub fn mirrored<L: Listed + Drop>(
     let (register, lower) = hub.into_parts();
     let mut lower = lower;
     let upper = fill(alloc, seed, &register, &mut lower);
-    Hub::new(alloc, register, join(lower, upper))
+    Hub::new(alloc, register, join(alloc, lower, upper))
 }

@@ -22,7 +22,7 @@ returns-clause-stands g c = λ bare can fine.
     let lower_is = ap (λ (t : _ × _). t.1) parts.ensures in
     let could = of_lower low hub.register parts.result.0 parts.result.1 hub.keeper reg_is lower_is can in
     let sound = subst (λ m. (seen_mirrored m).unharmed) c.new.ensures.keeper fine in
-    let stood = of_made low seen_in parts.result.0 mirror.lower lower mirror.upper fill.result c.join.ensures.lower c.join.ensures.upper
+    let stood = of_made low seen_in parts.result.0 mirror.lower lower mirror.upper fill.result mirror.gathered c.join.ensures.lower c.join.ensures.upper c.join.ensures.apart
     (λ now. stands_mirrored parts.result.0 (low parts.result.1) (low lower) fill.ensures.reads could now (bare lower) fill.result fill.ensures.filled) sound in
     subst (λ m. StandsForRun (door_of hub.register) (seen_mirrored m)) (sym c.new.ensures.keeper)
     (subst (λ r. StandsForRun (door_of r) (seen_mirrored mirror)) reg_is stood)

@@ -1,14 +1,20 @@
-use Rattle.std.proofs.Common.{ap, subst, sym}
+-- Nothing is gathered.
+use Rattle.std.specs.Prelude.{None}
 use Rattle.gaz_keeper.specs.Keeper.{Content, IsNew, with_received}
-use Rattle.gaz_mirror.proofs.Changing.{enters_both}
+use Rattle.gaz_mirror.proofs.Changing.{enters_below, enters_settled, settled}
 use Rattle.gaz_mirror.proofs.files.MirrorInbox.receive.Goals as goal
 
-pub returns-clause-enters : goal.returns-clause-enters
-returns-clause-enters g c =
+pub invariant_of-self-2 : goal.invariant_of-self-2
+invariant_of-self-2 g c =
+    let none = settled (g.L.Shelf.seen c.args.self.now.lower).progress c.args.self.now.gathered c.requires in
+    record { in_step = λ _ u is. cc; at_hand = λ x is. cc; ahead = λ x _ u is. cc }
+
+pub returns-2-clause-enters : goal.returns-2-clause-enters
+returns-2-clause-enters g c =
     let m = c.args.self.now in
-    let received = λ (k : Content). with_received k c.args.code c.args.volume c.args.bytes.now in
     let below = g.L.Shelf.seen m.lower in
-    let above = g.U.Shelf.seen c.in-Some.upper in
-    enters_both g.U.Shelf.seen g.met.U.Unshared.never_harmed below (g.L.Shelf.seen c.receive-done.new.self) m.upper c.in-Some.upper c.receive.new.self c.receive-done.result c.receive.result _ _
-    (received below.content) (received above.content) c.in-Some.is (cc) (cc) c.receive-done.ensures.enters c.receive.ensures.enters
-    (λ same. subst (λ k. IsNew k c.args.code c.args.volume) (sym same)) (ap received)
+    let new = g.L.Shelf.seen c.receive-done.new.self in
+    let received = λ (k : Content). with_received k c.args.code c.args.volume c.args.bytes.now in
+    let fresh = λ (k : Content). IsNew k c.args.code c.args.volume in
+    enters_settled g.U.Shelf.seen below new m.upper None m.gathered c.receive-done.result fresh received (settled below.progress m.gathered c.requires)
+    (enters_below g.U.Shelf.seen below new m.upper c.receive-done.result (fresh below.content) (received below.content) c.receive-done.ensures.enters)

@@ -1,0 +1,8 @@
+use Rattle.std.proofs.Common.{◌∙◌, sym}
+use Rattle.gaz_mirror.proofs.Ahead.{closed}
+use Rattle.gaz_mirror.proofs.mirror.Mirror.hand_down.Goals as goal
+
+pub hand_to-requires : goal.hand_to-requires
+hand_to-requires g c =
+    let m = c.args.self.now in
+    closed g.U.Shelf.seen (g.L.Shelf.seen m.lower).progress m.upper m.gathered c.in-Some.gathered m.at_hand m.ahead (sym c.take.ensures.value ∙ c.in-Some.is)
