@@ -1,3 +1,4 @@
 pub mod Alike
 pub mod Filled
 pub mod Volumes
+pub mod Examples
