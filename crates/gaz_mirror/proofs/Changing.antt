@@ -128,7 +128,7 @@ pub goes_settled : {U T : Type 0} (seen : U → Seen) (old new : Seen) (was now 
     (commits : Content → Option Content) (after : Progress → Progress) → gathered ≡ None
     → Goes (mirrored seen old was None) (mirrored seen new now None) r ⊤ (f old.progress old.content) (commits (f old.progress old.content)) (after old.progress)
     → Goes (mirrored seen old was gathered) (mirrored seen new now gathered) r ⊤ (f (mirrored seen old was gathered).progress (mirrored seen old was gathered).content)
-      (commits (f (mirrored seen old was gathered).progress (mirrored seen old was gathered).content)) (after (mirrored seen old was gathered).progress)
+    (commits (f (mirrored seen old was gathered).progress (mirrored seen old was gathered).content)) (after (mirrored seen old was gathered).progress)
 goes_settled seen old new was now gathered r f commits after none =
     subst (λ (o : Option Gathered). Goes (mirrored seen old was o) (mirrored seen new now o) r ⊤ (f (mirrored seen old was o).progress (mirrored seen old was o).content)
     (commits (f (mirrored seen old was o).progress (mirrored seen old was o).content)) (after (mirrored seen old was o).progress)) (sym none)

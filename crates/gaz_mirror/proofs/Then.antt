@@ -70,10 +70,26 @@ module _ {T : Type 0} (a b d : Seen) (r : Result T ShelfFault) (asked : Type 0) 
 pub failed : {T : Type 0} (a b : Seen) (e : ShelfFault) (asked : Type 0) (w w' : Content) (commits : Option Content) (p p' : Progress)
     → Goes {T = T} a b (Err e) asked w None p → Goes {T = T} a b (Err e) asked w' commits p'
 failed a b e asked w w' None p p' goes = record {
-  harm = goes.harm; stands = goes.stands; done = λ _ _ _. tt; undone = goes.undone; on = tt; broken = goes.broken; counts = goes.counts; leaves = goes.leaves; whole = goes.whole; committed = λ _ _. tt;
+  harm = goes.harm;
+  stands = goes.stands;
+  done = λ _ _ _. tt;
+  undone = goes.undone;
+  on = tt;
+  broken = goes.broken;
+  counts = goes.counts;
+  leaves = goes.leaves;
+  whole = goes.whole;
+  committed = λ _ _. tt;
 }
 failed a b e asked w w' (Some becomes) p p' goes = record {
-  harm = goes.harm; stands = goes.stands; done = λ _ _ _. tt; undone = goes.undone; on = tt; broken = goes.broken; counts = goes.counts;
+  harm = goes.harm;
+  stands = goes.stands;
+  done = λ _ _ _. tt;
+  undone = goes.undone;
+  on = tt;
+  broken = goes.broken;
+  counts = goes.counts;
   leaves = λ sound met k l. inl (goes.leaves sound met k l);
-  whole = goes.whole; committed = λ _ _. tt;
+  whole = goes.whole;
+  committed = λ _ _. tt;
 }

@@ -2,20 +2,15 @@
 use Rattle.std.specs.Prelude.{◌≡◌, ◌≤◌, ℕ, List, IsSome, map}
 use Rattle.std.specs.FinMap as finite
 use Rattle.gaz_register.specs.Registers.{CustodianValue, RegisterValue}
-use Rattle.gaz_views.specs.View.{empty_view}
 use Rattle.gaz_keeper.specs.Keeper.{Idle, Seen}
 use Rattle.gaz_keeper.specs.Received.{Received}
 use Rattle.gaz_shelf.specs.Mem.{seen_in}
 use Rattle.gaz_shelf.specs.declared.mem_shelf.MemShelf.{MemShelf}
 use Rattle.gaz_loaded.specs.Loading.{IsLoaded}
+pub use Rattle.gaz_mirror.specs.Bare.{RestsBare}
 use Rattle.gaz_hub.specs.Laws.{StandsForRun}
 use Rattle.gaz_hub.specs.Runs.{Run}
 use Rattle.gaz_hub.specs.Step.{Command, Door, HubState, Response}
-
--- a keeper in which no judgement is in progress has no working view
-abbrev pub RestsBare : {K : Type 0} → (K → Seen) → Type 0
-RestsBare {K} seen =
-    (k : K) → (seen k).progress ≡ Idle → (seen k).content.working ≡ empty_view
 
 -- each file came as a volume from 1 on
 abbrev pub AreVolumes : Received → Type 0

@@ -11,7 +11,7 @@ use std::test::Fail;
 fn the_upper_keeper_answers_so(rt: HostRuntime) -> Result<(), Fail> {
     let lower = Faulty::new(MemShelf::new(rt.alloc(), Seed::of(1)), 0);
     let upper = Faulty::new(MemShelf::new(rt.alloc(), Seed::of(2)), 0);
-    let mut shelf = Tried::new(Mirror::with(lower, upper));
+    let mut shelf = Tried::new(Mirror::with(rt.alloc(), lower, upper));
     performs_all(&rt, &mut shelf)?;
     let (lower, upper) = shelf.into_keeper().into_parts();
     let below = lower.counted();
@@ -36,7 +36,7 @@ fn the_lower_keeper_answers_where_the_upper_fails(rt: HostRuntime) -> Result<(),
     for call in 1..400 {
         let lower = MemShelf::new(rt.alloc(), Seed::of(1));
         let upper = Faulty::new(MemShelf::new(rt.alloc(), Seed::of(2)), call);
-        let mut shelf = Tried::new(Mirror::with(lower, upper));
+        let mut shelf = Tried::new(Mirror::with(rt.alloc(), lower, upper));
         performs_all(&rt, &mut shelf)?;
     }
     Ok(())
