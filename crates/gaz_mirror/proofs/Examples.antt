@@ -1,6 +1,6 @@
 -- What the definitions come to on worked examples.
 use Rattle.std.proofs.Common.{◌≡◌, ◌≢◌, ◌∙◌, ℕ, List, [], ◌∷◌, true, false, sym, ap, refl, subst, is_some}
-use Rattle.std.specs.Prelude.{zero, suc, Some, None, Option}
+use Rattle.std.specs.Prelude.{zero, suc}
 use Rattle.std.specs.FinMap as finite
 use Rattle.std.specs.declared.alloc.Global.{Global}
 use Rattle.gaz_keeper.proofs.Examples.{worked_examples_hold}
@@ -8,12 +8,9 @@ use Rattle.gaz_keeper.proofs.Pairs.{pairs_total}
 use Rattle.gaz_keeper.specs.Board.{last_view}
 use Rattle.gaz_keeper.specs.Received.{pair_cmp}
 use Rattle.gaz_keeper.specs.Examples.{first_received}
-use Rattle.gaz_keeper.specs.Keeper.{Broken, Content, Idle, IsAtHand, IsLawful, Open, after_stop, empty_content, with_working}
-use Rattle.gaz_mirror.specs.Examples.{WorkedCalls, WorkedChanges, WorkedExamples, WorkedGathered, WorkedLeads, WorkedMirrors, WorkedSteps, comes, gathered_above, goes}
+use Rattle.gaz_keeper.specs.Keeper.{IsAtHand, IsLawful, Open, after_stop, empty_content, with_working}
+use Rattle.gaz_mirror.specs.Examples.{WorkedCalls, WorkedChanges, WorkedExamples, WorkedGathered, WorkedLeads, WorkedMirrors, WorkedSteps, comes, goes}
 use Rattle.gaz_mirror.specs.Gathering.{made}
-use Rattle.gaz_mirror.specs.InStep.{IsAhead}
-use Rattle.gaz_mirror.specs.Mirroring.{StandApart}
-use Rattle.gaz_mirror.specs.declared.gathered.Change.{Change}
 use Rattle.gaz_mirror.specs.declared.gathered.Gathered.{Gathered}
 use Rattle.gaz_records.specs.declared.key.Key.TheVariants as key
 use Rattle.gaz_views.proofs.Lawful.{lawful_empty, lawful_put, lawful_taken}

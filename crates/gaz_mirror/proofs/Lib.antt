@@ -3,4 +3,3 @@ pub mod Changing
 pub mod Examples
 pub mod Readings
 pub mod Shared
-pub mod Then

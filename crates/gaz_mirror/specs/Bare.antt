@@ -3,7 +3,7 @@ use Rattle.std.specs.Prelude.{◌≡◌, ℕ, List, refl}
 use Rattle.std.proofs.Common.{subst}
 use Rattle.gaz_keeper.specs.Keeper.{Broken, Content, Idle, Open, Progress, Seen}
 use Rattle.gaz_shelf.specs.Faulting.{content_around}
-use Rattle.gaz_shelf.specs.Mem.{progress_of, seen_in, working_of}
+use Rattle.gaz_shelf.specs.Mem.{progress_of, working_of}
 use Rattle.gaz_shelf.specs.declared.mem_shelf.Judging.{Judging}
 use Rattle.gaz_shelf.specs.declared.mem_shelf.Judging.TheVariants as judging
 use Rattle.gaz_views.specs.Accounts.{Account}

@@ -1,5 +1,5 @@
 -- Worked examples, computed from the definitions.
-use Rattle.std.specs.Prelude.{◌≡◌, ◌≢◌, refl, true, false, List, [], ◌∷◌}
+use Rattle.std.specs.Prelude.{◌≡◌, ◌≢◌, refl, true, false, [], ◌∷◌}
 use Rattle.std.specs.Prelude.{None, Some, Option, Ok, Err}
 use Rattle.std.specs.declared.alloc.Global.{Global}
 use Rattle.gaz_keeper.specs.Examples.{first_received, kept_safe}

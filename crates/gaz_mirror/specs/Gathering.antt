@@ -27,7 +27,7 @@ AreSameChanges some others = (view : View) → made view others ≡ made view so
 abbrev pub AreThen : List Change → List Change → Bool → Change → Type 0
 AreThen some others added change =
     (view : View) → made view others
-        ≡ (if added then makes (made view some) change else made view some)
+    ≡ (if added then makes (made view some) change else made view some)
 
 -- a keeper's call makes a change of its working view
 abbrev pub Makes : {K T : Type 0} → (K → Seen) → K → K → Result T ShelfFault → Change → Type 0

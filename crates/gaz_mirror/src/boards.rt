@@ -11,8 +11,9 @@ ghost use Rattle.gaz_keeper.specs.Telling.{TellsReached, TellsVerdict};
 ghost use Rattle.gaz_mirror.specs.Mirrored.{DropsUpper, Gathers, KeepsUpper, SparesLower};
 ghost use Rattle.gaz_mirror.specs.Mirrored.{seen_mirrored};
 
-use crate::asked::{ApprovedOf, ApprovedOn, At, Children, Current, Ever};
-use crate::asked::{Page, PropertyOf, Reached, VerdictOn};
+use crate::asked::{
+    ApprovedOf, ApprovedOn, At, Children, Current, Ever, Page, PropertyOf, Reached, VerdictOn,
+};
 use crate::gathered::{Change, Entry, Gathered};
 use crate::mirror::Mirror;
 use crate::turns::change;
@@ -51,7 +52,11 @@ impl<L: Inbox + Drop, U: Unshared + Drop> Shelf for Mirror<L, U> {
         ensures reads { TellsAt seen_mirrored self.old self.new result code volume key.now }
         ensures keeps { KeepsUpper self.old self.new }
     {
-        self.read(&At { code, volume, key: *key })
+        self.read(&At {
+            code,
+            volume,
+            key: *key,
+        })
     }
 
     fn ever(&mut self, code: Code, key: &Key) -> Result<bool, ShelfFault>
@@ -107,7 +112,13 @@ impl<L: Inbox + Drop, U: Unshared + Drop> Shelf for Mirror<L, U> {
             seen_mirrored self.old self.new result code volume kind after most }
         ensures keeps { KeepsUpper self.old self.new }
     {
-        self.read(&Page { code, volume, kind, after, most })
+        self.read(&Page {
+            code,
+            volume,
+            kind,
+            after,
+            most,
+        })
     }
 
     fn begin(&mut self, code: Code) -> Result<(), ShelfFault>

@@ -99,7 +99,7 @@ pub(crate) fn hand_to<K: Shelf>(keeper: &mut K, gathered: Gathered) -> Result<()
     ensures { let was = (K.seen keeper.old).content in
         let view = made (last_view was.board gathered.code) gathered.changes.items in
         Goes (K.seen keeper.old) (K.seen keeper.new) result (IsAtHand was gathered.code)
-            (with_working was view) None (Open gathered.code) }
+        (with_working was view) None (Open gathered.code) }
 {
     keeper.begin(gathered.code)?;
     make_all(keeper, gathered.changes)

@@ -54,7 +54,7 @@ impl<L: Inbox + Drop, U: Unshared + Drop> Mirror<L, U> {
     pub(crate) fn read<Q: Question>(&mut self, question: &Q) -> Result<Q::Answer, ShelfFault>
         ensures reads { Reads (seen_mirrored self.old) (seen_mirrored self.new) result
             (Q.is_right question.now (seen_mirrored self.old).content
-                (view_of (seen_mirrored self.old))) }
+            (view_of (seen_mirrored self.old))) }
         ensures keeps { KeepsUpper self.old self.new }
     {
         if let Some(upper) = &mut self.upper

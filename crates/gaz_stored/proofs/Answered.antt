@@ -39,7 +39,7 @@ module _ {S : Type 0} {g : Ghosts S} (register : RegisterValue) (most : ℕ) (th
   over_store : (told : Converses register most through first after ended) → ((seen_in first).unharmed → StandsForRun d (seen_in first))
       → Runs d (seen_in first) (seen_in told.last.lower) (commands_of told.conversation.exchanges) (responses_of told.conversation.exchanges)
   over_store told was =
-      runs_below memory d (seen_in first) (seen_in told.begun.lower) (seen_in told.last.lower) told.begun.upper told.last.upper _ _ told.reads was told.mirrors told.conversation.runs
+      runs_below memory d (seen_in first) (seen_in told.begun.lower) (seen_in told.last.lower) told.begun.upper told.last.upper told.begun.gathered told.last.gathered _ _ told.reads was told.idle told.mirrors told.conversation.runs
 
   pub answers_new : Converses register most through first after ended → IsMade (state g before) (state g first.tables.conn) (register_text register) (seen_in first)
       → AnswersNew g register most through before after ended

@@ -1,6 +1,6 @@
 -- A conversation over a store with all of it at hand is one over the store.
 use Rattle.std.proofs.Common.{◌≡◌, ◌∙◌, ◌≤◌, inl, List, [], refl, ap, subst, sym, arith, true≢false}
-use Rattle.std.specs.Prelude.{Option}
+use Rattle.std.specs.Prelude.{None, Option, Some}
 use Rattle.sqlite.specs.Effect.{Database}
 use Rattle.sqlite.specs.Held.{state}
 use Rattle.sqlite_trees.specs.declared.store.Store.{Ghosts}
@@ -18,9 +18,11 @@ use Rattle.gaz_store.specs.declared.progress.Judging.TheVariants.{Idle, Open, Br
 use Rattle.gaz_store.specs.declared.store.Store.{Store}
 use Rattle.gaz_hub.specs.Hubs.{Runs, state_of}
 use Rattle.gaz_hub.specs.Laws.{StandsForRun}
-use Rattle.gaz_hub.specs.Step.{Command, Door, Response}
+use Rattle.gaz_hub.specs.Step.{Command, Door, HubState, Response}
+use Rattle.gaz_hub.proofs.Advancing.{may_keep}
 use Rattle.gaz_hub.proofs.HubRuns.{runs_still, runs_then}
-use Rattle.gaz_mirror.specs.Mirroring.{mirrored, stands_below}
+use Rattle.gaz_mirror.specs.Mirroring.{content_of, mirrored, progress_with, stands_below}
+use Rattle.gaz_mirror.specs.declared.gathered.Gathered.{Gathered}
 use Rattle.gaz_loaded.specs.Files.{OnlyReads}
 use Rattle.gaz_mirrored.specs.Filling.{AreVolumes, CanBeMirrored, RestsBare}
 use Rattle.gaz_loaded.proofs.Reading.{reads_nothing}
@@ -61,7 +63,7 @@ not_open keeper.Broken new left idle = left
 
 module _ {U : Type 0} (seen : U → Seen) (d : Door) (a lower last : Seen) (upper kept : Option U) where
   -- nothing was asked while all was put at hand
-  begins : OnlyReads a lower → (a.unharmed → StandsForRun d a) → (StandsForRun d a → lower.unharmed → StandsForRun d (mirrored seen lower upper)) → Runs d a (mirrored seen lower upper) [] []
+  begins : OnlyReads a lower → (a.unharmed → StandsForRun d a) → (StandsForRun d a → lower.unharmed → StandsForRun d (mirrored seen lower upper None)) → Runs d a (mirrored seen lower upper None) [] []
   begins reads was mirrors =
       let keeps = reads.keeps in
       record {
@@ -83,22 +85,36 @@ module _ {U : Type 0} (seen : U → Seen) (d : Door) (a lower last : Seen) (uppe
         };
       }
 
-  -- nor when what is at hand was given up
-  ends : Runs d (mirrored seen last kept) last [] []
-  ends = record {
+  -- ---- what is at hand was given up, and a judgement with it that was gathered
+
+  same_state : (o : Option U) (gathered : Option Gathered) → state_of last.content ≡ state_of (content_of seen last.content o gathered)
+  same_state o None = refl
+  same_state None (Some g) = refl
+  same_state (Some u) (Some g) = refl
+
+  closed : (gathered : Option Gathered) → IsNotOpen (progress_with last.progress gathered) → IsNotOpen last.progress
+  closed None idle = idle
+  closed (Some g) idle = absurd (idle g.code refl)
+
+  ends : (gathered : Option Gathered) → Runs d (mirrored seen last kept gathered) last [] []
+  ends gathered = record {
     harm = λ fine. fine;
-    stands = λ stood fine. (stands_below seen last kept stood.0, stood.1);
-    run = λ _ _. refl;
-    idle = λ idle. idle;
+    stands = λ stood fine. (
+      stands_below seen last kept gathered stood.0,
+      may_keep d (content_of seen last.content kept gathered) last.content (ap (λ (h : HubState). h.received) (same_state kept gathered)) (ap (λ (h : HubState). h.board) (same_state kept gathered)) stood.1,
+    );
+    run = λ _ _. same_state kept gathered;
+    idle = closed gathered;
     failures = omega arith;
     trust = λ t. t;
     stays = λ all hub. refl;
     was_open = λ no t. absurd (true≢false no);
     reaches = λ stood t. (state_of last.content, refl);
-    stops = λ sound. record { ever = λ k l. inl l; now = λ fine k l. inl (l, refl); answered = refl; received = λ k l. tt; whole = λ all. all };
+    stops = λ sound. record { ever = λ k l. inl l; now = λ fine k l. inl (l, same_state kept gathered); answered = refl; received = λ k l. tt; whole = λ all. all };
   }
 
-  pub runs_below : (commands : List Command) (responses : List Response) → OnlyReads a lower → (a.unharmed → StandsForRun d a)
-      → (StandsForRun d a → lower.unharmed → StandsForRun d (mirrored seen lower upper)) → Runs d (mirrored seen lower upper) (mirrored seen last kept) commands responses → Runs d a last commands responses
-  runs_below commands responses reads was mirrors runs =
-      runs_still d a (mirrored seen last kept) last commands responses (runs_then d a (mirrored seen lower upper) (mirrored seen last kept) [] commands [] responses (begins reads was mirrors) runs) ends
+  pub runs_below : (held gathered : Option Gathered) (commands : List Command) (responses : List Response) → OnlyReads a lower → (a.unharmed → StandsForRun d a) → IsNotOpen (mirrored seen lower upper held).progress
+      → (StandsForRun d a → lower.unharmed → StandsForRun d (mirrored seen lower upper held)) → Runs d (mirrored seen lower upper held) (mirrored seen last kept gathered) commands responses → Runs d a last commands responses
+  runs_below None gathered commands responses reads was idle mirrors runs =
+      runs_still d a (mirrored seen last kept gathered) last commands responses (runs_then d a (mirrored seen lower upper None) (mirrored seen last kept gathered) [] commands [] responses (begins reads was mirrors) runs) (ends gathered)
+  runs_below (Some g) gathered commands responses reads was idle mirrors runs = absurd (idle g.code refl)

@@ -17,6 +17,7 @@ use Rattle.gaz_hub.specs.Step.{Pose, Replied, Settle}
 use Rattle.gaz_hub.specs.declared.hub.Hub.{Hub}
 use Rattle.gaz_hub.specs.declared.refusal.Refusal.{Refusal}
 use Rattle.gaz_hub.proofs.HubRuns.{runs_then}
+use Rattle.gaz_keeper.specs.Keeper.{IsNotOpen}
 use Rattle.gaz_mirror.specs.Mirrored.{seen_mirrored}
 use Rattle.gaz_loaded.specs.Files.{OnlyReads}
 use Rattle.gaz_mirrored.proofs.Filled.{over_parts}
@@ -33,10 +34,10 @@ use Rattle.gaz_stored.proofs.Using.{uses}
 module _ {S : Type 0} {g : Ghosts S} (register : RegisterValue) (most served : ℕ) where
   -- what connections made of a hub over a mirror of a store that was settled, they made of the store
   pub serves_over : (first settled : Store S g) (told : Result (Unit {0}) Refusal) (begun last : Hub (Mirrored g)) (after : Held S) → Settles register first settled told → begun.register ≡ register
-      → begun.waiters ≡ None → OnlyReads (seen_in settled) (seen_in begun.keeper.lower)
+      → begun.waiters ≡ None → OnlyReads (seen_in settled) (seen_in begun.keeper.lower) → IsNotOpen (seen_mirrored begun.keeper).progress
       → (StandsForRun (door_of register) (seen_in settled) → (seen_mirrored begun.keeper).unharmed → StandsForRun (door_of register) (seen_mirrored begun.keeper))
       → Serves seen_mirrored most served begun last → last.keeper.lower.tables.conn ≡ after → ServesOver register most served first after
-  serves_over first settled told begun last after settles same fresh reads mirrors serves back =
+  serves_over first settled told begun last after settles same fresh reads idle mirrors serves back =
       let d = door_of register in
       let commands = serves.commands in
       let responses = serves.responses in
@@ -48,8 +49,8 @@ module _ {S : Type 0} {g : Ghosts S} (register : RegisterValue) (most served : �
         last = last;
         serves = serves;
         runs = λ was.
-            let below = runs_below memory d (seen_in settled) (seen_in begun.keeper.lower) (seen_in last.keeper.lower) begun.keeper.upper last.keeper.upper commands responses reads
-            (settled_stands register first settled told settles was) mirrors alone in
+            let below = runs_below memory d (seen_in settled) (seen_in begun.keeper.lower) (seen_in last.keeper.lower) begun.keeper.upper last.keeper.upper begun.keeper.gathered last.keeper.gathered commands responses reads
+            (settled_stands register first settled told settles was) idle mirrors alone in
             runs_then d (seen_in first) (seen_in settled) (seen_in last.keeper.lower) (Pose Settle ∷ []) commands (Replied Settle told ∷ []) responses settles below;
         back = back;
       }

@@ -16,6 +16,7 @@ use Rattle.gaz_hub.specs.Laws.{StandsForRun}
 use Rattle.gaz_hub.specs.Runs.{Abides}
 use Rattle.gaz_hub.specs.Step.{Pose, Replied, Settle, new_hub}
 use Rattle.gaz_hub.specs.declared.refusal.Refusal.{Refusal}
+use Rattle.gaz_keeper.specs.Keeper.{IsNotOpen}
 use Rattle.gaz_mirror.specs.Mirrored.{seen_mirrored}
 use Rattle.gaz_loaded.specs.Files.{OnlyReads}
 use Rattle.gaz_exchange.specs.Conversing.{Conversation, Transfer}
@@ -33,8 +34,10 @@ pub record Converses {S : Type 0} {g : Ghosts S} (register : RegisterValue) (mos
     : Type 0 where
   pub begun : Mirrored g
   pub last : Mirrored g
-  -- to put all at hand it was only read, and what is at hand is what it stood for
+  -- to put all at hand it was only read, and what is at hand is what it stood for; no judgement is
+  -- in progress
   pub reads : OnlyReads (seen_in first) (seen_in begun.lower)
+  pub idle : IsNotOpen (seen_mirrored begun).progress
   pub mirrors : StandsForRun (door_of register) (seen_in first) → (seen_mirrored begun).unharmed
       → StandsForRun (door_of register) (seen_mirrored begun)
   pub conversation : Conversation (door_of register) most through (seen_mirrored begun)

@@ -46,7 +46,7 @@ pub(crate) fn mirror<S: Alter + Drop>(
         ReadFrom::Memory => mirrored(alloc, seed, hub),
         ReadFrom::Tables => {
             let (register, store) = hub.into_parts();
-            Hub::new(alloc, register, Mirror::over(store))
+            Hub::new(alloc, register, Mirror::over(alloc, store))
         }
     }
 }

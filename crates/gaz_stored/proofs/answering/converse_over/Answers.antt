@@ -25,6 +25,7 @@ returns-clause-converses g c =
       begun = first.keeper;
       last = last.keeper;
       reads = subst (λ t. OnlyReads (seen_in t) (seen_in first.keeper.lower)) given.ensures.keeper made.reads;
+      idle = made.idle;
       mirrors = λ stood fine.
           subst (λ r. StandsForRun (door_of r) (seen_mirrored first.keeper)) given.ensures.register
           (made.mirrors (of_given register given.result.register c.args.store given.result.keeper given.ensures.register given.ensures.keeper stood) fine);

@@ -20,6 +20,7 @@ returns-clause-serves g c =
     let same = given.ensures.register ∙ settled.ensures.register in
     serves_over register 1000 c.serve_on-served.result c.args.store settled.result.1 (or_not_received settled.result.2) first last c.into_connection.result settled.ensures.settles (made.register ∙ same) made.remembers
     (subst (λ t. OnlyReads (seen_in t) (seen_in first.keeper.lower)) given.ensures.keeper made.reads)
+    made.idle
     (λ stood fine. subst (λ r. StandsForRun (door_of r) (seen_mirrored first.keeper)) same (made.mirrors (of_given register given.result.register settled.result.1 given.result.keeper same given.ensures.keeper stood) fine))
     c.serve_on-served.ensures.serves
     (of_left last.register last.keeper c.into_parts-register.result c.into_parts-store.result.0 c.into_connection.result c.into_parts-register.ensures c.into_parts-store.ensures.lower c.into_connection.ensures.conn)

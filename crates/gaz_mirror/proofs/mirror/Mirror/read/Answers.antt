@@ -18,13 +18,13 @@ returns-2-clause-reads g c =
     let settled = c.settle.new.self in
     let P = g.Q.Question.is_right c.args.question.now in
     let tried : Keeps (seen_mirrored m) (seen_mirrored behind) = elim c.in_default.branch [
-      in_default-via-in-None-1 w ↦ subst (λ (x : M). Keeps (seen_mirrored m) (seen_mirrored x)) (sym w.self-is) (keeps_all (seen_mirrored m))
-    | in_default-via-in-Some+in-Err-1 w ↦ subst (λ (x : M). Keeps (seen_mirrored m) (seen_mirrored x)) (sym w.self-is)
-        (keeps_asked up g.met.U.Unshared.never_harmed (low m.lower) m.upper w.in-Some.upper w.ask.new.keeper m.gathered w.in-Some.is w.ask.ensures.keeps)
+      | in_default-via-in-None-1 w ↦ subst (λ (x : M). Keeps (seen_mirrored m) (seen_mirrored x)) (sym w.self-is) (keeps_all (seen_mirrored m))
+      | in_default-via-in-Some+in-Err-1 w ↦ subst (λ (x : M). Keeps (seen_mirrored m) (seen_mirrored x)) (sym w.self-is)
+          (keeps_asked up g.met.U.Unshared.never_harmed (low m.lower) m.upper w.in-Some.upper w.ask.new.keeper m.gathered w.in-Some.is w.ask.ensures.keeps)
     ] in
     let same : behind.lower ≡ m.lower = elim c.in_default.branch [
-      in_default-via-in-None-1 w ↦ ap (λ (x : M). x.lower) w.self-is
-    | in_default-via-in-Some+in-Err-1 w ↦ ap (λ (x : M). x.lower) w.self-is
+      | in_default-via-in-None-1 w ↦ ap (λ (x : M). x.lower) w.self-is
+      | in_default-via-in-Some+in-Err-1 w ↦ ap (λ (x : M). x.lower) w.self-is
     ] in
     reads_behind (seen_mirrored m) (seen_mirrored settled) _ c.ask-2.result P (keeps_then (seen_mirrored m) (seen_mirrored behind) (seen_mirrored settled) tried c.settle.ensures.keeps)
     (subst (λ l. (low l).failures ≤ (low settled.lower).failures) same c.settle.ensures.counts.kept)
