@@ -67,6 +67,13 @@ fn from_first<S: Alter>(
     }
 }
 
+/// Whether the tables of schema 1 are there, with their columns, and none of schema 2.
+pub fn is_first<S: Alter>(conn: &Connection<S>) -> bool
+    ensures { result ≡ has_first (state S.Store conn.now).now.schema }
+{
+    has_first(conn.schema())
+}
+
 /// Tells that the database is a store of a register, as `check` does, or makes one of it where it is
 /// of schema 1, in one transaction: each row of `version` moves to `version2`, and `meta` says schema
 /// 2. A store is left as it is.
@@ -99,7 +106,7 @@ pub fn migrate<S: Alter>(
     ensures certain { has_first (state S.Store conn.old).now.schema ≡ true
         → OnOk result (LeavesTheCommit (state S.Store conn.new)) }
 {
-    if has_first(conn.schema()) {
+    if is_first(conn) {
         from_first(alloc, conn, register)
     } else {
         check(alloc, conn, register)
