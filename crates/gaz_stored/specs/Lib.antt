@@ -8,4 +8,5 @@ pub mod Serving
 pub mod Asking
 pub mod Attending
 pub mod Extending
+pub mod Migrating
 pub mod GrownChains

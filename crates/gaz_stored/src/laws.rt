@@ -2,6 +2,7 @@
 ghost use Rattle.gaz_stored.specs.Chains.{ChainsAreOne};
 ghost use Rattle.gaz_stored.specs.Examples.{WorkedExamples};
 ghost use Rattle.gaz_stored.specs.GrownChains.{GrownChainsAreOne};
+ghost use Rattle.gaz_stored.specs.Migrating.{MigratedStands};
 ghost use Rattle.gaz_stored.specs.Stopping.{StopsAreSurvived};
 
 /// What the definitions come to on worked examples.
@@ -28,4 +29,10 @@ pub fn grown_chains_are_one()
 /// before.
 pub fn stops_are_survived()
     ensures { StopsAreSurvived }
+{}
+
+/// Tables of schema 1 that stood for a partial run stand for the same hub once they are migrated, and
+/// the next conversation can go on from them.
+pub fn migrated_stands()
+    ensures { MigratedStands }
 {}
