@@ -12,3 +12,4 @@ mod Examples
 mod Serving
 pub mod ExtendsOpened
 pub mod GrownChains
+pub mod Reopening

@@ -9,3 +9,4 @@ pub mod Asking
 pub mod Attending
 pub mod Extending
 pub mod GrownChains
+pub mod Reopening
