@@ -38,7 +38,6 @@ module _ {S N : Type 0} {g : Ghosts S} (text : List ℕ) (register : RegisterVal
       (told.0, record { last = last; runs = subst (λ (t : Store S N g). Runs (door_of register) (seen_in text first) (seen_in text t) [] []) same (runs_none (door_of register) (seen_in text first)); back = back })
 
 module _ {S : Type 0} {g : Ghosts S} (register : RegisterValue) where
-
   -- a store that is opened and left as it is
   pub rests_opened : (first : Store S Brand g) (before after : Held S) → IsOpened (state g before) (state g first.tables.conn) (register_text register) (seen_in (register_text register) first)
       → Tells g before first.tables.conn (Ok tt) (register_text register) → first.tables.conn ≡ after → RestsOpened g register before after

@@ -1,13 +1,12 @@
 -- What is told of a register that grows over a store, from the connection that is given to the one that is handed back.
-use Rattle.std.proofs.Common.{◌≡◌, ◌∙◌, inl, inr, List, ℕ, Result, Ok, Err, OnErr, OnOk, refl, sym, ap, subst, arith}
+use Rattle.std.proofs.Common.{◌≡◌, ◌∙◌, inl, inr, Result, Ok, Err, OnErr, sym, ap, subst}
 use Rattle.std.specs.declared.marker.Brand.{Brand}
 use Rattle.sqlite.specs.Effect.{Database}
 use Rattle.sqlite.specs.Held.{Held, state}
-use Rattle.sqlite.specs.State.{HasCleanDisk, State}
+use Rattle.sqlite.specs.State.{State}
 use Rattle.sqlite_trees.specs.declared.store.Store.{Ghosts}
 use Rattle.gaz_register.specs.Registers.{RegisterValue, blocks_of}
 use Rattle.gaz_register.specs.Texts.{register_text}
-use Rattle.gaz_keeper.specs.Keeper.{Content}
 use Rattle.gaz_tables.specs.Schema.{metas}
 use Rattle.gaz_tables.specs.Stores.{HasTables}
 use Rattle.gaz_views.specs.View.{empty_view}

@@ -2,7 +2,6 @@
 use Rattle.std.proofs.Common.{◌≡◌, ◌∙◌, inl, inr, ℕ, List, [], ◌∷◌, Result, Ok, Err, refl, sym, subst}
 use Rattle.sqlite.specs.Held.{Held, state}
 use Rattle.sqlite.specs.Order.{Row}
-use Rattle.sqlite.specs.State.{HasCleanDisk}
 use Rattle.sqlite.specs.declared.types.Value.TheVariants.{Text}
 use Rattle.sqlite_trees.specs.declared.store.Store.{Ghosts}
 use Rattle.gaz_register.specs.Registers.{RegisterValue}
@@ -10,7 +9,7 @@ use Rattle.gaz_register.specs.Texts.{register_text}
 use Rattle.gaz_tables.specs.Metas.{register_of}
 use Rattle.gaz_tables.specs.Schema.{metas}
 use Rattle.gaz_tables.specs.Stores.{HasTables}
-use Rattle.gaz_kept.specs.Opening.{IsJudged, IsOf, Judges}
+use Rattle.gaz_kept.specs.Opening.{IsJudged, IsOf}
 use Rattle.gaz_kept.specs.declared.refusal.StoreRefusal.{StoreRefusal}
 use Rattle.gaz_kept.specs.declared.refusal.StoreRefusal.TheVariants.{BadSchema, Fault, OtherRegister}
 use Rattle.gaz_stored.specs.Reopening.{OpensAgain, OpensOrFails, OpensThen}

@@ -10,5 +10,5 @@ returns-clause-asks g c =
       c.named.result,
       record { tables = c.named.ensures.tables; judging = c.named.ensures.judging },
       obeys_or_rests g.N.OfRegister.text c.args.register _ hub.result c.ask_hub-said.new.hub c.named.result parts.result.1 c.into_connection.result c.ask_hub-said.result hub.ensures.register hub.ensures.keeper hub.ensures.remembers
-      (sym (ap (λ (t : _ × _). t.1) parts.ensures)) (sym c.into_connection.ensures.conn) c.ask_hub-said.ensures,
+          (sym (ap (λ (t : _ × _). t.1) parts.ensures)) (sym c.into_connection.ensures.conn) c.ask_hub-said.ensures,
     )
