@@ -13,3 +13,4 @@ mod Serving
 pub mod ExtendsOpened
 pub mod Moving
 pub mod GrownChains
+pub mod Reopening

@@ -10,3 +10,4 @@ pub mod Attending
 pub mod Extending
 pub mod Migrating
 pub mod GrownChains
+pub mod Reopening
