@@ -16,7 +16,8 @@ use Rattle.gaz_commands.specs.declared.printed.PrintedLine.{PrintedLine}
 use Rattle.gaz_commands.specs.declared.printed.PrintedLine.TheVariants.{Ready, New, Repeat, Taken}
 use Rattle.gaz_commands.specs.declared.printed.PrintedLine.TheVariants.{Stands, Address, Nothing}
 use Rattle.gaz_commands.specs.declared.printed.PrintedLine.TheVariants.{Refused, Extended}
-use Rattle.gaz_commands.specs.declared.printed.PrintedLine.TheVariants.{NotExtended}
+use Rattle.gaz_commands.specs.declared.printed.PrintedLine.TheVariants.{NotExtended, Migrated}
+use Rattle.gaz_commands.specs.declared.printed.PrintedLine.TheVariants.{Current}
 
 -- the number of a refusal
 abbrev pub number_of : DoorRefusal → ℕ
@@ -63,6 +64,8 @@ abbrev pub line_text : PrintedLine → List ℕ
 line_text Ready = codes "ready"
 line_text Extended = codes "extended"
 line_text (NotExtended why) = codes "refused " ++ decimal (growth_number why)
+line_text Migrated = codes "migrated"
+line_text Current = codes "current"
 line_text (New outcome) = codes "new " ++ became_text outcome
 line_text (Repeat outcome) = codes "repeat " ++ became_text outcome
 line_text (Taken digest) = codes "taken " ++ hex_text digest
@@ -82,6 +85,8 @@ abbrev pub is_done : PrintedLine → Bool
 is_done Ready = true
 is_done Extended = true
 is_done (NotExtended why) = false
+is_done Migrated = true
+is_done Current = true
 is_done (New outcome) = is_applied outcome
 is_done (Repeat outcome) = is_applied outcome
 is_done (Taken digest) = false

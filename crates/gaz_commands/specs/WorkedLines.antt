@@ -66,7 +66,7 @@ pub record WorkedQuestions : Type 0 where
   pub failed : Prints (Replied (LookUp 42) (Err (refusal.NotReceived cause.Memory))) []
       (codes "gazhub: NotReceived\n") 3
 
--- what is printed where a store's register grew or didn't, and the exit status
+-- what is printed where a store was changed or didn't need to be, and the exit status
 pub record Ends (says : Said) (out : List ℕ) (status : ℕ) : Type 0 where
   pub out_is : text_of says ≡ out
   pub errors_are : error_of says ≡ []
@@ -76,6 +76,10 @@ pub record WorkedGrowth : Type 0 where
   pub extended : Ends (said.Line line.Extended) (codes "extended\n") 0
   pub removed : Ends (said.Line (line.NotExtended growth.RemovedCustodian)) (codes "refused 61\n") 1
   pub changed : Ends (said.Line (line.NotExtended growth.ChangedBlocks)) (codes "refused 62\n") 1
+
+pub record WorkedMigration : Type 0 where
+  pub migrated : Ends (said.Line line.Migrated) (codes "migrated\n") 0
+  pub current : Ends (said.Line line.Current) (codes "current\n") 0
 
 pub record WorkedWords : Type 0 where
   pub submitted : asks_to_submit (codes "01001") (codes "1") (Some [])
@@ -101,4 +105,5 @@ pub record WorkedCommands : Type 0 where
   pub on_submissions : WorkedSubmissions
   pub on_questions : WorkedQuestions
   pub on_growth : WorkedGrowth
+  pub on_migration : WorkedMigration
   pub on_words : WorkedWords

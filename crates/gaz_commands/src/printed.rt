@@ -56,6 +56,10 @@ pub enum PrintedLine {
     Extended,
     /// It didn't, since what it was to grow to is no growth of it.
     NotExtended(GrowFault),
+    /// A store of schema 1 became one of schema 2.
+    Migrated,
+    /// It is of schema 2 already.
+    Current,
     /// What became of a file that was received now.
     New(Outcome),
     /// What became of a file that was received before.
@@ -81,6 +85,7 @@ impl PrintedLine {
                 matches!(outcome, Outcome::Applied)
             }
             PrintedLine::Ready | PrintedLine::Extended => true,
+            PrintedLine::Migrated | PrintedLine::Current => true,
             PrintedLine::Stands(_) | PrintedLine::Address(_) => true,
             PrintedLine::Taken(_) | PrintedLine::Nothing => false,
             PrintedLine::Refused(_) | PrintedLine::NotExtended(_) => false,
@@ -184,6 +189,8 @@ impl fmt::Display for PrintedLine {
             PrintedLine::Ready => write!(f, "ready"),
             PrintedLine::Extended => write!(f, "extended"),
             PrintedLine::NotExtended(fault) => write!(f, "refused {}", growth_number(*fault)),
+            PrintedLine::Migrated => write!(f, "migrated"),
+            PrintedLine::Current => write!(f, "current"),
             PrintedLine::New(outcome) => write!(f, "new {}", Became(*outcome)),
             PrintedLine::Repeat(outcome) => write!(f, "repeat {}", Became(*outcome)),
             PrintedLine::Taken(digest) => write!(f, "taken {}", InHex(*digest)),

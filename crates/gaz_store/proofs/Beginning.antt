@@ -1,4 +1,4 @@
--- A store that was made, and one that was opened.
+-- A store that was made, one that was opened, and one that was made of the tables of schema 1.
 use Rattle.std.proofs.Common.{◌≡◌, ◌∙◌, ℕ, List, sym, ap, subst, refl}
 use Rattle.sqlite.specs.Effect.{Database}
 use Rattle.sqlite.specs.Order.{Row}
@@ -7,12 +7,18 @@ use Rattle.gaz_views.proofs.Lawful.{lawful_empty}
 use Rattle.gaz_views.specs.View.{empty_view}
 use Rattle.gaz_sql_facts.specs.Changes.{LeavesTheCommit}
 use Rattle.gaz_tables.specs.Creating.{IsBare, IsNewStore, no_schema}
+use Rattle.gaz_tables.specs.Migrating.{HasFirstTables, Migrates}
 use Rattle.gaz_tables.specs.Schema.{metas, receiveds}
 use Rattle.gaz_kept.specs.Contents.{content_in}
 use Rattle.gaz_kept.specs.Kept.{IsKept}
+use Rattle.gaz_kept.specs.Migrated.{IsFirstKept, first_content_in}
 use Rattle.gaz_kept.specs.Opening.{IsOf, Rests, schema_number}
+use Rattle.gaz_kept.specs.OpeningFirst.{IsOfFirst}
+use Rattle.gaz_kept.specs.Stands.{Stands}
+use Rattle.gaz_kept.proofs.Migrated.{migration_stands}
 use Rattle.gaz_kept.proofs.MetaRows.{create_opens}
 use Rattle.gaz_kept.proofs.Stands.{tables_stand}
+use Rattle.gaz_store.specs.Migrating.{IsMoved}
 use Rattle.gaz_store.specs.Opened.{IsMade, IsOpened}
 use Rattle.gaz_store.specs.Remembered.{AreSo, Remembered}
 use Rattle.gaz_store.specs.Store.{StoreStands, seen_beside}
@@ -57,3 +63,29 @@ module _ (new : State) (a : Remembered) (so : (files : List Row) → AreSo a fil
     leaves = leaves;
     whole = whole_still register old new leaves;
   }
+
+  pub is_moved : (old : State) (register : List ℕ) (f : ℕ) → f ≡ 0
+      → (HasCleanDisk new → HasCleanDisk old) → (HasCleanDisk new → HasFirstTables old.now → Migrates schema_number register old.now new.now × (new.committed ≡ new.now))
+      → (HasCleanDisk new → HasFirstTables old.now → IsOfFirst register (old.now.trees metas)) → (HasFirstTables old.now → LeavesTheCommit new)
+      → IsMoved old new register (seen_beside register new a Idle f)
+  is_moved old register f none harm moves whose certain = record {
+    idle = refl;
+    failures = none;
+    harm = λ h. harm h.clean;
+    becomes = λ h has. (moves h.clean has).0;
+    of_register = λ h has. whose h.clean has;
+    stands = λ h first. standing register (stood h.clean first).kept (still_of h.clean first);
+    content = λ h first. (stood h.clean first).content;
+    leaves = λ h first k l.
+        l.content ∙ ap (λ t. content_in t empty_view) (certain first.tables h.is_open l.trees l.left ∙ ap (λ d. d.trees) (moves h.clean first.tables).1)
+        ∙ (stood h.clean first).content;
+    whole = λ h first db clean left schema.
+        kept_of register new.now db (certain first.tables h.is_open db.trees left ∙ ap (λ d. d.trees) (moves h.clean first.tables).1) schema
+        (stood h.clean first).kept (still_of h.clean first);
+  }
+    where
+      stood : HasCleanDisk new → IsFirstKept old.now → Stands new.now empty_view (first_content_in old.now.trees empty_view)
+      stood clean first = migration_stands.stands register empty_view old.now new.now first (moves clean first.tables).0
+
+      still_of : HasCleanDisk new → IsFirstKept old.now → IsOf register (new.now.trees metas)
+      still_of clean first = migration_stands.is_of register register old.now new.now first.tables (whose clean first.tables) (moves clean first.tables).0

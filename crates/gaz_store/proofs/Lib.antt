@@ -1,4 +1,3 @@
-pub mod Asked
 pub mod Seeing
 pub mod Whole
 pub mod Whose

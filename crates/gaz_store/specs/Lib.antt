@@ -5,6 +5,7 @@ pub mod Asking
 pub mod Beside
 pub mod Store
 pub mod Opened
+pub mod Migrating
 pub mod Paging
 pub mod Streets
 pub mod Altering

@@ -6,10 +6,10 @@ ghost use Rattle.sqlite.specs.State.{HasCleanDisk};
 ghost use Rattle.gaz_store.specs.Asking.{AsksTables, Fails, IsAnyway, Tells};
 ghost use Rattle.gaz_store.specs.Seen.{IsSettled};
 
-use crate::probing::probe;
 use crate::tables::Tables;
 use gaz_keeper::ShelfFault;
 use gaz_kept::decoding::RowFault;
+use gaz_kept::probing::probe;
 use sqlite::{Alter, Error, ErrorCode};
 
 impl<S: Alter> Tables<S> {

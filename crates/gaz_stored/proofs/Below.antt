@@ -1,5 +1,5 @@
 -- A conversation over a store with all of it at hand is one over the store.
-use Rattle.std.proofs.Common.{◌≡◌, ◌∙◌, ◌≤◌, inl, List, [], refl, ap, subst, sym, arith, true≢false}
+use Rattle.std.proofs.Common.{◌≡◌, ◌∙◌, ◌≤◌, ℕ, inl, List, [], refl, ap, subst, sym, arith, true≢false}
 use Rattle.std.specs.Prelude.{None, Option, Some}
 use Rattle.sqlite.specs.Effect.{Database}
 use Rattle.sqlite.specs.Held.{state}
@@ -35,8 +35,8 @@ rests db (Open j) e = cc
 rests db Broken e = refl
 
 -- a store in which no judgement is in progress has no working view
-pub rests_bare : {S : Type 0} {g : Ghosts S} → RestsBare {K = Store S g} seen_in
-rests_bare {S} {g} t e = rests (state g t.tables.conn).now t.judging e
+pub rests_bare : {S N : Type 0} {g : Ghosts S} (text : List ℕ) → RestsBare {K = Store S N g} (seen_in text)
+rests_bare {S} {N} {g} text t e = rests (state g t.tables.conn).now t.judging e
 
 -- each file in the tables came as a volume from 1 on
 volumes : (db : Database) (working : View) → IsKept db → AreVolumes (content_in db.trees working).files
@@ -45,14 +45,14 @@ volumes db working kept p there =
     let first = (kept.files r.row r.there).first in
     subst (λ n. 1 ≤ n) (ap number_in r.is.of_volume) first
 
-pub can_mirror : {S : Type 0} {g : Ghosts S} (d : Door) (t : Store S g) → StandsForRun d (seen_in t) → CanBeMirrored d (seen_in t)
-can_mirror {S} {g} d t run =
+pub can_mirror : {S N : Type 0} {g : Ghosts S} (text : List ℕ) (d : Door) (t : Store S N g) → StandsForRun d (seen_in text t) → CanBeMirrored d (seen_in text t)
+can_mirror {S} {N} {g} text d t run =
     let db = (state g t.tables.conn).now in
     record { run = run; volumes = volumes db (working_of db t.judging) run.stands.0.tables.kept }
 
 -- where nothing is put at hand, nothing is even read
-pub reads_given : {S : Type 0} {g : Ghosts S} (given kept : Store S g) → kept ≡ given → OnlyReads (seen_in given) (seen_in kept)
-reads_given {S} {g} given kept same = subst (λ (t : Store S g). OnlyReads (seen_in given) (seen_in t)) (sym same) (reads_nothing (seen_in given))
+pub reads_given : {S N : Type 0} {g : Ghosts S} (text : List ℕ) (given kept : Store S N g) → kept ≡ given → OnlyReads (seen_in text given) (seen_in text kept)
+reads_given {S} {N} {g} text given kept same = subst (λ (t : Store S N g). OnlyReads (seen_in text given) (seen_in text t)) (sym same) (reads_nothing (seen_in text given))
 
 -- ---- runs
 

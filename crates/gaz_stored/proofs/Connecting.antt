@@ -1,5 +1,6 @@
 -- What is said of connections over a store, from the connection that is given to the one that is handed back.
-use Rattle.std.proofs.Common.{◌≡◌, ℕ, [], ◌∷◌, refl}
+use Rattle.std.proofs.Common.{◌≡◌, ℕ, List, [], ◌∷◌, refl}
+use Rattle.std.specs.declared.marker.Brand.{Brand}
 use Rattle.std.specs.Prelude.{Ok, None, Result}
 use Rattle.sqlite.specs.Held.{Held, state}
 use Rattle.sqlite_trees.specs.declared.store.Store.{Ghosts}
@@ -31,12 +32,12 @@ use Rattle.gaz_stored.proofs.Below.{runs_below}
 use Rattle.gaz_stored.proofs.Going.{begins_opened}
 use Rattle.gaz_stored.proofs.Using.{uses}
 
-module _ {S : Type 0} {g : Ghosts S} (register : RegisterValue) (most served : ℕ) where
+module _ {S R N : Type 0} {g : Ghosts S} (text : List ℕ) (register : RegisterValue) (most served : ℕ) where
   -- what connections made of a hub over a mirror of a store that was settled, they made of the store
-  pub serves_over : (first settled : Store S g) (told : Result (Unit {0}) Refusal) (begun last : Hub (Mirrored g)) (after : Held S) → Settles register first settled told → begun.register ≡ register
-      → begun.waiters ≡ None → OnlyReads (seen_in settled) (seen_in begun.keeper.lower) → IsNotOpen (seen_mirrored begun.keeper).progress
-      → (StandsForRun (door_of register) (seen_in settled) → (seen_mirrored begun.keeper).unharmed → StandsForRun (door_of register) (seen_mirrored begun.keeper))
-      → Serves seen_mirrored most served begun last → last.keeper.lower.tables.conn ≡ after → ServesOver register most served first after
+  pub serves_over : (first settled : Store S R g) (told : Result (Unit {0}) Refusal) (begun last : Hub (Mirrored g N text)) (after : Held S) → Settles text register first settled told → begun.register ≡ register
+      → begun.waiters ≡ None → OnlyReads (seen_in text settled) (seen_in text begun.keeper.lower) → IsNotOpen (seen_mirrored begun.keeper).progress
+      → (StandsForRun (door_of register) (seen_in text settled) → (seen_mirrored begun.keeper).unharmed → StandsForRun (door_of register) (seen_mirrored begun.keeper))
+      → Serves seen_mirrored most served begun last → last.keeper.lower.tables.conn ≡ after → ServesOver N text register most served first after
   serves_over first settled told begun last after settles same fresh reads idle mirrors serves back =
       let d = door_of register in
       let commands = serves.commands in
@@ -49,14 +50,15 @@ module _ {S : Type 0} {g : Ghosts S} (register : RegisterValue) (most served : �
         last = last;
         serves = serves;
         runs = λ was.
-            let below = runs_below memory d (seen_in settled) (seen_in begun.keeper.lower) (seen_in last.keeper.lower) begun.keeper.upper last.keeper.upper begun.keeper.gathered last.keeper.gathered commands responses reads
-            (settled_stands register first settled told settles was) idle mirrors alone in
-            runs_then d (seen_in first) (seen_in settled) (seen_in last.keeper.lower) (Pose Settle ∷ []) commands (Replied Settle told ∷ []) responses settles below;
+            let below = runs_below memory d (seen_in text settled) (seen_in text begun.keeper.lower) (seen_in text last.keeper.lower) begun.keeper.upper last.keeper.upper begun.keeper.gathered last.keeper.gathered commands responses reads
+            (settled_stands text register first settled told settles was) idle mirrors alone in
+            runs_then d (seen_in text first) (seen_in text settled) (seen_in text last.keeper.lower) (Pose Settle ∷ []) commands (Replied Settle told ∷ []) responses settles below;
         back = back;
       }
 
-  pub serves_opened : (first : Store S g) (before after : Held S) → IsOpened (state g before) (state g first.tables.conn) (register_text register) (seen_in first)
-      → Tells g before first.tables.conn (Ok tt) (register_text register) → ServesOver register most served first after → ServesOpened g register most served before after
+module _ {S : Type 0} {g : Ghosts S} (register : RegisterValue) (most served : ℕ) where
+  pub serves_opened : (first : Store S Brand g) (before after : Held S) → IsOpened (state g before) (state g first.tables.conn) (register_text register) (seen_in (register_text register) first)
+      → Tells g before first.tables.conn (Ok tt) (register_text register) → ServesOver Brand (register_text register) register most served first after → ServesOpened g register most served before after
   serves_opened first before after opened told is = record {
     first = first;
     told_settled = is.told_settled;
@@ -65,5 +67,5 @@ module _ {S : Type 0} {g : Ghosts S} (register : RegisterValue) (most served : �
     serves = is.serves;
     back = is.back;
     uses = uses register first is.last.keeper.lower before after (Pose Settle ∷ is.serves.commands) (Replied Settle is.told_settled ∷ is.serves.responses) opened told is.back
-        (λ stood. is.runs (λ fine. begins_opened register first fine (state g before) (register_text register) opened stood));
+        (λ stood. is.runs (λ fine. begins_opened (register_text register) register first fine (state g before) opened stood));
   }

@@ -1,13 +1,12 @@
 -- What is told of a register that grows over a store, from the connection that is given to the one that is handed back.
-use Rattle.std.proofs.Common.{◌≡◌, ◌∙◌, inl, inr, List, ℕ, Result, Ok, Err, OnErr, OnOk, refl, sym, ap, subst, arith}
-use Rattle.std.specs.Prelude.{⊤, IsTrue}
+use Rattle.std.proofs.Common.{◌≡◌, ◌∙◌, inl, inr, Result, Ok, Err, OnErr, sym, ap, subst}
+use Rattle.std.specs.declared.marker.Brand.{Brand}
 use Rattle.sqlite.specs.Effect.{Database}
 use Rattle.sqlite.specs.Held.{Held, state}
-use Rattle.sqlite.specs.State.{HasCleanDisk, State}
+use Rattle.sqlite.specs.State.{State}
 use Rattle.sqlite_trees.specs.declared.store.Store.{Ghosts}
 use Rattle.gaz_register.specs.Registers.{RegisterValue, blocks_of}
 use Rattle.gaz_register.specs.Texts.{register_text}
-use Rattle.gaz_keeper.specs.Keeper.{Content}
 use Rattle.gaz_tables.specs.Schema.{metas}
 use Rattle.gaz_tables.specs.Stores.{HasTables}
 use Rattle.gaz_views.specs.View.{empty_view}
@@ -15,7 +14,7 @@ use Rattle.gaz_kept.specs.Contents.{content_in}
 use Rattle.gaz_kept.specs.Kept.{IsKept}
 use Rattle.gaz_kept.specs.Opening.{IsOf, Tells}
 use Rattle.gaz_kept.proofs.Rewritten.{rewrites_stand}
-use Rattle.gaz_store.specs.Growing.{KeepsContent, TellsGrowth, TellsRegisters, ToldOf, WritesRegister, as_kept}
+use Rattle.gaz_store.specs.Growing.{KeepsContent, TellsGrowth, TellsRegisters, ToldOf, WritesRegister, as_kept, register_then}
 use Rattle.gaz_store.specs.Opened.{IsOpened}
 use Rattle.gaz_store.specs.Seen.{IsUnharmed}
 use Rattle.gaz_store.specs.Store.{seen_in}
@@ -51,9 +50,9 @@ told_before g one other after register grown (Err ChangedBlocks) same it = subst
 told_before g one other after register grown (Err Fault) same it = tt
 told_before g one other after register grown (Err Memory) same it = tt
 
-module _ {S : Type 0} {g : Ghosts S} (register grown : RegisterValue) (first last : Store S g) (before : Held S) (told : Result (Unit {0}) ExtendFault)
-    (opened : IsOpened (state g before) (state g first.tables.conn) (register_text register) (seen_in first))
-    (keeps : KeepsContent (seen_in first) (seen_in last) told)
+module _ {S : Type 0} {g : Ghosts S} (register grown : RegisterValue) (first last : Store S Brand g) (before : Held S) (told : Result (Unit {0}) ExtendFault)
+    (opened : IsOpened (state g before) (state g first.tables.conn) (register_text register) (seen_in (register_text register) first))
+    (keeps : KeepsContent (seen_in (register_text register) first) (seen_in (register_text (register_then register grown told)) last) told)
     (writes : WritesRegister (state g first.tables.conn) (state g last.tables.conn) grown told)
     (registers : TellsRegisters g first.tables.conn last.tables.conn register grown told) where
   abbrev was : State
@@ -84,16 +83,12 @@ module _ {S : Type 0} {g : Ghosts S} (register grown : RegisterValue) (first las
       by_told (Ok done) same = tt
       by_told (Err why) same = same ∙ shown (writes.harm h)
 
-  same_content : (t : Result (Unit {0}) ExtendFault) → OnOk (as_kept t) ((seen_in last).content ≡ (seen_in first).content) → OnErr (as_kept t) ((seen_in last).content ≡ (seen_in first).content) → (seen_in last).content ≡ (seen_in first).content
-  same_content (Ok done) one other = one
-  same_content (Err why) one other = other
-
   stays_so : IsUnharmed is → StandForRun register was.now → StandsStill register was.now is.now
   stays_so h stood =
       let fine = keeps.harm h in
       let stands = opened.stands fine stood.kept in
-      still register was.now is.now stood (keeps.stands stands tt h).tables.kept
-      (ap state_of (same_content told (keeps.done stands tt h) (keeps.undone stands tt h)) ∙ ap state_of (opened.content fine stood.kept))
+      still register was.now is.now stood (keeps.stands stands h).tables.kept
+      (ap state_of (keeps.content stands h) ∙ ap state_of (opened.content fine stood.kept))
 
   stops_so : IsUnharmed mid → StandForRun register was.now → LeavesItself was → (db : Database) → MayBeLeft is db → StopsBetween register grown was.now db
   stops_so fine stood itself db left =

@@ -6,6 +6,8 @@ use Rattle.sqlite_trees.specs.declared.store.Store.{Ghosts}
 use Rattle.gaz_register.specs.Registers.{RegisterValue, blocks_of}
 use Rattle.gaz_keeper.specs.Keeper.{Content}
 use Rattle.gaz_tables.specs.Creating.{IsBare, no_schema}
+use Rattle.gaz_tables.specs.Schema.{metas}
+use Rattle.gaz_kept.specs.Opening.{IsOf}
 use Rattle.gaz_store.specs.Opened.{IsMade, IsOpened}
 use Rattle.gaz_store.specs.Seen.{IsUnharmed}
 use Rattle.gaz_store.specs.Store.{seen_in}
@@ -27,20 +29,20 @@ partly register h = IsPartial (blocks_of register) h.received h.board
 
 -- ---- how it begins
 
-module _ {S : Type 0} {g : Ghosts S} (register : RegisterValue) (first : Store S g) (is_fine : IsUnharmed (state g first.tables.conn)) where
+module _ {S R : Type 0} {g : Ghosts S} (text : List ℕ) (register : RegisterValue) (first : Store S R g) (is_fine : IsUnharmed (state g first.tables.conn)) where
   -- a store that was made where there was no table
-  pub begins_new : (old : State) (text : List ℕ) → IsMade old (state g first.tables.conn) text (seen_in first) → IsBare no_schema old.now → StandsForRun (door_of register) (seen_in first)
-  begins_new old text made bare =
+  pub begins_new : (old : State) → IsMade old (state g first.tables.conn) text (seen_in text first) → IsBare no_schema old.now → StandsForRun (door_of register) (seen_in text first)
+  begins_new old made bare =
       let d = door_of register in
       let empty = made.content is_fine bare in
       record {
-        stands = (made.stands is_fine bare, may_begin d (seen_in first).content (ap (λ (k : Content). k.files) empty) (ap (λ (k : Content). k.board) empty));
+        stands = (made.stands is_fine bare, may_begin d (seen_in text first).content (ap (λ (k : Content). k.files) empty) (ap (λ (k : Content). k.board) empty));
         partial = subst (partly register) (sym (ap state_of empty)) (nothing_partial d);
       }
 
   -- one that was opened where the tables stood for a partial run
-  pub begins_opened : (old : State) (text : List ℕ) → IsOpened old (state g first.tables.conn) text (seen_in first) → StandForRun register old.now → StandsForRun (door_of register) (seen_in first)
-  begins_opened old text opened stood =
+  pub begins_opened : (old : State) → IsOpened old (state g first.tables.conn) text (seen_in text first) → StandForRun register old.now → StandsForRun (door_of register) (seen_in text first)
+  begins_opened old opened stood =
       let same = opened.content is_fine stood.kept in
       let partial = subst (partly register) (sym (ap state_of same)) stood.partial in
       record {
@@ -50,9 +52,13 @@ module _ {S : Type 0} {g : Ghosts S} (register : RegisterValue) (first : Store S
 
 -- ---- how it goes on
 
-module _ {S : Type 0} {g : Ghosts S} (register : RegisterValue) (first last : Store S g) (commands : List Command) (responses : List Response)
-    (runs : Runs (door_of register) (seen_in first) (seen_in last) commands responses) (fine : IsUnharmed (state g last.tables.conn)) where
-  goes_on : (before : HubState) → StandsForRun (door_of register) (seen_in first) → state_of (seen_in first).content ≡ before
+module _ {S R N : Type 0} {g : Ghosts S} (text : List ℕ) (register : RegisterValue) (first : Store S R g) (last : Store S N g) (commands : List Command) (responses : List Response)
+    (runs : Runs (door_of register) (seen_in text first) (seen_in text last) commands responses) (fine : IsUnharmed (state g last.tables.conn)) where
+  -- of a store of the register again
+  pub whose_then : StandsForRun (door_of register) (seen_in text first) → IsOf text ((state g last.tables.conn).now.trees metas)
+  whose_then was = (runs.stands was.stands fine).0.tables.whose
+
+  goes_on : (before : HubState) → StandsForRun (door_of register) (seen_in text first) → state_of (seen_in text first).content ≡ before
       → GoesOn register before commands responses (state g last.tables.conn).now
   goes_on before was begins =
       let d = door_of register in
@@ -68,25 +74,25 @@ module _ {S : Type 0} {g : Ghosts S} (register : RegisterValue) (first last : St
       }
 
   -- of a store that was made where there was no table
-  pub goes_on_new : (old : State) (text : List ℕ) → IsMade old (state g first.tables.conn) text (seen_in first) → IsBare no_schema old.now
+  pub goes_on_new : (old : State) → IsMade old (state g first.tables.conn) text (seen_in text first) → IsBare no_schema old.now
       → GoesOn register new_hub commands responses (state g last.tables.conn).now
-  goes_on_new old text made bare =
+  goes_on_new old made bare =
       let is_fine = runs.harm fine in
-      goes_on new_hub (begins_new register first is_fine old text made bare) (ap state_of (made.content is_fine bare))
+      goes_on new_hub (begins_new text register first is_fine old made bare) (ap state_of (made.content is_fine bare))
 
   -- of a store that was opened where the tables stood for a partial run
-  pub goes_on_opened : (old : State) (text : List ℕ) → IsOpened old (state g first.tables.conn) text (seen_in first) → StandForRun register old.now
+  pub goes_on_opened : (old : State) → IsOpened old (state g first.tables.conn) text (seen_in text first) → StandForRun register old.now
       → GoesOn register (hub_in old.now) commands responses (state g last.tables.conn).now
-  goes_on_opened old text opened stood =
+  goes_on_opened old opened stood =
       let is_fine = runs.harm fine in
-      goes_on (hub_in old.now) (begins_opened register first is_fine old text opened stood) (ap state_of (opened.content is_fine stood.kept))
+      goes_on (hub_in old.now) (begins_opened text register first is_fine old opened stood) (ap state_of (opened.content is_fine stood.kept))
 
 -- ---- where it went, whatever a failure shut
 
-module _ {S : Type 0} {g : Ghosts S} (register : RegisterValue) (first last : Store S g) (commands : List Command) (responses : List Response)
-    (runs : Runs (door_of register) (seen_in first) (seen_in last) commands responses) (clean : HasCleanDisk (state g last.tables.conn)) where
+module _ {S R N : Type 0} {g : Ghosts S} (text : List ℕ) (register : RegisterValue) (first : Store S R g) (last : Store S N g) (commands : List Command) (responses : List Response)
+    (runs : Runs (door_of register) (seen_in text first) (seen_in text last) commands responses) (clean : HasCleanDisk (state g last.tables.conn)) where
   abbrev Begins : HubState → Type 0
-  Begins before = StandsForRun (door_of register) (seen_in first) × (state_of (seen_in first).content ≡ before)
+  Begins before = StandsForRun (door_of register) (seen_in text first) × (state_of (seen_in text first).content ≡ before)
 
   -- what is declined leads nowhere, and all else was told of a store that was open
   went_on : (before : HubState) → partly register before → (IsUnharmed (state g first.tables.conn) → Begins before) → WentOn register before commands responses
@@ -108,10 +114,10 @@ module _ {S : Type 0} {g : Ghosts S} (register : RegisterValue) (first last : St
           to reached.0 (subst (λ h. Run (door_of register) h commands responses reached.0) began.1 reached.1)
 
   -- from a store that was made where there was no table
-  pub went_on_new : (old : State) (text : List ℕ) → IsMade old (state g first.tables.conn) text (seen_in first) → IsBare no_schema old.now → WentOn register new_hub commands responses
-  went_on_new old text made bare = went_on new_hub (nothing_partial (door_of register)) (λ fine. (begins_new register first fine old text made bare, ap state_of (made.content fine bare)))
+  pub went_on_new : (old : State) → IsMade old (state g first.tables.conn) text (seen_in text first) → IsBare no_schema old.now → WentOn register new_hub commands responses
+  went_on_new old made bare = went_on new_hub (nothing_partial (door_of register)) (λ fine. (begins_new text register first fine old made bare, ap state_of (made.content fine bare)))
 
   -- from one that was opened where the tables stood for a partial run
-  pub went_on_opened : (old : State) (text : List ℕ) → IsOpened old (state g first.tables.conn) text (seen_in first) → StandForRun register old.now → WentOn register (hub_in old.now) commands responses
-  went_on_opened old text opened stood =
-      went_on (hub_in old.now) stood.partial (λ fine. (begins_opened register first fine old text opened stood, ap state_of (opened.content fine stood.kept)))
+  pub went_on_opened : (old : State) → IsOpened old (state g first.tables.conn) text (seen_in text first) → StandForRun register old.now → WentOn register (hub_in old.now) commands responses
+  went_on_opened old opened stood =
+      went_on (hub_in old.now) stood.partial (λ fine. (begins_opened text register first fine old opened stood, ap state_of (opened.content fine stood.kept)))

@@ -6,7 +6,7 @@ use Rattle.gaz_register.specs.Registers.{RegisterValue}
 use Rattle.gaz_keeper.specs.Keeper.{empty_content}
 use Rattle.gaz_hub.specs.Growth.{GrownRun, last_register}
 use Rattle.gaz_hub.specs.Hubs.{door_of}
-use Rattle.gaz_hub.specs.Step.{HubState, new_hub}
+use Rattle.gaz_hub.specs.Step.{new_hub}
 use Rattle.gaz_hub.proofs.Growing.{every_grown_run_holds, growth_keeps_holds}
 use Rattle.gaz_hub.proofs.Headline.{may_begin}
 use Rattle.gaz_hub.proofs.Runs.{nothing_partial}

@@ -11,4 +11,6 @@ mod Chaining
 mod Examples
 mod Serving
 pub mod ExtendsOpened
+pub mod Moving
 pub mod GrownChains
+pub mod Reopening

@@ -1,19 +1,27 @@
 -- A hub, taken into its parts and put together from them.
-use Rattle.std.proofs.Common.{◌≡◌, ◌∙◌, ap, subst, sym}
-use Rattle.sqlite.specs.Held.{Held}
+use Rattle.std.proofs.Common.{◌≡◌, ◌∙◌, ℕ, List, ap, subst, sym}
+use Rattle.sqlite.specs.Held.{Held, state}
 use Rattle.sqlite_trees.specs.declared.store.Store.{Ghosts}
 use Rattle.gaz_register.specs.Registers.{RegisterValue}
-use Rattle.gaz_store.specs.Store.{seen_in}
+use Rattle.gaz_store.specs.Store.{seen_beside, seen_in}
 use Rattle.gaz_store.specs.declared.store.Store.{Store}
 use Rattle.gaz_hub.specs.Hubs.{door_of}
 use Rattle.gaz_hub.specs.Laws.{StandsForRun}
-use Rattle.gaz_stored.specs.Using.{Mirrored}
+use Rattle.gaz_stored.specs.Using.{IsSame, Mirrored}
 
 -- the connection that is handed back is that of the store that is left
-pub of_left : {S : Type 0} {g : Ghosts S} (register : RegisterValue) (last : Mirrored g) (parts : RegisterValue × Mirrored g) (store : Store S g) (after : Held S)
+pub of_left : {S N : Type 0} {g : Ghosts S} {text : List ℕ} (register : RegisterValue) (last : Mirrored g N text) (parts : RegisterValue × Mirrored g N text) (store : Store S N g) (after : Held S)
     → parts ≡ (register, last) → store ≡ parts.1.lower → after ≡ store.tables.conn → last.lower.tables.conn ≡ after
-of_left {S} {g} register last parts store after same below e = sym (e ∙ ap (λ (t : Store S g). t.tables.conn) (below ∙ ap (λ (p : RegisterValue × Mirrored g). p.1.lower) same))
+of_left {S} {N} {g} {text} register last parts store after same below e =
+    sym (e ∙ ap (λ (t : Store S N g). t.tables.conn) (below ∙ ap (λ (p : RegisterValue × Mirrored g N text). p.1.lower) same))
+
+-- whatever names its register, a store is seen so
+pub seen_same : {S R N : Type 0} {g : Ghosts S} (text : List ℕ) (one : Store S R g) (other : Store S N g) → IsSame one other → seen_in text other ≡ seen_in text one
+seen_same {S} {R} {N} {g} text one other same =
+    λ i. seen_beside text (state g (same.tables i).conn) (same.tables i).at_hand (same.judging i) (same.tables i).failures
 
 -- what is said of the store that was given is said of the hub's
-pub of_given : {S : Type 0} {g : Ghosts S} (register was : RegisterValue) (store first : Store S g) → was ≡ register → first ≡ store → StandsForRun (door_of register) (seen_in store) → StandsForRun (door_of was) (seen_in first)
-of_given {S} {g} register was store first e f = subst (λ (t : RegisterValue × Store S g). StandsForRun (door_of t.0) (seen_in t.1)) (λ i. (sym e i, sym f i))
+pub of_given : {S R N : Type 0} {g : Ghosts S} (text : List ℕ) (register was : RegisterValue) (store : Store S R g) (first : Store S N g) → was ≡ register → IsSame store first
+    → StandsForRun (door_of register) (seen_in text store) → StandsForRun (door_of was) (seen_in text first)
+of_given text register was store first e same stood =
+    subst (λ (r : RegisterValue). StandsForRun (door_of r) (seen_in text first)) (sym e) (subst (StandsForRun (door_of register)) (sym (seen_same text store first same)) stood)

@@ -5,13 +5,16 @@ use Rattle.sqlite.specs.Held.{state}
 use Rattle.sqlite.specs.State.{HasCleanDisk, State}
 use Rattle.sqlite_trees.specs.declared.store.Store.{Ghosts}
 use Rattle.gaz_register.specs.Registers.{RegisterValue}
+use Rattle.gaz_register.specs.Texts.{register_text}
 use Rattle.gaz_views.specs.View.{empty_view}
 use Rattle.gaz_keeper.specs.Keeper.{Content, LeavesOnly, after_stop}
 use Rattle.gaz_tables.specs.Creating.{IsBare, no_schema}
+use Rattle.gaz_tables.specs.Schema.{metas}
 use Rattle.gaz_kept.specs.Contents.{content_in}
 use Rattle.gaz_kept.specs.Kept.{IsKept}
+use Rattle.gaz_kept.specs.Opening.{IsOf}
 use Rattle.gaz_store.specs.Opened.{IsMade, IsOpened}
-use Rattle.gaz_store.specs.Seen.{IsUnharmed, LeavesKept}
+use Rattle.gaz_store.specs.Seen.{IsKeptOf, IsUnharmed, LeavesKept}
 use Rattle.gaz_store.specs.Store.{seen_in}
 use Rattle.gaz_store.specs.declared.store.Store.{Store}
 use Rattle.gaz_hub.specs.Found.{HasFilesAfter, HasFilesOf}
@@ -29,38 +32,44 @@ same_database : (one two : Database) → two.schema ≡ one.schema → two.trees
 same_database one two schema trees = λ i. record { schema = schema i; trees = trees i }
 
 -- where a stop leaves just the tables of a store, what it leaves is a store's
-kept_itself : (s : State) → IsKept s.now → LeavesItself s → LeavesKept s
-kept_itself s kept itself db clean left schema = subst IsKept (sym (same_database s.now db (schema ∙ sym kept.tables.schema_is) (itself db.trees clean left))) kept
+kept_itself : (text : List ℕ) (s : State) → IsKept s.now → IsOf text (s.now.trees metas) → LeavesItself s → LeavesKept text s
+kept_itself text s kept whose itself db clean left schema =
+    subst (IsKeptOf text) (sym (same_database s.now db (schema ∙ sym kept.tables.schema_is) (itself db.trees clean left))) (record { kept = kept; whose = whose })
 
-module _ {S : Type 0} {g : Ghosts S} (register : RegisterValue) (first last : Store S g) (commands : List Command) (responses : List Response)
-    (runs : Runs (door_of register) (seen_in first) (seen_in last) commands responses) (is_fine : IsUnharmed (state g first.tables.conn)) where
+module _ {S N : Type 0} {g : Ghosts S} (register : RegisterValue) (first last : Store S N g) (commands : List Command) (responses : List Response)
+    (runs : Runs (door_of register) (seen_in (register_text register) first) (seen_in (register_text register) last) commands responses) (is_fine : IsUnharmed (state g first.tables.conn)) where
+  abbrev text : List ℕ
+  text = register_text register
+
   -- from a store of which a stop left just a partial run
-  finds : (before : HubState) → StandsForRun (door_of register) (seen_in first) → state_of (seen_in first).content ≡ before → LeavesOnly (seen_in first).content (seen_in first) → (seen_in first).whole
+  finds : (before : HubState) → StandsForRun (door_of register) (seen_in text first) → state_of (seen_in text first).content ≡ before → LeavesOnly (seen_in text first).content (seen_in text first) → (seen_in text first).whole
       → FindsLater register before commands responses (state g last.tables.conn)
   finds before was begins just whole db left =
       let k = content_in db.trees empty_view in
-      let found = every_stop_over seen_in (door_of register) first last commands responses was just runs k (record { clean = left.clean; trees = db.trees; left = left.left; content = refl }) in
+      let found = every_stop_over (seen_in text) (door_of register) first last commands responses was just runs k (record { clean = left.clean; trees = db.trees; left = left.left; content = refl }) in
+      let it = (runs.stops (λ _. was.stands)).whole whole db left.clean left.left left.schema in
       record {
-        stands = record { kept = (runs.stops (λ _. was.stands)).whole whole db left.clean left.left left.schema; known = found.known; partial = found.partial };
+        whose = it.whose;
+        stands = record { kept = it.kept; known = found.known; partial = found.partial };
         ever = subst (λ h. HasFilesAfter (door_of register) h commands responses k.files) begins found.ever;
         received = found.received;
         told = subst (λ h. HasAllTold (door_of register) h commands responses k.files) begins found.told;
-        now = λ fine. subst (λ h. HasFilesOf (door_of register) h (state_of (seen_in last).content) commands responses k.files) begins (found.now fine);
+        now = λ fine. subst (λ h. HasFilesOf (door_of register) h (state_of (seen_in text last).content) commands responses k.files) begins (found.now fine);
       }
 
-  pub finds_new : (old : State) (text : List ℕ) → IsMade old (state g first.tables.conn) text (seen_in first) → IsBare no_schema old.now
+  pub finds_new : (old : State) → IsMade old (state g first.tables.conn) text (seen_in text first) → IsBare no_schema old.now
       → FindsLater register new_hub commands responses (state g last.tables.conn)
-  finds_new old text made bare =
+  finds_new old made bare =
       let empty = made.content is_fine bare in
-      finds new_hub (begins_new register first is_fine old text made bare) (ap state_of empty) (subst (λ k. LeavesOnly k (seen_in first)) (sym empty) (made.leaves is_fine bare)) (made.whole is_fine bare)
+      finds new_hub (begins_new text register first is_fine old made bare) (ap state_of empty) (subst (λ k. LeavesOnly k (seen_in text first)) (sym empty) (made.leaves is_fine bare)) (made.whole is_fine bare)
 
-  pub finds_opened : (old : State) (text : List ℕ) → IsOpened old (state g first.tables.conn) text (seen_in first) → StandForRun register old.now → LeavesItself old
+  pub finds_opened : (old : State) → IsOpened old (state g first.tables.conn) text (seen_in text first) → StandForRun register old.now → LeavesItself old
       → FindsLater register (hub_in old.now) commands responses (state g last.tables.conn)
-  finds_opened old text opened stood itself =
+  finds_opened old opened stood itself =
       let same = opened.content is_fine stood.kept in
-      finds (hub_in old.now) (begins_opened register first is_fine old text opened stood) (ap state_of same) (λ k l. only k l.clean l.trees l.left l.content) (opened.whole (kept_itself old stood.kept itself))
+      finds (hub_in old.now) (begins_opened text register first is_fine old opened stood) (ap state_of same) (λ k l. only k l.clean l.trees l.left l.content) (opened.whole (kept_itself text old stood.kept (opened.of_register is_fine stood.kept) itself))
     where
-      only : (k : Content) → HasCleanDisk (state g first.tables.conn) → (trees : _) → (state g first.tables.conn).may_leave trees → k ≡ content_in trees empty_view → k ≡ after_stop (seen_in first).content
+      only : (k : Content) → HasCleanDisk (state g first.tables.conn) → (trees : _) → (state g first.tables.conn).may_leave trees → k ≡ content_in trees empty_view → k ≡ after_stop (seen_in text first).content
       only k clean trees left e = elim (opened.leaves.crash clean trees left) [
         | inl was ↦ e ∙ ap (λ t. content_in t empty_view) (itself trees (opened.harm is_fine) was) ∙ ap after_stop (sym (opened.content is_fine stood.kept))
         | inr never ↦ absurd never

@@ -1,8 +1,10 @@
 -- Connections over the store behind a connection.
-use Rattle.std.specs.Prelude.{◌≡◌, ℕ, Bool, true, false, ◌∷◌, Result, Ok, Err}
+use Rattle.std.specs.Prelude.{◌≡◌, ℕ, Bool, true, false, List, ◌∷◌, Result, Ok, Err}
+use Rattle.std.specs.declared.marker.Brand.{Brand}
 use Rattle.sqlite.specs.Held.{Held}
 use Rattle.sqlite_trees.specs.declared.store.Store.{Ghosts}
 use Rattle.gaz_register.specs.Registers.{RegisterValue}
+use Rattle.gaz_register.specs.Texts.{register_text}
 use Rattle.gaz_kept.specs.declared.refusal.StoreRefusal.{StoreRefusal}
 use Rattle.gaz_store.specs.Store.{seen_in}
 use Rattle.gaz_store.specs.declared.store.Store.{Store}
@@ -19,26 +21,28 @@ use Rattle.gaz_stored.specs.declared.attending.Unserved.{Unserved}
 use Rattle.gaz_stored.specs.declared.attending.Unserved.TheVariants.{NoPort}
 
 -- a hub of this register over a store settled, and then held so many conversations at most with all
--- that the store keeps at hand or without; of that store this connection is left
-pub record ServesOver {S : Type 0} {g : Ghosts S} (register : RegisterValue) (most served : ℕ)
-    (first : Store S g) (after : Held S) : Type 0 where
+-- that the store keeps at hand or without, as one of the register of this text, which N names; of
+-- that store this connection is left
+pub record ServesOver {S R : Type 0} {g : Ghosts S} (N : Type 0) (text : List ℕ)
+    (register : RegisterValue) (most served : ℕ) (first : Store S R g) (after : Held S)
+    : Type 0 where
   pub told_settled : Result (Unit {0}) Refusal
-  pub begun : Hub (Mirrored g)
-  pub last : Hub (Mirrored g)
+  pub begun : Hub (Mirrored g N text)
+  pub last : Hub (Mirrored g N text)
   pub serves : Serves seen_mirrored most served begun last
   -- where the store stood for a partial run, that is a run of its hub
-  pub runs : ((seen_in first).unharmed → StandsForRun (door_of register) (seen_in first))
-      → Runs (door_of register) (seen_in first) (seen_in last.keeper.lower)
+  pub runs : ((seen_in text first).unharmed → StandsForRun (door_of register) (seen_in text first))
+      → Runs (door_of register) (seen_in text first) (seen_in text last.keeper.lower)
       (Pose Settle ∷ serves.commands) (Replied Settle told_settled ∷ serves.responses)
   pub back : last.keeper.lower.tables.conn ≡ after
 
 -- so did the hub over the store that is there
 pub record ServesOpened {S : Type 0} (g : Ghosts S) (register : RegisterValue)
     (most served : ℕ) (before after : Held S) : Type 0 where
-  pub first : Store S g
+  pub first : Store S Brand g
   pub told_settled : Result (Unit {0}) Refusal
-  pub begun : Hub (Mirrored g)
-  pub last : Hub (Mirrored g)
+  pub begun : Hub (Mirrored g Brand (register_text register))
+  pub last : Hub (Mirrored g Brand (register_text register))
   pub serves : Serves seen_mirrored most served begun last
   pub back : last.keeper.lower.tables.conn ≡ after
   pub uses : Uses g register first before after (Pose Settle ∷ serves.commands)

@@ -1,5 +1,6 @@
 -- A register that grows over the store behind a connection.
 use Rattle.std.specs.Prelude.{◌≡◌, ◌⊎◌, Result, Ok, OnErr}
+use Rattle.std.specs.declared.marker.Brand.{Brand}
 use Rattle.sqlite.specs.Effect.{Database}
 use Rattle.sqlite.specs.Held.{Held, state}
 use Rattle.sqlite_trees.specs.declared.store.Store.{Ghosts}
@@ -31,9 +32,9 @@ pub record StopsBetween (register grown : RegisterValue) (old new : Database) : 
 -- the store that was opened so was to grow from this register to that one, and this was told
 pub record ExtendsOpened {S : Type 0} (g : Ghosts S) (register grown : RegisterValue)
     (before after : Held S) (told : Result (Unit {0}) ExtendFault) : Type 0 where
-  pub first : Store S g
+  pub first : Store S Brand g
   pub opened : IsOpened (state g before) (state g first.tables.conn) (register_text register)
-      (seen_in first)
+      (seen_in (register_text register) first)
   pub opened_to : Tells g before first.tables.conn (Ok tt) (register_text register)
   -- an Ok is told of a growth alone, and what was refused was none
   pub growth : TellsGrowth register grown told

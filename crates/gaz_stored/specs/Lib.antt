@@ -8,4 +8,6 @@ pub mod Serving
 pub mod Asking
 pub mod Attending
 pub mod Extending
+pub mod Migrating
 pub mod GrownChains
+pub mod Reopening

@@ -4,7 +4,9 @@ use Rattle.sqlite.specs.Effect.{Database}
 use Rattle.sqlite.specs.State.{HasCleanDisk, State}
 use Rattle.sqlite_trees.specs.Tree.{Trees}
 use Rattle.gaz_register.specs.Registers.{RegisterValue}
-use Rattle.gaz_tables.specs.Schema.{store_schema}
+use Rattle.gaz_register.specs.Texts.{register_text}
+use Rattle.gaz_tables.specs.Schema.{metas, store_schema}
+use Rattle.gaz_kept.specs.Opening.{IsOf}
 use Rattle.gaz_hub.specs.Found.{HasFilesAfter, HasFilesOf}
 use Rattle.gaz_hub.specs.Hubs.{door_of}
 use Rattle.gaz_hub.specs.Standing.{HasAllOf}
@@ -30,6 +32,8 @@ LeavesItself s = (trees : Trees) → HasCleanDisk s → s.may_leave trees → tr
 pub record IsFoundLater (register : RegisterValue) (before : HubState) (commands : List Command)
     (responses : List Response) (after : State) (db : Database) : Type 0 where
   pub stands : StandForRun register db
+  -- they are of the register
+  pub whose : IsOf (register_text register) (db.trees metas)
   -- of files that had been received, and that in hand at most, whatever became of the connection
   pub ever : HasFilesAfter (door_of register) before commands responses (hub_in db).received
   -- with each that one of the commands received

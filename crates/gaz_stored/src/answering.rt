@@ -4,7 +4,7 @@ ghost use Rattle.sqlite.specs.Held.{state};
 ghost use Rattle.gaz_register.specs.Texts.{register_text};
 ghost use Rattle.gaz_keeper.specs.Keeper.{IsNotOpen};
 ghost use Rattle.gaz_kept.specs.Opening.{Judges, Tells, has_all, has_any};
-ghost use Rattle.gaz_store.specs.Store.{seen_in};
+ghost use Rattle.gaz_store.specs.Store.{progress_of};
 ghost use Rattle.gaz_hub.specs.Hubs.{or_not_received};
 ghost use Rattle.gaz_exchange.specs.Conversing.{StopsByFault, transfer};
 ghost use Rattle.gaz_stored.specs.Answering.{AnswersNew, AnswersOpened, Converses, HoldsNone};
@@ -16,9 +16,10 @@ use gaz_hub::Hub;
 use gaz_keeper::ShelfFault;
 use gaz_register::Register;
 use gaz_shelf::{MemShelf, Seed};
-use gaz_store::{Store, StoreRefusal};
+use gaz_store::{OfRegister, Store, StoreRefusal};
 use sqlite::{Alter, Connection};
 use std::alloc::Global;
+use std::marker::Brand;
 
 /// What is left when all is over.
 #[derive(Drop)]
@@ -31,8 +32,8 @@ pub struct HandedBack<S: Alter + Drop> {
     pub held: Result<Result<Served, Stopped>, StoreRefusal>,
 }
 
-// Holds a conversation over a store.
-fn converse_over<S: Alter + Drop, R: Source, W: Sink>(
+// Holds a conversation over a store, seen as one of the register that `N` names.
+fn converse_over<S: Alter + Drop, N: OfRegister, R: Source, W: Sink>(
     alloc: Global,
     seed: Seed,
     store: Store<S>,
@@ -42,13 +43,13 @@ fn converse_over<S: Alter + Drop, R: Source, W: Sink>(
     w: &mut W,
     most: u64,
 ) -> (Connection<S>, Option<MemShelf>, Result<Served, Stopped>)
-    requires { IsNotOpen (seen_in store).progress }
+    requires { IsNotOpen (progress_of store.judging) }
     ensures over { result.0.in_transaction ≡ false }
-    ensures converses { Converses register most
+    ensures converses { Converses N N.text register most
         (transfer R.remaining W.contents r.old r.new w.old w.new) store result.0 result.2 }
     ensures failed { StopsByFault R.failed W.failed r.new w.new result.2 }
 {
-    let hub = Hub::new(alloc, register, store);
+    let hub = Hub::new(alloc, register, store.named::<N>());
     let mut hub = mirror(alloc, seed, hub, read_from);
     let ended = converse(alloc, r, w, &mut hub, most);
     let (_register, mirror) = hub.into_parts();
@@ -56,21 +57,22 @@ fn converse_over<S: Alter + Drop, R: Source, W: Sink>(
     (store.into_connection(), at_hand, ended)
 }
 
-/// Judges what is ready in a store, and whether that went well.
-pub(crate) fn settle<S: Alter + Drop>(
+/// Judges what is ready in a store, seen as one of the register that `N` names, and whether that went
+/// well.
+pub(crate) fn settle<S: Alter + Drop, N: OfRegister>(
     alloc: Global,
     register: Register,
     store: Store<S>,
 ) -> (Register, Store<S>, Result<(), ShelfFault>)
-    requires { IsNotOpen (seen_in store).progress }
+    requires { IsNotOpen (progress_of store.judging) }
     ensures register { result.0 ≡ register }
-    ensures idle { IsNotOpen (seen_in result.1).progress }
-    ensures settles { Settles register store result.1 (or_not_received result.2) }
+    ensures idle { IsNotOpen (progress_of result.1.judging) }
+    ensures settles { Settles N.text register store result.1 (or_not_received result.2) }
 {
-    let mut hub = Hub::new(alloc, register, store);
+    let mut hub = Hub::new(alloc, register, store.named::<N>());
     let settled = hub.settle();
-    let (register, store) = hub.into_parts();
-    (register, store, settled)
+    let (register, settled_store) = hub.into_parts();
+    (register, settled_store.named(), settled)
 }
 
 /// Makes a store of a register in the empty database behind a connection outside a transaction, and
@@ -102,7 +104,7 @@ pub fn answer_new<S: Alter + Drop, R: Source, W: Sink>(
 {
     match Store::create(alloc, seed, conn, &register) {
         Ok(store) => {
-            let (conn, at_hand, ended) = converse_over(
+            let (conn, at_hand, ended) = converse_over::<_, Brand, _, _>(
                 alloc, seed, store, register, read_from, r, w, most,
             );
             HandedBack {
@@ -153,8 +155,8 @@ pub fn answer_opened<S: Alter + Drop, R: Source, W: Sink>(
 {
     match Store::open(alloc, seed, conn, &register) {
         Ok(store) => {
-            let (register, store, _settled) = settle(alloc, register, store);
-            let (conn, at_hand, ended) = converse_over(
+            let (register, store, _settled) = settle::<_, Brand>(alloc, register, store);
+            let (conn, at_hand, ended) = converse_over::<_, Brand, _, _>(
                 alloc, seed, store, register, read_from, r, w, most,
             );
             HandedBack {

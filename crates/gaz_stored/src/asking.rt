@@ -6,19 +6,20 @@ ghost use Rattle.gaz_keeper.specs.Keeper.{IsNotOpen};
 ghost use Rattle.gaz_keeper.specs.Telling.{IsNotJudging};
 ghost use Rattle.gaz_kept.specs.Opening.{Judges, Tells, has_all};
 ghost use Rattle.gaz_store.specs.Opened.{IsRefused};
-ghost use Rattle.gaz_store.specs.Store.{seen_in};
+ghost use Rattle.gaz_store.specs.Store.{progress_of};
 ghost use Rattle.gaz_commands.specs.Obeying.{Obeys};
-ghost use Rattle.gaz_stored.specs.Asking.{Asks, ObeysOrRests, asked};
+ghost use Rattle.gaz_stored.specs.Asking.{Asks, ObeysUnder, asked};
 
 use gaz_commands::{Said, extract, line, status, submit};
 use gaz_hub::Hub;
 use gaz_keeper::Inbox;
 use gaz_register::Register;
 use gaz_shelf::Seed;
-use gaz_store::{Store, StoreRefusal};
+use gaz_store::{OfRegister, Store, StoreRefusal};
 use gaz_words::Call;
 use sqlite::{Alter, Connection};
 use std::alloc::Global;
+use std::marker::Brand;
 
 /// What is left when a call was answered.
 #[derive(Drop)]
@@ -43,20 +44,20 @@ fn ask_hub<K: Inbox + Drop>(hub: &mut Hub<K>, call: Call<'_>, file: Option<&[u8]
     }
 }
 
-// Asks a hub over a store, whose connection is left.
-fn ask_over<S: Alter + Drop>(
+// Asks a hub over a store, seen as one of the register that `N` names; its connection is left.
+fn ask_over<S: Alter + Drop, N: OfRegister>(
     alloc: Global,
     store: Store<S>,
     register: Register,
     call: Call<'_>,
     file: Option<&[u8]>,
 ) -> (Connection<S>, Said)
-    requires { IsNotOpen (seen_in store).progress }
+    requires { IsNotOpen (progress_of store.judging) }
     ensures over { result.0.in_transaction ≡ false }
-    ensures asks { ObeysOrRests register
+    ensures asks { ObeysUnder N N.text register
         (asked call.entry (option_map (λ bytes. bytes.now) file.entry)) store result.0 result.1 }
 {
-    let mut hub = Hub::new(alloc, register, store);
+    let mut hub = Hub::new(alloc, register, store.named::<N>());
     let said = ask_hub(&mut hub, call, file);
     let (_register, store) = hub.into_parts();
     (store.into_connection(), said)
@@ -92,7 +93,7 @@ pub fn ask_opened<S: Alter + Drop>(
 {
     match Store::open(alloc, seed, conn, &register) {
         Ok(store) => {
-            let (conn, said) = ask_over(alloc, store, register, call, file);
+            let (conn, said) = ask_over::<_, Brand>(alloc, store, register, call, file);
             Asked {
                 conn,
                 said: Ok(said),

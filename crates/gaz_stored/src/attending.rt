@@ -6,7 +6,7 @@ ghost use Rattle.gaz_register.specs.Texts.{register_text};
 ghost use Rattle.gaz_keeper.specs.Keeper.{IsNotOpen};
 ghost use Rattle.gaz_kept.specs.Opening.{Judges, Tells, has_all};
 ghost use Rattle.gaz_store.specs.Opened.{IsRefused};
-ghost use Rattle.gaz_store.specs.Store.{seen_in};
+ghost use Rattle.gaz_store.specs.Store.{progress_of};
 ghost use Rattle.gaz_stored.specs.Attending.{Attends, ServesOver, is_told, unserved};
 ghost use Rattle.gaz_stored.specs.Serving.{EndsEarly};
 
@@ -16,10 +16,11 @@ use crate::mirroring::{ReadFrom, mirror};
 use gaz_hub::Hub;
 use gaz_register::Register;
 use gaz_shelf::{MemShelf, Seed};
-use gaz_store::{Store, StoreRefusal};
+use gaz_store::{OfRegister, Store, StoreRefusal};
 use sqlite::{Alter, Connection};
 use std::alloc::Global;
 use std::io::{self, Read, Write};
+use std::marker::Brand;
 use std::net::{OpenListener, OpenStream};
 
 /// Why no connection is answered though there is a hub.
@@ -49,9 +50,10 @@ fn say_where<L: OpenListener, W: Write>(listener: &L, w: &mut W) -> io::Result<(
     w.flush()
 }
 
-// Answers connections over a store, once it is settled and all of it put at hand, where memory
-// allows; the connection to it, what is at hand, and how many were answered are left.
-fn serve_over<S: Alter + Drop, L: OpenListener>(
+// Answers connections over a store, seen as one of the register that `N` names, once it is settled
+// and all of it put at hand, where memory allows; the connection to it, what is at hand, and how many
+// were answered are left.
+fn serve_over<S: Alter + Drop, N: OfRegister, L: OpenListener>(
     alloc: Global,
     seed: Seed,
     store: Store<S>,
@@ -61,13 +63,13 @@ fn serve_over<S: Alter + Drop, L: OpenListener>(
 ) -> (Connection<S>, Option<MemShelf>, u64)
 where
     L::Stream: Read + Write + OpenStream,
-    requires { IsNotOpen (seen_in store).progress }
+    requires { IsNotOpen (progress_of store.judging) }
     ensures over { result.0.in_transaction ≡ false }
-    ensures serves { ServesOver register MOST_REQUESTS result.2 store result.0 }
+    ensures serves { ServesOver N N.text register MOST_REQUESTS result.2 store result.0 }
     ensures many { EndsEarly connections result.2 result.1 }
 {
-    let (register, store, _settled) = settle(alloc, register, store);
-    let hub = Hub::new(alloc, register, store);
+    let (register, store, _settled) = settle::<_, N>(alloc, register, store);
+    let hub = Hub::new(alloc, register, store.named::<N>());
     let mut hub = mirror(alloc, seed, hub, ReadFrom::Memory);
     let served = serve_on(alloc, listener, &mut hub, connections);
     let (_register, mirror) = hub.into_parts();
@@ -134,7 +136,7 @@ where
     match Store::open(alloc, seed, conn, &register) {
         Ok(store) => match announced(listener, w) {
             Ok(listener) => {
-                let (conn, at_hand, served) = serve_over(
+                let (conn, at_hand, served) = serve_over::<_, Brand, _>(
                     alloc,
                     seed,
                     store,

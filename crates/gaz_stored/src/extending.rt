@@ -11,6 +11,7 @@ use gaz_shelf::Seed;
 use gaz_store::{ExtendFault, Store, StoreRefusal};
 use sqlite::{Alter, Connection};
 use std::alloc::Global;
+use std::marker::Brand;
 
 /// What is left when a store's register was to grow.
 #[derive(Drop)]
@@ -46,7 +47,7 @@ pub fn extend_opened<S: Alter + Drop>(
         Judges S.Store conn result.conn (Err refusal) (register_text register)) }
     ensures refused { IfErr result.told (λ _. IsRefused S.Store conn result.conn) }
 {
-    match Store::open(alloc, seed, conn, &register) {
+    match Store::<S, Brand>::open(alloc, seed, conn, &register) {
         Ok(mut store) => {
             let mut register = register;
             let told = store.extend(&mut register, grown);

@@ -2,7 +2,11 @@
 ghost use Rattle.gaz_stored.specs.Chains.{ChainsAreOne};
 ghost use Rattle.gaz_stored.specs.Examples.{WorkedExamples};
 ghost use Rattle.gaz_stored.specs.GrownChains.{GrownChainsAreOne};
+ghost use Rattle.gaz_stored.specs.Migrating.{MigratedStands};
+ghost use Rattle.gaz_stored.specs.Reopening.{OpensAgain};
 ghost use Rattle.gaz_stored.specs.Stopping.{StopsAreSurvived};
+
+use sqlite::Alter;
 
 /// What the definitions come to on worked examples.
 pub fn worked_examples()
@@ -28,4 +32,17 @@ pub fn grown_chains_are_one()
 /// before.
 pub fn stops_are_survived()
     ensures { StopsAreSurvived }
+{}
+
+/// Tables of schema 1 that stood for a partial run stand for the same hub once they are migrated, and
+/// the next conversation can go on from them.
+pub fn migrated_stands()
+    ensures { MigratedStands }
+{}
+
+/// Tables that a call handed back, or that a stop left of it, where they stood for a partial run before
+/// it: `Store::open` under the same register answers `Ok` or `Fault`, and never `BadSchema` or
+/// `OtherRegister`.
+pub fn opens_again<S: Alter>()
+    ensures { OpensAgain S.Store }
 {}

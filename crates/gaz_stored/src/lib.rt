@@ -8,6 +8,7 @@ mod attending;
 mod connections;
 mod extending;
 pub mod laws;
+mod migrating;
 mod mirroring;
 
 pub use answering::{HandedBack, answer_new, answer_opened};
@@ -15,4 +16,5 @@ pub use asking::{Asked, ask_opened};
 pub use attending::{Attended, Unserved, serve_opened};
 pub use connections::MOST_REQUESTS;
 pub use extending::{Extended, extend_opened};
+pub use migrating::{Migrated, Migration, migrate_opened};
 pub use mirroring::ReadFrom;

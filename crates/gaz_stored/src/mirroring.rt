@@ -12,7 +12,7 @@ use gaz_hub::Hub;
 use gaz_mirror::Mirror;
 use gaz_mirrored::mirrored;
 use gaz_shelf::{MemShelf, Seed};
-use gaz_store::Store;
+use gaz_store::{OfRegister, Store};
 use sqlite::Alter;
 use std::alloc::Global;
 
@@ -27,18 +27,18 @@ pub enum ReadFrom {
 }
 
 /// The hub over a mirror of its store, with all of it at hand or nothing.
-pub(crate) fn mirror<S: Alter + Drop>(
+pub(crate) fn mirror<S: Alter + Drop, N: OfRegister>(
     alloc: Global,
     seed: Seed,
-    hub: Hub<Store<S>>,
+    hub: Hub<Store<S, N>>,
     read_from: ReadFrom,
-) -> Hub<Mirror<Store<S>, MemShelf>>
-    requires { IsNotOpen (seen_in hub.keeper).progress }
+) -> Hub<Mirror<Store<S, N>, MemShelf>>
+    requires { IsNotOpen (seen_in N.text hub.keeper).progress }
     ensures register { result.register ≡ hub.register }
     ensures remembers { RemembersNothing result }
     ensures idle { IsNotOpen (seen_mirrored result.keeper).progress }
-    ensures reads { OnlyReads (seen_in hub.keeper) (seen_in result.keeper.lower) }
-    ensures mirrors { StandsForRun (door_of hub.register) (seen_in hub.keeper)
+    ensures reads { OnlyReads (seen_in N.text hub.keeper) (seen_in N.text result.keeper.lower) }
+    ensures mirrors { StandsForRun (door_of hub.register) (seen_in N.text hub.keeper)
         → (seen_mirrored result.keeper).unharmed
         → StandsForRun (door_of hub.register) (seen_mirrored result.keeper) }
 {

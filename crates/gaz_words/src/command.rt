@@ -62,6 +62,8 @@ pub enum Command<'a> {
     Serve(Places<'a>, Serving),
     /// A store's register grows to the one whose file stands at this path.
     Extend(Places<'a>, &'a str),
+    /// A store of schema 1 becomes one of schema 2.
+    Migrate(Places<'a>),
 }
 
 // The word that was written for an argument. `clap` asks for each, so that none is missing.
@@ -120,6 +122,7 @@ fn named<'a>(name: &str, given: &ArgMatches<'a>) -> Command<'a> {
         "extract" => Command::Ask(places, extracting(given)),
         "serve" => Command::Serve(places, serving_at(given)),
         "extend" => Command::Extend(places, word(given, "grown")),
+        "migrate" => Command::Migrate(places),
         _ => Command::Play,
     }
 }

@@ -21,6 +21,8 @@ const SERVE: &str = "Answers HTTP requests on 127.0.0.1, over a store";
 
 const EXTEND: &str = "Gives a store a register that grew";
 
+const MIGRATE: &str = "Brings a store of schema 1 up to date";
+
 const INIT_EXAMPLE: &str = "Example: gazhub init --store hub.db --register register.toml";
 
 const SUBMIT_EXAMPLE: &str =
@@ -57,6 +59,13 @@ Prints: extended
   refused 61                      a custodian is no longer there
   refused 62                      a custodian has other blocks
 Exit status: 0 extended, 1 refused, 2 usage, 3 fault";
+
+const MIGRATE_EXAMPLE: &str =
+    "Example: gazhub migrate --store hub.db --register register.toml
+
+Prints: migrated
+  current                         the store is up to date: nothing is written
+Exit status: 0 migrated or current, 2 usage, 3 fault";
 
 /// The greatest port, and the most connections.
 const MOST_PORT: u64 = 65_535;
@@ -175,5 +184,6 @@ pub fn grammar<'a>(alloc: Global) -> Result<Command<'a>, AllocError> {
         .subcommand(line(alloc)?)?
         .subcommand(extract(alloc)?)?
         .subcommand(serve(alloc)?)?
-        .subcommand(extend(alloc)?)
+        .subcommand(extend(alloc)?)?
+        .subcommand(over_store(alloc, "migrate", MIGRATE, MIGRATE_EXAMPLE)?)
 }

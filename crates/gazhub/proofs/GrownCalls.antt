@@ -1,12 +1,12 @@
 -- Calls over the same files, between which the store's register grows, are one run of one hub.
-use Rattle.std.proofs.Common.{◌≡◌, List, [], ◌∷◌, map, subst, sym}
+use Rattle.std.proofs.Common.{◌≡◌, ◌∙◌, List, [], ◌∷◌, ap, map, subst, sym}
 use Rattle.sqlite.specs.Effect.{Database}
 use Rattle.sqlite_disk.specs.declared.Disk as disk
 use Rattle.gaz_register.specs.Registers.{RegisterValue}
 use Rattle.gaz_register.proofs.Grown.{extends-composes}
 use Rattle.gaz_stored.specs.GrownChains.{GrownChain, GrownChainsAreOne}
 use Rattle.gaz_stored.specs.Runs.{GoesOn, StandForRun, hub_in}
-use Rattle.gazhub.specs.Grown.{AreGrown, GrownCallsAreOne, Stay, turn_of}
+use Rattle.gazhub.specs.Grown.{AreGrown, GrownCallsAreOne, IsOneGrownRun, Stay, turn_of}
 use Rattle.gazhub.specs.Visits.{AreWhole, Closes, IsWhole, Visit, found_by, left_by}
 use Rattle.gazhub.proofs.Joining.{found_again}
 
@@ -31,4 +31,11 @@ module _ {D : Type 0} (g : disk.Ghosts D) (one : GrownChainsAreOne) where
     opened = λ first later visits stood turn whole.
         let goes = visits.goes_on whole.0.unharmed stood in
         one.opened first.register _ _ stood (extends-composes.itself first.register, goes, chains first.register first.visit later visits.closes goes.stands whole.0 turn whole.1);
+    migrated = λ register move first later moves was turn whole.
+        let made = moves.goes_on whole.0.unharmed was in
+        let same = found_again g move first.visit moves.closes turn.0 whole.0 whole.1.0 first.register turn.2 in
+        let stood = subst (StandForRun first.register) (sym same) (one.stands register first.register (left_by g move) turn.1 made.stands) in
+        let goes = turn.2.goes_on whole.1.0.unharmed stood in
+        subst (λ before. IsOneGrownRun g before first later) (ap hub_in same ∙ made.hub)
+        (one.opened first.register _ _ stood (extends-composes.itself first.register, goes, chains first.register first.visit later turn.2.closes goes.stands whole.1.0 turn.3 whole.1.1));
   }

@@ -12,7 +12,7 @@ use Rattle.sqlite_trees.specs.Tree.{Trees}
 use Rattle.gaz_register.specs.Registers.{RegisterValue}
 use Rattle.gaz_stored.specs.Chains.{Chain, ChainsAreOne}
 use Rattle.gaz_stored.specs.Runs.{GoesOn, StandForRun, hub_in}
-use Rattle.gazhub.specs.Joined.{CallsAreOne}
+use Rattle.gazhub.specs.Joined.{CallsAreOne, IsOneRun}
 use Rattle.gazhub.specs.Visits.{AreInTurn, AreWhole, Closes, IsWhole, Visit, Visits, found_by, left_by, talks_of}
 
 abbrev database : Schema → Trees → Database
@@ -52,4 +52,11 @@ module _ {D : Type 0} (g : disk.Ghosts D) where
     opened = λ register first later visits stood turn whole.
         let goes = visits.goes_on whole.0.unharmed stood in
         one.opened register _ stood _ _ (goes, chains register first later visits.closes goes.stands whole.0 turn whole.1);
+    migrated = λ register move first later moves was turn whole.
+        let made = moves.goes_on whole.0.unharmed was in
+        let same = found_again move first moves.closes turn.0 whole.0 whole.1.0 register turn.1.0 in
+        let stood = subst (StandForRun register) (sym same) made.stands in
+        let goes = turn.1.0.goes_on whole.1.0.unharmed stood in
+        subst (λ before. IsOneRun g register before first later) (ap hub_in same ∙ made.hub)
+        (one.opened register _ stood _ _ (goes, chains register first later turn.1.0.closes goes.stands whole.1.0 turn.1.1 whole.1.1));
   }

@@ -4,5 +4,6 @@ mod Closing
 mod Resting
 mod Opening
 mod Extends
+mod Migrates
 mod Joining
 mod GrownCalls

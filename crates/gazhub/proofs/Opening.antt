@@ -28,7 +28,7 @@ use Rattle.gazhub.proofs.Resting.{goes_on_none, goes_on_refused}
 
 module _ {D : Type 0} (g : disk.Ghosts D) (files : Files D) (left : Option (Files D)) (conn back : Held (FileStore D g)) (connects : Connects g files conn) (closes : Closes g back left) where
   -- a connection that was handed back
-  declined : IsRefused over_files conn back → (register : RegisterValue) → Visits g register (record { files = files; conn = conn; after = back; left = left; commands = []; responses = [] })
+  pub declined : IsRefused over_files conn back → (register : RegisterValue) → Visits g register (record { files = files; conn = conn; after = back; left = left; commands = []; responses = [] })
   declined refused register = record { connects = connects; goes_on = goes_on_refused register conn back refused; closes = closes }
 
   module _ (result : Result (Store (FileStore D g) over_files) (Held (FileStore D g) × StoreRefusal)) (refused : IsRefused over_files conn back)

@@ -22,7 +22,7 @@ use Rattle.gaz_stored.specs.Extending.{StandsStill}
 use Rattle.gaz_stored.specs.Runs.{GoesOn, StandForRun, hub_in}
 
 -- over tables that stay as they are
-goes_on_resting : (register : RegisterValue) (old new : Database) → new ≡ old → StandForRun register old → GoesOn register (hub_in old) [] [] new
+pub goes_on_resting : (register : RegisterValue) (old new : Database) → new ≡ old → StandForRun register old → GoesOn register (hub_in old) [] [] new
 goes_on_resting register old new same stood =
     let d = door_of register in
     let run : hub_in new ≡ hub_in old = ap hub_in same in

@@ -12,7 +12,7 @@ use Rattle.gaz_exchange.specs.declared.supply.Cause.TheVariants as cause
 use Rattle.gaz_words.specs.Words.{asks_play}
 use Rattle.gaz_words.specs.declared.command.Command.{Command}
 use Rattle.gaz_words.specs.declared.command.Command.TheVariants.{Play, Init, Ask, Serve}
-use Rattle.gaz_words.specs.declared.command.Command.TheVariants.{Extend}
+use Rattle.gaz_words.specs.declared.command.Command.TheVariants.{Extend, Migrate}
 use Rattle.gazhub.specs.Endings.{is_silent, line_of, status_of}
 use Rattle.gazhub.specs.Playing.{Plays}
 use Rattle.gazhub.specs.declared.ending.Ending.{Ending}
@@ -44,6 +44,7 @@ is_play (Init places) = false
 is_play (Ask places call) = false
 is_play (Serve places serving) = false
 is_play (Extend places grown) = false
+is_play (Migrate places) = false
 
 -- nothing was read; and nothing was printed, at usage and at faults but that of the output
 pub record StaysSilent (through : Transfer) (ending : Ending) : Type 0 where

@@ -8,6 +8,8 @@ use Rattle.gaz_tables.specs.Creating.{IsBare, no_schema}
 use Rattle.gaz_hub.specs.Step.{HubState, new_hub}
 use Rattle.gaz_stored.specs.GrownChains.{GoesOnGrown, Turn, after_turns}
 use Rattle.gaz_stored.specs.Runs.{StandForRun, hub_in}
+use Rattle.gaz_stored.specs.Migrating.{FirstStandForRun, first_hub_in}
+use Rattle.gazhub.specs.Migrating.{Moves}
 use Rattle.gazhub.specs.Visits.{AreWhole, Founds, Visit, Visits, found_by, left_by, talk_of}
 
 module _ {D : Type 0} (g : disk.Ghosts D) where
@@ -50,3 +52,9 @@ module _ {D : Type 0} (g : disk.Ghosts D) where
         → AreGrown first.register first.visit.left later
         → AreWhole g (map (λ stay. stay.visit) (first ∷ later))
         → IsOneGrownRun (hub_in (found_by g first.visit)) first later
+    -- to one that a visit before made of tables of schema 1, which stood for a partial run
+    pub migrated : (register : RegisterValue) (move : Visit g) (first : Stay) (later : List Stay)
+        → Moves g register move → FirstStandForRun register (found_by g move)
+        → AreGrown register move.left (first ∷ later)
+        → AreWhole g (move ∷ map (λ stay. stay.visit) (first ∷ later))
+        → IsOneGrownRun (first_hub_in (found_by g move)) first later

@@ -6,6 +6,8 @@ use Rattle.gaz_tables.specs.Creating.{IsBare, no_schema}
 use Rattle.gaz_hub.specs.Step.{HubState, new_hub}
 use Rattle.gaz_stored.specs.Chains.{after_all, all_commands, all_responses}
 use Rattle.gaz_stored.specs.Runs.{GoesOn, StandForRun, hub_in}
+use Rattle.gaz_stored.specs.Migrating.{FirstStandForRun, first_hub_in}
+use Rattle.gazhub.specs.Migrating.{Moves}
 use Rattle.gazhub.specs.Visits.{AreInTurn, AreWhole, Founds, Visit, Visits, found_by, talk_of}
 use Rattle.gazhub.specs.Visits.{talks_of}
 
@@ -29,3 +31,8 @@ module _ {D : Type 0} (g : disk.Ghosts D) where
         → Visits g register first → StandForRun register (found_by g first)
         → AreInTurn g register first.left later → AreWhole g (first ∷ later)
         → IsOneRun register (hub_in (found_by g first)) first later
+    -- to one that a visit before made of tables of schema 1, which stood for a partial run
+    pub migrated : (register : RegisterValue) (move first : Visit g) (later : List (Visit g))
+        → Moves g register move → FirstStandForRun register (found_by g move)
+        → AreInTurn g register move.left (first ∷ later) → AreWhole g (move ∷ first ∷ later)
+        → IsOneRun register (first_hub_in (found_by g move)) first later

@@ -3,6 +3,7 @@ pub mod Endings
 pub mod Commands
 pub mod Visits
 pub mod Filing
+pub mod Migrating
 pub mod Joined
 pub mod Growing
 pub mod Grown

@@ -45,7 +45,19 @@ pub(crate) fn options_at(rt: &HostRuntime, store: &str) -> Result<Options, NoHub
         return Err(NoHub::Store(StoreRefusal::Fault));
     };
     let options = options(rt, bytes)?;
-    announce(rt, bytes);
+    announce(rt, bytes, "opening ..");
+    Ok(options)
+}
+
+/// How they are used where the store is migrated: its file doubles, and what is written stays at hand
+/// as long as there is room, or the log would grow to many times the file.
+pub(crate) fn options_to_migrate(rt: &HostRuntime, store: &str) -> Result<Options, NoHub> {
+    let Some(bytes) = size_at(rt, store) else {
+        return Err(NoHub::Store(StoreRefusal::Fault));
+    };
+    let mut options = options(rt, bytes.saturating_mul(2))?;
+    options.spill_pages = options.cache_pages;
+    announce(rt, bytes, "migrating ..");
     Ok(options)
 }
 

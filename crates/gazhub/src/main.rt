@@ -7,6 +7,7 @@ mod ending;
 mod files;
 mod growing;
 mod laws;
+mod migrating;
 mod obeying;
 mod program;
 mod sample;

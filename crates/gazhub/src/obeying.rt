@@ -10,6 +10,7 @@ use crate::commands::{Attendance, ask, attend, init};
 use crate::ending::Ending;
 use crate::files::NoHub;
 use crate::growing::extend;
+use crate::migrating::migrate;
 use crate::program::{MOST, play};
 use crate::sample::SAMPLE;
 use clap::Error;
@@ -97,6 +98,7 @@ fn obey<R: Read, W: Write>(
         Command::Ask(places, call) => finish(w, ask(rt, seed, places, call)),
         Command::Serve(places, serving) => serve(rt, seed, places, serving, w),
         Command::Extend(places, grown) => finish(w, extend(rt, seed, places, grown)),
+        Command::Migrate(places) => finish(w, migrate(rt, seed, places)),
     }
 }
 
@@ -161,8 +163,8 @@ pub fn report<E: Write>(errors: &mut E, ending: Ending)
 }
 
 /// Does what the words ask: holds a conversation where there are none, or `play` alone; makes a store,
-/// asks a hub over one, answers connections over it, or lets its register grow. Gives the exit
-/// status.
+/// asks a hub over one, answers connections over it, lets its register grow, or migrates it. Gives
+/// the exit status.
 ///
 /// `words` are those behind the program's name, none where they can't be read; `seed` is none where
 /// the system gives no random bytes. What files hold no contract can say: what is asked of a hub

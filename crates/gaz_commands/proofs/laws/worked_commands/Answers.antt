@@ -37,6 +37,10 @@ returns c = record {
     removed = record { out_is = refl; errors_are = refl; status_is = refl };
     changed = record { out_is = refl; errors_are = refl; status_is = refl };
   };
+  on_migration = record {
+    migrated = record { out_is = refl; errors_are = refl; status_is = refl };
+    current = record { out_is = refl; errors_are = refl; status_is = refl };
+  };
   on_words = record {
     submitted = refl;
     four_digits = refl;

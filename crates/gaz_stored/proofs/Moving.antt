@@ -1,0 +1,66 @@
+-- A store that is made of the tables of schema 1 stands for the hub that they stood for.
+use Rattle.std.proofs.Common.{◌≡◌, inl, inr, Bool, true, false, List, ℕ, Ok, arith, refl, sym, ap, subst}
+use Rattle.std.specs.declared.marker.Brand.{Brand}
+use Rattle.sqlite.specs.Held.{Held, state}
+use Rattle.sqlite.specs.Schema.{Schema}
+use Rattle.sqlite.specs.State.{HasCleanDisk}
+use Rattle.sqlite_trees.specs.declared.store.Store.{Ghosts}
+use Rattle.gaz_register.specs.Registers.{RegisterValue, blocks_of}
+use Rattle.gaz_register.specs.Texts.{register_text}
+use Rattle.gaz_views.specs.View.{empty_view}
+use Rattle.gaz_kept.specs.Opening.{Tells}
+use Rattle.gaz_kept.specs.OpeningFirst.{MayMove, TellsFirst, Untouched, has_first}
+use Rattle.gaz_kept.specs.declared.refusal.StoreRefusal.{StoreRefusal}
+use Rattle.gaz_kept.proofs.Migrated.{migration_stands}
+use Rattle.gaz_hub.specs.Hubs.{AreKnown, door_of, state_of}
+use Rattle.gaz_hub.specs.Standing.{IsPartial}
+use Rattle.gaz_hub.specs.Step.{HubState}
+use Rattle.gaz_store.specs.Migrating.{IsMoved}
+use Rattle.gaz_store.specs.Store.{seen_in}
+use Rattle.gaz_store.specs.declared.store.Store.{Store}
+use Rattle.gaz_stored.specs.Migrating.{MigratedStands, MigratesOpened, StopsMoving, told_of}
+use Rattle.gaz_stored.specs.declared.migrating.Migration.TheVariants.{Done, Current}
+
+pub migrated_stands : MigratedStands
+migrated_stands register old new was mine moves =
+    let text = register_text register in
+    let s = migration_stands.stands text empty_view old new was.kept moves in
+    let hub = ap state_of s.content in
+    record {
+      hub = hub;
+      stands = record {
+        kept = s.kept;
+        known = subst (λ (h : HubState). AreKnown (door_of register) h.received) (sym hub) was.known;
+        partial = subst (λ (h : HubState). IsPartial (blocks_of register) h.received h.board) (sym hub) was.partial;
+      };
+      whose = migration_stands.is_of text text old new was.kept.tables mine moves;
+    }
+
+-- a store that is told as current was none of schema 1
+not_first : (first : Bool) → told_of first ≡ Current → first ≡ false
+not_first true e = absurd (cc)
+not_first false e = refl
+
+module _ {S : Type 0} (g : Ghosts S) (register : RegisterValue) (before : Held S) where
+  pub stops_moving : (after : Held S) (r : _) → MayMove g before after r (register_text register) → StopsMoving g register before after
+  stops_moving after r leaves first mine itself trees clean left =
+      let s = leaves (λ early opened. first.kept.tables) in
+      let fine : HasCleanDisk (state g before) = let le = s.clean in omega (arith, le, clean) in
+      elim (s.crash clean trees left) [
+        | inl was ↦ inl (itself trees fine was)
+        | inr made ↦ inr (made.1.0, made.1.1, migrated_stands register (state g before).now made.1.0 first mine made.1.2)
+      ]
+
+  pub migrates_opened : (store : Store S Brand g) (after : Held S) → store.tables.conn ≡ after
+      → IsMoved (state g before) (state g store.tables.conn) (register_text register) (seen_in (register_text register) store)
+      → Tells g before store.tables.conn (Ok tt) (register_text register) → TellsFirst g before store.tables.conn (Ok tt) (register_text register)
+      → (has_first (state g before).now.schema ≡ false → Untouched g before store.tables.conn)
+      → (first : Bool) → first ≡ has_first (state g before).now.schema → MigratesOpened g register before after (told_of first)
+  migrates_opened store after back moved told told_first untouched first is =
+      subst (λ h. MigratesOpened g register before h (told_of first)) back (record {
+        told_is = ap told_of is;
+        of_store = told;
+        of_first = told_first;
+        current = λ e. untouched (subst (λ b. b ≡ false) is (not_first first e));
+        moves = λ fine was. migrated_stands register (state g before).now (state g store.tables.conn).now was (moved.of_register fine was.kept.tables) (moved.becomes fine was.kept.tables);
+      })

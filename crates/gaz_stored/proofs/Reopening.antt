@@ -1,0 +1,41 @@
+-- What the next opening of a store's tables answers.
+use Rattle.std.proofs.Common.{◌≡◌, ◌∙◌, inl, inr, ℕ, List, [], ◌∷◌, Result, Ok, Err, refl, sym, subst}
+use Rattle.sqlite.specs.Held.{Held, state}
+use Rattle.sqlite.specs.Order.{Row}
+use Rattle.sqlite.specs.declared.types.Value.TheVariants.{Text}
+use Rattle.sqlite_trees.specs.declared.store.Store.{Ghosts}
+use Rattle.gaz_register.specs.Registers.{RegisterValue}
+use Rattle.gaz_register.specs.Texts.{register_text}
+use Rattle.gaz_tables.specs.Metas.{register_of}
+use Rattle.gaz_tables.specs.Schema.{metas}
+use Rattle.gaz_tables.specs.Stores.{HasTables}
+use Rattle.gaz_kept.specs.Opening.{IsJudged, IsOf}
+use Rattle.gaz_kept.specs.declared.refusal.StoreRefusal.{StoreRefusal}
+use Rattle.gaz_kept.specs.declared.refusal.StoreRefusal.TheVariants.{BadSchema, Fault, OtherRegister}
+use Rattle.gaz_stored.specs.Reopening.{OpensAgain, OpensOrFails, OpensThen}
+
+same_row : (r s : Row) (rows : List Row) → rows ≡ r ∷ [] → rows ≡ s ∷ [] → r ≡ s
+same_row r s rows e f = let both : r ∷ [] ≡ s ∷ [] = sym e ∙ f in cc
+
+-- rows of this register are told of so
+judged : (text : List ℕ) (rows : List Row) → IsOf text rows → (answer : Result (Unit {0}) StoreRefusal) → IsJudged text rows answer → OpensOrFails answer
+judged text rows whose (Ok done) is = inl refl
+judged text rows whose (Err BadSchema) is = absurd (is whose.0 whose.1)
+judged text rows whose (Err OtherRegister) is =
+    absurd (is.2 (subst (λ r. register_of r ≡ Text text) (same_row whose.0 is.0 rows whose.1.only is.1.only) whose.2))
+judged text rows whose (Err Fault) is = inr refl
+
+module _ {S : Type 0} (g : Ghosts S) where
+  opens : (register : RegisterValue) (conn next : Held S) → HasTables (state g conn).now → IsOf (register_text register) ((state g conn).now.trees metas) → OpensThen g register conn next
+  opens register conn next has whose answer clean judges = judged (register_text register) ((state g conn).now.trees metas) whose answer (judges clean has)
+
+  pub opens_again : OpensAgain g
+  opens_again = record {
+    used = λ register first before after next commands responses uses stood fine.
+        opens register after next (uses.goes_on fine stood).stands.kept.tables (uses.whose fine stood);
+    made = λ register most through before after next ended answers bare fine.
+        opens register after next (answers.goes_on fine bare).stands.kept.tables (answers.whose fine bare);
+    left = λ register before commands responses after conn next finds may.
+        let it = finds (state g conn).now may in
+        opens register conn next it.stands.kept.tables it.whose;
+  }

@@ -1,0 +1,61 @@
+//! A store of schema 1 becomes one of schema 2.
+ghost use Rattle.std.specs.Prelude.{◌≡◌, IfErr, IfOk, IsTrue};
+ghost use Rattle.gazhub.specs.Migrating.{MigratesNone, MigratesStore, said_of_migration};
+
+use crate::commands::options_to_migrate;
+use crate::files::{NoHub, read_register};
+use crate::stores::{close, connect};
+use gaz_commands::{PrintedLine, Said};
+use gaz_ledger::Seed;
+use gaz_register::Register;
+use gaz_store::StoreRefusal;
+use gaz_stored::{Migrated, Migration, migrate_opened};
+use gaz_words::Places;
+use sqlite::{Files, Options, Unknown};
+use sqlite_disk::Disk;
+use std::alloc::Global;
+
+/// Makes a store of the register of the tables of schema 1 in the files, which are given back where
+/// they can be closed; a store that is there stays as it is. Why there is none, and in which order,
+/// is said of `migrate_opened`.
+pub fn migrate_store<D: Disk + Drop>(
+    alloc: Global,
+    files: Files<D>,
+    options: Options,
+    seed: Seed,
+    register: &Register,
+) -> (Option<Files<D>>, Result<Migration, StoreRefusal>)
+    requires log { IsTrue (D.Disk.is_usable files.log) }
+    requires db { IsTrue (D.Disk.is_usable files.db) }
+    ensures migrates { IfOk result.1 (MigratesStore D.Disk files result.0 register.now) }
+    ensures none { IfErr result.1 (MigratesNone D.Disk files result.0 register.now) }
+{
+    let Some(conn) = connect(alloc, files, options) else {
+        return (None, Err(StoreRefusal::Fault));
+    };
+    let Migrated { conn, told } = migrate_opened(alloc, seed, conn, register);
+    let left = close(conn);
+    (left, told)
+}
+
+// What is said of a store that was to be migrated, or why there is none.
+fn said_of_migration(told: Result<Migration, StoreRefusal>) -> Result<Said, NoHub>
+    ensures { result ≡ said_of_migration told }
+{
+    match told {
+        Ok(Migration::Done) => Ok(Said::Line(PrintedLine::Migrated)),
+        Ok(Migration::Current) => Ok(Said::Line(PrintedLine::Current)),
+        Err(refusal) => Err(NoHub::Store(refusal)),
+    }
+}
+
+/// Migrates the store that is there. The register is read first. No file is made.
+pub fn migrate(rt: &HostRuntime, seed: Seed, places: Places<'_>) -> Result<Said, NoHub> {
+    let register = read_register(rt, places.register)?;
+    let options = options_to_migrate(rt, places.store)?;
+    let Ok(files) = sqlite_std_file::open(rt, places.store, Unknown) else {
+        return Err(NoHub::Store(StoreRefusal::Fault));
+    };
+    let (_closed, told) = migrate_store(rt.alloc(), files, options, seed, &register);
+    said_of_migration(told)
+}
