@@ -20,11 +20,7 @@ use gaz_shelf::{MemShelf, Seed};
 use std::alloc::Global;
 
 // A mirror over both, or over the lower one alone.
-fn join<L: Inbox + Drop>(
-    alloc: Global,
-    lower: L,
-    upper: Option<MemShelf>,
-) -> Mirror<L, MemShelf>
+fn join<L: Inbox + Drop>(alloc: Global, lower: L, upper: Option<MemShelf>) -> Mirror<L, MemShelf>
     requires { ForSome upper (λ u. ((L.seen lower).progress ≡ Idle)
         × ((seen_in u).progress ≡ Idle)) }
     ensures lower { result.lower ≡ lower }
