@@ -1,6 +1,6 @@
 -- What a change of a judgement tells of a keeper over two.
 use Rattle.std.proofs.Common.{◌≡◌, refl, sym, subst, ◌∙◌}
-use Rattle.std.specs.Prelude.{⊤, true, Option, None, Some, Result, Ok, Err, OnOk, is_ok}
+use Rattle.std.specs.Prelude.{true, Option, None, Some, Result, Ok, Err, OnOk, is_ok}
 use Rattle.gaz_keeper.specs.Keeper.{Content, Enters, Goes, IsNotOpen, IsSound, LeavesAtMost, LeavesJust, Progress, Seen}
 use Rattle.gaz_keeper.specs.declared.fault.ShelfFault.{ShelfFault}
 use Rattle.gaz_mirror.specs.Mirroring.{mirrored, progress_with, stands_below}
@@ -90,15 +90,47 @@ enters_below seen old new was r asked becomes enters = record {
   committed = λ sound met. leaves_just seen old new was None r (Some becomes) (enters.committed (from_below seen old new was None sound) met);
 }
 
+-- both were changed
+both_enter : {U T : Type 0} (seen : U → Seen) (sole : (u : U) → (seen u).unharmed) (old new : Seen) (was now : U) (r r' : Result T ShelfFault) (asked asked' : Type 0)
+    (becomes becomes' : Content) → is_ok r ≡ true → is_ok r' ≡ true → Enters old new r asked becomes → Enters (seen was) (seen now) r' asked' becomes'
+    → ((seen was).content ≡ old.content → asked → asked') → ((seen was).content ≡ old.content → becomes' ≡ becomes)
+    → Enters (mirrored seen old (Some was) None) (mirrored seen new (Some now) None) r asked becomes
+both_enter seen sole old new was now (Ok x) (Ok y) asked asked' becomes becomes' ok ok' enters above asks same = record {
+  harm = enters.harm;
+  stands = λ stood met fine. record {
+    lower = enters.stands stood.lower met fine;
+    upper = above.stands stood.upper (asks stood.same met) (sole now);
+    same = above.done stood.upper (asks stood.same met) (sole now) ∙ same stood.same ∙ sym (enters.done stood.lower met fine);
+  };
+  done = λ stood. enters.done stood.lower;
+  undone = λ _ _ _. tt;
+  progress = enters.progress;
+  cleared = enters.cleared;
+  counts = record { kept = enters.counts.kept; store = tt; trust = enters.counts.trust };
+  leaves = λ sound met. leaves_at_most seen old new (Some was) (Some now) (Some becomes) (enters.leaves (λ fine. (sound fine).lower) met);
+  whole = λ sound. enters.whole (λ fine. (sound fine).lower);
+  committed = λ sound met. leaves_just seen old new (Some was) (Some now) (Ok x) (Some becomes) (enters.committed (λ fine. (sound fine).lower) met);
+}
+both_enter seen sole old new was now (Ok x) (Err e) asked asked' becomes becomes' ok ok' enters above asks same = cc
+both_enter seen sole old new was now (Err e) r' asked asked' becomes becomes' ok ok' enters above asks same = cc
+
+pub enters_both : {U T : Type 0} (seen : U → Seen) (sole : (u : U) → (seen u).unharmed) (old new : Seen) (upper : Option U) (was now : U) (r r' : Result T ShelfFault) (asked asked' : Type 0)
+    (becomes becomes' : Content) → upper ≡ Some was → is_ok r ≡ true → is_ok r' ≡ true → Enters old new r asked becomes → Enters (seen was) (seen now) r' asked' becomes'
+    → ((seen was).content ≡ old.content → asked → asked') → ((seen was).content ≡ old.content → becomes' ≡ becomes)
+    → Enters (mirrored seen old upper None) (mirrored seen new (Some now) None) r asked becomes
+enters_both seen sole old new upper was now r r' asked asked' becomes becomes' is ok ok' enters above asks same =
+    subst (λ o. Enters (mirrored seen old o None) (mirrored seen new (Some now) None) r asked becomes) (sym is)
+    (both_enter seen sole old new was now r r' asked asked' becomes becomes' ok ok' enters above asks same)
+
 -- ---- where nothing is gathered
 
-pub goes_settled : {U T : Type 0} (seen : U → Seen) (old new : Seen) (was now : Option U) (gathered : Option Gathered) (r : Result T ShelfFault) (f : Progress → Content → Content)
+pub goes_settled : {U T : Type 0} (seen : U → Seen) (old new : Seen) (was now : Option U) (gathered : Option Gathered) (r : Result T ShelfFault) (asked : Content → Type 0) (f : Progress → Content → Content)
     (commits : Content → Option Content) (after : Progress → Progress) → gathered ≡ None
-    → Goes (mirrored seen old was None) (mirrored seen new now None) r ⊤ (f old.progress old.content) (commits (f old.progress old.content)) (after old.progress)
-    → Goes (mirrored seen old was gathered) (mirrored seen new now gathered) r ⊤ (f (mirrored seen old was gathered).progress (mirrored seen old was gathered).content)
+    → Goes (mirrored seen old was None) (mirrored seen new now None) r (asked old.content) (f old.progress old.content) (commits (f old.progress old.content)) (after old.progress)
+    → Goes (mirrored seen old was gathered) (mirrored seen new now gathered) r (asked (mirrored seen old was gathered).content) (f (mirrored seen old was gathered).progress (mirrored seen old was gathered).content)
     (commits (f (mirrored seen old was gathered).progress (mirrored seen old was gathered).content)) (after (mirrored seen old was gathered).progress)
-goes_settled seen old new was now gathered r f commits after none =
-    subst (λ (o : Option Gathered). Goes (mirrored seen old was o) (mirrored seen new now o) r ⊤ (f (mirrored seen old was o).progress (mirrored seen old was o).content)
+goes_settled seen old new was now gathered r asked f commits after none =
+    subst (λ (o : Option Gathered). Goes (mirrored seen old was o) (mirrored seen new now o) r (asked (mirrored seen old was o).content) (f (mirrored seen old was o).progress (mirrored seen old was o).content)
     (commits (f (mirrored seen old was o).progress (mirrored seen old was o).content)) (after (mirrored seen old was o).progress)) (sym none)
 
 pub enters_settled : {U T : Type 0} (seen : U → Seen) (old new : Seen) (was now : Option U) (gathered : Option Gathered) (r : Result T ShelfFault) (asked : Content → Type 0) (f : Content → Content)

@@ -3,3 +3,4 @@ pub mod Changing
 pub mod Examples
 pub mod Readings
 pub mod Shared
+pub mod Then

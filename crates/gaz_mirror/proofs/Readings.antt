@@ -1,18 +1,14 @@
 -- What a reading of either keeper tells of both.
-use Rattle.std.proofs.Common.{◌≡◌, ◌≢◌, ◌≤◌, ◌<◌, ◌∙◌, ℕ, ap, arith, le_trans, refl, subst, sym}
-use Rattle.std.specs.Prelude.{Option, None, Some, Result, Ok, Err, IfErr, IfOk}
+use Rattle.std.proofs.Common.{◌≡◌, ◌≢◌, ◌≤◌, ◌∙◌, ℕ, ap, le_trans, refl, subst, sym}
+use Rattle.std.specs.Prelude.{Option, None, Some, Result, Ok, Err, IfOk}
 use Rattle.gaz_views.specs.View.{View}
 use Rattle.gaz_keeper.specs.Keeper.{Broken, Content, Idle, IsLeft, IsNotOpen, Keeps, Open, Progress, Reads, Seen, after_stop, view_of, viewed, with_working}
 use Rattle.gaz_keeper.specs.declared.fault.ShelfFault.{ShelfFault}
-use Rattle.gaz_keeper.specs.declared.fault.ShelfFault.TheVariants.{Store}
 use Rattle.gaz_keeper.proofs.Keeping.{keeps_then}
 use Rattle.gaz_mirror.specs.InStep.{IsAhead, IsInStep}
 use Rattle.gaz_mirror.specs.Mirroring.{StandsWith, mirrored, stands_below}
 use Rattle.gaz_mirror.specs.declared.gathered.Gathered.{Gathered}
-
-further : {T : Type 0} (r : Result T ShelfFault) (m n k : ℕ) → m ≤ n → IfErr r (λ e. e ≡ Store → n < k) → IfErr r (λ e. e ≡ Store → m < k)
-further (Ok x) m n k le f = tt
-further (Err e) m n k le f = λ is. let lt : n < k = f is in omega arith
+use Rattle.gaz_mirror.proofs.Then.{further}
 
 -- what wasn't broken is as it was
 pub left_same : (p q : Progress) → p ≢ Broken → IsLeft p q → q ≡ p

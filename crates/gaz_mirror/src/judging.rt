@@ -114,10 +114,11 @@ impl<L: Inbox + Drop, U: Unshared + Drop> Mirror<L, U> {
             return self.lower.abandon();
         }
         if let Some(upper) = &mut self.upper
-            && upper.abandon().is_err()
+            && upper.abandon().is_ok()
         {
-            self.upper = None;
+            return Ok(());
         }
+        self.upper = None;
         Ok(())
     }
 }

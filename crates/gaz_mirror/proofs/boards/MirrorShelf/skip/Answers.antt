@@ -1,7 +1,8 @@
 -- Nothing is gathered.
-use Rattle.std.specs.Prelude.{None}
+use Rattle.std.proofs.Common.{ap, subst, sym}
+use Rattle.std.specs.Prelude.{None, Some}
 use Rattle.gaz_keeper.specs.Keeper.{Content, IsAtHand, after_skip}
-use Rattle.gaz_mirror.proofs.Changing.{enters_below, enters_settled, settled}
+use Rattle.gaz_mirror.proofs.Changing.{enters_below, enters_both, enters_settled, settled}
 use Rattle.gaz_mirror.proofs.boards.MirrorShelf.skip.Goals as goal
 
 pub invariant_of-self-2 : goal.invariant_of-self-2
@@ -17,3 +18,15 @@ returns-2-clause-enters g c =
     let skipped = λ (k : Content). after_skip k c.args.code c.args.place c.args.rule in
     enters_settled g.U.Shelf.seen below new m.upper None m.gathered c.skip-done.result (λ (k : Content). IsAtHand k c.args.code) skipped (settled below.progress m.gathered c.requires)
     (enters_below g.U.Shelf.seen below new m.upper c.skip-done.result (IsAtHand below.content c.args.code) (skipped below.content) c.skip-done.ensures)
+
+pub returns-clause-enters : goal.returns-clause-enters
+returns-clause-enters g c =
+    let m = c.args.self.now in
+    let below = g.L.Shelf.seen m.lower in
+    let above = g.U.Shelf.seen c.in-Some.upper in
+    let new = g.L.Shelf.seen c.skip-done.new.self in
+    let skipped = λ (k : Content). after_skip k c.args.code c.args.place c.args.rule in
+    let asked = λ (k : Content). IsAtHand k c.args.code in
+    enters_settled g.U.Shelf.seen below new m.upper (Some c.skip.new.self) m.gathered c.skip-done.result asked skipped (settled below.progress m.gathered c.requires)
+    (enters_both g.U.Shelf.seen g.met.U.Unshared.never_harmed below new m.upper c.in-Some.upper c.skip.new.self c.skip-done.result c.skip.result (asked below.content) (asked above.content)
+    (skipped below.content) (skipped above.content) c.in-Some.is (cc) (cc) c.skip-done.ensures c.skip.ensures (λ same. subst asked (sym same)) (ap skipped))

@@ -1,5 +1,5 @@
 use Rattle.std.proofs.Common.{ap, ◌∙◌}
-use Rattle.std.specs.Prelude.{None, Some}
+use Rattle.std.specs.Prelude.{⊤, None, Some}
 use Rattle.gaz_keeper.specs.Keeper.{Content, Progress, with_working}
 use Rattle.gaz_mirror.specs.Gathering.{makes}
 use Rattle.gaz_mirror.specs.declared.gathered.Change.{Change}
@@ -15,7 +15,7 @@ returns-clause-makes g c =
     let below = g.L.Shelf.seen m.lower in
     let above = g.U.Shelf.seen c.in-Some.upper in
     let new = g.L.Shelf.seen c.make-made.new.keeper in
-    goes_settled g.U.Shelf.seen below new m.upper (Some c.make.new.keeper) m.gathered c.make-made.result (λ (p : Progress). with_change c.args.change) (λ (k : Content). None) (λ (p : Progress). p) c.requires.settled
+    goes_settled g.U.Shelf.seen below new m.upper (Some c.make.new.keeper) m.gathered c.make-made.result (λ _. ⊤) (λ (p : Progress). with_change c.args.change) (λ (k : Content). None) (λ (p : Progress). p) c.requires.settled
     (goes_both g.U.Shelf.seen g.met.U.Unshared.never_harmed below new m.upper c.in-Some.upper c.make.new.keeper c.make-made.result c.make.result _ _
     (with_change c.args.change below.content) (with_change c.in-Ok.shared above.content) _ _ _ _ c.in-Some.is (cc) (cc) c.make-made.ensures.makes c.make.ensures.makes
     (λ _ _. tt) (λ same. ap (with_change c.in-Ok.shared) same ∙ ap (with_working below.content) (c.in-Ok.ensures below.content.working)))
@@ -25,5 +25,5 @@ returns-2-clause-makes g c =
     let m = c.args.self.now in
     let below = g.L.Shelf.seen m.lower in
     let new = g.L.Shelf.seen c.make-made.new.keeper in
-    goes_settled g.U.Shelf.seen below new m.upper None m.gathered c.make-made.result (λ (p : Progress). with_change c.args.change) (λ (k : Content). None) (λ (p : Progress). p) c.requires.settled
+    goes_settled g.U.Shelf.seen below new m.upper None m.gathered c.make-made.result (λ _. ⊤) (λ (p : Progress). with_change c.args.change) (λ (k : Content). None) (λ (p : Progress). p) c.requires.settled
     (goes_below g.U.Shelf.seen below new m.upper c.make-made.result _ (with_change c.args.change below.content) _ _ c.make-made.ensures.makes)

@@ -1,5 +1,5 @@
 use Rattle.std.proofs.Common.{ap, ◌∙◌}
-use Rattle.std.specs.Prelude.{Some}
+use Rattle.std.specs.Prelude.{⊤, Some}
 use Rattle.gaz_keeper.specs.Keeper.{Content, Idle, after_keep}
 use Rattle.gaz_mirror.proofs.Changing.{goes_both, goes_settled}
 use Rattle.gaz_mirror.proofs.mirror.Mirror.keep_both.Goals as goal
@@ -10,7 +10,7 @@ returns-clause-keeps g c =
     let below = g.L.Shelf.seen m.lower in
     let above = g.U.Shelf.seen c.in-Some.upper in
     let new = g.L.Shelf.seen c.keep-done.new.self in
-    goes_settled g.U.Shelf.seen below new m.upper (Some c.keep.new.self) m.gathered c.keep-done.result after_keep (λ (k : Content). Some k) (λ _. Idle) c.requires.settled
+    goes_settled g.U.Shelf.seen below new m.upper (Some c.keep.new.self) m.gathered c.keep-done.result (λ _. ⊤) after_keep (λ (k : Content). Some k) (λ _. Idle) c.requires.settled
     (goes_both g.U.Shelf.seen g.met.U.Unshared.never_harmed below new m.upper c.in-Some.upper c.keep.new.self c.keep-done.result c.keep.result _ _
     (after_keep below.progress below.content) (after_keep above.progress above.content) _ _ _ _ c.in-Some.is (cc) (cc) c.keep-done.ensures.keeps c.keep.ensures.keeps
     (λ _ _. tt) (λ same. ap (after_keep above.progress) same ∙ ap (λ p. after_keep p below.content) (m.in_step c.requires.settled c.in-Some.upper c.in-Some.is).same))
