@@ -9,6 +9,7 @@ from checks import (
     conversations,
     damaged,
     foreign,
+    growing,
     in_turn,
     killing,
     large,
@@ -61,14 +62,15 @@ def of_program(program: Path, root: Path) -> Iterator[Case]:
 
 
 def of_stores(root: Path, room: Path) -> Iterator[Case]:
-    """Of stores in files: the conversations over them, other people's SQLite, damage, stores of the schema before, rows as they are written, what they cost, rings;
-    memory that is wanting, and histories over stores and keepers that fail."""
+    """Of stores in files: the conversations over them, other people's SQLite, damage, stores of the schema before, rows as they are written, registers that grow,
+    what they cost, rings; memory that is wanting, and histories over stores and keepers that fail."""
     yield from held(stored.run_all(root, room))
     yield from held(in_turn.run_all(root, room))
     yield from named("a store", foreign.run_all(root, room))
     yield from named("damaged:", damaged.run_all(root, room))
     yield from named("schema 1,", schema1.run_all(root, room))
     yield from named("schema 2,", schema2.run_all(root, room))
+    yield from named("a register that grows:", growing.run_all(room))
     yield from named("steps:", steps.run_all(root, room))
     yield from named("left:", left.run_all(room))
     yield from held(rings.run_all(room))
