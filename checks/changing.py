@@ -90,6 +90,7 @@ def copied(store: Path) -> Iterator[Path]:
 def ran(room: Room, store: Path, words: tuple[str, ...], **env: str) -> tuple[Said, int]:
     """What a command says in the folder of a store, and how many calls or requests failed."""
     counted = store.with_name("counted")
+    counted.unlink(missing_ok=True)
     env |= {"FAILING_TOLD": str(counted), "WANTED": str(counted)}
     it = subprocess.run([room.bench, *words], cwd=store.parent, stdin=subprocess.DEVNULL, capture_output=True, timeout=DEADLINE, env=os.environ | env)
     counts = [int(n) for n in counted.read_text().split()] if counted.exists() else [0, 0]
