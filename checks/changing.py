@@ -102,6 +102,13 @@ def said(room: Room, store: Path, words: tuple[str, ...]) -> Said:
     return ran(room, store, words)[0]
 
 
+def calls_of(tried: "Tried", more: int) -> int:
+    """How many calls of the store's files a change makes, where they are fewer than so many."""
+    store = tried.place()
+    ran(tried.room, store, tried.change.words, **tried.room.files(store, f"both {more}"))
+    return int(store.with_name("counted").read_text().split()[0])
+
+
 def told_fault(change: Change, found: Said, failed: int, state: str) -> str | None:
     """What is wrong with what a command in trouble says where it leaves the store in this state."""
     status, printed, error = found

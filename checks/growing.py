@@ -12,7 +12,8 @@ from checks.conversations import DEADLINE
 from checks.history import HISTORY, file_of
 from checks.serving import replied
 from checks.sessions import NEW_TOWN, fails
-from checks.stopped import room_of, run_all as stopped
+from checks.stopped import room_of
+from checks.stopped import run_all as stopped
 from checks.stores import SAMPLE, Hubs, built, hubs_of, post
 
 REGISTERS = {"r.toml": SAMPLE, "grown.toml": SAMPLE.replace("Upper", "Higher") + NEW_TOWN.decode()}

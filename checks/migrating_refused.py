@@ -8,7 +8,7 @@ from pathlib import Path
 from checks.changing import Said, copied
 from checks.ground import alter
 from checks.making import COLUMNS
-from checks.migrating import CURRENT, Place
+from checks.migrating import CURRENT, MIGRATED, Place
 from checks.sessions import fails
 from checks.stores import built, hubs_of
 from checks.tables import opened
@@ -149,10 +149,27 @@ def leaves(on: Place, wanted: Said, store: Path, data: bytes | None) -> str | No
     return None if (store.read_bytes() if store.exists() else None) == data else "the file is another one"
 
 
+def in_use(on: Place) -> str | None:
+    """What is wrong where Python has a store open, and no more afterwards."""
+    store = altered(on, "")
+    held = dumped(store)
+    with opened(store) as conn:
+        conn.execute("BEGIN IMMEDIATE")
+        found = on.run(store, "migrate")
+        conn.execute("ROLLBACK")
+    if found != REFUSALS["Fault"]:
+        return f"it says {found}"
+    if dumped(store) != held:
+        return "it doesn't hold what it held"
+    found = on.run(store, "migrate")
+    return None if found == MIGRATED else f"afterwards it says {found}"
+
+
 def run_all(room: Path) -> Iterator[tuple[str, str | None]]:
     """Each database, and what is wrong."""
     with hubs_of(room) as (hubs, folder):
         on = Place(built(room, "gazhub"), hubs, folder)
         yield from ((name, leaves(on, *it)) for name, *it in no_stores(on))
+        yield "in use by Python", in_use(on)
         for word, them in REFUSED.items():
             yield from ((f"{word}: {sql}"[:100], refuses(on, word, sql)) for sql in them)

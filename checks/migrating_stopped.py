@@ -5,9 +5,11 @@ from collections.abc import Iterator
 from pathlib import Path
 
 from checks.changing import Change, Said
+from checks.ground import alter
 from checks.migrating import CURRENT, MIGRATED, Place, held
 from checks.sessions import fails
-from checks.stopped import room_of, run_all as stopped
+from checks.stopped import room_of, run_few
+from checks.stopped import run_all as stopped
 from checks.stores import SAMPLE, built, hubs_of
 from checks.written import FIRST, STORES
 
@@ -29,6 +31,20 @@ def change_of(on: Place, name: str) -> Change:
     return Change(name, ready, ("migrate", *PLACES), MIGRATED, CURRENT, told)
 
 
+# So many rows that what is written doesn't fit into what is kept at hand: it goes into the log before all of it is there.
+ROWS = 45_000
+MORE = f"""WITH RECURSIVE it (n) AS (SELECT 1 UNION ALL SELECT n + 1 FROM it WHERE n < {ROWS})
+INSERT INTO version SELECT 1001, 23, printf('Y%d', n * 7919 % 1000003), 42, 0, 0, 0, 2, 1000000, printf('Y%d,42,TAX01,A/17,2001-04-01,', n * 7919 % 1000003) FROM it"""
+
+
+def large(on: Place) -> Change:
+    """The migration of the history with many further rows."""
+    ready = on.store()
+    shutil.copyfile(FIRST.folder / "history.db", ready)
+    alter(ready, MORE)
+    return Change(f"{ROWS} rows more", ready, ("migrate", *PLACES), MIGRATED, CURRENT, ())
+
+
 def run_all(room: Path) -> Iterator[tuple[str, str | None]]:
     """Each store, and each moment at which its migration may stop or fail."""
     gazhub = built(room, "gazhub")
@@ -36,3 +52,4 @@ def run_all(room: Path) -> Iterator[tuple[str, str | None]]:
         on = Place(gazhub, hubs, folder)
         for name, every in EVERY.items():
             yield from stopped(at, change_of(on, name), every)
+        yield from run_few(at, large(on), 3, ("the machine stops", "the process is killed"))

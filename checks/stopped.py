@@ -12,7 +12,7 @@ from functools import partial
 from pathlib import Path
 
 from checks import failing, wanting
-from checks.changing import AFTER, BEFORE, Change, Tried, came_of, copied, ran, tried_of
+from checks.changing import AFTER, BEFORE, Change, Tried, calls_of, came_of, copied, ran, tried_of
 from checks.failing import QUICK, Room
 from checks.preloading import library
 from checks.troubled import CUTS, Came, rising
@@ -115,6 +115,13 @@ def part_fault(tried: Tried, part: Part, every: int = 1) -> str | None:
     return f"no store is as it was {lacking[0]} the change" if lacking else None
 
 
+def few_faults(tried: Tried, part: Part, count: int) -> str | None:
+    """What is wrong with the first of so many runs that goes wrong, at moments that are evenly spread over all calls."""
+    calls = calls_of(tried, ALL)
+    came = ((number, part.once(tried, number)) for number in range(calls // (2 * count), calls, calls // count))
+    return next((f"number {number} of {calls}: {it.fault}" for number, it in came if it.fault), None)
+
+
 @contextlib.contextmanager
 def room_of(gazhub: Path, registers: dict[str, str]) -> Iterator[Room]:
     """A folder with these registers, and the two libraries."""
@@ -131,3 +138,11 @@ def run_all(room: Room, change: Change, every: int = 1, parts: tuple[Part, ...] 
     yield f"{change.name}, without trouble", fault
     if fault is None:
         yield from ((f"{change.name}, {part.name}", part_fault(tried, part, every)) for part in parts)
+
+
+def run_few(room: Room, change: Change, count: int, names: tuple[str, ...]) -> Iterator[tuple[str, str | None]]:
+    """These parts at so many moments each, where the store is too large for all of them."""
+    tried, fault = tried_of(room, change)
+    yield f"{change.name}, without trouble", fault
+    if fault is None:
+        yield from ((f"{change.name}, {part.name}", few_faults(tried, part, count)) for part in PARTS if part.name in names)
