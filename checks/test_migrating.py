@@ -10,7 +10,6 @@ from checks import migrating, migrating_between, migrating_others, migrating_ref
 from checks.conversations import Conversation, find
 from checks.history import LATER
 from checks.migrating import Place
-from checks.stopped import PARTS, room_of, run_all
 from checks.stores import SAMPLE, Hubs
 from checks.written import FIRST, SECOND, STORES
 
@@ -98,7 +97,6 @@ else:
 """
 LEFT_OUT = PROGRAM.replace('"BEGIN; " + MOVED', '"BEGIN; " + MOVED + "; DELETE FROM version2 WHERE gone < 1000000"')
 UNJUDGED = PROGRAM.replace('"BEGIN; " + MOVED', '"BEGIN; " + MOVED + "; UPDATE received SET state = 0, place = 0, rule = 0"')
-IN_TWO = PROGRAM.replace('"BEGIN; " + MOVED + "; COMMIT"', "MOVED")
 SILENT = PROGRAM.replace('"migrated"\n', '"current"\n')
 WITHOUT_INDEX = PROGRAM.replace('"BEGIN; " + MOVED', '"BEGIN; " + MOVED + "; DROP INDEX by_street2"')
 TOUCHING = PROGRAM.replace('            return word, "current"', '            conn.executescript("CREATE TABLE it (x); DROP TABLE it")\n            return word, "current"')
@@ -238,16 +236,16 @@ class Others(Migrating):
 
 
 class Stopped(Migrating):
-    def faults(self, text: str) -> list[str | None]:
-        on, parts = self.place(text), tuple(it for it in PARTS if it.name == "the process is killed")
-        with room_of(on.gazhub, {"r.toml": SAMPLE}) as room:
-            return [fault for _, fault in run_all(room, migrating_stopped.change_of(on, "a_street_and_a_held_file"), 50, parts)]
+    def test_a_change_is_told_of_by_other_commands(self) -> None:
+        change = migrating_stopped.change_of(self.place(PROGRAM), "a_street_and_a_held_file")
+        for words, before, after in change.asked:
+            self.assertEqual((3, b"", b"gazhub: BadSchema\n"), before)
+            self.assertTrue(after[0] == 0 and after[1], words)
 
-    def test_a_right_program_passes(self) -> None:
-        self.assertEqual([None, None], self.faults(PROGRAM))
-
-    def test_a_migration_in_pieces_is_found(self) -> None:
-        self.assertIn("leaves neither", self.faults(IN_TWO)[1])
+    def test_a_large_store_is_one(self) -> None:
+        change = migrating_stopped.large(self.place(PROGRAM))
+        rows = migrating.held(change.ready)["version"]
+        self.assertEqual(migrating_stopped.ROWS, sum(row[2].startswith("Y") for row in rows))
 
 
 if __name__ == "__main__":
