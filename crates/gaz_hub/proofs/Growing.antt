@@ -1,21 +1,19 @@
 -- What stays of a hub where its register grows.
 use Rattle.std.proofs.Common.{◌≡◌, ◌+◌, ℕ, true, false, cond, List, [], ◌∷◌, ◌++◌, eqb, eqb-true, refl, sym, ap, ◌∙◌, subst}
 use Rattle.std.proofs.Math.Path.{fun_ext}
-use Rattle.std.specs.Prelude.{is_some, Option, Some, None, IsSome}
+use Rattle.std.specs.Prelude.{is_some, Option, Some, None}
 use Rattle.std.specs.FinMap as map
 use Rattle.std.specs.Option.{option_map_or, option_or}
 use Rattle.gaz_register.specs.Growing.{Extends}
-use Rattle.gaz_register.specs.Registers.{Blocks, RegisterValue, blocks_of, knows}
+use Rattle.gaz_register.specs.Registers.{Blocks, RegisterValue, blocks_of}
 use Rattle.gaz_rules.specs.Bases.{judged_on}
 use Rattle.gaz_keeper.specs.Board.{Board, empty_board, reached}
 use Rattle.gaz_keeper.specs.Keeper.{Seen}
 use Rattle.gaz_keeper.specs.Received.{Received}
-use Rattle.gaz_hub.specs.Answers.{received_by}
-use Rattle.gaz_hub.specs.Growth.{AbidesGrown, AllReadOffGrown, EveryGrownRun, GrowthKeeps, GrowthStands, GrownRun, Period, first_ever, last_register}
+use Rattle.gaz_hub.specs.Growth.{AllReadOffGrown, EveryGrownRun, GrowthKeeps, GrowthStands, first_ever}
 use Rattle.gaz_hub.specs.Hubs.{AreKnown, door_of}
-use Rattle.gaz_hub.specs.Laws.{StandsForRun}
-use Rattle.gaz_hub.specs.Runs.{Run, first_received}
-use Rattle.gaz_hub.specs.Standing.{Follows, IsPartial, Leads, Register, judge_one, next_reading, ready, standing, with_next}
+use Rattle.gaz_hub.specs.Runs.{first_received}
+use Rattle.gaz_hub.specs.Standing.{IsPartial, Leads, Register, judge_one, next_reading, ready, standing, with_next}
 use Rattle.gaz_hub.specs.Step.{HubState}
 use Rattle.gaz_hub.proofs.Answers.{every_answer_holds}
 use Rattle.gaz_hub.proofs.Finding.{run_known}

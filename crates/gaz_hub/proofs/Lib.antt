@@ -24,6 +24,7 @@ pub mod Finding
 pub mod OwnNumbers
 pub mod Growing
 pub mod Owners
+pub mod GrownAnswers
 pub mod ReadingLaws
 pub mod Examples
 pub mod WorkedBoards

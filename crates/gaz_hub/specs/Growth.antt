@@ -4,7 +4,7 @@ use Rattle.std.specs.Prelude.{◌≡◌, ⊤, ℕ, List, [], ◌∷◌, Option, 
 use Rattle.std.specs.FinMap as map
 use Rattle.std.specs.Option.{option_or}
 use Rattle.gaz_register.specs.Growing.{Extends}
-use Rattle.gaz_register.specs.Registers.{RegisterValue, blocks_of}
+use Rattle.gaz_register.specs.Registers.{IsRegister, RegisterValue, blocks_of}
 use Rattle.gaz_keeper.specs.Board.{Board}
 use Rattle.gaz_keeper.specs.Keeper.{Seen}
 use Rattle.gaz_keeper.specs.Received.{Received}
@@ -13,7 +13,8 @@ use Rattle.gaz_hub.specs.Hubs.{AreKnown, door_of}
 use Rattle.gaz_hub.specs.Laws.{StandsForRun}
 use Rattle.gaz_hub.specs.Runs.{Run, first_received}
 use Rattle.gaz_hub.specs.Standing.{IsPartial, standing}
-use Rattle.gaz_hub.specs.Step.{Command, HubState, Response}
+use Rattle.gaz_hub.specs.Step.{Command, HubState, Question, Response}
+use Rattle.gaz_hub.specs.Step.{answer_to, refusal_at_door}
 
 -- ---- what stays
 
@@ -36,6 +37,17 @@ abbrev pub GrowthStands : {K : Type 0} → (K → Seen) → Type 0
 GrowthStands {K} seen =
     (old grown : RegisterValue) (k : K) → Extends old grown
     → StandsForRun (door_of old) (seen k) → StandsForRun (door_of grown) (seen k)
+
+-- whoever was let in is let in still, and on a partial board whoever asks is answered the same
+pub record AnswersStay : Type 0 where
+  pub let_in : (old grown : RegisterValue) (command : Command) → Extends old grown
+      → refusal_at_door (door_of old) command ≡ None
+      → refusal_at_door (door_of grown) command ≡ None
+  pub answers : (old grown : RegisterValue) (hub : HubState) (q : Question)
+      → IsRegister old → IsRegister grown → Extends old grown
+      → AreKnown (door_of old) hub.received
+      → IsPartial (blocks_of old) hub.received hub.board
+      → answer_to q grown hub ≡ answer_to q old hub
 
 -- ---- periods
 

@@ -1,5 +1,5 @@
 -- Worked examples on a register that grows beneath a hub.
-use Rattle.std.specs.Prelude.{◌≡◌, ℕ, List, [], ◌∷◌, ◌++◌, None, Some, codes}
+use Rattle.std.specs.Prelude.{◌≡◌, List, [], ◌∷◌, ◌++◌, None, Some, codes}
 use Rattle.gaz_changefile.specs.Profile.{profile_of}
 use Rattle.gaz_register.specs.Growing.{Extends}
 use Rattle.gaz_register.specs.Registers.{RegisterValue}

@@ -1,7 +1,7 @@
 //! Laws over the definitions alone: whichever ready file is judged first, whatever commands come.
 ghost use Rattle.gaz_hub.specs.Answers.{EveryAnswer};
 ghost use Rattle.gaz_hub.specs.Found.{EveryStopOver};
-ghost use Rattle.gaz_hub.specs.Growth.{EveryGrownRun, GrowthKeeps, GrowthStands};
+ghost use Rattle.gaz_hub.specs.Growth.{AnswersStay, EveryGrownRun, GrowthKeeps, GrowthStands};
 ghost use Rattle.gaz_hub.specs.Laws.{AllSound, CallsMakeRuns, EachIsTold, EveryAnswerOver};
 ghost use Rattle.gaz_hub.specs.Laws.{EveryRunFromOver, EveryRunOver, EverySettledRunFromOver};
 ghost use Rattle.gaz_hub.specs.Laws.{EverySettledRunOver};
@@ -97,6 +97,11 @@ pub fn growth_keeps()
 /// A keeper that stood for a partial run stands for one under a register that grew.
 pub fn growth_stands<K: Inbox + Drop>()
     ensures { GrowthStands K.seen }
+{}
+
+/// Under a register that grew whoever was let in is let in, and whoever asks is answered the same.
+pub fn growth_answers()
+    ensures { AnswersStay }
 {}
 
 /// Whatever commands come, and however often the register grows between them, what is received is

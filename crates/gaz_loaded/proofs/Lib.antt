@@ -7,3 +7,4 @@ pub mod Lives
 pub mod Custodian
 pub mod Brought
 pub mod Loaded
+pub mod Examples

@@ -3,3 +3,4 @@ pub mod Lives
 pub mod Telling
 pub mod Restoring
 pub mod Loading
+pub mod Examples
