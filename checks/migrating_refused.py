@@ -6,11 +6,13 @@ from collections.abc import Iterator
 from pathlib import Path
 
 from checks.changing import Said, copied
+from checks.conversations import DEADLINE, Client
 from checks.ground import alter
 from checks.making import COLUMNS
 from checks.migrating import CURRENT, MIGRATED, Place
+from checks.runs import REPLY
 from checks.sessions import fails
-from checks.stores import built, hubs_of
+from checks.stores import built, get, hubs_of
 from checks.tables import opened
 from checks.written import FIRST, SECOND
 
@@ -165,11 +167,26 @@ def in_use(on: Place) -> str | None:
     return None if found == MIGRATED else f"afterwards it says {found}"
 
 
+def in_use_by_hub(on: Place) -> str | None:
+    """What is wrong where a hub has a store of schema 2 open, and no more afterwards."""
+    store = on.store()
+    with Client([on.hubs.bench, "stored", store, on.hubs.register], DEADLINE) as client:
+        client.send(get("/closed"))
+        if not client.receive(REPLY):
+            return f"the hub says {client.got!r}"
+        found = on.run(store, "migrate")
+    if found != REFUSALS["Fault"]:
+        return f"it says {found}"
+    found = on.run(store, "migrate")
+    return None if found == CURRENT else f"afterwards it says {found}"
+
+
 def run_all(room: Path) -> Iterator[tuple[str, str | None]]:
     """Each database, and what is wrong."""
     with hubs_of(room) as (hubs, folder):
         on = Place(built(room, "gazhub"), hubs, folder)
         yield from ((name, leaves(on, *it)) for name, *it in no_stores(on))
         yield "in use by Python", in_use(on)
+        yield "in use by a hub", in_use_by_hub(on)
         for word, them in REFUSED.items():
             yield from ((f"{word}: {sql}"[:100], refuses(on, word, sql)) for sql in them)
