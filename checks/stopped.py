@@ -96,8 +96,8 @@ PARTS = (
     Part("one call", troubled(partial(calls, "both {} 1"))),
     Part("the machine stops", troubled(partial(stop, (0, 0)))),
     Part("the process is killed", troubled(partial(stop, (ALL, ALL)))),
-    Part("the machine stops, and the log is there in part", troubled(partial(cut, 0))),
-    Part("the machine stops, and the file is there in part", troubled(partial(cut, 1))),
+    Part("the machine stops, and the log is there in part", troubled(partial(cut, 0)), 7),
+    Part("the machine stops, and the file is there in part", troubled(partial(cut, 1)), 7),
     Part("the machine stops twice", twice, 5),
     Part("memory", troubled(memory), 61),
 )
