@@ -239,19 +239,30 @@ def line_of(lpi, descriptor, blpu):
     return ", ".join(part for part in parts if part)
 
 
-def owner_of_usrn(usrn):
-    return next((code for code, (_, blocks) in REGISTER.items() if within(blocks, usrn)), None)
-
-
 # ---- the hub
 
 
 class Hub:
-    def __init__(self):
+    def __init__(self, register=REGISTER):
+        self.register = register
         self.files = {}
         self.read = {}
-        self.verdicts = {code: [] for code in REGISTER}
-        self.views = {code: [View()] for code in REGISTER}
+        self.verdicts = {code: [] for code in register}
+        self.views = {code: [View()] for code in register}
+
+    def grow(self, register):
+        """Another register takes the place of the hub's: it may have more custodians, and each has its blocks as before."""
+        self.register = register
+        self.verdicts = {code: self.verdicts.get(code, []) for code in register}
+        self.views = {code: self.views.get(code, [View()]) for code in register}
+
+    def owner_of_usrn(self, usrn):
+        return next((code for code, (_, blocks) in self.register.items() if within(blocks, usrn)), None)
+
+    def door(self, code, volume):
+        if code not in self.register:
+            return 404, 11
+        return (404, 12) if volume is None else None
 
     def reached(self, code):
         return len(self.verdicts.get(code, ()))
@@ -276,7 +287,7 @@ class Hub:
         judged = True
         while judged:
             judged = False
-            for code in REGISTER:
+            for code in self.register:
                 volume = self.reached(code) + 1
                 if (code, volume) in self.files and self.wants(code) is None:
                     self.judge_next(code, volume)
@@ -288,7 +299,7 @@ class Hub:
         if isinstance(changes, tuple):
             verdict, after = changes, view
         else:
-            verdict, after = judge(REGISTER[code], view, [self.views[d][w] for d, w in bases], changes)
+            verdict, after = judge(self.register[code], view, [self.views[d][w] for d, w in bases], changes)
         del self.read[code, volume]
         self.verdicts[code].append(verdict)
         self.views[code].append(after)
@@ -301,7 +312,7 @@ class Hub:
         return '"outcome":"held","wants":{"custodian":%d,"volume":%d}' % self.wants(code)
 
     def submit(self, code, volume, data):
-        fault = door(code, volume) or (names_unknown_profile(data) and (415, 16))
+        fault = self.door(code, volume) or (names_unknown_profile(data) and (415, 16))
         if fault:
             return fault
         self.settle()
@@ -313,7 +324,7 @@ class Hub:
         return 201 if there is None else 200, "{%s}" % self.outcome(code, volume)
 
     def ask(self, code, volume):
-        fault = door(code, volume)
+        fault = self.door(code, volume)
         if fault:
             return fault
         self.settle()
@@ -323,7 +334,7 @@ class Hub:
         return 200, '{"digest":"%s",%s}' % (hashlib.sha256(there).hexdigest(), self.outcome(code, volume))
 
     def status(self, code):
-        if code not in REGISTER:
+        if code not in self.register:
             return 404, 11
         self.settle()
         held = sum(1 for d, v in self.files if d == code and v > self.reached(code))
@@ -342,13 +353,13 @@ class Hub:
         if not keys:
             return None
         lpi = view.items[keys[0]]
-        at = view if ("11", lpi[4]) in view.items else self.last(owner_of_usrn(lpi[4]))
+        at = view if ("11", lpi[4]) in view.items else self.last(self.owner_of_usrn(lpi[4]))
         descriptor = at.items.get(("15", lpi[4], lpi[2]))
         return line_of(lpi, descriptor, view.items["21", uprn]) if descriptor else None
 
     def look_up(self, uprn):
         self.settle()
-        code = next((c for c in REGISTER if ("21", uprn) in self.last(c).items), None)
+        code = next((c for c in self.register if ("21", uprn) in self.last(c).items), None)
         if code is None:
             return 404, 17
         status = int(self.last(code).items["21", uprn][1])
@@ -356,7 +367,7 @@ class Hub:
         return 200, '{"custodian":%d,"line":%s,"status":%d,"uprn":%d}' % (code, line, status, uprn)
 
     def extract(self, code, volume):
-        fault = door(code, volume)
+        fault = self.door(code, volume)
         if fault:
             return fault
         self.settle()
@@ -374,20 +385,14 @@ class Hub:
     def is_closed_elsewhere(self, code, usrn):
         if ("11", usrn) in self.last(code).items:
             return False
-        street = self.last(owner_of_usrn(usrn)).items.get(("11", usrn))
+        street = self.last(self.owner_of_usrn(usrn)).items.get(("11", usrn))
         return street is not None and street[3] is not None
 
     def closed(self):
         self.settle()
-        lpis = ((code, *item) for code in REGISTER for key, item in self.last(code).items.items() if key[0] == "24" and item[3] == "1")
+        lpis = ((code, *item) for code in self.register for key, item in self.last(code).items.items() if key[0] == "24" and item[3] == "1")
         found = sorted((code, lpi[0], lpi[4]) for code, *lpi in lpis if self.is_closed_elsewhere(code, lpi[4]))
         return 200, '{"closed":[%s]}' % ",".join('{"custodian":%d,"lpi":"%s","usrn":%d}' % told for told in found)
-
-
-def door(code, volume):
-    if code not in REGISTER:
-        return 404, 11
-    return (404, 12) if volume is None else None
 
 
 def names_unknown_profile(data):

@@ -13,7 +13,7 @@ import json
 import sqlite3
 import sys
 
-from hub import READERS, REGISTER, ROWS, Hub, answer, door, judge, line_of, names_unknown_profile, owner_of_usrn, read, within
+from hub import READERS, REGISTER, ROWS, Hub, answer, judge, line_of, names_unknown_profile, read, within
 from measure import TEXT
 
 MOST = 1_000_000  # requests of a run
@@ -196,13 +196,14 @@ class Homes:
 
 class StoredHub(Hub):
     def __init__(self, path):
+        self.register = REGISTER
         self.conn = sqlite3.connect(path, isolation_level=None)
         for pragma in ("journal_mode = WAL", "synchronous = FULL", "cache_size = 64000"):
             self.conn.execute(f"PRAGMA {pragma}")
         if not self.conn.execute("SELECT 1 FROM sqlite_schema WHERE name = 'meta'").fetchone():
             self.make()
         counted = "SELECT cust, count(*) FROM received WHERE state > 0 GROUP BY cust"
-        self.judged = dict.fromkeys(REGISTER, 0) | dict(self.conn.execute(counted))
+        self.judged = dict.fromkeys(self.register, 0) | dict(self.conn.execute(counted))
         self.held = set(self.conn.execute("SELECT cust, volume FROM received WHERE state = 0"))
         self.read = {}
 
@@ -248,7 +249,7 @@ class StoredHub(Hub):
         judged = bool(self.held)
         while judged:
             judged = False
-            for code in REGISTER:
+            for code in self.register:
                 volume = self.reached(code) + 1
                 if (code, volume) in self.held and self.wants(code) is None:
                     self.judge_next(code, volume)
@@ -260,7 +261,7 @@ class StoredHub(Hub):
         if isinstance(changes, tuple):
             verdict = changes
         else:
-            verdict, _ = judge(REGISTER[code], view, [Past(self.conn, d, w) for d, w in bases], changes)
+            verdict, _ = judge(self.register[code], view, [Past(self.conn, d, w) for d, w in bases], changes)
         self.begin()
         state = (1, 0, 0) if verdict == "applied" else (2, *verdict)
         if verdict == "applied":
@@ -277,7 +278,7 @@ class StoredHub(Hub):
         return '"outcome":"held","wants":{"custodian":%d,"volume":%d}' % self.wants(code)
 
     def submit(self, code, volume, data):
-        fault = door(code, volume) or (names_unknown_profile(data) and (415, 16))
+        fault = self.door(code, volume) or (names_unknown_profile(data) and (415, 16))
         if fault:
             return fault
         there = self.file(code, volume)
@@ -296,7 +297,7 @@ class StoredHub(Hub):
         return 201, "{%s}" % self.told(code, volume, *self.file(code, volume)[1:])
 
     def ask(self, code, volume):
-        fault = door(code, volume)
+        fault = self.door(code, volume)
         if fault:
             return fault
         there = self.file(code, volume)
@@ -305,7 +306,7 @@ class StoredHub(Hub):
         return 200, '{"digest":"%s",%s}' % (hashlib.sha256(there[0]).hexdigest(), self.told(code, volume, *there[1:]))
 
     def status(self, code):
-        if code not in REGISTER:
+        if code not in self.register:
             return 404, 11
         held = sum(1 for d, _ in self.held if d == code)
         wants = self.wants(code)
@@ -323,12 +324,12 @@ class StoredHub(Hub):
         if not lpis:
             return None
         lpi = item_of("24", min(lpis)[1])
-        at = code if self.current(code, ("11", lpi[4])) else owner_of_usrn(lpi[4])
+        at = code if self.current(code, ("11", lpi[4])) else self.owner_of_usrn(lpi[4])
         descriptor = self.current(at, ("15", lpi[4], lpi[2]))
         return line_of(lpi, descriptor, blpu) if descriptor else None
 
     def look_up(self, uprn):
-        code = next((code for code, (blocks, _) in REGISTER.items() if within(blocks, uprn)), None)
+        code = next((code for code, (blocks, _) in self.register.items() if within(blocks, uprn)), None)
         blpu = code and self.current(code, ("21", uprn))
         if not blpu:
             return 404, 17
@@ -336,7 +337,7 @@ class StoredHub(Hub):
         return 200, '{"custodian":%d,"line":%s,"status":%s,"uprn":%d}' % (code, line, blpu[1], uprn)
 
     def extract(self, code, volume):
-        fault = door(code, volume)
+        fault = self.door(code, volume)
         if fault:
             return fault
         if volume > self.reached(code):
@@ -349,12 +350,12 @@ class StoredHub(Hub):
         """Whether a street that isn't the custodian's own is closed."""
         if self.current(code, ("11", usrn)):
             return False
-        street = self.current(owner_of_usrn(usrn), ("11", usrn))
+        street = self.current(self.owner_of_usrn(usrn), ("11", usrn))
         return street is not None and street[3] is not None
 
     def closed(self):
         found = []
-        for code in REGISTER:
+        for code in self.register:
             for (usrn,) in self.conn.execute(STREETS, (code,)).fetchall():
                 if self.is_closed(code, usrn):
                     found += ((code, row[0], usrn) for row in self.conn.execute(APPROVED_ON, (code, usrn)))

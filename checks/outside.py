@@ -9,11 +9,17 @@ from checks import (
     conversations,
     damaged,
     foreign,
+    growing,
     in_turn,
     killing,
     large,
     left,
     making,
+    migrating,
+    migrating_between,
+    migrating_others,
+    migrating_refused,
+    migrating_stopped,
     opening,
     registers,
     reopening,
@@ -61,14 +67,20 @@ def of_program(program: Path, root: Path) -> Iterator[Case]:
 
 
 def of_stores(root: Path, room: Path) -> Iterator[Case]:
-    """Of stores in files: the conversations over them, other people's SQLite, damage, stores of the schema before, rows as they are written, what they cost, rings;
-    memory that is wanting, and histories over stores and keepers that fail."""
+    """Of stores in files: the conversations over them, other people's SQLite, damage, stores of the schema before and their migration, rows as they are written,
+    registers that grow, what they cost, rings; memory that is wanting, and histories over stores and keepers that fail."""
     yield from held(stored.run_all(root, room))
     yield from held(in_turn.run_all(root, room))
     yield from named("a store", foreign.run_all(root, room))
     yield from named("damaged:", damaged.run_all(root, room))
     yield from named("schema 1,", schema1.run_all(root, room))
     yield from named("schema 2,", schema2.run_all(root, room))
+    yield from named("migrated:", migrating.run_all(root, room))
+    yield from held(migrating_between.run_all(root, room))
+    yield from named("not migrated:", migrating_refused.run_all(room))
+    yield from named("migrated:", migrating_others.run_all(room))
+    yield from named("migrating:", migrating_stopped.run_all(room))
+    yield from named("a register that grows:", growing.run_all(room))
     yield from named("steps:", steps.run_all(root, room))
     yield from named("left:", left.run_all(room))
     yield from held(rings.run_all(room))

@@ -1,4 +1,4 @@
-"""Stores of schema 1: as other SQLites write them from rows, and as the last program of that schema left them. No command takes one, and none changes it."""
+"""Stores of schema 1: as other SQLites write them from rows, and as the last program of that schema left them. No command but `migrate` takes one, or changes it."""
 
 import shutil
 import subprocess
@@ -9,7 +9,7 @@ from pathlib import Path
 from checks.conversations import DEADLINE
 from checks.history import FILES, file_of
 from checks.making import content
-from checks.sessions import fails
+from checks.sessions import NEW_TOWN, fails
 from checks.stores import SAMPLE, Answered, Hubs, built, hubs_of
 from checks.written import FIRST, STORES
 
@@ -25,6 +25,8 @@ COMMANDS = (
     ("extract", "r.toml", "1001", "1"),
     ("submit", "r.toml", "1001", "1", "file.csv"),
     ("submit", "r.toml", "1001", "5", "missing.csv"),
+    ("extend", "r.toml", "--grown", "grown.toml"),
+    ("extend", "r.toml", "--grown", "other.toml"),
     ("serve", "r.toml", "--port", "0", "--connections", "0"),
 )
 REFUSED = 3, b"", fails("BadSchema")
@@ -36,6 +38,7 @@ def refuses(program: Path, store: Path, command: tuple[str, ...]) -> str | None:
         folder = Path(made)
         (folder / "r.toml").write_text(SAMPLE)
         (folder / "other.toml").write_text(SAMPLE.replace("Upper", "Lower"))
+        (folder / "grown.toml").write_text(SAMPLE + NEW_TOWN.decode())
         (folder / "file.csv").write_bytes(file_of(1001, 1, *FILES[1001, 1]))
         shutil.copyfile(store, folder / "s.db")
         word, register, *more = command

@@ -239,6 +239,30 @@ SESSIONS = (
         ),
         not_there=("s.db", "s.db-wal"),
     ),
+    Session(
+        "of two faults of a migration the first is told, and no file is made",
+        (
+            Step(f"migrate {STORE} 1001", 2, said=None),
+            Step("migrate --store s.db --register missing.toml", 3, said=fails("Unreadable")),
+            Step("migrate --store no.db --register no.toml", 3, said=fails("NotToml")),
+            Step(f"migrate {STORE}", 3, said=fails("Fault")),
+            Step("migrate --store no.db --register r.toml", 3, said=fails("Fault")),
+        ),
+        not_there=("s.db", "s.db-wal"),
+    ),
+    Session(
+        "a store that is current, and one that has grown",
+        (
+            INIT,
+            FIRST,
+            Step(f"migrate {STORE}", 0, b"current\n"),
+            Step("migrate --store s.db --register other.toml", 3, said=fails("OtherRegister")),
+            EXTEND,
+            Step(f"migrate {STORE}", 3, said=fails("OtherRegister")),
+            Step(f"migrate {GROWN}", 0, b"current\n"),
+            Step(f"status {GROWN} 1001", 0, b"custodian 1001 judged 1 held 0 wants 1001/2\n"),
+        ),
+    ),
 )
 
 

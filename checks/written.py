@@ -75,3 +75,10 @@ def moved(rows: dict[str, list[tuple]]) -> dict[str, list[tuple]]:
     """The rows by schema 2 of a store of schema 1: items stand in another table, with a hop of 0 behind them, and the number is 2."""
     meta = [(key, 2, register) for key, _, register in rows["meta"]]
     return {"meta": meta, "received": rows["received"], "version": [], "version2": [(*row, 0) for row in rows["version"]]}
+
+
+def moved_back(rows: dict[str, list[tuple]]) -> dict[str, list[tuple]]:
+    """The rows by schema 1 of a store of schema 2 whose items have no hop."""
+    assert not rows["version"] and all(row[-1] == 0 for row in rows["version2"])
+    meta = [(key, 1, register) for key, _, register in rows["meta"]]
+    return {"meta": meta, "received": rows["received"], "version": [row[:-1] for row in rows["version2"]]}

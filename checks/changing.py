@@ -1,0 +1,145 @@
+"""A command that changes a store at once, and what may come of it where something fails meanwhile: afterwards the store holds just what it held, or all that
+the command makes of it. What other commands say is said of the one or of the other; and the command, given again, leaves the store changed."""
+
+import contextlib
+import os
+import shutil
+import subprocess
+import tempfile
+from collections import Counter
+from collections.abc import Iterator
+from dataclasses import dataclass, replace
+from pathlib import Path
+
+from checks.allowed import STOPPED
+from checks.conversations import DEADLINE
+from checks.failing import Room, files_of
+from checks.making import content
+from checks.sessions import fails
+from checks.tables import opened
+from checks.troubled import Came
+
+Said = tuple[int, bytes, bytes]  # the exit status, and what stands on standard output and on standard error
+
+BEFORE, AFTER = "before", "after"
+TOLD = {fails("Fault"), fails("Memory")}  # by a command in trouble that has changed nothing, as far as it knows
+
+
+@dataclass(frozen=True)
+class Change:
+    """A command over a store, what it says, and what it says of a store that it has changed already; other commands, with what each says before and after.
+    The store is `s.db`, and the folder above it has the registers."""
+
+    name: str
+    ready: Path
+    words: tuple[str, ...]
+    done: Said
+    again: Said
+    asked: tuple[tuple[tuple[str, ...], Said, Said], ...]
+
+
+@dataclass(frozen=True)
+class Tried:
+    """A change, and all that the store holds before and after it."""
+
+    room: Room
+    change: Change
+    before: str
+    after: str
+
+    def place(self) -> Path:
+        """A copy of the store as it was."""
+        store = Path(tempfile.mkdtemp(dir=self.room.folder)) / "s.db"
+        shutil.copyfile(self.change.ready, store)
+        return store
+
+    def state(self, store: Path) -> str | None:
+        """Whether a store is as it was or changed, as Python reads a copy of it; none where it is neither."""
+        with copied(store) as copy:
+            held = content(copy)
+            with opened(copy) as conn:
+                is_whole = conn.execute("PRAGMA integrity_check").fetchall() == [("ok",)]
+        return {self.before: BEFORE, self.after: AFTER}.get(held) if is_whole else None
+
+    def asked_fault(self, store: Path, state: str) -> str | None:
+        """What is wrong with what other commands say of a copy of a store in this state."""
+        with copied(store) as copy:
+            for words, before, after in self.change.asked:
+                found, wanted = said(self.room, copy, words), before if state == BEFORE else after
+                if found != wanted:
+                    return f"{words[0]} says {found} of a store as it was {state} the change, wanted {wanted}"
+        return None
+
+    def again_fault(self, store: Path, state: str) -> str | None:
+        """What is wrong with the command, given again without trouble to a store in this state."""
+        found, wanted = said(self.room, store, self.change.words), self.change.done if state == BEFORE else self.change.again
+        if found != wanted:
+            return f"given again it says {found} of a store as it was {state} the change, wanted {wanted}"
+        return None if self.state(store) == AFTER else "given again it leaves something else"
+
+
+@contextlib.contextmanager
+def copied(store: Path) -> Iterator[Path]:
+    """A copy of a store and of its log, in a folder of its own beside that of the store."""
+    with tempfile.TemporaryDirectory(dir=store.parent.parent) as made:
+        for it in files_of(store):
+            shutil.copyfile(it, Path(made) / it.name)
+        yield Path(made) / store.name
+
+
+def ran(room: Room, store: Path, words: tuple[str, ...], **env: str) -> tuple[Said, int]:
+    """What a command says in the folder of a store, and how many calls or requests failed."""
+    counted = store.with_name("counted")
+    counted.unlink(missing_ok=True)
+    env |= {"FAILING_TOLD": str(counted), "WANTED": str(counted)}
+    it = subprocess.run([room.bench, *words], cwd=store.parent, stdin=subprocess.DEVNULL, capture_output=True, timeout=DEADLINE, env=os.environ | env)
+    counts = [int(n) for n in counted.read_text().split()] if counted.exists() else [0, 0]
+    failed = int(int(env["WANTING"]) < counts[0]) if "WANTING" in env else counts[1]
+    return (it.returncode, it.stdout, it.stderr), failed
+
+
+def said(room: Room, store: Path, words: tuple[str, ...]) -> Said:
+    return ran(room, store, words)[0]
+
+
+def calls_of(tried: "Tried", more: int) -> int:
+    """How many calls of the store's files a change makes, where they are fewer than so many."""
+    store = tried.place()
+    ran(tried.room, store, tried.change.words, **tried.room.files(store, f"both {more}"))
+    return int(store.with_name("counted").read_text().split()[0])
+
+
+def told_fault(change: Change, found: Said, failed: int, state: str) -> str | None:
+    """What is wrong with what a command in trouble says where it leaves the store in this state."""
+    status, printed, error = found
+    if printed and printed == change.done[1] and state == BEFORE:
+        return "it says that it is done, and it isn't"
+    if found == change.done:
+        return None
+    if not failed:
+        return f"nothing failed, and it says {found}"
+    is_stopped = (status, error) == (STOPPED, b"") and printed in (b"", change.done[1])
+    is_refused = (status, printed) == (3, b"") and error in TOLD
+    return None if is_stopped or is_refused else f"it says {found}"
+
+
+def came_of(tried: Tried, store: Path, env: dict[str, str]) -> Came:
+    """A run in trouble, what it leaves, and the command given again."""
+    found, failed = ran(tried.room, store, tried.change.words, **env)
+    state = tried.state(store)
+    if state is None:
+        return Came(f"it says {found} and leaves neither what was there nor what it makes of it", Counter())
+    fault = told_fault(tried.change, found, failed, state) or tried.asked_fault(store, state) or tried.again_fault(store, state)
+    return Came(fault, Counter([state] if failed else []))
+
+
+def tried_of(room: Room, change: Change) -> tuple[Tried, str | None]:
+    """A change that is tried without trouble, and what is wrong with it then."""
+    tried = Tried(room, change, "", "")
+    store = tried.place()
+    before = content(store)
+    found = said(room, store, change.words)
+    tried = replace(tried, before=before, after=content(store))
+    if found != change.done or tried.before == tried.after:
+        return tried, f"without trouble it says {found}, wanted {change.done}"
+    return tried, tried.asked_fault(tried.place(), BEFORE) or tried.again_fault(store, AFTER)

@@ -1,0 +1,148 @@
+"""Commands that change a store at once, while calls of the store's files fail, the machine stops, the process is killed, or memory is refused, one moment a run."""
+
+import contextlib
+import os
+import shutil
+import tempfile
+from collections import Counter
+from collections.abc import Callable, Iterator
+from concurrent.futures import ThreadPoolExecutor
+from dataclasses import dataclass, replace
+from functools import partial
+from pathlib import Path
+
+from checks import failing, wanting
+from checks.changing import AFTER, BEFORE, Change, Tried, calls_of, came_of, copied, ran, tried_of
+from checks.failing import QUICK, Room
+from checks.preloading import library
+from checks.troubled import CUTS, Came, rising
+
+ALL = 1 << 20  # blocks: more than a store here has
+FARTHEST = 7  # the stride of the calls by which a second try is stopped
+
+Trouble = Callable[[Room, Path, int], dict[str, str]]  # the environment of a run over a store, by its number
+
+
+def calls(which: str, room: Room, store: Path, number: int) -> dict[str, str]:
+    """Each call of these files fails once so many passed; or the next alone."""
+    return room.files(store, which.format(number))
+
+
+def stop(left: tuple[int, int], room: Room, store: Path, number: int) -> dict[str, str]:
+    """The machine stops once so many calls of both files passed, and of what wasn't synced so many blocks of the log and of the file are there."""
+    return room.files(store, f"both {number}", f"{left[0]} {left[1]}")
+
+
+def cut(which: int, room: Room, store: Path, number: int) -> dict[str, str]:
+    """The same by each of some numbers of blocks of one file in turn."""
+    blocks, call = CUTS[number % len(CUTS)], number // len(CUTS)
+    return stop((blocks, 0) if which == 0 else (0, blocks), room, store, call)
+
+
+def memory(room: Room, store: Path, number: int) -> dict[str, str]:
+    return room.memory(number)
+
+
+def once(tried: Tried, trouble: Trouble, number: int) -> Came:
+    store = tried.place()
+    try:
+        return came_of(tried, store, trouble(tried.room, store, number))
+    finally:
+        shutil.rmtree(store.parent)
+
+
+def twice(tried: Tried, number: int) -> Came:
+    """The machine stops, and in a second try, over what that left, at each call by a stride."""
+    first, met = tried.place(), Counter()
+    failed = ran(tried.room, first, tried.change.words, **stop((0, 0), tried.room, first, number))[1]
+    more = number % FARTHEST
+    while failed:
+        with copied(first) as store:
+            came = came_again(tried, store, more)
+        met += came.met
+        if came.fault or not came.met:
+            return Came(came.fault and f"and once more behind {more}: {came.fault}", met)
+        more += FARTHEST
+    return Came(None, met)
+
+
+def came_again(tried: Tried, store: Path, number: int) -> Came:
+    """A second try that is stopped. Where none of its calls is, it says what a command says that is given again."""
+    state = tried.state(store)
+    if state is None:
+        return Came("the first stop leaves neither what was there nor what the command makes of it", Counter())
+    change = tried.change if state == BEFORE else replace(tried.change, done=tried.change.again)
+    return came_of(replace(tried, change=change), store, stop((0, 0), tried.room, store, number))
+
+
+@dataclass(frozen=True)
+class Part:
+    """What fails or stops, by how much the number of a run rises, and in which states it has to leave stores."""
+
+    name: str
+    once: Callable[[Tried, int], Came]
+    stride: int = 1
+    met: tuple[str, ...] = (BEFORE, AFTER)
+
+
+def troubled(trouble: Trouble) -> Callable[[Tried, int], Came]:
+    return lambda tried, number: once(tried, trouble, number)
+
+
+PARTS = (
+    Part("calls of the log", troubled(partial(calls, "log {}"))),
+    Part("calls of the file", troubled(partial(calls, "file {}"))),
+    Part("calls of both", troubled(partial(calls, "both {}"))),
+    Part("one call", troubled(partial(calls, "both {} 1"))),
+    Part("the machine stops", troubled(partial(stop, (0, 0)))),
+    Part("the process is killed", troubled(partial(stop, (ALL, ALL)))),
+    Part("the machine stops, and the log is there in part", troubled(partial(cut, 0)), 7),
+    Part("the machine stops, and the file is there in part", troubled(partial(cut, 1)), 7),
+    Part("the machine stops twice", twice, 5),
+    Part("memory", troubled(memory), 61),
+)
+
+
+def part_fault(tried: Tried, part: Part, every: int = 1) -> str | None:
+    """What is wrong with the first run that goes wrong, or that no run met what has to be met."""
+    met: Counter[str] = Counter()
+    with ThreadPoolExecutor(len(os.sched_getaffinity(0))) as workers:
+        for number, came in rising(lambda number: part.once(tried, number), part.stride * every, workers):
+            met += came.met
+            if came.fault:
+                return f"number {number}: {came.fault}"
+    lacking = [it for it in part.met if not met[it]]
+    return f"no store is as it was {lacking[0]} the change" if lacking else None
+
+
+def few_faults(tried: Tried, part: Part, count: int) -> str | None:
+    """What is wrong with the first of so many runs that goes wrong, at moments that are evenly spread over all calls."""
+    calls = calls_of(tried, ALL)
+    came = ((number, part.once(tried, number)) for number in range(calls // (2 * count), calls, calls // count))
+    return next((f"number {number} of {calls}: {it.fault}" for number, it in came if it.fault), None)
+
+
+@contextlib.contextmanager
+def room_of(gazhub: Path, registers: dict[str, str]) -> Iterator[Room]:
+    """A folder with these registers, and the two libraries."""
+    with tempfile.TemporaryDirectory(prefix="check-stopped-", dir=QUICK) as made, tempfile.TemporaryDirectory() as built:
+        folder, libraries = Path(made).resolve(), Path(built)  # (from a folder in memory none may be loaded)
+        for name, text in registers.items():
+            (folder / name).write_text(text)
+        yield Room(gazhub, folder, library(failing.SOURCE, libraries), library(wanting.SOURCE, libraries))
+
+
+def run_all(room: Room, change: Change, every: int = 1, parts: tuple[Part, ...] = PARTS) -> Iterator[tuple[str, str | None]]:
+    """Each part, by one in so many of its moments, and what is wrong."""
+    tried, fault = tried_of(room, change)
+    yield f"{change.name}, without trouble", fault
+    if fault is None:
+        yield from ((f"{change.name}, {part.name}", part_fault(tried, part, every)) for part in parts)
+
+
+def run_few(room: Room, change: Change, count: int, names: tuple[str, ...]) -> Iterator[tuple[str, str | None]]:
+    """These parts at so many moments each, where the store is too large for all of them."""
+    tried, fault = tried_of(room, change)
+    yield f"{change.name}, without trouble", fault
+    if fault is None:
+        yield from ((f"{change.name}, {part.name}", few_faults(tried, part, count)) for part in PARTS if part.name in names)
