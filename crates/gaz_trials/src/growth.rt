@@ -30,7 +30,11 @@ fn what_waits_for_who_joins_is_judged(rt: HostRuntime) -> Result<(), Fail> {
     });
     holds(&rt, hub.submit(1002, 1, RESTS_ON_1004) == waits, "it waits");
     let unknown = Answer::Refused(Refusal::UnknownCustodian);
-    holds(&rt, hub.submit(1004, 1, FIRST_OF_1004) == unknown, "unknown");
+    holds(
+        &rt,
+        hub.submit(1004, 1, FIRST_OF_1004) == unknown,
+        "unknown",
+    );
     let toml = format!(in rt.alloc(); "{SAMPLE}{NEW_TOWN}")?;
     let grown = Register::read(rt.alloc(), toml.as_bytes())?;
     let mut hub = hub.grown(rt.alloc(), grown)?;

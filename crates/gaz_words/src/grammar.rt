@@ -60,8 +60,7 @@ Prints: extended
   refused 62                      a custodian has other blocks
 Exit status: 0 extended, 1 refused, 2 usage, 3 fault";
 
-const MIGRATE_EXAMPLE: &str =
-    "Example: gazhub migrate --store hub.db --register register.toml
+const MIGRATE_EXAMPLE: &str = "Example: gazhub migrate --store hub.db --register register.toml
 
 Prints: migrated
   current                         the store is up to date: nothing is written
