@@ -6,3 +6,4 @@ mod Opening
 mod Extends
 mod Joining
 mod GrownCalls
+mod WorkedJoined

@@ -6,3 +6,4 @@ pub mod Filing
 pub mod Joined
 pub mod Growing
 pub mod Grown
+pub mod WorkedJoined
