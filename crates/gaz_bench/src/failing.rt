@@ -2,7 +2,7 @@
 ghost use Rattle.std.specs.Prelude.{IfOk};
 ghost use Rattle.gaz_shelf.specs.Around.{seen_around};
 ghost use Rattle.gaz_keeper.specs.Keeper.{IsNotOpen};
-ghost use Rattle.gaz_store.specs.Store.{seen_in};
+ghost use Rattle.gaz_store.specs.Store.{progress_of};
 
 use crate::stored::rests;
 use anyhow::{Result, bail, ensure};
@@ -67,7 +67,7 @@ fn store_in<S: Alter + Drop>(
     conn: Connection<S>,
     register: &Register,
 ) -> Result<Store<S>>
-    ensures { IfOk result (λ store. IsNotOpen (seen_in store).progress) }
+    ensures { IfOk result (λ store. IsNotOpen (progress_of store.judging)) }
 {
     rests(&conn)?;
     match Store::create(alloc, Seed::of(1), conn, register) {

@@ -7,3 +7,4 @@ mod Extends
 mod Migrates
 mod Joining
 mod GrownCalls
+mod WorkedJoined

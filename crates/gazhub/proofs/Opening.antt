@@ -1,6 +1,7 @@
 -- What is said of calls over a store's files, and why no store was made, or there is no hub over the one that is there.
 use Rattle.std.proofs.Common.{◌≡◌, ◌≢◌, ◌≤◌, ◌↔◌, Ok, Err, Result, IsTrue, IfOk, IfErr, ℕ, [], inl, inr, refl, subst}
 use Rattle.std.specs.Prelude.{Option}
+use Rattle.std.specs.declared.marker.Brand.{Brand}
 use Rattle.sqlite.specs.Files.{file_state, over_files}
 use Rattle.sqlite.specs.Held.{Held}
 use Rattle.sqlite_disk.specs.declared.Disk as disk
@@ -31,7 +32,7 @@ module _ {D : Type 0} (g : disk.Ghosts D) (files : Files D) (left : Option (File
   pub declined : IsRefused over_files conn back → (register : RegisterValue) → Visits g register (record { files = files; conn = conn; after = back; left = left; commands = []; responses = [] })
   declined refused register = record { connects = connects; goes_on = goes_on_refused register conn back refused; closes = closes }
 
-  module _ (result : Result (Store (FileStore D g) over_files) (Held (FileStore D g) × StoreRefusal)) (refused : IsRefused over_files conn back)
+  module _ (result : Result (Store (FileStore D g) Brand over_files) (Held (FileStore D g) × StoreRefusal)) (refused : IsRefused over_files conn back)
       (named : (answer_of result ≡ Err BadSchema) ↔ IsTrue (has_any (file_state conn).now.schema)) (causes : answer_of result ≢ Err OtherRegister) where
     finds_tables : (refusal : StoreRefusal) → result ≡ Err (back, refusal) → FindsTables g files left refusal conn back
     finds_tables BadSchema is = inr (refl, named.0 (rw is refl))
@@ -70,8 +71,8 @@ module _ {D : Type 0} (g : disk.Ghosts D) (files : Files D) (left : Option (File
     serves_store most (Err refusal) attends = tt
 
 -- a store that was made
-pub makes_store : {D : Type 0} (g : disk.Ghosts D) (files : Files D) (left : Option (Files D)) (conn back : Held (FileStore D g)) (store : Store (FileStore D g) over_files) (register : RegisterValue)
-    → Connects g files conn → IsMade (file_state conn) (file_state store.tables.conn) (register_text register) (seen_in store) → back ≡ store.tables.conn → Closes g back left
+pub makes_store : {D : Type 0} (g : disk.Ghosts D) (files : Files D) (left : Option (Files D)) (conn back : Held (FileStore D g)) (store : Store (FileStore D g) Brand over_files) (register : RegisterValue)
+    → Connects g files conn → IsMade (file_state conn) (file_state store.tables.conn) (register_text register) (seen_in (register_text register) store) → back ≡ store.tables.conn → Closes g back left
     → MakesStore g files left register (said.Line Ready)
 makes_store g files left conn back store register connects made is closes =
     record {

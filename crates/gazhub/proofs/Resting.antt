@@ -51,7 +51,7 @@ module _ {D : Type 0} {g : disk.Ghosts D} (register : RegisterValue) where
   goes_on_refused before back refused fine stood = goes_on_resting register _ _ ((refused.rests fine.clean).now fine.is_open) stood
 
   -- a store that was made where there was no table
-  pub goes_on_none : (old : State) (store : Store (FileStore D g) over_files) (text : _) → IsMade old (file_state store.tables.conn) text (seen_in store) → IsUnharmed (file_state store.tables.conn)
+  pub goes_on_none : {R : Type 0} (old : State) (store : Store (FileStore D g) R over_files) (text : _) → IsMade old (file_state store.tables.conn) text (seen_in text store) → IsUnharmed (file_state store.tables.conn)
       → IsBare no_schema old.now → GoesOn register new_hub [] [] (file_state store.tables.conn).now
   goes_on_none old store text made fine bare =
       let d = door_of register in
@@ -65,7 +65,7 @@ module _ {D : Type 0} {g : disk.Ghosts D} (register : RegisterValue) where
         answers = every_answer_holds d new_hub (hub_in now) [] [] (nothing_partial d) run;
         stands = record {
           kept = (made.stands fine bare).tables.kept;
-          known = (may_begin d (seen_in store).content (ap (λ (k : Content). k.files) empty) (ap (λ (k : Content). k.board) empty)).known;
+          known = (may_begin d (seen_in text store).content (ap (λ (k : Content). k.files) empty) (ap (λ (k : Content). k.board) empty)).known;
           partial = abides.partial;
         };
       }

@@ -1,5 +1,6 @@
 -- What is done over a store's two files.
 use Rattle.std.specs.Prelude.{◌≡◌, ◌⊎◌, ℕ, List, [], ◌∷◌, Option, None, Result, Ok, Err, IsTrue}
+use Rattle.std.specs.declared.marker.Brand.{Brand}
 use Rattle.sqlite.specs.Files.{file_state, over_files}
 use Rattle.sqlite.specs.Held.{Held}
 use Rattle.sqlite_disk.specs.declared.Disk as disk
@@ -55,9 +56,9 @@ module _ {D : Type 0} (g : disk.Ghosts D) where
     -- a store of a register was made there
     pub record MakesStore (register : RegisterValue) (answer : Said) : Type 0 where
       pub conn : Held (FileStore D g)
-      pub store : Store (FileStore D g) over_files
+      pub store : Store (FileStore D g) Brand over_files
       pub made : IsMade (file_state conn) (file_state store.tables.conn) (register_text register)
-          (seen_in store)
+          (seen_in (register_text register) store)
       pub founds : Founds g register (record {
         files = files;
         conn = conn;

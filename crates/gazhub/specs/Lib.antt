@@ -7,3 +7,4 @@ pub mod Migrating
 pub mod Joined
 pub mod Growing
 pub mod Grown
+pub mod WorkedJoined

@@ -1,6 +1,7 @@
 //! What a reader of the definitions may rely on.
 ghost use Rattle.gazhub.specs.Grown.{GrownCallsAreOne};
 ghost use Rattle.gazhub.specs.Joined.{CallsAreOne};
+ghost use Rattle.gazhub.specs.WorkedJoined.{WorkedJoined};
 
 use gaz_stored::laws::{chains_are_one, grown_chains_are_one};
 use sqlite_disk::Disk;
@@ -22,3 +23,8 @@ pub fn grown_calls_are_one<D: Disk>()
 {
     grown_chains_are_one();
 }
+
+/// Which calls are one after another, on worked examples.
+pub fn worked_joined<D: Disk>()
+    ensures { WorkedJoined D.Disk }
+{}

@@ -16,6 +16,7 @@ use sqlite::{Connection, FileStore, Files, Options};
 use sqlite_disk::Disk;
 use std::alloc::Global;
 use std::io::{Read, Write};
+use std::marker::Brand;
 use std::mem::forget;
 use std::net::{OpenListener, OpenStream};
 
@@ -71,7 +72,7 @@ pub fn make_store<D: Disk + Drop>(
     let Some(conn) = connect(alloc, files, options) else {
         return (None, Err(StoreRefusal::Fault));
     };
-    match Store::create(alloc, seed, conn, register) {
+    match Store::<_, Brand>::create(alloc, seed, conn, register) {
         Ok(store) => {
             let left = close(store.into_connection());
             (left, Ok(Said::Line(PrintedLine::Ready)))
