@@ -1,11 +1,12 @@
 // Fails calls of a store's two files, of the program beside which it is loaded (LD_PRELOAD). FAILING_STORE
 // is the path of the database file, and the log is beside it. FAILING_CALLS names one of them or `both`,
 // and a number: so many calls pass by which they are read, written, cut or synced, and each after these
-// fails, or only so many where a second number says so. Where FAILING_SYNCED names a folder, the machine stops instead: either file is put back as it
-// stood at its last sync, of which the folder has a copy, but for so many blocks of what was written
-// since, from the first one that changed, as FAILING_LEFT says of the log and of the database file; and
-// the process ends with status 70. At its end a process writes, to the file FAILING_TOLD, how many calls
-// there were of those that may fail, and how many failed.
+// fails, or only so many where a second number says so. Where FAILING_SYNCED names a folder, the machine
+// stops instead: either file is put back as it stood at its last sync, of which the folder has a copy, but
+// for so many blocks of what was written since, from the first one that changed, as FAILING_LEFT says of
+// the log and of the database file; and the process ends with status 70. Where FAILING_LEFT is `all`, the
+// process alone is killed, and nothing is put back. At its end a process writes, to the file FAILING_TOLD,
+// how many calls there were of those that may fail, and how many failed.
 typedef unsigned long size;
 
 extern char *getenv(const char *);
@@ -30,7 +31,7 @@ static const char *const names[] = {"log", "file"};
 static const char *const endings[] = {"-wal", ""};
 
 static const char *store, *synced;
-static int is_known, may_fail[2];
+static int is_known, is_killed, may_fail[2];
 static size passing = ~0ul, failing = ~0ul, left[2], came, failed;
 
 static void know(void) {
@@ -46,6 +47,7 @@ static void know(void) {
     passing = strtoul(calls, &behind, 10);
     if (*behind) failing = strtoul(behind, 0, 10);
     if (!blocks) return;
+    is_killed = !strcmp(blocks, "all");
     left[LOG] = strtoul(blocks, &behind, 10);
     left[DATABASE] = strtoul(behind, 0, 10);
 }
@@ -117,8 +119,10 @@ static int fails(int it) {
     if (it == NEITHER || !may_fail[it] || came++ < passing || failed == failing) return 0;
     failed++;
     if (synced) {
-        put_back(LOG);
-        put_back(DATABASE);
+        if (!is_killed) {
+            put_back(LOG);
+            put_back(DATABASE);
+        }
         tell();
         _exit(STOPPED);
     }

@@ -17,7 +17,7 @@ from checks.failing import QUICK, Room
 from checks.preloading import library
 from checks.troubled import CUTS, Came, rising
 
-ALL = 1 << 20  # blocks: more than a store here has
+MOST = 1 << 30  # calls: more than any change makes
 FARTHEST = 7  # the stride of the calls by which a second try is stopped
 
 Trouble = Callable[[Room, Path, int], dict[str, str]]  # the environment of a run over a store, by its number
@@ -28,15 +28,22 @@ def calls(which: str, room: Room, store: Path, number: int) -> dict[str, str]:
     return room.files(store, which.format(number))
 
 
-def stop(left: tuple[int, int], room: Room, store: Path, number: int) -> dict[str, str]:
-    """The machine stops once so many calls of both files passed, and of what wasn't synced so many blocks of the log and of the file are there."""
-    return room.files(store, f"both {number}", f"{left[0]} {left[1]}")
+def kill(room: Room, store: Path, number: int) -> dict[str, str]:
+    """The process is killed once so many calls of both files passed."""
+    return room.files(store, f"both {number}", "all")
 
 
-def cut(which: int, room: Room, store: Path, number: int) -> dict[str, str]:
-    """The same by each of some numbers of blocks of one file in turn."""
-    blocks, call = CUTS[number % len(CUTS)], number // len(CUTS)
-    return stop((blocks, 0) if which == 0 else (0, blocks), room, store, call)
+def stop(room: Room, store: Path, number: int, blocks: tuple[int, int] = (0, 0)) -> dict[str, str]:
+    """The machine stops, and of what wasn't synced so many blocks of the log and of the file are there. What stood there at first was synced."""
+    for name, of in (("log", store.with_name(f"{store.name}-wal")), ("file", store)):
+        store.with_name(name).write_bytes(of.read_bytes() if of.exists() else b"")
+    return room.files(store, f"both {number}", f"{blocks[0]} {blocks[1]}")
+
+
+def cut(is_file: bool, room: Room, store: Path, number: int) -> dict[str, str]:
+    """The same, and the number says how many blocks of one of the two."""
+    call, at = divmod(number, len(CUTS))
+    return stop(room, store, call, (0, CUTS[at]) if is_file else (CUTS[at], 0))
 
 
 def memory(room: Room, store: Path, number: int) -> dict[str, str]:
@@ -54,7 +61,7 @@ def once(tried: Tried, trouble: Trouble, number: int) -> Came:
 def twice(tried: Tried, number: int) -> Came:
     """The machine stops, and in a second try, over what that left, at each call by a stride."""
     first, met = tried.place(), Counter()
-    failed = ran(tried.room, first, tried.change.words, **stop((0, 0), tried.room, first, number))[1]
+    failed = ran(tried.room, first, tried.change.words, **stop(tried.room, first, number))[1]
     more = number % FARTHEST
     while failed:
         with copied(first) as store:
@@ -72,7 +79,7 @@ def came_again(tried: Tried, store: Path, number: int) -> Came:
     if state is None:
         return Came("the first stop leaves neither what was there nor what the command makes of it", Counter())
     change = tried.change if state == BEFORE else replace(tried.change, done=tried.change.again)
-    return came_of(replace(tried, change=change), store, stop((0, 0), tried.room, store, number))
+    return came_of(replace(tried, change=change), store, stop(tried.room, store, number))
 
 
 @dataclass(frozen=True)
@@ -94,10 +101,10 @@ PARTS = (
     Part("calls of the file", troubled(partial(calls, "file {}"))),
     Part("calls of both", troubled(partial(calls, "both {}"))),
     Part("one call", troubled(partial(calls, "both {} 1"))),
-    Part("the machine stops", troubled(partial(stop, (0, 0)))),
-    Part("the process is killed", troubled(partial(stop, (ALL, ALL)))),
-    Part("the machine stops, and the log is there in part", troubled(partial(cut, 0)), 7),
-    Part("the machine stops, and the file is there in part", troubled(partial(cut, 1)), 7),
+    Part("the machine stops", troubled(stop)),
+    Part("the process is killed", troubled(kill)),
+    Part("the machine stops, and the log is there in part", troubled(partial(cut, False)), 7),
+    Part("the machine stops, and the file is there in part", troubled(partial(cut, True)), 7),
     Part("the machine stops twice", twice, 5),
     Part("memory", troubled(memory), 61),
 )
@@ -117,7 +124,7 @@ def part_fault(tried: Tried, part: Part, every: int = 1) -> str | None:
 
 def few_faults(tried: Tried, part: Part, count: int) -> str | None:
     """What is wrong with the first of so many runs that goes wrong, at moments that are evenly spread over all calls."""
-    calls = calls_of(tried, ALL)
+    calls = calls_of(tried, MOST)
     came = ((number, part.once(tried, number)) for number in range(calls // (2 * count), calls, calls // count))
     return next((f"number {number} of {calls}: {it.fault}" for number, it in came if it.fault), None)
 

@@ -71,6 +71,10 @@ class Library(unittest.TestCase):
         self.assertEqual((self.held("store"), self.held("store-wal")), (b"a" * 1024, b"a" * 1024))
         self.assertEqual(self.held("other"), b"b" * 1536)
 
+    def test_a_process_that_is_killed_leaves_what_it_wrote(self):
+        self.assertEqual(self.ran("both 9", "all"), (STOPPED, [], "10 1"))
+        self.assertEqual((self.held("store"), self.held("store-wal")), (b"b" * 100, b"b" * 1536))
+
     def test_a_stop_before_a_sync_leaves_nothing_of_a_write(self):
         self.ran("file 2", "0 0")
         self.assertEqual(self.held("store"), b"")
