@@ -109,7 +109,7 @@ module _ {U : Type 0} (seen : U → Seen) (d : Door) (a lower last : Seen) (uppe
     trust = λ t. t;
     stays = λ all hub. refl;
     was_open = λ no t. absurd (true≢false no);
-    reaches = λ stood t. (state_of last.content, refl);
+    reaches = λ stood t. (state_of last.content, same_state kept gathered);
     stops = λ sound. record { ever = λ k l. inl l; now = λ fine k l. inl (l, same_state kept gathered); answered = refl; received = λ k l. tt; whole = λ all. all };
   }
 
