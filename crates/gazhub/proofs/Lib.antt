@@ -7,3 +7,4 @@ mod Extends
 mod Joining
 mod GrownCalls
 mod WorkedJoined
+mod Reopened

@@ -7,3 +7,4 @@ pub mod Joined
 pub mod Growing
 pub mod Grown
 pub mod WorkedJoined
+pub mod Reopened
