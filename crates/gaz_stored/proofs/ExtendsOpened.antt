@@ -90,6 +90,9 @@ module _ {S : Type 0} {g : Ghosts S} (register grown : RegisterValue) (first las
       still register was.now is.now stood (keeps.stands stands h).tables.kept
       (ap state_of (keeps.content stands h) ∙ ap state_of (opened.content fine stood.kept))
 
+  whose_so : IsUnharmed is → StandForRun register was.now → IsOf (register_text (register_then register grown told)) (is.now.trees metas)
+  whose_so h stood = (keeps.stands (opened.stands (keeps.harm h) stood.kept) h).tables.whose
+
   stops_so : IsUnharmed mid → StandForRun register was.now → LeavesItself was → (db : Database) → MayBeLeft is db → StopsBetween register grown was.now db
   stops_so fine stood itself db left =
       elim ((writes.leaves (λ h. moved h stood.kept.tables)).crash left.clean db.trees left.left) [
@@ -127,5 +130,6 @@ module _ {S : Type 0} {g : Ghosts S} (register grown : RegisterValue) (first las
         registers = registers_so;
         undone = undone_so;
         stays = stays_so;
+        whose = whose_so;
         stops = stops_so;
       })

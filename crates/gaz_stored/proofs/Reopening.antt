@@ -12,6 +12,7 @@ use Rattle.gaz_tables.specs.Stores.{HasTables}
 use Rattle.gaz_kept.specs.Opening.{IsJudged, IsOf}
 use Rattle.gaz_kept.specs.declared.refusal.StoreRefusal.{StoreRefusal}
 use Rattle.gaz_kept.specs.declared.refusal.StoreRefusal.TheVariants.{BadSchema, Fault, OtherRegister}
+use Rattle.gaz_store.specs.Growing.{register_then}
 use Rattle.gaz_stored.specs.Reopening.{OpensAgain, OpensOrFails, OpensThen}
 
 same_row : (r s : Row) (rows : List Row) → rows ≡ r ∷ [] → rows ≡ s ∷ [] → r ≡ s
@@ -26,7 +27,7 @@ judged text rows whose (Err OtherRegister) is =
 judged text rows whose (Err Fault) is = inr refl
 
 module _ {S : Type 0} (g : Ghosts S) where
-  opens : (register : RegisterValue) (conn next : Held S) → HasTables (state g conn).now → IsOf (register_text register) ((state g conn).now.trees metas) → OpensThen g register conn next
+  pub opens : (register : RegisterValue) (conn next : Held S) → HasTables (state g conn).now → IsOf (register_text register) ((state g conn).now.trees metas) → OpensThen g register conn next
   opens register conn next has whose answer clean judges = judged (register_text register) ((state g conn).now.trees metas) whose answer (judges clean has)
 
   pub opens_again : OpensAgain g
@@ -35,6 +36,8 @@ module _ {S : Type 0} (g : Ghosts S) where
         opens register after next (uses.goes_on fine stood).stands.kept.tables (uses.whose fine stood);
     made = λ register most through before after next ended answers bare fine.
         opens register after next (answers.goes_on fine bare).stands.kept.tables (answers.whose fine bare);
+    grown = λ register grown before after next told extends stood fine.
+        opens (register_then register grown told) after next (extends.stays fine stood).stands.kept.tables (extends.whose fine stood);
     left = λ register before commands responses after conn next finds may.
         let it = finds (state g conn).now may in
         opens register conn next it.stands.kept.tables it.whose;

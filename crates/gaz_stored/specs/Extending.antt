@@ -9,7 +9,7 @@ use Rattle.gaz_register.specs.Texts.{register_text}
 use Rattle.gaz_tables.specs.Schema.{metas}
 use Rattle.gaz_tables.specs.Stores.{HasTables}
 use Rattle.gaz_kept.specs.Opening.{IsOf, Tells}
-use Rattle.gaz_store.specs.Growing.{TellsGrowth, ToldOf}
+use Rattle.gaz_store.specs.Growing.{TellsGrowth, ToldOf, register_then}
 use Rattle.gaz_store.specs.Opened.{IsOpened}
 use Rattle.gaz_store.specs.Seen.{IsUnharmed}
 use Rattle.gaz_store.specs.Store.{seen_in}
@@ -47,6 +47,9 @@ pub record ExtendsOpened {S : Type 0} (g : Ghosts S) (register grown : RegisterV
   -- where the tables stand for a partial run they go on to stand for the same hub
   pub stays : IsUnharmed (state g after) → StandForRun register (state g before).now
       → StandsStill register (state g before).now (state g after).now
+  -- as a store of the register that was told
+  pub whose : IsUnharmed (state g after) → StandForRun register (state g before).now
+      → IsOf (register_text (register_then register grown told)) ((state g after).now.trees metas)
   -- and so does what a stop leaves at the end, where a stop left just these tables at the beginning
   pub stops : IsUnharmed (state g first.tables.conn) → StandForRun register (state g before).now
       → LeavesItself (state g before) → (db : Database) → MayBeLeft (state g after) db

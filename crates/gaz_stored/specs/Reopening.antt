@@ -10,13 +10,16 @@ use Rattle.gaz_tables.specs.Creating.{IsBare, no_schema}
 use Rattle.gaz_kept.specs.Opening.{Judges}
 use Rattle.gaz_kept.specs.declared.refusal.StoreRefusal.{StoreRefusal}
 use Rattle.gaz_kept.specs.declared.refusal.StoreRefusal.TheVariants.{Fault}
+use Rattle.gaz_store.specs.Growing.{register_then}
 use Rattle.gaz_store.specs.Seen.{IsUnharmed}
+use Rattle.gaz_store.specs.declared.growing.ExtendFault.{ExtendFault}
 use Rattle.gaz_store.specs.declared.store.Store.{Store}
 use Rattle.gaz_hub.specs.Step.{Command, HubState, Response}
 use Rattle.gaz_exchange.specs.Conversing.{Transfer}
 use Rattle.gaz_exchange.specs.declared.conversation.Served.{Served}
 use Rattle.gaz_exchange.specs.declared.conversation.Stopped.{Stopped}
 use Rattle.gaz_stored.specs.Answering.{AnswersNew}
+use Rattle.gaz_stored.specs.Extending.{ExtendsOpened}
 use Rattle.gaz_stored.specs.Runs.{StandForRun}
 use Rattle.gaz_stored.specs.Stopping.{FindsLater, MayBeLeft}
 use Rattle.gaz_stored.specs.Using.{Uses}
@@ -46,6 +49,12 @@ module _ {S : Type 0} (g : Ghosts S) where
         → AnswersNew g register most through before after ended
         → IsBare no_schema (state g before).now → IsUnharmed (state g after)
         → OpensThen register after next
+    -- or whose register was to grow: under the one that was told
+    pub grown : (register grown : RegisterValue) (before after next : Held S)
+        (told : Result (Unit {0}) ExtendFault)
+        → ExtendsOpened g register grown before after told
+        → StandForRun register (state g before).now → IsUnharmed (state g after)
+        → OpensThen (register_then register grown told) after next
     -- and over one that shows what a stop left
     pub left : (register : RegisterValue) (before : HubState) (commands : List Command)
         (responses : List Response) (after conn next : Held S)

@@ -31,8 +31,8 @@ pub record IsSame {S R N : Type 0} {g : Ghosts S} (one : Store S R g) (other : S
   pub tables : other.tables ≡ one.tables
   pub judging : other.judging ≡ one.judging
 
--- a hub of this register over a store of the register of this text made a run of its steps, and this
--- connection is left
+-- a hub of this register over a store of the register of this text made a run of its steps, and
+-- this connection is left
 pub record Goes {S N : Type 0} {g : Ghosts S} (text : List ℕ) (register : RegisterValue)
     (first : Store S N g) (after : Held S) (commands : List Command) (responses : List Response)
     : Type 0 where

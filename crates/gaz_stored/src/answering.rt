@@ -57,8 +57,8 @@ fn converse_over<S: Alter + Drop, N: OfRegister, R: Source, W: Sink>(
     (store.into_connection(), at_hand, ended)
 }
 
-/// Judges what is ready in a store, seen as one of the register that `N` names, and whether that went
-/// well.
+/// Judges what is ready in a store, seen as one of the register that `N` names, and whether that
+/// went well.
 pub(crate) fn settle<S: Alter + Drop, N: OfRegister>(
     alloc: Global,
     register: Register,

@@ -51,8 +51,8 @@ fn say_where<L: OpenListener, W: Write>(listener: &L, w: &mut W) -> io::Result<(
 }
 
 // Answers connections over a store, seen as one of the register that `N` names, once it is settled
-// and all of it put at hand, where memory allows; the connection to it, what is at hand, and how many
-// were answered are left.
+// and all of it put at hand, where memory allows; the connection to it, what is at hand, and how
+// many were answered are left.
 fn serve_over<S: Alter + Drop, N: OfRegister, L: OpenListener>(
     alloc: Global,
     seed: Seed,

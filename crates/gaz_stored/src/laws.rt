@@ -40,9 +40,9 @@ pub fn migrated_stands()
     ensures { MigratedStands }
 {}
 
-/// Tables that a call handed back, or that a stop left of it, where they stood for a partial run before
-/// it: `Store::open` under the same register answers `Ok` or `Fault`, and never `BadSchema` or
-/// `OtherRegister`.
+/// Tables that a call handed back, or that a stop left of it, where they stood for a partial run
+/// before it: `Store::open` under the same register, or under the grown one where it grew, answers
+/// `Ok` or `Fault`, and never `BadSchema` or `OtherRegister`.
 pub fn opens_again<S: Alter>()
     ensures { OpensAgain S.Store }
 {}

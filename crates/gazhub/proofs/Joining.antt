@@ -18,7 +18,7 @@ use Rattle.gazhub.specs.Visits.{AreInTurn, AreWhole, Closes, IsWhole, Visit, Vis
 abbrev database : Schema → Trees → Database
 database schema trees = record { schema = schema; trees = trees }
 
-same_parts : (s t : Schema) (a b : Trees) → s ≡ t → a ≡ b → database s a ≡ database t b
+pub same_parts : (s t : Schema) (a b : Trees) → s ≡ t → a ≡ b → database s a ≡ database t b
 same_parts s t a b p q = ap (λ (x : Schema). database x a) p ∙ ap (λ (x : Trees). database t x) q
 
 module _ {D : Type 0} (g : disk.Ghosts D) where

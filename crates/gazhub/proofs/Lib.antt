@@ -8,3 +8,4 @@ mod Migrates
 mod Joining
 mod GrownCalls
 mod WorkedJoined
+mod Reopened

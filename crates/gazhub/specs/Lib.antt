@@ -8,3 +8,4 @@ pub mod Joined
 pub mod Growing
 pub mod Grown
 pub mod WorkedJoined
+pub mod Reopened

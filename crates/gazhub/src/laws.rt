@@ -1,6 +1,7 @@
 //! What a reader of the definitions may rely on.
 ghost use Rattle.gazhub.specs.Grown.{GrownCallsAreOne};
 ghost use Rattle.gazhub.specs.Joined.{CallsAreOne};
+ghost use Rattle.gazhub.specs.Reopened.{NextOpens};
 ghost use Rattle.gazhub.specs.WorkedJoined.{WorkedJoined};
 
 use gaz_stored::laws::{chains_are_one, grown_chains_are_one};
@@ -23,6 +24,13 @@ pub fn grown_calls_are_one<D: Disk>()
 {
     grown_chains_are_one();
 }
+
+/// A call over files that ends whole leaves a store of its register, or of the one to which it grew;
+/// and whoever opens the files that it gave back, under that register, is told `Ok` or `Fault`, and
+/// never that there is no store, or one of another register.
+pub fn next_opens<D: Disk>()
+    ensures { NextOpens D.Disk }
+{}
 
 /// Which calls are one after another, on worked examples.
 pub fn worked_joined<D: Disk>()

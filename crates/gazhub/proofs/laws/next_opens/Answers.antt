@@ -1,0 +1,5 @@
+use Rattle.gazhub.proofs.Reopened.{next_opens}
+use Rattle.gazhub.proofs.laws.next_opens.Goals as goal
+
+pub returns : goal.returns
+returns g c = next_opens g.D.Disk
