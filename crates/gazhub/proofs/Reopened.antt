@@ -22,7 +22,6 @@ use Rattle.gaz_store.specs.Seen.{IsUnharmed}
 use Rattle.gaz_stored.proofs.Reopening as reopening
 use Rattle.gaz_stored.specs.Asking.{Asks}
 use Rattle.gaz_stored.specs.Attending.{Attends}
-use Rattle.gaz_stored.specs.Reopening.{OpensThen}
 use Rattle.gaz_stored.specs.Runs.{StandForRun}
 use Rattle.gaz_stored.specs.declared.attending.Unserved.{Unserved}
 use Rattle.gaz_commands.specs.declared.said.Said.{Said}

@@ -1,5 +1,5 @@
 -- What the next opening of a store's files is told.
-use Rattle.std.specs.Prelude.{◌≡◌, ℕ, Option, Some, Result}
+use Rattle.std.specs.Prelude.{ℕ, Option, Some, Result}
 use Rattle.sqlite.specs.Files.{file_state, over_files}
 use Rattle.sqlite.specs.Held.{Held}
 use Rattle.sqlite.specs.State.{HasCleanDisk}

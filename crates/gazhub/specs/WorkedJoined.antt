@@ -1,5 +1,5 @@
 -- Worked examples on calls over the same files, one after another.
-use Rattle.std.specs.Prelude.{[], ◌∷◌, codes, List, Option, None}
+use Rattle.std.specs.Prelude.{[], ◌∷◌, List, Option, None}
 use Rattle.sqlite_disk.specs.declared.Disk as disk
 use Rattle.sqlite_disk.specs.declared.Files.{Files}
 use Rattle.gaz_register.specs.Registers.{RegisterValue}
