@@ -1,5 +1,5 @@
 -- What the rows of `meta` tell, from what is shown of them.
-use Rattle.std.proofs.Common.{◌≡◌, ◌≢◌, ◌∙◌, inl, inr, ℕ, pos, Bool, true, false, codes, List, [], ◌∷◌, filter, map, take, Ok, Err, Result, IfOk, Vec, IsPermutation, refl, sym, ap, subst}
+use Rattle.std.proofs.Common.{◌≡◌, ◌≢◌, ◌∙◌, ◌&&◌, inl, inr, ℕ, pos, Bool, true, false, not, codes, List, [], ◌∷◌, filter, map, take, Ok, Err, Result, IfOk, Vec, IsPermutation, refl, sym, ap, subst}
 use Rattle.std.specs.declared.alloc.Global.{Global}
 use Rattle.std.proofs.lemmas.List.Sorted.{IsPermutation-sym}
 use Rattle.sqlite.proofs.Callers.{one_permutation}
@@ -9,6 +9,8 @@ use Rattle.sqlite.specs.Order.{Row, column}
 use Rattle.sqlite.specs.Schema.{Schema}
 use Rattle.sqlite.specs.Listing.{understood}
 use Rattle.sqlite.specs.State.{Shown}
+use Rattle.sqlite.specs.Table.{Table}
+use Rattle.std.specs.List.{list_any}
 use Rattle.sqlite.specs.Term.{lit}
 use Rattle.sqlite_tied.specs.Compute.{everything}
 use Rattle.gaz_sql_facts.specs.Selects.{selecting}
@@ -17,13 +19,15 @@ use Rattle.gaz_tables.proofs.MetaTexts.{rows_found, rows_terms}
 use Rattle.sqlite.specs.declared.error.Error.{Error}
 use Rattle.sqlite.specs.declared.types.Value.TheVariants.{Int, Text}
 use Rattle.sqlite_rules.specs.Lists.{Has}
+use Rattle.sqlite_rules.proofs.ListLemmas.{some_from, some_has}
+use Rattle.std.proofs.lemmas.Bool.{and_parts, or_left}
 use Rattle.sqlite_schema.specs.Names.{same_name}
 use Rattle.sqlite_trees.specs.declared.store.Store.{Ghosts}
 use Rattle.gaz_tables.specs.Metas.{FindsTwo, meta_row, meta_shown, rows_text}
-use Rattle.gaz_tables.specs.Schema.{first_schema, metas, store_schema}
+use Rattle.gaz_tables.specs.Schema.{first_schema, meta, metas, received, store_schema, version, version2}
 use Rattle.gaz_tables.specs.Stores.{HasTables}
 use Rattle.gaz_kept.specs.Numbered.{HasMeta, IsAnswer, IsJudged, IsNumbered, IsOne, IsTold}
-use Rattle.gaz_kept.specs.Opening.{CreateOpens, has_all, schema_number}
+use Rattle.gaz_kept.specs.Opening.{CreateOpens, has_all, has_name, is_like, schema_number}
 use Rattle.gaz_kept.specs.OpeningFirst.{has_first}
 use Rattle.gaz_kept.proofs.Rewritten.{alone}
 use Rattle.gaz_kept.specs.declared.refusal.StoreRefusal.{StoreRefusal}
@@ -45,6 +49,26 @@ has_first_tables = refl
 
 pub nothing_first_lacks : (schema : Schema) → schema ≡ first_schema → false ≡ has_first schema → ⊥
 nothing_first_lacks schema same lacks = let e : ◌≡◌ {A = Bool} false true = lacks ∙ ap has_first same ∙ has_first_tables in absurd (cc)
+
+-- no database has both
+pub not_both : (schema : Schema) → has_all schema ≡ true → has_first schema ≡ true → ⊥
+unfolding has_all has_first
+not_both schema all first =
+    let second = and_parts _ _ (and_parts _ _ all).1 in
+    let t = some_has (is_like version2) schema.tables second.0 in
+    let named = some_from (λ u. same_name u.name (codes "version2")) schema.tables t.0 t.1 (and_parts _ _ t.2).0 in
+    let there : has_name (codes "version2") schema ≡ true = or_left _ _ named in
+    let at = λ (like : Table). list_any (is_like like) schema.tables in
+    let alone = not (has_name (codes "version2") schema) in
+    let behind = (and_parts (at version) (at received && (at meta && alone)) first).1 in
+    let none = (and_parts (at meta) alone (and_parts (at received) (at meta && alone) behind).1).1 in
+    absurd (let clash : ◌≡◌ {A = Bool} false true = ap not (sym there) ∙ none in cc)
+
+pub not_store : (schema : Schema) → schema ≡ store_schema → has_first schema ≡ true → ⊥
+not_store schema same first = not_both schema (ap has_all same ∙ has_all_store) first
+
+pub is_first : (schema : Schema) → schema ≡ first_schema → has_first schema ≡ true
+is_first schema same = ap has_first same ∙ has_first_tables
 
 -- ---- what is answered
 
