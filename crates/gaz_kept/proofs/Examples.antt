@@ -45,7 +45,7 @@ use Rattle.gaz_kept.proofs.Said.{cells_same, not_another, says}
 reads : (x : Item) → is_item x ≡ true → is_entry x ≡ true → read_cells (cells_of x) ≡ Ok x
 reads x is entry = cells_back x entry (text-back x is)
 
-said : (id : Value) (c born gone : ℕ) (x : Item) → is_item x ≡ true → is_entry x ≡ true → history_in c (id ∷ values_of c born gone x) ≡ Some (living born gone x)
+pub said : (id : Value) (c born gone : ℕ) (x : Item) → is_item x ≡ true → is_entry x ≡ true → history_in c (id ∷ values_of c born gone x) ≡ Some (living born gone x)
 said id c born gone x is entry = says id c born gone x (reads x is entry)
 
 said_item : (id : Value) (c born gone : ℕ) (x : Item) → is_item x ≡ true → is_entry x ≡ true → item_in (id ∷ values_of c born gone x) ≡ Some x

@@ -25,3 +25,7 @@ pub mod MetaRows
 pub mod WorkedOpening
 pub mod LawfulViews
 pub mod Rewritten
+pub mod Asked
+pub mod Migrated
+pub mod Moved
+pub mod WorkedMigrated

@@ -1,23 +1,34 @@
 -- What the rows of `meta` tell, from what is shown of them.
-use Rattle.std.proofs.Common.{◌≡◌, ◌≢◌, ◌∙◌, inl, inr, ℕ, pos, Bool, true, false, List, [], ◌∷◌, filter, map, take, Ok, Err, Result, IfOk, Vec, IsPermutation, refl, sym, ap, subst}
+use Rattle.std.proofs.Common.{◌≡◌, ◌≢◌, ◌∙◌, ◌&&◌, inl, inr, ℕ, pos, Bool, true, false, not, codes, List, [], ◌∷◌, filter, map, take, Ok, Err, Result, IfOk, Vec, IsPermutation, refl, sym, ap, subst}
 use Rattle.std.specs.declared.alloc.Global.{Global}
 use Rattle.std.proofs.lemmas.List.Sorted.{IsPermutation-sym}
 use Rattle.sqlite.proofs.Callers.{one_permutation}
+use Rattle.sqlite.specs.Effect.{Database}
 use Rattle.sqlite.specs.Held.{Held, state}
-use Rattle.sqlite.specs.Order.{Row, column, value_cmp}
+use Rattle.sqlite.specs.Order.{Row, column}
 use Rattle.sqlite.specs.Schema.{Schema}
+use Rattle.sqlite.specs.Listing.{understood}
 use Rattle.sqlite.specs.State.{Shown}
+use Rattle.sqlite.specs.Table.{Table}
+use Rattle.std.specs.List.{list_any}
+use Rattle.sqlite.specs.Term.{lit}
+use Rattle.sqlite_tied.specs.Compute.{everything}
+use Rattle.gaz_sql_facts.specs.Selects.{selecting}
+use Rattle.gaz_sql_facts.proofs.Texts.{IsSelect, answers}
+use Rattle.gaz_tables.proofs.MetaTexts.{rows_found, rows_terms}
 use Rattle.sqlite.specs.declared.error.Error.{Error}
 use Rattle.sqlite.specs.declared.types.Value.TheVariants.{Int, Text}
 use Rattle.sqlite_rules.specs.Lists.{Has}
+use Rattle.sqlite_rules.proofs.ListLemmas.{some_from, some_has}
+use Rattle.std.proofs.lemmas.Bool.{and_parts, or_left}
 use Rattle.sqlite_schema.specs.Names.{same_name}
-use Rattle.sqlite_value.proofs.OrderLemmas.{value_cmp-Int}
-use Rattle.sqlite_trees.specs.Tree.{IsTable, rowid}
 use Rattle.sqlite_trees.specs.declared.store.Store.{Ghosts}
-use Rattle.std.specs.declared.cmp.Ordering.TheVariants.{Less}
 use Rattle.gaz_tables.specs.Metas.{FindsTwo, meta_row, meta_shown, rows_text}
-use Rattle.gaz_tables.specs.Schema.{metas, store_schema}
-use Rattle.gaz_kept.specs.Opening.{CreateOpens, IsAnswer, IsJudged, IsNumbered, IsOne, IsTold, has_all, schema_number}
+use Rattle.gaz_tables.specs.Schema.{first_schema, meta, metas, received, store_schema, version, version2}
+use Rattle.gaz_tables.specs.Stores.{HasTables}
+use Rattle.gaz_kept.specs.Numbered.{HasMeta, IsAnswer, IsJudged, IsNumbered, IsOne, IsTold}
+use Rattle.gaz_kept.specs.Opening.{CreateOpens, has_all, has_name, is_like, schema_number}
+use Rattle.gaz_kept.specs.OpeningFirst.{has_first}
 use Rattle.gaz_kept.proofs.Rewritten.{alone}
 use Rattle.gaz_kept.specs.declared.refusal.StoreRefusal.{StoreRefusal}
 use Rattle.gaz_kept.specs.declared.refusal.StoreRefusal.TheVariants.{BadSchema, OtherRegister, Fault}
@@ -31,6 +42,34 @@ has_all_store = refl
 pub nothing_lacks : (schema : Schema) → schema ≡ store_schema → false ≡ has_all schema → ⊥
 nothing_lacks schema same lacks = let e : ◌≡◌ {A = Bool} false true = lacks ∙ ap has_all same ∙ has_all_store in absurd (cc)
 
+-- a database of schema 1 has its tables, and none of schema 2
+pub has_first_tables : has_first first_schema ≡ true
+unfolding has_first same_name
+has_first_tables = refl
+
+pub nothing_first_lacks : (schema : Schema) → schema ≡ first_schema → false ≡ has_first schema → ⊥
+nothing_first_lacks schema same lacks = let e : ◌≡◌ {A = Bool} false true = lacks ∙ ap has_first same ∙ has_first_tables in absurd (cc)
+
+-- no database has both
+pub not_both : (schema : Schema) → has_all schema ≡ true → has_first schema ≡ true → ⊥
+unfolding has_all has_first
+not_both schema all first =
+    let second = and_parts _ _ (and_parts _ _ all).1 in
+    let t = some_has (is_like version2) schema.tables second.0 in
+    let named = some_from (λ u. same_name u.name (codes "version2")) schema.tables t.0 t.1 (and_parts _ _ t.2).0 in
+    let there : has_name (codes "version2") schema ≡ true = or_left _ _ named in
+    let at = λ (like : Table). list_any (is_like like) schema.tables in
+    let alone = not (has_name (codes "version2") schema) in
+    let behind = (and_parts (at version) (at received && (at meta && alone)) first).1 in
+    let none = (and_parts (at meta) alone (and_parts (at received) (at meta && alone) behind).1).1 in
+    absurd (let clash : ◌≡◌ {A = Bool} false true = ap not (sym there) ∙ none in cc)
+
+pub not_store : (schema : Schema) → schema ≡ store_schema → has_first schema ≡ true → ⊥
+not_store schema same first = not_both schema (ap has_all same ∙ has_all_store) first
+
+pub is_first : (schema : Schema) → schema ≡ first_schema → has_first schema ≡ true
+is_first schema same = ap has_first same ∙ has_first_tables
+
 -- ---- what is answered
 
 -- `transaction` does nothing but begin
@@ -39,13 +78,32 @@ pub answered : {S : Type 0} (g : Ghosts S) (before begun after : Held S) → beg
 answered g before begun after same (Err e) h = tt
 answered g before begun after same (Ok rows) h = (after, subst (λ b. Shown rows_text [] (state g b) (state g after) rows.items) same h)
 
+-- of the tables of schema 1 too, it is of the rows of `meta`
+rows_is_first : IsSelect first_schema rows_text (selecting metas [] rows_terms [] (lit (Int (pos 2)))) (codes "id" ∷ codes "number" ∷ codes "register" ∷ [])
+unfolding understood everything
+rows_is_first = record { is = refl; plain = (refl, refl); unlisted = refl }
+
+-- what is found, once a transaction is begun, of the tables of schema 2 and of schema 1
+pub found : {S : Type 0} (g : Ghosts S) (before begun after : Held S) → begun ≡ record before { in_transaction = true } → (r : Result (Vec Row Global) Error)
+    → (HasTables (state g begun).now → IfOk r (λ rows. FindsTwo ((state g begun).now.trees metas) rows.items))
+    → IfOk r (λ rows. Shown rows_text [] (state g begun) (state g after) rows.items)
+    → HasMeta (state g before).now → IfOk r (λ rows. FindsTwo ((state g before).now.trees metas) rows.items)
+found g before begun after same (Err e) finds shown has = tt
+found g before begun after same (Ok rows) finds shown has =
+    let now : (state g begun).now ≡ (state g before).now = ap (λ h. (state g h).now) same in
+    elim has [
+      | inl tables ↦ subst (λ (db : Database). FindsTwo (db.trees metas) rows.items) now (finds (subst HasTables (sym now) tables))
+      | inr first ↦ subst (λ (db : Database). FindsTwo (db.trees metas) rows.items) now
+          (rows_found (state g begun).now (Ok rows) (answers _ _ _ _ _ _ _ _ rows_is_first _ (state g begun) (state g after) (ap (λ (db : Database). db.schema) now ∙ first.schema_is) (Ok rows) shown))
+    ]
+
 -- ---- what is shown
 
 kept_all : {X : Type 0} (p : X → Bool) (xs : List X) → ((x : X) → Has xs x → p x ≡ true) → filter p xs ≡ xs
 kept_all p [] h = refl
 kept_all p (x ∷ xs) h = rw (h x (inl refl)) (ap (λ l. x ∷ l) (kept_all p xs (λ y there. h y (inr there))))
 
-module _ (rows shown : List Row) (h : FindsTwo rows shown) where
+module _ (number : ℕ) (rows shown : List Row) (h : FindsTwo rows shown) where
   same : IsPermutation rows h.chosen
   same = subst (λ l. IsPermutation l h.chosen) (kept_all h.picks.test rows (λ r there. h.picks.complete r there tt)) h.picks.same
 
@@ -60,19 +118,19 @@ module _ (rows shown : List Row) (h : FindsTwo rows shown) where
       by_chosen (c ∷ []) p e = (c, one_permutation c rows (IsPermutation-sym rows (c ∷ []) p), cc)
       by_chosen (c ∷ d ∷ more) p e = absurd (cc)
 
-  numbered : (x : Row) → IsOne x shown → (r : Row) × IsNumbered r rows × (x ≡ meta_shown r)
+  numbered : (x : Row) → IsOne number x shown → (r : Row) × IsNumbered number r rows × (x ≡ meta_shown r)
   numbered x one =
       let it = one_there x one.only in
-      (it.0, record { only = it.1; id = subst (λ y. column y 0 ≡ Int (pos 1)) it.2 one.id; number = subst (λ y. column y 1 ≡ Int (pos schema_number)) it.2 one.number }, it.2)
+      (it.0, record { only = it.1; id = subst (λ y. column y 0 ≡ Int (pos 1)) it.2 one.id; number_is = subst (λ y. column y 1 ≡ Int (pos number)) it.2 one.number_is }, it.2)
 
-  pub judged : (register : List ℕ) (result : Result (Unit {0}) StoreRefusal) → IsTold register shown result → IsJudged register rows result
+  pub judged : (register : List ℕ) (result : Result (Unit {0}) StoreRefusal) → IsTold number register shown result → IsJudged number register rows result
   judged register (Ok done) told =
       let it = numbered told.0 told.1 in
       (it.0, it.1, subst (λ y. column y 2 ≡ Text register) it.2 told.2)
   judged register (Err OtherRegister) told =
       let it = numbered told.0 told.1 in
       (it.0, it.1, subst (λ y. column y 2 ≢ Text register) it.2 told.2)
-  judged register (Err BadSchema) told = λ r n. told (meta_shown r) (record { only = one_shown r n.only; id = n.id; number = n.number })
+  judged register (Err BadSchema) told = λ r n. told (meta_shown r) (record { only = one_shown r n.only; id = n.id; number_is = n.number_is })
   judged register (Err Fault) told = absurd told
 
 -- ---- a new store
@@ -80,4 +138,4 @@ module _ (rows shown : List Row) (h : FindsTwo rows shown) where
 pub create_opens : CreateOpens
 create_opens register db new =
     let only : (r : Row) → Has (db.trees metas) r → r ≡ meta_row schema_number register = λ r there. elim (new.meta_alone.only r there) [ inl is ↦ is | inr none ↦ absurd none ] in
-    (meta_row schema_number register, record { only = alone schema_number register (db.trees metas) new.tables.metas_shaped.0 new.meta_alone.there only; id = refl; number = refl }, refl)
+    (meta_row schema_number register, record { only = alone schema_number register (db.trees metas) new.tables.metas_shaped.0 new.meta_alone.there only; id = refl; number_is = refl }, refl)

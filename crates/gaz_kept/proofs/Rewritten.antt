@@ -16,6 +16,7 @@ use Rattle.gaz_tables.specs.Stores.{HasTables}
 use Rattle.gaz_kept.specs.Contents.{board_in, content_in}
 use Rattle.gaz_kept.specs.Files.{files_in, reached_in}
 use Rattle.gaz_kept.specs.Kept.{AreFirst, AreThrough, IsKept}
+use Rattle.gaz_kept.specs.Numbered as numbered
 use Rattle.gaz_kept.specs.Opening.{IsOf, schema_number}
 use Rattle.gaz_kept.specs.Rewriting.{Registers, RewritesStand}
 use Rattle.gaz_kept.specs.Stands.{Stands}
@@ -65,26 +66,31 @@ alone n register (r ∷ s ∷ more) rises there only =
     absurd (never_twice r n register (only r (inl refl)) (subst (λ x. value_cmp (rowid r) (rowid x) ≡ Less) e rises.0.0))
 
 -- what the row of id 1 becomes
-becomes : (register : List ℕ) (v : Value) → v ≡ Int (pos 1) → v ∷ Null ∷ Int (pos schema_number) ∷ Text register ∷ [] ≡ meta_row schema_number register
-becomes register v is = ap (λ (x : Value). x ∷ Null ∷ Int (pos schema_number) ∷ Text register ∷ []) is
+becomes : (number : ℕ) (register : List ℕ) (v : Value) → v ≡ Int (pos 1) → v ∷ Null ∷ Int (pos number) ∷ Text register ∷ [] ≡ meta_row number register
+becomes number register v is = ap (λ (x : Value). x ∷ Null ∷ Int (pos number) ∷ Text register ∷ []) is
 
 one_there : (r x : Row) → Has (r ∷ []) x → x ≡ r
 one_there r x there = elim there [ inl is ↦ is | inr none ↦ absurd none ]
 
-is_of : (one other : List ℕ) (old new : Database) → HasTables old → IsOf one (old.trees metas) → Registers other old new → IsOf other (new.trees metas)
-is_of one other old new has was writes =
-    let r = was.0 in
-    let n = was.1 in
-    let there : Has (new.trees metas) (meta_row schema_number other) =
-    subst (Has (new.trees metas)) (becomes other (id_of r) n.id) (writes.rows.done r (subst (λ l. Has l r) (sym n.only) (inl refl)) n.id) in
-    let only : (x : Row) → Has (new.trees metas) x → x ≡ meta_row schema_number other = λ x found. elim (writes.rows.only x found) [
+-- the only row, of one number and one register, becomes one of the others
+pub becomes_of : (was number : ℕ) (one other : List ℕ) (old new : List Row) → IsTable new → numbered.IsOf was one old → Rewrites number other old new → numbered.IsOf number other new
+becomes_of was number one other old new rises mine writes =
+    let r = mine.0 in
+    let n = mine.1 in
+    let there : Has new (meta_row number other) =
+    subst (Has new) (becomes number other (id_of r) n.id) (writes.done r (subst (λ l. Has l r) (sym n.only) (inl refl)) n.id) in
+    let only : (x : Row) → Has new x → x ≡ meta_row number other = λ x found. elim (writes.only x found) [
       | inl kept ↦ absurd (kept.1 (subst IsFirst (sym (one_there r x (subst (λ l. Has l x) n.only kept.0))) n.id))
-      | inr made ↦ made.3 ∙ becomes other (id_of made.0) made.2
+      | inr made ↦ made.3 ∙ becomes number other (id_of made.0) made.2
     ] in (
-      meta_row schema_number other,
-      record { only = alone schema_number other (new.trees metas) (tables_still other old new has writes).metas_shaped.0 there only; id = refl; number = refl },
+      meta_row number other,
+      record { only = alone number other new rises there only; id = refl; number_is = refl },
       refl,
     )
+
+is_of : (one other : List ℕ) (old new : Database) → HasTables old → IsOf one (old.trees metas) → Registers other old new → IsOf other (new.trees metas)
+is_of one other old new has mine writes =
+    becomes_of schema_number schema_number one other (old.trees metas) (new.trees metas) (tables_still other old new has writes).metas_shaped.0 mine writes.rows
 
 pub rewrites_stand : RewritesStand
 rewrites_stand = record { stands = stands; is_of = is_of }

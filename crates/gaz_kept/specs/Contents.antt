@@ -18,10 +18,14 @@ board_in files rows = λ c. judgements (verdicts_in files c) (view_in rows c)
 abbrev pub board_of : Database → Board
 board_of db = board_in (db.trees receiveds) (db.trees versions)
 
--- the tables hold files and board; the working view stands beside them
-abbrev pub content_in : Trees → View → Content
-content_in trees working = record {
-  files = files_in (trees receiveds);
-  board = board_in (trees receiveds) (trees versions);
+-- rows of files and of items hold files and board; the working view stands beside them
+abbrev pub content_of : List Row → List Row → View → Content
+content_of received items working = record {
+  files = files_in received;
+  board = board_in received items;
   working = working;
 }
+
+-- so do the tables
+abbrev pub content_in : Trees → View → Content
+content_in trees working = content_of (trees receiveds) (trees versions) working

@@ -82,11 +82,14 @@ pub record AreThrough (n : ℕ) (rows : List HistoryRow) : Type 0 where
 
 -- ---- the tables
 
+-- there are such tables, and these rows of files and of items are what a store keeps
+pub record AreKept (Tables : Type 0) (received items : List Row) : Type 0 where
+  pub tables : Tables
+  pub files : (r : Row) → Has received r → IsFile r
+  pub first : (c : ℕ) → AreFirst received c
+  pub rows : (r : Row) → Has items r → IsVersion r
+  pub histories : (c : ℕ) → AreThrough (reached_in received c) (histories_in items c)
+
 -- the database is what a store keeps
-pub record IsKept (db : Database) : Type 0 where
-  pub tables : HasTables db
-  pub files : (r : Row) → Has (db.trees receiveds) r → IsFile r
-  pub first : (c : ℕ) → AreFirst (db.trees receiveds) c
-  pub rows : (r : Row) → Has (db.trees versions) r → IsVersion r
-  pub histories : (c : ℕ)
-      → AreThrough (reached_in (db.trees receiveds) c) (histories_in (db.trees versions) c)
+abbrev pub IsKept : Database → Type 0
+IsKept db = AreKept (HasTables db) (db.trees receiveds) (db.trees versions)

@@ -11,6 +11,10 @@ pub mod Judging
 pub mod Stands
 pub mod Keeping
 pub mod Examples
+pub mod Numbered
 pub mod Opening
+pub mod OpeningFirst
+pub mod Migrated
+pub mod WorkedMigrated
 pub mod WorkedOpening
 pub mod Rewriting

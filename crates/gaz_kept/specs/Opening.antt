@@ -1,24 +1,21 @@
 -- Which databases are taken as a store of a register, and which become one.
-use Rattle.std.specs.Prelude.{◌≡◌, ◌≢◌, ◌⊎◌, ◌&&◌, ◌||◌, ⊤, ℕ, pos, Bool, true, false}
-use Rattle.std.specs.Prelude.{List, [], ◌∷◌, codes, map, Option, None, Some}
-use Rattle.std.specs.Prelude.{Result, Ok, Err, OnErr, OnOk, IsTrue}
+use Rattle.std.specs.Prelude.{◌≡◌, ◌&&◌, ◌||◌, ℕ, Bool, true, false}
+use Rattle.std.specs.Prelude.{List, codes, map, Option, None, Some}
+use Rattle.std.specs.Prelude.{Result, OnErr, OnOk, IsTrue}
 use Rattle.std.specs.List.{list_all, list_any}
 use Rattle.sqlite.specs.Effect.{Database}
 use Rattle.sqlite.specs.Held.{Held, state}
-use Rattle.sqlite.specs.Order.{Row, column}
+use Rattle.sqlite.specs.Order.{Row}
 use Rattle.sqlite.specs.Schema.{Schema}
-use Rattle.sqlite.specs.State.{State, HasCleanDisk, Shown}
+use Rattle.sqlite.specs.State.{State, HasCleanDisk}
 use Rattle.sqlite.specs.Table.{Table}
-use Rattle.sqlite.specs.declared.types.Value.TheVariants.{Int, Text}
 use Rattle.sqlite_schema.specs.Names.{same_name}
 use Rattle.sqlite_trees.specs.declared.store.Store.{Ghosts}
 use Rattle.gaz_tables.specs.Creating.{IsBare, IsNewStore, no_schema}
-use Rattle.gaz_tables.specs.Metas.{id_of, number_of, register_of, rows_text}
 use Rattle.gaz_tables.specs.Schema.{meta, metas, received, version, version2}
 use Rattle.gaz_tables.specs.Stores.{HasTables}
+use Rattle.gaz_kept.specs.Numbered as numbered
 use Rattle.gaz_kept.specs.declared.refusal.StoreRefusal.{StoreRefusal}
-use Rattle.gaz_kept.specs.declared.refusal.StoreRefusal.TheVariants.{BadSchema, Fault}
-use Rattle.gaz_kept.specs.declared.refusal.StoreRefusal.TheVariants.{OtherRegister}
 
 -- ---- tables, by their names, which are the same but for the case of ASCII letters
 
@@ -62,40 +59,13 @@ has_all schema =
 abbrev pub schema_number : ℕ
 schema_number = 2
 
--- it is the only one, of id 1 and the schema's number
-pub record IsNumbered (r : Row) (rows : List Row) : Type 0 where
-  pub only : rows ≡ r ∷ []
-  pub id : id_of r ≡ Int (pos 1)
-  pub number : number_of r ≡ Int (pos schema_number)
-
--- it has this register's text
+-- the only row is of this register
 abbrev pub IsOf : List ℕ → List Row → Type 0
-IsOf register rows = (r : Row) × IsNumbered r rows × (register_of r ≡ Text register)
-
--- it has another text
-abbrev pub IsOfAnother : List ℕ → List Row → Type 0
-IsOfAnother register rows = (r : Row) × IsNumbered r rows × (register_of r ≢ Text register)
+IsOf = numbered.IsOf schema_number
 
 -- what is told of the rows of `meta`, for a register
 abbrev pub IsJudged : List ℕ → List Row → Result (Unit {0}) StoreRefusal → Type 0
-IsJudged register rows (Ok done) = IsOf register rows
-IsJudged register rows (Err OtherRegister) = IsOfAnother register rows
-IsJudged register rows (Err BadSchema) = (r : Row) → ¬ IsNumbered r rows
-IsJudged register rows (Err Fault) = ⊤
-
--- only one is shown, of id 1 and the schema's number
-pub record IsOne (x : Row) (shown : List Row) : Type 0 where
-  pub only : shown ≡ x ∷ []
-  pub id : column x 0 ≡ Int (pos 1)
-  pub number : column x 1 ≡ Int (pos schema_number)
-
--- what is told of id, number and register of at most two of its rows
-abbrev pub IsTold : List ℕ → List Row → Result (Unit {0}) StoreRefusal → Type 0
-IsTold register shown (Ok done) = (x : Row) × IsOne x shown × (column x 2 ≡ Text register)
-IsTold register shown (Err OtherRegister) =
-    (x : Row) × IsOne x shown × (column x 2 ≢ Text register)
-IsTold register shown (Err BadSchema) = (x : Row) → ¬ IsOne x shown
-IsTold register shown (Err Fault) = ⊥
+IsJudged = numbered.IsJudged schema_number
 
 -- a new store is one of its register
 abbrev pub CreateOpens : Type 0
@@ -113,11 +83,6 @@ pub record Rests (old new : State) : Type 0 where
 -- outside a transaction it shows what was committed
 abbrev pub IsSettled : State → Type 0
 IsSettled s = IsTrue s.is_open → s.now ≡ s.committed
-
--- what SQL answers, within a transaction of its own, where it is asked for the rows of `meta`
-abbrev pub IsAnswer : {S : Type 0} → Ghosts S → Held S → List Row → Type 0
-IsAnswer {S} g before shown = (after : Held S)
-    × Shown rows_text [] (state g (record before { in_transaction = true })) (state g after) shown
 
 module _ {S A E : Type 0} (g : Ghosts S) (before after : Held S) (result : Result A E) where
   -- an Ok tells that the connection was open
@@ -148,8 +113,8 @@ module _ {S : Type 0} (g : Ghosts S) (before after : Held S)
 
   -- what is told of the rows of `meta` where the tables are there, whatever they are
   abbrev pub Tells : List ℕ → Type 0
-  Tells register = HasCleanDisk new → has_all old.now.schema ≡ true → (result ≡ Err Fault)
-      ⊎ ((shown : List Row) × IsAnswer g before shown × IsTold register shown result)
+  Tells register = HasCleanDisk new → has_all old.now.schema ≡ true
+      → numbered.TellsRows schema_number g before register result
 
   -- what is told of a store's tables
   abbrev pub Judges : List ℕ → Type 0

@@ -3,9 +3,11 @@ ghost use Rattle.gaz_kept.specs.Examples.{WorkedExamples};
 ghost use Rattle.gaz_kept.specs.Histories.{HistoriesChange, StatementsChange};
 ghost use Rattle.gaz_kept.specs.Judging.{BoardChanges, FilesChange};
 ghost use Rattle.gaz_kept.specs.Keeping.{KeepStands};
+ghost use Rattle.gaz_kept.specs.Migrated.{MigrationStands};
 ghost use Rattle.gaz_kept.specs.Opening.{CreateOpens};
 ghost use Rattle.gaz_kept.specs.Rewriting.{RewritesStand};
 ghost use Rattle.gaz_kept.specs.Stands.{TablesStand};
+ghost use Rattle.gaz_kept.specs.WorkedMigrated.{WorkedMigrated};
 ghost use Rattle.gaz_kept.specs.WorkedOpening.{WorkedOpening};
 
 /// What the definitions come to on worked examples.
@@ -62,4 +64,15 @@ pub fn create_opens()
 /// one register one of the other.
 pub fn rewrites_stand()
     ensures { RewritesStand }
+{}
+
+/// A database of schema 1 that is migrated stands for what it stood for, and is of the register
+/// that it is given.
+pub fn migration_stands()
+    ensures { MigrationStands }
+{}
+
+/// What a migration makes of rows, on worked examples.
+pub fn worked_migrated()
+    ensures { WorkedMigrated }
 {}

@@ -1,10 +1,11 @@
 //! Which tables and columns a database has, by their names.
-ghost use Rattle.std.specs.Prelude.{◌≡◌, ◌&&◌};
+ghost use Rattle.std.specs.Prelude.{◌≡◌, ◌&&◌, not, codes};
 ghost use Rattle.std.specs.List.{list_all, list_any};
 ghost use Rattle.sqlite_schema.specs.Names.{same_name};
 ghost use Rattle.gaz_tables.specs.Schema.{meta, received, version, version2};
 ghost use Rattle.gaz_kept.specs.Opening.{has_all, has_any, has_column, has_name, is_like};
 ghost use Rattle.gaz_kept.specs.Opening.{is_owner};
+ghost use Rattle.gaz_kept.specs.OpeningFirst.{has_first};
 
 use sqlite_schema::names::same_name;
 use sqlite_schema::schema::{Schema, Table, View};
@@ -116,4 +117,14 @@ pub(crate) fn has_all(schema: &Schema) -> bool
 {
     let tables = schema.tables.as_slice();
     has_version(tables) & (has_version2(tables) & (has_received(tables) & has_meta(tables)))
+}
+
+// Whether each table of schema 1 is there, with its columns, and none of schema 2.
+#[tactic(auto, unfolding(crate::specs::OpeningFirst::has_first))]
+pub(crate) fn has_first(schema: &Schema) -> bool
+    ensures { result ≡ has_first schema.now }
+{
+    let tables = schema.tables.as_slice();
+    let alone = !has_name(schema, "version2");
+    has_version(tables) & (has_received(tables) & (has_meta(tables) & alone))
 }

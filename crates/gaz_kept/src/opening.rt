@@ -6,10 +6,8 @@ ghost use Rattle.sqlite.specs.State.{HasCleanDisk, Survives};
 ghost use Rattle.sqlite.specs.declared.types.Value.TheVariants.{Int, Text};
 ghost use Rattle.gaz_sql_facts.specs.Changes.{IsUndone, LeavesTheCommit};
 ghost use Rattle.gaz_tables.specs.Creating.{MayCreate};
-ghost use Rattle.gaz_tables.specs.Metas.{FindsTwo};
-ghost use Rattle.gaz_tables.specs.Schema.{metas};
-ghost use Rattle.gaz_tables.specs.Stores.{Finds};
-ghost use Rattle.gaz_kept.specs.Opening.{IsAnswer, IsOpen, IsSettled, IsTold, Judges, Makes, Rests};
+ghost use Rattle.gaz_kept.specs.Numbered.{FindsMeta, IsAnswer, IsTold, JudgesMeta, TellsRows};
+ghost use Rattle.gaz_kept.specs.Opening.{IsOpen, IsSettled, Judges, Makes, Rests};
 ghost use Rattle.gaz_kept.specs.Opening.{RestsRefused, Tells, WasOpen, has_all, has_any};
 ghost use Rattle.gaz_kept.specs.Opening.{schema_number};
 ghost use Rattle.gaz_register.specs.Texts.{register_text};
@@ -26,7 +24,7 @@ use std::alloc::Global;
 pub(crate) const NUMBER: u32 = 2;
 
 // Outside a transaction a connection shows what was committed.
-fn known<S: Alter>(conn: &Connection<S>)
+pub(crate) fn known<S: Alter>(conn: &Connection<S>)
     requires { conn.now.in_transaction ≡ false }
     ensures { IsSettled (state S.Store conn.now) }
 {
@@ -40,7 +38,7 @@ fn asked<S: Alter>(conn: &mut Connection<S>) -> Result<Vec<Row>, Error>
     ensures over { conn.new.in_transaction ≡ false }
     ensures answered { HasCleanDisk (state S.Store conn.new)
         → IfOk result (λ rows. IsAnswer S.Store conn.old rows.items) }
-    ensures found { Finds S.Store conn.old conn.new metas result FindsTwo }
+    ensures found { FindsMeta S.Store conn.old conn.new result }
     ensures open { WasOpen S.Store conn.old conn.new result }
     ensures undone { HasCleanDisk (state S.Store conn.new)
         → IsUndone (state S.Store conn.old) (state S.Store conn.new) }
@@ -72,14 +70,14 @@ fn is_text(row: &Row, at: usize, text: &str) -> bool
     }
 }
 
-// What the rows of `meta` tell of a register, of which at most two are shown.
-fn told(rows: &[Row], register: &str) -> Result<(), StoreRefusal>
-    ensures { IsTold register.now rows.now result }
+// What the rows of `meta` tell of a schema's number and a register, of which at most two are shown.
+fn told(rows: &[Row], number: u32, register: &str) -> Result<(), StoreRefusal>
+    ensures { IsTold number register.now rows.now result }
 {
     let Some(row) = rows.first() else {
         return Err(StoreRefusal::BadSchema);
     };
-    if rows.len() > 1 || !is_number(row, 0, 1) || !is_number(row, 1, NUMBER) {
+    if rows.len() > 1 || !is_number(row, 0, 1) || !is_number(row, 1, number) {
         return Err(StoreRefusal::BadSchema);
     }
     if is_text(row, 2, register) {
@@ -89,20 +87,25 @@ fn told(rows: &[Row], register: &str) -> Result<(), StoreRefusal>
     }
 }
 
-// What the rows of `meta` tell of a register with this canonical text.
-fn compared<S: Alter>(conn: &mut Connection<S>, text: &str) -> Result<(), StoreRefusal>
+// What the rows of `meta` tell of a schema's number and a register with this canonical text.
+pub(crate) fn compared<S: Alter>(
+    conn: &mut Connection<S>,
+    number: u32,
+    text: &str,
+) -> Result<(), StoreRefusal>
     requires { conn.old.in_transaction ≡ false }
     ensures over { conn.new.in_transaction ≡ false }
     ensures open { WasOpen S.Store conn.old conn.new result }
-    ensures told { Tells S.Store conn.old conn.new result text.now }
-    ensures judged { Judges S.Store conn.old conn.new result text.now }
+    ensures told { HasCleanDisk (state S.Store conn.new)
+        → TellsRows number S.Store conn.old text.now result }
+    ensures judged { JudgesMeta number S.Store conn.old conn.new text.now result }
     ensures rests { HasCleanDisk (state S.Store conn.new)
         → Rests (state S.Store conn.old) (state S.Store conn.new) }
     ensures leaves { Survives (state S.Store conn.old) (state S.Store conn.new) (λ _. ⊥) }
 {
     known(conn);
     match asked(conn) {
-        Ok(rows) => told(&rows, text),
+        Ok(rows) => told(&rows, number, text),
         Err(_) => Err(StoreRefusal::Fault),
     }
 }
@@ -165,7 +168,7 @@ pub fn check<S: Alter>(
         return Err(StoreRefusal::BadSchema);
     }
     match register.text(alloc) {
-        Ok(text) => compared(conn, &text),
+        Ok(text) => compared(conn, NUMBER, &text),
         Err(_) => Err(StoreRefusal::Fault),
     }
 }

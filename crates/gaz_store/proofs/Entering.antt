@@ -11,11 +11,12 @@ use Rattle.gaz_views.specs.View.{View, empty_view}
 use Rattle.gaz_keeper.specs.Board.{reached}
 use Rattle.gaz_keeper.specs.Keeper.{Broken, Content, Enters, IsAtHand, IsLawful, IsLeft, IsNew, Progress, after_skip, after_stop, with_received}
 use Rattle.gaz_keeper.specs.declared.fault.ShelfFault.{ShelfFault}
-use Rattle.gaz_tables.specs.Schema.{receiveds, versions}
+use Rattle.gaz_tables.specs.Schema.{metas, receiveds, versions}
 use Rattle.gaz_tables.specs.Stores.{HasTables}
 use Rattle.gaz_kept.specs.Contents.{board_of, content_in}
 use Rattle.gaz_kept.specs.Files.{files_in, reached_in}
 use Rattle.gaz_kept.specs.Kept.{IsKept}
+use Rattle.gaz_kept.specs.Opening.{IsOf}
 use Rattle.gaz_kept.specs.Stands.{Stands}
 use Rattle.gaz_kept.proofs.Boards.{board_reads}
 use Rattle.gaz_kept.proofs.Stands.{tables_stand}
@@ -26,13 +27,14 @@ use Rattle.gaz_store.specs.Seen.{IsUnharmed, MayLeave, StandsFor, seen_of}
 use Rattle.gaz_store.specs.Writing.{Comes, IsNewIn, IsNextIn, RejectsNext, WhereSo}
 use Rattle.gaz_store.specs.declared.tables.Tables.{Tables}
 use Rattle.gaz_store.proofs.Lawful.{received_lawful, skipped_lawful}
-use Rattle.gaz_store.proofs.Whole.{kept_as, whole_then}
+use Rattle.gaz_store.proofs.Whole.{kept_of, whole_then}
+use Rattle.gaz_store.proofs.Whose.{of_files}
 
-module _ {T : Type 0} (old new : State) (before after : Remembered) (p q : Progress) (w : View) (f g : ℕ) (r : Result T ShelfFault) (Becomes : Database → Database → Type 0)
+module _ {T : Type 0} (register : List ℕ) (old new : State) (before after : Remembered) (p q : Progress) (w : View) (f g : ℕ) (r : Result T ShelfFault) (Becomes : Database → Database → Type 0)
     (asked : Type 0) (becomes : Content)
     (alters : Alters old new r Becomes) (tallies : Tallies f g r)
-    (goes : StandsFor old before w → asked → (db : Database) → Becomes old.now db → Stands db w becomes × IsLawful becomes)
-    (at_hand : IsUnharmed new → StandsFor old before w → asked → AreSo after (new.now.trees receiveds))
+    (goes : StandsFor register old before w → asked → (db : Database) → Becomes old.now db → Stands db w becomes × IsLawful becomes × IsOf register (db.trees metas))
+    (at_hand : IsUnharmed new → StandsFor register old before w → asked → AreSo after (new.now.trees receiveds))
     (left : IsLeft p q) (cleared : OnOk r (q ≢ Broken)) where
   by_result : {P Q : Type 0} (R : Type 0) (r : Result T ShelfFault) → OnOk r P → OnErr r Q → (P → R) → (Q → R) → R
   by_result R (Ok x) a b f g = f a
@@ -49,12 +51,12 @@ module _ {T : Type 0} (old new : State) (before after : Remembered) (p q : Progr
   abbrev content : Database → Content
   content db = content_in db.trees w
 
-  pub enters : Enters (seen_of old before p w f) (seen_of new after q w g) r asked becomes
+  pub enters : Enters (seen_of register old before p w f) (seen_of register new after q w g) r asked becomes
   enters = record {
     harm = alters.harm;
-    stands = λ stood ask h. by_result (StandsFor new after w) r (alters.done h stood.kept.tables) (alters.undone h stood.kept.tables)
-        (λ c. let s = goes stood ask new.now c in record { kept = s.0.kept; so = at_hand h stood ask; lawful = subst IsLawful (sym s.0.content) s.1 })
-        (λ same. record { kept = subst IsKept (sym same) stood.kept; so = at_hand h stood ask; lawful = subst (λ (db : Database). IsLawful (content db)) (sym same) stood.lawful });
+    stands = λ stood ask h. by_result (StandsFor register new after w) r (alters.done h stood.kept.tables) (alters.undone h stood.kept.tables)
+        (λ c. let s = goes stood ask new.now c in record { kept = s.0.kept; whose = s.2; so = at_hand h stood ask; lawful = subst IsLawful (sym s.0.content) s.1 })
+        (λ same. record { kept = subst IsKept (sym same) stood.kept; whose = subst (λ (db : Database). IsOf register (db.trees metas)) (sym same) stood.whose; so = at_hand h stood ask; lawful = subst (λ (db : Database). IsLawful (content db)) (sym same) stood.lawful });
     done = λ stood ask h. on_ok r (λ c. (goes stood ask new.now c).0.content) (alters.done h stood.kept.tables);
     undone = λ stood ask h. on_err r (λ same. ap content same) (alters.undone h stood.kept.tables);
     progress = left;
@@ -62,11 +64,11 @@ module _ {T : Type 0} (old new : State) (before after : Remembered) (p q : Progr
     counts = record { kept = tallies.kept; store = tallies.store; trust = alters.trust };
     leaves = λ sound ask k l. by_trees sound ask k l;
     committed = λ sound ask. commits sound ask r alters.is_open (λ h. alters.done h) (λ h. alters.committed h);
-    whole = λ sound ask. whole_then old new (MayWrite old Becomes) (alters.leaves (λ h. (sound h).kept.tables))
-        (λ db made schema. kept_as made.db db made.shown schema (goes (sound made.unharmed) (ask made.unharmed) made.db made.becomes).0.kept);
+    whole = λ sound ask. whole_then register old new (MayWrite old Becomes) (alters.leaves (λ h. (sound h).kept.tables))
+        (λ db made schema. let s = goes (sound made.unharmed) (ask made.unharmed) made.db made.becomes in kept_of register made.db db made.shown schema s.0.kept s.2);
   }
     where
-      by_trees : (IsUnharmed old → StandsFor old before w) → (IsUnharmed old → asked) → (k : Content) → MayLeave new k → MayLeave old k ⊎ (IsUnharmed old × (k ≡ after_stop becomes))
+      by_trees : (IsUnharmed old → StandsFor register old before w) → (IsUnharmed old → asked) → (k : Content) → MayLeave new k → MayLeave old k ⊎ (IsUnharmed old × (k ≡ after_stop becomes))
       by_trees sound ask k l =
           let s = alters.leaves (λ h. (sound h).kept.tables) in
           elim (s.crash l.clean l.trees l.left) [
@@ -74,7 +76,7 @@ module _ {T : Type 0} (old new : State) (before after : Remembered) (p q : Progr
             | inr made ↦ inr (made.unharmed, l.content ∙ ap (λ t. content_in t empty_view) made.shown ∙ ap after_stop (goes (sound made.unharmed) (ask made.unharmed) made.db made.becomes).0.content)
           ]
 
-      commits : (IsUnharmed old → StandsFor old before w) → (IsUnharmed old → asked) → (r : Result T ShelfFault) → (HasCleanDisk new → OnOk r (IsTrue new.is_open))
+      commits : (IsUnharmed old → StandsFor register old before w) → (IsUnharmed old → asked) → (r : Result T ShelfFault) → (HasCleanDisk new → OnOk r (IsTrue new.is_open))
           → (IsUnharmed new → HasTables old.now → OnOk r (Becomes old.now new.now))
           → (IsUnharmed new → HasTables old.now → OnOk r ((trees : Trees) → new.may_leave trees → trees ≡ new.now.trees))
           → OnOk r ((k : Content) → MayLeave new k → IsUnharmed old × (k ≡ after_stop becomes))
@@ -87,41 +89,41 @@ module _ {T : Type 0} (old new : State) (before after : Remembered) (p q : Progr
 
 -- ---- the calls
 
-module _ {S : Type 0} {store : Ghosts S} where
+module _ {S : Type 0} {store : Ghosts S} (register : List ℕ) where
   abbrev at : Tables S store → State
   at t = state store t.conn
 
   -- whatever is judged beside the tables
   pub writes_enter : {T : Type 0} (old new : Tables S store) (p q : Progress) (w : View) (r : Result T ShelfFault) (IsAsked : Database → Type 0) (Becomes : Database → Database → Type 0) (asked : Type 0) (becomes : Content)
       → Writes old new r IsAsked Becomes
-      → (StandsFor (at old) old.at_hand w → asked → IsAsked (at old).now)
-      → (StandsFor (at old) old.at_hand w → asked → (db : Database) → Becomes (at old).now db → Stands db w becomes × IsLawful becomes)
+      → (StandsFor register (at old) old.at_hand w → asked → IsAsked (at old).now)
+      → (StandsFor register (at old) old.at_hand w → asked → (db : Database) → Becomes (at old).now db → Stands db w becomes × IsLawful becomes × IsOf register (db.trees metas))
       → IsLeft p q → OnOk r (q ≢ Broken)
-      → Enters (seen_of (at old) old.at_hand p w old.failures) (seen_of (at new) new.at_hand q w new.failures) r asked becomes
+      → Enters (seen_of register (at old) old.at_hand p w old.failures) (seen_of register (at new) new.at_hand q w new.failures) r asked becomes
   writes_enter old new p q w r IsAsked Becomes asked becomes writes asks goes left cleared =
-      enters (at old) (at new) old.at_hand new.at_hand p q w old.failures new.failures r Becomes asked becomes writes.alters writes.tallies goes
+      enters register (at old) (at new) old.at_hand new.at_hand p q w old.failures new.failures r Becomes asked becomes writes.alters writes.tallies goes
       (λ h stood ask. writes.at_hand h stood.kept stood.so (asks stood ask)) left cleared
 
   -- a file comes
   pub receive_enters : {T : Type 0} (old new : Tables S store) (p q : Progress) (w : View) (r : Result T ShelfFault) (c v : ℕ) (bytes : List ℕ) → 1 ≤ v → v ≤ 999_999
       → Writes old new r (IsNewIn c v) (Comes c v bytes) → IsLeft p q → OnOk r (q ≢ Broken)
-      → Enters (seen_of (at old) old.at_hand p w old.failures) (seen_of (at new) new.at_hand q w new.failures) r
+      → Enters (seen_of register (at old) old.at_hand p w old.failures) (seen_of register (at new) new.at_hand q w new.failures) r
       (IsNew (content_in (at old).now.trees w) c v) (with_received (content_in (at old).now.trees w) c v bytes)
   receive_enters old new p q w r c v bytes first last writes left cleared =
       writes_enter old new p q w r (IsNewIn c v) (Comes c v bytes) (IsNew (content_in (at old).now.trees w) c v) (with_received (content_in (at old).now.trees w) c v bytes) writes
       (λ stood fresh. fresh)
-      (λ stood fresh db comes. (tables_stand.receive c v bytes w (at old).now db first last stood.kept fresh comes, received_lawful (content_in (at old).now.trees w) c v bytes stood.lawful))
+      (λ stood fresh db comes. (tables_stand.receive c v bytes w (at old).now db first last stood.kept fresh comes, received_lawful (content_in (at old).now.trees w) c v bytes stood.lawful, of_files register _ (at old).now db stood.kept.tables stood.whose comes))
       left cleared
 
   -- a custodian's next volume is rejected
   pub skip_enters : {T : Type 0} (old new : Tables S store) (p q : Progress) (r : Result T ShelfFault) (c place rule : ℕ) → rule ≤ 255
       → Writes old new r (IsNextIn c) (WhereSo old.at_hand (RejectsNext c place rule)) → IsLeft p q → OnOk r (q ≢ Broken)
-      → Enters (seen_of (at old) old.at_hand p empty_view old.failures) (seen_of (at new) new.at_hand q empty_view new.failures) r
+      → Enters (seen_of register (at old) old.at_hand p empty_view old.failures) (seen_of register (at new) new.at_hand q empty_view new.failures) r
       (IsAtHand (content_in (at old).now.trees empty_view) c) (after_skip (content_in (at old).now.trees empty_view) c place rule)
   skip_enters old new p q r c place rule small writes left cleared =
       writes_enter old new p q empty_view r (IsNextIn c) (WhereSo old.at_hand (RejectsNext c place rule)) (IsAtHand (content_in (at old).now.trees empty_view) c) (after_skip (content_in (at old).now.trees empty_view) c place rule) writes
       (λ stood there. subst (λ n. IsSome (finite.get (files_in ((at old).now.trees receiveds)) (c, n + 1))) (reads (at old).now) there)
-      (λ stood there db rejects. (tables_stand.skip c place rule empty_view (at old).now db small stood.kept there (rejects stood.kept stood.so), skipped_lawful (content_in (at old).now.trees empty_view) c place rule stood.lawful))
+      (λ stood there db rejects. (tables_stand.skip c place rule empty_view (at old).now db small stood.kept there (rejects stood.kept stood.so), skipped_lawful (content_in (at old).now.trees empty_view) c place rule stood.lawful, of_files register _ (at old).now db stood.kept.tables stood.whose (rejects stood.kept stood.so)))
       left cleared
     where
       reads : (db : Database) → reached (board_of db) c ≡ reached_in (db.trees receiveds) c

@@ -1,6 +1,7 @@
 pub mod Asked
 pub mod Seeing
 pub mod Whole
+pub mod Whose
 pub mod Composing
 pub mod Answered
 pub mod Holding

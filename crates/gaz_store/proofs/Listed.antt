@@ -35,10 +35,10 @@ use Rattle.gaz_store.specs.declared.tables.Tables.{Tables}
 use Rattle.gaz_store.proofs.LivesTold.{tables_rest}
 
 -- while the tables rest, they tell the same
-pub lives_rest : {S : Type 0} {store : Ghosts S} {T : Type 0} (old : Store S store) (tables : Tables S store) (k : Judging) (r : Result T ShelfFault) (P : Database → T → Type 0)
+pub lives_rest : {S R : Type 0} {store : Ghosts S} {T : Type 0} (register : List ℕ) (old : Store S R store) (tables : Tables S store) (k : Judging) (r : Result T ShelfFault) (P : Database → T → Type 0)
     → AsksTables old.tables tables r P
-    → (seen_in old).stands → (seen_in (record old { tables = tables; judging = k })).unharmed → lives_kept (record old { tables = tables; judging = k }) ≡ lives_kept old
-lives_rest old tables k r P asks stood unharmed = ap (λ (db : Database). filter_map told_in (db.trees versions)) (tables_rest old tables k r P asks stood unharmed)
+    → (seen_in register old).stands → (seen_in register (record old { tables = tables; judging = k })).unharmed → lives_kept (record old { tables = tables; judging = k }) ≡ lives_kept old
+lives_rest register old tables k r P asks stood unharmed = ap (λ (db : Database). filter_map told_in (db.trees versions)) (tables_rest register old tables k r P asks stood unharmed)
 
 -- ---- the last of a list
 

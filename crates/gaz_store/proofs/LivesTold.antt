@@ -37,9 +37,9 @@ use Rattle.gaz_store.proofs.Paired.{ArePaired, left_of, none_paired, paired, rig
 use Rattle.gaz_store.proofs.Taken.{before, none_taken, taken, taken_or_not, taken_rises}
 
 -- after a call that only asks, the tables are as they were
-pub tables_rest : {S : Type 0} {store : Ghosts S} {T : Type 0} (old : Store S store) (tables : Tables S store) (k : Judging) (r : Result T ShelfFault) (P : Database → T → Type 0)
-    → AsksTables old.tables tables r P → TablesRest old (record old { tables = tables; judging = k })
-tables_rest old tables k r P asks stood unharmed = asks.asks.rests unharmed stood.tables.kept.tables
+pub tables_rest : {S R : Type 0} {store : Ghosts S} {T : Type 0} (register : List ℕ) (old : Store S R store) (tables : Tables S store) (k : Judging) (r : Result T ShelfFault) (P : Database → T → Type 0)
+    → AsksTables old.tables tables r P → TablesRest register old (record old { tables = tables; judging = k })
+tables_rest register old tables k r P asks stood unharmed = asks.asks.rests unharmed stood.tables.kept.tables
 
 -- the volume in which an item went is that of the row
 end_back : (n : ℕ) → loaded.gone_of (gone_in n) ≡ n

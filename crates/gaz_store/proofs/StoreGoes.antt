@@ -24,11 +24,12 @@ use Rattle.gaz_overlay.proofs.Making.{changes_make}
 use Rattle.gaz_keeper.specs.Keeper as keeper
 use Rattle.gaz_keeper.specs.Keeper.{Content, Enters, Goes, IsAtHand, IsLawful, IsNew, IsNotOpen, after_abandon, after_begin, after_keep, after_skip, after_stop, with_judgement, with_received, with_working}
 use Rattle.gaz_keeper.specs.declared.fault.ShelfFault.{ShelfFault}
-use Rattle.gaz_tables.specs.Schema.{receiveds, versions}
+use Rattle.gaz_tables.specs.Schema.{metas, receiveds, versions}
 use Rattle.gaz_kept.specs.Contents.{content_in}
 use Rattle.gaz_kept.specs.Files.{files_in, reached_in}
 use Rattle.gaz_kept.specs.Kept.{IsKept}
 use Rattle.gaz_kept.specs.LastViews.{last_in}
+use Rattle.gaz_kept.specs.Opening.{IsOf}
 use Rattle.gaz_kept.specs.Stands.{Stands, next_in}
 use Rattle.gaz_kept.specs.Versions.{histories_in}
 use Rattle.gaz_kept.proofs.Boards.{board_reads}
@@ -49,16 +50,17 @@ use Rattle.gaz_store.proofs.Seeing.{asks_nothing}
 use Rattle.gaz_store.proofs.Entering.{receive_enters, skip_enters}
 use Rattle.gaz_store.proofs.StoreReads.{left_cleared, not_broken, on_ok_all}
 use Rattle.gaz_kept.proofs.LawfulViews.{content_lawful, last_is, view_lawful}
-use Rattle.gaz_store.proofs.Whole.{kept_as, whole_still, whole_then}
+use Rattle.gaz_store.proofs.Whole.{kept_of, whole_still, whole_then}
+use Rattle.gaz_store.proofs.Whose.{of_volume}
 
 -- ---- a judgement is given up, or begins
 
-pub goes_idle : (s : State) (a : Remembered) (j : Judging) (f : ℕ)
-    → Goes (seen_beside s a j f) (seen_beside s a Idle f) (Ok (tt {0})) ⊤ (after_abandon (content_in s.now.trees (working_of s.now j))) None keeper.Idle
-goes_idle s a j f = record {
+pub goes_idle : (register : List ℕ) (s : State) (a : Remembered) (j : Judging) (f : ℕ)
+    → Goes (seen_beside register s a j f) (seen_beside register s a Idle f) (Ok (tt {0})) ⊤ (after_abandon (content_in s.now.trees (working_of s.now j))) None keeper.Idle
+goes_idle register s a j f = record {
   harm = λ h. h;
   stands = λ stood ask h. record {
-    tables = record { kept = stood.tables.kept; so = stood.tables.so; lawful = record { views = stood.tables.lawful.views; working = lawful_empty } };
+    tables = record { kept = stood.tables.kept; whose = stood.tables.whose; so = stood.tables.so; lawful = record { views = stood.tables.lawful.views; working = lawful_empty } };
     beside = tt;
   };
   done = λ stood ask h. refl;
@@ -79,20 +81,21 @@ told_nothing rows = record { told = λ k volume is. absurd (never_since k volume
         let none : Never ≡ Since volume = sym (ap (λ o. option_map_or (λ (t : Touch). t.stood) o Never) (finite.get-empty key_cmp k)) ∙ is in
         cc
 
-module _ (s : State) (a : Remembered) (j : Judging) (f c : ℕ) where
+module _ (register : List ℕ) (s : State) (a : Remembered) (j : Judging) (f c : ℕ) where
   abbrev db : Database
   db = s.now
 
   made_is : view_made db (record { code = c; changes = no_changes }) ≡ last_in db c
   made_is = nothing (last_in db c)
 
-  pub goes_open : Goes (seen_beside s a j f) (seen_beside s a (Open (record { code = c; changes = no_changes })) f) (Ok (tt {0})) (IsAtHand (content_in db.trees (working_of db j)) c)
+  pub goes_open : Goes (seen_beside register s a j f) (seen_beside register s a (Open (record { code = c; changes = no_changes })) f) (Ok (tt {0})) (IsAtHand (content_in db.trees (working_of db j)) c)
       (after_begin (content_in db.trees (working_of db j)) c) None (keeper.Open c)
   goes_open = record {
     harm = λ h. h;
     stands = λ stood ask h. record {
       tables = record {
         kept = stood.tables.kept;
+        whose = stood.tables.whose;
         so = stood.tables.so;
         lawful = content_lawful db stood.tables.kept _ (subst IsLawfulView (sym made_is) (view_lawful db stood.tables.kept c (reached_in (db.trees receiveds) c)));
       };
@@ -124,19 +127,20 @@ stays old new r P asks kept k l =
       content = l.content;
     }
 
-module _ (old new : State) (a b : Remembered) (m n : Judgement) (f g : ℕ) (becomes : View → View) (lawful : (w : View) → IsLawfulView w → IsLawfulView (becomes w))
+module _ (register : List ℕ) (old new : State) (a b : Remembered) (m n : Judgement) (f g : ℕ) (becomes : View → View) (lawful : (w : View) → IsLawfulView w → IsLawfulView (becomes w))
     (code : n.code ≡ m.code) (asks : Asks old new (Ok (tt {0})) (λ db x. Turns db m n becomes)) (tallies : Tallies f g (Ok (tt {0}))) (same : b ≡ a) where
   abbrev w : View
   w = view_made old.now m
 
-  turned : StoreStands old a (Open m) → IsUnharmed new → Makes old.now n (becomes w)
+  turned : StoreStands register old a (Open m) → IsUnharmed new → Makes old.now n (becomes w)
   turned stood h = asks.right h stood.tables.kept w stood.beside.makes
 
-  standing : StoreStands old a (Open m) → IsUnharmed new → (db : Database) → old.now ≡ db
-      → (IsKept db) × (AreSo b (db.trees receiveds)) × (IsLawful (content_in db.trees (view_made db n))) × (IsUnderWay db n)
+  standing : StoreStands register old a (Open m) → IsUnharmed new → (db : Database) → old.now ≡ db
+      → (IsKept db) × (IsOf register (db.trees metas)) × (AreSo b (db.trees receiveds)) × (IsLawful (content_in db.trees (view_made db n))) × (IsUnderWay db n)
   standing stood h d0 now =
-      subst (λ d. (IsKept d) × (AreSo b (d.trees receiveds)) × (IsLawful (content_in d.trees (view_made d n))) × (IsUnderWay d n)) now (
+      subst (λ d. (IsKept d) × (IsOf register (d.trees metas)) × (AreSo b (d.trees receiveds)) × (IsLawful (content_in d.trees (view_made d n))) × (IsUnderWay d n)) now (
         stood.tables.kept,
+        stood.tables.whose,
         subst (λ r. AreSo r (old.now.trees receiveds)) (sym same) stood.tables.so,
         content_lawful old.now stood.tables.kept _ (subst IsLawfulView (turned stood h).made.is_laid (lawful w stood.tables.lawful.working)),
         record {
@@ -145,12 +149,12 @@ module _ (old new : State) (a b : Remembered) (m n : Judgement) (f g : ℕ) (bec
         },
       )
 
-  pub goes_on : Goes (seen_beside old a (Open m) f) (seen_beside new b (Open n) g) (Ok (tt {0})) ⊤ (with_working (content_in old.now.trees w) (becomes w)) None (keeper.Open m.code)
+  pub goes_on : Goes (seen_beside register old a (Open m) f) (seen_beside register new b (Open n) g) (Ok (tt {0})) ⊤ (with_working (content_in old.now.trees w) (becomes w)) None (keeper.Open m.code)
   goes_on = record {
     harm = asks.harm;
     stands = λ stood ask h.
         let s = standing stood h new.now (sym (asks.rests h stood.tables.kept.tables)) in
-        record { tables = record { kept = s.0; so = s.1; lawful = s.2 }; beside = s.3 };
+        record { tables = record { kept = s.0; whose = s.1; so = s.2; lawful = s.3 }; beside = s.4 };
     done = λ stood ask h.
         ap (λ (db : Database). content_in db.trees (view_made db n)) (asks.rests h stood.tables.kept.tables)
         ∙ ap (content_in old.now.trees) (sym (turned stood h).made.is_laid);
@@ -160,18 +164,18 @@ module _ (old new : State) (a b : Remembered) (m n : Judgement) (f g : ℕ) (bec
     counts = record { kept = tallies.kept; store = tt; trust = asks.trust };
     leaves = λ sound ask k l. stays old new _ _ asks (λ h. (sound h).tables.kept) k l;
     committed = λ sound ask. tt;
-    whole = λ sound ask. whole_still old new (asks.leaves (λ h. (sound h).tables.kept.tables));
+    whole = λ sound ask. whole_still register old new (asks.leaves (λ h. (sound h).tables.kept.tables));
   }
 
 -- a fault breaks the judgement
-pub goes_wrong : {T A : Type 0} (old new : State) (a b : Remembered) (j : Judging) (f g : ℕ) (e : ShelfFault) (one : Result A ShelfFault) (P : Database → A → Type 0) (becomes : Content) (after : keeper.Progress)
+pub goes_wrong : {T A : Type 0} (register : List ℕ) (old new : State) (a b : Remembered) (j : Judging) (f g : ℕ) (e : ShelfFault) (one : Result A ShelfFault) (P : Database → A → Type 0) (becomes : Content) (after : keeper.Progress)
     → Asks old new one P → Tallies {T = T} f g (Err e) → b ≡ a
-    → Goes {T = T} (seen_beside old a j f) (seen_beside new b Broken g) (Err e) ⊤ becomes None after
-goes_wrong {T} old new a b j f g e one P becomes after asks tallies same = record {
+    → Goes {T = T} (seen_beside register old a j f) (seen_beside register new b Broken g) (Err e) ⊤ becomes None after
+goes_wrong {T} register old new a b j f g e one P becomes after asks tallies same = record {
   harm = asks.harm;
   stands = λ stood ask h.
       let s = standing stood h new.now (sym (asks.rests h stood.tables.kept.tables)) in
-      record { tables = record { kept = s.0; so = s.1; lawful = content_lawful new.now s.0 empty_view lawful_empty }; beside = tt };
+      record { tables = record { kept = s.0; whose = s.1; so = s.2; lawful = content_lawful new.now s.0 empty_view lawful_empty }; beside = tt };
   done = λ stood ask h. tt;
   undone = λ stood ask h. ap (λ (db : Database). content_in db.trees empty_view) (asks.rests h stood.tables.kept.tables);
   on = tt;
@@ -179,15 +183,15 @@ goes_wrong {T} old new a b j f g e one P becomes after asks tallies same = recor
   counts = record { kept = tallies.kept; store = tallies.store; trust = asks.trust };
   leaves = λ sound ask k l. stays old new one P asks (λ h. (sound h).tables.kept) k l;
   committed = λ sound ask. tt;
-  whole = λ sound ask. whole_still old new (asks.leaves (λ h. (sound h).tables.kept.tables));
+  whole = λ sound ask. whole_still register old new (asks.leaves (λ h. (sound h).tables.kept.tables));
 }
   where
-    standing : StoreStands old a j → IsUnharmed new → (db : Database) → old.now ≡ db → (IsKept db) × (AreSo b (db.trees receiveds))
-    standing stood h d0 now = subst (λ d. (IsKept d) × (AreSo b (d.trees receiveds))) now (stood.tables.kept, subst (λ r. AreSo r (old.now.trees receiveds)) (sym same) stood.tables.so)
+    standing : StoreStands register old a j → IsUnharmed new → (db : Database) → old.now ≡ db → (IsKept db) × (IsOf register (db.trees metas)) × (AreSo b (db.trees receiveds))
+    standing stood h d0 now = subst (λ d. (IsKept d) × (IsOf register (d.trees metas)) × (AreSo b (d.trees receiveds))) now (stood.tables.kept, stood.tables.whose, subst (λ r. AreSo r (old.now.trees receiveds)) (sym same) stood.tables.so)
 
 -- ---- a judgement is kept
 
-module _ (old new : State) (a b : Remembered) (m : Judgement) (f g : ℕ) (r : Result (Unit {0}) ShelfFault)
+module _ (register : List ℕ) (old new : State) (a b : Remembered) (m : Judgement) (f g : ℕ) (r : Result (Unit {0}) ShelfFault)
     (alters : Alters old new r (WhereSo a (AppliesNext m.code m.changes))) (tallies : Tallies f g r)
     (at_hand : IsUnharmed new → IsKept old.now → AreSo a (old.now.trees receiveds) → IsNextIn m.code old.now → AreSo b (new.now.trees receiveds)) where
   abbrev worked : View
@@ -197,7 +201,7 @@ module _ (old new : State) (a b : Remembered) (m : Judgement) (f g : ℕ) (r : R
   becomes = with_judgement (content_in old.now.trees worked) m.code (record { verdict = verdict.Applied; view = worked })
 
   abbrev Stood : Type 0
-  Stood = StoreStands old a (Open m)
+  Stood = StoreStands register old a (Open m)
 
   kept_so : Stood → (db : Database) → WhereSo a (AppliesNext m.code m.changes) old.now db → Stands db empty_view becomes
   kept_so stood db applies =
@@ -205,20 +209,23 @@ module _ (old new : State) (a b : Remembered) (m : Judgement) (f g : ℕ) (r : R
       (record { kept = stood.tables.kept; next = refl; at_hand = stood.beside.at_hand; made = stood.beside.makes.made; told = stood.beside.makes.told })
       (applies stood.tables.kept stood.tables.so)
 
+  whose_so : Stood → (db : Database) → WhereSo a (AppliesNext m.code m.changes) old.now db → IsOf register (db.trees metas)
+  whose_so stood db applies = of_volume register m.code (next_in old.now m.code) m.changes old.now db stood.tables.kept.tables stood.tables.whose (applies stood.tables.kept stood.tables.so)
+
   is_next : Stood → IsNextIn m.code old.now
   is_next stood =
       subst (λ n. IsSome (finite.get (files_in (old.now.trees receiveds)) (m.code, n + 1)))
       (board_reads (old.now.trees receiveds) (old.now.trees versions) m.code).reached stood.beside.at_hand
 
-  stands_so : Stood → IsUnharmed new → (r : Result (Unit {0}) ShelfFault) → OnOk r (WhereSo a (AppliesNext m.code m.changes) old.now new.now) → OnErr r (new.now ≡ old.now) → StandsFor new b empty_view
+  stands_so : Stood → IsUnharmed new → (r : Result (Unit {0}) ShelfFault) → OnOk r (WhereSo a (AppliesNext m.code m.changes) old.now new.now) → OnErr r (new.now ≡ old.now) → StandsFor register new b empty_view
   stands_so stood h (Ok x) applies same =
       let s = kept_so stood new.now applies in
-      record { kept = s.kept; so = at_hand h stood.tables.kept stood.tables.so (is_next stood); lawful = content_lawful new.now s.kept empty_view lawful_empty }
+      record { kept = s.kept; whose = whose_so stood new.now applies; so = at_hand h stood.tables.kept stood.tables.so (is_next stood); lawful = content_lawful new.now s.kept empty_view lawful_empty }
   stands_so stood h (Err e) applies same =
       let kept = subst IsKept (sym same) stood.tables.kept in
-      record { kept = kept; so = at_hand h stood.tables.kept stood.tables.so (is_next stood); lawful = content_lawful new.now kept empty_view lawful_empty }
+      record { kept = kept; whose = subst (λ (db : Database). IsOf register (db.trees metas)) (sym same) stood.tables.whose; so = at_hand h stood.tables.kept stood.tables.so (is_next stood); lawful = content_lawful new.now kept empty_view lawful_empty }
 
-  stands : Stood → IsUnharmed new → StandsFor new b empty_view
+  stands : Stood → IsUnharmed new → StandsFor register new b empty_view
   stands stood h = stands_so stood h r (alters.done h stood.tables.kept.tables) (alters.undone h stood.tables.kept.tables)
 
   may_be : (IsUnharmed old → Stood) → (k : Content) → MayLeave new k → MayLeave old k ⊎ (IsUnharmed old × (k ≡ after_stop becomes))
@@ -229,11 +236,13 @@ module _ (old new : State) (a b : Remembered) (m : Judgement) (f g : ℕ) (r : R
         | inr made ↦ inr (made.unharmed, l.content ∙ ap (λ t. content_in t empty_view) made.shown ∙ (kept_so (sound made.unharmed) made.db made.becomes).content)
       ]
 
-  still_whole : (IsUnharmed old → Stood) → LeavesKept old → LeavesKept new
-  still_whole sound = whole_then old new (MayWrite old (WhereSo a (AppliesNext m.code m.changes))) (alters.leaves (λ h. (sound h).tables.kept.tables))
-      (λ db made schema. kept_as made.db db made.shown schema (kept_so (sound made.unharmed) made.db made.becomes).kept)
+  still_whole : (IsUnharmed old → Stood) → LeavesKept register old → LeavesKept register new
+  still_whole sound = whole_then register old new (MayWrite old (WhereSo a (AppliesNext m.code m.changes))) (alters.leaves (λ h. (sound h).tables.kept.tables))
+      (λ db made schema.
+      let stood = sound made.unharmed in
+      kept_of register made.db db made.shown schema (kept_so stood made.db made.becomes).kept (whose_so stood made.db made.becomes))
 
-  pub goes_kept : r ≡ Ok (tt {0}) → Goes (seen_beside old a (Open m) f) (seen_beside new b Idle g) (Ok (tt {0})) ⊤ becomes (Some becomes) keeper.Idle
+  pub goes_kept : r ≡ Ok (tt {0}) → Goes (seen_beside register old a (Open m) f) (seen_beside register new b Idle g) (Ok (tt {0})) ⊤ becomes (Some becomes) keeper.Idle
   goes_kept is = record {
     harm = alters.harm;
     stands = λ stood ask h. record { tables = stands stood h; beside = tt };
@@ -258,7 +267,7 @@ module _ (old new : State) (a b : Remembered) (m : Judgement) (f g : ℕ) (r : R
           l.content ∙ ap (λ t. content_in t empty_view) (subst (λ q. OnOk q ((trees : Trees) → new.may_leave trees → trees ≡ new.now.trees)) is (alters.committed h stood.tables.kept.tables) l.trees l.left)
           ∙ (kept_so stood new.now (done stood h)).content
 
-  pub goes_not_kept : (e : ShelfFault) → r ≡ Err e → Goes {T = Unit {0}} (seen_beside old a (Open m) f) (seen_beside new b Broken g) (Err e) ⊤ becomes (Some becomes) keeper.Idle
+  pub goes_not_kept : (e : ShelfFault) → r ≡ Err e → Goes {T = Unit {0}} (seen_beside register old a (Open m) f) (seen_beside register new b Broken g) (Err e) ⊤ becomes (Some becomes) keeper.Idle
   goes_not_kept e is = record {
     harm = alters.harm;
     stands = λ stood ask h. record { tables = stands stood h; beside = tt };
@@ -275,12 +284,12 @@ module _ (old new : State) (a b : Remembered) (m : Judgement) (f g : ℕ) (r : R
 -- ---- without a judgement
 
 -- what is told of the tables, of the store
-pub enters_beside : {T : Type 0} (old new : State) (a b : Remembered) (j : Judging) (f g : ℕ) (r : Result T ShelfFault) (Asked : View → Type 0) (makes : View → Content)
+pub enters_beside : {T : Type 0} (register : List ℕ) (old new : State) (a b : Remembered) (j : Judging) (f g : ℕ) (r : Result T ShelfFault) (Asked : View → Type 0) (makes : View → Content)
     → IsNotOpen (progress_of j)
-    → Enters (seen_of old a (progress_of j) empty_view f) (seen_of new b (progress_of (cleared j)) empty_view g) r (Asked empty_view) (makes empty_view)
-    → Enters (seen_beside old a j f) (seen_beside new b (cleared j) g) r (Asked (working_of old.now j)) (makes (working_of old.now j))
-enters_beside old new a b (Open m) f g r Asked makes not e = absurd (not m.code refl)
-enters_beside old new a b Idle f g r Asked makes not e = record {
+    → Enters (seen_of register old a (progress_of j) empty_view f) (seen_of register new b (progress_of (cleared j)) empty_view g) r (Asked empty_view) (makes empty_view)
+    → Enters (seen_beside register old a j f) (seen_beside register new b (cleared j) g) r (Asked (working_of old.now j)) (makes (working_of old.now j))
+enters_beside register old new a b (Open m) f g r Asked makes not e = absurd (not m.code refl)
+enters_beside register old new a b Idle f g r Asked makes not e = record {
   harm = e.harm;
   stands = λ stood ask h. record { tables = e.stands stood.tables ask h; beside = tt };
   done = λ stood ask h. e.done stood.tables ask h;
@@ -292,7 +301,7 @@ enters_beside old new a b Idle f g r Asked makes not e = record {
   committed = λ sound ask. e.committed (λ h. (sound h).tables) ask;
   whole = λ sound ask. e.whole (λ h. (sound h).tables) ask;
 }
-enters_beside old new a b Broken f g r Asked makes not e = record {
+enters_beside register old new a b Broken f g r Asked makes not e = record {
   harm = e.harm;
   stands = λ stood ask h. record { tables = e.stands stood.tables ask h; beside = tt };
   done = λ stood ask h. e.done stood.tables ask h;
@@ -307,88 +316,88 @@ enters_beside old new a b Broken f g r Asked makes not e = record {
 
 -- ---- the calls of a store
 
-module _ {S : Type 0} {store : Ghosts S} (old : Store S store) where
+module _ {S R : Type 0} {store : Ghosts S} (register : List ℕ) (old : Store S R store) where
   abbrev s : State
   s = state store old.tables.conn
 
-  pub abandons : Goes (seen_in old) (seen_in (record old { judging = Idle })) (Ok (tt {0})) ⊤ (after_abandon (seen_in old).content) None keeper.Idle
-  abandons = goes_idle s old.tables.at_hand old.judging old.tables.failures
+  pub abandons : Goes (seen_in register old) (seen_in register (record old { judging = Idle })) (Ok (tt {0})) ⊤ (after_abandon (seen_in register old).content) None keeper.Idle
+  abandons = goes_idle register s old.tables.at_hand old.judging old.tables.failures
 
   pub begins : (c : ℕ) (j : Judgement) → j.code ≡ c → j.changes ≡ no_changes
-      → Goes (seen_in old) (seen_in (record old { judging = Open j })) (Ok (tt {0})) (IsAtHand (seen_in old).content c) (after_begin (seen_in old).content c) None (keeper.Open c)
+      → Goes (seen_in register old) (seen_in register (record old { judging = Open j })) (Ok (tt {0})) (IsAtHand (seen_in register old).content c) (after_begin (seen_in register old).content c) None (keeper.Open c)
   begins c j code none =
       let same : record { code = c; changes = no_changes } ≡ j = λ i. record { code = sym code i; changes = sym none i } in
-      subst (λ k. Goes (seen_in old) (seen_in (record old { judging = Open k })) (Ok (tt {0})) (IsAtHand (seen_in old).content c) (after_begin (seen_in old).content c) None (keeper.Open c)) same
-      (goes_open s old.tables.at_hand old.judging old.tables.failures c)
+      subst (λ k. Goes (seen_in register old) (seen_in register (record old { judging = Open k })) (Ok (tt {0})) (IsAtHand (seen_in register old).content c) (after_begin (seen_in register old).content c) None (keeper.Open c)) same
+      (goes_open register s old.tables.at_hand old.judging old.tables.failures c)
 
   -- the changes turn
   pub turns : (m n : Judgement) (t : Tables S store) (r : Result (Unit {0}) ShelfFault) (becomes : View → View) → old.judging ≡ Open m → n.code ≡ m.code
       → ((w : View) → IsLawfulView w → IsLawfulView (becomes w))
       → AsksTables old.tables t r (λ db x. Turns db m n becomes) → r ≡ Ok (tt {0})
-      → Goes (seen_in old) (seen_in (record old { tables = t; judging = Open n })) (Ok (tt {0})) ⊤ (with_working (seen_in old).content (becomes (seen_in old).content.working)) None (seen_in old).progress
+      → Goes (seen_in register old) (seen_in register (record old { tables = t; judging = Open n })) (Ok (tt {0})) ⊤ (with_working (seen_in register old).content (becomes (seen_in register old).content.working)) None (seen_in register old).progress
   turns m n t r becomes is code lawful asks ok =
       let a = subst (λ q. AsksTables old.tables t q (λ db x. Turns db m n becomes)) ok asks in
-      subst (λ k. Goes (seen_beside s old.tables.at_hand k old.tables.failures) (seen_in (record old { tables = t; judging = Open n })) (Ok (tt {0})) ⊤
+      subst (λ k. Goes (seen_beside register s old.tables.at_hand k old.tables.failures) (seen_in register (record old { tables = t; judging = Open n })) (Ok (tt {0})) ⊤
       (with_working (content_in s.now.trees (working_of s.now k)) (becomes (working_of s.now k))) None (progress_of k)) (sym is)
-      (goes_on s (state store t.conn) old.tables.at_hand t.at_hand m n old.tables.failures t.failures becomes lawful code a.asks a.tallies a.at_hand)
+      (goes_on register s (state store t.conn) old.tables.at_hand t.at_hand m n old.tables.failures t.failures becomes lawful code a.asks a.tallies a.at_hand)
 
   -- a fault of the tables breaks the judgement
   pub breaks : {A T : Type 0} (t : Tables S store) (k : Judging) → k ≡ Broken → (r : Result A ShelfFault) (e : ShelfFault) (P : Database → A → Type 0) (becomes : Content) (after : keeper.Progress)
       → AsksTables old.tables t r P → r ≡ Err e
-      → Goes {T = T} (seen_in old) (seen_in (record old { tables = t; judging = k })) (Err e) ⊤ becomes None after
+      → Goes {T = T} (seen_in register old) (seen_in register (record old { tables = t; judging = k })) (Err e) ⊤ becomes None after
   breaks {A} {T} t k broken r e P becomes after asks is =
       let tallies = subst (λ q. Tallies old.tables.failures t.failures q) is asks.tallies in
-      subst (λ j. Goes {T = T} (seen_in old) (seen_in (record old { tables = t; judging = j })) (Err e) ⊤ becomes None after) (sym broken)
-      (goes_wrong {T = T} s (state store t.conn) old.tables.at_hand t.at_hand old.judging old.tables.failures t.failures e r P becomes after asks.asks
+      subst (λ j. Goes {T = T} (seen_in register old) (seen_in register (record old { tables = t; judging = j })) (Err e) ⊤ becomes None after) (sym broken)
+      (goes_wrong {T = T} register s (state store t.conn) old.tables.at_hand t.at_hand old.judging old.tables.failures t.failures e r P becomes after asks.asks
       (record { kept = tallies.kept; store = tallies.store }) asks.at_hand)
 
   -- so does one of its own
   pub breaks_itself : {T : Type 0} (t : Tables S store) (k : Judging) → k ≡ Broken → (e : ShelfFault) (becomes : Content) (after : keeper.Progress) → Fails old.tables t e
-      → Goes {T = T} (seen_in old) (seen_in (record old { tables = t; judging = k })) (Err e) ⊤ becomes None after
+      → Goes {T = T} (seen_in register old) (seen_in register (record old { tables = t; judging = k })) (Err e) ⊤ becomes None after
   breaks_itself {T} t k broken e becomes after fails =
       let done : Result (Unit {0}) ShelfFault = Ok (tt {0}) in
-      subst (λ j. Goes {T = T} (seen_in old) (seen_in (record old { tables = t; judging = j })) (Err e) ⊤ becomes None after) (sym broken)
-      (goes_wrong {T = T} s (state store t.conn) old.tables.at_hand t.at_hand old.judging old.tables.failures t.failures e done IsAnyway becomes after
+      subst (λ j. Goes {T = T} (seen_in register old) (seen_in register (record old { tables = t; judging = j })) (Err e) ⊤ becomes None after) (sym broken)
+      (goes_wrong {T = T} register s (state store t.conn) old.tables.at_hand t.at_hand old.judging old.tables.failures t.failures e done IsAnyway becomes after
       (subst (λ h. Asks s (state store h) done IsAnyway) (sym fails.conn) (asks_nothing s done IsAnyway (λ h kept. tt)))
       (record { kept = fails.kept; store = fails.counted }) fails.at_hand)
 
   -- the judgement is kept
   pub keeps : (m : Judgement) (t : Tables S store) (r : Result (Unit {0}) ShelfFault) → old.judging ≡ Open m
       → Writes old.tables t r (IsNextIn m.code) (WhereSo old.tables.at_hand (AppliesNext m.code m.changes)) → r ≡ Ok (tt {0})
-      → Goes (seen_in old) (seen_in (record old { tables = t; judging = Idle })) (Ok (tt {0})) ⊤ (after_keep (seen_in old).progress (seen_in old).content)
-      (Some (after_keep (seen_in old).progress (seen_in old).content)) keeper.Idle
+      → Goes (seen_in register old) (seen_in register (record old { tables = t; judging = Idle })) (Ok (tt {0})) ⊤ (after_keep (seen_in register old).progress (seen_in register old).content)
+      (Some (after_keep (seen_in register old).progress (seen_in register old).content)) keeper.Idle
   keeps m t r is writes ok =
-      subst (λ k. Goes (seen_beside s old.tables.at_hand k old.tables.failures) (seen_in (record old { tables = t; judging = Idle })) (Ok (tt {0})) ⊤
+      subst (λ k. Goes (seen_beside register s old.tables.at_hand k old.tables.failures) (seen_in register (record old { tables = t; judging = Idle })) (Ok (tt {0})) ⊤
       (after_keep (progress_of k) (content_in s.now.trees (working_of s.now k))) (Some (after_keep (progress_of k) (content_in s.now.trees (working_of s.now k)))) keeper.Idle) (sym is)
-      (goes_kept s (state store t.conn) old.tables.at_hand t.at_hand m old.tables.failures t.failures r writes.alters writes.tallies writes.at_hand ok)
+      (goes_kept register s (state store t.conn) old.tables.at_hand t.at_hand m old.tables.failures t.failures r writes.alters writes.tallies writes.at_hand ok)
 
   pub keeps_not : (m : Judgement) (t : Tables S store) (k : Judging) → k ≡ Broken → (r : Result (Unit {0}) ShelfFault) (e : ShelfFault) → old.judging ≡ Open m
       → Writes old.tables t r (IsNextIn m.code) (WhereSo old.tables.at_hand (AppliesNext m.code m.changes)) → r ≡ Err e
-      → Goes {T = Unit {0}} (seen_in old) (seen_in (record old { tables = t; judging = k })) (Err e) ⊤ (after_keep (seen_in old).progress (seen_in old).content)
-      (Some (after_keep (seen_in old).progress (seen_in old).content)) keeper.Idle
+      → Goes {T = Unit {0}} (seen_in register old) (seen_in register (record old { tables = t; judging = k })) (Err e) ⊤ (after_keep (seen_in register old).progress (seen_in register old).content)
+      (Some (after_keep (seen_in register old).progress (seen_in register old).content)) keeper.Idle
   keeps_not m t k broken r e is writes err =
-      subst (λ j. Goes {T = Unit {0}} (seen_in old) (seen_in (record old { tables = t; judging = j })) (Err e) ⊤ (after_keep (seen_in old).progress (seen_in old).content)
-      (Some (after_keep (seen_in old).progress (seen_in old).content)) keeper.Idle) (sym broken)
-      (subst (λ k. Goes {T = Unit {0}} (seen_beside s old.tables.at_hand k old.tables.failures) (seen_in (record old { tables = t; judging = Broken })) (Err e) ⊤
+      subst (λ j. Goes {T = Unit {0}} (seen_in register old) (seen_in register (record old { tables = t; judging = j })) (Err e) ⊤ (after_keep (seen_in register old).progress (seen_in register old).content)
+      (Some (after_keep (seen_in register old).progress (seen_in register old).content)) keeper.Idle) (sym broken)
+      (subst (λ k. Goes {T = Unit {0}} (seen_beside register s old.tables.at_hand k old.tables.failures) (seen_in register (record old { tables = t; judging = Broken })) (Err e) ⊤
       (after_keep (progress_of k) (content_in s.now.trees (working_of s.now k))) (Some (after_keep (progress_of k) (content_in s.now.trees (working_of s.now k)))) keeper.Idle) (sym is)
-      (goes_not_kept s (state store t.conn) old.tables.at_hand t.at_hand m old.tables.failures t.failures r writes.alters writes.tallies writes.at_hand e err))
+      (goes_not_kept register s (state store t.conn) old.tables.at_hand t.at_hand m old.tables.failures t.failures r writes.alters writes.tallies writes.at_hand e err))
 
   -- a file comes
-  pub received : {T : Type 0} (t : Tables S store) (k : Judging) → k ≡ cleared old.judging → (r : Result T ShelfFault) (c v : ℕ) (bytes : List ℕ) → (1 ≤ v) × (v ≤ 999_999) → IsNotOpen (seen_in old).progress
+  pub received : {T : Type 0} (t : Tables S store) (k : Judging) → k ≡ cleared old.judging → (r : Result T ShelfFault) (c v : ℕ) (bytes : List ℕ) → (1 ≤ v) × (v ≤ 999_999) → IsNotOpen (seen_in register old).progress
       → Writes old.tables t r (IsNewIn c v) (Comes c v bytes)
-      → Enters (seen_in old) (seen_in (record old { tables = t; judging = k })) r (IsNew (seen_in old).content c v) (with_received (seen_in old).content c v bytes)
+      → Enters (seen_in register old) (seen_in register (record old { tables = t; judging = k })) r (IsNew (seen_in register old).content c v) (with_received (seen_in register old).content c v bytes)
   received t k same r c v bytes range not writes =
-      subst (λ j. Enters (seen_in old) (seen_in (record old { tables = t; judging = j })) r (IsNew (seen_in old).content c v) (with_received (seen_in old).content c v bytes)) (sym same)
-      (enters_beside s (state store t.conn) old.tables.at_hand t.at_hand old.judging old.tables.failures t.failures r
+      subst (λ j. Enters (seen_in register old) (seen_in register (record old { tables = t; judging = j })) r (IsNew (seen_in register old).content c v) (with_received (seen_in register old).content c v bytes)) (sym same)
+      (enters_beside register s (state store t.conn) old.tables.at_hand t.at_hand old.judging old.tables.failures t.failures r
       (λ w. IsNew (content_in s.now.trees w) c v) (λ w. with_received (content_in s.now.trees w) c v bytes) not
-      (receive_enters old.tables t (progress_of old.judging) (progress_of (cleared old.judging)) empty_view r c v bytes range.0 range.1 writes (left_cleared old.judging) (on_ok_all r (not_broken old.judging))))
+      (receive_enters register old.tables t (progress_of old.judging) (progress_of (cleared old.judging)) empty_view r c v bytes range.0 range.1 writes (left_cleared old.judging) (on_ok_all r (not_broken old.judging))))
 
   -- a volume is rejected
-  pub skipped : {T : Type 0} (t : Tables S store) (k : Judging) → k ≡ cleared old.judging → (r : Result T ShelfFault) (c place rule : ℕ) → rule ≤ 255 → IsNotOpen (seen_in old).progress
+  pub skipped : {T : Type 0} (t : Tables S store) (k : Judging) → k ≡ cleared old.judging → (r : Result T ShelfFault) (c place rule : ℕ) → rule ≤ 255 → IsNotOpen (seen_in register old).progress
       → Writes old.tables t r (IsNextIn c) (WhereSo old.tables.at_hand (RejectsNext c place rule))
-      → Enters (seen_in old) (seen_in (record old { tables = t; judging = k })) r (IsAtHand (seen_in old).content c) (after_skip (seen_in old).content c place rule)
+      → Enters (seen_in register old) (seen_in register (record old { tables = t; judging = k })) r (IsAtHand (seen_in register old).content c) (after_skip (seen_in register old).content c place rule)
   skipped t k same r c place rule small not writes =
-      subst (λ j. Enters (seen_in old) (seen_in (record old { tables = t; judging = j })) r (IsAtHand (seen_in old).content c) (after_skip (seen_in old).content c place rule)) (sym same)
-      (enters_beside s (state store t.conn) old.tables.at_hand t.at_hand old.judging old.tables.failures t.failures r
+      subst (λ j. Enters (seen_in register old) (seen_in register (record old { tables = t; judging = j })) r (IsAtHand (seen_in register old).content c) (after_skip (seen_in register old).content c place rule)) (sym same)
+      (enters_beside register s (state store t.conn) old.tables.at_hand t.at_hand old.judging old.tables.failures t.failures r
       (λ w. IsAtHand (content_in s.now.trees w) c) (λ w. after_skip (content_in s.now.trees w) c place rule) not
-      (skip_enters old.tables t (progress_of old.judging) (progress_of (cleared old.judging)) r c place rule small writes (left_cleared old.judging) (on_ok_all r (not_broken old.judging))))
+      (skip_enters register old.tables t (progress_of old.judging) (progress_of (cleared old.judging)) r c place rule small writes (left_cleared old.judging) (on_ok_all r (not_broken old.judging))))

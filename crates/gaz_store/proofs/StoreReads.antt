@@ -1,5 +1,5 @@
 -- What a store's call tells of it as a keeper, where it asks the tables.
-use Rattle.std.proofs.Common.{◌≡◌, ◌≢◌, ◌∙◌, inl, inr, ℕ, cond, Result, Ok, Err, IfOk, OnOk, arith, refl, sym, ap, subst, eq-eqb}
+use Rattle.std.proofs.Common.{◌≡◌, ◌≢◌, ◌∙◌, inl, inr, ℕ, List, cond, Result, Ok, Err, IfOk, OnOk, arith, refl, sym, ap, subst, eq-eqb}
 use Rattle.std.specs.Prelude.{◌≤◌, Option}
 use Rattle.std.specs.FinMap as map
 use Rattle.std.proofs.lemmas.Bool.{ne_eqb}
@@ -17,11 +17,12 @@ use Rattle.gaz_kept.proofs.Boards.{board_reads}
 use Rattle.gaz_keeper.specs.Keeper as keeper
 use Rattle.gaz_keeper.specs.Keeper.{IsLawful, IsLeft, Reads, view_of, viewed}
 use Rattle.gaz_keeper.specs.declared.fault.ShelfFault.{ShelfFault}
-use Rattle.gaz_tables.specs.Schema.{receiveds, versions}
+use Rattle.gaz_tables.specs.Schema.{metas, receiveds, versions}
 use Rattle.gaz_kept.specs.Contents.{board_of, content_in}
 use Rattle.gaz_kept.specs.Files.{files_in, reached_in}
 use Rattle.gaz_kept.specs.Versions.{view_in}
 use Rattle.gaz_kept.specs.Kept.{IsKept}
+use Rattle.gaz_kept.specs.Opening.{IsOf}
 use Rattle.gaz_kept.specs.LastViews.{last_in}
 use Rattle.gaz_store.specs.Asking.{Asks, AsksTables, Recalls, Tallies}
 use Rattle.gaz_store.specs.Beside.{Beside}
@@ -78,24 +79,24 @@ on_ok_all (Err e) h = tt
 
 -- ---- a call that asks is one that reads
 
-module _ {T : Type 0} (old new : State) (before after : Remembered) (j : Judging) (f g : ℕ) (r : Result T ShelfFault)
+module _ {T : Type 0} (register : List ℕ) (old new : State) (before after : Remembered) (j : Judging) (f g : ℕ) (r : Result T ShelfFault)
     (IsRight : Database → T → Type 0) (Q : T → Type 0) (asks : Asks old new r IsRight) (tallies : Tallies f g r)
     (at_hand : IsUnharmed new → IsKept old.now → AreSo before (old.now.trees receiveds) → AreSo after (old.now.trees receiveds))
-    (goes : (x : T) → StoreStands old before j → IsRight old.now x → Q x) where
-  still : StoreStands old before j → IsUnharmed new → new.now ≡ old.now
+    (goes : (x : T) → StoreStands register old before j → IsRight old.now x → Q x) where
+  still : StoreStands register old before j → IsUnharmed new → new.now ≡ old.now
   still stood h = asks.rests h stood.tables.kept.tables
 
-  stands_then : StoreStands old before j → IsUnharmed new → (db : Database) → old.now ≡ db → (IsKept db) × (AreSo after (db.trees receiveds)) × (IsLawful (content_in db.trees (working_of db (cleared j)))) × (StandsBeside db (cleared j))
-  stands_then stood h db same = subst (λ (d : Database). (IsKept d) × (AreSo after (d.trees receiveds)) × (IsLawful (content_in d.trees (working_of d (cleared j)))) × (StandsBeside d (cleared j))) same
-      (stood.tables.kept, at_hand h stood.tables.kept stood.tables.so, subst (λ w. IsLawful (content_in old.now.trees w)) (sym (working_cleared old.now j)) stood.tables.lawful, beside_cleared old.now j stood.beside)
+  stands_then : StoreStands register old before j → IsUnharmed new → (db : Database) → old.now ≡ db → (IsKept db) × (IsOf register (db.trees metas)) × (AreSo after (db.trees receiveds)) × (IsLawful (content_in db.trees (working_of db (cleared j)))) × (StandsBeside db (cleared j))
+  stands_then stood h db same = subst (λ (d : Database). (IsKept d) × (IsOf register (d.trees metas)) × (AreSo after (d.trees receiveds)) × (IsLawful (content_in d.trees (working_of d (cleared j)))) × (StandsBeside d (cleared j))) same
+      (stood.tables.kept, stood.tables.whose, at_hand h stood.tables.kept stood.tables.so, subst (λ w. IsLawful (content_in old.now.trees w)) (sym (working_cleared old.now j)) stood.tables.lawful, beside_cleared old.now j stood.beside)
 
-  pub store_reads : Reads (seen_beside old before j f) (seen_beside new after (cleared j) g) r Q
+  pub store_reads : Reads (seen_beside register old before j f) (seen_beside register new after (cleared j) g) r Q
   store_reads = record {
     keeps = record {
       harm = asks.harm;
       stands = λ stood h.
           let s = stands_then stood h new.now (sym (still stood h)) in
-          record { tables = record { kept = s.0; so = s.1; lawful = s.2 }; beside = s.3 };
+          record { tables = record { kept = s.0; whose = s.1; so = s.2; lawful = s.3 }; beside = s.4 };
       content = λ stood h.
           ap (λ w. content_in new.now.trees w) (working_cleared new.now j)
           ∙ ap (λ (db : Database). content_in db.trees (working_of db j)) (still stood h);
@@ -108,7 +109,7 @@ module _ {T : Type 0} (old new : State) (before after : Remembered) (j : Judging
             left = elim (s.crash l.clean l.trees l.left) [ inl was ↦ was | inr never ↦ absurd never ];
             content = l.content;
           };
-      whole = λ sound. whole_still old new (asks.leaves (λ h. (sound h).tables.kept.tables));
+      whole = λ sound. whole_still register old new (asks.leaves (λ h. (sound h).tables.kept.tables));
     };
     right = λ stood h. if_ok r (IsRight old.now) Q (λ x is. goes x stood is) (asks.right h stood.tables.kept);
     cleared = on_ok_all r (not_broken j);
@@ -131,39 +132,39 @@ viewed_here db m c is = ap (λ b. cond b (view_made db m) (keeper.viewed keeper.
 
 -- ---- calls of a store
 
-module _ {S : Type 0} {store : Ghosts S} {T : Type 0} (old : Store S store) (tables : Tables S store) (k : Judging) (is_cleared : k ≡ cleared old.judging) (r : Result T ShelfFault) where
+module _ {S R : Type 0} {store : Ghosts S} {T : Type 0} (register : List ℕ) (old : Store S R store) (tables : Tables S store) (k : Judging) (is_cleared : k ≡ cleared old.judging) (r : Result T ShelfFault) where
   abbrev db : Database
   db = (state store old.tables.conn).now
 
   abbrev Tells : (T → Type 0) → Judging → Type 0
-  Tells Q j = Reads (seen_in old) (seen_in (record old { tables = tables; judging = j })) r Q
+  Tells Q j = Reads (seen_in register old) (seen_in register (record old { tables = tables; judging = j })) r Q
 
   -- what is asked of the board
   pub tells : (P : Database → T → Type 0) (Q : T → Type 0) → AsksTables old.tables tables r P → ((x : T) → IsKept db → P db x → Q x) → Tells Q k
   tells P Q asks goes =
       subst (Tells Q) (sym is_cleared)
-      (store_reads _ _ _ _ old.judging _ _ r P Q asks.asks asks.tallies (λ h kept so. subst (λ m. AreSo m (db.trees receiveds)) (sym asks.at_hand) so)
+      (store_reads register _ _ _ _ old.judging _ _ r P Q asks.asks asks.tallies (λ h kept so. subst (λ m. AreSo m (db.trees receiveds)) (sym asks.at_hand) so)
       (λ x stood is. goes x stood.tables.kept is))
 
   -- what is at hand, or asked
   pub tells_recalled : (P : Database → T → Type 0) (Q : T → Type 0) → Recalls old.tables tables r P → ((x : T) → IsKept db → P db x → Q x) → Tells Q k
   tells_recalled P Q recalls goes =
       subst (Tells Q) (sym is_cleared)
-      (store_reads _ _ _ _ old.judging _ _ r (λ d x. AreSo old.tables.at_hand (d.trees receiveds) → P d x) Q recalls.asks recalls.tallies recalls.at_hand
+      (store_reads register _ _ _ _ old.judging _ _ r (λ d x. AreSo old.tables.at_hand (d.trees receiveds) → P d x) Q recalls.asks recalls.tallies recalls.at_hand
       (λ x stood is. goes x stood.tables.kept (is stood.tables.so)))
 
   -- what is asked of a custodian's last view, while its volume isn't judged
-  pub tells_last : (P : View → T → Type 0) (c : ℕ) → IsElsewhere k c → AsksTables old.tables tables r (λ d x. P (last_in d c) x) → Tells (λ x. P (view_of (seen_in old) c) x) k
+  pub tells_last : (P : View → T → Type 0) (c : ℕ) → IsElsewhere k c → AsksTables old.tables tables r (λ d x. P (last_in d c) x) → Tells (λ x. P (view_of (seen_in register old) c) x) k
   tells_last P c other asks =
-      tells (λ d x. P (last_in d c) x) (λ x. P (view_of (seen_in old) c) x) asks
+      tells (λ d x. P (last_in d c) x) (λ x. P (view_of (seen_in register old) c) x) asks
       (λ x kept is. subst (λ v. P v x) (sym (viewed_last db kept old.judging c (elsewhere_still old.judging c (subst (λ j. IsElsewhere j c) is_cleared other)))) is)
 
   -- and of its working view, while it is
   pub tells_beside : (P : View → T → Type 0) (c : ℕ) (m : Judgement) → k ≡ Open m → m.code ≡ c → AsksTables old.tables tables r (λ d x. Beside d m (λ w. P w x))
-      → Tells (λ x. P (view_of (seen_in old) c) x) k
+      → Tells (λ x. P (view_of (seen_in register old) c) x) k
   tells_beside P c m is own asks =
-      subst (Tells (λ x. P (view_of (seen_in old) c) x)) (sym is_cleared)
-      (store_reads _ _ _ _ old.judging _ _ r (λ d x. Beside d m (λ w. P w x)) (λ x. P (view_of (seen_in old) c) x) asks.asks asks.tallies
+      subst (Tells (λ x. P (view_of (seen_in register old) c) x)) (sym is_cleared)
+      (store_reads register _ _ _ _ old.judging _ _ r (λ d x. Beside d m (λ w. P w x)) (λ x. P (view_of (seen_in register old) c) x) asks.asks asks.tallies
       (λ h kept so. subst (λ a. AreSo a (db.trees receiveds)) (sym asks.at_hand) so)
       (λ x stood right. by_judging old.judging (open_still old.judging m (sym is_cleared ∙ is)) stood.beside x right))
     where
@@ -173,12 +174,12 @@ module _ {S : Type 0} {store : Ghosts S} {T : Type 0} (old : Store S store) (tab
           (subst (λ v. P v x) (sym (viewed_here db m c own)) (right (view_made db m) (subst (StandsBeside db) same beside).makes))
 
 -- how many files wait above the judged ones
-pub tells_held : {S : Type 0} {store : Ghosts S} (old : Store S store) (tables : Tables S store) (k : Judging) → k ≡ cleared old.judging → (r : Result ℕ ShelfFault) (c : ℕ)
+pub tells_held : {S R : Type 0} {store : Ghosts S} (register : List ℕ) (old : Store S R store) (tables : Tables S store) (k : Judging) → k ≡ cleared old.judging → (r : Result ℕ ShelfFault) (c : ℕ)
     → Recalls old.tables tables r (λ d n. n ≡ held_in (d.trees receiveds) c)
-    → Reads (seen_in old) (seen_in (record old { tables = tables; judging = k })) r (λ n. n ≡ count_above (seen_in old).content.files c (reached (seen_in old).content.board c))
-tells_held {S} {store} old tables k is_cleared r c recalls =
+    → Reads (seen_in register old) (seen_in register (record old { tables = tables; judging = k })) r (λ n. n ≡ count_above (seen_in register old).content.files c (reached (seen_in register old).content.board c))
+tells_held {S} {R} {store} register old tables k is_cleared r c recalls =
     let db = (state store old.tables.conn).now in
-    tells_recalled old tables k is_cleared r (λ d n. n ≡ held_in (d.trees receiveds) c) _ recalls
+    tells_recalled register old tables k is_cleared r (λ d n. n ≡ held_in (d.trees receiveds) c) _ recalls
     (λ n kept is. is ∙ ap (count_above (files_in (db.trees receiveds)) c) (sym (board_reads (db.trees receiveds) (db.trees versions) c).reached))
 
 -- ---- what is read of the board

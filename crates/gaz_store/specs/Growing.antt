@@ -1,5 +1,7 @@
 -- What is told where a store's register grows.
-use Rattle.std.specs.Prelude.{◌≡◌, ◌↔◌, ⊤, ℕ, Bool, List, Result, Ok, Err, IfOk, IsTrue}
+use Rattle.std.specs.Prelude.{◌≡◌, ◌≢◌, ◌↔◌, ◌⊎◌, ⊤, ℕ, Bool, List, Some, Result, Ok, Err, IfOk}
+use Rattle.std.specs.Prelude.{OnOk, IsTrue}
+use Rattle.sqlite.specs.Effect.{Database}
 use Rattle.sqlite.specs.Held.{Held, state}
 use Rattle.sqlite.specs.State.{HasCleanDisk, State}
 use Rattle.sqlite_trees.specs.declared.store.Store.{Ghosts}
@@ -8,11 +10,12 @@ use Rattle.gaz_register.specs.Registers.{RegisterValue}
 use Rattle.gaz_register.specs.Texts.{register_text}
 use Rattle.gaz_register.specs.declared.growth.GrowFault.{GrowFault}
 use Rattle.gaz_register.specs.declared.growth.GrowFault.TheVariants as growth
-use Rattle.gaz_keeper.specs.Keeper.{Enters, Seen}
+use Rattle.gaz_keeper.specs.Keeper.{Broken, Counts, IsLeft, IsSound, LeavesAtMost, LeavesJust, Seen}
 use Rattle.gaz_keeper.specs.declared.fault.ShelfFault.{ShelfFault}
 use Rattle.gaz_keeper.specs.declared.fault.ShelfFault.TheVariants as shelf
-use Rattle.gaz_tables.specs.Schema.{metas}
+use Rattle.gaz_tables.specs.Schema.{metas, store_schema}
 use Rattle.gaz_tables.specs.Stores.{HasTables}
+use Rattle.gaz_kept.specs.Kept.{IsKept}
 use Rattle.gaz_kept.specs.Opening.{IsOf}
 use Rattle.gaz_kept.specs.Rewriting.{Registers}
 use Rattle.gaz_store.specs.Altering.{Alters}
@@ -48,10 +51,34 @@ as_kept (Err fault) = Err (as_keeper fault)
 
 -- ---- what is told
 
--- the content stays as it is, whatever the answer; an Ok commits it again, and of a fault no more is
--- known than of one of a keeper's calls
-abbrev pub KeepsContent : Seen → Seen → Result (Unit {0}) ExtendFault → Type 0
-KeepsContent old new result = Enters old new (as_kept result) ⊤ old.content
+-- the register that a store of the old one is of then
+abbrev pub register_then : RegisterValue → RegisterValue → Result (Unit {0}) ExtendFault
+    → RegisterValue
+register_then old grown (Ok done) = grown
+register_then old grown (Err _) = old
+
+-- the content stays as it is, whatever the answer; an Ok commits it again, and of a fault no more
+-- is known than of one of a keeper's calls
+pub record KeepsContent (old new : Seen) (result : Result (Unit {0}) ExtendFault) : Type 0 where
+  pub harm : new.unharmed → old.unharmed
+  pub stands : old.stands → new.unharmed → new.stands
+  pub content : old.stands → new.unharmed → new.content ≡ old.content
+  pub progress : IsLeft old.progress new.progress
+  pub cleared : OnOk result (new.progress ≢ Broken)
+  pub counts : Counts old new (as_kept result)
+  pub leaves : IsSound old → LeavesAtMost (Some old.content) old new
+  pub committed : IsSound old → OnOk result (LeavesJust (Some old.content) old new)
+  pub whole : IsSound old → OnOk result new.whole
+
+-- the tables of a database are those of a store of one of two registers
+pub record IsKeptOfEither (one other : List ℕ) (db : Database) : Type 0 where
+  pub kept : IsKept db
+  pub whose : IsOf one (db.trees metas) ⊎ IsOf other (db.trees metas)
+
+-- where a stop left a store of the one, it leaves a store of one of them
+abbrev pub LeavesEither : Seen → State → List ℕ → List ℕ → Type 0
+LeavesEither old now one other = IsSound old → old.whole → (db : Database) → HasCleanDisk now
+    → now.may_leave db.trees → db.schema ≡ store_schema → IsKeptOfEither one other db
 
 -- the row of `meta` gets the text of the register and that is committed, or a fault changes nothing
 abbrev pub WritesRegister : State → State → RegisterValue → Result (Unit {0}) ExtendFault → Type 0

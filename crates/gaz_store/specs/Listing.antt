@@ -26,5 +26,5 @@ abbrev pub told_in : Row → Option Told
 told_in r = option_map (told_with r) (item_in r)
 
 -- what the rows of `version2` tell
-abbrev pub lives_kept : {S : Type 0} → {store : Ghosts S} → Store S store → List Told
+abbrev pub lives_kept : {S R : Type 0} → {store : Ghosts S} → Store S R store → List Told
 lives_kept t = filter_map told_in ((database_of t).trees versions)

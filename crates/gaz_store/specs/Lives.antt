@@ -21,13 +21,14 @@ use Rattle.gaz_store.specs.declared.store.Store.{Store}
 
 -- ---- the tables of a store
 
-abbrev pub database_of : {S : Type 0} → {store : Ghosts S} → Store S store → Database
-database_of {S} {store} t = (state store t.tables.conn).now
+abbrev pub database_of : {S R : Type 0} → {store : Ghosts S} → Store S R store → Database
+database_of {S} {R} {store} t = (state store t.tables.conn).now
 
--- after a call that reads they are as they were
-abbrev pub TablesRest : {S : Type 0} → {store : Ghosts S} → Store S store → Store S store → Type 0
-TablesRest old new =
-    (seen_in old).stands → (seen_in new).unharmed → database_of new ≡ database_of old
+-- after a call that reads they are as they were, of a store of this register
+abbrev pub TablesRest : {S R : Type 0} → {store : Ghosts S} → List ℕ → Store S R store
+    → Store S R store → Type 0
+TablesRest register old new = (seen_in register old).stands → (seen_in register new).unharmed
+    → database_of new ≡ database_of old
 
 -- ---- what a row says
 

@@ -73,6 +73,6 @@ board_of_told db kept = record {
     reached_so : (c : ℕ) → reached (board_of db) c ≡ reached_in (db.trees receiveds) c
     reached_so c = (board_reads (db.trees receiveds) (db.trees versions) c).reached
 
-pub kept_are : {S : Type 0} {store : Ghosts S} (t : Store S store) → (seen_in t).stands
-    → AreOf (lives_kept t) (seen_in t).content.board
-kept_are t stood = board_of_told _ stood.tables.kept
+pub kept_are : {S R : Type 0} {store : Ghosts S} (register : List ℕ) (t : Store S R store)
+    → (seen_in register t).stands → AreOf (lives_kept t) (seen_in register t).content.board
+kept_are register t stood = board_of_told _ stood.tables.kept

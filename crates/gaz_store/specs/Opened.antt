@@ -14,8 +14,8 @@ use Rattle.gaz_kept.specs.declared.refusal.StoreRefusal.{StoreRefusal}
 use Rattle.gaz_store.specs.Seen.{LeavesKept}
 use Rattle.gaz_store.specs.declared.store.Store.{Store}
 
--- of an empty database: nothing is received or judged, a stop leaves just that, and the tables are
--- of this register
+-- of an empty database, as a store of this register: nothing is received or judged, and a stop
+-- leaves just that
 pub record IsMade (old new : State) (register : List ℕ) (now : Seen) : Type 0 where
   pub idle : now.progress ≡ Idle
   pub failures : now.failures ≡ 0
@@ -25,8 +25,8 @@ pub record IsMade (old new : State) (register : List ℕ) (now : Seen) : Type 0 
   pub whole : now.unharmed → IsBare no_schema old.now → now.whole
   pub of_register : now.unharmed → IsBare no_schema old.now → IsOf register (new.now.trees metas)
 
--- of a store's tables: they stand for what they did, are of this register, and a stop leaves nothing
--- more
+-- of a store's tables, as a store of this register: they stand for what they did, and a stop
+-- leaves nothing more
 pub record IsOpened (old new : State) (register : List ℕ) (now : Seen) : Type 0 where
   pub idle : now.progress ≡ Idle
   pub failures : now.failures ≡ 0
@@ -36,7 +36,7 @@ pub record IsOpened (old new : State) (register : List ℕ) (now : Seen) : Type 
   pub content : now.unharmed → IsKept old.now → now.content ≡ content_in old.now.trees empty_view
   pub of_register : now.unharmed → IsKept old.now → IsOf register (old.now.trees metas)
   pub leaves : Survives old new (λ _. ⊥)
-  pub whole : LeavesKept old → now.whole
+  pub whole : LeavesKept register old → now.whole
 
 -- a connection that was handed back is outside a transaction, over what was there
 pub record IsRefused {S : Type 0} (g : Ghosts S) (before after : Held S) : Type 0 where
@@ -46,13 +46,13 @@ pub record IsRefused {S : Type 0} (g : Ghosts S) (before after : Held S) : Type 
 -- ---- what is answered, of a call that takes a connection and gives a store or hands it back
 
 -- the answer alone
-abbrev pub answer_of : {S : Type 0} → {g : Ghosts S} → Result (Store S g) (Held S × StoreRefusal)
-    → Result (Unit {0}) StoreRefusal
+abbrev pub answer_of : {S R : Type 0} → {g : Ghosts S}
+    → Result (Store S R g) (Held S × StoreRefusal) → Result (Unit {0}) StoreRefusal
 answer_of (Ok store) = Ok tt
 answer_of (Err back) = Err back.1
 
 -- the connection, in the store or handed back
-abbrev pub conn_of : {S : Type 0} → {g : Ghosts S} → Result (Store S g) (Held S × StoreRefusal)
-    → Held S
+abbrev pub conn_of : {S R : Type 0} → {g : Ghosts S}
+    → Result (Store S R g) (Held S × StoreRefusal) → Held S
 conn_of (Ok store) = store.tables.conn
 conn_of (Err back) = back.0

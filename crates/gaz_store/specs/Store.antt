@@ -1,5 +1,5 @@
 -- A store as it is seen: its tables, and a judgement beside them.
-use Rattle.std.specs.Prelude.{◌≢◌, ◌-◌, ◌^◌, ◌==◌, ⊤, ℕ}
+use Rattle.std.specs.Prelude.{◌≢◌, ◌-◌, ◌^◌, ◌==◌, ⊤, ℕ, List}
 use Rattle.sqlite.specs.Effect.{Database}
 use Rattle.sqlite.specs.Held.{state}
 use Rattle.sqlite.specs.State.{HasCleanDisk, State}
@@ -59,15 +59,16 @@ StandsBeside db Broken = ⊤
 
 -- ---- the store
 
--- the tables are a store's, and so is what stands beside them
-pub record StoreStands (s : State) (at_hand : Remembered) (judging : Judging) : Type 0 where
-  pub tables : StandsFor s at_hand (working_of s.now judging)
+-- the tables are a store's of this register, and so is what stands beside them
+pub record StoreStands (register : List ℕ) (s : State) (at_hand : Remembered) (judging : Judging)
+    : Type 0 where
+  pub tables : StandsFor register s at_hand (working_of s.now judging)
   pub beside : StandsBeside s.now judging
 
-abbrev pub seen_beside : State → Remembered → Judging → ℕ → Seen
-seen_beside s at_hand judging failures = record {
+abbrev pub seen_beside : List ℕ → State → Remembered → Judging → ℕ → Seen
+seen_beside register s at_hand judging failures = record {
   content = content_in s.now.trees (working_of s.now judging);
-  stands = StoreStands s at_hand judging;
+  stands = StoreStands register s at_hand judging;
   lawful = λ stood. stood.tables.lawful;
   trusted = HasCleanDisk s;
   unharmed = IsUnharmed s;
@@ -76,10 +77,11 @@ seen_beside s at_hand judging failures = record {
   is_full = failures == 2 ^ 64 - 1;
   full = full_at failures;
   leaves = MayLeave s;
-  whole = LeavesKept s;
-  left_lawful = left_lawful s;
+  whole = LeavesKept register s;
+  left_lawful = left_lawful register s;
 }
 
-abbrev pub seen_in : {S : Type 0} → {store : Ghosts S} → Store S store → Seen
-seen_in {S} {store} t =
-    seen_beside (state store t.tables.conn) t.tables.at_hand t.judging t.tables.failures
+-- as a store of the register of this text
+abbrev pub seen_in : {S R : Type 0} → {store : Ghosts S} → List ℕ → Store S R store → Seen
+seen_in {S} {R} {store} register t =
+    seen_beside register (state store t.tables.conn) t.tables.at_hand t.judging t.tables.failures

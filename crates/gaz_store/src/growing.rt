@@ -7,10 +7,12 @@ ghost use Rattle.gaz_kept.specs.Opening.{has_all};
 ghost use Rattle.gaz_kept.specs.Rewriting.{Registers};
 ghost use Rattle.gaz_store.specs.Altering.{AltersTables};
 ghost use Rattle.gaz_store.specs.Asking.{AsksTables, IsAnyway};
-ghost use Rattle.gaz_store.specs.Growing.{KeepsContent, TellsGrowth, TellsRegisters, TellsWhose};
-ghost use Rattle.gaz_store.specs.Growing.{WritesRegister, as_kept, of_growth, of_keeper};
-ghost use Rattle.gaz_store.specs.Store.{seen_in};
+ghost use Rattle.gaz_store.specs.Growing.{KeepsContent, LeavesEither, TellsGrowth, TellsRegisters};
+ghost use Rattle.gaz_store.specs.Growing.{TellsWhose, WritesRegister, as_kept, of_growth};
+ghost use Rattle.gaz_store.specs.Growing.{of_keeper, register_then};
+ghost use Rattle.gaz_store.specs.Store.{progress_of, seen_in};
 
+use crate::naming::OfRegister;
 use crate::store::Store;
 use crate::tables::Tables;
 use gaz_keeper::ShelfFault;
@@ -122,7 +124,7 @@ impl<S: Alter> Tables<S> {
     }
 }
 
-impl<S: Alter> Store<S> {
+impl<S: Alter, R: OfRegister> Store<S, R> {
     /// Puts a grown register in place of the store's, which is to be the given one, in the tables
     /// and then in the caller's hands. No judgement is in progress.
     ///
@@ -133,8 +135,12 @@ impl<S: Alter> Store<S> {
     /// the answer. A stop within the call leaves what it could before, or the same under the grown
     /// register.
     pub fn extend(&mut self, register: &mut Register, grown: Register) -> Result<(), ExtendFault>
-        requires { IsNotOpen (seen_in self.old).progress }
-        ensures keeps { KeepsContent (seen_in self.old) (seen_in self.new) result }
+        requires { IsNotOpen (progress_of self.old.judging) }
+        ensures keeps { KeepsContent (seen_in (register_text register.old) self.old)
+            (seen_in (register_text (register_then register.old grown result)) self.new) result }
+        ensures stops { LeavesEither (seen_in (register_text register.old) self.old)
+            (state S.Store self.new.tables.conn) (register_text register.old)
+            (register_text grown) }
         ensures writes { WritesRegister (state S.Store self.old.tables.conn)
             (state S.Store self.new.tables.conn) grown result }
         ensures growth { TellsGrowth register.old grown result }

@@ -1,10 +1,11 @@
 //! What a store answers and makes as a keeper of received files.
+use crate::naming::OfRegister;
 use crate::store::Store;
 use gaz_ids::{Code, Volume};
 use gaz_keeper::{Inbox, ShelfFault};
 use sqlite::Alter;
 
-impl<S: Alter> Inbox for Store<S> {
+impl<S: Alter, R: OfRegister> Inbox for Store<S, R> {
     fn received(&mut self, code: Code, volume: Volume) -> Result<Option<Vec<u8>>, ShelfFault> {
         self.judging.clear();
         self.tables.received(code, volume)

@@ -16,6 +16,7 @@ pub mod laws;
 mod life_rows;
 mod listing;
 mod lives;
+mod naming;
 mod opening;
 mod pages;
 mod probing;
@@ -30,5 +31,6 @@ mod writing;
 
 pub use gaz_kept::StoreRefusal;
 pub use growing::ExtendFault;
+pub use naming::OfRegister;
 pub use store::Store;
 pub use tables::Tables;

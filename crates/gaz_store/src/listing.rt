@@ -9,23 +9,24 @@ ghost use Rattle.gaz_store.specs.Lives.{TablesRest, TellsLives, database_of};
 ghost use Rattle.gaz_store.specs.Store.{seen_in};
 ghost use Rattle.gaz_store.specs.Volumes.{TellsVolumes};
 
+use crate::naming::OfRegister;
 use crate::store::Store;
 use gaz_ids::{Code, Volume};
 use gaz_keeper::ShelfFault;
 use gaz_loaded::{Life, Listed};
 use sqlite::Alter;
 
-impl<S: Alter> Listed for Store<S> {
+impl<S: Alter, R: OfRegister> Listed for Store<S, R> {
     ghost use Rattle.gaz_store.specs.Made.{kept_are};
 
     ghost lives = { lives_kept };
 
     /// At most 512, and none is left out between them.
     fn volumes_above(&mut self, code: Code, volume: u64) -> Result<Vec<Volume>, ShelfFault>
-        ensures tells { listed.TellsVolumes seen_in self.old self.new result code volume }
-        ensures reads { Reads (seen_in self.old) (seen_in self.new) result
-            (λ volumes. TellsVolumes (seen_in self.old).content.files code volume volumes.items) }
-        ensures rests { TablesRest self.old self.new }
+        ensures tells { listed.TellsVolumes (seen_in R.text) self.old self.new result code volume }
+        ensures reads { Reads (seen_in R.text self.old) (seen_in R.text self.new) result (λ volumes.
+            TellsVolumes (seen_in R.text self.old).content.files code volume volumes.items) }
+        ensures rests { TablesRest R.text self.old self.new }
     {
         self.judging.clear();
         self.tables.volumes_above(code, volume)
@@ -36,15 +37,16 @@ impl<S: Alter> Listed for Store<S> {
     ///
     /// A row that doesn't read, or whose cells aren't all those of its item, is a counted failure.
     fn lives_behind(&mut self, place: Option<i64>) -> Result<Vec<Life>, ShelfFault>
-        ensures tells { listed.TellsLives seen_in lives_kept self.old self.new result place }
-        ensures reads { Reads (seen_in self.old) (seen_in self.new) result
+        ensures tells { listed.TellsLives (seen_in R.text) lives_kept self.old self.new
+            result place }
+        ensures reads { Reads (seen_in R.text self.old) (seen_in R.text self.new) result
             (λ lives. TellsLives place lives.items ((database_of self.old).trees versions)) }
-        ensures rests { TablesRest self.old self.new }
+        ensures rests { TablesRest R.text self.old self.new }
         ensures entries { IfOk result (λ lives. AreEntries lives.items) }
     {
         self.judging.clear();
         self.tables.lives_behind(place)
     }
 
-    ghost made = { kept_are };
+    ghost made = { kept_are R.text };
 }

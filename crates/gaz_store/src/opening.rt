@@ -8,6 +8,7 @@ ghost use Rattle.gaz_kept.specs.Opening.{Judges, Tells, has_all, has_any, schema
 ghost use Rattle.gaz_store.specs.Opened.{IsMade, IsOpened, IsRefused, answer_of, conn_of};
 ghost use Rattle.gaz_store.specs.Store.{seen_in};
 
+use crate::naming::OfRegister;
 use crate::progress::Judging;
 use crate::store::Store;
 use crate::tables::Tables;
@@ -16,8 +17,9 @@ use gaz_ledger::Seed;
 use gaz_register::Register;
 use sqlite::{Alter, Connection};
 use std::alloc::Global;
+use std::marker::PhantomData;
 
-impl<S: Alter> Store<S> {
+impl<S: Alter, R: OfRegister> Store<S, R> {
     /// Makes a store of a register in an empty database, behind a connection outside a transaction.
     /// Who picks keys is not to foresee the seed.
     ///
@@ -29,10 +31,10 @@ impl<S: Alter> Store<S> {
         seed: Seed,
         conn: Connection<S>,
         register: &Register,
-    ) -> Result<Store<S>, (Connection<S>, StoreRefusal)>
+    ) -> Result<Store<S, R>, (Connection<S>, StoreRefusal)>
         requires { conn.in_transaction ≡ false }
         ensures made { IfOk result (λ s. IsMade (state S.Store conn) (state S.Store s.tables.conn)
-            (register_text register.now) (seen_in s)) }
+            (register_text register.now) (seen_in (register_text register.now) s)) }
         ensures named { (answer_of result ≡ Err StoreRefusal.BadSchema)
             ↔ IsTrue (has_any (state S.Store conn).now.schema) }
         ensures causes { answer_of result ≢ Err StoreRefusal.OtherRegister }
@@ -46,6 +48,7 @@ impl<S: Alter> Store<S> {
                 tables: Tables::over(alloc, conn),
                 judging: Judging::Idle,
                 seed,
+                of: PhantomData,
             }),
             Err(refusal) => Err((conn, refusal)),
         }
@@ -63,10 +66,11 @@ impl<S: Alter> Store<S> {
         seed: Seed,
         conn: Connection<S>,
         register: &Register,
-    ) -> Result<Store<S>, (Connection<S>, StoreRefusal)>
+    ) -> Result<Store<S, R>, (Connection<S>, StoreRefusal)>
         requires { conn.in_transaction ≡ false }
         ensures opened { IfOk result (λ s. IsOpened (state S.Store conn)
-            (state S.Store s.tables.conn) (register_text register.now) (seen_in s)) }
+            (state S.Store s.tables.conn) (register_text register.now)
+            (seen_in (register_text register.now) s)) }
         ensures lacking { has_all (state S.Store conn).now.schema ≡ false
             → answer_of result ≡ Err StoreRefusal.BadSchema }
         ensures told { Tells S.Store conn (conn_of result) (answer_of result)
@@ -82,6 +86,7 @@ impl<S: Alter> Store<S> {
                 tables: Tables::over(alloc, conn),
                 judging: Judging::Idle,
                 seed,
+                of: PhantomData,
             }),
             Err(refusal) => Err((conn, refusal)),
         }

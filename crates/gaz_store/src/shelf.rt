@@ -1,6 +1,7 @@
 //! What a store answers and makes as a keeper of boards.
 
 use crate::judgement::Judgement;
+use crate::naming::OfRegister;
 use crate::progress::Judging;
 use crate::store::Store;
 use gaz_ids::{Code, Lang, Uprn, Usrn, Volume};
@@ -10,10 +11,10 @@ use gaz_views::{Property, Verdict};
 use sqlite::Alter;
 use std::mem::replace;
 
-impl<S: Alter> Shelf for Store<S> {
+impl<S: Alter, R: OfRegister> Shelf for Store<S, R> {
     ghost use Rattle.gaz_store.specs.Store.{seen_in};
 
-    ghost seen = { seen_in };
+    ghost seen = { seen_in R.text };
 
     fn reached(&mut self, code: Code) -> Result<u64, ShelfFault> {
         self.judging.clear();

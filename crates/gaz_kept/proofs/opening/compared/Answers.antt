@@ -3,4 +3,4 @@ use Rattle.gaz_kept.proofs.opening.compared.Goals as goal
 
 pub returns-in-Ok-clause-judged : goal.returns-in-Ok-clause-judged
 returns-in-Ok-clause-judged g c clean has =
-    judged _ _ (c.in-Ok.ensures.found clean has) c.args.text.now c.told.result (rw c.deref.ensures.value at c.told.ensures)
+    judged c.args.number _ _ (c.in-Ok.ensures.found clean has) c.args.text.now c.told.result (rw c.deref.ensures.value at c.told.ensures)

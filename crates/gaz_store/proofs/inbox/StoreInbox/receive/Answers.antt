@@ -4,7 +4,7 @@ use Rattle.gaz_store.proofs.inbox.StoreInbox.receive.Goals as goal
 
 pub returns-clause-enters : goal.returns-clause-enters
 returns-clause-enters g c =
-    received c.args.self.now _ c.clear.new.self c.clear.ensures c.receive.result c.args.code c.args.volume c.args.bytes.now (rw c.number-number.ensures.value at c.number-number.ensures.range)
+    received g.R.OfRegister.text c.args.self.now _ c.clear.new.self c.clear.ensures c.receive.result c.args.code c.args.volume c.args.bytes.now (rw c.number-number.ensures.value at c.number-number.ensures.range)
     c.requires c.receive.ensures
 
 pub returns-clause-open : goal.returns-clause-open

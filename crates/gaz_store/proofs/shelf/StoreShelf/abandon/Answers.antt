@@ -2,4 +2,4 @@ use Rattle.gaz_store.proofs.StoreGoes.{abandons}
 use Rattle.gaz_store.proofs.shelf.StoreShelf.abandon.Goals as goal
 
 pub returns : goal.returns
-returns g c = abandons c.args.self.now
+returns g c = abandons g.R.OfRegister.text c.args.self.now

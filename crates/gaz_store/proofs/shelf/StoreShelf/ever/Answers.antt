@@ -5,9 +5,9 @@ use Rattle.gaz_store.proofs.shelf.StoreShelf.ever.Goals as goal
 
 pub returns-in-Some : goal.returns-in-Some
 returns-in-Some g c =
-    tells_beside c.args.self.now _ c.clear.new.self c.clear.ensures c.was_used.result (λ v i. i ≡ was_used v c.args.key.now) c.args.code c.in-Some.judgement.now
+    tells_beside g.R.OfRegister.text c.args.self.now _ c.clear.new.self c.clear.ensures c.was_used.result (λ v i. i ≡ was_used v c.args.key.now) c.args.code c.in-Some.judgement.now
     c.in-Some.ensures.some c.in-Some.ensures.code c.was_used.ensures
 
 pub returns-in-None : goal.returns-in-None
 returns-in-None g c =
-    tells_last c.args.self.now _ c.clear.new.self c.clear.ensures c.was_used-in-None.result (λ v i. i ≡ was_used v c.args.key.now) c.args.code c.in-None.ensures.none c.was_used-in-None.ensures
+    tells_last g.R.OfRegister.text c.args.self.now _ c.clear.new.self c.clear.ensures c.was_used-in-None.result (λ v i. i ≡ was_used v c.args.key.now) c.args.code c.in-None.ensures.none c.was_used-in-None.ensures

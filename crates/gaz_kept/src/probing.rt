@@ -7,7 +7,7 @@ ghost use Rattle.gaz_sql_facts.specs.Changes.{IsSpared};
 use sqlite::{Alter, Connection, Error, Row};
 
 /// Asks for nothing of any table: an answer tells that the connection was open and is.
-pub(crate) fn probe<S: Alter>(conn: &mut Connection<S>) -> Result<Vec<Row>, Error>
+pub fn probe<S: Alter>(conn: &mut Connection<S>) -> Result<Vec<Row>, Error>
     ensures stays { HasCleanDisk (state S.Store conn.new)
         → OnOk result (IsUnchanged (state S.Store conn.old) (state S.Store conn.new)) }
     ensures spared { HasCleanDisk (state S.Store conn.new)

@@ -1,7 +1,7 @@
 use Rattle.sqlite.specs.Held.{state}
 use Rattle.gaz_sql_facts.proofs.Texts.{spared_query}
-use Rattle.gaz_store.proofs.Asked.{leaves_nothing, stays_open}
-use Rattle.gaz_store.proofs.probing.probe.Goals as goal
+use Rattle.gaz_kept.proofs.Asked.{leaves_nothing, stays_open}
+use Rattle.gaz_kept.proofs.probing.probe.Goals as goal
 
 pub returns-clause-stays : goal.returns-clause-stays
 returns-clause-stays g c clean = stays_open _ (state g.S.Store c.args.conn.now) (state g.S.Store c.query_all.new.self) c.query_all.result (c.query_all.ensures.ok clean)

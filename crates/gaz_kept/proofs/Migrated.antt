@@ -1,0 +1,116 @@
+-- A database of schema 1 stands for the same once it is migrated.
+use Rattle.std.proofs.Common.{◌≡◌, ◌∙◌, inl, inr, ℕ, ℤ, List, ◌∷◌, refl, sym, ap, subst}
+use Rattle.sqlite.specs.Effect.{Database}
+use Rattle.sqlite.specs.Order.{Row, column}
+use Rattle.sqlite.specs.declared.types.Value.{Value}
+use Rattle.sqlite.specs.declared.types.Value.TheVariants.{Int}
+use Rattle.sqlite_rules.specs.Lists.{Has}
+use Rattle.sqlite_rules.proofs.ProbeLemmas.{has_mapped, mapped_has}
+use Rattle.gaz_views.specs.Judgements.{judgements}
+use Rattle.gaz_views.specs.View.{View}
+use Rattle.gaz_overlay.specs.Rows.{HistoryRow}
+use Rattle.gaz_tables.specs.Migrating.{HasFirstTables, Migrates, with_hop}
+use Rattle.gaz_tables.specs.Schema.{metas, old_versions, receiveds, versions}
+use Rattle.gaz_kept.specs.Contents.{board_in}
+use Rattle.gaz_kept.specs.Files.{files_in, reached_in, verdicts_in}
+use Rattle.gaz_kept.specs.Histories.{AreSame}
+use Rattle.gaz_kept.specs.Kept.{AreFirst, AreThrough, IsKept, IsVersion}
+use Rattle.gaz_kept.specs.Migrated.{IsFirstKept, MigrationStands, first_content_in, first_row, first_rows}
+use Rattle.gaz_kept.specs.Opening.{IsOf, schema_number}
+use Rattle.gaz_kept.specs.OpeningFirst.{IsOfFirst, first_number}
+use Rattle.gaz_kept.specs.Stands.{Stands}
+use Rattle.gaz_kept.specs.Versions.{histories_in, history_in, view_in}
+use Rattle.gaz_kept.proofs.Rewritten.{becomes_of}
+use Rattle.gaz_kept.proofs.Statements.{read_from, read_in}
+use Rattle.gaz_kept.proofs.Views.{same_rows}
+
+-- what a row says, whatever its rowid is
+version_too : (v w : Value) (s : Row) → IsVersion (v ∷ with_hop s) → IsVersion (w ∷ with_hop s)
+version_too v w s h = record {
+  cust = h.cust;
+  kind = h.kind;
+  id = h.id;
+  blpu = h.blpu;
+  street = h.street;
+  lang = h.lang;
+  live = h.live;
+  body = h.body;
+  born = h.born;
+  gone = h.gone;
+  hop = h.hop;
+  item = h.item;
+  first = h.first;
+  in_turn = h.in_turn;
+}
+
+history_too : (c : ℕ) (v w : Value) (s : Row) → history_in c (v ∷ with_hop s) ≡ history_in c (w ∷ with_hop s)
+history_too c v w s = refl
+
+module _ (register : List ℕ) (old new : Database) (was : IsFirstKept old) (moves : Migrates schema_number register old new) where
+  abbrev sources : List Row
+  sources = old.trees old_versions
+
+  -- each row that came is a copy
+  source : (r : Row) → Has (new.trees versions) r → (s : Row) × Has sources s × ((n : ℤ) × (r ≡ Int n ∷ with_hop s))
+  source r there = elim (moves.rows.only r there) [ inl none ↦ absurd none | inr from ↦ from ]
+
+  each_version : (r : Row) → Has (new.trees versions) r → IsVersion r
+  each_version r there =
+      let it = source r there in
+      subst IsVersion (sym it.2.1) (version_too (column it.0 0) (Int it.2.0) it.0 (was.rows (first_row it.0) (mapped_has first_row sources it.0 it.1)))
+
+  -- the histories have the same rows
+  only : (c : ℕ) (h : HistoryRow) → Has (histories_in (new.trees versions) c) h → Has (histories_in (first_rows sources) c) h
+  only c h there =
+      let r = read_from (history_in c) (new.trees versions) h there in
+      let it = source r.0 r.1 in
+      read_in (history_in c) (first_rows sources) (first_row it.0) h (mapped_has first_row sources it.0 it.1)
+      (history_too c (column it.0 0) (Int it.2.0) it.0 ∙ ap (history_in c) (sym it.2.1) ∙ r.2)
+
+  kept : (c : ℕ) (h : HistoryRow) → Has (histories_in (first_rows sources) c) h → Has (histories_in (new.trees versions) c) h
+  kept c h there =
+      let r = read_from (history_in c) (first_rows sources) h there in
+      let s = has_mapped first_row sources r.0 r.1 in
+      let made = moves.rows.done s.0 s.1 in
+      read_in (history_in c) (new.trees versions) (Int made.0 ∷ with_hop s.0) h made.1
+      (history_too c (Int made.0) (column s.0 0) s.0 ∙ ap (history_in c) (sym s.2) ∙ r.2)
+
+  same : (c : ℕ) → AreSame (histories_in (first_rows sources) c) (histories_in (new.trees versions) c)
+  same c = record { only = only c; kept = kept c }
+
+  through : (c n : ℕ) → AreThrough n (histories_in (first_rows sources) c) → AreThrough n (histories_in (new.trees versions) c)
+  through c n h = record {
+    until = λ r there. h.until r (only c r there);
+    apart = record {
+      once = λ a b ha hb. h.apart.once a b (only c a ha) (only c b hb);
+      in_turn = λ a b ha hb. h.apart.in_turn a b (only c a ha) (only c b hb);
+    };
+  }
+
+  new_kept : IsKept new
+  new_kept = record {
+    tables = moves.tables;
+    files = λ r there. was.files r (subst (λ l. Has l r) moves.files there);
+    first = λ c. subst (λ l. AreFirst l c) (sym moves.files) (was.first c);
+    rows = each_version;
+    histories = λ c. subst (λ l. AreThrough (reached_in l c) (histories_in (new.trees versions) c)) (sym moves.files) (through c (reached_in (old.trees receiveds) c) (was.histories c));
+  }
+
+  views : (c t : ℕ) → view_in (new.trees versions) c t ≡ view_in (first_rows sources) c t
+  views c t = same_rows (histories_in (first_rows sources) c) (histories_in (new.trees versions) c) (was.histories c).apart (same c) t
+
+  board : board_in (new.trees receiveds) (new.trees versions) ≡ board_in (old.trees receiveds) (first_rows sources)
+  board = λ i c. judgements (verdicts_in (moves.files i) c) (λ t. views c t i)
+
+stands : (register : List ℕ) (working : View) (old new : Database) → IsFirstKept old → Migrates schema_number register old new → Stands new working (first_content_in old.trees working)
+stands register working old new was moves = record {
+  kept = new_kept register old new was moves;
+  content = λ i. record { files = files_in (moves.files i); board = board register old new was moves i; working = working };
+}
+
+is_of : (one other : List ℕ) (old new : Database) → HasFirstTables old → IsOfFirst one (old.trees metas) → Migrates schema_number other old new → IsOf other (new.trees metas)
+is_of one other old new has mine moves =
+    becomes_of first_number schema_number one other (old.trees metas) (new.trees metas) moves.tables.metas_shaped.0 mine moves.meta
+
+pub migration_stands : MigrationStands
+migration_stands = record { stands = stands; is_of = is_of }

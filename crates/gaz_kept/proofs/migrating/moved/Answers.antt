@@ -1,0 +1,9 @@
+use Rattle.sqlite.specs.Held.{state}
+use Rattle.gaz_kept.proofs.Moved.{clean_before, moved_now, on_ok_of}
+use Rattle.gaz_kept.proofs.migrating.moved.Goals as goal
+
+pub returns-in-Ok-clause-moved : goal.returns-in-Ok-clause-moved
+returns-in-Ok-clause-moved g c clean has =
+    let early = clean_before (state g.S.Store c.probe.new.conn) (state g.S.Store c.migrate.new.conn) _ _ c.in-Ok.ensures.leaves clean in
+    moved_now (state g.S.Store c.args.conn.now) (state g.S.Store c.probe.new.conn) (state g.S.Store c.migrate.new.conn)
+    (on_ok_of c.probe.result _ c.if-is_err.ensures.value (c.probe.ensures.stays early)) c.args.text.now (c.in-Ok.ensures.migrated clean) has
