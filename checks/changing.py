@@ -22,7 +22,8 @@ from checks.troubled import Came
 Said = tuple[int, bytes, bytes]  # the exit status, and what stands on standard output and on standard error
 
 BEFORE, AFTER = "before", "after"
-TOLD = {fails("Fault"), fails("Memory")}  # by a command in trouble that has changed nothing, as far as it knows
+# What is told by a command in trouble that has changed nothing, as far as it knows: the fault of what failed, as of reading its words, or want of memory.
+TOLD = {fails(word) for word in ("Fault", "Memory", "ReadFault", "Unreadable")}
 
 
 @dataclass(frozen=True)

@@ -28,10 +28,9 @@ def standing(code: int, judged: int, held: int, wants: str) -> Said:
     return 0, f"custodian {code} judged {judged} held {held} wants {wants}\n".encode(), b""
 
 
-# What is said before and after: of a custodian whose files are there, and of the new one, for whom one of them waits.
+# What is said before and after: of a custodian whose files are there, and of the new one, for whom another's file waits.
 ASKED = (
     (("status", *OLD, "1001"), standing(1001, 4, 1, "1001/5"), OTHER),
-    (("status", *GROWN, "1001"), OTHER, standing(1001, 4, 1, "1001/5")),
     (("status", *GROWN, "1004"), OTHER, standing(1004, 0, 0, "1004/1")),
 )
 

@@ -17,7 +17,7 @@ PLACES = ("--store", "s.db", "--register", "../r.toml")
 NO_STORE: Said = (3, b"", fails("BadSchema"))
 
 # One in so many moments of each: of the history each of them.
-EVERY = {"history": 1, **{it.name: 5 for it in STORES}}
+EVERY = {"history": 1, **{it.name: 11 for it in STORES}}
 
 
 def change_of(on: Place, name: str) -> Change:

@@ -18,7 +18,7 @@ from checks.preloading import library
 from checks.troubled import CUTS, Came, rising
 
 MOST = 1 << 30  # calls: more than any change makes
-FARTHEST = 7  # the stride of the calls by which a second try is stopped
+FARTHEST = 11  # the stride of the calls by which a second try is stopped
 
 Trouble = Callable[[Room, Path, int], dict[str, str]]  # the environment of a run over a store, by its number
 
@@ -105,8 +105,8 @@ PARTS = (
     Part("the process is killed", troubled(kill)),
     Part("the machine stops, and the log is there in part", troubled(partial(cut, False)), 7),
     Part("the machine stops, and the file is there in part", troubled(partial(cut, True)), 7),
-    Part("the machine stops twice", twice, 5),
-    Part("memory", troubled(memory), 61),
+    Part("the machine stops twice", twice, 7),
+    Part("memory", troubled(memory), 61, (BEFORE,)),
 )
 
 
