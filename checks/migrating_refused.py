@@ -2,17 +2,16 @@
 
 import shutil
 import sqlite3
+import subprocess
 from collections.abc import Iterator
 from pathlib import Path
 
 from checks.changing import Said, copied
-from checks.conversations import DEADLINE, Client
 from checks.ground import alter
 from checks.making import COLUMNS
 from checks.migrating import CURRENT, MIGRATED, Place
-from checks.runs import REPLY
 from checks.sessions import fails
-from checks.stores import built, get, hubs_of
+from checks.stores import built, hubs_of
 from checks.tables import opened
 from checks.written import FIRST, SECOND
 
@@ -131,23 +130,26 @@ def refuses(on: Place, word: str, sql: str) -> str | None:
     return "the refused file was written" if word != "Fault" and store.read_bytes() != file else None
 
 
-def no_stores(on: Place) -> Iterator[tuple[str, Said, Path, bytes | None]]:
-    """Files that aren't a store of any schema, or none, with what is said of each; and those of schema 2."""
+def no_stores(on: Place) -> Iterator[tuple[str, Said, Path]]:
+    """Files that aren't a store of any schema, or none, with what is said of each; and a store of schema 2."""
     for name, word, data in (("no file", "Fault", None), ("no database", "Fault", b"This is no database. " * 100), ("an empty file", "BadSchema", b"")):
         store = on.store()
         if data is not None:
             store.write_bytes(data)
-        yield name, REFUSALS[word], store, data
+        yield name, REFUSALS[word], store
     store = on.store()
     assert on.run(store, "init")[0] == 0
-    yield "a new store", CURRENT, store, store.read_bytes()
+    yield "a new store", CURRENT, store
 
 
-def leaves(on: Place, wanted: Said, store: Path, data: bytes | None) -> str | None:
-    """What is wrong where a file is told otherwise, or is another afterwards."""
+def leaves(on: Place, wanted: Said, store: Path) -> str | None:
+    """What is wrong where a file is told otherwise, or is another afterwards. (An empty one may become a database without tables.)"""
+    data = store.read_bytes() if store.exists() else None
     found = on.run(store, "migrate")
     if found != wanted:
         return f"it says {found}, wanted {wanted}"
+    if data == b"":
+        return None if dumped(store) == [] else "it has tables"
     return None if (store.read_bytes() if store.exists() else None) == data else "the file is another one"
 
 
@@ -168,13 +170,14 @@ def in_use(on: Place) -> str | None:
 
 
 def in_use_by_hub(on: Place) -> str | None:
-    """What is wrong where a hub has a store of schema 2 open, and no more afterwards."""
+    """What is wrong where `serve` has a store of schema 2 open, and no more afterwards."""
     store = on.store()
-    with Client([on.hubs.bench, "stored", store, on.hubs.register], DEADLINE) as client:
-        client.send(get("/closed"))
-        if not client.receive(REPLY):
-            return f"the hub says {client.got!r}"
+    assert on.run(store, "init")[0] == 0
+    words = [on.gazhub, "serve", "--store", store, "--register", on.hubs.register, "--port", "0", "--connections", "1"]
+    with subprocess.Popen(words, stdout=subprocess.PIPE) as served:
+        served.stdout.readline()
         found = on.run(store, "migrate")
+        served.kill()
     if found != REFUSALS["Fault"]:
         return f"it says {found}"
     found = on.run(store, "migrate")

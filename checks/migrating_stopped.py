@@ -16,7 +16,7 @@ from checks.written import FIRST, STORES
 PLACES = ("--store", "s.db", "--register", "../r.toml")
 NO_STORE: Said = (3, b"", fails("BadSchema"))
 
-# One in so many moments of each: of the history each of them.
+# One in so many moments of each: of the history each of them, and of the others each at which the machine stops.
 EVERY = {"history": 1, **{it.name: 11 for it in STORES}}
 
 
@@ -31,8 +31,8 @@ def change_of(on: Place, name: str) -> Change:
     return Change(name, ready, ("migrate", *PLACES), MIGRATED, CURRENT, told)
 
 
-# So many rows that what is written doesn't fit into what is kept at hand: it goes into the log before all of it is there.
-ROWS = 45_000
+# So many rows that most calls write the log, and then the file.
+ROWS = 10_000
 MORE = f"""WITH RECURSIVE it (n) AS (SELECT 1 UNION ALL SELECT n + 1 FROM it WHERE n < {ROWS})
 INSERT INTO version SELECT 1001, 23, printf('Y%d', n * 7919 % 1000003), 42, 0, 0, 0, 2, 1000000, printf('Y%d,42,TAX01,A/17,2001-04-01,', n * 7919 % 1000003) FROM it"""
 
@@ -52,4 +52,4 @@ def run_all(room: Path) -> Iterator[tuple[str, str | None]]:
         on = Place(gazhub, hubs, folder)
         for name, every in EVERY.items():
             yield from stopped(at, change_of(on, name), every)
-        yield from run_few(at, large(on), 3, ("the machine stops", "the process is killed"))
+        yield from run_few(at, large(on), 6, ("one call", "the machine stops", "the process is killed"))

@@ -84,12 +84,14 @@ def came_again(tried: Tried, store: Path, number: int) -> Came:
 
 @dataclass(frozen=True)
 class Part:
-    """What fails or stops, by how much the number of a run rises, and in which states it has to leave stores."""
+    """What fails or stops, by how much the number of a run rises, in which states it has to leave stores, and whether a store of which one in so many moments is
+    tried has each of these."""
 
     name: str
     once: Callable[[Tried, int], Came]
     stride: int = 1
     met: tuple[str, ...] = (BEFORE, AFTER)
+    is_each: bool = False
 
 
 def troubled(trouble: Trouble) -> Callable[[Tried, int], Came]:
@@ -101,7 +103,7 @@ PARTS = (
     Part("calls of the file", troubled(partial(calls, "file {}"))),
     Part("calls of both", troubled(partial(calls, "both {}"))),
     Part("one call", troubled(partial(calls, "both {} 1"))),
-    Part("the machine stops", troubled(stop)),
+    Part("the machine stops", troubled(stop), is_each=True),
     Part("the process is killed", troubled(kill)),
     Part("the machine stops, and the log is there in part", troubled(partial(cut, False)), 7),
     Part("the machine stops, and the file is there in part", troubled(partial(cut, True)), 7),
@@ -113,8 +115,9 @@ PARTS = (
 def part_fault(tried: Tried, part: Part, every: int = 1) -> str | None:
     """What is wrong with the first run that goes wrong, or that no run met what has to be met."""
     met: Counter[str] = Counter()
+    stride = part.stride * (1 if part.is_each else every)
     with ThreadPoolExecutor(len(os.sched_getaffinity(0))) as workers:
-        for number, came in rising(lambda number: part.once(tried, number), part.stride * every, workers):
+        for number, came in rising(lambda number: part.once(tried, number), stride, workers):
             met += came.met
             if came.fault:
                 return f"number {number}: {came.fault}"
