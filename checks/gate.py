@@ -11,11 +11,13 @@ from dataclasses import dataclass, field
 from pathlib import Path
 from typing import Callable
 
-from checks import kit, measure, outside, pages, stores, trying
+from checks import kit, measure, outside, pages, refused, stores, trying
 from checks.beside import Beside
+from checks.refused import Refused
 
 SAYING = threading.Lock()
-PROVED = re.compile(r"^rt: (\w+) proved$")
+# (what an earlier run on this machine proved of the same text is proved)
+PROVED = re.compile(r"^rt: (\w+) (?:proved$|is kept: )")
 # What edits leave free beside proofs, which grow once they have begun: bytes.
 SPARE = 4_000_000_000
 
@@ -147,12 +149,25 @@ class Edits:
     folder_of: Callable[[object], Path]
     begin: Callable[[object, Path], None]
     account: Account
+    before: Refused  # what an earlier run refused
+    tries_again: bool = False  # that too
 
     def have(self, crates: list) -> list:
         """Those of the crates that have edits."""
         return [it for it in crates if (self.folder_of(it) / "must-fail").is_dir()]
 
     def try_crate(self, crate) -> None:
+        """Tries the edits of a crate, unless an earlier run on this machine refused all of them."""
+        edits = self.folder_of(crate) / "must-fail"
+        names = [] if self.tries_again else self.before.names(crate, edits)
+        if not names:
+            return self.try_anew(crate, edits)
+        with SAYING:
+            for it in names:
+                self.account.count(f"{crate.name}/{it}", True)
+        say(f"must-fail {crate.name}: {len(names)} edits, which an earlier run on this machine refused")
+
+    def try_anew(self, crate, edits: Path) -> None:
         with tempfile.TemporaryDirectory(prefix="check-kept-") as kept:
             self.begin(crate, Path(kept))
             outcome = trying.try_crate(crate, self.folder_of(crate), Path(kept), say)
@@ -161,6 +176,8 @@ class Edits:
             self.account.peak = max(self.account.peak, outcome.peak)
             for it in outcome.tried:
                 self.account.count(f"{crate.name}/{it.name}", it.is_refused)
+        if outcome.tried and all(it.is_refused for it in outcome.tried):
+            self.before.note(crate, edits, [it.name for it in outcome.tried])
         for it in outcome.tried:
             say(f"must-fail {crate.name}/{it.name}: {'refused' if it.is_refused else 'FAILED'}: {it.why}")
 
@@ -205,7 +222,7 @@ def whole(root: Path) -> int:
         copy_of(root, room)
         copy_edits(root, Path(apart))
         crates = kit.crates(room)
-        edits = Edits(lambda crate: Path(apart) / crate.name, lambda crate, kept: None, account)
+        edits = Edits(lambda crate: Path(apart) / crate.name, lambda crate, kept: None, account, Refused(refused.store()))
         beside = edits.beside(edits.have(crates), proved)
         beside.start()
         prove(room, account, proved)
@@ -268,6 +285,6 @@ def some(root: Path, names: list[str], edits_alone: bool) -> int:
                 account.count(f"{program}: rt run", ran.status == 0)
             run(root, root, account)
     build_below(crates)
-    edits = Edits(lambda crate: Path(crate.folder), kept_of, account)
+    edits = Edits(lambda crate: Path(crate.folder), kept_of, account, Refused(refused.store()), tries_again=True)
     edits.try_all(edits.have(crates))
     return close(names, account, clock)
