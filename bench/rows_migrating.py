@@ -35,11 +35,10 @@ UPDATE meta SET number = 2;
 COMMIT;"""
 
 
-def made_by(store, *scripts):
+def made_by(store, script):
     """Asks Python's sqlite3 for these statements, in a store that is closed then."""
     with closing(sqlite3.connect(store, isolation_level=None)) as conn:
-        for script in scripts:
-            conn.executescript(script)
+        conn.executescript(script)
 
 
 def second_schema():
@@ -87,7 +86,7 @@ def by_python(place, store):
     """Seconds that Python's sqlite3 takes for the same statements over a copy."""
     copy = place.fresh(store)
     start = time.perf_counter()
-    made_by(copy, second_schema(), ONWARD)
+    made_by(copy, second_schema() + ONWARD)
     spent = time.perf_counter() - start
     os.remove(copy)
     return spent
