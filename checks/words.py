@@ -56,6 +56,8 @@ TOLD = (
     usage(f"line {STORE} 42 43", f"{UNEXPECTED}'43'"),
     usage(f"extract {STORE} 1001", f"{MISSING}  <VOLUME>\n"),
     usage(f"extend {STORE}", f"{MISSING}  --grown <GROWN>\n"),
+    usage("migrate --store s.db", f"{MISSING}  --register <REGISTER>\n"),
+    usage(f"migrate {STORE} 1001", f"{UNEXPECTED}'1001'"),
     Told("--help", "A hub for street and property gazetteers\n\nUsage: gazhub [COMMAND]\n", 0, most=24),
     Told(
         "help submit",
