@@ -164,6 +164,9 @@ def try_together(bench: Bench, edits: list[Edit]) -> list[Tried]:
     if not edits[0].places:
         return [try_alone(bench, edits[0])]
     ran, faults = bench.try_some(edits)
+    if ran.status == 2:
+        # (a name that no check knows)
+        ran, faults = bench.try_whole(edits)
     bad = unreadable(edits, faults)
     if bad and len(bad) < len(edits):
         left = [it for it in edits if all(it is not edit for edit, _ in bad)]
