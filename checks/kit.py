@@ -44,9 +44,10 @@ def crates(root: Path) -> list:
 
 
 def check_words(crate, kept: Path, only: list[str]) -> list[str]:
-    """The command that checks a crate over what `kept` holds: the whole crate, or only the functions that `only` names."""
+    """The command that checks a crate over what `kept` holds: the whole crate, or only the functions that `only` names, past holes."""
     rt = load()
     words = [rt.rtlib.RATTLE, "check", *crate.words(["--jobs", "1"], keeps=False)]
+    words += ["--allow-holes"] if only else []
     for path in only:
         words += ["--only", path]
     return [*words, "--incremental", str(kept)]

@@ -8,7 +8,7 @@ from pathlib import Path
 from checks import kit
 
 # What tries them: where one of these files changes, all are tried again.
-TRYING = ("edits.py", "kit.py", "measure.py", "refused.py", "source.py", "trying.py")
+TRYING = ("edits.py", "holes.py", "kit.py", "measure.py", "refused.py", "source.py", "trying.py")
 
 
 def store() -> Path:

@@ -6,6 +6,7 @@ from pathlib import Path
 
 from checks import kit, trying
 from checks.edits import BadEdit, edit_of, groups, hunks_between, merged, sources_of
+from checks.holes import holes
 from checks.source import functions
 
 LIBRARY = """//! Small numbers.
@@ -80,8 +81,8 @@ class OverASmallCrate(unittest.TestCase):
     def test_edits_that_turn_a_meaning_are_refused_where_they_stand(self):
         tried, outcome = self.tried(RIGHT)
         self.assertEqual({name: True for name in RIGHT}, {name: it.is_refused for name, it in tried.items()}, tried)
-        # those of two functions and a constant in one check, the second of one function in another, and the crate as it is
-        self.assertEqual(3, outcome.checks)
+        # those of two functions and a constant in one check, the second of one function in another
+        self.assertEqual(2, outcome.checks)
         self.assertFalse([it for it in tried.values() if it.why.startswith("alone")])
 
     def test_edits_that_show_nothing_are_named(self):
@@ -97,6 +98,43 @@ class OfFaults(unittest.TestCase):
     def test_an_invariant_that_is_not_proved_is_a_fault(self):
         text = "note: src/lib.rt:12:9: `search` found no proof (`invariant_of-self`); `search` gave up at one of its limits"
         self.assertEqual([("src/lib.rt", 12)], [(it.file, it.line) for it in trying.faults_in(text, ["src/lib.rt"])])
+
+
+class OfHoles(unittest.TestCase):
+    SHELF = """pub struct Shelf;
+
+pub trait Keeps {
+    fn keeps(&self);
+}
+
+impl Shelf {
+    fn one(&self) {
+    }
+
+    fn two(&self) {
+    }
+}
+
+impl Keeps for Shelf {
+    fn keeps(&self) {
+    }
+}
+
+#[test]
+fn tries() {
+}
+
+fn free() {
+}
+"""
+
+    def test_what_no_edit_changes_has_a_hole(self):
+        sources = {"src/a/b.rt": self.SHELF, "proofs/a/b/Shelf/one/Answers.antt": "", "proofs/a/b/free/Answers.antt": ""}
+        changed = {it for it in functions("src/a/b.rt", self.SHELF) if it.name == "free"}
+        made = holes("small", sources, changed)
+        self.assertEqual({"proofs/a/b/Shelf/one/Answers.antt", "proofs/a/b/Shelf/one/Proof.antt", "proofs/a/b/Shelf/two/Proof.antt"}, set(made))
+        self.assertIsNone(made["proofs/a/b/Shelf/one/Answers.antt"])
+        self.assertIn("use Rattle.small.proofs.a.b.Shelf.two.Statement as stated", made["proofs/a/b/Shelf/two/Proof.antt"])
 
 
 class OfEdits(unittest.TestCase):

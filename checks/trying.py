@@ -9,6 +9,7 @@ from typing import Callable
 
 from checks import kit, measure
 from checks.edits import Edit, groups, merged, moved, paths, read_edits, sources_of
+from checks.holes import holes
 from checks.source import Function
 
 PARTS = ("src", "specs", "proofs")
@@ -42,39 +43,57 @@ class Tried:
 
 @dataclass
 class Bench:
-    """A crate whose edits are tried, over work that is kept between its checks."""
+    """A crate whose edits are tried; `kept` holds what checks of the whole crate keep."""
 
     crate: object
     sources: dict[str, str]
     kept: Path
-    began_over: bool = False  # the first check had something to begin with
+    began_over: bool = False  # the first check of the whole crate had something to begin with
     is_odd: bool = False  # a check named a place that no edit changed
-    over: list[Edit] = field(default_factory=list)  # those that were tried over what earlier checks kept
-    is_whole: bool = False  # one of them was tried on the whole crate
+    wholes: int = 0  # how many checks of the whole crate there were
+    over: list[Edit] = field(default_factory=list)  # the edits that were tried over what earlier ones kept
     seconds: float = 0.0
     peak: int = 0
     checks: int = 0
 
-    def check(self, texts: dict[str, str], only: list[str]) -> measure.Ran:
-        """Checks a copy of the crate with these texts in place of its own."""
+    def check(self, texts: dict[str, str | None], only: list[str], kept: Path) -> measure.Ran:
+        """Checks a copy of the crate with these texts in place of its own, over what `kept` holds. Under holes no function is proved by what it calls."""
         with tempfile.TemporaryDirectory(prefix="check-edit-") as made:
             room = Path(made)
             for part in PARTS:
                 if (Path(self.crate.folder) / part).is_dir():
                     shutil.copytree(Path(self.crate.folder) / part, room / part)
             for path, text in texts.items():
-                (room / path).write_text(text, encoding="utf-8")
-            ran = measure.run(kit.check_words(self.crate, self.kept, only), room, is_apart=True)
+                put(room / path, text)
+            ran = measure.run(kit.check_words(self.crate, kept, only), room, is_apart=True)
         self.seconds, self.peak, self.checks = self.seconds + ran.seconds, max(self.peak, ran.peak), self.checks + 1
         return ran
 
-    def try_all(self, edits: list[Edit], only: list[str]) -> tuple[measure.Ran, list[Fault]]:
-        """Checks the crate with these edits applied, and tells the faults that were named."""
-        if self.checks or self.began_over:
-            self.over, self.is_whole = [*self.over, *edits], self.is_whole or not only
-        texts = merged(edits, self.sources)
-        ran = self.check(texts, only)
+    def try_some(self, edits: list[Edit]) -> tuple[measure.Ran, list[Fault]]:
+        """Checks what these edits change, by the contracts of all else, and tells the faults that were named."""
+        changed, texts = {place for edit in edits for place in edit.places}, merged(edits, self.sources)
+        open_ones = holes(self.crate.name, self.sources, changed)
+        with tempfile.TemporaryDirectory(prefix="check-kept-") as kept:
+            ran = self.check(texts | open_ones, paths(edits), Path(kept))
         return ran, faults_in(ran.text, list(texts))
+
+    def try_whole(self, edits: list[Edit]) -> tuple[measure.Ran, list[Fault]]:
+        """Checks the whole crate with these edits applied, and tells the faults that were named."""
+        if self.wholes or self.began_over:
+            self.over = [*self.over, *edits]
+        self.wholes += 1
+        texts = merged(edits, self.sources)
+        ran = self.check(texts, [], self.kept)
+        return ran, faults_in(ran.text, list(texts))
+
+
+def put(file: Path, text: str | None) -> None:
+    """Gives a file this text, or takes it away where there is none."""
+    if text is None:
+        file.unlink()
+    else:
+        file.parent.mkdir(parents=True, exist_ok=True)
+        file.write_text(text, encoding="utf-8")
 
 
 def faults_in(text: str, changed: list[str]) -> list[Fault]:
@@ -126,7 +145,7 @@ def unreadable(edits: list[Edit], faults: list[Fault]) -> list[tuple[Edit, Fault
 
 def try_alone(bench: Bench, edit: Edit) -> Tried:
     """Tries an edit by itself, on the whole crate."""
-    ran, faults = bench.try_all([edit], [])
+    ran, faults = bench.try_whole([edit])
     bad = next((it for it in faults if it.is_unreadable), None)
     if bad:
         return Tried(edit.name, False, f"the edited text can't be read, so no contract was tried: {bad.text()}")
@@ -140,13 +159,14 @@ def try_alone(bench: Bench, edit: Edit) -> Tried:
 
 
 def try_together(bench: Bench, edits: list[Edit]) -> list[Tried]:
-    """Tries edits of different functions in one check, and alone those that it doesn't refuse in their place."""
+    """Tries edits of different functions in one check. Those that it doesn't refuse in their place are tried together once more, since
+    one may call what another changes, and alone where nothing is left out."""
     if not edits[0].places:
         return [try_alone(bench, edits[0])]
-    ran, faults = bench.try_all(edits, paths(edits))
+    ran, faults = bench.try_some(edits)
     if ran.status == 2:
         # (a name that no check knows)
-        ran, faults = bench.try_all(edits, [])
+        ran, faults = bench.try_whole(edits)
     bad = unreadable(edits, faults)
     if bad and len(bad) < len(edits):
         left = [it for it in edits if all(it is not edit for edit, _ in bad)]
@@ -154,7 +174,11 @@ def try_together(bench: Bench, edits: list[Edit]) -> list[Tried]:
     places = [place for edit in edits for place in places_in(edit, edits)]
     bench.is_odd = bench.is_odd or not all(is_inside(it, places) for it in faults)
     found = [(edit, judged(edit, edits, faults) if is_answer(ran) else None) for edit in edits]
-    return [Tried(edit.name, True, fault.text()) if fault else try_alone(bench, edit) for edit, fault in found]
+    refused = [Tried(edit.name, True, fault.text()) for edit, fault in found if fault]
+    left = [edit for edit, fault in found if not fault]
+    if refused and left:
+        return refused + try_together(bench, left)
+    return refused + [try_alone(bench, edit) for edit in left]
 
 
 @dataclass
@@ -169,13 +193,15 @@ class Outcome:
 
 
 def plain_fault(bench: Bench, edits: list[Edit]) -> str:
-    """What keeps the crate from being proved over what is kept once no edit is applied, if anything does. A check from nothing that
-    named no place but those that were edited has shown that there is nothing, so only edits that were tried over its work are asked
-    for again."""
-    asked = edits if bench.is_odd else bench.over
-    if not asked:
+    """What keeps the crate from being proved once no edit is applied, if anything does. A check from nothing that named no place but
+    those that were edited has shown that there is nothing."""
+    if not bench.is_odd and not bench.over:
         return ""
-    ran = bench.check({}, [] if bench.is_whole else paths(asked))
+    if bench.over:
+        ran = bench.check({}, [], bench.kept)
+    else:
+        with tempfile.TemporaryDirectory(prefix="check-kept-") as kept:
+            ran = bench.check({}, paths(edits), Path(kept))
     return "" if ran.status == 0 else ran.text.strip()[-300:]
 
 

@@ -69,11 +69,17 @@ module _ (number : ℕ) where
   IsTold register shown (Err BadSchema) = (x : Row) → ¬ IsOne x shown
   IsTold register shown (Err Fault) = ⊥
 
-  -- that it was told of what was shown, or that there was a fault
+  -- that it was told of what was shown
+  abbrev pub ToldRows : {S : Type 0} → Ghosts S → Held S → List ℕ
+      → Result (Unit {0}) StoreRefusal → Type 0
+  ToldRows g before register told =
+      (shown : List Row) × IsAnswer g before shown × IsTold register shown told
+
+  -- or that there was a fault
   abbrev pub TellsRows : {S : Type 0} → Ghosts S → Held S → List ℕ
       → Result (Unit {0}) StoreRefusal → Type 0
-  TellsRows g before register result = (result ≡ Err Fault)
-      ⊎ ((shown : List Row) × IsAnswer g before shown × IsTold register shown result)
+  TellsRows g before register result =
+      (result ≡ Err Fault) ⊎ ToldRows g before register result
 
   -- what is told of the tables of schema 2 or of schema 1
   abbrev pub JudgesMeta : {S : Type 0} → Ghosts S → Held S → Held S → List ℕ
@@ -81,3 +87,10 @@ module _ (number : ℕ) where
   JudgesMeta g before after register result =
       HasCleanDisk (state g after) → HasMeta (state g before).now
       → IsJudged register ((state g before).now.trees metas) result
+
+  -- the same, where they are read
+  abbrev pub JudgesRead : {S : Type 0} → Ghosts S → Held S → Held S → List ℕ
+      → Result (Result (Unit {0}) StoreRefusal) Error → Type 0
+  JudgesRead g before after register result =
+      HasCleanDisk (state g after) → HasMeta (state g before).now
+      → IfOk result (IsJudged register ((state g before).now.trees metas))

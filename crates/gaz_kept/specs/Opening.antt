@@ -1,7 +1,7 @@
 -- Which databases are taken as a store of a register, and which become one.
-use Rattle.std.specs.Prelude.{◌≡◌, ◌&&◌, ◌||◌, ℕ, Bool, true, false}
+use Rattle.std.specs.Prelude.{◌≡◌, ◌↔◌, ◌&&◌, ◌||◌, ℕ, Bool, true, false}
 use Rattle.std.specs.Prelude.{List, codes, map, Option, None, Some}
-use Rattle.std.specs.Prelude.{Result, OnErr, OnOk, IsTrue}
+use Rattle.std.specs.Prelude.{Result, IfOk, OnErr, OnOk, IsTrue}
 use Rattle.std.specs.List.{list_all, list_any}
 use Rattle.sqlite.specs.Effect.{Database}
 use Rattle.sqlite.specs.Held.{Held, state}
@@ -16,6 +16,7 @@ use Rattle.gaz_tables.specs.Schema.{meta, metas, received, version, version2}
 use Rattle.gaz_tables.specs.Stores.{HasTables}
 use Rattle.gaz_kept.specs.Numbered as numbered
 use Rattle.gaz_kept.specs.declared.refusal.StoreRefusal.{StoreRefusal}
+use Rattle.gaz_kept.specs.declared.refusal.Unread.{Unread}
 
 -- ---- tables, by their names, which are the same but for the case of ASCII letters
 
@@ -93,6 +94,13 @@ module _ {S A E : Type 0} (g : Ghosts S) (before after : Held S) (result : Resul
   abbrev pub IsOpen : Type 0
   IsOpen = HasCleanDisk (state g after)
       → OnOk result (IsTrue (state g before).is_open × IsTrue (state g after).is_open)
+
+-- whether a store's tables are those of a register, as it is told
+abbrev pub TellsWhether : {S : Type 0} → Ghosts S → Held S → Held S → List ℕ
+    → Result Bool Unread → Type 0
+TellsWhether g before after register result =
+    HasCleanDisk (state g after) → HasTables (state g before).now
+    → IfOk result (λ own. IsTrue own ↔ IsOf register ((state g before).now.trees metas))
 
 module _ {S : Type 0} (g : Ghosts S) (before after : Held S)
     (result : Result (Unit {0}) StoreRefusal) where

@@ -15,4 +15,4 @@ mod refusal;
 pub mod rewriting;
 mod row_cells;
 
-pub use refusal::StoreRefusal;
+pub use refusal::{StoreRefusal, Unread};

@@ -1,19 +1,21 @@
 //! What a store in a database is made from and opened with.
-ghost use Rattle.std.specs.Prelude.{◌≡◌, ◌≢◌, ◌↔◌, false, pos, Err, IfOk, IsTrue, OnOk};
+ghost use Rattle.std.specs.Prelude.{◌≡◌, ◌≢◌, ◌↔◌, false, true, pos, Ok, Err, IfOk};
+ghost use Rattle.std.specs.Prelude.{IsTrue, OnOk};
 ghost use Rattle.sqlite.specs.Held.{state};
 ghost use Rattle.sqlite.specs.Order.{column};
 ghost use Rattle.sqlite.specs.State.{HasCleanDisk, Survives};
 ghost use Rattle.sqlite.specs.declared.types.Value.TheVariants.{Int, Text};
 ghost use Rattle.gaz_sql_facts.specs.Changes.{IsUndone, LeavesTheCommit};
 ghost use Rattle.gaz_tables.specs.Creating.{MayCreate};
-ghost use Rattle.gaz_kept.specs.Numbered.{FindsMeta, IsAnswer, IsTold, JudgesMeta, TellsRows};
+ghost use Rattle.gaz_kept.specs.Numbered.{FindsMeta, IsAnswer, IsTold, JudgesMeta, JudgesRead};
+ghost use Rattle.gaz_kept.specs.Numbered.{TellsRows, ToldRows};
 ghost use Rattle.gaz_kept.specs.Opening.{IsOpen, IsSettled, Judges, Makes, Rests};
-ghost use Rattle.gaz_kept.specs.Opening.{RestsRefused, Tells, WasOpen, has_all, has_any};
-ghost use Rattle.gaz_kept.specs.Opening.{schema_number};
+ghost use Rattle.gaz_kept.specs.Opening.{RestsRefused, Tells, TellsWhether, WasOpen};
+ghost use Rattle.gaz_kept.specs.Opening.{has_all, has_any, schema_number};
 ghost use Rattle.gaz_register.specs.Texts.{register_text};
 
 use crate::naming::{has_all, has_any};
-use crate::refusal::StoreRefusal;
+use crate::refusal::{StoreRefusal, Unread};
 use gaz_register::Register;
 use gaz_tables::{creating, metas};
 use sqlite::types::ValueRef;
@@ -87,7 +89,29 @@ fn told(rows: &[Row], number: u32, register: &str) -> Result<(), StoreRefusal>
     }
 }
 
-// What the rows of `meta` tell of a schema's number and a register with this canonical text.
+// What the rows of `meta` tell of a schema's number and a register with this canonical text, where
+// they are read.
+fn read_meta<S: Alter>(
+    conn: &mut Connection<S>,
+    number: u32,
+    text: &str,
+) -> Result<Result<(), StoreRefusal>, Error>
+    requires { conn.old.in_transaction ≡ false }
+    ensures over { conn.new.in_transaction ≡ false }
+    ensures open { WasOpen S.Store conn.old conn.new result }
+    ensures told { HasCleanDisk (state S.Store conn.new)
+        → IfOk result (ToldRows number S.Store conn.old text.now) }
+    ensures judged { JudgesRead number S.Store conn.old conn.new text.now result }
+    ensures rests { HasCleanDisk (state S.Store conn.new)
+        → Rests (state S.Store conn.old) (state S.Store conn.new) }
+    ensures leaves { Survives (state S.Store conn.old) (state S.Store conn.new) (λ _. ⊥) }
+{
+    known(conn);
+    let rows = asked(conn)?;
+    Ok(told(&rows, number, text))
+}
+
+// The same, where a failure is told as a refusal.
 pub(crate) fn compared<S: Alter>(
     conn: &mut Connection<S>,
     number: u32,
@@ -103,9 +127,8 @@ pub(crate) fn compared<S: Alter>(
         → Rests (state S.Store conn.old) (state S.Store conn.new) }
     ensures leaves { Survives (state S.Store conn.old) (state S.Store conn.new) (λ _. ⊥) }
 {
-    known(conn);
-    match asked(conn) {
-        Ok(rows) => told(&rows, number, text),
+    match read_meta(conn, number, text) {
+        Ok(told) => told,
         Err(_) => Err(StoreRefusal::Fault),
     }
 }
@@ -171,4 +194,30 @@ pub fn check<S: Alter>(
         Ok(text) => compared(conn, NUMBER, &text),
         Err(_) => Err(StoreRefusal::Fault),
     }
+}
+
+/// Whether the database is a store of a register. It changes nothing, whatever the answer.
+///
+/// It isn't where `check` refuses it. `Memory` or `Failed` where memory or the database failed.
+pub fn is_of<S: Alter>(
+    alloc: Global,
+    conn: &mut Connection<S>,
+    register: &Register,
+) -> Result<bool, Unread>
+    requires { conn.old.in_transaction ≡ false }
+    ensures over { conn.new.in_transaction ≡ false }
+    ensures open { has_all (state S.Store conn.old).now.schema ≡ true
+        → WasOpen S.Store conn.old conn.new result }
+    ensures lacking { has_all (state S.Store conn.old).now.schema ≡ false → result ≡ Ok false }
+    ensures told { TellsWhether S.Store conn.old conn.new (register_text register.now) result }
+    ensures rests { HasCleanDisk (state S.Store conn.new)
+        → Rests (state S.Store conn.old) (state S.Store conn.new) }
+    ensures leaves { Survives (state S.Store conn.old) (state S.Store conn.new) (λ _. ⊥) }
+{
+    if !has_all(conn.schema()) {
+        return Ok(false);
+    }
+    let text = register.text(alloc)?;
+    let told = read_meta(conn, NUMBER, &text)?;
+    Ok(told.is_ok())
 }

@@ -1,3 +1,5 @@
+use sqlite::{Error as SqlError, ErrorCode};
+use std::alloc::AllocError;
 use thiserror::Error;
 
 /// Why a database isn't taken as a store.
@@ -10,4 +12,37 @@ pub enum StoreRefusal {
     /// Memory or the database failed.
     #[error("the database failed")]
     Fault,
+}
+
+/// Why the rows of a store weren't read.
+#[derive(Clone, Copy, Debug, PartialEq, Eq, Error)]
+pub enum Unread {
+    #[error("out of memory")]
+    Memory,
+    #[error("the database failed")]
+    Failed,
+}
+
+impl From<AllocError> for Unread {
+    ghost use Rattle.std.specs.Prelude.{◌≡◌};
+    ghost use Rattle.gaz_kept.specs.declared.refusal.Unread.TheVariants.{Memory};
+
+    ghost from_gives = { λ _ e. e ≡ Memory };
+
+    fn from(_: AllocError) -> Unread {
+        Unread::Memory
+    }
+}
+
+impl From<SqlError> for Unread {
+    ghost use Rattle.std.specs.Prelude.{⊤};
+
+    ghost from_gives = { λ _ _. ⊤ };
+
+    fn from(error: SqlError) -> Unread {
+        match error {
+            SqlError::SqliteFailure(ErrorCode::OutOfMemory) => Unread::Memory,
+            _ => Unread::Failed,
+        }
+    }
 }

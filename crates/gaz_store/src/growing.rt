@@ -16,7 +16,7 @@ use crate::naming::OfRegister;
 use crate::store::Store;
 use crate::tables::Tables;
 use gaz_keeper::ShelfFault;
-use gaz_kept::{StoreRefusal, opening, rewriting};
+use gaz_kept::{Unread, opening, rewriting};
 use gaz_register::{GrowFault, Register};
 use sqlite::Alter;
 use thiserror::Error;
@@ -68,11 +68,10 @@ impl<S: Alter> Tables<S> {
             → result ≡ Ok false }
     {
         self.sure = false;
-        match opening::check(self.alloc, &mut self.conn, register) {
-            Ok(()) => Ok(true),
-            Err(StoreRefusal::BadSchema) => Ok(false),
-            Err(StoreRefusal::OtherRegister) => Ok(false),
-            Err(StoreRefusal::Fault) => Err(self.fail()),
+        match opening::is_of(self.alloc, &mut self.conn, register) {
+            Ok(own) => Ok(own),
+            Err(Unread::Memory) => Err(ShelfFault::Memory),
+            Err(Unread::Failed) => Err(self.fail()),
         }
     }
 

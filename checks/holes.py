@@ -1,0 +1,50 @@
+"""Functions that no edit changes, with a hole in place of each proof: what calls them is then checked by their contracts alone."""
+
+import re
+
+from checks.source import Function, functions, module_folder
+
+TYPE = re.compile(r"(?:pub(?:\([a-z ]+\))? )?(?:struct|enum) (\w+)", re.M)
+PROOFS = ("Answers.antt", "Invariants.antt", "Proof.antt")
+
+
+def homes(sources: dict[str, str]) -> dict[str, str]:
+    """The folder of the module that declares each type, under its name."""
+    texts = ((file, text) for file, text in sources.items() if file.startswith("src/"))
+    return {found: module_folder(file) for file, text in texts for found in TYPE.findall(text)}
+
+
+def stands_alone(text: str, function: Function) -> bool:
+    """Whether it has a body and a proof of its own wherever it is read: no method of a trait, no function within one, no test."""
+    lines = text.split("\n")[function.first - 1 : function.last]
+    is_inside = lines[0].startswith(" ") and not function.owner
+    return not is_inside and not lines[-1].endswith(";") and not any(it.strip().startswith("#[") for it in lines)
+
+
+def folder_of(function: Function, homes: dict[str, str]) -> str | None:
+    """Where its proof stands, if its file and its type tell: a method of a trait has none here."""
+    if not function.owner:
+        return f"proofs/{module_folder(function.file)}{function.name}"
+    home = homes.get(function.owner)
+    return None if home is None else f"proofs/{home}{function.owner}/{function.name}"
+
+
+def hole_at(crate: str, folder: str) -> str:
+    """A file that claims the contract of the function whose proofs stand in this folder, with no proof."""
+    parts = folder.split("/")
+    module, name = ".".join(["Rattle", crate, *parts]), parts[-1]
+    return f"use {module}.Statement as stated\n\npub {name}_spec : {{M : Type 1}} → stated.statement M\n{name}_spec = ?\n"
+
+
+def holes(crate: str, sources: dict[str, str], changed: set[Function]) -> dict[str, str | None]:
+    """The files of proofs as they are with a hole for each function but these: none where a file goes."""
+    made: dict[str, str | None] = {}
+    found = homes(sources)
+    for file in (it for it in sources if it.startswith("src/")):
+        for function in functions(file, sources[file]):
+            folder = folder_of(function, found)
+            if function in changed or folder is None or not stands_alone(sources[file], function):
+                continue
+            made |= {f"{folder}/{it}": None for it in PROOFS if f"{folder}/{it}" in sources}
+            made[f"{folder}/Proof.antt"] = hole_at(crate, folder)
+    return made
