@@ -57,7 +57,7 @@ class Bench:
     checks: int = 0
 
     def check(self, texts: dict[str, str | None], only: list[str], kept: Path) -> measure.Ran:
-        """Checks a copy of the crate with these texts in place of its own, over what `kept` holds. Under holes no function is proved by what it calls."""
+        """Checks a copy of the crate with these texts in place of its own, none where a file goes, over what `kept` holds."""
         with tempfile.TemporaryDirectory(prefix="check-edit-") as made:
             room = Path(made)
             for part in PARTS:
