@@ -14,7 +14,6 @@ pub mod Memory
 pub mod Telling
 pub mod Told
 pub mod Replying
-pub mod AskingOwner
 pub mod AnswerSteps
 pub mod Declining
 pub mod HubRuns
@@ -23,7 +22,16 @@ pub mod ReadBack
 pub mod Finding
 pub mod OwnNumbers
 pub mod Growing
+pub mod ChainTests
+pub mod ChainFiles
+pub mod ChainBoards
+pub mod ChainFine
+pub mod ChainLater
+pub mod ChainGrowth
+pub mod ChainNobody
 pub mod Owners
+pub mod Following
+pub mod AskingHolder
 pub mod GrownAnswers
 pub mod ReadingLaws
 pub mod Examples
@@ -34,6 +42,7 @@ pub mod WorkedSteps
 pub mod WorkedRuns
 pub mod WorkedReadings
 pub mod WorkedOwners
+pub mod WorkedChains
 pub mod WorkedHubs
 pub mod WorkedWaiting
 pub mod WorkedGrowth

@@ -7,10 +7,13 @@ pub mod Newest
 pub mod LastViews
 pub mod Addresses
 pub mod Histories
+pub mod Passages
+pub mod NewestPassages
 pub mod Judging
 pub mod Stands
 pub mod Keeping
 pub mod Examples
+pub mod PassageExamples
 pub mod Numbered
 pub mod Opening
 pub mod OpeningFirst

@@ -9,9 +9,11 @@ pub mod Fits
 pub mod PageRows
 pub mod Taken
 pub mod StreetRows
+pub mod Passed
 pub mod Saying
 pub mod Verdicts
 pub mod Turning
+pub mod PassedOn
 pub mod Counts
 pub mod Waiting
 pub mod Bytes

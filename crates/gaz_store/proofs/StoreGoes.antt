@@ -3,9 +3,11 @@ use Rattle.std.proofs.Common.{◌≡◌, ◌⊎◌, ◌∙◌, ◌+◌, ◌≤�
 use Rattle.std.specs.Prelude.{⊤, IsSome, IsTrue, None, Some}
 use Rattle.std.specs.FinMap as finite
 use Rattle.std.specs.Option.{option_map_or}
+use Rattle.std.specs.Ordering.{nat_cmp}
 use Rattle.gaz_overlay.specs.declared.touch.Touch.{Touch}
 use Rattle.sqlite.specs.Effect.{Database}
 use Rattle.sqlite.specs.Held.{state}
+use Rattle.sqlite.specs.Order.{Row}
 use Rattle.sqlite.specs.State.{State}
 use Rattle.sqlite_trees.specs.Tree.{Trees}
 use Rattle.sqlite_trees.specs.declared.store.Store.{Ghosts}
@@ -27,6 +29,7 @@ use Rattle.gaz_keeper.specs.declared.fault.ShelfFault.{ShelfFault}
 use Rattle.gaz_tables.specs.Schema.{metas, receiveds, versions}
 use Rattle.gaz_kept.specs.Contents.{content_in}
 use Rattle.gaz_kept.specs.Files.{files_in, reached_in}
+use Rattle.gaz_kept.specs.Keeping.{AreToldPassages}
 use Rattle.gaz_kept.specs.Kept.{IsKept}
 use Rattle.gaz_kept.specs.LastViews.{last_in}
 use Rattle.gaz_kept.specs.Opening.{IsOf}
@@ -73,6 +76,11 @@ goes_idle register s a j f = record {
   whole = λ sound ask all. all;
 }
 
+passed_nothing : (rows : List Row) (c : ℕ) → AreToldPassages no_changes rows c
+passed_nothing rows c uprn volume is =
+    let none : None ≡ Some (Some volume) = sym (finite.get-empty nat_cmp uprn) ∙ is in
+    absurd (cc)
+
 told_nothing : (rows : _) → AreTold no_changes rows
 told_nothing rows = record { told = λ k volume is. absurd (never_since k volume is) }
   where
@@ -101,7 +109,7 @@ module _ (register : List ℕ) (s : State) (a : Remembered) (j : Judging) (f c :
       };
       beside = record {
         at_hand = ask;
-        makes = record { made = subst (Make (last_in db c) no_changes) (sym made_is) (changes_make.nothing (last_in db c)); told = told_nothing (histories_in (db.trees versions) c) };
+        makes = record { made = subst (Make (last_in db c) no_changes) (sym made_is) (changes_make.nothing (last_in db c)); told = told_nothing (histories_in (db.trees versions) c); passed = passed_nothing (db.trees versions) c };
       };
     };
     done = λ stood ask h. ap (content_in db.trees) (made_is ∙ sym (last_is db stood.tables.kept c));
@@ -206,7 +214,7 @@ module _ (register : List ℕ) (old new : State) (a b : Remembered) (m : Judgeme
   kept_so : Stood → (db : Database) → WhereSo a (AppliesNext m.code m.changes) old.now db → Stands db empty_view becomes
   kept_so stood db applies =
       keep_stands m.code (next_in old.now m.code) m.changes worked old.now db
-      (record { kept = stood.tables.kept; next = refl; at_hand = stood.beside.at_hand; made = stood.beside.makes.made; told = stood.beside.makes.told })
+      (record { kept = stood.tables.kept; next = refl; at_hand = stood.beside.at_hand; made = stood.beside.makes.made; told = stood.beside.makes.told; passed = stood.beside.makes.passed })
       (applies stood.tables.kept stood.tables.so)
 
   whose_so : Stood → (db : Database) → WhereSo a (AppliesNext m.code m.changes) old.now db → IsOf register (db.trees metas)
