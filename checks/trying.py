@@ -57,7 +57,7 @@ class Bench:
     checks: int = 0
 
     def check(self, texts: dict[str, str | None], only: list[str], kept: Path) -> measure.Ran:
-        """Checks a copy of the crate with these texts in place of its own, over what `kept` holds. Under holes no function is proved by what it calls."""
+        """Checks a copy of the crate with these texts in place of its own, none where a file goes, over what `kept` holds."""
         with tempfile.TemporaryDirectory(prefix="check-edit-") as made:
             room = Path(made)
             for part in PARTS:
@@ -164,6 +164,9 @@ def try_together(bench: Bench, edits: list[Edit]) -> list[Tried]:
     if not edits[0].places:
         return [try_alone(bench, edits[0])]
     ran, faults = bench.try_some(edits)
+    if ran.status == 2:
+        # (a name that no check knows)
+        ran, faults = bench.try_whole(edits)
     bad = unreadable(edits, faults)
     if bad and len(bad) < len(edits):
         left = [it for it in edits if all(it is not edit for edit, _ in bad)]
