@@ -39,23 +39,29 @@ class Row:
 # 500 is a number that no file of the history names, and 42 one with an item since volume 2.
 RELEASED, ADOPTED = Row(500), Row(42, live=1, born=2, hop=2)
 
-# What is no row of custody, or says nothing that can be.
-DAMAGED = {
+# Rows that say nothing that can be: no file is judged by one, whether or not its number was passed on.
+UNREADABLE = {
     "a hop of -1": Row(500, hop=-1),
     "a hop of 0": Row(500, hop=0),
     "a hop of 10000": Row(500, hop=10_000),
+    "a hop of 10000 in the past": Row(500, hop=10_000, gone=2),
     "neither released nor adopted": Row(500, live=2),
     "a code of 0": Row(500, other=0),
     "a code of 10000": Row(500, other=10_000),
     "a body": Row(500, body="x"),
     "a language": Row(500, lang=1),
+}
+
+# Rows that are found by another number, or by none, or that say what can't have been.
+ODD = {
     "another number beside its name": Row(500, blpu=501),
     "a name of too few digits": Row(500, name="500"),
     "a name without digits": Row(500, name="x"),
     "born after all volumes": Row(500, born=900),
     "gone before all volumes": Row(500, gone=1),
-    "a hop of 10000 in the past": Row(500, hop=10_000, gone=2),
 }
+
+DAMAGED = {**UNREADABLE, **ODD}
 
 # Items with a hop. No answer reads it but what brings a store to hand, which then isn't.
 HOPS = {
@@ -133,13 +139,13 @@ def is_mended(on: Ground, way: Way, store: Path) -> str | None:
 
 
 def is_damaged(on: Ground, row: Row, way: Way) -> str | None:
-    """What is wrong where the number of a damaged row is inserted. The row may count for one or not, or the file isn't judged; then all is well
-    once the row is gone. The rows of items are as before where the file wasn't applied."""
+    """What is wrong where the number of a damaged row is inserted. The file isn't judged where the row says nothing that can be; an odd one may
+    count for a row of custody or not. All is well once the row is gone. The rows of items are as before where the file wasn't applied."""
     store = on.damaged(row.sql())
     before, passed = items(store), passages(store)
     replies = replies_in(way(store, INSERTED).replies)
     told = next((it for it in OUTCOMES if it in b"".join(replies)), None)
-    if len(replies) != 1 or told is None:
+    if len(replies) != 1 or told is None or row in UNREADABLE.values() and told != REFUSED:
         return f"it is told {replies}"
     if passages(store) != passed or (items(store) != before) != (told == APPLIED):
         return f"its rows aren't as they have to be where it is told {told}"
