@@ -84,7 +84,7 @@ INSERTED = post(1001, 5, file_of(1001, 5, "21,I,1,500,1,450000,250000,,,2001-04-
 UPDATED = post(1001, 5, file_of(1001, 5, "21,U,1,42,1,450001,250000,,AR1 2DN,2001-04-01,"))
 
 APPLIED, REFUSED = b'{"outcome":"applied"}\n', b'{"refusal":52}\n'
-REJECTED = b'{"outcome":"rejected","record":2,"rule":2'  # by 20 or 21
+REJECTED = b'{"outcome":"rejected","record":2,"rule":20}'
 OUTCOMES = (APPLIED, REJECTED, REFUSED)
 
 Way = Callable[[Path, bytes], Answered]
