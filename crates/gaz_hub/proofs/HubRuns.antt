@@ -1,5 +1,5 @@
 -- Calls of a hub over a keeper, one after another.
-use Rattle.std.proofs.Common.{◌≡◌, ◌+◌, inl, Bool, true, false, ◌&&◌, true≢false, List, [], ◌∷◌, ◌++◌, refl, sym, ◌∙◌, append-nil, arith}
+use Rattle.std.proofs.Common.{◌≡◌, inl, Bool, true, false, ◌&&◌, true≢false, List, [], ◌∷◌, ◌++◌, refl, sym, ◌∙◌, append-nil, arith}
 use Rattle.gaz_keeper.specs.Keeper.{Seen}
 use Rattle.gaz_hub.specs.Hubs.{ReachesAll, Runs, StandsFor, Steps, all_declined, is_declined, state_of}
 use Rattle.gaz_hub.specs.Laws.{CallsMakeRuns}
