@@ -16,6 +16,8 @@ pub mod Told
 pub mod Replying
 pub mod AnswerSteps
 pub mod Declining
+pub mod Receiving
+pub mod RunStops
 pub mod HubRuns
 pub mod Headline
 pub mod ReadBack
