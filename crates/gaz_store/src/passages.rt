@@ -5,13 +5,14 @@ ghost use Rattle.gaz_tables.specs.Custody.{FindsCustodyBehind};
 ghost use Rattle.gaz_tables.specs.Schema.{versions};
 ghost use Rattle.gaz_loaded.specs.Passing.{AreToldBehind};
 ghost use Rattle.gaz_store.specs.Asking.{AsksTables};
-ghost use Rattle.gaz_store.specs.Passages.{IsStartOf, SayPassages, SaysPassage, custody_listed};
+ghost use Rattle.gaz_store.specs.Passages.{IsBare, IsStartOf, SayPassages, SaysPassage};
+ghost use Rattle.gaz_store.specs.Passages.{custody_listed};
 ghost use Rattle.gaz_store.specs.Passing.{passages_of};
 
 use crate::tables::Tables;
 use gaz_ids::{Code, Hop, LAST_VOLUME};
 use gaz_keeper::ShelfFault;
-use gaz_kept::decoding::{RowFault, key_in, name_of, number};
+use gaz_kept::decoding::{RowFault, key_in, name_of, number, text};
 use gaz_loaded::Passage;
 use gaz_records::{Key, Kind};
 use gaz_tables::custody;
@@ -22,7 +23,18 @@ use std::alloc::Global;
 // The most rows of one answer.
 const MOST: u32 = 512;
 
-// What became of a number, of a row of id, born, gone, live, street and hop.
+// No language and no text stand in a row, as in none of kind 92.
+fn check_bare(row: &Row) -> Result<(), RowFault>
+    ensures { IfOk result (λ done. IsBare row.now) }
+{
+    if number(row, 6)? == 0 && text(row, 7)?.is_empty() {
+        Ok(())
+    } else {
+        Err(RowFault::Wrong)
+    }
+}
+
+// What became of a number, of a row of id, born, gone, live, street, hop, lang and body.
 fn custody_in(row: &Row) -> Result<Custody, RowFault>
     ensures { IfOk result (λ x. custody_listed row.now ≡ Some x) }
 {
@@ -50,6 +62,7 @@ fn passage_in(row: &Row) -> Result<Passage, RowFault>
     };
     let born = number(row, 1)?;
     let custody = custody_in(row)?;
+    check_bare(row)?;
     Ok(Passage {
         uprn,
         born,
