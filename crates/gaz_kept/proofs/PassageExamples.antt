@@ -131,8 +131,9 @@ rows_hold = record {
 
 told_holds : WorkedTold
 told_holds = record {
-  taken = record { born = refl; custody = refl };
+  taken = record { born = refl; custody = refl; bare = record { language = refl; body = refl } };
   damaged = refl;
+  texts = λ bare. let clash = bare.body in absurd (cc);
   no_blpu = refl;
   nothing = refl;
   stands = refl;

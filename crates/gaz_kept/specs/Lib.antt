@@ -14,6 +14,7 @@ pub mod Stands
 pub mod Keeping
 pub mod Examples
 pub mod PassageExamples
+pub mod Refusals
 pub mod Numbered
 pub mod Opening
 pub mod OpeningFirst

@@ -1,7 +1,7 @@
 -- What a query for a number's newest passage tells, and what it says of the key of its BLPU.
 use Rattle.std.specs.Prelude.{◌≡◌, ℕ, pos, List, [], ◌∷◌, Option, Some, None}
 use Rattle.std.specs.Prelude.{option_map}
-use Rattle.sqlite.specs.declared.types.Value.TheVariants.{Int}
+use Rattle.sqlite.specs.declared.types.Value.TheVariants.{Int, Text}
 use Rattle.sqlite.specs.Order.{Row, column}
 use Rattle.sqlite_rules.specs.Lists.{Has}
 use Rattle.gaz_ids.specs.Numbers.{of_id}
@@ -18,16 +18,22 @@ use Rattle.gaz_kept.specs.declared.passages.Passed.{Passed}
 
 -- ---- what an answer says
 
--- taken or given up, the other custodian's code and the hop, of a row of born, gone, live, street
--- and hop
+-- taken or given up, the other custodian's code and the hop, of a row of born, gone, live, street,
+-- hop, lang and body
 abbrev pub custody_shown_in : Row → Option Custody
 custody_shown_in r =
     custody_told (number_in (column r 2)) (of_id 1 9999 (number_in (column r 3)))
     (of_id 1 9999 (number_in (column r 4)))
 
+-- no language and no text stand beside it
+pub record IsBare (r : Row) : Type 0 where
+  pub language : column r 5 ≡ Int (pos 0)
+  pub body : column r 6 ≡ Text []
+
 pub record SaysPassed (r : Row) (passed : Passed) : Type 0 where
   pub born : column r 0 ≡ Int (pos passed.born)
   pub custody : custody_shown_in r ≡ Some passed.custody
+  pub bare : IsBare r
 
 -- the first row
 abbrev pub SaysPassage : List Row → Option Passed → Type 0

@@ -1,7 +1,8 @@
 -- Worked examples of rows of kind 92, computed from the definitions.
-use Rattle.std.specs.Prelude.{◌≡◌, pos, true, false, List, [], ◌∷◌, ◌++◌, take, Some, None}
+use Rattle.std.specs.Prelude.{◌≡◌, pos, true, false, List, [], ◌∷◌, ◌++◌, codes, take}
+use Rattle.std.specs.Prelude.{Some, None}
 use Rattle.sqlite.specs.Order.{Row}
-use Rattle.sqlite.specs.declared.types.Value.TheVariants.{Int}
+use Rattle.sqlite.specs.declared.types.Value.TheVariants.{Int, Text}
 use Rattle.gaz_records.specs.declared.key.Key.TheVariants as key
 use Rattle.gaz_views.specs.View.{custody_at, was_used}
 use Rattle.gaz_views.specs.declared.custody.Custody.TheVariants.{Adopted, Released}
@@ -10,7 +11,7 @@ use Rattle.gaz_overlay.specs.declared.touch.Stood.TheVariants.{Never, Past, Sinc
 use Rattle.gaz_tables.specs.Custody.{custody_shown}
 use Rattle.gaz_kept.specs.Examples.{changed_101, current_life, four_rows}
 use Rattle.gaz_kept.specs.Kept.{ArePassages, IsVersion}
-use Rattle.gaz_kept.specs.NewestPassages.{SaysPassed, custody_shown_in, stood_with}
+use Rattle.gaz_kept.specs.NewestPassages.{IsBare, SaysPassed, custody_shown_in, stood_with}
 use Rattle.gaz_kept.specs.Passages.{IsLastOf}
 use Rattle.gaz_kept.specs.Versions.{history_in, passage_in, passage_values, passages_in, passing}
 use Rattle.gaz_kept.specs.Versions.{view_in}
@@ -35,6 +36,10 @@ two_rows = given_row ∷ taken_row ∷ []
 -- the first of them with hop 0
 abbrev pub without_hop : Row
 without_hop = take 11 given_row ++ Int (pos 0) ∷ []
+
+-- and with a text in it
+abbrev pub with_text : Row
+with_text = take 10 given_row ++ Text (codes "K1") ∷ Int (pos 1) ∷ []
 
 pub record WorkedPassing : Type 0 where
   pub said : passage_in 1001 given_row ≡ Some given_up
@@ -65,6 +70,7 @@ told_taken = record { born = 3; custody = Adopted 1002 2 }
 pub record WorkedTold : Type 0 where
   pub taken : SaysPassed (custody_shown taken_row) told_taken
   pub damaged : custody_shown_in (custody_shown without_hop) ≡ None
+  pub texts : ¬ IsBare (custody_shown with_text)
   -- a released number's key was used, also where no BLPU ever stood
   pub no_blpu : stood_with None (Some told_taken) ≡ Past
   pub nothing : stood_with None None ≡ Never

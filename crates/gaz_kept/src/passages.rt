@@ -2,10 +2,10 @@
 ghost use Rattle.std.specs.Prelude.{◌≡◌, IfOk};
 ghost use Rattle.gaz_ids.specs.Numbers.{of_id};
 ghost use Rattle.gaz_cells.specs.Custody.{custody_by, custody_told};
-ghost use Rattle.gaz_kept.specs.NewestPassages.{SaysPassage, SaysPassed, born_of, custody_of};
-ghost use Rattle.gaz_kept.specs.NewestPassages.{stood_with};
+ghost use Rattle.gaz_kept.specs.NewestPassages.{IsBare, SaysPassage, SaysPassed, born_of};
+ghost use Rattle.gaz_kept.specs.NewestPassages.{custody_of, stood_with};
 
-use crate::decoding::{RowFault, number};
+use crate::decoding::{RowFault, number, text};
 use crate::newest::{Life, stood_by};
 use gaz_ids::{Code, Hop};
 use gaz_overlay::Stood;
@@ -42,7 +42,18 @@ fn custody_told(live: u64, other: u64, hop: u64) -> Option<Custody>
     custody_by(live, other, hop)
 }
 
-// What a row of born, gone, live, street and hop says.
+// No language and no text stand in a row, as in none of kind 92.
+fn check_bare(row: &Row) -> Result<(), RowFault>
+    ensures { IfOk result (λ done. IsBare row.now) }
+{
+    if number(row, 5)? == 0 && text(row, 6)?.is_empty() {
+        Ok(())
+    } else {
+        Err(RowFault::Wrong)
+    }
+}
+
+// What a row of born, gone, live, street, hop, lang and body says.
 fn passed_in(row: &Row) -> Result<Passed, RowFault>
     ensures { IfOk result (SaysPassed row.now) }
 {
@@ -50,6 +61,7 @@ fn passed_in(row: &Row) -> Result<Passed, RowFault>
     let live = number(row, 2)?;
     let other = number(row, 3)?;
     let hop = number(row, 4)?;
+    check_bare(row)?;
     match custody_told(live, other, hop) {
         Some(custody) => Ok(Passed { born, custody }),
         None => Err(RowFault::Wrong),

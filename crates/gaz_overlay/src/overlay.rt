@@ -20,12 +20,12 @@ use std::marker::Model;
 // none.
 pub const WORKING: u64 = 1;
 
-/// What a judgement has put, taken and passed on, to be laid over a last view that stays where it is,
-/// and what is to be written for each key and each number when it is kept.
+/// What a judgement has put, taken and passed on, to be laid over a last view that stays where it
+/// is, and what is to be written for each key and each number when it is kept.
 ///
-/// A key is touched before it is put, taken or passed on: then the caller says what the tables have there. The
-/// last view's other answers come from the caller too, and the overlay's functions make of them
-/// those of the laid view.
+/// A key is touched before it is put, taken or passed on: then the caller says what the tables have
+/// there. The last view's other answers come from the caller too, and the overlay's functions make
+/// of them those of the laid view.
 #[derive(Drop)]
 pub struct Overlay {
     pub(crate) ledger: CachedLedger,

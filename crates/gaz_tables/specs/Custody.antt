@@ -6,7 +6,8 @@ use Rattle.sqlite.specs.declared.types.Value.TheVariants.{Int, Text}
 use Rattle.sqlite.specs.Order.{Row, value_cmp}
 use Rattle.gaz_tables.specs.Shows.{Picks, ShowsGreatest}
 use Rattle.gaz_tables.specs.Versions.{IsBehind, IsOfKey, IsOfKeyUntil, born_of, born_place, cust_of}
-use Rattle.gaz_tables.specs.Versions.{gone_of, hop_of, id_of, kind_of, live_of, street_of}
+use Rattle.gaz_tables.specs.Versions.{body_of, gone_of, hop_of, id_of, kind_of, lang_of, live_of}
+use Rattle.gaz_tables.specs.Versions.{street_of}
 
 -- the kind of such a row
 abbrev pub custody_kind : ℕ
@@ -14,7 +15,8 @@ custody_kind = 92
 
 -- what is shown of a row
 abbrev pub custody_shown : Row → Row
-custody_shown r = born_of r ∷ gone_of r ∷ live_of r ∷ street_of r ∷ hop_of r ∷ []
+custody_shown r =
+    born_of r ∷ gone_of r ∷ live_of r ∷ street_of r ∷ hop_of r ∷ lang_of r ∷ body_of r ∷ []
 
 -- the number's row that was born last, or nothing
 abbrev pub FindsCustody : ℕ → List ℕ → List Row → List Row → Type 0

@@ -31,4 +31,4 @@ pub record WorkedCustody : Type 0 where
   pub behind_all : FindsCustodyBehind 1001 (codes "U2") 1 9 four_passages []
   pub shown : listed_shown taken_back
       ≡ Text (codes "U1") ∷ Int (pos 4) ∷ Int (pos 1000000) ∷ Int (pos 1) ∷ Int (pos 1002)
-      ∷ Int (pos 2) ∷ []
+      ∷ Int (pos 2) ∷ Int (pos 0) ∷ Text [] ∷ []
