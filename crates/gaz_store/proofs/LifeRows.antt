@@ -17,7 +17,7 @@ pub entry_told : (cells : CellsValue) (x : Item) → OrMemory (Ok x) (read_cells
 entry_told cells x (inl is) = cells_say_entries cells x (sym is)
 entry_told cells x (inr other) = absurd (cc)
 
-taken_next : (rows : List Row) (i : ℕ) (row : Row) → i < length rows → row ≡ slice_index_or rows i row → take (i + 1) rows ≡ take i rows ++ row ∷ []
+pub taken_next : (rows : List Row) (i : ℕ) (row : Row) → i < length rows → row ≡ slice_index_or rows i row → take (i + 1) rows ≡ take i rows ++ row ∷ []
 taken_next rows i row inside is = take_more rows i row inside ∙ ap (λ r. take i rows ++ r ∷ []) (sym is)
 
 filter_push : (rows : List Row) (row : Row) → filter is_items (rows ++ row ∷ []) ≡ filter is_items rows ++ cond (is_items row) (row ∷ []) []

@@ -18,7 +18,7 @@ use Rattle.gaz_tables.specs.Rowids.{rowid_of}
 use Rattle.gaz_tables.specs.Schema.{versions}
 use Rattle.gaz_tables.specs.Versions.{kind_of}
 use Rattle.gaz_kept.specs.Kept.{IsItemRow, IsKept, IsVersion}
-use Rattle.gaz_kept.specs.Versions.{number_in}
+use Rattle.gaz_kept.specs.Versions.{number_in, passages_in}
 use Rattle.gaz_kept.proofs.CustodyFollows.{no_item}
 use Rattle.gaz_kept.proofs.Statements.{history_of, item_of, item_row, not_none, passage_kind, read_from, read_in, some_same}
 use Rattle.gaz_loaded.proofs.Lives.{by_or_behind}
@@ -27,7 +27,7 @@ use Rattle.gaz_loaded.specs.Telling as listed
 use Rattle.gaz_loaded.specs.Telling.{AreAbove, AreNext, last_of, told}
 use Rattle.gaz_loaded.specs.declared.listed.Life.{Life}
 use Rattle.gaz_store.specs.Asking.{AsksTables}
-use Rattle.gaz_store.specs.Listing.{lives_kept, told_in, told_with}
+use Rattle.gaz_store.specs.Listing.{lives_kept, passages_kept, told_in, told_with}
 use Rattle.gaz_store.specs.Lives.{IsRowBehind, SaysLife, TellsLives, is_items}
 use Rattle.gaz_store.specs.Store.{seen_in}
 use Rattle.gaz_store.specs.Volumes.{TellsVolumes}
@@ -42,6 +42,11 @@ pub lives_rest : {S R : Type 0} {store : Ghosts S} {T : Type 0} (register : List
     → (seen_in register old).stands → (seen_in register (record old { tables = tables; judging = k })).unharmed → lives_kept (record old { tables = tables; judging = k }) ≡ lives_kept old
 lives_rest register old tables k r P asks stood unharmed = ap (λ (db : Database). filter_map told_in (db.trees versions)) (tables_rest register old tables k r P asks stood unharmed)
 
+pub passages_rest : {S R : Type 0} {store : Ghosts S} {T : Type 0} (register : List ℕ) (old : Store S R store) (tables : Tables S store) (k : Judging) (r : Result T ShelfFault) (P : Database → T → Type 0)
+    → AsksTables old.tables tables r P
+    → (seen_in register old).stands → (seen_in register (record old { tables = tables; judging = k })).unharmed → passages_kept (record old { tables = tables; judging = k }) ≡ passages_kept old
+passages_rest register old tables k r P asks stood unharmed = ap (λ (db : Database) (c : ℕ). passages_in (db.trees versions) c) (tables_rest register old tables k r P asks stood unharmed)
+
 -- ---- the last of a list
 
 has_got : {X : Type 0} (xs : List X) (n : ℕ) (x : X) → slice_get xs n ≡ Some x → Has xs x
@@ -53,7 +58,7 @@ some_last : {X A : Type 0} (x : X) (xs : List X) → slice_get (x ∷ xs) (lengt
 some_last x [] none = not_none x refl none
 some_last x (y ∷ xs) none = some_last y xs none
 
-empty_is : {X : Type 0} (xs : List X) → last_of xs ≡ None → xs ≡ []
+pub empty_is : {X : Type 0} (xs : List X) → last_of xs ≡ None → xs ≡ []
 empty_is [] none = refl
 empty_is (x ∷ xs) none = let e : length (x ∷ xs) - 1 ≡ length xs = omega arith in some_last x xs (ap (slice_get (x ∷ xs)) (sym e) ∙ none)
 

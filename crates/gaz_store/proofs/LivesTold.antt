@@ -214,7 +214,7 @@ module _ (db : Database) (kept : IsKept db) where
 
     pub page_tells : (page : LifePage) → IsLifePage answer page → TellsPage after rows page
     page_tells (Lives lives) is = lives_told lives.items is.0 is.1
-    page_tells (Behind last) is = goes_on is.0 is.1.0 is.1.1 last is.1.2
+    page_tells (Behind last) is = goes_on is.0 is.1 is.2 last is.3
 
 -- ---- one page after another
 

@@ -6,7 +6,7 @@ use Rattle.std.specs.Prelude.{⊤, Option, Some, None, IsSorted}
 use Rattle.std.proofs.lemmas.Cmp.{on_total}
 use Rattle.std.proofs.lemmas.List.MinMax.{ranks_by}
 use Rattle.std.specs.Cmp.{IsStrictWeakOrder, int_ranks, nat_cmp_is, then_total}
-use Rattle.std.specs.Ordering.{MatchOrdering, is_gt, is_lt, nat_cmp, ordering_then}
+use Rattle.std.specs.Ordering.{MatchOrdering, is_gt, is_lt, nat_cmp, ordering_reverse, ordering_then}
 use Rattle.std.specs.Cmp.Lexicographic.{nat_list_cmp_total, slice_cmp}
 use Rattle.std.specs.declared.cmp.Ordering.{Ordering}
 use Rattle.std.specs.declared.cmp.Ordering.TheVariants.{Less, Equal, Greater}
@@ -15,10 +15,12 @@ use Rattle.sqlite.specs.Order.{Row, column, value_cmp}
 use Rattle.sqlite.specs.declared.types.Value.{Value}
 use Rattle.sqlite.specs.declared.types.Value.TheVariants.{Int, Text}
 use Rattle.sqlite_rules.specs.Lists.{Has}
+use Rattle.sqlite_rules.proofs.ListLemmas.{has_filtered, has_kept}
+use Rattle.sqlite_rules.proofs.ProbeLemmas.{mapped_has}
 use Rattle.sqlite_value.proofs.OrderLemmas.{value_cmp-Int, value_cmp-Text, value_cmp_total}
 use Rattle.gaz_records.specs.declared.item.Kind.TheVariants as kind
 use Rattle.gaz_records.specs.declared.key.Key.TheVariants as key
-use Rattle.gaz_cells.proofs.Ids.{ids_back}
+use Rattle.gaz_cells.proofs.Ids.{ids_apart, ids_back}
 use Rattle.gaz_cells.specs.Custody.{custody_cells, is_custody, told_in}
 use Rattle.gaz_cells.specs.Ids.{id_of, is_key, key_named}
 use Rattle.gaz_ids.specs.Numbers.{in_range}
@@ -26,19 +28,24 @@ use Rattle.gaz_views.specs.declared.custody.Custody.{Custody}
 use Rattle.gaz_views.specs.declared.custody.Custody.TheVariants.{Adopted, Released}
 use Rattle.gaz_overlay.specs.Passages.{PassageRow}
 use Rattle.gaz_sql_facts.proofs.Lists.{first_least, has_permuted, permuted_has}
-use Rattle.gaz_tables.specs.Custody.{FindsCustodyBehind, by_id_and_birth, listed_shown}
+use Rattle.gaz_tables.specs.Custody.{FindsCustodyBehind, IsCustodyBehind, by_id_and_birth, listed_shown}
+use Rattle.gaz_tables.specs.Custody.{ComesBehind as Comes}
 use Rattle.gaz_tables.specs.Schema.{receiveds, versions}
 use Rattle.gaz_tables.specs.Versions as table
 use Rattle.gaz_kept.specs.Kept.{IsKept}
 use Rattle.gaz_kept.specs.Versions.{custody_cells_in, number_in, passage_in, passages_in, passing, text_in}
-use Rattle.gaz_kept.proofs.PassageStatements.{Known, its_owner, known_of, passage_row}
+use Rattle.gaz_kept.proofs.PassageStatements.{Known, its_owner, kind_passage, known_of, passage_row}
 use Rattle.gaz_kept.proofs.PassageStatements as said
-use Rattle.gaz_kept.proofs.Statements.{read_in, some_same, tells_of}
+use Rattle.gaz_kept.proofs.Reached.{reached_room}
+use Rattle.gaz_kept.proofs.Statements.{read_from, read_in, some_same, tells_of}
 use Rattle.gaz_loaded.specs.Passing.{AreToldBehind, AreToldInTurn, ComesBehind, IsNext, passage_of}
 use Rattle.gaz_loaded.specs.declared.listed.Passage.{Passage}
 use Rattle.gaz_store.specs.Passages.{IsStartOf, SayPassages, SaysPassage}
 use Rattle.gaz_store.specs.Passing.{passages_of}
 use Rattle.gaz_store.proofs.Holding.{by_ids}
+use Rattle.gaz_store.proofs.Listed.{empty_is}
+use Rattle.gaz_store.proofs.PageRows.{all_behind}
+use Rattle.gaz_store.proofs.Taken.{none_taken}
 
 -- it comes behind what was told, or is that
 abbrev IsFrom : Option Passage → PassageRow → Type 0
@@ -210,3 +217,111 @@ module _ (db : Database) (kept : IsKept db) (c : ℕ) where
           by_row : (q : PassageRow) → (s : Row) × Has (r ∷ more) s × IsOf s q → (q ≡ p) ⊎ ComesBehind (Some x) q
           by_row q (s, inl same, o) = inl (some_same q p (ap (passage_in c) (sym same) ∙ o.said) its.said)
           by_row q (s, inr there, o) = by_from q its (behind_it s q there o) (read_in (passage_in c) rows s q o.there o.said)
+
+  -- ---- from where on
+
+  not_greater : (m n : ℕ) → is_key (key.Blpu m) ≡ true → is_key (key.Blpu n) ≡ true → m ≤ n → slice_cmp nat_cmp (id_of (key.Blpu m)) (id_of (key.Blpu n)) ≡ Greater → ⊥
+  not_greater m n km kn le more = by_numbers (cases_lt m n)
+    where
+      by_numbers : (m < n) ⊎ (n ≤ m) → ⊥
+      by_numbers (inl less) = let wrong : Less ≡ Greater = sym (ids_less m n km kn less) ∙ more in cc
+      by_numbers (inr ge) =
+          let same : m ≡ n = omega (arith, le, ge) in
+          let wrong : Equal ≡ Greater = sym (ids_tied m) ∙ ap (λ (k : ℕ). slice_cmp nat_cmp (id_of (key.Blpu m)) (id_of (key.Blpu k))) same ∙ more in
+          cc
+
+  born_until : (p : PassageRow) → Has all p → p.born ≤ 999_999
+  born_until p there =
+      let until = ((kept.passages c).until p there).born in
+      let room = reached_room db c kept in
+      omega (arith, until, room)
+
+  -- what comes behind an id and a volume comes behind what was told, or is that
+  from_start : (after : Option Passage) (id : List ℕ) (born : ℕ) → IsStartOf after (id, born) → (r : Row) (p : PassageRow) → IsOf r p → Comes id born r → IsFrom after p
+  from_start None id born start r p o behind = tt
+  from_start (Some x) id born start r p o (inl behind) = by_numbers (cases_lt x.uprn p.uprn)
+    where
+      texts : Text behind.0 ≡ Text (id_of (key.Blpu p.uprn))
+      texts = sym behind.1 ∙ (known r p o).birth.of_key.of_id
+
+      named : behind.0 ≡ id_of (key.Blpu p.uprn)
+      named = cc
+
+      more : slice_cmp nat_cmp (id_of (key.Blpu p.uprn)) (id_of (key.Blpu x.uprn)) ≡ Greater
+      more = (λ i. slice_cmp nat_cmp (sym named i) (sym start.named i)) ∙ behind.2
+
+      by_numbers : (x.uprn < p.uprn) ⊎ (p.uprn ≤ x.uprn) → IsFrom (Some x) p
+      by_numbers (inl less) = inl less
+      by_numbers (inr le) = absurd (not_greater p.uprn x.uprn (known r p o).number start.known le more)
+  from_start (Some x) id born start r p o (inr its) =
+      let k = known r p o in
+      let texts : Text (id_of (key.Blpu x.uprn)) ≡ Text (id_of (key.Blpu p.uprn)) = ap Text (sym start.named) ∙ sym its.0 ∙ k.birth.of_key.of_id in
+      let ids : id_of (key.Blpu x.uprn) ≡ id_of (key.Blpu p.uprn) = cc in
+      let keys : key.Blpu x.uprn ≡ key.Blpu p.uprn = ids_apart (key.Blpu x.uprn) (key.Blpu p.uprn) start.known k.number refl ids in
+      let number : x.uprn ≡ p.uprn = cc in
+      let births : Int its.1.0 ≡ Int (pos p.born) = sym its.1.1 ∙ k.birth.of_born in
+      let birth : its.1.0 ≡ pos p.born = cc in
+      let less : pos born <ℤ pos p.born = subst (λ n. pos born <ℤ n) birth its.1.2 in
+      let capped = start.capped in
+      let most = born_until p (read_in (passage_in c) rows r p o.there o.said) in
+      inr (number, omega (arith, ints, less, capped, most))
+
+  -- and what comes behind what was told comes behind the id and the volume
+  to_start : (after : Option Passage) (id : List ℕ) (born : ℕ) → IsStartOf after (id, born) → (r : Row) (p : PassageRow) → IsOf r p → ComesBehind after p → Comes id born r
+  to_start None id born start r p o behind =
+      inl (id_of (key.Blpu p.uprn), (known r p o).birth.of_key.of_id, greater (slice_cmp nat_cmp (id_of (key.Blpu p.uprn)) id) (ap (λ l. is_gt (slice_cmp nat_cmp (id_of (key.Blpu p.uprn)) l)) start.0 ∙ all_behind (key.Blpu p.uprn) (known r p o).number))
+    where
+      greater : (o : Ordering) → is_gt o ≡ true → o ≡ Greater
+      greater Less is = cc
+      greater Equal is = cc
+      greater Greater is = refl
+  to_start (Some x) id born start r p o (inl less) = inl (
+    id_of (key.Blpu p.uprn),
+    (known r p o).birth.of_key.of_id,
+    ap (slice_cmp nat_cmp (id_of (key.Blpu p.uprn))) start.named
+    ∙ nat_list_cmp_total.antisymm (id_of (key.Blpu p.uprn)) (id_of (key.Blpu x.uprn))
+    ∙ ap ordering_reverse (ids_less x.uprn p.uprn start.known (known r p o).number less),
+  )
+  to_start (Some x) id born start r p o (inr same) =
+      let k = known r p o in
+      let capped = start.capped in
+      let less = same.1 in
+      inr (
+        k.birth.of_key.of_id ∙ ap (λ (n : ℕ). Text (id_of (key.Blpu n))) (sym same.0) ∙ ap Text (sym start.named),
+        (pos p.born, k.birth.of_born, omega (arith, ints, capped, less)),
+      )
+
+  -- ---- what is found behind there
+
+  no_rows : (l : List Row) → SayPassages l [] → (r : Row) → ¬ Has l r
+  no_rows [] say r here = here
+  no_rows (s ∷ l) say r here = absurd say
+
+  module _ (after : Option Passage) (id : List ℕ) (born : ℕ) (start : IsStartOf after (id, born)) (answer : List Row) (found : FindsCustodyBehind c id born 512 rows answer) where
+    are_from : AreFrom after found.chosen
+    are_from r here =
+        let chosen = has_filtered found.picks.test rows r (has_permuted _ found.chosen r found.picks.same here) in
+        let fits = found.picks.sound r chosen.0 chosen.1 in
+        let s = tells_of r (kind_passage r (kept.rows r chosen.0) (ap number_in fits.of_kind)) in
+        let p = passing (number_in (table.born_of r)) (number_in (table.gone_of r)) (s.number, s.custody) in
+        let o : IsOf r p = record { there = chosen.0; said = said.passage_of c r s (ap number_in fits.of_cust) } in
+        (p, o, from_start after id born start r p o fits.behind)
+
+    cover : Cover after found.chosen
+    cover p there behind =
+        let r = read_from (passage_in c) rows p there in
+        let o : IsOf r.0 p = record { there = r.1; said = r.2 } in
+        let of_key = (known r.0 p o).birth.of_key in
+        let fits : IsCustodyBehind c id born r.0 = record { of_cust = of_key.of_cust; of_kind = of_key.of_kind; behind = to_start after id born start r.0 p o behind } in
+        (r.0, permuted_has _ found.chosen r.0 found.picks.same (has_kept found.picks.test rows r.0 r.1 (found.picks.complete r.0 r.1 fits)), o)
+
+    pub passages_told : (xs : List Passage) → SayPassages answer xs → AreToldBehind after all xs
+    passages_told xs say = record {
+      in_turn = in_turn after found.chosen 512 xs are_from cover found.rising shown;
+      none = λ is p there behind.
+          let r = cover p there behind in
+          none_taken 511 found.chosen (λ q here. no_rows (map listed_shown (take 512 found.chosen)) (subst (SayPassages (map listed_shown (take 512 found.chosen))) (empty_is xs is) shown) (listed_shown q) (mapped_has listed_shown (take 512 found.chosen) q here)) r.0 r.1;
+    }
+      where
+        shown : SayPassages (map listed_shown (take 512 found.chosen)) xs
+        shown = subst (λ l. SayPassages l xs) found.shown say

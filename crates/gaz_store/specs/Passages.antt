@@ -1,5 +1,5 @@
 -- What rows of kind 92 say, number by number.
-use Rattle.std.specs.Prelude.{◌≡◌, ⊤, ℕ, pos, min, List, [], ◌∷◌, Option, Some, None}
+use Rattle.std.specs.Prelude.{◌≡◌, ⊤, ℕ, pos, min, true, List, [], ◌∷◌, Option, Some, None}
 use Rattle.std.specs.String.{string_bytes}
 use Rattle.sqlite.specs.Order.{Row, column}
 use Rattle.sqlite.specs.declared.types.Value.TheVariants.{Int, Text}
@@ -8,7 +8,7 @@ use Rattle.gaz_records.specs.declared.key.Key.TheVariants as key
 use Rattle.gaz_records.specs.declared.item.Kind.TheVariants as kind
 use Rattle.gaz_views.specs.declared.custody.Custody.{Custody}
 use Rattle.gaz_cells.specs.Custody.{custody_told}
-use Rattle.gaz_cells.specs.Ids.{id_of, key_named}
+use Rattle.gaz_cells.specs.Ids.{id_of, is_key, key_named}
 use Rattle.gaz_kept.specs.Versions.{number_in, text_in}
 use Rattle.gaz_loaded.specs.declared.listed.Passage.{Passage}
 
@@ -39,8 +39,9 @@ SayPassages (r ∷ rows) (x ∷ passages) = SaysPassage r x × SayPassages rows 
 -- the id and the volume behind which the rows stand that come behind a passage; no custodian has a
 -- volume behind the 999,999th
 pub record IsBehindPassage (x : Passage) (id : List ℕ) (born : ℕ) : Type 0 where
-  pub id : id ≡ id_of (key.Blpu x.uprn)
-  pub born : born ≡ min x.born 999999
+  pub known : is_key (key.Blpu x.uprn) ≡ true
+  pub named : id ≡ id_of (key.Blpu x.uprn)
+  pub capped : born ≡ min x.born 999999
 
 abbrev pub IsStartOf : Option Passage → List ℕ × ℕ → Type 0
 IsStartOf None start = (start.0 ≡ []) × (start.1 ≡ 0)

@@ -1,7 +1,7 @@
 use Rattle.std.proofs.Common.{◌∙◌, sym}
 use Rattle.gaz_store.specs.Beside.{adopted}
 use Rattle.gaz_store.proofs.PassedOn.{adopted_lawful}
-use Rattle.gaz_store.proofs.StoreGoes.{breaks, turns}
+use Rattle.gaz_store.proofs.StoreCalls.{breaks, turns}
 use Rattle.gaz_store.proofs.shelf.StoreShelf.adopt.Goals as goal
 
 pub returns-in-Ok-clause-sets : goal.returns-in-Ok-clause-sets

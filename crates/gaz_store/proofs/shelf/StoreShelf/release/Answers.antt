@@ -1,7 +1,7 @@
 use Rattle.std.proofs.Common.{◌∙◌, sym}
 use Rattle.gaz_overlay.proofs.Laid.{lawful_released}
 use Rattle.gaz_views.specs.View.{with_release}
-use Rattle.gaz_store.proofs.StoreGoes.{breaks, turns}
+use Rattle.gaz_store.proofs.StoreCalls.{breaks, turns}
 use Rattle.gaz_store.proofs.shelf.StoreShelf.release.Goals as goal
 
 pub returns-in-Ok-clause-sets : goal.returns-in-Ok-clause-sets
