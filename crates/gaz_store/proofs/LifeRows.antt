@@ -46,6 +46,10 @@ passed_next rows i row lives inside is other so =
     ap (map life_in) (ap (filter is_items) (taken_next rows i row inside is) ∙ filter_push (take i rows) row ∙ ap (λ b. filter is_items (take i rows) ++ cond b (row ∷ []) []) other ∙ append_nothing (filter is_items (take i rows)))
     ∙ so
 
+pub none_left : {X : Type 0} (xs : List X) → length xs ≡ 0 → xs ≡ []
+none_left [] none = refl
+none_left (x ∷ xs) none = absurd (omega (arith, none))
+
 only_one : {X : Type 0} (P : X → Type 0) (x : X) → P x → All P (x ∷ [])
 only_one P x h zero d inside = h
 only_one P x h (suc k) d inside = absurd (omega (arith, inside))
