@@ -95,7 +95,7 @@ module _ (r : Row) (v : IsVersion r) (x : Item) (is : item_in r ≡ Some x) wher
 
 -- ---- rows of a kind that hold after a volume
 
-pos_same : (m n : ℤ) → Int m ≡ Int n → m ≡ n
+pub pos_same : (m n : ℤ) → Int m ≡ Int n → m ≡ n
 pos_same m n e = cc
 
 module _ (db : Database) (kept : IsKept db) (c t : ℕ) (k : Kind) (entry : is_entry_kind k ≡ true) (after : Option Key) (start : List ℕ) (begins : IsStart k after (Some start)) where

@@ -154,7 +154,7 @@ module _ (db : Database) (kept : IsKept db) (c t : ℕ) where
 
 -- ---- keys of a kind are in the order of their ids
 
-like_kinds : (n : ℕ) (o : Ordering) → ordering_then (nat_cmp n n) o ≡ o
+pub like_kinds : (n : ℕ) (o : Ordering) → ordering_then (nat_cmp n n) o ≡ o
 like_kinds n o = ap (λ k. ordering_then k o) (sym (nat_cmp_is n n Equal refl))
 
 pub by_ids : (a b : Key) → is_key a ≡ true → is_key b ≡ true → kind_number a ≡ kind_number b → key_cmp a b ≡ slice_cmp nat_cmp (id_of a) (id_of b)

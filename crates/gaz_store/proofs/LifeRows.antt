@@ -22,11 +22,12 @@ taken_next rows i row inside is = take_more rows i row inside ∙ ap (λ r. take
 
 filter_push : (rows : List Row) (row : Row) → filter is_items (rows ++ row ∷ []) ≡ filter is_items rows ++ cond (is_items row) (row ∷ []) []
 filter_push [] row = refl
-filter_push (r ∷ rows) row = by_test (is_items r)
+filter_push (r ∷ rows) row = by_test (filter_push rows row) (is_items r)
   where
-    by_test : (b : Bool) → cond b (r ∷ filter is_items (rows ++ row ∷ [])) (filter is_items (rows ++ row ∷ [])) ≡ cond b (r ∷ filter is_items rows) (filter is_items rows) ++ cond (is_items row) (row ∷ []) []
-    by_test true = ap (λ l. r ∷ l) (filter_push rows row)
-    by_test false = filter_push rows row
+    by_test : filter is_items (rows ++ row ∷ []) ≡ filter is_items rows ++ cond (is_items row) (row ∷ []) [] → (b : Bool)
+        → cond b (r ∷ filter is_items (rows ++ row ∷ [])) (filter is_items (rows ++ row ∷ [])) ≡ cond b (r ∷ filter is_items rows) (filter is_items rows) ++ cond (is_items row) (row ∷ []) []
+    by_test next true = ap (λ l. r ∷ l) next
+    by_test next false = next
 
 append_nothing : (rows : List Row) → rows ++ [] ≡ rows
 append_nothing [] = refl
@@ -44,6 +45,10 @@ pub passed_next : (rows : List Row) (i : ℕ) (row : Row) (lives : List Life) �
 passed_next rows i row lives inside is other so =
     ap (map life_in) (ap (filter is_items) (taken_next rows i row inside is) ∙ filter_push (take i rows) row ∙ ap (λ b. filter is_items (take i rows) ++ cond b (row ∷ []) []) other ∙ append_nothing (filter is_items (take i rows)))
     ∙ so
+
+pub none_left : {X : Type 0} (xs : List X) → length xs ≡ 0 → xs ≡ []
+none_left [] none = refl
+none_left (x ∷ xs) none = absurd (omega (arith, none))
 
 only_one : {X : Type 0} (P : X → Type 0) (x : X) → P x → All P (x ∷ [])
 only_one P x h zero d inside = h

@@ -13,6 +13,7 @@ use Rattle.sqlite_trees.specs.Tree.{IsAscending}
 use Rattle.sqlite_trees.specs.declared.store.Store.{Ghosts}
 use Rattle.gaz_keeper.specs.Received.{Received}
 use Rattle.gaz_keeper.specs.declared.fault.ShelfFault.{ShelfFault}
+use Rattle.gaz_overlay.specs.Passages.{PassageRow}
 use Rattle.gaz_tables.proofs.RowidMeanings.{rowid_is}
 use Rattle.gaz_tables.specs.Rowids.{rowid_of}
 use Rattle.gaz_tables.specs.Schema.{versions}
@@ -45,7 +46,9 @@ lives_rest register old tables k r P asks stood unharmed = ap (λ (db : Database
 pub passages_rest : {S R : Type 0} {store : Ghosts S} {T : Type 0} (register : List ℕ) (old : Store S R store) (tables : Tables S store) (k : Judging) (r : Result T ShelfFault) (P : Database → T → Type 0)
     → AsksTables old.tables tables r P
     → (seen_in register old).stands → (seen_in register (record old { tables = tables; judging = k })).unharmed → passages_kept (record old { tables = tables; judging = k }) ≡ passages_kept old
-passages_rest register old tables k r P asks stood unharmed = ap (λ (db : Database) (c : ℕ). passages_in (db.trees versions) c) (tables_rest register old tables k r P asks stood unharmed)
+passages_rest register old tables k r P asks stood unharmed =
+    let said : Database → ℕ → List PassageRow = λ db c. passages_in (db.trees versions) c in
+    ap said (tables_rest register old tables k r P asks stood unharmed)
 
 -- ---- the last of a list
 

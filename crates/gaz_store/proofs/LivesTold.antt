@@ -60,11 +60,12 @@ less_is m n is = subst (λ o. MatchOrdering o (m <ℤ n) (m ≡ n) (n <ℤ m)) (
 -- what is shown of a row has its kind
 filter_shown : (rows : List Row) → filter is_items (map row_shown rows) ≡ map row_shown (filter is_items rows)
 filter_shown [] = refl
-filter_shown (r ∷ rows) = by_test (is_items r)
+filter_shown (r ∷ rows) = by_test (filter_shown rows) (is_items r)
   where
-    by_test : (b : Bool) → cond b (row_shown r ∷ filter is_items (map row_shown rows)) (filter is_items (map row_shown rows)) ≡ map row_shown (cond b (r ∷ filter is_items rows) (filter is_items rows))
-    by_test true = ap (λ l. row_shown r ∷ l) (filter_shown rows)
-    by_test false = filter_shown rows
+    by_test : filter is_items (map row_shown rows) ≡ map row_shown (filter is_items rows) → (b : Bool)
+        → cond b (row_shown r ∷ filter is_items (map row_shown rows)) (filter is_items (map row_shown rows)) ≡ map row_shown (cond b (r ∷ filter is_items rows) (filter is_items rows))
+    by_test next true = ap (λ l. row_shown r ∷ l) next
+    by_test next false = next
 
 length_filtered : {X : Type 0} (p : X → Bool) (xs : List X) → length (filter p xs) ≤ length xs
 length_filtered p [] = omega arith
@@ -76,11 +77,11 @@ length_filtered p (x ∷ xs) = by_test (length_filtered p xs) (p x)
 
 filtered_rises : {X : Type 0} (R : X → X → Type 0) (p : X → Bool) (xs : List X) → IsAscending R xs → IsAscending R (filter p xs)
 filtered_rises R p [] up = tt
-filtered_rises R p (x ∷ xs) up = by_test (p x)
+filtered_rises R p (x ∷ xs) up = by_test (filtered_rises R p xs up.1) (p x)
   where
-    by_test : (b : Bool) → IsAscending R (cond b (x ∷ filter p xs) (filter p xs))
-    by_test true = (all_from (R x) (filter p xs) (λ y there. all_has (R x) xs y up.0 (has_filtered p xs y there).0), filtered_rises R p xs up.1)
-    by_test false = filtered_rises R p xs up.1
+    by_test : IsAscending R (filter p xs) → (b : Bool) → IsAscending R (cond b (x ∷ filter p xs) (filter p xs))
+    by_test more true = (all_from (R x) (filter p xs) (λ y there. all_has (R x) xs y up.0 (has_filtered p xs y there).0), more)
+    by_test more false = more
 
 module _ (db : Database) (kept : IsKept db) where
   abbrev rows : List Row
@@ -195,9 +196,9 @@ module _ (db : Database) (kept : IsKept db) where
         to r there item behind = elim (taken_or_not 512 chosen r (is_chosen r there behind)) [
           | inl early ↦ absurd (none_paired Says ours (pairs [] none) r (has_kept is_items shown r early item))
           | inr late ↦
-              let rowid = (rowid_is db kept.tables r there).1 in
+              let rowid = rowid_is db kept.tables r there in
               let less = before Rises 512 chosen m.0 r found.strict m.1 late in
-              (id_in (rowid_of r), rowid, less_is last (id_in (rowid_of r)) ((λ i. value_cmp (sym place i) (sym rowid i)) ∙ less))
+              (rowid.0, rowid.1, less_is last rowid.0 ((λ i. value_cmp (sym place i) (sym rowid.1 i)) ∙ less))
         ]
 
         from : (r : Row) → IsRowBehind (Some last) r → IsRowBehind after r
@@ -218,18 +219,18 @@ module _ (db : Database) (kept : IsKept db) where
 
 -- ---- one page after another
 
-pub goes_nowhere : (after : Option ℤ) (rows : List Row) → GoesOn after after rows
-goes_nowhere after rows = record { to = λ r there item behind. behind; from = λ r behind. behind }
+pub goes_nowhere : (after : Option ℤ) (all : List Row) → GoesOn after after all
+goes_nowhere after all = record { to = λ r there item behind. behind; from = λ r behind. behind }
 
-pub goes_further : (after place next : Option ℤ) (rows : List Row) → GoesOn after place rows → GoesOn place next rows → GoesOn after next rows
-goes_further after place next rows one two = record {
+pub goes_further : (after place next : Option ℤ) (all : List Row) → GoesOn after place all → GoesOn place next all → GoesOn after next all
+goes_further after place next all one two = record {
   to = λ r there item behind. two.to r there item (one.to r there item behind);
   from = λ r behind. one.from r (two.from r behind);
 }
 
 -- what is told from there on is told
-pub told_from : (after place : Option ℤ) (rows : List Row) (lives : List Life) → GoesOn after place rows → TellsLives place lives rows → TellsLives after lives rows
-told_from after place rows lives on it = record {
+pub told_from : (after place : Option ℤ) (all : List Row) (lives : List Life) → GoesOn after place all → TellsLives place lives all → TellsLives after lives all
+told_from after place all lives on it = record {
   said = λ life here. let r = it.said life here in (r.0, r.1, on.from r.0 r.2, r.3);
   complete = λ r last there item here behind until. it.complete r last there item here (on.to r there item behind) until;
   rising = it.rising;

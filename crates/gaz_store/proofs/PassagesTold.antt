@@ -1,5 +1,5 @@
 -- What is told of a custodian's numbers, number by number and for each volume by volume.
-use Rattle.std.proofs.Common.{◌≡◌, ◌∙◌, ◌≤◌, ◌<◌, ◌⊎◌, ℕ, ℤ, pos, ◌<ℤ◌, Bool, true, false, List, [], ◌∷◌, map, take, min, suc, zero, inl, inr, refl, sym, ap, subst, arith, true≢false}
+use Rattle.std.proofs.Common.{◌≡◌, ◌∙◌, ◌≤◌, ◌<◌, ◌+◌, ◌⊎◌, ℕ, ℤ, pos, ◌<ℤ◌, Bool, true, false, List, [], ◌∷◌, map, take, min, suc, zero, inl, inr, refl, sym, ap, subst, arith, true≢false}
 use Rattle.std.proofs.lemmas.Bool.{and_parts, cases_lt}
 use Rattle.std.proofs.lemmas.Int.{ints}
 use Rattle.std.specs.Prelude.{⊤, Option, Some, None, IsSorted}
@@ -18,6 +18,8 @@ use Rattle.sqlite_rules.specs.Lists.{Has}
 use Rattle.sqlite_rules.proofs.ListLemmas.{has_filtered, has_kept}
 use Rattle.sqlite_rules.proofs.ProbeLemmas.{mapped_has}
 use Rattle.sqlite_value.proofs.OrderLemmas.{value_cmp-Int, value_cmp-Text, value_cmp_total}
+use Rattle.gaz_records.specs.Keys.{kind_number, text_in as text_of}
+use Rattle.gaz_records.specs.Labels.{label_cmp}
 use Rattle.gaz_records.specs.declared.item.Kind.TheVariants as kind
 use Rattle.gaz_records.specs.declared.key.Key.TheVariants as key
 use Rattle.gaz_cells.proofs.Ids.{ids_apart, ids_back}
@@ -42,7 +44,8 @@ use Rattle.gaz_loaded.specs.Passing.{AreToldBehind, AreToldInTurn, ComesBehind, 
 use Rattle.gaz_loaded.specs.declared.listed.Passage.{Passage}
 use Rattle.gaz_store.specs.Passages.{IsStartOf, SayPassages, SaysPassage}
 use Rattle.gaz_store.specs.Passing.{passages_of}
-use Rattle.gaz_store.proofs.Holding.{by_ids}
+use Rattle.gaz_store.proofs.Fits.{pos_same}
+use Rattle.gaz_store.proofs.Holding.{by_ids, like_kinds}
 use Rattle.gaz_store.proofs.Listed.{empty_is}
 use Rattle.gaz_store.proofs.PageRows.{all_behind}
 use Rattle.gaz_store.proofs.Taken.{none_taken}
@@ -67,10 +70,24 @@ behind_from (Some x) p q (inr same) (inr more) =
 
 -- numbers that rise have ids that rise
 ids_less : (m n : ℕ) → is_key (key.Blpu m) ≡ true → is_key (key.Blpu n) ≡ true → m < n → slice_cmp nat_cmp (id_of (key.Blpu m)) (id_of (key.Blpu n)) ≡ Less
-ids_less m n km kn less = sym (by_ids (key.Blpu m) (key.Blpu n) km kn refl) ∙ ap (λ o. ordering_then o Equal) (nat_cmp_is m n Less less)
+ids_less m n km kn less =
+    sym (by_ids (key.Blpu m) (key.Blpu n) km kn refl)
+    ∙ like_kinds (kind_number (key.Blpu m)) (ordering_then (nat_cmp m n) (label_cmp (text_of (key.Blpu m)) (text_of (key.Blpu n))))
+    ∙ ap (λ o. ordering_then o (label_cmp (text_of (key.Blpu m)) (text_of (key.Blpu n)))) (sym (nat_cmp_is m n Less less))
 
 ids_tied : (m : ℕ) → slice_cmp nat_cmp (id_of (key.Blpu m)) (id_of (key.Blpu m)) ≡ Equal
-ids_tied m = nat_list_cmp_total.refl_equal (id_of (key.Blpu m))
+ids_tied m = self_turned (slice_cmp nat_cmp (id_of (key.Blpu m)) (id_of (key.Blpu m))) (nat_list_cmp_total.antisymm (id_of (key.Blpu m)) (id_of (key.Blpu m)))
+  where
+    self_turned : (o : Ordering) → o ≡ ordering_reverse o → o ≡ Equal
+    self_turned Less e = cc
+    self_turned Equal e = refl
+    self_turned Greater e = cc
+
+texts_same : (a b : List ℕ) → Text a ≡ Text b → a ≡ b
+texts_same a b e = cc
+
+numbers_same : (m n : ℕ) → key.Blpu m ≡ key.Blpu n → m ≡ n
+numbers_same m n e = cc
 
 int_less : (a b : ℕ) → a < b → value_cmp (Int (pos a)) (Int (pos b)) ≡ Less
 int_less a b less = by_order (value_cmp (Int (pos a)) (Int (pos b))) (subst (λ o. MatchOrdering o (pos a <ℤ pos b) (pos a ≡ pos b) (pos b <ℤ pos a)) (sym (value_cmp-Int (pos a) (pos b))) (int_ranks (pos a) (pos b)))
@@ -88,7 +105,7 @@ told_back n (Released to hop) such = let both = and_parts (in_range 1 9999 to) (
 told_back n (Adopted from hop) such = let both = and_parts (in_range 1 9999 from) (in_range 1 9999 hop) such in rw (both.0, both.1) refl
 
 ranks : IsStrictWeakOrder (λ (a b : Row). is_lt (by_id_and_birth a b))
-ranks = ranks_by (then_total (on_total (λ (r : Row). table.id_of r) value_cmp value_cmp_total) (on_total (λ (r : Row). table.born_of r) value_cmp value_cmp_total)) (λ (r : Row). r)
+ranks = ranks_by (then_total (on_total (λ (r : Row). table.id_of r) value_cmp_total) (on_total (λ (r : Row). table.born_of r) value_cmp_total)) (λ (r : Row). r)
 
 tail_sorted : (x : Row) (xs : List Row) → IsSorted by_id_and_birth (x ∷ xs) → IsSorted by_id_and_birth xs
 tail_sorted x xs h k d low high = let e : suc k + 1 ≡ suc (k + 1) = omega arith in rw e at (h (suc k) d (omega arith) (omega (arith, high)))
@@ -142,8 +159,7 @@ module _ (db : Database) (kept : IsKept db) (c : ℕ) where
       let s = tells_of r v in
       let whole = some_same (passing (number_in (table.born_of r)) (number_in (table.gone_of r)) (s.number, s.custody)) p (said.passage_of c r s (its_owner c r p o.said)) o.said in
       let named : key_named kind.Blpu (text_in (table.id_of r)) ≡ Some (key.Blpu p.uprn) = ap (λ (v : Value). key_named kind.Blpu (text_in v)) k.birth.of_key.of_id ∙ ids_back (key.Blpu p.uprn) k.number in
-      let keys : key.Blpu x.uprn ≡ key.Blpu p.uprn = some_same (key.Blpu x.uprn) (key.Blpu p.uprn) says.number named in
-      let number : x.uprn ≡ p.uprn = cc in
+      let number = numbers_same x.uprn p.uprn (some_same (key.Blpu x.uprn) (key.Blpu p.uprn) says.number named) in
       let values : Int (pos x.born) ≡ Int (pos p.born) = sym says.born ∙ k.birth.of_born in
       let born : x.born ≡ p.born = cc in
       let told : told_in (custody_cells_in r) ≡ Some s.custody = ap told_in (sym s.follows.cells) ∙ told_back s.number s.custody s.follows.such in
@@ -241,11 +257,8 @@ module _ (db : Database) (kept : IsKept db) (c : ℕ) where
   from_start None id born start r p o behind = tt
   from_start (Some x) id born start r p o (inl behind) = by_numbers (cases_lt x.uprn p.uprn)
     where
-      texts : Text behind.0 ≡ Text (id_of (key.Blpu p.uprn))
-      texts = sym behind.1 ∙ (known r p o).birth.of_key.of_id
-
       named : behind.0 ≡ id_of (key.Blpu p.uprn)
-      named = cc
+      named = texts_same behind.0 (id_of (key.Blpu p.uprn)) (sym behind.1 ∙ (known r p o).birth.of_key.of_id)
 
       more : slice_cmp nat_cmp (id_of (key.Blpu p.uprn)) (id_of (key.Blpu x.uprn)) ≡ Greater
       more = (λ i. slice_cmp nat_cmp (sym named i) (sym start.named i)) ∙ behind.2
@@ -255,12 +268,9 @@ module _ (db : Database) (kept : IsKept db) (c : ℕ) where
       by_numbers (inr le) = absurd (not_greater p.uprn x.uprn (known r p o).number start.known le more)
   from_start (Some x) id born start r p o (inr its) =
       let k = known r p o in
-      let texts : Text (id_of (key.Blpu x.uprn)) ≡ Text (id_of (key.Blpu p.uprn)) = ap Text (sym start.named) ∙ sym its.0 ∙ k.birth.of_key.of_id in
-      let ids : id_of (key.Blpu x.uprn) ≡ id_of (key.Blpu p.uprn) = cc in
-      let keys : key.Blpu x.uprn ≡ key.Blpu p.uprn = ids_apart (key.Blpu x.uprn) (key.Blpu p.uprn) start.known k.number refl ids in
-      let number : x.uprn ≡ p.uprn = cc in
-      let births : Int its.1.0 ≡ Int (pos p.born) = sym its.1.1 ∙ k.birth.of_born in
-      let birth : its.1.0 ≡ pos p.born = cc in
+      let ids = texts_same (id_of (key.Blpu x.uprn)) (id_of (key.Blpu p.uprn)) (ap Text (sym start.named) ∙ sym its.0 ∙ k.birth.of_key.of_id) in
+      let number = numbers_same x.uprn p.uprn (ids_apart (key.Blpu x.uprn) (key.Blpu p.uprn) start.known k.number refl ids) in
+      let birth = pos_same its.1.0 (pos p.born) (sym its.1.1 ∙ k.birth.of_born) in
       let less : pos born <ℤ pos p.born = subst (λ n. pos born <ℤ n) birth its.1.2 in
       let capped = start.capped in
       let most = born_until p (read_in (passage_in c) rows r p o.there o.said) in
@@ -279,8 +289,8 @@ module _ (db : Database) (kept : IsKept db) (c : ℕ) where
     id_of (key.Blpu p.uprn),
     (known r p o).birth.of_key.of_id,
     ap (slice_cmp nat_cmp (id_of (key.Blpu p.uprn))) start.named
-    ∙ nat_list_cmp_total.antisymm (id_of (key.Blpu p.uprn)) (id_of (key.Blpu x.uprn))
-    ∙ ap ordering_reverse (ids_less x.uprn p.uprn start.known (known r p o).number less),
+        ∙ nat_list_cmp_total.antisymm (id_of (key.Blpu p.uprn)) (id_of (key.Blpu x.uprn))
+        ∙ ap ordering_reverse (ids_less x.uprn p.uprn start.known (known r p o).number less),
   )
   to_start (Some x) id born start r p o (inr same) =
       let k = known r p o in

@@ -87,11 +87,7 @@ impl Judgement {
 
     // In which volume a number's current passage was born, where the judgement hasn't passed it on
     // yet; what is answered otherwise is passed over.
-    fn since<S: Alter>(
-        &self,
-        tables: &mut Tables<S>,
-        uprn: Uprn,
-    ) -> Result<Option<u64>, ShelfFault>
+    fn since<S: Alter>(&self, tables: &mut Tables<S>, uprn: Uprn) -> Result<Option<u64>, ShelfFault>
         ensures { AsksTables tables.old tables.new result
             (λ db since. IsToldSince db self.now uprn since) }
     {

@@ -1,16 +1,18 @@
 //! What became of a custodian's numbers, number by number and for each volume by volume.
 ghost use Rattle.std.specs.Prelude.{◌≡◌, IfOk, Some};
 ghost use Rattle.std.specs.String.{string_bytes};
+ghost use Rattle.sqlite.specs.Order.{column};
+ghost use Rattle.gaz_cells.specs.Ids.{key_named};
 ghost use Rattle.gaz_tables.specs.Custody.{FindsCustodyBehind};
 ghost use Rattle.gaz_tables.specs.Schema.{versions};
+ghost use Rattle.gaz_kept.specs.Versions.{text_in};
 ghost use Rattle.gaz_loaded.specs.Passing.{AreToldBehind};
 ghost use Rattle.gaz_store.specs.Asking.{AsksTables};
-ghost use Rattle.gaz_store.specs.Passages.{IsBare, IsStartOf, SayPassages, SaysPassage};
-ghost use Rattle.gaz_store.specs.Passages.{custody_listed};
+ghost use Rattle.gaz_store.specs.Passages.{IsBare, IsStartOf, SayPassages, custody_listed};
 ghost use Rattle.gaz_store.specs.Passing.{passages_of};
 
 use crate::tables::Tables;
-use gaz_ids::{Code, Hop, LAST_VOLUME};
+use gaz_ids::{Code, Hop, LAST_VOLUME, Uprn};
 use gaz_keeper::ShelfFault;
 use gaz_kept::decoding::{RowFault, key_in, name_of, number, text};
 use gaz_loaded::Passage;
@@ -36,8 +38,10 @@ fn check_bare(row: &Row) -> Result<(), RowFault>
 
 // What became of a number, of a row of id, born, gone, live, street, hop, lang and body.
 fn custody_in(row: &Row) -> Result<Custody, RowFault>
-    ensures { IfOk result (λ x. custody_listed row.now ≡ Some x) }
+    ensures said { IfOk result (λ x. custody_listed row.now ≡ Some x) }
+    ensures bare { IfOk result (λ x. IsBare row.now) }
 {
+    check_bare(row)?;
     let live = number(row, 3)?;
     let other = Code::of(number(row, 4)?);
     let hop = Hop::of(number(row, 5)?);
@@ -53,21 +57,15 @@ fn custody_in(row: &Row) -> Result<Custody, RowFault>
     Err(RowFault::Wrong)
 }
 
-// What a row says.
-fn passage_in(row: &Row) -> Result<Passage, RowFault>
-    ensures { IfOk result (SaysPassage row.now) }
+// Which number a row names.
+fn uprn_in(row: &Row) -> Result<Uprn, RowFault>
+    ensures { IfOk result (λ uprn.
+        key_named Kind.Blpu (text_in (column row.now 0)) ≡ Some (Key.Blpu uprn)) }
 {
-    let Key::Blpu(uprn) = key_in(Kind::Blpu, row, 0)? else {
-        return Err(RowFault::Wrong);
-    };
-    let born = number(row, 1)?;
-    let custody = custody_in(row)?;
-    check_bare(row)?;
-    Ok(Passage {
-        uprn,
-        born,
-        custody,
-    })
+    match key_in(Kind::Blpu, row, 0)? {
+        Key::Blpu(uprn) => Ok(uprn),
+        _ => Err(RowFault::Wrong),
+    }
 }
 
 // What rows say, in turn.
@@ -76,7 +74,14 @@ fn passages_in(alloc: Global, rows: &[Row]) -> Result<Vec<Passage>, RowFault>
 {
     let mut passages = Vec::new(alloc);
     for row in rows {
-        let passage = passage_in(row)?;
+        let uprn = uprn_in(row)?;
+        let born = number(row, 1)?;
+        let custody = custody_in(row)?;
+        let passage = Passage {
+            uprn,
+            born,
+            custody,
+        };
         if passages.push(passage).is_err() {
             return Err(RowFault::Memory);
         }

@@ -15,6 +15,6 @@ returns-then-own-clause-asks g c =
 
 pub returns-clause-asks : goal.returns-clause-asks
 returns-clause-asks g c =
-    asked_as _ _ _ _ _ c.left_tied.ensures (λ db kept b is w makes.
+    asked_as _ _ _ _ _ (rw c.tied.ensures.same at c.left_tied.ensures) (λ db kept b is w makes.
     let lawful = view_lawful db kept c.args.self.now.code (reached_in (db.trees receiveds) c.args.self.now.code) in
     is ∙ sym (tied_beside db c.args.self.now w makes lawful c.args.uprn ∙ or_false _ _ (sym c.in-Ok.ensures.tied ∙ c.if-own.false)))

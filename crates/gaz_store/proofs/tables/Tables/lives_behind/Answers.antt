@@ -1,6 +1,9 @@
-use Rattle.std.proofs.Common.{Some, subst}
+use Rattle.std.proofs.Common.{Ok, Some, rules, subst, sym, w64}
+use Rattle.std.proofs.lemmas.Int.{to_z-of_z}
+use mir.Val.{SFits}
 use Rattle.gaz_tables.specs.Schema.{versions}
-use Rattle.gaz_store.specs.Lives.{TellsPage}
+use Rattle.gaz_store.specs.Asking.{AsksTables}
+use Rattle.gaz_store.specs.Lives.{GoesOn, TellsPage}
 use Rattle.gaz_store.proofs.Answered.{asked_fault, asked_step}
 use Rattle.gaz_store.proofs.Composing.{asked_nothing, failed}
 use Rattle.gaz_store.proofs.LivesTold.{goes_further, goes_nowhere, told_from}
@@ -11,9 +14,12 @@ pages-init g c = asked_nothing _ _ _ (λ db kept. goes_nowhere c.args.after (db.
 
 pub pages-preserved : goal.pages-preserved
 pages-preserved g c =
-    asked_step _ _ _ _ c.lives_step.result c.in-Ok.page (Some c.in-Behind.last) _ _ _ c.pages.invariant c.lives_step.ensures.asks c.in-Ok.is
-    (λ db kept was tells. goes_further c.args.after c.pages.place (Some c.in-Behind.last) (db.trees versions) was
-    (subst (TellsPage c.pages.place (db.trees versions)) c.in-Behind.is tells))
+    let last = c.in-Behind.last in
+    let fits : SFits w64 last = search rules in
+    subst (λ n. AsksTables c.args.self.now c.lives_step.new.self (Ok (Some n)) (λ db place. GoesOn c.args.after place (db.trees versions))) (sym (to_z-of_z w64 last fits))
+    (asked_step _ _ _ _ c.lives_step.result c.in-Ok.page (Some last) _ _ _ c.pages.invariant c.lives_step.ensures.asks c.in-Ok.is
+    (λ db kept was tells. goes_further c.args.after c.pages.place (Some last) (db.trees versions) was
+    (subst (TellsPage c.pages.place (db.trees versions)) c.in-Behind.is tells)))
 
 pub returns-in-Lives-clause-asks : goal.returns-in-Lives-clause-asks
 returns-in-Lives-clause-asks g c =

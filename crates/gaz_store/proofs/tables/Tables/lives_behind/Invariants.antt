@@ -6,4 +6,4 @@ use Rattle.gaz_store.proofs.tables.Tables.lives_behind.Given as goal
 
 -- no row of an item is between where it begins and where the next page does
 abbrev pub invariant-pages : goal.invariant-pages
-invariant-pages g l = AsksTables l.fn.self l.self (Ok l.place) (λ db place. GoesOn l.after place (db.trees versions))
+invariant-pages g l = AsksTables l.fn.self l.self (Ok l.place) (λ db place. GoesOn l.fn.after place (db.trees versions))
