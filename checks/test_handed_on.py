@@ -10,7 +10,7 @@ from checks.conversations import requests_in
 from checks.stores import Answered, Hubs
 from checks.written import SECOND
 
-OUTCOME = handed_on.REJECTED + b"1}\n"
+OUTCOME = handed_on.REJECTED + b"\n"
 CHANGED = "UPDATE version2 SET gone = 5 WHERE kind = 92"
 
 
@@ -99,11 +99,16 @@ class OfTheNumber(InAFolder):
         on = self.on(told=((b"POST", handed_on.APPLIED),), sql=CHANGED)
         self.assertIn("rows of custody", handed_on.is_adopted(on, on.hubs.over))
 
-    def damaged(self, told: bytes, sql: str = "") -> str | None:
+    def damaged(self, told: bytes, sql: str = "", name: str = "born after all volumes") -> str | None:
         on = self.on(told=((b"POST", told),), sql=sql)
-        return handed_on.is_damaged(on, handed_on.DAMAGED["a hop of -1"], on.hubs.over)
+        return handed_on.is_damaged(on, handed_on.DAMAGED[name], on.hubs.over)
 
-    def test_a_damaged_row_may_be_told_three_ways(self) -> None:
+    def test_a_row_that_says_nothing_is_told_one_way(self) -> None:
+        self.assertIsNone(self.damaged(handed_on.REFUSED, name="a body"))
+        self.assertIn("it is told", self.damaged(OUTCOME, name="a body"))
+        self.assertIn("it is told", self.damaged(handed_on.APPLIED, name="a hop of -1"))
+
+    def test_an_odd_row_may_be_told_three_ways(self) -> None:
         inserted = "INSERT INTO version2 VALUES (1001, 21, '000000000500', 0, 0, 0, 0, 5, 1000000, '', 0)"
         self.assertIsNone(self.damaged(OUTCOME))
         self.assertIsNone(self.damaged(handed_on.REFUSED))
