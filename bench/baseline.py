@@ -27,8 +27,8 @@ def day(text):
         return None
 
 
-def header_fault(row, code, volume):
-    if len(row) != 5 or row[0] != "10" or number(row[1], 4, 1, 9999) != 1 or day(row[4]) is None:
+def header_fault(row, code, volume, profiles=(1,)):
+    if len(row) != 5 or row[0] != "10" or number(row[1], 4, 1, 9999) not in profiles or day(row[4]) is None:
         return 2
     named = number(row[2], 4, 1, 9999), number(row[3], 6, 1, 999_999)
     if None in named:

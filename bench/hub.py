@@ -1,4 +1,4 @@
-"""A plain hub in Python's standard library: dictionaries and `csv`, all five kinds, every rule; it answers a stream of requests."""
+"""A plain hub in Python's standard library: dictionaries and `csv`, both profiles, every rule; it answers a stream of requests."""
 import csv
 import hashlib
 import io
@@ -6,14 +6,17 @@ import json
 import sys
 
 from baseline import MOST, head_of, header_fault, is_closing, length_of, number
-from items import KINDS, Fault
+from items import KINDS, PASSING, Fault
 
 REGISTER = {
     1001: ([(1, 99_999), (999_999_999_000, 999_999_999_999)], [(100, 199), (99_999_999, 99_999_999)]),
     1002: ([(100_000, 199_999)], [(200, 299)]),
     1003: ([(200_000, 299_999)], [(300, 399)]),
 }
+PROFILES = 1, 2
+RELEASE, ADOPTION = PASSING  # the records, and the actions that they are
 READERS = {kind: read for kind, (read, _) in KINDS.items()}
+READERS_OF = {1: READERS, 2: READERS | PASSING}  # of the change records of a profile
 ROWS = {kind: row for kind, (_, row) in KINDS.items()}
 KEY_WIDTH = {"11": 1, "15": 2, "21": 1, "23": 1, "24": 1}
 
@@ -31,19 +34,20 @@ def basis_fault(row, code, bases, changes):
     return named, volume
 
 
-def change_of(row, place, count):
+def change_of(read_fields, row, place, count, code):
     """A change, or the rule that its record breaks."""
     if count >= 5000:
         return 9
     try:
-        item = READERS[row[0]](row[3:])
+        item = read_fields(row[3:])
     except Fault as fault:
         return 6 if fault.args[0] else 5
-    if row[1] not in ("I", "U", "D"):
+    passes = row[0] in PASSING
+    if row[1] not in ("I", "U", "D") or passes and (row[1] != "I" or item[1] == code):
         return 6
     if number(row[2], 4, 1, 5000) != count + 1:
         return 7
-    return place, row[1], (row[0], *item[: KEY_WIDTH[row[0]]]), item
+    return (place, row[0], ("21", item[0]), item) if passes else (place, row[1], (row[0], *item[: KEY_WIDTH[row[0]]]), item)
 
 
 def rows_of(data):
@@ -57,9 +61,10 @@ def read(data, code, volume):
     except UnicodeDecodeError:
         return 1, 1
     header = next(rows, None)
-    rule = 1 if header is None else header_fault(header, code, volume)
+    rule = 1 if header is None else header_fault(header, code, volume, PROFILES)
     if rule:
         return 1, rule
+    readers = READERS_OF[int(header[1])]
     bases, changes, ended, place = [], [], False, 1
     for place, row in enumerate(rows, 2):
         if ended:
@@ -69,8 +74,8 @@ def read(data, code, volume):
             if basis is None:
                 return place, 4
             bases.append(basis)
-        elif row[0] in READERS:
-            change = change_of(row, place, len(changes))
+        elif row[0] in readers:
+            change = change_of(readers[row[0]], row, place, len(changes), code)
             if isinstance(change, int):
                 return place, change
             changes.append(change)
@@ -86,22 +91,58 @@ def read(data, code, volume):
 # ---- views
 
 
+def needed_by(key, item):
+    """The BLPU that has to stand beside an item, behind the rule that asks for it: of an LPI or a cross reference its own, of a BLPU its parent."""
+    if key[0] in ("23", "24"):
+        return 31, item[1]
+    return (35, item[4]) if key[0] == "21" and item[4] != "" else None
+
+
+class Custody:
+    """What last became of numbers: of each the action, the other custodian and the hop."""
+
+    def __init__(self, known=()):
+        self.known = dict(known)
+
+    def get(self, uprn):
+        return self.known.get(uprn)
+
+    def put(self, uprn, passed):
+        self.known[uprn] = passed
+
+    def hop(self, uprn):
+        passed = self.get(uprn)
+        return passed[2] if passed else 0
+
+    def holds(self, own, uprn):
+        """Whether a custodian with these blocks holds a number."""
+        passed = self.get(uprn)
+        return passed[0] == ADOPTION if passed else within(own[0], uprn)
+
+
 class View:
-    def __init__(self, items=(), used=(), homes=(), streets=()):
-        self.items, self.used = dict(items), set(used)
-        # the approved LPIs of a BLPU, and how many are on a street in a language: nothing in them changes in place
-        self.homes, self.streets = dict(homes), dict(streets)
+    def __init__(self, items=(), used=(), homes=(), streets=(), needs=(), custody=()):
+        self.items, self.used, self.custody = dict(items), set(used), Custody(custody)
+        # the approved LPIs of a BLPU, how many are on a street in a language, and how many items need a BLPU: nothing in them changes in place
+        self.homes, self.streets, self.needs = dict(homes), dict(streets), dict(needs)
 
     def copy(self):
-        return View(self.items, self.used, self.homes, self.streets)
+        return View(self.items, self.used, self.homes, self.streets, self.needs, self.custody.known)
 
     def count(self, key, item, change):
         homes, street = self.homes.get(item[1], frozenset()), (item[4], item[2])
         self.homes[item[1]] = homes | {key} if change == 1 else homes - {key}
         self.streets[street] = self.streets.get(street, 0) + change
 
+    def count_need(self, key, item, change):
+        needed = needed_by(key, item)
+        if needed:
+            self.needs[needed] = self.needs.get(needed, 0) + change
+
     def drop(self, key):
         item = self.items.pop(key, None)
+        if item:
+            self.count_need(key, item, -1)
         if item and key[0] == "24" and item[3] == "1":
             self.count(key, item, -1)
 
@@ -109,8 +150,18 @@ class View:
         self.drop(key)
         self.items[key] = item
         self.used.add(key)
+        self.count_need(key, item, 1)
         if key[0] == "24" and item[3] == "1":
             self.count(key, item, 1)
+
+    def give_up(self, key):
+        """Takes a BLPU, if it is there; its key is used from then on."""
+        self.drop(key)
+        self.used.add(key)
+
+    def is_needed(self, rule, uprn):
+        """Whether items in the view need a BLPU by this rule."""
+        return self.needs.get((rule, uprn), 0) > 0
 
     def approved_on(self, usrn, lang=None):
         return any(self.streets.get((usrn, of)) for of in ("CYM", "ENG") if lang in (None, of))
@@ -120,12 +171,36 @@ def within(blocks, n):
     return any(low <= n <= high for low, high in blocks)
 
 
+def apply(view, action, key, item):
+    """Makes of a view what a change does."""
+    if action in PASSING:
+        view.custody.put(item[0], (action, *item[1:3]))
+    if action == RELEASE:
+        view.give_up(key)
+    elif action == "D":
+        view.drop(key)
+    else:
+        view.put(key, item[3] if action == ADOPTION else item)
+
+
 # ---- rules
 
 
-def record_rule(own, view, action, key, item):
-    if key[0] == "11" and not within(own[1], item[0]) or key[0] == "21" and not within(own[0], item[0]):
+def adoption_rule(code, view, out, item):
+    uprn, released_by, hop, _ = item
+    basis = out.get(released_by)
+    if basis is None or basis.custody.get(uprn) != (RELEASE, code, hop):
+        return 41
+    return None if view.custody.hop(uprn) < hop else 42
+
+
+def record_rule(code, own, view, out, action, key, item):
+    if action == ADOPTION:
+        return adoption_rule(code, view, out, item)
+    if key[0] == "11" and not within(own[1], item[0]) or key[0] == "21" and not view.custody.holds(own, item[0]):
         return 20
+    if action == RELEASE:
+        return None if item[2] == view.custody.hop(item[0]) + 1 else 40
     if action == "I":
         return 21 if key in view.used else None
     old = view.items.get(key)
@@ -139,7 +214,7 @@ def record_rule(own, view, action, key, item):
 
 
 def found(view, out, usrn):
-    for w in (view, *out):
+    for w in (view, *out.values()):
         if ("11", usrn) in w.items:
             return w
     return None
@@ -182,6 +257,11 @@ def blpu_rule(view, blpu):
     return 37 if blpu[1] == "8" and view.homes.get(blpu[0]) else None
 
 
+def released_rule(view, key):
+    """The rule that a BLPU breaks which isn't there: it was released, and something still names it."""
+    return next((rule for rule in (31, 35) if view.is_needed(rule, key[1])), None)
+
+
 def descriptor_rule(view, key, item):
     street = ("11", key[1]) in view.items
     if item is not None:
@@ -194,7 +274,7 @@ def end_rule(view, out, key):
     if key[0] == "15":
         return descriptor_rule(view, key, item)
     if item is None:
-        return None
+        return released_rule(view, key) if key[0] == "21" else None
     if key[0] == "11":
         return 39 if item[3] is not None and view.approved_on(key[1]) else None
     if key[0] == "21":
@@ -204,14 +284,14 @@ def end_rule(view, out, key):
     return None if ("21", item[1]) in view.items else 31
 
 
-def judge(own, view, out, changes):
-    """The verdict, and the view afterwards."""
+def judge(code, own, view, out, changes):
+    """The verdict on a custodian's file, and the view afterwards; `out` has the view of each custodian on which the file rests, in its order."""
     after = view.copy()
     for place, action, key, item in changes:
-        rule = record_rule(own, after, action, key, item)
+        rule = record_rule(code, own, after, out, action, key, item)
         if rule:
             return (place, rule), view
-        after.drop(key) if action == "D" else after.put(key, item)
+        apply(after, action, key, item)
     for place, _, key, _ in changes:
         rule = end_rule(after, out, key)
         if rule:
@@ -256,6 +336,23 @@ class Hub:
         self.verdicts = {code: self.verdicts.get(code, []) for code in register}
         self.views = {code: self.views.get(code, [View()]) for code in register}
 
+    def owner_of_uprn(self, uprn):
+        return next((code for code, (blocks, _) in self.register.items() if within(blocks, uprn)), None)
+
+    def passed(self, code, uprn):
+        """What last became of a number in a custodian's last view."""
+        return self.last(code).custody.get(uprn)
+
+    def holder(self, uprn):
+        """The custodian that holds a number: the one in whose block it is, then along its releases; None where the last of them isn't adopted, or nobody has the block."""
+        code, hop = self.owner_of_uprn(uprn), 0
+        passed = self.passed(code, uprn)
+        while passed and passed[0] == RELEASE and passed[2] > hop:
+            _, code, hop = passed
+            passed = self.passed(code, uprn)
+        reached = passed and passed[0] == ADOPTION and passed[2] >= hop
+        return code if reached or passed is None and hop == 0 else None
+
     def owner_of_usrn(self, usrn):
         return next((code for code, (_, blocks) in self.register.items() if within(blocks, usrn)), None)
 
@@ -299,7 +396,7 @@ class Hub:
         if isinstance(changes, tuple):
             verdict, after = changes, view
         else:
-            verdict, after = judge(self.register[code], view, [self.views[d][w] for d, w in bases], changes)
+            verdict, after = judge(code, self.register[code], view, {d: self.views[d][w] for d, w in bases}, changes)
         del self.read[code, volume]
         self.verdicts[code].append(verdict)
         self.views[code].append(after)
@@ -359,8 +456,8 @@ class Hub:
 
     def look_up(self, uprn):
         self.settle()
-        code = next((c for c in self.register if ("21", uprn) in self.last(c).items), None)
-        if code is None:
+        code = self.holder(uprn)
+        if code is None or ("21", uprn) not in self.last(code).items:
             return 404, 17
         status = int(self.last(code).items["21", uprn][1])
         line = json.dumps(self.line(code, uprn), ensure_ascii=False)
@@ -398,7 +495,7 @@ class Hub:
 def names_unknown_profile(data):
     row = next(rows_of(data.decode("utf-8", "surrogateescape")), [])
     profile = number(row[1], 4, 1, 9999) if len(row) > 1 and row[0] == "10" else None
-    return profile is not None and profile != 1
+    return profile is not None and profile not in PROFILES
 
 
 # ---- requests

@@ -13,7 +13,7 @@ import json
 import sqlite3
 import sys
 
-from hub import READERS, REGISTER, ROWS, Hub, answer, judge, line_of, names_unknown_profile, read, within
+from hub import ADOPTION, READERS, REGISTER, RELEASE, ROWS, Custody, Hub, answer, judge, line_of, names_unknown_profile, needed_by, read
 from measure import TEXT
 
 MOST = 1_000_000  # requests of a run
@@ -38,9 +38,12 @@ NEWEST = "SELECT born, gone, body FROM version2 WHERE cust = ? AND kind = ? AND 
 NEWEST_UNTIL = "SELECT gone, body FROM version2 WHERE cust = ? AND kind = ? AND id = ? AND born <= ? ORDER BY born DESC LIMIT 1"
 APPROVED_OF = "SELECT id, body FROM version2 WHERE cust = ? AND kind = 24 AND blpu = ? AND gone = 1000000 AND live = 1"
 APPROVED_ON = "SELECT id, lang FROM version2 WHERE cust = ? AND kind = 24 AND street = ? AND gone = 1000000 AND live = 1"
-HOLDING = "SELECT kind, body FROM version2 WHERE cust = ? AND born <= ? AND gone > ? ORDER BY kind, id"
+NAMING = "SELECT kind, id FROM version2 WHERE cust = ? AND kind IN ({}) AND blpu = ? AND gone = 1000000"
+NEEDING = {31: NAMING.format("23, 24"), 35: NAMING.format("21")}
+HOLDING = "SELECT kind, body FROM version2 WHERE cust = ? AND kind <= 24 AND born <= ? AND gone > ? ORDER BY kind, id"
+PASSED = "SELECT born, live, street, hop FROM version2 WHERE cust = ? AND kind = 92 AND id = ? AND born <= ? ORDER BY born DESC LIMIT 1"
 STREETS = "SELECT DISTINCT street FROM version2 WHERE cust = ? AND kind = 24 AND gone = 1000000 AND live = 1"
-INSERT = "INSERT INTO version2 VALUES (?, ?, ?, ?, ?, ?, ?, ?, ?, ?, 0)"
+INSERT = "INSERT INTO version2 VALUES (?, ?, ?, ?, ?, ?, ?, ?, ?, ?, ?)"
 CLOSE = "UPDATE version2 SET gone = ? WHERE cust = ? AND kind = ? AND id = ? AND born = ?"
 
 
@@ -105,11 +108,33 @@ class Items:
         return self.get(key)
 
 
+class StoredCustody(Custody):
+    """What became of numbers up to a volume, each read once. What becomes of them in a judgement stands in `now`."""
+
+    def __init__(self, conn, code, volume=NEVER):
+        super().__init__()
+        self.asked = conn, code, volume
+        self.born, self.now = {}, {}
+
+    def get(self, uprn):
+        if uprn not in self.known:
+            conn, code, volume = self.asked
+            row = conn.execute(PASSED, (code, f"{uprn:012}", volume)).fetchone()
+            self.born[uprn] = row and row[0]
+            self.known[uprn] = row and (ADOPTION if row[1] else RELEASE, *row[2:])
+        return self.known[uprn]
+
+    def put(self, uprn, passed):
+        self.get(uprn)  # which row is to be closed
+        self.known[uprn] = self.now[uprn] = passed
+
+
 class Past:
     """A custodian's view after a volume."""
 
     def __init__(self, conn, code, volume):
         self.items = Items(lambda key: self.row(conn, code, volume, key))
+        self.custody = StoredCustody(conn, code, volume)
 
     @staticmethod
     def row(conn, code, volume, key):
@@ -123,8 +148,9 @@ class Working:
     def __init__(self, conn, code):
         self.conn, self.code = conn, code
         self.stood, self.last, self.approved = {}, {}, {}  # what a changed key had, what was put last, the approved LPIs among the changes
-        self.items = Items(self.row)
-        self.used, self.homes = Used(self.items), Homes(self)
+        self.needs = {}  # the changed items by the BLPU that each needs, with the rule that asks for it
+        self.items, self.custody = Items(self.row), StoredCustody(conn, code)
+        self.used, self.homes = Used(self), Homes(self)
 
     def copy(self):
         return self
@@ -142,9 +168,14 @@ class Working:
     def drop(self, key):
         self.change(key, None)
 
+    def give_up(self, key):
+        if self.items.life(key):
+            self.drop(key)
+
     def put(self, key, item):
         self.change(key, item)
         self.last[key] = item
+        self.needs.setdefault(needed_by(key, item), set()).add(key)
         if key[0] == "24" and item[3] == "1":
             self.approved[key] = item
             self.homes.of.setdefault(item[1], set()).add(key)
@@ -159,23 +190,39 @@ class Working:
             return True
         return any(row[1] in langs for row in self.untouched(APPROVED_ON, usrn))
 
+    def is_needed(self, rule, uprn):
+        """Whether items in the view need a BLPU by this rule: changed ones, or such as a statement finds."""
+        if any(key in self.items and needed_by(key, self.items[key]) == (rule, uprn) for key in self.needs.get((rule, uprn), ())):
+            return True
+        found = self.conn.execute(NEEDING[rule], (self.code, uprn))
+        return any((str(kind), int(name) if kind == 21 else name) not in self.stood for kind, name in found)
+
     def write(self, volume):
         """Writes the changes as this volume. An item that came and went in it leaves a row, which says that its key was used."""
-        closed = ((volume, self.code, int(key[0]), id_of(key), born) for key, born in sorted(self.stood.items()) if born)
+        closed = [(volume, self.code, int(key[0]), id_of(key), born) for key, born in sorted(self.stood.items()) if born]
+        custody = sorted(self.custody.now.items())
+        closed += ((volume, self.code, 92, f"{uprn:012}", self.custody.born[uprn]) for uprn, _ in custody if self.custody.born[uprn])
         self.conn.executemany(CLOSE, closed)
         self.conn.executemany(INSERT, (self.cells(volume, *put) for put in sorted(self.last.items(), key=lambda put: put[0])))
+        self.conn.executemany(INSERT, (self.custody_cells(volume, *passed) for passed in custody))
 
     def cells(self, volume, key, item):
         gone = NEVER if key in self.items else volume
-        return self.code, int(key[0]), id_of(key), *links_of(key[0], item), volume, gone, body_of(key[0], item)
+        return self.code, int(key[0]), id_of(key), *links_of(key[0], item), volume, gone, body_of(key[0], item), 0
+
+    def custody_cells(self, volume, uprn, passed):
+        action, other, hop = passed
+        return self.code, 92, f"{uprn:012}", uprn, other, 0, int(action == ADOPTION), volume, NEVER, "", hop
 
 
 class Used:
-    def __init__(self, items):
-        self.items = items
+    """The keys that were ever used. That of a property is, too, where something became of its number."""
+
+    def __init__(self, view):
+        self.view = view
 
     def __contains__(self, key):
-        return self.items.life(key) is not None
+        return self.view.items.life(key) is not None or key[0] == "21" and self.view.custody.get(key[1]) is not None
 
 
 class Homes:
@@ -195,21 +242,21 @@ class Homes:
 
 
 class StoredHub(Hub):
-    def __init__(self, path):
-        self.register = REGISTER
+    def __init__(self, path, register=REGISTER, text=TEXT):
+        self.register = register
         self.conn = sqlite3.connect(path, isolation_level=None)
         for pragma in ("journal_mode = WAL", "synchronous = FULL", "cache_size = 64000"):
             self.conn.execute(f"PRAGMA {pragma}")
         if not self.conn.execute("SELECT 1 FROM sqlite_schema WHERE name = 'meta'").fetchone():
-            self.make()
+            self.make(text)
         counted = "SELECT cust, count(*) FROM received WHERE state > 0 GROUP BY cust"
         self.judged = dict.fromkeys(self.register, 0) | dict(self.conn.execute(counted))
         self.held = set(self.conn.execute("SELECT cust, volume FROM received WHERE state = 0"))
         self.read = {}
 
-    def make(self):
+    def make(self, text):
         self.conn.executescript("BEGIN;" + TABLES)
-        self.conn.execute("INSERT INTO meta VALUES (1, 2, ?)", (TEXT,))
+        self.conn.execute("INSERT INTO meta VALUES (1, 2, ?)", (text,))
         self.conn.execute("COMMIT")
 
     @contextlib.contextmanager
@@ -261,7 +308,7 @@ class StoredHub(Hub):
         if isinstance(changes, tuple):
             verdict = changes
         else:
-            verdict, _ = judge(self.register[code], view, [Past(self.conn, d, w) for d, w in bases], changes)
+            verdict, _ = judge(code, self.register[code], view, {d: Past(self.conn, d, w) for d, w in bases}, changes)
         self.begin()
         state = (1, 0, 0) if verdict == "applied" else (2, *verdict)
         if verdict == "applied":
@@ -328,9 +375,15 @@ class StoredHub(Hub):
         descriptor = self.current(at, ("15", lpi[4], lpi[2]))
         return line_of(lpi, descriptor, blpu) if descriptor else None
 
+    def passed(self, code, uprn):
+        return StoredCustody(self.conn, code).get(uprn) if code else None
+
     def look_up(self, uprn):
-        code = next((code for code, (blocks, _) in self.register.items() if within(blocks, uprn)), None)
+        code = self.owner_of_uprn(uprn)
         blpu = code and self.current(code, ("21", uprn))
+        if code and not blpu:
+            code = self.holder(uprn)
+            blpu = code and self.current(code, ("21", uprn))
         if not blpu:
             return 404, 17
         line = json.dumps(self.line_at(code, blpu), ensure_ascii=False)

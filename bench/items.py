@@ -126,6 +126,17 @@ def read_xref(f):
     return key, n, source, reference, start, end_day(f[5], start, 6)
 
 
+def read_release(f):
+    counted(f, 3)
+    return uprn(f[0], 1), number(f[1], 4, 1, 9999, 2), number(f[2], 4, 1, 9999, 3)
+
+
+def read_adoption(f):
+    """The number, the custodian that released it, the hop, and the property as it is adopted."""
+    counted(f, 10)
+    return *read_release(f[:3]), read_blpu([f[0], *f[3:]])
+
+
 def read_lpi(f):
     counted(f, 17)
     key, n, lang = label(f[0], 14, 1), uprn(f[1], 2), code(f[2], ("ENG", "CYM"), 3)
@@ -167,6 +178,7 @@ KINDS = {
     "23": (read_xref, plain_row),
     "24": (read_lpi, lpi_row),
 }
+PASSING = {"91": read_release, "92": read_adoption}  # by which a property passes between custodians
 
 
 def best_times(kind, text, rounds):

@@ -36,9 +36,8 @@ def mostly(rng, own, all_of):
     return rng.choice(own if rng.random() < 0.9 else all_of)
 
 
-def fields_of(cast, rng, code):
-    """The kind and the fields of a random item."""
-    usrns, uprns = cast.own[code]
+def fields_of(cast, rng, usrns, uprns):
+    """The kind and the fields of a random item, mostly of these streets and properties."""
     kind = rng.choice(["11", "15", "15", "21", "21", "23", "24", "24", "24", "24"])
     end = rng.choice(["", "", "", "2024-04-30"])
     lang = rng.choice(["ENG", "ENG", "ENG", "CYM"])
@@ -67,13 +66,13 @@ def draft(cast, rng, code, volume, boards):
     view = boards[code][-1].copy()
     for order in range(1, rng.randint(0, 7) + 1):
         for _ in range(rng.choice([1, 20, 20, 20, 20])):
-            kind, fields = fields_of(cast, rng, code)
+            kind, fields = fields_of(cast, rng, *cast.own[code])
             action = rng.choice("IIIUUD")
             item = hub.READERS[kind]([str(f).strip('"') for f in fields])
             key = (kind, *item[: hub.KEY_WIDTH[kind]])
-            if hub.record_rule(cast.register[code], view, action, key, item) is None:
+            if hub.record_rule(code, cast.register[code], view, {}, action, key, item) is None:
                 break
-        view.drop(key) if action == "D" else view.put(key, item)
+        hub.apply(view, action, key, item)
         lines.append(",".join([kind, action, str(order), *map(str, fields)]))
     changes = sum(1 for line in lines if not line.startswith("90"))
     return [f"10,1,{code},{volume},2024-01-02", *lines, f"99,{changes}"]
@@ -105,14 +104,14 @@ def judged(cast, code, volume, data, boards):
         return (bases, changes), boards[code][-1]
     if any(d not in boards or w >= len(boards[d]) for d, w in bases):
         return "held", boards[code][-1]
-    return hub.judge(cast.register[code], boards[code][-1], [boards[d][w] for d, w in bases], changes)
+    return hub.judge(code, cast.register[code], boards[code][-1], {d: boards[d][w] for d, w in bases}, changes)
 
 
-def next_file(cast, rng, code, boards):
+def next_file(cast, rng, code, boards, drafted=draft):
     """A file that is mostly applied, and the view after it."""
     volume = len(boards[code])
     for _ in range(rng.choice([1, 1, 30, 30])):
-        lines = draft(cast, rng, code, volume, boards)
+        lines = drafted(cast, rng, code, volume, boards)
         data = ("\n".join(lines) + "\n").encode()
         verdict, view = judged(cast, code, volume, data, boards)
         if verdict == "applied":
@@ -133,7 +132,7 @@ def opening(cast, code):
     return "\n".join((f"10,1,{code},1,2024-01-02", *lines, f"99,{len(rows)}", "")).encode()
 
 
-def files_of(cast, rng, count):
+def files_of(cast, rng, count, drafted=draft):
     boards = {code: [hub.View()] for code in cast.own}
     files = []
     for code in rng.sample(list(cast.own), rng.randint(0, len(cast.own))):
@@ -141,7 +140,7 @@ def files_of(cast, rng, count):
         boards[code].append(judged(cast, code, 1, files[-1][2], boards)[1])
     for _ in range(count):
         code = rng.choice(list(cast.own))
-        data, view = next_file(cast, rng, code, boards)
+        data, view = next_file(cast, rng, code, boards, drafted)
         files.append((code, len(boards[code]), data))
         boards[code].append(view)
     return files

@@ -13,9 +13,9 @@ def get(target):
     return f"GET {target} HTTP/1.1\r\nHost: hub\r\n\r\n".encode()
 
 
-def file_with(code, volume, rows, bases=()):
+def file_with(code, volume, rows, bases=(), profile=1):
     """A file of change records, each written without its order, as 11,I,101,1,2001-04-01,"""
-    lines = [f"10,1,{code},{volume},2024-01-02", *(f"90,{d},{w}" for d, w in bases)]
+    lines = [f"10,{profile},{code},{volume},2024-01-02", *(f"90,{d},{w}" for d, w in bases)]
     lines += (f"{row[:5]}{order},{row[5:]}" for order, row in enumerate(rows, 1))
     return "\n".join((*lines, f"99,{len(rows)}", "")).encode()
 
@@ -206,3 +206,39 @@ def growing_changes(items, files):
             new = start + homes + CHANGED * (volume - first)
             rows = home_rows(code, range(new, new + CHANGED), "I")
         yield post((code, volume), file_with(code, volume, list(rows)))
+
+
+PLACE = "1,450000,250000,,AR1 2DN,2001-04-01,"  # of a property that passes, what stands behind its number
+
+
+def numbers_of(code, turn, count=5_000):
+    """The numbers of a custodian's that are changed in one of some turns."""
+    return range(FIRST_UPRN[code] + count * turn, FIRST_UPRN[code] + count * (turn + 1))
+
+
+def county(turns):
+    """The posts of a county's files of 5,000 properties, one for each turn."""
+    for turn in range(turns):
+        yield post((1001, turn + 1), file_with(1001, turn + 1, [f"21,I,{n},{PLACE}" for n in numbers_of(1001, turn)]))
+
+
+def handed_over(turns):
+    """What then comes, a file of 5,000 changes for each turn: updates of those properties, releases of them, a district's adoptions, and its inserts of as many others."""
+    rows = {
+        "updates": (1001, turns, lambda turn: [f"21,U,{n},{PLACE}" for n in numbers_of(1001, turn)]),
+        "releases": (1001, 2 * turns, lambda turn: [f"91,I,{n},1002,1" for n in numbers_of(1001, turn)]),
+        "inserts": (1002, 0, lambda turn: [f"21,I,{n},{PLACE}" for n in numbers_of(1002, turn)]),
+        "adoptions": (1002, turns, lambda turn: [f"92,I,{n},1001,1,{PLACE}" for n in numbers_of(1001, turn)]),
+    }
+    for title, (code, before, rows_of) in rows.items():
+        bases = ((1001, 3 * turns),) if title == "adoptions" else ()
+        yield title, [post((code, before + k + 1), file_with(code, before + k + 1, rows_of(k), bases, 2)) for k in range(turns)]
+
+
+def given_up(turns, first, homes=HOMES):
+    """The posts of small files of that district of addresses, from a volume on: of each turn one that changes a property and its address, and then of each one that gives both up."""
+    for k in range(2 * turns):
+        n = FIRST + 7919 * k % homes
+        lpi = f"L{n},{n},ENG,1,{150 if n % 10 == 0 else 200 + n % 100},,,,,Flat 2,12,A,14,,,2001-04-01,"
+        rows = [f"24,U,{lpi}", f"21,U,{n},{PLACE}"] if k < turns else [f"24,D,{lpi}", f"91,I,{n},1003,1"]
+        yield post((1002, first + k), file_with(1002, first + k, rows, ((1001, 1),), 2))

@@ -4,7 +4,7 @@ import functools
 import hashlib
 from dataclasses import dataclass, field
 
-from checks.three_histories import QUESTIONS, outcome_of
+from checks.short_histories import QUESTIONS, outcome_of
 from checks.wanting import WANTS, Plain, body_of, ends_early, reply_fault
 
 STOPPED = 70  # the status of a process whose machine stops (failing.c)

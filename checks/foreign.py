@@ -108,15 +108,6 @@ HARMLESS = {
     "rows in another order": "CREATE TABLE it AS SELECT * FROM version2; DELETE FROM version2; INSERT INTO version2 SELECT * FROM it ORDER BY body DESC; DROP TABLE it",
 }
 
-# What no store writes: an item with a hop, or a row of custody beside the items. No answer reads them but what brings a store to hand, which then isn't.
-HANDED_ON = {
-    "a hop of 1": "UPDATE version2 SET hop = 1 WHERE id = '000000000042'",
-    "a hop of -1": "UPDATE version2 SET hop = -1 WHERE kind = 24 AND gone < 1000000",
-    "a hop of 10000": "UPDATE version2 SET hop = 10000 WHERE cust = 1003",
-    "a number that was released": "INSERT INTO version2 VALUES (1001, 92, '000000000500', 500, 1002, 0, 0, 1, 1000000, '', 1)",
-    "a number that was adopted": "INSERT INTO version2 VALUES (1001, 92, '000000000042', 42, 1002, 0, 1, 2, 1000000, '', 2)",
-}
-
 # A table with a further column that has to be something takes no row: what makes it, and how a file is refused for it. `received` would have had
 # the file, or `version2` what it changes. A row of `received` names no columns, so there any further one will do.
 TAKING_NONE = {
@@ -154,20 +145,6 @@ def answers_alike(on: Ground, sql: str) -> str | None:
     """What is wrong with the answers of a store to which this was done."""
     requests = QUESTIONS + LATER + QUESTIONS
     return fault_in(on.hubs.over(on.damaged(sql), requests), b"".join(on.right(requests)))
-
-
-def passes_over(on: Ground, sql: str) -> str | None:
-    """What is wrong with the answers of a store to which this was done, from its tables or from memory, or with what becomes of its rows by asking."""
-    for how in (on.hubs.over, on.hubs.at_hand):
-        store, requests = on.damaged(sql), QUESTIONS + LATER + QUESTIONS
-        before = rows_of(store)
-        fault = fault_in(how(store, QUESTIONS), b"".join(on.right(QUESTIONS)))
-        if fault or rows_of(store) != before:
-            return fault or "a question has written"
-        fault = fault_in(how(store, requests), b"".join(on.right(requests)))
-        if fault:
-            return fault
-    return None
 
 
 def takes_later(on: Ground, table: str, refusal: int, sql: str) -> str | None:
@@ -250,7 +227,6 @@ def run_all(root: Path, room: Path) -> Iterator[tuple[str, str | None]]:
         yield from ((f"damaged: {case.name}", refuses(on, case)) for case in REFUSALS)
         yield from ((f"damaged: {case.name}", tells_fault(on, case)) for case in FAULTS)
         yield from ((f"changed: {name}", answers_alike(on, sql)) for name, sql in HARMLESS.items())
-        yield from ((f"changed: {name}", passes_over(on, sql)) for name, sql in HANDED_ON.items())
         yield from ((f"with a further column of {table}", takes_later(on, table, *how)) for table, how in TAKING_NONE.items())
         yield from ((f"written by Python, {name}", answers_copy(on, *of)) for name, *of in schemas(schema, rows_of(on.ready)))
         yield "written by Python, with no file", answers_empty(on, schema)

@@ -49,11 +49,17 @@ Asked = tuple[tuple[str, str, bytes | None], int, bytes]  # a request, and the s
 
 TOWN, LOWER = "/custodians/1004/volumes/1", "/custodians/1002/volumes/1"
 FIRST_OF_LOWER = file_of(1002, 1, "90,1004,1", "11,I,1,201,1,2001-04-01,")
+# Property 500 is released to the custodian who comes by the growth, and adopted then.
+COUNTY, LATER_OF_TOWN = "/custodians/1001/volumes/1", "/custodians/1004/volumes/2"
+RELEASED = b"10,2,1001,1,2025-01-02\n91,I,1,500,1004,1\n99,1\n"
+ADOPTED = b"10,2,1004,2,2025-01-03\n90,1001,1\n92,I,1,500,1001,1,1,450000,250000,,,2020-01-01,\n99,1\n"
 HELD = b'{"outcome":"held","wants":{"custodian":1004,"volume":1}}\n'
 BEFORE_GROWTH: tuple[Asked, ...] = (
     (("POST", LOWER, FIRST_OF_LOWER), 201, HELD),
     (("POST", TOWN, FIRST), 404, b'{"refusal":11}\n'),
     (("GET", "/custodians/1004", None), 404, b'{"refusal":11}\n'),
+    (("POST", COUNTY, RELEASED), 201, serving.APPLIED),
+    (("GET", "/uprn/500", None), 404, b'{"refusal":17}\n'),
 )
 AFTER_GROWTH: tuple[Asked, ...] = (
     (("POST", LOWER, FIRST_OF_LOWER), 200, HELD),
@@ -62,6 +68,9 @@ AFTER_GROWTH: tuple[Asked, ...] = (
     (("POST", LOWER, FIRST_OF_LOWER), 200, serving.APPLIED),
     (("GET", "/extract/1004/1", None), 200, b"10,E,1004,1\n11,I,1,400,1,2001-04-01,\n99,1\n"),
     (("GET", "/extract/1002/1", None), 200, b"10,E,1002,1\n11,I,1,201,1,2001-04-01,\n99,1\n"),
+    (("GET", "/uprn/500", None), 404, b'{"refusal":17}\n'),
+    (("POST", LATER_OF_TOWN, ADOPTED), 201, serving.APPLIED),
+    (("GET", "/uprn/500", None), 200, b'{"custodian":1004,"line":null,"status":1,"uprn":500}\n'),
 )
 
 

@@ -1,4 +1,4 @@
-"""Conversations that are too large for files: as many changes and bytes as a file may have, long chains of parents, long lists."""
+"""Conversations that are too large for files: as many changes and bytes as a file may have, long chains of parents, long lists, a property that passes as often as one may."""
 
 import hashlib
 from collections.abc import Iterator
@@ -9,8 +9,10 @@ from checks.conversations import LARGEST_BODY, Conversation, run_whole
 from checks.stores import get, post
 
 MOST_CHANGES = 5000
+LAST_HOP = 9999
 
 APPLIED = '"outcome":"applied"'
+BLPU = "1,450000,250000,,,2020-01-01,"  # of a property, what stands behind its number
 
 # What stands behind 5,000 changes that each break rule 22, and the record and the rule at fault: the limit is asked before all else of a change.
 BEHIND_THE_LAST = (
@@ -58,8 +60,8 @@ def text_of(lines: list[str]) -> bytes:
     return "".join(f"{line}\n" for line in lines).encode()
 
 
-def file_of(code: int, volume: int, changes: list[str], bases: tuple[str, ...] = ()) -> bytes:
-    return text_of([f"10,1,{code},{volume},2024-01-02", *bases, *changes, f"99,{len(changes)}"])
+def file_of(code: int, volume: int, changes: list[str], bases: tuple[str, ...] = (), profile: int = 1) -> bytes:
+    return text_of([f"10,{profile},{code},{volume},2024-01-02", *bases, *changes, f"99,{len(changes)}"])
 
 
 def part(order: int, uprn: int) -> str:
@@ -134,6 +136,43 @@ def closed_street() -> Conversation:
     return conversation("5,000 addresses on a street that closed are listed", turns)
 
 
+def most_releases() -> Conversation:
+    """A county hands over as many properties as a file may name, and a district takes them."""
+    numbers = range(1, MOST_CHANGES + 1)
+    releases = [f"91,I,{n},{n},1002,1" for n in numbers]
+    adoptions = [f"92,I,{n},{n},1001,1,{BLPU}" for n in numbers]
+    longer = [*releases, "91,I,5001,5001,1002,1"]
+    turns = [
+        told(post(1001, 1, file_of(1001, 1, longer, profile=2)), rejected(5002, 9)),
+        told(post(1001, 2, file_of(1001, 2, releases, profile=2)), APPLIED),
+        told(post(1002, 1, file_of(1002, 1, adoptions, ("90,1001,2",), 2)), APPLIED),
+        told(post(1002, 2, file_of(1002, 2, adoptions, ("90,1001,2",), 2)), rejected(3, 42)),
+        extracted(1001, 2, []),
+        extracted(1002, 1, inserted("21", [f"{n},{BLPU}" for n in numbers])),
+    ]
+    return conversation("5,000 properties are handed over by a file each", turns)
+
+
+def every_hop() -> Conversation:
+    """A property goes to and fro between two custodians until its hop is the last that there is. Each file adopts it and releases it again."""
+
+    def turn(k: int) -> Turn:
+        code, other, volume = 1002 - k % 2, 1001 + k % 2, (k + 1) // 2
+        bases = (f"90,{other},{k // 2}",) if k > 1 else ()
+        adoptions = [f"92,I,1,500,{other},{k - 1},{BLPU}"] if k > 1 else []
+        releases = [f"91,I,{len(adoptions) + 1},500,{other},{k}"] if k <= LAST_HOP else []
+        return told(post(code, volume, file_of(code, volume, adoptions + releases, bases, 2)), APPLIED)
+
+    further = ((LAST_HOP, 40), (LAST_HOP + 1, 6))
+    files = [file_of(1002, volume, [f"91,I,1,500,1001,{hop}"], profile=2) for volume, (hop, _) in enumerate(further, 5001)]
+    turns = [
+        *map(turn, range(1, LAST_HOP + 2)),
+        *(told(post(1002, volume, file), rejected(2, rule)) for volume, (file, (_, rule)) in enumerate(zip(files, further), 5001)),
+        told(get("/uprn/500"), '"custodian":1002,"line":null,"status":1,"uprn":500', "200 OK"),
+    ]
+    return conversation("a property passes 9,999 times, and then no more", turns)
+
+
 def inserted(kind: str, rows: list[str], before: int = 0) -> list[str]:
     """Insertions of these rows, behind so many other records."""
     return [f"{kind},I,{order},{row}" for order, row in enumerate(rows, before + 1)]
@@ -141,7 +180,7 @@ def inserted(kind: str, rows: list[str], before: int = 0) -> list[str]:
 
 def cases() -> list[Conversation]:
     largest_bad = conversation("a record of 1,048,576 bytes is no header", [told(post(1001, 1, b"a" * LARGEST_BODY), rejected(1, 2))])
-    return [most_changes(), long_chain(), limit_first(), largest_good_file(), largest_bad, closed_street()]
+    return [most_changes(), long_chain(), limit_first(), largest_good_file(), largest_bad, closed_street(), most_releases(), every_hop()]
 
 
 def run_all(program: Path) -> Iterator[tuple[str, str | None]]:

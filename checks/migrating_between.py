@@ -13,12 +13,17 @@ from checks.tables import rows_of, write_store
 from checks.written import FIRST, moved_back
 
 NOTHING = {"meta": [(1, 1, TEXT)]}
+PROFILE_2 = b"\r\n\r\n10,2,"  # where a file of it begins
 
 
 def half_of(conversation: Conversation) -> tuple[list[bytes], list[bytes], bytes]:
-    """The requests of the first half, those behind them, and the replies to the latter. None behind the last reply are sent."""
+    """The requests of the first half, those behind them, and the replies to the latter. None behind the last reply are sent.
+
+    A store of schema 1 has no file of profile 2, so the half ends before the first such.
+    """
     requests, replies = requests_in(conversation.requests), replies_in(conversation.replies)
-    half = len(replies) // 2
+    first = next((at for at, it in enumerate(requests) if PROFILE_2 in it), len(requests))
+    half = min(len(replies) // 2, first)
     return requests[:half], requests[half : len(replies)], b"".join(replies[half:])
 
 

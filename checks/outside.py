@@ -10,6 +10,7 @@ from checks import (
     damaged,
     foreign,
     growing,
+    handed_on,
     in_turn,
     killing,
     large,
@@ -67,11 +68,12 @@ def of_program(program: Path, root: Path) -> Iterator[Case]:
 
 
 def of_stores(root: Path, room: Path) -> Iterator[Case]:
-    """Of stores in files: the conversations over them, other people's SQLite, damage, stores of the schema before and their migration, rows as they are written,
+    """Of stores in files: the conversations over them, other people's SQLite, rows of custody, damage, stores of the schema before and their migration, rows as they are written,
     registers that grow, what they cost, rings; memory that is wanting, and histories over stores and keepers that fail."""
     yield from held(stored.run_all(root, room))
     yield from held(in_turn.run_all(root, room))
     yield from named("a store", foreign.run_all(root, room))
+    yield from named("handed on:", handed_on.run_all(root, room))
     yield from named("damaged:", damaged.run_all(root, room))
     yield from named("schema 1,", schema1.run_all(root, room))
     yield from named("schema 2,", schema2.run_all(root, room))

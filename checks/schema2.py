@@ -1,4 +1,4 @@
-"""Stores of schema 2 as written tables: our stores hold just the rows that are written, and a hub over the rows answers alike. They are those of schema 1,
+"""Stores of schema 2 as written tables: our stores hold just the rows that are written, and a hub over the rows answers alike. One is of a property that passed; the others are those of schema 1,
 moved: so are those of a history, of which the last program of schema 1 left a store."""
 
 import contextlib
@@ -12,7 +12,7 @@ from checks.history import HISTORY, LATER, QUESTIONS
 from checks.stored import fault_in
 from checks.stores import Hubs, hubs_of
 from checks.tables import opened, rows_of
-from checks.written import FIRST, SECOND, STORES, Written, moved, text_of
+from checks.written import FIRST, PASSED, SECOND, STORES, Written, moved, text_of
 
 SCHEMA = "SELECT type, name, tbl_name, rootpage, sql FROM sqlite_schema ORDER BY rowid"
 
@@ -83,6 +83,6 @@ def run_all(root: Path, room: Path) -> Iterator[tuple[str, str | None]]:
         yield "the tables", same_tables(hubs, folder)
         yield "rows of a history", holds_history(hubs, folder)
         yield "answers of a history", answers_history(hubs, folder)
-        for written in STORES:
+        for written in (*STORES, PASSED):
             yield f"rows of {written.name}", holds(hubs, root, folder, written)
             yield f"answers of {written.name}", answers(hubs, root, folder, written)

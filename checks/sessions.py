@@ -41,6 +41,10 @@ LAST_NUMBERS = (
     b"10,1,400,1,2024-01-02\n11,I,1,96000000,1,2001-04-01,\n15,I,2,96000000,ENG,Last Street,,Arden,Arden\n"
     b"21,I,3,960000000000,1,450000,250000,,,2001-04-01,\n24,I,4,L1,960000000000,ENG,1,96000000,,,,,,7,,,,,2001-04-01,\n99,4\n"
 )
+GIVEN_UP = b"10,2,1001,4,2025-01-02\n24,D,1,L1,42,ENG,1,101,,,,,Flat 2,12,A,14,,,2001-04-01,\n91,I,2,42,1002,1\n99,2\n"
+ADOPTED = b"10,2,1002,1,2025-01-03\n90,1001,4\n92,I,1,42,1001,1,1,450000,250000,,AR1 2DN,2001-04-01,\n99,1\n"
+ADDRESSED = b"10,1,1002,2,2025-01-06\n90,1001,2\n24,I,1,K1,42,ENG,1,101,,,,,,14,,,,,2025-01-06,\n99,1\n"
+STILL_OURS = b"10,1,1001,5,2025-02-01\n21,U,1,42,8,450000,250000,,AR1 2DN,2001-04-01,2025-01-31\n99,1\n"
 EXTRACT = b"10,E,1001,2\n11,I,1,101,1,2001-04-01,\n15,I,2,101,ENG,High Street,,Arden,Arden\n99,2\n"
 
 FILES = {
@@ -58,6 +62,10 @@ FILES = {
     "street.csv": STREET,
     "descriptor.csv": DESCRIPTOR,
     "flat.csv": FLAT,
+    "given.csv": GIVEN_UP,
+    "adopted.csv": ADOPTED,
+    "addressed.csv": ADDRESSED,
+    "ours.csv": STILL_OURS,
     "last.csv": LAST_NUMBERS,
     "again.csv": STREET.replace(b"-02", b"-03"),
     "profile.csv": b"10,7,x",
@@ -119,6 +127,25 @@ SESSIONS = (
             Step(f"line {STORE} 0000000000042", 1, b"none\n"),
             Step(f"extract {STORE} 1001 2", 0, EXTRACT),
             Step(f"extract {STORE} 1001 4", 1, b"none\n"),
+        ),
+    ),
+    Session(
+        "a property that passes to a neighbour, who was first to say so",
+        (
+            INIT,
+            FIRST,
+            SECOND,
+            Step(f"submit {STORE} 1001 3 flat.csv", 0, b"new applied\n"),
+            Step(f"submit {STORE} 1002 1 adopted.csv", 1, b"new held wants 1001/4\n"),
+            Step(f"line {STORE} 42", 0, b"Flat 2, 12A-14 High Street, Arden, AR1 2DN\n"),
+            Step(f"submit {STORE} 1001 4 given.csv", 0, b"new applied\n"),
+            Step(f"submit {STORE} 1002 1 adopted.csv", 0, b"repeat applied\n"),
+            Step(f"line {STORE} 42", 1, b"none\n"),
+            Step(f"submit {STORE} 1002 2 addressed.csv", 0, b"new applied\n"),
+            Step(f"line {STORE} 42", 0, b"14 High Street, Arden, AR1 2DN\n"),
+            Step(f"submit {STORE} 1001 5 ours.csv", 1, b"new rejected record 2 rule 20\n"),
+            Step(f"extract {STORE} 1001 5", 0, EXTRACT.replace(b"1001,2", b"1001,5")),
+            Step(f"extract {STORE} 1002 1", 0, b"10,E,1002,1\n21,I,1,42,1,450000,250000,,AR1 2DN,2001-04-01,\n99,1\n"),
         ),
     ),
     Session(

@@ -76,6 +76,16 @@ class Store:
         return high
 
 
+def passages(size: Size) -> str:
+    """Rows of custody beside the items: each number was adopted, one of those that are asked for again in each volume."""
+    return (
+        f"WITH RECURSIVE turn(v) AS (VALUES (1) UNION ALL SELECT v + 1 FROM turn WHERE v < {size.last()})"
+        " INSERT INTO version2 SELECT cust, 92, id, CAST(id AS INTEGER), 1002, 0, 1, v,"
+        f" CASE v WHEN {size.last()} THEN 1000000 ELSE v + 1 END, '', v FROM version2, turn"
+        f" WHERE kind = 21 AND gone = 1000000 AND (v = {size.last()} OR id IN ('000000050000', '000000050001', '000000050002'))"
+    )
+
+
 def store_of(hubs: Stepping, path: Path, size: Size) -> Store:
     made = hubs.over(path, history(size))
     assert made.fault() is None, made.fault()
@@ -113,6 +123,8 @@ def run_all(root: Path, room: Path) -> Iterator[tuple[str, str | None]]:
         register.write_text(REGISTER)
         stepping = Stepping(hubs.bench, register)
         few, many = store_of(stepping, folder / "few", FEW), store_of(stepping, folder / "many", MANY)
+        alter(few.ready, passages(FEW))
+        alter(many.ready, passages(MANY))
         of_many = cases(MANY)
         yield "an extract of many rows", reads_all(many)
         yield from ((f"none, and {sql}", refused(few, sql, word)) for sql, word in WITHOUT_STEPS.items())

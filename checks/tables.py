@@ -45,7 +45,7 @@ def rows_of(store: Path) -> dict[str, list[tuple]]:
 def view_in(conn: sqlite3.Connection, code: int, volume: int) -> bytes:
     """The extract of a volume, by a query of Python's own."""
     rows = conn.execute(
-        "SELECT kind, body FROM version2 WHERE cust = ? AND born <= ? AND gone > ? ORDER BY kind, id", (code, volume, volume)
+        "SELECT kind, body FROM version2 WHERE cust = ? AND kind <= 24 AND born <= ? AND gone > ? ORDER BY kind, id", (code, volume, volume)
     ).fetchall()
     lines = [f"{kind},I,{order},{body}" for order, (kind, body) in enumerate(rows, 1)]
     return "\n".join((f"10,E,{code},{volume}", *lines, f"99,{len(rows)}", "")).encode()

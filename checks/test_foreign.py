@@ -106,11 +106,6 @@ class Damaging(InAFolder):
         for sql in [it.sql for it in foreign.REFUSALS] + list(foreign.HARMLESS.values()):
             self.assertTrue(on.ready.read_bytes() != on.damaged(sql).read_bytes(), sql)
 
-    def test_each_row_is_handed_on(self) -> None:
-        on = ground.ground(telling(rows=schema2.left_rows(self.folder)), self.folder)
-        for name, sql in foreign.HANDED_ON.items():
-            self.assertNotEqual(tables.rows_of(on.ready)["version2"], tables.rows_of(on.damaged(sql))["version2"], name)
-
     def test_names_differ(self) -> None:
         names = [it.name for it in (*foreign.REFUSALS, *foreign.FAULTS)]
         self.assertEqual(len(names), len(set(names)))

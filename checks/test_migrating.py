@@ -183,6 +183,13 @@ class Between(Migrating):
         self.assertEqual(self.conversation().requests, b"".join(before + behind))
         self.assertTrue(before and behind and self.conversation().replies.endswith(replies))
 
+    def test_no_half_has_a_file_of_profile_2(self) -> None:
+        there = next(one for one in find(TOP) if one.name == "conversations/what-names-a-property-goes-before-it")
+        before, behind, _ = migrating_between.half_of(there)
+        self.assertEqual((4, True), (len(before), migrating_between.PROFILE_2 in behind[0]))
+        waits = next(one for one in find(TOP) if one.name == "conversations/an-adoption-waits-for-its-release")
+        self.assertEqual([], migrating_between.half_of(waits)[0])
+
 
 class Refusing(Migrating):
     def refusal(self, text: str, word: str = "BadSchema", sql: str = "UPDATE meta SET number = 3") -> str | None:

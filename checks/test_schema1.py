@@ -13,7 +13,7 @@ from checks import schema1, tables, written
 from checks.conversations import find
 from checks.history import FILES, file_of
 from checks.stores import TEXT, Hubs
-from checks.written import FIRST, SECOND, STORES
+from checks.written import FIRST, PASSED, SECOND, STORES
 
 TOP = Path(__file__).resolve().parent.parent
 MODULE = TOP / "crates" / "gaz_trials" / "src" / "schema1_rows.rt"
@@ -75,7 +75,7 @@ class Writing(InAFolder):
     def test_each_file_of_rows_is_one_of_them(self) -> None:
         names = {it.name for it in STORES}
         self.assertEqual({"tables", *names}, {path.stem for path in FIRST.folder.glob("*.sql")})
-        self.assertEqual({"tables", *names}, {path.stem for path in SECOND.folder.glob("*.sql")})
+        self.assertEqual({"tables", PASSED.name, *names}, {path.stem for path in SECOND.folder.glob("*.sql")})
         self.assertEqual({"history", *names}, {path.stem for path in FIRST.folder.glob("*.db")})
         self.assertEqual(names, {path.stem for path in MODULE.with_suffix("").glob("*.rt")})
 

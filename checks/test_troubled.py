@@ -13,7 +13,7 @@ from checks.allowed import STOPPED, Along, Ended, Received, is_few
 from checks.failing import SOURCE, framed, sent
 from checks.preloading import library
 from checks.test_wanting import LINE_51, LINE_52, reply
-from checks.three_histories import HISTORIES, QUESTIONS, outcome_of
+from checks.short_histories import HISTORIES, QUESTIONS, outcome_of
 from checks.troubled import Came, rising
 
 # Writes to a store's two files and to another one, and syncs in between; says which calls failed.

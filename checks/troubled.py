@@ -20,7 +20,7 @@ from checks.allowed import STOPPED, Along, Ended
 from checks.failing import QUICK, SOURCE, Requests, Room, files_of
 from checks.preloading import library
 from checks.stores import SAMPLE
-from checks.three_histories import HISTORIES, QUESTIONS, outcome_of
+from checks.short_histories import HISTORIES, QUESTIONS, outcome_of
 from checks.wanting import body_of
 
 WAITING = ("a file waits for a neighbour's",)

@@ -1,4 +1,4 @@
-"""Stores as written rows, in SQL: of each schema the same four, named for what they hold, and the conversations that leave them."""
+"""Stores as written rows, in SQL: of each schema the same four, named for what they hold, and the conversations that leave them; of schema 2 one more, in which a property passed."""
 
 from dataclasses import dataclass
 from pathlib import Path
@@ -28,6 +28,7 @@ STORES = (
     Written("a_closed_street_with_a_neighbours_address", "conversations/files-in-the-reverse-order-are-told-alike"),
     Written("a_deleted_address", "conversations/a-deleted-key-stays-used"),
 )
+PASSED = Written("a_property_that_passed", "conversations/a-property-passes-there-and-back")
 
 
 @dataclass(frozen=True)

@@ -37,6 +37,10 @@ standing_at vs volume = fold (λ i v. v.1) None (until vs volume)
 abbrev pub was_used_at : {T : Type 0} → Versions T → ℕ → Bool
 was_used_at vs volume = list_any (λ v. nat_le v.0 volume) vs
 
+-- not all of them begin before a volume
+abbrev pub BeginsFrom : {T : Type 0} → Versions T → ℕ → Type 0
+BeginsFrom vs volume = before vs volume ≡ vs → ⊥
+
 -- nothing stands at the key after a volume, nor after any later one
 abbrev pub IsOverBy : {T : Type 0} → Versions T → ℕ → Type 0
 IsOverBy vs volume = (later : ℕ) → volume ≤ later → standing_at vs later ≡ None

@@ -1,6 +1,6 @@
 //! How the versions of a key are kept.
 ghost use Rattle.std.specs.Prelude.{◌≡◌, ◌++◌, ◌∷◌, [], false, IfErr, IfOk, IsOk, OnErr, OnOk};
-ghost use Rattle.gaz_histories.specs.Histories.{Ascends, before};
+ghost use Rattle.gaz_histories.specs.Histories.{Ascends, BeginsFrom, before};
 ghost use Rattle.gaz_histories.specs.Kept.{is_one, is_one_before, version_in, versions_in};
 
 use crate::versions::{Version, count_before, put_last, put_two};
@@ -44,13 +44,15 @@ impl<T: Drop> Kept<T> {
     }
 
     /// Puts a version behind those that begin before it, and forgets the others. Where memory runs
-    /// out, nothing changes. The first version of all needs no memory.
+    /// out, nothing changes. The first version of all needs no memory, nor does one in place of
+    /// others.
     pub fn put(&mut self, alloc: Global, version: Version<T>) -> Result<(), AllocError>
         requires { Ascends (versions_in self.old) }
         ensures ok { OnOk result (versions_in self.new
             ≡ before (versions_in self.old) version.since ++ version_in version ∷ []) }
         ensures err { OnErr result (versions_in self.new ≡ versions_in self.old) }
         ensures first { versions_in self.old ≡ [] → IsOk result }
+        ensures again { BeginsFrom (versions_in self.old) version.since → IsOk result }
     {
         if self.is_one_before(version.since) {
             self.spread(alloc)?;

@@ -1,9 +1,10 @@
 //! Versions in a vector.
-ghost use Rattle.std.specs.Prelude.{◌≡◌, ◌↔◌, ◌++◌, ◌∷◌, [], ◌≤◌, take, length, OnOk, OnErr, option_map};
-ghost use Rattle.std.specs.Prelude.{IsTrue};
+ghost use Rattle.std.specs.Prelude.{◌≡◌, ◌↔◌, ◌++◌, ◌∷◌, [], ◌≤◌, take, length, OnOk, OnErr};
+ghost use Rattle.std.specs.Prelude.{option_map};
+ghost use Rattle.std.specs.Prelude.{IsOk, IsTrue};
 ghost use Rattle.std.specs.List.{list_any};
-ghost use Rattle.gaz_histories.specs.Histories.{Ascends, IsOverBy, before, standing_at, until};
-ghost use Rattle.gaz_histories.specs.Histories.{was_used_at};
+ghost use Rattle.gaz_histories.specs.Histories.{Ascends, BeginsFrom, IsOverBy, before};
+ghost use Rattle.gaz_histories.specs.Histories.{standing_at, until, was_used_at};
 ghost use Rattle.gaz_histories.specs.Kept.{stands_after, version_in, versions_of};
 
 use std::alloc::AllocError;
@@ -68,7 +69,7 @@ pub fn begins_until<T>(versions: &[Version<T>], volume: u64) -> bool
 }
 
 /// Puts a version behind those that begin before it, and forgets the others. Where memory runs
-/// out, nothing changes.
+/// out, nothing changes. In place of others it needs no memory.
 pub fn put_last<T: Drop>(
     versions: &mut Vec<Version<T>>,
     version: Version<T>,
@@ -77,6 +78,7 @@ pub fn put_last<T: Drop>(
     ensures ok { OnOk result (versions_of versions.new.items
         ≡ before (versions_of versions.old.items) version.since ++ version_in version ∷ []) }
     ensures err { OnErr result (versions.new.items ≡ versions.old.items) }
+    ensures again { BeginsFrom (versions_of versions.old.items) version.since → IsOk result }
 {
     let count = count_before(versions, version.since);
     if count == versions.len() {

@@ -8,7 +8,7 @@ use Rattle.gaz_changefile.specs.Contents.{Contents}
 use Rattle.gaz_changefile.specs.Reading.{Good, Bad, Reading, reading}
 use Rattle.gaz_changefile.specs.declared.change.Basis.{Basis}
 use Rattle.gaz_register.specs.Registers.{Blocks, RegisterValue}
-use Rattle.gaz_keeper.specs.Board.{Board, Judgement, adds, reached}
+use Rattle.gaz_keeper.specs.Board.{Board, Judgement, adds, empty_board, reached}
 use Rattle.gaz_keeper.specs.Keeper.{Content, Counts, Enters, IsAtHand, IsNotOpen, Seen, after_abandon, after_skip, with_judgement}
 use Rattle.gaz_keeper.specs.Received.{Received}
 use Rattle.gaz_keeper.specs.declared.fault.ShelfFault.{ShelfFault}
@@ -17,17 +17,15 @@ use Rattle.gaz_views.specs.declared.verdict.Verdict.{Verdict}
 use Rattle.gaz_rules.specs.Bases.{are_reached, judged_on}
 use Rattle.gaz_rules.specs.Judges.{IsReady, Judges}
 use Rattle.gaz_rules.specs.Judging.{bases_of, judge}
-use Rattle.gaz_rules.specs.Sound.{AllHoldOwn}
-use Rattle.gaz_rules.proofs.OwnNumbers.{own_numbers_stay_holds}
 use Rattle.gaz_extract.specs.Readings.{Looks}
 use Rattle.gaz_hub.specs.Hubs.{AreKnown, IsSoundFor, MayHave, door_of, state_of}
 use Rattle.gaz_hub.specs.Settling.{Advances, IsAll, IsNext, IsReadyAs, Tries}
-use Rattle.gaz_hub.specs.Standing.{Follows, Leads, Register, judge_one, next_reading, ready, with_next}
+use Rattle.gaz_hub.specs.Standing.{Follows, IsPartial, Leads, Register, judge_one, next_reading, ready, with_next}
 use Rattle.gaz_hub.specs.Step.{Door, blocks}
 use Rattle.gaz_hub.specs.Stops.{IsLater, Stops}
 use Rattle.gaz_hub.specs.declared.looking.Next.{Next}
 use Rattle.gaz_hub.proofs.Bounds.{all_then, not_all}
-use Rattle.gaz_hub.proofs.Leading.{follows_itself, leads_on}
+use Rattle.gaz_hub.proofs.Leading.{follows_itself, follows_on, leads_on}
 use Rattle.gaz_hub.proofs.Looks.{counts_then, left_not_open}
 use Rattle.gaz_hub.proofs.Prefixes.{both_parts}
 use Rattle.gaz_hub.proofs.Stopping.{Marks, later_on, stops_added, stops_look, stops_still, stops_then}
@@ -36,7 +34,7 @@ use Rattle.gaz_hub.proofs.Stopping.{Marks, later_on, stops_added, stops_look, st
 
 -- with the same files and board a hub may have a content too
 pub may_keep : (d : Door) (k m : Content) → m.files ≡ k.files → m.board ≡ k.board → MayHave d k → MayHave d m
-may_keep d k m files board was = record { known = subst (AreKnown d) (sym files) was.known; own = subst (AllHoldOwn (blocks d)) (sym board) was.own }
+may_keep d k m files board was = record { known = subst (AreKnown d) (sym files) was.known; partial = subst (λ (x : Received × Board). IsPartial (blocks d) x.0 x.1) (λ i. (sym files i, sym board i)) was.partial }
 
 -- a look judges nothing
 pub advances_looking : {T : Type 0} (d : Door) (a b : Seen) (r : Result T ShelfFault) (P : T → Type 0) → Looks a b r P → IsNotOpen a.progress → Advances d 0 a b
@@ -203,12 +201,14 @@ abbrev follows_judged : (d : Door) (k m : Content) (code : ℕ) (rd : Reading) �
 follows_judged d k m code rd now e =
     record { order = code ∷ []; leads = (now.0, ap (λ (x : Content). x.board) e ∙ added_is (blocks d) k.files k.board code rd now.1) }
 
--- nor does judging a file give anybody the property of another
-may_judge : (d : Door) (k m : Content) (code : ℕ) (rd : Reading) → m ≡ with_judgement k code (judged_on ((blocks d) code) k.board code rd) → MayHave d k → MayHave d m
-may_judge d k m code rd e was =
+-- with one judgement more a hub may have a content too
+may_judge : (d : Door) (k m : Content) (code : ℕ) (rd : Reading) → IsNow k code rd → m ≡ with_judgement k code (judged_on ((blocks d) code) k.board code rd) → MayHave d k → MayHave d m
+may_judge d k m code rd now e was =
     record {
       known = subst (AreKnown d) (sym (ap (λ (x : Content). x.files) e)) was.known;
-      own = subst (AllHoldOwn (blocks d)) (sym (ap (λ (x : Content). x.board) e)) (own_numbers_stay_holds.after_judgement (blocks d) k.board code rd was.own);
+      partial =
+          subst (λ F. IsPartial (blocks d) F m.board) (sym (ap (λ (x : Content). x.files) e))
+          (follows_on (blocks d) k.files empty_board k.board m.board was.partial (follows_judged d k m code rd now e));
     }
 
 module _ {T : Type 0} (d : Door) (a c : Seen) (code : ℕ) (rd : Reading) (met : a.stands → c.unharmed → IsNow a.content code rd)
@@ -220,7 +220,7 @@ module _ {T : Type 0} (d : Door) (a c : Seen) (code : ℕ) (rd : Reading) (met :
         harm = g.harm;
         stands = λ stood fine.
             let now = met stood.0 fine in
-            (g.stands stood.0 now fine, may_judge d a.content c.content code rd (g.done stood.0 now fine) stood.1);
+            (g.stands stood.0 now fine, may_judge d a.content c.content code rd now (g.done stood.0 now fine) stood.1);
         files = λ stood fine. ap (λ (k : Content). k.files) (g.done stood.0 (met stood.0 fine) fine);
         board = λ stood fine. let now = met stood.0 fine in follows_judged d a.content c.content code rd now (g.done stood.0 now fine);
         many = λ stood fine. omega arith;

@@ -4,7 +4,7 @@ use Rattle.std.specs.Cmp.{eq_by_cmp_equiv}
 use Rattle.std.specs.Prelude.{Option, Some, None, is_some, Ok, Err}
 use Rattle.std.specs.FinMap as map
 use Rattle.gaz_keeper.proofs.Pairs.{pairs_total}
-use Rattle.gaz_keeper.specs.Board.{Board}
+use Rattle.gaz_keeper.specs.Board.{Board, empty_board}
 use Rattle.gaz_keeper.specs.Keeper.{Content, Enters, IsNew, IsNotOpen, Seen, with_received}
 use Rattle.gaz_keeper.specs.Received.{Received, with_file}
 use Rattle.gaz_keeper.specs.declared.fault.ShelfFault.{ShelfFault}
@@ -69,7 +69,10 @@ module _ (d : Door) (a b c : Seen) (code volume : ℕ) (bytes : List ℕ) (let_i
       let done = came.done stood.0 free fine in (
         came.stands stood.0 free fine,
         may_keep d (with_received a.content code volume bytes) b.content (ap (λ (k : Content). k.files) done) (ap (λ (k : Content). k.board) done)
-            (record { known = known_with d a.content.files code volume bytes (is_known d code volume bytes let_in) stood.1.known; own = stood.1.own }),
+            (record {
+              known = known_with d a.content.files code volume bytes (is_known d code volume bytes let_in) stood.1.known;
+              partial = follows_more (blocks d) a.content.files _ (has_all_with a.content.files code volume bytes free) empty_board a.content.board stood.1.partial;
+            }),
       )
 
   -- what was received at the end

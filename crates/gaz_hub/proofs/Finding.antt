@@ -19,7 +19,7 @@ use Rattle.gaz_hub.specs.declared.answer.Answer.TheVariants.{New, Repeat, Taken,
 use Rattle.gaz_hub.specs.declared.refusal.Refusal.{Refusal}
 use Rattle.gaz_hub.specs.declared.refusal.Refusal.TheVariants as refusal
 use Rattle.gaz_hub.proofs.AnswerSteps.{is_known, known_with}
-use Rattle.gaz_hub.proofs.HubRuns.{all_told, run_has_all}
+use Rattle.gaz_hub.proofs.Receiving.{all_told, run_has_all}
 use Rattle.gaz_hub.proofs.Leading.{follows_more, follows_on}
 use Rattle.gaz_hub.proofs.Runs.{every_run_from_holds}
 use Rattle.gaz_hub.proofs.Steps.{goes, has_all_with, pairs_same}

@@ -19,7 +19,6 @@ use Rattle.gaz_hub.proofs.Answers.{every_answer_holds}
 use Rattle.gaz_hub.proofs.Finding.{run_known}
 use Rattle.gaz_hub.proofs.Leading.{standing_is_settled}
 use Rattle.gaz_hub.proofs.Orders.{any_order_holds, ready_gives}
-use Rattle.gaz_hub.proofs.OwnNumbers.{all_own_holds}
 use Rattle.gaz_hub.proofs.Runs.{every_run_from_holds}
 
 -- ---- one judgement after another
@@ -71,7 +70,7 @@ growth_stands_holds seen old grown k more run =
     let known = run.stands.1.known in
     let partial = partial_grown old grown F more known B run.partial in
     record {
-      stands = (run.stands.0, record { known = known_grown old grown F more known; own = all_own_holds grown F B partial });
+      stands = (run.stands.0, record { known = known_grown old grown F more known; partial = partial });
       partial = partial;
     }
 

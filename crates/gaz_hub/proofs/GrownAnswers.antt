@@ -3,7 +3,7 @@ use Rattle.std.proofs.Common.{◌≡◌, ℕ, ◌≤◌, ◌<◌, true, false, t
 use Rattle.std.proofs.Math.Path.{fun_ext}
 use Rattle.std.proofs.lemmas.Bool.{cases_order}
 use Rattle.std.specs.Prelude.{⊤, Bool, not, ◌&&◌, ◌+◌, suc, is_some, filter, Option, Some, None, option_map, slice_get, unwrap_or}
-use Rattle.std.specs.List.{AllAdjacentBelow, filter_map, find, flat_map}
+use Rattle.std.specs.List.{AllAdjacentBelow, cons_option, filter_map, find, flat_map}
 use Rattle.std.specs.Option.{option_and_then, option_map_or}
 use Rattle.gaz_extract.specs.Closing.{closed_among, closed_at_owner, closed_by, closed_of, closed_streets, is_on_closed}
 use Rattle.gaz_extract.specs.Finding.{as_blpu, as_descriptor, as_street, blpu_at, descriptor_at, has_closed_street, street_at}
@@ -20,12 +20,12 @@ use Rattle.gaz_records.specs.declared.key.Key.TheVariants as key
 use Rattle.gaz_register.proofs.Grown.{owners-stay}
 use Rattle.gaz_register.proofs.Ownership.{one-owner}
 use Rattle.gaz_register.specs.Growing.{Extends}
-use Rattle.gaz_register.specs.Registers.{Blocks, CustodianValue, IsRegister, RegisterValue, blocks_of, knows, owner_of_uprn, owner_of_usrn, within}
+use Rattle.gaz_register.specs.Registers.{Blocks, CustodianValue, IsRegister, RegisterValue, blocks_of, knows, owner_of_usrn, within}
 use Rattle.gaz_keeper.specs.Board.{Board, Judgement, empty_board, last_view, reached}
 use Rattle.gaz_keeper.specs.Received.{Received}
 use Rattle.gaz_views.specs.Judgements.{views}
 use Rattle.gaz_views.specs.View.{empty_view}
-use Rattle.gaz_views.specs.Words.{comes_after, is_approved, is_of, rest_of}
+use Rattle.gaz_views.specs.Words.{comes_after, first_of, is_approved, is_of, rest_of}
 use Rattle.gaz_views.proofs.Emptiness.{get_none, no_entries_yet}
 use Rattle.gaz_hub.specs.Growth.{AnswersStay}
 use Rattle.gaz_hub.specs.Hubs.{AreKnown, door_of, is_foreign}
@@ -33,9 +33,7 @@ use Rattle.gaz_hub.specs.Standing.{IsPartial, Leads, judge_one, with_next}
 use Rattle.gaz_hub.specs.Step.{Ask, Command, Extract, HubState, ListClosed, LookUp, Pose, Question, Settle, Stand, Submit, answer_to, question_refusal, refusal_at_door, turned_away, or_foreign}
 use Rattle.gaz_hub.specs.declared.refusal.Refusal.{Refusal}
 use Rattle.gaz_hub.specs.declared.refusal.Refusal.TheVariants.{UnknownCustodian}
-use Rattle.gaz_hub.proofs.Growing.{growth_keeps_holds}
 use Rattle.gaz_hub.proofs.Orders.{ready_gives}
-use Rattle.gaz_hub.proofs.Owners.{owners_alone_hold}
 
 -- ---- custodians by rising code
 
@@ -109,6 +107,16 @@ module _ {T : Type 0} (h : ℕ → List T) where
         absurd (true≢false (sym (sub y.code (here y ys)) ∙ below x.code (x ∷ xs) (omega arith, r.1) y.code more))
   ]
 
+-- ---- what some tell, one by one
+
+by_one : {X : Type 0} (tells : CustodianValue → Option X) (register : RegisterValue) → filter_map tells register ≡ flat_map (λ c. cons_option (tells c) []) register
+by_one tells [] = refl
+by_one tells (c ∷ register) = joined (tells c) ∙ ap (λ l. cons_option (tells c) [] ++ l) (by_one tells register)
+  where
+    joined : (o : Option _) → cons_option o (filter_map tells register) ≡ cons_option o [] ++ filter_map tells register
+    joined None = refl
+    joined (Some x) = refl
+
 -- ---- who joined
 
 module _ (old grown : RegisterValue) (is_old : IsRegister old) (is_grown : IsRegister grown) (more : Extends old grown)
@@ -131,16 +139,6 @@ module _ (old grown : RegisterValue) (is_old : IsRegister old) (is_grown : IsReg
 
   -- ---- whose a number is
 
-  new_uprn : (n c : ℕ) → owner_of_uprn old n ≡ None → owner_of_uprn grown n ≡ Some c → knows old c ≡ false
-  new_uprn n c nobody now =
-      elim (knows old c) as (λ b. knows old c ≡ b → b ≡ false) [
-        | true ↦ λ t.
-            let had = ap (λ (b : Blocks). within b.uprn n) (sym (more.blocks c t)) ∙ (one-owner grown is_grown c n).0.1 now in
-            let joined_later : Some c ≡ None = sym ((one-owner old is_old c n).0.0 had) ∙ nobody in
-            cc
-        | false ↦ λ _. refl
-      ] refl
-
   new_usrn : (n c : ℕ) → owner_of_usrn old n ≡ None → owner_of_usrn grown n ≡ Some c → knows old c ≡ false
   new_usrn n c nobody now =
       elim (knows old c) as (λ b. knows old c ≡ b → b ≡ false) [
@@ -157,9 +155,6 @@ module _ (old grown : RegisterValue) (is_old : IsRegister old) (is_grown : IsReg
     told_same (Some c) g stays new = ap tells (stays c refl)
     told_same None None stays new = refl
     told_same None (Some c) stays new = joined c (new c refl refl)
-
-    same_uprn : (n : ℕ) → tells (owner_of_uprn grown n) ≡ tells (owner_of_uprn old n)
-    same_uprn n = told_same (owner_of_uprn old n) (owner_of_uprn grown n) (λ c. (owners-stay old grown is_old is_grown more c n).0) (λ c. new_uprn n c)
 
     same_usrn : (n : ℕ) → tells (owner_of_usrn grown n) ≡ tells (owner_of_usrn old n)
     same_usrn n = told_same (owner_of_usrn old n) (owner_of_usrn grown n) (λ c. (owners-stay old grown is_old is_grown more c n).1) (λ c. new_usrn n c)
@@ -198,10 +193,11 @@ module _ (old grown : RegisterValue) (is_old : IsRegister old) (is_grown : IsReg
 
   same_lookup : (uprn : ℕ) → lookup B grown uprn ≡ lookup B old uprn
   same_lookup uprn =
-      owners_alone_hold.told grown F B uprn is_grown (growth_keeps_holds.partial old grown F B more known partial)
-      ∙ ap (λ says. option_and_then says (owner_of_uprn grown uprn)) (fun_ext (same_said uprn))
-      ∙ same_uprn (option_and_then (said_by B old uprn)) (silent uprn) uprn
-      ∙ sym (owners_alone_hold.told old F B uprn is_old partial)
+      let told = λ (c : ℕ). cons_option (said_by B old uprn c) [] in
+      ap (λ says. first_of (filter_map (λ (c : CustodianValue). says c.code) grown)) (fun_ext (same_said uprn))
+      ∙ ap first_of (by_one (λ c. said_by B old uprn c.code) grown
+      ∙ merged told 0 grown old (register_rises grown is_grown) (register_rises old is_old) more.custodians (λ c _ joined_later. ap (λ o. cons_option o []) (silent uprn c joined_later))
+      ∙ sym (by_one (λ c. said_by B old uprn c.code) old))
 
   -- ---- addresses on closed streets
 

@@ -7,8 +7,7 @@ use Rattle.gaz_changefile.proofs.Orderly.{bases-rise}
 use Rattle.gaz_changefile.specs.Reading.{Reading, Good, Bad, reading}
 use Rattle.gaz_register.specs.Registers.{blocks_of}
 use Rattle.gaz_rules.proofs.SoundBoards.{boards_stay_sound_holds}
-use Rattle.gaz_rules.proofs.OwnNumbers.{own_numbers_stay_holds}
-use Rattle.gaz_rules.specs.Sound.{AllHoldOwn, AreDisjoint, IsSoundBoard, NamesOthers}
+use Rattle.gaz_rules.specs.Sound.{AreDisjoint, IsSoundBoard, NamesOthers}
 use Rattle.gaz_keeper.specs.Board.{Board, empty_board, reached}
 use Rattle.gaz_keeper.specs.Keeper.{Content, Seen, empty_content}
 use Rattle.gaz_keeper.specs.Received.{Received, pair_cmp}
@@ -29,7 +28,7 @@ pub may_begin : (d : Door) (k : Content) → k.files ≡ map.empty → k.board �
 may_begin d k files board =
     record {
       known = λ p h. absurd (true≢false (sym h ∙ ap (λ (F : Received). is_some (map.get F p)) files ∙ ap is_some (map.get-empty pair_cmp p)));
-      own = subst (AllHoldOwn (blocks d)) (sym board) (own_numbers_stay_holds.of_no_file (blocks d));
+      partial = follows_itself (blocks d) k.files empty_board k.board board;
     }
 
 begins_so : (d : Door) (old : Seen) → old.stands → old.content ≡ empty_content → StandsFor d old

@@ -23,7 +23,7 @@ use Rattle.gaz_hub.proofs.Prefixes.{prefix_length, prefix_same, prefix_push, get
 
 -- the judgement of a file that reads so and comes after this volume of its custodian
 abbrev pub judgement_after : Register → Board → ℕ → ℕ → Reading → Judgement
-judgement_after G B c volume r = judge (G c) (view_after B c volume) (basis_views B (bases_of r)) r
+judgement_after G B c volume r = judge c (G c) (view_after B c volume) (basis_views B (bases_of r)) r
 
 -- each custodian's list in C goes on from that in B
 abbrev pub Below : Board → Board → Type 0
@@ -59,7 +59,7 @@ pub judgement_stays : (G : Register) (B C : Board) → Below B C → (c volume :
 judgement_stays G B C below c volume r within rests =
     let own = view_stays B C below c volume within in
     let others = basis_views_stay B C below (bases_of r) rests in
-    λ i. judge (G c) (own i) (others i) r
+    λ i. judge c (G c) (own i) (others i) r
 
 -- ---- what it is to be ready
 

@@ -1,5 +1,5 @@
 -- The items of the views on a board are such as the table allows, so that extracts give views back.
-use Rattle.std.proofs.Common.{◌≡◌, ◌∙◌, ◌+◌, ℕ, Bool, true, false, cond, List, [], ◌∷◌, ◌++◌, refl, sym, ap, subst}
+use Rattle.std.proofs.Common.{◌≡◌, ◌∙◌, ◌+◌, ℕ, Bool, true, false, ◌&&◌, cond, List, [], ◌∷◌, ◌++◌, refl, sym, ap, subst}
 use Rattle.std.specs.Prelude.{Some, None, fold}
 use Rattle.std.specs.FinMap as map
 use Rattle.std.specs.List.{All}
@@ -7,10 +7,14 @@ use Rattle.std.specs.Option.{option_map}
 use Rattle.std.specs.Ordering.{eq_by_cmp}
 use Rattle.std.proofs.lemmas.List.Elements.{All-head, All-map, All-tail}
 use Rattle.gaz_records.proofs.KeyOrder.{keys_total}
+use Rattle.gaz_records.specs.Blpus.{is_blpu}
 use Rattle.gaz_records.specs.Items.{is_item}
+use Rattle.gaz_records.specs.Releases.{is_code, is_hop}
 use Rattle.gaz_records.specs.Keys.{key_cmp, key_of}
 use Rattle.gaz_records.specs.declared.item.Item.{Item}
+use Rattle.gaz_records.specs.declared.item.Item.TheVariants as item
 use Rattle.gaz_records.specs.declared.key.Key.{Key}
+use Rattle.gaz_records.specs.declared.key.Key.TheVariants as key
 use Rattle.gaz_changefile.proofs.Typed.{readings_are_typed}
 use Rattle.gaz_changefile.specs.Reading.{Bad, Good, Reading, reading}
 use Rattle.gaz_changefile.specs.declared.action.Action.{Action}
@@ -24,7 +28,7 @@ use Rattle.gaz_views.specs.Words.{entries}
 use Rattle.gaz_rules.proofs.SoundBoards.{on_empty_board, on_more}
 use Rattle.gaz_rules.specs.Bases.{basis_views, judged_on}
 use Rattle.gaz_rules.specs.Judging.{Fault, bases_of, end_faults, judge, judged_by_faults, record_faults}
-use Rattle.gaz_rules.specs.Rules.{effect, effect_of}
+use Rattle.gaz_rules.specs.Rules.{effect, effect_of, entry_effect}
 use Rattle.gaz_keeper.specs.Board.{Board, empty_board, last_view, reached, view_after}
 use Rattle.gaz_keeper.specs.Received.{Received}
 use Rattle.gaz_extract.proofs.ReadBack.{extracts_back}
@@ -34,6 +38,7 @@ use Rattle.gaz_hub.specs.Standing.{Leads, Register, judge_one, ready}
 use Rattle.gaz_hub.proofs.Advancing.{added_is}
 use Rattle.gaz_hub.proofs.Headline.{all_sound_holds}
 use Rattle.gaz_hub.proofs.Orders.{ready_gives}
+use Rattle.gaz_hub.proofs.Prefixes.{both_parts}
 
 -- ---- one view
 
@@ -54,10 +59,19 @@ allowed_taken v key was k j there = by_tie (eq_by_cmp key_cmp k key) (sym (map.g
     by_tie true is = let none : None ≡ Some j = is in cc
     by_tie false is = was k j is
 
+allowed_entry : (a : Action) (v : View) (i : Item) → is_item i ≡ true → HasAllowed v → HasAllowed (entry_effect a v i)
+allowed_entry Insert v i allowed was = allowed_put v i allowed was
+allowed_entry Update v i allowed was = allowed_put v i allowed was
+allowed_entry Delete v i allowed was = allowed_taken v (key_of i) was
+
 allowed_effect : (a : Action) (v : View) (i : Item) → is_item i ≡ true → HasAllowed v → HasAllowed (effect_of a v i)
-allowed_effect Insert v i allowed was = allowed_put v i allowed was
-allowed_effect Update v i allowed was = allowed_put v i allowed was
-allowed_effect Delete v i allowed was = allowed_taken v (key_of i) was
+allowed_effect a v (item.Street x) allowed was = allowed_entry a v (item.Street x) allowed was
+allowed_effect a v (item.Descriptor x) allowed was = allowed_entry a v (item.Descriptor x) allowed was
+allowed_effect a v (item.Blpu x) allowed was = allowed_entry a v (item.Blpu x) allowed was
+allowed_effect a v (item.Xref x) allowed was = allowed_entry a v (item.Xref x) allowed was
+allowed_effect a v (item.Lpi x) allowed was = allowed_entry a v (item.Lpi x) allowed was
+allowed_effect a v (item.Release x) allowed was = allowed_taken v (key.Blpu x.uprn) was
+allowed_effect a v (item.Adopt x) allowed was = allowed_put v (item.Blpu x.blpu) (both_parts (is_blpu x.blpu) (is_code x.from) (both_parts (is_blpu x.blpu && is_code x.from) (is_hop x.hop) allowed).0).0 was
 
 allowed_effects : (changes : List Change) (v : View) → All (λ x. is_item x.item ≡ true) changes → HasAllowed v → HasAllowed (fold effect v changes)
 allowed_effects [] v all was = was
@@ -73,11 +87,11 @@ by_faults v w [] was now = now
 by_faults v w (fault ∷ faults) was now = was
 
 allowed_judged : (own : Blocks) (v : View) (others : List (ℕ × View)) (bytes : List ℕ) (c volume : ℕ) (r : Reading) → reading bytes c volume ≡ r → HasAllowed v
-    → HasAllowed (judge own v others r).view
+    → HasAllowed (judge c own v others r).view
 unfolding judge
 allowed_judged own v others bytes c volume (Good file) e was =
     let w = fold effect v file.changes in
-    by_faults v w (record_faults own v file.changes ++ end_faults w others file.changes) was
+    by_faults v w (record_faults c own others v file.changes ++ end_faults w others file.changes) was
     (allowed_effects file.changes v (readings_are_typed bytes c volume file e).items was)
 allowed_judged own v others bytes c volume (Bad place rule) e was = was
 

@@ -3,13 +3,15 @@ use Rattle.std.proofs.Common.{◌≡◌, ◌≤◌, ℕ, cond, List, [], ◌∷�
 use Rattle.std.specs.Prelude.{Some, None, Ok}
 use Rattle.gaz_extract.specs.Extracts.{extract, extract_rows, items_of}
 use Rattle.gaz_rows.specs.Rows.{lines_of}
-use Rattle.gaz_keeper.specs.Board.{Board, last_view, reached}
+use Rattle.gaz_keeper.specs.Board.{Board, reached}
 use Rattle.gaz_hub.specs.Readings.{EqualAnswers, ExtractsStay, OneHolder}
 use Rattle.gaz_hub.specs.Runs.{Run}
 use Rattle.gaz_hub.specs.Standing.{standing}
 use Rattle.gaz_hub.specs.Step.{Command, Door, HubState, Pose, Replied, Response, Step, answer_to, blocks}
-use Rattle.gaz_hub.proofs.OwnNumbers.{all_own_holds}
-use Rattle.gaz_rules.proofs.OwnNumbers.{own_numbers_stay_holds}
+use Rattle.gaz_register.specs.Registers.{owner_of_uprn}
+use Rattle.std.proofs.lemmas.Option.{same_Some}
+use Rattle.gaz_hub.proofs.ChainFine.{one_chain_holds}
+use Rattle.gaz_hub.proofs.Owners.{owners_alone_hold}
 use Rattle.gaz_hub.proofs.Orders.{Below, more_files_hold, view_stays}
 use Rattle.gaz_hub.proofs.Prefixes.{prefix_length}
 use Rattle.gaz_hub.proofs.Runs.{every_settled_run_holds, judgements_stay_holds, same_state}
@@ -53,5 +55,11 @@ extracts_stay_hold =
 
 pub one_holder_holds : OneHolder
 one_holder_holds register F B is partial c d uprn here there =
-    let own = all_own_holds register F B partial in
-    own_numbers_stay_holds.one_custodian register (last_view B c) (last_view B d) c d uprn is (own c (reached B c) uprn here) (own d (reached B d) uprn there)
+    let mine = owners_alone_hold.have register F B c uprn partial here in
+    let its = owners_alone_hold.have register F B d uprn partial there in
+    elim (owner_of_uprn register uprn) as (λ o. owner_of_uprn register uprn ≡ o → c ≡ d) [
+      | None ↦ λ nobody. absurd (owners_alone_hold.nobody register F B c uprn is partial mine nobody)
+      | Some a ↦ λ own.
+          let chain = one_chain_holds register F B a uprn is own partial in
+          same_Some c d (sym ((chain.holds c).0 mine) ∙ (chain.holds d).0 its)
+    ] refl

@@ -16,6 +16,13 @@ use Rattle.gaz_hub.proofs.Steps.{goes, or_none}
 
 -- ---- whole runs
 
+-- one run after another
+pub run_then : (d : Door) (a b c : HubState) (cs ds : List Command) (rs ss : List Response) → Run d a cs rs b → Run d b ds ss c → Run d a (cs ++ ds) (rs ++ ss) c
+run_then d a b c [] ds [] ss x y = rw (← x) y
+run_then d a b c [] ds (r ∷ rs) ss x y = absurd x
+run_then d a b c (k ∷ cs) ds [] ss x y = absurd x
+run_then d a b c (k ∷ cs) ds (r ∷ rs) ss x y = (x.0, x.1, run_then d x.0 b c cs ds rs ss x.2 y)
+
 or_assoc : {T : Type 0} (a b c : Option T) → option_or (option_or a b) c ≡ option_or a (option_or b c)
 or_assoc None b c = refl
 or_assoc (Some x) b c = refl

@@ -19,7 +19,7 @@ use Rattle.gaz_hub.specs.WorkedFound.{WorkedCalls, WorkedFound, WorkedRunsStoppe
 use Rattle.gaz_hub.specs.WorkedStops.{at_rest, sends, unjudged_hub}
 use Rattle.gaz_hub.proofs.AnswerSteps.{known_with, there_now}
 use Rattle.gaz_hub.proofs.Examples.{closed_empty, closed_first, get_first, no_none, partial_first}
-use Rattle.gaz_hub.proofs.HubRuns.{run_stops_one}
+use Rattle.gaz_hub.proofs.RunStops.{run_stops_one}
 use Rattle.gaz_hub.proofs.Leading.{follows_itself}
 use Rattle.gaz_hub.proofs.Runs.{follows_below}
 use Rattle.gaz_hub.proofs.WorkedSteps.{on_submissions}

@@ -1,6 +1,6 @@
 -- The worked examples on a register that grows.
-use Rattle.std.proofs.Common.{◌≡◌, ℕ, [], refl, sym, ap, ◌∙◌, true≢false}
-use Rattle.std.specs.Prelude.{None, Some, Option, List}
+use Rattle.std.proofs.Common.{◌≡◌, [], refl, sym, ap, ◌∙◌, true≢false}
+use Rattle.std.specs.Prelude.{None, Some}
 use Rattle.std.specs.FinMap as map
 use Rattle.std.specs.Option.{option_or}
 use Rattle.gaz_changefile.specs.Profile.{profile_of}

@@ -11,6 +11,8 @@ on_doors : WorkedDoors
 on_doors = record {
   other_profile = λ bytes e. rw e refl;
   known_profile = λ bytes e. rw e refl;
+  passing_profile = λ bytes e. rw e refl;
+  next_profile = λ bytes e. rw e refl;
   no_profile = λ bytes e. rw e refl;
   first_custodian = refl;
   last_custodian = refl;

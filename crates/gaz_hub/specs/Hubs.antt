@@ -1,5 +1,5 @@
 -- A hub over a keeper: what each of its calls tells.
-use Rattle.std.specs.Prelude.{◌≡◌, ◌≤◌, ◌<◌, ◌⊎◌, ℕ, ◌==◌, Bool, true, false, not, ◌&&◌, IsSome}
+use Rattle.std.specs.Prelude.{◌≡◌, ◌≤◌, ◌<◌, ◌⊎◌, ℕ, ◌==◌, Bool, true, false, not, ◌&&◌, ◌||◌, IsSome}
 use Rattle.std.specs.Prelude.{List, [], ◌∷◌}
 use Rattle.std.specs.Prelude.{Option, Some, None, Result, Ok, Err}
 use Rattle.std.specs.Global.{Vec}
@@ -8,7 +8,6 @@ use Rattle.std.specs.FinMap as map
 use Rattle.gaz_changefile.specs.Profile.{profile_of}
 use Rattle.gaz_register.specs.Registers.{RegisterValue, knows}
 use Rattle.gaz_extract.specs.declared.closed.Closed.{Closed}
-use Rattle.gaz_rules.specs.Sound.{AllHoldOwn}
 use Rattle.gaz_keeper.specs.Received.{Received}
 use Rattle.gaz_keeper.specs.Keeper.{Content, IsNotOpen, Seen}
 use Rattle.gaz_keeper.specs.declared.fault.ShelfFault.{ShelfFault}
@@ -24,14 +23,14 @@ use Rattle.gaz_hub.specs.declared.answer.Answer.TheVariants.{New, Repeat, Taken,
 use Rattle.gaz_hub.specs.declared.refusal.Refusal.{Refusal}
 use Rattle.gaz_hub.specs.declared.refusal.Refusal.TheVariants as refusal
 
--- the profile whose files are taken in
-abbrev pub admitted_profile : ℕ
-admitted_profile = 1
+-- the profiles whose files are taken in
+abbrev pub is_admitted_profile : ℕ → Bool
+is_admitted_profile profile = profile == 1 || profile == 2
 
--- 16: the file names a profile, and it isn't the admitted one
+-- 16: the file names a profile, and it isn't an admitted one
 abbrev pub is_foreign : List ℕ → Bool
 is_foreign bytes =
-    option_map_or (λ profile. not (profile == admitted_profile)) (profile_of bytes) false
+    option_map_or (λ profile. not (is_admitted_profile profile)) (profile_of bytes) false
 
 -- the door of a hub with this register
 abbrev pub door_of : RegisterValue → Door
@@ -48,8 +47,8 @@ AreKnown door files = (p : ℕ × ℕ) → IsSome (map.get files p) → knows do
 -- a content that such a hub may have
 pub record MayHave (door : Door) (k : Content) : Type 0 where
   pub known : AreKnown door k.files
-  -- nobody has a property whose number it doesn't hold
-  pub own : AllHoldOwn (blocks door) k.board
+  -- it is judged by these rules: ready files, one at a time
+  pub partial : IsPartial (blocks door) k.files k.board
 
 -- the keeper stands for such a content
 abbrev pub StandsFor : Door → Seen → Type 0

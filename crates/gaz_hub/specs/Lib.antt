@@ -10,7 +10,10 @@ pub mod Laws
 pub mod ReadBack
 pub mod Found
 pub mod Readings
+pub mod Became
+pub mod Chains
 pub mod Owners
+pub mod Following
 pub mod Settling
 pub mod Telling
 pub mod Waiting
@@ -26,6 +29,7 @@ pub mod WorkedSteps
 pub mod WorkedRuns
 pub mod WorkedReadings
 pub mod WorkedOwners
+pub mod WorkedChains
 pub mod WorkedHubs
 pub mod WorkedWaiting
 pub mod WorkedGrowth

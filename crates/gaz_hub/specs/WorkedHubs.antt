@@ -40,6 +40,8 @@ upper_and_lower =
 pub record WorkedDoors : Type 0 where
   pub other_profile : (bytes : List ℕ) → profile_of bytes ≡ Some 7 → is_foreign bytes ≡ true
   pub known_profile : (bytes : List ℕ) → profile_of bytes ≡ Some 1 → is_foreign bytes ≡ false
+  pub passing_profile : (bytes : List ℕ) → profile_of bytes ≡ Some 2 → is_foreign bytes ≡ false
+  pub next_profile : (bytes : List ℕ) → profile_of bytes ≡ Some 3 → is_foreign bytes ≡ true
   pub no_profile : (bytes : List ℕ) → profile_of bytes ≡ None → is_foreign bytes ≡ false
   pub first_custodian : turned_away (door_of upper_and_lower) 1001 1 0 ≡ None
   pub last_custodian : turned_away (door_of upper_and_lower) 1002 1 0 ≡ None

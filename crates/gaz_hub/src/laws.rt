@@ -1,5 +1,7 @@
 //! Laws over the definitions alone: whichever ready file is judged first, whatever commands come.
 ghost use Rattle.gaz_hub.specs.Answers.{EveryAnswer};
+ghost use Rattle.gaz_hub.specs.Chains.{ChainsAreShort, ChainsGrow, ChainsOfBoards, FindsHolders};
+ghost use Rattle.gaz_hub.specs.Chains.{OneChain, UnallottedStay};
 ghost use Rattle.gaz_hub.specs.Found.{EveryStopOver};
 ghost use Rattle.gaz_hub.specs.Growth.{AnswersStay, EveryGrownRun, GrowthKeeps, GrowthStands};
 ghost use Rattle.gaz_hub.specs.Laws.{AllSound, CallsMakeRuns, EachIsTold, EveryAnswerOver};
@@ -15,6 +17,7 @@ ghost use Rattle.gaz_hub.specs.Standing.{AnyOrder, MoreFiles, StandingIsSettled}
 ghost use Rattle.gaz_hub.specs.WorkedAnswers.{WorkedAnswers};
 ghost use Rattle.gaz_hub.specs.WorkedBases.{WorkedBases};
 ghost use Rattle.gaz_hub.specs.WorkedBoards.{WorkedBoards};
+ghost use Rattle.gaz_hub.specs.WorkedChains.{WorkedChains};
 ghost use Rattle.gaz_hub.specs.WorkedFound.{WorkedFound};
 ghost use Rattle.gaz_hub.specs.WorkedGrowth.{WorkedGrowth};
 ghost use Rattle.gaz_hub.specs.WorkedHubs.{WorkedHubs};
@@ -144,8 +147,39 @@ pub fn one_holder()
     ensures { OneHolder }
 {}
 
-/// On every partial board only the custodian in whose blocks the number of a property lies has it,
-/// and what that one says is what a look-up finds.
+/// On every partial board each number in a custodian's blocks has one chain, and who holds it in its
+/// last view is the chain's holder, whatever volumes the files rest on.
+pub fn one_chain()
+    ensures { OneChain }
+{}
+
+/// A board's chain of a number begins that of every board that follows it.
+pub fn chains_of_boards()
+    ensures { ChainsOfBoards }
+{}
+
+/// With more files the same became of a number on a board, and its chain goes on.
+pub fn chains_grow()
+    ensures { ChainsGrow }
+{}
+
+/// Asking one last view after another finds the holder.
+pub fn finds_holders()
+    ensures { FindsHolders }
+{}
+
+/// A chain has at most as many custodians as there are hops, and the first one.
+pub fn chains_are_short()
+    ensures { ChainsAreShort }
+{}
+
+/// What is in nobody's blocks is never released, adopted or held.
+pub fn unallotted_stay()
+    ensures { UnallottedStay }
+{}
+
+/// On every partial board only the holder of a property's number has it, and what that one says is
+/// what a look-up finds.
 pub fn owners_alone()
     ensures { OwnersAlone }
 {}
@@ -233,6 +267,11 @@ pub fn worked_readings()
 /// Who can have a property, and which content a hub may have, on worked examples.
 pub fn worked_owners()
     ensures { WorkedOwners }
+{}
+
+/// What becomes of a number in files, and who is asked for it, on worked examples.
+pub fn worked_chains()
+    ensures { WorkedChains }
 {}
 
 /// The door and the blocks of a hub over a register, on worked examples.

@@ -4,6 +4,7 @@
 mod admission;
 mod answer;
 mod asking;
+mod holding;
 mod hub;
 mod in_turn;
 pub mod laws;

@@ -5,36 +5,16 @@ ghost use Rattle.gaz_hub.specs.Hubs.{MeetsDoor, door_of, told, told_all};
 ghost use Rattle.gaz_hub.specs.Seen.{ForgetsOver, hub_seen};
 ghost use Rattle.gaz_hub.specs.Step.{Extract, ListClosed, LookUp, Pose, Replied};
 ghost use Rattle.gaz_keeper.specs.Telling.{IsNotJudging};
-ghost use Rattle.gaz_extract.specs.Readings.{LooksAtBoard};
-ghost use Rattle.gaz_hub.specs.Owners.{told_by_owner};
 ghost use Rattle.gaz_hub.specs.Telling.{RepliesTo};
 
 use crate::admission::at_door;
+use crate::holding::ask_holder;
 use crate::hub::Hub;
 use crate::refusal::Refusal;
 use crate::remembering::answered;
-use gaz_extract::{Closed, Found, closed_streets, extract, lookup_with};
+use gaz_extract::{Closed, Found, closed_streets, extract};
 use gaz_ids::Uprn;
-use gaz_keeper::{Inbox, ShelfFault};
-use gaz_register::Register;
-use std::alloc::Global;
-
-// What the custodian in whose blocks the UPRN lies says of a property. Nobody else can have it.
-fn ask_owner<K: Inbox>(
-    alloc: Global,
-    register: &Register,
-    keeper: &mut K,
-    uprn: Uprn,
-) -> Result<Option<Found>, ShelfFault>
-    requires { IsNotJudging K.seen keeper.old }
-    ensures { LooksAtBoard K.seen keeper.old keeper.new result
-        (λ board found. found ≡ told_by_owner board register.now uprn) }
-{
-    match register.owner_uprn(uprn) {
-        Some(owner) => lookup_with(alloc, keeper, register, owner, uprn),
-        None => Ok(None),
-    }
-}
+use gaz_keeper::Inbox;
 
 impl<K: Inbox + Drop> Hub<K> {
     /// Where a property stands now and how it is addressed; none where it stands with no custodian.
@@ -49,7 +29,7 @@ impl<K: Inbox + Drop> Hub<K> {
     {
         let (alloc, register) = (self.alloc, &self.register);
         let _custodians = register.custodians();
-        let read = |keeper: &mut K| ask_owner(alloc, register, keeper, uprn);
+        let read = |keeper: &mut K| ask_holder(alloc, register, keeper, uprn);
         answered(alloc, register, &mut self.keeper, &mut self.waiters, read)
     }
 

@@ -156,7 +156,7 @@ impl<K: Inbox + Drop> Hub<K> {
     /// Submits a file as a volume of a custodian.
     ///
     /// The first file of a pair that passes the door is received, whatever it holds, and stays. A
-    /// file has at most 1,048,576 bytes, and names no profile but 1. `NotReceived` and
+    /// file has at most 1,048,576 bytes, and names no profile but 1 and 2. `NotReceived` and
     /// `ReceivedUnsettled` carry the keeper's fault, or want of memory.
     pub fn submit(&mut self, code: u64, volume: u64, file: &[u8]) -> Answer
         requires idle { IsNotJudging K.seen self.old.keeper }

@@ -1,10 +1,21 @@
 -- What the definitions come to on worked examples.
-use Rattle.std.proofs.Common.{◌≡◌, ◌∙◌, ◌&&◌, inl, inr, ℕ, false, true, List, [], ◌∷◌, map, not, refl, sym, ap, is_some}
-use Rattle.std.specs.Prelude.{◌==◌, count_by, nat_le}
+use Rattle.std.proofs.Common.{◌≡◌, ◌∙◌, ◌&&◌, cond, inl, inr, ℕ, false, true, List, [], ◌∷◌, map, not, refl, sym, ap, is_some}
+use Rattle.std.specs.Prelude.{◌==◌, None, Some, count_by, nat_le}
+use Rattle.std.specs.Cmp.{nat_cmp_total}
 use Rattle.std.specs.FinMap as finite
+use Rattle.std.specs.FinSet as set
+use Rattle.std.specs.Ordering.{eq_by_cmp, nat_cmp}
+use Rattle.gaz_records.proofs.KeyOrder.{keys_total}
+use Rattle.gaz_records.specs.declared.item.Item.TheVariants as item
+use Rattle.gaz_records.specs.declared.key.Key.TheVariants as key
+use Rattle.gaz_views.proofs.Emptiness.{no_custody}
 use Rattle.gaz_views.proofs.Trees.{no_entries}
+use Rattle.gaz_views.specs.CustodyExamples.{alone}
+use Rattle.gaz_views.specs.Examples.{no_more}
+use Rattle.gaz_views.specs.View.{custody_at}
+use Rattle.gaz_views.specs.declared.custody.Custody.TheVariants.{Adopted, Released}
 use Rattle.gaz_keeper.proofs.Pairs.{pairs_total}
-use Rattle.gaz_keeper.specs.Examples.{WorkedBoards, WorkedContents, WorkedExamples, WorkedFiles, WorkedStops, first_received, three_files}
+use Rattle.gaz_keeper.specs.Examples.{WorkedBoards, WorkedContents, WorkedExamples, WorkedFiles, WorkedPassing, WorkedStops, first_received, third_adopts, third_releases, three_files}
 use Rattle.gaz_keeper.specs.Keeper.{Content, after_stop, empty_content}
 use Rattle.gaz_keeper.specs.Received.{Received, count_above, pair_cmp, with_file}
 
@@ -29,8 +40,15 @@ not_the_same same =
     let clash : false ≡ true = sym none ∙ ap (λ (k : Content). is_some (finite.get k.files (1001, 1))) same ∙ there in
     absurd (cc)
 
+-- nothing became of numbers before
+released_at : (n : ℕ) → custody_at third_releases.working n ≡ cond (eq_by_cmp nat_cmp n 500) (Some (Released 1002 1)) None
+released_at n = finite.get-insert nat_cmp_total no_more.custody 500 (Released 1002 1) n ∙ ap (λ o. cond (eq_by_cmp nat_cmp n 500) (Some (Released 1002 1)) o) (no_custody n)
+
+adopted_at : (n : ℕ) → custody_at third_adopts.working n ≡ cond (eq_by_cmp nat_cmp n 500) (Some (Adopted 1002 2)) None
+adopted_at n = finite.get-insert nat_cmp_total no_more.custody 500 (Adopted 1002 2) n ∙ ap (λ o. cond (eq_by_cmp nat_cmp n 500) (Some (Adopted 1002 2)) o) (no_custody n)
+
 pub worked_examples_hold : WorkedExamples
-worked_examples_hold = record { on_boards = on_boards; on_contents = on_contents; on_files = on_files; on_stops = on_stops }
+worked_examples_hold = record { on_boards = on_boards; on_contents = on_contents; on_passing = on_passing; on_files = on_files; on_stops = on_stops }
   where
     on_boards : WorkedBoards
     on_boards = record {
@@ -63,6 +81,22 @@ worked_examples_hold = record { on_boards = on_boards; on_contents = on_contents
       skipped_alone = refl;
       first_verdict = refl;
       first_view = refl;
+    }
+
+    on_passing : WorkedPassing
+    on_passing = record {
+      released = released_at 500;
+      others_stay = released_at 501;
+      used = set.contains-insert keys_total no_more.used (key.Blpu 500) (key.Blpu 500);
+      not_kept_yet = no_custody 500;
+      kept = released_at 500;
+      not_earlier = no_custody 500;
+      not_of_another = no_custody 500;
+      skipped = no_custody 500;
+      adopted = adopted_at 500;
+      stands = finite.get-insert keys_total no_more.items (key.Blpu 500) (item.Blpu alone) (key.Blpu 500);
+      adoption_stays = adopted_at 500;
+      given_up = no_custody 500;
     }
 
     on_files : WorkedFiles

@@ -1,15 +1,20 @@
 -- Worked examples, computed from the definitions.
-use Rattle.std.specs.Prelude.{◌≡◌, ◌≤◌, ◌-◌, ◌^◌, ◌==◌, true, false, [], ◌∷◌, if◌then◌else◌, Some, None}
+use Rattle.std.specs.Prelude.{◌≡◌, ◌≤◌, ◌-◌, ◌^◌, ◌==◌, true, false, [], ◌∷◌, if◌then◌else◌}
+use Rattle.std.specs.Prelude.{Some, None}
 use Rattle.std.proofs.Common.{subst, sym}
 use Rattle.std.specs.FinMap as map
+use Rattle.gaz_records.specs.declared.item.Item.TheVariants as item
+use Rattle.gaz_records.specs.declared.key.Key.TheVariants as key
+use Rattle.gaz_views.specs.CustodyExamples.{alone}
 use Rattle.gaz_views.specs.Examples.{no_more, one_street}
-use Rattle.gaz_views.specs.View.{empty_view}
+use Rattle.gaz_views.specs.View.{custody_at, empty_view, was_used, with_adoption, with_release}
+use Rattle.gaz_views.specs.declared.custody.Custody.TheVariants.{Adopted, Released}
 use Rattle.gaz_views.specs.declared.verdict.Verdict.TheVariants.{Applied, Rejected}
 use Rattle.gaz_keeper.specs.Board.{Board, empty_board, last_view, reached, verdict_on, view_after}
 use Rattle.gaz_keeper.specs.Keeper.{Broken, Content, Idle, IsLawful, LeavesAtMost, LeavesJust}
 use Rattle.gaz_keeper.specs.Keeper.{LeavesOnly, Open}
-use Rattle.gaz_keeper.specs.Keeper.{Seen, after_keep, after_skip, after_stop, empty_content}
-use Rattle.gaz_keeper.specs.Keeper.{with_received}
+use Rattle.gaz_keeper.specs.Keeper.{Seen, after_abandon, after_keep, after_skip, after_stop}
+use Rattle.gaz_keeper.specs.Keeper.{empty_content, with_received, with_working}
 use Rattle.gaz_keeper.specs.Received.{Received, count_above, with_file}
 
 -- custodian 1001 has applied volume 1, and its volume 2 was rejected
@@ -65,6 +70,34 @@ pub record WorkedContents : Type 0 where
   pub first_verdict : verdict_on first_skipped.board 1002 1 ≡ Some (Rejected 1 2)
   pub first_view : last_view first_skipped.board 1002 ≡ empty_view
 
+-- 1001, which is being judged, has released number 500 to 1002, or adopted it from there
+abbrev pub third_releases : Content
+third_releases = with_working third_judged (with_release third_judged.working 500 1002 1)
+
+abbrev pub third_adopts : Content
+third_adopts = with_working third_judged (with_adoption third_judged.working alone 1002 2)
+
+-- and the volume is applied
+abbrev pub release_kept : Content
+release_kept = after_keep (Open 1001) third_releases
+
+abbrev pub adoption_kept : Content
+adoption_kept = after_keep (Open 1001) third_adopts
+
+pub record WorkedPassing : Type 0 where
+  pub released : custody_at third_releases.working 500 ≡ Some (Released 1002 1)
+  pub others_stay : custody_at third_releases.working 501 ≡ None
+  pub used : was_used third_releases.working (key.Blpu 500) ≡ true
+  pub not_kept_yet : custody_at (last_view third_releases.board 1001) 500 ≡ None
+  pub kept : custody_at (last_view release_kept.board 1001) 500 ≡ Some (Released 1002 1)
+  pub not_earlier : custody_at (view_after release_kept.board 1001 2) 500 ≡ None
+  pub not_of_another : custody_at (last_view release_kept.board 1002) 500 ≡ None
+  pub skipped : custody_at (last_view third_skipped.board 1001) 500 ≡ None
+  pub adopted : custody_at third_adopts.working 500 ≡ Some (Adopted 1002 2)
+  pub stands : map.get third_adopts.working.items (key.Blpu 500) ≡ Some (item.Blpu alone)
+  pub adoption_stays : custody_at (last_view adoption_kept.board 1001) 500 ≡ Some (Adopted 1002 2)
+  pub given_up : custody_at (after_abandon third_adopts).working 500 ≡ None
+
 -- the volumes 1 and 3 of 1001 were received, and the volume 2 of 1002
 abbrev pub three_files : Received
 three_files = with_file (with_file (with_file map.empty 1001 3 []) 1002 2 []) 1001 1 []
@@ -116,5 +149,6 @@ pub record WorkedStops : Type 0 where
 pub record WorkedExamples : Type 0 where
   pub on_boards : WorkedBoards
   pub on_contents : WorkedContents
+  pub on_passing : WorkedPassing
   pub on_files : WorkedFiles
   pub on_stops : WorkedStops

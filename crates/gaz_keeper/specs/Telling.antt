@@ -2,12 +2,16 @@
 use Rattle.std.specs.Prelude.{◌≡◌, ◌≤◌, ⊤, ℕ, Bool, List, Option, None, Some, Result, option_map}
 use Rattle.std.specs.FinMap as map
 use Rattle.std.specs.Global.{Vec}
+use Rattle.std.specs.Option.{option_map_or}
 use Rattle.gaz_ids.specs.declared.lang.Lang.{Lang}
 use Rattle.gaz_records.specs.declared.item.Item.{Item}
 use Rattle.gaz_records.specs.declared.item.Kind.{Kind}
 use Rattle.gaz_records.specs.declared.key.Key.{Key}
-use Rattle.gaz_views.specs.View.{was_used, with_item, without_key}
-use Rattle.gaz_views.specs.Words.{approved_of, approved_on, has_children, page, property_of}
+use Rattle.gaz_views.specs.Numbered.{as_blpu}
+use Rattle.gaz_views.specs.View.{custody_at, was_used, with_adoption, with_item, with_release}
+use Rattle.gaz_views.specs.View.{without_key}
+use Rattle.gaz_views.specs.Words.{approved_of, approved_on, has_children, page, property_of, tied}
+use Rattle.gaz_views.specs.declared.custody.Custody.{Custody}
 use Rattle.gaz_views.specs.declared.property.Property.{Property}
 use Rattle.gaz_views.specs.declared.verdict.Verdict.{Verdict}
 use Rattle.gaz_keeper.specs.Board.{Board, reached, verdict_on, view_after}
@@ -28,6 +32,11 @@ IsNotJudging seen now = IsNotOpen (seen now).progress
 abbrev pub IsItemAt : Board → ℕ → ℕ → Key → Option Item → Type 0
 IsItemAt board c volume key i =
     volume ≤ reached board c → i ≡ map.get (view_after board c volume).items key
+
+-- what last became of a number
+abbrev pub IsCustodyAt : Board → ℕ → ℕ → ℕ → Option Custody → Type 0
+IsCustodyAt board c volume uprn custody =
+    volume ≤ reached board c → custody ≡ custody_at (view_after board c volume) uprn
 
 -- a page
 abbrev pub IsPageAt : Board → ℕ → ℕ → Kind → Option Key → ℕ → List Item → Type 0
@@ -80,6 +89,20 @@ abbrev pub TellsChildren : {K : Type 0} → (K → Seen) → K → K → Result 
 TellsChildren seen old new result c uprn =
     Reads (seen old) (seen new) result (λ b. b ≡ has_children (view_of (seen old) c) uprn)
 
+abbrev pub TellsCustody : {K : Type 0} → (K → Seen) → K → K → Result (Option Custody) ShelfFault
+    → ℕ → ℕ → Type 0
+TellsCustody seen old new result c uprn =
+    Reads (seen old) (seen new) result (λ x. x ≡ custody_at (view_of (seen old) c) uprn)
+
+abbrev pub TellsCustodyAt : {K : Type 0} → (K → Seen) → K → K → Result (Option Custody) ShelfFault
+    → ℕ → ℕ → ℕ → Type 0
+TellsCustodyAt seen old new result c volume uprn =
+    Reads (seen old) (seen new) result (λ x. IsCustodyAt (seen old).content.board c volume uprn x)
+
+abbrev pub TellsTied : {K : Type 0} → (K → Seen) → K → K → Result Bool ShelfFault → ℕ → ℕ → Type 0
+TellsTied seen old new result c uprn =
+    Reads (seen old) (seen new) result (λ b. b ≡ tied (view_of (seen old) c) uprn)
+
 abbrev pub TellsPage : {K : Type 0} → (K → Seen) → K → K → Result (Vec Item) ShelfFault → ℕ → ℕ
     → Kind → Option Key → ℕ → Type 0
 TellsPage seen old new result c volume kind after most =
@@ -115,6 +138,19 @@ Puts seen old new result item =
 abbrev pub Takes : {K T : Type 0} → (K → Seen) → K → K → Result T ShelfFault → Key → Type 0
 Takes seen old new result key =
     Sets (seen old) (seen new) result (without_key (seen old).content.working key)
+
+abbrev pub Releases : {K T : Type 0} → (K → Seen) → K → K → Result T ShelfFault → (uprn to hop : ℕ)
+    → Type 0
+Releases seen old new result uprn to hop =
+    Sets (seen old) (seen new) result (with_release (seen old).content.working uprn to hop)
+
+-- the item is a BLPU; of another one nothing would become
+abbrev pub Adopts : {K T : Type 0} → (K → Seen) → K → K → Result T ShelfFault → Item
+    → (from hop : ℕ) → Type 0
+Adopts seen old new result i from hop =
+    Sets (seen old) (seen new) result
+    (option_map_or (λ b. with_adoption (seen old).content.working b from hop) (as_blpu i)
+    (seen old).content.working)
 
 abbrev pub Applies : {K T : Type 0} → (K → Seen) → K → K → Result T ShelfFault → Type 0
 Applies seen old new result =

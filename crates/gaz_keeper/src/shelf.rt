@@ -1,20 +1,24 @@
 //! What is asked of a keeper of boards.
 ghost use Rattle.std.specs.Prelude.{◌≡◌, ◌≢◌, true};
+ghost use Rattle.std.specs.Option.{IsSome};
 ghost use Rattle.gaz_records.specs.Items.{is_entry};
 ghost use Rattle.gaz_records.specs.Kinds.{is_entry_kind};
+ghost use Rattle.gaz_views.specs.Numbered.{as_blpu};
 ghost use Rattle.gaz_keeper.specs.Keeper.{Idle, IsNotOpen, IsOpen, Refuses, Seen};
-ghost use Rattle.gaz_keeper.specs.Telling.{Abandons, Applies, Begins, Puts, Receives, Skips, Takes};
+ghost use Rattle.gaz_keeper.specs.Telling.{Abandons, Adopts, Applies, Begins, Puts, Receives};
+ghost use Rattle.gaz_keeper.specs.Telling.{Releases, Skips, Takes};
 ghost use Rattle.gaz_keeper.specs.Telling.{TellsApprovedOf, TellsApprovedOn, TellsAt};
 ghost use Rattle.gaz_keeper.specs.Telling.{TellsChildren};
-ghost use Rattle.gaz_keeper.specs.Telling.{TellsCurrent, TellsEver, TellsHeld, TellsNothing};
+ghost use Rattle.gaz_keeper.specs.Telling.{TellsCurrent, TellsCustody, TellsCustodyAt};
+ghost use Rattle.gaz_keeper.specs.Telling.{TellsEver, TellsHeld, TellsNothing};
 ghost use Rattle.gaz_keeper.specs.Telling.{TellsPage};
 ghost use Rattle.gaz_keeper.specs.Telling.{TellsPropertyOf, TellsReached, TellsReceived};
-ghost use Rattle.gaz_keeper.specs.Telling.{TellsVerdict};
+ghost use Rattle.gaz_keeper.specs.Telling.{TellsTied, TellsVerdict};
 
 use crate::fault::ShelfFault;
-use gaz_ids::{Code, Lang, Uprn, Usrn, Volume};
+use gaz_ids::{Code, Hop, Lang, Uprn, Usrn, Volume};
 use gaz_records::{Key, Kind, SharedItem};
-use gaz_views::{Property, Verdict};
+use gaz_views::{Custody, Property, Verdict};
 
 /// Keeps each custodian's views and verdicts, and at most one judgement in progress.
 ///
@@ -69,6 +73,24 @@ pub trait Shelf {
     fn children(&mut self, code: Code, uprn: Uprn) -> Result<bool, ShelfFault>
         ensures { TellsChildren seen self.old self.new result code uprn };
 
+    /// What last became of a number, in the view of `current`.
+    fn custody(&mut self, code: Code, uprn: Uprn) -> Result<Option<Custody>, ShelfFault>
+        ensures { TellsCustody seen self.old self.new result code uprn };
+
+    /// What last became of a number after a volume, which is to be reached; after volume 0 nothing.
+    fn custody_at(
+        &mut self,
+        code: Code,
+        volume: u64,
+        uprn: Uprn,
+    ) -> Result<Option<Custody>, ShelfFault>
+        ensures { TellsCustodyAt seen self.old self.new result code volume uprn };
+
+    /// Whether an LPI or a cross reference, of whatever status, in the view of `current` names a
+    /// BLPU.
+    fn tied(&mut self, code: Code, uprn: Uprn) -> Result<bool, ShelfFault>
+        ensures { TellsTied seen self.old self.new result code uprn };
+
     /// The first `most` items of a kind of entries after a key, or from the start, in key order,
     /// after a volume, which is to be reached.
     fn page(
@@ -98,6 +120,20 @@ pub trait Shelf {
     fn take(&mut self, key: &Key) -> Result<(), ShelfFault>
         requires { (seen self.old).progress ≢ Idle }
         ensures sets { Takes seen self.old self.new result key.now }
+        ensures refuses { Refuses (seen self.old) result };
+
+    /// Releases a number to another custodian, in the working view: its BLPU is taken, and its key
+    /// counts as used, also where none ever stood.
+    fn release(&mut self, uprn: Uprn, to: Code, hop: Hop) -> Result<(), ShelfFault>
+        requires { (seen self.old).progress ≢ Idle }
+        ensures sets { Releases seen self.old self.new result uprn to hop }
+        ensures refuses { Refuses (seen self.old) result };
+
+    /// Adopts an item, which is to be a BLPU, from another custodian, in the working view.
+    fn adopt(&mut self, blpu: SharedItem, from: Code, hop: Hop) -> Result<(), ShelfFault>
+        requires begun { (seen self.old).progress ≢ Idle }
+        requires blpu { IsSome (as_blpu blpu) }
+        ensures sets { Adopts seen self.old self.new result blpu from hop }
         ensures refuses { Refuses (seen self.old) result };
 
     /// Ends the judgement: the volume is applied, and the working view is its custodian's next.

@@ -16,6 +16,7 @@ use Rattle.gaz_records.specs.declared.item.Item.{Item}
 use Rattle.gaz_records.specs.declared.item.Item.TheVariants as item
 use Rattle.gaz_records.specs.declared.item.Kind.TheVariants as kind
 use Rattle.gaz_records.specs.declared.key.Key.{Key}
+use Rattle.gaz_records.specs.declared.key.Key.TheVariants as key
 use Rattle.gaz_views.specs.View.{View}
 use Rattle.gaz_views.specs.Words.{address_of, approved_of, entries, first_of, is_approved, is_approved_of}
 use Rattle.gaz_cells.proofs.Ids.{ids_back}
@@ -33,7 +34,7 @@ use Rattle.gaz_kept.proofs.AtKeys.{held_item, item_held}
 use Rattle.gaz_kept.proofs.NewestRows.{same_item}
 use Rattle.gaz_kept.proofs.Rising.{approved_is, approved_rise, approved_there, entry_is, rising_same}
 use Rattle.gaz_kept.proofs.Views.{IsEntry}
-use Rattle.gaz_kept.proofs.Statements.{Says, fits, history_of, item_of, its_custodian, read_from, read_in, some_same, whole}
+use Rattle.gaz_kept.proofs.Statements.{Says, fits, history_of, item_of, item_row, its_custodian, kind_row, read_from, read_in, some_same, whole}
 
 -- ---- an approved address by its cells
 
@@ -90,7 +91,7 @@ module _ (c uprn n : ℕ) (rows answer : List Row) (all : AreVersions rows) (roo
   address_in r there fit = record { says = s; named = named; there = stands; approved = cells.0 }
     where
       s : Says r
-      s = item_of r (all r there)
+      s = item_of r (kind_row (key.Lpi []) r (all r there) (ap number_in fit.approved.of_kind))
 
       cells : (is_approved_of uprn s.item ≡ true) × (kind_in (key_of s.item) ≡ kind.Lpi)
       cells = by_cells uprn s.item
@@ -124,7 +125,7 @@ module _ (c uprn n : ℕ) (rows answer : List Row) (all : AreVersions rows) (roo
 
   row_in : (k : Key) (x : Item) → finite.get last.items k ≡ Some x → is_approved_of uprn x ≡ true → HasAddress k
   unfolding address_in
-  row_in k x stands approved = record { row = r.0; there = r.1; fit = fit; named = (address_in r.0 r.1 fit).named ∙ ap Some own }
+  row_in k x stands approved = record { row = r.0; there = r.1; fit = fit; named = said.named ∙ ap Some (ap key_of (some_same said.says.item s.item said.says.said s.said) ∙ own) }
     where
       held : IsEntry n (histories_in rows c) k x
       held = item_held (histories_in rows c) through.apart n k x stands
@@ -133,7 +134,7 @@ module _ (c uprn n : ℕ) (rows answer : List Row) (all : AreVersions rows) (roo
       r = read_from (history_in c) rows held.row held.there
 
       s : Says r.0
-      s = item_of r.0 (all r.0 r.1)
+      s = item_of r.0 (item_row c r.0 (all r.0 r.1) held.row r.2)
 
       cust : number_in (table.cust_of r.0) ≡ c
       cust = its_custodian c r.0 held.row r.2
@@ -159,7 +160,7 @@ module _ (c uprn n : ℕ) (rows answer : List Row) (all : AreVersions rows) (roo
 
       fit : IsApprovedOf c (pos uprn) r.0
       fit =
-          let v = all r.0 r.1 in
+          let v = item_row c r.0 (all r.0 r.1) held.row r.2 in
           record {
             approved = record {
               of_cust = whole (table.cust_of r.0) c v.cust cust;
@@ -169,6 +170,9 @@ module _ (c uprn n : ℕ) (rows answer : List Row) (all : AreVersions rows) (roo
             };
             of_blpu = whole (table.blpu_of r.0) uprn v.blpu (ap (λ (d : CellsValue). d.links.blpu) (sym s.cells) ∙ cells.blpu);
           }
+
+      said : IsAddress r.0
+      said = address_in r.0 r.1 fit
 
   module _ (found : FindsApprovedOf c (pos uprn) rows answer) where
     -- an answered row is that of an address

@@ -17,10 +17,10 @@ use Rattle.gaz_views.specs.declared.verdict.Verdict.{Verdict}
 use Rattle.gaz_keeper.specs.Board.{reached, verdict_on, view_after}
 use Rattle.gaz_kept.specs.Contents.{board_in}
 use Rattle.gaz_kept.specs.Files.{judged_volumes, reached_in, verdicts_in}
-use Rattle.gaz_kept.specs.Judging.{AreBornLater, BoardAdds, BoardChanges, BoardReads}
+use Rattle.gaz_kept.specs.Judging.{AreBornLater, ArePassedLater, BoardAdds, BoardChanges, BoardReads}
 use Rattle.gaz_kept.specs.Kept.{AreFirst}
-use Rattle.gaz_kept.specs.Versions.{histories_in, view_in}
-use Rattle.gaz_kept.proofs.Views.{nothing_born, stays_next}
+use Rattle.gaz_kept.specs.Versions.{histories_in, passages_in, view_in}
+use Rattle.gaz_kept.proofs.PassageViews.{nothing_at_first, views_stay}
 
 -- ---- one more judgement
 
@@ -59,9 +59,9 @@ module _ (files rows : List Row) (c : ℕ) where
   reached_is : reached (board_in files rows) c ≡ reached_in files c
   reached_is = count_judged (verdicts_in files c) (view_in rows c)
 
-  view_is : AreBornLater (histories_in rows c) → (t : ℕ) → t ≤ reached_in files c → view_after (board_in files rows) c t ≡ view_in rows c t
-  view_is later zero le = sym (nothing_born (histories_in rows c) later)
-  view_is later (suc t) le =
+  view_is : AreBornLater (histories_in rows c) → ArePassedLater (passages_in rows c) → (t : ℕ) → t ≤ reached_in files c → view_after (board_in files rows) c t ≡ view_in rows c t
+  view_is later passed zero le = sym (nothing_at_first (histories_in rows c) (passages_in rows c) later passed)
+  view_is later passed (suc t) le =
       let less : t < length (verdicts_in files c) = omega arith in
       let one : 1 + t ≡ suc t = omega arith in
       ap (λ o. unwrap_or o empty_view) (view_judged (verdicts_in files c) (view_in rows c) t less) ∙ ap (view_in rows c) one
@@ -118,4 +118,4 @@ pub board_reads : (files rows : List Row) (c : ℕ) → BoardReads files rows c
 board_reads files rows c = record { reached = reached_is files rows c; verdict = verdict_is files rows c; view = view_is files rows c }
 
 pub board_changes : BoardChanges
-board_changes = record { reads = board_reads; adds = board_adds; stays = stays_next }
+board_changes = record { reads = board_reads; adds = board_adds; stays = views_stay }

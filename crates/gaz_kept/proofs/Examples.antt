@@ -1,17 +1,20 @@
 -- What the definitions come to on worked examples.
-use Rattle.std.proofs.Common.{◌≡◌, ◌∙◌, ◌≤◌, ◌<◌, ◌+◌, ◌⊎◌, ℕ, suc, pos, true, List, [], ◌∷◌, inl, inr, refl, sym, ap, subst, arith, slice_get}
+use Rattle.std.proofs.Common.{◌≡◌, ◌∙◌, ◌≤◌, ◌<◌, ◌+◌, ◌⊎◌, ◌||◌, ℕ, suc, pos, Bool, true, false, List, [], ◌∷◌, inl, inr, refl, sym, ap, subst, arith, slice_get}
 use Rattle.std.specs.Prelude.{IsSomeAnd, Some, None, Ok, length, map, slice_index_or, unwrap_or}
 use Rattle.std.specs.Cmp.{IsTotalOrder, nat_cmp_total}
 use Rattle.std.specs.FinMap as finite
 use Rattle.std.specs.FinMap.{find, put}
+use Rattle.std.specs.FinSet as set
 use Rattle.std.specs.List.{AllByRecursion, cons_option, filter_map, range_with_len}
 use Rattle.std.specs.Ordering.{nat_cmp}
 use Rattle.std.specs.declared.cmp.Ordering.{Ordering}
 use Rattle.sqlite.specs.declared.types.Value.{Value}
 use Rattle.sqlite.specs.declared.types.Value.TheVariants.{Int}
+use Rattle.sqlite.specs.Order.{Row}
 use Rattle.sqlite_rules.specs.Lists.{Has}
 use Rattle.sqlite_rules.proofs.ListLemmas.{all_has}
 use Rattle.gaz_records.proofs.ItemsBack.{text-back}
+use Rattle.gaz_records.proofs.KeyOrder.{keys_total}
 use Rattle.gaz_records.specs.Fields.{ok_of}
 use Rattle.gaz_records.specs.Items.{is_entry, is_item}
 use Rattle.gaz_records.specs.declared.item.Item.{Item}
@@ -27,9 +30,10 @@ use Rattle.gaz_cells.proofs.CellsBack.{cells_back}
 use Rattle.gaz_cells.specs.Columns.{cells_of}
 use Rattle.gaz_cells.specs.Reading.{read_cells}
 use Rattle.gaz_overlay.proofs.Rows.{item_after, stands, used_after, uses}
+use Rattle.gaz_overlay.specs.Passages.{has_passed, passed_keys}
 use Rattle.gaz_overlay.specs.Rows.{HistoryRow, view_after}
 use Rattle.gaz_tables.specs.Receiveds.{judged}
-use Rattle.gaz_kept.specs.Examples.{WorkedBoard, WorkedExamples, WorkedFiles, WorkedNewest, WorkedTables, WorkedViews, changed, changed_101_life, inserted_101, changed_101, four_rows, handed_on, held_6, overlapping, rejected_3, six_files, with_a_gap, worked_board}
+use Rattle.gaz_kept.specs.Examples.{WorkedBoard, WorkedExamples, WorkedFiles, WorkedNewest, WorkedTables, WorkedViews, changed, changed_101_life, inserted_101, changed_101, four_rows, handed_on, held_6, memory_of_102, of_1002, overlapping, rejected_3, row_101, six_files, with_a_gap, worked_board}
 use Rattle.gaz_keeper.specs.Board.{verdict_on}
 use Rattle.gaz_keeper.specs.Board as board
 use Rattle.gaz_keeper.specs.Received.{pair_cmp}
@@ -37,7 +41,10 @@ use Rattle.gaz_keeper.proofs.Pairs.{pairs_total}
 use Rattle.gaz_kept.specs.Files.{file_in, files_in, judged_in, judged_volumes, verdicts_in}
 use Rattle.gaz_kept.specs.Kept.{AreInTurn, AreFirst, IsFile, IsVersion}
 use Rattle.gaz_kept.specs.Newest.{IsNewest, IsNewestUntil}
-use Rattle.gaz_kept.specs.Versions.{histories_in, history_in, item_in, living, values_of, view_in}
+use Rattle.gaz_kept.specs.Versions.{histories_in, history_in, item_in, living, passages_in, values_of, view_in}
+use Rattle.gaz_kept.proofs.CustodyFollows.{no_passage}
+use Rattle.gaz_kept.proofs.PassageRows.{never_passed}
+use Rattle.gaz_kept.proofs.Statements.{passage_kind, passage_none}
 use Rattle.gaz_kept.proofs.Said.{cells_same, not_another, says}
 
 -- ---- histories
@@ -68,6 +75,24 @@ histories_1002 = λ i.
     (cons_option (not_another (Int (pos 3)) 1001 1002 2 2 (street 102) (λ e. other (sym e)) i)
     (cons_option (said (Int (pos 4)) 1002 1 1000000 (street 101) refl refl i) [])))
 
+-- rows of items pass nothing on
+pub none_passed : (c : ℕ) → passages_in four_rows c ≡ []
+none_passed c = λ i.
+    cons_option (passage_none c row_101 (no_passage row_101 refl) i)
+    (cons_option (passage_none c changed_101 (no_passage changed_101 refl) i)
+    (cons_option (passage_none c memory_of_102 (no_passage memory_of_102 refl) i)
+    (cons_option (passage_none c of_1002 (no_passage of_1002 refl) i) [])))
+
+or_none : (b : Bool) → (b || false) ≡ b
+or_none true = refl
+or_none false = refl
+
+used_alone : (rows : List Row) (c t : ℕ) (q : Key) → passages_in rows c ≡ [] → was_used (view_in rows c t) q ≡ was_used (view_after (histories_in rows c) t) q
+used_alone rows c t q none =
+    set.contains-union keys_total (view_after (histories_in rows c) t).used (passed_keys (passages_in rows c) t) q
+    ∙ ap (λ b. was_used (view_after (histories_in rows c) t) q || b) (ap (λ ps. has_passed ps t q) none ∙ never_passed t q)
+    ∙ or_none (was_used (view_after (histories_in rows c) t) q)
+
 abbrev three : List HistoryRow
 three = living 1 2 (street 101) ∷ living 2 4 changed ∷ living 2 2 (street 102) ∷ []
 
@@ -75,7 +100,7 @@ at_1001 : (t : ℕ) (q : Key) → finite.get (view_in four_rows 1001 t).items q 
 at_1001 t q = ap (λ hs. finite.get (view_after hs t).items q) histories_1001 ∙ item_after three t q
 
 used_1001 : (t : ℕ) (q : Key) → was_used (view_in four_rows 1001 t) q ≡ uses t q three
-used_1001 t q = ap (λ hs. was_used (view_after hs t) q) histories_1001 ∙ used_after three t q
+used_1001 t q = used_alone four_rows 1001 t q (none_passed 1001) ∙ ap (λ hs. was_used (view_after hs t) q) histories_1001 ∙ used_after three t q
 
 abbrev one : List HistoryRow
 one = living 1 1000000 (street 101) ∷ []
@@ -94,7 +119,7 @@ views_hold = record {
   memory = used_1001 2 (key.Street 102);
   not_before = used_1001 1 (key.Street 102);
   of_1002 = ap (λ hs. finite.get (view_after hs 4).items (key.Street 101)) histories_1002 ∙ item_after one 4 (key.Street 101);
-  no_memory_of_1002 = ap (λ hs. was_used (view_after hs 4) (key.Street 102)) histories_1002 ∙ used_after one 4 (key.Street 102);
+  no_memory_of_1002 = used_alone four_rows 1002 4 (key.Street 102) (none_passed 1002) ∙ ap (λ hs. was_used (view_after hs 4) (key.Street 102)) histories_1002 ∙ used_after one 4 (key.Street 102);
 }
 
 -- ---- files
@@ -191,7 +216,7 @@ no_state_7 : ¬ IsFile (judged 7 (pos 0) 0 held_6)
 no_state_7 h = let le : 7 ≤ 2 = h.states in absurd (omega arith)
 
 version_holds : IsVersion changed_101
-version_holds = record {
+version_holds = inl (record {
   cust = refl;
   kind = refl;
   id = refl;
@@ -206,10 +231,11 @@ version_holds = record {
   item = subst (λ o. IsSomeAnd o (λ y. is_item y ≡ true)) (sym (said_item (Int (pos 2)) 1001 2 4 changed refl refl)) refl;
   first = omega arith;
   in_turn = omega arith;
-}
+})
 
 no_hop_1 : ¬ IsVersion handed_on
-no_hop_1 v = let e : ◌≡◌ {A = Value} (Int (pos 1)) (Int (pos 0)) = v.hop in absurd (cc)
+no_hop_1 (inl v) = let e : ◌≡◌ {A = Value} (Int (pos 1)) (Int (pos 0)) = v.hop in absurd (cc)
+no_hop_1 (inr v) = let e : 11 ≡ 92 = passage_kind handed_on v in absurd (omega (arith, e))
 
 first_holds : AreFirst six_files 1001
 first_holds = ap (map (λ e. e.0)) judged_1001 ∙ sym (ap (range_with_len 1) (ap length verdicts_are))

@@ -1,21 +1,26 @@
 -- What is written when a judgement is kept makes one judgement more.
-use Rattle.std.proofs.Common.{◌≡◌, ◌≢◌, ◌∙◌, ◌≤◌, ◌<◌, ◌+◌, ◌⊎◌, inl, inr, ℕ, List, [], ◌∷◌, length, refl, sym, ap, subst, arith, true}
-use Rattle.std.specs.Prelude.{IsSome, Some}
+use Rattle.std.proofs.Common.{◌≡◌, ◌≢◌, ◌∙◌, ◌≤◌, ◌<◌, ◌+◌, ◌⊎◌, inl, inr, ℕ, List, [], ◌∷◌, length, refl, sym, ap, subst, arith, true, true≢false}
+use Rattle.std.specs.Prelude.{IsSome, Option, Some, None, is_some}
 use Rattle.std.proofs.lemmas.Bool.{cases_eq}
 use Rattle.std.proofs.lemmas.List.{length-append}
+use Rattle.std.specs.Cmp.{nat_cmp_total}
 use Rattle.std.specs.FinMap as finite
+use Rattle.std.specs.FinMap.{nat_cmp-IsAntisymmetric}
 use Rattle.std.specs.List.{range_with_len}
 use Rattle.sqlite.specs.Effect.{Database}
+use Rattle.sqlite.specs.Order.{Row}
 use Rattle.sqlite_rules.specs.Lists.{Has}
+use Rattle.gaz_records.proofs.KeyOrder.{keys_total}
 use Rattle.gaz_records.specs.Items.{is_entry}
 use Rattle.gaz_records.specs.Keys.{key_of}
 use Rattle.gaz_records.specs.declared.key.Key.{Key}
 use Rattle.gaz_views.specs.View.{View, empty_view}
 use Rattle.gaz_views.specs.declared.verdict.Verdict.TheVariants.{Applied}
 use Rattle.gaz_keeper.specs.Board.{adds}
-use Rattle.gaz_overlay.specs.Changes.{Changes}
+use Rattle.gaz_overlay.specs.Changes.{Changes, is_passed}
 use Rattle.gaz_overlay.specs.Over.{Make}
-use Rattle.gaz_overlay.specs.Rows.{KeepVolume, never, view_after, written}
+use Rattle.gaz_overlay.specs.Passages.{PassageRow, PassOn, with_passages}
+use Rattle.gaz_overlay.specs.Rows.{KeepVolume, never, view_of_rows, written}
 use Rattle.gaz_overlay.specs.Writings.{writing_at}
 use Rattle.gaz_overlay.specs.declared.touch.NewRow.{NewRow}
 use Rattle.gaz_overlay.proofs.Apart.{writings_keep}
@@ -29,14 +34,20 @@ use Rattle.gaz_kept.specs.Files.{Judged, files_in, reached_in, verdicts_in, volu
 use Rattle.gaz_kept.specs.Histories.{AreSame}
 use Rattle.gaz_kept.specs.Judging.{IsJudged, IsVerdict}
 use Rattle.gaz_kept.specs.Keeping.{IsToKeep, KeepStands, KeepsVolume, WritesAll}
-use Rattle.gaz_kept.specs.Kept.{AreFirst, AreThrough, IsKept}
-use Rattle.gaz_kept.specs.Versions.{histories_in, number_in, view_in}
+use Rattle.gaz_kept.specs.Kept.{AreFirst, ArePassages, AreThrough, IsKept}
+use Rattle.gaz_kept.specs.NewestPassages.{HasPassage}
+use Rattle.gaz_kept.specs.Passages.{IsLastOf}
+use Rattle.gaz_kept.specs.Versions.{histories_in, number_in, passages_in, view_in}
 use Rattle.gaz_kept.proofs.Boards.{board_adds, board_reads}
 use Rattle.gaz_kept.proofs.Judging.{files_change}
+use Rattle.gaz_kept.proofs.Pairs.{has_tied, ties_has}
+use Rattle.gaz_kept.proofs.PassageRows.{find_last, passages_same, rows_say}
+use Rattle.gaz_kept.proofs.PassageViews.{same_views}
+use Rattle.gaz_kept.proofs.PassageWalking.{AreKnown, IsOnTheWay, not_begun, pass_on, write_numbers}
 use Rattle.gaz_kept.proofs.Singly.{histories_of, singly, singly_same, through_of, through_same, told_singly}
 use Rattle.gaz_kept.proofs.Stands.{IsThere, are_files, row_of}
 use Rattle.gaz_kept.proofs.Views.{same_rows}
-use Rattle.gaz_kept.proofs.Walking.{IsUnderWay, are_new, nothing_yet, onto, onto_has, onto_only, same_written, write_keys}
+use Rattle.gaz_kept.proofs.Walking.{IsUnderWay, are_new, nothing_yet, onto, onto_has, onto_only, same_then, same_written, write_keys}
 use Rattle.gaz_kept.proofs.Written.{Rows}
 
 -- ---- the mark
@@ -101,17 +112,23 @@ module _ (c volume : ℕ) (changes : Changes) (working : View) (old new : Databa
   abbrev was : Rows
   was = histories_in (old.trees versions) c
 
+  abbrev was_passed : List PassageRow
+  was_passed = passages_in (old.trees versions) c
+
   abbrev now : Rows
   now = histories_in (mid.trees versions) c
+
+  abbrev now_passed : List PassageRow
+  now_passed = passages_in (mid.trees versions) c
 
   through : AreThrough n was
   through = it.kept.histories c
 
   own : (k : Key) (r : NewRow) → (writing_at changes k).adds ≡ Some r → key_of r.item ≡ k
-  own = changes_make.own (view_after was n) changes working it.made
+  own = changes_make.own (view_of_rows was was_passed n) changes working it.made
 
   entries : (k : Key) (r : NewRow) → (writing_at changes k).adds ≡ Some r → is_entry r.item ≡ true
-  entries = changes_make.entries (view_after was n) changes working it.made
+  entries = changes_make.entries (view_of_rows was was_passed n) changes working it.made
 
   abbrev keys : List Key
   keys = finite.keys changes.touched
@@ -119,38 +136,98 @@ module _ (c volume : ℕ) (changes : Changes) (working : View) (old new : Databa
   all_written : WritesAll c (n + 1) changes (old.trees versions) (mid.trees versions)
   all_written = subst (λ v. WritesAll c v changes (old.trees versions) (mid.trees versions)) it.next keeps.rows.rows
 
-  done : IsUnderWay c (n + 1) changes (onto keys []) (onto keys []) (old.trees versions) (mid.trees versions)
+  -- the rows once the keys are written
+  abbrev keyed : List Row
+  keyed = all_written.0
+
+  done : IsUnderWay c (n + 1) changes (onto keys []) (onto keys []) (old.trees versions) keyed
   done =
-      write_keys c n room changes (old.trees versions) through it.told own entries keys [] (old.trees versions) (mid.trees versions)
-      (are_new [] (finite.entries changes.touched) (finite.entries_sorted changes.touched) (λ d none. absurd none))
-      (nothing_yet c (n + 1) changes (old.trees versions) it.kept.rows) all_written
+      write_keys c n room changes (old.trees versions) through it.told own entries keys [] (old.trees versions) keyed
+      (are_new keys_total [] (finite.entries changes.touched) (finite.entries_sorted changes.touched) (λ d none. absurd none))
+      (nothing_yet c (n + 1) changes (old.trees versions) it.kept.rows) all_written.1
+
+  -- ---- the numbers
+
+  abbrev numbers : List ℕ
+  numbers = finite.keys changes.passed
+
+  passed_through : ArePassages n was_passed
+  passed_through = it.kept.passages c
+
+  keyed_through : ArePassages n (passages_in keyed c)
+  keyed_through = passages_same n was_passed (passages_in keyed c) (done.passages c) passed_through
+
+  known : AreKnown n changes (passages_in keyed c)
+  known = record { are = keyed_through; told = told; none = λ k is r there number. by_last k is (find_last n k was_passed).row (find_last n k was_passed).is r there number }
+    where
+      told : (k b : ℕ) → finite.get changes.passed k ≡ Some (Some b) → HasPassage (passages_in keyed c) k b
+      told k b is =
+          let h = it.passed k b is in
+          record { row = h.row; there = (done.passages c).kept h.row h.there; of_number = h.of_number; of_birth = h.of_birth; is_current = h.is_current }
+
+      by_last : (k : ℕ) → finite.get changes.passed k ≡ Some None → (o : Option PassageRow) → IsLastOf n was_passed k o → (r : PassageRow) → Has (passages_in keyed c) r → r.uprn ≡ k → ⊥
+      by_last k is None none r there number = let here = (done.passages c).only r there in none r here number (passed_through.until r here).born
+      by_last k is (Some p) last r there number =
+          let say = rows_say n n k was_passed (Some p) (omega (arith, room)) passed_through last in
+          let some = it.made.over.passed.since k None is in
+          true≢false (sym (some ∙ ap is_some say.custody))
+
+  passed_listed : (k : ℕ) → is_passed changes k ≡ true → Has numbers k
+  passed_listed k is = has_tied nat_cmp_total nat_cmp-IsAntisymmetric k numbers (sym (finite.contains_key-keys changes.passed k) ∙ is)
+
+  listed_passed : (k : ℕ) → Has numbers k → is_passed changes k ≡ true
+  listed_passed k there = finite.contains_key-keys changes.passed k ∙ ties_has nat_cmp_total nat_cmp-IsAntisymmetric k numbers there
+
+  on_the_way : IsOnTheWay c n changes (onto numbers []) keyed (mid.trees versions)
+  on_the_way =
+      write_numbers c n room changes keyed known numbers [] keyed (mid.trees versions)
+      (are_new nat_cmp_total [] (finite.entries changes.passed) (finite.entries_sorted changes.passed) (λ d none. absurd none)) listed_passed
+      (not_begun c n changes keyed done.rows keyed_through) all_written.2
+
+  passing : PassOn changes n (passages_in keyed c) now_passed
+  passing =
+      pass_on n room changes (onto numbers []) (passages_in keyed c) now_passed keyed_through it.made.over.passed.told
+      (λ k is. onto_has numbers [] k (passed_listed k is)) (λ k there. elim (onto_only numbers [] k there) [ inl h ↦ listed_passed k h | inr none ↦ absurd none ]) on_the_way.written
 
   listed_only : (q : Key) → Has (onto keys []) q → Has keys q
   listed_only q there = elim (onto_only keys [] q there) [ inl h ↦ h | inr none ↦ absurd none ]
 
   same_now : AreSame (written (n + 1) changes (singly was)) now
-  same_now = same_written (n + 1) changes (onto keys []) (λ q there. onto_has keys [] q there) listed_only was now through.apart.once done.written
+  same_now =
+      same_then _ _ _ (same_written (n + 1) changes (onto keys []) (λ q there. onto_has keys [] q there) listed_only was (histories_in keyed c) through.apart.once done.written)
+      (on_the_way.histories c)
 
-  volume_kept : KeepVolume (singly was) n working (written (n + 1) changes (singly was))
-  volume_kept = writings_keep (singly was) n changes working room (histories_of n was through) (told_singly changes was through.apart it.told)
-      (subst (λ v. Make v changes working) (sym (same_rows was (singly was) through.apart (singly_same was through.apart) n)) it.made)
+  -- the views of what was there, of each row once
+  singly_views : (t : ℕ) → view_of_rows (singly was) (passages_in keyed c) t ≡ view_of_rows was was_passed t
+  singly_views t = same_views n was (singly was) was_passed (passages_in keyed c) through.apart (singly_same was through.apart) passed_through (done.passages c) t
+
+  volume_kept : KeepVolume (singly was) (passages_in keyed c) n working (written (n + 1) changes (singly was)) now_passed
+  volume_kept = writings_keep (singly was) (passages_in keyed c) n changes working now_passed room (histories_of n was through) (told_singly changes was through.apart it.told)
+      (subst (λ v. Make v changes working) (sym (singly_views n)) it.made) passing
 
   written_through : AreThrough (n + 1) (written (n + 1) changes (singly was))
   written_through = through_of (n + 1) (written (n + 1) changes (singly was)) volume_kept.histories
 
-  view_now : (t : ℕ) → view_after now t ≡ view_after (written (n + 1) changes (singly was)) t
-  view_now t = same_rows (written (n + 1) changes (singly was)) now written_through.apart same_now t
+  view_now : (t : ℕ) → view_of_rows now now_passed t ≡ view_of_rows (written (n + 1) changes (singly was)) now_passed t
+  view_now t = ap (λ v. with_passages v now_passed t) (same_rows (written (n + 1) changes (singly was)) now written_through.apart same_now t)
 
   next_is : view_in (new.trees versions) c (n + 1) ≡ working
   next_is = ap (λ l. view_in l c (n + 1)) marked.1 ∙ view_now (n + 1) ∙ volume_kept.next
 
   past_is : (t : ℕ) → t ≤ n → view_in (new.trees versions) c t ≡ view_in (old.trees versions) c t
-  past_is t le = ap (λ l. view_in l c t) marked.1 ∙ view_now t ∙ volume_kept.past t le ∙ same_rows was (singly was) through.apart (singly_same was through.apart) t
+  past_is t le = ap (λ l. view_in l c t) marked.1 ∙ view_now t ∙ volume_kept.past t le ∙ singly_views t
+
+  others_same : (d : ℕ) → d ≢ c → AreSame (histories_in (old.trees versions) d) (histories_in (mid.trees versions) d)
+  others_same d other = same_then _ _ _ (done.others d other) (on_the_way.histories d)
+
+  passed_same : (d : ℕ) → d ≢ c → AreSame (passages_in (old.trees versions) d) (passages_in (mid.trees versions) d)
+  passed_same d other = same_then _ _ _ (done.passages d) (on_the_way.others d other)
 
   others_are : (d : ℕ) → d ≢ c → (t : ℕ) → view_in (new.trees versions) d t ≡ view_in (old.trees versions) d t
   others_are d other t =
       ap (λ l. view_in l d t) marked.1
-      ∙ same_rows (histories_in (old.trees versions) d) (histories_in (mid.trees versions) d) (it.kept.histories d).apart (done.others d other) t
+      ∙ same_views (reached_in (old.trees receiveds) d) (histories_in (old.trees versions) d) (histories_in (mid.trees versions) d) (passages_in (old.trees versions) d) (passages_in (mid.trees versions) d)
+      (it.kept.histories d).apart (others_same d other) (it.kept.passages d) (passed_same d other) t
 
   -- ---- the tables are a store's again
 
@@ -168,15 +245,26 @@ module _ (c volume : ℕ) (changes : Changes) (working : View) (old new : Databa
           subst (λ e. AreThrough (reached_in (new.trees receiveds) e) (histories_in (mid.trees versions) e)) (sym same)
           (subst (λ m. AreThrough m now) (sym reached_now) (through_same (n + 1) (written (n + 1) changes (singly was)) now same_now written_through))
       by_custodian (inr other) = subst (λ (m : Judged). AreThrough (length (finite.values m)) (histories_in (mid.trees versions) d)) (sym (judges.others d other))
-          (through_same (reached_in (old.trees receiveds) d) (histories_in (old.trees versions) d) (histories_in (mid.trees versions) d) (done.others d other) (it.kept.histories d))
+          (through_same (reached_in (old.trees receiveds) d) (histories_in (old.trees versions) d) (histories_in (mid.trees versions) d) (others_same d other) (it.kept.histories d))
+
+  passages_now : (d : ℕ) → ArePassages (reached_in (new.trees receiveds) d) (passages_in (new.trees versions) d)
+  passages_now d = subst (λ l. ArePassages (reached_in (new.trees receiveds) d) (passages_in l d)) (sym marked.1) (by_custodian (cases_eq d c))
+    where
+      by_custodian : (d ≡ c) ⊎ ((d ≡ c) → ⊥) → ArePassages (reached_in (new.trees receiveds) d) (passages_in (mid.trees versions) d)
+      by_custodian (inl same) =
+          subst (λ e. ArePassages (reached_in (new.trees receiveds) e) (passages_in (mid.trees versions) e)) (sym same)
+          (subst (λ m. ArePassages m now_passed) (sym reached_now) on_the_way.written.are)
+      by_custodian (inr other) = subst (λ (m : Judged). ArePassages (length (finite.values m)) (passages_in (mid.trees versions) d)) (sym (judges.others d other))
+          (passages_same (reached_in (old.trees receiveds) d) (passages_in (old.trees versions) d) (passages_in (mid.trees versions) d) (passed_same d other) (it.kept.passages d))
 
   kept_now : IsKept new
   kept_now = record {
     tables = marked.0;
     files = judges.are_files.each;
     first = first_now;
-    rows = λ r there. done.rows r (subst (λ l. Has l r) marked.1 there);
+    rows = λ r there. on_the_way.rows r (subst (λ l. Has l r) marked.1 there);
     histories = through_now;
+    passages = passages_now;
   }
 
   board_now : board_in (new.trees receiveds) (new.trees versions) ≡ adds (board_in (old.trees receiveds) (old.trees versions)) c (record { verdict = Applied; view = working })

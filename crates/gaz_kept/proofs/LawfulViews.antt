@@ -1,10 +1,11 @@
 -- Views of a store's tables are lawful.
-use Rattle.std.proofs.Common.{◌≡◌, ◌∙◌, ◌≤◌, ◌<◌, ◌⊎◌, inl, inr, length, ℕ, true, false, List, refl, sym, ap, subst, arith}
+use Rattle.std.proofs.Common.{◌≡◌, ◌∙◌, ◌≤◌, ◌<◌, ◌⊎◌, ◌||◌, inl, inr, length, ℕ, true, false, List, refl, sym, ap, subst, arith}
 use Rattle.std.proofs.lemmas.Bool.{cases_lt}
 use Rattle.std.proofs.lemmas.List.{length-map}
 use Rattle.std.proofs.lemmas.Option.{slice_get_past}
 use Rattle.std.specs.Prelude.{Option, Some, None, is_some, unwrap_or}
 use Rattle.std.specs.FinMap as finite
+use Rattle.std.specs.FinSet as set
 use Rattle.sqlite.specs.Effect.{Database}
 use Rattle.sqlite_rules.specs.Lists.{Has}
 use Rattle.gaz_records.proofs.KeyOrder.{keys_exact, keys_total}
@@ -15,6 +16,7 @@ use Rattle.gaz_records.specs.declared.key.Key.{Key}
 use Rattle.gaz_views.proofs.Lawful.{lawful_empty}
 use Rattle.gaz_views.specs.Lawful.{IsLawfulView}
 use Rattle.gaz_views.specs.View.{View, empty_view, holds, was_used}
+use Rattle.gaz_overlay.specs.Passages.{passed_keys}
 use Rattle.gaz_overlay.specs.Rows.{HistoryRow, view_after}
 use Rattle.gaz_keeper.specs.Board as board
 use Rattle.gaz_views.specs.Judgements.{Judgement, views}
@@ -24,18 +26,19 @@ use Rattle.gaz_kept.specs.Contents.{board_of, content_in}
 use Rattle.gaz_kept.specs.Files.{reached_in}
 use Rattle.gaz_kept.specs.Kept.{IsKept}
 use Rattle.gaz_kept.specs.LastViews.{last_in}
-use Rattle.gaz_kept.specs.Versions.{histories_in, history_in, view_in}
+use Rattle.gaz_kept.specs.Versions.{histories_in, history_in, passages_in, view_in}
 use Rattle.gaz_kept.proofs.AtKeys.{item_held}
 use Rattle.gaz_kept.proofs.Boards.{board_reads}
 use Rattle.gaz_kept.proofs.Pairs.{in_set}
-use Rattle.gaz_kept.proofs.Statements.{born_later, history_of, item_of, its_custodian, read_from, some_same}
+use Rattle.gaz_kept.proofs.PassageStatements.{passed_later}
+use Rattle.gaz_kept.proofs.Statements.{born_later, history_of, item_of, item_row, its_custodian, read_from, some_same}
 use Rattle.gaz_kept.proofs.Views.{IsEntry, used_as, used_at}
 
 -- each row of a custodian's histories has the key of its item
 own_key : (db : Database) → IsKept db → (c : ℕ) (h : HistoryRow) → Has (histories_in (db.trees versions) c) h → h.key ≡ key_of h.item
 own_key db kept c h there =
     let r = read_from (history_in c) (db.trees versions) h there in
-    let s = item_of r.0 (kept.rows r.0 r.1) in
+    let s = item_of r.0 (item_row c r.0 (kept.rows r.0 r.1) h r.2) in
     let same = some_same _ h (history_of c r.0 s (its_custodian c r.0 h r.2)) r.2 in
     ap (λ (g : HistoryRow). g.key) (sym same) ∙ ap (λ (g : HistoryRow). key_of g.item) same
 
@@ -43,7 +46,7 @@ own_key db kept c h there =
 own_entry : (db : Database) → IsKept db → (c : ℕ) (h : HistoryRow) → Has (histories_in (db.trees versions) c) h → is_entry h.item ≡ true
 own_entry db kept c h there =
     let r = read_from (history_in c) (db.trees versions) h there in
-    let s = item_of r.0 (kept.rows r.0 r.1) in
+    let s = item_of r.0 (item_row c r.0 (kept.rows r.0 r.1) h r.2) in
     let same = some_same _ h (history_of c r.0 s (its_custodian c r.0 h r.2)) r.2 in
     ap (λ (g : HistoryRow). is_entry g.item) (sym same) ∙ s.entry
 
@@ -65,13 +68,15 @@ module _ (db : Database) (kept : IsKept db) (c t : ℕ) where
     used = λ k holds_it. by_item k (finite.get (view_after rows t).items k) refl holds_it;
   }
     where
-      by_item : (k : Key) (o : Option Item) → finite.get (view_after rows t).items k ≡ o → holds (view_after rows t) k ≡ true → was_used (view_after rows t) k ≡ true
-      by_item k (Some x) is holds_it = used_by k x (held k x is)
+      by_item : (k : Key) (o : Option Item) → finite.get (view_after rows t).items k ≡ o → holds (view_after rows t) k ≡ true → was_used (view_in (db.trees versions) c t) k ≡ true
+      by_item k (Some x) is holds_it =
+          let passed = passed_keys (passages_in (db.trees versions) c) t in
+          set.contains-union keys_total (view_after rows t).used passed k ∙ ap (λ b. b || set.contains passed k) (used_by k x (held k x is))
       by_item k None is holds_it = let clash : false ≡ true = sym (ap is_some is) ∙ holds_it in absurd (cc)
 
 -- the views on the board are those of the rows, up to the reached volume
 pub board_view : (db : Database) → IsKept db → (c t : ℕ) → t ≤ reached_in (db.trees receiveds) c → board.view_after (board_of db) c t ≡ view_in (db.trees versions) c t
-board_view db kept c t le = (board_reads (db.trees receiveds) (db.trees versions) c).view (born_later c (db.trees versions) kept.rows) t le
+board_view db kept c t le = (board_reads (db.trees receiveds) (db.trees versions) c).view (born_later c (db.trees versions) kept.rows) (passed_later c (db.trees versions) kept.rows) t le
 
 -- a custodian's last view on the board is that of the rows
 pub last_is : (db : Database) → IsKept db → (c : ℕ) → board.last_view (board_of db) c ≡ last_in db c

@@ -1,9 +1,14 @@
 pub mod Pairs
 pub mod Decoded
 pub mod Said
+pub mod CustodyFollows
 pub mod Views
 pub mod GoneRows
 pub mod Statements
+pub mod PassageStatements
+pub mod PassageRows
+pub mod PassageViews
+pub mod PassageWriting
 pub mod AtKeys
 pub mod NewestRows
 pub mod Rising
@@ -11,6 +16,7 @@ pub mod Approved
 pub mod KeysNamed
 pub mod Judging
 pub mod Reached
+pub mod NewestPassages
 pub mod KeysTold
 pub mod Boards
 pub mod Sorted
@@ -18,9 +24,11 @@ pub mod Stands
 pub mod Written
 pub mod Singly
 pub mod Walking
+pub mod PassageWalking
 pub mod KeepStands
 pub mod Writes
 pub mod Examples
+pub mod PassageExamples
 pub mod MetaRows
 pub mod WorkedOpening
 pub mod LawfulViews

@@ -8,25 +8,43 @@ use Rattle.sqlite_rules.specs.Lists.{Has}
 use Rattle.sqlite_rules.proofs.ProbeLemmas.{has_mapped, mapped_has}
 use Rattle.gaz_views.specs.Judgements.{judgements}
 use Rattle.gaz_views.specs.View.{View}
+use Rattle.gaz_overlay.specs.Passages.{PassageRow}
 use Rattle.gaz_overlay.specs.Rows.{HistoryRow}
 use Rattle.gaz_tables.specs.Migrating.{HasFirstTables, Migrates, with_hop}
 use Rattle.gaz_tables.specs.Schema.{metas, old_versions, receiveds, versions}
 use Rattle.gaz_kept.specs.Contents.{board_in}
 use Rattle.gaz_kept.specs.Files.{files_in, reached_in, verdicts_in}
 use Rattle.gaz_kept.specs.Histories.{AreSame}
-use Rattle.gaz_kept.specs.Kept.{AreFirst, AreThrough, IsKept, IsVersion}
+use Rattle.gaz_kept.specs.Kept.{AreFirst, ArePassages, AreThrough, IsKept, IsVersion}
 use Rattle.gaz_kept.specs.Migrated.{IsFirstKept, MigrationStands, first_content_in, first_row, first_rows}
 use Rattle.gaz_kept.specs.Opening.{IsOf, schema_number}
 use Rattle.gaz_kept.specs.OpeningFirst.{IsOfFirst, first_number}
 use Rattle.gaz_kept.specs.Stands.{Stands}
-use Rattle.gaz_kept.specs.Versions.{histories_in, history_in, view_in}
+use Rattle.gaz_kept.specs.Versions.{histories_in, history_in, passage_in, passages_in, view_in}
 use Rattle.gaz_kept.proofs.Rewritten.{becomes_of}
 use Rattle.gaz_kept.proofs.Statements.{read_from, read_in}
-use Rattle.gaz_kept.proofs.Views.{same_rows}
+use Rattle.gaz_kept.proofs.PassageRows.{passages_same}
+use Rattle.gaz_kept.proofs.PassageViews.{same_views}
 
 -- what a row says, whatever its rowid is
 version_too : (v w : Value) (s : Row) → IsVersion (v ∷ with_hop s) → IsVersion (w ∷ with_hop s)
-version_too v w s h = record {
+version_too v w s (inr h) = inr (record {
+  cust = h.cust;
+  kind = h.kind;
+  id = h.id;
+  blpu = h.blpu;
+  street = h.street;
+  lang = h.lang;
+  live = h.live;
+  body = h.body;
+  born = h.born;
+  gone = h.gone;
+  hop = h.hop;
+  passage = h.passage;
+  first = h.first;
+  in_turn = h.in_turn;
+})
+version_too v w s (inl h) = inl (record {
   cust = h.cust;
   kind = h.kind;
   id = h.id;
@@ -41,10 +59,13 @@ version_too v w s h = record {
   item = h.item;
   first = h.first;
   in_turn = h.in_turn;
-}
+})
 
 history_too : (c : ℕ) (v w : Value) (s : Row) → history_in c (v ∷ with_hop s) ≡ history_in c (w ∷ with_hop s)
 history_too c v w s = refl
+
+passage_too : (c : ℕ) (v w : Value) (s : Row) → passage_in c (v ∷ with_hop s) ≡ passage_in c (w ∷ with_hop s)
+passage_too c v w s = refl
 
 module _ (register : List ℕ) (old new : Database) (was : IsFirstKept old) (moves : Migrates schema_number register old new) where
   abbrev sources : List Row
@@ -75,6 +96,25 @@ module _ (register : List ℕ) (old new : Database) (was : IsFirstKept old) (mov
       read_in (history_in c) (new.trees versions) (Int made.0 ∷ with_hop s.0) h made.1
       (history_too c (Int made.0) (column s.0 0) s.0 ∙ ap (history_in c) (sym s.2) ∙ r.2)
 
+  -- so have the passages
+  only_passed : (c : ℕ) (p : PassageRow) → Has (passages_in (new.trees versions) c) p → Has (passages_in (first_rows sources) c) p
+  only_passed c p there =
+      let r = read_from (passage_in c) (new.trees versions) p there in
+      let it = source r.0 r.1 in
+      read_in (passage_in c) (first_rows sources) (first_row it.0) p (mapped_has first_row sources it.0 it.1)
+      (passage_too c (column it.0 0) (Int it.2.0) it.0 ∙ ap (passage_in c) (sym it.2.1) ∙ r.2)
+
+  kept_passed : (c : ℕ) (p : PassageRow) → Has (passages_in (first_rows sources) c) p → Has (passages_in (new.trees versions) c) p
+  kept_passed c p there =
+      let r = read_from (passage_in c) (first_rows sources) p there in
+      let s = has_mapped first_row sources r.0 r.1 in
+      let made = moves.rows.done s.0 s.1 in
+      read_in (passage_in c) (new.trees versions) (Int made.0 ∷ with_hop s.0) p made.1
+      (passage_too c (Int made.0) (column s.0 0) s.0 ∙ ap (passage_in c) (sym s.2) ∙ r.2)
+
+  same_passed : (c : ℕ) → AreSame (passages_in (first_rows sources) c) (passages_in (new.trees versions) c)
+  same_passed c = record { only = only_passed c; kept = kept_passed c }
+
   same : (c : ℕ) → AreSame (histories_in (first_rows sources) c) (histories_in (new.trees versions) c)
   same c = record { only = only c; kept = kept c }
 
@@ -94,10 +134,13 @@ module _ (register : List ℕ) (old new : Database) (was : IsFirstKept old) (mov
     first = λ c. subst (λ l. AreFirst l c) (sym moves.files) (was.first c);
     rows = each_version;
     histories = λ c. subst (λ l. AreThrough (reached_in l c) (histories_in (new.trees versions) c)) (sym moves.files) (through c (reached_in (old.trees receiveds) c) (was.histories c));
+    passages = λ c. subst (λ l. ArePassages (reached_in l c) (passages_in (new.trees versions) c)) (sym moves.files) (passages_same (reached_in (old.trees receiveds) c) (passages_in (first_rows sources) c) (passages_in (new.trees versions) c) (same_passed c) (was.passages c));
   }
 
   views : (c t : ℕ) → view_in (new.trees versions) c t ≡ view_in (first_rows sources) c t
-  views c t = same_rows (histories_in (first_rows sources) c) (histories_in (new.trees versions) c) (was.histories c).apart (same c) t
+  views c t =
+      same_views (reached_in (old.trees receiveds) c) (histories_in (first_rows sources) c) (histories_in (new.trees versions) c) (passages_in (first_rows sources) c) (passages_in (new.trees versions) c)
+      (was.histories c).apart (same c) (was.passages c) (same_passed c) t
 
   board : board_in (new.trees receiveds) (new.trees versions) ≡ board_in (old.trees receiveds) (first_rows sources)
   board = λ i c. judgements (verdicts_in (moves.files i) c) (λ t. views c t i)

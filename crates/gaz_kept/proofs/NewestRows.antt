@@ -17,11 +17,11 @@ use Rattle.gaz_tables.specs.Shows.{IsGreatest, ShowsGreatest}
 use Rattle.gaz_tables.specs.Versions as table
 use Rattle.gaz_tables.specs.Versions.{FindsNewest, FindsNewestUntil, IsOfKey, IsOfKeyUntil, born_place, life_shown}
 use Rattle.gaz_kept.specs.Histories.{AreVersions}
-use Rattle.gaz_kept.specs.Kept.{IsVersion}
+use Rattle.gaz_kept.specs.Kept.{IsItemRow}
 use Rattle.gaz_kept.specs.Newest.{IsLatestOf, IsNewest, IsNewestUntil, SaysLife, SaysNewest, row_of}
 use Rattle.gaz_kept.specs.Versions.{histories_in, history_in, living, number_in, text_in}
 use Rattle.gaz_kept.specs.declared.newest.Life.{Life}
-use Rattle.gaz_kept.proofs.Statements.{Born, IsBirthOf, Says, birth_of, born_as, fits, history_of, item_of, read_from, read_in, some_same}
+use Rattle.gaz_kept.proofs.Statements.{Born, IsBirthOf, Says, birth_of, born_as, fits, history_of, item_of, kind_row, read_from, read_in, some_same}
 
 -- ---- what the cells of a row at a key say
 
@@ -52,11 +52,11 @@ module _ (c : ℕ) (k : Key) (rows answer : List Row) (all : AreVersions rows) (
     none_passes none h there key passes = let r = row_at h there key in none r.0 r.1 (to r.0 h key r.2 passes)
 
     module _ (r : Row) (n : ℤ) (greatest : IsGreatest Fits born_place rows r n) where
-      version : IsVersion r
-      version = all r greatest.there
+      version : IsItemRow r
+      version = kind_row k r (all r greatest.there) (ap number_in (ours r greatest.fits).of_kind)
 
       born : Born c k (number_in (table.born_of r)) r
-      born = born_as c k (number_in (table.born_of r)) r version known (record { of_key = ours r greatest.fits; of_born = version.born })
+      born = born_as c k (number_in (table.born_of r)) r (all r greatest.there) known (record { of_key = ours r greatest.fits; of_born = version.born })
 
       latest : IsLatestOf Passes (histories_in rows c) k (Some born.row)
       latest = record {

@@ -15,12 +15,12 @@ use Rattle.gaz_tables.specs.Schema.{metas, received, receiveds, version2, versio
 use Rattle.gaz_tables.specs.Stores.{HasTables}
 use Rattle.gaz_kept.specs.Contents.{board_in, content_in}
 use Rattle.gaz_kept.specs.Files.{files_in, reached_in}
-use Rattle.gaz_kept.specs.Kept.{AreFirst, AreThrough, IsKept}
+use Rattle.gaz_kept.specs.Kept.{AreFirst, ArePassages, AreThrough, IsKept}
 use Rattle.gaz_kept.specs.Numbered as numbered
 use Rattle.gaz_kept.specs.Opening.{IsOf, schema_number}
 use Rattle.gaz_kept.specs.Rewriting.{Registers, RewritesStand}
 use Rattle.gaz_kept.specs.Stands.{Stands}
-use Rattle.gaz_kept.specs.Versions.{histories_in}
+use Rattle.gaz_kept.specs.Versions.{histories_in, passages_in}
 
 -- ---- what the tables stand for
 
@@ -48,6 +48,7 @@ stands register working old new kept writes =
         first = λ c. subst (λ l. AreFirst l c) (sym files) (kept.first c);
         rows = λ r there. kept.rows r (subst (λ l. Has l r) rows there);
         histories = λ c. subst (λ l. AreThrough (reached_in (new.trees receiveds) c) (histories_in l c)) (sym rows) (subst (λ l. AreThrough (reached_in l c) (histories_in (old.trees versions) c)) (sym files) (kept.histories c));
+        passages = λ c. subst (λ l. ArePassages (reached_in (new.trees receiveds) c) (passages_in l c)) (sym rows) (subst (λ l. ArePassages (reached_in l c) (passages_in (old.trees versions) c)) (sym files) (kept.passages c));
       };
       content = λ i. record { files = files_in (files i); board = board_in (files i) (rows i); working = working };
     }

@@ -30,14 +30,16 @@ use Rattle.gaz_tables.specs.Stores.{HasTables}
 use Rattle.gaz_kept.specs.Contents.{board_in}
 use Rattle.gaz_kept.specs.Files.{Judged, custodian_in, file_in, files_in, judged_volumes, reached_in, verdicts_in, volume_in}
 use Rattle.gaz_kept.specs.Judging.{AreFiles, Arrives, IsJudged, IsVerdict}
-use Rattle.gaz_kept.specs.Kept.{AreFirst, AreThrough, IsKept, IsVersion}
+use Rattle.gaz_kept.specs.Kept.{AreFirst, ArePassages, AreThrough, IsKept, IsVersion}
 use Rattle.gaz_kept.specs.Stands.{CreateStands, ReceiveStands, SkipStands, TablesStand}
-use Rattle.gaz_kept.specs.Versions.{histories_in, number_in, view_in}
+use Rattle.gaz_kept.specs.Versions.{histories_in, number_in, passages_in, view_in}
 use Rattle.gaz_kept.proofs.Boards.{board_adds, board_reads}
 use Rattle.gaz_kept.proofs.Judging.{files_change}
 use Rattle.gaz_kept.proofs.Pairs.{found}
 use Rattle.gaz_kept.proofs.Statements.{born_later, whole}
-use Rattle.gaz_kept.proofs.Views.{stays_next}
+use Rattle.gaz_kept.proofs.PassageRows.{no_passages, passages_next}
+use Rattle.gaz_kept.proofs.PassageStatements.{passed_later}
+use Rattle.gaz_kept.proofs.PassageViews.{views_stay}
 
 -- ---- creation
 
@@ -58,6 +60,7 @@ empty_kept db has no_versions no_files = record {
   first = λ c. subst (λ l. AreFirst l c) (sym no_files) (subst (λ es. map (λ (e : ℕ × Verdict). e.0) es ≡ range_with_len 1 (length (map (λ (e : ℕ × Verdict). e.1) es))) (sym (nothing_judged c)) refl);
   rows = λ r there. absurd (subst (λ l. Has l r) no_versions there);
   histories = λ c. subst (λ l. AreThrough (reached_in (db.trees receiveds) c) (histories_in l c)) (sym no_versions) (none_through (reached_in (db.trees receiveds) c));
+  passages = λ c. subst (λ l. ArePassages (reached_in (db.trees receiveds) c) (passages_in l c)) (sym no_versions) (no_passages (reached_in (db.trees receiveds) c));
 }
 
 empty_board : board_in [] [] ≡ (λ c. [])
@@ -102,6 +105,7 @@ receive_stands c volume bytes working old new first last kept is_new changes = r
     first = λ d. subst (λ (m : Judged). finite.keys m ≡ range_with_len 1 (length (finite.values m))) (sym (a.judged d)) (kept.first d);
     rows = still_rows _ old new kept changes;
     histories = λ d. subst (λ (m : Judged). AreThrough (length (finite.values m)) (histories_in (new.trees versions) d)) (sym (a.judged d)) (subst (λ l. AreThrough (reached_in (old.trees receiveds) d) (histories_in l d)) (sym tables.1) (kept.histories d));
+    passages = λ d. subst (λ (m : Judged). ArePassages (length (finite.values m)) (passages_in (new.trees versions) d)) (sym (a.judged d)) (subst (λ l. ArePassages (reached_in (old.trees receiveds) d) (passages_in l d)) (sym tables.1) (kept.passages d));
   };
   content = λ i. record { files = a.files i; board = λ d. judgements (finite.values (a.judged d i)) (view_in (tables.1 i) d); working = working };
 }
@@ -190,6 +194,15 @@ module _ (c place rule : ℕ) (old new : Database) (small : rule ≤ 255) (kept 
           (subst (λ m. AreThrough m (histories_in (old.trees versions) c)) (sym reached_now) (through_next n (histories_in (old.trees versions) c) (kept.histories c)))
       by_custodian (inr other) = subst (λ (m : Judged). AreThrough (length (finite.values m)) (histories_in (old.trees versions) d)) (sym (judges.others d other)) (kept.histories d)
 
+  skip_passages : (d : ℕ) → ArePassages (reached_in (new.trees receiveds) d) (passages_in (new.trees versions) d)
+  skip_passages d = subst (λ l. ArePassages (reached_in (new.trees receiveds) d) (passages_in l d)) (sym skip_tables.1) (by_custodian (cases_eq d c))
+    where
+      by_custodian : (d ≡ c) ⊎ ((d ≡ c) → ⊥) → ArePassages (reached_in (new.trees receiveds) d) (passages_in (old.trees versions) d)
+      by_custodian (inl same) =
+          subst (λ e. ArePassages (reached_in (new.trees receiveds) e) (passages_in (old.trees versions) e)) (sym same)
+          (subst (λ m. ArePassages m (passages_in (old.trees versions) c)) (sym reached_now) (passages_next n (passages_in (old.trees versions) c) (kept.passages c)))
+      by_custodian (inr other) = subst (λ (m : Judged). ArePassages (length (finite.values m)) (passages_in (old.trees versions) d)) (sym (judges.others d other)) (kept.passages d)
+
   skip_kept : IsKept new
   skip_kept = record {
     tables = skip_tables.0;
@@ -197,6 +210,7 @@ module _ (c place rule : ℕ) (old new : Database) (small : rule ≤ 255) (kept 
     first = skip_first;
     rows = still_rows _ old new kept changes;
     histories = skip_through;
+    passages = skip_passages;
   }
 
   abbrev board : Board
@@ -207,8 +221,8 @@ module _ (c place rule : ℕ) (old new : Database) (small : rule ≤ 255) (kept 
   last_is =
       let reads = board_reads (old.trees receiveds) (old.trees versions) c in
       let le : n ≤ n = omega arith in
-      stays_next n (histories_in (old.trees versions) c) room (kept.histories c)
-      ∙ sym (reads.view (born_later c (old.trees versions) kept.rows) n le)
+      views_stay n (histories_in (old.trees versions) c) (passages_in (old.trees versions) c) room (kept.histories c) (kept.passages c)
+      ∙ sym (reads.view (born_later c (old.trees versions) kept.rows) (passed_later c (old.trees versions) kept.rows) n le)
       ∙ ap (λ t. view_after board c t) (sym reads.reached)
 
   skip_board : board_in (new.trees receiveds) (new.trees versions) ≡ adds board c (record { verdict = Rejected place rule; view = last_view board c })

@@ -1,6 +1,6 @@
 -- What an INSERT and an UPDATE make of the histories.
-use Rattle.std.proofs.Common.{◌≡◌, ◌≢◌, ◌∙◌, ◌≤◌, ◌==◌, ◌⊎◌, inl, inr, ℕ, pos, Bool, true, false, cond, List, [], ◌∷◌, refl, sym, ap, subst, eq-eqb, ne_eqb, eqb-true}
-use Rattle.std.specs.Prelude.{Option, Some, None, Ok, Err, Result, IsSomeAnd, option_map}
+use Rattle.std.proofs.Common.{◌≡◌, ◌≢◌, ◌∙◌, ◌≤◌, ◌==◌, ◌⊎◌, inl, inr, ℕ, pos, Bool, true, false, cond, List, [], ◌∷◌, refl, sym, ap, subst, arith, eq-eqb, ne_eqb, eqb-true, true≢false}
+use Rattle.std.specs.Prelude.{Option, Some, None, Ok, Err, Result, IsSomeAnd, is_some, option_map}
 use Rattle.std.specs.List.{cons_option, filter_map, find}
 use Rattle.sqlite.specs.declared.types.Value.{Value}
 use Rattle.sqlite.specs.declared.types.Value.TheVariants.{Int, Text}
@@ -15,20 +15,25 @@ use Rattle.gaz_records.specs.declared.item.Item.{Item}
 use Rattle.gaz_records.specs.declared.item.Kind.{Kind}
 use Rattle.gaz_records.specs.declared.item.Kind.TheVariants as kind
 use Rattle.gaz_records.specs.declared.key.Key.{Key}
+use Rattle.gaz_records.specs.declared.key.Key.TheVariants as key
 use Rattle.gaz_cells.proofs.CellsBack.{cells_back, cells_fit, cells_follow, cells_say_entries}
 use Rattle.gaz_cells.proofs.Ids.{ids_apart}
+use Rattle.gaz_views.specs.declared.custody.Custody.{Custody}
 use Rattle.gaz_cells.specs.Columns.{CellsValue, cells_of, live_of}
+use Rattle.gaz_cells.specs.Custody.{CustodyValue, custody_in}
 use Rattle.gaz_cells.specs.Ids.{id_of, is_key, kind_in}
 use Rattle.gaz_cells.specs.Laws.{CellsFit}
 use Rattle.gaz_cells.specs.Reading.{read_cells}
 use Rattle.gaz_cells.specs.declared.fault.CellFault.{CellFault}
 use Rattle.gaz_overlay.specs.Rows.{HistoryRow}
+use Rattle.gaz_sql_facts.specs.Changes.{IsAdded, IsChanged}
 use Rattle.gaz_tables.specs.Versions as table
 use Rattle.gaz_tables.specs.Versions.{Closes, IsOfBirth, gone_at}
-use Rattle.gaz_kept.specs.Histories.{AreVersions, ClosesVersion, InsertAdds, StatementsChange, gone_with}
+use Rattle.gaz_kept.specs.Histories.{AreSame, AreVersions, ClosesVersion, InsertAdds, StatementsChange, gone_with}
 use Rattle.gaz_kept.specs.Judging.{AreBornLater}
-use Rattle.gaz_kept.specs.Kept.{IsVersion}
-use Rattle.gaz_kept.specs.Versions.{cells_in, histories_in, history_in, item_in, living, number_in, text_in, values_of}
+use Rattle.gaz_kept.specs.Kept.{IsItemRow, IsPassageRow, IsVersion}
+use Rattle.gaz_kept.specs.Versions.{cells_in, custody_cells_in, histories_in, history_in, item_in, living, number_in, passage_in, passing, text_in, values_of}
+use Rattle.gaz_kept.proofs.CustodyFollows.{CustodyFollows, custody_follows, no_item, no_passage}
 use Rattle.gaz_kept.proofs.Said.{cells_same, not_another, says}
 
 -- ---- lists that are read
@@ -61,6 +66,79 @@ some_same x y a b = let e : Some x ≡ Some y = sym a ∙ b in cc
 pub not_none : {X A : Type 0} {o : Option X} (x : X) → o ≡ Some x → o ≡ None → A
 not_none x some none = let e : None ≡ Some x = sym none ∙ some in absurd (cc)
 
+-- where a row comes that isn't read, the same are read
+pub same_added : {Y : Type 0} (f : Row → Option Y) (row : Row) (old new : List Row) → IsAdded row old new → f row ≡ None → AreSame (filter_map f old) (filter_map f new)
+same_added {Y} f row old new added none = record {
+  only = λ y there. let r = read_from f new y there in by_origin y r.0 r.2 (added.only r.0 r.1);
+  kept = λ y there. let r = read_from f old y there in read_in f new r.0 y (added.kept r.0 r.1) r.2;
+}
+  where
+    by_origin : (y : Y) (r : Row) → f r ≡ Some y → (r ≡ row) ⊎ Has old r → Has (filter_map f old) y
+    by_origin y r is (inl same) = not_none y is (ap f same ∙ none)
+    by_origin y r is (inr was) = read_in f old r y was is
+
+-- where rows change that aren't read
+pub same_changed : {Y : Type 0} (f : Row → Option Y) (P : Row → Type 0) (change : Row → Row) (old new : List Row) → IsChanged P change old new
+    → ((r : Row) → Has old r → P r → (f r ≡ None) × (f (change r) ≡ None)) → AreSame (filter_map f old) (filter_map f new)
+same_changed {Y} f P change old new changed none = record {
+  only = λ y there. let r = read_from f new y there in by_origin y r.0 r.2 (changed.only r.0 r.1);
+  kept = λ y there. let r = read_from f old y there in read_in f new r.0 y (changed.kept r.0 r.1 (λ passes. not_none y r.2 (none r.0 r.1 passes).0)) r.2;
+}
+  where
+    by_origin : (y : Y) (r : Row) → f r ≡ Some y → (Has old r × ¬ P r) ⊎ ((s : Row) × Has old s × P s × (r ≡ change s)) → Has (filter_map f old) y
+    by_origin y r is (inl was) = read_in f old r y was.0 is
+    by_origin y r is (inr s) = not_none y is (ap f s.3 ∙ (none s.0 s.1 s.2).1)
+
+-- ---- a row of kind 92
+
+-- what a row says became of a number
+pub record Tells (r : Row) : Type 0 where
+  pub number : ℕ
+  pub custody : Custody
+  pub said : custody_in (custody_cells_in r) ≡ Some (number, custody)
+  pub follows : CustodyFollows (custody_cells_in r) number custody
+
+pub tells_of : (r : Row) → IsPassageRow r → Tells r
+tells_of r v = by_answer (custody_in (custody_cells_in r)) refl v.passage
+  where
+    by_answer : (o : Option (ℕ × Custody)) → custody_in (custody_cells_in r) ≡ o → is_some o ≡ true → Tells r
+    by_answer None is some = absurd (true≢false (sym some))
+    by_answer (Some x) is some = record { number = x.0; custody = x.1; said = is; follows = custody_follows (custody_cells_in r) x.0 x.1 is }
+
+pub passage_kind : (r : Row) → IsPassageRow r → number_in (table.kind_of r) ≡ 92
+passage_kind r v = sym (ap (λ (d : CustodyValue). d.cells.kind) (tells_of r v).follows.cells)
+
+pub history_none : (c : ℕ) (r : Row) → item_in r ≡ None → history_in c r ≡ None
+history_none c r none = by_test (number_in (table.cust_of r) == c)
+  where
+    by_test : (b : Bool) → cond b (option_map (living (number_in (table.born_of r)) (number_in (table.gone_of r))) (item_in r)) None ≡ None
+    by_test true = ap (option_map (living (number_in (table.born_of r)) (number_in (table.gone_of r)))) none
+    by_test false = refl
+
+pub passage_none : (c : ℕ) (r : Row) → custody_in (custody_cells_in r) ≡ None → passage_in c r ≡ None
+passage_none c r none = by_test (number_in (table.cust_of r) == c)
+  where
+    by_test : (b : Bool) → cond b (option_map (passing (number_in (table.born_of r)) (number_in (table.gone_of r))) (custody_in (custody_cells_in r))) None ≡ None
+    by_test true = ap (option_map (passing (number_in (table.born_of r)) (number_in (table.gone_of r)))) none
+    by_test false = refl
+
+-- a row that says an item is an item's
+pub item_row : (c : ℕ) (r : Row) → IsVersion r → (y : HistoryRow) → history_in c r ≡ Some y → IsItemRow r
+item_row c r (inl v) y is = v
+item_row c r (inr p) y is = not_none y is (history_none c r (no_item r (passage_kind r p)))
+
+-- so is one of a key's kind
+pub kind_row : (k : Key) (r : Row) → IsVersion r → number_in (table.kind_of r) ≡ number_of (kind_in k) → IsItemRow r
+kind_row k r (inl v) is = v
+kind_row k r (inr p) is = absurd (no_key k (sym is ∙ passage_kind r p))
+  where
+    no_key : (k : Key) → number_of (kind_in k) ≡ 92 → ⊥
+    no_key (key.Street n) e = omega (arith, e)
+    no_key (key.Descriptor n l) e = omega (arith, e)
+    no_key (key.Blpu n) e = omega (arith, e)
+    no_key (key.Xref t) e = omega (arith, e)
+    no_key (key.Lpi t) e = omega (arith, e)
+
 -- ---- a row and its item
 
 items_read_back : ItemsReadBack
@@ -81,7 +159,7 @@ ok_is : (a : Result Item CellFault) (x : Item) → ok_of a ≡ Some x → a ≡ 
 ok_is (Ok y) x e = let same : y ≡ x = cc in ap Ok same
 ok_is (Err f) x e = let none : None ≡ Some x = e in absurd (cc)
 
-pub item_of : (r : Row) → IsVersion r → Says r
+pub item_of : (r : Row) → IsItemRow r → Says r
 item_of r v = by_item (item_in r) refl v.item
   where
     by_item : (o : Option Item) → item_in r ≡ o → IsSomeAnd o (λ x. is_item x ≡ true) → Says r
@@ -131,7 +209,8 @@ pub whole : (v : Value) (n : ℕ) → v ≡ Int (pos (number_in v)) → number_i
 whole v n is e = is ∙ ap (λ m. Int (pos m)) e
 
 pub birth_of : (c : ℕ) (r : Row) → IsVersion r → (y : HistoryRow) → history_in c r ≡ Some y → IsBirthOf c y.key y.born r
-birth_of c r v y is =
+birth_of c r version y is =
+    let v = item_row c r version y is in
     let s = item_of r v in
     let fit = fits s.item s.known s.entry in
     let h = some_same (living (number_in (table.born_of r)) (number_in (table.gone_of r)) s.item) y (history_of c r s (its_custodian c r y is)) is in
@@ -154,7 +233,8 @@ pub record Born (c : ℕ) (k : Key) (born : ℕ) (r : Row) : Type 0 where
   pub birth : row.born ≡ born
 
 pub born_as : (c : ℕ) (k : Key) (born : ℕ) (r : Row) → IsVersion r → is_key k ≡ true → IsBirthOf c k born r → Born c k born r
-born_as c k born r v is b =
+born_as c k born r version is b =
+    let v = kind_row k r version (ap number_in b.of_key.of_kind) in
     let s = item_of r v in
     let fit = fits s.item s.known s.entry in
     let kind : number_of (kind_in (key_of s.item)) ≡ number_of (kind_in k) = ap number_of fit.kind ∙ ap (λ (d : CellsValue). d.kind) s.cells ∙ ap number_in b.of_key.of_kind in
@@ -169,8 +249,8 @@ born_as c k born r v is b =
 -- ---- a row that is gone with a volume
 
 gone_history : (c volume : ℕ) (r : Row) (y : HistoryRow) → IsVersion r → history_in c r ≡ Some y → history_in c (gone_at volume r) ≡ Some (gone_with volume y)
-gone_history c volume r y v is =
-    let s = item_of r v in
+gone_history c volume r y version is =
+    let s = item_of r (item_row c r version y is) in
     let cust = its_custodian c r y is in
     let born = number_in (table.born_of r) in
     let h = some_same (living born (number_in (table.gone_of r)) s.item) y (history_of c r s cust) is in
@@ -178,8 +258,24 @@ gone_history c volume r y v is =
     ∙ ap (option_map (living born volume)) s.said
     ∙ ap (λ (z : HistoryRow). Some (gone_with volume z)) h
 
-gone_version : (volume : ℕ) (r : Row) → IsVersion r → number_in (table.born_of r) ≤ volume → IsVersion (gone_at volume r)
-gone_version volume r v le = record {
+pub gone_version : (volume : ℕ) (r : Row) → IsVersion r → number_in (table.born_of r) ≤ volume → IsVersion (gone_at volume r)
+gone_version volume r (inr v) le = inr (record {
+  cust = v.cust;
+  kind = v.kind;
+  id = v.id;
+  blpu = v.blpu;
+  street = v.street;
+  lang = v.lang;
+  live = v.live;
+  body = v.body;
+  born = v.born;
+  gone = refl;
+  hop = v.hop;
+  passage = v.passage;
+  first = v.first;
+  in_turn = le;
+})
+gone_version volume r (inl v) le = inl (record {
   cust = v.cust;
   kind = v.kind;
   id = v.id;
@@ -194,19 +290,19 @@ gone_version volume r v le = record {
   item = v.item;
   first = v.first;
   in_turn = le;
-}
+})
 
 -- no row was born before the first volume
 pub born_later : (c : ℕ) (rows : List Row) → AreVersions rows → AreBornLater (histories_in rows c)
 born_later c rows all y there =
     let r = read_from (history_in c) rows y there in
     let birth : number_in (table.born_of r.0) ≡ y.born = ap number_in (birth_of c r.0 (all r.0 r.1) y r.2).of_born in
-    subst (λ n. 1 ≤ n) birth (all r.0 r.1).first
+    subst (λ n. 1 ≤ n) birth (item_row c r.0 (all r.0 r.1) y r.2).first
 
 -- ---- INSERT
 
 written_version : (id : Value) (c born gone : ℕ) (x : Item) → is_item x ≡ true → is_entry x ≡ true → 1 ≤ born → born ≤ gone → IsVersion (id ∷ values_of c born gone x)
-written_version id c born gone x known entry first in_turn = record {
+written_version id c born gone x known entry first in_turn = inl (record {
   cust = refl;
   kind = refl;
   id = refl;
@@ -221,7 +317,7 @@ written_version id c born gone x known entry first in_turn = record {
   item = subst (λ o. IsSomeAnd o (λ y. is_item y ≡ true)) (sym said) known;
   first = first;
   in_turn = in_turn;
-}
+})
   where
     by_test : (b : Bool) → Int (cond b (pos 1) (pos 0)) ≡ Int (pos (number_in (Int (cond b (pos 1) (pos 0)))))
     by_test true = refl
@@ -241,6 +337,7 @@ insert_adds id c born gone x old new known entry first in_turn all added = recor
     only = λ y there. let r = read_from (history_in d) new y there in only_there d other y r.0 r.2 (added.only r.0 r.1);
     kept = λ y there. let r = read_from (history_in d) old y there in read_in (history_in d) new r.0 y (added.kept r.0 r.1) r.2;
   };
+  passages = λ d. same_added (passage_in d) row old new added (passage_none d row (no_passage row refl));
   rows = λ r there. is_row r (added.only r there);
 }
   where
@@ -279,7 +376,7 @@ module _ (c volume : ℕ) (h : HistoryRow) (old new : List Row) (le : h.born ≤
 
   is_its_key : is_key h.key ≡ true
   is_its_key =
-      let s = item_of its.0 (all its.0 its.1) in
+      let s = item_of its.0 (item_row c its.0 (all its.0 its.1) h its.2) in
       let born = number_in (table.born_of its.0) in
       let same = some_same (living born (number_in (table.gone_of its.0)) s.item) h (history_of c its.0 s (its_custodian c its.0 h its.2)) its.2 in
       subst (λ (z : HistoryRow). is_key z.key ≡ true) same (fits s.item s.known s.entry).key
@@ -324,6 +421,12 @@ module _ (c volume : ℕ) (h : HistoryRow) (old new : List Row) (le : h.born ≤
   still_rows r (inl was) = all r was.0
   still_rows r (inr s) = subst IsVersion (sym s.3) (gone_version volume s.0 (all s.0 s.1) (subst (λ n. n ≤ volume) (sym (ap number_in s.2.of_born)) le))
 
+  -- a row of the key says of no number what became of it
+  no_passages : (d : ℕ) (r : Row) → IsVersion r → IsBirthOf c h.key h.born r → (passage_in d r ≡ None) × (passage_in d (gone_at volume r) ≡ None)
+  no_passages d r v b =
+      let item = kind_row h.key r v (ap number_in b.of_key.of_kind) in
+      (passage_none d r (no_passage r item.hop), passage_none d (gone_at volume r) (no_passage (gone_at volume r) item.hop))
+
   pub closes_version : ClosesVersion c volume h old new
   closes_version = record {
     close = record {
@@ -335,6 +438,7 @@ module _ (c volume : ℕ) (h : HistoryRow) (old new : List Row) (le : h.born ≤
       only = λ y here. let r = read_from (history_in d) new y here in only_there d other y r.0 r.2 (closes.only r.0 r.1);
       kept = λ y was. let r = read_from (history_in d) old y was in read_in (history_in d) new r.0 y (closes.kept r.0 r.1 (not_passing d other r.0 y r.2)) r.2;
     };
+    passages = λ d. same_changed (passage_in d) (IsBirthOf c h.key h.born) (gone_at volume) old new closes (λ r was b. no_passages d r (all r was) b);
     rows = λ r here. still_rows r (closes.only r here);
   }
 

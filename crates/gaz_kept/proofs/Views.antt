@@ -1,5 +1,5 @@
 -- Views by what rows there are.
-use Rattle.std.proofs.Common.{◌≡◌, ◌≢◌, ◌∙◌, ◌≤◌, ◌<◌, ◌+◌, ◌==◌, ◌⊎◌, ◌&&◌, inl, inr, ℕ, Bool, true, false, cond, nat_le, nat_lt, List, [], ◌∷◌, map, filter, refl, sym, ap, subst, arith, true≢false}
+use Rattle.std.proofs.Common.{◌≡◌, ◌∙◌, ◌≤◌, ◌<◌, ◌+◌, ◌⊎◌, ◌&&◌, inl, inr, ℕ, Bool, true, false, cond, nat_le, nat_lt, List, [], ◌∷◌, map, filter, refl, sym, ap, subst, arith}
 use Rattle.std.proofs.lemmas.Bool.{and_from, and_parts, cases_lt}
 use Rattle.std.proofs.lemmas.Bool.Decides.{nat_tests}
 use Rattle.std.specs.Cmp.{tied_itself}
@@ -13,13 +13,12 @@ use Rattle.gaz_records.proofs.KeyOrder.{keys_exact, keys_total}
 use Rattle.gaz_records.specs.Keys.{key_cmp, key_of}
 use Rattle.gaz_records.specs.declared.item.Item.{Item}
 use Rattle.gaz_records.specs.declared.key.Key.{Key}
-use Rattle.gaz_views.proofs.SameKeys.{same_key}
-use Rattle.gaz_views.specs.View.{empty_view, with_item, without_key}
+use Rattle.gaz_views.specs.View.{empty_view, with_item}
 use Rattle.gaz_overlay.specs.Rows.{HistoryRow, holds_after, is_born_by, never, view_after}
-use Rattle.gaz_kept.specs.Histories.{Close, Gain, GoesWith, HistoriesChange, IsLast, IsNext, RowsClose, RowsGain, RowsJoin, SameRows, gone_with, with_use}
+use Rattle.gaz_kept.specs.Histories.{Gain, IsNext, RowsGain, RowsJoin, SameRows, with_use}
 use Rattle.gaz_kept.specs.Kept.{AreInTurn, AreThrough}
 use Rattle.gaz_kept.specs.Judging.{AreBornLater}
-use Rattle.gaz_kept.proofs.Pairs.{AreSingle, IsWith, IsWithout, alike, alike_set, inserted, inserted_set, removed}
+use Rattle.gaz_kept.proofs.Pairs.{AreSingle, IsWith, alike, alike_set, inserted, inserted_set}
 
 pub ties : (q k : Key) → q ≡ k → eq_by_cmp key_cmp q k ≡ true
 ties q k is = subst (λ x. eq_by_cmp key_cmp q x ≡ true) is (ap is_eq (tied_itself keys_total q))
@@ -179,7 +178,7 @@ module _ (n : ℕ) (rows : Rows) (room : n + 1 < never) (through : AreThrough n 
           (λ q h. let u = use_of (n + 1) rows q h in used_as n rows q (record { row = u.row; there = u.there; born = (through.until u.row u.there).born; key = u.key }))
           (λ q h. let u = use_of n rows q h in used_as (n + 1) rows q (record { row = u.row; there = u.there; born = (let b = u.born in omega arith); key = u.key }))
 
-none_pass : {A : Type 0} (p : A → Bool) (xs : List A) → ((x : A) → Has xs x → p x ≡ false) → filter p xs ≡ []
+pub none_pass : {A : Type 0} (p : A → Bool) (xs : List A) → ((x : A) → Has xs x → p x ≡ false) → filter p xs ≡ []
 none_pass p [] none = refl
 none_pass p (x ∷ xs) none = ap (λ b. cond b (x ∷ filter p xs) (filter p xs)) (none x (inl refl)) ∙ none_pass p xs (λ y h. none y (inr h))
 

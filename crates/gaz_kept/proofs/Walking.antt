@@ -1,7 +1,7 @@
 -- What the touched keys make of a custodian's histories, written in turn.
 use Rattle.std.proofs.Common.{◌≡◌, ◌≢◌, ◌∙◌, ◌≤◌, ◌<◌, ◌+◌, ◌++◌, ◌⊎◌, ◌&&◌, inl, inr, ℕ, Bool, true, false, cond, T, List, [], ◌∷◌, map, refl, sym, ap, subst, arith, true≢false}
 use Rattle.std.specs.Prelude.{Option, Some, None}
-use Rattle.std.specs.Cmp.{tied_itself}
+use Rattle.std.specs.Cmp.{IsTotalOrder, tied_itself}
 use Rattle.std.specs.FinMap as finite
 use Rattle.std.specs.FinMap.{is_sorted}
 use Rattle.std.specs.FinMap.Entries.{below_all}
@@ -19,7 +19,7 @@ use Rattle.sqlite_rules.proofs.ListLemmas.{has_either, has_left, has_right}
 use Rattle.sqlite_rules.proofs.ProbeLemmas.{has_mapped, mapped_has}
 use Rattle.gaz_records.proofs.KeyOrder.{keys_exact, keys_total}
 use Rattle.gaz_records.specs.Items.{is_entry}
-use Rattle.gaz_records.specs.Keys.{key_cmp, key_of}
+use Rattle.gaz_records.specs.Keys.{key_of}
 use Rattle.gaz_records.specs.Kinds.{number_of}
 use Rattle.gaz_records.specs.declared.key.Key.{Key}
 use Rattle.gaz_views.specs.View.{holds}
@@ -31,7 +31,7 @@ use Rattle.gaz_overlay.specs.declared.touch.NewRow.{NewRow}
 use Rattle.gaz_overlay.specs.declared.touch.Touch.{Touch}
 use Rattle.gaz_overlay.proofs.Rows.{closes_since}
 use Rattle.gaz_tables.specs.Versions.{Closes}
-use Rattle.gaz_kept.specs.Histories.{AddsVersion, AreSame, AreVersions, ClosesVersion, Gain, gone_with}
+use Rattle.gaz_kept.specs.Histories.{AddsVersion, AreSame, AreVersions, ClosesVersion, Gain, SamePassages, gone_with}
 use Rattle.gaz_kept.specs.Keeping.{AddsItem, ClosesRow, WritesKey, WritesKeys}
 use Rattle.gaz_kept.specs.Kept.{AreThrough}
 use Rattle.gaz_kept.specs.Versions.{histories_in, living}
@@ -42,21 +42,21 @@ use Rattle.gaz_kept.proofs.Written.{Comes, IsWritten, Rows, WasThere, adds_none,
 
 -- ---- keys in turn
 
--- the keys, done one after another
-abbrev pub onto : List Key → List Key → List Key
+-- the keys, or numbers, done one after another
+abbrev pub onto : {K : Type 0} → List K → List K → List K
 onto [] done = done
 onto (k ∷ keys) done = onto keys (k ∷ done)
 
-onto_done : (keys done : List Key) (q : Key) → Has done q → Has (onto keys done) q
+onto_done : {K : Type 0} (keys done : List K) (q : K) → Has done q → Has (onto keys done) q
 onto_done [] done q h = h
 onto_done (k ∷ keys) done q h = onto_done keys (k ∷ done) q (inr h)
 
-pub onto_has : (keys done : List Key) (q : Key) → Has keys q → Has (onto keys done) q
+pub onto_has : {K : Type 0} (keys done : List K) (q : K) → Has keys q → Has (onto keys done) q
 onto_has [] done q h = absurd h
 onto_has (k ∷ keys) done q (inl same) = onto_done keys (k ∷ done) q (inl same)
 onto_has (k ∷ keys) done q (inr h) = onto_has keys (k ∷ done) q h
 
-pub onto_only : (keys done : List Key) (q : Key) → Has (onto keys done) q → Has keys q ⊎ Has done q
+pub onto_only : {K : Type 0} (keys done : List K) (q : K) → Has (onto keys done) q → Has keys q ⊎ Has done q
 onto_only [] done q h = inr h
 onto_only (k ∷ keys) done q h = by_origin (onto_only keys (k ∷ done) q h)
   where
@@ -65,8 +65,8 @@ onto_only (k ∷ keys) done q h = by_origin (onto_only keys (k ∷ done) q h)
     by_origin (inr (inl same)) = inl (inl same)
     by_origin (inr (inr there)) = inr there
 
--- no key comes twice
-abbrev pub AreNew : List Key → List Key → Type 0
+-- none comes twice
+abbrev pub AreNew : {K : Type 0} → List K → List K → Type 0
 AreNew done [] = Unit {0}
 AreNew done (k ∷ keys) = (¬ Has done k) × AreNew (k ∷ done) keys
 
@@ -74,8 +74,8 @@ both_hold : (a b : Bool) → T (a && b) → T a × T b
 both_hold true b h = (tt, h)
 both_hold false b h = absurd h
 
-not_below : (k : Key) → T (is_lt (key_cmp k k)) → ⊥
-not_below k less = by_order (key_cmp k k) (tied_itself keys_total k) less
+not_below : {K : Type 0} {R : K → K → Ordering} → IsTotalOrder R → (k : K) → T (is_lt (R k k)) → ⊥
+not_below {K} {R} total k less = by_order (R k k) (tied_itself total k) less
   where
     by_order : (o : Ordering) → o ≡ Equal → T (is_lt o) → ⊥
     by_order Less is less = let clash : Less ≡ Equal = is in absurd (cc)
@@ -83,35 +83,37 @@ not_below k less = by_order (key_cmp k k) (tied_itself keys_total k) less
     by_order Greater is less = less
 
 -- as they don't in a map
-pub are_new : {X : Type 0} (done : List Key) (es : List (Key × X)) → T (is_sorted key_cmp es) → ((d : Key) → Has done d → T (below_all key_cmp d es)) → AreNew done (keys_of es)
-are_new done [] sorted below = tt
-are_new done (e ∷ es) sorted below = (
-  λ there. not_below e.0 (both_hold (is_lt (key_cmp e.0 e.0)) (below_all key_cmp e.0 es) (below e.0 there)).0,
-  are_new (e.0 ∷ done) es both.1 (λ d there. by_place d there),
+pub are_new : {K X : Type 0} {R : K → K → Ordering} → IsTotalOrder R → (done : List K) (es : List (K × X)) → T (is_sorted R es) → ((d : K) → Has done d → T (below_all R d es)) → AreNew done (keys_of es)
+are_new total done [] sorted below = tt
+are_new {K} {X} {R} total done (e ∷ es) sorted below = (
+  λ there. not_below total e.0 (both_hold (is_lt (R e.0 e.0)) (below_all R e.0 es) (below e.0 there)).0,
+  are_new total (e.0 ∷ done) es both.1 (λ d there. by_place d there),
 )
   where
-    both : T (below_all key_cmp e.0 es) × T (is_sorted key_cmp es)
-    both = both_hold (below_all key_cmp e.0 es) (is_sorted key_cmp es) sorted
+    both : T (below_all R e.0 es) × T (is_sorted R es)
+    both = both_hold (below_all R e.0 es) (is_sorted R es) sorted
 
-    by_place : (d : Key) → (d ≡ e.0) ⊎ Has done d → T (below_all key_cmp d es)
-    by_place d (inl same) = subst (λ k. T (below_all key_cmp k es)) (sym same) both.0
-    by_place d (inr there) = (both_hold (is_lt (key_cmp d e.0)) (below_all key_cmp d es) (below d there)).1
+    by_place : (d : K) → (d ≡ e.0) ⊎ Has done d → T (below_all R d es)
+    by_place d (inl same) = subst (λ k. T (below_all R k es)) (sym same) both.0
+    by_place d (inr there) = (both_hold (is_lt (R d e.0)) (below_all R d es) (below d there)).1
 
 -- ---- under way
 
--- some keys' rows are closed and some have come; no other custodian's rows change
+-- some keys' rows are closed and some have come; no other custodian's rows change, and none of a number
 pub record IsUnderWay (c m : ℕ) (changes : Changes) (ended begun : List Key) (old now : List Row) : Type 0 where
   pub written : IsWritten m changes ended begun (histories_in old c) (histories_in now c)
   pub others : (d : ℕ) → d ≢ c → AreSame (histories_in old d) (histories_in now d)
+  pub passages : SamePassages old now
   pub rows : AreVersions now
 
-same_then : (old mid new : Rows) → AreSame old mid → AreSame mid new → AreSame old new
+pub same_then : {X : Type 0} (old mid new : List X) → AreSame old mid → AreSame mid new → AreSame old new
 same_then old mid new one two = record { only = λ r there. one.only r (two.only r there); kept = λ r there. two.kept r (one.kept r there) }
 
 pub nothing_yet : (c m : ℕ) (changes : Changes) (old : List Row) → AreVersions old → IsUnderWay c m changes [] [] old old
 nothing_yet c m changes old all = record {
   written = record { only = λ r there. inl (record { row = r; there = there; is = refl }); kept = λ r there. there; there = λ k r none is. absurd none };
   others = λ d other. record { only = λ r there. there; kept = λ r there. there };
+  passages = λ d. record { only = λ r there. there; kept = λ r there. there };
   rows = all;
 }
 
@@ -127,11 +129,13 @@ module _ (c n : ℕ) (room : n + 1 < never) (changes : Changes) (old : List Row)
     close_key now mid None is u same = subst (IsUnderWay c (n + 1) changes (k ∷ done) done old) (sym same) (record {
       written = closes_none (n + 1) changes k done done _ _ new_key u.written is;
       others = u.others;
+      passages = u.passages;
       rows = u.rows;
     })
     close_key now mid (Some born) is u closes = record {
       written = closes_row (n + 1) changes k done done _ _ new_key u.written born is x.row x.there x.is through.apart.once (histories_in mid c) v.close new_key;
       others = λ d other. same_then _ _ _ (u.others d other) (v.others d other);
+      passages = λ d. same_then _ _ _ (u.passages d) (v.passages d);
       rows = v.rows;
     }
       where
@@ -154,11 +158,13 @@ module _ (c n : ℕ) (room : n + 1 < never) (changes : Changes) (old : List Row)
     add_key mid new None is u same = subst (IsUnderWay c (n + 1) changes (k ∷ done) (k ∷ done) old) (sym same) (record {
       written = adds_none (n + 1) changes k (k ∷ done) done _ _ u.written is;
       others = u.others;
+      passages = u.passages;
       rows = u.rows;
     })
     add_key mid new (Some r) is u adds = record {
       written = adds_row (n + 1) changes k (k ∷ done) done _ _ u.written r (histories_in new c) is its_gain;
       others = λ d other. same_then _ _ _ (u.others d other) (v.others d other);
+      passages = λ d. same_then _ _ _ (u.passages d) (v.passages d);
       rows = v.rows;
     }
       where

@@ -11,13 +11,13 @@ use Rattle.sqlite_rules.specs.Lists.{Has}
 use Rattle.sqlite_trees.specs.declared.store.Store.{Ghosts}
 use Rattle.gaz_records.specs.declared.key.Key.{Key}
 use Rattle.gaz_overlay.specs.Changes.{Changes as Made}
-use Rattle.gaz_overlay.specs.Writings.{writing_at}
+use Rattle.gaz_overlay.specs.Writings.{passage_at, writing_at}
 use Rattle.gaz_sql_facts.specs.Changes.{AreTreesOf, Changes}
 use Rattle.gaz_tables.proofs.Staying.{stays}
 use Rattle.gaz_tables.proofs.Steps.{clean_before}
 use Rattle.gaz_tables.specs.Schema.{versions}
 use Rattle.gaz_tables.specs.Stores.{HasTables, StaysInside}
-use Rattle.gaz_kept.specs.Keeping.{KeepsVolume, WritesKey, WritesKeys, WritesVersions, WritesVolume}
+use Rattle.gaz_kept.specs.Keeping.{KeepsVolume, WritesKey, WritesKeys, WritesNumber, WritesNumbers, WritesVersions, WritesVolume}
 
 abbrev pub Becomes : Type 1
 Becomes = List Row → List Row → Type 0
@@ -61,6 +61,12 @@ pub one_more : (c volume : ℕ) (changes : Made) (keys : List Key) (k : Key) (ol
     → WritesKeys c volume changes keys old mid → WritesKey c volume k (writing_at changes k) mid new → WritesKeys c volume changes (keys ++ k ∷ []) old new
 one_more c volume changes [] k old mid new same w = (new, subst (λ l. WritesKey c volume k (writing_at changes k) l new) same w, refl)
 one_more c volume changes (q ∷ keys) k old mid new w one = (w.0, w.1, one_more c volume changes keys k w.0 mid new w.2 one)
+
+-- one number more is written
+pub number_more : (c volume : ℕ) (changes : Made) (numbers : List ℕ) (k : ℕ) (old mid new : List Row)
+    → WritesNumbers c volume changes numbers old mid → WritesNumber c volume k (passage_at changes k) mid new → WritesNumbers c volume changes (numbers ++ k ∷ []) old new
+number_more c volume changes [] k old mid new same w = (new, subst (λ l. WritesNumber c volume k (passage_at changes k) l new) same w, refl)
+number_more c volume changes (q ∷ numbers) k old mid new w one = (w.0, w.1, number_more c volume changes numbers k w.0 mid new w.2 one)
 
 -- ---- a transaction of its own
 

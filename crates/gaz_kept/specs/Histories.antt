@@ -15,7 +15,7 @@ use Rattle.gaz_overlay.specs.Rows.{HistoryRow, view_after}
 use Rattle.gaz_sql_facts.specs.Changes.{IsAdded}
 use Rattle.gaz_tables.specs.Versions.{Closes}
 use Rattle.gaz_kept.specs.Kept.{AreInTurn, IsVersion}
-use Rattle.gaz_kept.specs.Versions.{histories_in, living, values_of}
+use Rattle.gaz_kept.specs.Versions.{histories_in, living, passages_in, values_of}
 
 -- the key was used, and nothing stands there that didn't
 abbrev pub with_use : View → Key → View
@@ -23,16 +23,16 @@ with_use v k = record v { used = set.insert v.used k }
 
 -- ---- histories by their rows
 
--- the same rows, in whatever order and however often each
-pub record AreSame (old new : List HistoryRow) : Type 0 where
-  pub only : (r : HistoryRow) → Has new r → Has old r
-  pub kept : (r : HistoryRow) → Has old r → Has new r
+-- the same rows, of items or of passages, in whatever order and however often each
+pub record AreSame {X : Type 0} (old new : List X) : Type 0 where
+  pub only : (r : X) → Has new r → Has old r
+  pub kept : (r : X) → Has old r → Has new r
 
 -- these rows and one more
-pub record Gain (h : HistoryRow) (old new : List HistoryRow) : Type 0 where
-  pub only : (r : HistoryRow) → Has new r → (r ≡ h) ⊎ Has old r
+pub record Gain {X : Type 0} (h : X) (old new : List X) : Type 0 where
+  pub only : (r : X) → Has new r → (r ≡ h) ⊎ Has old r
   pub there : Has new h
-  pub kept : (r : HistoryRow) → Has old r → Has new r
+  pub kept : (r : X) → Has old r → Has new r
 
 abbrev pub gone_with : ℕ → HistoryRow → HistoryRow
 gone_with volume h = record h { gone = volume }
@@ -104,16 +104,22 @@ pub record HistoriesChange : Type 0 where
 
 -- ---- what a statement makes of the histories
 
+-- what became of each custodian's numbers is as it was
+abbrev pub SamePassages : List Row → List Row → Type 0
+SamePassages old new = (c : ℕ) → AreSame (passages_in old c) (passages_in new c)
+
 -- a row comes to those of its custodian, and no other custodian's rows change
 pub record AddsVersion (c : ℕ) (h : HistoryRow) (old new : List Row) : Type 0 where
   pub gain : Gain h (histories_in old c) (histories_in new c)
   pub others : (d : ℕ) → d ≢ c → AreSame (histories_in old d) (histories_in new d)
+  pub passages : SamePassages old new
   pub rows : (r : Row) → Has new r → IsVersion r
 
 -- a row of its custodian's is gone with a volume, and no other custodian's rows change
 pub record ClosesVersion (c volume : ℕ) (h : HistoryRow) (old new : List Row) : Type 0 where
   pub close : Close h volume (histories_in old c) (histories_in new c)
   pub others : (d : ℕ) → d ≢ c → AreSame (histories_in old d) (histories_in new d)
+  pub passages : SamePassages old new
   pub rows : (r : Row) → Has new r → IsVersion r
 
 abbrev pub AreVersions : List Row → Type 0

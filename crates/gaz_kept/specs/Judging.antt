@@ -7,14 +7,14 @@ use Rattle.sqlite_rules.specs.Lists.{Has}
 use Rattle.gaz_views.specs.declared.verdict.Verdict.{Verdict}
 use Rattle.gaz_keeper.specs.Board.{adds, reached, verdict_on, view_after}
 use Rattle.gaz_keeper.specs.Received.{with_file}
-use Rattle.gaz_overlay.specs.Rows.{HistoryRow, never}
-use Rattle.gaz_overlay.specs.Rows as history
+use Rattle.gaz_overlay.specs.Passages.{PassageRow}
+use Rattle.gaz_overlay.specs.Rows.{HistoryRow, never, view_of_rows}
 use Rattle.gaz_sql_facts.specs.Changes.{IsAdded, IsChanged}
 use Rattle.gaz_tables.specs.Receiveds.{IsVolume, judged, unjudged}
 use Rattle.gaz_kept.specs.Contents.{board_in}
 use Rattle.gaz_kept.specs.Files.{custodian_in, files_in, judged_volumes, reached_in, verdict_of, verdicts_in, volume_in}
-use Rattle.gaz_kept.specs.Kept.{AreFirst, AreThrough, IsFile}
-use Rattle.gaz_kept.specs.Versions.{histories_in, view_in}
+use Rattle.gaz_kept.specs.Kept.{AreFirst, ArePassages, AreThrough, IsFile}
+use Rattle.gaz_kept.specs.Versions.{histories_in, passages_in, view_in}
 
 -- two rows of one volume
 abbrev pub AreOfVolume : Row → Row → Type 0
@@ -72,12 +72,16 @@ pub record FilesChange : Type 0 where
 abbrev pub AreBornLater : List HistoryRow → Type 0
 AreBornLater rows = (r : HistoryRow) → Has rows r → 1 ≤ r.born
 
+abbrev pub ArePassedLater : List PassageRow → Type 0
+ArePassedLater rows = (p : PassageRow) → Has rows p → 1 ≤ p.born
+
 -- what is read on the board is what the rows say
 pub record BoardReads (files rows : List Row) (c : ℕ) : Type 0 where
   pub reached : reached (board_in files rows) c ≡ reached_in files c
   pub verdict : AreFirst files c → (volume : ℕ)
       → verdict_on (board_in files rows) c volume ≡ finite.get (judged_volumes files c) volume
-  pub view : AreBornLater (histories_in rows c) → (t : ℕ) → t ≤ reached_in files c
+  pub view : AreBornLater (histories_in rows c) → ArePassedLater (passages_in rows c)
+      → (t : ℕ) → t ≤ reached_in files c
       → view_after (board_in files rows) c t ≡ view_in rows c t
 
 -- where a custodian has one more verdict and its past views stay, the board has one more judgement
@@ -92,8 +96,9 @@ BoardAdds = (files new_files rows new_rows : List Row) (c : ℕ) (v : Verdict)
 
 -- a volume that changes no row leaves the view as it was
 abbrev pub StaysNext : Type 0
-StaysNext = (n : ℕ) (rows : List HistoryRow) → n + 1 < never → AreThrough n rows
-    → history.view_after rows (n + 1) ≡ history.view_after rows n
+StaysNext = (n : ℕ) (rows : List HistoryRow) (passages : List PassageRow) → n + 1 < never
+    → AreThrough n rows → ArePassages n passages
+    → view_of_rows rows passages (n + 1) ≡ view_of_rows rows passages n
 
 pub record BoardChanges : Type 0 where
   pub reads : (files rows : List Row) (c : ℕ) → BoardReads files rows c

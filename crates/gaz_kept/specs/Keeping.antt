@@ -1,5 +1,5 @@
 -- What is written when a judgement is kept, and what the tables stand for then.
-use Rattle.std.specs.Prelude.{◌≡◌, true, ℕ, if◌then◌else◌, List, [], ◌∷◌, Option, Some, None, Result, OnOk}
+use Rattle.std.specs.Prelude.{◌≡◌, ◌==◌, true, ℕ, pos, if◌then◌else◌, List, [], ◌∷◌, Option, Some, None, Result, OnOk}
 use Rattle.std.specs.FinMap as finite
 use Rattle.std.specs.String.{string_bytes}
 use Rattle.sqlite.specs.Effect.{Database}
@@ -8,19 +8,25 @@ use Rattle.sqlite.specs.Order.{Row}
 use Rattle.sqlite.specs.State.{State, HasCleanDisk, Survives}
 use Rattle.sqlite.specs.declared.error.Error.{Error}
 use Rattle.sqlite_trees.specs.declared.store.Store.{Ghosts}
+use Rattle.gaz_records.specs.Blpus.{is_uprn}
 use Rattle.gaz_records.specs.Items.{is_item}
 use Rattle.gaz_records.specs.Kinds.{number_of}
 use Rattle.gaz_records.specs.declared.item.Item.{Item}
 use Rattle.gaz_records.specs.declared.key.Key.{Key}
+use Rattle.gaz_records.specs.declared.key.Key.TheVariants as key
 use Rattle.gaz_views.specs.View.{View, empty_view}
 use Rattle.gaz_views.specs.declared.verdict.Verdict.TheVariants as verdict
+use Rattle.gaz_views.specs.declared.custody.Custody.{Custody}
+use Rattle.gaz_cells.specs.Columns.{CellsValue}
+use Rattle.gaz_cells.specs.Custody.{custody_kind, is_custody}
 use Rattle.gaz_cells.specs.Ids.{id_of, kind_in}
 use Rattle.gaz_keeper.specs.Board.{Judgement}
 use Rattle.gaz_keeper.specs.Keeper.{IsAtHand, with_judgement}
 use Rattle.gaz_overlay.specs.Changes.{Changes}
 use Rattle.gaz_overlay.specs.Over.{Make}
 use Rattle.gaz_overlay.specs.Rows.{AreTold, never}
-use Rattle.gaz_overlay.specs.Writings.{writing_at}
+use Rattle.gaz_overlay.specs.Writings.{passage_at, writing_at}
+use Rattle.gaz_overlay.specs.declared.passage.Passage.{Passage}
 use Rattle.gaz_overlay.specs.declared.touch.NewRow.{NewRow}
 use Rattle.gaz_overlay.specs.declared.touch.Writing.{Writing}
 use Rattle.gaz_sql_facts.specs.Changes as table
@@ -31,8 +37,9 @@ use Rattle.gaz_tables.specs.Versions.{Closes, version_values}
 use Rattle.gaz_kept.specs.Contents.{content_in}
 use Rattle.gaz_kept.specs.Kept.{IsKept}
 use Rattle.gaz_kept.specs.LastViews.{last_in}
+use Rattle.gaz_kept.specs.NewestPassages.{HasPassage}
 use Rattle.gaz_kept.specs.Stands.{Stands, next_in}
-use Rattle.gaz_kept.specs.Versions.{histories_in, values_of}
+use Rattle.gaz_kept.specs.Versions.{histories_in, passage_values, passages_in, values_of}
 use Rattle.gaz_kept.specs.declared.row_cells.RowCells.{RowCells}
 
 -- ---- what is written
@@ -62,18 +69,55 @@ WritesKeys c volume changes (k ∷ keys) old new = (between : List Row)
     × WritesKey c volume k (writing_at changes k) old between
     × WritesKeys c volume changes keys between new
 
--- the rows once each touched key is written
-abbrev pub WritesAll : ℕ → ℕ → Changes → List Row → List Row → Type 0
-WritesAll c volume changes old new =
-    WritesKeys c volume changes (finite.keys changes.touched) old new
+-- a number's passage that was born in a volume is gone with this one
+abbrev pub EndsRow : ℕ → ℕ → ℕ → Option ℕ → List Row → List Row → Type 0
+EndsRow c volume uprn None old new = new ≡ old
+EndsRow c volume uprn (Some born) old new =
+    Closes c custody_kind (id_of (key.Blpu uprn)) born volume old new
 
--- each touched key is written, and the volume is marked applied
+-- what became of a number is born in this volume, and current
+pub record AddsPassage (c volume uprn : ℕ) (custody : Custody) (old new : List Row)
+    : Type 0 where
+  pub number : is_uprn uprn ≡ true
+  pub such : is_custody custody ≡ true
+  pub row : AddsRow (passage_values c volume never uprn custody) old new
+
+-- the rows once a number that was passed on is written
+pub record WritesPassage (c volume uprn : ℕ) (p : Passage) (old new : List Row) : Type 0 where
+  pub between : List Row
+  pub ends : EndsRow c volume uprn p.closes old between
+  pub adds : AddsPassage c volume uprn p.custody between new
+
+abbrev pub WritesNumber : ℕ → ℕ → ℕ → Option Passage → List Row → List Row → Type 0
+WritesNumber c volume uprn None old new = new ≡ old
+WritesNumber c volume uprn (Some p) old new = WritesPassage c volume uprn p old new
+
+-- the rows once these numbers are written in turn
+abbrev pub WritesNumbers : ℕ → ℕ → Changes → List ℕ → List Row → List Row → Type 0
+WritesNumbers c volume changes [] old new = new ≡ old
+WritesNumbers c volume changes (n ∷ numbers) old new = (between : List Row)
+    × WritesNumber c volume n (passage_at changes n) old between
+    × WritesNumbers c volume changes numbers between new
+
+-- the rows once each touched key is written, and then each number that was passed on
+abbrev pub WritesAll : ℕ → ℕ → Changes → List Row → List Row → Type 0
+WritesAll c volume changes old new = (between : List Row)
+    × WritesKeys c volume changes (finite.keys changes.touched) old between
+    × WritesNumbers c volume changes (finite.keys changes.passed) between new
+
+-- each of them is written, and the volume is marked applied
 pub record KeepsVolume (c volume : ℕ) (changes : Changes) (old new : Database) : Type 0 where
   pub between : Database
   pub rows : table.Changes versions (WritesAll c volume changes) old between
   pub mark : table.Changes receiveds (Applies c volume) between new
 
 -- ---- what it comes to
+
+-- the current passages of numbers are those that were told when they were passed on
+abbrev pub AreToldPassages : Changes → List Row → ℕ → Type 0
+AreToldPassages changes rows c = (uprn volume : ℕ)
+    → finite.get changes.passed uprn ≡ Some (Some volume)
+    → HasPassage (passages_in rows c) uprn volume
 
 -- a store's tables, and beside them changes that make a working view of a custodian's last, which
 -- is to be that of its next volume
@@ -84,6 +128,7 @@ pub record IsToKeep (db : Database) (c volume : ℕ) (changes : Changes)
   pub at_hand : IsAtHand (content_in db.trees empty_view) c
   pub made : Make (last_in db c) changes working
   pub told : AreTold changes (histories_in (db.trees versions) c)
+  pub passed : AreToldPassages changes (db.trees versions) c
 
 -- the board has one more judgement of the custodian: applied, with this view
 abbrev pub Applied : ℕ → View → Database → Database → Type 0
@@ -102,12 +147,23 @@ KeepStands = (c volume : ℕ) (changes : Changes) (working : View) (old new : Da
 -- the values of a row of a custodian's, with these cells
 abbrev pub row_values : ℕ → ℕ → ℕ → RowCells → Row
 row_values c born gone cells = version_values c cells.kind (string_bytes cells.id) cells.blpu
-    cells.street cells.lang cells.live born gone (string_bytes cells.body) 0
+    cells.street cells.lang cells.live born gone (string_bytes cells.body) cells.hop
+
+-- they are these, with a hop
+abbrev pub HasCells : CellsValue → ℕ → RowCells → Type 0
+HasCells these hop cells = (c born gone : ℕ) → row_values c born gone cells
+    ≡ version_values c these.kind these.id (pos these.links.blpu) these.links.street
+    these.links.lang (these.links.live == 1) born gone these.body hop
 
 -- they are an item's
 abbrev pub AreCellsOf : Item → RowCells → Type 0
 AreCellsOf x cells =
     (c born gone : ℕ) → row_values c born gone cells ≡ values_of c born gone x
+
+-- they are those of what became of a number
+abbrev pub ArePassageCells : ℕ → Custody → RowCells → Type 0
+ArePassageCells uprn custody cells =
+    (c born gone : ℕ) → row_values c born gone cells ≡ passage_values c born gone uprn custody
 
 -- ---- a call on a connection, whose state `g` shows
 

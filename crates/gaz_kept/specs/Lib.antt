@@ -7,10 +7,14 @@ pub mod Newest
 pub mod LastViews
 pub mod Addresses
 pub mod Histories
+pub mod Passages
+pub mod NewestPassages
 pub mod Judging
 pub mod Stands
 pub mod Keeping
 pub mod Examples
+pub mod PassageExamples
+pub mod Refusals
 pub mod Numbered
 pub mod Opening
 pub mod OpeningFirst

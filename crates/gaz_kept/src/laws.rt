@@ -5,6 +5,8 @@ ghost use Rattle.gaz_kept.specs.Judging.{BoardChanges, FilesChange};
 ghost use Rattle.gaz_kept.specs.Keeping.{KeepStands};
 ghost use Rattle.gaz_kept.specs.Migrated.{MigrationStands};
 ghost use Rattle.gaz_kept.specs.Opening.{CreateOpens};
+ghost use Rattle.gaz_kept.specs.PassageExamples.{WorkedPassages};
+ghost use Rattle.gaz_kept.specs.Passages.{PassagesChange};
 ghost use Rattle.gaz_kept.specs.Rewriting.{RewritesStand};
 ghost use Rattle.gaz_kept.specs.Stands.{TablesStand};
 ghost use Rattle.gaz_kept.specs.WorkedMigrated.{WorkedMigrated};
@@ -30,6 +32,17 @@ pub fn histories_change()
 /// other custodian's change.
 pub fn statements_change()
     ensures { StatementsChange }
+{}
+
+/// What became of a number is what its row of kind 92 says that was born last. An INSERT brings one,
+/// an UPDATE of `gone` ends one; no other custodian's rows and no item's change by that.
+pub fn passages_change()
+    ensures { PassagesChange }
+{}
+
+/// What rows of kind 92 say, on worked examples.
+pub fn worked_passages()
+    ensures { WorkedPassages }
 {}
 
 /// An INSERT into `received` brings a file, and an UPDATE of its state the custodian's next

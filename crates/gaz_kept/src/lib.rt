@@ -4,12 +4,15 @@
 pub mod addresses;
 pub mod decoding;
 pub mod keeping;
+mod keeping_keys;
+mod keeping_passages;
 mod key_order;
 pub mod laws;
 pub mod migrating;
 mod naming;
 pub mod newest;
 pub mod opening;
+pub mod passages;
 pub mod probing;
 mod refusal;
 pub mod rewriting;

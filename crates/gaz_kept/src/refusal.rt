@@ -35,9 +35,10 @@ impl From<AllocError> for Unread {
 }
 
 impl From<SqlError> for Unread {
-    ghost use Rattle.std.specs.Prelude.{⊤};
+    ghost use Rattle.std.specs.Prelude.{◌≡◌};
+    ghost use Rattle.gaz_kept.specs.Refusals.{unread_of};
 
-    ghost from_gives = { λ _ _. ⊤ };
+    ghost from_gives = { λ error e. e ≡ unread_of error };
 
     fn from(error: SqlError) -> Unread {
         match error {

@@ -1,15 +1,17 @@
-//! The cells of an item's row, as an INSERT takes them.
+//! The cells of an item's row, or of a passage's, as an INSERT takes them.
 ghost use Rattle.std.specs.Prelude.{◌≡◌, ◌<◌, ◌^◌, pos, IfOk, Ok};
 ghost use Rattle.std.specs.String.{string_bytes};
-ghost use Rattle.gaz_kept.specs.Keeping.{AreCellsOf};
+ghost use Rattle.gaz_kept.specs.Keeping.{AreCellsOf, ArePassageCells, HasCells};
 
 use crate::decoding::RowFault;
-use gaz_cells::Cells;
+use gaz_cells::{Cells, CustodyCells};
+use gaz_ids::Uprn;
 use gaz_records::Item;
+use gaz_views::Custody;
 use sqlite::{Error, ErrorCode};
 use std::alloc::Global;
 
-// The cells of an item's row, as the statement takes them.
+// The cells of a row, as the statement takes them.
 #[derive(Drop)]
 pub(crate) struct RowCells {
     pub(crate) kind: u32,
@@ -19,6 +21,7 @@ pub(crate) struct RowCells {
     pub(crate) lang: u32,
     pub(crate) live: bool,
     pub(crate) body: String,
+    pub(crate) hop: u32,
 }
 
 // A number as the tables take it, which each of a row's is.
@@ -65,11 +68,10 @@ pub(crate) fn error_of(fault: RowFault) -> Error
     }
 }
 
-// The cells of an item's row.
-pub(crate) fn cells_of(alloc: Global, item: &Item) -> Result<RowCells, Error>
-    ensures { IfOk result (AreCellsOf item.now) }
+// These cells, with a hop.
+fn with_hop(cells: Cells, hop: u64) -> Result<RowCells, Error>
+    ensures { IfOk result (HasCells cells hop) }
 {
-    let cells = Cells::of(alloc, item)?;
     let Cells {
         kind,
         id,
@@ -84,5 +86,23 @@ pub(crate) fn cells_of(alloc: Global, item: &Item) -> Result<RowCells, Error>
         lang: u32::from(links.lang),
         live: links.live == 1,
         body: as_text(body)?,
+        hop: narrow(hop)?,
     })
+}
+
+// The cells of an item's row.
+pub(crate) fn cells_of(alloc: Global, item: &Item) -> Result<RowCells, Error>
+    ensures { IfOk result (AreCellsOf item.now) }
+{
+    let cells = Cells::of(alloc, item)?;
+    with_hop(cells, 0)
+}
+
+// The cells of the row that says what became of a number.
+pub(crate) fn passage_cells(alloc: Global, uprn: Uprn, custody: &Custody) -> Result<RowCells, Error>
+    ensures { IfOk result (ArePassageCells uprn custody.now) }
+{
+    let cells = CustodyCells::of(alloc, uprn, custody)?;
+    let CustodyCells { cells, hop } = cells;
+    with_hop(cells, hop)
 }

@@ -1,17 +1,16 @@
 -- The views of a gazetteer through its volumes.
-use Rattle.std.proofs.Common.{◌≡◌, ◌≤◌, ◌<◌, ◌&&◌, ◌||◌, ℕ, Bool, true, false, cond, T, List, [], ◌∷◌, map, refl, sym, ap, subst, ◌∙◌, unwrap_or}
-use Rattle.std.specs.Prelude.{Option, Some, None, filter, option_map}
+use Rattle.std.proofs.Common.{◌≡◌, ◌≤◌, ◌<◌, ◌||◌, ℕ, Bool, true, false, cond, T, List, [], ◌∷◌, map, refl, sym, ap, subst, ◌∙◌, unwrap_or}
+use Rattle.std.specs.Prelude.{Some, None, filter}
 use Rattle.std.specs.Cmp.{eq_by_cmp_equiv}
 use Rattle.std.specs.FinMap as finite
 use Rattle.std.specs.FinMap.{find, get-entries, entries_sorted, is_sorted}
 use Rattle.std.specs.FinMap.Entries.{below_all}
 use Rattle.std.specs.FinSet as set
-use Rattle.std.specs.List.{All, AllByRecursion, cons_option, list_any}
+use Rattle.std.specs.List.{All, AllByRecursion, list_any}
 use Rattle.std.specs.List.Sorted.{IsStrictlySortedBy}
 use Rattle.std.specs.Map.{keys_of}
-use Rattle.std.specs.Ordering.{eq_by_cmp, is_eq, is_lt}
-use Rattle.std.specs.declared.cmp.Ordering.{Ordering}
-use Rattle.std.specs.declared.cmp.Ordering.TheVariants.{Less, Equal, Greater}
+use Rattle.std.specs.Ordering.{eq_by_cmp, is_lt}
+use Rattle.std.specs.declared.cmp.Ordering.TheVariants.{Less}
 use Rattle.gaz_histories.specs.Histories.{standing_at, until, was_used_at}
 use Rattle.gaz_records.proofs.KeyOrder.{keys_exact, keys_total}
 use Rattle.gaz_records.specs.Keys.{key_cmp, key_of}
@@ -20,6 +19,7 @@ use Rattle.gaz_records.specs.declared.key.Key.{Key}
 use Rattle.gaz_views.proofs.SameKeys.{same_key}
 use Rattle.gaz_views.specs.View.{View, empty_view, with_item, without_key}
 use Rattle.gaz_views.specs.Words.{entries}
+use Rattle.gaz_ledger.proofs.RowsAt.{below_none, both_hold, is_less, same_rows}
 use Rattle.gaz_ledger.proofs.Versions.{last, none_at_first, no_version, settled, some_version, used_by, used_where_item}
 use Rattle.gaz_ledger.specs.KeyHistories.{ChangesAt, ItemVersion, ItemVersions, KeyHistories, rows_at, used_at, versions_at, view_at}
 
@@ -35,35 +35,6 @@ same = eq_by_cmp key_cmp
 
 -- ---- entries in the order of keys
 
-both_hold : (a b : Bool) → T (a && b) → T a × T b
-both_hold true b h = (tt, h)
-both_hold false b h = absurd h
-
-is_less : (o : Ordering) → T (is_lt o) → o ≡ Less
-is_less Less h = refl
-is_less Equal h = absurd h
-is_less Greater h = absurd h
-
--- a key that is below all of them is none of them
-below_none : (k : Key) (es : Rows) → T (below_all key_cmp k es) → find key_cmp k es ≡ None
-below_none k [] h = refl
-below_none k (e ∷ es) h =
-    let two = both_hold _ _ h in
-    ap (λ r. cond (is_eq r) (Some e.1) (find key_cmp k es)) (is_less _ two.0) ∙ below_none k es two.1
-
-same_rows : (es : Rows) → T (is_sorted key_cmp es) → (v : ℕ) (q : Key) → find key_cmp q (rows_at es v) ≡ standing_at (versions_in es q) v
-same_rows [] h v q = refl
-same_rows (e ∷ es) h v q = by_item (same_rows es (both_hold (below_all key_cmp e.0 es) (is_sorted key_cmp es) h).1 v q) (standing_at e.1 v) refl (same q e.0) refl
-  where
-    two : T (below_all key_cmp e.0 es) × T (is_sorted key_cmp es)
-    two = both_hold _ _ h
-
-    by_item : find key_cmp q (rows_at es v) ≡ standing_at (versions_in es q) v → (o : Option Item) → standing_at e.1 v ≡ o → (b : Bool) → same q e.0 ≡ b → find key_cmp q (cons_option (option_map (λ i. (e.0, i)) o) (rows_at es v)) ≡ standing_at (unwrap_or (cond b (Some e.1) (find key_cmp q es)) []) v
-    by_item behind None is true at = behind ∙ ap (λ k. standing_at (versions_in es k) v) (same_key q e.0 at) ∙ ap (λ o. standing_at (unwrap_or o []) v) (below_none e.0 es two.0) ∙ sym is
-    by_item behind None is false at = behind
-    by_item behind (Some i) is true at = ap (λ b. cond b (Some i) (find key_cmp q (rows_at es v))) at ∙ sym is
-    by_item behind (Some i) is false at = ap (λ b. cond b (Some i) (find key_cmp q (rows_at es v))) at ∙ behind
-
 same_used : (es : Rows) → T (is_sorted key_cmp es) → (v : ℕ) (q : Key) → list_any (same q) (used_at es v) ≡ was_used_at (versions_in es q) v
 same_used [] h v q = refl
 same_used (e ∷ es) h v q = by_test (same_used es (both_hold (below_all key_cmp e.0 es) (is_sorted key_cmp es) h).1 v q) (was_used_at e.1 v) refl (same q e.0) refl
@@ -77,7 +48,7 @@ same_used (e ∷ es) h v q = by_test (same_used es (both_hold (below_all key_cmp
     by_test : list_any (same q) (used_at es v) ≡ was_used_at (versions_in es q) v → (u : Bool) → was_used_at e.1 v ≡ u → (b : Bool) → same q e.0 ≡ b → list_any (same q) (map (λ e. e.0) (cond u (e ∷ kept) kept)) ≡ was_used_at (unwrap_or (cond b (Some e.1) (find key_cmp q es)) []) v
     by_test behind true is true at = ap (λ b. b || list_any (same q) (used_at es v)) at ∙ sym is
     by_test behind true is false at = ap (λ b. b || list_any (same q) (used_at es v)) at ∙ behind
-    by_test behind false is true at = behind ∙ ap (λ k. was_used_at (versions_in es k) v) (same_key q e.0 at) ∙ ap (λ o. was_used_at (unwrap_or o []) v) (below_none e.0 es two.0) ∙ sym is
+    by_test behind false is true at = behind ∙ ap (λ k. was_used_at (versions_in es k) v) (same_key q e.0 at) ∙ ap (λ o. was_used_at (unwrap_or o []) v) (below_none key_cmp same_key e.0 es two.0) ∙ sym is
     by_test behind false is false at = behind
 
 -- the keys of a view's rows ascend
@@ -98,7 +69,7 @@ view_ascends v = ascends (entries v) (entries_sorted v.items)
 pub get_at : (g : KeyHistories) (v : ℕ) (k : Key) → finite.get (view_at g v).items k ≡ standing_at (versions_at g k) v
 unfolding view_at
 get_at g v k =
-    finite.get-from_entries keys_total (rows_at (finite.entries g) v) k ∙ same_rows (finite.entries g) (entries_sorted g) v k ∙ ap (λ o. standing_at (unwrap_or o []) v) (sym (get-entries g k))
+    finite.get-from_entries keys_total (rows_at (finite.entries g) v) k ∙ same_rows key_cmp same_key (finite.entries g) (entries_sorted g) v k ∙ ap (λ o. standing_at (unwrap_or o []) v) (sym (get-entries g k))
 
 pub contains_at : (g : KeyHistories) (v : ℕ) (k : Key) → set.contains (view_at g v).used k ≡ was_used_at (versions_at g k) v
 unfolding view_at
@@ -139,8 +110,8 @@ first_view g n all = same_views (view_at g 0) empty_view (none_passed g 0)
     (λ k. get_at g 0 k ∙ ap last (none_at_first (versions_at g k) n (all k)) ∙ sym (finite.get-empty key_cmp k))
     (λ k. contains_at g 0 k ∙ used_by (versions_at g k) 0 ∙ nothing_used (ap some_version (none_at_first (versions_at g k) n (all k))) ∙ sym (set.contains-empty key_cmp k))
   where
-    nothing_used : {b : Bool} → b ≡ some_version [] → b ≡ false
-    nothing_used e = e ∙ no_version
+    nothing_used : {b : Bool} → b ≡ some_version {T = Item} [] → b ≡ false
+    nothing_used e = e ∙ no_version Item
 
 -- ---- where the versions of one key change
 
@@ -164,7 +135,7 @@ module _ (g h : KeyHistories) (key : Key) (vs : ItemVersions) (change : ChangesA
   pub past_view : (v : ℕ) → until vs v ≡ until (versions_at g key) v → view_at h v ≡ view_at g v
   past_view v same_here = same_view h g v v (alike_at (λ ws. until ws v) same_here)
 
-  item_now : (v : ℕ) (k : Key) → standing_at (versions_at h k) v ≡ cond (eq_by_cmp key_cmp k key) (standing_at vs v) (standing_at (versions_at g k) v)
+  pub item_now : (v : ℕ) (k : Key) → standing_at (versions_at h k) v ≡ cond (eq_by_cmp key_cmp k key) (standing_at vs v) (standing_at (versions_at g k) v)
   item_now v k = ap (λ ws. standing_at ws v) (change k) ∙ of_cond (eq_by_cmp key_cmp key k) ∙ ap (λ b. cond b (standing_at vs v) (standing_at (versions_at g k) v)) ((eq_by_cmp_equiv keys_total).symm key k)
     where
       of_cond : (b : Bool) → standing_at (cond b vs (versions_at g k)) v ≡ cond b (standing_at vs v) (standing_at (versions_at g k) v)

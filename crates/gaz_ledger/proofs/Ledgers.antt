@@ -1,5 +1,5 @@
 -- What goes on holding of a ledger where it changes.
-use Rattle.std.proofs.Common.{◌≡◌, ◌≤◌, ◌<◌, ◌+◌, ◌&&◌, ◌||◌, ℕ, Bool, true, false, not, cond, List, [], ◌∷◌, ◌++◌, length, refl, sym, ap, subst, ◌∙◌, arith, unwrap_or, inl, inr}
+use Rattle.std.proofs.Common.{◌≡◌, ◌≤◌, ◌<◌, ◌+◌, ◌&&◌, ℕ, Bool, true, false, not, cond, List, [], ◌∷◌, ◌++◌, length, refl, sym, ap, subst, ◌∙◌, arith, unwrap_or, inl, inr}
 use Rattle.std.specs.Prelude.{Option, Some, None}
 use Rattle.std.proofs.lemmas.Bool.{cases_lt}
 use Rattle.std.proofs.lemmas.List.Elements.{All-nil, All-weaker}
@@ -9,7 +9,7 @@ use Rattle.std.specs.FinMap.{get-entries}
 use Rattle.std.specs.FinSet as set
 use Rattle.std.specs.List.{All, list_any}
 use Rattle.std.specs.Option.{IfSome}
-use Rattle.std.specs.Ordering.{eq_by_cmp}
+use Rattle.std.specs.Ordering.{eq_by_cmp, nat_cmp}
 use Rattle.gaz_histories.specs.Histories.{before, standing_at, until, was_used_at}
 use Rattle.gaz_records.proofs.KeyOrder.{keys_total}
 use Rattle.gaz_records.specs.Keys.{key_cmp}
@@ -22,12 +22,15 @@ use Rattle.gaz_views.specs.Accounts.{Account, empty_account, view_in}
 use Rattle.gaz_views.specs.View.{View, empty_view}
 use Rattle.gaz_views.specs.Words.{entries}
 use Rattle.gaz_views.specs.declared.verdict.Verdict.{Verdict}
+use Rattle.gaz_ledger.proofs.Becoming.{AreWithin, nothing_passed, passed_after, same_custody}
 use Rattle.gaz_ledger.proofs.KeyHistories.{contains_at, get_at, get_now, holds_at, none_passed, past_view, same_views}
 use Rattle.gaz_ledger.proofs.Judgements.{IsWithin, later_view, view_in_at}
 use Rattle.gaz_ledger.proofs.Marked.{finds_with_more, still_finds}
+use Rattle.gaz_ledger.proofs.Touched.{none_of, none_there}
 use Rattle.gaz_ledger.proofs.Versions.{before_next, before_within, cut_within, item_set, last, set_within, until_before, until_set}
 use Rattle.gaz_ledger.specs.KeyHistories.{ChangesAt, ItemVersion, ItemVersions, KeyHistories, versions_at, view_at}
 use Rattle.gaz_ledger.specs.Indexes.{FindsAll, has_mark, is_under, marked_at, same_mark}
+use Rattle.gaz_ledger.specs.Custodies.{Custodies, custody_after, view_with}
 use Rattle.gaz_ledger.specs.Ledgers.{Finds, IsLedger, account_at}
 use Rattle.gaz_ledger.specs.declared.index.Index.{Index}
 use Rattle.gaz_ledger.specs.declared.index.Mark.{Mark}
@@ -92,26 +95,6 @@ finds_cut x g h key n change finds =
     finds_changed x g h key (before vs (n + 1)) n change (until_before vs (n + 1) n (omega arith)) finds (λ m. subst (Found x m key) (sym as_last) (found_at x (view_at g n) finds.last m key))
 
 -- ---- the whole
-
-none_of : (p : Key → Bool) (ks : List Key) (key : Key) → list_any p (ks ++ key ∷ []) ≡ false → (list_any p ks ≡ false) × (p key ≡ false)
-none_of p [] key e = (refl, both (p key) e)
-  where
-    both : (b : Bool) → (b || false) ≡ false → b ≡ false
-    both true e = e
-    both false e = refl
-none_of p (k ∷ ks) key e = let first = parts (p k) (list_any p (ks ++ key ∷ [])) e in let rest = none_of p ks key first.1 in ((λ i. first.0 i || rest.0 i), rest.1)
-  where
-    parts : (a b : Bool) → (a || b) ≡ false → (a ≡ false) × (b ≡ false)
-    parts true b e = cc
-    parts false b e = (refl, e)
-
-none_there : (p : Key → Bool) (ks : List Key) (key : Key) → list_any p ks ≡ false → p key ≡ false → list_any p (ks ++ key ∷ []) ≡ false
-none_there p [] key e f = ap (λ b. b || false) f
-none_there p (k ∷ ks) key e f = let first = parts (p k) (list_any p ks) e in λ i. first.0 i || none_there p ks key first.1 f i
-  where
-    parts : (a b : Bool) → (a || b) ≡ false → (a ≡ false) × (b ≡ false)
-    parts true b e = cc
-    parts false b e = (refl, e)
 
 turned : (key k : Key) → eq_by_cmp key_cmp k key ≡ false → eq_by_cmp key_cmp key k ≡ false
 turned key k e = (eq_by_cmp_equiv keys_total).symm key k ∙ e
@@ -184,20 +167,22 @@ finds_at n g x ks is v le = elim (cases_lt n v) [
   | inr h ↦ let same : n ≡ v = omega arith in subst (λ (m : ℕ). FindsAll x (entries (view_at g m))) same is.finds.last
 ]
 
-pub reached_of : (ds : List Verdict) (g : KeyHistories) (a : Account) → account_at ds g ≡ a → length ds ≡ length a.judged
-reached_of ds g a is = sym (count_judged ds (view_at g)) ∙ ap (λ (b : Account). length b.judged) is
+pub reached_of : (ds : List Verdict) (g : KeyHistories) (c : Custodies) (a : Account) → account_at ds g c ≡ a → length ds ≡ length a.judged
+reached_of ds g c a is = sym (count_judged ds (view_with g c)) ∙ ap (λ (b : Account). length b.judged) is
 
-pub finds_from : (ds : List Verdict) (g : KeyHistories) (x : Index) (ks : List Key) (a : Account) → IsLedger (length ds) g x ks → account_at ds g ≡ a → (v : ℕ) → length a.judged ≤ v → FindsAll x (entries (view_at g v))
-finds_from ds g x ks a ledger is v le = finds_at (length ds) g x ks ledger v (omega (arith, reached_of ds g a is))
+pub finds_from : (ds : List Verdict) (g : KeyHistories) (c : Custodies) (x : Index) (ks : List Key) (a : Account) → IsLedger (length ds) g x ks → account_at ds g c ≡ a → (v : ℕ) → length a.judged ≤ v → FindsAll x (entries (view_at g v))
+finds_from ds g c x ks a ledger is v le = finds_at (length ds) g x ks ledger v (omega (arith, reached_of ds g c a is))
 
 -- a view of an account is that of its gazetteer
-pub seen : (ds : List Verdict) (g : KeyHistories) (a : Account) → IsWithin (length ds) g → account_at ds g ≡ a → (v : ℕ) → view_at g v ≡ view_in a v
-seen ds g a within is v = sym (view_in_at ds g within v) ∙ ap (λ (b : Account). view_in b v) is
+pub seen : (ds : List Verdict) (g : KeyHistories) (c : Custodies) (a : Account) → AreWithin (length ds) g c → account_at ds g c ≡ a → (v : ℕ) → view_with g c v ≡ view_in a v
+seen ds g c a within is v = sym (view_in_at ds g c within v) ∙ ap (λ (b : Account). view_in b v) is
 
-pub account_new : account_at [] finite.empty ≡ empty_account
+pub account_new : account_at [] finite.empty finite.empty ≡ empty_account
 unfolding judgements empty_view
 account_new =
+    let passed : custody_after finite.empty 1 ≡ finite.empty = same_custody (custody_after finite.empty 1) finite.empty
+    (λ k. passed_after finite.empty 1 k ∙ ap (λ vs. standing_at vs 1) (nothing_passed k) ∙ sym (finite.get-empty nat_cmp k)) in
     let none : view_at finite.empty 1 ≡ empty_view = same_views (view_at finite.empty 1) empty_view (none_passed finite.empty 1)
     (λ k. get_at finite.empty 1 k ∙ ap (λ (vs : ItemVersions). standing_at vs 1) (nothing_there k) ∙ sym (finite.get-empty key_cmp k))
     (λ k. contains_at finite.empty 1 k ∙ ap (λ (vs : ItemVersions). was_used_at vs 1) (nothing_there k) ∙ sym (set.contains-empty key_cmp k)) in
-    λ i. record { judged = []; working = none i }
+    λ i. record { judged = []; working = record (none i) { custody = passed i } }

@@ -1,6 +1,9 @@
 pub mod Examples
 pub mod Versions
+pub mod RowsAt
+pub mod Touched
 pub mod KeyHistories
+pub mod Becoming
 pub mod Stored
 pub mod Judgements
 pub mod Marks
@@ -11,6 +14,10 @@ pub mod Passing
 pub mod Marked
 pub mod Known
 pub mod Ranges
+pub mod Tied
 pub mod Ledgers
 pub mod Closings
 pub mod Lives
+pub mod Passes
+pub mod Passages
+pub mod PassingExamples

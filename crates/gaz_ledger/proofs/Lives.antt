@@ -9,7 +9,7 @@ use Rattle.std.specs.FinMap.{get-entries}
 use Rattle.std.specs.FinSet as set
 use Rattle.std.specs.List.{All, list_any}
 use Rattle.std.specs.Option.{IfSome, option_map_or}
-use Rattle.std.specs.Ordering.{eq_by_cmp}
+use Rattle.std.specs.Ordering.{eq_by_cmp, nat_cmp}
 use Rattle.gaz_histories.specs.Histories.{IsOverBy, before, lived, standing_at, until, was_used_at, with_version}
 use Rattle.gaz_records.proofs.KeyOrder.{keys_total}
 use Rattle.gaz_records.specs.Keys.{key_cmp, key_of}
@@ -21,9 +21,11 @@ use Rattle.gaz_views.specs.Accounts.{Account, last_of, view_in}
 use Rattle.gaz_views.specs.Judgements.{views}
 use Rattle.gaz_views.specs.View.{View, empty_view, with_item, without_key}
 use Rattle.gaz_views.specs.Words.{entries}
+use Rattle.gaz_views.specs.declared.custody.Custody.{Custody}
 use Rattle.gaz_views.specs.declared.property.Property.{Property}
 use Rattle.gaz_views.specs.declared.verdict.Verdict.{Verdict}
-use Rattle.gaz_ledger.proofs.Judgements.{IsWithin, view_in_at}
+use Rattle.gaz_ledger.proofs.Becoming.{AreWithin}
+use Rattle.gaz_ledger.proofs.Judgements.{view_in_at}
 use Rattle.gaz_ledger.proofs.KeyHistories.{contains_at, get_at, get_now, holds_at, none_passed, past_view, put_view, same_views}
 use Rattle.gaz_ledger.proofs.Known.{marked_put, others_put, others_taken, still_so, unmarked_taken}
 use Rattle.gaz_ledger.proofs.Ledgers.{Found, More, finds_by, found_at, ledger_found, reached_of, seen}
@@ -31,6 +33,7 @@ use Rattle.gaz_ledger.proofs.Marked.{finds_with_more}
 use Rattle.gaz_ledger.proofs.Versions.{item_set, last, settled, some_version, until_set, used_by, used_set}
 use Rattle.gaz_ledger.specs.Changing.{IsOneOf, Pair, is_addressed_by, verdict_in}
 use Rattle.gaz_ledger.specs.Indexes.{FindsAll, has_mark, is_under, marked_at}
+use Rattle.gaz_ledger.specs.Custodies.{Custodies, custody_after, view_with}
 use Rattle.gaz_ledger.specs.KeyHistories.{ItemVersion, ItemVersions, KeyHistories, versions_at, view_at}
 use Rattle.gaz_ledger.specs.Ledgers.{Finds, IsLedger, account_at}
 use Rattle.gaz_ledger.specs.Lives.{IsFreeFrom, IsLifeWithin, LivesAt, Restores, is_gone_by, with_life}
@@ -178,28 +181,41 @@ finds_lived x y g h key n born gone i life more marks change finds =
 
 -- ---- the account
 
-pub account_lived : (ds : List Verdict) (g h : KeyHistories) (a : Account) (born : ℕ) (gone : Option ℕ) (i : Item) → IsWithin (length ds) g → IsWithin (length ds) h → account_at ds g ≡ a → IsLifeWithin (length a.judged) born gone
-    → LivesAt g h (key_of i) born gone i → Restores a (account_at ds h) born gone i
-account_lived ds g h a born gone i within after is life change =
+-- a life leaves what became of numbers
+kept_custody : (born : ℕ) (gone : Option ℕ) (i : Item) (t : ℕ) (v : View) (m : finite.FinMap nat_cmp Custody) → record (with_life born gone i t v) { custody = m } ≡ with_life born gone i t (record v { custody = m })
+kept_custody born gone i t v m = by_birth (nat_lt t born) (is_gone_by gone t)
+  where
+    by_birth : (b e : Bool) → record (cond b v (cond e (without_key (with_item v i) (key_of i)) (with_item v i))) { custody = m }
+        ≡ cond b (record v { custody = m }) (cond e (without_key (with_item (record v { custody = m }) i) (key_of i)) (with_item (record v { custody = m }) i))
+    by_birth true e = refl
+    by_birth false true = refl
+    by_birth false false = refl
+
+pub account_lived : (ds : List Verdict) (g h : KeyHistories) (c : Custodies) (a : Account) (born : ℕ) (gone : Option ℕ) (i : Item) → AreWithin (length ds) g c → AreWithin (length ds) h c → account_at ds g c ≡ a → IsLifeWithin (length a.judged) born gone
+    → LivesAt g h (key_of i) born gone i → Restores a (account_at ds h c) born gone i
+account_lived ds g h c a born gone i within after is life change =
     record {
-      reached = count_judged ds (view_at h) ∙ reached_of ds g a is;
-      verdicts = λ volume. ap (λ o. cond (volume == 0) None o) (verdict_at ds (view_at h) (volume - 1) ∙ sym (verdict_at ds (view_at g) (volume - 1))) ∙ ap (λ (b : Account). verdict_in b volume) is;
-      views = λ t. view_in_at ds h after t ∙ lived_view g h born gone i change (ends (length a.judged) born gone life.ended) t ∙ ap (with_life born gone i t) (seen ds g a within is t);
+      reached = count_judged ds (view_with h c) ∙ reached_of ds g c a is;
+      verdicts = λ volume. ap (λ o. cond (volume == 0) None o) (verdict_at ds (view_with h c) (volume - 1) ∙ sym (verdict_at ds (view_with g c) (volume - 1))) ∙ ap (λ (b : Account). verdict_in b volume) is;
+      views = λ t. view_in_at ds h c after t
+          ∙ ap (λ (w : View). record w { custody = custody_after c t }) (lived_view g h born gone i change (ends (length a.judged) born gone life.ended) t)
+          ∙ kept_custody born gone i t (view_at g t) (custody_after c t) ∙ ap (with_life born gone i t) (seen ds g c a within is t);
     }
 
 -- whether nothing stands at a key from a volume on
-pub free_over : (ds : List Verdict) (g : KeyHistories) (a : Account) (key : Key) (born : ℕ) → IsWithin (length ds) g → account_at ds g ≡ a → (IsOverBy (versions_at g key) born → IsFreeFrom a born key) × (IsFreeFrom a born key → IsOverBy (versions_at g key) born)
-free_over ds g a key born within is = (
-  (λ none t le. ap (λ (v : View). finite.get v.items key) (sym (seen ds g a within is t)) ∙ get_at g t key ∙ none t le),
-  (λ free t le. sym (get_at g t key) ∙ ap (λ (v : View). finite.get v.items key) (seen ds g a within is t) ∙ free t le),
+pub free_over : (ds : List Verdict) (g : KeyHistories) (c : Custodies) (a : Account) (key : Key) (born : ℕ) → AreWithin (length ds) g c → account_at ds g c ≡ a
+    → (IsOverBy (versions_at g key) born → IsFreeFrom a born key) × (IsFreeFrom a born key → IsOverBy (versions_at g key) born)
+free_over ds g c a key born within is = (
+  (λ none t le. ap (λ (v : View). finite.get v.items key) (sym (seen ds g c a within is t)) ∙ get_at g t key ∙ none t le),
+  (λ free t le. sym (get_at g t key) ∙ ap (λ (v : View). finite.get v.items key) (seen ds g c a within is t) ∙ free t le),
 )
 
 -- ---- what is known
 
-last_seen : (a : Account) → view_in a (length a.judged) ≡ last_of a
+pub last_seen : (a : Account) → view_in a (length a.judged) ≡ last_of a
 last_seen a = let there : nat_le (length a.judged) (length a.judged) ≡ true = grind (arith, nat_tests) in ap (λ b. cond b (last_of a) a.working) there
 
-working_seen : (a : Account) → view_in a (length a.judged + 1) ≡ a.working
+pub working_seen : (a : Account) → view_in a (length a.judged + 1) ≡ a.working
 working_seen a = let later : nat_le (length a.judged + 1) (length a.judged) ≡ false = grind (arith, nat_tests) in ap (λ b. cond b (unwrap_or (slice_get (views a.judged) (length a.judged + 1)) empty_view) a.working) later
 
 unmarked : (v : View) (key : Key) (m : Mark) → finite.get v.items key ≡ None → marked_at (entries v) m key ≡ false

@@ -53,8 +53,8 @@ HasTheKeysOf ks es =
 
 -- ---- the view after a volume
 
--- the keys at which an item stands, in order, each with its item
-abbrev pub rows_at : List (Key × ItemVersions) → ℕ → List (Key × Item)
+-- the keys at which something stands, in order, each with what stands there
+abbrev pub rows_at : {K T : Type 0} → List (K × Versions T) → ℕ → List (K × T)
 rows_at es volume = filter_map (λ e. option_map (λ i. (e.0, i)) (standing_at e.1 volume)) es
 
 -- the items of a kind among such rows that come after a key
@@ -71,6 +71,7 @@ item_of_kind kind es k volume =
 abbrev pub used_at : List (Key × ItemVersions) → ℕ → List Key
 used_at es volume = map (λ e. e.0) (filter (λ e. was_used_at e.1 volume) es)
 
+-- the items and the used keys; nothing is passed on in it
 unfoldable pub view_at : KeyHistories → ℕ → View
 view_at g volume =
     view_of (finite.from_entries (rows_at (finite.entries g) volume))

@@ -8,15 +8,16 @@ use Rattle.gaz_views.specs.Accounts.{Account}
 use Rattle.gaz_views.specs.Judgements.{judgements}
 use Rattle.gaz_views.specs.Words.{entries}
 use Rattle.gaz_views.specs.declared.verdict.Verdict.{Verdict}
+use Rattle.gaz_ledger.specs.Custodies.{Custodies, view_with}
 use Rattle.gaz_ledger.specs.KeyHistories.{KeyHistories, versions_at, view_at}
 use Rattle.gaz_ledger.specs.Indexes.{FindsAll}
 use Rattle.gaz_ledger.specs.declared.index.Index.{Index}
 
 -- the account of a gazetteer whose volumes have these verdicts
-abbrev pub account_at : List Verdict → KeyHistories → Account
-account_at verdicts g = record {
-  judged = judgements verdicts (view_at g);
-  working = view_at g (length verdicts + 1);
+abbrev pub account_at : List Verdict → KeyHistories → Custodies → Account
+account_at verdicts g c = record {
+  judged = judgements verdicts (view_with g c);
+  working = view_with g c (length verdicts + 1);
 }
 
 -- ---- what holds of a ledger that has reached a volume

@@ -2,8 +2,14 @@ pub mod Ranges
 pub mod Indexes
 pub mod KeyHistories
 pub mod KeyHistoriesCode
+pub mod Ties
+pub mod Custodies
+pub mod CustodiesCode
+pub mod Adopting
 pub mod Ledgers
 pub mod Properties
 pub mod Changing
 pub mod Examples
+pub mod PassingExamples
 pub mod Lives
+pub mod Passages

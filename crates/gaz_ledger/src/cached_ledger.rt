@@ -2,7 +2,7 @@
 ghost use Rattle.std.specs.Prelude.{◌≡◌, ◌≤◌, length, IfOk, OnErr, OnOk};
 ghost use Rattle.gaz_views.specs.Accounts.{empty_account, last_of, view_in};
 ghost use Rattle.gaz_views.specs.View.{with_item, without_key};
-ghost use Rattle.gaz_views.specs.Words.{page, property_of};
+ghost use Rattle.gaz_views.specs.Words.{page, property_of, tied};
 ghost use Rattle.gaz_ledger.specs.Changing.{Forgets, KnowsNone, LearnsNothing, is_addressed_by};
 ghost use Rattle.gaz_ledger.specs.Changing.{with_verdict, with_working};
 ghost use Rattle.gaz_ledger.specs.Properties.{AreSo, is_address_of, is_blpu};
@@ -90,6 +90,16 @@ impl CachedLedger {
         ensures same { self.new ≡ self.old }
     {
         Ok(self.ledger.page(alloc, volume, kind, after, most)?)
+    }
+
+    /// Whether an LPI or a cross reference, of whatever status, names a BLPU, in the last view or
+    /// the working one. The first time in a judgement all items are gone through.
+    pub fn tied(&mut self, volume: u64, uprn: Uprn) -> Result<bool, AllocError>
+        requires { length self.old.judged ≤ volume }
+        ensures tied { IfOk result (λ is. is ≡ tied (view_in self.old volume) uprn) }
+        ensures same { self.new ≡ self.old }
+    {
+        Ok(self.ledger.tied(volume, uprn)?)
     }
 
     /// Sets an item in the working view. Where memory runs out, nothing changes.

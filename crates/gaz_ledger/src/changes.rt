@@ -4,10 +4,12 @@ ghost use Rattle.std.specs.Prelude.{◌≡◌, ◌⊎◌, ◌≤◌, ◌<◌, �
 ghost use Rattle.gaz_ledger.specs.Changing.{AreMarksAt, CutsAt, SetsAt};
 ghost use Rattle.gaz_ledger.specs.KeyHistories.{view_at};
 ghost use Rattle.gaz_ledger.specs.Ledgers.{Finds, IsLedger};
+ghost use Rattle.gaz_ledger.specs.Ties.{AreTies};
 
 use crate::histories::Histories;
 use crate::index::{Index, Mark, Marks, marks_of};
 use crate::marked_items::{is_marked, marks_at};
+use crate::ties::Ties;
 use gaz_records::{Key, SharedItem};
 use std::alloc::AllocError;
 
@@ -95,6 +97,7 @@ pub fn change(
     histories: &mut Histories,
     index: &mut Index,
     leaving: &mut Vec<Leaving>,
+    ties: &mut Ties,
     reached: u64,
     key: &Key,
     item: Option<SharedItem>,
@@ -103,8 +106,11 @@ pub fn change(
     ensures ok { OnOk result (SetsAt histories.old histories.new (reached + 1) key.now item) }
     ensures err { OnErr result (histories.new ≡ histories.old) }
     ensures finds { Finds index.old histories.old reached → Finds index.new histories.new reached }
+    ensures ties { AreTies ties.old histories.old reached (reached + 1)
+        → AreTies ties.new histories.new reached (reached + 1) }
     ensures marks { IfOk result (AreMarksAt (view_at histories.old (reached + 1)) key.now) }
 {
+    ties.note(&item, key);
     let comes = match &item {
         Some(item) => marks_of(item),
         None => (None, None),

@@ -7,9 +7,13 @@ ghost use Rattle.gaz_views.specs.View.{with_item, without_key};
 ghost use Rattle.gaz_ledger.specs.Changing.{AreMarksAt, verdict_in, with_verdict, with_working};
 
 use crate::changes::{Leaving, change, forget_all, undo_all};
+use crate::custodies::Custodies;
 use crate::histories::Histories;
 use crate::index::{Index, Marks};
+use crate::passage::undo_passing;
 use crate::seed::Seed;
+use crate::ties::Ties;
+use gaz_ids::Uprn;
 use gaz_records::{Key, SharedItem, key_of};
 use gaz_views::Verdict;
 use std::alloc::{AllocError, Global};
@@ -20,29 +24,38 @@ use std::marker::Model;
 #[derive(Drop)]
 pub struct Ledger {
     alloc: Global,
-    verdicts: Vec<Verdict>,
+    pub(crate) verdicts: Vec<Verdict>,
     pub(crate) histories: Histories,
     pub(crate) index: Index,
     // The keys that the next volume has changed, in no order.
-    touched: Vec<Key>,
+    pub(crate) touched: Vec<Key>,
     // The marks that it took from them. They are forgotten when it is judged or undone.
-    leaving: Vec<Leaving>,
+    pub(crate) leaving: Vec<Leaving>,
+    pub(crate) custodies: Custodies,
+    // The numbers that the next volume has passed on, in no order.
+    pub(crate) passed: Vec<Uprn>,
+    // Counted when a judgement asks whether something names a BLPU, and forgotten at its end.
+    pub(crate) ties: Ties,
 }
 
 impl Model for Ledger {
-    ghost use Rattle.std.specs.Prelude.{length};
+    ghost use Rattle.std.specs.Prelude.{◌+◌, length};
     ghost use Rattle.gaz_views.specs.Accounts.{Account};
     ghost use Rattle.gaz_views.specs.ViewCode.{account_code};
+    ghost use Rattle.gaz_ledger.specs.Custodies.{IsPassing};
     ghost use Rattle.gaz_ledger.specs.Ledgers.{IsLedger, account_at};
+    ghost use Rattle.gaz_ledger.specs.Ties.{AreTies};
 
     ghost Value = { Account };
 
     ghost coded = { account_code };
 
-    ghost view = { λ l. account_at l.verdicts.items l.histories };
+    ghost view = { λ l. account_at l.verdicts.items l.histories l.custodies };
 
     ghost invariant = { λ l.
-        IsLedger (length l.verdicts.items) l.histories l.index l.touched.items };
+        IsLedger (length l.verdicts.items) l.histories l.index l.touched.items
+        × IsPassing (length l.verdicts.items) l.custodies l.passed.items
+        × AreTies l.ties l.histories (length l.verdicts.items) (length l.verdicts.items + 1) };
 }
 
 impl Ledger {
@@ -57,6 +70,9 @@ impl Ledger {
             index: Index::new(alloc, seed),
             touched: Vec::new(alloc),
             leaving: Vec::new(alloc),
+            custodies: Custodies::new(alloc, seed),
+            passed: Vec::new(alloc),
+            ties: Ties::new(seed),
         }
     }
 
@@ -93,6 +109,7 @@ impl Ledger {
             &mut self.histories,
             &mut self.index,
             &mut self.leaving,
+            &mut self.ties,
             reached,
             &key,
             Some(item),
@@ -116,6 +133,7 @@ impl Ledger {
             &mut self.histories,
             &mut self.index,
             &mut self.leaving,
+            &mut self.ties,
             reached,
             key,
             None,
@@ -134,6 +152,8 @@ impl Ledger {
             &mut self.touched,
         );
         forget_all(&self.histories, &mut self.index, reached, &mut self.leaving);
+        undo_passing(&mut self.custodies, reached, &mut self.passed);
+        self.ties.forget();
     }
 
     /// Judges the next volume: the working view is the view after it.
@@ -145,6 +165,8 @@ impl Ledger {
         self.verdicts.push(verdict)?;
         let reached = self.verdicts.len() as u64;
         self.touched.clear();
+        self.passed.clear();
+        self.ties.forget();
         forget_all(&self.histories, &mut self.index, reached, &mut self.leaving);
         Ok(())
     }
@@ -159,8 +181,8 @@ fn verdict_at(verdicts: &[Verdict], place: usize) -> Option<Verdict>
     }
 }
 
-// Adds a key to those that the next volume has changed.
-fn touch(touched: &mut Vec<Key>, key: &Key) -> Result<(), AllocError>
+/// Adds a key to those that the next volume has changed.
+pub fn touch(touched: &mut Vec<Key>, key: &Key) -> Result<(), AllocError>
     ensures ok { OnOk result (touched.new.items ≡ touched.old.items ++ key.now ∷ []) }
     ensures err { OnErr result (touched.new.items ≡ touched.old.items) }
 {

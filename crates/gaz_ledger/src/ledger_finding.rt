@@ -5,7 +5,7 @@ ghost use Rattle.std.specs.List.{list_any};
 ghost use Rattle.gaz_views.specs.Accounts.{view_in};
 ghost use Rattle.gaz_views.specs.View.{was_used};
 ghost use Rattle.gaz_views.specs.Words.{address_of, approved_of, approved_on, entries, first_of};
-ghost use Rattle.gaz_views.specs.Words.{has_children, page, property_of};
+ghost use Rattle.gaz_views.specs.Words.{has_children, page, property_of, tied};
 ghost use Rattle.gaz_ledger.specs.Changing.{entries_with};
 ghost use Rattle.gaz_ledger.specs.Indexes.{has_mark};
 
@@ -155,5 +155,17 @@ impl Ledger {
         ensures { result ≡ has_children (view_in self.now volume) uprn }
     {
         self.has_any(volume, Mark::PartOf(uprn))
+    }
+
+    /// Whether an LPI or a cross reference, of whatever status, names a BLPU, in the last view or
+    /// the working one. The first time in a judgement all items are gone through.
+    pub(crate) fn tied(&mut self, volume: u64, uprn: Uprn) -> Result<bool, AllocError>
+        requires { length self.old.judged ≤ volume }
+        ensures tied { IfOk result (λ is. is ≡ tied (view_in self.old volume) uprn) }
+        ensures same { self.new ≡ self.old }
+    {
+        let reached = self.verdicts.len() as u64;
+        self.ties.count(&self.histories, reached)?;
+        Ok(self.ties.has(&self.histories, volume, uprn))
     }
 }

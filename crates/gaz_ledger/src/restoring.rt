@@ -35,6 +35,7 @@ impl Ledger {
     {
         let reached = self.reached();
         let key = key_of(&item);
+        self.ties.forget();
         Ok(live_found(
             &mut self.histories,
             &mut self.index,

@@ -7,6 +7,7 @@ ghost use Rattle.gaz_views.specs.Words.{comes_after, is_approved_of, is_approved
 ghost use Rattle.gaz_views.specs.Words.{is_in, is_of};
 ghost use Rattle.gaz_ledger.specs.KeyHistories.{item_of_kind, items_after, rows_at, with_versions};
 ghost use Rattle.gaz_ledger.specs.Ranges.{is_past};
+ghost use Rattle.gaz_ledger.specs.Ties.{named_by};
 
 use crate::seed::Seed;
 use gaz_histories::History;
@@ -51,6 +52,17 @@ pub fn is_child_of(uprn: Uprn, item: &Item) -> bool
     match blpu.parent {
         None => false,
         Some(parent) => parent == uprn,
+    }
+}
+
+/// The BLPU that a cross reference or an LPI names.
+pub fn named_by(item: &Item) -> Option<Uprn>
+    ensures { result ≡ named_by item.now }
+{
+    match item {
+        Item::Xref(xref) => Some(xref.uprn),
+        Item::Lpi(lpi) => Some(lpi.uprn),
+        _ => None,
     }
 }
 

@@ -1,13 +1,14 @@
 -- Lives that are brought to hand, one after another.
 use Rattle.std.proofs.Common.{◌≡◌, ◌∙◌, ◌-◌, ◌++◌, ℕ, ℤ, suc, List, [], ◌∷◌, length, slice_get, refl, sym, ap, subst, arith}
 use Rattle.std.specs.Prelude.{Option, Some, None}
-use Rattle.gaz_views.specs.View.{empty_view}
+use Rattle.gaz_views.specs.View.{View, empty_view}
 use Rattle.gaz_keeper.specs.Board.{Board, reached, verdict_on}
+use Rattle.gaz_overlay.specs.Passages.{PassageRow, with_passages}
 use Rattle.gaz_overlay.specs.Rows as rows
 use Rattle.gaz_overlay.specs.Rows.{HistoryRow}
 use Rattle.gaz_loaded.specs.Lives.{AreAtHand, AreOf, Told}
 use Rattle.gaz_shelf.specs.Restoring.{IsRestored}
-use Rattle.gaz_loaded.specs.Restoring.{AreRestored, IsBare}
+use Rattle.gaz_loaded.specs.Restoring.{AreRestored, HasPassages}
 use Rattle.gaz_loaded.specs.Telling.{AreInTurn, last_of, told}
 use Rattle.gaz_loaded.specs.declared.listed.Life.{Life}
 use Rattle.gaz_loaded.proofs.Lives.{restored_is}
@@ -46,28 +47,28 @@ place_is place [] last is = let wrong : None ≡ Some last = is in cc
 place_is place (x ∷ []) last is = let same : Some x ≡ Some last = is in ap (λ (o : Option Life). elim o [ Some y ↦ Some y.place | None ↦ None ]) same
 place_is place (x ∷ y ∷ xs) last is = place_is (Some x.place) (y ∷ xs) last (sym (last_behind x y xs) ∙ is)
 
-hand_then : (place : Option ℤ) (all : List Told) (kept old new : Board) (xs : List Life) → AreOf all kept → ((c : ℕ) → reached old c ≡ reached kept c) → AreAtHand place all old → AreInTurn place all xs
-    → AreRestored old xs new → AreAtHand (place_after place xs) all new
+hand_then : (place : Option ℤ) (all : List Told) (passages : ℕ → List PassageRow) (kept old new : Board) (xs : List Life) → AreOf all passages kept → ((c : ℕ) → reached old c ≡ reached kept c) → AreAtHand place all passages old → AreInTurn place all xs
+    → AreRestored old xs new → AreAtHand (place_after place xs) all passages new
 unfolding place_after
-hand_then place all kept old new [] are as_many hand turn same = subst (AreAtHand place all) (sym same) hand
-hand_then place all kept old new (x ∷ xs) are as_many hand turn restored =
-    hand_then (Some x.place) all kept restored.0 new xs are (λ c. restored.1.reached c ∙ as_many c)
-    (restored_is place all kept old restored.0 (told x) x.gone are as_many hand turn.0 refl restored.1) turn.1 restored.2
+hand_then place all passages kept old new [] are as_many hand turn same = subst (AreAtHand place all passages) (sym same) hand
+hand_then place all passages kept old new (x ∷ xs) are as_many hand turn restored =
+    hand_then (Some x.place) all passages kept restored.0 new xs are (λ c. restored.1.reached c ∙ as_many c)
+    (restored_is place all passages kept old restored.0 (told x) x.gone are as_many hand turn.0 refl restored.1) turn.1 restored.2
 
-pub hand_next : (place : Option ℤ) (all : List Told) (kept old new : Board) (xs : List Life) (last : Life) → last_of xs ≡ Some last → AreOf all kept → ((c : ℕ) → reached old c ≡ reached kept c) → AreAtHand place all old
-    → AreInTurn place all xs → AreRestored old xs new → AreAtHand (Some last.place) all new
-hand_next place all kept old new xs last is are as_many hand turn restored =
-    subst (λ p. AreAtHand p all new) (place_is place xs last is) (hand_then place all kept old new xs are as_many hand turn restored)
+pub hand_next : (place : Option ℤ) (all : List Told) (passages : ℕ → List PassageRow) (kept old new : Board) (xs : List Life) (last : Life) → last_of xs ≡ Some last → AreOf all passages kept → ((c : ℕ) → reached old c ≡ reached kept c) → AreAtHand place all passages old
+    → AreInTurn place all xs → AreRestored old xs new → AreAtHand (Some last.place) all passages new
+hand_next place all passages kept old new xs last is are as_many hand turn restored =
+    subst (λ p. AreAtHand p all passages new) (place_is place xs last is) (hand_then place all passages kept old new xs are as_many hand turn restored)
 
--- nothing is, at first
+-- none is, at first
 nothing_there : (t : ℕ) → rows.view_after [] t ≡ empty_view
 unfolding rows.view_after empty_view
 nothing_there t = refl
 
-pub hand_none : (all : List Told) (board : Board) → IsBare board → AreAtHand None all board
-hand_none all board bare = record {
+pub hand_none : (all : List Told) (passages : ℕ → List PassageRow) (board : Board) → ((c : ℕ) → HasPassages (passages c) board c) → AreAtHand None all passages board
+hand_none all passages board has = record {
   lives = λ c. [];
   only = λ c h none. absurd none;
   those = λ x there never. absurd never;
-  views = λ c t le. bare c t ∙ sym (nothing_there t);
+  views = λ c t le. has c t le ∙ ap (λ (v : View). with_passages v (passages c) t) (sym (nothing_there t));
 }

@@ -60,14 +60,25 @@ module _ (c above : ℕ) (a b d e : Seen) (k m n : Content) (volumes : List ℕ)
         ∙ ap (λ (x : Content). reached x.board c) (both.keeps.content stood mid);
   }
 
+-- ---- whose is it
+
+pub among : (codes : List ℕ) (c : ℕ) → Has codes c ⊎ ¬ Has codes c
+among [] c = inr (λ there. there)
+among (x ∷ codes) c = by_first (c == x) refl (among codes c)
+  where
+    by_first : (b : Bool) → (c == x) ≡ b → Has codes c ⊎ ¬ Has codes c → Has (x ∷ codes) c ⊎ ¬ Has (x ∷ codes) c
+    by_first true is rest = inl (inl (eqb-true c x is))
+    by_first false is (inl there) = inl (inr there)
+    by_first false is (inr gone) = inr (λ there. elim there [ inl same ↦ eqb-false c x is same | inr later ↦ gone later ])
+
 -- ---- one custodian after another
 
-has_before : (xs : List ℕ) (x v : ℕ) → Has xs v → Has (xs ++ x ∷ []) v
+pub has_before : (xs : List ℕ) (x v : ℕ) → Has xs v → Has (xs ++ x ∷ []) v
 has_before [] x v there = absurd there
 has_before (y ∷ xs) x v (inl same) = inl same
 has_before (y ∷ xs) x v (inr later) = inr (has_before xs x v later)
 
-has_last : (xs : List ℕ) (x : ℕ) → Has (xs ++ x ∷ []) x
+pub has_last : (xs : List ℕ) (x : ℕ) → Has (xs ++ x ∷ []) x
 has_last [] x = inl refl
 has_last (y ∷ xs) x = inr (has_last xs x)
 

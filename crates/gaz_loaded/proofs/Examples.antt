@@ -16,6 +16,7 @@ use Rattle.gaz_views.specs.View.{empty_view}
 use Rattle.gaz_loaded.specs.Examples.{WorkedExamples, WorkedFiles, WorkedLives, WorkedLoading, WorkedPages, WorkedVolumes, both, current, ended}
 use Rattle.gaz_loaded.specs.Lives.{IsBehind, IsFirst, Told}
 use Rattle.gaz_loaded.specs.Telling.{AreAbove, told}
+use Rattle.gaz_loaded.proofs.PassingExamples.{answers, boards, order}
 
 -- ---- lives
 
@@ -173,4 +174,4 @@ loading = record {
 }
 
 pub worked_examples_hold : WorkedExamples
-worked_examples_hold = record { on_lives = lives; on_pages = pages; on_volumes = volumes; on_files = files; on_loading = loading }
+worked_examples_hold = record { on_lives = lives; on_pages = pages; on_volumes = volumes; on_files = files; on_loading = loading; on_order = order; on_answers = answers; on_boards = boards }

@@ -5,6 +5,10 @@ pub mod Copied
 pub mod LifeViews
 pub mod Lives
 pub mod Custodian
+pub mod PutBack
+pub mod ToldPassages
+pub mod Passed
 pub mod Brought
 pub mod Loaded
+pub mod PassingExamples
 pub mod Examples

@@ -1,5 +1,5 @@
 -- What a life makes of views.
-use Rattle.std.proofs.Common.{◌≡◌, ◌∙◌, ◌≤◌, ◌<◌, ◌⊎◌, inl, inr, ℕ, Bool, true, false, cond, nat_le, nat_lt, List, refl, sym, ap, arith}
+use Rattle.std.proofs.Common.{◌≡◌, ◌∙◌, ◌≤◌, ◌<◌, ◌⊎◌, ◌||◌, inl, inr, ℕ, Bool, true, false, cond, nat_le, nat_lt, List, refl, sym, ap, arith}
 use Rattle.std.proofs.lemmas.Bool.{cases_lt}
 use Rattle.std.proofs.lemmas.Bool.Decides.{nat_tests}
 use Rattle.std.specs.Prelude.{Option, Some, None}
@@ -13,6 +13,7 @@ use Rattle.gaz_records.specs.declared.key.Key.{Key}
 use Rattle.std.specs.Ordering.{eq_by_cmp}
 use Rattle.gaz_views.proofs.SameKeys.{same_key}
 use Rattle.gaz_views.specs.View.{View, with_item, without_key}
+use Rattle.gaz_overlay.specs.Passages.{PassageRow, passed_keys, with_passages}
 use Rattle.gaz_overlay.specs.Rows.{HistoryRow, never, view_after}
 use Rattle.gaz_kept.specs.Histories.{Gained, with_use}
 use Rattle.gaz_ledger.specs.Lives.{is_gone_by, with_life}
@@ -67,6 +68,28 @@ removed_again v i none = finite.same_map keys_total keys_exact _ _ (λ q. at q (
 
 pub came_and_went : (v : View) (i : Item) → finite.get v.items (key_of i) ≡ None → without_key (with_item v i) (key_of i) ≡ with_use v (key_of i)
 came_and_went v i none = λ j. record { items = removed_again v i none j; used = set.insert v.used (key_of i); custody = v.custody }
+
+-- ---- a life beside what became of numbers
+
+used_beside : (u p : set.FinSet key_cmp) (k : Key) → set.insert (set.union u p) k ≡ set.union (set.insert u k) p
+used_beside u p k = set.same_set keys_total keys_exact _ _ (λ q.
+    set.contains-insert keys_total (set.union u p) k q
+    ∙ ap (λ b. eq_by_cmp key_cmp q k || b) (set.contains-union keys_total u p q)
+    ∙ or_assoc (eq_by_cmp key_cmp q k) (set.contains u q) (set.contains p q)
+    ∙ ap (λ b. b || set.contains p q) (sym (set.contains-insert keys_total u k q))
+    ∙ sym (set.contains-union keys_total (set.insert u k) p q))
+  where
+    or_assoc : (a b c : Bool) → (a || (b || c)) ≡ ((a || b) || c)
+    or_assoc true b c = refl
+    or_assoc false b c = refl
+
+pub life_beside : (born : ℕ) (gone : Option ℕ) (i : Item) (t : ℕ) (v : View) (passages : List PassageRow) → with_life born gone i t (with_passages v passages t) ≡ with_passages (with_life born gone i t v) passages t
+life_beside born gone i t v passages = by_tests (nat_lt t born) (is_gone_by gone t)
+  where
+    by_tests : (a b : Bool) → cond a (with_passages v passages t) (cond b (without_key (with_item (with_passages v passages t) i) (key_of i)) (with_item (with_passages v passages t) i)) ≡ with_passages (cond a v (cond b (without_key (with_item v i) (key_of i)) (with_item v i))) passages t
+    by_tests true b = refl
+    by_tests false true = λ j. record (with_passages (without_key (with_item v i) (key_of i)) passages t) { used = used_beside v.used (passed_keys passages t) (key_of i) j }
+    by_tests false false = λ j. record (with_passages (with_item v i) passages t) { used = used_beside v.used (passed_keys passages t) (key_of i) j }
 
 -- ---- a row more is its life
 

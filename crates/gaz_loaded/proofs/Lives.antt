@@ -15,6 +15,7 @@ use Rattle.gaz_keeper.specs.Board.{Judgement, views}
 use Rattle.gaz_ledger.specs.Lives.{with_life}
 use Rattle.gaz_shelf.specs.Restoring.{IsRestored}
 use Rattle.gaz_keeper.specs.Board.{Board, reached, view_after}
+use Rattle.gaz_overlay.specs.Passages.{PassageRow, with_passages}
 use Rattle.gaz_overlay.specs.Rows.{HistoryRow, never}
 use Rattle.gaz_overlay.specs.Rows as rows
 use Rattle.gaz_kept.specs.Histories.{AreSame, Gain, Gained}
@@ -22,7 +23,7 @@ use Rattle.gaz_kept.specs.Kept.{AreInTurn}
 use Rattle.gaz_kept.proofs.Statements.{read_from, read_in}
 use Rattle.gaz_kept.proofs.Views.{rows_join, same_rows}
 use Rattle.gaz_loaded.specs.Lives.{AllAtHand, AreAtHand, AreOf, IsBehind, IsBy, IsFirst, LivesJoin, RestoredIsAtHand, Told, gone_of, life_of, lives_of}
-use Rattle.gaz_loaded.proofs.LifeViews.{gained_life}
+use Rattle.gaz_loaded.proofs.LifeViews.{gained_life, life_beside}
 
 -- a life that is told is its custodian's
 pub told_there : (all : List Told) (x : Told) → Has all x → Has (lives_of x.code all) x.life
@@ -55,7 +56,7 @@ by_or_behind (Some place) y = by_test (lt_z place y.place) refl
     by_test true is = inr (grind (arith, ints))
     by_test false is = inl (grind (arith, ints))
 
-module _ (place : Option ℤ) (all : List Told) (kept old new : Board) (x : Told) (gone : Option ℕ) (are : AreOf all kept) (as_many : (c : ℕ) → reached old c ≡ reached kept c) (hand : AreAtHand place all old)
+module _ (place : Option ℤ) (all : List Told) (passages : ℕ → List PassageRow) (kept old new : Board) (x : Told) (gone : Option ℕ) (are : AreOf all passages kept) (as_many : (c : ℕ) → reached old c ≡ reached kept c) (hand : AreAtHand place all passages old)
     (told : IsFirst place all x) (is_gone : x.life.gone ≡ gone_of gone) (restored : IsRestored old new x.code x.life.born gone x.life.item) where
   abbrev lives : ℕ → List HistoryRow
   lives c = cond (x.code == c) (x.life ∷ hand.lives c) (hand.lives c)
@@ -91,7 +92,7 @@ module _ (place : Option ℤ) (all : List Told) (kept old new : Board) (x : Told
       apart : AreInTurn (x.life ∷ hand.lives x.code)
       apart = fewer_apart (x.life ∷ hand.lives x.code) (lives_of x.code all) (λ h there. among x.code h true (eq-eqb x.code x.code refl) there) (are.apart x.code)
 
-  views_here : (t : ℕ) → t ≤ reached new x.code → view_after new x.code t ≡ rows.view_after (x.life ∷ hand.lives x.code) t
+  views_here : (t : ℕ) → t ≤ reached new x.code → view_after new x.code t ≡ rows.view_of_rows (x.life ∷ hand.lives x.code) (passages x.code) t
   views_here t le =
       let same = restored.reached x.code in
       let was : t ≤ reached old x.code = omega arith in
@@ -101,7 +102,9 @@ module _ (place : Option ℤ) (all : List Told) (kept old new : Board) (x : Told
       let before = hand.views x.code t was in
       restored.views t was
       ∙ ap (with_that t) before
-      ∙ sym (gained_life x.life (hand.lives x.code) (x.life ∷ hand.lives x.code) gone own is_gone t short (soon gone restored.within.ended) (λ late. sym (ap (λ v. get_of v) before) ∙ restored.free t late was) gained)
+      ∙ life_beside x.life.born gone x.life.item t (rows.view_after (hand.lives x.code) t) (passages x.code)
+      ∙ ap (λ (v : View). with_passages v (passages x.code) t)
+      (sym (gained_life x.life (hand.lives x.code) (x.life ∷ hand.lives x.code) gone own is_gone t short (soon gone restored.within.ended) (λ late. sym (ap (λ v. get_of v) before) ∙ restored.free t late was) gained))
     where
       soon : (o : Option ℕ) → IfSome o (λ g. (x.life.born ≤ g) × (g ≤ reached old x.code)) → IfSome o (λ g. g < never)
       soon None h = tt
@@ -113,15 +116,15 @@ module _ (place : Option ℤ) (all : List Told) (kept old new : Board) (x : Told
       get_of : View → Option Item
       get_of v = map.get v.items (key_of x.life.item)
 
-  views_at : (c t : ℕ) (b : Bool) → (x.code == c) ≡ b → t ≤ reached new c → view_after new c t ≡ rows.view_after (cond b (x.life ∷ hand.lives c) (hand.lives c)) t
-  views_at c t true is le = subst (λ d. t ≤ reached new d → view_after new d t ≡ rows.view_after (x.life ∷ hand.lives d) t) (eqb-true x.code c is) (views_here t) le
+  views_at : (c t : ℕ) (b : Bool) → (x.code == c) ≡ b → t ≤ reached new c → view_after new c t ≡ rows.view_of_rows (cond b (x.life ∷ hand.lives c) (hand.lives c)) (passages c) t
+  views_at c t true is le = subst (λ d. t ≤ reached new d → view_after new d t ≡ rows.view_of_rows (x.life ∷ hand.lives d) (passages d) t) (eqb-true x.code c is) (views_here t) le
   views_at c t false is le =
       let other = eqb-false x.code c is in
       let same = restored.others c (λ e. other (sym e)) in
       let was : t ≤ reached old c = subst (λ (js : List Judgement). t ≤ length js) same le in
       ap (λ (js : List Judgement). unwrap_or (slice_get (views js) t) empty_view) same ∙ hand.views c t was
 
-  pub at_hand : AreAtHand (Some x.place) all new
+  pub at_hand : AreAtHand (Some x.place) all passages new
   at_hand = record {
     lives = lives;
     only = λ c h. among c h (x.code == c) refl;
@@ -130,12 +133,12 @@ module _ (place : Option ℤ) (all : List Told) (kept old new : Board) (x : Told
   }
 
 pub restored_is : RestoredIsAtHand
-restored_is place all kept old new x gone are as_many hand told is_gone restored = at_hand place all kept old new x gone are as_many hand told is_gone restored
+restored_is place all passages kept old new x gone are as_many hand told is_gone restored = at_hand place all passages kept old new x gone are as_many hand told is_gone restored
 
 pub all_are : AllAtHand
-all_are place all kept board are hand ends c t le also =
+all_are place all passages kept board are hand ends c t le also =
     hand.views c t le
-    ∙ same_rows (lives_of c all) (hand.lives c) (are.apart c) same t
+    ∙ ap (λ (v : View). with_passages v (passages c) t) (same_rows (lives_of c all) (hand.lives c) (are.apart c) same t)
     ∙ sym (are.views c t also)
   where
     same : AreSame (lives_of c all) (hand.lives c)

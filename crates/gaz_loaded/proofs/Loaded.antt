@@ -1,9 +1,11 @@
 -- What was loaded is what is kept.
-use Rattle.std.proofs.Common.{◌≡◌, ◌∙◌, ◌≤◌, ◌<◌, ◌==◌, ◌⊎◌, inl, inr, ℕ, zero, suc, Bool, true, false, List, [], ◌∷◌, length, slice_get, map, is_some, refl, sym, ap, subst, arith, eqb-true, true≢false}
+use Rattle.std.proofs.Common.{◌≡◌, ◌∙◌, ◌≤◌, ◌<◌, ◌==◌, ◌⊎◌, ◌||◌, inl, inr, ℕ, zero, suc, Bool, true, false, List, [], ◌∷◌, length, slice_get, map, is_some, refl, sym, ap, subst, arith, eqb-true, true≢false}
 use Rattle.std.proofs.lemmas.Bool.{eqb-false}
 use Rattle.std.specs.Prelude.{IsSome, Option, Some, None, option_map, unwrap_or}
 use Rattle.std.specs.FinMap as finite
+use Rattle.std.specs.FinSet as finite_set
 use Rattle.sqlite_rules.specs.Lists.{Has}
+use Rattle.gaz_records.proofs.KeyOrder.{keys_exact, keys_total}
 use Rattle.gaz_views.specs.Judgements.{Judgement}
 use Rattle.gaz_views.specs.View.{View, empty_view}
 use Rattle.gaz_views.specs.declared.verdict.Verdict.{Verdict}
@@ -11,13 +13,18 @@ use Rattle.gaz_keeper.specs.Board.{Board, reached, verdict_on, view_after}
 use Rattle.gaz_keeper.specs.Keeper.{Content, Idle, Seen, after_stop, empty_content}
 use Rattle.gaz_keeper.specs.Received.{pair_cmp}
 use Rattle.gaz_keeper.proofs.Pairs.{pairs_exact, pairs_total}
+use Rattle.gaz_overlay.specs.Passages.{PassageRow, passed_keys, with_passages}
+use Rattle.gaz_overlay.specs.Rows as rows
+use Rattle.gaz_overlay.specs.Rows.{HistoryRow}
 use Rattle.gaz_shelf.specs.Mem.{content_in, progress_of, seen_in, working_of}
 use Rattle.gaz_shelf.specs.declared.mem_shelf.Judging.{Judging}
 use Rattle.gaz_shelf.specs.declared.mem_shelf.Judging.TheVariants as judging
 use Rattle.gaz_shelf.specs.declared.mem_shelf.MemShelf.{MemShelf}
+use Rattle.gaz_loaded.proofs.Custodian.{among}
 use Rattle.gaz_loaded.specs.Files.{CopiesAll, IsPart, OnlyReads}
 use Rattle.gaz_loaded.specs.Loading.{IsOfThese}
-use Rattle.gaz_loaded.specs.Restoring.{BringsLives}
+use Rattle.gaz_loaded.specs.Lives.{AreOf, Told, lives_of}
+use Rattle.gaz_loaded.specs.Restoring.{BringsLives, BringsPassages, HasPassages}
 
 -- ---- equal boards
 
@@ -43,17 +50,6 @@ same_board : (m k : Board) (c : ℕ) → reached m c ≡ reached k c → ((v : �
 unfolding told viewed
 same_board m k c as_many verdicts seen = same_list (m c) (k c) as_many (λ n below. verdicts (suc n) (omega (arith, below))) (λ n below. seen (suc n) (omega (arith, below)))
 
--- ---- whose is it
-
-among : (codes : List ℕ) (c : ℕ) → Has codes c ⊎ ¬ Has codes c
-among [] c = inr (λ there. there)
-among (x ∷ codes) c = by_first (c == x) refl (among codes c)
-  where
-    by_first : (b : Bool) → (c == x) ≡ b → Has codes c ⊎ ¬ Has codes c → Has (x ∷ codes) c ⊎ ¬ Has (x ∷ codes) c
-    by_first true is rest = inl (inl (eqb-true c x is))
-    by_first false is (inl there) = inl (inr there)
-    by_first false is (inr gone) = inr (λ there. elim there [ inl same ↦ eqb-false c x is same | inr later ↦ gone later ])
-
 -- ---- nothing at first
 
 nothing_yet : (k : Content) → IsPart k empty_content
@@ -74,10 +70,30 @@ nothing_yet k = record {
 
 -- ---- all that is kept
 
-module _ (codes : List ℕ) (a b d : Seen) (k m n : Content) (first : OnlyReads a b) (reads : OnlyReads b d) (empty : k ≡ empty_content) (copies : CopiesAll codes a b k m) (brings : BringsLives b d m n)
-    (stood : a.stands) (fine : d.unharmed) (these : IsOfThese codes a.content) where
+-- before volume 1 nothing became of any number
+again : (e u p : Bool) → e ≡ (u || p) → (e || p) ≡ e
+again true u p is = refl
+again false true p is = cc
+again false false true is = cc
+again false false false is = refl
+
+unpassed : (lives : List HistoryRow) (passages : List PassageRow) → empty_view ≡ rows.view_of_rows lives passages 0 → with_passages empty_view passages 0 ≡ empty_view
+unpassed lives passages is = λ i. record empty_view {
+  used = finite_set.same_set keys_total keys_exact (finite_set.union empty_view.used (passed_keys passages 0)) empty_view.used (λ q.
+      finite_set.contains-union keys_total empty_view.used (passed_keys passages 0) q
+      ∙ again (finite_set.contains empty_view.used q) (finite_set.contains (rows.view_after lives 0).used q) (finite_set.contains (passed_keys passages 0) q)
+      (ap (λ (v : View). finite_set.contains v.used q) is ∙ finite_set.contains-union keys_total (rows.view_after lives 0).used (passed_keys passages 0) q)) i;
+  custody = sym (ap (λ (v : View). v.custody) is) i;
+}
+
+module _ (codes : List ℕ) (a b d e : Seen) (lives : List Told) (passages : ℕ → List PassageRow) (k m p n : Content) (first : OnlyReads a b) (next : OnlyReads b d) (last : OnlyReads d e) (empty : k ≡ empty_content)
+    (copies : CopiesAll codes a b k m) (passed : BringsPassages codes passages b d m p) (brings : BringsLives passages d e p n) (made : AreOf lives passages d.content.board)
+    (stood : a.stands) (fine : e.unharmed) (these : IsOfThese codes a.content) where
+  late : d.unharmed
+  late = last.keeps.harm fine
+
   mid : b.unharmed
-  mid = reads.keeps.harm fine
+  mid = next.keeps.harm late
 
   part : IsPart a.content m
   part = copies.part stood mid (subst (IsPart a.content) (sym empty) (nothing_yet a.content))
@@ -103,14 +119,35 @@ module _ (codes : List ℕ) (a b d : Seen) (k m n : Content) (first : OnlyReads 
   same : b.content ≡ a.content
   same = first.keeps.content stood mid
 
+  stood_then : b.stands
+  stood_then = first.keeps.stands stood mid
+
+  same_then : d.content ≡ a.content
+  same_then = next.keeps.content stood_then late ∙ same
+
+  many_then : (c : ℕ) → reached p.board c ≡ reached d.content.board c
+  many_then c = passed.as_many c ∙ as_many c ∙ ap (λ (x : Content). reached x.board c) (sym same_then)
+
+  -- a custodian of whom nothing was judged has nothing
+  nothing_passed : (c : ℕ) → reached p.board c ≡ 0 → HasPassages (passages c) p.board c
+  nothing_passed c none zero le = sym (unpassed (lives_of c lives) (passages c) (made.views c 0 (omega arith)))
+  nothing_passed c none (suc v) le = absurd (omega (arith, le, none))
+
+  has_passed : (c : ℕ) → HasPassages (passages c) p.board c
+  has_passed c = by_code (among codes c)
+    where
+      by_code : Has codes c ⊎ ¬ Has codes c → HasPassages (passages c) p.board c
+      by_code (inl there) = passed.views stood_then late (λ q. as_many q ∙ ap (λ (x : Content). reached x.board q) (sym same)) part.bare c there
+      by_code (inr gone) = nothing_passed c (passed.as_many c ∙ as_many c ∙ these.judged c gone)
+
   board_is : (c : ℕ) → n.board c ≡ a.content.board c
   board_is c =
-      same_board n.board a.content.board c (brings.as_many c ∙ as_many c)
-      (λ v le. brings.verdicts c v ∙ part.verdicts c v (subst (λ q. v ≤ q) (brings.as_many c) le))
-      (λ v le. brings.views (first.keeps.stands stood mid) fine (λ q. as_many q ∙ ap (λ (x : Content). reached x.board q) (sym same)) part.bare c v le ∙ ap (λ (x : Content). view_after x.board c v) same)
+      same_board n.board a.content.board c (brings.as_many c ∙ passed.as_many c ∙ as_many c)
+      (λ v le. brings.verdicts c v ∙ passed.verdicts c v ∙ part.verdicts c v (subst (λ q. v ≤ q) (brings.as_many c ∙ passed.as_many c) le))
+      (λ v le. brings.views (next.keeps.stands stood_then late) fine many_then has_passed c v le ∙ ap (λ (x : Content). view_after x.board c v) same_then)
 
   pub loaded : n.working ≡ empty_view → n ≡ after_stop a.content
-  loaded working = λ i. record { files = (brings.files ∙ files_are) i; board = λ c. board_is c i; working = working i }
+  loaded working = λ i. record { files = (brings.files ∙ passed.files ∙ files_are) i; board = λ c. board_is c i; working = working i }
 
 -- ---- in answers
 

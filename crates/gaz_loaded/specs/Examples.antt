@@ -1,4 +1,5 @@
--- Worked examples: two lives and three files that a keeper lists, and what is at hand of them.
+-- Worked examples: two lives, three files and what became of two numbers, that a keeper lists, and
+-- what is at hand of them.
 use Rattle.std.specs.Prelude.{◌≡◌, ℕ, pos, List, [], ◌∷◌, Some, None}
 use Rattle.std.specs.FinMap as map
 use Rattle.gaz_views.specs.Examples.{street}
@@ -10,6 +11,7 @@ use Rattle.gaz_loaded.specs.Files.{AreAmong, AreThere, HasAll, HasUntil, IsEnter
 use Rattle.gaz_loaded.specs.Files.{OnlyReads}
 use Rattle.gaz_loaded.specs.Lives.{IsBehind, IsBy, IsFirst, Told, gone_of, lives_of}
 use Rattle.gaz_loaded.specs.Loading.{IsOfThese}
+use Rattle.gaz_loaded.specs.PassingExamples.{WorkedAnswers, WorkedBoards, WorkedOrder}
 use Rattle.gaz_loaded.specs.Telling.{AreAbove, AreNext, last_of, told}
 use Rattle.gaz_loaded.specs.declared.listed.Life.{Life}
 
@@ -92,3 +94,6 @@ pub record WorkedExamples : Type 0 where
   pub on_volumes : WorkedVolumes
   pub on_files : WorkedFiles
   pub on_loading : WorkedLoading
+  pub on_order : WorkedOrder
+  pub on_answers : WorkedAnswers
+  pub on_boards : WorkedBoards first_entered.board

@@ -7,7 +7,8 @@ mod entering;
 pub mod laws;
 mod listed;
 mod loading;
+mod passing;
 mod restoring;
 
-pub use listed::{Life, Listed};
+pub use listed::{Life, Listed, Passage};
 pub use loading::load;

@@ -7,6 +7,7 @@ ghost use Rattle.gaz_loaded.specs.Loading.{IsLoaded};
 
 use crate::custodians::copy_custodians;
 use crate::listed::Listed;
+use crate::passing::bring_passages;
 use crate::restoring::bring_lives;
 use gaz_ids::Code;
 use gaz_keeper::ShelfFault;
@@ -27,8 +28,9 @@ fn bring_to_hand(shelf: &mut MemShelf, codes: &[Code])
 /// A keeper in memory with all that a keeper lists of these custodians. Who picks keys is not to
 /// foresee the seed.
 ///
-/// Nothing is judged: files, verdicts and items come as they are kept, each once. A fault where
-/// memory or the keeper failed, or where what it lists isn't in order; it is only read.
+/// Nothing is judged: files and verdicts, what became of numbers, and items come as they are kept,
+/// each once. A fault where memory or the keeper failed, or where what it lists isn't in order; it
+/// is only read.
 pub fn load<L: Listed>(
     alloc: Global,
     seed: Seed,
@@ -43,6 +45,7 @@ pub fn load<L: Listed>(
 {
     let mut shelf = MemShelf::new(alloc, seed);
     copy_custodians(lower, &mut shelf, codes)?;
+    bring_passages(lower, &mut shelf, codes)?;
     bring_lives(lower, &mut shelf)?;
     bring_to_hand(&mut shelf, codes);
     Ok(shelf)

@@ -40,14 +40,14 @@ fn restore_lives(shelf: &mut MemShelf, lives: &[Life]) -> Result<(), ShelfFault>
     Ok(())
 }
 
-/// All that a keeper lists, into views that have nothing yet.
+/// All lives that a keeper lists, into views that have no item yet.
 pub(crate) fn bring_lives<L: Listed>(lower: &mut L, shelf: &mut MemShelf) -> Result<(), ShelfFault>
     requires { (seen_in shelf.old).progress ≡ Idle }
     ensures reads { OnlyReads (L.seen lower.old) (L.seen lower.new) }
     ensures cleared { OnOk result ((L.seen lower.new).progress ≢ Broken) }
     ensures idle { (seen_in shelf.new).progress ≡ Idle }
-    ensures brings { OnOk result (BringsLives (L.seen lower.old) (L.seen lower.new)
-        (content_in shelf.old) (content_in shelf.new)) }
+    ensures brings { OnOk result (BringsLives (L.passages lower.old) (L.seen lower.old)
+        (L.seen lower.new) (content_in shelf.old) (content_in shelf.new)) }
 {
     let mut place = None;
     for _ in 0..u64::MAX {

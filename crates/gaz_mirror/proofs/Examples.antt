@@ -1,7 +1,10 @@
 -- What the definitions come to on worked examples.
-use Rattle.std.proofs.Common.{◌≡◌, ◌≢◌, ◌∙◌, ℕ, List, [], ◌∷◌, true, false, sym, ap, refl, subst, is_some}
-use Rattle.std.specs.Prelude.{zero, suc}
+use Rattle.std.proofs.Common.{◌≡◌, ◌≢◌, ◌∙◌, ◌||◌, ℕ, Bool, List, [], ◌∷◌, true, false, sym, ap, refl, subst, is_some}
+use Rattle.std.specs.Prelude.{Some, zero, suc}
+use Rattle.std.specs.Cmp.{nat_cmp_total}
 use Rattle.std.specs.FinMap as finite
+use Rattle.std.specs.FinSet as set
+use Rattle.std.specs.Ordering.{eq_by_cmp}
 use Rattle.std.specs.declared.alloc.Global.{Global}
 use Rattle.gaz_keeper.proofs.Examples.{worked_examples_hold}
 use Rattle.gaz_keeper.proofs.Pairs.{pairs_total}
@@ -9,13 +12,20 @@ use Rattle.gaz_keeper.specs.Board.{last_view}
 use Rattle.gaz_keeper.specs.Received.{pair_cmp}
 use Rattle.gaz_keeper.specs.Examples.{first_received}
 use Rattle.gaz_keeper.specs.Keeper.{IsAtHand, IsLawful, Open, after_stop, empty_content, with_working}
-use Rattle.gaz_mirror.specs.Examples.{WorkedCalls, WorkedChanges, WorkedExamples, WorkedGathered, WorkedLeads, WorkedMirrors, WorkedSteps, comes, goes}
+use Rattle.gaz_mirror.specs.Examples.{WorkedCalls, WorkedChanges, WorkedExamples, WorkedGathered, WorkedLeads, WorkedMirrors, WorkedPassedOn, WorkedPassing, WorkedSteps, comes, gives_back, goes, takes}
 use Rattle.gaz_mirror.specs.Gathering.{made}
 use Rattle.gaz_mirror.specs.declared.gathered.Gathered.{Gathered}
+use Rattle.gaz_records.specs.Keys.{key_cmp}
+use Rattle.gaz_records.specs.declared.item.Item.TheVariants as item
 use Rattle.gaz_records.specs.declared.key.Key.TheVariants as key
+use Rattle.gaz_views.proofs.CustodyExamples.{custody_holds}
 use Rattle.gaz_views.proofs.Lawful.{lawful_empty, lawful_put, lawful_taken}
+use Rattle.gaz_views.specs.CustodyExamples.{alone, given_back, given_up, taken}
 use Rattle.gaz_views.specs.Examples.{no_more, one_street, street}
-use Rattle.gaz_views.specs.View.{View, empty_view, holds, with_item, without_key}
+use Rattle.gaz_views.specs.Lawful.{IsLawfulView}
+use Rattle.gaz_views.specs.View.{View, custody_at, empty_view, holds, with_adoption, with_item, with_release, without_key}
+use Rattle.gaz_views.specs.declared.custody.Custody.{Custody}
+use Rattle.gaz_views.specs.declared.custody.Custody.TheVariants.{Adopted, Released}
 use Rattle.gaz_records.proofs.KeyOrder.{keys_total}
 
 -- a received file tells them apart
@@ -40,11 +50,61 @@ told_apart v w same =
     let clash = sym (street_there v) ∙ ap (λ (x : View). holds x (key.Street 101)) same ∙ street_gone w in
     cc
 
+-- what became of a number tells views apart
+passed_apart : (v w : View) (x y : Custody) → custody_at v 500 ≡ Some x → custody_at w 500 ≡ Some y → x ≢ y → v ≢ w
+passed_apart v w x y at_v at_w differ same =
+    let some : Some x ≡ Some y = sym at_v ∙ ap (λ (u : View). custody_at u 500) same ∙ at_w in
+    differ (cc)
+
+adopted_there : (v : View) → custody_at (with_adoption v alone 1001 1) 500 ≡ Some (Adopted 1001 1)
+adopted_there v = finite.get-insert nat_cmp_total v.custody 500 (Adopted 1001 1) 500
+
+released_there : (v : View) (to hop : ℕ) → custody_at (with_release v 500 to hop) 500 ≡ Some (Released to hop)
+released_there v to hop = finite.get-insert nat_cmp_total v.custody 500 (Released to hop) 500
+
+adopted_or_released : (from to m n : ℕ) → Adopted from m ≢ Released to n
+adopted_or_released from to m n same = cc
+
+to_another : Released 1001 2 ≢ Released 1002 1
+to_another same = cc
+
+-- what was adopted is released to nobody
+taken_told_apart : (v w : View) (to hop : ℕ) → with_adoption v alone 1001 1 ≢ with_release w 500 to hop
+taken_told_apart v w to hop = passed_apart _ _ (Adopted 1001 1) (Released to hop) (adopted_there v) (released_there w to hop) (adopted_or_released 1001 to 1 hop)
+
+either_true : (a b : Bool) → b ≡ true → (a || b) ≡ true
+either_true true b is = refl
+either_true false b is = is
+
+lawful_taken_on : IsLawfulView taken
+lawful_taken_on = let put = lawful_put empty_view (item.Blpu alone) refl lawful_empty in record { entries = put.entries; keyed = put.keyed; used = put.used }
+
+lawful_given_back : IsLawfulView given_back
+lawful_given_back =
+    let gone = lawful_taken taken (key.Blpu 500) lawful_taken_on in
+    record {
+      entries = gone.entries;
+      keyed = gone.keyed;
+      used = λ k there. set.contains-insert keys_total taken.used (key.Blpu 500) k ∙ either_true (eq_by_cmp key_cmp k (key.Blpu 500)) (set.contains taken.used k) (gone.used k there);
+    }
+
+lawful_passed_on : IsLawful (with_working first_received given_back)
+lawful_passed_on = record { views = lawful.views; working = lawful_given_back }
+
 volume_1 : IsAtHand first_received 1001
 volume_1 = ap is_some (finite.get-insert pairs_total (finite.empty {X = List ℕ} {R = pair_cmp}) (1001, 1) [] (1001, 1))
 
 pub examples_hold : WorkedExamples
-examples_hold = record { on_changes = on_changes; on_steps = on_steps; on_leads = on_leads; on_mirrors = on_mirrors; on_gathered = on_gathered; on_calls = on_calls }
+examples_hold = record {
+  on_changes = on_changes;
+  on_passing = on_passing;
+  on_steps = on_steps;
+  on_leads = on_leads;
+  on_mirrors = on_mirrors;
+  on_gathered = on_gathered;
+  on_passed_on = on_passed_on;
+  on_calls = on_calls;
+}
   where
     on_changes : WorkedChanges
     on_changes = record {
@@ -57,6 +117,20 @@ examples_hold = record { on_changes = on_changes; on_steps = on_steps; on_leads 
       added = λ view. refl;
       not_added = λ view. refl;
       lost = λ are. told_apart empty_view one_street (are empty_view);
+    }
+
+    on_passing : WorkedPassing
+    on_passing = record {
+      released = refl;
+      adopted = refl;
+      both = refl;
+      in_order = taken_told_apart (with_release empty_view 500 1001 2) taken 1001 2;
+      same = λ view. refl;
+      not_a_put = λ same. passed_apart _ _ (Released 1002 1) (Adopted 1001 1) custody_holds.is_given_up (adopted_there given_up) (λ is. adopted_or_released 1001 1002 1 1 (sym is)) (same given_up);
+      not_a_take = λ same. passed_apart _ _ (Adopted 1001 1) (Released 1002 1) custody_holds.is_taken (released_there taken 1002 1) (adopted_or_released 1001 1002 1 1) (same taken);
+      not_at_another_hop = λ same. passed_apart _ _ (Released 1001 2) (Released 1002 1) (released_there empty_view 1001 2) (released_there empty_view 1002 1) to_another (same empty_view);
+      added = λ view. refl;
+      lost = λ are. taken_told_apart empty_view taken 1001 2 (are empty_view);
     }
 
     on_steps : WorkedSteps
@@ -104,6 +178,22 @@ examples_hold = record { on_changes = on_changes; on_steps = on_steps; on_leads 
     }
       where
         made_of : (g : Gathered) → g.changes.items ≡ comes ∷ goes ∷ [] → made (last_view first_received.board g.code) g.changes.items ≡ no_more
+        made_of g is = ap (made (last_view first_received.board g.code)) is
+
+    on_passed_on : (gathered : Gathered) (of_1001 : gathered.code ≡ 1001) (these : gathered.changes.items ≡ takes ∷ gives_back ∷ []) → WorkedPassedOn gathered of_1001 these
+    on_passed_on gathered of_1001 these = record {
+      stands = record {
+        lower = lawful;
+        upper = lawful_passed_on;
+        same = refl;
+        at_hand = subst (IsAtHand first_received) (sym of_1001) volume_1;
+        working = sym (made_of gathered these);
+      };
+      content = refl;
+      not_these = λ stood. taken_told_apart empty_view taken 1001 2 (stood.working ∙ made_of gathered these);
+    }
+      where
+        made_of : (g : Gathered) → g.changes.items ≡ takes ∷ gives_back ∷ [] → made (last_view first_received.board g.code) g.changes.items ≡ given_back
         made_of g is = ap (made (last_view first_received.board g.code)) is
 
     on_calls : (alloc : Global) → WorkedCalls alloc

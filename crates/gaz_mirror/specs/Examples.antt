@@ -13,10 +13,12 @@ use Rattle.gaz_mirror.specs.Mirrored.{DropsUpper, Gathers, KeepsUpper, SparesLow
 use Rattle.gaz_mirror.specs.Mirrored.{seen_mirrored}
 use Rattle.gaz_mirror.specs.Mirroring.{mirrored}
 use Rattle.gaz_mirror.specs.declared.gathered.Change.{Change}
-use Rattle.gaz_mirror.specs.declared.gathered.Change.TheVariants.{Put, Take}
+use Rattle.gaz_mirror.specs.declared.gathered.Change.TheVariants.{Adopt, Put, Release, Take}
 use Rattle.gaz_mirror.specs.declared.gathered.Gathered.{Gathered}
 use Rattle.gaz_mirror.specs.declared.mirror.Mirror.{Mirror}
+use Rattle.gaz_records.specs.declared.item.Item.TheVariants as item
 use Rattle.gaz_records.specs.declared.key.Key.TheVariants as key
+use Rattle.gaz_views.specs.CustodyExamples.{alone, given_back, given_up, taken}
 use Rattle.gaz_views.specs.Examples.{no_more, one_street, street}
 use Rattle.gaz_views.specs.View.{empty_view}
 
@@ -41,6 +43,33 @@ pub record WorkedChanges : Type 0 where
   pub added : AreThen (comes ∷ []) (comes ∷ goes ∷ []) true goes
   pub not_added : AreThen (comes ∷ []) (comes ∷ []) false goes
   pub lost : ¬ AreThen (comes ∷ []) (comes ∷ []) true goes
+
+-- property 500 is adopted from 1001 at the first hop, or just put
+abbrev pub takes : Change
+takes = Adopt (record { blpu = item.Blpu alone; from = 1001; hop = 1; is_blpu = refl })
+
+abbrev pub puts : Change
+puts = Put (record { item = item.Blpu alone; entry = refl })
+
+-- number 500 is released to 1002 at the first hop, or back to 1001 at the second
+abbrev pub gives : Change
+gives = Release 500 1002 1
+
+abbrev pub gives_back : Change
+gives_back = Release 500 1001 2
+
+-- so are numbers passed on
+pub record WorkedPassing : Type 0 where
+  pub released : made empty_view (gives ∷ []) ≡ given_up
+  pub adopted : made empty_view (takes ∷ []) ≡ taken
+  pub both : made empty_view (takes ∷ gives_back ∷ []) ≡ given_back
+  pub in_order : made empty_view (gives_back ∷ takes ∷ []) ≢ given_back
+  pub same : IsSameChange takes takes
+  pub not_a_put : ¬ IsSameChange takes puts
+  pub not_a_take : ¬ IsSameChange gives (Take (key.Blpu 500))
+  pub not_at_another_hop : ¬ IsSameChange gives gives_back
+  pub added : AreThen (takes ∷ []) (takes ∷ gives_back ∷ []) true gives_back
+  pub lost : ¬ AreThen (takes ∷ []) (takes ∷ []) true gives_back
 
 -- ---- two keepers
 
@@ -113,6 +142,14 @@ pub record WorkedGathered (gathered : Gathered) (of_1001 : gathered.code ≡ 100
   pub not_these : ¬ (gathered_above gathered (with_working first_received one_street)).stands
   pub no_file : ¬ (gathered_above gathered (with_working empty_content no_more)).stands
 
+-- of which property 500 was adopted and given back
+pub record WorkedPassedOn (gathered : Gathered) (of_1001 : gathered.code ≡ 1001)
+    (these : gathered.changes.items ≡ takes ∷ gives_back ∷ []) : Type 0 where
+  pub stands : (gathered_above gathered (with_working first_received given_back)).stands
+  pub content : (gathered_above gathered (with_working first_received given_back)).content
+      ≡ with_working first_received given_back
+  pub not_these : ¬ (gathered_above gathered (with_working first_received taken)).stands
+
 -- what a call leaves of the two
 pub record WorkedCalls (alloc : Global) : Type 0 where
   pub kept : KeepsUpper (over alloc first_received (Some first_received))
@@ -134,10 +171,14 @@ pub record WorkedCalls (alloc : Global) : Type 0 where
 
 pub record WorkedExamples : Type 0 where
   pub on_changes : WorkedChanges
+  pub on_passing : WorkedPassing
   pub on_steps : WorkedSteps
   pub on_leads : (gathered : Gathered) (of_one : gathered.code ≡ 1)
       → WorkedLeads gathered of_one
   pub on_mirrors : (alloc : Global) → WorkedMirrors alloc
   pub on_gathered : (gathered : Gathered) (of_1001 : gathered.code ≡ 1001)
       (these : gathered.changes.items ≡ comes ∷ goes ∷ []) → WorkedGathered gathered of_1001 these
+  pub on_passed_on : (gathered : Gathered) (of_1001 : gathered.code ≡ 1001)
+      (these : gathered.changes.items ≡ takes ∷ gives_back ∷ [])
+      → WorkedPassedOn gathered of_1001 these
   pub on_calls : (alloc : Global) → WorkedCalls alloc

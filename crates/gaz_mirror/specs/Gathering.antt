@@ -1,15 +1,24 @@
 -- What is gathered of a judgement, and what it makes of a view.
 use Rattle.std.specs.Prelude.{◌≡◌, Bool, if◌then◌else◌, List, Result, fold}
+use Rattle.std.specs.Option.{option_map_or}
 use Rattle.gaz_keeper.specs.Keeper.{Seen, Sets}
 use Rattle.gaz_keeper.specs.declared.fault.ShelfFault.{ShelfFault}
-use Rattle.gaz_views.specs.View.{View, with_item, without_key}
+use Rattle.gaz_views.specs.Numbered.{as_blpu}
+use Rattle.gaz_views.specs.View.{View, with_adoption, with_item, with_release, without_key}
+use Rattle.gaz_mirror.specs.declared.gathered.Adoption.{Adoption}
 use Rattle.gaz_mirror.specs.declared.gathered.Change.{Change}
-use Rattle.gaz_mirror.specs.declared.gathered.Change.TheVariants.{Put, Take}
+use Rattle.gaz_mirror.specs.declared.gathered.Change.TheVariants.{Adopt, Put, Release, Take}
+
+-- the view with a BLPU adopted; of another item nothing would become
+abbrev pub adopted : View → Adoption → View
+adopted view a = option_map_or (λ b. with_adoption view b a.from a.hop) (as_blpu a.blpu) view
 
 -- the view with a change made
 abbrev pub makes : View → Change → View
 makes view (Put entry) = with_item view entry.item
 makes view (Take key) = without_key view key
+makes view (Release uprn to hop) = with_release view uprn to hop
+makes view (Adopt adoption) = adopted view adoption
 
 -- with these changes made, one after another
 abbrev pub made : View → List Change → View

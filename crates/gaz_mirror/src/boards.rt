@@ -1,26 +1,32 @@
 //! The calls of a keeper over two that concern boards.
 ghost use Rattle.std.specs.Prelude.{◌≡◌, ◌≢◌, true};
+ghost use Rattle.std.specs.Option.{IsSome};
 ghost use Rattle.gaz_records.specs.Items.{is_entry};
 ghost use Rattle.gaz_records.specs.Kinds.{is_entry_kind};
+ghost use Rattle.gaz_views.specs.Numbered.{as_blpu};
 ghost use Rattle.gaz_keeper.specs.Keeper.{Idle, IsNotOpen, Refuses};
-ghost use Rattle.gaz_keeper.specs.Telling.{Abandons, Applies, Begins, Puts, Skips, Takes};
+ghost use Rattle.gaz_keeper.specs.Telling.{Abandons, Adopts, Applies, Begins, Puts, Releases};
+ghost use Rattle.gaz_keeper.specs.Telling.{Skips, Takes};
 ghost use Rattle.gaz_keeper.specs.Telling.{TellsApprovedOf, TellsApprovedOn, TellsAt};
 ghost use Rattle.gaz_keeper.specs.Telling.{TellsChildren};
-ghost use Rattle.gaz_keeper.specs.Telling.{TellsCurrent, TellsEver, TellsPage, TellsPropertyOf};
-ghost use Rattle.gaz_keeper.specs.Telling.{TellsReached, TellsVerdict};
+ghost use Rattle.gaz_keeper.specs.Telling.{TellsCurrent, TellsCustody, TellsCustodyAt};
+ghost use Rattle.gaz_keeper.specs.Telling.{TellsEver, TellsPage, TellsPropertyOf};
+ghost use Rattle.gaz_keeper.specs.Telling.{TellsReached, TellsTied, TellsVerdict};
 ghost use Rattle.gaz_mirror.specs.Mirrored.{DropsUpper, Gathers, KeepsUpper, SparesLower};
 ghost use Rattle.gaz_mirror.specs.Mirrored.{seen_mirrored};
 
 use crate::asked::{
     ApprovedOf, ApprovedOn, At, Children, Current, Ever, Page, PropertyOf, Reached, VerdictOn,
 };
-use crate::gathered::{Change, Entry, Gathered};
+use crate::asked_custody::{CustodyAt, CustodyOf, Tied};
+use crate::gathered::{Adoption, Change, Entry, Gathered};
 use crate::mirror::Mirror;
 use crate::turns::change;
 use crate::unshared::Unshared;
-use gaz_ids::{Code, Lang, Uprn, Usrn, Volume};
+use gaz_ids::{Code, Hop, Lang, Uprn, Usrn, Volume};
 use gaz_keeper::{Inbox, Property, Shelf, ShelfFault, Verdict};
 use gaz_records::{Key, Kind, SharedItem};
+use gaz_views::Custody;
 
 // Beside what every keeper tells: a reading keeps the upper keeper, and a fault of a change leaves
 // none. While a judgement is gathered, the lower keeper is as it was.
@@ -99,6 +105,32 @@ impl<L: Inbox + Drop, U: Unshared + Drop> Shelf for Mirror<L, U> {
         self.read(&Children { code, uprn })
     }
 
+    fn custody(&mut self, code: Code, uprn: Uprn) -> Result<Option<Custody>, ShelfFault>
+        ensures reads { TellsCustody seen_mirrored self.old self.new result code uprn }
+        ensures keeps { KeepsUpper self.old self.new }
+    {
+        self.read(&CustodyOf { code, uprn })
+    }
+
+    fn custody_at(
+        &mut self,
+        code: Code,
+        volume: u64,
+        uprn: Uprn,
+    ) -> Result<Option<Custody>, ShelfFault>
+        ensures reads { TellsCustodyAt seen_mirrored self.old self.new result code volume uprn }
+        ensures keeps { KeepsUpper self.old self.new }
+    {
+        self.read(&CustodyAt { code, volume, uprn })
+    }
+
+    fn tied(&mut self, code: Code, uprn: Uprn) -> Result<bool, ShelfFault>
+        ensures reads { TellsTied seen_mirrored self.old self.new result code uprn }
+        ensures keeps { KeepsUpper self.old self.new }
+    {
+        self.read(&Tied { code, uprn })
+    }
+
     fn page(
         &mut self,
         code: Code,
@@ -156,6 +188,27 @@ impl<L: Inbox + Drop, U: Unshared + Drop> Shelf for Mirror<L, U> {
         ensures spares { Gathers self.old → SparesLower self.old self.new }
     {
         self.change(Change::Take(*key))
+    }
+
+    fn release(&mut self, uprn: Uprn, to: Code, hop: Hop) -> Result<(), ShelfFault>
+        requires { (seen_mirrored self.old).progress ≢ Idle }
+        ensures sets { Releases seen_mirrored self.old self.new result uprn to hop }
+        ensures refuses { Refuses (seen_mirrored self.old) result }
+        ensures drops { DropsUpper result self.new }
+        ensures spares { Gathers self.old → SparesLower self.old self.new }
+    {
+        self.change(Change::Release { uprn, to, hop })
+    }
+
+    fn adopt(&mut self, blpu: SharedItem, from: Code, hop: Hop) -> Result<(), ShelfFault>
+        requires begun { (seen_mirrored self.old).progress ≢ Idle }
+        requires blpu { IsSome (as_blpu blpu) }
+        ensures sets { Adopts seen_mirrored self.old self.new result blpu from hop }
+        ensures refuses { Refuses (seen_mirrored self.old) result }
+        ensures drops { DropsUpper result self.new }
+        ensures spares { Gathers self.old → SparesLower self.old self.new }
+    {
+        self.change(Change::Adopt(Adoption { blpu, from, hop }))
     }
 
     fn keep(&mut self) -> Result<(), ShelfFault>

@@ -6,7 +6,7 @@ ghost use Rattle.gaz_keeper.specs.Board.{last_view};
 ghost use Rattle.gaz_mirror.specs.Gathering.{AreSameChanges, AreThen, IsSameChange};
 ghost use Rattle.gaz_mirror.specs.Gathering.{Makes, MakesAll, made};
 
-use crate::gathered::{Change, Entry, Gathered};
+use crate::gathered::{Adoption, Change, Entry, Gathered};
 use gaz_ids::Code;
 use gaz_keeper::{Shelf, ShelfFault};
 use std::alloc::{AllocError, Global};
@@ -22,6 +22,19 @@ impl Change {
                 Ok(Change::Put(Entry { item }))
             }
             Change::Take(key) => Ok(Change::Take(*key)),
+            Change::Release { uprn, to, hop } => Ok(Change::Release {
+                uprn: *uprn,
+                to: *to,
+                hop: *hop,
+            }),
+            Change::Adopt(adoption) => {
+                let blpu = adoption.blpu.share()?;
+                Ok(Change::Adopt(Adoption {
+                    blpu,
+                    from: adoption.from,
+                    hop: adoption.hop,
+                }))
+            }
         }
     }
 }
@@ -79,6 +92,8 @@ pub(crate) fn make<K: Shelf>(keeper: &mut K, change: Change) -> Result<(), Shelf
     match change {
         Change::Put(entry) => keeper.put(entry.item),
         Change::Take(key) => keeper.take(&key),
+        Change::Release { uprn, to, hop } => keeper.release(uprn, to, hop),
+        Change::Adopt(adoption) => keeper.adopt(adoption.blpu, adoption.from, adoption.hop),
     }
 }
 

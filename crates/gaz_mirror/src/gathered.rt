@@ -1,8 +1,10 @@
 //! What is gathered of a judgement.
 ghost use Rattle.std.specs.Prelude.{◌≡◌, true};
+ghost use Rattle.std.specs.Option.{IsSome};
 ghost use Rattle.gaz_records.specs.Items.{is_entry};
+ghost use Rattle.gaz_views.specs.Numbered.{as_blpu};
 
-use gaz_ids::Code;
+use gaz_ids::{Code, Hop, Uprn};
 use gaz_records::{Key, SharedItem};
 
 /// An item that is an entry.
@@ -12,6 +14,15 @@ pub(crate) struct Entry {
     ghost entry: { is_entry item ≡ true },
 }
 
+/// An item that is a BLPU, and how it came from another custodian.
+#[derive(Drop)]
+pub(crate) struct Adoption {
+    pub(crate) blpu: SharedItem,
+    pub(crate) from: Code,
+    pub(crate) hop: Hop,
+    ghost is_blpu: { IsSome (as_blpu blpu) },
+}
+
 /// A change of a working view.
 #[derive(Drop)]
 pub(crate) enum Change {
@@ -19,6 +30,10 @@ pub(crate) enum Change {
     Put(Entry),
     /// Takes a key's item.
     Take(Key),
+    /// Releases a number to another custodian.
+    Release { uprn: Uprn, to: Code, hop: Hop },
+    /// Adopts a BLPU from another custodian.
+    Adopt(Adoption),
 }
 
 /// The changes of a custodian's judgement, as they came.

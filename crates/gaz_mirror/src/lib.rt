@@ -2,6 +2,7 @@
 #![tactic(auto)]
 
 mod asked;
+mod asked_custody;
 mod asked_files;
 mod boards;
 mod changes;

@@ -17,7 +17,6 @@ use Rattle.gaz_keeper.specs.Examples.{first_received, kept_safe}
 use Rattle.gaz_keeper.specs.Keeper.{IsLawful, empty_content, with_working}
 use Rattle.gaz_keeper.specs.Received.{pair_cmp, with_file}
 use Rattle.gaz_register.specs.Registers.{blocks_of}
-use Rattle.gaz_hub.proofs.OwnNumbers.{all_own_holds}
 use Rattle.gaz_hub.specs.Hubs.{door_of}
 use Rattle.gaz_hub.specs.Sample.{sample_custodians}
 use Rattle.gaz_hub.specs.Standing.{IsPartial}
@@ -57,7 +56,7 @@ partial = record { order = []; leads = refl }
 nothing_yet : CanBeMirrored (door_of sample_custodians) (at_rest empty_content)
 nothing_yet = record {
   run = record {
-    stands = (lawful, record { known = λ p some. none_there p some; own = all_own_holds sample_custodians finite.empty empty_board partial });
+    stands = (lawful, record { known = λ p some. none_there p some; partial = partial });
     partial = partial;
   };
   volumes = λ p some. none_there p some;

@@ -19,7 +19,8 @@ use Rattle.gaz_records.specs.declared.key.Key.{Key}
 use Rattle.gaz_views.specs.View.{View}
 use Rattle.gaz_overlay.specs.Changes.{Changes, stood_in}
 use Rattle.gaz_overlay.specs.Over.{IsStood, Make, key_view}
-use Rattle.gaz_overlay.specs.Rows.{AllApart, AreApart, HasCurrent, HistoryRow, IsBefore, IsCurrent, IsUntil, WritingsKeep, added, closed, holds_after, is_of_birth, never, new_row, view_after, written}
+use Rattle.gaz_overlay.specs.Passages.{PassageRow}
+use Rattle.gaz_overlay.specs.Rows.{AllApart, AreApart, HasCurrent, HistoryRow, IsBefore, IsCurrent, IsUntil, WritingsKeep, added, closed, holds_after, is_of_birth, never, new_row, view_after, view_of_rows, written}
 use Rattle.gaz_overlay.specs.Writings.{born_in, writing_at, writing_of}
 use Rattle.gaz_overlay.specs.declared.touch.NewRow.{NewRow}
 use Rattle.gaz_overlay.specs.declared.touch.Stood.{Stood}
@@ -216,7 +217,7 @@ all_stand n (r ∷ rows) room until = (here, one_more n r rows rows (all_stand n
         let gone = lt_so n r.gone (omega arith) in
         ap (λ o. is_some (cond o (Some r.item) (stands n r.key rows))) (λ i. (born i && gone i) && ap is_eq (tied_itself keys_total r.key) i)
 
-module _ (rows : Rows) (n : ℕ) (c : Changes) (w : View) (room : n + 1 < never) (made : Make (view_after rows n) c w) where
+module _ (rows : Rows) (was : List PassageRow) (n : ℕ) (c : Changes) (w : View) (room : n + 1 < never) (made : Make (view_of_rows rows was n) c w) where
   -- where something was put over a current row that row is closed
   closes_it : (r : HistoryRow) → IsNoted c r → Stands n rows r → r.gone ≡ never → is_some (writing_at c r.key).adds ≡ true → is_of_birth (writing_at c r.key).closes r ≡ true
   closes_it r noted stood current puts = by_touch (finite.get c.touched r.key) refl puts
@@ -227,7 +228,7 @@ module _ (rows : Rows) (n : ℕ) (c : Changes) (w : View) (room : n + 1 < never)
       born_so : (b : ℕ) → stood_in c.touched r.key ≡ Since b → (b == r.born) ≡ true
       born_so b since = let same = (noted.noted b since).0 current in grind (arith, nat_tests)
 
-      by_stood : (stood : Stood) → IsStood stood (key_view (view_after rows n) r.key) → stood_in c.touched r.key ≡ stood → is_of_birth (born_in stood) r ≡ true
+      by_stood : (stood : Stood) → IsStood stood (key_view (view_of_rows rows was n) r.key) → stood_in c.touched r.key ≡ stood → is_of_birth (born_in stood) r ≡ true
       by_stood Never so is = absurd (true≢false (sym there ∙ ap is_some so.0))
       by_stood Past so is = absurd (true≢false (sym there ∙ ap is_some so.0))
       by_stood (Since b) so is = born_so b is
@@ -277,16 +278,16 @@ module _ (rows : Rows) (n : ℕ) (c : Changes) (w : View) (room : n + 1 < never)
 
 pub writings_keep : WritingsKeep
 unfolding written
-writings_keep rows n c w room h told made =
+writings_keep rows was n c w are room h told made pass =
     let below : n < never = omega arith in
     let noted = each_noted c rows (λ k volume since. only_one n k volume below rows h.until h.apart (told.told k volume since)) in
     let given : Given n c rows = record { room = room; until = h.until; noted = noted } in
     let keys = finite.keys c.touched in
     record {
-      next = next_view rows n c w given made;
-      past = past_view rows n c w given made;
+      next = next_view rows was are n c w given made pass;
+      past = past_view rows was are n c w given made pass;
       histories = record {
         until = all_both (IsUntil (n + 1)) (map (closed (n + 1) c) rows) (filter_map (added (n + 1) c) keys) (closed_until n c room rows h.until) (added_until (n + 1) c keys);
-        apart = joined rows n c w room made keys (added_apart (n + 1) c (finite.entries c.touched) (finite.entries_sorted c.touched)) rows noted h.until (all_stand n rows below h.until) (closed_apart n c room rows noted h.until h.apart);
+        apart = joined rows was n c w room made keys (added_apart (n + 1) c (finite.entries c.touched) (finite.entries_sorted c.touched)) rows noted h.until (all_stand n rows below h.until) (closed_apart n c room rows noted h.until h.apart);
       };
     }

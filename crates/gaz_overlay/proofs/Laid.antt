@@ -1,24 +1,31 @@
 -- Views with changes laid over them.
-use Rattle.std.proofs.Common.{◌≡◌, ◌∙◌, ◌++◌, ◌||◌, Bool, true, false, not, cond, sym, ap, refl, is_some, List, [], ◌∷◌, true≢false}
+use Rattle.std.proofs.Common.{◌≡◌, ◌∙◌, ◌++◌, ◌||◌, ℕ, Bool, true, false, not, cond, sym, ap, refl, is_some, List, [], ◌∷◌, true≢false}
 use Rattle.std.specs.Prelude.{Option, Some, None}
 use Rattle.std.specs.FinMap as finite
 use Rattle.std.specs.FinMap.{find}
 use Rattle.std.specs.FinSet as set
-use Rattle.std.specs.Cmp.{tied_itself}
-use Rattle.std.specs.Ordering.{eq_by_cmp, is_eq}
+use Rattle.std.specs.Cmp.{nat_cmp_total, tied_itself}
+use Rattle.std.specs.FinMap.{nat_cmp-IsAntisymmetric}
+use Rattle.std.specs.Option.{option_or}
+use Rattle.std.specs.Ordering.{eq_by_cmp, is_eq, nat_cmp}
 use Rattle.std.specs.declared.cmp.Ordering.TheVariants.{Equal}
 use Rattle.gaz_records.proofs.KeyOrder.{keys_exact, keys_total}
 use Rattle.gaz_records.specs.Items.{is_entry}
 use Rattle.gaz_records.specs.Keys.{key_cmp, key_of}
 use Rattle.gaz_records.specs.declared.item.Item.{Item}
+use Rattle.gaz_records.specs.Blpus.{BlpuValue}
+use Rattle.gaz_records.specs.declared.item.Item.TheVariants as item
 use Rattle.gaz_records.specs.declared.key.Key.{Key}
-use Rattle.gaz_views.proofs.Emptiness.{used_none}
+use Rattle.gaz_records.specs.declared.key.Key.TheVariants as key
+use Rattle.gaz_views.proofs.Emptiness.{no_custody, used_none}
 use Rattle.gaz_views.proofs.Lawful.{lawful_empty, lawful_put, lawful_taken}
 use Rattle.gaz_views.proofs.SameKeys.{same_key}
 use Rattle.gaz_views.specs.Lawful.{IsLawfulView}
-use Rattle.gaz_views.specs.View.{View, empty_view, holds, was_used, with_item, without_key}
-use Rattle.gaz_overlay.specs.Laid.{laid, untouched, with_copied, with_some}
-use Rattle.gaz_overlay.specs.Laws.{LaidViews}
+use Rattle.gaz_views.specs.View.{View, custody_at, empty_view, holds, was_used, with_adoption, with_item, with_release, without_key}
+use Rattle.gaz_views.specs.declared.custody.Custody.{Custody}
+use Rattle.gaz_views.specs.declared.custody.Custody.TheVariants.{Adopted, Released}
+use Rattle.gaz_overlay.specs.Laid.{laid, laid_custody, untouched, with_copied, with_some}
+use Rattle.gaz_overlay.specs.Laws.{LaidViews, custody_laid_at}
 
 -- ---- what stands at a key
 
@@ -66,10 +73,48 @@ same_view v w custody items used = λ i. record {
   custody = custody i;
 }
 
--- changes pass nothing on
-pub custody_laid : (v s : View) → (laid v s).custody ≡ v.custody
+-- ---- what became of numbers
+
+abbrev pub Passings : Type 0
+Passings = finite.FinMap nat_cmp Custody
+
+find_or : (n : ℕ) (a b : List (ℕ × Custody)) → find nat_cmp n (a ++ b) ≡ option_or (find nat_cmp n a) (find nat_cmp n b)
+find_or n [] b = refl
+find_or n (e ∷ a) b =
+    elim (eq_by_cmp nat_cmp n e.0) as (λ t. cond t (Some e.1) (find nat_cmp n (a ++ b)) ≡ option_or (cond t (Some e.1) (find nat_cmp n a)) (find nat_cmp n b)) [
+      | true ↦ refl
+      | false ↦ find_or n a b
+    ]
+
+pub custody_over : (was passed : Passings) (n : ℕ) → finite.get (laid_custody was passed) n ≡ option_or (finite.get passed n) (finite.get was n)
+unfolding laid_custody
+custody_over was passed n =
+    finite.get-from_entries nat_cmp_total (finite.entries passed ++ finite.entries was) n
+    ∙ find_or n (finite.entries passed) (finite.entries was)
+    ∙ (λ i. option_or (sym (finite.get-entries passed n) i) (sym (finite.get-entries was n) i))
+
+pub same_custody : (a b : Passings) → ((n : ℕ) → finite.get a n ≡ finite.get b n) → a ≡ b
+same_custody a b same = finite.same_map nat_cmp_total nat_cmp-IsAntisymmetric a b same
+
+pub custody_laid : (v s : View) → (laid v s).custody ≡ laid_custody v.custody s.custody
 unfolding laid
 custody_laid v s = refl
+
+pub custody_laid_is : (v s : View) (n : ℕ) → custody_at (laid v s) n ≡ custody_laid_at v s n
+custody_laid_is v s n = ap (λ (m : Passings). finite.get m n) (custody_laid v s) ∙ custody_over v.custody s.custody n
+
+or_put : (t : Bool) (x a b : Option Custody) → is_some x ≡ true → cond t x (option_or a b) ≡ option_or (cond t x a) b
+or_put true None a b some = absurd (true≢false (sym some))
+or_put true (Some x) a b some = refl
+or_put false x a b some = refl
+
+-- one number more is passed on
+pub more_passed : (v s : View) (n : ℕ) (x : Custody) → finite.insert (laid v s).custody n x ≡ laid_custody v.custody (finite.insert s.custody n x)
+more_passed v s n x = same_custody _ _ (λ m.
+    finite.get-insert nat_cmp_total (laid v s).custody n x m
+    ∙ ap (cond (eq_by_cmp nat_cmp m n) (Some x)) (custody_laid_is v s m)
+    ∙ or_put (eq_by_cmp nat_cmp m n) (Some x) (finite.get s.custody m) (finite.get v.custody m) refl
+    ∙ sym (custody_over v.custody (finite.insert s.custody n x) m ∙ ap (λ o. option_or o (finite.get v.custody m)) (finite.get-insert nat_cmp_total s.custody n x m)))
 
 -- ---- changes
 
@@ -182,7 +227,8 @@ or_none true = refl
 or_none false = refl
 
 pub nothing : (v : View) → laid v empty_view ≡ v
-nothing v = same_view (laid v empty_view) v (custody_laid v empty_view)
+nothing v = same_view (laid v empty_view) v
+    (custody_laid v empty_view ∙ same_custody _ _ (λ n. custody_over v.custody empty_view.custody n ∙ ap (λ o. option_or o (finite.get v.custody n)) (no_custody n)))
     (λ q. at_key v empty_view lawful_empty q ∙ ap (λ b. cond b (finite.get empty_view.items q) (finite.get v.items q)) (used_none q))
     (λ q. used_at v empty_view q ∙ ap (λ b. was_used v q || b) (used_none q) ∙ or_none (was_used v q))
 
@@ -214,13 +260,70 @@ lawful_laid v s last lawful = record { entries = entries; keyed = keyed; used = 
         by_use true is = or_right (was_used v k)
         by_use false is = ap (λ b. b || false) (last.used k is)
 
+-- ---- a number is passed on
+
+pub lawful_released : (s : View) (n to hop : ℕ) → IsLawfulView s → IsLawfulView (with_release s n to hop)
+lawful_released s n to hop was =
+    let left = lawful_taken s (key.Blpu n) was in
+    record {
+      entries = left.entries;
+      keyed = left.keyed;
+      used = λ k there. set.contains-insert keys_total s.used (key.Blpu n) k ∙ ap (λ b. tie k (key.Blpu n) || b) (left.used k there) ∙ or_right (tie k (key.Blpu n));
+    }
+
+pub lawful_adopted : (s : View) (b : BlpuValue) (from hop : ℕ) → IsLawfulView s → IsLawfulView (with_adoption s b from hop)
+lawful_adopted s b from hop was =
+    let set = lawful_put s (item.Blpu b) refl was in
+    record { entries = set.entries; keyed = set.keyed; used = set.used }
+
+pub released : (v s : View) → IsLawfulView s → (n to hop : ℕ) → with_release (laid v s) n to hop ≡ laid v (with_release s n to hop)
+released v s lawful n to hop =
+    same_view (with_release (laid v s) n to hop) (laid v (with_release s n to hop))
+    (more_passed v s n (Released to hop) ∙ sym (custody_laid v (with_release s n to hop))) items used
+  where
+    items : (q : Key) → finite.get (with_release (laid v s) n to hop).items q ≡ finite.get (laid v (with_release s n to hop)).items q
+    items q =
+        let uses = set.contains-insert keys_total s.used (key.Blpu n) q in
+        let gets = finite.get-remove keys_total s.items (key.Blpu n) q in
+        finite.get-remove keys_total (laid v s).items (key.Blpu n) q
+        ∙ ap (cond (tie q (key.Blpu n)) None) (at_key v s lawful q)
+        ∙ put_item (tie q (key.Blpu n)) (was_used s q) None (finite.get s.items q) (finite.get v.items q)
+        ∙ sym (at_key v (with_release s n to hop) (lawful_released s n to hop lawful) q ∙ (λ j. cond (uses j) (gets j) (finite.get v.items q)))
+
+    used : (q : Key) → was_used (with_release (laid v s) n to hop) q ≡ was_used (laid v (with_release s n to hop)) q
+    used q =
+        set.contains-insert keys_total (laid v s).used (key.Blpu n) q
+        ∙ ap (λ b. tie q (key.Blpu n) || b) (used_at v s q)
+        ∙ turned (tie q (key.Blpu n)) (was_used v q) (was_used s q)
+        ∙ sym (used_at v (with_release s n to hop) q ∙ ap (λ b. was_used v q || b) (set.contains-insert keys_total s.used (key.Blpu n) q))
+
+-- an item that is put beside it is put where it was adopted
+as_put_items : (v s : View) (b : BlpuValue) (from hop : ℕ) → (laid v (with_adoption s b from hop)).items ≡ (laid v (with_item s (item.Blpu b))).items
+unfolding laid
+as_put_items v s b from hop = refl
+
+as_put_used : (v s : View) (b : BlpuValue) (from hop : ℕ) → (laid v (with_adoption s b from hop)).used ≡ (laid v (with_item s (item.Blpu b))).used
+unfolding laid
+as_put_used v s b from hop = refl
+
+pub adopted : (v s : View) → IsLawfulView s → (b : BlpuValue) (from hop : ℕ) → with_adoption (laid v s) b from hop ≡ laid v (with_adoption s b from hop)
+adopted v s lawful b from hop =
+    let is = put v s lawful (item.Blpu b) refl in
+    let custody = more_passed v s b.uprn (Adopted from hop) ∙ sym (custody_laid v (with_adoption s b from hop)) in
+    let items = ap (λ (w : View). w.items) is ∙ sym (as_put_items v s b from hop) in
+    let used = ap (λ (w : View). w.used) is ∙ sym (as_put_used v s b from hop) in
+    λ i. record { items = items i; used = used i; custody = custody i }
+
 pub laid_views : LaidViews
 laid_views = record {
   at = λ v s lawful k. record { item = at_key v s lawful k; used = used_at v s k };
+  custody = custody_laid_is;
   nothing = nothing;
   lawful = lawful_laid;
   put = put;
   taken = taken;
   copied = key_copied;
   ready = ready;
+  released = released;
+  adopted = adopted;
 }

@@ -3,5 +3,7 @@ pub mod Questions
 pub mod Making
 pub mod Rows
 pub mod Kept
+pub mod PassedTree
 pub mod Examples
+pub mod PassingExamples
 pub mod Apart

@@ -19,7 +19,7 @@ use Rattle.gaz_records.specs.declared.key.Key.TheVariants as key
 use Rattle.gaz_views.proofs.SameKeys.{same_key}
 use Rattle.gaz_views.specs.Lawful.{IsLawfulView}
 use Rattle.gaz_views.specs.View.{View, was_used}
-use Rattle.gaz_views.specs.Words.{address_of, approved_of, entries, first_of, property_of, is_approved_of, is_approved_on, is_child_of}
+use Rattle.gaz_views.specs.Words.{address_of, approved_of, entries, first_of, property_of, is_approved_of, is_approved_on, is_child_of, names}
 use Rattle.gaz_overlay.specs.Laid.{laid, untouched}
 use Rattle.gaz_overlay.specs.Questions.{LaidQuestions, any_with, both, in_order, keys_with, property_at}
 use Rattle.gaz_overlay.proofs.Laid.{at_key}
@@ -132,6 +132,7 @@ laid_questions v s lawful = record {
   property_of = λ uprn. property_by_key (laid v s) uprn (both s (approved_of v uprn) (approved_of s uprn)) (keys_laid (is_approved_of uprn) v s lawful);
   approved_on = λ usrn lang. any_laid (is_approved_on usrn lang) v s lawful;
   has_children = λ uprn. any_laid (is_child_of uprn) v s lawful;
+  tied = λ uprn. any_laid (names uprn) v s lawful;
 }
 
 -- ---- keys of two lists as they are merged

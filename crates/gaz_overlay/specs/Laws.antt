@@ -1,11 +1,15 @@
 -- What laid views keep to.
-use Rattle.std.specs.Prelude.{◌≡◌, ◌||◌, true, false, if◌then◌else◌, None}
+use Rattle.std.specs.Prelude.{◌≡◌, ◌||◌, ℕ, true, false, if◌then◌else◌, Option, None}
 use Rattle.std.specs.FinMap as map
+use Rattle.std.specs.Option.{option_or}
+use Rattle.gaz_records.specs.Blpus.{BlpuValue}
 use Rattle.gaz_records.specs.Items.{is_entry}
 use Rattle.gaz_records.specs.declared.item.Item.{Item}
 use Rattle.gaz_records.specs.declared.key.Key.{Key}
 use Rattle.gaz_views.specs.Lawful.{IsLawfulView}
-use Rattle.gaz_views.specs.View.{View, empty_view, was_used, with_item, without_key}
+use Rattle.gaz_views.specs.View.{View, custody_at, empty_view, was_used, with_adoption, with_item}
+use Rattle.gaz_views.specs.View.{with_release, without_key}
+use Rattle.gaz_views.specs.declared.custody.Custody.{Custody}
 use Rattle.gaz_overlay.specs.Laid.{laid, with_copied}
 
 -- what a laid view has at a key
@@ -13,9 +17,14 @@ pub record LaidAt (v s : View) (k : Key) : Type 0 where
   pub item : map.get (laid v s).items k ≡ (if was_used s k then map.get s.items k else map.get v.items k)
   pub used : was_used (laid v s) k ≡ (was_used v k || was_used s k)
 
+-- what became of a number in it
+abbrev pub custody_laid_at : View → View → ℕ → Option Custody
+custody_laid_at v s uprn = option_or (custody_at s uprn) (custody_at v uprn)
+
 -- a change of the laid view is one of the changes; where there are none the view is as it was
 pub record LaidViews : Type 0 where
   pub at : (v s : View) → IsLawfulView s → (k : Key) → LaidAt v s k
+  pub custody : (v s : View) (uprn : ℕ) → custody_at (laid v s) uprn ≡ custody_laid_at v s uprn
   pub nothing : (v : View) → laid v empty_view ≡ v
   pub lawful : (v s : View) → IsLawfulView v → IsLawfulView s → IsLawfulView (laid v s)
   pub put : (v s : View) → IsLawfulView s → (i : Item) → is_entry i ≡ true
@@ -25,3 +34,8 @@ pub record LaidViews : Type 0 where
   -- to copy what the view has at a key alters nothing, and the key can be taken then
   pub copied : (v s : View) → IsLawfulView v → IsLawfulView s → (k : Key) → laid v (with_copied s k (map.get v.items k)) ≡ laid v s
   pub ready : (v s : View) → IsLawfulView v → (k : Key) → was_used (with_copied s k (map.get v.items k)) k ≡ false → map.get v.items k ≡ None
+  -- a number is passed on, whatever stands at its BLPU's key
+  pub released : (v s : View) → IsLawfulView s → (uprn to hop : ℕ)
+      → with_release (laid v s) uprn to hop ≡ laid v (with_release s uprn to hop)
+  pub adopted : (v s : View) → IsLawfulView s → (blpu : BlpuValue) (from hop : ℕ)
+      → with_adoption (laid v s) blpu from hop ≡ laid v (with_adoption s blpu from hop)

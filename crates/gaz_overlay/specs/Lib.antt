@@ -4,7 +4,9 @@ pub mod ChangesCode
 pub mod Writings
 pub mod Over
 pub mod Making
+pub mod Passages
 pub mod Rows
 pub mod Laws
 pub mod Questions
 pub mod Examples
+pub mod PassingExamples

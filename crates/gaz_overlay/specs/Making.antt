@@ -1,13 +1,19 @@
 -- What each change makes of the working view.
-use Rattle.std.specs.Prelude.{◌≡◌, true, false, Some}
+use Rattle.std.specs.Prelude.{◌≡◌, ℕ, true, false, Option, Some, is_some}
 use Rattle.std.specs.FinMap as map
+use Rattle.gaz_records.specs.Blpus.{BlpuValue}
 use Rattle.gaz_records.specs.Items.{is_entry}
 use Rattle.gaz_records.specs.Keys.{key_of}
 use Rattle.gaz_records.specs.declared.item.Item.{Item}
 use Rattle.gaz_records.specs.declared.key.Key.{Key}
+use Rattle.gaz_records.specs.declared.key.Key.TheVariants as key
 use Rattle.gaz_views.specs.Lawful.{IsLawfulView}
-use Rattle.gaz_views.specs.View.{View, with_item, without_key}
-use Rattle.gaz_overlay.specs.Changes.{Changes, is_touched, no_changes, was_used_in, with_put, with_taken, with_touched}
+use Rattle.gaz_views.specs.View.{View, custody_at, with_adoption, with_item, with_release}
+use Rattle.gaz_views.specs.View.{without_key}
+use Rattle.gaz_overlay.specs.Changes.{Changes, is_passed, is_touched, no_changes, was_used_in}
+use Rattle.gaz_overlay.specs.Changes.{with_adopted_blpu, with_put, with_released, with_taken}
+use Rattle.gaz_overlay.specs.Changes.{with_touched}
+use Rattle.gaz_overlay.specs.Laws.{custody_laid_at}
 use Rattle.gaz_overlay.specs.Over.{IsStood, KeyView, Make, key_view}
 use Rattle.gaz_overlay.specs.Writings.{writing_at}
 use Rattle.gaz_overlay.specs.declared.touch.NewRow.{NewRow}
@@ -16,6 +22,11 @@ use Rattle.gaz_overlay.specs.declared.touch.Stood.{Stood}
 -- what the working view has at a touched key
 abbrev pub told : Changes → Key → KeyView
 told c k = record { item = map.get c.view.items k; used = was_used_in c k }
+
+-- where a number is passed on first, a volume is given just if something had become of it before
+abbrev pub IsSince : View → Changes → ℕ → Option ℕ → Type 0
+IsSince v c uprn since =
+    is_passed c uprn ≡ false → is_some since ≡ is_some (custody_at v uprn)
 
 -- no changes make the last view; to touch a key alters nothing, to put and to take do just that; and
 -- the changes alone say what the working view has at touched keys, the last view what it has at others;
@@ -27,6 +38,16 @@ pub record ChangesMake : Type 0 where
   pub put : (v : View) (c : Changes) (w : View) → Make v c w → (i : Item) → is_entry i ≡ true
       → is_touched c (key_of i) ≡ true → Make v (with_put c i) (with_item w i)
   pub taken : (v : View) (c : Changes) (w : View) → Make v c w → (k : Key) → is_touched c k ≡ true → Make v (with_taken c k) (without_key w k)
+  pub released : (v : View) (c : Changes) (w : View) → Make v c w → (uprn to hop : ℕ)
+      → (since : Option ℕ) → is_touched c (key.Blpu uprn) ≡ true → IsSince v c uprn since
+      → Make v (with_released c uprn to hop since) (with_release w uprn to hop)
+  pub adopted : (v : View) (c : Changes) (w : View) → Make v c w → (blpu : BlpuValue)
+      → (from hop : ℕ) (since : Option ℕ) → is_touched c (key.Blpu blpu.uprn) ≡ true
+      → IsSince v c blpu.uprn since
+      → Make v (with_adopted_blpu c blpu from hop since) (with_adoption w blpu from hop)
+  -- of a number that was passed on the changes say what became of it, of others the last view
+  pub custody : (v : View) (c : Changes) (w : View) → Make v c w → (uprn : ℕ)
+      → custody_at w uprn ≡ custody_laid_at v c.view uprn
   pub there : (v : View) (c : Changes) (w : View) → Make v c w → (k : Key) → is_touched c k ≡ true → key_view w k ≡ told c k
   pub elsewhere : (v : View) (c : Changes) (w : View) → Make v c w → (k : Key) → is_touched c k ≡ false → key_view w k ≡ key_view v k
   pub own : (v : View) (c : Changes) (w : View) → Make v c w → (k : Key) (r : NewRow) → (writing_at c k).adds ≡ Some r → key_of r.item ≡ k

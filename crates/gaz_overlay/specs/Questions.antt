@@ -11,7 +11,7 @@ use Rattle.gaz_records.specs.declared.key.Key.{Key}
 use Rattle.gaz_records.specs.declared.key.Key.TheVariants as key
 use Rattle.gaz_views.specs.Lawful.{IsLawfulView}
 use Rattle.gaz_views.specs.View.{View}
-use Rattle.gaz_views.specs.Words.{approved_of, approved_on, entries, has_children, first_of, is_approved_on, is_child_of, property_of}
+use Rattle.gaz_views.specs.Words.{approved_of, approved_on, entries, has_children, first_of, is_approved_on, is_child_of, names, property_of, tied}
 use Rattle.gaz_views.specs.declared.property.Property.{Property}
 use Rattle.gaz_overlay.specs.Laid.{any_untouched, laid, untouched}
 
@@ -48,6 +48,8 @@ pub record LaidAnswers (v s : View) : Type 0 where
   pub approved_on : (usrn : ℕ) (lang : Option Lang)
       → approved_on (laid v s) usrn lang ≡ (any_untouched s (keys_with (is_approved_on usrn lang) v) || approved_on s usrn lang)
   pub has_children : (uprn : ℕ) → has_children (laid v s) uprn ≡ (any_untouched s (keys_with (is_child_of uprn) v) || has_children s uprn)
+  pub tied : (uprn : ℕ)
+      → tied (laid v s) uprn ≡ (any_untouched s (keys_with (names uprn) v) || tied s uprn)
 
 -- each question of a laid view is answered from what the last view and the changes answer
 abbrev pub LaidQuestions : Type 0

@@ -10,6 +10,7 @@ use Rattle.gaz_records.specs.declared.key.Key.{Key}
 use Rattle.gaz_views.specs.View.{View, view_of}
 use Rattle.gaz_overlay.specs.Changes.{Changes, stood_in}
 use Rattle.gaz_overlay.specs.Over.{Make}
+use Rattle.gaz_overlay.specs.Passages.{PassageRow, PassOn, with_passages}
 use Rattle.gaz_overlay.specs.Writings.{writing_at}
 use Rattle.gaz_overlay.specs.declared.touch.NewRow.{NewRow}
 use Rattle.gaz_overlay.specs.declared.touch.Stood.TheVariants.{Since}
@@ -102,14 +103,21 @@ HasCurrent (r ∷ rows) k volume = IsCurrent k volume r ⊎ HasCurrent rows k vo
 pub record AreTold (c : Changes) (rows : List HistoryRow) : Type 0 where
   pub told : (k : Key) (volume : ℕ) → stood_in c.touched k ≡ Since volume → HasCurrent rows k volume
 
--- these rows keep a volume: the working view is the view after it, the views before it stay, and the
--- rows are those of histories again
-pub record KeepVolume (old : List HistoryRow) (n : ℕ) (working : View) (new : List HistoryRow) : Type 0 where
-  pub next : view_after new (n + 1) ≡ working
-  pub past : (t : ℕ) → t ≤ n → view_after new t ≡ view_after old t
+-- the view after a volume, of the rows of items and of passages
+abbrev pub view_of_rows : List HistoryRow → List PassageRow → ℕ → View
+view_of_rows rows passages t = with_passages (view_after rows t) passages t
+
+-- these rows, beside their passages, keep a volume: the working view is the view after it, the
+-- views before it stay, and the rows are those of histories again
+pub record KeepVolume (old : List HistoryRow) (was : List PassageRow) (n : ℕ) (working : View)
+    (new : List HistoryRow) (are : List PassageRow) : Type 0 where
+  pub next : view_of_rows new are (n + 1) ≡ working
+  pub past : (t : ℕ) → t ≤ n → view_of_rows new are t ≡ view_of_rows old was t
   pub histories : AreHistories (n + 1) new
 
--- what is written for the touched keys keeps the volume
+-- what is written for the touched keys keeps the volume, where what was passed on is written too
 abbrev pub WritingsKeep : Type 0
-WritingsKeep = (rows : List HistoryRow) (n : ℕ) (c : Changes) (w : View) → n + 1 < never → AreHistories n rows → AreTold c rows
-    → Make (view_after rows n) c w → KeepVolume rows n w (written (n + 1) c rows)
+WritingsKeep = (rows : List HistoryRow) (was : List PassageRow) (n : ℕ) (c : Changes) (w : View)
+    → (are : List PassageRow) → n + 1 < never → AreHistories n rows → AreTold c rows
+    → Make (view_of_rows rows was n) c w → PassOn c n was are
+    → KeepVolume rows was n w (written (n + 1) c rows) are

@@ -3,8 +3,9 @@ use Rattle.std.specs.Prelude.{ℕ, Bool, not, ◌||◌, Option, Some, None, is_s
 use Rattle.std.specs.FinMap as map
 use Rattle.std.specs.Option.{option_map_or}
 use Rattle.gaz_records.specs.declared.key.Key.{Key}
-use Rattle.gaz_views.specs.View.{holds}
-use Rattle.gaz_overlay.specs.Changes.{Changes}
+use Rattle.gaz_views.specs.View.{custody_at, holds}
+use Rattle.gaz_overlay.specs.Changes.{Changes, born_before}
+use Rattle.gaz_overlay.specs.declared.passage.Passage.{Passage}
 use Rattle.gaz_overlay.specs.declared.touch.Stood.{Stood}
 use Rattle.gaz_overlay.specs.declared.touch.Stood.TheVariants.{Never, Past, Since}
 use Rattle.gaz_overlay.specs.declared.touch.Touch.{Touch}
@@ -30,3 +31,10 @@ nothing = record { closes = None; adds = None }
 -- what is to be written for a key: nothing, where it isn't touched
 abbrev pub writing_at : Changes → Key → Writing
 writing_at c k = option_map_or (λ t. writing_of t (holds c.view k)) (map.get c.touched k) nothing
+
+-- what is to be written for a number: nothing, where it wasn't passed on. However often it was,
+-- what became of it last is all that is written
+abbrev pub passage_at : Changes → ℕ → Option Passage
+passage_at c uprn =
+    option_map (λ custody. record { closes = born_before c.passed uprn; custody = custody })
+    (custody_at c.view uprn)

@@ -1,6 +1,6 @@
 //! What is asked of the laid view, of the last view's answers and the changes.
 ghost use Rattle.std.specs.Prelude.{◌≡◌, ◌||◌, filter, IfOk};
-ghost use Rattle.gaz_views.specs.Words.{approved_of, approved_on, first_of, has_children};
+ghost use Rattle.gaz_views.specs.Words.{approved_of, approved_on, first_of, has_children, tied};
 ghost use Rattle.gaz_overlay.specs.Laid.{any_untouched, untouched};
 ghost use Rattle.gaz_overlay.specs.Questions.{both};
 
@@ -78,5 +78,18 @@ impl Overlay {
             || has_children self.now.view uprn) }
     {
         self.spares_any(last) || self.ledger.ledger().has_children(WORKING, uprn)
+    }
+
+    /// Whether an LPI or a cross reference, of whatever status, names the BLPU; `last` are the keys
+    /// of those of the last view. The first time in a judgement all changes are gone through.
+    pub fn tied(&mut self, last: &[Key], uprn: Uprn) -> Result<bool, AllocError>
+        ensures tied { IfOk result (λ is. is
+            ≡ (any_untouched self.old.view last.now || tied self.old.view uprn)) }
+        ensures same { self.new ≡ self.old }
+    {
+        if self.spares_any(last) {
+            return Ok(true);
+        }
+        Ok(self.ledger.tied(WORKING, uprn)?)
     }
 }

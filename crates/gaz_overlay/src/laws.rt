@@ -2,6 +2,7 @@
 ghost use Rattle.gaz_overlay.specs.Examples.{WorkedExamples};
 ghost use Rattle.gaz_overlay.specs.Laws.{LaidViews};
 ghost use Rattle.gaz_overlay.specs.Making.{ChangesMake};
+ghost use Rattle.gaz_overlay.specs.PassingExamples.{WorkedPassing};
 ghost use Rattle.gaz_overlay.specs.Questions.{LaidQuestions};
 ghost use Rattle.gaz_overlay.specs.Rows.{WritingsKeep};
 
@@ -16,14 +17,14 @@ pub fn laid_questions()
     ensures { LaidQuestions }
 {}
 
-/// To put and to take does to the working view just that, and the changes alone say what it has at
-/// touched keys.
+/// To put and to take, to release and to adopt does to the working view just that, and the changes
+/// alone say what it has at touched keys.
 pub fn changes_make()
     ensures { ChangesMake }
 {}
 
-/// What is written for the touched keys makes the working view the one after the volume, and leaves
-/// the views after all volumes before it.
+/// What is written for the touched keys, beside what was passed on, makes the working view the one
+/// after the volume, and leaves the views after all volumes before it.
 pub fn writings_keep()
     ensures { WritingsKeep }
 {}
@@ -31,4 +32,9 @@ pub fn writings_keep()
 /// What the definitions come to on worked examples.
 pub fn worked_examples()
     ensures { WorkedExamples }
+{}
+
+/// What they come to on worked examples of numbers that are passed on.
+pub fn worked_passing()
+    ensures { WorkedPassing }
 {}

@@ -6,8 +6,12 @@ mod answers;
 pub mod laws;
 mod merging;
 mod overlay;
+mod passage;
+mod passes;
+mod passing;
 mod touch;
 mod touches;
 
 pub use overlay::Overlay;
+pub use passage::Passage;
 pub use touch::{NewRow, Stood, Writing};

@@ -8,6 +8,7 @@ ghost use Rattle.gaz_overlay.specs.Changes.{with_taken, with_touched};
 ghost use Rattle.gaz_overlay.specs.Laid.{with_some};
 ghost use Rattle.gaz_overlay.specs.Writings.{writing_at};
 
+use crate::passes::Passes;
 use crate::touch::{Stood, Writing};
 use crate::touches::Touches;
 use gaz_ledger::{CachedLedger, Seed};
@@ -19,16 +20,17 @@ use std::marker::Model;
 // none.
 pub const WORKING: u64 = 1;
 
-/// What a judgement has put and taken, to be laid over a last view that stays where it is, and what
-/// is to be written for each key when it is kept.
+/// What a judgement has put, taken and passed on, to be laid over a last view that stays where it
+/// is, and what is to be written for each key and each number when it is kept.
 ///
-/// A key is touched before it is put or taken: then the caller says what the tables have there. The
-/// last view's other answers come from the caller too, and the overlay's functions make of them
-/// those of the laid view.
+/// A key is touched before it is put, taken or passed on: then the caller says what the tables have
+/// there. The last view's other answers come from the caller too, and the overlay's functions make
+/// of them those of the laid view.
 #[derive(Drop)]
 pub struct Overlay {
     pub(crate) ledger: CachedLedger,
-    touches: Touches,
+    pub(crate) touches: Touches,
+    pub(crate) passes: Passes,
     ghost none_judged: { length ledger.judged ≡ 0 },
 }
 
@@ -40,7 +42,11 @@ impl Model for Overlay {
 
     ghost coded = { changes_code };
 
-    ghost view = { λ o. record { view = o.ledger.working; touched = o.touches } };
+    ghost view = { λ o. record {
+      view = o.ledger.working;
+      touched = o.touches;
+      passed = o.passes;
+    } };
 }
 
 impl Overlay {
@@ -51,6 +57,7 @@ impl Overlay {
         Overlay {
             ledger: CachedLedger::new(alloc, seed),
             touches: Touches::new(alloc),
+            passes: Passes::new(alloc),
         }
     }
 
@@ -87,6 +94,7 @@ impl Overlay {
         ensures view { OnOk result (self.new.view ≡ with_some self.old.view item) }
         ensures err { OnErr result (self.new.view ≡ self.old.view) }
         ensures touched { self.new.touched ≡ self.old.touched }
+        ensures passed { self.new.passed ≡ self.old.passed }
     {
         match item {
             Some(item) => self.ledger.put(item),

@@ -12,22 +12,25 @@ use Rattle.gaz_records.specs.declared.key.Key.TheVariants as key
 use Rattle.gaz_views.specs.View.{View, holds}
 use Rattle.gaz_views.specs.Words.{approved_of, is_approved}
 use Rattle.gaz_rules.specs.Breaches.{blpu_state, key_faults, name_faults, no_key_fault}
-use Rattle.gaz_rules.specs.EndRules.{approved_at, as_approved, blpu_at, blpu_named, found_in, if_some, is_closed, is_historical, is_past, same_key}
+use Rattle.gaz_rules.specs.EndRules.{approved_at, as_approved, blpu_at, blpu_named, found_in, if_some, is_closed, is_historical, is_past, leaves_parts, leaves_ties, same_key}
 use Rattle.gaz_rules.specs.Streets.{street_faults}
 use Rattle.gaz_rules.specs.declared.name_faults.BlpuState.{BlpuState}
 use Rattle.gaz_rules.specs.declared.streets.StreetFaults.{StreetFaults}
 use Rattle.gaz_rules.proofs.Walks.{no_parent}
 
 -- a number under which no BLPU stands
-pub no_blpu : (v : View) (uprn : ℕ) → blpu_at v uprn ≡ None → no_key_fault ≡ key_faults v (key.Blpu uprn)
-no_blpu v uprn e =
+pub no_blpu : (v : View) (uprn : ℕ) (ties parts : Bool) → blpu_at v uprn ≡ None → ties ≡ leaves_ties v (key.Blpu uprn) → parts ≡ leaves_parts v (key.Blpu uprn)
+    → record no_key_fault { leaves_ties = ties; leaves_parts = parts } ≡ key_faults v (key.Blpu uprn)
+no_blpu v uprn ties parts e tied_by parted_by =
     let parent = ap (option_and_then (λ b. b.parent)) e in
     let lacks = ap (λ o. if_some o (λ p. not (holds v (key.Blpu p)))) parent in
     let ring = no_parent v uprn parent in
     let past = ap (λ o. if_some o (λ b. is_historical b.status) && not (length (approved_of v uprn) == 0)) e in
     λ i. record {
+      leaves_ties = tied_by i;
       leaves_lpi = false;
       lacks_parent = sym lacks i;
+      leaves_parts = parted_by i;
       is_own_ancestor = sym ring i;
       past_under_lpi = sym past i;
       lacks_own_street = false;

@@ -1,5 +1,5 @@
 -- What the end rules come to on worked examples.
-use Rattle.gaz_rules.specs.EndExamples.{WorkedBases, WorkedEndRules, WorkedLacking, WorkedNames, WorkedPast, WorkedRings, WorkedSecond, WorkedStreets}
+use Rattle.gaz_rules.specs.EndExamples.{WorkedBases, WorkedEndRules, WorkedLacking, WorkedLeaving, WorkedNames, WorkedPast, WorkedRings, WorkedSecond, WorkedStreets}
 use Rattle.gaz_rules.proofs.Worked.{views}
 
 on_second : WorkedSecond
@@ -20,6 +20,17 @@ on_lacking = record {
   gone = simp views;
   part = simp views;
   part_of_it = simp views;
+}
+
+on_leaving : WorkedLeaving
+on_leaving = record {
+  nothing = simp views;
+  under_a_reference = simp views;
+  under_a_past_address = simp views;
+  under_a_part = simp views;
+  under_both = simp views;
+  under_none = simp views;
+  there = simp views;
 }
 
 on_rings : WorkedRings
@@ -79,6 +90,7 @@ pub on_end_rules : WorkedEndRules
 on_end_rules = record {
   on_second = on_second;
   on_lacking = on_lacking;
+  on_leaving = on_leaving;
   on_rings = on_rings;
   on_streets = on_streets;
   on_names = on_names;

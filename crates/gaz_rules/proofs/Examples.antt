@@ -1,6 +1,6 @@
 -- What the record rules come to on worked examples.
 use Rattle.std.proofs.Common.{refl}
-use Rattle.gaz_rules.specs.Examples.{WorkedKinds, WorkedPassing, WorkedRecordRules, WorkedTexts}
+use Rattle.gaz_rules.specs.Examples.{WorkedKinds, WorkedRecordRules, WorkedTexts}
 use Rattle.gaz_rules.proofs.Worked.{views}
 
 pub on_record_rules : WorkedRecordRules
@@ -24,8 +24,8 @@ on_record_rules = record {
 
 pub on_kinds : WorkedKinds
 on_kinds = record {
-  below = refl;
-  first = refl;
+  below = simp views;
+  first = simp views;
   of_any_street = refl;
   of_any_property = refl;
   blpus_stay = refl;
@@ -43,14 +43,4 @@ on_texts = record {
   reference_to_another = simp views;
   reference_to_the_same = simp views;
   same_text_of_another_kind = simp views;
-}
-
-pub on_passing : WorkedPassing
-on_passing = record {
-  given_up = refl;
-  taken = refl;
-  given_up_outside = refl;
-  updated = refl;
-  deleted = refl;
-  property = simp views;
 }

@@ -133,9 +133,10 @@ EndsFind file o k = are_reached k.board file.bases ≡ true → IsFirst (end_fau
 -- no record is at fault, and then the end rules are asked
 pub phases_together : (old mid new : Seen) (c : ℕ) (own : Blocks) (file : Contents) (r : Result (Option found.Fault) ShelfFault) →
     old.progress ≡ Open c →
-    Works {T = Option found.Fault} old mid (Ok None) (Finds old.content mid.content (record_faults own old.content.working file.changes) (fold effect old.content.working file.changes)) →
+    Works {T = Option found.Fault} old mid (Ok None) (λ o. are_reached old.content.board file.bases ≡ true →
+    Finds old.content mid.content (record_faults c own (basis_views old.content.board file.bases) old.content.working file.changes) (fold effect old.content.working file.changes) o) →
     Reads mid new r (λ o. EndsFind file o mid.content) →
-    Works old new r (λ o. are_reached old.content.board file.bases ≡ true → Finds old.content new.content (faults_in own old.content file) (fold effect old.content.working file.changes) o)
+    Works old new r (λ o. are_reached old.content.board file.bases ≡ true → Finds old.content new.content (faults_in c own old.content file) (fold effect old.content.working file.changes) o)
 phases_together old mid new c own file r is_open first second =
     let w = fold effect old.content.working file.changes in
     let now_open : new.progress ≡ Open c = still_open mid new c second.keeps (first.on ∙ is_open) in
@@ -145,9 +146,10 @@ phases_together old mid new c own file r is_open first second =
       right = λ stood fine.
           let fine_mid = second.keeps.harm fine in
           let stood_mid = first.stands stood fine_mid in
-          let found = first.right stood fine_mid in
+          if_ok_on r _ _ (λ o told ready.
+          let found = first.right stood fine_mid ready in
           let none = none_first _ found.first in
-          if_ok_on r _ _ (λ o told ready. record {
+          record {
             first =
                 ap (λ xs. first_of (xs ++ end_faults w (basis_views old.content.board file.bases) file.changes)) none
                 ∙ subst (EndsFind file o) found.view told ready;
@@ -226,13 +228,13 @@ by_some v w [] f e = cc
 by_some v w (g ∷ fs) f e = let is : g ≡ f = cc in ap (λ (x : Fault). record { verdict = Rejected x.place x.rule; view = v }) is
 
 -- what the phases find, on the content on which the judgement began
-abbrev PhasesFind : Blocks → Contents → Content → Option found.Fault → Content → Type 0
-PhasesFind own file now o k = are_reached k.board file.bases ≡ true → Finds k now (faults_in own k file) (fold effect k.working file.changes) o
+abbrev PhasesFind : ℕ → Blocks → Contents → Content → Option found.Fault → Content → Type 0
+PhasesFind c own file now o k = are_reached k.board file.bases ≡ true → Finds k now (faults_in c own k file) (fold effect k.working file.changes) o
 
 -- the first fault found decides
 concluded : (own : Blocks) (old mid : Content) (c : ℕ) (file : Contents) (o : Option found.Fault) →
     after_abandon mid ≡ after_abandon old →
-    Finds (after_begin old c) mid (faults_in own (after_begin old c) file) (fold effect (last_view old.board c) file.changes) o →
+    Finds (after_begin old c) mid (faults_in c own (after_begin old c) file) (fold effect (last_view old.board c) file.changes) o →
     conclusion mid c o ≡ judged_on own old.board c (Good file)
 unfolding judge
 concluded own old mid c file None same finds =
@@ -251,7 +253,7 @@ record JudgedStops (old new : Seen) (r : Result Verdict ShelfFault) (c : ℕ) (f
 
 module _ (old opened mid new : Seen) (c : ℕ) (own : Blocks) (file : Contents) (o : Option found.Fault) (r : Result Verdict ShelfFault)
     (begins : Goes {T = Unit {0}} old opened (Ok tt) (IsAtHand old.content c) (after_begin old.content c) None (Open c))
-    (did : Works {T = Option found.Fault} opened mid (Ok o) (λ o. PhasesFind own file mid.content o opened.content))
+    (did : Works {T = Option found.Fault} opened mid (Ok o) (λ o. PhasesFind c own file mid.content o opened.content))
     (ends : Ends mid new r c (conclusion mid.content c o))
     (sound : IsSound old) (ready : old.unharmed → IsReady old.content c file.bases) where
   begun : opened.unharmed → old.unharmed × old.stands × (opened.content ≡ after_begin old.content c)
@@ -276,7 +278,7 @@ module _ (old opened mid new : Seen) (c : ℕ) (own : Blocks) (file : Contents) 
       ap (λ (k : Content). with_judgement k c (conclusion mid.content c o)) (same_then fine)
       ∙ ap (with_judgement old.content c)
       (concluded own old.content mid.content c file o (same_then fine)
-      (subst (PhasesFind own file mid.content o) (begun (did.harm fine)).2 (did.right (opened_stands (did.harm fine)) fine) (ready (begins.harm (did.harm fine))).reached))
+      (subst (PhasesFind c own file mid.content o) (begun (did.harm fine)).2 (did.right (opened_stands (did.harm fine)) fine) (ready (begins.harm (did.harm fine))).reached))
 
   committed_is : (k : Content) → mid.unharmed × (k ≡ after_stop (with_judgement mid.content c (conclusion mid.content c o)))
       → old.unharmed × (k ≡ after_stop (with_judgement old.content c (judged_on own old.content.board c (Good file))))
@@ -290,7 +292,7 @@ module _ (old opened mid new : Seen) (c : ℕ) (own : Blocks) (file : Contents) 
 
 judged_stops : (old opened mid new : Seen) (c : ℕ) (own : Blocks) (file : Contents) (o : Option found.Fault) (r : Result Verdict ShelfFault) →
     Goes {T = Unit {0}} old opened (Ok tt) (IsAtHand old.content c) (after_begin old.content c) None (Open c) →
-    Works {T = Option found.Fault} opened mid (Ok o) (λ o. PhasesFind own file mid.content o opened.content) →
+    Works {T = Option found.Fault} opened mid (Ok o) (λ o. PhasesFind c own file mid.content o opened.content) →
     Ends mid new r c (conclusion mid.content c o) →
     JudgedStops old new r c file (with_judgement old.content c (judged_on own old.content.board c (Good file)))
 judged_stops old opened mid new c own file o r begins did ends =
@@ -306,7 +308,7 @@ judged_stops old opened mid new c own file o r begins did ends =
 
 pub judged : (old opened mid new : Seen) (c : ℕ) (own : Blocks) (file : Contents) (o : Option found.Fault) (r : Result Verdict ShelfFault) →
     Goes {T = Unit {0}} old opened (Ok tt) (IsAtHand old.content c) (after_begin old.content c) None (Open c) →
-    Works {T = Option found.Fault} opened mid (Ok o) (λ o. PhasesFind own file mid.content o opened.content) →
+    Works {T = Option found.Fault} opened mid (Ok o) (λ o. PhasesFind c own file mid.content o opened.content) →
     Ends mid new r c (conclusion mid.content c o) →
     Judges old new r c file.bases (judged_on own old.content.board c (Good file))
 judged old opened mid new c own file o r begins did ends =
@@ -320,7 +322,7 @@ judged old opened mid new c own file o r begins did ends =
     subst (λ (k : Content). IsAtHand k c) (sym (same stood ready fine)) ready.at_hand in
     let right = λ (stood : old.stands) (ready : IsReady old.content c file.bases) (fine : new.unharmed).
     concluded own old.content mid.content c file o (same stood ready fine)
-    (subst (PhasesFind own file mid.content o) (begun_is stood ready fine) (did.right (stood_open stood ready fine) (ends.harm fine)) ready.reached) in
+    (subst (PhasesFind c own file mid.content o) (begun_is stood ready fine) (did.right (stood_open stood ready fine) (ends.harm fine)) ready.reached) in
     let stops = judged_stops old opened mid new c own file o r begins did ends in
     record {
       harm = λ fine. begins.harm (open_fine fine);

@@ -1,5 +1,5 @@
 -- That the tests of changes say what the sentences say.
-use Rattle.std.proofs.Common.{◌≡◌, ◌≢◌, ◌≤◌, ◌⊎◌, ℕ, Bool, true, false, nat_eq, not, ◌||◌, ◌&&◌, List, [], ◌∷◌, inl, inr, refl, sym, ap, ◌∙◌, true≢false, is_some, arith, eqb-true, eq-eqb}
+use Rattle.std.proofs.Common.{◌≡◌, ◌≤◌, ◌⊎◌, ℕ, Bool, true, false, nat_eq, not, ◌||◌, ◌&&◌, List, [], ◌∷◌, inl, inr, refl, sym, ap, ◌∙◌, true≢false, is_some, arith}
 use Rattle.std.specs.Prelude.{◌↔◌, Option, Some, None, nat_le}
 use Rattle.std.specs.Option.{option_map_or}
 use Rattle.std.proofs.lemmas.Bool.Decides.{nat_tests}
@@ -12,32 +12,36 @@ use Rattle.gaz_records.specs.declared.item.Item.TheVariants as item
 use Rattle.gaz_changefile.specs.declared.action.Action.{Action}
 use Rattle.gaz_changefile.specs.declared.action.Action.TheVariants.{Insert, Update, Delete}
 use Rattle.gaz_register.specs.Registers.{Blocks, within}
-use Rattle.gaz_views.specs.View.{View, holds, was_used}
+use Rattle.gaz_views.specs.Custody.{is_holding}
+use Rattle.gaz_views.specs.View.{View, custody_at, holds, was_used}
+use Rattle.gaz_views.specs.declared.custody.Custody.{Custody}
+use Rattle.gaz_views.specs.declared.custody.Custody.TheVariants.{Adopted, Released}
 use Rattle.gaz_views.specs.Words.{same_lang}
-use Rattle.gaz_rules.specs.Rules.{is_delete, is_insert, is_missing, is_moved, is_outside, is_update, is_used_again, moves_what_stays, stays, takes_what_stays}
-use Rattle.gaz_rules.specs.RecordSentences.{ChangesNothing, DeletesWhatStays, InsertsAgain, IsAnothers, IsInNone, IsStreetOrBlpu, LiesOutside, MovesItem, PassesOn, RecordTestsSay}
+use Rattle.gaz_rules.specs.Rules.{holds_number, is_delete, is_insert, is_missing, is_moved, is_outside, is_update, is_used_again, moves_what_stays, stays, takes_what_stays}
+use Rattle.gaz_rules.specs.RecordSentences.{ChangesNothing, DeletesWhatStays, HoldsNot, InsertsAgain, IsAnothers, IsInNone, IsStreetOrBlpu, LiesOutside, MovesItem, PassesOn, RecordTestsSay}
+use Rattle.gaz_rules.proofs.PassingSentences.{differing_numbers, late_from, late_told, numbers_differ, out_of_turn_from, out_of_turn_told, unreleased_from, unreleased_told}
 use Rattle.gaz_rules.proofs.Approved.{same_lang_is, same_lang_itself}
 use Rattle.gaz_rules.proofs.SoundBoards.{all_first, all_rest}
 use Rattle.gaz_rules.proofs.Sentences.{unheld_none}
 use Rattle.gaz_rules.proofs.Booleans.{both_false, both_parts, false_by, joined, neither, no_false, not_true, or_true}
 
--- ---- 5
+-- ---- releases and adoptions, and no others, are no entries
 
-passed_on_says : (i : Item) → (not (is_entry i) ≡ true) ↔ PassesOn i
+passed_on_says : (i : Item) → (is_entry i ≡ false) ↔ PassesOn i
 passed_on_says i = (told i, from i)
   where
-    told : (j : Item) → not (is_entry j) ≡ true → PassesOn j
+    told : (j : Item) → is_entry j ≡ false → PassesOn j
     told (item.Release r) h = inl (r, refl)
     told (item.Adopt a) h = inr (a, refl)
-    told (item.Street s) h = absurd (true≢false (sym h))
-    told (item.Descriptor d) h = absurd (true≢false (sym h))
-    told (item.Blpu b) h = absurd (true≢false (sym h))
-    told (item.Xref x) h = absurd (true≢false (sym h))
-    told (item.Lpi l) h = absurd (true≢false (sym h))
+    told (item.Street s) h = absurd (true≢false h)
+    told (item.Descriptor d) h = absurd (true≢false h)
+    told (item.Blpu b) h = absurd (true≢false h)
+    told (item.Xref x) h = absurd (true≢false h)
+    told (item.Lpi l) h = absurd (true≢false h)
 
-    from : (j : Item) → PassesOn j → not (is_entry j) ≡ true
-    from j (inl r) = ap (λ k. not (is_entry k)) r.1
-    from j (inr a) = ap (λ k. not (is_entry k)) a.1
+    from : (j : Item) → PassesOn j → is_entry j ≡ false
+    from j (inl r) = ap is_entry r.1
+    from j (inr a) = ap is_entry a.1
 
 -- ---- 20
 
@@ -73,13 +77,34 @@ in_none_from [] n all = refl
 in_none_from (b ∷ bs) n all =
     both_false _ _ (block_missing b.0 b.1 n (all_first (misses n) b bs all)) (in_none_from bs n (all_rest (misses n) b bs all))
 
-outside_says : (own : Blocks) (v : View) (i : Item) → (is_outside own v i ≡ true) ↔ LiesOutside own i
+pub held_not_says : (own : Blocks) (v : View) (uprn : ℕ) → (holds_number own v uprn ≡ false) ↔ HoldsNot own v uprn
+held_not_says own v uprn = (told, from)
+  where
+    told : holds_number own v uprn ≡ false → HoldsNot own v uprn
+    told =
+        elim (custody_at v uprn) as (λ o. custody_at v uprn ≡ o → is_holding (within own.uprn uprn) o ≡ false → HoldsNot own v uprn) [
+          | None ↦ λ is none. inr (record { nothing = is; outside = in_none_told own.uprn uprn none })
+          | Some x ↦ λ is. passed x is
+        ] refl
+      where
+        passed : (x : Custody) → custody_at v uprn ≡ Some x → is_holding (within own.uprn uprn) (Some x) ≡ false → HoldsNot own v uprn
+        passed (Released to hop) is h = inl (record { to = to; hop = hop; last = is })
+        passed (Adopted from hop) is h = absurd (true≢false h)
+
+    from : HoldsNot own v uprn → holds_number own v uprn ≡ false
+    from (inl gone) = ap (is_holding (within own.uprn uprn)) gone.last
+    from (inr never) = ap (is_holding (within own.uprn uprn)) never.nothing ∙ in_none_from own.uprn uprn never.outside
+
+not_held : (own : Blocks) (v : View) (uprn : ℕ) → (not (holds_number own v uprn) ≡ true) ↔ HoldsNot own v uprn
+not_held own v uprn = let says = held_not_says own v uprn in (λ h. says.0 (not_true _ h), λ is. ap not (says.1 is))
+
+outside_says : (own : Blocks) (v : View) (i : Item) → (is_outside own v i ≡ true) ↔ LiesOutside own v i
 outside_says own v (item.Street s) = (λ h. in_none_told own.usrn s.usrn (not_true _ h), λ none. ap not (in_none_from own.usrn s.usrn none))
-outside_says own v (item.Blpu b) = (λ h. in_none_told own.uprn b.uprn (not_true _ h), λ none. ap not (in_none_from own.uprn b.uprn none))
+outside_says own v (item.Blpu b) = not_held own v b.uprn
+outside_says own v (item.Release r) = not_held own v r.uprn
 outside_says own v (item.Descriptor d) = (λ h. true≢false (sym h), λ none. absurd none)
 outside_says own v (item.Xref x) = (λ h. true≢false (sym h), λ none. absurd none)
 outside_says own v (item.Lpi l) = (λ h. true≢false (sym h), λ none. absurd none)
-outside_says own v (item.Release r) = (λ h. true≢false (sym h), λ none. absurd none)
 outside_says own v (item.Adopt a) = (λ h. true≢false (sym h), λ none. absurd none)
 
 -- ---- 21 and 22
@@ -101,16 +126,20 @@ a_deletion Delete e = refl
 
 again_says : (v : View) (a : Action) (i : Item) → (is_used_again v a i ≡ true) ↔ InsertsAgain v a i
 again_says v a i = (
-  λ h. let parts = both_parts (is_insert a) (was_used v (key_of i)) h in record { inserts = an_insert a parts.0; used = parts.1 },
-  λ is. joined _ _ (ap is_insert is.inserts) is.used,
+  λ h.
+      let parts = both_parts (is_entry i && is_insert a) (was_used v (key_of i)) h in
+      let first = both_parts (is_entry i) (is_insert a) parts.0 in
+      record { entry = first.0; inserts = an_insert a first.1; used = parts.1 },
+  λ is. joined _ _ (joined _ _ is.entry (ap is_insert is.inserts)) is.used,
 )
 
 missing_says : (v : View) (a : Action) (i : Item) → (is_missing v a i ≡ true) ↔ ChangesNothing v a i
 missing_says v a i = (
   λ h.
-      let parts = both_parts (not (is_insert a)) (not (holds v (key_of i))) h in
-      record { changes = λ e. no_false (is_insert a) (ap is_insert e) (not_true _ parts.0); gone = unheld_none v (key_of i) parts.1 },
-  λ is. joined _ _ (ap not (false_by (is_insert a) (λ t. is.changes (an_insert a t)))) (ap (λ o. not (is_some o)) is.gone),
+      let parts = both_parts (is_entry i && not (is_insert a)) (not (holds v (key_of i))) h in
+      let first = both_parts (is_entry i) (not (is_insert a)) parts.0 in
+      record { entry = first.0; changes = λ e. no_false (is_insert a) (ap is_insert e) (not_true _ first.1); gone = unheld_none v (key_of i) parts.1 },
+  λ is. joined _ _ (joined _ _ is.entry (ap not (false_by (is_insert a) (λ t. is.changes (an_insert a t))))) (ap (λ o. not (is_some o)) is.gone),
 )
 
 -- ---- 23
@@ -143,12 +172,6 @@ one_or_other : (a b : Bool) → (a || b) ≡ true → (a ≡ true) ⊎ (b ≡ tr
 one_or_other true b e = inl refl
 one_or_other false b e = inr e
 
-numbers_differ : (x y : ℕ) → not (nat_eq x y) ≡ true → x ≢ y
-numbers_differ x y h e = no_false (nat_eq x y) (eq-eqb x y e) (not_true _ h)
-
-differing_numbers : (x y : ℕ) → x ≢ y → not (nat_eq x y) ≡ true
-differing_numbers x y apart = ap not (false_by (nat_eq x y) (λ t. apart (eqb-true x y t)))
-
 moved_told : (old new : Item) → is_moved old new ≡ true → IsAnothers old new
 moved_told (item.Lpi old) (item.Lpi new) h =
     elim (one_or_other (not (nat_eq new.uprn old.uprn)) (not (same_lang new.lang old.lang)) h) [
@@ -179,4 +202,16 @@ moves_says v a i = (
 )
 
 pub record_tests_say_holds : RecordTestsSay
-record_tests_say_holds = record { passed_on = passed_on_says; outside = outside_says; used_again = again_says; missing = missing_says; deleted = deleted_says; moved = moves_says }
+record_tests_say_holds =
+    record {
+      passed_on = passed_on_says;
+      held_not = held_not_says;
+      outside = outside_says;
+      used_again = again_says;
+      missing = missing_says;
+      deleted = deleted_says;
+      moved = moves_says;
+      wrong_hop = λ v i. (out_of_turn_told v i, out_of_turn_from v i);
+      unreleased = λ c out i. (unreleased_told c out i, unreleased_from c out i);
+      stale = λ v i. (late_told v i, late_from v i);
+    }

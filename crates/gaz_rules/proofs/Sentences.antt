@@ -7,7 +7,6 @@ use Rattle.std.specs.FinMap as fin
 use Rattle.std.proofs.lemmas.List.Elements.{All-cons, All-nil}
 use Rattle.gaz_ids.specs.declared.status.Status.{Status}
 use Rattle.gaz_ids.specs.declared.status.Status.TheVariants.{Approved, Alternative, Historical, Provisional}
-use Rattle.gaz_records.specs.Blpus.{BlpuValue}
 use Rattle.gaz_records.specs.Lpis.{LpiValue}
 use Rattle.gaz_records.specs.Streets.{StreetValue}
 use Rattle.gaz_records.specs.declared.item.Item.{Item}
@@ -20,6 +19,7 @@ use Rattle.gaz_rules.specs.EndRules.{approved_at, as_approved, as_blpu, as_stree
 use Rattle.gaz_rules.specs.Sentences.{HasSecond, HaveNone, IsApprovedLpi, IsClosedStreet, IsFirstWith, IsPastBlpu, LacksBlpu, NamesClosed, NamesNowhere, NamesPast, NamesUnnamed, views_in_turn}
 use Rattle.gaz_rules.proofs.Approved.{an_lpi, of_from, of_gives}
 use Rattle.gaz_rules.proofs.Keys.{key_itself, key_tied}
+use Rattle.gaz_rules.proofs.Ties.{a_blpu}
 use Rattle.gaz_rules.proofs.SoundBoards.{all_first, all_rest}
 use Rattle.gaz_rules.proofs.Booleans.{and_then_gives, false_by, no_false, not_true, passes_some, some_passes}
 
@@ -55,15 +55,6 @@ a_street (item.Xref t) s e = cc
 a_street (item.Lpi t) s e = cc
 a_street (item.Release t) s e = cc
 a_street (item.Adopt t) s e = cc
-
-pub a_blpu : (i : Item) (b : BlpuValue) → as_blpu i ≡ Some b → i ≡ item.Blpu b
-a_blpu (item.Street t) b e = cc
-a_blpu (item.Descriptor t) b e = cc
-a_blpu (item.Blpu t) b e = let is : t ≡ b = cc in ap item.Blpu is
-a_blpu (item.Xref t) b e = cc
-a_blpu (item.Lpi t) b e = cc
-a_blpu (item.Release t) b e = cc
-a_blpu (item.Adopt t) b e = cc
 
 some_value : {T : Type 0} (o : Option T) → is_some o ≡ true → (x : T) × (o ≡ Some x)
 some_value None e = absurd (true≢false (sym e))

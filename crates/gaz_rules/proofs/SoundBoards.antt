@@ -8,21 +8,23 @@ use Rattle.std.proofs.lemmas.List.Elements.{All-cons, All-nil}
 use Rattle.gaz_changefile.specs.Reading.{Reading}
 use Rattle.gaz_changefile.specs.declared.change.Basis.{Basis}
 use Rattle.gaz_records.specs.Keys.{key_cmp}
+use Rattle.gaz_records.specs.declared.item.Item.TheVariants as item
 use Rattle.gaz_records.specs.declared.key.Key.{Key}
 use Rattle.gaz_records.specs.declared.key.Key.TheVariants as key
 use Rattle.gaz_register.proofs.Ownership.{one-owner}
 use Rattle.gaz_register.specs.Registers.{Blocks, IsRegister, RegisterValue, blocks_of, within}
 use Rattle.gaz_views.specs.View.{View, empty_view, holds}
-use Rattle.gaz_views.specs.Words.{approved_of, approved_on}
+use Rattle.gaz_views.specs.Words.{approved_of, approved_on, has_children, tied}
 use Rattle.gaz_keeper.specs.Board.{Board, Judgement, adds, empty_board, last_view, reached, view_after}
-use Rattle.gaz_rules.specs.EndRules.{ancestor, approved_at, as_approved, as_blpu, blpu_named, closed_under_lpi, lacks_own_street, lacks_parent, leaves_lpi, past_under_lpi}
+use Rattle.gaz_rules.specs.EndRules.{ancestor, approved_at, as_approved, as_blpu, blpu_named, closed_under_lpi, lacks_blpu, lacks_own_street, lacks_parent, leaves_lpi, leaves_parts, leaves_ties, parent_of, past_under_lpi}
 use Rattle.gaz_rules.specs.Judging.{bases_of, judge}
 use Rattle.gaz_rules.specs.Bases.{basis_views, judged_on}
 use Rattle.gaz_rules.specs.Sound.{AreDisjoint, AreSoundBases, IsSound, IsSoundBasis, IsSoundBoard, NamesOthers, Owners}
 use Rattle.gaz_rules.specs.Laws.{BoardsStaySound, StaysSound}
 use Rattle.gaz_rules.proofs.Approved.{on_gives, some_gives}
 use Rattle.gaz_rules.proofs.Judged.{judge_sound}
-use Rattle.gaz_rules.proofs.Booleans.{and_false, both_false, fails_none, false_by, no_false}
+use Rattle.gaz_rules.proofs.Ties.{parts_gives, tied_gives}
+use Rattle.gaz_rules.proofs.Booleans.{and_false, both_false, both_parts, fails_none, false_by, no_false, passes_some}
 
 -- ---- the empty view
 
@@ -119,11 +121,45 @@ foreign_views own c (b ∷ out) apart sound usrn ours =
     ap (λ t. cond t (Some b.1) (find (λ u. holds u (key.Street usrn)) (map (λ (e : ℕ × View). e.1) out))) gone
     ∙ foreign_views own c out apart (all_rest (IsSoundBasis own c) b out sound) usrn ours
 
-pub sound_after_file : (own : Owners) (c : ℕ) (v : View) (out : List (ℕ × View)) (r : Reading) → AreDisjoint own → IsSound (own c) v → AreSoundBases own c out → IsSound (own c) (judge (own c) v out r).view
-sound_after_file own c v out r apart sound bases = judge_sound (own c) v out r sound (record { none = foreign_views own c out apart bases })
+pub sound_after_file : (own : Owners) (c : ℕ) (v : View) (out : List (ℕ × View)) (r : Reading) → AreDisjoint own → IsSound (own c) v → AreSoundBases own c out → IsSound (own c) (judge c (own c) v out r).view
+sound_after_file own c v out r apart sound bases = judge_sound c (own c) v out r sound (record { none = foreign_views own c out apart bases })
+
+-- ---- the second halves of two rules
+
+no_ties : (own : Blocks) (v : View) (k : Key) → IsSound own v → leaves_ties v k ≡ false
+no_ties own v (key.Blpu uprn) sound =
+    false_by _ (λ broken.
+    let parts = both_parts (not (holds v (key.Blpu uprn))) (tied v uprn) broken in
+    let tie = tied_gives v uprn parts.1 in
+    no_false (lacks_blpu v tie.key)
+    (passes_some (option_and_then blpu_named (fin.get v.items tie.key)) _ uprn (ap (option_and_then blpu_named) tie.there ∙ tie.names) parts.0)
+    (sound.blpu_there tie.key))
+no_ties own v (key.Street n) sound = refl
+no_ties own v (key.Descriptor n l) sound = refl
+no_ties own v (key.Xref t) sound = refl
+no_ties own v (key.Lpi t) sound = refl
+
+no_parts : (own : Blocks) (v : View) (k : Key) → IsSound own v → leaves_parts v k ≡ false
+no_parts own v (key.Blpu uprn) sound =
+    false_by _ (λ broken.
+    let parts = both_parts (not (holds v (key.Blpu uprn))) (has_children v uprn) broken in
+    let part = parts_gives v uprn parts.1 in
+    let its = part.blpu.uprn in
+    let there : fin.get v.items (key.Blpu its) ≡ Some (item.Blpu part.blpu) = ap (fin.get v.items) (sound.keyed part.key (item.Blpu part.blpu) part.there) ∙ part.there in
+    no_false (lacks_parent v (key.Blpu its))
+    (passes_some (parent_of v its) _ uprn (ap (λ o. option_and_then (λ b. b.parent) (option_and_then as_blpu o)) there ∙ part.is_part) parts.0)
+    (sound.parent_there (key.Blpu its)))
+no_parts own v (key.Street n) sound = refl
+no_parts own v (key.Descriptor n l) sound = refl
+no_parts own v (key.Xref t) sound = refl
+no_parts own v (key.Lpi t) sound = refl
 
 pub stays_sound_holds : StaysSound
-stays_sound_holds = record { empty = empty_sound; after_file = sound_after_file }
+stays_sound_holds = record {
+  empty = empty_sound;
+  after_file = sound_after_file;
+  whole = λ own v k sound. (both_false _ _ (sound.blpu_there k) (no_ties own v k sound), both_false _ _ (sound.parent_there k) (no_parts own v k sound));
+}
 
 -- ---- a board
 

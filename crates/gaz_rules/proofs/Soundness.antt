@@ -11,10 +11,12 @@ use Rattle.gaz_records.specs.declared.key.Key.{Key}
 use Rattle.gaz_records.specs.declared.key.Key.TheVariants as key
 use Rattle.gaz_register.specs.Registers.{Blocks, within}
 use Rattle.gaz_views.specs.View.{View, holds, was_used}
-use Rattle.gaz_rules.specs.EndRules.{ancestor, approved_at, as_approved, as_blpu, as_street, blpu_named, closed_under_lpi, end_rules, found_in, if_some, is_closed, is_historical, is_out_of_date, is_own_ancestor, is_past, is_second, is_unnamed, lacks_blpu, lacks_descriptor, lacks_own_street, lacks_parent, lacks_street, leaves_lpi, names_closed, names_past, parent_of, past_under_lpi, same_key, street_at}
+use Rattle.gaz_views.specs.Words.{has_children, tied}
+use Rattle.gaz_rules.specs.EndRules.{ancestor, approved_at, as_approved, as_blpu, as_street, blpu_named, closed_under_lpi, end_rules, found_in, if_some, is_closed, is_historical, is_out_of_date, is_own_ancestor, is_past, is_second, is_unnamed, lacks_blpu, lacks_descriptor, lacks_own_street, lacks_parent, lacks_street, leaves_lpi, leaves_parts, leaves_ties, names_closed, names_past, parent_of, past_under_lpi, same_key, street_at}
 use Rattle.gaz_rules.specs.Sound.{IsSound}
 use Rattle.gaz_rules.proofs.Approved.{of_from, of_gives, on_from, on_gives, same_lang_is, same_lang_itself, some_from, some_gives}
 use Rattle.gaz_rules.proofs.Keys.{key_itself, key_tied}
+use Rattle.gaz_rules.proofs.Ties.{part_at, parts_from, tied_from}
 use Rattle.gaz_rules.proofs.ParentRings.{join_chain, ring_breaks, some_below, split_chain}
 use Rattle.gaz_rules.proofs.Booleans.{and_then_gives, both_false, both_parts, by_test, false_by, joined, neither, no_false, not_false, not_true, passes_some, some_passes, true_by, weaker}
 
@@ -28,10 +30,12 @@ AllFalse (r ∷ rules) = (r.1 ≡ false) × AllFalse rules
 pub record Keeps (w : View) (out : List (ℕ × View)) (k : Key) : Type 0 where
   pub one_approved : is_second w k ≡ false
   pub blpu_there : lacks_blpu w k ≡ false
+  pub no_ties : leaves_ties w k ≡ false
   pub street_found : lacks_street w out k ≡ false
   pub street_open : names_closed w out k ≡ false
   pub described : is_unnamed w out k ≡ false
   pub parent_there : lacks_parent w k ≡ false
+  pub no_parts : leaves_parts w k ≡ false
   pub no_ring : is_own_ancestor w k ≡ false
   pub up_to_date : is_out_of_date w k ≡ false
   pub street_there : lacks_own_street w k ≡ false
@@ -41,11 +45,13 @@ pub keeps_all : (w : View) (out : List (ℕ × View)) (k : Key) → AllFalse (en
 keeps_all w out k h =
     record {
       one_approved = h.0;
-      blpu_there = h.1.0;
+      blpu_there = (neither _ _ h.1.0).0;
+      no_ties = (neither _ _ h.1.0).1;
       street_found = h.1.1.0;
       street_open = h.1.1.1.0;
       described = h.1.1.1.1.0;
-      parent_there = h.1.1.1.1.1.0;
+      parent_there = (neither _ _ h.1.1.1.1.1.0).0;
+      no_parts = (neither _ _ h.1.1.1.1.1.0).1;
       no_ring = h.1.1.1.1.1.1.0;
       up_to_date = h.1.1.1.1.1.1.1.0;
       street_there = h.1.1.1.1.1.1.1.1.0;
@@ -61,7 +67,6 @@ pub record Passed (own : Blocks) (v w : View) (out : List (ℕ × View)) (touche
   pub untouched : (k : Key) → touched k ≡ false → fin.get w.items k ≡ fin.get v.items k
   pub checked : (k : Key) → touched k ≡ true → Keeps w out k
   pub streets_stay : (usrn : ℕ) → holds v (key.Street usrn) ≡ true → holds w (key.Street usrn) ≡ true
-  pub blpus_stay : (uprn : ℕ) → holds v (key.Blpu uprn) ≡ true → holds w (key.Blpu uprn) ≡ true
   pub own_streets : (usrn : ℕ) → holds w (key.Street usrn) ≡ true → within own.usrn usrn ≡ true
   pub keyed : (k : Key) (i : Item) → fin.get w.items k ≡ Some i → key_of i ≡ k
   pub used : (k : Key) → holds w k ≡ true → was_used w k ≡ true
@@ -73,8 +78,10 @@ module _ (own : Blocks) (v w : View) (out : List (ℕ × View)) (touched : Key �
   same_holds : (k : Key) → touched k ≡ false → holds w k ≡ holds v k
   same_holds k u = ap is_some (passed.untouched k u)
 
-  still_there : (uprn : ℕ) → not (holds v (key.Blpu uprn)) ≡ false → not (holds w (key.Blpu uprn)) ≡ false
-  still_there uprn h = ap not (passed.blpus_stay uprn (not_false _ h))
+  -- a BLPU that was there stays, or its key is touched, and then nothing names it where it is gone
+  still_there : (uprn : ℕ) → (touched (key.Blpu uprn) ≡ true → holds w (key.Blpu uprn) ≡ true) → not (holds v (key.Blpu uprn)) ≡ false → not (holds w (key.Blpu uprn)) ≡ false
+  still_there uprn named h =
+      ap not (by_test (touched (key.Blpu uprn)) named (λ u. same_holds (key.Blpu uprn) u ∙ not_false _ h))
 
   -- ---- 30
 
@@ -99,12 +106,18 @@ module _ (own : Blocks) (v w : View) (out : List (ℕ × View)) (touched : Key �
 
   -- ---- 31
 
+  tied_there : (uprn : ℕ) → tied w uprn ≡ true → touched (key.Blpu uprn) ≡ true → holds w (key.Blpu uprn) ≡ true
+  tied_there uprn ties t =
+      true_by _ (λ gone. no_false (leaves_ties w (key.Blpu uprn)) (joined _ _ (ap not gone) ties) (passed.checked (key.Blpu uprn) t).no_ties)
+
   blpu_sound : (k : Key) → lacks_blpu w k ≡ false
   blpu_sound k =
       by_test (touched k) (λ t. (passed.checked k t).blpu_there)
       (λ u.
       ap (λ o. if_some (option_and_then blpu_named o) (λ uprn. not (holds w (key.Blpu uprn)))) (passed.untouched k u)
-      ∙ weaker (option_and_then blpu_named (fin.get v.items k)) (λ uprn. not (holds v (key.Blpu uprn))) _ (λ uprn _ there. still_there uprn there) (sound.blpu_there k))
+      ∙ weaker (option_and_then blpu_named (fin.get v.items k)) (λ uprn. not (holds v (key.Blpu uprn))) _ (λ uprn is there.
+      let i = and_then_gives blpu_named (fin.get v.items k) uprn is in
+      still_there uprn (tied_there uprn (tied_from w uprn k i.0 (passed.untouched k u ∙ i.1) i.2)) there) (sound.blpu_there k))
 
   -- ---- 33 and 39
 
@@ -229,6 +242,10 @@ module _ (own : Blocks) (v w : View) (out : List (ℕ × View)) (touched : Key �
 
   -- ---- 35
 
+  parted_there : (uprn : ℕ) → has_children w uprn ≡ true → touched (key.Blpu uprn) ≡ true → holds w (key.Blpu uprn) ≡ true
+  parted_there uprn parts t =
+      true_by _ (λ gone. no_false (leaves_parts w (key.Blpu uprn)) (joined _ _ (ap not gone) parts) (passed.checked (key.Blpu uprn) t).no_parts)
+
   parent_sound : (k : Key) → lacks_parent w k ≡ false
   parent_sound (key.Street usrn) = refl
   parent_sound (key.Descriptor usrn lang) = refl
@@ -238,7 +255,9 @@ module _ (own : Blocks) (v w : View) (out : List (ℕ × View)) (touched : Key �
       by_test (touched (key.Blpu uprn)) (λ t. (passed.checked (key.Blpu uprn) t).parent_there)
       (λ u.
       ap (λ o. if_some (option_and_then (λ b. b.parent) (option_and_then as_blpu o)) (λ p. not (holds w (key.Blpu p)))) (passed.untouched (key.Blpu uprn) u)
-      ∙ weaker (parent_of v uprn) (λ p. not (holds v (key.Blpu p))) _ (λ p _ there. still_there p there) (sound.parent_there (key.Blpu uprn)))
+      ∙ weaker (parent_of v uprn) (λ p. not (holds v (key.Blpu p))) _ (λ p is there.
+      let part = part_at v uprn p is in
+      still_there p (parted_there p (parts_from w p (key.Blpu uprn) part.0 (passed.untouched (key.Blpu uprn) u ∙ part.1) part.2)) there) (sound.parent_there (key.Blpu uprn)))
 
   -- ---- 36
 

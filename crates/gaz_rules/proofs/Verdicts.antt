@@ -22,21 +22,21 @@ front c cs = record { before = []; after = cs; in_turn = refl }
 
 -- ---- record faults
 
-fits_after : (own : Blocks) (v : View) (c : Change) (cs : List Change) → AllFit own v (c ∷ cs) → AllFit own (effect v c) cs
-fits_after own v c cs all d at = all d (later at)
+fits_after : (code : ℕ) (own : Blocks) (out : List (ℕ × View)) (v : View) (c : Change) (cs : List Change) → AllFit code own out v (c ∷ cs) → AllFit code own out (effect v c) cs
+fits_after code own out v c cs all d at = all d (later at)
 
 -- changes that fit have no fault
-past_fits : (own : Blocks) (v : View) (before rest : List Change) → AllFit own v before → record_faults own v (before ++ rest) ≡ record_faults own (fold effect v before) rest
-past_fits own v [] rest all = refl
-past_fits own v (c ∷ cs) rest all =
-    ap (λ o. cons_option (fault_at c.place o) (record_faults own (effect v c) (cs ++ rest))) (all c (front c cs))
-    ∙ past_fits own (effect v c) cs rest (fits_after own v c cs all)
+past_fits : (code : ℕ) (own : Blocks) (out : List (ℕ × View)) (v : View) (before rest : List Change) → AllFit code own out v before → record_faults code own out v (before ++ rest) ≡ record_faults code own out (fold effect v before) rest
+past_fits code own out v [] rest all = refl
+past_fits code own out v (c ∷ cs) rest all =
+    ap (λ o. cons_option (fault_at c.place o) (record_faults code own out (effect v c) (cs ++ rest))) (all c (front c cs))
+    ∙ past_fits code own out (effect v c) cs rest (fits_after code own out v c cs all)
 
-none_misfits : (own : Blocks) (v : View) (cs : List Change) → AllFit own v cs → record_faults own v cs ≡ []
-none_misfits own v [] all = refl
-none_misfits own v (c ∷ cs) all =
-    ap (λ o. cons_option (fault_at c.place o) (record_faults own (effect v c) cs)) (all c (front c cs))
-    ∙ none_misfits own (effect v c) cs (fits_after own v c cs all)
+none_misfits : (code : ℕ) (own : Blocks) (out : List (ℕ × View)) (v : View) (cs : List Change) → AllFit code own out v cs → record_faults code own out v cs ≡ []
+none_misfits code own out v [] all = refl
+none_misfits code own out v (c ∷ cs) all =
+    ap (λ o. cons_option (fault_at c.place o) (record_faults code own out (effect v c) cs)) (all c (front c cs))
+    ∙ none_misfits code own out (effect v c) cs (fits_after code own out v c cs all)
 
 -- ---- end faults
 
@@ -60,43 +60,43 @@ none_breaches w out (c ∷ cs) all =
 abbrev at_fault : View → Change → ℕ → Judgement
 at_fault v c rule = record { verdict = Rejected c.place rule; view = v }
 
-misfit_says : (own : Blocks) (v : View) (out : List (ℕ × View)) (file : Contents) (c : Change) (rule : ℕ) → IsFirstMisfit own v file.changes c rule → judge own v out (Good file) ≡ at_fault v c rule
+misfit_says : (code : ℕ) (own : Blocks) (v : View) (out : List (ℕ × View)) (file : Contents) (c : Change) (rule : ℕ) → IsFirstMisfit code own out v file.changes c rule → judge code own v out (Good file) ≡ at_fault v c rule
 unfolding judge
-misfit_says own v out file c rule is =
+misfit_says code own v out file c rule is =
     let w = fold effect v file.changes in
     let u = fold effect v is.at.before in
-    let faults : record_faults own v file.changes ≡ record { place = c.place; rule = rule } ∷ record_faults own (effect u c) is.at.after =
-    ap (record_faults own v) is.at.in_turn
-    ∙ past_fits own v is.at.before (c ∷ is.at.after) is.before_fit
-    ∙ ap (λ o. cons_option (fault_at c.place o) (record_faults own (effect u c) is.at.after)) is.breaks in
+    let faults : record_faults code own out v file.changes ≡ record { place = c.place; rule = rule } ∷ record_faults code own out (effect u c) is.at.after =
+    ap (record_faults code own out v) is.at.in_turn
+    ∙ past_fits code own out v is.at.before (c ∷ is.at.after) is.before_fit
+    ∙ ap (λ o. cons_option (fault_at c.place o) (record_faults code own out (effect u c) is.at.after)) is.breaks in
     ap (λ fs. judged_by_faults v w (fs ++ end_faults w out file.changes)) faults
 
-breach_says : (own : Blocks) (v : View) (out : List (ℕ × View)) (file : Contents) (c : Change) (rule : ℕ) → AllFit own v file.changes → IsFirstBreach (fold effect v file.changes) out file.changes c rule → judge own v out (Good file) ≡ at_fault v c rule
+breach_says : (code : ℕ) (own : Blocks) (v : View) (out : List (ℕ × View)) (file : Contents) (c : Change) (rule : ℕ) → AllFit code own out v file.changes → IsFirstBreach (fold effect v file.changes) out file.changes c rule → judge code own v out (Good file) ≡ at_fault v c rule
 unfolding judge
-breach_says own v out file c rule fit is =
+breach_says code own v out file c rule fit is =
     let w = fold effect v file.changes in
     let faults : end_faults w out file.changes ≡ record { place = c.place; rule = rule } ∷ end_faults w out is.at.after =
     ap (end_faults w out) is.at.in_turn
     ∙ past_keeps w out is.at.before (c ∷ is.at.after) is.before_keep
     ∙ ap (λ o. cons_option (fault_at c.place o) (end_faults w out is.at.after)) is.breaks in
-    ap (λ fs. judged_by_faults v w (fs ++ end_faults w out file.changes)) (none_misfits own v file.changes fit)
+    ap (λ fs. judged_by_faults v w (fs ++ end_faults w out file.changes)) (none_misfits code own out v file.changes fit)
     ∙ ap (judged_by_faults v w) faults
 
-applied_says : (own : Blocks) (v : View) (out : List (ℕ × View)) (file : Contents) → AllFit own v file.changes → NoneBreaks (fold effect v file.changes) out file.changes → judge own v out (Good file) ≡ record { verdict = Applied; view = fold effect v file.changes }
+applied_says : (code : ℕ) (own : Blocks) (v : View) (out : List (ℕ × View)) (file : Contents) → AllFit code own out v file.changes → NoneBreaks (fold effect v file.changes) out file.changes → judge code own v out (Good file) ≡ record { verdict = Applied; view = fold effect v file.changes }
 unfolding judge
-applied_says own v out file fit keep =
+applied_says code own v out file fit keep =
     let w = fold effect v file.changes in
-    ap (λ fs. judged_by_faults v w (fs ++ end_faults w out file.changes)) (none_misfits own v file.changes fit)
+    ap (λ fs. judged_by_faults v w (fs ++ end_faults w out file.changes)) (none_misfits code own out v file.changes fit)
     ∙ ap (judged_by_faults v w) (none_breaches w out file.changes keep)
 
 pub judges_say_holds : JudgesSay
 unfolding judge
 judges_say_holds =
     record {
-      bad = λ own v out place rule. refl;
+      bad = λ code own v out place rule. refl;
       misfit = misfit_says;
       breach = breach_says;
       applied = applied_says;
-      record_numbers = λ own v a i. refl;
+      record_numbers = λ code own out v a i. refl;
       end_numbers = λ w out k. refl;
     }

@@ -19,4 +19,4 @@ are_reached board bases = list_all (λ d. nat_le d.volume (reached board d.custo
 
 -- what a custodian's next file comes to, which reads so
 abbrev pub judged_on : Blocks → Board → ℕ → Reading → Judgement
-judged_on own board c r = judge own (last_view board c) (basis_views board (bases_of r)) r
+judged_on own board c r = judge c own (last_view board c) (basis_views board (bases_of r)) r

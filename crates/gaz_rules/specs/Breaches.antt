@@ -5,8 +5,8 @@ use Rattle.gaz_records.specs.declared.key.Key.TheVariants as key
 use Rattle.gaz_views.specs.View.{View, holds}
 use Rattle.gaz_rules.specs.EndRules.{closed_under_lpi, is_own_ancestor, is_past, is_second}
 use Rattle.gaz_rules.specs.EndRules.{lacks_blpu, lacks_descriptor, lacks_own_street, lacks_parent}
-use Rattle.gaz_rules.specs.EndRules.{lacks_street, leaves_lpi, names_closed, names_past}
-use Rattle.gaz_rules.specs.EndRules.{past_under_lpi}
+use Rattle.gaz_rules.specs.EndRules.{lacks_street, leaves_lpi, leaves_parts, leaves_ties}
+use Rattle.gaz_rules.specs.EndRules.{names_closed, names_past, past_under_lpi}
 use Rattle.gaz_rules.specs.declared.key_faults.KeyFaults.{KeyFaults}
 use Rattle.gaz_rules.specs.declared.name_faults.BlpuState.{BlpuState}
 use Rattle.gaz_rules.specs.declared.name_faults.NameFaults.{NameFaults}
@@ -40,8 +40,10 @@ blpu_fault lacks = record {
 -- what a key breaks for what others name
 abbrev pub key_faults : View → Key → KeyFaults
 key_faults v k = record {
+  leaves_ties = leaves_ties v k;
   leaves_lpi = leaves_lpi v k;
   lacks_parent = lacks_parent v k;
+  leaves_parts = leaves_parts v k;
   is_own_ancestor = is_own_ancestor v k;
   past_under_lpi = past_under_lpi v k;
   lacks_own_street = lacks_own_street v k;
@@ -50,8 +52,10 @@ key_faults v k = record {
 
 abbrev pub no_key_fault : KeyFaults
 no_key_fault = record {
+  leaves_ties = false;
   leaves_lpi = false;
   lacks_parent = false;
+  leaves_parts = false;
   is_own_ancestor = false;
   past_under_lpi = false;
   lacks_own_street = false;
@@ -62,11 +66,11 @@ no_key_fault = record {
 abbrev pub numbered : NameFaults → KeyFaults → List (ℕ × Bool)
 numbered n k =
     (30, n.is_second)
-    ∷ (31, n.lacks_blpu)
+    ∷ (31, n.lacks_blpu || k.leaves_ties)
     ∷ (32, n.lacks_street)
     ∷ (33, n.names_closed)
     ∷ (34, n.lacks_descriptor || k.leaves_lpi)
-    ∷ (35, k.lacks_parent)
+    ∷ (35, k.lacks_parent || k.leaves_parts)
     ∷ (36, k.is_own_ancestor)
     ∷ (37, n.names_past || k.past_under_lpi)
     ∷ (38, k.lacks_own_street)

@@ -80,6 +80,20 @@ pub record WorkedLacking : Type 0 where
   pub part : breaks (blpu 1002 (Some 1001) ∷ []) (key.Blpu 1002) ≡ Some 35
   pub part_of_it : breaks (blpu 1001 None ∷ blpu 1002 (Some 1001) ∷ []) (key.Blpu 1002) ≡ None
 
+-- 31 and 35, of a property that isn't there and is named
+pub record WorkedLeaving : Type 0 where
+  pub nothing : breaks [] (key.Blpu 1001) ≡ None
+  pub under_a_reference : breaks (council_tax (codes "X1") 1001 ∷ []) (key.Blpu 1001) ≡ Some 31
+  pub under_a_past_address : breaks (address (codes "L1") Historical ∷ []) (key.Blpu 1001)
+      ≡ Some 31
+  pub under_a_part : breaks (blpu 1002 (Some 1001) ∷ []) (key.Blpu 1001) ≡ Some 35
+  pub under_both : breaks (blpu 1002 (Some 1001) ∷ council_tax (codes "X1") 1001 ∷ [])
+      (key.Blpu 1001) ≡ Some 31
+  pub under_none : breaks (blpu 1003 (Some 1002) ∷ council_tax (codes "X1") 1002 ∷ [])
+      (key.Blpu 1001) ≡ None
+  pub there : breaks (blpu 1001 None ∷ blpu 1002 (Some 1001) ∷ council_tax (codes "X1") 1001 ∷ [])
+      (key.Blpu 1001) ≡ None
+
 -- 1001 and 1002 are parts of one another, 1003 is a part of 1001
 abbrev pub ring : List Item
 ring = blpu 1001 (Some 1002) ∷ blpu 1002 (Some 1001) ∷ blpu 1003 (Some 1001) ∷ []
@@ -168,6 +182,7 @@ pub record WorkedBases : Type 0 where
 pub record WorkedEndRules : Type 0 where
   pub on_second : WorkedSecond
   pub on_lacking : WorkedLacking
+  pub on_leaving : WorkedLeaving
   pub on_rings : WorkedRings
   pub on_streets : WorkedStreets
   pub on_names : WorkedNames

@@ -15,7 +15,7 @@ use Rattle.gaz_records.specs.declared.key.Key.{Key}
 use Rattle.gaz_records.specs.declared.key.Key.TheVariants as key
 use Rattle.gaz_views.specs.View.{View, holds}
 pub use Rattle.gaz_views.specs.Numbered.{as_blpu, as_street, blpu_at, street_at}
-use Rattle.gaz_views.specs.Words.{approved_of, approved_on, is_approved}
+use Rattle.gaz_views.specs.Words.{approved_of, approved_on, has_children, is_approved, tied}
 
 -- ---- what stands in a view
 
@@ -64,10 +64,19 @@ abbrev pub is_second : View → Key → Bool
 is_second v k =
     if_some (approved_at v k) (λ l. list_any (λ m. not (same_key m k)) (approved_of v l.uprn))
 
--- 31: an LPI or a cross reference whose BLPU isn't in the view
+-- an LPI or a cross reference whose BLPU isn't in the view
 abbrev pub lacks_blpu : View → Key → Bool
 lacks_blpu v k =
     if_some (option_and_then blpu_named (fin.get v.items k)) (λ uprn. not (holds v (key.Blpu uprn)))
+
+-- a BLPU that isn't in the view, and an LPI or a cross reference names it
+abbrev pub leaves_ties : View → Key → Bool
+leaves_ties v (key.Blpu uprn) = not (holds v (key.Blpu uprn)) && tied v uprn
+leaves_ties v _ = false
+
+-- 31: one or the other
+abbrev pub is_untied : View → Key → Bool
+is_untied v k = lacks_blpu v k || leaves_ties v k
 
 -- 32: an approved LPI whose street is found nowhere
 abbrev pub lacks_street : View → List (ℕ × View) → Key → Bool
@@ -100,10 +109,19 @@ is_unnamed v others k = lacks_descriptor v others k || leaves_lpi v k
 abbrev pub parent_of : View → ℕ → Option ℕ
 parent_of v uprn = option_and_then (λ b. b.parent) (blpu_at v uprn)
 
--- 35: a BLPU whose parent isn't in the view
+-- a BLPU whose parent isn't in the view
 abbrev pub lacks_parent : View → Key → Bool
 lacks_parent v (key.Blpu uprn) = if_some (parent_of v uprn) (λ p. not (holds v (key.Blpu p)))
 lacks_parent v _ = false
+
+-- a BLPU that isn't in the view, and a BLPU is a part of it
+abbrev pub leaves_parts : View → Key → Bool
+leaves_parts v (key.Blpu uprn) = not (holds v (key.Blpu uprn)) && has_children v uprn
+leaves_parts v _ = false
+
+-- 35: one or the other
+abbrev pub is_apart : View → Key → Bool
+is_apart v k = lacks_parent v k || leaves_parts v k
 
 -- the parent's parent's .. parent, so many times
 abbrev pub ancestor : View → ℕ → ℕ → Option ℕ
@@ -146,11 +164,11 @@ closed_under_lpi v _ = false
 abbrev pub end_rules : View → List (ℕ × View) → Key → List (ℕ × Bool)
 end_rules v others k =
     (30, is_second v k)
-    ∷ (31, lacks_blpu v k)
+    ∷ (31, is_untied v k)
     ∷ (32, lacks_street v others k)
     ∷ (33, names_closed v others k)
     ∷ (34, is_unnamed v others k)
-    ∷ (35, lacks_parent v k)
+    ∷ (35, is_apart v k)
     ∷ (36, is_own_ancestor v k)
     ∷ (37, is_out_of_date v k)
     ∷ (38, lacks_own_street v k)

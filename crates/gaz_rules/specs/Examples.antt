@@ -3,12 +3,10 @@ use Rattle.std.specs.Prelude.{◌≡◌, ℕ, true, false, List, [], ◌∷◌, 
 use Rattle.gaz_ids.specs.declared.lang.Lang.TheVariants.{Cym, Eng}
 use Rattle.gaz_ids.specs.declared.status.Status.TheVariants.{Alternative, Approved}
 use Rattle.gaz_records.specs.declared.item.Item.{Item}
-use Rattle.gaz_records.specs.declared.item.Item.TheVariants as item
 use Rattle.gaz_changefile.specs.Reading.{Reading, Good}
 use Rattle.gaz_changefile.specs.declared.action.Action.{Action}
 use Rattle.gaz_changefile.specs.declared.action.Action.TheVariants.{Insert, Update, Delete}
 use Rattle.gaz_changefile.specs.declared.change.Change.{Change}
-use Rattle.gaz_views.specs.CustodyExamples.{alone}
 use Rattle.gaz_views.specs.Examples.{blpu, council_tax, lpi, name, no_more, one_street, street}
 use Rattle.gaz_views.specs.View.{View, empty_view, with_item}
 use Rattle.gaz_register.specs.Registers.{Blocks}
@@ -18,9 +16,10 @@ use Rattle.gaz_rules.specs.Rules.{first_broken, is_outside, record_rules, stays}
 abbrev pub own : Blocks
 own = record { uprn = (1000, 1999) ∷ []; usrn = (100, 199) ∷ (300, 300) ∷ [] }
 
--- the least record rule that doing this to an item breaks on a view
+-- the least record rule that doing this to an item breaks on a view of custodian 1001, without a
+-- basis line
 abbrev pub broken : View → Action → Item → Option ℕ
-broken v a i = first_broken (record_rules own v a i)
+broken v a i = first_broken (record_rules 1001 own [] v a i)
 
 -- of streets, where a rule is broken and where it just isn't; the views hold street 101, or held
 -- it, or never did
@@ -70,24 +69,6 @@ pub record WorkedTexts : Type 0 where
   pub reference_to_another : broken one_reference Update (council_tax (codes "X1") 1002) ≡ Some 24
   pub reference_to_the_same : broken one_reference Update (council_tax (codes "X1") 1001) ≡ None
   pub same_text_of_another_kind : broken one_address Insert (council_tax (codes "L1") 1001) ≡ None
-
--- ---- what passes between custodians
-
--- a property given up to 1002, and property 500 taken from 1002
-abbrev pub release : ℕ → Item
-release uprn = item.Release (record { uprn = uprn; to = 1002; hop = 1 })
-
-abbrev pub adoption : Item
-adoption = item.Adopt (record { blpu = alone; from = 1002; hop = 1 })
-
--- it breaks a rule whatever is done, before all others, and its property by itself breaks none
-pub record WorkedPassing : Type 0 where
-  pub given_up : broken empty_view Insert (release 1001) ≡ Some 5
-  pub taken : broken empty_view Insert adoption ≡ Some 5
-  pub given_up_outside : broken empty_view Insert (release 999) ≡ Some 5
-  pub updated : broken empty_view Update (release 1001) ≡ Some 5
-  pub deleted : broken empty_view Delete (release 1001) ≡ Some 5
-  pub property : broken empty_view Insert (blpu 1001 None) ≡ None
 
 -- ---- files
 

@@ -31,9 +31,10 @@ abbrev pub fault_at : ℕ → Option ℕ → Option Fault
 fault_at place rule = option_map (λ r. record { place = place; rule = r }) rule
 
 -- the changes that don't fit the view before them, each with its least rule
-abbrev pub record_faults : Blocks → View → List Change → List Fault
-record_faults own v cs =
-    filter_map (λ s. fault_at s.1.place (first_broken (record_rules own s.0 s.1.action s.1.item)))
+abbrev pub record_faults : ℕ → Blocks → List (ℕ × View) → View → List Change → List Fault
+record_faults c own others v cs =
+    filter_map
+    (λ s. fault_at s.1.place (first_broken (record_rules c own others s.0 s.1.action s.1.item)))
     (with_views v cs)
 
 -- the changes whose keys break an end rule in the view w, each with its least rule
@@ -46,10 +47,11 @@ abbrev pub judged_by_faults : View → View → List Fault → Judgement
 judged_by_faults v w [] = record { verdict = Applied; view = w }
 judged_by_faults v w (f ∷ fs) = record { verdict = Rejected f.place f.rule; view = v }
 
--- the judgement of a file of the custodian with these blocks, on its view and on those of its basis
--- custodians
-unfoldable pub judge : Blocks → View → List (ℕ × View) → Reading → Judgement
-judge own v others (Bad place rule) = record { verdict = Rejected place rule; view = v }
-judge own v others (Good file) =
+-- the judgement of a file of the custodian with this code and these blocks, on its view and on
+-- those of its basis custodians
+unfoldable pub judge : ℕ → Blocks → View → List (ℕ × View) → Reading → Judgement
+judge c own v others (Bad place rule) = record { verdict = Rejected place rule; view = v }
+judge c own v others (Good file) =
     let w = fold effect v file.changes in
-    judged_by_faults v w (record_faults own v file.changes ++ end_faults w others file.changes)
+    judged_by_faults v w
+    (record_faults c own others v file.changes ++ end_faults w others file.changes)

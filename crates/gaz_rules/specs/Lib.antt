@@ -1,5 +1,7 @@
+pub mod CustodyRules
 pub mod Rules
 pub mod EndRules
+pub mod Passing
 pub mod Judging
 pub mod Bases
 pub mod Judges
@@ -13,6 +15,7 @@ pub mod Sentences
 pub mod RecordSentences
 pub mod Verdicts
 pub mod Examples
+pub mod CustodyExamples
 pub mod Phases
 pub mod EndExamples
 pub mod JudgedExamples

@@ -35,10 +35,11 @@ pub record Finds (old new : Content) (fs : List Fault) (w : View) (r : Option fo
   pub view : IfNone r (new ≡ with_working old w)
 
 -- the faults of the records, and those of their keys in the last view
-abbrev pub faults_in : Blocks → Content → Contents → List Fault
-faults_in own k file =
-    record_faults own k.working file.changes
-    ++ end_faults (fold effect k.working file.changes) (basis_views k.board file.bases) file.changes
+abbrev pub faults_in : ℕ → Blocks → Content → Contents → List Fault
+faults_in c own k file =
+    let others = basis_views k.board file.bases in
+    record_faults c own others k.working file.changes
+    ++ end_faults (fold effect k.working file.changes) others file.changes
 
 -- ---- what is done
 

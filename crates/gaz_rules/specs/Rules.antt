@@ -8,19 +8,29 @@ use Rattle.gaz_records.specs.Keys.{key_of}
 use Rattle.gaz_records.specs.declared.item.Item.{Item}
 use Rattle.gaz_records.specs.declared.item.Item.TheVariants as item
 use Rattle.gaz_register.specs.Registers.{Blocks, within}
-use Rattle.gaz_views.specs.View.{View, with_item, without_key, holds, was_used}
+use Rattle.gaz_views.specs.View.{View, holds, was_used, with_adoption, with_item, with_release}
+use Rattle.gaz_views.specs.View.{without_key}
 use Rattle.gaz_views.specs.Words.{same_lang}
 use Rattle.gaz_changefile.specs.declared.action.Action.{Action}
 use Rattle.gaz_changefile.specs.declared.action.Action.TheVariants.{Insert, Update, Delete}
 use Rattle.gaz_changefile.specs.declared.change.Change.{Change}
+pub use Rattle.gaz_rules.specs.CustodyRules.{holds_number}
+use Rattle.gaz_rules.specs.CustodyRules.{is_stale, is_unreleased, is_wrong_hop}
 
 -- ---- the effect of a change
 
--- an insert and an update set the item and mark its key as used, a delete takes it
+-- of an entry: an insert and an update set the item and mark its key as used, a delete takes it
+abbrev pub entry_effect : Action → View → Item → View
+entry_effect Insert v i = with_item v i
+entry_effect Update v i = with_item v i
+entry_effect Delete v i = without_key v (key_of i)
+
+-- a release takes the BLPU, if it is there, and an adoption sets it; both mark its key as used, and
+-- are what last became of its number
 abbrev pub effect_of : Action → View → Item → View
-effect_of Insert v i = with_item v i
-effect_of Update v i = with_item v i
-effect_of Delete v i = without_key v (key_of i)
+effect_of a v (item.Release r) = with_release v r.uprn r.to r.hop
+effect_of a v (item.Adopt x) = with_adoption v x.blpu x.from x.hop
+effect_of a v i = entry_effect a v i
 
 abbrev pub effect : View → Change → View
 effect v c = effect_of c.action v c.item
@@ -42,25 +52,21 @@ is_delete Insert = false
 is_delete Update = false
 is_delete Delete = true
 
--- a custodian with these own blocks, and this view, holds the number of a BLPU: it is in one of its
--- blocks
-abbrev pub holds_number : Blocks → View → ℕ → Bool
-holds_number own v uprn = within own.uprn uprn
-
--- 20: a street whose number is in none of the custodian's own blocks, or a BLPU whose number it
--- doesn't hold
+-- 20: a street whose number is in none of the custodian's own blocks, or a BLPU or a release whose
+-- number it doesn't hold
 abbrev pub is_outside : Blocks → View → Item → Bool
 is_outside own v (item.Street s) = not (within own.usrn s.usrn)
 is_outside own v (item.Blpu b) = not (holds_number own v b.uprn)
+is_outside own v (item.Release r) = not (holds_number own v r.uprn)
 is_outside own v _ = false
 
--- 21: an insert whose key was ever used
+-- 21: an insert of an entry whose key was ever used
 abbrev pub is_used_again : View → Action → Item → Bool
-is_used_again v a i = is_insert a && was_used v (key_of i)
+is_used_again v a i = is_entry i && is_insert a && was_used v (key_of i)
 
--- 22: an update or a delete of what isn't there
+-- 22: an update or a delete of an entry that isn't there
 abbrev pub is_missing : View → Action → Item → Bool
-is_missing v a i = not (is_insert a) && not (holds v (key_of i))
+is_missing v a i = is_entry i && not (is_insert a) && not (holds v (key_of i))
 
 -- a street or a BLPU: it is closed or made historical, and never deleted
 abbrev pub stays : Item → Bool
@@ -84,16 +90,18 @@ abbrev pub moves_what_stays : View → Action → Item → Bool
 moves_what_stays v a i =
     is_update a && option_map_or (λ old. is_moved old i) (map.get v.items (key_of i)) false
 
--- the record rules by number, the least first. Rule 5 is broken by a release or an adoption, until
--- there are rules on custody
-abbrev pub record_rules : Blocks → View → Action → Item → List (ℕ × Bool)
-record_rules own v a i =
-    (5, not (is_entry i))
-    ∷ (20, is_outside own v i)
+-- the record rules by number, the least first, of a change in a file of custodian c, on its view
+-- and on each basis custodian's
+abbrev pub record_rules : ℕ → Blocks → List (ℕ × View) → View → Action → Item → List (ℕ × Bool)
+record_rules c own others v a i =
+    (20, is_outside own v i)
     ∷ (21, is_used_again v a i)
     ∷ (22, is_missing v a i)
     ∷ (23, takes_what_stays a i)
     ∷ (24, moves_what_stays v a i)
+    ∷ (40, is_wrong_hop v i)
+    ∷ (41, is_unreleased c others i)
+    ∷ (42, is_stale v i)
     ∷ []
 
 -- the least rule that is broken

@@ -15,7 +15,8 @@ use Rattle.gaz_records.specs.declared.key.Key.TheVariants as key
 use Rattle.gaz_views.specs.View.{View, holds}
 use Rattle.gaz_rules.specs.EndRules.{blpu_named, closed_under_lpi, found_in, is_second, lacks_blpu}
 use Rattle.gaz_rules.specs.EndRules.{lacks_descriptor, lacks_own_street, lacks_parent, lacks_street}
-use Rattle.gaz_rules.specs.EndRules.{leaves_lpi, names_closed, names_past, past_under_lpi}
+use Rattle.gaz_rules.specs.EndRules.{leaves_lpi, leaves_parts, leaves_ties, names_closed, names_past}
+use Rattle.gaz_rules.specs.EndRules.{past_under_lpi}
 
 -- ---- what stands in a view
 
@@ -73,6 +74,16 @@ pub record LacksBlpu (v : View) (k : Key) : Type 0 where
   pub names : blpu_named item ≡ Some uprn
   pub gone : fin.get v.items (key.Blpu uprn) ≡ None
 
+-- 31: a BLPU that isn't there, and an LPI or a cross reference names it
+pub record LeavesTies (v : View) (k : Key) : Type 0 where
+  pub uprn : ℕ
+  pub is : k ≡ key.Blpu uprn
+  pub gone : fin.get v.items k ≡ None
+  pub item_key : Key
+  pub item : Item
+  pub there : fin.get v.items item_key ≡ Some item
+  pub names : blpu_named item ≡ Some uprn
+
 -- 32: k is an approved LPI whose street is in none of the views
 pub record NamesNowhere (v : View) (others : List (ℕ × View)) (k : Key) : Type 0 where
   pub lpi : LpiValue
@@ -120,6 +131,16 @@ pub record LacksParent (v : View) (k : Key) : Type 0 where
   pub is_part : blpu.parent ≡ Some parent
   pub gone : fin.get v.items (key.Blpu parent) ≡ None
 
+-- 35: a BLPU that isn't there, and one that is has it as parent
+pub record LeavesParts (v : View) (k : Key) : Type 0 where
+  pub uprn : ℕ
+  pub is : k ≡ key.Blpu uprn
+  pub gone : fin.get v.items k ≡ None
+  pub part_key : Key
+  pub part : BlpuValue
+  pub there : fin.get v.items part_key ≡ Some (item.Blpu part)
+  pub is_part : part.parent ≡ Some uprn
+
 -- 37: k is an approved LPI whose BLPU is historical
 pub record NamesPast (v : View) (k : Key) : Type 0 where
   pub lpi : LpiValue
@@ -158,6 +179,7 @@ pub record ClosedUnderLpi (v : View) (k : Key) : Type 0 where
 pub record TestsSay : Type 0 where
   pub second : (v : View) (k : Key) → (is_second v k ≡ true) ↔ HasSecond v k
   pub blpu : (v : View) (k : Key) → (lacks_blpu v k ≡ true) ↔ LacksBlpu v k
+  pub ties : (v : View) (k : Key) → (leaves_ties v k ≡ true) ↔ LeavesTies v k
   pub found : (v w : View) (others : List (ℕ × View)) (usrn : ℕ) → (found_in v others usrn ≡ Some w)
       ↔ IsFirstWith (views_in_turn v others) usrn w
   pub nowhere : (v : View) (others : List (ℕ × View)) (usrn : ℕ) → (found_in v others usrn ≡ None)
@@ -170,6 +192,7 @@ pub record TestsSay : Type 0 where
       → (lacks_descriptor v others k ≡ true) ↔ NamesUnnamed v others k
   pub leaves : (v : View) (k : Key) → (leaves_lpi v k ≡ true) ↔ LeavesLpi v k
   pub parent : (v : View) (k : Key) → (lacks_parent v k ≡ true) ↔ LacksParent v k
+  pub parts : (v : View) (k : Key) → (leaves_parts v k ≡ true) ↔ LeavesParts v k
   pub names_past : (v : View) (k : Key) → (names_past v k ≡ true) ↔ NamesPast v k
   pub past_under_lpi : (v : View) (k : Key) → (past_under_lpi v k ≡ true) ↔ PastUnderLpi v k
   pub own_street : (v : View) (k : Key) → (lacks_own_street v k ≡ true) ↔ LacksOwnStreet v k

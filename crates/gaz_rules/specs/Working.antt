@@ -53,14 +53,15 @@ MakesView seen old new result becomes =
 
 -- ---- the phases
 
--- the changes are done, up to the first that doesn't fit
+-- the changes of this custodian are done, up to the first that doesn't fit
 abbrev pub DoesRecords : {K : Type 0} → (K → Seen) → K → K → Result (Option found.Fault) ShelfFault
-    → Blocks → List Change → Type 0
-DoesRecords seen old new result own changes =
+    → ℕ → Blocks → List Basis → List Change → Type 0
+DoesRecords seen old new result c own bases changes =
     let k = (seen old).content in
-    Works (seen old) (seen new) result
-    (Finds k (seen new).content (record_faults own k.working changes)
-    (fold effect k.working changes))
+    Works (seen old) (seen new) result (λ r. are_reached k.board bases ≡ true
+    → Finds k (seen new).content
+    (record_faults c own (basis_views k.board bases) k.working changes)
+    (fold effect k.working changes) r)
 
 -- the first change whose key breaks an end rule
 abbrev pub FindsEndFault : {K : Type 0} → (K → Seen) → K → K
@@ -73,8 +74,8 @@ FindsEndFault seen old new result bases changes =
 
 -- the changes are done, and the first fault of the records is found, else the first of their keys
 abbrev pub DoesPhases : {K : Type 0} → (K → Seen) → K → K → Result (Option found.Fault) ShelfFault
-    → Blocks → Contents → Type 0
-DoesPhases seen old new result own file =
+    → ℕ → Blocks → Contents → Type 0
+DoesPhases seen old new result c own file =
     let k = (seen old).content in
     Works (seen old) (seen new) result (λ r. are_reached k.board file.bases ≡ true
-    → Finds k (seen new).content (faults_in own k file) (fold effect k.working file.changes) r)
+    → Finds k (seen new).content (faults_in c own k file) (fold effect k.working file.changes) r)

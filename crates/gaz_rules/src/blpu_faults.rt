@@ -1,9 +1,10 @@
 //! What the key of a BLPU breaks by itself, for what others name.
-ghost use Rattle.std.specs.Prelude.{◌≡◌, ◌==◌, ◌&&◌, false, length, not, Some};
+ghost use Rattle.std.specs.Prelude.{◌≡◌, ◌==◌, ◌&&◌, false, length, not, None, Some};
+ghost use Rattle.std.specs.FinMap as map;
 ghost use Rattle.std.specs.Option.{option_and_then, option_map, option_map_or};
 ghost use Rattle.gaz_records.specs.declared.key.Key.TheVariants as key;
 ghost use Rattle.gaz_views.specs.View.{holds};
-ghost use Rattle.gaz_views.specs.Words.{approved_of};
+ghost use Rattle.gaz_views.specs.Words.{approved_of, has_children, tied};
 ghost use Rattle.gaz_rules.specs.Breaches.{key_faults};
 ghost use Rattle.gaz_rules.specs.EndRules.{as_blpu, blpu_at, is_historical, is_own_ancestor};
 ghost use Rattle.gaz_rules.specs.EndRules.{parent_of};
@@ -98,5 +99,43 @@ pub(crate) fn blpu_faults<K: Shelf>(
     faults.lacks_parent = lacks_parent(keeper, code, blpu)?;
     faults.is_own_ancestor = is_own_ancestor(keeper, code, walked, uprn, blpu.parent)?;
     faults.past_under_lpi = past_under_lpi(keeper, code, uprn, blpu.status)?;
+    Ok(faults)
+}
+
+/// Whether an LPI or a cross reference names a BLPU.
+fn is_tied<K: Shelf>(keeper: &mut K, code: Code, uprn: Uprn) -> Result<bool, ShelfFault>
+    requires { IsJudging K.seen keeper.old code }
+    ensures { ReadsView K.seen keeper.old keeper.new result (λ v b. b ≡ tied v uprn) }
+{
+    Ok(keeper.tied(code, uprn)?)
+}
+
+/// Whether a BLPU is a part of another.
+fn has_parts<K: Shelf>(keeper: &mut K, code: Code, uprn: Uprn) -> Result<bool, ShelfFault>
+    requires { IsJudging K.seen keeper.old code }
+    ensures { ReadsView K.seen keeper.old keeper.new result (λ v b. b ≡ has_children v uprn) }
+{
+    Ok(keeper.children(code, uprn)?)
+}
+
+/// What a number breaks under which no BLPU stands. The keeper is asked only where nothing does.
+pub(crate) fn gone_faults<K: Shelf>(
+    keeper: &mut K,
+    code: Code,
+    uprn: Uprn,
+    stored: &Option<SharedItem>,
+) -> Result<KeyFaults, ShelfFault>
+    requires { IsJudging K.seen keeper.old code }
+    ensures { ReadsView K.seen keeper.old keeper.new result
+        (λ v f. stored.now ≡ map.get v.items (key.Blpu uprn)
+        → option_and_then as_blpu stored.now ≡ None
+        → f ≡ key_faults v (key.Blpu uprn)) }
+{
+    let mut faults = KeyFaults::none();
+    if stored.is_some() {
+        return Ok(faults);
+    }
+    faults.leaves_ties = is_tied(keeper, code, uprn)?;
+    faults.leaves_parts = has_parts(keeper, code, uprn)?;
     Ok(faults)
 }

@@ -9,7 +9,7 @@ ghost use Rattle.gaz_rules.specs.Rings.{Knows};
 ghost use Rattle.gaz_rules.specs.Rules.{first_broken};
 ghost use Rattle.gaz_rules.specs.Working.{IsJudging, ReadsView, ReadsViews};
 
-use crate::blpu_faults::{blpu_faults, blpu_in};
+use crate::blpu_faults::{blpu_faults, blpu_in, gone_faults};
 use crate::key_faults::{KeyFaults, descriptor_faults, street_faults};
 use crate::known::Known;
 use crate::name_faults::{NameFaults, name_faults};
@@ -25,11 +25,11 @@ fn least(names: NameFaults, keys: KeyFaults) -> Option<u8>
 {
     let rules = [
         (30, names.is_second),
-        (31, names.lacks_blpu),
+        (31, names.lacks_blpu || keys.leaves_ties),
         (32, names.lacks_street),
         (33, names.names_closed),
         (34, names.lacks_descriptor || keys.leaves_lpi),
-        (35, keys.lacks_parent),
+        (35, keys.lacks_parent || keys.leaves_parts),
         (36, keys.is_own_ancestor),
         (37, names.names_past || keys.past_under_lpi),
         (38, keys.lacks_own_street),
@@ -56,7 +56,7 @@ fn key_faults<K: Shelf>(
         Key::Descriptor(usrn, lang) => Ok(descriptor_faults(keeper, code, *usrn, *lang, stored)?),
         Key::Blpu(uprn) => {
             let Some(blpu) = blpu_in(stored) else {
-                return Ok(KeyFaults::none());
+                return Ok(gone_faults(keeper, code, *uprn, stored)?);
             };
             Ok(blpu_faults(keeper, code, walked, *uprn, blpu)?)
         }

@@ -1,22 +1,18 @@
 //! The judgement of a file, over any keeper.
-ghost use Rattle.std.specs.Prelude.{◌≡◌, ◌≢◌, true, Some, None};
-ghost use Rattle.gaz_records.specs.Items.{is_entry};
+ghost use Rattle.std.specs.Prelude.{◌≢◌, Some, None};
 ghost use Rattle.gaz_register.specs.Registers.{blocks_of};
 ghost use Rattle.gaz_keeper.specs.Keeper.{Idle};
-ghost use Rattle.gaz_views.specs.View.{with_item};
 ghost use Rattle.gaz_rules.specs.Phases.{Concludes, GivesUp};
-ghost use Rattle.gaz_rules.specs.Rules.{effect};
 ghost use Rattle.gaz_rules.specs.Working.{DoesPhases, DoesRecords, FindsEndFault, IsJudging};
-ghost use Rattle.gaz_rules.specs.Working.{MakesView};
 ghost use Rattle.gaz_keeper.specs.Telling.{IsNotJudging};
 ghost use Rattle.gaz_rules.specs.Judges.{JudgesFile};
 
 use crate::known::Known;
+use crate::performing::perform;
 use crate::{end_rules, record_rules};
-use gaz_changefile::{Action, Basis, Change, ChangeFile};
+use gaz_changefile::{Basis, Change, ChangeFile};
 use gaz_ids::Code;
 use gaz_keeper::{Shelf, ShelfFault, Verdict};
-use gaz_records::{SharedItem, key_of};
 use gaz_register::Register;
 use std::alloc::Global;
 
@@ -28,45 +24,25 @@ pub(crate) struct Fault {
     pub rule: u8,
 }
 
-/// Sets an item in the working view, which shares it with the file.
-fn put_shared<K: Shelf>(keeper: &mut K, code: Code, item: &SharedItem) -> Result<(), ShelfFault>
-    requires judging { IsJudging K.seen keeper.old code }
-    requires entry { is_entry item.now ≡ true }
-    ensures { MakesView K.seen keeper.old keeper.new result (λ v. with_item v item.now) }
-{
-    let shared = item.share()?;
-    keeper.put(shared)
-}
-
-/// Does a change on the working view.
-fn perform<K: Shelf>(keeper: &mut K, code: Code, change: &Change) -> Result<(), ShelfFault>
-    requires judging { IsJudging K.seen keeper.old code }
-    requires entry { is_entry change.now.item ≡ true }
-    ensures { MakesView K.seen keeper.old keeper.new result (λ v. effect v change.now) }
-{
-    match change.action {
-        Action::Insert | Action::Update => put_shared(keeper, code, &change.item),
-        Action::Delete => keeper.take(&key_of(&change.item)),
-    }
-}
-
 /// Does the changes one after another, up to the first that doesn't fit.
 fn record_phase<K: Shelf>(
+    alloc: Global,
     keeper: &mut K,
     register: &Register,
     code: Code,
+    bases: &[Basis],
     changes: &[Change],
 ) -> Result<Option<Fault>, ShelfFault>
     requires { IsJudging K.seen keeper.old code }
     ensures { DoesRecords K.seen keeper.old keeper.new result
-        (blocks_of register.now code) changes.now }
+        code (blocks_of register.now code) bases.now changes.now }
 {
     for change in changes {
         let place = change.place;
-        if let Some(rule) = record_rules::breach(keeper, register, code, change)? {
+        if let Some(rule) = record_rules::breach(keeper, register, code, bases, change)? {
             return Ok(Some(Fault { place, rule }));
         }
-        perform(keeper, code, change)?;
+        perform(alloc, keeper, code, change)?;
     }
     Ok(None)
 }
@@ -102,9 +78,9 @@ fn phases<K: Shelf>(
 ) -> Result<Option<Fault>, ShelfFault>
     requires { IsJudging K.seen keeper.old code }
     ensures { DoesPhases K.seen keeper.old keeper.new result
-        (blocks_of register.now code) file.now }
+        code (blocks_of register.now code) file.now }
 {
-    if let Some(fault) = record_phase(keeper, register, code, &file.changes)? {
+    if let Some(fault) = record_phase(alloc, keeper, register, code, &file.bases, &file.changes)? {
         return Ok(Some(fault));
     }
     end_phase(alloc, keeper, code, &file.bases, &file.changes)
@@ -160,7 +136,7 @@ fn conclude<K: Shelf>(
 /// Judges a good file as its custodian's next volume, which is to be at hand, where all its bases
 /// are reached.
 ///
-/// The changes go into the working view, each asked the record rules (5, 20 to 24) first; then the
+/// The changes go into the working view, each asked the record rules (20 to 24, 40 to 42) first; then the
 /// keys that they touched are asked the end rules (30 to 39), in file order. The answer is the
 /// verdict that the keeper then has. After a fault, `Memory` or `Store`, the keeper's board is as
 /// it was. Whatever is answered, no judgement is in progress any more. That `Memory` isn't answered

@@ -16,10 +16,14 @@ use gaz_records::{Key, SharedItem};
 /// The end rules that a key breaks by itself.
 #[derive(Clone, Copy)]
 pub(crate) struct KeyFaults {
+    /// The second half of rule 31: a BLPU that isn't there, and an LPI or a cross reference names it.
+    pub(crate) leaves_ties: bool,
     /// The second half of rule 34: a descriptor that isn't there, and an approved LPI needs it.
     pub(crate) leaves_lpi: bool,
-    /// Rule 35: a BLPU whose parent isn't there.
+    /// The first half of rule 35: a BLPU whose parent isn't there.
     pub(crate) lacks_parent: bool,
+    /// The second half of rule 35: a BLPU that isn't there and has parts.
+    pub(crate) leaves_parts: bool,
     /// Rule 36: a BLPU on a ring of parents.
     pub(crate) is_own_ancestor: bool,
     /// The second half of rule 37: a historical BLPU with an approved LPI.
@@ -36,8 +40,10 @@ impl KeyFaults {
         ensures { result ≡ no_key_fault }
     {
         KeyFaults {
+            leaves_ties: false,
             leaves_lpi: false,
             lacks_parent: false,
+            leaves_parts: false,
             is_own_ancestor: false,
             past_under_lpi: false,
             lacks_own_street: false,

@@ -1,6 +1,7 @@
 //! What a reader of the definitions may rely on.
 ghost use Rattle.gaz_rules.specs.JudgedExamples.{WorkedExamples};
 ghost use Rattle.gaz_rules.specs.Laws.{BoardsStaySound, FindsRings, OwnNumbersStay, StaysSound};
+ghost use Rattle.gaz_rules.specs.Passing.{PassesAsAsked};
 ghost use Rattle.gaz_rules.specs.RecordSentences.{RecordTestsSay};
 ghost use Rattle.gaz_rules.specs.Sentences.{TestsSay};
 ghost use Rattle.gaz_rules.specs.Verdicts.{JudgesSay};
@@ -44,4 +45,10 @@ pub fn boards_stay_sound()
 /// and no other holds that number.
 pub fn own_numbers_stay()
     ensures { OwnNumbersStay }
+{}
+
+/// What last became of a number is what the last change that passed it on made of it; and a change
+/// that breaks no rule passes it on as the rules ask.
+pub fn passes_as_asked()
+    ensures { PassesAsAsked }
 {}

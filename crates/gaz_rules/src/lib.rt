@@ -1,7 +1,9 @@
 //! The rules of a gazetteer, and what a change file comes to under them.
 #![tactic(auto)]
 
+mod adopting;
 mod blpu_faults;
+mod custody_rules;
 mod end_rules;
 mod judging;
 mod key_faults;
@@ -9,6 +11,7 @@ mod known;
 mod last_street;
 pub mod laws;
 mod name_faults;
+mod performing;
 mod record_rules;
 mod rings;
 mod streets;

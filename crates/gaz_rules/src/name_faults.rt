@@ -22,7 +22,7 @@ use gaz_records::{Item, Key, Lpi, SharedItem, item_in};
 pub(crate) struct NameFaults {
     /// Rule 30: another approved LPI has its BLPU.
     pub(crate) is_second: bool,
-    /// Rule 31: its BLPU isn't there.
+    /// The first half of rule 31: its BLPU isn't there.
     pub(crate) lacks_blpu: bool,
     /// Rule 32: its street is found nowhere.
     pub(crate) lacks_street: bool,

@@ -1,5 +1,5 @@
 //! The record rules, asked of any keeper.
-ghost use Rattle.std.specs.Prelude.{◌≡◌, false, true, Some, None, IfNone, IfOk, if◌then◌else◌};
+ghost use Rattle.std.specs.Prelude.{◌≡◌, ℕ, false, true, List, Some, None, if◌then◌else◌};
 ghost use Rattle.std.specs.FinMap as map;
 ghost use Rattle.std.specs.Option.{option_map_or};
 ghost use Rattle.gaz_records.specs.Items.{is_entry};
@@ -7,23 +7,31 @@ ghost use Rattle.gaz_records.specs.Keys.{key_of};
 ghost use Rattle.gaz_register.specs.Registers.{Blocks, blocks_of};
 ghost use Rattle.gaz_views.specs.View.{View, holds, was_used};
 ghost use Rattle.gaz_rules.specs.Rules.{first_broken, is_moved, is_outside, record_rules, stays};
-ghost use Rattle.gaz_rules.specs.Working.{IsJudging, ReadsView};
+ghost use Rattle.gaz_rules.specs.Working.{IsJudging, ReadsView, ReadsViews};
 
+use crate::custody_rules::{adopt_breach, holds_number, release_breach};
 use crate::key_faults::is_there;
-use gaz_changefile::{Action, Change};
+use gaz_changefile::{Action, Basis, Change};
 use gaz_ids::Code;
 use gaz_keeper::{Shelf, ShelfFault};
 use gaz_records::{Item, Key, key_of};
 use gaz_register::Register;
 
-fn is_outside(register: &Register, code: Code, item: &Item) -> bool
-    ensures { (v : View) → result ≡ is_outside (blocks_of register.now code) v item.now }
+/// Whether an item's number isn't the custodian's, in the view that is judged.
+fn is_outside<K: Shelf>(
+    keeper: &mut K,
+    register: &Register,
+    code: Code,
+    item: &Item,
+) -> Result<bool, ShelfFault>
+    requires { IsJudging K.seen keeper.old code }
+    ensures { ReadsView K.seen keeper.old keeper.new result (λ v b. is_entry item.now ≡ true
+        → b ≡ is_outside (blocks_of register.now code) v item.now) }
 {
     match item {
-        Item::Street(street) => !register.allotted_usrn(code, street.usrn),
-        Item::Blpu(blpu) => !register.allotted(code, blpu.uprn),
-        Item::Descriptor(_) | Item::Xref(_) | Item::Lpi(_) => false,
-        Item::Release(_) | Item::Adopt(_) => false,
+        Item::Street(street) => Ok(!register.allotted_usrn(code, street.usrn)),
+        Item::Blpu(blpu) => Ok(!holds_number(keeper, register, code, blpu.uprn)?),
+        _ => Ok(false),
     }
 }
 
@@ -98,9 +106,9 @@ fn action_breach<K: Shelf>(
 ) -> Result<Option<u8>, ShelfFault>
     requires { IsJudging K.seen keeper.old code }
     ensures { ReadsView K.seen keeper.old keeper.new result (λ view r.
-        (own : Blocks) → is_entry change.now.item ≡ true
+        (own : Blocks) (others : List (ℕ × View)) → is_entry change.now.item ≡ true
         → is_outside own view change.now.item ≡ false
-        → r ≡ first_broken (record_rules own view change.now.action change.now.item)) }
+        → r ≡ first_broken (record_rules code own others view change.now.action change.now.item)) }
 {
     let key = key_of(&change.item);
     match change.action {
@@ -110,24 +118,42 @@ fn action_breach<K: Shelf>(
     }
 }
 
-/// The least record rule that a change breaks on the working view of its custodian, 5 or 20 to 24
-/// (our profile). Whatever the keeper answers, only a change of an entry breaks none.
-pub(crate) fn breach<K: Shelf>(
+/// The least record rule that a change of an entry breaks.
+fn entry_breach<K: Shelf>(
     keeper: &mut K,
     register: &Register,
     code: Code,
     change: &Change,
 ) -> Result<Option<u8>, ShelfFault>
     requires { IsJudging K.seen keeper.old code }
-    ensures rule { ReadsView K.seen keeper.old keeper.new result (λ view r. r ≡ first_broken
-        (record_rules (blocks_of register.now code) view change.now.action change.now.item)) }
-    ensures entry { IfOk result (λ r. IfNone r (is_entry change.now.item ≡ true)) }
+    ensures { ReadsView K.seen keeper.old keeper.new result (λ view r.
+        (others : List (ℕ × View)) → is_entry change.now.item ≡ true
+        → r ≡ first_broken (record_rules code (blocks_of register.now code) others view
+        change.now.action change.now.item)) }
 {
-    if !change.item.is_entry() {
-        return Ok(Some(5));
-    }
-    if is_outside(register, code, &change.item) {
+    if is_outside(keeper, register, code, &change.item)? {
         return Ok(Some(20));
     }
     Ok(action_breach(keeper, code, change)?)
+}
+
+/// The least record rule that a change breaks on the working view of its custodian, 20 to 24 and 40
+/// to 42 (our profile).
+pub(crate) fn breach<K: Shelf>(
+    keeper: &mut K,
+    register: &Register,
+    code: Code,
+    bases: &[Basis],
+    change: &Change,
+) -> Result<Option<u8>, ShelfFault>
+    requires { IsJudging K.seen keeper.old code }
+    ensures { ReadsViews K.seen keeper.old keeper.new result bases.now (λ view others r.
+        r ≡ first_broken (record_rules code (blocks_of register.now code) others view
+        change.now.action change.now.item)) }
+{
+    match change.item.as_item() {
+        Item::Release(release) => Ok(release_breach(keeper, register, code, release)?),
+        Item::Adopt(adopt) => Ok(adopt_breach(keeper, code, bases, adopt)?),
+        _ => Ok(entry_breach(keeper, register, code, change)?),
+    }
 }

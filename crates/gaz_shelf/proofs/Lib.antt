@@ -6,3 +6,4 @@ pub mod Faulting
 pub mod Written
 pub mod Counting
 pub mod Restored
+pub mod Untouched

@@ -20,10 +20,15 @@ no_calls = record {
   property_of = 0;
   approved_on = 0;
   children = 0;
+  custody = 0;
+  custody_at = 0;
+  tied = 0;
   page = 0;
   begin = 0;
   put = 0;
   take = 0;
+  release = 0;
+  adopt = 0;
   keep = 0;
   abandon = 0;
   skip = 0;
@@ -48,10 +53,15 @@ counted call.ApprovedOf n = record n { approved_of = one_more n.approved_of }
 counted call.PropertyOf n = record n { property_of = one_more n.property_of }
 counted call.ApprovedOn n = record n { approved_on = one_more n.approved_on }
 counted call.Children n = record n { children = one_more n.children }
+counted call.Custody n = record n { custody = one_more n.custody }
+counted call.CustodyAt n = record n { custody_at = one_more n.custody_at }
+counted call.Tied n = record n { tied = one_more n.tied }
 counted call.Page n = record n { page = one_more n.page }
 counted call.Begin n = record n { begin = one_more n.begin }
 counted call.Put n = record n { put = one_more n.put }
 counted call.Take n = record n { take = one_more n.take }
+counted call.Release n = record n { release = one_more n.release }
+counted call.Adopt n = record n { adopt = one_more n.adopt }
 counted call.Keep n = record n { keep = one_more n.keep }
 counted call.Abandon n = record n { abandon = one_more n.abandon }
 counted call.Skip n = record n { skip = one_more n.skip }

@@ -19,7 +19,7 @@ use std::collections::BTreeMap;
 /// The accounts of all custodians, each view of which is a lawful one.
 #[derive(Drop)]
 pub struct Accounts {
-    by_code: BTreeMap<Code, CachedLedger>,
+    pub(crate) by_code: BTreeMap<Code, CachedLedger>,
     ghost lawful: { AreLawful by_code.entries } by { AreLawful-prop by_code.entries },
 }
 

@@ -1,6 +1,7 @@
 //! A keeper in memory, one that fails, and what is read and written over any.
 #![tactic(auto)]
 
+mod account_passing;
 mod accounts;
 mod calls;
 mod faulty;
@@ -9,6 +10,7 @@ pub mod laws;
 mod mem_calls;
 mod mem_finding;
 mod mem_judging;
+mod mem_passing;
 mod mem_shelf;
 mod passing;
 mod reading;

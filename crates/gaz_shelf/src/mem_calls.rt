@@ -6,10 +6,10 @@ ghost use Rattle.gaz_keeper.specs.Telling.{TellsEver, TellsHeld, TellsNothing, T
 ghost use Rattle.gaz_keeper.specs.Telling.{TellsVerdict};
 
 use crate::mem_shelf::{Judging, MemShelf};
-use gaz_ids::{Code, Lang, Uprn, Usrn, Volume};
+use gaz_ids::{Code, Hop, Lang, Uprn, Usrn, Volume};
 use gaz_keeper::{Inbox, Shelf, ShelfFault};
 use gaz_records::{Key, Kind, SharedItem};
-use gaz_views::{Property, Verdict};
+use gaz_views::{Custody, Property, Verdict};
 
 impl Shelf for MemShelf {
     ghost use Rattle.gaz_shelf.specs.Mem.{seen_in};
@@ -75,6 +75,26 @@ impl Shelf for MemShelf {
         Ok(self.find_children(code, uprn))
     }
 
+    fn custody(&mut self, code: Code, uprn: Uprn) -> Result<Option<Custody>, ShelfFault> {
+        self.clear();
+        Ok(self.find_custody(code, uprn))
+    }
+
+    fn custody_at(
+        &mut self,
+        code: Code,
+        volume: u64,
+        uprn: Uprn,
+    ) -> Result<Option<Custody>, ShelfFault> {
+        self.clear();
+        Ok(self.find_custody_at(code, volume, uprn))
+    }
+
+    fn tied(&mut self, code: Code, uprn: Uprn) -> Result<bool, ShelfFault> {
+        self.clear();
+        Ok(self.find_tied(code, uprn)?)
+    }
+
     fn page(
         &mut self,
         code: Code,
@@ -110,6 +130,20 @@ impl Shelf for MemShelf {
     fn take(&mut self, key: &Key) -> Result<(), ShelfFault> {
         match self.open_code() {
             Some(code) => self.take_open(code, key),
+            None => Err(self.fail()),
+        }
+    }
+
+    fn release(&mut self, uprn: Uprn, to: Code, hop: Hop) -> Result<(), ShelfFault> {
+        match self.open_code() {
+            Some(code) => self.release_open(code, uprn, to, hop),
+            None => Err(self.fail()),
+        }
+    }
+
+    fn adopt(&mut self, blpu: SharedItem, from: Code, hop: Hop) -> Result<(), ShelfFault> {
+        match self.open_code() {
+            Some(code) => self.adopt_open(code, blpu, from, hop),
             None => Err(self.fail()),
         }
     }

@@ -6,6 +6,7 @@ ghost use Rattle.gaz_views.specs.View.{empty_view, was_used};
 ghost use Rattle.gaz_views.specs.Words.{approved_of, approved_on, has_children, property_of};
 ghost use Rattle.gaz_keeper.specs.Board.{reached, verdict_on};
 ghost use Rattle.gaz_keeper.specs.Keeper.{Seen, view_of};
+ghost use Rattle.gaz_shelf.specs.Accounts.{account_of};
 ghost use Rattle.gaz_shelf.specs.Mem.{content_in, seen_in};
 ghost use Rattle.gaz_keeper.specs.Telling.{IsItemAt, IsPageAt};
 
@@ -18,10 +19,12 @@ use std::alloc::AllocError;
 
 impl MemShelf {
     /// A custodian's account and the volume at which it is seen, where it has an account.
-    fn seen(&self, code: Code) -> Option<(&CachedLedger, u64)>
+    pub(crate) fn seen(&self, code: Code) -> Option<(&CachedLedger, u64)>
         ensures none { IfNone result (view_of (seen_in self.now) code ≡ empty_view) }
         ensures view { IfSome result (λ s. view_in s.0.now s.1 ≡ view_of (seen_in self.now) code) }
         ensures reached { IfSome result (λ s. length s.0.now.judged ≤ s.1) }
+        ensures account { IfSome result
+            (λ s. s.0.now ≡ account_of self.now.accounts.by_code.entries code) }
     {
         let Some(account) = self.accounts.get(code) else {
             return None;

@@ -1,25 +1,29 @@
 //! The calls that a keeper for tests passes on.
 ghost use Rattle.std.specs.Prelude.{◌≡◌, ◌≢◌, true};
+ghost use Rattle.std.specs.Option.{IsSome};
 ghost use Rattle.gaz_records.specs.Items.{is_entry};
 ghost use Rattle.gaz_records.specs.Kinds.{is_entry_kind};
+ghost use Rattle.gaz_views.specs.Numbered.{as_blpu};
 ghost use Rattle.gaz_shelf.specs.Calls.{CountsAs};
 ghost use Rattle.gaz_shelf.specs.Around.{seen_around};
 ghost use Rattle.gaz_shelf.specs.Faulting.{progress_around};
 ghost use Rattle.gaz_keeper.specs.Keeper.{Idle, IsNotOpen, IsOpen, Refuses};
-ghost use Rattle.gaz_keeper.specs.Telling.{Abandons, Applies, Begins, Puts, Receives, Skips, Takes};
+ghost use Rattle.gaz_keeper.specs.Telling.{Abandons, Adopts, Applies, Begins, Puts, Receives};
+ghost use Rattle.gaz_keeper.specs.Telling.{Releases, Skips, Takes};
 ghost use Rattle.gaz_keeper.specs.Telling.{TellsApprovedOf, TellsApprovedOn, TellsAt};
 ghost use Rattle.gaz_keeper.specs.Telling.{TellsChildren};
-ghost use Rattle.gaz_keeper.specs.Telling.{TellsCurrent, TellsEver, TellsHeld, TellsNothing};
+ghost use Rattle.gaz_keeper.specs.Telling.{TellsCurrent, TellsCustody, TellsCustodyAt};
+ghost use Rattle.gaz_keeper.specs.Telling.{TellsEver, TellsHeld, TellsNothing};
 ghost use Rattle.gaz_keeper.specs.Telling.{TellsPage};
 ghost use Rattle.gaz_keeper.specs.Telling.{TellsPropertyOf, TellsReached, TellsReceived};
-ghost use Rattle.gaz_keeper.specs.Telling.{TellsVerdict};
+ghost use Rattle.gaz_keeper.specs.Telling.{TellsTied, TellsVerdict};
 
 use crate::calls::Call;
 use crate::faulty::Faulty;
-use gaz_ids::{Code, Lang, Uprn, Usrn, Volume};
+use gaz_ids::{Code, Hop, Lang, Uprn, Usrn, Volume};
 use gaz_keeper::{Inbox, Shelf, ShelfFault};
 use gaz_records::{Key, Kind, SharedItem};
-use gaz_views::{Property, Verdict};
+use gaz_views::{Custody, Property, Verdict};
 
 // What a call says of the content it says as every keeper; beside that it counts as the call that
 // it is.
@@ -106,6 +110,36 @@ impl<K: Inbox + Drop> Shelf for Faulty<K> {
         self.inner.children(code, uprn)
     }
 
+    fn custody(&mut self, code: Code, uprn: Uprn) -> Result<Option<Custody>, ShelfFault>
+        ensures reads { TellsCustody seen_around self.old self.new result code uprn }
+        ensures counts { CountsAs Call.Custody self.old.plan self.new.plan self.old.broken result }
+    {
+        self.admit(Call::Custody)?;
+        self.inner.custody(code, uprn)
+    }
+
+    fn custody_at(
+        &mut self,
+        code: Code,
+        volume: u64,
+        uprn: Uprn,
+    ) -> Result<Option<Custody>, ShelfFault>
+        ensures reads { TellsCustodyAt seen_around self.old self.new result code volume uprn }
+        ensures counts { CountsAs Call.CustodyAt
+            self.old.plan self.new.plan self.old.broken result }
+    {
+        self.admit(Call::CustodyAt)?;
+        self.inner.custody_at(code, volume, uprn)
+    }
+
+    fn tied(&mut self, code: Code, uprn: Uprn) -> Result<bool, ShelfFault>
+        ensures reads { TellsTied seen_around self.old self.new result code uprn }
+        ensures counts { CountsAs Call.Tied self.old.plan self.new.plan self.old.broken result }
+    {
+        self.admit(Call::Tied)?;
+        self.inner.tied(code, uprn)
+    }
+
     fn page(
         &mut self,
         code: Code,
@@ -164,6 +198,35 @@ impl<K: Inbox + Drop> Shelf for Faulty<K> {
         let taken = self.inner.take(key);
         self.broken = taken.is_err();
         taken
+    }
+
+    fn release(&mut self, uprn: Uprn, to: Code, hop: Hop) -> Result<(), ShelfFault>
+        requires { progress_around self.old.broken (K.seen self.old.inner).progress ≢ Idle }
+        ensures sets { Releases seen_around self.old self.new result uprn to hop }
+        ensures refuses { Refuses (seen_around self.old) result }
+        ensures counts { CountsAs Call.Release self.old.plan self.new.plan self.old.broken result }
+    {
+        if self.is_stopped(Call::Release) {
+            return Err(self.break_off());
+        }
+        let released = self.inner.release(uprn, to, hop);
+        self.broken = released.is_err();
+        released
+    }
+
+    fn adopt(&mut self, blpu: SharedItem, from: Code, hop: Hop) -> Result<(), ShelfFault>
+        requires begun { progress_around self.old.broken (K.seen self.old.inner).progress ≢ Idle }
+        requires blpu { IsSome (as_blpu blpu) }
+        ensures sets { Adopts seen_around self.old self.new result blpu from hop }
+        ensures refuses { Refuses (seen_around self.old) result }
+        ensures counts { CountsAs Call.Adopt self.old.plan self.new.plan self.old.broken result }
+    {
+        if self.is_stopped(Call::Adopt) {
+            return Err(self.break_off());
+        }
+        let adopted = self.inner.adopt(blpu, from, hop);
+        self.broken = adopted.is_err();
+        adopted
     }
 
     fn keep(&mut self) -> Result<(), ShelfFault>

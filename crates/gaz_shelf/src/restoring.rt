@@ -1,15 +1,16 @@
-//! An item's life is put back into a keeper in memory.
+//! An item's life, or what became of a number, is put back into a keeper in memory.
 ghost use Rattle.std.specs.Prelude.{◌≡◌, ◌↔◌, IsTrue, OnErr, OnOk, true};
 ghost use Rattle.gaz_records.specs.Items.{is_entry};
 ghost use Rattle.gaz_keeper.specs.Keeper.{Idle};
 ghost use Rattle.gaz_ledger.specs.Lives.{IsLifeWithin};
 ghost use Rattle.gaz_shelf.specs.Mem.{content_in, progress_of};
-ghost use Rattle.gaz_shelf.specs.Restoring.{IsRestored};
+ghost use Rattle.gaz_shelf.specs.Restoring.{IsPassageRestored, IsRestored};
 
 use crate::mem_shelf::MemShelf;
-use gaz_ids::Code;
+use gaz_ids::{Code, Uprn};
 use gaz_keeper::ShelfFault;
 use gaz_records::SharedItem;
+use gaz_views::Custody;
 
 impl MemShelf {
     /// Puts the life of an item, an entry, back into the views of a custodian: it stood under its
@@ -33,6 +34,27 @@ impl MemShelf {
         ensures count { self.new.failures ≡ self.old.failures }
     {
         Ok(self.accounts.restore(code, born, gone, item)?)
+    }
+
+    /// Puts back what became of a number of a custodian at a volume. That is to be reached, and
+    /// nothing is to stand at its BLPU's key from then on, which counts as used; else it is
+    /// refused. What became of the number later is to be put back after that. Where memory runs
+    /// out, it may be put back without the key.
+    pub fn restore_passage(
+        &mut self,
+        code: Code,
+        born: u64,
+        uprn: Uprn,
+        custody: Custody,
+    ) -> Result<(), ShelfFault>
+        requires { progress_of self.old.judging ≡ Idle }
+        ensures ok { OnOk result (IsPassageRestored
+            (content_in self.old).board (content_in self.new).board code born uprn custody) }
+        ensures files { (content_in self.new).files ≡ (content_in self.old).files }
+        ensures idle { progress_of self.new.judging ≡ Idle }
+        ensures count { self.new.failures ≡ self.old.failures }
+    {
+        Ok(self.accounts.restore_passage(code, born, uprn, custody)?)
     }
 
     /// Brings those properties of a custodian to hand of which items were put back, so that a

@@ -3,6 +3,7 @@ use Rattle.std.proofs.Common.{◌≡◌, Result, Ok, Err, IfOk, subst}
 use Rattle.sqlite.specs.Effect.{Database}
 use Rattle.sqlite_trees.specs.declared.store.Store.{Ghosts}
 use Rattle.gaz_keeper.specs.declared.fault.ShelfFault.{ShelfFault}
+use Rattle.gaz_keeper.specs.declared.fault.ShelfFault.TheVariants.{Memory}
 use Rattle.gaz_store.specs.Asking.{AsksTables, Fails, IsAnyway, Tallies}
 use Rattle.gaz_kept.specs.Kept.{IsKept}
 use Rattle.gaz_store.specs.declared.tables.Tables.{Tables}
@@ -50,6 +51,13 @@ module _ {S : Type 0} {store : Ghosts S} where
       asked_then old mid new one two (Err e) P Q R before after
       (record { kept = after.tallies.kept; store = (subst (λ (r : Result B ShelfFault). Tallies mid.failures new.failures r) is after.tallies).store })
       (λ db kept was now. tt)
+
+  -- a step after which memory runs out
+  pub asked_want : {A B T : Type 0} (old mid new : Tables S store) (one : Result A ShelfFault) (two : Result B ShelfFault)
+      (P : Database → A → Type 0) (Q : Database → B → Type 0) (R : Database → T → Type 0)
+      → AsksTables old mid one P → AsksTables mid new two Q → AsksTables old new (Err Memory) R
+  asked_want old mid new one two P Q R before after =
+      asked_then old mid new one two (Err Memory) P Q R before after (record { kept = after.tallies.kept; store = λ e. cc }) (λ db kept was now. tt)
 
   -- what is told of a later answer, by what came before
   pub asked_more : {A T : Type 0} (old mid new : Tables S store) (one : Result A ShelfFault) (two : Result T ShelfFault) (a : A)

@@ -19,7 +19,7 @@ use Rattle.gaz_ids.specs.declared.status.Status.{Status}
 use Rattle.gaz_ids.specs.declared.status.Status.TheVariants.{Approved, Alternative, Provisional, Historical}
 use Rattle.gaz_records.specs.Items.{is_entry, kind_of}
 use Rattle.gaz_records.specs.Keys.{key_of}
-use Rattle.gaz_records.specs.Kinds.{number_of}
+use Rattle.gaz_records.specs.Kinds.{is_entry_kind, number_of}
 use Rattle.gaz_records.specs.declared.item.Item.{Item}
 use Rattle.gaz_records.specs.declared.item.Item.TheVariants as item
 use Rattle.gaz_records.specs.declared.item.Kind.{Kind}
@@ -37,7 +37,8 @@ use Rattle.gaz_kept.specs.Kept.{IsKept, IsVersion}
 use Rattle.gaz_store.specs.Paging.{IsStart, is_behind}
 use Rattle.gaz_kept.specs.Versions.{history_in, item_in, living, number_in}
 use Rattle.gaz_store.proofs.Chosen.{FitJust}
-use Rattle.gaz_store.proofs.Holding.{HoldsItem, said_cells, said_entry, said_history, said_key, said_known, said_text}
+use Rattle.gaz_store.proofs.Holding.{HoldsItem, kind_row, own_row, said_cells, said_entry, said_history, said_key, said_known, said_text}
+use Rattle.gaz_store.specs.Streets.{is_of_blpu}
 use Rattle.gaz_kept.proofs.Reached.{reached_room}
 use Rattle.gaz_kept.proofs.Statements.{fits, item_of, read_in, same_kind, whole}
 
@@ -87,45 +88,47 @@ module _ (r : Row) (v : IsVersion r) (x : Item) (is : item_in r ≡ Some x) wher
   of_kind k cell = same_kind (kind_of x) k (cell_kind ∙ ap number_in cell)
 
   kind_cell : (k : Kind) → kind_of x ≡ k → table.kind_of r ≡ Int (pos (number_of k))
-  kind_cell k same = whole (table.kind_of r) (number_of k) v.kind (sym cell_kind ∙ ap number_of same)
+  kind_cell k same = whole (table.kind_of r) (number_of k) (own_row r v x is).kind (sym cell_kind ∙ ap number_of same)
 
   pub key_kind : kind_in (key_of x) ≡ kind_of x
   key_kind = (fits x (said_known r v x is) (said_entry r v x is)).kind
 
 -- ---- rows of a kind that hold after a volume
 
-pos_same : (m n : ℤ) → Int m ≡ Int n → m ≡ n
+pub pos_same : (m n : ℤ) → Int m ≡ Int n → m ≡ n
 pos_same m n e = cc
 
-module _ (db : Database) (kept : IsKept db) (c t : ℕ) (k : Kind) (after : Option Key) (start : List ℕ) (begins : IsStart k after (Some start)) where
+module _ (db : Database) (kept : IsKept db) (c t : ℕ) (k : Kind) (entry : is_entry_kind k ≡ true) (after : Option Key) (start : List ℕ) (begins : IsStart k after (Some start)) where
   abbrev pub comes_in : Key × Item → Bool
   comes_in e = is_of k e.0 && comes_after after e.0
 
   pub holding_just : FitJust db c t k comes_in (IsHolding c (number_of k) start t)
   holding_just = record {
     item = λ r there fit.
-        let v = kept.rows r there in
+        let version = kept.rows r there in
+        let v = kind_row k r entry version fit.of_kind in
         let s = item_of r v in
         let early : pos (number_in (table.born_of r)) ≤ℤ pos t = subst (λ n. n ≤ℤ pos t) (pos_same fit.early.0 (pos (number_in (table.born_of r))) (sym fit.early.1 ∙ v.born)) fit.early.2 in
         let late : pos t <ℤ pos (number_in (table.gone_of r)) = subst (λ n. pos t <ℤ n) (pos_same fit.late.0 (pos (number_in (table.gone_of r))) (sym fit.late.1 ∙ v.gone)) fit.late.2 in
-        let same = of_kind r v s.item s.said k fit.of_kind in (
+        let same = of_kind r version s.item s.said k fit.of_kind in (
           s.item,
           record { cust = ap number_in fit.of_cust; item = s.said; born = omega (arith, ints, early); gone = omega (arith, ints, late) },
           same,
           and_from (is_of k (key_of s.item)) (comes_after after (key_of s.item))
               (subst (λ j. is_of j (key_of s.item) ≡ true) same (own_kind s.item s.entry))
-              (begins (key_of s.item) (said_key r v s.item s.said) (key_kind r v s.item s.said ∙ same) ∙ row_behind r v s.item s.said start fit.behind),
+              (begins (key_of s.item) (said_key r version s.item s.said) (key_kind r version s.item s.said ∙ same) ∙ row_behind r version s.item s.said start fit.behind),
         );
     row = λ r x there h passes.
-        let v = kept.rows r there in
+        let version = kept.rows r there in
+        let v = own_row r version x h.item in
         let both = and_parts (is_of k (key_of x)) (comes_after after (key_of x)) passes in
-        let same = kind_is k x (said_entry r v x h.item) both.0 in
+        let same = kind_is k x (said_entry r version x h.item) both.0 in
         let b = h.born in
         let g = h.gone in
         record {
           of_cust = whole (table.cust_of r) c v.cust h.cust;
-          of_kind = kind_cell r v x h.item k same;
-          behind = behind_row r v x h.item start (sym (begins (key_of x) (said_key r v x h.item) (key_kind r v x h.item ∙ same)) ∙ both.1);
+          of_kind = kind_cell r version x h.item k same;
+          behind = behind_row r version x h.item start (sym (begins (key_of x) (said_key r version x h.item) (key_kind r version x h.item ∙ same)) ∙ both.1);
           early = (pos (number_in (table.born_of r)), v.born, omega (arith, ints, b));
           late = (pos (number_in (table.gone_of r)), v.gone, omega (arith, ints, g));
         };
@@ -146,7 +149,7 @@ module _ (db : Database) (kept : IsKept db) (c : ℕ) where
       record { cust = cust; item = is; born = born; gone = omega arith }
 
   holds_current : (r : Row) (x : Item) → Has (db.trees versions) r → HoldsItem c n r x → table.gone_of r ≡ Int table.never
-  holds_current r x there h = whole (table.gone_of r) 1000000 (kept.rows r there).gone (by_gone ((kept.histories c).until row (read_in (history_in c) (db.trees versions) r row there (said_history r (kept.rows r there) x h.item c h.cust))).gone)
+  holds_current r x there h = whole (table.gone_of r) 1000000 (own_row r (kept.rows r there) x h.item).gone (by_gone ((kept.histories c).until row (read_in (history_in c) (db.trees versions) r row there (said_history r (kept.rows r there) x h.item c h.cust))).gone)
     where
       row : HistoryRow
       row = living (number_in (table.born_of r)) (number_in (table.gone_of r)) x
@@ -228,86 +231,94 @@ module _ (db : Database) (kept : IsKept db) (c usrn : ℕ) (start : List ℕ) wh
   pub approved_just : FitJust db c (reached_in (db.trees receiveds) c) kind.Lpi left_on (IsApprovedOn c usrn start)
   approved_just = record {
     item = λ r there fit.
-        let v = kept.rows r there in
-        let s = item_of r v in
-        let is_of_kind = of_kind r v s.item s.said kind.Lpi fit.approved.of_kind in
+        let version = kept.rows r there in
+        let s = item_of r (kind_row kind.Lpi r refl version fit.approved.of_kind) in
+        let is_of_kind = of_kind r version s.item s.said kind.Lpi fit.approved.of_kind in
         let live : live_of s.item ≡ 1 = ap (λ (d : CellsValue). d.links.live) s.cells ∙ ap number_in fit.approved.is_live in
         let street : street_of s.item ≡ usrn = ap (λ (d : CellsValue). d.links.street) s.cells ∙ ap number_in fit.on_street in (
           s.item,
           current_holds db kept c r s.item there (ap number_in fit.approved.of_cust) s.said fit.approved.is_current,
           is_of_kind,
-          and_from (is_approved_on usrn None s.item) (is_behind start (key_of s.item)) (lpi_on s.item usrn is_of_kind live street) (row_behind r v s.item s.said start fit.behind),
+          and_from (is_approved_on usrn None s.item) (is_behind start (key_of s.item)) (lpi_on s.item usrn is_of_kind live street) (row_behind r version s.item s.said start fit.behind),
         );
     row = λ r x there h passes.
-        let v = kept.rows r there in
+        let version = kept.rows r there in
+        let v = own_row r version x h.item in
         let both = and_parts (is_approved_on usrn None x) (is_behind start (key_of x)) passes in
         let on = on_lpi x usrn both.0 in
-        let cells = said_cells r v x h.item in
+        let cells = said_cells r version x h.item in
         record {
           approved = record {
             of_cust = whole (table.cust_of r) c v.cust h.cust;
-            of_kind = kind_cell r v x h.item kind.Lpi on.kind;
+            of_kind = kind_cell r version x h.item kind.Lpi on.kind;
             is_live = whole (table.live_of r) 1 v.live (ap (λ (d : CellsValue). d.links.live) (sym cells) ∙ on.live);
             is_current = holds_current db kept c r x there h;
           };
           on_street = whole (table.street_of r) usrn v.street (ap (λ (d : CellsValue). d.links.street) (sym cells) ∙ on.street);
-          behind = behind_row r v x h.item start both.1;
+          behind = behind_row r version x h.item start both.1;
         };
   }
 
--- ---- parts of a BLPU
+-- ---- what names a BLPU
 
-part_of : (x : Item) (uprn : ℕ) → 1 ≤ uprn → kind_of x ≡ kind.Blpu → blpu_of x ≡ uprn → is_child_of uprn x ≡ true
-part_of (item.Street x) uprn some k of = absurd (cc)
-part_of (item.Descriptor x) uprn some k of = absurd (cc)
-part_of (item.Xref x) uprn some k of = absurd (cc)
-part_of (item.Lpi x) uprn some k of = absurd (cc)
-part_of (item.Release x) uprn some k of = absurd (cc)
-part_of (item.Adopt x) uprn some k of = absurd (cc)
-part_of (item.Blpu x) uprn some k of = by_parent x.parent of
+part_of : (x : Item) (uprn : ℕ) → 1 ≤ uprn → is_entry x ≡ true → blpu_of x ≡ uprn → is_of_blpu (kind_of x) uprn x ≡ true
+part_of (item.Street x) uprn some entry of = absurd (omega (arith, some, of))
+part_of (item.Descriptor x) uprn some entry of = absurd (omega (arith, some, of))
+part_of (item.Xref x) uprn some entry of = eq-eqb x.uprn uprn of
+part_of (item.Lpi x) uprn some entry of = eq-eqb x.uprn uprn of
+part_of (item.Release x) uprn some entry of = absurd (cc)
+part_of (item.Adopt x) uprn some entry of = absurd (cc)
+part_of (item.Blpu x) uprn some entry of = by_parent x.parent of
   where
     by_parent : (p : Option ℕ) → parent_number p ≡ uprn → option_map_or (λ m. m == uprn) p false ≡ true
     by_parent None of = absurd (omega arith)
     by_parent (Some m) of = eq-eqb m uprn of
 
-child_is : (x : Item) (uprn : ℕ) → is_child_of uprn x ≡ true → (kind_of x ≡ kind.Blpu) × (blpu_of x ≡ uprn)
-child_is (item.Street x) uprn e = absurd (cc)
-child_is (item.Descriptor x) uprn e = absurd (cc)
-child_is (item.Xref x) uprn e = absurd (cc)
-child_is (item.Lpi x) uprn e = absurd (cc)
-child_is (item.Release x) uprn e = absurd (cc)
-child_is (item.Adopt x) uprn e = absurd (cc)
-child_is (item.Blpu x) uprn e = (refl, by_parent x.parent e)
+-- it is of that kind, and its cell says the number
+pub part_is : (k : Kind) (x : Item) (uprn : ℕ) → is_of_blpu k uprn x ≡ true → (kind_of x ≡ k) × (blpu_of x ≡ uprn)
+part_is kind.Xref (item.Xref x) uprn e = (refl, eqb-true x.uprn uprn e)
+part_is kind.Lpi (item.Lpi x) uprn e = (refl, eqb-true x.uprn uprn e)
+part_is kind.Blpu (item.Blpu x) uprn e = (refl, by_parent x.parent e)
   where
     by_parent : (p : Option ℕ) → option_map_or (λ m. m == uprn) p false ≡ true → parent_number p ≡ uprn
     by_parent None e = absurd (cc)
     by_parent (Some m) e = eqb-true m uprn e
+part_is kind.Blpu (item.Street x) uprn e = absurd (cc)
+part_is kind.Blpu (item.Descriptor x) uprn e = absurd (cc)
+part_is kind.Blpu (item.Xref x) uprn e = absurd (cc)
+part_is kind.Blpu (item.Lpi x) uprn e = absurd (cc)
+part_is kind.Blpu (item.Release x) uprn e = absurd (cc)
+part_is kind.Blpu (item.Adopt x) uprn e = absurd (cc)
+part_is k x uprn e = absurd (cc)
 
-module _ (db : Database) (kept : IsKept db) (c uprn : ℕ) (some : 1 ≤ uprn) (start : List ℕ) where
+module _ (db : Database) (kept : IsKept db) (c : ℕ) (k : Kind) (entry : is_entry_kind k ≡ true) (uprn : ℕ) (some : 1 ≤ uprn) (start : List ℕ) where
   abbrev pub part_left : Key × Item → Bool
-  part_left e = is_child_of uprn e.1 && is_behind start e.0
+  part_left e = is_of_blpu k uprn e.1 && is_behind start e.0
 
-  pub parts_just : FitJust db c (reached_in (db.trees receiveds) c) kind.Blpu part_left (IsPartOf c 21 (pos uprn) start)
+  pub parts_just : FitJust db c (reached_in (db.trees receiveds) c) k part_left (IsPartOf c (number_of k) (pos uprn) start)
   parts_just = record {
     item = λ r there fit.
-        let v = kept.rows r there in
-        let s = item_of r v in
-        let is_of_kind = of_kind r v s.item s.said kind.Blpu fit.of_kind in
+        let version = kept.rows r there in
+        let s = item_of r (kind_row k r entry version fit.of_kind) in
+        let is_of_kind = of_kind r version s.item s.said k fit.of_kind in
         let blpu : blpu_of s.item ≡ uprn = ap (λ (d : CellsValue). d.links.blpu) s.cells ∙ ap number_in fit.of_blpu in (
           s.item,
           current_holds db kept c r s.item there (ap number_in fit.of_cust) s.said fit.is_current,
           is_of_kind,
-          and_from (is_child_of uprn s.item) (is_behind start (key_of s.item)) (part_of s.item uprn some is_of_kind blpu) (row_behind r v s.item s.said start fit.behind),
+          and_from (is_of_blpu k uprn s.item) (is_behind start (key_of s.item))
+              (subst (λ (j : Kind). is_of_blpu j uprn s.item ≡ true) is_of_kind (part_of s.item uprn some s.entry blpu))
+              (row_behind r version s.item s.said start fit.behind),
         );
     row = λ r x there h passes.
-        let v = kept.rows r there in
-        let both = and_parts (is_child_of uprn x) (is_behind start (key_of x)) passes in
-        let child = child_is x uprn both.0 in
+        let version = kept.rows r there in
+        let v = own_row r version x h.item in
+        let both = and_parts (is_of_blpu k uprn x) (is_behind start (key_of x)) passes in
+        let part = part_is k x uprn both.0 in
         record {
           of_cust = whole (table.cust_of r) c v.cust h.cust;
-          of_kind = kind_cell r v x h.item kind.Blpu child.0;
-          of_blpu = whole (table.blpu_of r) uprn v.blpu (ap (λ (d : CellsValue). d.links.blpu) (sym (said_cells r v x h.item)) ∙ child.1);
+          of_kind = kind_cell r version x h.item k part.0;
+          of_blpu = whole (table.blpu_of r) uprn v.blpu (ap (λ (d : CellsValue). d.links.blpu) (sym (said_cells r version x h.item)) ∙ part.1);
           is_current = holds_current db kept c r x there h;
-          behind = behind_row r v x h.item start both.1;
+          behind = behind_row r version x h.item start both.1;
         };
   }

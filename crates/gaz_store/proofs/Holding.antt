@@ -1,5 +1,5 @@
 -- The rows that hold after a volume, and the view of which they are.
-use Rattle.std.proofs.Common.{◌≡◌, ◌∙◌, ◌≤◌, ◌<◌, ℕ, true, List, refl, sym, ap, subst, arith}
+use Rattle.std.proofs.Common.{◌≡◌, ◌∙◌, ◌≤◌, ◌<◌, inl, inr, ℕ, pos, true, List, refl, sym, ap, subst, arith}
 use Rattle.std.specs.Prelude.{Some}
 use Rattle.std.specs.Ordering.{nat_cmp, ordering_then}
 use Rattle.std.specs.Cmp.{nat_cmp_is}
@@ -8,13 +8,16 @@ use Rattle.std.specs.declared.cmp.Ordering.{Ordering}
 use Rattle.std.specs.declared.cmp.Ordering.TheVariants.{Equal}
 use Rattle.sqlite.specs.Effect.{Database}
 use Rattle.sqlite.specs.Order.{Row, value_cmp}
-use Rattle.sqlite.specs.declared.types.Value.TheVariants.{Text}
+use Rattle.sqlite.specs.declared.types.Value.TheVariants.{Int, Text}
 use Rattle.sqlite_rules.specs.Lists.{Has}
 use Rattle.sqlite_value.proofs.OrderLemmas.{value_cmp-Text}
 use Rattle.gaz_records.proofs.KeyOrder.{keys_exact, keys_total}
 use Rattle.gaz_records.specs.Items.{is_entry, is_item}
 use Rattle.gaz_records.specs.Keys.{key_cmp, key_of, kind_number}
+use Rattle.gaz_records.specs.Kinds.{is_entry_kind, number_of}
 use Rattle.gaz_records.specs.declared.item.Item.{Item}
+use Rattle.gaz_records.specs.declared.item.Kind.{Kind}
+use Rattle.gaz_records.specs.declared.item.Kind.TheVariants as kind
 use Rattle.gaz_records.specs.declared.key.Key.{Key}
 use Rattle.gaz_views.specs.View.{View}
 use Rattle.gaz_views.specs.Words.{entries}
@@ -25,10 +28,11 @@ use Rattle.gaz_overlay.specs.Rows.{HistoryRow, view_after}
 use Rattle.gaz_tables.proofs.VersionOnce.{born_once}
 use Rattle.gaz_tables.specs.Schema.{versions}
 use Rattle.gaz_tables.specs.Versions as table
-use Rattle.gaz_kept.specs.Kept.{IsKept, IsVersion}
+use Rattle.gaz_kept.specs.Kept.{IsItemRow, IsKept, IsVersion}
 use Rattle.gaz_kept.specs.Versions.{cells_in, histories_in, history_in, item_in, living, number_in, text_in, view_in}
 use Rattle.gaz_kept.proofs.Sorted.{map_from, map_has}
-use Rattle.gaz_kept.proofs.Statements.{birth_of, fits, history_of, item_of, its_custodian, read_from, read_in, some_same}
+use Rattle.gaz_kept.proofs.CustodyFollows.{no_item}
+use Rattle.gaz_kept.proofs.Statements.{birth_of, fits, history_of, item_of, item_row, its_custodian, not_none, passage_kind, read_from, read_in, some_same}
 use Rattle.gaz_kept.proofs.Views.{Holds, entered, entries_at, entry, one_holds, single_at}
 
 -- a row says an item of a custodian, which holds after a volume
@@ -43,18 +47,40 @@ entry_of x = (key_of x, x)
 
 -- ---- a row and its item
 
-module _ (r : Row) (v : IsVersion r) (x : Item) (is : item_in r ≡ Some x) where
-  same_item : (item_of r v).item ≡ x
-  same_item = some_same (item_of r v).item x (item_of r v).said is
+-- a row that says an item is an item's
+pub own_row : (r : Row) → IsVersion r → (x : Item) → item_in r ≡ Some x → IsItemRow r
+own_row r (inl v) x is = v
+own_row r (inr p) x is = not_none x is (no_item r (passage_kind r p))
+
+not_of_entries : (k : Kind) → is_entry_kind k ≡ true → number_of k ≡ 92 → ⊥
+not_of_entries kind.Street entry e = omega (arith, e)
+not_of_entries kind.Descriptor entry e = omega (arith, e)
+not_of_entries kind.Blpu entry e = omega (arith, e)
+not_of_entries kind.Xref entry e = omega (arith, e)
+not_of_entries kind.Lpi entry e = omega (arith, e)
+not_of_entries kind.Release entry e = cc
+not_of_entries kind.Adopt entry e = cc
+
+-- so is one of a kind of entries
+pub kind_row : (k : Kind) (r : Row) → is_entry_kind k ≡ true → IsVersion r → table.kind_of r ≡ Int (pos (number_of k)) → IsItemRow r
+kind_row k r entry (inl v) is = v
+kind_row k r entry (inr p) is = absurd (not_of_entries k entry (sym (ap number_in is) ∙ passage_kind r p))
+
+module _ (r : Row) (version : IsVersion r) (x : Item) (is : item_in r ≡ Some x) where
+  row_is : IsItemRow r
+  row_is = own_row r version x is
+
+  same_item : (item_of r row_is).item ≡ x
+  same_item = some_same (item_of r row_is).item x (item_of r row_is).said is
 
   pub said_known : is_item x ≡ true
-  said_known = subst (λ y. is_item y ≡ true) same_item (item_of r v).known
+  said_known = subst (λ y. is_item y ≡ true) same_item (item_of r row_is).known
 
   pub said_entry : is_entry x ≡ true
-  said_entry = subst (λ y. is_entry y ≡ true) same_item (item_of r v).entry
+  said_entry = subst (λ y. is_entry y ≡ true) same_item (item_of r row_is).entry
 
   pub said_cells : cells_of x ≡ cells_in r
-  said_cells = subst (λ y. cells_of y ≡ cells_in r) same_item (item_of r v).cells
+  said_cells = subst (λ y. cells_of y ≡ cells_in r) same_item (item_of r row_is).cells
 
   pub said_key : is_key (key_of x) ≡ true
   said_key = (fits x said_known said_entry).key
@@ -63,10 +89,10 @@ module _ (r : Row) (v : IsVersion r) (x : Item) (is : item_in r ≡ Some x) wher
   said_id = ap (λ (d : CellsValue). d.id) (sym said_cells)
 
   pub said_text : table.id_of r ≡ Text (id_of (key_of x))
-  said_text = v.id ∙ ap Text said_id
+  said_text = row_is.id ∙ ap Text said_id
 
   pub said_history : (c : ℕ) → number_in (table.cust_of r) ≡ c → history_in c r ≡ Some (living (number_in (table.born_of r)) (number_in (table.gone_of r)) x)
-  said_history c cust = history_of c r (item_of r v) cust ∙ ap (λ y. Some (living (number_in (table.born_of r)) (number_in (table.gone_of r)) y)) same_item
+  said_history c cust = history_of c r (item_of r row_is) cust ∙ ap (λ y. Some (living (number_in (table.born_of r)) (number_in (table.gone_of r)) y)) same_item
 
 -- ---- the view
 
@@ -88,7 +114,7 @@ module _ (db : Database) (kept : IsKept db) (c t : ℕ) where
       let r = read_from (history_in c) rows i.row i.there in
       let version = kept.rows r.0 r.1 in
       let cust = its_custodian c r.0 i.row r.2 in
-      let s = item_of r.0 version in
+      let s = item_of r.0 (item_row c r.0 version i.row r.2) in
       let same : living (number_in (table.born_of r.0)) (number_in (table.gone_of r.0)) s.item ≡ i.row = some_same _ _ (history_of c r.0 s cust) r.2 in
       let item : s.item ≡ e.1 = ap (λ (h : HistoryRow). h.item) same ∙ i.item in
       let key : key_of s.item ≡ e.0 = ap (λ (h : HistoryRow). h.key) same ∙ i.key in
@@ -128,7 +154,7 @@ module _ (db : Database) (kept : IsKept db) (c t : ℕ) where
 
 -- ---- keys of a kind are in the order of their ids
 
-like_kinds : (n : ℕ) (o : Ordering) → ordering_then (nat_cmp n n) o ≡ o
+pub like_kinds : (n : ℕ) (o : Ordering) → ordering_then (nat_cmp n n) o ≡ o
 like_kinds n o = ap (λ k. ordering_then k o) (sym (nat_cmp_is n n Equal refl))
 
 pub by_ids : (a b : Key) → is_key a ≡ true → is_key b ≡ true → kind_number a ≡ kind_number b → key_cmp a b ≡ slice_cmp nat_cmp (id_of a) (id_of b)

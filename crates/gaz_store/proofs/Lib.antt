@@ -9,9 +9,11 @@ pub mod Fits
 pub mod PageRows
 pub mod Taken
 pub mod StreetRows
+pub mod Passed
 pub mod Saying
 pub mod Verdicts
 pub mod Turning
+pub mod PassedOn
 pub mod Counts
 pub mod Waiting
 pub mod Bytes
@@ -27,12 +29,15 @@ pub mod Noting
 pub mod Opens
 pub mod StoreReads
 pub mod StoreGoes
+pub mod StoreCalls
 pub mod Beginning
 pub mod LifeRows
+pub mod PassageRows
 pub mod Paired
 pub mod LivesTold
 pub mod VolumesTold
 pub mod Listed
+pub mod PassagesTold
 pub mod WorkedLives
 pub mod Grown
 pub mod WorkedGrowing

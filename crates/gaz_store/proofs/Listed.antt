@@ -1,5 +1,5 @@
 -- What a store tells when it lists what it keeps.
-use Rattle.std.proofs.Common.{◌≡◌, ◌∙◌, ◌-◌, ◌⊎◌, ◌<ℤ◌, ◌≤ℤ◌, ℕ, ℤ, List, [], ◌∷◌, length, slice_get, zero, suc, inl, inr, refl, sym, ap, subst, arith}
+use Rattle.std.proofs.Common.{◌≡◌, ◌∙◌, ◌-◌, ◌⊎◌, ◌<ℤ◌, ◌≤ℤ◌, ℕ, ℤ, List, [], ◌∷◌, length, slice_get, zero, suc, inl, inr, refl, sym, ap, subst, arith, ◌==◌, Bool, true, false, not, eqb-true}
 use Rattle.std.specs.Prelude.{Option, Some, None, Result, option_map}
 use Rattle.std.proofs.lemmas.Int.{ints}
 use Rattle.std.specs.List.{filter_map}
@@ -13,20 +13,23 @@ use Rattle.sqlite_trees.specs.Tree.{IsAscending}
 use Rattle.sqlite_trees.specs.declared.store.Store.{Ghosts}
 use Rattle.gaz_keeper.specs.Received.{Received}
 use Rattle.gaz_keeper.specs.declared.fault.ShelfFault.{ShelfFault}
+use Rattle.gaz_overlay.specs.Passages.{PassageRow}
 use Rattle.gaz_tables.proofs.RowidMeanings.{rowid_is}
 use Rattle.gaz_tables.specs.Rowids.{rowid_of}
 use Rattle.gaz_tables.specs.Schema.{versions}
-use Rattle.gaz_kept.specs.Kept.{IsKept}
-use Rattle.gaz_kept.specs.Versions.{number_in}
-use Rattle.gaz_kept.proofs.Statements.{history_of, item_of, not_none, read_from, read_in, some_same}
+use Rattle.gaz_tables.specs.Versions.{kind_of}
+use Rattle.gaz_kept.specs.Kept.{IsItemRow, IsKept, IsVersion}
+use Rattle.gaz_kept.specs.Versions.{number_in, passages_in}
+use Rattle.gaz_kept.proofs.CustodyFollows.{no_item}
+use Rattle.gaz_kept.proofs.Statements.{history_of, item_of, item_row, not_none, passage_kind, read_from, read_in, some_same}
 use Rattle.gaz_loaded.proofs.Lives.{by_or_behind}
 use Rattle.gaz_loaded.specs.Lives.{IsBehind, IsBy, Told}
 use Rattle.gaz_loaded.specs.Telling as listed
 use Rattle.gaz_loaded.specs.Telling.{AreAbove, AreNext, last_of, told}
 use Rattle.gaz_loaded.specs.declared.listed.Life.{Life}
 use Rattle.gaz_store.specs.Asking.{AsksTables}
-use Rattle.gaz_store.specs.Listing.{lives_kept, told_in, told_with}
-use Rattle.gaz_store.specs.Lives.{IsRowBehind, SaysLife, TellsLives}
+use Rattle.gaz_store.specs.Listing.{lives_kept, passages_kept, told_in, told_with}
+use Rattle.gaz_store.specs.Lives.{IsRowBehind, SaysLife, TellsLives, is_items}
 use Rattle.gaz_store.specs.Store.{seen_in}
 use Rattle.gaz_store.specs.Volumes.{TellsVolumes}
 use Rattle.gaz_store.specs.declared.progress.Judging.{Judging}
@@ -40,6 +43,13 @@ pub lives_rest : {S R : Type 0} {store : Ghosts S} {T : Type 0} (register : List
     → (seen_in register old).stands → (seen_in register (record old { tables = tables; judging = k })).unharmed → lives_kept (record old { tables = tables; judging = k }) ≡ lives_kept old
 lives_rest register old tables k r P asks stood unharmed = ap (λ (db : Database). filter_map told_in (db.trees versions)) (tables_rest register old tables k r P asks stood unharmed)
 
+pub passages_rest : {S R : Type 0} {store : Ghosts S} {T : Type 0} (register : List ℕ) (old : Store S R store) (tables : Tables S store) (k : Judging) (r : Result T ShelfFault) (P : Database → T → Type 0)
+    → AsksTables old.tables tables r P
+    → (seen_in register old).stands → (seen_in register (record old { tables = tables; judging = k })).unharmed → passages_kept (record old { tables = tables; judging = k }) ≡ passages_kept old
+passages_rest register old tables k r P asks stood unharmed =
+    let said : Database → ℕ → List PassageRow = λ db c. passages_in (db.trees versions) c in
+    ap said (tables_rest register old tables k r P asks stood unharmed)
+
 -- ---- the last of a list
 
 has_got : {X : Type 0} (xs : List X) (n : ℕ) (x : X) → slice_get xs n ≡ Some x → Has xs x
@@ -51,7 +61,7 @@ some_last : {X A : Type 0} (x : X) (xs : List X) → slice_get (x ∷ xs) (lengt
 some_last x [] none = not_none x refl none
 some_last x (y ∷ xs) none = some_last y xs none
 
-empty_is : {X : Type 0} (xs : List X) → last_of xs ≡ None → xs ≡ []
+pub empty_is : {X : Type 0} (xs : List X) → last_of xs ≡ None → xs ≡ []
 empty_is [] none = refl
 empty_is (x ∷ xs) none = let e : length (x ∷ xs) - 1 ≡ length xs = omega arith in some_last x xs (ap (slice_get (x ∷ xs)) (sym e) ∙ none)
 
@@ -105,6 +115,18 @@ module _ (all : List Told) where
               absurd (omega (arith, ints, self))
           by_place z (inr later) is = (z, later, is)
 
+-- a row that tells of an item is an item's
+told_row : (r : Row) → IsVersion r → (y : Told) → told_in r ≡ Some y → IsItemRow r
+told_row r (inl v) y is = v
+told_row r (inr p) y is = not_none y is (ap (option_map (told_with r)) (no_item r (passage_kind r p)))
+
+told_items : (r : Row) → IsItemRow r → is_items r ≡ true
+told_items r v = by_test (number_in (kind_of r) == 92) refl
+  where
+    by_test : (b : Bool) → (number_in (kind_of r) == 92) ≡ b → not b ≡ true
+    by_test false is = refl
+    by_test true is = not_none (item_of r v).item (item_of r v).said (no_item r (eqb-true (number_in (kind_of r)) 92 is))
+
 -- a row that says a life tells it
 module _ (db : Database) (kept : IsKept db) where
   abbrev all : List Told
@@ -112,7 +134,7 @@ module _ (db : Database) (kept : IsKept db) where
 
   tells_it : (r : Row) (x : Life) → Has (db.trees versions) r → SaysLife r x → told_in r ≡ Some (told x)
   tells_it r x there says =
-      let s = item_of r (kept.rows r there) in
+      let s = item_of r (item_row x.code r (kept.rows r there) (told x).life says.history) in
       let same = some_same _ (told x).life (history_of x.code r s (λ i. number_in (says.custodian i))) says.history in
       ap (option_map (told_with r)) s.said
       ∙ (λ i. Some (record { place = id_in (says.place i); code = number_in (says.custodian i); life = same i }))
@@ -134,7 +156,7 @@ module _ (db : Database) (kept : IsKept db) where
     row_told : (y : Told) → Has all y → (r : Row) × Has (db.trees versions) r × (told_in r ≡ Some y) × (rowid_of r ≡ Int y.place)
     row_told y there =
         let r = read_from told_in (db.trees versions) y there in
-        let s = item_of r.0 (kept.rows r.0 r.1) in
+        let s = item_of r.0 (told_row r.0 (kept.rows r.0 r.1) y r.2) in
         let same = some_same (told_with r.0 s.item) y (ap (option_map (told_with r.0)) s.said) r.2 in
         let rowid = (rowid_is db kept.tables r.0 r.1).1 in
         (r.0, r.1, r.2, rowid ∙ ap Int (sym (ap id_in rowid)) ∙ ap (λ (t : Told). Int t.place) same)
@@ -146,7 +168,7 @@ module _ (db : Database) (kept : IsKept db) where
     are_all : (y : Told) (last : Life) → Has all y → Has lives last → IsBehind after y → y.place ≤ℤ last.place → (x : Life) × Has lives x × (told x ≡ y)
     are_all y last there here behind low =
         let r = row_told y there in
-        let x = it.complete r.0 last r.1 here (row_behind after r.0 y r.3 behind) (y.place, r.3, low) in
+        let x = it.complete r.0 last r.1 (told_items r.0 (told_row r.0 (kept.rows r.0 r.1) y r.2)) here (row_behind after r.0 y r.3 behind) (y.place, r.3, low) in
         (x.0, x.1, some_same (told x.0) y (tells_it r.0 x.0 r.1 x.2) r.2)
 
     pub lives_listed : AreNext after all lives
@@ -157,4 +179,4 @@ module _ (db : Database) (kept : IsKept db) where
       where
         by_place : (y : Told) → Has all y → last_of lives ≡ None → IsBy after y ⊎ IsBehind after y → IsBy after y
         by_place y there is (inl by) = by
-        by_place y there is (inr behind) = let r = row_told y there in absurd (it.ends (empty_is lives is) r.0 r.1 (row_behind after r.0 y r.3 behind))
+        by_place y there is (inr behind) = let r = row_told y there in absurd (it.ends (empty_is lives is) r.0 r.1 (told_items r.0 (told_row r.0 (kept.rows r.0 r.1) y r.2)) (row_behind after r.0 y r.3 behind))

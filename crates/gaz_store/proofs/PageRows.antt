@@ -1,5 +1,5 @@
 -- A page of rows is a page of the view.
-use Rattle.std.proofs.Common.{◌≡◌, ◌∙◌, ◌≤◌, ◌<◌, ◌&&◌, ℕ, Bool, true, false, cond, List, [], ◌∷◌, ◌++◌, filter, length, map, take, refl, sym, ap, subst, arith}
+use Rattle.std.proofs.Common.{◌≡◌, ◌∙◌, ◌≤◌, ◌<◌, ◌&&◌, ℕ, Bool, true, false, cond, List, [], ◌∷◌, ◌++◌, filter, length, map, take, refl, sym, ap, subst, arith, true≢false}
 use Rattle.std.specs.Prelude.{Option, Some, None}
 use Rattle.std.proofs.lemmas.Bool.Decides.{nat_tests}
 use Rattle.std.proofs.lemmas.List.{length-append, length-map, length-take, take_all}
@@ -16,7 +16,7 @@ use Rattle.gaz_records.specs.Fields.{ok_of}
 use Rattle.gaz_records.specs.Items.{item_of_text, kind_of}
 use Rattle.gaz_records.specs.Keys.{key_cmp, kind_number, number_in, text_in as text_of}
 use Rattle.gaz_records.specs.Labels.{label_cmp}
-use Rattle.gaz_records.specs.Kinds.{number_of}
+use Rattle.gaz_records.specs.Kinds.{is_entry_kind, number_of}
 use Rattle.gaz_records.specs.declared.item.Item.{Item}
 use Rattle.gaz_records.specs.declared.item.Kind.{Kind}
 use Rattle.gaz_records.specs.declared.item.Kind.TheVariants as kind
@@ -42,6 +42,7 @@ use Rattle.gaz_store.proofs.Chosen.{page_read}
 use Rattle.gaz_store.proofs.Fits.{comes_in, holding_just}
 use Rattle.gaz_store.proofs.Holding.{HoldsItem, by_ids, said_cells, said_entry, said_known}
 use Rattle.gaz_kept.proofs.Reached.{reached_room}
+use Rattle.gaz_kept.proofs.PassageStatements.{passed_later}
 use Rattle.gaz_kept.proofs.Statements.{born_later, fits}
 
 -- ---- where a page begins
@@ -98,7 +99,7 @@ start_later k a later q own =
 
 -- ---- a page of rows
 
-module _ (db : Database) (kept : IsKept db) (c t : ℕ) (k : Kind) (after : Option Key) (start : List ℕ) (begins : IsStart k after (Some start)) (most : ℕ) (answer : List Row) where
+module _ (db : Database) (kept : IsKept db) (c t : ℕ) (k : Kind) (kind_entry : is_entry_kind k ≡ true) (after : Option Key) (start : List ℕ) (begins : IsStart k after (Some start)) (most : ℕ) (answer : List Row) where
   abbrev v : View
   v = view_in (db.trees versions) c t
 
@@ -112,17 +113,17 @@ module _ (db : Database) (kept : IsKept db) (c t : ℕ) (k : Kind) (after : Opti
 
   pub page_told : FindsHolding c (number_of k) start t most (db.trees versions) answer → (items : List Item) → SayItems k answer items → items ≡ page v k after most
   page_told found items say =
-      page_read db kept c t k (comes_in db kept c t k after start begins) (IsHolding c (number_of k) start t) (holding_just db kept c t k after start begins) most body_shown answer found
+      page_read db kept c t k (comes_in db kept c t k kind_entry after start begins) (IsHolding c (number_of k) start t) (holding_just db kept c t k kind_entry after start begins) most body_shown answer found
       (item_said k) (λ e. e.1) reads items say
 
 -- and so of the board
-pub page_on_board : (db : Database) → IsKept db → (c t : ℕ) (k : Kind) (start : List ℕ) (most : ℕ) (answer : List Row) → FindsHolding c (number_of k) start t most (db.trees versions) answer
+pub page_on_board : (db : Database) → IsKept db → (c t : ℕ) (k : Kind) → is_entry_kind k ≡ true → (start : List ℕ) (most : ℕ) (answer : List Row) → FindsHolding c (number_of k) start t most (db.trees versions) answer
     → (items : List Item) → SayItems k answer items → IsPageFrom (board_of db) c t k (Some start) most items
-page_on_board db kept c t k start most answer found items say after begins within =
+page_on_board db kept c t k entry start most answer found items say after begins within =
     let reads = board_reads (db.trees receiveds) (db.trees versions) c in
     let reached : t ≤ reached_in (db.trees receiveds) c = subst (λ n. t ≤ n) reads.reached within in
-    page_told db kept c t k after start begins most answer found items say
-    ∙ ap (λ v. page v k after most) (sym (reads.view (born_later c (db.trees versions) kept.rows) t reached))
+    page_told db kept c t k entry after start begins most answer found items say
+    ∙ ap (λ v. page v k after most) (sym (reads.view (born_later c (db.trees versions) kept.rows) (passed_later c (db.trees versions) kept.rows) t reached))
 
 -- a volume beyond the last isn't reached
 pub not_reached : (db : Database) → IsKept db → (c t : ℕ) → 999_999 < t → ¬ (t ≤ reached (board_of db) c)
@@ -156,6 +157,17 @@ no_entries p none (e ∷ es) = ap (λ b. cond b (e ∷ filter p es) (filter p es
 pub page_nothing : (v : View) (k : Kind) (after : Option Key) (most : ℕ) → IsStart k after None → [] ≡ page v k after most
 page_nothing v k after most none =
     sym (take_all most [] (omega arith)) ∙ ap (λ (es : List (Key × Item)). take most (map (λ e. e.1) es)) (sym (no_entries (λ e. is_of k e.0 && comes_after after e.0) (λ e. none_comes k after none e.0) (entries v)))
+
+-- nothing that stands in views is of another kind than entries are
+pub page_of_none : (v : View) (k : Kind) (after : Option Key) (most : ℕ) → is_entry_kind k ≡ false → [] ≡ page v k after most
+page_of_none v k after most none = page_nothing v k after most (λ q own. absurd (true≢false (sym (entry_key q) ∙ ap is_entry_kind own ∙ none)))
+  where
+    entry_key : (q : Key) → is_entry_kind (kind_in q) ≡ true
+    entry_key (key.Street n) = refl
+    entry_key (key.Descriptor n l) = refl
+    entry_key (key.Blpu n) = refl
+    entry_key (key.Xref t) = refl
+    entry_key (key.Lpi t) = refl
 
 -- ---- a page that isn't full has all
 

@@ -1,5 +1,5 @@
 -- What a store's call tells of it as a keeper, where it asks the tables.
-use Rattle.std.proofs.Common.{◌≡◌, ◌≢◌, ◌∙◌, inl, inr, ℕ, List, cond, Result, Ok, Err, IfOk, OnOk, arith, refl, sym, ap, subst, eq-eqb}
+use Rattle.std.proofs.Common.{◌≡◌, ◌≢◌, ◌∙◌, ◌==◌, inl, inr, ℕ, Bool, true, false, List, cond, Result, Ok, Err, IfOk, OnOk, arith, refl, sym, ap, subst, eq-eqb, eqb-true, true≢false}
 use Rattle.std.specs.Prelude.{◌≤◌, Option}
 use Rattle.std.specs.FinMap as map
 use Rattle.std.proofs.lemmas.Bool.{ne_eqb}
@@ -9,10 +9,11 @@ use Rattle.sqlite.specs.State.{State}
 use Rattle.sqlite_trees.specs.declared.store.Store.{Ghosts}
 use Rattle.gaz_records.specs.declared.item.Item.{Item}
 use Rattle.gaz_records.specs.declared.key.Key.{Key}
-use Rattle.gaz_views.specs.View.{View}
+use Rattle.gaz_views.specs.View.{View, custody_at}
+use Rattle.gaz_views.specs.declared.custody.Custody.{Custody}
 use Rattle.gaz_keeper.specs.Board.{reached}
 use Rattle.gaz_keeper.specs.Received.{count_above}
-use Rattle.gaz_keeper.specs.Telling.{IsItemAt}
+use Rattle.gaz_keeper.specs.Telling.{IsCustodyAt, IsItemAt}
 use Rattle.gaz_kept.proofs.Boards.{board_reads}
 use Rattle.gaz_keeper.specs.Keeper as keeper
 use Rattle.gaz_keeper.specs.Keeper.{IsLawful, IsLeft, Reads, view_of, viewed}
@@ -28,7 +29,7 @@ use Rattle.gaz_store.specs.Asking.{Asks, AsksTables, Recalls, Tallies}
 use Rattle.gaz_store.specs.Beside.{Beside}
 use Rattle.gaz_store.specs.Remembered.{AreSo, Remembered, held_in}
 use Rattle.gaz_store.specs.Seen.{IsUnharmed}
-use Rattle.gaz_store.specs.Store.{IsElsewhere, StandsBeside, StoreStands, cleared, progress_of, seen_beside, seen_in, view_made, working_of}
+use Rattle.gaz_store.specs.Store.{IsElsewhere, IsOfView, StandsBeside, StoreStands, cleared, progress_of, seen_beside, seen_in, view_made, working_of}
 use Rattle.gaz_store.specs.declared.judgement.Judgement.{Judgement}
 use Rattle.gaz_store.specs.declared.progress.Judging.{Judging}
 use Rattle.gaz_store.specs.declared.progress.Judging.TheVariants.{Idle, Open, Broken}
@@ -173,6 +174,28 @@ module _ {S R : Type 0} {store : Ghosts S} {T : Type 0} (register : List ℕ) (o
           subst (λ k. P (viewed (progress_of k) (content_in db.trees (working_of db k)) c) x) (sym same)
           (subst (λ v. P v x) (sym (viewed_here db m c own)) (right (view_made db m) (subst (StandsBeside db) same beside).makes))
 
+  -- what is asked of its view, whichever it is
+  pub tells_of_view : (P : View → T → Type 0) (c : ℕ) (asked : Judging) → asked ≡ cleared old.judging → AsksTables old.tables tables r (λ d x. IsOfView d asked c (λ v. P v x))
+      → Tells (λ x. P (view_of (seen_in register old) c) x) k
+  tells_of_view P c asked same asks =
+      subst (Tells (λ x. P (view_of (seen_in register old) c) x)) (sym is_cleared)
+      (store_reads register _ _ _ _ old.judging _ _ r (λ d x. IsOfView d asked c (λ v. P v x)) (λ x. P (view_of (seen_in register old) c) x) asks.asks asks.tallies
+      (λ h kept so. subst (λ a. AreSo a (db.trees receiveds)) (sym asks.at_hand) so)
+      (λ x stood right. by_judging old.judging stood.tables.kept stood.beside x (subst (λ j. IsOfView db j c (λ v. P v x)) same right)))
+    where
+      by_judging : (j : Judging) → IsKept db → StandsBeside db j → (x : T) → IsOfView db (cleared j) c (λ v. P v x) → P (viewed (progress_of j) (content_in db.trees (working_of db j)) c) x
+      by_judging Idle kept beside x right = subst (λ v. P v x) (sym (viewed_last db kept Idle c tt)) right
+      by_judging Broken kept beside x right = subst (λ v. P v x) (sym (viewed_last db kept Broken c tt)) right
+      by_judging (Open m) kept beside x right = by_test (m.code == c) refl
+        where
+          by_test : (b : Bool) → (m.code == c) ≡ b → P (viewed (keeper.Open m.code) (content_in db.trees (view_made db m)) c) x
+          by_test true is =
+              let own = eqb-true m.code c is in
+              subst (λ v. P v x) (sym (viewed_here db m c own)) (right.0 own (view_made db m) beside.makes)
+          by_test false is =
+              let other : m.code ≢ c = λ e. absurd (true≢false (sym (eq-eqb m.code c e) ∙ is)) in
+              subst (λ v. P v x) (sym (viewed_last db kept (Open m) c other)) (right.1 other)
+
 -- how many files wait above the judged ones
 pub tells_held : {S R : Type 0} {store : Ghosts S} (register : List ℕ) (old : Store S R store) (tables : Tables S store) (k : Judging) → k ≡ cleared old.judging → (r : Result ℕ ShelfFault) (c : ℕ)
     → Recalls old.tables tables r (λ d n. n ≡ held_in (d.trees receiveds) c)
@@ -190,3 +213,10 @@ pub at_so : (db : Database) → IsKept db → (c volume : ℕ) (k : Key) (i : Op
 at_so db kept c volume k i is le =
     let within = subst (λ n. volume ≤ n) (board_reads (db.trees receiveds) (db.trees versions) c).reached le in
     is within ∙ ap (λ v. map.get v.items k) (sym (board_view db kept c volume within))
+
+-- and what last became of a number
+pub custody_at_so : (db : Database) → IsKept db → (c volume uprn : ℕ) (x : Option Custody)
+    → (volume ≤ reached_in (db.trees receiveds) c → x ≡ custody_at (view_in (db.trees versions) c volume) uprn) → IsCustodyAt (board_of db) c volume uprn x
+custody_at_so db kept c volume uprn x is le =
+    let within = subst (λ n. volume ≤ n) (board_reads (db.trees receiveds) (db.trees versions) c).reached le in
+    is within ∙ ap (λ v. custody_at v uprn) (sym (board_view db kept c volume within))

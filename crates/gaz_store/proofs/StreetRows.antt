@@ -21,13 +21,14 @@ use Rattle.gaz_ids.specs.Codes.{lang_number}
 use Rattle.gaz_ids.specs.declared.lang.Lang.{Lang}
 use Rattle.gaz_records.specs.Items.{kind_of}
 use Rattle.gaz_records.specs.Keys.{key_of}
+use Rattle.gaz_records.specs.Kinds.{is_entry_kind, number_of}
 use Rattle.gaz_records.specs.declared.item.Item.TheVariants as item
 use Rattle.gaz_records.specs.declared.item.Kind.{Kind}
 use Rattle.gaz_records.specs.declared.item.Item.{Item}
 use Rattle.gaz_records.specs.declared.item.Kind.TheVariants as kind
 use Rattle.gaz_records.specs.declared.key.Key.{Key}
 use Rattle.gaz_views.specs.View.{View}
-use Rattle.gaz_views.specs.Words.{entries, is_approved_on, is_child_of}
+use Rattle.gaz_views.specs.Words.{entries, is_approved_on, names}
 use Rattle.gaz_cells.specs.Columns.{CellsValue, lang_in}
 use Rattle.gaz_cells.proofs.Ids.{ids_back}
 use Rattle.gaz_cells.specs.Ids.{id_of, key_named}
@@ -39,13 +40,13 @@ use Rattle.gaz_kept.specs.Files.{reached_in}
 use Rattle.gaz_kept.specs.Kept.{IsKept, IsVersion}
 use Rattle.gaz_kept.specs.LastViews.{last_in}
 use Rattle.gaz_store.specs.Paging.{is_behind, says_lang}
-use Rattle.gaz_store.specs.Streets.{AreBehind, IsStep, IsStepOf, is_left_on, is_left_part, leaves, names_left, says_left}
+use Rattle.gaz_store.specs.Streets.{AreBehind, IsStep, IsStepOf, is_left_on, is_left_part, is_left_tied, is_of_blpu, leaves, names_left, says_left}
 use Rattle.gaz_store.specs.declared.steps.Step.{Step}
 use Rattle.gaz_store.specs.declared.steps.Step.TheVariants.{Told, Behind}
 use Rattle.gaz_kept.specs.Versions.{item_in, number_in, text_in}
 use Rattle.gaz_tables.specs.Shows.{ShowsPage}
 use Rattle.gaz_store.proofs.Chosen.{FitJust, chosen_fits, chosen_rises, fit_chosen}
-use Rattle.gaz_store.proofs.Fits.{approved_just, in_lang, key_kind, parts_just}
+use Rattle.gaz_store.proofs.Fits.{approved_just, in_lang, key_kind, part_is, parts_just}
 use Rattle.gaz_store.proofs.Holding.{HoldsItem, entry_in_view, entry_of, row_of, said_cells, said_id, said_key, said_text}
 use Rattle.gaz_store.proofs.PageRows.{all_behind}
 use Rattle.gaz_store.proofs.Taken.{before, taken, taken_or_not}
@@ -179,15 +180,6 @@ an_lpi usrn (item.Release x) on = cc
 an_lpi usrn (item.Adopt x) on = cc
 an_lpi usrn (item.Lpi x) on = refl
 
-a_blpu : (uprn : ℕ) (x : Item) → is_child_of uprn x ≡ true → kind_of x ≡ kind.Blpu
-a_blpu uprn (item.Street x) on = cc
-a_blpu uprn (item.Descriptor x) on = cc
-a_blpu uprn (item.Blpu x) on = refl
-a_blpu uprn (item.Xref x) on = cc
-a_blpu uprn (item.Lpi x) on = cc
-a_blpu uprn (item.Release x) on = cc
-a_blpu uprn (item.Adopt x) on = cc
-
 module _ (db : Database) (kept : IsKept db) (c usrn : ℕ) (lang : Option Lang) (passed : Option Changes) (start : List ℕ) (most : ℕ) (answer : List Row) (found : FindsApprovedOn c usrn start most (db.trees versions) answer) where
   lang_cell : (r : Row) (x : Item) → Has (db.trees versions) r → HoldsItem c (reached_in (db.trees receiveds) c) r x → lang_in x ≡ number_in (table.lang_of r)
   lang_cell r x there h = ap (λ (d : CellsValue). d.links.lang) (said_cells r (kept.rows r there) x h.item)
@@ -211,15 +203,50 @@ module _ (db : Database) (kept : IsKept db) (c usrn : ℕ) (lang : Option Lang) 
           let on = (and_parts (is_approved_on usrn lang e.1) (leaves passed (Some e.0)) pass).0 in
           (and_parts (is_approved_on usrn None e.1) (option_map_or (λ l. lang_in e.1 == lang_number l) lang true) (sym (in_lang e.1 usrn lang) ∙ on)).0
 
-module _ (db : Database) (kept : IsKept db) (c uprn : ℕ) (some : 1 ≤ uprn) (passed : Option Changes) (start : List ℕ) (most : ℕ) (answer : List Row) (found : FindsParts c 21 (pos uprn) start most (db.trees versions) answer) where
-  part_test : (r : Row) (x : Item) → Has (db.trees versions) r → HoldsItem c (reached_in (db.trees receiveds) c) r x → kind_of x ≡ kind.Blpu
-      → is_left_part uprn passed (entry_of x) ≡ (is_child_of uprn x && names_left passed (id_shown r))
-  part_test r x there h of_kind = ap (λ k. is_child_of uprn x && leaves passed k) (sym (named r (kept.rows r there) x h.item kind.Blpu of_kind))
+-- ---- a page of what names a BLPU
 
-  pub parts_told : (step : Step) → IsStepOf most answer (names_left passed) step → IsStep (is_left_part uprn passed) (last_in db c) start step
+module _ (db : Database) (kept : IsKept db) (c : ℕ) (kd : Kind) (kind_entry : is_entry_kind kd ≡ true) (uprn : ℕ) (some : 1 ≤ uprn) (passed : Option Changes) (start : List ℕ) (most : ℕ) (answer : List Row)
+    (found : FindsParts c (number_of kd) (pos uprn) start most (db.trees versions) answer) where
+  part_test : (r : Row) (x : Item) → Has (db.trees versions) r → HoldsItem c (reached_in (db.trees receiveds) c) r x → kind_of x ≡ kd
+      → is_left_part kd uprn passed (entry_of x) ≡ (is_of_blpu kd uprn x && names_left kd passed (id_shown r))
+  part_test r x there h of_kind = ap (λ k. is_of_blpu kd uprn x && leaves passed k) (sym (named r (kept.rows r there) x h.item kd of_kind))
+
+  pub parts_told : (step : Step) → IsStepOf most answer (names_left kd passed) step → IsStep (is_left_part kd uprn passed) (last_in db c) start step
   parts_told =
-      walk_told db kept c kind.Blpu start (is_child_of uprn) (IsPartOf c 21 (pos uprn) start) (parts_just db kept c uprn some start) most id_shown answer found
-      (names_left passed) (is_left_part uprn passed) part_test (a_blpu uprn) (λ e pass. (and_parts (is_child_of uprn e.1) (leaves passed (Some e.0)) pass).0) (λ r. refl)
+      walk_told db kept c kd start (is_of_blpu kd uprn) (IsPartOf c (number_of kd) (pos uprn) start) (parts_just db kept c kd kind_entry uprn some start) most id_shown answer found
+      (names_left kd passed) (is_left_part kd uprn passed) part_test (λ x on. (part_is kd x uprn on).0) (λ e pass. (and_parts (is_of_blpu kd uprn e.1) (leaves passed (Some e.0)) pass).0) (λ r. refl)
+
+-- an LPI or a cross reference names it
+names_parts : (uprn : ℕ) (x : Item) → names uprn x ≡ (is_of_blpu kind.Lpi uprn x || is_of_blpu kind.Xref uprn x)
+names_parts uprn (item.Street x) = refl
+names_parts uprn (item.Descriptor x) = refl
+names_parts uprn (item.Blpu x) = refl
+names_parts uprn (item.Xref x) = refl
+names_parts uprn (item.Lpi x) = by_test (x.uprn == uprn)
+  where
+    by_test : (b : Bool) → b ≡ (b || false)
+    by_test true = refl
+    by_test false = refl
+names_parts uprn (item.Release x) = refl
+names_parts uprn (item.Adopt x) = refl
+
+-- so one of the view is tied by one of either kind
+pub tied_parts : (uprn : ℕ) (passed : Option Changes) (es : List (Key × Item)) → list_any (is_left_tied uprn passed) es
+    ≡ (list_any (is_left_part kind.Lpi uprn passed) es || list_any (is_left_part kind.Xref uprn passed) es)
+tied_parts uprn passed [] = refl
+tied_parts uprn passed (e ∷ es) =
+    (λ i. (names_parts uprn e.1 i && leaves passed (Some e.0)) || tied_parts uprn passed es i)
+    ∙ by_tests (is_of_blpu kind.Lpi uprn e.1) (is_of_blpu kind.Xref uprn e.1) (leaves passed (Some e.0)) (list_any (is_left_part kind.Lpi uprn passed) es) (list_any (is_left_part kind.Xref uprn passed) es)
+  where
+    by_tests : (a b l x y : Bool) → (((a || b) && l) || (x || y)) ≡ (((a && l) || x) || ((b && l) || y))
+    by_tests true true true x y = refl
+    by_tests true false true x y = refl
+    by_tests false true true true y = refl
+    by_tests false true true false y = refl
+    by_tests false false l x y = refl
+    by_tests true true false x y = refl
+    by_tests true false false x y = refl
+    by_tests false true false x y = refl
 
 -- ---- what is left of a view where nothing is passed over, or what changes haven't touched
 

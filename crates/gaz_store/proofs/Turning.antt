@@ -12,10 +12,11 @@ use Rattle.gaz_records.specs.Items.{is_entry}
 use Rattle.gaz_records.specs.Keys.{key_cmp, key_of}
 use Rattle.gaz_records.specs.declared.item.Item.{Item}
 use Rattle.gaz_records.specs.declared.key.Key.{Key}
+use Rattle.gaz_records.specs.declared.item.Kind.TheVariants as kind
 use Rattle.gaz_records.specs.declared.key.Key.TheVariants as key
 use Rattle.gaz_views.specs.View.{View, was_used, with_item, without_key}
 use Rattle.gaz_views.specs.Lawful.{IsLawfulView}
-use Rattle.gaz_views.specs.Words.{approved_of, approved_on, entries, first_of, has_children, is_approved_on, is_child_of, property_of}
+use Rattle.gaz_views.specs.Words.{approved_of, approved_on, entries, first_of, has_children, is_approved_on, is_child_of, names, property_of, tied}
 use Rattle.gaz_overlay.specs.Changes.{Changes, Touched, is_touched, stood_in, was_used_in, with_put, with_taken, with_touched}
 use Rattle.gaz_overlay.specs.Laid.{any_untouched, laid, untouched}
 use Rattle.gaz_overlay.proofs.Making.{none_there, unused}
@@ -24,7 +25,7 @@ use Rattle.sqlite_rules.specs.Lists.{Has}
 use Rattle.std.specs.List.{list_any}
 use Rattle.gaz_kept.proofs.Rising.{entry_is}
 use Rattle.gaz_store.proofs.StreetRows.{any_same}
-use Rattle.gaz_store.specs.Streets.{is_left_on, is_left_part, leaves}
+use Rattle.gaz_store.specs.Streets.{is_left_on, is_left_part, is_left_tied, leaves}
 use Rattle.gaz_overlay.specs.Over.{KeyView, Make}
 use Rattle.gaz_overlay.specs.Questions.{LaidAnswers, both, keys_with, property_at}
 use Rattle.gaz_overlay.specs.Rows.{AreTold, HasCurrent, HistoryRow}
@@ -74,7 +75,7 @@ told_touched rows c k stood item was now = record { told = λ q volume is. by_te
     by_test q volume true t is = subst (λ (p : Key). HasCurrent rows p volume) (sym (tied_is q k t)) (now volume (sym (noted_at c.touched k q (record { stood = stood; last = None }) true t) ∙ is))
     by_test q volume false t is = was.told q volume (sym (noted_at c.touched k q (record { stood = stood; last = None }) false t) ∙ is)
 
-told_put : (rows : List HistoryRow) (c : Changes) (i : Item) → AreTold c rows → AreTold (with_put c i) rows
+pub told_put : (rows : List HistoryRow) (c : Changes) (i : Item) → AreTold c rows → AreTold (with_put c i) rows
 told_put rows c i was = record { told = λ q volume is. by_test q volume (tie q (key_of i)) refl is }
   where
     x : Touch
@@ -98,13 +99,14 @@ module _ (db : Database) (kept : IsKept db) (j : Judgement) where
     made = subst (λ o. Make last (with_touched j.changes k stood o) w) (sym tells.is_item)
         (changes_make.touched last j.changes w (view_lawful db kept j.code (reached_in (db.trees receiveds) j.code)) makes.made k stood fresh tells.is_stood);
     told = told_touched rows j.changes k stood item makes.told tells.current;
+    passed = makes.passed;
   }
 
   pub put_turns : (i : Item) → is_entry i ≡ true → is_touched j.changes (key_of i) ≡ true → Turns db j (with_changes j (with_put j.changes i)) (λ w. with_item w i)
-  put_turns i entry noted w makes = record { made = changes_make.put last j.changes w makes.made i entry noted; told = told_put rows j.changes i makes.told }
+  put_turns i entry noted w makes = record { made = changes_make.put last j.changes w makes.made i entry noted; told = told_put rows j.changes i makes.told; passed = makes.passed }
 
   pub taken_turns : (k : Key) → is_touched j.changes k ≡ true → Turns db j (with_changes j (with_taken j.changes k)) (λ w. without_key w k)
-  taken_turns k noted w makes = record { made = changes_make.taken last j.changes w makes.made k noted; told = record { told = makes.told.told } }
+  taken_turns k noted w makes = record { made = changes_make.taken last j.changes w makes.made k noted; told = record { told = makes.told.told }; passed = makes.passed }
 
 -- keys that pass a test and aren't used by changes
 left_entries : (s : View) (p : Item → Bool) (es : List (Key × Item)) → list_any (λ e. p e.1 && untouched s e.0) es ≡ list_any (untouched s) (map_of (λ e. e.0) (filter (λ e. p e.1) es))
@@ -188,10 +190,15 @@ module _ (db : Database) (j : Judgement) (w : View) (makes : Makes db j w) where
       ap (λ (u : View). approved_on u usrn lang) makes.made.is_laid ∙ answers.approved_on usrn lang
       ∙ ap (λ b. b || approved_on s usrn lang) (sym (left_with lawful (is_approved_on usrn lang)))
 
-  pub children_beside : IsLawfulView v → (uprn : ℕ) → has_children w uprn ≡ (list_any (is_left_part uprn (Some j.changes)) (entries v) || has_children s uprn)
+  pub children_beside : IsLawfulView v → (uprn : ℕ) → has_children w uprn ≡ (list_any (is_left_part kind.Blpu uprn (Some j.changes)) (entries v) || has_children s uprn)
   children_beside lawful uprn =
       ap (λ (u : View). has_children u uprn) makes.made.is_laid ∙ answers.has_children uprn
       ∙ ap (λ b. b || has_children s uprn) (sym (left_with lawful (is_child_of uprn)))
+
+  pub tied_beside : IsLawfulView v → (uprn : ℕ) → tied w uprn ≡ (list_any (is_left_tied uprn (Some j.changes)) (entries v) || tied s uprn)
+  tied_beside lawful uprn =
+      ap (λ (u : View). tied u uprn) makes.made.is_laid ∙ answers.tied uprn
+      ∙ ap (λ b. b || tied s uprn) (sym (left_with lawful (names uprn)))
 
 pub or_true : (a b : Bool) → b ≡ true → (a || b) ≡ true
 or_true true b is = refl

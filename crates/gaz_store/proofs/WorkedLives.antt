@@ -25,7 +25,7 @@ use Rattle.gaz_kept.proofs.Pairs as pairs
 use Rattle.gaz_kept.proofs.Said.{says}
 use Rattle.gaz_kept.proofs.Statements.{some_same}
 use Rattle.gaz_loaded.specs.declared.listed.Life.{Life}
-use Rattle.gaz_store.specs.Lives.{IsRowUntil, SaysLife, TellsLives}
+use Rattle.gaz_store.specs.Lives.{IsRowUntil, SaysLife, TellsLives, is_items}
 use Rattle.gaz_store.specs.Volumes.{TellsVolumes, WasReceived}
 use Rattle.gaz_store.specs.WorkedLives.{WorkedTelling, current_life, ended_life, files, life_cut_off, two_rows}
 
@@ -63,7 +63,7 @@ not_until : {A : Type 0} (m n : ℤ) (r : Row) → rowid_of r ≡ Int m → n <�
 not_until m n r is high f = let wrong : m ≤ℤ n = subst (λ i. i ≤ℤ n) (sym (int_same m f.0 (sym is ∙ f.1))) f.2 in absurd (omega (arith, ints, wrong, high))
 
 both : TellsLives None (ended_life ∷ current_life ∷ []) two_rows
-both = record { said = said; complete = complete; rising = ((omega arith, tt), (tt, tt)); ends = λ none r there behind. cc; few = omega arith }
+both = record { said = said; complete = complete; rising = ((omega arith, tt), (tt, tt)); ends = λ none r there item behind. cc; few = omega arith }
   where
     Told : Life → Type 0
     Told life = (r : Row) × Has two_rows r × Unit {0} × SaysLife r life
@@ -76,11 +76,11 @@ both = record { said = said; complete = complete; rising = ((omega arith, tt), (
     Says : Row → Type 0
     Says r = (life : Life) × Has (ended_life ∷ current_life ∷ []) life × SaysLife r life
 
-    complete : (r : Row) (last : Life) → Has two_rows r → Has (ended_life ∷ current_life ∷ []) last → Unit {0} → IsRowUntil last.place r → Says r
-    complete r last there here behind until = of_two Says (ended_life, inl refl, ended) (current_life, inr (inl refl), current) r there
+    complete : (r : Row) (last : Life) → Has two_rows r → is_items r ≡ true → Has (ended_life ∷ current_life ∷ []) last → Unit {0} → IsRowUntil last.place r → Says r
+    complete r last there item here behind until = of_two Says (ended_life, inl refl, ended) (current_life, inr (inl refl), current) r there
 
 only_first : TellsLives None (ended_life ∷ []) two_rows
-only_first = record { said = said; complete = complete; rising = (tt, tt); ends = λ none r there behind. cc; few = omega arith }
+only_first = record { said = said; complete = complete; rising = (tt, tt); ends = λ none r there item behind. cc; few = omega arith }
   where
     Told : Life → Type 0
     Told life = (r : Row) × Has two_rows r × Unit {0} × SaysLife r life
@@ -92,14 +92,14 @@ only_first = record { said = said; complete = complete; rising = (tt, tt); ends 
     Says : Row → Type 0
     Says r = (life : Life) × Has (ended_life ∷ []) life × SaysLife r life
 
-    complete : (r : Row) (last : Life) → Has two_rows r → Has (ended_life ∷ []) last → Unit {0} → IsRowUntil last.place r → Says r
-    complete r last there (inl is) behind until =
+    complete : (r : Row) (last : Life) → Has two_rows r → is_items r ≡ true → Has (ended_life ∷ []) last → Unit {0} → IsRowUntil last.place r → Says r
+    complete r last there item (inl is) behind until =
         of_two (λ s. IsRowUntil (pos 2) s → Says s) (λ u. (ended_life, inl refl, ended)) (λ u. not_until (pos 4) (pos 2) of_1002 refl (omega arith) u) r there
         (subst (λ (l : Life). IsRowUntil l.place r) is until)
-    complete r last there (inr never) behind until = absurd never
+    complete r last there item (inr never) behind until = absurd never
 
 behind_2 : TellsLives (Some (pos 2)) (current_life ∷ []) two_rows
-behind_2 = record { said = said; complete = complete; rising = (tt, tt); ends = λ none r there behind. cc; few = omega arith }
+behind_2 = record { said = said; complete = complete; rising = (tt, tt); ends = λ none r there item behind. cc; few = omega arith }
   where
     Told : Life → Type 0
     Told life = (r : Row) × Has two_rows r × IsPlacedBehind (pos 2) r × SaysLife r life
@@ -111,24 +111,24 @@ behind_2 = record { said = said; complete = complete; rising = (tt, tt); ends = 
     Says : Row → Type 0
     Says r = (life : Life) × Has (current_life ∷ []) life × SaysLife r life
 
-    complete : (r : Row) (last : Life) → Has two_rows r → Has (current_life ∷ []) last → IsPlacedBehind (pos 2) r → IsRowUntil last.place r → Says r
-    complete r last there here behind until =
+    complete : (r : Row) (last : Life) → Has two_rows r → is_items r ≡ true → Has (current_life ∷ []) last → IsPlacedBehind (pos 2) r → IsRowUntil last.place r → Says r
+    complete r last there item here behind until =
         of_two (λ s. IsPlacedBehind (pos 2) s → Says s) (λ b. not_behind (pos 2) (pos 2) changed_101 refl (omega arith) b) (λ b. (current_life, inl refl, current)) r there behind
 
 at_the_end : TellsLives (Some (pos 4)) [] two_rows
 at_the_end = record {
   said = λ life there. absurd there;
-  complete = λ r last there here behind until. absurd here;
+  complete = λ r last there item here behind until. absurd here;
   rising = tt;
-  ends = λ none. of_two (λ r. ¬ IsPlacedBehind (pos 4) r) (λ b. not_behind (pos 2) (pos 4) changed_101 refl (omega arith) b) (λ b. not_behind (pos 4) (pos 4) of_1002 refl (omega arith) b);
+  ends = λ none r there item. of_two (λ r. ¬ IsPlacedBehind (pos 4) r) (λ b. not_behind (pos 2) (pos 4) changed_101 refl (omega arith) b) (λ b. not_behind (pos 4) (pos 4) of_1002 refl (omega arith) b) r there;
   few = omega arith;
 }
 
 ends_too_early : ¬ TellsLives (Some (pos 2)) [] two_rows
-ends_too_early it = it.ends refl of_1002 (inr (inl refl)) (pos 4, refl, omega arith)
+ends_too_early it = it.ends refl of_1002 (inr (inl refl)) refl (pos 4, refl, omega arith)
 
 ended_left_out : ¬ TellsLives None (current_life ∷ []) two_rows
-ended_left_out it = let told = it.complete changed_101 current_life (inl refl) (inl refl) tt (pos 2, refl, omega arith) in not_said told.0 told.1 told.2
+ended_left_out it = let told = it.complete changed_101 current_life (inl refl) refl (inl refl) tt (pos 2, refl, omega arith) in not_said told.0 told.1 told.2
   where
     not_said : (life : Life) → Has (current_life ∷ []) life → SaysLife changed_101 life → ⊥
     not_said life (inl is) says_it =

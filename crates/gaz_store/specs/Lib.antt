@@ -1,6 +1,8 @@
 pub mod Answers
 pub mod Remembered
 pub mod Seen
+pub mod Passing
+pub mod Passages
 pub mod Asking
 pub mod Beside
 pub mod Store

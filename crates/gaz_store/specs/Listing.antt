@@ -1,5 +1,5 @@
--- What a store lists of the items that it has.
-use Rattle.std.specs.Prelude.{List, Option, option_map}
+-- What a store lists of the items that it has, and of the numbers that passed between custodians.
+use Rattle.std.specs.Prelude.{ℕ, List, Option, option_map}
 use Rattle.std.specs.List.{filter_map}
 use Rattle.sqlite.specs.Edit.{id_in}
 use Rattle.sqlite.specs.Order.{Row}
@@ -8,7 +8,8 @@ use Rattle.gaz_records.specs.declared.item.Item.{Item}
 use Rattle.gaz_tables.specs.Rowids.{rowid_of}
 use Rattle.gaz_tables.specs.Schema.{versions}
 use Rattle.gaz_tables.specs.Versions.{born_of, cust_of, gone_of}
-use Rattle.gaz_kept.specs.Versions.{item_in, living, number_in}
+use Rattle.gaz_overlay.specs.Passages.{PassageRow}
+use Rattle.gaz_kept.specs.Versions.{item_in, living, number_in, passages_in}
 use Rattle.gaz_loaded.specs.Lives.{Told}
 use Rattle.gaz_store.specs.Lives.{database_of}
 use Rattle.gaz_store.specs.declared.store.Store.{Store}
@@ -28,3 +29,8 @@ told_in r = option_map (told_with r) (item_in r)
 -- what the rows of `version2` tell
 abbrev pub lives_kept : {S R : Type 0} → {store : Ghosts S} → Store S R store → List Told
 lives_kept t = filter_map told_in ((database_of t).trees versions)
+
+-- and of a custodian's numbers
+abbrev pub passages_kept : {S R : Type 0} → {store : Ghosts S} → Store S R store → ℕ
+    → List PassageRow
+passages_kept t c = passages_in ((database_of t).trees versions) c

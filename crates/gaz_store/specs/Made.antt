@@ -14,14 +14,15 @@ use Rattle.gaz_tables.specs.Schema.{receiveds, versions}
 use Rattle.gaz_tables.specs.Versions.{born_of, cust_of, gone_of}
 use Rattle.gaz_kept.specs.Contents.{board_of}
 use Rattle.gaz_kept.specs.Files.{reached_in}
-use Rattle.gaz_kept.specs.Kept.{AreInTurn, IsKept}
+use Rattle.gaz_kept.specs.Kept.{AreInTurn, ArePassages, IsKept}
 use Rattle.gaz_kept.specs.Versions.{histories_in, history_in, item_in, living, number_in}
+use Rattle.gaz_kept.specs.Versions.{passages_in}
 use Rattle.gaz_kept.proofs.Boards.{board_reads}
 use Rattle.gaz_kept.proofs.LawfulViews.{board_view}
 use Rattle.gaz_kept.proofs.Reached.{reached_room}
 use Rattle.gaz_kept.proofs.Statements.{not_none, read_from}
 use Rattle.gaz_loaded.specs.Lives.{AreOf, Told, lives_of}
-use Rattle.gaz_store.specs.Listing.{lives_kept, told_in, told_with}
+use Rattle.gaz_store.specs.Listing.{lives_kept, passages_kept, told_in, told_with}
 use Rattle.gaz_store.specs.Store.{seen_in}
 use Rattle.gaz_store.specs.declared.store.Store.{Store}
 
@@ -58,21 +59,23 @@ own_key r x (Some y) is =
 
 -- and the board's views are made of it
 board_of_told : (db : Database) → IsKept db
-    → AreOf (filter_map told_in (db.trees versions)) (board_of db)
+    → AreOf (filter_map told_in (db.trees versions)) (passages_in (db.trees versions)) (board_of db)
 board_of_told db kept = record {
   own = λ x there.
       let r = read_from told_in (db.trees versions) x there in
       own_key r.0 x (item_in r.0) r.2;
   apart = λ c. subst AreInTurn (sym (lives_are c (db.trees versions))) (kept.histories c).apart;
+  passed = λ c. subst (λ n. ArePassages n (passages_in (db.trees versions) c)) (sym (reached_so c)) (kept.passages c);
   few = λ c. subst (λ n. n < rows.never) (sym (reached_so c)) (reached_room db c kept);
   views = λ c t le.
       board_view db kept c t (subst (λ n. t ≤ n) (reached_so c) le)
-      ∙ ap (λ l. rows.view_after l t) (sym (lives_are c (db.trees versions)));
+      ∙ ap (λ l. rows.view_of_rows l (passages_in (db.trees versions) c) t) (sym (lives_are c (db.trees versions)));
 }
   where
     reached_so : (c : ℕ) → reached (board_of db) c ≡ reached_in (db.trees receiveds) c
     reached_so c = (board_reads (db.trees receiveds) (db.trees versions) c).reached
 
 pub kept_are : {S R : Type 0} {store : Ghosts S} (register : List ℕ) (t : Store S R store)
-    → (seen_in register t).stands → AreOf (lives_kept t) (seen_in register t).content.board
+    → (seen_in register t).stands
+    → AreOf (lives_kept t) (passages_kept t) (seen_in register t).content.board
 kept_are register t stood = board_of_told _ stood.tables.kept

@@ -1,5 +1,5 @@
 -- A store as it is seen: its tables, and a judgement beside them.
-use Rattle.std.specs.Prelude.{◌≢◌, ◌-◌, ◌^◌, ◌==◌, ⊤, ℕ, List}
+use Rattle.std.specs.Prelude.{◌≡◌, ◌≢◌, ◌-◌, ◌^◌, ◌==◌, ⊤, ℕ, List}
 use Rattle.sqlite.specs.Effect.{Database}
 use Rattle.sqlite.specs.Held.{state}
 use Rattle.sqlite.specs.State.{HasCleanDisk, State}
@@ -10,7 +10,7 @@ use Rattle.gaz_keeper.specs.Keeper.{IsAtHand, Progress, Seen}
 use Rattle.gaz_overlay.specs.Laid.{laid}
 use Rattle.gaz_kept.specs.Contents.{content_in}
 use Rattle.gaz_kept.specs.LastViews.{last_in}
-use Rattle.gaz_store.specs.Beside.{Makes}
+use Rattle.gaz_store.specs.Beside.{Beside, Makes}
 use Rattle.gaz_store.specs.Remembered.{Remembered}
 use Rattle.gaz_store.specs.Seen.{IsUnharmed, LeavesKept, MayLeave, StandsFor, full_at, left_lawful}
 use Rattle.gaz_store.specs.declared.judgement.Judgement.{Judgement}
@@ -56,6 +56,12 @@ abbrev pub StandsBeside : Database → Judging → Type 0
 StandsBeside db Idle = ⊤
 StandsBeside db (Open j) = IsUnderWay db j
 StandsBeside db Broken = ⊤
+
+-- so it is of a custodian's view: the working one where its volume is judged, else its last
+abbrev pub IsOfView : Database → Judging → ℕ → (View → Type 0) → Type 0
+IsOfView db Idle c IsSo = IsSo (last_in db c)
+IsOfView db (Open j) c IsSo = (j.code ≡ c → Beside db j IsSo) × (j.code ≢ c → IsSo (last_in db c))
+IsOfView db Broken c IsSo = IsSo (last_in db c)
 
 -- ---- the store
 

@@ -1,5 +1,5 @@
--- What a page of a street, or of the parts of a BLPU, tells.
-use Rattle.std.specs.Prelude.{◌≡◌, ◌<◌, ◌&&◌, ℕ, Bool, true, false, not, List, length}
+-- What a page of a street, or of what names a BLPU, tells.
+use Rattle.std.specs.Prelude.{◌≡◌, ◌<◌, ◌&&◌, ◌==◌, ℕ, Bool, true, false, not, List, length}
 use Rattle.std.specs.Prelude.{Option, None, Some}
 use Rattle.std.specs.List.{list_any}
 use Rattle.std.specs.String.{string_bytes}
@@ -8,10 +8,12 @@ use Rattle.sqlite.specs.declared.types.Value.TheVariants.{Text}
 use Rattle.sqlite_rules.specs.Lists.{Has}
 use Rattle.gaz_ids.specs.declared.lang.Lang.{Lang}
 use Rattle.gaz_records.specs.declared.item.Item.{Item}
+use Rattle.gaz_records.specs.declared.item.Item.TheVariants as item
+use Rattle.gaz_records.specs.declared.item.Kind.{Kind}
 use Rattle.gaz_records.specs.declared.item.Kind.TheVariants as kind
 use Rattle.gaz_records.specs.declared.key.Key.{Key}
 use Rattle.gaz_views.specs.View.{View}
-use Rattle.gaz_views.specs.Words.{entries, is_approved_on, is_child_of}
+use Rattle.gaz_views.specs.Words.{entries, is_approved_on, is_child_of, names}
 use Rattle.gaz_cells.specs.Ids.{key_named}
 use Rattle.gaz_overlay.specs.Changes.{Changes, is_touched}
 use Rattle.gaz_kept.specs.Versions.{text_in}
@@ -31,17 +33,28 @@ leaves (Some c) (Some k) = not (is_touched c k)
 abbrev pub is_left_on : ℕ → Option Lang → Option Changes → Key × Item → Bool
 is_left_on usrn lang passed e = is_approved_on usrn lang e.1 && leaves passed (Some e.0)
 
--- a part of the BLPU that isn't passed over
-abbrev pub is_left_part : ℕ → Option Changes → Key × Item → Bool
-is_left_part uprn passed e = is_child_of uprn e.1 && leaves passed (Some e.0)
+-- an item of a kind that names the BLPU: a part of it, an LPI or a cross reference
+abbrev pub is_of_blpu : Kind → ℕ → Item → Bool
+is_of_blpu kind.Blpu uprn x = is_child_of uprn x
+is_of_blpu kind.Xref uprn (item.Xref x) = x.uprn == uprn
+is_of_blpu kind.Lpi uprn (item.Lpi l) = l.uprn == uprn
+is_of_blpu _ _ _ = false
 
--- what a row of a street, of id and language, and one of a part, of id, say of it
+-- one that isn't passed over
+abbrev pub is_left_part : Kind → ℕ → Option Changes → Key × Item → Bool
+is_left_part kd uprn passed e = is_of_blpu kd uprn e.1 && leaves passed (Some e.0)
+
+-- an LPI or a cross reference of the BLPU that isn't passed over
+abbrev pub is_left_tied : ℕ → Option Changes → Key × Item → Bool
+is_left_tied uprn passed e = names uprn e.1 && leaves passed (Some e.0)
+
+-- what a row of a street, of id and language, and one of a kind, of id, say of it
 abbrev pub says_left : Option Lang → Option Changes → Row → Bool
 says_left lang passed r =
     says_lang lang r && leaves passed (key_named kind.Lpi (text_in (column r 0)))
 
-abbrev pub names_left : Option Changes → Row → Bool
-names_left passed r = leaves passed (key_named kind.Blpu (text_in (column r 0)))
+abbrev pub names_left : Kind → Option Changes → Row → Bool
+names_left kd passed r = leaves passed (key_named kd (text_in (column r 0)))
 
 -- ---- how it is looked for
 

@@ -3,8 +3,9 @@ ghost use Rattle.std.specs.Prelude.{◌≡◌, None, OnOk, option_map};
 ghost use Rattle.std.specs.Option.{option_and_then};
 ghost use Rattle.std.specs.FinMap as map;
 ghost use Rattle.gaz_overlay.specs.Changes.{is_touched};
-ghost use Rattle.gaz_views.specs.View.{was_used};
+ghost use Rattle.gaz_views.specs.View.{custody_at, was_used};
 ghost use Rattle.gaz_views.specs.Words.{approved_of, approved_on, first_of, has_children, property_of};
+ghost use Rattle.gaz_views.specs.Words.{tied};
 ghost use Rattle.gaz_store.specs.Asking.{AsksTables};
 ghost use Rattle.gaz_store.specs.Beside.{Beside};
 
@@ -12,8 +13,8 @@ use crate::judgement::Judgement;
 use crate::tables::Tables;
 use gaz_ids::{Lang, Uprn, Usrn};
 use gaz_keeper::ShelfFault;
-use gaz_records::{Key, SharedItem};
-use gaz_views::{Property, share_found};
+use gaz_records::{Key, Kind, SharedItem};
+use gaz_views::{Custody, Property, share_found};
 use sqlite::Alter;
 
 impl Judgement {
@@ -141,6 +142,40 @@ impl Judgement {
         if self.changes.has_children(&[], uprn) {
             return Ok(true);
         }
-        tables.left_part(self.code, uprn, Some(&self.changes))
+        tables.left_part(self.code, Kind::Blpu, uprn, Some(&self.changes))
+    }
+
+    /// What last became of a number.
+    pub(crate) fn custody<S: Alter>(
+        &self,
+        tables: &mut Tables<S>,
+        uprn: Uprn,
+    ) -> Result<Option<Custody>, ShelfFault>
+        ensures { AsksTables tables.old tables.new result
+            (λ db x. Beside db self.now (λ w. x ≡ custody_at w uprn)) }
+    {
+        match self.changes.custody(uprn) {
+            Some(custody) => Ok(Some(custody)),
+            None => tables.custody(self.code, uprn),
+        }
+    }
+
+    /// Whether an LPI or a cross reference, of whatever status, names a BLPU.
+    pub(crate) fn tied<S: Alter>(
+        &mut self,
+        tables: &mut Tables<S>,
+        uprn: Uprn,
+    ) -> Result<bool, ShelfFault>
+        ensures asks { AsksTables tables.old tables.new result
+            (λ db b. Beside db self.old (λ w. b ≡ tied w uprn)) }
+        ensures same { self.new ≡ self.old }
+    {
+        let Ok(own) = self.changes.tied(&[], uprn) else {
+            return Err(ShelfFault::Memory);
+        };
+        if own {
+            return Ok(true);
+        }
+        tables.left_tied(self.code, uprn, Some(&self.changes))
     }
 }

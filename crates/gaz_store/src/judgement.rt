@@ -1,15 +1,18 @@
 //! The judgement in progress of a store: a custodian, and the changes beside its tables.
-ghost use Rattle.std.specs.Prelude.{◌≡◌, true, false, OnOk};
+ghost use Rattle.std.specs.Prelude.{◌≡◌, true, false, IsSome, OnOk};
 ghost use Rattle.gaz_overlay.specs.Changes.{is_touched, no_changes};
 ghost use Rattle.gaz_records.specs.Items.{is_entry};
 ghost use Rattle.gaz_records.specs.Keys.{key_of};
-ghost use Rattle.gaz_views.specs.View.{with_item, without_key};
+ghost use Rattle.gaz_views.specs.Numbered.{as_blpu};
+ghost use Rattle.gaz_views.specs.View.{with_item, with_release, without_key};
 ghost use Rattle.gaz_store.specs.Asking.{AsksTables};
-ghost use Rattle.gaz_store.specs.Beside.{Turns};
+ghost use Rattle.gaz_store.specs.Beside.{Turns, adopted};
+ghost use Rattle.gaz_store.specs.Passing.{IsToldSince};
 
 use crate::tables::Tables;
-use gaz_ids::Code;
+use gaz_ids::{Code, Hop, Uprn};
 use gaz_keeper::ShelfFault;
+use gaz_kept::passages::born_of;
 use gaz_ledger::Seed;
 use gaz_overlay::Overlay;
 use gaz_records::{Key, SharedItem, key_of};
@@ -77,6 +80,70 @@ impl Judgement {
         let key = key_of(&item);
         self.touch(tables, &key)?;
         match self.changes.put(item) {
+            Ok(()) => Ok(()),
+            Err(_) => Err(ShelfFault::Memory),
+        }
+    }
+
+    // In which volume a number's current passage was born, where the judgement hasn't passed it on
+    // yet; what is answered otherwise is passed over.
+    fn since<S: Alter>(&self, tables: &mut Tables<S>, uprn: Uprn) -> Result<Option<u64>, ShelfFault>
+        ensures { AsksTables tables.old tables.new result
+            (λ db since. IsToldSince db self.now uprn since) }
+    {
+        if self.changes.is_passed(uprn) {
+            return Ok(None);
+        }
+        let passed = tables.passed(self.code, uprn)?;
+        Ok(born_of(&passed))
+    }
+
+    /// Releases a number to another custodian.
+    pub(crate) fn release<S: Alter>(
+        &mut self,
+        tables: &mut Tables<S>,
+        uprn: Uprn,
+        to: Code,
+        hop: Hop,
+    ) -> Result<(), ShelfFault>
+        ensures asks { AsksTables tables.old tables.new result
+            (λ db _. Turns db self.old self.new (λ w. with_release w uprn to hop)) }
+        ensures code { self.new.code ≡ self.old.code }
+    {
+        self.touch(tables, &Key::Blpu(uprn))?;
+        let since = match self.since(tables, uprn) {
+            Ok(since) => since,
+            Err(fault) => return Err(fault),
+        };
+        match self.changes.release(uprn, to, hop, since) {
+            Ok(()) => Ok(()),
+            Err(_) => Err(ShelfFault::Memory),
+        }
+    }
+
+    /// Adopts an item, a BLPU, from another custodian.
+    pub(crate) fn adopt<S: Alter>(
+        &mut self,
+        tables: &mut Tables<S>,
+        blpu: SharedItem,
+        from: Code,
+        hop: Hop,
+    ) -> Result<(), ShelfFault>
+        requires { IsSome (as_blpu blpu) }
+        ensures asks { AsksTables tables.old tables.new result
+            (λ db _. Turns db self.old self.new (λ w. adopted w blpu from hop)) }
+        ensures code { self.new.code ≡ self.old.code }
+    {
+        let key = key_of(&blpu);
+        let Key::Blpu(uprn) = key else {
+            return Err(ShelfFault::Memory);
+        };
+        self.touch(tables, &key)?;
+        let since = match self.since(tables, uprn) {
+            Ok(since) => since,
+            Err(fault) => return Err(fault),
+        };
+        match self.changes.adopt(blpu, from, hop, since) {
             Ok(()) => Ok(()),
             Err(_) => Err(ShelfFault::Memory),
         }

@@ -1,5 +1,5 @@
 //! What stands at a key.
-ghost use Rattle.std.specs.Prelude.{◌≡◌, ◌≤◌};
+ghost use Rattle.std.specs.Prelude.{◌≡◌, ◌≤◌, is_some};
 ghost use Rattle.std.specs.FinMap as map;
 ghost use Rattle.gaz_cells.specs.Ids.{id_of, kind_in};
 ghost use Rattle.gaz_records.specs.Kinds.{number_of};
@@ -11,12 +11,14 @@ ghost use Rattle.gaz_kept.specs.Files.{reached_in};
 ghost use Rattle.gaz_kept.specs.LastViews.{last_in};
 ghost use Rattle.gaz_kept.specs.Newest.{IsNewest, IsNewestUntil, TellsStood};
 ghost use Rattle.gaz_kept.specs.Versions.{histories_in, view_in};
+ghost use Rattle.gaz_store.specs.Passing.{was_passed};
 
 use crate::tables::Tables;
 use gaz_ids::{Code, LAST_VOLUME};
 use gaz_keeper::ShelfFault;
 use gaz_kept::decoding::{kind_in, name_of};
 use gaz_kept::newest::{Life, current_in, item_after, newest_said, stood_by};
+use gaz_kept::passages::{Passed, stood_with};
 use gaz_overlay::Stood;
 use gaz_records::{Key, Kind, SharedItem};
 use gaz_tables::versions;
@@ -103,13 +105,30 @@ impl<S: Alter> Tables<S> {
         Ok(current_in(life))
     }
 
+    // The newest passage of the number whose BLPU has this key; of another kind of key there is none.
+    fn passed_at(&mut self, code: Code, key: &Key) -> Result<Option<Passed>, ShelfFault>
+        ensures { AsksTables self.old self.new result
+            (λ db passed. is_some passed ≡ was_passed db code key.now) }
+    {
+        match key {
+            Key::Blpu(uprn) => self.passed(code, *uprn),
+            _ => Ok(None),
+        }
+    }
+
     /// Whether a key was used in a custodian's last view or before it.
     pub fn was_used(&mut self, code: Code, key: &Key) -> Result<bool, ShelfFault>
         ensures { AsksTables self.old self.new result
             (λ db b. b ≡ was_used (last_in db code) key.now) }
     {
         let life = self.newest(code, key)?;
-        Ok(life.is_some())
+        if life.is_some() {
+            return Ok(true);
+        }
+        match self.passed_at(code, key) {
+            Ok(passed) => Ok(passed.is_some()),
+            Err(fault) => Err(fault),
+        }
     }
 
     /// What the tables have at a key for an overlay that touches it, with the item of the current
@@ -123,7 +142,13 @@ impl<S: Alter> Tables<S> {
             (histories_in (db.trees versions) code) (last_in db code) key.now s.0 s.1) }
     {
         let life = self.newest(code, key)?;
-        Ok((stood_by(&life), current_in(life)))
+        if life.is_some() {
+            return Ok((stood_by(&life), current_in(life)));
+        }
+        match self.passed_at(code, key) {
+            Ok(passed) => Ok((stood_with(&life, &passed), None)),
+            Err(fault) => Err(fault),
+        }
     }
 
     /// The item at a key after a volume, which is to be reached; after volume 0 there is none.
@@ -143,7 +168,7 @@ impl<S: Alter> Tables<S> {
 }
 
 // The volume, or the last that a custodian can send: none behind it is reached.
-fn capped(volume: u64) -> u32
+pub(crate) fn capped(volume: u64) -> u32
     ensures { volume ≤ LAST_VOLUME → result ≡ volume }
 {
     volume.min(LAST_VOLUME) as u32

@@ -5,7 +5,7 @@ ghost use Rattle.sqlite.specs.declared.types.Value.TheVariants.{Int};
 ghost use Rattle.gaz_records.specs.Items.{is_entry};
 ghost use Rattle.gaz_tables.specs.Versions.{hop_of};
 ghost use Rattle.gaz_kept.specs.Versions.{cells_in, item_in};
-ghost use Rattle.gaz_store.specs.Lives.{SayLives, gone_in, life_in};
+ghost use Rattle.gaz_store.specs.Lives.{AreEntries, IsLifePage, SayLives, gone_in, is_items, life_in};
 
 use gaz_cells::{Bodies, CellFault, Links, Row as Cells};
 use gaz_ids::Code;
@@ -19,6 +19,17 @@ use std::alloc::Global;
 
 // The column of the body.
 const BODY: usize = 10;
+
+// The kind of a row that says what became of a number.
+const CUSTODY: u64 = 92;
+
+/// What is told of the rows of a page.
+pub(crate) enum LifePage {
+    /// Their lives, none only where there is no row.
+    Lives(Vec<Life>),
+    /// No life up to this rowid.
+    Behind(i64),
+}
 
 // The whole number in a column, also one below 0, where one stands there.
 fn signed(row: &Row, at: usize) -> Result<i64, RowFault>
@@ -95,7 +106,7 @@ fn gone_in(gone: u64) -> Option<u64>
     if gone == NEVER { None } else { Some(gone) }
 }
 
-// Nothing was handed on.
+// Nothing was handed on, as of every item.
 fn check_hop(row: &Row) -> Result<(), RowFault>
     ensures { IfOk result (λ done. hop_of row.now ≡ Int (pos 0)) }
 {
@@ -127,7 +138,15 @@ fn life_in(alloc: Global, bodies: &mut Bodies<'_>, row: &Row) -> Result<Life, Ro
     })
 }
 
-/// What rows say, in turn.
+// Whether a row is an item's, and not one of kind 92.
+fn is_items(row: &Row) -> Result<bool, RowFault>
+    ensures { IfOk result (λ b. b ≡ is_items row.now) }
+{
+    let kind = number(row, 2)?;
+    Ok(kind != CUSTODY)
+}
+
+/// What the rows of items say, in turn.
 pub(crate) fn lives_in(alloc: Global, rows: &[Row]) -> Result<Vec<Life>, RowFault>
     ensures said { IfOk result (λ lives. SayLives rows.now lives.items) }
     ensures entries { IfOk result (λ lives. All (λ life. is_entry life.item ≡ true) lives.items) }
@@ -136,10 +155,27 @@ pub(crate) fn lives_in(alloc: Global, rows: &[Row]) -> Result<Vec<Life>, RowFaul
     let mut bodies = Bodies::of(alloc, &lines);
     let mut lives = Vec::new(alloc);
     for row in rows {
-        let life = life_in(alloc, &mut bodies, row)?;
-        if lives.push(life).is_err() {
-            return Err(RowFault::Memory);
+        if is_items(row)? {
+            let life = life_in(alloc, &mut bodies, row)?;
+            if lives.push(life).is_err() {
+                return Err(RowFault::Memory);
+            }
         }
     }
     Ok(lives)
+}
+
+/// What is told of the rows of a page.
+pub(crate) fn page_told(alloc: Global, rows: &[Row]) -> Result<LifePage, RowFault>
+    ensures said { IfOk result (IsLifePage rows.now) }
+    ensures entries { IfOk result AreEntries }
+{
+    let lives = lives_in(alloc, rows)?;
+    if !lives.is_empty() {
+        return Ok(LifePage::Lives(lives));
+    }
+    match rows.last() {
+        Some(row) => Ok(LifePage::Behind(signed(row, 0)?)),
+        None => Ok(LifePage::Lives(lives)),
+    }
 }

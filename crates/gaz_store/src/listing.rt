@@ -2,9 +2,10 @@
 ghost use Rattle.std.specs.Prelude.{IfOk};
 ghost use Rattle.gaz_keeper.specs.Keeper.{Reads};
 ghost use Rattle.gaz_loaded.specs.Telling as listed;
+ghost use Rattle.gaz_loaded.specs.Passing as listed_passages;
 ghost use Rattle.gaz_loaded.specs.Telling.{AreEntries};
 ghost use Rattle.gaz_tables.specs.Schema.{versions};
-ghost use Rattle.gaz_store.specs.Listing.{lives_kept};
+ghost use Rattle.gaz_store.specs.Listing.{lives_kept, passages_kept};
 ghost use Rattle.gaz_store.specs.Lives.{TablesRest, TellsLives, database_of};
 ghost use Rattle.gaz_store.specs.Store.{seen_in};
 ghost use Rattle.gaz_store.specs.Volumes.{TellsVolumes};
@@ -13,13 +14,15 @@ use crate::naming::OfRegister;
 use crate::store::Store;
 use gaz_ids::{Code, Volume};
 use gaz_keeper::ShelfFault;
-use gaz_loaded::{Life, Listed};
+use gaz_loaded::{Life, Listed, Passage};
 use sqlite::Alter;
 
 impl<S: Alter, R: OfRegister> Listed for Store<S, R> {
     ghost use Rattle.gaz_store.specs.Made.{kept_are};
 
     ghost lives = { lives_kept };
+
+    ghost passages = { passages_kept };
 
     /// At most 512, and none is left out between them.
     fn volumes_above(&mut self, code: Code, volume: u64) -> Result<Vec<Volume>, ShelfFault>
@@ -32,7 +35,7 @@ impl<S: Alter, R: OfRegister> Listed for Store<S, R> {
         self.tables.volumes_above(code, volume)
     }
 
-    /// What the rows of `version2` say, each with its custodian and the volumes in which its item
+    /// What the rows of items in `version2` say, each with its custodian and the volumes in which its item
     /// stands, by rising rowids: at most 512.
     ///
     /// A row that doesn't read, or whose cells aren't all those of its item, is a counted failure.
@@ -46,6 +49,20 @@ impl<S: Alter, R: OfRegister> Listed for Store<S, R> {
     {
         self.judging.clear();
         self.tables.lives_behind(place)
+    }
+
+    /// At most 512.
+    fn passages_behind(
+        &mut self,
+        code: Code,
+        after: Option<Passage>,
+    ) -> Result<Vec<Passage>, ShelfFault>
+        ensures tells { listed_passages.TellsPassages (seen_in R.text) passages_kept self.old self.new
+            result code after }
+        ensures rests { TablesRest R.text self.old self.new }
+    {
+        self.judging.clear();
+        self.tables.passages_behind(code, after)
     }
 
     ghost made = { kept_are R.text };

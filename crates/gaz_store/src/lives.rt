@@ -4,9 +4,9 @@ ghost use Rattle.gaz_records.specs.Items.{is_entry};
 ghost use Rattle.gaz_tables.specs.Rowids.{FindsBehind, FindsFirst, FindsInTurn};
 ghost use Rattle.gaz_tables.specs.Schema.{versions};
 ghost use Rattle.gaz_store.specs.Asking.{AsksTables};
-ghost use Rattle.gaz_store.specs.Lives.{IsRowBehind, TellsLives};
+ghost use Rattle.gaz_store.specs.Lives.{AreEntries, IsRowBehind, TellsLives, TellsPage};
 
-use crate::life_rows::lives_in;
+use crate::life_rows::{LifePage, page_told};
 use crate::tables::Tables;
 use gaz_keeper::ShelfFault;
 use gaz_loaded::Life;
@@ -52,17 +52,37 @@ impl<S: Alter> Tables<S> {
         }
     }
 
-    /// What the rows behind a rowid say, or those from the first, by rising rowids: at most 512.
+    // What a page of the rows behind a rowid tells, or one from the first.
+    fn lives_step(&mut self, after: Option<i64>) -> Result<LifePage, ShelfFault>
+        ensures asks { AsksTables self.old self.new result
+            (λ db page. TellsPage after (db.trees versions) page) }
+        ensures entries { IfOk result AreEntries }
+    {
+        let rows = self.rows_in_turn(after)?;
+        match page_told(self.alloc, &rows) {
+            Ok(page) => Ok(page),
+            Err(fault) => Err(self.row_fault(fault)),
+        }
+    }
+
+    /// What the rows of items behind a rowid say, or those from the first, by rising rowids: at most
+    /// 512. Rows of kind 92 are passed over, also where there is nothing else on a page.
     pub fn lives_behind(&mut self, after: Option<i64>) -> Result<Vec<Life>, ShelfFault>
         ensures asks { AsksTables self.old self.new result
             (λ db lives. TellsLives after lives.items (db.trees versions)) }
         ensures entries { IfOk result
             (λ lives. All (λ life. is_entry life.item ≡ true) lives.items) }
     {
-        let rows = self.rows_in_turn(after)?;
-        match lives_in(self.alloc, &rows) {
-            Ok(lives) => Ok(lives),
-            Err(fault) => Err(self.row_fault(fault)),
+        let mut place = after;
+        'pages: for _page in 0..u64::MAX {
+            match self.lives_step(place) {
+                Ok(page) => match page {
+                    LifePage::Lives(lives) => return Ok(lives),
+                    LifePage::Behind(last) => place = Some(last),
+                },
+                Err(fault) => return Err(fault),
+            }
         }
+        Err(self.fail())
     }
 }

@@ -1,8 +1,8 @@
 //! Pages of what a custodian's gazetteer had after a volume.
-ghost use Rattle.std.specs.Prelude.{◌≡◌, ◌≤◌, IfOk, Some, option_map};
+ghost use Rattle.std.specs.Prelude.{◌≡◌, ◌≤◌, true, IfOk, Some, option_map};
 ghost use Rattle.std.specs.String.{string_bytes};
 ghost use Rattle.gaz_keeper.specs.Telling.{IsPageAt};
-ghost use Rattle.gaz_records.specs.Kinds.{number_of};
+ghost use Rattle.gaz_records.specs.Kinds.{is_entry_kind, number_of};
 ghost use Rattle.gaz_tables.specs.Schema.{versions};
 ghost use Rattle.gaz_tables.specs.Versions.{FindsHolding};
 ghost use Rattle.gaz_store.specs.Asking.{AsksTables};
@@ -130,6 +130,7 @@ impl<S: Alter> Tables<S> {
         start: &str,
         most: usize,
     ) -> Result<Vec<SharedItem>, ShelfFault>
+        requires { is_entry_kind kind ≡ true }
         ensures { AsksTables self.old self.new result (λ db items.
             IsPageFrom (board_of db) code volume kind (Some start.now) most items.items) }
     {
@@ -149,6 +150,7 @@ impl<S: Alter> Tables<S> {
         start: Option<String>,
         most: usize,
     ) -> Result<Vec<SharedItem>, ShelfFault>
+        requires { is_entry_kind kind ≡ true }
         ensures { AsksTables self.old self.new result (λ db items. IsPageFrom
             (board_of db) code volume kind (option_map string_bytes start) most items.items) }
     {
@@ -172,6 +174,9 @@ impl<S: Alter> Tables<S> {
             IsPageAt (board_of db) code volume kind after most items.items) }
     {
         if volume > LAST_VOLUME {
+            return Ok(Vec::new(self.alloc));
+        }
+        if !kind.is_entry() {
             return Ok(Vec::new(self.alloc));
         }
         match start_of(self.alloc, kind, after) {

@@ -4,10 +4,10 @@ use crate::judgement::Judgement;
 use crate::naming::OfRegister;
 use crate::progress::Judging;
 use crate::store::Store;
-use gaz_ids::{Code, Lang, Uprn, Usrn, Volume};
+use gaz_ids::{Code, Hop, Lang, Uprn, Usrn, Volume};
 use gaz_keeper::{Shelf, ShelfFault};
 use gaz_records::{Key, Kind, SharedItem};
-use gaz_views::{Property, Verdict};
+use gaz_views::{Custody, Property, Verdict};
 use sqlite::Alter;
 use std::mem::replace;
 
@@ -84,6 +84,29 @@ impl<S: Alter, R: OfRegister> Shelf for Store<S, R> {
         }
     }
 
+    fn custody(&mut self, code: Code, uprn: Uprn) -> Result<Option<Custody>, ShelfFault> {
+        self.judging.clear();
+        match self.judging.of(code) {
+            Some(judgement) => judgement.custody(&mut self.tables, uprn),
+            None => self.tables.custody(code, uprn),
+        }
+    }
+
+    fn custody_at(
+        &mut self,
+        code: Code,
+        volume: u64,
+        uprn: Uprn,
+    ) -> Result<Option<Custody>, ShelfFault> {
+        self.judging.clear();
+        self.tables.custody_at(code, volume, uprn)
+    }
+
+    fn tied(&mut self, code: Code, uprn: Uprn) -> Result<bool, ShelfFault> {
+        self.judging.clear();
+        self.judging.tied(&mut self.tables, code, uprn)
+    }
+
     fn page(
         &mut self,
         code: Code,
@@ -124,6 +147,36 @@ impl<S: Alter, R: OfRegister> Shelf for Store<S, R> {
                 }
                 Err(fault) => Err(fault),
             },
+            _ => Err(self.tables.fail()),
+        }
+    }
+
+    fn release(&mut self, uprn: Uprn, to: Code, hop: Hop) -> Result<(), ShelfFault> {
+        match replace(&mut self.judging, Judging::Broken) {
+            Judging::Open(mut judgement) => {
+                match judgement.release(&mut self.tables, uprn, to, hop) {
+                    Ok(()) => {
+                        self.judging = Judging::Open(judgement);
+                        Ok(())
+                    }
+                    Err(fault) => Err(fault),
+                }
+            }
+            _ => Err(self.tables.fail()),
+        }
+    }
+
+    fn adopt(&mut self, blpu: SharedItem, from: Code, hop: Hop) -> Result<(), ShelfFault> {
+        match replace(&mut self.judging, Judging::Broken) {
+            Judging::Open(mut judgement) => {
+                match judgement.adopt(&mut self.tables, blpu, from, hop) {
+                    Ok(()) => {
+                        self.judging = Judging::Open(judgement);
+                        Ok(())
+                    }
+                    Err(fault) => Err(fault),
+                }
+            }
             _ => Err(self.tables.fail()),
         }
     }

@@ -1,4 +1,4 @@
-//! What pages of a street and of parts tell.
+//! What pages of a street, and of what names a BLPU, tell.
 ghost use Rattle.std.specs.Prelude.{◌≡◌, IfOk, option_map};
 ghost use Rattle.std.specs.List.{list_any};
 ghost use Rattle.std.specs.String.{string_bytes};
@@ -16,7 +16,7 @@ use gaz_records::Kind;
 use sqlite::Row;
 use std::alloc::Global;
 
-/// How many rows of a street, or of parts, are read at a time.
+/// How many rows of a street, or of what names a BLPU, are read at a time.
 pub(crate) const PAGE: u32 = 64;
 
 /// What a page of a street tells.
@@ -71,13 +71,13 @@ fn any_says(rows: &[Row], lang: Option<Lang>, passed: Option<&Overlay>) -> Resul
     Ok(false)
 }
 
-// Whether one of these rows names a key that isn't passed over.
-fn any_names(rows: &[Row], passed: Option<&Overlay>) -> Result<bool, RowFault>
+// Whether one of these rows names a key of a kind that isn't passed over.
+fn any_names(rows: &[Row], kind: Kind, passed: Option<&Overlay>) -> Result<bool, RowFault>
     ensures { IfOk result (λ b. b ≡ list_any
-        (names_left (option_map (λ c. c.now) passed.entry)) rows.now) }
+        (names_left kind (option_map (λ c. c.now) passed.entry)) rows.now) }
 {
     for row in rows {
-        if leaves(passed, Kind::Blpu, row)? {
+        if leaves(passed, kind, row)? {
             return Ok(true);
         }
     }
@@ -127,14 +127,16 @@ pub(crate) fn street_told(
     step_of(alloc, rows, found)
 }
 
-/// What a page of parts tells, of at most `PAGE` rows.
+/// What a page of what names a BLPU tells, of one kind and of at most `PAGE` rows.
 pub(crate) fn parts_told(
     alloc: Global,
     rows: &[Row],
+    kind: Kind,
     passed: Option<&Overlay>,
 ) -> Result<Step, RowFault>
-    ensures { IfOk result (IsStepOf PAGE rows.now (names_left (option_map (λ c. c.now) passed.entry))) }
+    ensures { IfOk result
+        (IsStepOf PAGE rows.now (names_left kind (option_map (λ c. c.now) passed.entry))) }
 {
-    let found = any_names(rows, passed)?;
+    let found = any_names(rows, kind, passed)?;
     step_of(alloc, rows, found)
 }

@@ -8,8 +8,7 @@ use Rattle.gaz_hub.specs.Standing.{HasAllOf, IsPartial}
 use Rattle.gaz_hub.specs.Step.{HubState, new_hub}
 use Rattle.gaz_hub.proofs.Answers.{every_answer_holds}
 use Rattle.gaz_hub.proofs.Finding.{files_have_all}
-use Rattle.gaz_hub.proofs.HubRuns.{run_then}
-use Rattle.gaz_hub.proofs.Runs.{every_run_from_holds, nothing_partial}
+use Rattle.gaz_hub.proofs.Runs.{every_run_from_holds, nothing_partial, run_then}
 use Rattle.gaz_stored.specs.Chains.{AreOne, Chain, ChainsAreOne, Talk, after_all, all_commands, all_responses}
 use Rattle.gaz_stored.specs.Runs.{StandForRun, hub_in}
 use Rattle.gaz_stored.specs.Stopping.{GoesOnWith, Stopped, StopsAreSurvived}

@@ -19,7 +19,6 @@ use Rattle.gaz_hub.specs.Standing.{IsPartial}
 use Rattle.gaz_hub.specs.Step.{Command, HubState, Response, new_hub}
 use Rattle.gaz_hub.proofs.Answers.{every_answer_holds}
 use Rattle.gaz_hub.proofs.Headline.{may_begin}
-use Rattle.gaz_hub.proofs.OwnNumbers.{all_own_holds}
 use Rattle.gaz_hub.proofs.Runs.{every_run_from_holds, nothing_partial}
 use Rattle.gaz_stored.specs.Runs.{GoesOn, StandForRun, WentOn, hub_in}
 
@@ -46,7 +45,7 @@ module _ {S R : Type 0} {g : Ghosts S} (text : List ℕ) (register : RegisterVal
       let same = opened.content is_fine stood.kept in
       let partial = subst (partly register) (sym (ap state_of same)) stood.partial in
       record {
-        stands = (opened.stands is_fine stood.kept, record { known = subst (λ (k : Content). AreKnown (door_of register) k.files) (sym same) stood.known; own = all_own_holds register _ _ partial });
+        stands = (opened.stands is_fine stood.kept, record { known = subst (λ (k : Content). AreKnown (door_of register) k.files) (sym same) stood.known; partial = partial });
         partial = partial;
       }
 

@@ -1,5 +1,7 @@
+pub mod CustodyExamples
 pub mod Examples
 pub mod CustodyMeanings
+pub mod CustodyPages
 pub mod CustodyQueries
 pub mod Growing
 pub mod Making

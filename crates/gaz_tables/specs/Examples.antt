@@ -3,6 +3,7 @@
 use Rattle.std.specs.Prelude.{◌≡◌, ℕ, ℤ, pos, List, [], ◌∷◌, codes, true, false}
 use Rattle.sqlite.specs.Order.{Row}
 use Rattle.sqlite.specs.declared.types.Value.TheVariants.{Int, Text, Blob}
+use Rattle.gaz_tables.specs.CustodyExamples.{WorkedCustody}
 use Rattle.gaz_tables.specs.Metas.{meta_row, meta_shown}
 use Rattle.gaz_tables.specs.Receiveds.{FindsAbove, FindsVerdict, file_shown, judged, unjudged}
 use Rattle.gaz_tables.specs.Rowids.{FindsBehind, FindsFirst, row_shown}
@@ -93,3 +94,4 @@ pub record WorkedExamples : Type 0 where
   pub on_versions : WorkedVersions
   pub on_rowids : WorkedRowids
   pub on_receiveds : WorkedReceiveds
+  pub on_custody : WorkedCustody

@@ -1,5 +1,6 @@
 pub mod Creating
 pub mod Custody
+pub mod CustodyExamples
 pub mod Examples
 pub mod Laws
 pub mod Metas

@@ -19,7 +19,11 @@ fn make_version<S: Alter>(tx: &mut Transaction<'_, S>) -> Result<usize, Error>
     ensures inside { StaysInside S.Store tx.old.conn.now tx.new.conn.now result }
 {
     tx.execute(
-        "CREATE TABLE version (cust INTEGER NOT NULL, kind INTEGER NOT NULL CHECK (kind IN (11, 15, 21, 23, 24)), id TEXT NOT NULL, blpu INTEGER NOT NULL, street INTEGER NOT NULL, lang INTEGER NOT NULL, live INTEGER NOT NULL, born INTEGER NOT NULL, gone INTEGER NOT NULL, body TEXT NOT NULL, PRIMARY KEY (cust, kind, id, born)) STRICT",
+        "CREATE TABLE version (cust INTEGER NOT NULL, \
+         kind INTEGER NOT NULL CHECK (kind IN (11, 15, 21, 23, 24)), id TEXT NOT NULL, \
+         blpu INTEGER NOT NULL, street INTEGER NOT NULL, lang INTEGER NOT NULL, \
+         live INTEGER NOT NULL, born INTEGER NOT NULL, gone INTEGER NOT NULL, \
+         body TEXT NOT NULL, PRIMARY KEY (cust, kind, id, born)) STRICT",
         &[],
     )
 }
@@ -57,7 +61,9 @@ fn make_received<S: Alter>(tx: &mut Transaction<'_, S>) -> Result<usize, Error>
     ensures inside { StaysInside S.Store tx.old.conn.now tx.new.conn.now result }
 {
     tx.execute(
-        "CREATE TABLE received (cust INTEGER NOT NULL, volume INTEGER NOT NULL, bytes BLOB NOT NULL, state INTEGER NOT NULL, place INTEGER NOT NULL, rule INTEGER NOT NULL, PRIMARY KEY (cust, volume)) STRICT",
+        "CREATE TABLE received (cust INTEGER NOT NULL, volume INTEGER NOT NULL, bytes BLOB NOT NULL, \
+         state INTEGER NOT NULL, place INTEGER NOT NULL, rule INTEGER NOT NULL, \
+         PRIMARY KEY (cust, volume)) STRICT",
         &[],
     )
 }
@@ -69,7 +75,8 @@ fn make_meta<S: Alter>(tx: &mut Transaction<'_, S>) -> Result<usize, Error>
     ensures inside { StaysInside S.Store tx.old.conn.now tx.new.conn.now result }
 {
     tx.execute(
-        "CREATE TABLE meta (id INTEGER NOT NULL PRIMARY KEY, number INTEGER NOT NULL, register TEXT NOT NULL) STRICT",
+        "CREATE TABLE meta (id INTEGER NOT NULL PRIMARY KEY, number INTEGER NOT NULL, \
+         register TEXT NOT NULL) STRICT",
         &[],
     )
 }
@@ -82,7 +89,11 @@ fn make_version2<S: Alter>(tx: &mut Transaction<'_, S>) -> Result<usize, Error>
     ensures inside { StaysInside S.Store tx.old.conn.now tx.new.conn.now result }
 {
     tx.execute(
-        "CREATE TABLE version2 (cust INTEGER NOT NULL, kind INTEGER NOT NULL CHECK (kind IN (11, 15, 21, 23, 24, 92)), id TEXT NOT NULL, blpu INTEGER NOT NULL, street INTEGER NOT NULL, lang INTEGER NOT NULL, live INTEGER NOT NULL, born INTEGER NOT NULL, gone INTEGER NOT NULL, body TEXT NOT NULL, hop INTEGER NOT NULL, PRIMARY KEY (cust, kind, id, born)) STRICT",
+        "CREATE TABLE version2 (cust INTEGER NOT NULL, \
+         kind INTEGER NOT NULL CHECK (kind IN (11, 15, 21, 23, 24, 92)), id TEXT NOT NULL, \
+         blpu INTEGER NOT NULL, street INTEGER NOT NULL, lang INTEGER NOT NULL, \
+         live INTEGER NOT NULL, born INTEGER NOT NULL, gone INTEGER NOT NULL, \
+         body TEXT NOT NULL, hop INTEGER NOT NULL, PRIMARY KEY (cust, kind, id, born)) STRICT",
         &[],
     )
 }

@@ -1,12 +1,13 @@
 //! The statements that read the rows of kind 92 of the table `version2`.
 ghost use Rattle.gaz_tables.specs.Schema.{versions};
 ghost use Rattle.std.specs.Prelude.{◌≡◌, false};
-ghost use Rattle.gaz_tables.specs.Custody.{FindsCustody, FindsCustodyUntil};
+ghost use Rattle.gaz_tables.specs.Custody.{FindsCustody, FindsCustodyBehind, FindsCustodyUntil};
 ghost use Rattle.gaz_tables.specs.Stores.{Finds, LeavesAsBefore, Spares, Stays, WasOpen};
 
 use sqlite::{Alter, Connection, Error, Row, params};
 
-/// `born`, `gone`, `live`, `street` and `hop` of the newest row of a number, or no row.
+/// `born`, `gone`, `live`, `street`, `hop`, `lang` and `body` of the newest row of a number, or no
+/// row.
 pub fn newest<S: Alter>(conn: &mut Connection<S>, cust: u32, id: &str) -> Result<Vec<Row>, Error>
     ensures found { Finds S.Store conn.old conn.new versions result (FindsCustody cust id.now) }
     ensures stays { Stays S.Store conn.old conn.new result }
@@ -16,7 +17,8 @@ pub fn newest<S: Alter>(conn: &mut Connection<S>, cust: u32, id: &str) -> Result
     ensures mode { conn.old.in_transaction ≡ false → conn.new.in_transaction ≡ false }
 {
     conn.query_all(
-        "SELECT born, gone, live, street, hop FROM version2 WHERE cust = ?1 AND kind = 92 AND id = ?2 ORDER BY born DESC LIMIT 1",
+        "SELECT born, gone, live, street, hop, lang, body FROM version2 \
+         WHERE cust = ?1 AND kind = 92 AND id = ?2 ORDER BY born DESC LIMIT 1",
         params![cust, id],
     )
 }
@@ -37,7 +39,33 @@ pub fn newest_until<S: Alter>(
     ensures mode { conn.old.in_transaction ≡ false → conn.new.in_transaction ≡ false }
 {
     conn.query_all(
-        "SELECT born, gone, live, street, hop FROM version2 WHERE cust = ?1 AND kind = 92 AND id = ?2 AND born <= ?3 ORDER BY born DESC LIMIT 1",
+        "SELECT born, gone, live, street, hop, lang, body FROM version2 \
+         WHERE cust = ?1 AND kind = 92 AND id = ?2 AND born <= ?3 ORDER BY born DESC LIMIT 1",
         params![cust, id, volume],
+    )
+}
+
+/// `id`, and those of a custodian's rows behind an id and a volume, by rising ids and for each by
+/// rising births: at most so many.
+pub fn behind<S: Alter>(
+    conn: &mut Connection<S>,
+    cust: u32,
+    id: &str,
+    born: u32,
+    most: u32,
+) -> Result<Vec<Row>, Error>
+    ensures found { Finds S.Store conn.old conn.new versions result
+        (FindsCustodyBehind cust id.now born most) }
+    ensures stays { Stays S.Store conn.old conn.new result }
+    ensures open { WasOpen S.Store conn.old conn.new result }
+    ensures spared { Spares S.Store conn.old conn.new result }
+    ensures leaves { LeavesAsBefore S.Store conn.old conn.new }
+    ensures mode { conn.old.in_transaction ≡ false → conn.new.in_transaction ≡ false }
+{
+    conn.query_all(
+        "SELECT id, born, gone, live, street, hop, lang, body FROM version2 \
+         WHERE cust = ?1 AND kind = 92 AND id >= ?2 \
+         AND (id > ?2 OR born > ?3) ORDER BY id, born LIMIT ?4",
+        params![cust, id, born, most],
     )
 }

@@ -31,7 +31,8 @@ pub fn behind<S: Alter>(conn: &mut Connection<S>, after: &i64, most: u32) -> Res
     ensures mode { conn.old.in_transaction ≡ false → conn.new.in_transaction ≡ false }
 {
     conn.query_all(
-        "SELECT rowid, cust, kind, id, blpu, street, lang, live, born, gone, body, hop FROM version2 WHERE rowid > ?1 ORDER BY rowid LIMIT ?2",
+        "SELECT rowid, cust, kind, id, blpu, street, lang, live, born, gone, body, hop FROM version2 \
+         WHERE rowid > ?1 ORDER BY rowid LIMIT ?2",
         params![after, most],
     )
 }

@@ -24,7 +24,8 @@ pub fn newest<S: Alter>(
     ensures mode { conn.old.in_transaction ≡ false → conn.new.in_transaction ≡ false }
 {
     conn.query_all(
-        "SELECT born, gone, body FROM version2 WHERE cust = ?1 AND kind = ?2 AND id = ?3 ORDER BY born DESC LIMIT 1",
+        "SELECT born, gone, body FROM version2 \
+         WHERE cust = ?1 AND kind = ?2 AND id = ?3 ORDER BY born DESC LIMIT 1",
         params![cust, kind, id],
     )
 }
@@ -47,7 +48,8 @@ pub fn newest_until<S: Alter>(
     ensures mode { conn.old.in_transaction ≡ false → conn.new.in_transaction ≡ false }
 {
     conn.query_all(
-        "SELECT born, gone, body FROM version2 WHERE cust = ?1 AND kind = ?2 AND id = ?3 AND born <= ?4 ORDER BY born DESC LIMIT 1",
+        "SELECT born, gone, body FROM version2 \
+         WHERE cust = ?1 AND kind = ?2 AND id = ?3 AND born <= ?4 ORDER BY born DESC LIMIT 1",
         params![cust, kind, id, volume],
     )
 }
@@ -71,7 +73,8 @@ pub fn holding<S: Alter>(
     ensures mode { conn.old.in_transaction ≡ false → conn.new.in_transaction ≡ false }
 {
     conn.query_all(
-        "SELECT id, body FROM version2 WHERE cust = ?1 AND kind = ?2 AND id > ?3 AND born <= ?4 AND gone > ?4 ORDER BY id LIMIT ?5",
+        "SELECT id, body FROM version2 \
+         WHERE cust = ?1 AND kind = ?2 AND id > ?3 AND born <= ?4 AND gone > ?4 ORDER BY id LIMIT ?5",
         params![cust, kind, after, volume, most],
     )
 }
@@ -91,7 +94,8 @@ pub fn approved_of<S: Alter>(
     ensures mode { conn.old.in_transaction ≡ false → conn.new.in_transaction ≡ false }
 {
     conn.query_all(
-        "SELECT id, body FROM version2 WHERE cust = ?1 AND kind = 24 AND blpu = ?2 AND live = 1 AND gone = 1000000",
+        "SELECT id, body FROM version2 \
+         WHERE cust = ?1 AND kind = 24 AND blpu = ?2 AND live = 1 AND gone = 1000000",
         params![cust, blpu],
     )
 }
@@ -114,7 +118,8 @@ pub fn approved_on<S: Alter>(
     ensures mode { conn.old.in_transaction ≡ false → conn.new.in_transaction ≡ false }
 {
     conn.query_all(
-        "SELECT id, lang FROM version2 WHERE cust = ?1 AND kind = 24 AND street = ?2 AND live = 1 AND gone = 1000000 AND id > ?3 ORDER BY id LIMIT ?4",
+        "SELECT id, lang FROM version2 \
+         WHERE cust = ?1 AND kind = 24 AND street = ?2 AND live = 1 AND gone = 1000000 AND id > ?3 ORDER BY id LIMIT ?4",
         params![cust, street, after, most],
     )
 }
@@ -138,7 +143,8 @@ pub fn parts_of<S: Alter>(
     ensures mode { conn.old.in_transaction ≡ false → conn.new.in_transaction ≡ false }
 {
     conn.query_all(
-        "SELECT id FROM version2 WHERE cust = ?1 AND kind = ?2 AND blpu = ?3 AND gone = 1000000 AND id > ?4 ORDER BY id LIMIT ?5",
+        "SELECT id FROM version2 \
+         WHERE cust = ?1 AND kind = ?2 AND blpu = ?3 AND gone = 1000000 AND id > ?4 ORDER BY id LIMIT ?5",
         params![cust, kind, blpu, after, most],
     )
 }

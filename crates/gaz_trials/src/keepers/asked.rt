@@ -4,6 +4,7 @@ use gaz_ids::{Code, Lang, Uprn, Usrn, Volume};
 use gaz_keeper::{Inbox, Property, ShelfFault, Verdict};
 use gaz_records::{Key, Kind, SharedItem};
 use gaz_shelf::read_kind;
+use gaz_views::Custody;
 use std::alloc::Global;
 
 impl<K: Inbox + Drop> Tried<K> {
@@ -63,6 +64,27 @@ impl<K: Inbox + Drop> Tried<K> {
 
     pub(crate) fn children(&mut self, code: Code, uprn: Uprn) -> Result<bool, ShelfFault> {
         self.keeper.children(code, uprn)
+    }
+
+    pub(crate) fn custody(
+        &mut self,
+        code: Code,
+        uprn: Uprn,
+    ) -> Result<Option<Custody>, ShelfFault> {
+        self.keeper.custody(code, uprn)
+    }
+
+    pub(crate) fn custody_at(
+        &mut self,
+        code: Code,
+        volume: u64,
+        uprn: Uprn,
+    ) -> Result<Option<Custody>, ShelfFault> {
+        self.keeper.custody_at(code, volume, uprn)
+    }
+
+    pub(crate) fn tied(&mut self, code: Code, uprn: Uprn) -> Result<bool, ShelfFault> {
+        self.keeper.tied(code, uprn)
     }
 
     pub(crate) fn page(

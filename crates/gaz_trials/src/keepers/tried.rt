@@ -32,7 +32,7 @@ impl From<ShelfFault> for Refusal {
 #[derive(Drop)]
 pub(crate) struct Tried<K: Inbox + Drop> {
     pub(crate) keeper: K,
-    judged: Option<Code>,
+    pub(crate) judged: Option<Code>,
     ghost rests: { judged ≡ None → IsNotOpen (K.seen keeper).progress },
     ghost judges: { (c : ℕ) → judged ≡ Some c → (K.seen keeper).progress ≡ Open c },
 }

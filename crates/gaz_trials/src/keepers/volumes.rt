@@ -17,7 +17,11 @@ fn items(alloc: Global, rows: &[(Kind, &str)]) -> Result<Vec<SharedItem>, Fail> 
     Ok(items)
 }
 
-fn receives<K: Inbox + Drop>(shelf: &mut Tried<K>, code: u64, number: u64) -> Result<(), Fail> {
+pub(crate) fn receives<K: Inbox + Drop>(
+    shelf: &mut Tried<K>,
+    code: u64,
+    number: u64,
+) -> Result<(), Fail> {
     let (code, number) = (custodian(code)?, volume(number)?);
     shelf.receive(code, number, b"a file")?;
     Ok(())

@@ -1,21 +1,19 @@
-use Rattle.std.proofs.Common.{◌∙◌, subst}
 use Rattle.sqlite.specs.Held.{state}
 use Rattle.gaz_sql_facts.specs.Changes.{Changes}
 use Rattle.gaz_tables.proofs.Staying.{stays}
 use Rattle.gaz_tables.proofs.Steps.{clean_before}
 use Rattle.gaz_tables.specs.Schema.{versions}
-use Rattle.gaz_kept.specs.Keeping.{WritesAll, WritesKeys}
+use Rattle.gaz_kept.specs.Keeping.{WritesAll}
 use Rattle.gaz_kept.proofs.keeping.write_volume.Goals as goal
 
 pub returns-clause-written : goal.returns-clause-written
 returns-clause-written g c clean has =
     let old = (state g.S.Store c.args.tx.now.conn.now).now in
-    let mid = (state g.S.Store c.write_keys.new.tx.conn.now).now in
-    let one = c.in_ok-write_keys.ensures in
+    let mid = (state g.S.Store c.write_rows.new.tx.conn.now).now in
+    let one = c.in_ok-write_rows.ensures in
     let two = c.in_ok-mark_applied.ensures in
     let rows : Changes versions (WritesAll c.args.code c.args.volume c.args.changes.now) old mid =
-    subst (λ l. Changes versions (WritesKeys c.args.code c.args.volume c.args.changes.now l) old mid) (c.deref.ensures.value ∙ c.in_ok-keys.ensures)
-    (one.written (clean_before g.S.Store c.args.tx.now.conn.now c.write_keys.new.tx.conn.now c.mark_applied.new.tx.conn.now _ _ one.inside two.inside clean) has)
+    one.written (clean_before g.S.Store c.args.tx.now.conn.now c.write_rows.new.tx.conn.now c.mark_applied.new.tx.conn.now _ _ one.inside two.inside clean) has
     in
     record {
       between = mid;

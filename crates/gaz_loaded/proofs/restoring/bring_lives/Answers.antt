@@ -24,7 +24,7 @@ loop-init g c =
       as_many = λ d. refl;
       verdicts = λ d v. refl;
       stays = λ _ _. refl;
-      hand = λ _ _ _ bare. hand_none (g.L.Listed.lives c.args.lower.now) k.board bare;
+      hand = λ _ _ _ has. hand_none (g.L.Listed.lives c.args.lower.now) (g.L.Listed.passages c.args.lower.now) k.board has;
     }
 
 pub returns-in_default-clause-brings : goal.returns-in_default-clause-brings
@@ -42,11 +42,11 @@ returns-in_default-clause-brings g c =
       files = inv.files;
       as_many = inv.as_many;
       verdicts = inv.verdicts;
-      views = λ stood fine as_many bare q t le.
+      views = λ stood fine as_many has q t le.
           let mid = reads.keeps.harm fine in
           let told = subst (λ l. AreNext c.loop.place l lives) (inv.stays stood mid) (c.in_ok-lives.ensures.tells.reads.right (inv.reads.keeps.stands stood mid) fine) in
           let many : reached m.board q ≡ reached a.content.board q = inv.as_many q ∙ as_many q in
-          all_are c.loop.place all a.content.board m.board (g.met.L.Listed.made c.args.lower.now stood) (inv.hand stood mid as_many bare) (told.none is) q t le (subst (λ n. t ≤ n) many le);
+          all_are c.loop.place all (g.L.Listed.passages c.args.lower.now) a.content.board m.board (g.met.L.Listed.made c.args.lower.now stood) (inv.hand stood mid as_many has) (told.none is) q t le (subst (λ n. t ≤ n) many le);
     }
 
 pub loop-preserved : goal.loop-preserved
@@ -74,9 +74,9 @@ loop-preserved g c =
       stays = λ stood fine.
           let mid = reads.keeps.harm fine in
           c.in_ok-lives.ensures.tells.stays (inv.reads.keeps.stands stood mid) fine ∙ inv.stays stood mid;
-      hand = λ stood fine as_many bare.
+      hand = λ stood fine as_many has.
           let mid = reads.keeps.harm fine in
           let told = subst (λ l. AreNext c.loop.place l lives) (inv.stays stood mid) (c.in_ok-lives.ensures.tells.reads.right (inv.reads.keeps.stands stood mid) fine) in
-          subst (λ p. AreAtHand (Some p) all n.board) (sym (to_z-of_z w64 c.in-Some.last.now.place fits))
-          (hand_next c.loop.place all a.content.board m.board n.board lives c.in-Some.last.now is (g.met.L.Listed.made c.args.lower.now stood) (λ q. inv.as_many q ∙ as_many q) (inv.hand stood mid as_many bare) told.in_turn restored);
+          subst (λ p. AreAtHand (Some p) all (g.L.Listed.passages c.args.lower.now) n.board) (sym (to_z-of_z w64 c.in-Some.last.now.place fits))
+          (hand_next c.loop.place all (g.L.Listed.passages c.args.lower.now) a.content.board m.board n.board lives c.in-Some.last.now is (g.met.L.Listed.made c.args.lower.now stood) (λ q. inv.as_many q ∙ as_many q) (inv.hand stood mid as_many has) told.in_turn restored);
     }

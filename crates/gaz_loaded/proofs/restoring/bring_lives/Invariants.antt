@@ -5,7 +5,7 @@ use Rattle.gaz_keeper.specs.Keeper.{Idle}
 use Rattle.gaz_shelf.specs.Mem.{content_in, seen_in}
 use Rattle.gaz_loaded.specs.Files.{OnlyReads}
 use Rattle.gaz_loaded.specs.Lives.{AreAtHand}
-use Rattle.gaz_loaded.specs.Restoring.{IsBare}
+use Rattle.gaz_loaded.specs.Restoring.{HasPassages}
 use Rattle.gaz_loaded.proofs.restoring.bring_lives.Given as goal
 
 abbrev pub invariant-loop : goal.invariant-loop
@@ -21,6 +21,6 @@ invariant-loop g l =
       as_many : (c : ℕ) → reached m.board c ≡ reached k.board c;
       verdicts : (c v : ℕ) → verdict_on m.board c v ≡ verdict_on k.board c v;
       stays : a.stands → b.unharmed → g.L.Listed.lives l.lower ≡ g.L.Listed.lives l.fn.lower;
-      hand : a.stands → b.unharmed → ((c : ℕ) → reached k.board c ≡ reached a.content.board c) → IsBare k.board
-          → AreAtHand l.place (g.L.Listed.lives l.fn.lower) m.board;
+      hand : a.stands → b.unharmed → ((c : ℕ) → reached k.board c ≡ reached a.content.board c) → ((c : ℕ) → HasPassages (g.L.Listed.passages l.fn.lower c) k.board c)
+          → AreAtHand l.place (g.L.Listed.lives l.fn.lower) (g.L.Listed.passages l.fn.lower) m.board;
     }

@@ -5,4 +5,4 @@ use Rattle.gaz_store.specs.Streets.{names_left}
 use Rattle.gaz_store.proofs.steps.any_names.Given as goal
 
 abbrev pub invariant-loop-row : goal.invariant-loop-row
-invariant-loop-row l = list_any (names_left (option_map (λ c. c.now) l.passed)) (take l.row-index l.rows) ≡ false
+invariant-loop-row l = list_any (names_left l.kind (option_map (λ c. c.now) l.passed)) (take l.row-index l.rows) ≡ false

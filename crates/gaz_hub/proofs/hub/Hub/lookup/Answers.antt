@@ -4,7 +4,7 @@ use Rattle.gaz_extract.proofs.Readings.{looks_as}
 use Rattle.gaz_hub.specs.Hubs.{door_of}
 use Rattle.gaz_hub.specs.Seen.{kept_seen}
 use Rattle.gaz_hub.specs.Step.{LookUp}
-use Rattle.gaz_hub.proofs.AskingOwner.{owner_steps}
+use Rattle.gaz_hub.proofs.AskingHolder.{holder_steps}
 use Rattle.gaz_hub.proofs.Memory.{looks_called}
 use Rattle.gaz_hub.proofs.Replying.{answered_door}
 use Rattle.gaz_hub.proofs.hub.Hub.lookup.Goals as goal
@@ -12,7 +12,7 @@ use Rattle.gaz_hub.proofs.hub.Hub.lookup.Goals as goal
 pub returns-clause-steps : goal.returns-clause-steps
 returns-clause-steps g c =
     let hub = c.args.self.now in
-    owner_steps (kept_seen g.K.Shelf.seen hub.register) hub.register c.args.uprn _ (hub.keeper, hub.waiters) (c.answered.new.keeper, c.answered.new.waiters) c.answered.result c.custodians-custodians.ensures.lawful c.answered.ensures.answers
+    holder_steps (kept_seen g.K.Shelf.seen hub.register) hub.register c.args.uprn _ (hub.keeper, hub.waiters) (c.answered.new.keeper, c.answered.new.waiters) c.answered.result c.custodians-custodians.ensures.lawful c.answered.ensures.answers
     (λ mid r called. looks_called g.K.Shelf.seen hub.register _ _ _ _ _ called (rw (← called.called.shows, ← called.called.leaves) (looks_as _ _ _ _ _ (λ x is. is) (search rules))))
 
 pub returns-clause-door : goal.returns-clause-door

@@ -15,15 +15,15 @@ returns-in-Some c =
     let ds = c.self.inside.verdicts.items in
     let g = c.self.inside.histories in
     let v = view_at g c.args.volume in
-    let finds = finds_from ds g c.self.inside.index c.self.inside.touched.items c.args.self.now c.self.invariant c.self.view_is c.args.volume c.requires in
+    let finds = finds_from ds g c.self.inside.custodies c.self.inside.index c.self.inside.touched.items c.args.self.now c.self.invariant.0 c.self.view_is c.args.volume c.requires in
     c.any_marked.ensures ∙ any_under c.self.inside.index (entries v) c.args.mark (view_ascends v) finds (listed c.in-Some.keys.now) (in_key_order _ c.in_order.ensures) c.in-Some.ensures
-    ∙ ap (λ (w : View). list_any (λ e. has_mark c.args.mark e.1) (entries w)) (seen ds g c.args.self.now c.self.invariant.within c.self.view_is c.args.volume)
+    ∙ ap (λ (w : View). list_any (λ e. has_mark c.args.mark e.1) (entries w)) (seen ds g c.self.inside.custodies c.args.self.now (c.self.invariant.0.within, c.self.invariant.1.within) c.self.view_is c.args.volume)
 
 pub returns-in-None : goal.returns-in-None
 returns-in-None c =
     let ds = c.self.inside.verdicts.items in
     let g = c.self.inside.histories in
     let v = view_at g c.args.volume in
-    let finds = finds_from ds g c.self.inside.index c.self.inside.touched.items c.args.self.now c.self.invariant c.self.view_is c.args.volume c.requires in
+    let finds = finds_from ds g c.self.inside.custodies c.self.inside.index c.self.inside.touched.items c.args.self.now c.self.invariant.0 c.self.view_is c.args.volume c.requires in
     none_under c.self.inside.index (entries v) c.args.mark (view_ascends v) finds c.in-None.ensures
-    ∙ ap (λ (w : View). list_any (λ e. has_mark c.args.mark e.1) (entries w)) (seen ds g c.args.self.now c.self.invariant.within c.self.view_is c.args.volume)
+    ∙ ap (λ (w : View). list_any (λ e. has_mark c.args.mark e.1) (entries w)) (seen ds g c.self.inside.custodies c.args.self.now (c.self.invariant.0.within, c.self.invariant.1.within) c.self.view_is c.args.volume)

@@ -7,4 +7,4 @@ use Rattle.gaz_ledger.proofs.ledger.Ledger.was_used.Goals as goal
 pub returns : goal.returns
 returns c =
     c.was_used.ensures ∙ sym (contains_at c.self.inside.histories c.args.volume c.args.key.now)
-    ∙ ap (λ (w : View). was_used w c.args.key.now) (seen c.self.inside.verdicts.items c.self.inside.histories c.args.self.now c.self.invariant.within c.self.view_is c.args.volume)
+    ∙ ap (λ (w : View). was_used w c.args.key.now) (seen c.self.inside.verdicts.items c.self.inside.histories c.self.inside.custodies c.args.self.now (c.self.invariant.0.within, c.self.invariant.1.within) c.self.view_is c.args.volume)

@@ -12,7 +12,8 @@ returns-in-Err-clause-err c =
     let fresh = ap (λ (a : Changes). is_touched a k) c.self.view_is ∙ c.requires in
     let again : c.forget.new.self ≡ c.self.inside.touches =
     c.forget.ensures ∙ ap (λ (m : Touched). finite.remove m k) (touches ∙ c.in_ok-note.ensures.ok) ∙ forgotten c.self.inside.touches k (record { stood = c.args.stood; last = _ }) fresh in
-    (λ i. record { view = views i; touched = again i }) ∙ c.self.view_is
+    let passes : c.self-2.inside.passes ≡ c.self.inside.passes = ap (λ (a : Changes). a.passed) c.self-2.view_is ∙ c.in-Err.ensures.passed in
+    (λ i. record { view = views i; touched = again i; passed = passes i }) ∙ c.self.view_is
 
 pub returns-clause-touched : goal.returns-clause-touched
 returns-clause-touched c =

@@ -1,5 +1,5 @@
 use Rattle.gaz_store.proofs.Opens.{open_where_done}
-use Rattle.gaz_store.proofs.StoreGoes.{received}
+use Rattle.gaz_store.proofs.StoreCalls.{received}
 use Rattle.gaz_store.proofs.inbox.StoreInbox.receive.Goals as goal
 
 pub returns-clause-enters : goal.returns-clause-enters

@@ -1,4 +1,4 @@
-use Rattle.gaz_store.proofs.StoreGoes.{abandons}
+use Rattle.gaz_store.proofs.StoreCalls.{abandons}
 use Rattle.gaz_store.proofs.shelf.StoreShelf.abandon.Goals as goal
 
 pub returns : goal.returns

@@ -1,4 +1,4 @@
-use Rattle.gaz_store.proofs.StoreGoes.{begins}
+use Rattle.gaz_store.proofs.StoreCalls.{begins}
 use Rattle.gaz_store.proofs.shelf.StoreShelf.begin.Goals as goal
 
 pub returns : goal.returns

@@ -1,5 +1,5 @@
 use Rattle.std.proofs.Common.{◌∙◌, sym}
-use Rattle.gaz_store.proofs.StoreGoes.{keeps, keeps_not}
+use Rattle.gaz_store.proofs.StoreCalls.{keeps, keeps_not}
 use Rattle.gaz_store.proofs.shelf.StoreShelf.keep.Goals as goal
 
 pub returns-in-Ok-clause-keeps : goal.returns-in-Ok-clause-keeps

@@ -1,5 +1,5 @@
 use Rattle.std.proofs.Common.{◌≤◌, arith}
-use Rattle.gaz_store.proofs.StoreGoes.{skipped}
+use Rattle.gaz_store.proofs.StoreCalls.{skipped}
 use Rattle.gaz_store.proofs.shelf.StoreShelf.skip.Goals as goal
 
 pub returns : goal.returns

@@ -1,7 +1,7 @@
 use Rattle.std.proofs.Common.{◌∙◌, sym}
 use Rattle.gaz_views.proofs.Lawful.{lawful_taken}
 use Rattle.gaz_views.specs.View.{without_key}
-use Rattle.gaz_store.proofs.StoreGoes.{breaks, turns}
+use Rattle.gaz_store.proofs.StoreCalls.{breaks, turns}
 use Rattle.gaz_store.proofs.shelf.StoreShelf.take.Goals as goal
 
 pub returns-in-Ok-clause-sets : goal.returns-in-Ok-clause-sets

@@ -9,4 +9,4 @@ use Rattle.gaz_store.proofs.tables.Tables.left_part.Given as goal
 -- what is asked for comes behind the id at which the next page begins
 abbrev pub invariant-pages : goal.invariant-pages
 invariant-pages g l =
-    AsksTables l.fn.self l.self (Ok l.start) (λ db start. AreBehind (is_left_part l.uprn (option_map (λ c. c.now) l.passed)) (last_in db l.code) (string_bytes start))
+    AsksTables l.fn.self l.self (Ok l.start) (λ db start. AreBehind (is_left_part l.kind l.uprn (option_map (λ c. c.now) l.passed)) (last_in db l.code) (string_bytes start))

@@ -7,5 +7,5 @@ use Rattle.gaz_store.proofs.tables.Tables.page_behind.Goals as goal
 pub returns-in-Ok : goal.returns-in-Ok
 returns-in-Ok g c =
     answered_ok _ _ _ c.in_ok-rows.rows c.in-Ok.items _ _ c.holding_all.ensures c.in_ok-rows.was (λ db kept found.
-    page_on_board db kept c.args.code c.args.volume c.args.kind c.args.start.now c.args.most c.in_ok-rows.rows.items found c.in-Ok.items.items
+    page_on_board db kept c.args.code c.args.volume c.args.kind c.requires c.args.start.now c.args.most c.in_ok-rows.rows.items found c.in-Ok.items.items
     (subst (λ rows. SayItems c.args.kind rows c.in-Ok.items.items) c.deref.ensures.value c.in-Ok.ensures))

@@ -1,6 +1,7 @@
 use Rattle.std.proofs.Common.{◌≡◌, arith, pos, refl, w64}
 use Rattle.std.proofs.lemmas.Int.{ints}
 use mir.Val.{to_z}
+use Rattle.gaz_records.specs.Kinds.{number_of}
 use Rattle.gaz_tables.specs.Schema.{versions}
 use Rattle.gaz_tables.specs.Versions.{FindsParts}
 use Rattle.gaz_store.proofs.Composing.{query_asks}
@@ -9,7 +10,7 @@ use Rattle.gaz_store.proofs.tables.Tables.part_rows.Goals as goal
 pub returns-clause-asks : goal.returns-clause-asks
 returns-clause-asks g c =
     let blpu : to_z w64 c.number.result ≡ pos c.args.uprn = omega (arith, ints, c.number.ensures.value, c.number.ensures.range) in
-    query_asks _ _ _ _ _ _ _ (λ db rows. FindsParts c.args.code 21 (pos c.args.uprn) c.args.start.now c.args.most (db.trees versions) rows.items)
+    query_asks _ _ _ _ _ _ _ (λ db rows. FindsParts c.args.code (number_of c.args.kind) (pos c.args.uprn) c.args.start.now c.args.most (db.trees versions) rows.items)
     c.make_sure.ensures.asks (c.make_sure.new.self.is_open c.in_ok-make_sure.ensures.sure) c.known.ensures
-    (rw (c.number-cust.ensures.value, blpu) at c.parts_of-found.ensures.found) c.parts_of-found.ensures.stays c.parts_of-found.ensures.spared c.parts_of-found.ensures.leaves
+    (rw (c.number-cust.ensures.value, c.number-kind.ensures, blpu) at c.parts_of-found.ensures.found) c.parts_of-found.ensures.stays c.parts_of-found.ensures.spared c.parts_of-found.ensures.leaves
     refl refl c.told.ensures.tells

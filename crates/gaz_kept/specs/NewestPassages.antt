@@ -1,0 +1,78 @@
+-- What a query for a number's newest passage tells, and what it says of the key of its BLPU.
+use Rattle.std.specs.Prelude.{◌≡◌, ℕ, pos, List, [], ◌∷◌, Option, Some, None}
+use Rattle.std.specs.Prelude.{option_map}
+use Rattle.sqlite.specs.declared.types.Value.TheVariants.{Int, Text}
+use Rattle.sqlite.specs.Order.{Row, column}
+use Rattle.sqlite_rules.specs.Lists.{Has}
+use Rattle.gaz_ids.specs.Numbers.{of_id}
+use Rattle.gaz_views.specs.declared.custody.Custody.{Custody}
+use Rattle.gaz_cells.specs.Custody.{custody_told}
+use Rattle.gaz_overlay.specs.Passages.{PassageRow}
+use Rattle.gaz_overlay.specs.Rows.{never}
+use Rattle.gaz_overlay.specs.declared.touch.Stood.{Stood}
+use Rattle.gaz_overlay.specs.declared.touch.Stood.TheVariants.{Past}
+use Rattle.gaz_kept.specs.Newest.{stood_by}
+use Rattle.gaz_kept.specs.Versions.{number_in}
+use Rattle.gaz_kept.specs.declared.newest.Life.{Life}
+use Rattle.gaz_kept.specs.declared.passages.Passed.{Passed}
+
+-- ---- what an answer says
+
+-- taken or given up, the other custodian's code and the hop, of a row of born, gone, live, street,
+-- hop, lang and body
+abbrev pub custody_shown_in : Row → Option Custody
+custody_shown_in r =
+    custody_told (number_in (column r 2)) (of_id 1 9999 (number_in (column r 3)))
+    (of_id 1 9999 (number_in (column r 4)))
+
+-- no language and no text stand beside it
+pub record IsBare (r : Row) : Type 0 where
+  pub language : column r 5 ≡ Int (pos 0)
+  pub body : column r 6 ≡ Text []
+
+pub record SaysPassed (r : Row) (passed : Passed) : Type 0 where
+  pub born : column r 0 ≡ Int (pos passed.born)
+  pub custody : custody_shown_in r ≡ Some passed.custody
+  pub bare : IsBare r
+
+-- the first row
+abbrev pub SaysPassage : List Row → Option Passed → Type 0
+SaysPassage [] passed = passed ≡ None
+SaysPassage (r ∷ rows) None = ⊥
+SaysPassage (r ∷ rows) (Some passed) = SaysPassed r passed
+
+-- the passage that it tells of is this row of the number
+pub record IsPassedRow (uprn : ℕ) (passed : Passed) (p : PassageRow) : Type 0 where
+  pub of_number : p.uprn ≡ uprn
+  pub born : p.born ≡ passed.born
+  pub custody : p.custody ≡ passed.custody
+
+-- or it tells of none
+abbrev pub TellsPassage : ℕ → Option Passed → Option PassageRow → Type 0
+TellsPassage uprn None None = Unit {0}
+TellsPassage uprn None (Some p) = ⊥
+TellsPassage uprn (Some passed) None = ⊥
+TellsPassage uprn (Some passed) (Some p) = IsPassedRow uprn passed p
+
+-- ---- what of it holds
+
+abbrev pub custody_of : Option Passed → Option Custody
+custody_of passed = option_map (λ p. p.custody) passed
+
+-- in which volume the newest passage was born
+abbrev pub born_of : Option Passed → Option ℕ
+born_of passed = option_map (λ p. p.born) passed
+
+-- what stands at the key of a BLPU, of its newest row and the number's newest passage
+abbrev pub stood_with : Option Life → Option Passed → Stood
+stood_with None (Some passed) = Past
+stood_with None None = stood_by None
+stood_with (Some life) passed = stood_by (Some life)
+
+-- a number's current passage was born in a volume
+pub record HasPassage (rows : List PassageRow) (uprn volume : ℕ) : Type 0 where
+  pub row : PassageRow
+  pub there : Has rows row
+  pub of_number : row.uprn ≡ uprn
+  pub of_birth : row.born ≡ volume
+  pub is_current : row.gone ≡ never

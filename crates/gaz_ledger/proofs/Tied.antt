@@ -1,0 +1,239 @@
+-- Keys under the BLPU that their items name, and what goes on being found under it.
+use Rattle.std.proofs.Common.{◌≡◌, ◌⊎◌, ◌≤◌, ◌<◌, ◌+◌, ◌||◌, ℕ, Bool, true, false, cond, List, [], ◌∷◌, ◌++◌, refl, sym, ap, subst, ◌∙◌, arith, eqb-true, eq-eqb, inl, inr}
+use Rattle.std.specs.Prelude.{◌==◌, Option, Some, None, is_some}
+use Rattle.std.proofs.lemmas.Bool.{cases_lt}
+use Rattle.std.specs.Cmp.{eq_by_cmp_equiv}
+use Rattle.std.specs.FinMap as finite
+use Rattle.std.specs.FinMap.{find}
+use Rattle.std.specs.Global.{Vec}
+use Rattle.std.specs.List.{list_any}
+use Rattle.std.specs.Map.{lookup}
+use Rattle.std.specs.Option.{option_and_then, option_map_or}
+use Rattle.std.specs.Ordering.{eq_by_cmp}
+use Rattle.gaz_histories.specs.Histories.{before, standing_at}
+use Rattle.gaz_records.proofs.KeyOrder.{keys_total}
+use Rattle.gaz_records.specs.Keys.{key_cmp}
+use Rattle.gaz_records.specs.declared.item.Item.{Item}
+use Rattle.gaz_records.specs.declared.item.Item.TheVariants as item
+use Rattle.gaz_records.specs.declared.key.Key.{Key}
+use Rattle.gaz_views.proofs.SameKeys.{same_key}
+use Rattle.gaz_views.specs.View.{View}
+use Rattle.gaz_views.specs.Words.{entries, names, tied}
+use Rattle.gaz_ledger.proofs.Judgements.{IsWithin, later_view}
+use Rattle.gaz_ledger.proofs.KeyHistories.{alike_at, get_at, item_now, row_at, view_ascends}
+use Rattle.gaz_ledger.proofs.KeyOrders.{noted}
+use Rattle.gaz_ledger.proofs.Stored.{was_nowhere}
+use Rattle.gaz_ledger.proofs.Passing.{Row, has, held, is_cons, passing, some_keys, some_kept}
+use Rattle.gaz_ledger.proofs.Versions.{item_set, last, until_set}
+use Rattle.gaz_ledger.specs.Changing.{SetsAt}
+use Rattle.gaz_ledger.specs.Indexes.{has_key}
+use Rattle.gaz_ledger.specs.KeyHistories.{HasTheKeysOf, ItemVersions, KeyHistories, versions_at, view_at}
+use Rattle.gaz_ledger.specs.Ties.{AddsTie, AreTies, FindsTies, IsTiedTo, KeepsTies, NotesTie, is_tied, keys_tied, may_tie, named_at, named_by, names_at}
+use Rattle.gaz_ledger.specs.declared.tied_keys.TiedKeys.{TiedKeys}
+use Rattle.gaz_ledger.specs.declared.ties.Ties.{Ties}
+
+-- ---- a key added under a BLPU
+
+abbrev Sets : Type 0
+Sets = List (ℕ × Vec Key)
+
+abbrev stored : Sets → ℕ → Option (Vec Key)
+stored es n = lookup (λ m. n == m) es
+
+abbrev pub items_of : Option (Vec Key) → List Key
+items_of o = option_map_or (λ ks. ks.items) o []
+
+pub added : (es fs : Sets) (uprn : ℕ) (vs : Vec Key) (key : Key) → ((q : ℕ) → stored fs q ≡ cond (uprn == q) (Some vs) (stored es q)) → vs.items ≡ items_of (stored es uprn) ++ key ∷ []
+    → (n : ℕ) → items_of (stored fs n) ≡ cond (uprn == n) (items_of (stored es n) ++ key ∷ []) (items_of (stored es n))
+added es fs uprn vs key h is n = ap items_of (h n) ∙ by_test (uprn == n) refl
+  where
+    by_test : (b : Bool) → (uprn == n) ≡ b → items_of (cond b (Some vs) (stored es n)) ≡ cond b (items_of (stored es n) ++ key ∷ []) (items_of (stored es n))
+    by_test true at = is ∙ ap (λ m. items_of (stored es m) ++ key ∷ []) (eqb-true uprn n at)
+    by_test false at = refl
+
+or_true : (a : Bool) → (a || true) ≡ true
+or_true true = refl
+or_true false = refl
+
+module _ (x y : TiedKeys) (uprn : ℕ) (key : Key) (h : AddsTie x y uprn key) where
+  pub more_tied : KeepsTies x y
+  more_tied n k under = ap (λ l. has_key l k) (h n) ∙ by_test (uprn == n)
+    where
+      by_test : (b : Bool) → has_key (cond b (keys_tied x n ++ key ∷ []) (keys_tied x n)) k ≡ true
+      by_test true = noted (keys_tied x n) (keys_tied x n) (keys_tied x n ++ key ∷ []) key refl refl k ∙ ap (λ b. eq_by_cmp key_cmp key k || b) under ∙ or_true (eq_by_cmp key_cmp key k)
+      by_test false = under
+
+  pub now_tied : IsTiedTo y (Some uprn) key
+  now_tied n is =
+      let same : uprn ≡ n = cc in
+      ap (λ l. has_key l key) (h n) ∙ ap (λ b. has_key (cond b (keys_tied x n ++ key ∷ []) (keys_tied x n)) key) (eq-eqb uprn n same)
+      ∙ noted (keys_tied x n) (keys_tied x n) (keys_tied x n ++ key ∷ []) key refl refl key ∙ ap (λ b. b || has_key (keys_tied x n) key) ((eq_by_cmp_equiv keys_total).refl key)
+
+-- ---- what may be under a BLPU
+
+-- before they are counted
+pub may_all : (t : Ties) → t.counted ≡ None → (n : ℕ) (k : Key) → may_tie t n k ≡ true
+may_all t none n k = ap (λ (o : Option TiedKeys). option_map_or (λ ks. is_tied ks n k) o true) none
+
+pub ties_none : (t : Ties) (g : KeyHistories) (v w : ℕ) → t.counted ≡ None → AreTies t g v w
+ties_none t g v w none = ((λ n k is. may_all t none n k), (λ n k is. may_all t none n k))
+
+pub notes_none : (t s : Ties) (o : Option Item) (key : Key) → s.counted ≡ None → NotesTie t s o key
+notes_none t s o key none = record { kept = λ n k may. may_all s none n k; noted = λ n is. may_all s none n key }
+
+-- once they are
+pub may_some : (t : Ties) (x : TiedKeys) → t.counted ≡ Some x → (n : ℕ) (k : Key) → may_tie t n k ≡ is_tied x n k
+may_some t x some n k = ap (λ (o : Option TiedKeys). option_map_or (λ ks. is_tied ks n k) o true) some
+
+pub ties_some : (t : Ties) (x : TiedKeys) (g : KeyHistories) (v w : ℕ) → t.counted ≡ Some x → ((k : Key) → IsTiedTo x (named_at g v k) k) → ((k : Key) → IsTiedTo x (named_at g w k) k) → AreTies t g v w
+ties_some t x g v w some first next = ((λ n k is. may_some t x some n k ∙ first k n is), (λ n k is. may_some t x some n k ∙ next k n is))
+
+pub notes_some : (t s : Ties) (x y : TiedKeys) (o : Option Item) (key : Key) → t.counted ≡ Some x → s.counted ≡ Some y → KeepsTies x y → IsTiedTo y (option_and_then named_by o) key → NotesTie t s o key
+notes_some t s x y o key was now kept tied = record {
+  kept = λ n k may. may_some s y now n k ∙ kept n k (sym (may_some t x was n k) ∙ may);
+  noted = λ n is. may_some s y now n key ∙ tied n is;
+}
+
+pub notes_nothing : (t : Ties) (key : Key) → NotesTie t t None key
+notes_nothing t key = record { kept = λ n k may. may; noted = λ n is. cc }
+
+-- ---- all items gone through
+
+abbrev pub Done : TiedKeys → KeyHistories → ℕ → Key → Type 0
+Done x g v k = IsTiedTo x (named_at g v k) k × IsTiedTo x (named_at g (v + 1) k) k
+
+-- each of all keys is among the rest, or done
+abbrev pub Left : TiedKeys → KeyHistories → ℕ → (all rest : List Key) → Type 0
+Left x g v all rest = (k : Key) → has_key all k ≡ true → (has_key rest k ≡ true) ⊎ Done x g v k
+
+pub left_next : (x y : TiedKeys) (g : KeyHistories) (v : ℕ) (key : Key) (all rest more : List Key) → rest ≡ key ∷ more → KeepsTies x y → IsTiedTo y (named_at g v key) key → IsTiedTo y (named_at g (v + 1) key) key → Left x g v all rest → Left y g v all more
+left_next x y g v key all rest more is kept first next left k there = by_left (left k there)
+  where
+    by_key : (b : Bool) → eq_by_cmp key_cmp k key ≡ b → (b || has_key more k) ≡ true → (has_key more k ≡ true) ⊎ Done y g v k
+    by_key true at e = inr (subst (λ (q : Key). Done y g v q) (sym (same_key k key at)) (first, next))
+    by_key false at e = inl e
+
+    by_left : (has_key rest k ≡ true) ⊎ Done x g v k → (has_key more k ≡ true) ⊎ Done y g v k
+    by_left (inl e) = by_key (eq_by_cmp key_cmp k key) refl (ap (λ (l : List Key). has_key l k) (sym is) ∙ e)
+    by_left (inr done) = inr ((λ n named. kept n k (done.0 n named)), (λ n named. kept n k (done.1 n named)))
+
+pub left_none : (x : TiedKeys) (g : KeyHistories) (v : ℕ) (all rest : List Key) (es : List (Key × ItemVersions)) → finite.from_entries es ≡ g → HasTheKeysOf all es → rest ≡ [] → Left x g v all rest → (k : Key) → Done x g v k
+left_none x g v all rest es is keys none left k = by_stored (lookup (eq_by_cmp key_cmp k) es) refl
+  where
+    by_left : (has_key rest k ≡ true) ⊎ Done x g v k → Done x g v k
+    by_left (inl e) = let no : false ≡ true = ap (λ (l : List Key). has_key l k) (sym none) ∙ e in cc
+    by_left (inr done) = done
+
+    nothing : lookup (eq_by_cmp key_cmp k) es ≡ None → (w : ℕ) → IsTiedTo x (named_at g w k) k
+    nothing at w n named =
+        let no : None ≡ Some n = ap (λ (vs : ItemVersions). option_and_then named_by (standing_at vs w)) (was_nowhere g es k is at) ∙ named in
+        cc
+
+    by_stored : (o : Option ItemVersions) → lookup (eq_by_cmp key_cmp k) es ≡ o → Done x g v k
+    by_stored None at = (nothing at v, nothing at (v + 1))
+    by_stored (Some vs) at = by_left (left k (keys k (ap is_some at)))
+
+-- ---- what goes on being found
+
+pub ties_kept : (t s : Ties) (g : KeyHistories) (v w : ℕ) (o : Option Item) (key : Key) → NotesTie t s o key → AreTies t g v w → AreTies s g v w
+ties_kept t s g v w o key notes ties = ((λ n k is. notes.kept n k (ties.0 n k is)), (λ n k is. notes.kept n k (ties.1 n k is)))
+
+pub ties_set : (t s : Ties) (g h : KeyHistories) (m : ℕ) (o : Option Item) (key : Key) → NotesTie t s o key → SetsAt g h (m + 1) key o → AreTies t g m (m + 1) → AreTies s h m (m + 1)
+ties_set t s g h m o key notes change ties = (last_found, working_found)
+  where
+    vs : List (ℕ × Option Item)
+    vs = before (versions_at g key) (m + 1) ++ (m + 1, o) ∷ []
+
+    last_found : FindsTies s h m
+    last_found n k is =
+        let alike = alike_at g h key vs change (λ ws. standing_at ws m) (ap last (until_set (versions_at g key) (m + 1) m o (omega arith))) k in
+        notes.kept n k (ties.0 n k (ap (option_and_then named_by) (sym alike) ∙ is))
+
+    working_found : FindsTies s h (m + 1)
+    working_found n k is = by_key (eq_by_cmp key_cmp k key) refl (ap (option_and_then named_by) (sym now) ∙ is)
+      where
+        now : standing_at (versions_at h k) (m + 1) ≡ cond (eq_by_cmp key_cmp k key) o (standing_at (versions_at g k) (m + 1))
+        now = item_now g h key vs change (m + 1) k ∙ ap (λ p. cond (eq_by_cmp key_cmp k key) p (standing_at (versions_at g k) (m + 1))) (item_set (versions_at g key) (m + 1) o)
+
+        by_key : (b : Bool) → eq_by_cmp key_cmp k key ≡ b → option_and_then named_by (cond b o (standing_at (versions_at g k) (m + 1))) ≡ Some n → may_tie s n k ≡ true
+        by_key true at named = ap (may_tie s n) (same_key k key at) ∙ notes.noted n named
+        by_key false at named = notes.kept n k (ties.1 n k named)
+
+-- ---- what is found is what the view has
+
+names_named : (uprn : ℕ) (i : Item) → option_map_or (λ n. n == uprn) (named_by i) false ≡ names uprn i
+names_named uprn (item.Lpi l) = refl
+names_named uprn (item.Xref x) = refl
+names_named uprn (item.Street s) = refl
+names_named uprn (item.Descriptor d) = refl
+names_named uprn (item.Blpu b) = refl
+names_named uprn (item.Release r) = refl
+names_named uprn (item.Adopt a) = refl
+
+-- the row of a key names what its item names
+names_row : (g : KeyHistories) (v uprn : ℕ) (k : Key) → names_at g v uprn k ≡ option_map_or (names uprn) (find key_cmp k (entries (view_at g v))) false
+names_row g v uprn k = of_item (standing_at (versions_at g k) v) ∙ ap (λ o. option_map_or (names uprn) o false) (row_at g v k)
+  where
+    of_item : (o : Option Item) → option_map_or (λ n. n == uprn) (option_and_then named_by o) false ≡ option_map_or (names uprn) o false
+    of_item None = refl
+    of_item (Some i) = names_named uprn i
+
+-- a name that is there is that of this BLPU
+named_one : (uprn : ℕ) (o : Option ℕ) → option_map_or (λ n. n == uprn) o false ≡ true → o ≡ Some uprn
+named_one uprn None e = cc
+named_one uprn (Some n) e = ap Some (eqb-true n uprn e)
+
+some_same : {A : Type 0} (p q : A → Bool) → ((a : A) → p a ≡ q a) → (xs : List A) → list_any p xs ≡ list_any q xs
+some_same p q h [] = refl
+some_same p q h (x ∷ xs) = λ i. h x i || some_same p q h xs i
+
+none_in : (ks : List Key) → list_any (has []) ks ≡ false
+none_in [] = refl
+none_in (k ∷ ks) = none_in ks
+
+-- where one of these keys is there, one of those is among them
+one_in : (z : Key) (zs ks : List Key) → has ks z ≡ true → list_any (has (z ∷ zs)) ks ≡ true
+one_in z zs [] e = e
+one_in z zs (k ∷ ks) e = by_test (one_in z zs ks) (eq_by_cmp key_cmp z k) refl e
+  where
+    by_test : (has ks z ≡ true → list_any (has (z ∷ zs)) ks ≡ true) → (b : Bool) → eq_by_cmp key_cmp z k ≡ b → (b || has ks z) ≡ true → (has (z ∷ zs) k || list_any (has (z ∷ zs)) ks) ≡ true
+    by_test rest true at there = ap (λ b. (b || has zs k) || list_any (has (z ∷ zs)) ks) ((eq_by_cmp_equiv keys_total).symm k z ∙ at)
+    by_test rest false at there = ap (λ b. has (z ∷ zs) k || b) (rest there) ∙ or_true (has (z ∷ zs) k)
+
+any_in : (zs ks : List Key) → ((k : Key) → has zs k ≡ true → has ks k ≡ true) → list_any (has zs) ks ≡ is_cons zs
+unfolding is_cons
+any_in [] ks all = none_in ks
+any_in (z ∷ zs) ks all = one_in z zs ks (all z (ap (λ b. b || has zs z) ((eq_by_cmp_equiv keys_total).refl z)))
+
+-- whether an item at one of the keys under a BLPU names it
+pub any_tied : (t : Ties) (x : TiedKeys) (g : KeyHistories) (v uprn : ℕ) → t.counted ≡ Some x → FindsTies t g v → list_any (names_at g v uprn) (keys_tied x uprn) ≡ tied (view_at g v) uprn
+any_tied t x g v uprn some finds =
+    some_same (names_at g v uprn) (has (passing p es)) one_row (keys_tied x uprn) ∙ any_in (passing p es) (keys_tied x uprn) found ∙ some_keys _ ∙ sym (some_kept (λ (e : Row). p e.1) es)
+  where
+    es : List Row
+    es = entries (view_at g v)
+
+    p : Item → Bool
+    p = names uprn
+
+    one_row : (k : Key) → names_at g v uprn k ≡ has (passing p es) k
+    one_row k = names_row g v uprn k ∙ sym (held p es (view_ascends (view_at g v)) k)
+
+    found : (k : Key) → has (passing p es) k ≡ true → has (keys_tied x uprn) k ≡ true
+    found k there = sym (may_some t x some uprn k) ∙ finds uprn k (named_one uprn (named_at g v k) (one_row k ∙ there))
+
+-- ---- in a ledger
+
+-- a change of what stands at a key
+pub ties_changed : (n m : ℕ) (t s : Ties) (g h : KeyHistories) → m ≡ n → (AreTies t g m (m + 1) → AreTies s h m (m + 1)) → AreTies t g n (n + 1) → AreTies s h n (n + 1)
+ties_changed n m t s g h reach goes = subst (λ (k : ℕ). AreTies t g k (k + 1) → AreTies s h k (k + 1)) reach goes
+
+-- those of the last view and of any later one
+pub ties_from : (n : ℕ) (g : KeyHistories) (t : Ties) → IsWithin n g → AreTies t g n (n + 1) → (v : ℕ) → n ≤ v → FindsTies t g v
+ties_from n g t within ties v le = elim (cases_lt n v) [
+  | inl h ↦ λ q k is. ties.1 q k (ap (option_and_then named_by) (later k h) ∙ is)
+  | inr h ↦ let same : n ≡ v = omega arith in subst (λ (m : ℕ). FindsTies t g m) same ties.0
+]
+  where
+    later : (k : Key) → n < v → standing_at (versions_at g k) (n + 1) ≡ standing_at (versions_at g k) v
+    later k after = sym (get_at g (n + 1) k) ∙ ap (λ (w : View). finite.get w.items k) (later_view n g within (n + 1) v (omega arith) after) ∙ get_at g v k

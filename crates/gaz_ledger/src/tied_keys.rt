@@ -1,0 +1,61 @@
+//! Keys by the BLPU that their items name.
+ghost use Rattle.std.specs.Prelude.{◌≡◌, [], OnOk, ℕ};
+ghost use Rattle.std.specs.Option.{option_map_or};
+ghost use Rattle.gaz_ledger.specs.Ties.{AddsTie, IsTiedTo, KeepsTies, keys_tied};
+
+use crate::seed::Seed;
+use gaz_ids::Uprn;
+use gaz_records::SortKey;
+use std::alloc::{AllocError, Global};
+use std::collections::HashMap;
+
+/// Keys of cross references and LPIs, and some at which none stands any more.
+#[derive(Drop)]
+pub struct TiedKeys {
+    alloc: Global,
+    by_uprn: HashMap<Uprn, Vec<SortKey>, Seed>,
+}
+
+impl TiedKeys {
+    /// No keys.
+    pub fn new(alloc: Global, seed: Seed) -> TiedKeys
+        ensures { (n : ℕ) → keys_tied result n ≡ [] }
+    {
+        TiedKeys {
+            alloc,
+            by_uprn: HashMap::with_hasher(alloc, seed),
+        }
+    }
+
+    /// The keys under a BLPU.
+    pub fn get(&self, uprn: Uprn) -> Option<&Vec<SortKey>>
+        ensures { option_map_or (λ ks. ks.now.items) result [] ≡ keys_tied self.now uprn }
+    {
+        self.by_uprn.get(&uprn)
+    }
+
+    // Adds a key under a BLPU.
+    fn add(&mut self, uprn: Uprn, key: SortKey) -> Result<(), AllocError>
+        ensures { OnOk result (AddsTie self.old self.new uprn key) }
+    {
+        if let Some(keys) = self.by_uprn.get_mut(&uprn) {
+            keys.push(key)?;
+            return Ok(());
+        }
+        let mut keys = Vec::new(self.alloc);
+        keys.push(key)?;
+        self.by_uprn.insert(uprn, keys)?;
+        Ok(())
+    }
+
+    /// Adds a key under a BLPU, where one is given.
+    pub fn add_some(&mut self, named: Option<Uprn>, key: SortKey) -> Result<(), AllocError>
+        ensures kept { OnOk result (KeepsTies self.old self.new) }
+        ensures tied { OnOk result (IsTiedTo self.new named key) }
+    {
+        match named {
+            Some(uprn) => self.add(uprn, key),
+            None => Ok(()),
+        }
+    }
+}

@@ -1,0 +1,88 @@
+//! The items that name a BLPU, which are counted when they are asked for.
+ghost use Rattle.std.specs.Prelude.{◌≡◌, ◌+◌, ◌-◌, ◌<◌, ◌^◌, None, OnErr, OnOk};
+ghost use Rattle.std.specs.List.{list_any};
+ghost use Rattle.std.specs.Option.{IsSome};
+ghost use Rattle.gaz_views.specs.Words.{tied};
+ghost use Rattle.gaz_ledger.specs.KeyHistories.{view_at};
+ghost use Rattle.gaz_ledger.specs.Ties.{AreTies, FindsTies, NotesTie};
+
+use crate::histories::Histories;
+use crate::seed::Seed;
+use crate::tied_keys::TiedKeys;
+use crate::words::named_by;
+use gaz_ids::Uprn;
+use gaz_records::{Key, SharedItem, SortKey};
+use std::alloc::AllocError;
+
+/// The keys of the items that name a BLPU, from when they are asked for until the volume is judged
+/// or undone. Until then they take no memory.
+#[derive(Drop)]
+pub struct Ties {
+    seed: Seed,
+    counted: Option<TiedKeys>,
+}
+
+impl Ties {
+    /// Not counted yet.
+    pub fn new(seed: Seed) -> Ties
+        ensures { result.counted ≡ None }
+    {
+        Ties {
+            seed,
+            counted: None,
+        }
+    }
+
+    /// They aren't counted any more.
+    pub fn forget(&mut self)
+        ensures { self.new.counted ≡ None }
+    {
+        self.counted = None;
+    }
+
+    /// Notes that an item comes to stand at a key, where they are counted. Where memory runs out,
+    /// they aren't any more.
+    pub fn note(&mut self, item: &Option<SharedItem>, key: &Key)
+        ensures { NotesTie self.old self.new item.now key.now }
+    {
+        let Some(item) = item else {
+            return;
+        };
+        let Some(keys) = &mut self.counted else {
+            return;
+        };
+        if keys.add_some(named_by(item), SortKey::of(key)).is_err() {
+            self.counted = None;
+        }
+    }
+
+    /// Counts them, where they aren't counted yet.
+    pub fn count(&mut self, histories: &Histories, reached: u64) -> Result<(), AllocError>
+        requires bound { reached < 2 ^ 64 - 1 }
+        requires ties { AreTies self.old histories.now reached (reached + 1) }
+        ensures ties { AreTies self.new histories.now reached (reached + 1) }
+        ensures counted { OnOk result (IsSome self.new.counted) }
+    {
+        if self.counted.is_some() {
+            return Ok(());
+        }
+        let keys = histories.tied_keys(self.seed, reached)?;
+        self.counted = Some(keys);
+        Ok(())
+    }
+
+    /// Whether an item names a BLPU after a volume.
+    pub fn has(&self, histories: &Histories, volume: u64, uprn: Uprn) -> bool
+        requires counted { IsSome self.now.counted }
+        requires finds { FindsTies self.now histories.now volume }
+        ensures { result ≡ tied (view_at histories.now volume) uprn }
+    {
+        let Some(counted) = &self.counted else {
+            return false;
+        };
+        match counted.get(uprn) {
+            Some(keys) => histories.any_names(volume, uprn, keys),
+            None => false,
+        }
+    }
+}

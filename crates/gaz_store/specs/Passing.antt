@@ -1,0 +1,39 @@
+-- What is told of a number's newest passage, and what a judgement that passes it on is told.
+use Rattle.std.specs.Prelude.{◌≡◌, ℕ, Bool, false, List, Option, Some, is_some}
+use Rattle.sqlite.specs.Effect.{Database}
+use Rattle.gaz_records.specs.declared.key.Key.{Key}
+use Rattle.gaz_records.specs.declared.key.Key.TheVariants as key
+use Rattle.gaz_views.specs.View.{custody_at}
+use Rattle.gaz_overlay.specs.Changes.{is_passed}
+use Rattle.gaz_overlay.specs.Making.{IsSince}
+use Rattle.gaz_overlay.specs.Passages.{PassageRow, has_passed}
+use Rattle.gaz_tables.specs.Schema.{receiveds, versions}
+use Rattle.gaz_kept.specs.Files.{reached_in}
+use Rattle.gaz_kept.specs.LastViews.{last_in}
+use Rattle.gaz_kept.specs.NewestPassages.{HasPassage, born_of, custody_of}
+use Rattle.gaz_kept.specs.Versions.{passages_in}
+use Rattle.gaz_kept.specs.declared.passages.Passed.{Passed}
+use Rattle.gaz_store.specs.declared.judgement.Judgement.{Judgement}
+
+-- what became of a custodian's numbers
+abbrev pub passages_of : Database → ℕ → List PassageRow
+passages_of db c = passages_in (db.trees versions) c
+
+-- a key counts as used because its number was passed on
+abbrev pub was_passed : Database → ℕ → Key → Bool
+was_passed db c k = has_passed (passages_of db c) (reached_in (db.trees receiveds) c) k
+
+-- the newest passage of a number, where it has one: it says what became of the number in the last
+-- view, it is there just where the key of its BLPU is used by it, and it is the current one
+pub record TellsPassed (db : Database) (c uprn : ℕ) (passed : Option Passed) : Type 0 where
+  pub custody : custody_of passed ≡ custody_at (last_in db c) uprn
+  pub used : is_some passed ≡ was_passed db c (key.Blpu uprn)
+  pub current : (volume : ℕ) → born_of passed ≡ Some volume
+      → HasPassage (passages_of db c) uprn volume
+
+-- where a judgement hasn't passed a number on yet, the volume in which the number's current passage
+-- was born, if it has one
+pub record IsToldSince (db : Database) (j : Judgement) (uprn : ℕ) (since : Option ℕ) : Type 0 where
+  pub is_since : IsSince (last_in db j.code) j.changes uprn since
+  pub current : is_passed j.changes uprn ≡ false → (volume : ℕ) → since ≡ Some volume
+      → HasPassage (passages_of db j.code) uprn volume

@@ -1,0 +1,139 @@
+//! What became of a custodian's numbers, number by number and for each volume by volume.
+ghost use Rattle.std.specs.Prelude.{◌≡◌, IfOk, Some};
+ghost use Rattle.std.specs.String.{string_bytes};
+ghost use Rattle.sqlite.specs.Order.{column};
+ghost use Rattle.gaz_cells.specs.Ids.{key_named};
+ghost use Rattle.gaz_tables.specs.Custody.{FindsCustodyBehind};
+ghost use Rattle.gaz_tables.specs.Schema.{versions};
+ghost use Rattle.gaz_kept.specs.Versions.{text_in};
+ghost use Rattle.gaz_loaded.specs.Passing.{AreToldBehind};
+ghost use Rattle.gaz_store.specs.Asking.{AsksTables};
+ghost use Rattle.gaz_store.specs.Passages.{IsBare, IsStartOf, SayPassages, custody_listed};
+ghost use Rattle.gaz_store.specs.Passing.{passages_of};
+
+use crate::tables::Tables;
+use gaz_ids::{Code, Hop, LAST_VOLUME, Uprn};
+use gaz_keeper::ShelfFault;
+use gaz_kept::decoding::{RowFault, key_in, name_of, number, text};
+use gaz_loaded::Passage;
+use gaz_records::{Key, Kind};
+use gaz_tables::custody;
+use gaz_views::Custody;
+use sqlite::{Alter, Row};
+use std::alloc::Global;
+
+// The most rows of one answer.
+const MOST: u32 = 512;
+
+// No language and no text stand in a row, as in none of kind 92.
+fn check_bare(row: &Row) -> Result<(), RowFault>
+    ensures { IfOk result (λ done. IsBare row.now) }
+{
+    if number(row, 6)? == 0 && text(row, 7)?.is_empty() {
+        Ok(())
+    } else {
+        Err(RowFault::Wrong)
+    }
+}
+
+// What became of a number, of a row of id, born, gone, live, street, hop, lang and body.
+fn custody_in(row: &Row) -> Result<Custody, RowFault>
+    ensures said { IfOk result (λ x. custody_listed row.now ≡ Some x) }
+    ensures bare { IfOk result (λ x. IsBare row.now) }
+{
+    check_bare(row)?;
+    let live = number(row, 3)?;
+    let other = Code::of(number(row, 4)?);
+    let hop = Hop::of(number(row, 5)?);
+    let (Some(other), Some(hop)) = (other, hop) else {
+        return Err(RowFault::Wrong);
+    };
+    if live == 0 {
+        return Ok(Custody::Released { to: other, hop });
+    }
+    if live == 1 {
+        return Ok(Custody::Adopted { from: other, hop });
+    }
+    Err(RowFault::Wrong)
+}
+
+// Which number a row names.
+fn uprn_in(row: &Row) -> Result<Uprn, RowFault>
+    ensures { IfOk result (λ uprn.
+        key_named Kind.Blpu (text_in (column row.now 0)) ≡ Some (Key.Blpu uprn)) }
+{
+    match key_in(Kind::Blpu, row, 0)? {
+        Key::Blpu(uprn) => Ok(uprn),
+        _ => Err(RowFault::Wrong),
+    }
+}
+
+// What rows say, in turn.
+fn passages_in(alloc: Global, rows: &[Row]) -> Result<Vec<Passage>, RowFault>
+    ensures { IfOk result (λ passages. SayPassages rows.now passages.items) }
+{
+    let mut passages = Vec::new(alloc);
+    for row in rows {
+        let uprn = uprn_in(row)?;
+        let born = number(row, 1)?;
+        let custody = custody_in(row)?;
+        let passage = Passage {
+            uprn,
+            born,
+            custody,
+        };
+        if passages.push(passage).is_err() {
+            return Err(RowFault::Memory);
+        }
+    }
+    Ok(passages)
+}
+
+// The id and the volume behind which the rows stand that come behind a passage.
+fn start_of(alloc: Global, after: Option<Passage>) -> Result<(String, u32), RowFault>
+    ensures { IfOk result (λ start. IsStartOf after (string_bytes start.0, start.1)) }
+{
+    match after {
+        Some(passage) => {
+            let name = name_of(alloc, &Key::Blpu(passage.uprn))?;
+            Ok((name, passage.born.min(LAST_VOLUME) as u32))
+        }
+        None => Ok((String::new(alloc), 0)),
+    }
+}
+
+impl<S: Alter> Tables<S> {
+    // The rows of kind 92 behind an id and a volume, as ids rise and for each as volumes do.
+    fn passage_rows(&mut self, code: Code, id: &str, born: u32) -> Result<Vec<Row>, ShelfFault>
+        ensures { AsksTables self.old self.new result (λ db rows.
+            FindsCustodyBehind code id.now born MOST (db.trees versions) rows.items) }
+    {
+        self.make_sure()?;
+        self.known();
+        self.sure = false;
+        let cust = code.number() as u32;
+        let found = custody::behind(&mut self.conn, cust, id, born, MOST);
+        self.told(found)
+    }
+
+    /// What became of a custodian's numbers behind what was told of one, or from the first, as
+    /// numbers rise and for each as volumes do: at most 512.
+    pub fn passages_behind(
+        &mut self,
+        code: Code,
+        after: Option<Passage>,
+    ) -> Result<Vec<Passage>, ShelfFault>
+        ensures { AsksTables self.old self.new result
+            (λ db passages. AreToldBehind after (passages_of db code) passages.items) }
+    {
+        let (id, born) = match start_of(self.alloc, after) {
+            Ok(start) => start,
+            Err(fault) => return Err(self.row_fault(fault)),
+        };
+        let rows = self.passage_rows(code, id.as_str(), born)?;
+        match passages_in(self.alloc, &rows) {
+            Ok(passages) => Ok(passages),
+            Err(fault) => Err(self.row_fault(fault)),
+        }
+    }
+}
