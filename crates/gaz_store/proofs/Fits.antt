@@ -25,7 +25,7 @@ use Rattle.gaz_records.specs.declared.item.Item.TheVariants as item
 use Rattle.gaz_records.specs.declared.item.Kind.{Kind}
 use Rattle.gaz_records.specs.declared.item.Kind.TheVariants as kind
 use Rattle.gaz_records.specs.declared.key.Key.{Key}
-use Rattle.gaz_views.specs.Words.{comes_after, is_approved, is_approved_on, is_child_of, is_in, is_of, same_lang}
+use Rattle.gaz_views.specs.Words.{comes_after, is_approved, is_approved_on, is_in, is_of, same_lang}
 use Rattle.gaz_cells.specs.Columns.{CellsValue, blpu_of, lang_in, live_number, live_of, parent_number, street_of}
 use Rattle.gaz_cells.specs.Ids.{id_of, kind_in}
 use Rattle.gaz_overlay.specs.Rows.{HistoryRow, never}

@@ -1,5 +1,5 @@
 -- What is told of a custodian's numbers, number by number and for each volume by volume.
-use Rattle.std.proofs.Common.{◌≡◌, ◌∙◌, ◌≤◌, ◌<◌, ◌+◌, ◌⊎◌, ℕ, ℤ, pos, ◌<ℤ◌, Bool, true, false, List, [], ◌∷◌, map, take, min, suc, zero, inl, inr, refl, sym, ap, subst, arith, true≢false}
+use Rattle.std.proofs.Common.{◌≡◌, ◌∙◌, ◌≤◌, ◌<◌, ◌+◌, ◌⊎◌, ℕ, pos, ◌<ℤ◌, true, false, List, [], ◌∷◌, map, take, suc, zero, inl, inr, refl, sym, ap, subst, arith, true≢false}
 use Rattle.std.proofs.lemmas.Bool.{and_parts, cases_lt}
 use Rattle.std.proofs.lemmas.Int.{ints}
 use Rattle.std.specs.Prelude.{⊤, Option, Some, None, IsSorted}
@@ -11,7 +11,7 @@ use Rattle.std.specs.Cmp.Lexicographic.{nat_list_cmp_total, slice_cmp}
 use Rattle.std.specs.declared.cmp.Ordering.{Ordering}
 use Rattle.std.specs.declared.cmp.Ordering.TheVariants.{Less, Equal, Greater}
 use Rattle.sqlite.specs.Effect.{Database}
-use Rattle.sqlite.specs.Order.{Row, column, value_cmp}
+use Rattle.sqlite.specs.Order.{Row, value_cmp}
 use Rattle.sqlite.specs.declared.types.Value.{Value}
 use Rattle.sqlite.specs.declared.types.Value.TheVariants.{Int, Text}
 use Rattle.sqlite_rules.specs.Lists.{Has}
@@ -32,10 +32,10 @@ use Rattle.gaz_overlay.specs.Passages.{PassageRow}
 use Rattle.gaz_sql_facts.proofs.Lists.{first_least, has_permuted, permuted_has}
 use Rattle.gaz_tables.specs.Custody.{FindsCustodyBehind, IsCustodyBehind, by_id_and_birth, listed_shown}
 use Rattle.gaz_tables.specs.Custody.{ComesBehind as Comes}
-use Rattle.gaz_tables.specs.Schema.{receiveds, versions}
+use Rattle.gaz_tables.specs.Schema.{versions}
 use Rattle.gaz_tables.specs.Versions as table
 use Rattle.gaz_kept.specs.Kept.{IsKept}
-use Rattle.gaz_kept.specs.Versions.{custody_cells_in, number_in, passage_in, passages_in, passing, text_in}
+use Rattle.gaz_kept.specs.Versions.{custody_cells_in, number_in, passage_in, passing, text_in}
 use Rattle.gaz_kept.proofs.PassageStatements.{Known, its_owner, kind_passage, known_of, passage_row}
 use Rattle.gaz_kept.proofs.PassageStatements as said
 use Rattle.gaz_kept.proofs.Reached.{reached_room}
@@ -307,7 +307,7 @@ module _ (db : Database) (kept : IsKept db) (c : ℕ) where
   no_rows [] say r here = here
   no_rows (s ∷ l) say r here = absurd say
 
-  module _ (after : Option Passage) (id : List ℕ) (born : ℕ) (start : IsStartOf after (id, born)) (answer : List Row) (found : FindsCustodyBehind c id born 512 rows answer) where
+  module _ (after : Option Passage) (id : List ℕ) (born : ℕ) (start : IsStartOf after (id, born)) (most : ℕ) (answer : List Row) (found : FindsCustodyBehind c id born most rows answer) where
     are_from : AreFrom after found.chosen
     are_from r here =
         let chosen = has_filtered found.picks.test rows r (has_permuted _ found.chosen r found.picks.same here) in
@@ -325,13 +325,20 @@ module _ (db : Database) (kept : IsKept db) (c : ℕ) where
         let fits : IsCustodyBehind c id born r.0 = record { of_cust = of_key.of_cust; of_kind = of_key.of_kind; behind = to_start after id born start r.0 p o behind } in
         (r.0, permuted_has _ found.chosen r.0 found.picks.same (has_kept found.picks.test rows r.0 r.1 (found.picks.complete r.0 r.1 fits)), o)
 
+  module _ (after : Option Passage) (id : List ℕ) (born : ℕ) (start : IsStartOf after (id, born)) (answer : List Row) (found : FindsCustodyBehind c id born 512 rows answer) where
     pub passages_told : (xs : List Passage) → SayPassages answer xs → AreToldBehind after all xs
     passages_told xs say = record {
-      in_turn = in_turn after found.chosen 512 xs are_from cover found.rising shown;
+      in_turn = in_turn after found.chosen 512 xs (are_from after id born start 512 answer found) (cover after id born start 512 answer found) found.rising shown;
       none = λ is p there behind.
-          let r = cover p there behind in
+          let r = cover after id born start 512 answer found p there behind in
           none_taken 511 found.chosen (λ q here. no_rows (map listed_shown (take 512 found.chosen)) (subst (SayPassages (map listed_shown (take 512 found.chosen))) (empty_is xs is) shown) (listed_shown q) (mapped_has listed_shown (take 512 found.chosen) q here)) r.0 r.1;
     }
       where
         shown : SayPassages (map listed_shown (take 512 found.chosen)) xs
         shown = subst (λ l. SayPassages l xs) found.shown say
+
+  -- no number was passed on, where not one row is found from the first
+  pub none_there : (answer : List Row) → FindsCustodyBehind c [] 0 1 rows answer → answer ≡ [] → (p : PassageRow) → ¬ Has all p
+  none_there answer found none p there =
+      let r = cover None [] 0 (refl, refl) 1 answer found p there tt in
+      none_taken 0 found.chosen (λ q here. subst (λ l. Has l (listed_shown q)) (sym found.shown ∙ none) (mapped_has listed_shown (take 1 found.chosen) q here)) r.0 r.1

@@ -5,14 +5,14 @@ use Rattle.std.specs.FinMap as finite
 use Rattle.std.specs.FinSet as set
 use Rattle.sqlite.specs.Effect.{Database}
 use Rattle.sqlite.specs.Order.{Row}
+use Rattle.sqlite_rules.specs.Lists.{Has}
 use Rattle.gaz_cells.specs.Ids.{id_of, is_key}
 use Rattle.gaz_records.proofs.KeyOrder.{keys_total}
-use Rattle.gaz_records.specs.declared.item.Item.{Item}
 use Rattle.gaz_records.specs.declared.key.Key.{Key}
 use Rattle.gaz_records.specs.declared.key.Key.TheVariants as key
 use Rattle.gaz_views.specs.View.{custody_at, was_used}
 use Rattle.gaz_overlay.specs.Over.{IsStood, key_view}
-use Rattle.gaz_overlay.specs.Passages.{passed_keys}
+use Rattle.gaz_overlay.specs.Passages.{PassageRow, passed_keys}
 use Rattle.gaz_overlay.specs.Rows.{HasCurrent, HistoryRow, never, view_after}
 use Rattle.gaz_overlay.specs.declared.touch.Stood.{Stood}
 use Rattle.gaz_overlay.specs.declared.touch.Stood.TheVariants.{Never, Past, Since}
@@ -56,9 +56,29 @@ module _ (db : Database) (c uprn : ℕ) (id : List ℕ) (answer : List Row) (pas
       custody_then db kept c volume uprn passed (omega (arith, room, within))
       (passage_until_told db kept c uprn known answer passed says volume (subst (λ i. FindsCustodyUntil c i volume (db.trees versions) answer) is_id found))
 
+-- a custodian that passed no number on
+module _ (db : Database) (kept : IsKept db) (c : ℕ) (none : (p : PassageRow) → ¬ Has (passages_of db c) p) where
+  pub none_told : (uprn : ℕ) → TellsPassed db c uprn None
+  none_told uprn = record {
+    custody = custody_now db kept c uprn None t;
+    used = sym (passed_now db kept c uprn None t);
+    current = λ volume is. cc;
+  }
+    where
+      t : TellsAt (passages_in (db.trees versions) c) (reached_in (db.trees receiveds) c) uprn None
+      t = record { row = None; tells = tt; last = λ p there of_number born. none p there }
+
 -- the key of no number is used by that
 pub not_of_number : (db : Database) (c : ℕ) (k : Key) → ((n : ℕ) → key.Blpu n ≢ k) → false ≡ was_passed db c k
 not_of_number db c k other = sym (no_key_passed (passages_of db c) (reached_in (db.trees receiveds) c) k other)
+
+-- and none is where no number was passed on
+pub none_used : (db : Database) → IsKept db → (c : ℕ) → ((p : PassageRow) → ¬ Has (passages_of db c) p) → (k : Key) → false ≡ was_passed db c k
+none_used db kept c none (key.Blpu n) = (none_told db kept c none n).used
+none_used db kept c none (key.Street n) = not_of_number db c (key.Street n) (λ m is. cc)
+none_used db kept c none (key.Descriptor n l) = not_of_number db c (key.Descriptor n l) (λ m is. cc)
+none_used db kept c none (key.Xref t) = not_of_number db c (key.Xref t) (λ m is. cc)
+none_used db kept c none (key.Lpi t) = not_of_number db c (key.Lpi t) (λ m is. cc)
 
 -- ---- a key
 

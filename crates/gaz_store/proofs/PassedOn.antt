@@ -1,38 +1,31 @@
 -- What a judgement makes beside the tables where it passes numbers on, and what it answers of them.
-use Rattle.std.proofs.Common.{◌≡◌, ◌∙◌, ℕ, Bool, true, false, cond, ◌||◌, List, refl, sym, ap, subst, true≢false}
-use Rattle.std.specs.Prelude.{Option, Some, None, IsSome, is_some, option_map}
+use Rattle.std.proofs.Common.{◌≡◌, ◌∙◌, ℕ, Bool, true, false, cond, refl, sym, ap, subst, true≢false}
+use Rattle.std.specs.Prelude.{Option, Some, None, IsSome, is_some}
 use Rattle.std.specs.Cmp.{nat_cmp_total}
 use Rattle.std.specs.FinMap as map
 use Rattle.std.specs.FinMap.{nat_cmp-IsAntisymmetric}
 use Rattle.std.specs.Option.{option_or}
 use Rattle.std.specs.Ordering.{eq_by_cmp, is_eq, nat_cmp}
-use Rattle.std.specs.List.{list_any}
 use Rattle.std.specs.declared.cmp.Ordering.{Ordering}
 use Rattle.std.specs.declared.cmp.Ordering.TheVariants.{Less, Equal, Greater}
 use Rattle.sqlite.specs.Effect.{Database}
-use Rattle.sqlite.specs.Order.{Row}
-use Rattle.gaz_records.specs.Blpus.{BlpuValue}
 use Rattle.gaz_records.specs.Keys.{key_of}
 use Rattle.gaz_records.specs.declared.item.Item.{Item}
 use Rattle.gaz_records.specs.declared.item.Item.TheVariants as item
-use Rattle.gaz_records.specs.declared.key.Key.{Key}
 use Rattle.gaz_records.specs.declared.key.Key.TheVariants as key
 use Rattle.gaz_views.specs.Lawful.{IsLawfulView}
 use Rattle.gaz_views.specs.Numbered.{as_blpu}
-use Rattle.gaz_views.specs.View.{View, custody_at, with_adoption, with_release}
-use Rattle.gaz_views.specs.Words.{entries, names, tied}
+use Rattle.gaz_views.specs.View.{View, custody_at, with_release}
 use Rattle.gaz_views.specs.declared.custody.Custody.{Custody}
-use Rattle.gaz_overlay.specs.Changes.{Changes, Passed, is_passed, is_touched, noted, with_adopted, with_adopted_blpu, with_released}
+use Rattle.gaz_overlay.specs.Changes.{Passed, is_passed, is_touched, noted, with_adopted, with_released}
 use Rattle.gaz_overlay.specs.Laws.{custody_laid_at}
 use Rattle.gaz_overlay.proofs.Laid.{lawful_adopted}
 use Rattle.gaz_overlay.proofs.Making.{changes_make}
 use Rattle.gaz_overlay.proofs.PassedTree.{noted_already, noted_first}
 use Rattle.gaz_tables.specs.Schema.{versions}
-use Rattle.gaz_kept.specs.Kept.{IsKept}
-use Rattle.gaz_kept.specs.Keeping.{AreToldPassages}
 use Rattle.gaz_kept.specs.LastViews.{last_in}
 use Rattle.gaz_kept.specs.NewestPassages.{HasPassage, born_of, custody_of}
-use Rattle.gaz_kept.specs.Versions.{histories_in, passages_in}
+use Rattle.gaz_kept.specs.Versions.{histories_in}
 use Rattle.gaz_kept.specs.declared.passages.Passed.{Passed as Newest}
 use Rattle.gaz_store.specs.Beside.{Makes, Turns, adopted}
 use Rattle.gaz_store.specs.Passing.{IsToldSince, TellsPassed, passages_of}
@@ -98,6 +91,7 @@ module _ (db : Database) (j : Judgement) (uprn : ℕ) (since : Option ℕ) (told
     made = changes_make.released last j.changes w makes.made uprn to hop since touched told.is_since;
     told = record { told = makes.told.told };
     passed = told_noted makes.passed;
+    none = makes.none;
   }
 
 -- an item, which is a BLPU of this number
@@ -110,6 +104,7 @@ adopted_turns db j (item.Blpu b) from hop uprn since blpu own touched told w mak
       made = changes_make.adopted (last_in db j.code) j.changes w makes.made b from hop since touched its.is_since;
       told = record { told = (told_put (histories_in (db.trees versions) j.code) j.changes (item.Blpu b) makes.told).told };
       passed = told_noted db j b.uprn since its makes.passed;
+      none = makes.none;
     }
 adopted_turns db j (item.Street x) from hop uprn since blpu own touched told w makes = absurd (true≢false (sym blpu))
 adopted_turns db j (item.Descriptor x) from hop uprn since blpu own touched told w makes = absurd (true≢false (sym blpu))

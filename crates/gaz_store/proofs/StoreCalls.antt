@@ -1,5 +1,5 @@
 -- What a store's calls tell of it as a keeper that begin, change and end a judgement, and that write without one.
-use Rattle.std.proofs.Common.{◌≡◌, ◌≤◌, ℕ, List, Result, Ok, Err, refl, sym, subst}
+use Rattle.std.proofs.Common.{◌≡◌, ◌≤◌, ℕ, false, List, Result, Ok, Err, refl, sym, subst}
 use Rattle.std.specs.Prelude.{⊤, None, Some}
 use Rattle.sqlite.specs.Effect.{Database}
 use Rattle.sqlite.specs.Held.{state}
@@ -71,10 +71,10 @@ module _ {S R : Type 0} {store : Ghosts S} (register : List ℕ) (old : Store S 
   pub abandons : Goes (seen_in register old) (seen_in register (record old { judging = Idle })) (Ok (tt {0})) ⊤ (after_abandon (seen_in register old).content) None keeper.Idle
   abandons = goes_idle register s old.tables.at_hand old.judging old.tables.failures
 
-  pub begins : (c : ℕ) (j : Judgement) → j.code ≡ c → j.changes ≡ no_changes
+  pub begins : (c : ℕ) (j : Judgement) → j.code ≡ c → j.changes ≡ no_changes → j.asked ≡ false → j.none_passed ≡ false
       → Goes (seen_in register old) (seen_in register (record old { judging = Open j })) (Ok (tt {0})) (IsAtHand (seen_in register old).content c) (after_begin (seen_in register old).content c) None (keeper.Open c)
-  begins c j code none =
-      let same : record { code = c; changes = no_changes } ≡ j = λ i. record { code = sym code i; changes = sym none i } in
+  begins c j code none asked none_passed =
+      let same : record { code = c; changes = no_changes; asked = false; none_passed = false } ≡ j = λ i. record { code = sym code i; changes = sym none i; asked = sym asked i; none_passed = sym none_passed i } in
       subst (λ k. Goes (seen_in register old) (seen_in register (record old { judging = Open k })) (Ok (tt {0})) (IsAtHand (seen_in register old).content c) (after_begin (seen_in register old).content c) None (keeper.Open c)) same
       (goes_open register s old.tables.at_hand old.judging old.tables.failures c)
 

@@ -1,5 +1,5 @@
 -- What a store's calls tell of it as a keeper that make and end a judgement.
-use Rattle.std.proofs.Common.{◌≡◌, ◌⊎◌, ◌∙◌, ◌+◌, inl, inr, ℕ, List, Result, Ok, Err, OnErr, OnOk, arith, refl, sym, ap, subst, le_refl}
+use Rattle.std.proofs.Common.{◌≡◌, ◌⊎◌, ◌∙◌, ◌+◌, inl, inr, ℕ, false, List, Result, Ok, Err, OnErr, OnOk, arith, refl, sym, ap, subst, le_refl, true≢false}
 use Rattle.std.specs.Prelude.{⊤, IsSome, IsTrue, None, Some}
 use Rattle.std.specs.FinMap as finite
 use Rattle.std.specs.Option.{option_map_or}
@@ -86,10 +86,10 @@ module _ (register : List ℕ) (s : State) (a : Remembered) (j : Judging) (f c :
   abbrev db : Database
   db = s.now
 
-  made_is : view_made db (record { code = c; changes = no_changes }) ≡ last_in db c
+  made_is : view_made db (record { code = c; changes = no_changes; asked = false; none_passed = false }) ≡ last_in db c
   made_is = nothing (last_in db c)
 
-  pub goes_open : Goes (seen_beside register s a j f) (seen_beside register s a (Open (record { code = c; changes = no_changes })) f) (Ok (tt {0})) (IsAtHand (content_in db.trees (working_of db j)) c)
+  pub goes_open : Goes (seen_beside register s a j f) (seen_beside register s a (Open (record { code = c; changes = no_changes; asked = false; none_passed = false })) f) (Ok (tt {0})) (IsAtHand (content_in db.trees (working_of db j)) c)
       (after_begin (content_in db.trees (working_of db j)) c) None (keeper.Open c)
   goes_open = record {
     harm = λ h. h;
@@ -102,7 +102,7 @@ module _ (register : List ℕ) (s : State) (a : Remembered) (j : Judging) (f c :
       };
       beside = record {
         at_hand = ask;
-        makes = record { made = subst (Make (last_in db c) no_changes) (sym made_is) (changes_make.nothing (last_in db c)); told = told_nothing (histories_in (db.trees versions) c); passed = passed_nothing (db.trees versions) c };
+        makes = record { made = subst (Make (last_in db c) no_changes) (sym made_is) (changes_make.nothing (last_in db c)); told = told_nothing (histories_in (db.trees versions) c); passed = passed_nothing (db.trees versions) c; none = λ is p there. absurd (true≢false (sym is)) };
       };
     };
     done = λ stood ask h. ap (content_in db.trees) (made_is ∙ sym (last_is db stood.tables.kept c));

@@ -45,7 +45,7 @@ use Rattle.gaz_store.specs.declared.judgement.Judgement.{Judgement}
 use Rattle.gaz_kept.proofs.LawfulViews.{view_lawful}
 
 abbrev pub with_changes : Judgement → Changes → Judgement
-with_changes j c = record { code = j.code; changes = c }
+with_changes j c = record { code = j.code; changes = c; asked = j.asked; none_passed = j.none_passed }
 
 -- ---- what stood at a key
 
@@ -100,13 +100,14 @@ module _ (db : Database) (kept : IsKept db) (j : Judgement) where
         (changes_make.touched last j.changes w (view_lawful db kept j.code (reached_in (db.trees receiveds) j.code)) makes.made k stood fresh tells.is_stood);
     told = told_touched rows j.changes k stood item makes.told tells.current;
     passed = makes.passed;
+    none = makes.none;
   }
 
   pub put_turns : (i : Item) → is_entry i ≡ true → is_touched j.changes (key_of i) ≡ true → Turns db j (with_changes j (with_put j.changes i)) (λ w. with_item w i)
-  put_turns i entry noted w makes = record { made = changes_make.put last j.changes w makes.made i entry noted; told = told_put rows j.changes i makes.told; passed = makes.passed }
+  put_turns i entry noted w makes = record { made = changes_make.put last j.changes w makes.made i entry noted; told = told_put rows j.changes i makes.told; passed = makes.passed; none = makes.none }
 
   pub taken_turns : (k : Key) → is_touched j.changes k ≡ true → Turns db j (with_changes j (with_taken j.changes k)) (λ w. without_key w k)
-  taken_turns k noted w makes = record { made = changes_make.taken last j.changes w makes.made k noted; told = record { told = makes.told.told }; passed = makes.passed }
+  taken_turns k noted w makes = record { made = changes_make.taken last j.changes w makes.made k noted; told = record { told = makes.told.told }; passed = makes.passed; none = makes.none }
 
 -- keys that pass a test and aren't used by changes
 left_entries : (s : View) (p : Item → Bool) (es : List (Key × Item)) → list_any (λ e. p e.1 && untouched s e.0) es ≡ list_any (untouched s) (map_of (λ e. e.0) (filter (λ e. p e.1) es))

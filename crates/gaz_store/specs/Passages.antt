@@ -1,6 +1,5 @@
 -- What rows of kind 92 say, number by number.
 use Rattle.std.specs.Prelude.{◌≡◌, ⊤, ℕ, pos, min, true, List, [], ◌∷◌, Option, Some, None}
-use Rattle.std.specs.String.{string_bytes}
 use Rattle.sqlite.specs.Order.{Row, column}
 use Rattle.sqlite.specs.declared.types.Value.TheVariants.{Int, Text}
 use Rattle.gaz_ids.specs.Numbers.{of_id}

@@ -1,6 +1,7 @@
 -- What is told of a number's newest passage, and what a judgement that passes it on is told.
-use Rattle.std.specs.Prelude.{◌≡◌, ℕ, Bool, false, List, Option, Some, is_some}
+use Rattle.std.specs.Prelude.{◌≡◌, ℕ, Bool, false, true, List, Option, Some, is_some}
 use Rattle.sqlite.specs.Effect.{Database}
+use Rattle.sqlite_rules.specs.Lists.{Has}
 use Rattle.gaz_records.specs.declared.key.Key.{Key}
 use Rattle.gaz_records.specs.declared.key.Key.TheVariants as key
 use Rattle.gaz_views.specs.View.{custody_at}
@@ -22,6 +23,10 @@ passages_of db c = passages_in (db.trees versions) c
 -- a key counts as used because its number was passed on
 abbrev pub was_passed : Database → ℕ → Key → Bool
 was_passed db c k = has_passed (passages_of db c) (reached_in (db.trees receiveds) c) k
+
+-- where it is known that a custodian passed no number on, the tables say of none that it was
+abbrev pub MayKnowNone : Bool → Database → ℕ → Type 0
+MayKnowNone none db c = none ≡ true → (p : PassageRow) → ¬ Has (passages_of db c) p
 
 -- the newest passage of a number, where it has one: it says what became of the number in the last
 -- view, it is there just where the key of its BLPU is used by it, and it is the current one

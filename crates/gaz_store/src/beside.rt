@@ -46,7 +46,7 @@ impl Judgement {
             (λ db b. Beside db self.now (λ w. b ≡ was_used w key.now)) }
     {
         if !self.changes.is_touched(key) {
-            return tables.was_used(self.code, key);
+            return tables.used(self.code, key, self.none_passed);
         }
         Ok(self.changes.was_used(key))
     }
@@ -156,6 +156,7 @@ impl Judgement {
     {
         match self.changes.custody(uprn) {
             Some(custody) => Ok(Some(custody)),
+            None if self.none_passed => Ok(None),
             None => tables.custody(self.code, uprn),
         }
     }

@@ -7,7 +7,7 @@ ghost use Rattle.gaz_views.specs.Numbered.{as_blpu};
 ghost use Rattle.gaz_views.specs.View.{with_item, with_release, without_key};
 ghost use Rattle.gaz_store.specs.Asking.{AsksTables};
 ghost use Rattle.gaz_store.specs.Beside.{Turns, adopted};
-ghost use Rattle.gaz_store.specs.Passing.{IsToldSince};
+ghost use Rattle.gaz_store.specs.Passing.{IsToldSince, MayKnowNone};
 
 use crate::tables::Tables;
 use gaz_ids::{Code, Hop, Uprn};
@@ -24,6 +24,10 @@ use std::alloc::Global;
 pub(crate) struct Judgement {
     pub(crate) code: Code,
     pub(crate) changes: Overlay,
+    /// Whether the tables were asked if one of the custodian's numbers was passed on.
+    asked: bool,
+    /// They were, and none was.
+    pub(crate) none_passed: bool,
 }
 
 impl Judgement {
@@ -31,10 +35,34 @@ impl Judgement {
     pub(crate) fn new(alloc: Global, seed: Seed, code: Code) -> Judgement
         ensures code { result.code ≡ code }
         ensures changes { result.changes ≡ no_changes }
+        ensures asked { result.asked ≡ false }
+        ensures none { result.none_passed ≡ false }
     {
         Judgement {
             code,
             changes: Overlay::new(alloc, seed),
+            asked: false,
+            none_passed: false,
+        }
+    }
+
+    // Asks the tables, once, whether one of the custodian's numbers was passed on.
+    fn ask_passed<S: Alter>(&mut self, tables: &mut Tables<S>) -> Result<(), ShelfFault>
+        ensures asks { AsksTables tables.old tables.new result
+            (λ db _. Turns db self.old self.new (λ w. w)) }
+        ensures code { self.new.code ≡ self.old.code }
+        ensures changes { self.new.changes ≡ self.old.changes }
+    {
+        if self.asked {
+            return Ok(());
+        }
+        match tables.none_passed(self.code) {
+            Ok(none) => {
+                self.asked = true;
+                self.none_passed = none;
+                Ok(())
+            }
+            Err(fault) => Err(fault),
         }
     }
 
@@ -46,10 +74,13 @@ impl Judgement {
         ensures touched { OnOk result (is_touched self.new.changes key.now ≡ true) }
         ensures code { self.new.code ≡ self.old.code }
     {
-        let (stood, item) = tables.stood(self.code, key)?;
-        match self.changes.touch(key, stood, item) {
-            Ok(()) => Ok(()),
-            Err(_) => Err(ShelfFault::Memory),
+        self.ask_passed(tables)?;
+        match tables.stood(self.code, key, self.none_passed) {
+            Ok((stood, item)) => match self.changes.touch(key, stood, item) {
+                Ok(()) => Ok(()),
+                Err(_) => Err(ShelfFault::Memory),
+            },
+            Err(fault) => Err(fault),
         }
     }
 
@@ -89,9 +120,13 @@ impl Judgement {
     // yet; what is answered otherwise is passed over.
     fn since<S: Alter>(&self, tables: &mut Tables<S>, uprn: Uprn) -> Result<Option<u64>, ShelfFault>
         ensures { AsksTables tables.old tables.new result
-            (λ db since. IsToldSince db self.now uprn since) }
+            (λ db since. MayKnowNone self.now.none_passed db self.now.code
+            → IsToldSince db self.now uprn since) }
     {
         if self.changes.is_passed(uprn) {
+            return Ok(None);
+        }
+        if self.none_passed {
             return Ok(None);
         }
         let passed = tables.passed(self.code, uprn)?;

@@ -11,7 +11,7 @@ ghost use Rattle.gaz_kept.specs.Files.{reached_in};
 ghost use Rattle.gaz_kept.specs.LastViews.{last_in};
 ghost use Rattle.gaz_kept.specs.Newest.{IsNewest, IsNewestUntil, TellsStood};
 ghost use Rattle.gaz_kept.specs.Versions.{histories_in, view_in};
-ghost use Rattle.gaz_store.specs.Passing.{was_passed};
+ghost use Rattle.gaz_store.specs.Passing.{MayKnowNone, was_passed};
 
 use crate::tables::Tables;
 use gaz_ids::{Code, LAST_VOLUME};
@@ -105,14 +105,34 @@ impl<S: Alter> Tables<S> {
         Ok(current_in(life))
     }
 
-    // The newest passage of the number whose BLPU has this key; of another kind of key there is none.
-    fn passed_at(&mut self, code: Code, key: &Key) -> Result<Option<Passed>, ShelfFault>
-        ensures { AsksTables self.old self.new result
-            (λ db passed. is_some passed ≡ was_passed db code key.now) }
+    // The newest passage of the number whose BLPU has this key, which isn't asked for where it is
+    // known that the custodian passed none on; of another kind of key there is none.
+    fn passed_at(&mut self, code: Code, key: &Key, none: bool) -> Result<Option<Passed>, ShelfFault>
+        ensures { AsksTables self.old self.new result (λ db passed. MayKnowNone none db code
+            → is_some passed ≡ was_passed db code key.now) }
     {
+        if none {
+            return Ok(None);
+        }
         match key {
             Key::Blpu(uprn) => self.passed(code, *uprn),
             _ => Ok(None),
+        }
+    }
+
+    /// Whether a key was used in a custodian's last view or before it; `none` where it is known that
+    /// the custodian passed no number on.
+    pub(crate) fn used(&mut self, code: Code, key: &Key, none: bool) -> Result<bool, ShelfFault>
+        ensures { AsksTables self.old self.new result (λ db b. MayKnowNone none db code
+            → b ≡ was_used (last_in db code) key.now) }
+    {
+        let life = self.newest(code, key)?;
+        if life.is_some() {
+            return Ok(true);
+        }
+        match self.passed_at(code, key, none) {
+            Ok(passed) => Ok(passed.is_some()),
+            Err(fault) => Err(fault),
         }
     }
 
@@ -121,31 +141,25 @@ impl<S: Alter> Tables<S> {
         ensures { AsksTables self.old self.new result
             (λ db b. b ≡ was_used (last_in db code) key.now) }
     {
-        let life = self.newest(code, key)?;
-        if life.is_some() {
-            return Ok(true);
-        }
-        match self.passed_at(code, key) {
-            Ok(passed) => Ok(passed.is_some()),
-            Err(fault) => Err(fault),
-        }
+        self.used(code, key, false)
     }
 
     /// What the tables have at a key for an overlay that touches it, with the item of the current
-    /// row.
-    pub fn stood(
+    /// row; `none` where it is known that the custodian passed no number on.
+    pub(crate) fn stood(
         &mut self,
         code: Code,
         key: &Key,
+        none: bool,
     ) -> Result<(Stood, Option<SharedItem>), ShelfFault>
-        ensures { AsksTables self.old self.new result (λ db s. TellsStood
-            (histories_in (db.trees versions) code) (last_in db code) key.now s.0 s.1) }
+        ensures { AsksTables self.old self.new result (λ db s. MayKnowNone none db code
+            → TellsStood (histories_in (db.trees versions) code) (last_in db code) key.now s.0 s.1) }
     {
         let life = self.newest(code, key)?;
         if life.is_some() {
             return Ok((stood_by(&life), current_in(life)));
         }
-        match self.passed_at(code, key) {
+        match self.passed_at(code, key, none) {
             Ok(passed) => Ok((stood_with(&life, &passed), None)),
             Err(fault) => Err(fault),
         }

@@ -9,7 +9,7 @@ ghost use Rattle.gaz_kept.specs.Versions.{text_in};
 ghost use Rattle.gaz_loaded.specs.Passing.{AreToldBehind};
 ghost use Rattle.gaz_store.specs.Asking.{AsksTables};
 ghost use Rattle.gaz_store.specs.Passages.{IsBare, IsStartOf, SayPassages, custody_listed};
-ghost use Rattle.gaz_store.specs.Passing.{passages_of};
+ghost use Rattle.gaz_store.specs.Passing.{MayKnowNone, passages_of};
 
 use crate::tables::Tables;
 use gaz_ids::{Code, Hop, LAST_VOLUME, Uprn};
@@ -104,15 +104,21 @@ fn start_of(alloc: Global, after: Option<Passage>) -> Result<(String, u32), RowF
 
 impl<S: Alter> Tables<S> {
     // The rows of kind 92 behind an id and a volume, as ids rise and for each as volumes do.
-    fn passage_rows(&mut self, code: Code, id: &str, born: u32) -> Result<Vec<Row>, ShelfFault>
+    fn passage_rows(
+        &mut self,
+        code: Code,
+        id: &str,
+        born: u32,
+        most: u32,
+    ) -> Result<Vec<Row>, ShelfFault>
         ensures { AsksTables self.old self.new result (λ db rows.
-            FindsCustodyBehind code id.now born MOST (db.trees versions) rows.items) }
+            FindsCustodyBehind code id.now born most (db.trees versions) rows.items) }
     {
         self.make_sure()?;
         self.known();
         self.sure = false;
         let cust = code.number() as u32;
-        let found = custody::behind(&mut self.conn, cust, id, born, MOST);
+        let found = custody::behind(&mut self.conn, cust, id, born, most);
         self.told(found)
     }
 
@@ -130,10 +136,18 @@ impl<S: Alter> Tables<S> {
             Ok(start) => start,
             Err(fault) => return Err(self.row_fault(fault)),
         };
-        let rows = self.passage_rows(code, id.as_str(), born)?;
+        let rows = self.passage_rows(code, id.as_str(), born, MOST)?;
         match passages_in(self.alloc, &rows) {
             Ok(passages) => Ok(passages),
             Err(fault) => Err(self.row_fault(fault)),
         }
+    }
+
+    /// Whether it is known, after asking, that none of a custodian's numbers was passed on.
+    pub(crate) fn none_passed(&mut self, code: Code) -> Result<bool, ShelfFault>
+        ensures { AsksTables self.old self.new result (λ db none. MayKnowNone none db code) }
+    {
+        let rows = self.passage_rows(code, "", 0, 1)?;
+        Ok(rows.is_empty())
     }
 }

@@ -1,13 +1,20 @@
-use Rattle.std.proofs.Common.{◌∙◌, sym}
+use Rattle.std.proofs.Common.{◌∙◌, refl, sym}
+use Rattle.std.specs.Prelude.{None}
 use Rattle.gaz_store.proofs.Answered.{answered_ok}
 use Rattle.gaz_store.proofs.Composing.{asked_nothing}
+use Rattle.gaz_store.proofs.Passed.{none_told}
 use Rattle.gaz_store.proofs.PassedOn.{told_before, told_now}
 use Rattle.gaz_store.proofs.judgement.Judgement.since.Goals as goal
 
 pub returns-then-is_passed : goal.returns-then-is_passed
-returns-then-is_passed g c = asked_nothing _ _ _ (λ db kept. told_before db c.args.self.now c.args.uprn _ (sym c.is_passed.ensures ∙ c.if-is_passed.true))
+returns-then-is_passed g c = asked_nothing _ _ _ (λ db kept known. told_before db c.args.self.now c.args.uprn _ (sym c.is_passed.ensures ∙ c.if-is_passed.true))
+
+pub returns-then-self : goal.returns-then-self
+returns-then-self g c =
+    asked_nothing _ _ _ (λ db kept known.
+    told_now db c.args.self.now c.args.uprn None (none_told db kept c.args.self.now.code (known c.if-self.true) c.args.uprn) None refl)
 
 pub returns : goal.returns
 returns g c =
-    answered_ok _ _ _ c.in_ok-passed.passed _ _ _ c.passed.ensures c.in_ok-passed.was (λ db kept tells.
+    answered_ok _ _ _ c.in_ok-passed.passed _ _ _ c.passed.ensures c.in_ok-passed.was (λ db kept tells known.
     told_now db c.args.self.now c.args.uprn c.in_ok-passed.passed tells c.born_of.result c.born_of.ensures)

@@ -7,7 +7,7 @@ use Rattle.gaz_tables.specs.Migrating.{HasFirstTables}
 use Rattle.gaz_tables.specs.Schema.{metas}
 use Rattle.gaz_kept.specs.Kept.{IsKept}
 use Rattle.gaz_kept.specs.Opening.{IsOf, Judges, Tells}
-use Rattle.gaz_kept.specs.OpeningFirst.{IsOfFirst, JudgesFirst, MayMove, Moves, TellsFirst, Untouched, has_first}
+use Rattle.gaz_kept.specs.OpeningFirst.{IsOfFirst, JudgesFirst, MayMove, Moves, TellsFirst, Untouched}
 use Rattle.gaz_kept.proofs.MetaRows.{is_first}
 use Rattle.gaz_kept.proofs.Moved.{clean_before}
 use Rattle.gaz_store.proofs.Beginning.{is_moved, is_opened}

@@ -1,4 +1,4 @@
-use Rattle.std.proofs.Common.{◌≡◌, ◌≤◌, ◌∙◌, IfOk, ℕ, arith, subst, sym}
+use Rattle.std.proofs.Common.{◌≡◌, ◌≤◌, ◌∙◌, IfOk, ℕ, arith, subst}
 use Rattle.gaz_tables.specs.Schema.{receiveds, versions}
 use Rattle.gaz_views.specs.View.{custody_at}
 use Rattle.gaz_kept.specs.Files.{reached_in}

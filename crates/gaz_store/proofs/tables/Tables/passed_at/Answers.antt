@@ -2,11 +2,14 @@ use Rattle.std.proofs.Common.{◌∙◌, ap, sym}
 use Rattle.gaz_store.specs.Passing.{was_passed}
 use Rattle.gaz_store.proofs.Answered.{asked_as}
 use Rattle.gaz_store.proofs.Composing.{asked_nothing}
-use Rattle.gaz_store.proofs.Passed.{not_of_number}
+use Rattle.gaz_store.proofs.Passed.{none_used, not_of_number}
 use Rattle.gaz_store.proofs.tables.Tables.passed_at.Goals as goal
 
+pub returns-then-none : goal.returns-then-none
+returns-then-none g c = asked_nothing _ _ _ (λ db kept known. none_used db kept c.args.code (known c.if-none.true) c.args.key.now)
+
 pub returns-in-Blpu : goal.returns-in-Blpu
-returns-in-Blpu g c = asked_as _ _ _ _ _ c.passed.ensures (λ db kept passed tells. tells.used ∙ ap (was_passed db c.args.code) (sym c.in-Blpu.is))
+returns-in-Blpu g c = asked_as _ _ _ _ _ c.passed.ensures (λ db kept passed tells known. tells.used ∙ ap (was_passed db c.args.code) (sym c.in-Blpu.is))
 
 pub returns-in_default : goal.returns-in_default
-returns-in_default g c = asked_nothing _ _ _ (λ db kept. not_of_number db c.args.code c.args.key.now (λ n is. c.in_default.not-Blpu n (sym is)))
+returns-in_default g c = asked_nothing _ _ _ (λ db kept known. not_of_number db c.args.code c.args.key.now (λ n is. c.in_default.not-Blpu n (sym is)))

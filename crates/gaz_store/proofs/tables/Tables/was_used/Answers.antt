@@ -1,22 +1,6 @@
-use Rattle.std.proofs.Common.{◌∙◌, IfOk, ap, subst, sym}
-use Rattle.std.specs.Prelude.{is_some}
-use Rattle.gaz_tables.specs.Schema.{versions}
-use Rattle.gaz_kept.specs.Newest.{IsNewest}
-use Rattle.gaz_kept.specs.Versions.{histories_in}
-use Rattle.gaz_store.proofs.Answered.{answered_ok, asked_fault, asked_step}
-use Rattle.gaz_store.proofs.Passed.{used_by_life, used_by_passage}
+use Rattle.std.proofs.Common.{sym, true≢false}
+use Rattle.gaz_store.proofs.Answered.{asked_as}
 use Rattle.gaz_store.proofs.tables.Tables.was_used.Goals as goal
 
-pub returns-then-is_some : goal.returns-then-is_some
-returns-then-is_some g c =
-    answered_ok _ _ _ c.in_ok-life.life _ _ _ c.newest.ensures c.in_ok-life.was (λ db kept newest.
-    used_by_life db c.args.code c.args.key.now c.in_ok-life.life kept newest (sym c.is_some.ensures ∙ c.if-is_some.true))
-
-pub returns-in-Ok : goal.returns-in-Ok
-returns-in-Ok g c =
-    asked_step _ _ _ _ c.passed_at.result c.in-Ok.passed _ _ _ _ c.newest.ensures c.passed_at.ensures c.in-Ok.is (λ db kept was passed.
-    let newest = subst (λ r. IfOk r (IsNewest (histories_in (db.trees versions) c.args.code) c.args.key.now)) c.in_ok-life.was was in
-    c.is_some-in-Ok.ensures ∙ used_by_passage db c.args.code c.args.key.now c.in_ok-life.life kept newest (sym c.is_some.ensures ∙ c.if-is_some.false) (is_some c.in-Ok.passed) passed)
-
 pub returns : goal.returns
-returns g c = asked_fault _ _ _ _ _ c.in-Err.fault _ _ _ c.newest.ensures c.passed_at.ensures c.in-Err.is
+returns g c = asked_as _ _ _ _ _ c.used.ensures (λ db kept b is. is (λ e p there. absurd (true≢false (sym e))))

@@ -1,0 +1,10 @@
+use Rattle.gaz_store.proofs.Answered.{answered_ok}
+use Rattle.gaz_store.proofs.Composing.{asked_nothing}
+use Rattle.gaz_store.proofs.judgement.Judgement.ask_passed.Goals as goal
+
+pub returns-then-self-clause-asks : goal.returns-then-self-clause-asks
+returns-then-self-clause-asks g c = asked_nothing _ _ _ (λ db kept w makes. makes)
+
+pub returns-in-Ok-clause-asks : goal.returns-in-Ok-clause-asks
+returns-in-Ok-clause-asks g c =
+    answered_ok _ _ _ c.in-Ok.none _ _ _ c.none_passed.ensures c.in-Ok.is (λ db kept known w makes. record { made = makes.made; told = makes.told; passed = makes.passed; none = known })
