@@ -15,10 +15,18 @@ def homes(sources: dict[str, str]) -> dict[str, str]:
 
 
 def stands_alone(text: str, function: Function) -> bool:
-    """Whether it has a body and a proof of its own wherever it is read: no method of a trait, no function within one, no test."""
+    """Whether it has a body and a proof of its own wherever it is read: no method of a trait, no function within one, no test, none that
+    calls itself, whose proof is that of what calls each other."""
     lines = text.split("\n")[function.first - 1 : function.last]
     is_inside = lines[0].startswith(" ") and not function.owner
-    return not is_inside and not lines[-1].endswith(";") and not any(it.strip().startswith("#[") for it in lines)
+    calls_itself = call_of(function).search("\n".join(lines[1:])) is not None
+    return not is_inside and not calls_itself and not lines[-1].endswith(";") and not any(it.strip().startswith("#[") for it in lines)
+
+
+def call_of(function: Function) -> re.Pattern:
+    """How a function calls itself."""
+    behind = r"\b(?:self\.|Self::)" if function.owner else r"(?<![\w.:])(?<!fn )"
+    return re.compile(rf"{behind}{function.name}\(")
 
 
 def folder_of(function: Function, homes: dict[str, str]) -> str | None:

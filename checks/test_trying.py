@@ -126,6 +126,10 @@ fn tries() {
 
 fn free() {
 }
+
+fn again(n: u8) {
+    again(n - 1);
+}
 """
 
     def test_what_no_edit_changes_has_a_hole(self):

@@ -31,7 +31,7 @@ pub record ExtractsStay : Type 0 where
       → (c volume : ℕ) → volume ≤ reached old.board c
       → extract new.board c volume ≡ extract old.board c volume
 
--- where blocks alone decide, a property stands in the last view of one custodian at most
+-- a property stands in the last view of one custodian at most
 abbrev pub OneHolder : Type 0
 OneHolder =
     (register : RegisterValue) (files : Received) (board : Board) → IsRegister register
