@@ -2,7 +2,7 @@
 
 import re
 
-from checks.source import Function, functions, module_folder
+from checks.source import HEAD, Function, functions, module_folder, opens
 
 TYPE = re.compile(r"(?:pub(?:\([a-z ]+\))? )?(?:struct|enum) (\w+)", re.M)
 PROOFS = ("Answers.antt", "Invariants.antt", "Proof.antt")
@@ -44,15 +44,30 @@ def hole_at(crate: str, folder: str) -> str:
     return f"use {module}.Statement as stated\n\npub {name}_spec : {{M : Type 1}} → stated.statement M\n{name}_spec = ?\n"
 
 
+def cut(text: str, places: list[Function]) -> str:
+    """The text with nothing left of the bodies of these functions, each line where it was: what they call isn't read then."""
+    lines = text.split("\n")
+    for it in places:
+        indent = re.match(" *", lines[it.last - 1])[0]
+        head = next(at for at in range(it.first - 1, it.last) if HEAD.match(lines[at]))
+        first = next((at for at in range(head, it.last - 1) if opens(lines[at], indent)), None)
+        if first is not None and first + 1 < it.last - 1:
+            lines[first + 1 : it.last - 1] = [f"{indent}    unreachable!()", *[""] * (it.last - first - 3)]
+    return "\n".join(lines)
+
+
 def holes(crate: str, sources: dict[str, str], changed: set[Function]) -> dict[str, str | None]:
     """The files of proofs as they are with a hole for each function but these: none where a file goes."""
     made: dict[str, str | None] = {}
     found = homes(sources)
     for file in (it for it in sources if it.startswith("src/")):
+        left_out = []
         for function in functions(file, sources[file]):
             folder = folder_of(function, found)
             if function in changed or folder is None or not stands_alone(sources[file], function):
                 continue
             made |= {f"{folder}/{it}": None for it in PROOFS if f"{folder}/{it}" in sources}
             made[f"{folder}/Proof.antt"] = hole_at(crate, folder)
+            left_out += [] if "const fn" in sources[file].split("\n")[function.first - 1 : function.last][0] else [function]
+        made[file] = cut(sources[file], left_out)
     return made

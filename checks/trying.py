@@ -71,10 +71,12 @@ class Bench:
 
     def try_some(self, edits: list[Edit]) -> tuple[measure.Ran, list[Fault]]:
         """Checks what these edits change, by the contracts of all else, and tells the faults that were named."""
-        changed, texts = {place for edit in edits for place in edit.places}, merged(edits, self.sources)
+        changed = {place for edit in edits for place in edit.places}
         open_ones = holes(self.crate.name, self.sources, changed)
+        texts = merged(edits, self.sources | {it: text for it, text in open_ones.items() if text is not None})
+        open_ones |= texts
         with tempfile.TemporaryDirectory(prefix="check-kept-") as kept:
-            ran = self.check(texts | open_ones, paths(edits), Path(kept))
+            ran = self.check(open_ones, paths(edits), Path(kept))
         return ran, faults_in(ran.text, list(texts))
 
     def try_whole(self, edits: list[Edit]) -> tuple[measure.Ran, list[Fault]]:

@@ -14,7 +14,7 @@ pub type HouseDigits = Number<10, 4, 1, 9999>;
 ///
 /// Its order is by the number, then by the suffix; a number without a suffix comes before those
 /// with one.
-#[derive(Clone, Copy, Debug, PartialEq, Eq, PartialOrd, Ord)]
+#[derive(Clone, Copy, PartialEq, Eq, PartialOrd, Ord)]
 pub struct HouseNumber {
     n: u16,
     suffix: Option<u8>,

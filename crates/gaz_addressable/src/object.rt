@@ -5,7 +5,7 @@ use thiserror::Error;
 
 /// Why five fields are no object: the first of these that applies, in the order that `Object::read`
 /// gives.
-#[derive(Clone, Copy, Debug, PartialEq, Eq, Error)]
+#[derive(Clone, Copy, Debug, Error)]
 pub enum ObjFault {
     #[error("no field is filled")]
     Empty,
@@ -26,7 +26,7 @@ pub enum ObjFault {
 }
 
 /// An addressable object: house numbers, a text of at most 90 characters, or both.
-#[derive(Debug, Drop)]
+#[derive(Drop)]
 pub struct Object {
     pub range: Option<Range>,
     pub text: Option<Text<90>>,

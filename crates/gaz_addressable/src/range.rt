@@ -7,7 +7,7 @@ use std::fmt;
 use std::marker::Model;
 
 /// One house number, or all from one to a later one.
-#[derive(Clone, Copy, Debug, PartialEq, Eq)]
+#[derive(Clone, Copy)]
 pub struct Range {
     from: u16,
     to: u16,

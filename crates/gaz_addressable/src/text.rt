@@ -9,7 +9,7 @@ use std::str;
 use thiserror::Error;
 
 /// Why bytes are no text of a length. The faults are looked for in this order.
-#[derive(Clone, Copy, Debug, PartialEq, Eq, Error)]
+#[derive(Clone, Copy, Debug, Error)]
 pub enum TextFault {
     /// Not UTF-8, no character, a control character, or a space at an end.
     #[error("no text")]
@@ -22,7 +22,7 @@ pub enum TextFault {
 
 /// A text of 1 to `MOST` characters in UTF-8, none of them below U+0020 nor U+007F, with no space
 /// (U+0020) at either end.
-#[derive(Debug, Drop)]
+#[derive(Drop)]
 pub struct Text<const MOST: u64> {
     inner: String,
 }

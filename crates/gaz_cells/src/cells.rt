@@ -12,7 +12,7 @@ use std::alloc::{AllocError, Global};
 use std::marker::Model;
 
 /// The numbers by which items are looked for in tables. Each is 0 where an item has none.
-#[derive(Clone, Copy, Debug, PartialEq, Eq)]
+#[derive(Clone, Copy)]
 pub struct Links {
     /// The UPRN of a cross reference or an LPI; of a BLPU that of which it is a part.
     pub blpu: u64,
@@ -35,7 +35,7 @@ impl Model for Links {
 }
 
 /// The columns of an item.
-#[derive(Debug, Drop)]
+#[derive(Drop)]
 pub struct Cells {
     /// The record identifier of the kind: 11, 15, 21, 23 or 24.
     pub kind: u64,

@@ -16,7 +16,7 @@ use std::marker::Model;
 const CUSTODY: u64 = 92;
 
 /// The columns of what became of a number.
-#[derive(Debug, Drop)]
+#[derive(Drop)]
 pub struct CustodyCells {
     /// Of kind 92, the number's; `street` is the other custodian's code, and the body is empty.
     pub cells: Cells,

@@ -1,7 +1,7 @@
 use thiserror::Error;
 
 /// Why the cells of a row are no item: the first cell that disagrees, in this order.
-#[derive(Clone, Copy, Debug, PartialEq, Eq, Error)]
+#[derive(Clone, Copy, Debug, Error)]
 pub enum CellFault {
     /// No kind has this record identifier.
     #[error("no kind has this number")]

@@ -3,7 +3,7 @@ ghost use Rattle.gaz_changefile.specs.Lines.{action_of};
 ghost use Rattle.gaz_changefile.specs.Writing.{action_text};
 
 /// What a change does to its item.
-#[derive(Clone, Copy, Debug, PartialEq, Eq)]
+#[derive(Clone, Copy)]
 pub enum Action {
     Insert,
     Update,

@@ -3,7 +3,7 @@ use gaz_ids::{Code, Volume};
 use gaz_records::SharedItem;
 
 /// A change of an item.
-#[derive(Debug, Drop)]
+#[derive(Drop)]
 pub struct Change {
     /// The number of the record that says so, from 1, which is the header's.
     pub place: u64,
@@ -13,7 +13,7 @@ pub struct Change {
 }
 
 /// A basis line: the file rests on what another custodian's file of this volume left (our profile).
-#[derive(Clone, Copy, Debug, PartialEq, Eq)]
+#[derive(Clone, Copy)]
 pub struct Basis {
     pub custodian: Code,
     pub volume: Volume,

@@ -11,7 +11,7 @@ use std::marker::Model;
 use thiserror::Error;
 
 /// A good change file, seen as its contents.
-#[derive(Debug, Drop)]
+#[derive(Drop)]
 pub struct ChangeFile {
     /// The date in the header.
     pub date: Day,

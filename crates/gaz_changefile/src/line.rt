@@ -7,7 +7,7 @@ use csv::ByteRecord;
 use gaz_records::Kind;
 
 /// What a record behind the header of a profile is, by its first field.
-#[derive(Clone, Copy, Debug, PartialEq, Eq)]
+#[derive(Clone, Copy)]
 pub(crate) enum Line {
     Change(Kind),
     Basis,

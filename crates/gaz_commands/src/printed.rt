@@ -11,7 +11,7 @@ use gaz_register::GrowFault;
 use std::fmt;
 
 /// Why the hub's door, or a word that doesn't read, turned a command away.
-#[derive(Clone, Copy, Debug, PartialEq, Eq)]
+#[derive(Clone, Copy)]
 pub enum DoorRefusal {
     /// 11: no custodian's code.
     UnknownCustodian,
@@ -48,7 +48,7 @@ fn growth_number(fault: GrowFault) -> u8
 }
 
 /// A line of what a command answers.
-#[derive(Debug, Drop)]
+#[derive(Drop)]
 pub enum PrintedLine {
     /// A store was made.
     Ready,

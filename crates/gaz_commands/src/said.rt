@@ -11,7 +11,7 @@ use gaz_hub::{Answer, Refusal, Standing};
 use std::marker::Model;
 
 /// A fault, which standard error names.
-#[derive(Clone, Copy, Debug, PartialEq, Eq)]
+#[derive(Clone, Copy, PartialEq, Eq)]
 pub enum Fault {
     /// The change file can't be read.
     Unreadable,
@@ -35,7 +35,7 @@ impl Fault {
 }
 
 /// The text of an extract.
-#[derive(Debug, Drop)]
+#[derive(Drop)]
 pub struct ExtractText {
     bytes: Vec<u8>,
 }
@@ -58,7 +58,7 @@ impl ExtractText {
 }
 
 /// What a command says.
-#[derive(Debug, Drop)]
+#[derive(Drop)]
 pub enum Said {
     /// A line for standard output.
     Line(PrintedLine),

@@ -11,7 +11,7 @@ use crate::supply::{Cause, Supply, read_more};
 use std::alloc::{AllocError, Global};
 
 /// What came of a body.
-#[derive(Debug, Drop)]
+#[derive(Drop)]
 pub enum Body {
     Whole(Vec<u8>),
     /// The input ended within it.

@@ -10,7 +10,7 @@ use gaz_ids::{Code, Uprn, Volume};
 use matchit::{Params, ParamsIter};
 
 /// The methods that some target takes, and all others.
-#[derive(Clone, Copy, Debug, PartialEq, Eq)]
+#[derive(Clone, Copy)]
 pub enum Method {
     Get,
     Post,
@@ -37,7 +37,7 @@ impl Method {
 
 /// What the hub is asked, but for the body. A number that doesn't read stands as 0, which the hub's
 /// door refuses.
-#[derive(Clone, Copy, Debug, PartialEq, Eq)]
+#[derive(Clone, Copy)]
 pub enum Call {
     Submit { code: u64, volume: u64 },
     Ask { code: u64, volume: u64 },

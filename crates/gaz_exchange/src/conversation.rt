@@ -22,7 +22,7 @@ use gaz_keeper::Inbox;
 use std::alloc::Global;
 
 /// Why a conversation ended.
-#[derive(Clone, Copy, Debug, PartialEq, Eq)]
+#[derive(Clone, Copy)]
 pub enum Ended {
     /// So many requests were answered as were allowed.
     Most,
@@ -33,7 +33,7 @@ pub enum Ended {
 }
 
 /// A conversation that ended.
-#[derive(Clone, Copy, Debug, PartialEq, Eq)]
+#[derive(Clone, Copy)]
 pub struct Served {
     /// The replies that were wholly written.
     pub requests: u64,
@@ -41,7 +41,7 @@ pub struct Served {
 }
 
 /// A conversation that couldn't go on.
-#[derive(Clone, Copy, Debug, PartialEq, Eq)]
+#[derive(Clone, Copy)]
 pub struct Stopped {
     /// The replies that were wholly written.
     pub requests: u64,
@@ -49,7 +49,7 @@ pub struct Stopped {
 }
 
 /// What came of one turn of a conversation.
-#[derive(Clone, Copy, Debug, PartialEq, Eq)]
+#[derive(Clone, Copy)]
 pub enum Turn {
     /// A request was answered, and others may follow.
     Answered,

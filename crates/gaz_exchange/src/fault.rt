@@ -6,14 +6,14 @@ ghost use Rattle.gaz_exchange.specs.declared.reply.Reply.TheVariants as Reply;
 use gaz_hub::Refusal;
 
 /// The methods that a target takes.
-#[derive(Clone, Copy, Debug, PartialEq, Eq)]
+#[derive(Clone, Copy, PartialEq, Eq)]
 pub enum Allowed {
     Get,
     GetAndPost,
 }
 
 /// Why a request was refused.
-#[derive(Clone, Copy, Debug, PartialEq, Eq)]
+#[derive(Clone, Copy, PartialEq, Eq)]
 pub enum Fault {
     /// 11: the register doesn't hold the code.
     UnknownCustodian,

@@ -11,7 +11,7 @@ use gaz_ids::digits::are_digits;
 use httparse::spans::HeaderSpan;
 
 /// How long the body of a request is.
-#[derive(Clone, Copy, Debug, PartialEq, Eq)]
+#[derive(Clone, Copy)]
 pub enum Framing {
     /// In bytes, at most 1,048,576.
     Length(usize),

@@ -16,7 +16,7 @@ use httparse::spans::{HeaderSpan, RequestSpans, parse_request};
 const HEAD_LIMIT: usize = 8192;
 
 /// What comes next on a stream.
-#[derive(Debug, Drop)]
+#[derive(Drop)]
 pub enum Next {
     /// A head, at the front of the pending bytes.
     Head(RequestSpans),
@@ -29,7 +29,7 @@ pub enum Next {
 }
 
 /// What the pending bytes begin with.
-#[derive(Debug, Drop)]
+#[derive(Drop)]
 pub enum Look {
     Head(RequestSpans),
     /// No head yet.

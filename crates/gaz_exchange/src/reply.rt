@@ -10,7 +10,7 @@ use gaz_hub::{Answer, Digest, Outcome, Refusal, Standing};
 use std::marker::Model;
 
 /// The text of an extract.
-#[derive(Debug, Drop)]
+#[derive(Drop)]
 pub struct ExtractText {
     bytes: Vec<u8>,
 }
@@ -33,7 +33,7 @@ impl ExtractText {
 }
 
 /// Addresses on closed streets.
-#[derive(Debug, Drop)]
+#[derive(Drop)]
 pub struct ClosedList {
     closed: Vec<Closed>,
 }
@@ -57,7 +57,7 @@ impl ClosedList {
 }
 
 /// What a reply says.
-#[derive(Debug, Drop)]
+#[derive(Drop)]
 pub enum Reply {
     /// What became of a file that was received now.
     New(Outcome),

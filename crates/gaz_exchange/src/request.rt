@@ -24,7 +24,7 @@ use std::alloc::Global;
 use std::mem::replace;
 
 /// A request that came whole.
-#[derive(Debug, Drop)]
+#[derive(Drop)]
 pub struct Request {
     /// What the hub is asked, or why it isn't.
     pub call: Result<Call, Fault>,
@@ -34,7 +34,7 @@ pub struct Request {
 }
 
 /// What comes next on a stream.
-#[derive(Debug, Drop)]
+#[derive(Drop)]
 pub enum Incoming {
     Request(Request),
     /// What is no request, or one whose body can't be read.
@@ -46,7 +46,7 @@ pub enum Incoming {
 }
 
 /// What is needed of a head when its bytes are gone.
-#[derive(Clone, Copy, Debug)]
+#[derive(Clone, Copy)]
 pub struct Needed {
     framing: Framing,
     call: Result<Call, Fault>,

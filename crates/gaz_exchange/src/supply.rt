@@ -9,7 +9,7 @@ use crate::sink::Sink;
 use crate::source::Source;
 
 /// What failed in a conversation.
-#[derive(Clone, Copy, Debug, PartialEq, Eq)]
+#[derive(Clone, Copy)]
 pub enum Cause {
     /// The reader failed, whatever its error.
     ReadFault,
@@ -18,7 +18,7 @@ pub enum Cause {
 }
 
 /// What came of asking for more bytes.
-#[derive(Clone, Copy, Debug, PartialEq, Eq)]
+#[derive(Clone, Copy)]
 pub enum Supply {
     Some,
     /// The input ended.

@@ -13,7 +13,7 @@ use std::marker::Model;
 const LINE_ROOM: usize = 128;
 
 /// The address line of a property.
-#[derive(Debug, Drop)]
+#[derive(Drop)]
 pub struct AddressLine {
     text: String,
 }

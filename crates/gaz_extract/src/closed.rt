@@ -19,7 +19,7 @@ use std::alloc::{AllocError, Global};
 use std::collections::BTreeMap;
 
 /// An approved address of a custodian on a street that another custodian closed.
-#[derive(Clone, Copy, Debug)]
+#[derive(Clone, Copy)]
 pub struct Closed {
     pub custodian: Code,
     pub lpi: RecordKey,

@@ -16,7 +16,7 @@ use gaz_register::Register;
 use std::alloc::Global;
 
 /// Where a property stands, and how it is addressed.
-#[derive(Debug, Drop)]
+#[derive(Drop)]
 pub struct Found {
     pub custodian: Code,
     pub uprn: Uprn,

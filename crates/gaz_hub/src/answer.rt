@@ -5,7 +5,7 @@ use crate::refusal::Refusal;
 pub type Digest = [u8; 32];
 
 /// The answer to a submission.
-#[derive(Clone, Copy, Debug, PartialEq, Eq)]
+#[derive(Clone, Copy, PartialEq, Eq)]
 pub enum Answer {
     /// The file was received now.
     New(Outcome),

@@ -22,7 +22,7 @@ use std::alloc::Global;
 const MOST_TURNS: u64 = 10_000;
 
 /// Whom to ask after a custodian, or whether it holds the number itself.
-#[derive(Clone, Copy, Debug, PartialEq, Eq)]
+#[derive(Clone, Copy)]
 pub enum Asked {
     Here,
     Nobody,

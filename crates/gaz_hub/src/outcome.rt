@@ -1,7 +1,7 @@
 use gaz_ids::{Code, Volume};
 
 /// What became of a received file.
-#[derive(Clone, Copy, Debug, PartialEq, Eq)]
+#[derive(Clone, Copy, PartialEq, Eq)]
 pub enum Outcome {
     /// All its changes stand.
     Applied,

@@ -1,7 +1,7 @@
 use gaz_ids::{Code, Volume};
 
 /// How far a custodian's files are judged.
-#[derive(Clone, Copy, Debug, PartialEq, Eq)]
+#[derive(Clone, Copy)]
 pub struct Standing {
     pub custodian: Code,
     /// Files that were received and aren't judged.

@@ -1,7 +1,7 @@
 use thiserror::Error;
 
 /// Why a text is no number of its kind. The faults are looked for in this order.
-#[derive(Clone, Copy, Debug, PartialEq, Eq, Error)]
+#[derive(Clone, Copy, Debug, Error)]
 pub enum IdFault {
     #[error("no digit")]
     Empty,

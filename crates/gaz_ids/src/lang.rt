@@ -5,7 +5,7 @@ use std::cmp::Ordering;
 
 /// A language of names: Welsh or English (our profile). Welsh comes first in order, as `CYM` does
 /// before `ENG`.
-#[derive(Clone, Copy, Debug, PartialEq, Eq, PartialOrd, Ord, Hash)]
+#[derive(Clone, Copy, PartialEq, Eq, PartialOrd, Ord, Hash)]
 pub enum Lang {
     /// `CYM`.
     Cym,

@@ -11,7 +11,7 @@ use std::marker::Model;
 ///
 /// `KIND` keeps two kinds of number apart whose bounds are equal. Equality, order and hash are
 /// those of the number.
-#[derive(Clone, Copy, Debug, PartialEq, Eq, PartialOrd, Ord, Hash)]
+#[derive(Clone, Copy, PartialEq, Eq, PartialOrd, Ord, Hash)]
 pub struct Number<const KIND: u64, const WIDTH: u64, const LOW: u64, const HIGH: u64> {
     value: u64,
 }

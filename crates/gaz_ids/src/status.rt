@@ -3,7 +3,7 @@ ghost use Rattle.gaz_ids.specs.Codes.{status_number, status_of, status_text};
 
 /// The logical status of a BLPU or an LPI (BS 7666:2006, Part 2; of its values those of our
 /// profile).
-#[derive(Clone, Copy, Debug, PartialEq, Eq, Hash)]
+#[derive(Clone, Copy, PartialEq, Eq, Hash)]
 pub enum Status {
     /// 1, approved or preferred.
     Approved,

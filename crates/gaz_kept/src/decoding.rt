@@ -14,7 +14,7 @@ use sqlite::types::ValueRef;
 use std::alloc::Global;
 
 /// Why a row isn't read.
-#[derive(Clone, Copy, Debug, PartialEq, Eq)]
+#[derive(Clone, Copy)]
 pub enum RowFault {
     /// Out of memory.
     Memory,

@@ -12,7 +12,7 @@ use std::alloc::Global;
 pub const NEVER: u64 = 1_000_000;
 
 /// An item at its key, and the volumes in which it stands there.
-#[derive(Debug, Drop)]
+#[derive(Drop)]
 pub struct Life {
     /// The volume in which it came, from 1.
     pub born: u64,

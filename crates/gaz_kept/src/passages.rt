@@ -13,7 +13,7 @@ use gaz_views::Custody;
 use sqlite::Row;
 
 /// What last became of a number, and the volume in which it did.
-#[derive(Clone, Copy, Debug, PartialEq, Eq)]
+#[derive(Clone, Copy)]
 pub struct Passed {
     /// From 1.
     pub born: u64,

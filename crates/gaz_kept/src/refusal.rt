@@ -3,7 +3,7 @@ use std::alloc::AllocError;
 use thiserror::Error;
 
 /// Why a database isn't taken as a store.
-#[derive(Clone, Copy, Debug, PartialEq, Eq, Error)]
+#[derive(Clone, Copy, Debug, Error)]
 pub enum StoreRefusal {
     #[error("the tables aren't those of a store")]
     BadSchema,
@@ -15,7 +15,7 @@ pub enum StoreRefusal {
 }
 
 /// Why the rows of a store weren't read.
-#[derive(Clone, Copy, Debug, PartialEq, Eq, Error)]
+#[derive(Clone, Copy, Debug, Error)]
 pub enum Unread {
     #[error("out of memory")]
     Memory,

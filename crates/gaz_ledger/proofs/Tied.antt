@@ -20,13 +20,15 @@ use Rattle.gaz_views.proofs.SameKeys.{same_key}
 use Rattle.gaz_views.specs.View.{View}
 use Rattle.gaz_views.specs.Words.{entries, names, tied}
 use Rattle.gaz_ledger.proofs.Judgements.{IsWithin, later_view}
-use Rattle.gaz_ledger.proofs.KeyHistories.{alike_at, get_at, item_now, row_at, view_ascends}
+use Rattle.gaz_ledger.proofs.KeyHistories.{alike_at, get_at, item_now, row_at, settled_view, view_ascends}
 use Rattle.gaz_ledger.proofs.KeyOrders.{noted}
 use Rattle.gaz_ledger.proofs.Stored.{was_nowhere}
 use Rattle.gaz_ledger.proofs.Passing.{Row, has, held, is_cons, passing, some_keys, some_kept}
 use Rattle.gaz_ledger.proofs.Versions.{item_set, last, until_set}
 use Rattle.gaz_ledger.specs.Changing.{SetsAt}
 use Rattle.gaz_ledger.specs.Indexes.{has_key}
+use Rattle.gaz_ledger.specs.Ledgers.{IsLedger}
+use Rattle.gaz_ledger.specs.declared.index.Index.{Index}
 use Rattle.gaz_ledger.specs.KeyHistories.{HasTheKeysOf, ItemVersions, KeyHistories, versions_at, view_at}
 use Rattle.gaz_ledger.specs.Ties.{AddsTie, AreTies, FindsTies, IsTiedTo, KeepsTies, NotesTie, is_tied, keys_tied, may_tie, named_at, named_by, names_at}
 use Rattle.gaz_ledger.specs.declared.tied_keys.TiedKeys.{TiedKeys}
@@ -158,6 +160,32 @@ ties_set t s g h m o key notes change ties = (last_found, working_found)
         by_key : (b : Bool) → eq_by_cmp key_cmp k key ≡ b → option_and_then named_by (cond b o (standing_at (versions_at g k) (m + 1))) ≡ Some n → may_tie s n k ≡ true
         by_key true at named = ap (may_tie s n) (same_key k key at) ∙ notes.noted n named
         by_key false at named = notes.kept n k (ties.1 n k named)
+
+-- ---- whether a key is there
+
+pub found_among : (ks : List Key) (k : Key) → list_any (λ (y : Key). eq_by_cmp key_cmp y k) ks ≡ has_key ks k
+found_among [] k = refl
+found_among (x ∷ ks) k = λ i. (eq_by_cmp_equiv keys_total).symm x k i || found_among ks k i
+
+-- ---- what is found once a volume is judged or undone
+
+-- views that are one name the same
+named_same : (g h : KeyHistories) (v w : ℕ) → view_at h w ≡ view_at g v → (k : Key) → named_at h w k ≡ named_at g v k
+named_same g h v w same k = ap (option_and_then named_by) (row_at h w k ∙ ap (λ (u : View). find key_cmp k (entries u)) same ∙ sym (row_at g v k))
+
+finds_same : (t : Ties) (g h : KeyHistories) (v w : ℕ) → view_at h w ≡ view_at g v → FindsTies t g v → FindsTies t h w
+finds_same t g h v w same finds n k is = finds n k (sym (named_same g h v w same k) ∙ is)
+
+-- the working view is the last one again
+pub ties_undone : (t : Ties) (g h : KeyHistories) (y : Index) (ls : List Key) (m : ℕ) → IsLedger m h y ls → ls ≡ [] → ((v : ℕ) → v ≤ m → view_at h v ≡ view_at g v) → AreTies t g m (m + 1) → AreTies t h m (m + 1)
+ties_undone t g h y ls m ledger none past ties =
+    let empty = subst (λ (l : List Key). IsLedger m h y l) none ledger in
+    let again : view_at h (m + 1) ≡ view_at h m = settled_view h m (m + 1) m (omega arith) (omega arith) (λ k. empty.touched k refl) in
+    (finds_same t g h m m (past m (omega arith)) ties.0, finds_same t g h m (m + 1) (again ∙ past m (omega arith)) ties.0)
+
+-- the working view is the last one, and that of the next volume
+pub ties_judged : (t : Ties) (g : KeyHistories) (m n : ℕ) → n ≡ m + 1 → IsWithin m g → AreTies t g m (m + 1) → AreTies t g n (n + 1)
+ties_judged t g m n next within ties = subst (λ (p : ℕ). AreTies t g p (p + 1)) (sym next) (ties.1, finds_same t g g (m + 1) (m + 1 + 1) (later_view m g within (m + 1 + 1) (m + 1) (omega arith) (omega arith)) ties.1)
 
 -- ---- what is found is what the view has
 

@@ -34,7 +34,7 @@ pub struct Ledger {
     pub(crate) custodies: Custodies,
     // The numbers that the next volume has passed on, in no order.
     pub(crate) passed: Vec<Uprn>,
-    // Counted when a judgement asks whether something names a BLPU, and forgotten at its end.
+    // Counted when it is first asked whether something names a BLPU.
     pub(crate) ties: Ties,
 }
 
@@ -153,7 +153,6 @@ impl Ledger {
         );
         forget_all(&self.histories, &mut self.index, reached, &mut self.leaving);
         undo_passing(&mut self.custodies, reached, &mut self.passed);
-        self.ties.forget();
     }
 
     /// Judges the next volume: the working view is the view after it.
@@ -166,7 +165,6 @@ impl Ledger {
         let reached = self.verdicts.len() as u64;
         self.touched.clear();
         self.passed.clear();
-        self.ties.forget();
         forget_all(&self.histories, &mut self.index, reached, &mut self.leaving);
         Ok(())
     }

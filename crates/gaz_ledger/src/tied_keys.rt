@@ -1,7 +1,7 @@
 //! Keys by the BLPU that their items name.
 ghost use Rattle.std.specs.Prelude.{◌≡◌, [], OnOk, ℕ};
 ghost use Rattle.std.specs.Option.{option_map_or};
-ghost use Rattle.gaz_ledger.specs.Ties.{AddsTie, IsTiedTo, KeepsTies, keys_tied};
+ghost use Rattle.gaz_ledger.specs.Ties.{AddsTie, IsTiedTo, KeepsTies, is_tied, keys_tied};
 
 use crate::seed::Seed;
 use gaz_ids::Uprn;
@@ -48,12 +48,23 @@ impl TiedKeys {
         Ok(())
     }
 
-    /// Adds a key under a BLPU, where one is given.
+    // Whether a key is under a BLPU.
+    fn has(&self, uprn: Uprn, key: &SortKey) -> bool
+        ensures { result ≡ is_tied self.now uprn key.now }
+    {
+        match self.get(uprn) {
+            Some(keys) => keys.as_slice().contains(key),
+            None => false,
+        }
+    }
+
+    /// Adds a key under a BLPU, where one is given and the key isn't there yet.
     pub fn add_some(&mut self, named: Option<Uprn>, key: SortKey) -> Result<(), AllocError>
         ensures kept { OnOk result (KeepsTies self.old self.new) }
         ensures tied { OnOk result (IsTiedTo self.new named key) }
     {
         match named {
+            Some(uprn) if self.has(uprn, &key) => Ok(()),
             Some(uprn) => self.add(uprn, key),
             None => Ok(()),
         }

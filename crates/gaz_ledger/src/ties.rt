@@ -14,8 +14,8 @@ use gaz_ids::Uprn;
 use gaz_records::{Key, SharedItem, SortKey};
 use std::alloc::AllocError;
 
-/// The keys of the items that name a BLPU, from when they are asked for until the volume is judged
-/// or undone. Until then they take no memory.
+/// The keys of the items that name a BLPU, or named it since they were first asked for. Until then
+/// they take no memory.
 #[derive(Drop)]
 pub struct Ties {
     seed: Seed,

@@ -26,7 +26,7 @@ pub struct Life {
 }
 
 /// What became of a custodian's number at a volume, as a keeper lists it.
-#[derive(Clone, Copy)]
+#[derive(Clone, Copy, PartialEq, Eq)]
 pub struct Passage {
     /// The number.
     pub uprn: Uprn,

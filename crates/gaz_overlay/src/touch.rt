@@ -7,7 +7,7 @@ use gaz_views::share_found;
 use std::alloc::AllocError;
 
 /// What the tables have at a key before the volume.
-#[derive(Clone, Copy, Debug, PartialEq, Eq)]
+#[derive(Clone, Copy, PartialEq, Eq)]
 pub enum Stood {
     /// No row, so that the key was never used.
     Never,
@@ -18,7 +18,7 @@ pub enum Stood {
 }
 
 /// A key that the volume has touched.
-#[derive(Debug, Drop)]
+#[derive(Drop)]
 pub struct Touch {
     pub stood: Stood,
     /// The item that the volume has put there last, whether it was taken since or not.
@@ -26,7 +26,7 @@ pub struct Touch {
 }
 
 /// What is to be written for a key when the volume is kept.
-#[derive(Debug, Drop)]
+#[derive(Drop)]
 pub struct Writing {
     /// The current row is gone with the volume: the one that was born in this volume.
     pub closes: Option<u64>,
@@ -35,7 +35,7 @@ pub struct Writing {
 }
 
 /// A row that is born in the volume.
-#[derive(Debug, Drop)]
+#[derive(Drop)]
 pub struct NewRow {
     pub item: SharedItem,
     /// Whether it is current. If not it is gone with the volume too, and says only that its key was

@@ -14,7 +14,7 @@ use std::alloc::{AllocError, Global};
 
 /// A custodian takes a property that another released to it (our profile): the BLPU as it is to
 /// stand in its gazetteer, who released it, and how often it has passed on then.
-#[derive(Debug, Drop)]
+#[derive(Drop)]
 pub struct Adopt {
     pub blpu: Blpu,
     pub from: Code,

@@ -24,7 +24,7 @@ pub type Northing = Number<22, 7, 0, 1_300_000>;
 ///
 /// It is no alternative, and its end date isn't before its start date. `parent` is the BLPU of
 /// which it is a part.
-#[derive(Debug, Drop)]
+#[derive(Drop)]
 pub struct Blpu {
     pub uprn: Uprn,
     pub status: Status,

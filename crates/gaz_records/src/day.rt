@@ -7,7 +7,7 @@ use jiff::civil::Date;
 use std::marker::Model;
 
 /// A civil date, from the year 1 to 9999, of the calendar that ISO 8601 extends (`jiff`).
-#[derive(Clone, Copy, Debug, PartialEq, Eq)]
+#[derive(Clone, Copy)]
 pub struct Day {
     year: u16,
     month: u8,
@@ -125,7 +125,7 @@ impl Day {
 }
 
 /// The date on which a record ended, if it has.
-#[derive(Clone, Copy, Debug)]
+#[derive(Clone, Copy)]
 pub struct EndDay {
     year: u16,
     month: u8,

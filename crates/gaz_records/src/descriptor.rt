@@ -15,7 +15,7 @@ use std::marker::Model;
 
 /// A street's descriptor: what it is called in a language, and where it lies (BS 7666:2006, Part 1;
 /// the lengths are our profile's).
-#[derive(Debug, Drop)]
+#[derive(Drop)]
 pub struct Descriptor {
     pub usrn: Usrn,
     pub lang: Lang,

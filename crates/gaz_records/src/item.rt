@@ -18,7 +18,7 @@ use gaz_rows::read_row;
 use std::alloc::{AllocError, Global};
 
 /// The kind of an item. The five below 91 are entries: items of them stand in views.
-#[derive(Clone, Copy, Debug, PartialEq, Eq)]
+#[derive(Clone, Copy)]
 pub enum Kind {
     /// Record identifier 11.
     Street,
@@ -38,7 +38,7 @@ pub enum Kind {
 
 /// An item of a custodian's gazetteer, or a record by which a property passes from one custodian
 /// to another.
-#[derive(Debug, Drop)]
+#[derive(Drop)]
 pub enum Item {
     Street(Street),
     Descriptor(Descriptor),

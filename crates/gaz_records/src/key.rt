@@ -10,7 +10,7 @@ use std::cmp::Ordering;
 ///
 /// In order they go by kind, then by number, a street's descriptors `CYM` before `ENG`, and by the
 /// bytes of the key.
-#[derive(Clone, Copy, Debug, PartialEq, Eq, PartialOrd, Ord)]
+#[derive(Clone, Copy, PartialEq, Eq, PartialOrd, Ord)]
 pub enum Key {
     Street(Usrn),
     Descriptor(Usrn, Lang),

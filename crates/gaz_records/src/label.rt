@@ -14,7 +14,7 @@ use std::marker::Model;
 
 /// A label of 1 to `MOST` letters `A` to `Z` and digits `0` to `9` (our profile). Its order is that
 /// of its bytes.
-#[derive(Clone, Copy, Debug)]
+#[derive(Clone, Copy)]
 pub struct Label<const MOST: usize> {
     bytes: [u8; MOST],
 }

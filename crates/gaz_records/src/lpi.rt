@@ -18,7 +18,7 @@ use std::marker::Model;
 /// A land and property identifier: an address of a BLPU on a street (BS 7666:2006, Part 2).
 ///
 /// Its end date isn't before its start date.
-#[derive(Debug, Drop)]
+#[derive(Drop)]
 pub struct Lpi {
     pub key: RecordKey,
     pub lang: Lang,

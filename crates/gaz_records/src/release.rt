@@ -13,7 +13,7 @@ use std::alloc::AllocError;
 
 /// A custodian gives a property up to another (our profile): its number, who is to have it, and
 /// how often it will have passed on then.
-#[derive(Debug, Drop)]
+#[derive(Drop)]
 pub struct Release {
     pub uprn: Uprn,
     pub to: Code,

@@ -8,7 +8,7 @@ use std::ops::Deref;
 use std::rc::Rc;
 
 /// An item that several hold: one more takes no memory, and none can change it.
-#[derive(Debug, Drop)]
+#[derive(Drop)]
 pub struct SharedItem {
     item: Rc<Item, Global>,
 }

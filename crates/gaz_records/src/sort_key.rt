@@ -24,7 +24,7 @@ const SEVEN_BYTES: u64 = 1 << 56;
 ///
 /// The first number is the record identifier of the kind with the number or the first seven letters
 /// and digits behind it; the second is the language, `CYM` before `ENG`, or the other seven.
-#[derive(Clone, Copy, Debug)]
+#[derive(Clone, Copy)]
 pub struct SortKey {
     high: u64,
     low: u64,

@@ -19,7 +19,7 @@ type Sort = Number<20, 1, 1, 4>;
 ///
 /// `sort` is 1 officially designated name, 2 street description, 3 numbered street or 4 unofficial
 /// name. A street with an end date is closed; `end` isn't before `start`.
-#[derive(Debug, Drop)]
+#[derive(Drop)]
 pub struct Street {
     pub usrn: Usrn,
     pub sort: u8,

@@ -19,7 +19,7 @@ use std::marker::Model;
 /// bounds are our profile's).
 ///
 /// Its end date isn't before its start date.
-#[derive(Debug, Drop)]
+#[derive(Drop)]
 pub struct Xref {
     pub key: RecordKey,
     pub uprn: Uprn,

@@ -8,7 +8,7 @@ use std::fmt;
 use std::marker::Model;
 
 /// The numbers of one kind from a first to a last, both included.
-#[derive(Clone, Copy, Debug, PartialEq, Eq)]
+#[derive(Clone, Copy, PartialEq, Eq)]
 pub struct Block {
     first: u64,
     last: u64,

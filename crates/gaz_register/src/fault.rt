@@ -6,7 +6,7 @@ use thiserror::Error;
 
 /// Why a text is no register. The faults are looked for in this order; `Memory` may come in place
 /// of any other answer.
-#[derive(Clone, Copy, Debug, PartialEq, Eq, Error)]
+#[derive(Clone, Copy, Debug, Error)]
 pub enum RegFault {
     #[error("not TOML")]
     NotToml,

@@ -7,7 +7,7 @@ use crate::register::Register;
 use thiserror::Error;
 
 /// Why a register is no growth of another. The faults are looked for in this order.
-#[derive(Clone, Copy, Debug, PartialEq, Eq, Error)]
+#[derive(Clone, Copy, Debug, Error)]
 pub enum GrowFault {
     #[error("a custodian is no longer there")]
     RemovedCustodian,

@@ -17,7 +17,7 @@ use gaz_register::Register;
 use std::alloc::Global;
 
 /// A record at fault and the rule that it breaks.
-#[derive(Clone, Copy, Debug)]
+#[derive(Clone, Copy)]
 pub(crate) struct Fault {
     /// The number of the record, from 1 (the header).
     pub place: u64,

@@ -11,7 +11,7 @@ use gaz_ids::{Code, Lang, Usrn};
 use gaz_keeper::{Shelf, ShelfFault};
 
 /// What an approved LPI breaks that names this street in this language.
-#[derive(Clone, Copy)]
+#[derive(Clone, Copy, PartialEq, Eq)]
 struct Answer {
     usrn: Usrn,
     lang: Lang,

@@ -133,7 +133,7 @@ fn stands_at<K: Shelf>(
 }
 
 /// What an approved LPI breaks by its street.
-#[derive(Clone, Copy)]
+#[derive(Clone, Copy, PartialEq, Eq)]
 pub(crate) struct StreetFaults {
     /// Rule 32: it is found nowhere.
     pub(crate) is_nowhere: bool,

@@ -5,7 +5,7 @@ ghost use Rattle.gaz_shelf.specs.Calls.{counted, failure_of, no_calls, plan_from
 use gaz_keeper::ShelfFault;
 
 /// A call of a keeper.
-#[derive(Clone, Copy, Debug, PartialEq, Eq)]
+#[derive(Clone, Copy)]
 pub enum Call {
     Reached,
     Verdict,
@@ -35,7 +35,7 @@ pub enum Call {
 }
 
 /// How often each call was made; a count stays at its last value.
-#[derive(Clone, Copy, Debug, PartialEq, Eq)]
+#[derive(Clone, Copy)]
 pub struct Calls {
     pub reached: u64,
     pub verdict: u64,

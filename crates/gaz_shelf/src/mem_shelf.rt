@@ -10,7 +10,7 @@ use gaz_ledger::Seed;
 use std::alloc::Global;
 
 /// Whether a judgement is in progress, and whose.
-#[derive(Clone, Copy, Debug, PartialEq, Eq)]
+#[derive(Clone, Copy)]
 pub enum Judging {
     Idle,
     Open(Code),

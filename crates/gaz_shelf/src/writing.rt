@@ -10,7 +10,7 @@ use gaz_keeper::{Shelf, ShelfFault};
 use gaz_records::SharedItem;
 
 /// How a judgement is to end.
-#[derive(Clone, Copy, Debug, PartialEq, Eq)]
+#[derive(Clone, Copy)]
 pub enum Ending {
     /// The volume is applied.
     Keep,

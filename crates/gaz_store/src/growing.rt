@@ -23,7 +23,7 @@ use thiserror::Error;
 
 /// Why a store's register didn't grow. They are looked for in this order; `Memory` may come in place
 /// of any.
-#[derive(Clone, Copy, Debug, PartialEq, Eq, Error)]
+#[derive(Clone, Copy, Debug, Error)]
 pub enum ExtendFault {
     #[error("the store is of another register")]
     OtherRegister,

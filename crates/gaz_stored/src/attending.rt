@@ -24,7 +24,7 @@ use std::marker::Brand;
 use std::net::{OpenListener, OpenStream};
 
 /// Why no connection is answered though there is a hub.
-#[derive(Clone, Copy, Debug, PartialEq, Eq)]
+#[derive(Clone, Copy)]
 pub enum Unserved {
     /// There is no listener.
     NoPort,

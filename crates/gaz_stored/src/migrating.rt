@@ -16,7 +16,7 @@ use std::alloc::Global;
 use std::marker::Brand;
 
 /// What a store's migration came to.
-#[derive(Clone, Copy, Debug, PartialEq, Eq)]
+#[derive(Clone, Copy)]
 pub enum Migration {
     /// It was of schema 1, and is of schema 2.
     Done,

@@ -17,7 +17,7 @@ use sqlite::Alter;
 use std::alloc::Global;
 
 /// Where what is asked of a store is read.
-#[derive(Clone, Copy, Debug, PartialEq, Eq)]
+#[derive(Clone, Copy)]
 pub enum ReadFrom {
     /// From memory: all that the store keeps is put at hand first, where memory allows and all is
     /// settled.

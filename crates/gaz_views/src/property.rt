@@ -4,7 +4,7 @@ use gaz_records::SharedItem;
 use std::alloc::AllocError;
 
 /// A BLPU with its address.
-#[derive(Debug, Drop)]
+#[derive(Drop)]
 pub struct Property {
     pub blpu: SharedItem,
     /// Its approved LPI: that of the least key, where there are several.

@@ -1,5 +1,5 @@
 /// What became of a judged volume.
-#[derive(Clone, Copy, Debug, PartialEq, Eq)]
+#[derive(Clone, Copy, PartialEq, Eq)]
 pub enum Verdict {
     Applied,
     /// The first record at fault, from 1 (the header), and the rule that it breaks.

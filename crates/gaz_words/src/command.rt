@@ -6,7 +6,7 @@ use clap::{ArgMatches, Error};
 use std::alloc::Global;
 
 /// Where the files of a command stand.
-#[derive(Clone, Copy, Debug, PartialEq, Eq)]
+#[derive(Clone, Copy)]
 pub struct Places<'a> {
     /// The path of the store's file.
     pub store: &'a str,
@@ -16,7 +16,7 @@ pub struct Places<'a> {
 
 /// What a hub is asked. Codes, volumes and UPRNs are the texts that were written, whether they are
 /// numbers or not.
-#[derive(Clone, Copy, Debug, PartialEq, Eq)]
+#[derive(Clone, Copy)]
 pub enum Call<'a> {
     /// A file is submitted as a custodian's volume.
     Submit {
@@ -41,7 +41,7 @@ pub enum Call<'a> {
 }
 
 /// Where connections are answered, and how many.
-#[derive(Clone, Copy, Debug, PartialEq, Eq)]
+#[derive(Clone, Copy)]
 pub struct Serving {
     /// 0 to 65535; for 0 the system chooses one.
     pub port: u16,
@@ -50,7 +50,7 @@ pub struct Serving {
 }
 
 /// What the words ask for.
-#[derive(Clone, Copy, Debug, PartialEq, Eq)]
+#[derive(Clone, Copy)]
 pub enum Command<'a> {
     /// A conversation on standard input and output.
     Play,

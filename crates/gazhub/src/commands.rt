@@ -86,7 +86,7 @@ pub fn ask(
 }
 
 /// How connections were answered, once there was a hub and a port.
-#[derive(Clone, Copy, Debug, PartialEq, Eq)]
+#[derive(Clone, Copy)]
 pub enum Attendance {
     /// As many as were wanted.
     Whole,

@@ -9,7 +9,7 @@ use gaz_register::RegFault;
 use gaz_store::StoreRefusal;
 
 /// How the program ends.
-#[derive(Clone, Copy, Debug, PartialEq, Eq)]
+#[derive(Clone, Copy)]
 pub enum Ending {
     /// What was asked for was done, or the conversation was held to its end.
     Done,

@@ -8,7 +8,7 @@ use std::io::{self, IsTerminal, Read};
 use std::random::RandomSource;
 
 /// Why there is no hub to ask. They are looked for in this order.
-#[derive(Clone, Copy, Debug, PartialEq, Eq)]
+#[derive(Clone, Copy)]
 pub enum NoHub {
     /// The register's file can't be read.
     Unreadable,

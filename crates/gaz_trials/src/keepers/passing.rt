@@ -9,7 +9,7 @@ use std::alloc::Global;
 use std::test::Fail;
 
 /// What last became of a number: the other custodian, and the hop.
-#[derive(Clone, Copy, Debug, PartialEq, Eq)]
+#[derive(Clone, Copy, PartialEq, Eq)]
 pub(crate) enum Passage {
     ReleasedTo(u64, u64),
     AdoptedFrom(u64, u64),

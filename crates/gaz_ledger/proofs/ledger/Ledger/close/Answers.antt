@@ -1,7 +1,7 @@
 use Rattle.std.proofs.Common.{rules, ◌≡◌, ◌+◌, ◌∷◌, [], ℕ, ap, arith, length, length-append, subst, sym}
 use Rattle.gaz_ledger.proofs.Becoming.{passing_closed}
 use Rattle.gaz_ledger.proofs.Closings.{account_judged, ledger_judged}
-use Rattle.gaz_ledger.proofs.Tied.{ties_none}
+use Rattle.gaz_ledger.proofs.Tied.{ties_judged}
 use Rattle.gaz_ledger.specs.Custodies.{IsPassing}
 use Rattle.gaz_ledger.proofs.ledger.Ledger.close.Goals as goal
 
@@ -12,7 +12,7 @@ invariant_of-self-2 c =
       ledger_judged c.self.inside.verdicts.items c.push.new.self.items c.args.verdict c.self.inside.histories c.self.inside.index c.forget_all.new.index c.self.inside.touched.items c.clear.new.self.items c.len-reached.result reach
           c.in_ok-push.ensures.items c.self.invariant.0 c.forget_all.ensures.finds c.clear.ensures.items,
       subst (λ (n : ℕ). IsPassing n c.self.inside.custodies c.clear-2.new.self.items) (sym long) (passing_closed (length c.self.inside.verdicts.items) c.self.inside.custodies c.self.inside.passed.items c.clear-2.new.self.items c.self.invariant.1),
-      ties_none c.forget.new.self c.self.inside.histories (length c.push.new.self.items) (length c.push.new.self.items + 1) c.forget.ensures,
+      ties_judged c.self.inside.ties c.self.inside.histories (length c.self.inside.verdicts.items) (length c.push.new.self.items) long c.self.invariant.0.within c.self.invariant.2,
     )
 
 pub returns-clause-ok : goal.returns-clause-ok
