@@ -1,5 +1,6 @@
-"""What it costs that properties pass between custodians: files of 5,000 releases and of 5,000 adoptions beside as many updates and inserts, and a small file that gives up one
-property of 50,000 with addresses; by `gazhub play` and by `gazhub serve` over a store in a file, each beside the keeper in memory and a plain hub over Python's `sqlite3`.
+"""What it costs that properties pass between custodians: files of 5,000 releases and of 5,000 adoptions beside as many updates, which write two rows as they do, and the adoptions
+beside as many inserts too, which write one; and a small file that gives up
+one property of 50,000 with addresses; by `gazhub play` and by `gazhub serve` over a store in a file, each beside the keeper in memory and a plain hub over Python's `sqlite3`.
 
     bench/rows_passing.py [PART..]   only these of play and serve
 """
@@ -11,7 +12,7 @@ from measure import ROUNDS
 from rows_growth import by_play, by_serve
 from sides import Place, begun, in_turn, with_memory
 
-BESIDE = {"releases": "updates", "adoptions": "inserts"}
+BESIDE = (("releases", "updates"), ("adoptions", "updates"), ("adoptions", "inserts"))
 MANY = 5_000  # changes of a file
 
 
@@ -38,7 +39,7 @@ def many_rows(place, way, hubs_of):
     """Files of 5,000 changes."""
     parts = dict(streams.handed_over(ROUNDS))
     spent = dict(zip(parts, spent_on(place, hubs_of, list(streams.county(ROUNDS)), parts.values())))
-    for title, base in BESIDE.items():
+    for title, base in BESIDE:
         yield from passing(f"{MANY:,} {title} in a file by `{way}`", f"as many {base}", spent[title], spent[base], MANY, "changes/s")
 
 

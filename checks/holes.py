@@ -6,6 +6,7 @@ from checks.source import HEAD, Function, functions, module_folder, opens
 
 TYPE = re.compile(r"(?:pub(?:\([a-z ]+\))? )?(?:struct|enum) (\w+)", re.M)
 PROOFS = ("Answers.antt", "Invariants.antt", "Proof.antt")
+TACTIC = re.compile(r" *#\[tactic\(")
 
 
 def homes(sources: dict[str, str]) -> dict[str, str]:
@@ -20,7 +21,8 @@ def stands_alone(text: str, function: Function) -> bool:
     lines = text.split("\n")[function.first - 1 : function.last]
     is_inside = lines[0].startswith(" ") and not function.owner
     calls_itself = call_of(function).search("\n".join(lines[1:])) is not None
-    return not is_inside and not calls_itself and not lines[-1].endswith(";") and not any(it.strip().startswith("#[") for it in lines)
+    has_more = any(it.strip().startswith("#[") and not TACTIC.match(it) for it in lines)
+    return not is_inside and not calls_itself and not lines[-1].endswith(";") and not has_more
 
 
 def call_of(function: Function) -> re.Pattern:
@@ -45,29 +47,28 @@ def hole_at(crate: str, folder: str) -> str:
 
 
 def cut(text: str, places: list[Function]) -> str:
-    """The text with nothing left of the bodies of these functions, each line where it was: what they call isn't read then."""
+    """The text without what these functions do, each line where it was: a check reads nothing then of what they call."""
     lines = text.split("\n")
     for it in places:
         indent = re.match(" *", lines[it.last - 1])[0]
         head = next(at for at in range(it.first - 1, it.last) if HEAD.match(lines[at]))
         first = next((at for at in range(head, it.last - 1) if opens(lines[at], indent)), None)
-        if first is not None and first + 1 < it.last - 1:
-            lines[first + 1 : it.last - 1] = [f"{indent}    unreachable!()", *[""] * (it.last - first - 3)]
+        if first is None or first + 1 >= it.last - 1 or "const fn" in lines[head]:
+            continue
+        lines[it.first - 1 : head] = ["" if TACTIC.match(line) else line for line in lines[it.first - 1 : head]]
+        lines[first + 1 : it.last - 1] = [f"{indent}    unreachable!()", *[""] * (it.last - first - 3)]
     return "\n".join(lines)
 
 
 def holes(crate: str, sources: dict[str, str], changed: set[Function]) -> dict[str, str | None]:
-    """The files of proofs as they are with a hole for each function but these: none where a file goes."""
+    """The files of a crate as they are with a hole in place of each function but these: none where a file goes."""
     made: dict[str, str | None] = {}
     found = homes(sources)
     for file in (it for it in sources if it.startswith("src/")):
-        left_out = []
-        for function in functions(file, sources[file]):
-            folder = folder_of(function, found)
-            if function in changed or folder is None or not stands_alone(sources[file], function):
-                continue
+        others = [it for it in functions(file, sources[file]) if it not in changed and stands_alone(sources[file], it)]
+        folders = {it: folder_of(it, found) for it in others}
+        for folder in filter(None, folders.values()):
             made |= {f"{folder}/{it}": None for it in PROOFS if f"{folder}/{it}" in sources}
             made[f"{folder}/Proof.antt"] = hole_at(crate, folder)
-            left_out += [] if "const fn" in sources[file].split("\n")[function.first - 1 : function.last][0] else [function]
-        made[file] = cut(sources[file], left_out)
+        made[file] = cut(sources[file], [it for it in others if folders[it]])
     return made

@@ -136,9 +136,25 @@ fn again(n: u8) {
         sources = {"src/a/b.rt": self.SHELF, "proofs/a/b/Shelf/one/Answers.antt": "", "proofs/a/b/free/Answers.antt": ""}
         changed = {it for it in functions("src/a/b.rt", self.SHELF) if it.name == "free"}
         made = holes("small", sources, changed)
-        self.assertEqual({"proofs/a/b/Shelf/one/Answers.antt", "proofs/a/b/Shelf/one/Proof.antt", "proofs/a/b/Shelf/two/Proof.antt"}, set(made))
+        proofs = {"proofs/a/b/Shelf/one/Answers.antt", "proofs/a/b/Shelf/one/Proof.antt", "proofs/a/b/Shelf/two/Proof.antt"}
+        self.assertEqual(proofs | {"src/a/b.rt"}, set(made))
         self.assertIsNone(made["proofs/a/b/Shelf/one/Answers.antt"])
         self.assertIn("use Rattle.small.proofs.a.b.Shelf.two.Statement as stated", made["proofs/a/b/Shelf/two/Proof.antt"])
+        self.assertEqual(self.SHELF, made["src/a/b.rt"])
+
+    def test_what_no_edit_changes_does_nothing(self):
+        changed = {it for it in functions("src/lib.rt", LIBRARY) if it.name == "lesser"}
+        made = holes("small", {"src/lib.rt": LIBRARY}, changed)["src/lib.rt"]
+        wanted = LIBRARY
+        for body in ("    u16::from(n) + u16::from(n)", "    MOST", "    7"):
+            wanted = wanted.replace(body, "    unreachable!()")
+        self.assertEqual(wanted, made)
+
+    def test_each_line_stays_where_it_is(self):
+        text = "// One.\n#[tactic(auto)]\nfn one()\n    ensures { ⊤ }\n{\n    let a = 1;\n    a;\n}\n\nconst fn two() -> u8 {\n    2\n}\n"
+        made = holes("small", {"src/a.rt": text}, set())["src/a.rt"]
+        wanted = text.replace("#[tactic(auto)]", "").replace("    let a = 1;\n    a;", "    unreachable!()\n")
+        self.assertEqual(wanted, made)
 
 
 class OfEdits(unittest.TestCase):

@@ -74,9 +74,8 @@ class Bench:
         changed = {place for edit in edits for place in edit.places}
         open_ones = holes(self.crate.name, self.sources, changed)
         texts = merged(edits, self.sources | {it: text for it, text in open_ones.items() if text is not None})
-        open_ones |= texts
         with tempfile.TemporaryDirectory(prefix="check-kept-") as kept:
-            ran = self.check(open_ones, paths(edits), Path(kept))
+            ran = self.check(open_ones | texts, paths(edits), Path(kept))
         return ran, faults_in(ran.text, list(texts))
 
     def try_whole(self, edits: list[Edit]) -> tuple[measure.Ran, list[Fault]]:
@@ -166,10 +165,11 @@ def try_together(bench: Bench, edits: list[Edit]) -> list[Tried]:
     if not edits[0].places:
         return [try_alone(bench, edits[0])]
     ran, faults = bench.try_some(edits)
-    if ran.status == 2:
-        # (a name that no check knows)
-        ran, faults = bench.try_whole(edits)
     bad = unreadable(edits, faults)
+    if ran.status == 2 or not bad and not is_answer(ran):
+        # (a name that no check knows, or a text that isn't read without what its functions do)
+        ran, faults = bench.try_whole(edits)
+        bad = unreadable(edits, faults)
     if bad and len(bad) < len(edits):
         left = [it for it in edits if all(it is not edit for edit, _ in bad)]
         return [try_alone(bench, edit) for edit, _ in bad] + try_together(bench, left)
