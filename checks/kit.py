@@ -43,14 +43,14 @@ def crates(root: Path) -> list:
     return sorted(found, key=lambda crate: len(crate.below()))
 
 
-def check_words(crate, kept: Path, only: list[str]) -> list[str]:
-    """The command that checks a crate over what `kept` holds: the whole crate, or only the functions that `only` names, past holes."""
+def check_words(crate, only: list[str], kept: Path | None) -> list[str]:
+    """The command that checks a crate, from nothing or over what `kept` holds: the whole crate, or only the functions that `only` names, past holes."""
     rt = load()
     words = [rt.rtlib.RATTLE, "check", *crate.words(["--jobs", "1"], keeps=False)]
     words += ["--allow-holes"] if only else []
     for path in only:
         words += ["--only", path]
-    return [*words, "--incremental", str(kept)]
+    return words if kept is None else [*words, "--incremental", str(kept)]
 
 
 def is_unreadable(line: str, changed: list[str]) -> bool:

@@ -56,8 +56,8 @@ class Bench:
     peak: int = 0
     checks: int = 0
 
-    def check(self, texts: dict[str, str | None], only: list[str], kept: Path) -> measure.Ran:
-        """Checks a copy of the crate with these texts in place of its own, none where a file goes, over what `kept` holds."""
+    def check(self, texts: dict[str, str | None], only: list[str], kept: Path | None = None) -> measure.Ran:
+        """Checks a copy of the crate with these texts in place of its own, none where a file goes, over what `kept` holds, if anything."""
         with tempfile.TemporaryDirectory(prefix="check-edit-") as made:
             room = Path(made)
             for part in PARTS:
@@ -65,7 +65,7 @@ class Bench:
                     shutil.copytree(Path(self.crate.folder) / part, room / part)
             for path, text in texts.items():
                 put(room / path, text)
-            ran = measure.run(kit.check_words(self.crate, kept, only), room, is_apart=True)
+            ran = measure.run(kit.check_words(self.crate, only, kept), room, is_apart=True)
         self.seconds, self.peak, self.checks = self.seconds + ran.seconds, max(self.peak, ran.peak), self.checks + 1
         return ran
 
@@ -74,8 +74,7 @@ class Bench:
         changed = {place for edit in edits for place in edit.places}
         open_ones = holes(self.crate.name, self.sources, changed)
         texts = merged(edits, self.sources | {it: text for it, text in open_ones.items() if text is not None})
-        with tempfile.TemporaryDirectory(prefix="check-kept-") as kept:
-            ran = self.check(open_ones | texts, paths(edits), Path(kept))
+        ran = self.check(open_ones | texts, paths(edits))
         return ran, faults_in(ran.text, list(texts))
 
     def try_whole(self, edits: list[Edit]) -> tuple[measure.Ran, list[Fault]]:
@@ -199,11 +198,7 @@ def plain_fault(bench: Bench, edits: list[Edit]) -> str:
     those that were edited has shown that there is nothing."""
     if not bench.is_odd and not bench.over:
         return ""
-    if bench.over:
-        ran = bench.check({}, [], bench.kept)
-    else:
-        with tempfile.TemporaryDirectory(prefix="check-kept-") as kept:
-            ran = bench.check({}, paths(edits), Path(kept))
+    ran = bench.check({}, [], bench.kept) if bench.over else bench.check({}, paths(edits))
     return "" if ran.status == 0 else ran.text.strip()[-300:]
 
 
