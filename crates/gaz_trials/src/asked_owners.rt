@@ -1,8 +1,8 @@
 //! Whom a hub asks for a property, by a keeper that counts.
+use crate::items::uprn_of;
 use crate::resting::{Resting, counting_hub};
-use crate::wanted::{counts, holds};
+use crate::wanted::holds;
 use gaz_hub::{Answer, Outcome};
-use gaz_ids::Uprn;
 use gaz_register::Register;
 use gaz_samples::REGISTER;
 use gaz_shelf::{Faulty, MemShelf};
@@ -22,31 +22,28 @@ fn hub_with_property(rt: &(impl Abort + AllocGlobal)) -> Result<Resting<Faulty<M
     Ok(hub)
 }
 
+/// Numbers, whose they are found to be, and how many are asked.
+const NUMBERS: &[(u64, Option<u64>, u64)] = &[
+    (42, None, 1),
+    (100_001, Some(1002), 1),
+    (200_000, None, 1),
+    // In nobody's block.
+    (300_000, None, 0),
+];
+
 // Looks a number up on a settled board: whose it is found to be, and how many are asked.
-fn is_asked(
-    rt: &(impl Abort + AllocGlobal),
-    uprn: u64,
-    custodian: Option<u64>,
-    asked: u64,
-) -> Result<(), Fail> {
-    let mut hub = hub_with_property(rt)?;
+fn found(hub: &mut Resting<Faulty<MemShelf>>, uprn: u64) -> Result<(Option<u64>, u64), Fail> {
     let before = hub.shelf().counted().property_of;
-    let found = hub.lookup(Uprn::of(uprn).ok_or("a UPRN")?)?;
-    let found = found.map(|found| found.custodian.number());
-    holds(rt, found == custodian, "whose it is");
-    counts(
-        rt,
-        hub.shelf().counted().property_of,
-        before.saturating_add(asked),
-    );
-    Ok(())
+    let found = hub.lookup(uprn_of(uprn)?)?;
+    let asked = hub.shelf().counted().property_of.saturating_sub(before);
+    Ok((found.map(|found| found.custodian.number()), asked))
 }
 
 #[test]
 fn a_look_up_asks_the_owner_of_the_number_alone(rt: HostRuntime) -> Result<(), Fail> {
-    is_asked(&rt, 42, None, 1)?;
-    is_asked(&rt, 100_001, Some(1002), 1)?;
-    is_asked(&rt, 200_000, None, 1)?;
-    // In nobody's block.
-    is_asked(&rt, 300_000, None, 0)
+    for (uprn, custodian, asked) in NUMBERS {
+        let found = found(&mut hub_with_property(&rt)?, *uprn)?;
+        holds(&rt, found == (*custodian, *asked), "who is asked");
+    }
+    Ok(())
 }

@@ -1,15 +1,14 @@
 //! How often a keeper is asked for closed streets and for a property, by one that counts.
-use crate::items::{Row, custodian, item, volume, writes};
+use crate::items::{Row, custodian, item, uprn_of, volume, writes};
+use crate::keepers::refusal::Refusal;
 use crate::keepers::tried::{Tried, counting_shelf};
 use crate::wanted::{counts, holds};
-use gaz_ids::Uprn;
 use gaz_keeper::Inbox;
 use gaz_records::{Kind, SharedItem};
 use gaz_register::Register;
 use gaz_samples::REGISTER;
-use gaz_shelf::Ending;
+use gaz_shelf::{Ending, Faulty, MemShelf};
 use std::alloc::Global;
-use std::process::Abort;
 use std::test::Fail;
 
 const SHUT: Row = (Kind::Street, "150,1,1990-01-01,2024-04-30");
@@ -17,7 +16,7 @@ const SHUT: Row = (Kind::Street, "150,1,1990-01-01,2024-04-30");
 const HOUSE: Row = (Kind::Blpu, "100001,1,455000,255000,,,2020-01-01,");
 
 // A hundred approved addresses on the street that shut.
-fn addresses(alloc: Global) -> Result<Vec<SharedItem>, Fail> {
+fn addresses(alloc: Global) -> Result<Vec<SharedItem>, Refusal> {
     let mut items = Vec::new(alloc);
     for n in 1000_u64..1100 {
         let row = format!(in alloc; "A{n},{n},ENG,1,150,,,,,,7,,,,,2020-01-01,")?;
@@ -32,21 +31,24 @@ fn adds_addresses<K: Inbox + Drop>(
     shelf: &mut Tried<K>,
     code: u64,
     number: u64,
-) -> Result<(), Fail> {
+) -> Result<(), Refusal> {
     shelf.receive(custodian(code)?, volume(number)?, b"a file")?;
-    shelf.write_volume(custodian(code)?, addresses(alloc)?, Ending::Keep)?;
-    Ok(())
+    shelf.write_volume(custodian(code)?, addresses(alloc)?, Ending::Keep)
 }
 
-// The addresses of these volumes of custodians stand on a street that shut: how many are listed, and
-// how often an item is looked up for it.
-fn are_listed(
-    rt: &(impl Abort + AllocGlobal),
-    volumes: &[(u64, u64)],
-    listed: usize,
-    asked: u64,
-) -> Result<(), Fail> {
-    let alloc = rt.alloc();
+/// Volumes of custodians whose addresses stand on a street that shut: how many are listed, and how
+/// often an item is looked up for it.
+type Case = (&'static [(u64, u64)], usize, u64);
+
+const CASES: &[Case] = &[
+    // A custodian asks once, in its own last view and in the owner's.
+    (&[(1002, 1)], 100, 2),
+    // Each asks for itself. The addresses of the street's owner are on a street of the own view.
+    (&[(1001, 2), (1002, 1), (1003, 1)], 200, 5),
+];
+
+// How many are listed, and how often an item is looked up for it.
+fn listed(alloc: Global, volumes: &[(u64, u64)]) -> Result<(usize, u64), Fail> {
     let register = Register::read(alloc, REGISTER)?;
     let mut shelf = counting_shelf(alloc);
     writes(alloc, &mut shelf, custodian(1001)?, &[SHUT])?;
@@ -55,43 +57,43 @@ fn are_listed(
     }
     let before = shelf.keeper().counted().current;
     let closed = shelf.closed_streets(alloc, &register)?;
-    holds(rt, closed.len() == listed, "how many are listed");
-    counts(
-        rt,
-        shelf.keeper().counted().current,
-        before.saturating_add(asked),
-    );
+    let asked = shelf.keeper().counted().current.saturating_sub(before);
+    Ok((closed.len(), asked))
+}
+
+#[test]
+fn each_custodian_asks_once_for_a_street(rt: HostRuntime) -> Result<(), Fail> {
+    for (volumes, wanted, asked) in CASES {
+        let found = listed(rt.alloc(), volumes)?;
+        holds(&rt, found == (*wanted, *asked), "how many are listed");
+    }
     Ok(())
 }
 
-// In its own last view, and in the owner's.
-#[test]
-fn a_street_is_asked_for_once_by_a_custodian(rt: HostRuntime) -> Result<(), Fail> {
-    are_listed(&rt, &[(1002, 1)], 100, 2)
-}
+/// Who is asked for property 100001, and what is found.
+const PROPERTIES: &[(u64, Option<u64>)] = &[(1002, Some(100_001)), (1001, None)];
 
-// The addresses of the street's owner are on a street of the own view.
-#[test]
-fn each_custodian_asks_for_itself(rt: HostRuntime) -> Result<(), Fail> {
-    are_listed(&rt, &[(1001, 2), (1002, 1), (1003, 1)], 200, 5)
+// What a look-up of it finds.
+fn found(
+    alloc: Global,
+    shelf: &mut Tried<Faulty<MemShelf>>,
+    code: u64,
+) -> Result<Option<u64>, Fail> {
+    let register = Register::read(alloc, REGISTER)?;
+    let found = shelf.lookup_with(alloc, &register, custodian(code)?, uprn_of(100_001)?)?;
+    Ok(found.map(|found| found.uprn.number()))
 }
 
 #[test]
 fn one_custodian_is_asked_for_a_property(rt: HostRuntime) -> Result<(), Fail> {
-    let alloc = rt.alloc();
-    let register = Register::read(alloc, REGISTER)?;
-    let uprn = Uprn::of(100_001).ok_or("a UPRN")?;
-    let mut shelf = counting_shelf(alloc);
-    writes(alloc, &mut shelf, custodian(1002)?, &[HOUSE])?;
-    let owner = shelf.lookup_with(alloc, &register, custodian(1002)?, uprn)?;
-    holds(
-        &rt,
-        owner.is_some_and(|found| found.uprn == uprn),
-        "the owner has it",
-    );
-    counts(&rt, shelf.keeper().counted().property_of, 1);
-    let other = shelf.lookup_with(alloc, &register, custodian(1001)?, uprn)?;
-    holds(&rt, other.is_none(), "another hasn't");
-    counts(&rt, shelf.keeper().counted().property_of, 2);
+    let mut shelf = counting_shelf(rt.alloc());
+    writes(rt.alloc(), &mut shelf, custodian(1002)?, &[HOUSE])?;
+    let mut asked: u64 = 0;
+    for (code, property) in PROPERTIES {
+        let found = found(rt.alloc(), &mut shelf, *code)?;
+        holds(&rt, found == *property, "what is found");
+        asked = asked.saturating_add(1);
+        counts(&rt, shelf.keeper().counted().property_of, asked);
+    }
     Ok(())
 }

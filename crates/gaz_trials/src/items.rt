@@ -1,25 +1,29 @@
 //! Items as text, and the volumes that hold them.
+use crate::keepers::refusal::Refusal;
 use crate::keepers::tried::Tried;
 use gaz_changefile::{Basis, Change, ChangeFile};
-use gaz_ids::{Code, Volume};
+use gaz_ids::{Code, Uprn, Volume};
 use gaz_keeper::{Inbox, Verdict};
 use gaz_records::{Day, Kind, SharedItem, item_of_text};
 use gaz_register::Register;
 use gaz_shelf::Ending;
 use std::alloc::Global;
-use std::test::Fail;
 
-pub(crate) fn custodian(number: u64) -> Result<Code, Fail> {
-    Ok(Code::of(number).ok_or("a code")?)
+pub(crate) fn custodian(number: u64) -> Result<Code, Refusal> {
+    Code::of(number).ok_or(Refusal::Misused)
 }
 
-pub(crate) fn volume(number: u64) -> Result<Volume, Fail> {
-    Ok(Volume::of(number).ok_or("a volume")?)
+pub(crate) fn volume(number: u64) -> Result<Volume, Refusal> {
+    Volume::of(number).ok_or(Refusal::Misused)
+}
+
+pub(crate) fn uprn_of(number: u64) -> Result<Uprn, Refusal> {
+    Uprn::of(number).ok_or(Refusal::Misused)
 }
 
 // A file of a day.
-pub(crate) fn file_of(bases: Vec<Basis>, changes: Vec<Change>) -> Result<ChangeFile, Fail> {
-    let date = Day::of(2024, 1, 2).ok_or("a day")?;
+pub(crate) fn file_of(bases: Vec<Basis>, changes: Vec<Change>) -> Result<ChangeFile, Refusal> {
+    let date = Day::of(2024, 1, 2).ok_or(Refusal::Misused)?;
     Ok(ChangeFile {
         date,
         bases,
@@ -34,22 +38,30 @@ pub(crate) fn judged<K: Inbox + Drop>(
     register: &Register,
     code: Code,
     file: &ChangeFile,
-) -> Result<Verdict, Fail> {
+) -> Result<Verdict, Refusal> {
     let next = volume(shelf.reached(code)?.saturating_add(1))?;
     shelf.receive(code, next, b"a file")?;
-    Ok(shelf.judge(alloc, register, code, file)?)
+    shelf.judge(alloc, register, code, file)
 }
 
 /// The kind and the row of an item.
 pub(crate) type Row = (Kind, &'static str);
 
-pub(crate) fn item(alloc: Global, kind: Kind, row: &str) -> Result<SharedItem, Fail> {
+pub(crate) fn item(alloc: Global, kind: Kind, row: &str) -> Result<SharedItem, Refusal> {
     let item = item_of_text(alloc, kind, row.as_bytes())?;
     Ok(SharedItem::new(alloc, item)?)
 }
 
-pub(crate) fn item_of(alloc: Global, row: Row) -> Result<SharedItem, Fail> {
+pub(crate) fn item_of(alloc: Global, row: Row) -> Result<SharedItem, Refusal> {
     item(alloc, row.0, row.1)
+}
+
+pub(crate) fn items_of(alloc: Global, rows: &[Row]) -> Result<Vec<SharedItem>, Refusal> {
+    let mut items = Vec::new(alloc);
+    for row in rows {
+        items.push(item_of(alloc, *row)?)?;
+    }
+    Ok(items)
 }
 
 // A custodian's volume 1 puts these items into its view, as a file may or may not.
@@ -58,12 +70,7 @@ pub(crate) fn writes<K: Inbox + Drop>(
     shelf: &mut Tried<K>,
     code: Code,
     rows: &[Row],
-) -> Result<(), Fail> {
-    let mut items = Vec::new(alloc);
-    for row in rows {
-        items.push(item_of(alloc, *row)?)?;
-    }
+) -> Result<(), Refusal> {
     shelf.receive(code, volume(1)?, b"a file")?;
-    shelf.write_volume(code, items, Ending::Keep)?;
-    Ok(())
+    shelf.write_volume(code, items_of(alloc, rows)?, Ending::Keep)
 }

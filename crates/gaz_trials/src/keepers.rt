@@ -1,18 +1,20 @@
 //! Keepers as their callers use them: one list of calls over all of them.
 
-mod asked;
+mod acts;
+mod answers;
 mod broken;
 mod calls;
-mod fixtures;
 mod mirrors;
 mod passed;
 mod passed_volumes;
 mod passing;
 mod readings;
+pub(crate) mod refusal;
 pub(crate) mod reopening;
+mod rows;
+mod steps;
 mod stores;
 mod told;
-mod told_custody;
 pub(crate) mod tried;
 mod volumes;
 pub(crate) mod whereabouts;

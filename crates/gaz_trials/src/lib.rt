@@ -8,6 +8,8 @@ mod asked_owners;
 #[cfg(test)]
 mod asked_streets;
 #[cfg(test)]
+mod comings;
+#[cfg(test)]
 mod file_fixtures;
 #[cfg(test)]
 mod files_back;

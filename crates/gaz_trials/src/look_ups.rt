@@ -1,14 +1,15 @@
 //! How often a judgement looks an item up, by a keeper that counts.
-use crate::items::{Row, custodian, file_of, item_of, judged, writes};
+use crate::items::{Row, custodian, file_of, item, item_of, judged, writes};
+use crate::keepers::refusal::Refusal;
 use crate::keepers::tried::counting_shelf;
 use crate::wanted::{counts, holds};
-use gaz_changefile::{Action, Change, ChangeFile};
+use gaz_changefile::Action::{self, Delete, Insert};
+use gaz_changefile::{Change, ChangeFile};
 use gaz_keeper::Verdict;
-use gaz_records::{Kind, SharedItem, item_of_text};
+use gaz_records::Kind;
 use gaz_register::Register;
 use gaz_samples::REGISTER;
 use std::alloc::Global;
-use std::process::Abort;
 use std::test::Fail;
 
 const STREET: Row = (Kind::Street, "101,1,2001-04-01,");
@@ -33,44 +34,64 @@ const NEXT: Row = (Kind::Lpi, "L4,12,ENG,1,101,,,,,,4,,,,,2001-04-01,");
 
 const WELSH: Row = (Kind::Lpi, "L5,12,CYM,1,101,,,,,,4,,,,,2001-04-01,");
 
-/// What stands in the view, what a file inserts, how often an item is looked up, and the record and the rule that it is rejected for.
-type Case = (&'static [Row], &'static [Row], u64, Option<(u64, u8)>);
+/// What a file does to each of its items, what stands in the view before, the items, how often an
+/// item is looked up, and the record and the rule that the file is rejected for.
+type Case = (
+    Action,
+    &'static [Row],
+    &'static [Row],
+    u64,
+    Option<(u64, u8)>,
+);
 
-/// An insertion looks nothing up by itself, so each look-up is one of the end rules.
-const INSERTED: &[Case] = &[
-    (&[], &[STREET], 1, None),
-    (&[NAME, BLOCK, ADDRESS], &[CLOSED], 1, Some((2, 39))),
-    (&[STREET], &[NAME], 2, None),
-    (&[], &[NAME], 2, Some((2, 38))),
-    (&[], &[BLOCK], 1, None),
-    (&[BLOCK], &[FLAT], 3, None),
-    (&[], &[FLAT], 3, Some((2, 35))),
-    (&[BLOCK], &[XREF], 2, None),
-    (&[], &[XREF], 2, Some((2, 31))),
-    (&[BLOCK], &[PLANNED], 2, None),
-    (&[STREET, NAME, BLOCK], &[ADDRESS], 4, None),
-    (&[STREET, NAME, BLOCK, SECOND], &[ADDRESS], 4, Some((2, 30))),
-    (&[BLOCK], &[ADDRESS], 3, Some((2, 32))),
-];
-
-/// A street is asked for once in a language, though two addresses are on it.
-const TWO_ON_A_STREET: &[Case] = &[
-    (&[STREET, NAME, BLOCK, FLAT], &[ADDRESS, NEXT], 6, None),
+const CASES: &[Case] = &[
+    // An insertion looks nothing up by itself, so each look-up is one of the end rules.
+    (Insert, &[], &[STREET], 1, None),
+    (Insert, &[NAME, BLOCK, ADDRESS], &[CLOSED], 1, Some((2, 39))),
+    (Insert, &[STREET], &[NAME], 2, None),
+    (Insert, &[], &[NAME], 2, Some((2, 38))),
+    (Insert, &[], &[BLOCK], 1, None),
+    (Insert, &[BLOCK], &[FLAT], 3, None),
+    (Insert, &[], &[FLAT], 3, Some((2, 35))),
+    (Insert, &[BLOCK], &[XREF], 2, None),
+    (Insert, &[], &[XREF], 2, Some((2, 31))),
+    (Insert, &[BLOCK], &[PLANNED], 2, None),
+    (Insert, &[STREET, NAME, BLOCK], &[ADDRESS], 4, None),
     (
+        Insert,
+        &[STREET, NAME, BLOCK, SECOND],
+        &[ADDRESS],
+        4,
+        Some((2, 30)),
+    ),
+    (Insert, &[BLOCK], &[ADDRESS], 3, Some((2, 32))),
+    // A street is asked for once in a language, though two addresses are on it.
+    (
+        Insert,
+        &[STREET, NAME, BLOCK, FLAT],
+        &[ADDRESS, NEXT],
+        6,
+        None,
+    ),
+    (
+        Insert,
         &[STREET, NAME, BLOCK, FLAT],
         &[ADDRESS, WELSH],
         8,
         Some((3, 34)),
     ),
+    // A deletion looks up once what it deletes.
+    (
+        Delete,
+        &[STREET, NAME, BLOCK, ADDRESS],
+        &[NAME],
+        3,
+        Some((2, 34)),
+    ),
+    (Delete, &[ADDRESS], &[ADDRESS], 2, None),
 ];
 
-/// A deletion looks up once what it deletes.
-const DELETED: &[Case] = &[
-    (&[STREET, NAME, BLOCK, ADDRESS], &[NAME], 3, Some((2, 34))),
-    (&[ADDRESS], &[ADDRESS], 2, None),
-];
-
-fn change(alloc: Global, place: u64, action: Action, row: Row) -> Result<Change, Fail> {
+fn change(alloc: Global, place: u64, action: Action, row: Row) -> Result<Change, Refusal> {
     Ok(Change {
         place,
         action,
@@ -79,7 +100,7 @@ fn change(alloc: Global, place: u64, action: Action, row: Row) -> Result<Change,
 }
 
 // A file of the same change of each of these items.
-fn changes(alloc: Global, action: Action, rows: &[Row]) -> Result<ChangeFile, Fail> {
+fn changes(alloc: Global, action: Action, rows: &[Row]) -> Result<ChangeFile, Refusal> {
     let mut changes = Vec::new(alloc);
     let mut place: u64 = 2;
     for row in rows {
@@ -96,54 +117,43 @@ fn verdict_of(fault: Option<(u64, u8)>) -> Verdict {
     }
 }
 
-fn looks_up(rt: &(impl Abort + AllocGlobal), action: Action, case: &Case) -> Result<(), Fail> {
-    let alloc = rt.alloc();
-    let (before, rows, looked, fault) = *case;
+// The verdict on the case's file, and how often an item was looked up.
+fn judges(alloc: Global, case: &Case) -> Result<(Verdict, u64), Fail> {
+    let (action, before, rows, _, _) = *case;
     let register = Register::read(alloc, REGISTER)?;
     let mut shelf = counting_shelf(alloc);
     writes(alloc, &mut shelf, custodian(1001)?, before)?;
     let file = changes(alloc, action, rows)?;
     let verdict = judged(alloc, &mut shelf, &register, custodian(1001)?, &file)?;
-    holds(rt, verdict == verdict_of(fault), "the verdict");
-    counts(rt, shelf.keeper().counted().current, looked);
-    Ok(())
+    Ok((verdict, shelf.keeper().counted().current))
 }
 
 #[test]
 fn each_key_is_asked_with_few_look_ups(rt: HostRuntime) -> Result<(), Fail> {
-    for case in INSERTED {
-        looks_up(&rt, Action::Insert, case)?;
-    }
-    for case in DELETED {
-        looks_up(&rt, Action::Delete, case)?;
-    }
-    Ok(())
-}
-
-#[test]
-fn a_street_is_asked_for_once_in_a_language(rt: HostRuntime) -> Result<(), Fail> {
-    for case in TWO_ON_A_STREET {
-        looks_up(&rt, Action::Insert, case)?;
+    for case in CASES {
+        let (_, _, _, looked, fault) = *case;
+        let (verdict, counted) = judges(rt.alloc(), case)?;
+        holds(&rt, verdict == verdict_of(fault), "the verdict");
+        counts(&rt, counted, looked);
     }
     Ok(())
 }
 
-fn link(alloc: Global, place: u64, uprn: u64) -> Result<Change, Fail> {
+fn link(alloc: Global, place: u64, uprn: u64) -> Result<Change, Refusal> {
     let row = if uprn <= 1 {
         format!(in alloc; "1,1,1,1,,,2020-01-01,")?
     } else {
         format!(in alloc; "{uprn},1,1,1,{},,2020-01-01,", uprn - 1)?
     };
-    let item = item_of_text(alloc, Kind::Blpu, row.as_bytes())?;
     Ok(Change {
         place,
-        action: Action::Insert,
-        item: SharedItem::new(alloc, item)?,
+        action: Insert,
+        item: item(alloc, Kind::Blpu, row.as_str())?,
     })
 }
 
 // 5,000 properties, each a part of the one with the number before it.
-fn chain(alloc: Global, backwards: bool) -> Result<ChangeFile, Fail> {
+fn chain(alloc: Global, backwards: bool) -> Result<ChangeFile, Refusal> {
     let mut changes = Vec::new(alloc);
     for n in 1..5001 {
         let uprn = if backwards { 5001 - n } else { n };
@@ -152,23 +162,21 @@ fn chain(alloc: Global, backwards: bool) -> Result<ChangeFile, Fail> {
     file_of(Vec::new(alloc), changes)
 }
 
-fn asks_little(rt: &(impl Abort + AllocGlobal), backwards: bool) -> Result<(), Fail> {
-    let alloc = rt.alloc();
+// The verdict on the chain, and how often an item was looked up.
+fn judges_chain(alloc: Global, backwards: bool) -> Result<(Verdict, u64), Fail> {
     let register = Register::read(alloc, REGISTER)?;
     let file = chain(alloc, backwards)?;
     let mut shelf = counting_shelf(alloc);
     let verdict = judged(alloc, &mut shelf, &register, custodian(1001)?, &file)?;
-    holds(rt, verdict == Verdict::Applied, "it is applied");
-    holds(
-        rt,
-        shelf.keeper().counted().current <= 50_000,
-        "few look-ups",
-    );
-    Ok(())
+    Ok((verdict, shelf.keeper().counted().current))
 }
 
 #[test]
 fn a_long_chain_is_walked_once(rt: HostRuntime) -> Result<(), Fail> {
-    asks_little(&rt, false)?;
-    asks_little(&rt, true)
+    for backwards in [false, true] {
+        let (verdict, looked) = judges_chain(rt.alloc(), backwards)?;
+        let is_so = verdict == Verdict::Applied && looked <= 50_000;
+        holds(&rt, is_so, "it is applied with few look-ups");
+    }
+    Ok(())
 }

@@ -2,7 +2,6 @@
 use crate::wanted::holds;
 use gaz_addressable::{HouseNumber, ObjFault, Object};
 use std::alloc::Global;
-use std::process::Abort;
 use std::test::Fail;
 
 /// The five fields of an object.
@@ -49,59 +48,50 @@ const OBJECTS: &[(Fields, &str, &str)] = &[
     ),
 ];
 
-fn has(
-    rt: &(impl Abort + AllocGlobal),
-    object: &Object,
-    numbers: &str,
-    text: &str,
-) -> Result<(), Fail> {
-    let written = object.numbers_text(rt.alloc())?;
-    holds(rt, written.as_slice() == numbers.as_bytes(), numbers);
+fn has(alloc: Global, object: &Object, numbers: &str, text: &str) -> Result<bool, Fail> {
+    let written = object.numbers_text(alloc)?;
     let found = object.text.as_ref().map_or("", |text| text.as_str());
-    holds(rt, found == text, text);
-    holds(rt, object.from().is_none() == numbers.is_empty(), numbers);
-    holds(
-        rt,
-        object.to().is_some() == numbers.as_bytes().contains(&b'-'),
-        numbers,
-    );
-    Ok(())
+    let are_there = (object.from().is_some(), object.to().is_some());
+    let is_range = numbers.as_bytes().contains(&b'-');
+    Ok(
+        written.as_slice() == numbers.as_bytes()
+            && found == text
+            && are_there == (!numbers.is_empty(), is_range),
+    )
 }
 
 #[test]
 fn objects_come_back_and_print_their_numbers(rt: HostRuntime) -> Result<(), Fail> {
     for (fields, numbers, text) in OBJECTS {
         let object = read(rt.alloc(), *fields)?;
-        has(&rt, &object, numbers, text)?;
-        has(&rt, &back(rt.alloc(), &object)?, numbers, text)?;
+        let back = back(rt.alloc(), &object)?;
+        let is_so = has(rt.alloc(), &object, numbers, text)?;
+        holds(
+            &rt,
+            is_so && has(rt.alloc(), &back, numbers, text)?,
+            numbers,
+        );
     }
     Ok(())
 }
 
-fn house(alloc: Global, number: &str, suffix: &str) -> Result<HouseNumber, Fail> {
-    let object = read(alloc, [number, suffix, "", "", ""])?;
+/// House numbers in order: by the number first, then no suffix before A before Z.
+const HOUSES: &[(&str, &str)] = &[("2", "Z"), ("12", ""), ("12", "A"), ("12", "Z"), ("13", "")];
+
+fn house(alloc: Global, house: (&str, &str)) -> Result<HouseNumber, Fail> {
+    let object = read(alloc, [house.0, house.1, "", "", ""])?;
     Ok(object.from().ok_or("no house number")?)
 }
 
-// By the number first, then no suffix before A before Z.
+fn is_less(low: &HouseNumber, high: &HouseNumber) -> bool {
+    low < high && low.is_before(high) && low.compare(high).is_lt()
+}
+
 #[test]
 fn house_numbers_are_in_order(rt: HostRuntime) -> Result<(), Fail> {
-    let alloc = rt.alloc();
-    let houses = [
-        house(alloc, "2", "Z")?,
-        house(alloc, "12", "")?,
-        house(alloc, "12", "A")?,
-        house(alloc, "12", "Z")?,
-        house(alloc, "13", "")?,
-    ];
-    for pair in houses.windows(2) {
-        let (low, high) = (&pair[0], &pair[1]);
-        holds(&rt, low < high, "less");
-        holds(
-            &rt,
-            low.is_before(high) && low.compare(high).is_lt(),
-            "before",
-        );
+    for pair in HOUSES.windows(2) {
+        let (low, high) = (house(rt.alloc(), pair[0])?, house(rt.alloc(), pair[1])?);
+        holds(&rt, is_less(&low, &high), "in order");
     }
     Ok(())
 }

@@ -1,6 +1,6 @@
 //! What a register says.
 use crate::wanted::holds;
-use gaz_register::Register;
+use gaz_register::{Block, Custodian, Register};
 use std::process::Abort;
 use std::test::Fail;
 
@@ -50,35 +50,30 @@ const TWO: &str = r#"custodian = [
     { code = 3, name = "é", uprn = [], usrn = [[2, 2]] },
 ]"#;
 
+// Custodian 3 of `TWO`, whose one block is the street number 2.
+fn is_first(custodian: &Custodian) -> bool {
+    let name = custodian.code().number() == 3 && custodian.name() == "é";
+    let is_block = match custodian.usrn().first() {
+        Some(block) => is_only_2(block),
+        None => false,
+    };
+    name && custodian.uprn().is_empty() && is_block
+}
+
+fn is_only_2(block: &Block) -> bool {
+    let holds = (block.holds(1), block.holds(2), block.holds(3));
+    block.first() == 2 && block.last() == 2 && holds == (false, true, false)
+}
+
 #[test]
 fn custodians_and_blocks_stand_in_order(rt: HostRuntime) -> Result<(), Fail> {
     has_text(&rt, TWO, "3,é,,2-2\n7,\"Q, \"\"x\"\"\",1-1 5-6,\n")?;
     let register = Register::read(rt.alloc(), TWO.as_bytes())?;
-    let custodians = register.custodians();
-    let first = custodians.first().ok_or("no custodian")?;
-    holds(&rt, custodians.len() == 2, "two custodians");
-    holds(
-        &rt,
-        first.code().number() == 3 && first.name() == "é",
-        "the first",
-    );
-    holds(&rt, first.uprn().is_empty(), "no block of the first");
-    let block = first.usrn().first().ok_or("no block")?;
-    holds(
-        &rt,
-        block.first() == 2 && block.last() == 2,
-        "a block of one",
-    );
-    holds(
-        &rt,
-        block.holds(2) && !block.holds(1) && !block.holds(3),
-        "it holds 2",
-    );
-    let second = custodians.get(1).ok_or("one custodian")?;
-    holds(
-        &rt,
-        second.uprn().len() == 2 && second.usrn().is_empty(),
-        "the second",
-    );
+    let [first, second] = register.custodians() else {
+        return Err("not two custodians".into());
+    };
+    holds(&rt, is_first(first), "the first");
+    let blocks = (second.uprn().len(), second.usrn().len());
+    holds(&rt, blocks == (2, 0), "the second");
     Ok(())
 }

@@ -71,13 +71,55 @@ fn is_applied(rows: &[Received], cust: i64, volume: i64) -> bool {
     rows.iter().any(|row| row.cust == cust && row.volume == volume && row.state == 1)
 }
 
-// The rows are of these files, in this order, and each item was born in a volume that was applied,
-// and is current or went in another.
-fn are_of(rt: &impl Abort, files: &[&[u8]], received: &[Received], version: &[Version]) {
+/// Files, and the rows that were left of them.
+type Left = (
+    &'static [&'static [u8]],
+    &'static [Received],
+    &'static [Version],
+);
+
+const LEFT: &[Left] = &[
+    // One waits.
+    (
+        &[STREET_101, FLAT_2_HIGH_STREET],
+        a_street_and_a_held_file::RECEIVED,
+        a_street_and_a_held_file::VERSION,
+    ),
+    // Two are rejected.
+    (
+        &[STREET_101, STREET_101_AGAIN, FLAT_2_HIGH_STREET],
+        rejected_volumes::RECEIVED,
+        rejected_volumes::VERSION,
+    ),
+    // Items went.
+    (
+        &[COUNTY_ROAD, COUNTY_ROAD_CLOSED, NUMBER_7_COUNTY_ROAD],
+        a_closed_street_with_a_neighbours_address::RECEIVED,
+        a_closed_street_with_a_neighbours_address::VERSION,
+    ),
+    (
+        &[
+            STREET_101,
+            HIGH_STREET,
+            FLAT_2_HIGH_STREET,
+            FLAT_2_DELETED,
+            FLAT_2_AGAIN,
+        ],
+        a_deleted_address::RECEIVED,
+        a_deleted_address::VERSION,
+    ),
+];
+
+// The rows are of these files, in this order.
+fn are_of(rt: &impl Abort, received: &[Received], files: &[&[u8]]) {
     counts(rt, received.len() as u64, files.len() as u64);
     for (row, file) in received.iter().zip(files) {
         holds(rt, row.bytes == *file, "the bytes of a file");
     }
+}
+
+// Each item was born in a volume that was applied, and is current or went in another.
+fn are_born(rt: &impl Abort, version: &[Version], received: &[Received]) {
     for row in version {
         let went = row.gone == NEVER || is_applied(received, row.cust, row.gone);
         let is_so = is_applied(received, row.cust, row.born) && went;
@@ -86,43 +128,9 @@ fn are_of(rt: &impl Abort, files: &[&[u8]], received: &[Received], version: &[Ve
 }
 
 #[test]
-fn rows_of_files_that_wait_or_are_rejected(rt: HostRuntime) {
-    let waiting: [&[u8]; 2] = [STREET_101, FLAT_2_HIGH_STREET];
-    let rejected: [&[u8]; 3] = [STREET_101, STREET_101_AGAIN, FLAT_2_HIGH_STREET];
-    are_of(
-        &rt,
-        &waiting,
-        a_street_and_a_held_file::RECEIVED,
-        a_street_and_a_held_file::VERSION,
-    );
-    are_of(
-        &rt,
-        &rejected,
-        rejected_volumes::RECEIVED,
-        rejected_volumes::VERSION,
-    );
-}
-
-#[test]
-fn rows_of_items_that_went(rt: HostRuntime) {
-    let closed: [&[u8]; 3] = [COUNTY_ROAD, COUNTY_ROAD_CLOSED, NUMBER_7_COUNTY_ROAD];
-    let deleted: [&[u8]; 5] = [
-        STREET_101,
-        HIGH_STREET,
-        FLAT_2_HIGH_STREET,
-        FLAT_2_DELETED,
-        FLAT_2_AGAIN,
-    ];
-    are_of(
-        &rt,
-        &closed,
-        a_closed_street_with_a_neighbours_address::RECEIVED,
-        a_closed_street_with_a_neighbours_address::VERSION,
-    );
-    are_of(
-        &rt,
-        &deleted,
-        a_deleted_address::RECEIVED,
-        a_deleted_address::VERSION,
-    );
+fn rows_are_of_their_files(rt: HostRuntime) {
+    for (files, received, version) in LEFT {
+        are_of(&rt, received, files);
+        are_born(&rt, version, received);
+    }
 }

@@ -1,10 +1,10 @@
 //! Who is looked at when a file comes: the keeper's calls at a hub of 400 custodians, counted.
 
-use crate::items::{custodian, volume};
+use crate::comings::Event::{Comes, Stands};
+use crate::comings::Gets::{Applied, WaitsFor};
+use crate::comings::{Event, are_so, comes};
 use crate::resting::{Resting, counting_hub};
 use crate::wanted::{counts, holds};
-use gaz_hub::{Answer, Outcome};
-use gaz_keeper::Inbox;
 use gaz_register::Register;
 use gaz_shelf::{Faulty, MemShelf};
 use std::alloc::Global;
@@ -14,8 +14,6 @@ use std::test::Fail;
 
 /// As many custodians as a register may have.
 const CUSTODIANS: u64 = 400;
-
-const APPLIED: Answer = Answer::New(Outcome::Applied);
 
 // A hub of 400 custodians, whose keeper counts its calls.
 fn hub_of_400(alloc: Global) -> Result<Resting<Faulty<MemShelf>>, Fail> {
@@ -36,60 +34,21 @@ fn asked(hub: &Resting<Faulty<MemShelf>>) -> u64 {
     calls.reached.saturating_add(calls.received)
 }
 
-// A file of a custodian without changes, which rests on these volumes.
-fn file_on(alloc: Global, code: u64, volume: u64, bases: &[(u64, u64)]) -> Result<String, Fail> {
-    let mut file = format!(in alloc; "10,1,{code},{volume},2024-01-02\n")?;
-    for (custodian, basis) in bases {
-        write!(file, "90,{custodian},{basis}\n")?;
-    }
-    write!(file, "99,0\n")?;
-    Ok(file)
-}
-
-// Submits a file of a custodian; how often it was asked for that what is judged or received.
-fn submits<K: Inbox + Drop>(
+// The first file of a custodian comes and is applied, and the keeper is asked so often at most.
+fn is_applied(
     rt: &(impl Abort + AllocGlobal),
-    hub: &mut Resting<K>,
-    pair: (u64, u64),
-    bases: &[(u64, u64)],
-    answer: Answer,
+    hub: &mut Resting<Faulty<MemShelf>>,
+    code: u64,
+    most: u64,
 ) -> Result<(), Fail> {
-    let file = file_on(rt.alloc(), pair.0, pair.1, bases)?;
-    let told = hub.submit(pair.0, pair.1, file.as_bytes());
-    holds(rt, told == answer, "the answer");
-    Ok(())
-}
-
-// The answer to a file that waits for volume 1 of a custodian.
-fn waits_for(whom: u64) -> Result<Answer, Fail> {
-    Ok(Answer::New(Outcome::Held {
-        custodian: custodian(whom)?,
-        volume: volume(1)?,
-    }))
-}
-
-// Each of these submits a file that waits for volume 1 of a custodian.
-fn all_wait<K: Inbox + Drop>(
-    rt: &(impl Abort + AllocGlobal),
-    hub: &mut Resting<K>,
-    codes: &[u64],
-    whom: u64,
-) -> Result<(), Fail> {
-    for code in codes {
-        submits(rt, hub, (*code, 1), &[(whom, 1)], waits_for(whom)?)?;
-    }
-    Ok(())
-}
-
-// Volume 1 of each of these is judged.
-fn are_judged<K: Inbox + Drop>(
-    rt: &impl Abort,
-    hub: &mut Resting<K>,
-    codes: &[u64],
-) -> Result<(), Fail> {
-    for code in codes {
-        counts(rt, hub.status(*code)?.judged, 1);
-    }
+    let before = asked(hub);
+    let is_applied = comes(rt.alloc(), hub, (code, 1), &[], Applied)?;
+    let looks = asked(hub).saturating_sub(before);
+    holds(
+        rt,
+        is_applied && looks <= most,
+        "it is applied with few looks",
+    );
     Ok(())
 }
 
@@ -102,50 +61,64 @@ fn nobody_is_looked_at_in_vain(rt: HostRuntime) -> Result<(), Fail> {
     let _settled = hub.status(2)?;
     // What is judged of 2, and nothing else: what it waits for is remembered.
     counts(&rt, asked(&hub).saturating_sub(before), 1);
-    let before = asked(&hub);
-    submits(&rt, &mut hub, (7, 1), &[], APPLIED)?;
-    holds(
-        &rt,
-        asked(&hub).saturating_sub(before) <= 12,
-        "nobody waits",
-    );
-    Ok(())
+    is_applied(&rt, &mut hub, 7, 12)
 }
+
+const THREE_WAIT: &[Event] = &[
+    Comes((10, 1), &[(7, 1)], WaitsFor(7)),
+    Comes((200, 1), &[(7, 1)], WaitsFor(7)),
+    Comes((400, 1), &[(7, 1)], WaitsFor(7)),
+];
+
+const THREE_ARE_JUDGED: &[Event] = &[Stands(10, 1, 0), Stands(200, 1, 0), Stands(400, 1, 0)];
 
 #[test]
 fn who_waits_is_looked_at_once(rt: HostRuntime) -> Result<(), Fail> {
     let mut hub = hub_of_400(rt.alloc())?;
-    let codes: &[u64] = &[10, 200, 400];
-    all_wait(&rt, &mut hub, codes, 7)?;
-    let before = asked(&hub);
-    submits(&rt, &mut hub, (7, 1), &[], APPLIED)?;
-    holds(&rt, asked(&hub).saturating_sub(before) <= 48, "three wait");
-    are_judged(&rt, &mut hub, codes)
+    are_so(&rt, &mut hub, THREE_WAIT)?;
+    is_applied(&rt, &mut hub, 7, 48)?;
+    are_so(&rt, &mut hub, THREE_ARE_JUDGED)
 }
+
+const WAITS_FOR_TWO: &[Event] = &[
+    Comes((9, 1), &[(7, 1), (8, 1)], WaitsFor(7)),
+    Comes((7, 1), &[], Applied),
+    Stands(9, 0, 1),
+    Comes((8, 1), &[], Applied),
+    Stands(9, 1, 0),
+];
 
 #[test]
 fn who_waits_for_two_volumes_is_looked_at_for_each(rt: HostRuntime) -> Result<(), Fail> {
     let mut hub = hub_of_400(rt.alloc())?;
-    let on_both: &[(u64, u64)] = &[(7, 1), (8, 1)];
-    submits(&rt, &mut hub, (9, 1), on_both, waits_for(7)?)?;
-    submits(&rt, &mut hub, (7, 1), &[], APPLIED)?;
-    counts(&rt, hub.status(9)?.judged, 0);
-    submits(&rt, &mut hub, (8, 1), &[], APPLIED)?;
-    counts(&rt, hub.status(9)?.judged, 1);
+    are_so(&rt, &mut hub, WAITS_FOR_TWO)
+}
+
+// All but the last wait for volume 1 of the last.
+fn all_wait(
+    rt: &(impl Abort + AllocGlobal),
+    hub: &mut Resting<Faulty<MemShelf>>,
+) -> Result<(), Fail> {
+    for code in 1..CUSTODIANS {
+        let is_so = comes(
+            rt.alloc(),
+            hub,
+            (code, 1),
+            &[(CUSTODIANS, 1)],
+            WaitsFor(CUSTODIANS),
+        )?;
+        holds(rt, is_so, "it waits");
+    }
     Ok(())
 }
 
 #[test]
 fn three_hundred_and_ninety_nine_wait_for_one(rt: HostRuntime) -> Result<(), Fail> {
-    let mut codes = Vec::new(rt.alloc());
-    for code in 1..CUSTODIANS {
-        codes.push(code)?;
-    }
     let mut hub = hub_of_400(rt.alloc())?;
-    all_wait(&rt, &mut hub, codes.as_slice(), CUSTODIANS)?;
-    let before = asked(&hub);
-    submits(&rt, &mut hub, (CUSTODIANS, 1), &[], APPLIED)?;
-    let looks = asked(&hub).saturating_sub(before);
-    holds(&rt, looks <= 6 * CUSTODIANS, "each is looked at");
-    are_judged(&rt, &mut hub, codes.as_slice())
+    all_wait(&rt, &mut hub)?;
+    is_applied(&rt, &mut hub, CUSTODIANS, 6 * CUSTODIANS)?;
+    for code in 1..CUSTODIANS {
+        counts(&rt, hub.status(code)?.judged, 1);
+    }
+    Ok(())
 }

@@ -1,15 +1,14 @@
 //! A keeper over two answers the list from the one at hand, and goes on without it.
-use crate::items::{custodian, item};
-use crate::keepers::calls::performs_all;
-use crate::keepers::fixtures::street_key;
+use crate::keepers::calls::{are_read, performs, performs_all};
 use crate::keepers::passing::Passage::{AdoptedFrom, ReleasedTo};
-use crate::keepers::passing::{adopts, releases};
-use crate::keepers::told::{has_counts, has_item};
-use crate::keepers::told_custody::{Became, has_passed, has_ties};
+use crate::keepers::steps::Act::{Adopt, Begin, Keep, Put, Release, Take};
+use crate::keepers::steps::Name::Street;
+use crate::keepers::steps::Question::{Counts, Custody, Item, Ties};
+use crate::keepers::steps::Step::{Asks, Does};
+use crate::keepers::steps::{Became, Part};
 use crate::keepers::tried::Tried;
-use crate::keepers::volumes::{HOUSE, MAIN, OPEN, receives_all};
+use crate::keepers::volumes::{FILES, HOUSE, MAIN, OPEN};
 use crate::wanted::holds;
-use gaz_keeper::Inbox;
 use gaz_mirror::Mirror;
 use gaz_records::Kind;
 use gaz_shelf::{Calls, Faulty, MemShelf, Seed};
@@ -17,15 +16,11 @@ use std::process::Abort;
 use std::test::Fail;
 
 // All is asked of the keeper above.
-fn are_read(rt: &impl Abort, above: Calls, below: Calls) {
+fn is_unread(rt: &impl Abort, below: Calls) {
     let reads = (below.current, below.reached, below.received, below.page);
     holds(rt, reads == (0, 0, 0, 0), "the lower one isn't read");
     let reads = (below.custody, below.custody_at, below.tied);
     holds(rt, reads == (0, 0, 0), "nor of what passes");
-    let reads = (above.current, above.reached, above.received);
-    holds(rt, reads == (10, 3, 2), "the upper one is");
-    let reads = (above.custody, above.custody_at, above.tied);
-    holds(rt, reads == (39, 51, 23), "also of what passes");
 }
 
 // What is given up is made above alone.
@@ -56,7 +51,8 @@ fn the_upper_keeper_answers_so(rt: HostRuntime) -> Result<(), Fail> {
         return Err("it was dropped".into());
     };
     let (above, below) = (upper.counted(), lower.counted());
-    are_read(&rt, above, below);
+    are_read(&rt, above);
+    is_unread(&rt, below);
     are_written(&rt, above, below);
     Ok(())
 }
@@ -68,30 +64,29 @@ const PASSED: &[Became] = &[
     (1002, Some(ReleasedTo(1002, 1))),
 ];
 
-// A judgement that is read as it goes, and what is kept of it.
-fn reads_as_it_goes<K: Inbox + Drop>(
-    rt: &(impl Abort + AllocGlobal),
-    shelf: &mut Tried<K>,
-) -> Result<(), Fail> {
-    receives_all(shelf)?;
-    shelf.begin(custodian(1001)?)?;
-    shelf.put(item(rt.alloc(), Kind::Street, MAIN)?)?;
-    has_item(rt, shelf, 1001, &street_key(101)?, Some(MAIN))?;
-    shelf.put(item(rt.alloc(), Kind::Street, OPEN)?)?;
-    shelf.take(&street_key(101)?)?;
-    has_item(rt, shelf, 1001, &street_key(101)?, None)?;
-    has_item(rt, shelf, 1001, &street_key(102)?, Some(OPEN))?;
-    releases(shelf, 1002, 1002, 1)?;
-    has_passed(rt, shelf, RELEASED)?;
-    adopts(rt.alloc(), shelf, HOUSE, 1003, 2)?;
-    has_passed(rt, shelf, PASSED)?;
-    has_ties(rt, shelf, &[(1001, false)])?;
-    shelf.keep()?;
-    has_counts(rt, shelf, 1001, 1, 2)?;
-    has_passed(rt, shelf, PASSED)?;
-    has_item(rt, shelf, 1001, &street_key(101)?, None)?;
-    has_item(rt, shelf, 1001, &street_key(102)?, Some(OPEN))
-}
+/// A judgement that is read as it goes, and what is kept of it.
+const READ_AS_IT_GOES: Part = (
+    "a judgement that is read",
+    &[
+        Does(Begin(1001)),
+        Does(Put((Kind::Street, MAIN))),
+        Asks(1001, Item(Street(101), Some(MAIN))),
+        Does(Put((Kind::Street, OPEN))),
+        Does(Take(Street(101))),
+        Asks(1001, Item(Street(101), None)),
+        Asks(1001, Item(Street(102), Some(OPEN))),
+        Does(Release(1002, 1002, 1)),
+        Asks(1001, Custody(RELEASED)),
+        Does(Adopt(HOUSE, 1003, 2)),
+        Asks(1001, Custody(PASSED)),
+        Asks(1001, Ties(&[(1001, false)])),
+        Does(Keep),
+        Asks(1001, Counts(1, 2)),
+        Asks(1001, Custody(PASSED)),
+        Asks(1001, Item(Street(101), None)),
+        Asks(1001, Item(Street(102), Some(OPEN))),
+    ],
+);
 
 #[test]
 fn what_is_gathered_is_read_where_the_upper_fails(rt: HostRuntime) -> Result<(), Fail> {
@@ -99,7 +94,8 @@ fn what_is_gathered_is_read_where_the_upper_fails(rt: HostRuntime) -> Result<(),
         let lower = MemShelf::new(rt.alloc(), Seed::of(1));
         let upper = Faulty::new(MemShelf::new(rt.alloc(), Seed::of(2)), call);
         let mut shelf = Tried::new(Mirror::with(rt.alloc(), lower, upper));
-        reads_as_it_goes(&rt, &mut shelf)?;
+        performs(&rt, &mut shelf, &FILES)?;
+        performs(&rt, &mut shelf, &READ_AS_IT_GOES)?;
     }
     Ok(())
 }

@@ -1,17 +1,14 @@
 //! What is told of numbers that pass between custodians, in the volumes of `passed_volumes`.
-use crate::keepers::fixtures::{blpu_key, lpi_key};
 use crate::keepers::passed_volumes::{BARN, COTTAGE, GATE, SHED};
 use crate::keepers::passing::Passage::{AdoptedFrom, ReleasedTo};
-use crate::keepers::told::{
-    had_item, has_addresses, has_all, has_item, has_page, has_parts, has_property, has_used,
+use crate::keepers::steps::Name::{Blpu, Lpi};
+use crate::keepers::steps::Question::{
+    Address, Custody, CustodyAt, Item, ItemAt, Page, Parts, Property, Ties, Used, Views,
 };
-use crate::keepers::told_custody::{Became, Named, had_passed, has_custody, has_passed, has_ties};
-use crate::keepers::tried::Tried;
+use crate::keepers::steps::Step::Asks;
+use crate::keepers::steps::{Became, Named, Part, View};
 use crate::keepers::volumes::{FELIN, FLAT, HOUSE, MILL};
-use gaz_keeper::Inbox;
 use gaz_records::Kind;
-use std::process::Abort;
-use std::test::Fail;
 
 /// Before the third volume.
 pub(crate) const BEFORE: &[Became] = &[(1001, None), (1002, None), (1004, None), (1007, None)];
@@ -62,97 +59,55 @@ pub(crate) const NAMED_YET: &[Named] = &[(1001, true), (1002, true), (1005, fals
 /// In the judgement that is given up: the one LPI of 1001 was taken, and another is of 1004.
 pub(crate) const NAMED_IN_VAIN: &[Named] = &[(1001, false), (1002, true), (1004, true)];
 
-// What stands after the third volume under the keys of the numbers that passed, and what was used.
-fn reads_keys<K: Inbox + Drop>(
-    rt: &(impl Abort + AllocGlobal),
-    shelf: &mut Tried<K>,
-) -> Result<(), Fail> {
-    has_item(rt, shelf, 1001, &blpu_key(1002)?, None)?;
-    has_item(rt, shelf, 1001, &blpu_key(1004)?, Some(COTTAGE))?;
-    has_item(rt, shelf, 1001, &blpu_key(1008)?, None)?;
-    has_item(rt, shelf, 1001, &blpu_key(1009)?, Some(GATE))?;
-    has_used(rt, shelf, 1001, &blpu_key(1002)?, true)?;
-    has_used(rt, shelf, 1001, &blpu_key(1003)?, false)?;
-    has_used(rt, shelf, 1001, &blpu_key(1007)?, true)?;
-    has_used(rt, shelf, 1001, &blpu_key(1008)?, true)
-}
+/// The BLPUs after the third volume, and after the fourth.
+const THIRD: View = (3, Kind::Blpu, &[HOUSE, COTTAGE, BARN, SHED, GATE]);
 
-// Who is told of after the third volume.
-fn reads_properties<K: Inbox + Drop>(
-    rt: &(impl Abort + AllocGlobal),
-    shelf: &mut Tried<K>,
-) -> Result<(), Fail> {
-    has_property(rt, shelf, 1001, 1001, Some((HOUSE, MILL)))?;
-    has_property(rt, shelf, 1001, 1002, None)?;
-    has_property(rt, shelf, 1001, 1007, None)?;
-    has_addresses(rt, shelf, 1001, 1002, &[lpi_key("L3")?])?;
-    has_parts(rt, shelf, 1001, 1001, false)?;
-    has_page(
-        rt,
-        shelf,
-        3,
-        Kind::Blpu,
-        Some(blpu_key(1001)?),
-        9,
-        4,
-        COTTAGE,
-    )?;
-    has_all(rt, shelf, 2, Kind::Blpu, 2, &[HOUSE, FLAT])?;
-    has_all(
-        rt,
-        shelf,
-        3,
-        Kind::Blpu,
-        2,
-        &[HOUSE, COTTAGE, BARN, SHED, GATE],
-    )
-}
+const FOURTH: View = (4, Kind::Blpu, &[HOUSE, FLAT, COTTAGE, BARN, SHED, GATE]);
 
-/// What is told after the third volume.
-pub(crate) fn reads_passed<K: Inbox + Drop>(
-    rt: &(impl Abort + AllocGlobal),
-    shelf: &mut Tried<K>,
-) -> Result<(), Fail> {
-    has_passed(rt, shelf, WENT)?;
-    has_custody(rt, shelf, 1002, (1002, None))?;
-    had_passed(rt, shelf, 0, BEFORE)?;
-    had_passed(rt, shelf, 2, BEFORE)?;
-    had_passed(rt, shelf, 3, WENT)?;
-    has_ties(rt, shelf, NAMED)?;
-    reads_keys(rt, shelf)?;
-    reads_properties(rt, shelf)
-}
+/// What is told after the third volume: of numbers, of the keys of those that passed, and of
+/// properties.
+pub(crate) const PASSED: Part = (
+    "what passed",
+    &[
+        Asks(1001, Custody(WENT)),
+        Asks(1002, Custody(&[(1002, None)])),
+        Asks(1001, CustodyAt(0, BEFORE)),
+        Asks(1001, CustodyAt(2, BEFORE)),
+        Asks(1001, CustodyAt(3, WENT)),
+        Asks(1001, Ties(NAMED)),
+        Asks(1001, Item(Blpu(1002), None)),
+        Asks(1001, Item(Blpu(1004), Some(COTTAGE))),
+        Asks(1001, Item(Blpu(1008), None)),
+        Asks(1001, Item(Blpu(1009), Some(GATE))),
+        Asks(1001, Used(Blpu(1002), true)),
+        Asks(1001, Used(Blpu(1003), false)),
+        Asks(1001, Used(Blpu(1007), true)),
+        Asks(1001, Used(Blpu(1008), true)),
+        Asks(1001, Property(1001, Some((HOUSE, MILL)))),
+        Asks(1001, Property(1002, None)),
+        Asks(1001, Property(1007, None)),
+        Asks(1001, Address(1002, Lpi("L3"))),
+        Asks(1001, Parts(1001, false)),
+        Asks(1001, Page((3, Kind::Blpu, Some(Blpu(1001)), 9, 4, COTTAGE))),
+        Asks(1001, Views(2, &[(2, Kind::Blpu, &[HOUSE, FLAT]), THIRD])),
+    ],
+);
 
 /// What is told after the fourth volume, and of the volumes before it.
-pub(crate) fn reads_returned<K: Inbox + Drop>(
-    rt: &(impl Abort + AllocGlobal),
-    shelf: &mut Tried<K>,
-) -> Result<(), Fail> {
-    has_passed(rt, shelf, CAME_BACK)?;
-    had_passed(rt, shelf, 2, BEFORE)?;
-    had_passed(rt, shelf, 3, WENT)?;
-    had_passed(rt, shelf, 4, CAME_BACK)?;
-    has_ties(rt, shelf, NAMED_YET)?;
-    had_item(rt, shelf, 1001, 2, &blpu_key(1002)?, Some(FLAT))?;
-    had_item(rt, shelf, 1001, 3, &blpu_key(1002)?, None)?;
-    had_item(rt, shelf, 1001, 4, &blpu_key(1002)?, Some(FLAT))?;
-    has_used(rt, shelf, 1001, &blpu_key(1003)?, false)?;
-    has_property(rt, shelf, 1001, 1002, Some((FLAT, FELIN)))?;
-    has_parts(rt, shelf, 1001, 1001, true)?;
-    has_all(
-        rt,
-        shelf,
-        3,
-        Kind::Blpu,
-        9,
-        &[HOUSE, COTTAGE, BARN, SHED, GATE],
-    )?;
-    has_all(
-        rt,
-        shelf,
-        4,
-        Kind::Blpu,
-        9,
-        &[HOUSE, FLAT, COTTAGE, BARN, SHED, GATE],
-    )
-}
+pub(crate) const RETURNED: Part = (
+    "what returned",
+    &[
+        Asks(1001, Custody(CAME_BACK)),
+        Asks(1001, CustodyAt(2, BEFORE)),
+        Asks(1001, CustodyAt(3, WENT)),
+        Asks(1001, CustodyAt(4, CAME_BACK)),
+        Asks(1001, Ties(NAMED_YET)),
+        Asks(1001, ItemAt(2, Blpu(1002), Some(FLAT))),
+        Asks(1001, ItemAt(3, Blpu(1002), None)),
+        Asks(1001, ItemAt(4, Blpu(1002), Some(FLAT))),
+        Asks(1001, Used(Blpu(1003), false)),
+        Asks(1001, Property(1002, Some((FLAT, FELIN)))),
+        Asks(1001, Parts(1001, true)),
+        Asks(1001, Views(9, &[THIRD, FOURTH])),
+    ],
+);

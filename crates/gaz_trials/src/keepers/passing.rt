@@ -1,12 +1,12 @@
 //! The calls by which a number passes between custodians, and what they are to leave of it.
-use crate::items::{custodian, item};
-use crate::keepers::tried::{Refusal, Tried};
+use crate::items::{custodian, item, uprn_of};
+use crate::keepers::refusal::Refusal;
+use crate::keepers::tried::Tried;
 use gaz_ids::{Code, Hop, Uprn};
 use gaz_keeper::Inbox;
 use gaz_records::{Item, Kind, SharedItem};
 use gaz_views::Custody;
 use std::alloc::Global;
-use std::test::Fail;
 
 /// What last became of a number: the other custodian, and the hop.
 #[derive(Clone, Copy, PartialEq, Eq)]
@@ -48,8 +48,8 @@ impl<K: Inbox + Drop> Tried<K> {
     }
 }
 
-fn hop(number: u64) -> Result<Hop, Fail> {
-    Ok(Hop::of(number).ok_or("a hop")?)
+fn hop(number: u64) -> Result<Hop, Refusal> {
+    Hop::of(number).ok_or(Refusal::Misused)
 }
 
 // In the judgement in progress, a number is released to a custodian at a hop.
@@ -58,10 +58,8 @@ pub(crate) fn releases<K: Inbox + Drop>(
     uprn: u64,
     to: u64,
     at: u64,
-) -> Result<(), Fail> {
-    let uprn = Uprn::of(uprn).ok_or("a UPRN")?;
-    shelf.release(uprn, custodian(to)?, hop(at)?)?;
-    Ok(())
+) -> Result<(), Refusal> {
+    shelf.release(uprn_of(uprn)?, custodian(to)?, hop(at)?)
 }
 
 // The BLPU of a row is adopted from a custodian at a hop.
@@ -71,8 +69,7 @@ pub(crate) fn adopts<K: Inbox + Drop>(
     row: &str,
     from: u64,
     at: u64,
-) -> Result<(), Fail> {
+) -> Result<(), Refusal> {
     let blpu = item(alloc, Kind::Blpu, row)?;
-    shelf.adopt(blpu, custodian(from)?, hop(at)?)?;
-    Ok(())
+    shelf.adopt(blpu, custodian(from)?, hop(at)?)
 }

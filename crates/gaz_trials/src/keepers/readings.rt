@@ -1,108 +1,96 @@
 //! What the list of calls reads.
-use crate::keepers::fixtures::{blpu_key, lpi_key, street_key, xref_key};
-use crate::keepers::told::{
-    had_item, has_address_on, has_addresses, has_all, has_counts, has_file, has_item, has_page,
-    has_parts, has_property, has_used, has_verdict,
+use crate::keepers::steps::Name::{Blpu, Lpi, Street, Xref};
+use crate::keepers::steps::Question::{
+    Address, AddressOn, Counts, File, Item, ItemAt, Page, Parts, Property, Used, Verdict, Views,
 };
-use crate::keepers::tried::Tried;
+use crate::keepers::steps::Step::Asks;
+use crate::keepers::steps::{Part, View};
 use crate::keepers::volumes::{CLOSED, FELIN, FLAT, HOUSE, MAIN, MILL, NAME, OPEN, OTHER, TAX};
 use gaz_ids::Lang;
-use gaz_keeper::{Inbox, Verdict};
+use gaz_keeper::Verdict::{Applied, Rejected};
 use gaz_records::Kind;
-use std::process::Abort;
-use std::test::Fail;
 
-pub(crate) fn reads_counts<K: Inbox + Drop>(
-    rt: &(impl Abort + AllocGlobal),
-    shelf: &mut Tried<K>,
-) -> Result<(), Fail> {
-    has_counts(rt, shelf, 1001, 2, 1)?;
-    has_counts(rt, shelf, 1002, 1, 0)?;
-    has_counts(rt, shelf, 1003, 0, 0)?;
-    has_verdict(rt, shelf, 1001, 2, Some(Verdict::Applied))?;
-    has_verdict(rt, shelf, 1001, 3, None)?;
-    has_verdict(
-        rt,
-        shelf,
-        1002,
-        1,
-        Some(Verdict::Rejected { place: 2, rule: 20 }),
-    )?;
-    has_file(rt, shelf, 1001, 3, true)?;
-    has_file(rt, shelf, 1001, 4, false)
-}
+pub(crate) const COUNTS: Part = (
+    "counts",
+    &[
+        Asks(1001, Counts(2, 1)),
+        Asks(1002, Counts(1, 0)),
+        Asks(1003, Counts(0, 0)),
+        Asks(1001, Verdict(2, Some(Applied))),
+        Asks(1001, Verdict(3, None)),
+        Asks(1002, Verdict(1, Some(Rejected { place: 2, rule: 20 }))),
+        Asks(1001, File(3, true)),
+        Asks(1001, File(4, false)),
+    ],
+);
 
-pub(crate) fn reads_items<K: Inbox + Drop>(
-    rt: &(impl Abort + AllocGlobal),
-    shelf: &mut Tried<K>,
-) -> Result<(), Fail> {
-    has_item(rt, shelf, 1001, &street_key(102)?, Some(CLOSED))?;
-    had_item(rt, shelf, 1001, 0, &street_key(102)?, None)?;
-    had_item(rt, shelf, 1001, 1, &street_key(102)?, Some(OPEN))?;
-    had_item(rt, shelf, 1001, 2, &street_key(102)?, Some(CLOSED))?;
-    had_item(rt, shelf, 1001, 1, &lpi_key("L2")?, Some(OTHER))?;
-    has_item(rt, shelf, 1001, &lpi_key("L2")?, None)?;
-    has_used(rt, shelf, 1001, &lpi_key("L2")?, true)?;
-    has_item(rt, shelf, 1001, &blpu_key(1003)?, None)?;
-    has_used(rt, shelf, 1001, &blpu_key(1003)?, false)?;
-    has_item(rt, shelf, 1001, &xref_key("X1")?, None)?;
-    has_used(rt, shelf, 1001, &xref_key("X1")?, true)?;
-    has_item(rt, shelf, 1002, &street_key(102)?, None)
-}
+pub(crate) const ITEMS: Part = (
+    "items",
+    &[
+        Asks(1001, Item(Street(102), Some(CLOSED))),
+        Asks(1001, ItemAt(0, Street(102), None)),
+        Asks(1001, ItemAt(1, Street(102), Some(OPEN))),
+        Asks(1001, ItemAt(2, Street(102), Some(CLOSED))),
+        Asks(1001, ItemAt(1, Lpi("L2"), Some(OTHER))),
+        Asks(1001, Item(Lpi("L2"), None)),
+        Asks(1001, Used(Lpi("L2"), true)),
+        Asks(1001, Item(Blpu(1003), None)),
+        Asks(1001, Used(Blpu(1003), false)),
+        Asks(1001, Item(Xref("X1"), None)),
+        Asks(1001, Used(Xref("X1"), true)),
+        Asks(1002, Item(Street(102), None)),
+    ],
+);
 
-pub(crate) fn reads_addresses<K: Inbox + Drop>(
-    rt: &(impl Abort + AllocGlobal),
-    shelf: &mut Tried<K>,
-) -> Result<(), Fail> {
-    has_addresses(rt, shelf, 1001, 1001, &[lpi_key("L1")?])?;
-    has_addresses(rt, shelf, 1001, 1002, &[lpi_key("L3")?])?;
-    has_property(rt, shelf, 1001, 1001, Some((HOUSE, MILL)))?;
-    has_property(rt, shelf, 1001, 1002, Some((FLAT, FELIN)))?;
-    has_property(rt, shelf, 1001, 1003, None)?;
-    has_property(rt, shelf, 1002, 1001, None)?;
-    has_address_on(rt, shelf, 1001, 101, None, true)?;
-    has_address_on(rt, shelf, 1001, 101, Some(Lang::Cym), true)?;
-    has_address_on(rt, shelf, 1001, 102, None, false)?;
-    has_address_on(rt, shelf, 1002, 101, None, false)?;
-    has_parts(rt, shelf, 1001, 1001, true)?;
-    has_parts(rt, shelf, 1001, 1002, false)
-}
+pub(crate) const ADDRESSES: Part = (
+    "addresses",
+    &[
+        Asks(1001, Address(1001, Lpi("L1"))),
+        Asks(1001, Address(1002, Lpi("L3"))),
+        Asks(1001, Property(1001, Some((HOUSE, MILL)))),
+        Asks(1001, Property(1002, Some((FLAT, FELIN)))),
+        Asks(1001, Property(1003, None)),
+        Asks(1002, Property(1001, None)),
+        Asks(1001, AddressOn(101, None, true)),
+        Asks(1001, AddressOn(101, Some(Lang::Cym), true)),
+        Asks(1001, AddressOn(102, None, false)),
+        Asks(1002, AddressOn(101, None, false)),
+        Asks(1001, Parts(1001, true)),
+        Asks(1001, Parts(1002, false)),
+    ],
+);
 
-pub(crate) fn reads_pages<K: Inbox + Drop>(
-    rt: &(impl Abort + AllocGlobal),
-    shelf: &mut Tried<K>,
-) -> Result<(), Fail> {
-    has_page(rt, shelf, 0, Kind::Lpi, None, 5, 0, "")?;
-    has_page(rt, shelf, 1, Kind::Lpi, None, 1, 1, MILL)?;
-    has_page(rt, shelf, 1, Kind::Lpi, Some(lpi_key("L1")?), 2, 1, OTHER)?;
-    has_page(rt, shelf, 2, Kind::Lpi, None, 2, 2, MILL)?;
-    has_page(rt, shelf, 2, Kind::Lpi, Some(lpi_key("L2")?), 2, 1, FELIN)?;
-    has_page(
-        rt,
-        shelf,
-        2,
-        Kind::Street,
-        Some(street_key(101)?),
-        5,
-        1,
-        CLOSED,
-    )?;
-    has_page(rt, shelf, 2, Kind::Street, None, 5, 2, MAIN)?;
-    has_page(rt, shelf, 2, Kind::Blpu, Some(blpu_key(1001)?), 5, 1, FLAT)
-}
+pub(crate) const PAGES: Part = (
+    "pages",
+    &[
+        Asks(1001, Page((0, Kind::Lpi, None, 5, 0, ""))),
+        Asks(1001, Page((1, Kind::Lpi, None, 1, 1, MILL))),
+        Asks(1001, Page((1, Kind::Lpi, Some(Lpi("L1")), 2, 1, OTHER))),
+        Asks(1001, Page((2, Kind::Lpi, None, 2, 2, MILL))),
+        Asks(1001, Page((2, Kind::Lpi, Some(Lpi("L2")), 2, 1, FELIN))),
+        Asks(
+            1001,
+            Page((2, Kind::Street, Some(Street(101)), 5, 1, CLOSED)),
+        ),
+        Asks(1001, Page((2, Kind::Street, None, 5, 2, MAIN))),
+        Asks(1001, Page((2, Kind::Blpu, Some(Blpu(1001)), 5, 1, FLAT))),
+    ],
+);
 
-// Every past view, read to its end one, two and nine at a time.
-pub(crate) fn reads_views<K: Inbox + Drop>(
-    rt: &(impl Abort + AllocGlobal),
-    shelf: &mut Tried<K>,
-    most: usize,
-) -> Result<(), Fail> {
-    has_all(rt, shelf, 0, Kind::Street, most, &[])?;
-    has_all(rt, shelf, 1, Kind::Street, most, &[MAIN, OPEN])?;
-    has_all(rt, shelf, 1, Kind::Descriptor, most, &[NAME])?;
-    has_all(rt, shelf, 1, Kind::Blpu, most, &[HOUSE, FLAT])?;
-    has_all(rt, shelf, 1, Kind::Xref, most, &[TAX])?;
-    has_all(rt, shelf, 2, Kind::Street, most, &[MAIN, CLOSED])?;
-    has_all(rt, shelf, 2, Kind::Xref, most, &[])?;
-    has_all(rt, shelf, 2, Kind::Lpi, most, &[MILL, FELIN])
-}
+const PAST: &[View] = &[
+    (0, Kind::Street, &[]),
+    (1, Kind::Street, &[MAIN, OPEN]),
+    (1, Kind::Descriptor, &[NAME]),
+    (1, Kind::Blpu, &[HOUSE, FLAT]),
+    (1, Kind::Xref, &[TAX]),
+    (2, Kind::Street, &[MAIN, CLOSED]),
+    (2, Kind::Xref, &[]),
+    (2, Kind::Lpi, &[MILL, FELIN]),
+];
+
+/// Every past view, one, two and nine items at a time.
+pub(crate) const BY_ONE: Part = ("views by one", &[Asks(1001, Views(1, PAST))]);
+
+pub(crate) const BY_TWO: Part = ("views by two", &[Asks(1001, Views(2, PAST))]);
+
+pub(crate) const BY_NINE: Part = ("views by nine", &[Asks(1001, Views(9, PAST))]);

@@ -1,8 +1,10 @@
 //! The list of calls over a store in memory, and over one that is closed and opened between its parts.
 
-use crate::keepers::calls::{PARTS, performs, performs_all};
+use crate::keepers::calls::{parts, performs, performs_all};
 use crate::keepers::reopening::Reopens;
-use crate::keepers::told::{has_counts, has_file, has_verdict};
+use crate::keepers::steps::Part;
+use crate::keepers::steps::Question::{Counts, File, Verdict};
+use crate::keepers::steps::Step::Asks;
 use crate::keepers::tried::Tried;
 use crate::keepers::whereabouts::{Task, in_memory};
 use gaz_register::Register;
@@ -17,13 +19,20 @@ fn opened<K: Reopens>(alloc: Global, conn: K::Conn) -> Result<Tried<K>, Fail> {
     Ok(Tried::new(K::opened(alloc, conn, &register)?))
 }
 
+const NEW: Part = (
+    "a new store",
+    &[
+        Asks(1001, Counts(0, 0)),
+        Asks(1001, File(1, false)),
+        Asks(1001, Verdict(1, None)),
+    ],
+);
+
 // A new store behind a connection, in which nothing is received or judged.
 fn new_store<K: Reopens>(rt: &(impl Abort + AllocGlobal), conn: K::Conn) -> Result<Tried<K>, Fail> {
     let register = Register::read(rt.alloc(), REGISTER)?;
     let mut store = Tried::new(K::made(rt.alloc(), conn, &register)?);
-    has_counts(rt, &mut store, 1001, 0, 0)?;
-    has_file(rt, &mut store, 1001, 1, false)?;
-    has_verdict(rt, &mut store, 1001, 1, None)?;
+    performs(rt, &mut store, &NEW)?;
     Ok(store)
 }
 
@@ -32,7 +41,7 @@ pub(crate) fn performs_in_all<K: Reopens>(
     rt: &(impl Abort + AllocGlobal),
     conn: K::Conn,
 ) -> Result<(), Fail> {
-    performs_all(rt, &mut new_store::<K>(rt, conn)?)
+    Ok(performs_all(rt, &mut new_store::<K>(rt, conn)?)?)
 }
 
 /// Makes a store, and closes and opens it after each part.
@@ -41,7 +50,7 @@ pub(crate) fn performs_anew<K: Reopens>(
     conn: K::Conn,
 ) -> Result<(), Fail> {
     let mut store = new_store::<K>(rt, conn)?;
-    for part in PARTS {
+    for part in parts() {
         performs(rt, &mut store, part)?;
         store = opened::<K>(rt.alloc(), store.into_keeper().into_conn())?;
     }

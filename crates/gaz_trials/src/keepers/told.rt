@@ -1,234 +1,181 @@
-//! What a keeper between judgements tells, against what it is to tell.
-use crate::items::{custodian, volume};
+//! Whether a keeper tells what it is to tell of one thing.
+use crate::items::{uprn_of, volume};
+use crate::keepers::passing::Passage;
+use crate::keepers::refusal::Refusal;
+use crate::keepers::rows::{are_rows, is_property, is_row, reads};
+use crate::keepers::steps::{Became, Name, Page, View};
 use crate::keepers::tried::Tried;
-use crate::wanted::{counts, holds};
-use gaz_ids::{Lang, Uprn, Usrn};
-use gaz_keeper::{Inbox, Property, Verdict};
-use gaz_records::{Key, Kind, SharedItem, item_text};
-use std::process::Abort;
-use std::test::Fail;
+use gaz_ids::{Code, Lang, Usrn};
+use gaz_keeper::{Inbox, ShelfFault, Verdict};
+use gaz_records::{Kind, SharedItem};
+use gaz_shelf::read_kind;
+use std::alloc::Global;
 
-// The item is there, and this row is written of it, or none is where none is given.
-fn is_row(
-    rt: &(impl Abort + AllocGlobal),
-    found: &Option<SharedItem>,
-    row: Option<&str>,
-) -> Result<(), Fail> {
-    match (found, row) {
-        (None, None) => {}
-        (Some(item), Some(row)) => {
-            holds(
-                rt,
-                item_text(rt.alloc(), item)?.as_slice() == row.as_bytes(),
-                row,
-            );
+impl<K: Inbox + Drop> Tried<K> {
+    pub(crate) fn reached(&mut self, code: Code) -> Result<u64, ShelfFault> {
+        self.keeper.reached(code)
+    }
+
+    // It can be asked, and so many volumes are judged and held.
+    pub(crate) fn has_counts(
+        &mut self,
+        code: Code,
+        judged: u64,
+        held: u64,
+    ) -> Result<bool, Refusal> {
+        let found = (self.keeper.reached(code)?, self.keeper.held(code)?);
+        self.keeper.sure()?;
+        Ok(found == (judged, held))
+    }
+
+    pub(crate) fn has_verdict(
+        &mut self,
+        code: Code,
+        number: u64,
+        verdict: Option<Verdict>,
+    ) -> Result<bool, Refusal> {
+        Ok(self.keeper.verdict(code, volume(number)?)? == verdict)
+    }
+
+    pub(crate) fn has_file(&mut self, code: Code, number: u64, has: bool) -> Result<bool, Refusal> {
+        let found = self.keeper.received(code, volume(number)?)?;
+        let is_there = found.is_some_and(|bytes| bytes.as_slice() == b"a file".as_slice());
+        Ok(is_there == has)
+    }
+
+    pub(crate) fn has_item(
+        &mut self,
+        alloc: Global,
+        code: Code,
+        name: &Name,
+        row: Option<&str>,
+    ) -> Result<bool, Refusal> {
+        let found = self.keeper.current(code, &name.key()?)?;
+        is_row(alloc, &found, row)
+    }
+
+    pub(crate) fn had_item(
+        &mut self,
+        alloc: Global,
+        code: Code,
+        after: u64,
+        name: &Name,
+        row: Option<&str>,
+    ) -> Result<bool, Refusal> {
+        let found = self.keeper.at(code, after, &name.key()?)?;
+        is_row(alloc, &found, row)
+    }
+
+    pub(crate) fn is_used(&mut self, code: Code, name: &Name, used: bool) -> Result<bool, Refusal> {
+        Ok(self.keeper.ever(code, &name.key()?)? == used)
+    }
+
+    pub(crate) fn has_parts(
+        &mut self,
+        code: Code,
+        number: u64,
+        has: bool,
+    ) -> Result<bool, Refusal> {
+        Ok(self.keeper.children(code, uprn_of(number)?)? == has)
+    }
+
+    pub(crate) fn has_address(
+        &mut self,
+        code: Code,
+        number: u64,
+        name: &Name,
+    ) -> Result<bool, Refusal> {
+        let found = self.keeper.approved_of(code, uprn_of(number)?)?;
+        Ok(found.as_slice() == [name.key()?].as_slice())
+    }
+
+    pub(crate) fn has_property(
+        &mut self,
+        alloc: Global,
+        code: Code,
+        number: u64,
+        rows: Option<(&str, &str)>,
+    ) -> Result<bool, Refusal> {
+        let found = self.keeper.property_of(code, uprn_of(number)?)?;
+        is_property(alloc, found, rows)
+    }
+
+    pub(crate) fn has_address_on(
+        &mut self,
+        code: Code,
+        number: u64,
+        lang: Option<Lang>,
+        has: bool,
+    ) -> Result<bool, Refusal> {
+        let usrn = Usrn::of(number).ok_or(Refusal::Misused)?;
+        Ok(self.keeper.approved_on(code, usrn, lang)? == has)
+    }
+
+    pub(crate) fn has_custody(&mut self, code: Code, became: &Became) -> Result<bool, Refusal> {
+        let found = self.keeper.custody(code, uprn_of(became.0)?)?;
+        Ok(found.map(Passage::of) == became.1)
+    }
+
+    pub(crate) fn had_custody(
+        &mut self,
+        code: Code,
+        after: u64,
+        became: &Became,
+    ) -> Result<bool, Refusal> {
+        let found = self.keeper.custody_at(code, after, uprn_of(became.0)?)?;
+        Ok(found.map(Passage::of) == became.1)
+    }
+
+    pub(crate) fn is_tied(
+        &mut self,
+        code: Code,
+        number: u64,
+        is_named: bool,
+    ) -> Result<bool, Refusal> {
+        Ok(self.keeper.tied(code, uprn_of(number)?)? == is_named)
+    }
+
+    // The page has so many items, of which the first is this row.
+    pub(crate) fn has_page(
+        &mut self,
+        alloc: Global,
+        code: Code,
+        page: &Page,
+    ) -> Result<bool, Refusal> {
+        let (_, _, _, _, len, row) = page;
+        let found = self.page(code, page)?;
+        let is_first = match found.first() {
+            Some(item) => reads(alloc, item, row)?,
+            None => row.is_empty(),
+        };
+        Ok(found.len() == *len && is_first)
+    }
+
+    fn page(&mut self, code: Code, page: &Page) -> Result<Vec<SharedItem>, Refusal> {
+        let (after, kind, from, most, _, _) = page;
+        if !kind.is_entry() {
+            return Err(Refusal::Misused);
         }
-        _ => holds(rt, false, "another row"),
+        let from = match from {
+            Some(name) => Some(name.key()?),
+            None => None,
+        };
+        Ok(self.keeper.page(code, *after, *kind, from, *most)?)
     }
-    Ok(())
-}
 
-// It can be asked, and so many volumes are judged and held.
-pub(crate) fn has_counts<K: Inbox + Drop>(
-    rt: &(impl Abort + AllocGlobal),
-    shelf: &mut Tried<K>,
-    code: u64,
-    reached: u64,
-    held: u64,
-) -> Result<(), Fail> {
-    let code = custodian(code)?;
-    counts(rt, shelf.reached(code)?, reached);
-    counts(rt, shelf.held(code)?, held);
-    Ok(shelf.sure()?)
-}
-
-// The item in the last view, and in the view after a volume.
-pub(crate) fn has_item<K: Inbox + Drop>(
-    rt: &(impl Abort + AllocGlobal),
-    shelf: &mut Tried<K>,
-    code: u64,
-    key: &Key,
-    row: Option<&str>,
-) -> Result<(), Fail> {
-    let found = shelf.current(custodian(code)?, key)?;
-    is_row(rt, &found, row)
-}
-
-pub(crate) fn had_item<K: Inbox + Drop>(
-    rt: &(impl Abort + AllocGlobal),
-    shelf: &mut Tried<K>,
-    code: u64,
-    after: u64,
-    key: &Key,
-    row: Option<&str>,
-) -> Result<(), Fail> {
-    let found = shelf.at(custodian(code)?, after, key)?;
-    is_row(rt, &found, row)
-}
-
-// Whether the key was used, and whether the property has parts.
-pub(crate) fn has_used<K: Inbox + Drop>(
-    rt: &(impl Abort + AllocGlobal),
-    shelf: &mut Tried<K>,
-    code: u64,
-    key: &Key,
-    used: bool,
-) -> Result<(), Fail> {
-    holds(
-        rt,
-        shelf.ever(custodian(code)?, key)? == used,
-        "whether it was used",
-    );
-    Ok(())
-}
-
-pub(crate) fn has_parts<K: Inbox + Drop>(
-    rt: &(impl Abort + AllocGlobal),
-    shelf: &mut Tried<K>,
-    code: u64,
-    uprn: u64,
-    has: bool,
-) -> Result<(), Fail> {
-    let uprn = Uprn::of(uprn).ok_or("a UPRN")?;
-    holds(
-        rt,
-        shelf.children(custodian(code)?, uprn)? == has,
-        "whether it has parts",
-    );
-    Ok(())
-}
-
-pub(crate) fn has_addresses<K: Inbox + Drop>(
-    rt: &(impl Abort + AllocGlobal),
-    shelf: &mut Tried<K>,
-    code: u64,
-    uprn: u64,
-    keys: &[Key],
-) -> Result<(), Fail> {
-    let uprn = Uprn::of(uprn).ok_or("a UPRN")?;
-    let found = shelf.approved_of(custodian(code)?, uprn)?;
-    holds(rt, found.as_slice() == keys, "the keys of its addresses");
-    Ok(())
-}
-
-fn is_property(
-    rt: &(impl Abort + AllocGlobal),
-    found: Option<Property>,
-    rows: Option<(&str, &str)>,
-) -> Result<(), Fail> {
-    match (found, rows) {
-        (None, None) => {}
-        (Some(found), Some((blpu, address))) => {
-            is_row(rt, &Some(found.blpu), Some(blpu))?;
-            is_row(rt, &found.address, Some(address))?;
+    // All items of a kind after a volume, read so many at a time, are these rows.
+    pub(crate) fn has_all(
+        &mut self,
+        alloc: Global,
+        code: Code,
+        most: usize,
+        view: &View,
+    ) -> Result<bool, Refusal> {
+        let (after, kind, rows) = *view;
+        if most == 0 || !kind.is_entry() {
+            return Err(Refusal::Misused);
         }
-        _ => holds(rt, false, "another property"),
+        let items = read_kind(alloc, &mut self.keeper, code, after, kind, most)?;
+        are_rows(alloc, items.as_slice(), rows)
     }
-    Ok(())
-}
-
-// The rows of a BLPU and of its address.
-pub(crate) fn has_property<K: Inbox + Drop>(
-    rt: &(impl Abort + AllocGlobal),
-    shelf: &mut Tried<K>,
-    code: u64,
-    uprn: u64,
-    rows: Option<(&str, &str)>,
-) -> Result<(), Fail> {
-    let uprn = Uprn::of(uprn).ok_or("a UPRN")?;
-    let found = shelf.property_of(custodian(code)?, uprn)?;
-    is_property(rt, found, rows)
-}
-
-pub(crate) fn has_address_on<K: Inbox + Drop>(
-    rt: &(impl Abort + AllocGlobal),
-    shelf: &mut Tried<K>,
-    code: u64,
-    usrn: u64,
-    lang: Option<Lang>,
-    has: bool,
-) -> Result<(), Fail> {
-    let usrn = Usrn::of(usrn).ok_or("a USRN")?;
-    let found = shelf.approved_on(custodian(code)?, usrn, lang)?;
-    holds(rt, found == has, "whether an approved address is on it");
-    Ok(())
-}
-
-pub(crate) fn has_verdict<K: Inbox + Drop>(
-    rt: &(impl Abort + AllocGlobal),
-    shelf: &mut Tried<K>,
-    code: u64,
-    number: u64,
-    verdict: Option<Verdict>,
-) -> Result<(), Fail> {
-    let found = shelf.verdict(custodian(code)?, volume(number)?)?;
-    holds(rt, found == verdict, "the verdict");
-    Ok(())
-}
-
-pub(crate) fn has_file<K: Inbox + Drop>(
-    rt: &(impl Abort + AllocGlobal),
-    shelf: &mut Tried<K>,
-    code: u64,
-    number: u64,
-    has: bool,
-) -> Result<(), Fail> {
-    let found = shelf.received(custodian(code)?, volume(number)?)?;
-    let is_there = found.is_some_and(|bytes| bytes.as_slice() == b"a file".as_slice());
-    holds(rt, is_there == has, "whether the file is there");
-    Ok(())
-}
-
-// A page has this many items, of which the first is this row.
-pub(crate) fn has_page<K: Inbox + Drop>(
-    rt: &(impl Abort + AllocGlobal),
-    shelf: &mut Tried<K>,
-    after: u64,
-    kind: Kind,
-    from: Option<Key>,
-    most: usize,
-    len: usize,
-    row: &str,
-) -> Result<(), Fail> {
-    let page = shelf.page(custodian(1001)?, after, kind, from, most)?;
-    holds(rt, page.len() == len, "how many items");
-    match page.first() {
-        Some(item) => holds(
-            rt,
-            item_text(rt.alloc(), item)?.as_slice() == row.as_bytes(),
-            row,
-        ),
-        None => holds(rt, row.is_empty(), row),
-    }
-    Ok(())
-}
-
-// These items are these rows.
-fn are_rows(
-    rt: &(impl Abort + AllocGlobal),
-    items: &[SharedItem],
-    rows: &[&str],
-) -> Result<(), Fail> {
-    holds(rt, items.len() == rows.len(), "how many items");
-    for (item, row) in items.iter().zip(rows) {
-        holds(
-            rt,
-            item_text(rt.alloc(), item)?.as_slice() == row.as_bytes(),
-            row,
-        );
-    }
-    Ok(())
-}
-
-// All items of a kind after a volume of 1001, read so many at a time, are these rows.
-pub(crate) fn has_all<K: Inbox + Drop>(
-    rt: &(impl Abort + AllocGlobal),
-    shelf: &mut Tried<K>,
-    after: u64,
-    kind: Kind,
-    most: usize,
-    rows: &[&str],
-) -> Result<(), Fail> {
-    let items = shelf.all(rt.alloc(), custodian(1001)?, after, kind, most)?;
-    are_rows(rt, items.as_slice(), rows)
 }

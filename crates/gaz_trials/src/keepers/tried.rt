@@ -3,30 +3,16 @@
 ghost use Rattle.std.specs.Prelude.{◌≡◌, ℕ, None, Some};
 ghost use Rattle.gaz_keeper.specs.Keeper.{IsNotOpen, Open};
 
+use crate::keepers::refusal::Refusal;
 use gaz_changefile::ChangeFile;
 use gaz_extract::{Closed, Found, closed_streets, lookup_with};
 use gaz_ids::{Code, Uprn, Volume};
-use gaz_keeper::{Inbox, ShelfFault, Verdict};
+use gaz_keeper::{Inbox, Verdict};
 use gaz_records::{Key, SharedItem};
 use gaz_register::Register;
 use gaz_rules::judge;
 use gaz_shelf::{Ending, Faulty, MemShelf, Seed, are_entries, write_volume};
 use std::alloc::Global;
-
-/// Why a call came to nothing.
-#[derive(Clone, Copy, Debug, PartialEq, Eq)]
-pub(crate) enum Refusal {
-    /// The test made it where it is not to be made.
-    Misused,
-    /// The keeper's answer.
-    Fault(ShelfFault),
-}
-
-impl From<ShelfFault> for Refusal {
-    fn from(fault: ShelfFault) -> Refusal {
-        Refusal::Fault(fault)
-    }
-}
 
 /// A keeper, and whose judgement is in progress, where one is known to be.
 #[derive(Drop)]

@@ -1,31 +1,10 @@
 //! The volumes that the list of calls writes.
-use crate::items::{custodian, item, volume};
-use crate::keepers::fixtures::{lpi_key, xref_key};
-use crate::keepers::tried::Tried;
-use gaz_keeper::Inbox;
-use gaz_records::{Kind, SharedItem};
+use crate::keepers::steps::Act::{Abandon, Begin, Keep, Put, Receive, Skip, Take, Volume};
+use crate::keepers::steps::Name::{Lpi, Xref};
+use crate::keepers::steps::Part;
+use crate::keepers::steps::Step::Does;
+use gaz_records::Kind;
 use gaz_shelf::Ending;
-use std::alloc::Global;
-use std::process::Abort;
-use std::test::Fail;
-
-fn items(alloc: Global, rows: &[(Kind, &str)]) -> Result<Vec<SharedItem>, Fail> {
-    let mut items = Vec::new(alloc);
-    for (kind, row) in rows {
-        items.push(item(alloc, *kind, row)?)?;
-    }
-    Ok(items)
-}
-
-pub(crate) fn receives<K: Inbox + Drop>(
-    shelf: &mut Tried<K>,
-    code: u64,
-    number: u64,
-) -> Result<(), Fail> {
-    let (code, number) = (custodian(code)?, volume(number)?);
-    shelf.receive(code, number, b"a file")?;
-    Ok(())
-}
 
 pub(crate) const MAIN: &str = "101,1,2001-04-01,";
 
@@ -47,21 +26,22 @@ pub(crate) const OTHER: &str = "L2,1001,ENG,3,102,,,,,,2,,,,,2001-04-01,";
 
 pub(crate) const FELIN: &str = "L3,1002,CYM,1,101,,,,,,3,,,,,2001-04-01,";
 
-// Four files, of which the last is held.
-pub(crate) fn receives_all<K: Inbox + Drop>(shelf: &mut Tried<K>) -> Result<(), Fail> {
-    receives(shelf, 1001, 1)?;
-    receives(shelf, 1001, 2)?;
-    receives(shelf, 1002, 1)?;
-    receives(shelf, 1001, 3)
-}
+/// Four files, of which the last is held.
+pub(crate) const FILES: Part = (
+    "files",
+    &[
+        Does(Receive(1001, 1)),
+        Does(Receive(1001, 2)),
+        Does(Receive(1002, 1)),
+        Does(Receive(1001, 3)),
+    ],
+);
 
-// The first volume of 1001.
-pub(crate) fn first_volume<K: Inbox + Drop>(
-    alloc: Global,
-    shelf: &mut Tried<K>,
-) -> Result<(), Fail> {
-    let first = items(
-        alloc,
+/// The first volume of 1001.
+pub(crate) const FIRST: Part = (
+    "the first volume",
+    &[Does(Volume(
+        1001,
         &[
             (Kind::Lpi, OTHER),
             (Kind::Street, OPEN),
@@ -72,45 +52,43 @@ pub(crate) fn first_volume<K: Inbox + Drop>(
             (Kind::Xref, TAX),
             (Kind::Lpi, MILL),
         ],
-    )?;
-    shelf.write_volume(custodian(1001)?, first, Ending::Keep)?;
-    Ok(())
-}
+        Ending::Keep,
+    ))],
+);
 
-// The second volume of 1001: a street is closed, a cross reference and an address go, another address comes.
-pub(crate) fn second_volume<K: Inbox + Drop>(
-    alloc: Global,
-    shelf: &mut Tried<K>,
-) -> Result<(), Fail> {
-    let closed = item(alloc, Kind::Street, CLOSED)?;
-    let came = item(alloc, Kind::Lpi, FELIN)?;
-    let gone = lpi_key("L2")?;
-    shelf.begin(custodian(1001)?)?;
-    shelf.put(closed)?;
-    shelf.take(&gone)?;
-    shelf.take(&xref_key("X1")?)?;
-    shelf.put(came)?;
-    shelf.keep()?;
-    Ok(())
-}
+/// The first volume of 1002.
+pub(crate) const REJECTED: Part = ("a rejected volume", &[Does(Skip(1002, 2, 20))]);
 
-// A third volume of 1001 is given up.
-pub(crate) fn third_volume<K: Inbox + Drop>(
-    alloc: Global,
-    shelf: &mut Tried<K>,
-) -> Result<(), Fail> {
-    let late = items(alloc, &[(Kind::Blpu, "1003,1,1,1,,,2001-04-01,")])?;
-    shelf.write_volume(custodian(1001)?, late, Ending::Abandon)?;
-    Ok(())
-}
+/// The second volume of 1001: a street is closed, a cross reference and an address go, another
+/// address comes.
+pub(crate) const SECOND: Part = (
+    "the second volume",
+    &[
+        Does(Begin(1001)),
+        Does(Put((Kind::Street, CLOSED))),
+        Does(Take(Lpi("L2"))),
+        Does(Take(Xref("X1"))),
+        Does(Put((Kind::Lpi, FELIN))),
+        Does(Keep),
+    ],
+);
 
-// A judgement of 1001 begins anew, and is given up.
-pub(crate) fn begins_again<K: Inbox + Drop>(
-    alloc: Global,
-    shelf: &mut Tried<K>,
-) -> Result<(), Fail> {
-    shelf.begin(custodian(1001)?)?;
-    shelf.put(item(alloc, Kind::Lpi, OTHER)?)?;
-    shelf.abandon()?;
-    Ok(())
-}
+/// A third volume of 1001 is given up.
+pub(crate) const GIVEN_UP: Part = (
+    "a volume that is given up",
+    &[Does(Volume(
+        1001,
+        &[(Kind::Blpu, "1003,1,1,1,,,2001-04-01,")],
+        Ending::Abandon,
+    ))],
+);
+
+/// A judgement of 1001 begins anew, and is given up.
+pub(crate) const AGAIN: Part = (
+    "a judgement anew",
+    &[
+        Does(Begin(1001)),
+        Does(Put((Kind::Lpi, OTHER))),
+        Does(Abandon),
+    ],
+);
