@@ -10,11 +10,14 @@ import csv
 import hashlib
 import io
 import json
+import os
 import sqlite3
 import sys
 
 from hub import ADOPTION, READERS, REGISTER, RELEASE, ROWS, Custody, Hub, answer, judge, line_of, names_unknown_profile, needed_by, read
-from measure import TEXT
+
+sys.path.append(os.path.dirname(os.path.dirname(os.path.abspath(__file__))))
+from checks.sample import TEXT  # noqa: E402
 
 MOST = 1_000_000  # requests of a run
 NEVER = 1_000_000  # `gone` of a row that is current

@@ -74,9 +74,13 @@ def adoption(rng, cast, code, view, held, out):
     return [("92", "I", (uprn, *passed, rng.choice("1168"), 450000, 250000, parent, rng.choice(["", "AR1 2DN"]), "2020-01-01", ""))]
 
 
-def changes_of(rng, cast, code, view, out):
+def held_by(cast, code, view):
+    """The numbers that a custodian with this view holds."""
+    return [n for n in cast.blpus if view.custody.holds(cast.register[code], n)]
+
+
+def changes_of(rng, cast, code, view, held, out):
     """One change, or a release with what has to go before it; none where there is nothing to adopt."""
-    held = [n for n in cast.blpus if view.custody.holds(cast.register[code], n)]
     kind = rng.random()
     if kind < 0.35:
         return adoption(rng, cast, code, view, held, out)
@@ -98,13 +102,13 @@ def change_in(code, change):
 
 def is_fit(cast, code, view, out, changes):
     """Whether each of these changes, behind those before it, breaks no record rule."""
-    view = view.copy()
-    for change in changes:
-        it = change_in(code, change)
+    *before, last = (change_in(code, it) for it in changes)
+    view = view.copy() if before else view
+    for it in before:
         if hub.record_rule(code, cast.register[code], view, out, *it):
             return False
         hub.apply(view, *it)
-    return True
+    return hub.record_rule(code, cast.register[code], view, out, *last) is None
 
 
 def draft(cast, rng, code, volume, boards):
@@ -113,8 +117,9 @@ def draft(cast, rng, code, volume, boards):
     out = {d: boards[d][w] for d, w in bases.items() if w < len(boards[d])}
     view, rows = boards[code][-1].copy(), []
     for _ in range(rng.randint(1, 6)):
+        held = held_by(cast, code, view)
         for _ in range(rng.choice([1, 20, 20, 20])):
-            changes = changes_of(rng, cast, code, view, out)
+            changes = changes_of(rng, cast, code, view, held, out)
             if changes and is_fit(cast, code, view, out, changes):
                 break
         for change in changes:

@@ -7,14 +7,16 @@ import shutil
 import subprocess
 import tempfile
 from collections import Counter
-from collections.abc import Iterator
+from collections.abc import Callable, Iterator
 from dataclasses import dataclass, replace
+from functools import partial
 from pathlib import Path
 
 from checks.allowed import STOPPED
 from checks.conversations import DEADLINE
-from checks.failing import Room, files_of
+from checks.failing import Room, files_of, left_in
 from checks.making import content
+from checks.moments import Files, Watched, calls_in, held, write
 from checks.sessions import fails
 from checks.tables import opened
 from checks.troubled import Came
@@ -48,14 +50,29 @@ class Tried:
     before: str
     after: str
 
-    def place(self) -> Path:
-        """A copy of the store as it was."""
+    def first(self) -> Files:
+        """What the store's files hold before the change."""
+        return None, self.change.ready.read_bytes()
+
+    def place(self, files: Files | None = None) -> Path:
+        """A store of these files, or one as it was."""
         store = Path(tempfile.mkdtemp(dir=self.room.folder)) / "s.db"
-        shutil.copyfile(self.change.ready, store)
+        write(store, files or self.first())
         return store
+
+    def watched(self, first: Files) -> tuple[Watched, Said]:
+        """The command over a store of these files, and what it says. What stood there at first was synced."""
+        return self.room.once((self.change, "watched", first), lambda: watch(self.room, self.place(first), self.change.words))
+
+    def once(self, store: Path, *what: str | None) -> Callable:
+        """Asks something of a store once for all whose files were left alike."""
+        return partial(self.room.once, (self.change, self.before, self.after, left_in(store), what))
 
     def state(self, store: Path) -> str | None:
         """Whether a store is as it was or changed, as Python reads a copy of it; none where it is neither."""
+        return self.once(store, "state")(lambda: self.read_state(store))
+
+    def read_state(self, store: Path) -> str | None:
         with copied(store) as copy:
             held = content(copy)
             with opened(copy) as conn:
@@ -92,22 +109,26 @@ def ran(room: Room, store: Path, words: tuple[str, ...], **env: str) -> tuple[Sa
     """What a command says in the folder of a store, and how many calls or requests failed."""
     counted = store.with_name("counted")
     counted.unlink(missing_ok=True)
-    env |= {"FAILING_TOLD": str(counted), "WANTED": str(counted)}
-    it = subprocess.run([room.bench, *words], cwd=store.parent, stdin=subprocess.DEVNULL, capture_output=True, timeout=DEADLINE, env=os.environ | env)
+    env = {"FAILING_TOLD": str(counted), "WANTED": str(counted)} | env
+    how = {"cwd": store.parent, "stdin": subprocess.DEVNULL, "stderr": subprocess.PIPE, "timeout": DEADLINE}
+    with tempfile.TemporaryFile(dir=room.folder) as taken:
+        it = subprocess.run([room.bench, *words], stdout=taken, env=os.environ | env, **how)
+        taken.seek(0)
+        printed = taken.read()
     counts = [int(n) for n in counted.read_text().split()] if counted.exists() else [0, 0]
     failed = int(int(env["WANTING"]) < counts[0]) if "WANTING" in env else counts[1]
-    return (it.returncode, it.stdout, it.stderr), failed
+    return (it.returncode, printed, it.stderr), failed
 
 
-def said(room: Room, store: Path, words: tuple[str, ...]) -> Said:
-    return ran(room, store, words)[0]
+def said(room: Room, store: Path, words: tuple[str, ...], **env: str) -> Said:
+    return ran(room, store, words, **env)[0]
 
 
-def calls_of(tried: "Tried", more: int) -> int:
-    """How many calls of the store's files a change makes, where they are fewer than so many."""
-    store = tried.place()
-    ran(tried.room, store, tried.change.words, **tried.room.files(store, f"both {more}"))
-    return int(store.with_name("counted").read_text().split()[0])
+def watch(room: Room, store: Path, words: tuple[str, ...]) -> tuple[Watched, Said]:
+    first, seen = held(store), store.with_name("seen")
+    found = said(room, store, words, **room.seeing(store, seen))
+    calls = calls_in(seen.read_bytes()) if seen.exists() else []
+    return Watched(first, tuple(it or b"" for it in first), calls, found[1], held(store)), found
 
 
 def told_fault(change: Change, found: Said, failed: int, state: str) -> str | None:
@@ -124,13 +145,13 @@ def told_fault(change: Change, found: Said, failed: int, state: str) -> str | No
     return None if is_stopped or is_refused else f"it says {found}"
 
 
-def came_of(tried: Tried, store: Path, env: dict[str, str]) -> Came:
-    """A run in trouble, what it leaves, and the command given again."""
-    found, failed = ran(tried.room, store, tried.change.words, **env)
+def came_of(tried: Tried, store: Path, found: Said, failed: int) -> Came:
+    """What came of a run in trouble that said this: what it leaves, and the command given again."""
     state = tried.state(store)
     if state is None:
         return Came(f"it says {found} and leaves neither what was there nor what it makes of it", Counter())
-    fault = told_fault(tried.change, found, failed, state) or tried.asked_fault(store, state) or tried.again_fault(store, state)
+    fault = told_fault(tried.change, found, failed, state)
+    fault = fault or tried.once(store, state)(lambda: tried.asked_fault(store, state) or tried.again_fault(store, state))
     return Came(fault, Counter([state] if failed else []))
 
 

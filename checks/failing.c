@@ -6,7 +6,11 @@
 // for so many blocks of what was written since, from the first one that changed, as FAILING_LEFT says of
 // the log and of the database file; and the process ends with status 70. Where FAILING_LEFT is `all`, the
 // process alone is killed, and nothing is put back. At its end a process writes, to the file FAILING_TOLD,
-// how many calls there were of those that may fail, and how many failed.
+// how many calls there were of those that may fail, and how many failed. Where FAILING_SEEN names a file,
+// each call is written to it before it is made: a line that says what it does (read, write, cut, sync), to
+// which file, how many bytes stand on standard output by then, the place and length, and which files are
+// there (1 the log, 2 the database file); and behind the line of a write what is written. What is random
+// is the same for each process that finds the same number in FAILING_RANDOM.
 typedef unsigned long size;
 
 extern char *getenv(const char *);
@@ -21,23 +25,25 @@ extern size strlen(const char *);
 extern unsigned long strtoul(const char *, char **, int);
 extern long readlink(const char *, char *, size);
 extern long lseek(int, long, int);
+extern int access(const char *, int);
 extern void _exit(int);
 
 enum { LOG, DATABASE, NEITHER };
-enum { PREAD = 17, PWRITE = 18, FSYNC = 74, FDATASYNC = 75, FTRUNCATE = 77 };
-enum { READ_WRITE = 2, WRITE_ANEW = 01 | 0100 | 01000, END = 2, BLOCK = 512, NO_DISK = 5, STOPPED = 70 };
+enum { WRITE = 1, PREAD = 17, PWRITE = 18, FSYNC = 74, FDATASYNC = 75, FTRUNCATE = 77, GETRANDOM = 318 };
+enum { READ_WRITE = 2, WRITE_ANEW = 01 | 0100 | 01000, CURRENT = 1, END = 2, BLOCK = 512, NO_DISK = 5, STOPPED = 70 };
 
 static const char *const names[] = {"log", "file"};
 static const char *const endings[] = {"-wal", ""};
 
 static const char *store, *synced;
-static int is_known, is_killed, may_fail[2];
+static int is_known, is_killed, may_fail[2], seen = -1;
 static size passing = ~0ul, failing = ~0ul, left[2], came, failed;
 
 static void know(void) {
-    const char *calls = getenv("FAILING_CALLS"), *blocks = getenv("FAILING_LEFT");
+    const char *calls = getenv("FAILING_CALLS"), *blocks = getenv("FAILING_LEFT"), *told = getenv("FAILING_SEEN");
     is_known = 1;
     store = getenv("FAILING_STORE");
+    if (told) seen = open(told, WRITE_ANEW, 0600);
     synced = getenv("FAILING_SYNCED");
     if (!calls) return;
     may_fail[LOG] = calls[0] != 'f';
@@ -115,6 +121,24 @@ static void tell(void) {
     if (file >= 0) syscall(PWRITE, file, text, strlen(text), 0L);
 }
 
+static int are_there(void) {
+    char name[4096];
+    int there = 0;
+    for (int it = LOG; it <= DATABASE; it++) {
+        snprintf(name, sizeof name, "%s%s", store, endings[it]);
+        there |= (access(name, 0) == 0) << it;
+    }
+    return there;
+}
+
+static void note(char what, int it, const void *bytes, size n, long at) {
+    char line[128];
+    if (it == NEITHER || seen < 0) return;
+    int length = snprintf(line, sizeof line, "%c %d %ld %ld %lu %d\n", what, it, lseek(1, 0, CURRENT), at, n, are_there());
+    syscall(WRITE, seen, line, length);
+    if (bytes) syscall(WRITE, seen, bytes, n);
+}
+
 static int fails(int it) {
     if (it == NEITHER || !may_fail[it] || came++ < passing || failed == failing) return 0;
     failed++;
@@ -131,17 +155,26 @@ static int fails(int it) {
 }
 
 long pread(int file, void *into, size n, long at) {
-    return fails(which(file)) ? -1 : syscall(PREAD, file, into, n, at);
+    int it = which(file);
+    note('r', it, 0, n, at);
+    return fails(it) ? -1 : syscall(PREAD, file, into, n, at);
 }
 
 long pwrite(int file, const void *from, size n, long at) {
-    return fails(which(file)) ? -1 : syscall(PWRITE, file, from, n, at);
+    int it = which(file);
+    note('w', it, from, n, at);
+    return fails(it) ? -1 : syscall(PWRITE, file, from, n, at);
 }
 
-int ftruncate(int file, long length) { return fails(which(file)) ? -1 : (int)syscall(FTRUNCATE, file, length); }
+int ftruncate(int file, long length) {
+    int it = which(file);
+    note('c', it, 0, 0, length);
+    return fails(it) ? -1 : (int)syscall(FTRUNCATE, file, length);
+}
 
 static int syncs(long call, int file) {
     int it = which(file);
+    note('s', it, 0, 0, 0);
     if (fails(it) || syscall(call, file)) return -1;
     if (synced && it != NEITHER) keep(it, file);
     return 0;
@@ -150,6 +183,13 @@ static int syncs(long call, int file) {
 int fsync(int file) { return syncs(FSYNC, file); }
 
 int fdatasync(int file) { return syncs(FDATASYNC, file); }
+
+int getentropy(void *into, size n) {
+    const char *text = getenv("FAILING_RANDOM");
+    if (!text) return syscall(GETRANDOM, into, n, 0) == (long)n ? 0 : -1;
+    for (size k = 0, number = strtoul(text, 0, 10); k < n; k++) ((char *)into)[k] = (char)(number + 7 * k);
+    return 0;
+}
 
 long pread64(int, void *, size, long) __attribute__((alias("pread")));
 long pwrite64(int, const void *, size, long) __attribute__((alias("pwrite")));

@@ -1,6 +1,7 @@
 """Commands that change a store at once, while calls of the store's files fail, the machine stops, the process is killed, or memory is refused, one moment a run."""
 
 import contextlib
+import itertools
 import os
 import shutil
 import tempfile
@@ -12,12 +13,13 @@ from functools import partial
 from pathlib import Path
 
 from checks import failing, wanting
-from checks.changing import AFTER, BEFORE, Change, Tried, calls_of, came_of, copied, ran, tried_of
+from checks.allowed import STOPPED
+from checks.changing import AFTER, BEFORE, Change, Tried, came_of, ran, tried_of
 from checks.failing import QUICK, Room
+from checks.moments import Blocks, Files
 from checks.preloading import library
 from checks.troubled import CUTS, Came, rising
 
-MOST = 1 << 30  # calls: more than any change makes
 FARTHEST = 11  # the stride of the calls by which a second try is stopped
 
 Trouble = Callable[[Room, Path, int], dict[str, str]]  # the environment of a run over a store, by its number
@@ -28,58 +30,55 @@ def calls(which: str, room: Room, store: Path, number: int) -> dict[str, str]:
     return room.files(store, which.format(number))
 
 
-def kill(room: Room, store: Path, number: int) -> dict[str, str]:
-    """The process is killed once so many calls of both files passed."""
-    return room.files(store, f"both {number}", "all")
-
-
-def stop(room: Room, store: Path, number: int, blocks: tuple[int, int] = (0, 0)) -> dict[str, str]:
-    """The machine stops, and of what wasn't synced so many blocks of the log and of the file are there. What stood there at first was synced."""
-    for name, of in (("log", store.with_name(f"{store.name}-wal")), ("file", store)):
-        store.with_name(name).write_bytes(of.read_bytes() if of.exists() else b"")
-    return room.files(store, f"both {number}", f"{blocks[0]} {blocks[1]}")
-
-
-def cut(is_file: bool, room: Room, store: Path, number: int) -> dict[str, str]:
-    """The same, and the number says how many blocks of one of the two."""
-    call, at = divmod(number, len(CUTS))
-    return stop(room, store, call, (0, CUTS[at]) if is_file else (CUTS[at], 0))
-
-
 def memory(room: Room, store: Path, number: int) -> dict[str, str]:
     return room.memory(number)
 
 
-def once(tried: Tried, trouble: Trouble, number: int) -> Came:
+def once(trouble: Trouble, tried: Tried, number: int) -> Came:
     store = tried.place()
     try:
-        return came_of(tried, store, trouble(tried.room, store, number))
+        return came_of(tried, store, *ran(tried.room, store, tried.change.words, **trouble(tried.room, store, number)))
     finally:
         shutil.rmtree(store.parent)
 
 
+def stopped_over(first: Files, tried: Tried, number: int, blocks: Blocks | None) -> tuple[Files, Came]:
+    """What is there where the command over these files is stopped once so many calls of both passed, and what comes of it."""
+    run, found = tried.watched(first)
+    place = run.call_behind(number)
+    left = run.last if place is None else run.left_at(place, blocks)
+    found = found if place is None else (STOPPED, run.told_at(place), b"")
+    store = tried.place(left)
+    try:
+        came = came_of(tried, store, found, int(place is not None))
+    finally:
+        shutil.rmtree(store.parent)
+    return left, came if run.is_true else Came("the calls that were seen don't make what is there", Counter())
+
+
+def stop(tried: Tried, number: int, blocks: Blocks | None = (0, 0)) -> Came:
+    """The machine stops, and of what wasn't synced so many blocks of the log and of the file are there; or where none are named the process alone is killed."""
+    return stopped_over(tried.first(), tried, number, blocks)[1]
+
+
+def cut(is_file: bool, tried: Tried, number: int) -> Came:
+    """The same, and the number says how many blocks of one of the two."""
+    call, at = divmod(number, len(CUTS))
+    return stop(tried, call, (0, CUTS[at]) if is_file else (CUTS[at], 0))
+
+
 def twice(tried: Tried, number: int) -> Came:
-    """The machine stops, and in a second try, over what that left, at each call by a stride."""
-    first, met = tried.place(), Counter()
-    failed = ran(tried.room, first, tried.change.words, **stop(tried.room, first, number))[1]
-    more = number % FARTHEST
-    while failed:
-        with copied(first) as store:
-            came = came_again(tried, store, more)
+    """The machine stops, and in a second try, over what that left, at each call by a stride. Where none is left, that says what a command says that is given again."""
+    left, came = stopped_over(tried.first(), tried, number, (0, 0))
+    if came.fault or not came.met:
+        return came
+    met, is_changed = Counter(), came.met[AFTER]
+    again = replace(tried, change=replace(tried.change, done=tried.change.again)) if is_changed else tried
+    for more in itertools.count(number % FARTHEST, FARTHEST):
+        came = stopped_over(left, again, more, (0, 0))[1]
         met += came.met
         if came.fault or not came.met:
             return Came(came.fault and f"and once more behind {more}: {came.fault}", met)
-        more += FARTHEST
-    return Came(None, met)
-
-
-def came_again(tried: Tried, store: Path, number: int) -> Came:
-    """A second try that is stopped. Where none of its calls is, it says what a command says that is given again."""
-    state = tried.state(store)
-    if state is None:
-        return Came("the first stop leaves neither what was there nor what the command makes of it", Counter())
-    change = tried.change if state == BEFORE else replace(tried.change, done=tried.change.again)
-    return came_of(replace(tried, change=change), store, stop(tried.room, store, number))
 
 
 @dataclass(frozen=True)
@@ -94,21 +93,17 @@ class Part:
     is_each: bool = False
 
 
-def troubled(trouble: Trouble) -> Callable[[Tried, int], Came]:
-    return lambda tried, number: once(tried, trouble, number)
-
-
 PARTS = (
-    Part("calls of the log", troubled(partial(calls, "log {}"))),
-    Part("calls of the file", troubled(partial(calls, "file {}"))),
-    Part("calls of both", troubled(partial(calls, "both {}"))),
-    Part("one call", troubled(partial(calls, "both {} 1"))),
-    Part("the machine stops", troubled(stop), is_each=True),
-    Part("the process is killed", troubled(kill)),
-    Part("the machine stops, and the log is there in part", troubled(partial(cut, False)), 7),
-    Part("the machine stops, and the file is there in part", troubled(partial(cut, True)), 7),
+    Part("calls of the log", partial(once, partial(calls, "log {}"))),
+    Part("calls of the file", partial(once, partial(calls, "file {}"))),
+    Part("calls of both", partial(once, partial(calls, "both {}"))),
+    Part("one call", partial(once, partial(calls, "both {} 1"))),
+    Part("the machine stops", stop, is_each=True),
+    Part("the process is killed", partial(stop, blocks=None)),
+    Part("the machine stops, and the log is there in part", partial(cut, False), 7),
+    Part("the machine stops, and the file is there in part", partial(cut, True), 7),
     Part("the machine stops twice", twice, 7),
-    Part("memory", troubled(memory), 61, (BEFORE,)),
+    Part("memory", partial(once, memory), 61, (BEFORE,)),
 )
 
 
@@ -127,7 +122,7 @@ def part_fault(tried: Tried, part: Part, every: int = 1) -> str | None:
 
 def few_faults(tried: Tried, part: Part, count: int) -> str | None:
     """What is wrong with the first of so many runs that goes wrong, at moments that are evenly spread over all calls."""
-    calls = calls_of(tried, MOST)
+    calls = len(tried.watched(tried.first())[0].calls)
     came = ((number, part.once(tried, number)) for number in range(calls // (2 * count), calls, calls // count))
     return next((f"number {number} of {calls}: {it.fault}" for number, it in came if it.fault), None)
 

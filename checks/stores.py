@@ -8,31 +8,7 @@ from dataclasses import dataclass
 from pathlib import Path
 
 from checks.conversations import DEADLINE
-
-# The register of `play`.
-SAMPLE = """[[custodian]]
-code = 1001
-name = "Upper County"
-uprn = [[1, 99999], [999999999000, 999999999999]]
-usrn = [[100, 199], [99999999, 99999999]]
-
-[[custodian]]
-code = 1002
-name = "Lower District"
-uprn = [[100000, 199999]]
-usrn = [[200, 299]]
-
-[[custodian]]
-code = 1003
-name = "Bay District"
-uprn = [[200000, 299999]]
-usrn = [[300, 399]]
-"""
-
-TEXT = """1001,Upper County,1-99999 999999999000-999999999999,100-199 99999999-99999999
-1002,Lower District,100000-199999,200-299
-1003,Bay District,200000-299999,300-399
-"""
+from checks.sample import SAMPLE, TEXT  # noqa: F401
 
 BLOCKS = 8  # of each custodian, of either kind
 

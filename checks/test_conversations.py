@@ -24,7 +24,7 @@ REPLY = b"HTTP/1.1 200 OK\r\nContent-Length: 3\r\n\r\nok\n"
 TWICE = Conversation("twice", GET + GET, REPLY + REPLY)
 
 # Each begins with this: `requests()` gives the heads of what is read, as they come.
-BEGINNING = f"""#!{sys.executable}
+BEGINNING = f"""#!{sys.executable} -S
 import sys, time
 
 def requests():

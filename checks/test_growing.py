@@ -16,7 +16,7 @@ import random_streams as streams  # (beside the plain hub)
 TOP = Path(__file__).resolve().parent.parent
 
 # A store is the register and the files that were received; the plain hub answers over them.
-PROGRAM = f"""#!{sys.executable}
+PROGRAM = f"""#!{sys.executable} -S
 import json, pathlib, socket, sys, tomllib
 sys.path.insert(0, {str(TOP / "bench")!r})
 import hub

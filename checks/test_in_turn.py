@@ -12,16 +12,16 @@ TOP = Path(__file__).resolve().parent.parent
 
 # The plain hub receives none of these files, so it needs no store to tell it.
 RIGHT = f"""#!/bin/sh
-exec {sys.executable} {TOP}/bench/hub.py
+exec {sys.executable} -S {TOP}/bench/hub.py
 """
 # Has received whatever came before.
 RECEIVING = f"""#!/bin/sh
 if test -e "$2"; then printf 'HTTP/1.1 200 OK\\r\\n\\r\\n'; exit; fi
 touch "$2"
-exec {sys.executable} {TOP}/bench/hub.py
+exec {sys.executable} -S {TOP}/bench/hub.py
 """
 FAILING = f"""#!/bin/sh
-{sys.executable} {TOP}/bench/hub.py
+{sys.executable} -S {TOP}/bench/hub.py
 echo "gaz_bench: Store" >&2
 exit 3
 """

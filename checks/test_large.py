@@ -12,7 +12,7 @@ from checks.large import cases, chain, largest_file, limit_first, run_all
 TOP = Path(__file__).resolve().parent.parent
 
 PLAIN = f"""#!/bin/sh
-exec {sys.executable} {TOP}/bench/hub.py
+exec {sys.executable} -S {TOP}/bench/hub.py
 """
 SILENT = "#!/bin/sh\nexec cat > /dev/null\n"
 FAILING = "#!/bin/sh\ncat > /dev/null\nexit 3\n"

@@ -13,7 +13,7 @@ from checks.stores import Hubs
 STREET = left.LEAVINGS[0]
 
 # Answers what is wanted of either stream, which is told by whether an address is inserted.
-ANSWERING = f"""#!{sys.executable}
+ANSWERING = f"""#!{sys.executable} -S
 import pathlib, sys
 given, folder = sys.stdin.buffer.read(), pathlib.Path(sys.argv[2]).parent
 name = "busy" if b"\\n24,I," in given else "calm"

@@ -1,5 +1,6 @@
 """Tests of `making`, over small programs in a temporary folder."""
 
+import sys
 import tempfile
 import unittest
 from pathlib import Path
@@ -7,7 +8,7 @@ from pathlib import Path
 from checks.making import GROUPS, Group, lacking, run_all
 
 # A hub whose store has one table, `meta`.
-RIGHT = """#!/usr/bin/env python3
+RIGHT = f"""#!{sys.executable} -IS
 import sqlite3, sys
 conn = sqlite3.connect("s.db", isolation_level=None)
 there = conn.execute("SELECT count(*) FROM sqlite_schema WHERE name = 'meta'").fetchone()[0]

@@ -10,18 +10,17 @@ from checks import migrating, migrating_between, migrating_others, migrating_ref
 from checks.conversations import Conversation, find
 from checks.history import LATER
 from checks.migrating import Place
-from checks.stores import SAMPLE, Hubs
+from checks.stores import SAMPLE, TEXT, Hubs
 from checks.written import FIRST, SECOND, STORES
 
 TOP = Path(__file__).resolve().parent.parent
 
 # `gazhub` and `gaz_bench`, by the name of its file.
-PROGRAM = f"""#!{sys.executable}
+PROGRAM = f"""#!{sys.executable} -S
 import io, pathlib, sqlite3, sys
-sys.path[:0] = [{str(TOP / "bench")!r}, {str(TOP)!r}]
+sys.path.insert(0, {str(TOP / "bench")!r})
 import hub, hub_sqlite
-from checks.migrating_refused import MOVED
-from checks.stores import TEXT
+MOVED, TEXT = {migrating_refused.MOVED!r}, {TEXT!r}
 
 def ends(word):
     print("gazhub: " + word, file=sys.stderr)

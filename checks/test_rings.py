@@ -14,7 +14,7 @@ from checks.stores import Hubs
 TOP = Path(__file__).resolve().parent.parent
 
 # The plain hub, of five custodians without blocks.
-PLAIN = f"""#!{sys.executable}
+PLAIN = f"""#!{sys.executable} -S
 import sys
 sys.path[:0] = ["{TOP}/bench"]
 import hub

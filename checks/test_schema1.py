@@ -5,6 +5,7 @@ import ast
 import re
 import shutil
 import sqlite3
+import sys
 import tempfile
 import unittest
 from pathlib import Path
@@ -121,7 +122,7 @@ class TheSameRows(InAFolder):
 
 
 # What a program may do with a store that it is given.
-PROGRAM = """#!/usr/bin/env python3
+PROGRAM = f"#!{sys.executable} -IS" + """
 import pathlib, sys
 words = sys.argv[1:]
 store = pathlib.Path(words[words.index("--store") + 1])

@@ -13,7 +13,7 @@ from checks.sizes import MIB, MOST, NO_ROUTE, SMALLEST, cases, long_line, many_h
 TOP = Path(__file__).resolve().parent.parent
 
 PLAIN = f"""#!/bin/sh
-exec {sys.executable} {TOP}/bench/hub.py
+exec {sys.executable} -S {TOP}/bench/hub.py
 """
 # Answers at once, and reads nothing.
 ANSWERING = """#!/bin/sh

@@ -21,7 +21,7 @@ def reply(number: int) -> bytes:
 TWICE = Conversation("twice", GET + GET, reply(1) + reply(2))
 
 # Answers how many requests a store has seen, which is kept in its file.
-COUNTING = f"""#!{sys.executable}
+COUNTING = f"""#!{sys.executable} -S
 import pathlib, re, sys
 word, *rest = sys.argv[1:]
 store = pathlib.Path(rest[0]) if len(rest) > 1 else None
@@ -32,7 +32,7 @@ for number in range(kept + 1, kept + 1 + given.count(b"GET ")):
     if store: store.write_text(str(number))
 """
 FORGETTING = COUNTING.replace("if store and store.exists()", "if False")
-REFUSING = f"""#!{sys.executable}
+REFUSING = f"""#!{sys.executable} -S
 import sys
 print("gaz_bench: BadSchema", file=sys.stderr)
 sys.exit(3)

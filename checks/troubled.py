@@ -7,7 +7,6 @@ file is in. In the end all is sent again and asked; over a store in a file by a 
 import functools
 import itertools
 import os
-import shutil
 import tempfile
 from collections import Counter
 from collections.abc import Callable, Iterator
@@ -17,7 +16,9 @@ from pathlib import Path
 
 from checks import wanting
 from checks.allowed import STOPPED, Along, Ended
-from checks.failing import QUICK, SOURCE, Requests, Room, files_of
+from checks.conversations import replies_in
+from checks.failing import QUICK, SOURCE, Requests, Room, files_of, left_in
+from checks.moments import NONE, Blocks, Files, Watched, write
 from checks.preloading import library
 from checks.stores import SAMPLE
 from checks.short_histories import HISTORIES, QUESTIONS, outcome_of
@@ -65,9 +66,15 @@ def in_file(room: Room, way: str, store: Path, history: Requests, **env: str) ->
 
 
 def opened_again(room: Room, way: str, store: Path, history: Requests, along: Along) -> str | None:
-    """What is wrong with a store that is opened without trouble; where none was made, it is made then."""
-    requests = (*QUESTIONS, *history, *QUESTIONS)
-    words = room.words("stored" if way == IN_TURN else way, store)
+    """What is wrong with a store that is opened without trouble. One is opened for all that were left alike behind the same answers."""
+    way = "stored" if way == IN_TURN else way
+    left = way, history, along.hub.files, frozenset(along.doubtful), left_in(store)
+    return room.once(left, lambda: opened_anew(room, room.words(way, store), history, along))
+
+
+def opened_anew(room: Room, words: list[str], history: Requests, along: Along) -> str | None:
+    """The same of one store; where none was made, it is made then."""
+    requests, store = (*QUESTIONS, *history, *QUESTIONS), Path(words[1])
     ended = room.run(words, requests)
     if ended.said == b"gaz_bench: BadSchema\n" and not along.hub.files:
         for it in files_of(store):
@@ -98,18 +105,44 @@ def files(which: str, room: Room, way: str, store: Path, history: Requests, numb
     return in_file(room, way, store, history, **room.files(store, f"{which} {number}"))
 
 
-def stop(room: Room, way: str, store: Path, history: Requests, number: int) -> Came:
+def watched(room: Room, way: str, history: Requests) -> tuple[Watched, str | None]:
+    """The run without trouble over a store that it makes, and what is wrong with it or with what it leaves."""
+    run, ended = room.watch(way, NONE, history)
+    along = Along()
+    fault = None if run.is_true else "the calls that were seen don't make what is there"
+    return run, fault or along.fault(history, ended) or opened_again(room, way, at_last(room, run.last), history, along)
+
+
+def at_last(room: Room, files: Files) -> Path:
+    """A store of these files."""
+    store = Path(tempfile.mkdtemp(dir=room.folder)) / "store"
+    write(store, files)
+    return store
+
+
+def stopped(room: Room, way: str, history: Requests, which: str, number: int, blocks: Blocks) -> tuple[Files | None, Along, Came]:
+    """What is there where the machine stops once so many calls of these files passed, and so many blocks are there of what wasn't synced; none where there are no more."""
+    run, fault = room.once(("watched", way, history), lambda: watched(room, way, history))
+    place, along = run.call_behind(number, which), Along()
+    if place is None:
+        return None, along, Came(fault, Counter())
+    ended = Ended(STOPPED, replies_in(run.told_at(place)), b"", 1, way == IN_TURN)
+    return run.left_at(place, blocks), along, Came(along.fault(history, ended), met_in(ended))
+
+
+def stop(room: Room, way: str, store: Path, history: Requests, number: int, which: str = "both", blocks: Blocks = (0, 0)) -> Came:
     """The machine stops once so many calls of the files passed."""
-    return in_file(room, way, store, history, **room.files(store, f"both {number}", "0 0"))
+    left, along, came = stopped(room, way, history, which, number, blocks)
+    if left is None or came.fault:
+        return came
+    return Came(opened_again(room, way, at_last(room, left), history, along), came.met)
 
 
 def cut(which: str, room: Room, way: str, store: Path, history: Requests, number: int) -> Came:
     """The machine stops once so many calls of this file passed, and of what wasn't synced to it its first blocks are there."""
     met: Counter[str] = Counter()
     for blocks in CUTS:
-        at = Path(tempfile.mkdtemp(dir=store.parent)) / "store"
-        left = f"{blocks} 0" if which == "log" else f"0 {blocks}"
-        came = in_file(room, way, at, history, **room.files(at, f"{which} {number}", left))
+        came = stop(room, way, store, history, number, which, (blocks, 0) if which == "log" else (0, blocks))
         met += came.met
         if came.fault:
             return Came(f"{blocks} blocks: {came.fault}", met)
@@ -118,20 +151,16 @@ def cut(which: str, room: Room, way: str, store: Path, history: Requests, number
 
 def twice(stride: int, room: Room, way: str, store: Path, history: Requests, number: int) -> Came:
     """The machine stops, and once more at each call, by this stride, by which the store is opened again and closed."""
-    along, ended = Along(), room.run(room.words(way, store), history, **room.files(store, f"both {number}", "0 0"))
-    fault, met = along.fault(history, ended), met_in(ended)
-    more = number % stride
-    while ended.failed and not fault:
-        at = Path(tempfile.mkdtemp(dir=store.parent)) / "store"
-        for it in files_of(store):
-            shutil.copy(it, at.with_name(it.name))
-        ended = room.run(room.words(way, at), (), **room.files(at, f"both {more}", "0 0"))
-        met += Counter(stop=ended.failed)
+    left, along, came = stopped(room, way, history, "both", number, (0, 0))
+    if left is None or came.fault:
+        return came
+    again, ended = room.once(("watched", way, left), lambda: room.watch(way, left, ()))
+    met, fault = came.met, None if again.is_true and ended.status in (0, 3) else f"opened: exit status {ended.status}"
+    for place in range(number % stride, len(again.calls), stride):
+        met += Counter(stop=1)
         beside = Along(doubtful=[*along.doubtful])
         beside.hub.files = along.hub.files
-        fault = None if ended.status in (0, 3, STOPPED) else f"opened: exit status {ended.status}"
-        fault = fault or opened_again(room, way, at, history, beside)
-        more += stride
+        fault = fault or opened_again(room, way, at_last(room, again.left_at(place, (0, 0))), history, beside)
     return Came(fault, met)
 
 
