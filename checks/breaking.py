@@ -23,6 +23,7 @@ SOURCE = Path(__file__).resolve().parent / "breaking.c"
 WHOLE = 1 << 20  # bytes: more than any stream here
 EVER = 1 << 40  # calls: more than any program makes
 
+TOGETHER = 100  # runs that are forked off one process
 STRIDE = 11  # bytes: so far from each other is what isn't tried at each of them
 
 STREAM = "conversations/a-volume-that-fills-a-gap-frees-what-waits"
@@ -152,13 +153,39 @@ def fault_of(program: Path, preloaded: Path, run: Broken) -> str | None:
         ran = breaks([program], preloaded, run.given, run.reads, run.writes)
     except subprocess.TimeoutExpired:
         return f"didn't end within {DEADLINE:g} s"
-    said = difference(run.said, ran.stderr)
+    return end_fault(run, ran.returncode, ran.stdout, ran.stderr)
+
+
+def end_fault(run: Broken, status: int, written: bytes, told: bytes) -> str | None:
+    """What is wrong where a run ends so."""
+    said = difference(run.said, told)
     faults = (
-        f"exit status {ran.returncode}, wanted {run.status}" if ran.returncode != run.status else None,
+        f"exit status {status}, wanted {run.status}" if status != run.status else None,
         f"standard error {said}" if said else None,
-        written_fault(run, ran.stdout),
+        written_fault(run, written),
     )
     return "; ".join(fault for fault in faults if fault) or None
+
+
+def faults_of(program: Path, preloaded: Path, runs: list[Broken]) -> list[str | None]:
+    """What is wrong with each of these runs, which are forked off one process once it reads. All are given a front of the same."""
+    with tempfile.TemporaryDirectory(prefix="check-forked-") as made:
+        given, cases, ends, written, said = (Path(made, name) for name in ("given", "cases", "ends", "written", "said"))
+        given.write_bytes(max((it.given for it in runs), key=len))
+        cases.write_text("".join(f"{len(it.given)} {it.reads.text()} {it.writes.text()}\n" for it in runs))
+        env = os.environ | {"LD_PRELOAD": str(preloaded), "BREAKING_CASES": str(cases), "BREAKING_TOLD": str(ends)}
+        with given.open("rb") as source, written.open("wb") as sink, said.open("wb") as errors:
+            ran = subprocess.run([program], stdin=source, stdout=sink, stderr=errors, env=env)
+        told = [[*map(int, line.split())] for line in ends.read_text().splitlines()] if ends.exists() else []
+        if ran.returncode or len(told) != len(runs):
+            return [f"{len(told)} of {len(runs)} runs ended, and the process that forked them by {ran.returncode}"]
+        pieces = [between(file.read_bytes(), [line[at] for line in told]) for at, file in ((1, written), (2, said))]
+    return [end_fault(run, os.waitstatus_to_exitcode(status), *them) for run, (status, *_), *them in zip(runs, told, *pieces)]
+
+
+def between(data: bytes, ends: list[int]) -> list[bytes]:
+    """The pieces of bytes that end so."""
+    return [data[first:end] for first, end in zip([0, *ends], ends)]
 
 
 def written_fault(run: Broken, written: bytes) -> str | None:
@@ -177,9 +204,11 @@ KINDS = (
 
 def first_fault(program: Path, preloaded: Path, runs: Iterator[Broken]) -> str | None:
     """What is wrong with the first run that ends otherwise."""
+    them = list(runs)
+    groups = [them[first : first + TOGETHER] for first in range(0, len(them), TOGETHER)]
     with ThreadPoolExecutor(len(os.sched_getaffinity(0))) as workers:
-        ended = workers.map(lambda run: (run.name, fault_of(program, preloaded, run)), runs)
-        return next((f"{name}: {fault}" for name, fault in ended if fault), None)
+        ended = workers.map(lambda group: zip(group, faults_of(program, preloaded, group)), groups)
+        return next((f"{run.name}: {fault}" for group in ended for run, fault in group if fault), None)
 
 
 def run_all(program: Path, root: Path) -> Iterator[tuple[str, str | None]]:

@@ -6,7 +6,7 @@ import tempfile
 import unittest
 from pathlib import Path
 
-from checks.breaking import EVER, SOURCE, Broken, Side, Stream, breaks, calm, fault_of, prefixes, readers, stays, worked, writers
+from checks.breaking import EVER, SOURCE, Broken, Side, Stream, breaks, calm, fault_of, faults_of, prefixes, readers, stays, worked, writers
 from checks.preloading import library
 from checks.runs import CUT_OFF, GET, READ_FAULT, REPLY, WRITE_FAULT
 from checks.stores import Hubs
@@ -106,7 +106,9 @@ class Running(unittest.TestCase):
     def faults(self, text: str, runs: list[Broken]) -> list[str | None]:
         self.program.write_text(f"#!{sys.executable} -IS\n{text}")
         self.program.chmod(0o755)
-        return [fault_of(self.program, self.preloaded, run) for run in runs]
+        faults = [fault_of(self.program, self.preloaded, run) for run in runs]
+        self.assertEqual(faults, faults_of(self.program, self.preloaded, runs))
+        return faults
 
     def some(self) -> list[Broken]:
         runs = [*readers(TWO), *prefixes(TWO), *writers(TWO), *calm(TWO)]
@@ -140,6 +142,12 @@ class Running(unittest.TestCase):
     def test_a_front_is_enough_where_the_writer_goes_on(self) -> None:
         once = Broken("", GET, Side(), Side(at=9, times=1), 3, WRITE_FAULT, REPLY[:9], REPLY)
         self.assertEqual(self.faults(RIGHT, [once]), [None])
+
+
+    def test_a_program_that_never_reads_is_reported(self) -> None:
+        self.program.write_text("#!/bin/sh\nexit 3\n")
+        self.program.chmod(0o755)
+        self.assertEqual(["0 of 2 runs ended, and the process that forked them by 3"], faults_of(self.program, self.preloaded, self.some()[:2]))
 
 
 # Keeps what it is asked in a file, and tells how many requests it has.

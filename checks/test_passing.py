@@ -11,6 +11,7 @@ from checks.wanting import plain
 
 import hub_sqlite  # (beside the plain hub)
 import passing_streams as streams
+import pieces
 
 
 def told(hub: plain.Hub, requests: list[bytes]) -> bytes:
@@ -76,6 +77,23 @@ class Histories(unittest.TestCase):
             for hub, them in zip(hubs, (files, files[::-1])):
                 told(hub, [post(*file) for file in them])
             self.assertEqual(*(told(hub, asked) for hub in hubs))
+
+
+class Pieces(unittest.TestCase):
+    def test_a_store_is_opened_once_between_any_two_files_and_behind_the_last(self) -> None:
+        requests = streams.passing_stream_of(1)
+        count = sum(it.startswith(b"POST") for it in requests)
+        for cut in (pieces.before_files, pieces.behind_files):
+            them = cut(requests)
+            self.assertEqual(b"".join(requests), b"".join(them))
+            self.assertEqual([1] * count + [0], [it.count(b"POST /custodians/") for it in them[-count - 1 :]])
+        self.assertTrue(all(it.startswith(b"POST") for it in pieces.before_files(requests)[1:-1]))
+        self.assertTrue(all(b"GET" not in it.partition(b"POST")[2] for it in pieces.behind_files(requests)[:-1]))
+
+    def test_each_way_comes_within_a_hundred(self) -> None:
+        ways = Counter(pieces.pieces_by(number) for number in range(100))
+        self.assertEqual({list: 4, pieces.before_files: 48, pieces.behind_files: 48}, ways)
+        self.assertEqual([], pieces.before_files([]))
 
 
 if __name__ == "__main__":
