@@ -46,7 +46,6 @@ pub fn some() -> u8 {
 
 RIGHT = {
     "doubles_nothing": ("u16::from(n) + u16::from(n)", "u16::from(n)"),
-    "doubles_once_more": ("    u16::from(n) +", "    u16::from(n) + u16::from(n) +"),
     "gives_the_greater": ("if a < b", "if b < a"),
     "holds_one_more": ("MOST: u8 = 9", "MOST: u8 = 10"),
 }
@@ -81,8 +80,8 @@ class OverASmallCrate(unittest.TestCase):
     def test_edits_that_turn_a_meaning_are_refused_where_they_stand(self):
         tried, outcome = self.tried(RIGHT)
         self.assertEqual({name: True for name in RIGHT}, {name: it.is_refused for name, it in tried.items()}, tried)
-        # those of two functions and a constant in one check, the second of one function in another
-        self.assertEqual(2, outcome.checks)
+        # those of two functions and a constant in one check (a second one of a function: OfEdits)
+        self.assertEqual(1, outcome.checks)
         self.assertFalse([it for it in tried.values() if it.why.startswith("alone")])
 
     def test_edits_that_show_nothing_are_named(self):
