@@ -1,5 +1,6 @@
 //! What comes to a hub and what it then tells, as data: one more in a table costs the proof next to
 //! nothing.
+use crate::items::{custodian, volume};
 use crate::resting::Resting;
 use crate::wanted::holds_at;
 use gaz_hub::{Answer, Outcome, Refusal};
@@ -43,21 +44,19 @@ fn file_on(alloc: Global, place: Place, bases: &[Place]) -> Result<String, Fail>
     Ok(file)
 }
 
-fn waits_for(answer: Answer, whom: u64) -> bool {
-    match answer {
-        Answer::New(Outcome::Held { custodian, volume }) => {
-            custodian.number() == whom && volume.number() == 1
-        }
-        _ => false,
-    }
+fn waits_for(whom: u64) -> Result<Answer, Fail> {
+    Ok(Answer::New(Outcome::Held {
+        custodian: custodian(whom)?,
+        volume: volume(1)?,
+    }))
 }
 
-fn is_answer(answer: Answer, gets: Gets) -> bool {
+fn is_answer(answer: Answer, gets: Gets) -> Result<bool, Fail> {
     match gets {
-        Gets::Applied => matches!(answer, Answer::New(Outcome::Applied)),
-        Gets::WaitsFor(whom) => waits_for(answer, whom),
-        Gets::Unknown => matches!(answer, Answer::Refused(Refusal::UnknownCustodian)),
-        Gets::New => matches!(answer, Answer::New(_)),
+        Gets::Applied => Ok(answer == Answer::New(Outcome::Applied)),
+        Gets::WaitsFor(whom) => Ok(answer == waits_for(whom)?),
+        Gets::Unknown => Ok(answer == Answer::Refused(Refusal::UnknownCustodian)),
+        Gets::New => Ok(matches!(answer, Answer::New(_))),
     }
 }
 
@@ -71,7 +70,7 @@ pub(crate) fn comes<K: Inbox + Drop>(
 ) -> Result<bool, Fail> {
     let file = file_on(alloc, place, bases)?;
     let answer = hub.submit(place.0, place.1, file.as_bytes());
-    Ok(is_answer(answer, gets))
+    is_answer(answer, gets)
 }
 
 fn stands<K: Inbox + Drop>(
@@ -93,7 +92,7 @@ fn is_so<K: Inbox + Drop>(
     match event {
         Event::Comes(place, bases, gets) => comes(alloc, hub, *place, bases, *gets),
         Event::Unreadable((code, volume)) => {
-            Ok(is_answer(hub.submit(*code, *volume, b"nothing"), Gets::New))
+            is_answer(hub.submit(*code, *volume, b"nothing"), Gets::New)
         }
         Event::Stands(code, judged, held) => stands(hub, *code, *judged, *held),
     }
