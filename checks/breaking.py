@@ -232,8 +232,8 @@ def stays(hubs: Hubs, preloaded: Path, folder: Path, stream: Stream, at: int) ->
 def stay_all(root: Path, room: Path, stride: int = 29) -> Iterator[tuple[str, str | None]]:
     """What was received stays received where the writer fails at a byte, and where at none."""
     stream = worked(root)
-    with hubs_of(room) as (hubs, folder):
-        preloaded = library(SOURCE, folder)
+    with hubs_of(room) as (hubs, folder), tempfile.TemporaryDirectory(prefix="check-breaking-") as made:
+        preloaded = library(SOURCE, Path(made))
         for at in (*range(0, len(stream.replies), stride), len(stream.replies)):
             (folder / f"{at}").mkdir()
             yield f"a writer that fails at byte {at}", stays(hubs, preloaded, folder / f"{at}", stream, at)

@@ -14,9 +14,9 @@ from pathlib import Path
 
 from checks.allowed import STOPPED
 from checks.conversations import DEADLINE
-from checks.failing import Room, files_of, left_in
+from checks.failing import Room, files_of
 from checks.making import content
-from checks.moments import Files, Watched, calls_in, held, write
+from checks.moments import Files, Watched, calls_in, digests, held, write
 from checks.sessions import fails
 from checks.tables import opened
 from checks.troubled import Came
@@ -62,11 +62,11 @@ class Tried:
 
     def watched(self, first: Files) -> tuple[Watched, Said]:
         """The command over a store of these files, and what it says. What stood there at first was synced."""
-        return self.room.once((self.change, "watched", first), lambda: watch(self.room, self.place(first), self.change.words))
+        return self.room.once((self.change, "watched", digests(first)), lambda: watch(self.room, self.place(first), self.change.words))
 
     def once(self, store: Path, *what: str | None) -> Callable:
         """Asks something of a store once for all whose files were left alike."""
-        return partial(self.room.once, (self.change, self.before, self.after, left_in(store), what))
+        return partial(self.room.once, (self.change, self.before, self.after, digests(held(store)), what))
 
     def state(self, store: Path) -> str | None:
         """Whether a store is as it was or changed, as Python reads a copy of it; none where it is neither."""
@@ -128,7 +128,9 @@ def watch(room: Room, store: Path, words: tuple[str, ...]) -> tuple[Watched, Sai
     first, seen = held(store), store.with_name("seen")
     found = said(room, store, words, **room.seeing(store, seen))
     calls = calls_in(seen.read_bytes()) if seen.exists() else []
-    return Watched(first, tuple(it or b"" for it in first), calls, found[1], held(store)), found
+    run = Watched(first, tuple(it or b"" for it in first), calls, found[1], held(store))
+    shutil.rmtree(store.parent)
+    return run, found
 
 
 def told_fault(change: Change, found: Said, failed: int, state: str) -> str | None:

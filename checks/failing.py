@@ -8,7 +8,6 @@ import subprocess
 import tempfile
 from collections.abc import Callable, Hashable, Iterator
 from dataclasses import dataclass, field
-from hashlib import sha256
 from pathlib import Path
 from typing import BinaryIO, TypeVar
 
@@ -16,14 +15,12 @@ from checks import stores
 from checks.allowed import Ended
 from checks.conversations import DEADLINE, replies_in
 from checks.moments import NONE, Files, Watched, calls_in, held, write
+from checks.stores import QUICK
 
 SOURCE = Path(__file__).resolve().parent / "failing.c"
 
 Requests = tuple[bytes, ...]
 Told = TypeVar("Told")
-
-# No disk is waited for: what a sync leaves is for the library to say.
-QUICK = next((it for it in ("/dev/shm",) if os.access(it, os.W_OK)), None)
 
 
 @dataclass(frozen=True)
@@ -108,8 +105,3 @@ def framed(requests: Requests) -> Iterator[BinaryIO]:
 def files_of(store: Path) -> list[Path]:
     """The database file and its log, as far as they are there."""
     return [it for it in (store, store.with_name(f"{store.name}-wal")) if it.exists()]
-
-
-def left_in(store: Path) -> tuple[tuple[str, bytes], ...]:
-    """What stands in a store's files, by digests."""
-    return tuple((it.name.removeprefix(store.name), sha256(it.read_bytes()).digest()) for it in files_of(store))

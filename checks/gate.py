@@ -74,10 +74,8 @@ def copy_of(root: Path, room: Path) -> None:
 
 
 def own_tests(root: Path, account: Account) -> None:
-    """Tests of the gate itself, since a gate that can't fail is worth nothing. What Python makes of the sources is kept for the programs that they start, outside the tree."""
-    with tempfile.TemporaryDirectory(prefix="check-read-") as read:
-        words = ["env", "--unset=PYTHONDONTWRITEBYTECODE", f"PYTHONPYCACHEPREFIX={read}"]
-        ran, _ = measure.watch([*words, sys.executable, "-m", "unittest", "discover", "-s", "checks", "-t", "."], root, say)
+    """Tests of the gate itself, since a gate that can't fail is worth nothing."""
+    ran, _ = measure.watch([sys.executable, "-m", "unittest", "discover", "-s", "checks", "-t", "."], root, say)
     account.rest += ran.seconds
     account.count("the gate's own tests", ran.status == 0)
 

@@ -3,6 +3,7 @@ another run."""
 
 from dataclasses import dataclass
 from functools import cached_property
+from hashlib import sha256
 from pathlib import Path
 
 BLOCK = 512
@@ -42,6 +43,11 @@ def held(store: Path) -> Files:
     """What a store's files hold."""
     files = [store.with_name(store.name + it) for it in ENDINGS]
     return tuple(it.read_bytes() if it.exists() else None for it in files)
+
+
+def digests(files: Files) -> tuple[bytes | None, ...]:
+    """What the files hold, in short."""
+    return tuple(None if it is None else sha256(it).digest() for it in files)
 
 
 def write(store: Path, files: Files) -> None:

@@ -15,9 +15,10 @@ from pathlib import Path
 from checks import failing, wanting
 from checks.allowed import STOPPED
 from checks.changing import AFTER, BEFORE, Change, Tried, came_of, ran, tried_of
-from checks.failing import QUICK, Room
+from checks.failing import Room
 from checks.moments import Blocks, Files
 from checks.preloading import library
+from checks.stores import QUICK
 from checks.troubled import CUTS, Came, rising
 
 FARTHEST = 11  # the stride of the calls by which a second try is stopped

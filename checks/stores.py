@@ -1,6 +1,7 @@
 """A hub over a store in a file, from outside: the program that answers over it, requests and replies."""
 
 import contextlib
+import os
 import subprocess
 import tempfile
 from collections.abc import Iterator
@@ -9,6 +10,9 @@ from pathlib import Path
 
 from checks.conversations import DEADLINE
 from checks.sample import SAMPLE, TEXT  # noqa: F401
+
+# A folder in memory, so that no disk is waited for: what a sync leaves is for a library to say (failing.c). From there no library can be loaded.
+QUICK = next((it for it in ("/dev/shm",) if os.access(it, os.W_OK)), None)
 
 BLOCKS = 8  # of each custodian, of either kind
 
@@ -81,7 +85,7 @@ def framed(pieces: list[bytes]) -> bytes:
 @contextlib.contextmanager
 def hubs_of(root: Path) -> Iterator[tuple[Hubs, Path]]:
     """Hubs by the programs that are built under `root`, and a folder for stores."""
-    with tempfile.TemporaryDirectory(prefix="check-stores-") as made:
+    with tempfile.TemporaryDirectory(prefix="check-stores-", dir=QUICK) as made:
         register = Path(made) / "register.toml"
         register.write_text(SAMPLE)
         yield Hubs(built(root, "gaz_bench"), register), Path(made)

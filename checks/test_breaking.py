@@ -106,9 +106,7 @@ class Running(unittest.TestCase):
     def faults(self, text: str, runs: list[Broken]) -> list[str | None]:
         self.program.write_text(f"#!{sys.executable} -IS\n{text}")
         self.program.chmod(0o755)
-        faults = [fault_of(self.program, self.preloaded, run) for run in runs]
-        self.assertEqual(faults, faults_of(self.program, self.preloaded, runs))
-        return faults
+        return faults_of(self.program, self.preloaded, runs)
 
     def some(self) -> list[Broken]:
         runs = [*readers(TWO), *prefixes(TWO), *writers(TWO), *calm(TWO)]
@@ -117,6 +115,11 @@ class Running(unittest.TestCase):
     def test_a_right_program_passes(self) -> None:
         runs = self.some()
         self.assertEqual(self.faults(RIGHT, runs), [None] * len(runs))
+
+    def test_a_run_by_itself_ends_alike(self) -> None:
+        fails = Broken("", GET, Side(at=len(GET), error=errno.EIO, times=EVER), Side(), 3, READ_FAULT, REPLY, REPLY)
+        for text, runs in ((RIGHT, self.some()[::5]), (RIGHT.replace("3 if", "1 if"), [fails]), (RIGHT.replace("put(REPLY)", "put(REPLY * 2)"), [fails])):
+            self.assertEqual(self.faults(text, runs), [fault_of(self.program, self.preloaded, run) for run in runs])
 
     def test_what_is_wrong_is_told(self) -> None:
         fails = Broken("", GET, Side(at=len(GET), error=errno.EIO, times=EVER), Side(), 3, READ_FAULT, REPLY, REPLY)

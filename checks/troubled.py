@@ -17,10 +17,10 @@ from pathlib import Path
 from checks import wanting
 from checks.allowed import STOPPED, Along, Ended
 from checks.conversations import replies_in
-from checks.failing import QUICK, SOURCE, Requests, Room, files_of, left_in
-from checks.moments import NONE, Blocks, Files, Watched, write
+from checks.failing import SOURCE, Requests, Room, files_of
+from checks.moments import NONE, Blocks, Files, Watched, digests, held, write
 from checks.preloading import library
-from checks.stores import SAMPLE
+from checks.stores import QUICK, SAMPLE
 from checks.short_histories import HISTORIES, QUESTIONS, outcome_of
 from checks.wanting import body_of
 
@@ -62,24 +62,27 @@ def in_file(room: Room, way: str, store: Path, history: Requests, **env: str) ->
     """A run over a store in a file, which is opened once more afterwards."""
     along, ended = Along(), room.run(room.words(way, store), history, **env)
     fault = along.fault(history, ended)
-    return Came(fault or opened_again(room, way, store, history, along), met_in(ended))
+    return Came(fault or opened_again(room, way, held(store), history, along), met_in(ended))
 
 
-def opened_again(room: Room, way: str, store: Path, history: Requests, along: Along) -> str | None:
-    """What is wrong with a store that is opened without trouble. One is opened for all that were left alike behind the same answers."""
+def opened_again(room: Room, way: str, left: Files, history: Requests, along: Along) -> str | None:
+    """What is wrong with a store of which this was left and that is opened without trouble. One is opened for all that were left alike behind the same answers."""
     way = "stored" if way == IN_TURN else way
-    left = way, history, along.hub.files, frozenset(along.doubtful), left_in(store)
-    return room.once(left, lambda: opened_anew(room, room.words(way, store), history, along))
+    alike = way, history, along.hub.files, frozenset(along.doubtful), digests(left)
+    return room.once(alike, lambda: opened_anew(room, way, left, history, along))
 
 
-def opened_anew(room: Room, words: list[str], history: Requests, along: Along) -> str | None:
+def opened_anew(room: Room, way: str, left: Files, history: Requests, along: Along) -> str | None:
     """The same of one store; where none was made, it is made then."""
-    requests, store = (*QUESTIONS, *history, *QUESTIONS), Path(words[1])
-    ended = room.run(words, requests)
-    if ended.said == b"gaz_bench: BadSchema\n" and not along.hub.files:
-        for it in files_of(store):
-            it.unlink()
-        ended = room.run(words, requests)
+    requests = (*QUESTIONS, *history, *QUESTIONS)
+    with tempfile.TemporaryDirectory(dir=room.folder) as made:
+        store = Path(made) / "store"
+        write(store, left)
+        ended = room.run(room.words(way, store), requests)
+        if ended.said == b"gaz_bench: BadSchema\n" and not along.hub.files:
+            for it in files_of(store):
+                it.unlink()
+            ended = room.run(room.words(way, store), requests)
     return along.fault_opened(requests, ended)
 
 
@@ -94,7 +97,7 @@ def statements(room: Room, way: str, store: Path, history: Requests, number: int
         ended = room.run([*room.words(way, at), str(number)], behind)
         ended = replace(ended, failed=sum(map(bool, ended.refusals())) or int(ended.status == 3))
         met += met_in(ended)
-        fault = fault or along.fault(behind, ended) or opened_again(room, way, at, history, along)
+        fault = fault or along.fault(behind, ended) or opened_again(room, way, held(at), history, along)
         if fault:
             return Came(f"from request {place + 1} on: {fault}", met)
     return Came(None, met)
@@ -110,14 +113,7 @@ def watched(room: Room, way: str, history: Requests) -> tuple[Watched, str | Non
     run, ended = room.watch(way, NONE, history)
     along = Along()
     fault = None if run.is_true else "the calls that were seen don't make what is there"
-    return run, fault or along.fault(history, ended) or opened_again(room, way, at_last(room, run.last), history, along)
-
-
-def at_last(room: Room, files: Files) -> Path:
-    """A store of these files."""
-    store = Path(tempfile.mkdtemp(dir=room.folder)) / "store"
-    write(store, files)
-    return store
+    return run, fault or along.fault(history, ended) or opened_again(room, way, run.last, history, along)
 
 
 def stopped(room: Room, way: str, history: Requests, which: str, number: int, blocks: Blocks) -> tuple[Files | None, Along, Came]:
@@ -135,7 +131,7 @@ def stop(room: Room, way: str, store: Path, history: Requests, number: int, whic
     left, along, came = stopped(room, way, history, which, number, blocks)
     if left is None or came.fault:
         return came
-    return Came(opened_again(room, way, at_last(room, left), history, along), came.met)
+    return Came(opened_again(room, way, left, history, along), came.met)
 
 
 def cut(which: str, room: Room, way: str, store: Path, history: Requests, number: int) -> Came:
@@ -154,13 +150,13 @@ def twice(stride: int, room: Room, way: str, store: Path, history: Requests, num
     left, along, came = stopped(room, way, history, "both", number, (0, 0))
     if left is None or came.fault:
         return came
-    again, ended = room.once(("watched", way, left), lambda: room.watch(way, left, ()))
+    again, ended = room.once(("watched", way, digests(left)), lambda: room.watch(way, left, ()))
     met, fault = came.met, None if again.is_true and ended.status in (0, 3) else f"opened: exit status {ended.status}"
     for place in range(number % stride, len(again.calls), stride):
         met += Counter(stop=1)
         beside = Along(doubtful=[*along.doubtful])
         beside.hub.files = along.hub.files
-        fault = fault or opened_again(room, way, at_last(room, again.left_at(place, (0, 0))), history, beside)
+        fault = fault or opened_again(room, way, again.left_at(place, (0, 0)), history, beside)
     return Came(fault, met)
 
 
