@@ -1,4 +1,4 @@
-"""Tests of `moments`: what a stop leaves is what the library leaves that stops a process."""
+"""Tests of `moments`: what a stop leaves is what the library leaves that stops a process; and of what is asked once."""
 
 import os
 import subprocess
@@ -9,7 +9,7 @@ from dataclasses import replace
 from pathlib import Path
 
 from checks import moments
-from checks.failing import SOURCE
+from checks.failing import SOURCE, Room
 from checks.moments import NONE, Watched, calls_in
 from checks.preloading import library
 from checks.test_troubled import WRITING
@@ -62,6 +62,14 @@ class Moments(unittest.TestCase):
         first = (None, b"a" * 1024)
         watched = Watched(first, (b"", first[1]), calls_in(b"w 1 0 0 2 2\nbbr 1 0 0 0 2\n"), b"", NONE)
         self.assertEqual([first, (None, b"bb" + b"a" * 1022)], [watched.left_at(1, blocks) for blocks in ((0, 0), None)])
+
+    def test_stores_that_were_left_alike_are_asked_once(self) -> None:
+        room, asked = Room(*[self.folder] * 4), []
+        stores = [self.place() for _ in range(3)]
+        for store, files in zip(stores, ((b"", b"a"), (b"", b"a"), (None, b"a"))):
+            moments.write(store, files)
+            room.once(moments.digests(moments.held(store)), lambda: asked.append(files))
+        self.assertEqual([(b"", b"a"), (None, b"a")], asked)
 
 
 if __name__ == "__main__":
