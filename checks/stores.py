@@ -11,8 +11,19 @@ from pathlib import Path
 from checks.conversations import DEADLINE
 from checks.sample import SAMPLE, TEXT  # noqa: F401
 
+LEAST = 1_000_000_000  # bytes that stores may take
+
+
+def is_quick(folder: str) -> bool:
+    """Whether a folder in memory is there, with room for stores."""
+    if not os.access(folder, os.W_OK):
+        return False
+    found = os.statvfs(folder)
+    return found.f_bavail * found.f_frsize > LEAST
+
+
 # A folder in memory, so that no disk is waited for: what a sync leaves is for a library to say (failing.c). From there no library can be loaded.
-QUICK = next((it for it in ("/dev/shm",) if os.access(it, os.W_OK)), None)
+QUICK = next(filter(is_quick, ("/dev/shm",)), None)
 
 BLOCKS = 8  # of each custodian, of either kind
 
