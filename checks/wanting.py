@@ -13,7 +13,7 @@ from concurrent.futures import ThreadPoolExecutor
 from dataclasses import dataclass
 from pathlib import Path
 
-from checks.conversations import DEADLINE, replies_in, requests_in
+from checks.conversations import DEADLINE, replies_in
 from checks.preloading import library
 from checks.stores import SAMPLE, get, post
 
