@@ -12,7 +12,7 @@ use Rattle.gaz_records.specs.declared.key.Key.{Key}
 use Rattle.gaz_views.specs.View.{was_used}
 use Rattle.gaz_overlay.specs.Over.{IsStood, key_view}
 use Rattle.gaz_overlay.specs.Rows.{HasCurrent, HistoryRow, IsCurrent, never, view_after}
-use Rattle.gaz_overlay.specs.declared.touch.Stood.TheVariants.{Never, Past, Since}
+use Rattle.gaz_overlay.specs.declared.touch.Stood.TheVariants.{NoRow, Past, Since}
 use Rattle.gaz_kept.specs.Kept.{AreInTurn, AreThrough}
 use Rattle.gaz_kept.specs.Newest.{IsNewest, IsNewestUntil, TellsStood, current_in, item_after, row_of, stood_by}
 use Rattle.gaz_kept.specs.declared.newest.Life.{Life}
@@ -110,7 +110,7 @@ module _ (rows : List HistoryRow) (n : ℕ) (room : n < never) (through : AreThr
     where
       by_life : (life : Option Life) → IsNewest rows k life → finite.get (view_after rows n).items k ≡ current_in life → was_used (view_after rows n) k ≡ is_some life
           → IsStood (stood_by life) (key_view (view_after rows n) k)
-      by_life None none item used = (item, used)
+      by_life None none item used = item
       by_life (Some life) newest item used = by_test (life.gone == never) refl
         where
           by_test : (b : Bool) → (life.gone == never) ≡ b → IsStood (cond (life.gone == never) (Since life.born) Past) (key_view (view_after rows n) k)
@@ -118,7 +118,7 @@ module _ (rows : List HistoryRow) (n : ℕ) (room : n < never) (through : AreThr
           by_test false is = subst (λ b. IsStood (cond b (Since life.born) Past) (key_view (view_after rows n) k)) (sym is) (item ∙ ap (λ b. cond b (Some life.item) None) is, used)
 
       current_at : (life : Option Life) → IsNewest rows k life → (volume : ℕ) → stood_by life ≡ Since volume → HasCurrent rows k volume
-      current_at None none volume is = let clash : Never ≡ Since volume = is in absurd (cc)
+      current_at None none volume is = let clash : NoRow ≡ Since volume = is in absurd (cc)
       current_at (Some life) newest volume is = by_test (life.gone == never) refl is
         where
           by_test : (b : Bool) → (life.gone == never) ≡ b → cond (life.gone == never) (Since life.born) Past ≡ Since volume → HasCurrent rows k volume

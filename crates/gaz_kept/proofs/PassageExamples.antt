@@ -134,9 +134,6 @@ told_holds = record {
   taken = record { born = refl; custody = refl; bare = record { language = refl; body = refl } };
   damaged = refl;
   texts = λ bare. let clash = bare.body in absurd (cc);
-  no_blpu = refl;
-  nothing = refl;
-  stands = refl;
 }
 
 pub passages_hold : WorkedPassages

@@ -10,7 +10,7 @@ use Rattle.gaz_views.specs.Examples.{spring, street}
 use Rattle.gaz_views.specs.View.{was_used}
 use Rattle.gaz_views.specs.declared.verdict.Verdict.TheVariants.{Applied, Rejected}
 use Rattle.gaz_keeper.specs.Board.{Board, reached, verdict_on, view_after}
-use Rattle.gaz_overlay.specs.declared.touch.Stood.TheVariants.{Never, Past, Since}
+use Rattle.gaz_overlay.specs.declared.touch.Stood.TheVariants.{NoRow, Past, Since}
 use Rattle.gaz_tables.specs.Receiveds.{judged, unjudged}
 use Rattle.gaz_kept.specs.Contents.{board_in}
 use Rattle.gaz_kept.specs.Files.{files_in, judged_in, reached_in, verdicts_in}
@@ -136,7 +136,7 @@ pub record WorkedNewest : Type 0 where
   pub current : current_in (Some current_life) ≡ Some (street 101)
   pub past : stood_by (Some changed_101_life) ≡ Past
   pub since : stood_by (Some current_life) ≡ Since 1
-  pub never : stood_by None ≡ Never
+  pub never : stood_by None ≡ NoRow
 
 pub record WorkedExamples : Type 0 where
   pub on_views : WorkedViews

@@ -11,7 +11,7 @@ use Rattle.gaz_views.specs.View.{View}
 use Rattle.gaz_overlay.specs.Over.{IsStood, key_view}
 use Rattle.gaz_overlay.specs.Rows.{HasCurrent, HistoryRow, never}
 use Rattle.gaz_overlay.specs.declared.touch.Stood.{Stood}
-use Rattle.gaz_overlay.specs.declared.touch.Stood.TheVariants.{Never, Past, Since}
+use Rattle.gaz_overlay.specs.declared.touch.Stood.TheVariants.{NoRow, Past, Since}
 use Rattle.gaz_kept.specs.Decoding.{IsItemAt}
 use Rattle.gaz_kept.specs.declared.newest.Life.{Life}
 
@@ -71,7 +71,7 @@ current_in (Some life) = if life.gone == never then Some life.item else None
 
 -- what stands at the key
 abbrev pub stood_by : Option Life → Stood
-stood_by None = Never
+stood_by None = NoRow
 stood_by (Some life) = if life.gone == never then Since life.born else Past
 
 -- what stands at a key of a last view, and the item there

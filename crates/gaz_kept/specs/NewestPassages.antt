@@ -1,4 +1,4 @@
--- What a query for a number's newest passage tells, and what it says of the key of its BLPU.
+-- What a query for a number's newest passage tells.
 use Rattle.std.specs.Prelude.{◌≡◌, ℕ, pos, List, [], ◌∷◌, Option, Some, None}
 use Rattle.std.specs.Prelude.{option_map}
 use Rattle.sqlite.specs.declared.types.Value.TheVariants.{Int, Text}
@@ -9,11 +9,7 @@ use Rattle.gaz_views.specs.declared.custody.Custody.{Custody}
 use Rattle.gaz_cells.specs.Custody.{custody_told}
 use Rattle.gaz_overlay.specs.Passages.{PassageRow}
 use Rattle.gaz_overlay.specs.Rows.{never}
-use Rattle.gaz_overlay.specs.declared.touch.Stood.{Stood}
-use Rattle.gaz_overlay.specs.declared.touch.Stood.TheVariants.{Past}
-use Rattle.gaz_kept.specs.Newest.{stood_by}
 use Rattle.gaz_kept.specs.Versions.{number_in}
-use Rattle.gaz_kept.specs.declared.newest.Life.{Life}
 use Rattle.gaz_kept.specs.declared.passages.Passed.{Passed}
 
 -- ---- what an answer says
@@ -62,12 +58,6 @@ custody_of passed = option_map (λ p. p.custody) passed
 -- in which volume the newest passage was born
 abbrev pub born_of : Option Passed → Option ℕ
 born_of passed = option_map (λ p. p.born) passed
-
--- what stands at the key of a BLPU, of its newest row and the number's newest passage
-abbrev pub stood_with : Option Life → Option Passed → Stood
-stood_with None (Some passed) = Past
-stood_with None None = stood_by None
-stood_with (Some life) passed = stood_by (Some life)
 
 -- a number's current passage was born in a volume
 pub record HasPassage (rows : List PassageRow) (uprn volume : ℕ) : Type 0 where

@@ -7,11 +7,10 @@ use Rattle.gaz_records.specs.declared.key.Key.TheVariants as key
 use Rattle.gaz_views.specs.View.{custody_at, was_used}
 use Rattle.gaz_views.specs.declared.custody.Custody.TheVariants.{Adopted, Released}
 use Rattle.gaz_overlay.specs.Passages.{PassageRow}
-use Rattle.gaz_overlay.specs.declared.touch.Stood.TheVariants.{Never, Past, Since}
 use Rattle.gaz_tables.specs.Custody.{custody_shown}
-use Rattle.gaz_kept.specs.Examples.{changed_101, current_life, four_rows}
+use Rattle.gaz_kept.specs.Examples.{changed_101, four_rows}
 use Rattle.gaz_kept.specs.Kept.{ArePassages, IsVersion}
-use Rattle.gaz_kept.specs.NewestPassages.{IsBare, SaysPassed, custody_shown_in, stood_with}
+use Rattle.gaz_kept.specs.NewestPassages.{IsBare, SaysPassed, custody_shown_in}
 use Rattle.gaz_kept.specs.Passages.{IsLastOf}
 use Rattle.gaz_kept.specs.Versions.{history_in, passage_in, passage_values, passages_in, passing}
 use Rattle.gaz_kept.specs.Versions.{view_in}
@@ -71,10 +70,6 @@ pub record WorkedTold : Type 0 where
   pub taken : SaysPassed (custody_shown taken_row) told_taken
   pub damaged : custody_shown_in (custody_shown without_hop) ≡ None
   pub texts : ¬ IsBare (custody_shown with_text)
-  -- a released number's key was used, also where no BLPU ever stood
-  pub no_blpu : stood_with None (Some told_taken) ≡ Past
-  pub nothing : stood_with None None ≡ Never
-  pub stands : stood_with (Some current_life) (Some told_taken) ≡ Since 1
 
 pub record WorkedPassages : Type 0 where
   pub on_passing : WorkedPassing

@@ -67,7 +67,7 @@ pub fn stood_by(life: &Option<Life>) -> Stood
     ensures { result ≡ stood_by life.now }
 {
     match life {
-        None => Stood::Never,
+        None => Stood::NoRow,
         Some(life) if life.gone == NEVER => Stood::Since(life.born),
         Some(_) => Stood::Past,
     }

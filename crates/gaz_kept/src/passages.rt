@@ -2,13 +2,10 @@
 ghost use Rattle.std.specs.Prelude.{◌≡◌, IfOk};
 ghost use Rattle.gaz_ids.specs.Numbers.{of_id};
 ghost use Rattle.gaz_cells.specs.Custody.{custody_by, custody_told};
-ghost use Rattle.gaz_kept.specs.NewestPassages.{IsBare, SaysPassage, SaysPassed, born_of};
-ghost use Rattle.gaz_kept.specs.NewestPassages.{custody_of, stood_with};
+ghost use Rattle.gaz_kept.specs.NewestPassages.{IsBare, SaysPassage, SaysPassed, born_of, custody_of};
 
 use crate::decoding::{RowFault, number, text};
-use crate::newest::{Life, stood_by};
 use gaz_ids::{Code, Hop};
-use gaz_overlay::Stood;
 use gaz_views::Custody;
 use sqlite::Row;
 
@@ -96,14 +93,4 @@ pub fn born_of(passed: &Option<Passed>) -> Option<u64>
         Some(passed) => Some(passed.born),
         None => None,
     }
-}
-
-/// What stands at the key of a BLPU, of its newest row and the number's newest passage.
-pub fn stood_with(life: &Option<Life>, passed: &Option<Passed>) -> Stood
-    ensures { result ≡ stood_with life.now passed.now }
-{
-    if life.is_none() && passed.is_some() {
-        return Stood::Past;
-    }
-    stood_by(life)
 }

@@ -24,7 +24,7 @@ use Rattle.gaz_overlay.specs.Rows.{AllApart, AreApart, HasCurrent, HistoryRow, I
 use Rattle.gaz_overlay.specs.Writings.{born_in, writing_at, writing_of}
 use Rattle.gaz_overlay.specs.declared.touch.NewRow.{NewRow}
 use Rattle.gaz_overlay.specs.declared.touch.Stood.{Stood}
-use Rattle.gaz_overlay.specs.declared.touch.Stood.TheVariants.{Never, Past, Since}
+use Rattle.gaz_overlay.specs.declared.touch.Stood.TheVariants.{NoRow, Past, Since}
 use Rattle.gaz_overlay.specs.declared.touch.Touch.{Touch}
 use Rattle.gaz_overlay.proofs.Laid.{tie}
 use Rattle.gaz_overlay.proofs.Rows.{Given, IsNoted, Rows, closes_since, item_after, le_so, lt_so, next_view, past_view, stands}
@@ -229,13 +229,13 @@ module _ (rows : Rows) (was : List PassageRow) (n : ℕ) (c : Changes) (w : View
       born_so b since = let same = (noted.noted b since).0 current in grind (arith, nat_tests)
 
       by_stood : (stood : Stood) → IsStood stood (key_view (view_of_rows rows was n) r.key) → stood_in c.touched r.key ≡ stood → is_of_birth (born_in stood) r ≡ true
-      by_stood Never so is = absurd (true≢false (sym there ∙ ap is_some so.0))
+      by_stood NoRow so is = absurd (true≢false (sym there ∙ ap is_some so))
       by_stood Past so is = absurd (true≢false (sym there ∙ ap is_some so.0))
       by_stood (Since b) so is = born_so b is
 
       by_last : (t : Touch) → finite.get c.touched r.key ≡ Some t → (s : Bool) (o : Option Item) → is_some (option_map (λ i. let x : NewRow = record { item = i; current = s } in x) o) ≡ true → is_of_birth (cond (is_some o || not s) (born_in t.stood) None) r ≡ true
       by_last t is s None h = absurd (true≢false (sym h))
-      by_last t is s (Some i) h = by_stood t.stood (made.over.each r.key t is).stood (ap (λ o. option_map_or (λ x. x.stood) o Never) is)
+      by_last t is s (Some i) h = by_stood t.stood (made.over.each r.key t is).stood (ap (λ o. option_map_or (λ x. x.stood) o NoRow) is)
 
       by_touch : (o : Option Touch) → finite.get c.touched r.key ≡ o
           → is_some (option_map_or (λ t. writing_of t (is_some (finite.get c.view.items r.key))) o (record { closes = None; adds = None })).adds ≡ true

@@ -23,7 +23,7 @@ use Rattle.gaz_overlay.specs.Laid.{laid, with_copied}
 use Rattle.gaz_overlay.specs.Questions.{in_order}
 use Rattle.gaz_overlay.specs.Rows.{HistoryRow, closed, added, is_of_birth, new_row, written}
 use Rattle.gaz_overlay.specs.Writings.{writing_at, writing_of}
-use Rattle.gaz_overlay.specs.declared.touch.Stood.TheVariants.{Never, Past, Since}
+use Rattle.gaz_overlay.specs.declared.touch.Stood.TheVariants.{NoRow, Past, Since}
 use Rattle.gaz_overlay.specs.declared.touch.Touch.{Touch}
 use Rattle.gaz_overlay.specs.declared.touch.Writing.{Writing}
 use Rattle.gaz_overlay.proofs.Laid.{at_key, tie, used_at}
@@ -83,7 +83,7 @@ views_hold =
       goes = ap (λ (s : View). finite.get (laid one_street (without_key s (key.Street 101))).items (key.Street 101)) copy_is ∙ none;
       still_used = ap (λ (s : View). was_used (laid one_street (without_key s (key.Street 101))) (key.Street 101)) copy_is ∙ used;
       stands_there = (ap is_some (one (key.Street 101) (street 101)), one_used (key.Street 101) (street 101));
-      never_stood = (one (key.Street 102) (street 101), one_used (key.Street 102) (street 101));
+      never_stood = one (key.Street 102) (street 101);
       merged = (λ i. in_order (spared (one_used (key.Street 101) (street 102) i) (one_used (key.Street 102) (street 102) i) ++ key.Street 102 ∷ [])) ∙ two_in_order;
       once_each = in_turn;
     }
@@ -97,7 +97,7 @@ abbrev touch_of_first : Touch
 touch_of_first = record { stood = Since 1; last = Some (street 101) }
 
 abbrev touch_of_second : Touch
-touch_of_second = record { stood = Never; last = Some (street 102) }
+touch_of_second = record { stood = NoRow; last = Some (street 102) }
 
 set_last : (m : Touched) (k : Key) (x : Touch) (q : Key) (o : Option Touch) → finite.get m q ≡ o → finite.get (finite.insert m k x) q ≡ cond (tie q k) (Some x) o
 set_last m k x q o is = finite.get-insert keys_total m k x q ∙ ap (cond (tie q k) (Some x)) is
@@ -107,22 +107,22 @@ touched_once q = set_last finite.empty (key.Street 101) (record { stood = Since 
 
 -- what is kept once 101 is put
 kept_first : first_put.touched ≡ finite.insert (with_touched no_changes (key.Street 101) (Since 1) (Some (street 101))).touched (key.Street 101) touch_of_first
-kept_first = ap (λ o. finite.insert (with_touched no_changes (key.Street 101) (Since 1) (Some (street 101))).touched (key.Street 101) (record { stood = option_map_or (λ t. t.stood) o Never; last = Some (street 101) })) (touched_once (key.Street 101))
+kept_first = ap (λ o. finite.insert (with_touched no_changes (key.Street 101) (Since 1) (Some (street 101))).touched (key.Street 101) (record { stood = option_map_or (λ t. t.stood) o NoRow; last = Some (street 101) })) (touched_once (key.Street 101))
 
 at_first : (q : Key) → finite.get first_put.touched q ≡ cond (tie q (key.Street 101)) (Some touch_of_first) (cond (tie q (key.Street 101)) (Some (record { stood = Since 1; last = None })) None)
 at_first q = ap (λ (m : Touched). finite.get m q) kept_first ∙ set_last (with_touched no_changes (key.Street 101) (Since 1) (Some (street 101))).touched (key.Street 101) touch_of_first q _ (touched_once q)
 
 abbrev second_noted : Touched
-second_noted = finite.insert first_put.touched (key.Street 102) (record { stood = Never; last = None })
+second_noted = finite.insert first_put.touched (key.Street 102) (record { stood = NoRow; last = None })
 
-at_noted : (q : Key) → finite.get second_noted q ≡ cond (tie q (key.Street 102)) (Some (record { stood = Never; last = None })) (cond (tie q (key.Street 101)) (Some touch_of_first) (cond (tie q (key.Street 101)) (Some (record { stood = Since 1; last = None })) None))
-at_noted q = set_last first_put.touched (key.Street 102) (record { stood = Never; last = None }) q _ (at_first q)
+at_noted : (q : Key) → finite.get second_noted q ≡ cond (tie q (key.Street 102)) (Some (record { stood = NoRow; last = None })) (cond (tie q (key.Street 101)) (Some touch_of_first) (cond (tie q (key.Street 101)) (Some (record { stood = Since 1; last = None })) None))
+at_noted q = set_last first_put.touched (key.Street 102) (record { stood = NoRow; last = None }) q _ (at_first q)
 
 kept_second : two_touched.touched ≡ finite.insert second_noted (key.Street 102) touch_of_second
-kept_second = ap (λ o. finite.insert second_noted (key.Street 102) (record { stood = option_map_or (λ t. t.stood) o Never; last = Some (street 102) })) (at_noted (key.Street 102))
+kept_second = ap (λ o. finite.insert second_noted (key.Street 102) (record { stood = option_map_or (λ t. t.stood) o NoRow; last = Some (street 102) })) (at_noted (key.Street 102))
 
 abbrev kept_at : Key → Option Touch
-kept_at q = cond (tie q (key.Street 102)) (Some touch_of_second) (cond (tie q (key.Street 102)) (Some (record { stood = Never; last = None })) (cond (tie q (key.Street 101)) (Some touch_of_first) (cond (tie q (key.Street 101)) (Some (record { stood = Since 1; last = None })) None)))
+kept_at q = cond (tie q (key.Street 102)) (Some touch_of_second) (cond (tie q (key.Street 102)) (Some (record { stood = NoRow; last = None })) (cond (tie q (key.Street 101)) (Some touch_of_first) (cond (tie q (key.Street 101)) (Some (record { stood = Since 1; last = None })) None)))
 
 at_second : (q : Key) → finite.get two_touched.touched q ≡ kept_at q
 at_second q = ap (λ (m : Touched). finite.get m q) kept_second ∙ set_last second_noted (key.Street 102) touch_of_second q _ (at_noted q)
@@ -146,11 +146,11 @@ changes_hold : WorkedChanges
 changes_hold = record {
   first_touched = ap is_some (at_second (key.Street 101));
   other_not_touched = ap is_some (at_second (key.Street 103));
-  first_stood = ap (λ o. option_map_or (λ t. t.stood) o Never) (at_second (key.Street 101));
-  second_stood = ap (λ o. option_map_or (λ t. t.stood) o Never) (at_second (key.Street 102));
-  put_and_taken_used = λ i. used_there (key.Street 102) i || was_there (ap (λ o. option_map_or (λ t. t.stood) o Never) (at_second (key.Street 102)) i);
-  other_not_used = λ i. used_there (key.Street 103) i || was_there (ap (λ o. option_map_or (λ t. t.stood) o Never) (at_second (key.Street 103)) i);
-  past_used = λ i. used_none (key.Street 102) i || was_there (ap (λ o. option_map_or (λ t. t.stood) o Never) (set_last finite.empty (key.Street 102) (record { stood = Past; last = None }) (key.Street 102) None (finite.get-empty key_cmp (key.Street 102))) i);
+  first_stood = ap (λ o. option_map_or (λ t. t.stood) o NoRow) (at_second (key.Street 101));
+  second_stood = ap (λ o. option_map_or (λ t. t.stood) o NoRow) (at_second (key.Street 102));
+  put_and_taken_used = λ i. used_there (key.Street 102) i || was_there (ap (λ o. option_map_or (λ t. t.stood) o NoRow) (at_second (key.Street 102)) i);
+  other_not_used = λ i. used_there (key.Street 103) i || was_there (ap (λ o. option_map_or (λ t. t.stood) o NoRow) (at_second (key.Street 103)) i);
+  past_used = λ i. used_none (key.Street 102) i || was_there (ap (λ o. option_map_or (λ t. t.stood) o NoRow) (set_last finite.empty (key.Street 102) (record { stood = Past; last = None }) (key.Street 102) None (finite.get-empty key_cmp (key.Street 102))) i);
   second_closes_nothing = written_at (key.Street 102);
   other_not_written = written_at (key.Street 103);
 }
@@ -174,7 +174,7 @@ keys_touched =
     let none = no_entries Touch key_cmp in
     let m = finite.empty {X = Touch} {R = key_cmp} in
     let x : Touch = record { stood = Since 1; last = None } in
-    let y : Touch = record { stood = Never; last = None } in
+    let y : Touch = record { stood = NoRow; last = None } in
     let first = finite.entries-insert keys_total m (key.Street 101) x ∙ ap (finite.put key_cmp (key.Street 101) x) none in
     let put = ap finite.entries kept_first ∙ finite.entries-insert keys_total (finite.insert m (key.Street 101) x) (key.Street 101) touch_of_first ∙ ap (finite.put key_cmp (key.Street 101) touch_of_first) first in
     let noted = finite.entries-insert keys_total first_put.touched (key.Street 102) y ∙ ap (finite.put key_cmp (key.Street 102) y) put in

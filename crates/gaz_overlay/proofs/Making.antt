@@ -24,14 +24,14 @@ use Rattle.gaz_views.specs.Lawful.{IsLawfulView}
 use Rattle.gaz_views.specs.View.{View, custody_at, was_used, with_adoption, with_item, with_release, without_key}
 use Rattle.gaz_views.specs.declared.custody.Custody.{Custody}
 use Rattle.gaz_views.specs.declared.custody.Custody.TheVariants.{Adopted, Released}
-use Rattle.gaz_overlay.specs.Changes.{Changes, Passed, Touched, is_passed, is_passed_key, is_touched, no_changes, noted, stood_in, was_there, with_adopted_blpu, with_put, with_released, with_taken, with_touched}
+use Rattle.gaz_overlay.specs.Changes.{Changes, Passed, Touched, is_passed, is_passed_key, is_touched, no_changes, noted, stood_in, was_there, was_used_in, with_adopted_blpu, with_put, with_released, with_taken, with_touched}
 use Rattle.gaz_overlay.specs.Laid.{laid, with_some}
-use Rattle.gaz_overlay.specs.Making.{ChangesMake, IsSince, told}
+use Rattle.gaz_overlay.specs.Making.{ChangesMake, IsSince}
 use Rattle.gaz_overlay.specs.Over.{ArePassed, IsLast, IsStood, IsTouch, KeyView, LieOver, key_view}
 use Rattle.gaz_overlay.specs.Writings.{writing_at, writing_of}
 use Rattle.gaz_overlay.specs.declared.touch.NewRow.{NewRow}
 use Rattle.gaz_overlay.specs.declared.touch.Stood.{Stood}
-use Rattle.gaz_overlay.specs.declared.touch.Stood.TheVariants.{Never, Past, Since}
+use Rattle.gaz_overlay.specs.declared.touch.Stood.TheVariants.{NoRow, Past, Since}
 use Rattle.gaz_overlay.specs.declared.touch.Touch.{Touch}
 use Rattle.gaz_overlay.proofs.Laid.{Passings, adopted, at_key, custody_laid_is, key_copied, lawful_adopted, lawful_released, nothing, put, released, taken, tie, used_at}
 
@@ -96,7 +96,7 @@ module _ (v : View) (c : Changes) (over : LieOver v c) where
   pub stood_so : (k : Key) → is_touched c k ≡ true → IsStood (stood_in c.touched k) (key_view v k)
   stood_so k noted = by_touch (finite.get c.touched k) refl noted
     where
-      by_touch : (o : Option Touch) → finite.get c.touched k ≡ o → is_some o ≡ true → IsStood (option_map_or (λ t. t.stood) o Never) (key_view v k)
+      by_touch : (o : Option Touch) → finite.get c.touched k ≡ o → is_some o ≡ true → IsStood (option_map_or (λ t. t.stood) o NoRow) (key_view v k)
       by_touch None is h = absurd (true≢false (sym h))
       by_touch (Some t) is h = (over.each k t is).stood
 
@@ -105,7 +105,7 @@ module _ (v : View) (c : Changes) (over : LieOver v c) where
   none_there k noted fresh = by_touch (finite.get c.touched k) refl noted
     where
       by_stood : (t : Touch) → IsTouch k t (is_passed_key c k) (key_view v k) (key_view c.view k) → (stood : Stood) → t.stood ≡ stood → IsStood stood (key_view v k) → finite.get v.items k ≡ None
-      by_stood t h Never is so = so.0
+      by_stood t h NoRow is so = so
       by_stood t h Past is so = so.0
       by_stood t h (Since b) is so = absurd (true≢false (sym (h.copied b is) ∙ fresh))
 
@@ -377,10 +377,6 @@ either true false = refl
 either false true = refl
 either false false = refl
 
-or_true : (b : Bool) → true ≡ (b || true)
-or_true true = refl
-or_true false = refl
-
 module _ (v : View) (c : Changes) (over : LieOver v c) (k : Key) where
   laid_view : key_view (laid v c.view) k ≡ record { item = cond (was_used c.view k) (finite.get c.view.items k) (finite.get v.items k); used = was_used v k || was_used c.view k }
   laid_view = λ i. record { item = at_key v c.view over.lawful k i; used = used_at v c.view k i }
@@ -393,16 +389,32 @@ module _ (v : View) (c : Changes) (over : LieOver v c) (k : Key) where
       no_item None there = refl
       no_item (Some i) there = absurd (true≢false (sym (over.lawful.used k (ap is_some there)) ∙ is))
 
-  there_used : (stood : Stood) → IsStood stood (key_view v k) → (was_used v k || was_used c.view k) ≡ (was_used c.view k || was_there stood)
-  there_used Never so = ap (λ b. b || was_used c.view k) so.1 ∙ either false (was_used c.view k)
-  there_used Past so = ap (λ b. b || was_used c.view k) so.1 ∙ or_true (was_used c.view k)
-  there_used (Since b) so = ap (λ b. b || was_used c.view k) so.1 ∙ or_true (was_used c.view k)
+  told_there : is_touched c k ≡ true → finite.get (laid v c.view).items k ≡ finite.get c.view.items k
+  told_there noted = at_key v c.view over.lawful k ∙ there_item noted (was_used c.view k) refl
 
-  told_there : is_touched c k ≡ true → key_view (laid v c.view) k ≡ told c k
-  told_there noted =
-      let items = there_item noted (was_used c.view k) refl in
-      let uses = there_used (stood_in c.touched k) (stood_so v c over k noted) in
-      laid_view ∙ (λ i. record { item = items i; used = uses i })
+  -- where the changes say that a key had a row, the last view has used it
+  had_row : was_there (stood_in c.touched k) ≡ true → was_used v k ≡ true
+  had_row = by_touch (finite.get c.touched k) refl
+    where
+      by_stood : (stood : Stood) → IsStood stood (key_view v k) → was_there stood ≡ true → was_used v k ≡ true
+      by_stood NoRow so h = absurd (true≢false (sym h))
+      by_stood Past so h = so.1
+      by_stood (Since b) so h = so.1
+
+      by_touch : (o : Option Touch) → finite.get c.touched k ≡ o → was_there (option_map_or (λ t. t.stood) o NoRow) ≡ true → was_used v k ≡ true
+      by_touch None is h = absurd (true≢false (sym h))
+      by_touch (Some t) is h = by_stood t.stood (over.each k t is).stood h
+
+  told_used : was_used (laid v c.view) k ≡ (was_used_in c k || was_used v k)
+  told_used = used_at v c.view k ∙ by_use (was_used v k) (was_used c.view k) (was_there (stood_in c.touched k)) had_row
+    where
+      by_use : (before now row : Bool) → (row ≡ true → before ≡ true) → (before || now) ≡ ((now || row) || before)
+      by_use true true row h = refl
+      by_use true false true h = refl
+      by_use true false false h = refl
+      by_use false true row h = refl
+      by_use false false true h = h refl
+      by_use false false false h = refl
 
   told_elsewhere : is_touched c k ≡ false → key_view (laid v c.view) k ≡ key_view v k
   told_elsewhere fresh =
@@ -459,7 +471,8 @@ changes_make = record {
   adopted = λ v c w made b from hop since noted so.
       record { over = adopted_over v c made.over b from hop since noted so; is_laid = ap (λ (u : View). with_adoption u b from hop) made.is_laid ∙ adopted v c.view made.over.lawful b from hop };
   custody = λ v c w made n. ap (λ (u : View). custody_at u n) made.is_laid ∙ custody_laid_is v c.view n;
-  there = λ v c w made k noted. ap (λ (u : View). key_view u k) made.is_laid ∙ told_there v c made.over k noted;
+  there = λ v c w made k noted. ap (λ (u : View). finite.get u.items k) made.is_laid ∙ told_there v c made.over k noted;
+  used = λ v c w made k. ap (λ (u : View). was_used u k) made.is_laid ∙ told_used v c made.over k;
   elsewhere = λ v c w made k fresh. ap (λ (u : View). key_view u k) made.is_laid ∙ told_elsewhere v c made.over k fresh;
   own = λ v c w made k r is. (own_row v c made.over k r is).0;
   entries = λ v c w made k r is. (own_row v c made.over k r is).1;

@@ -23,7 +23,7 @@ use Rattle.gaz_overlay.specs.Passages.{custody_after, has_passed, is_passed_by, 
 use Rattle.gaz_overlay.specs.PassingExamples.{WorkedChanges, WorkedLaid, WorkedPassages, WorkedPassing, adopted, handed_on, only_released, twice, two_passages}
 use Rattle.gaz_overlay.specs.Writings.{nothing, writing_of}
 use Rattle.gaz_overlay.specs.declared.passage.Passage.{Passage}
-use Rattle.gaz_overlay.specs.declared.touch.Stood.TheVariants.{Never, Past}
+use Rattle.gaz_overlay.specs.declared.touch.Stood.TheVariants.{NoRow, Past}
 use Rattle.gaz_overlay.specs.declared.touch.Touch.{Touch}
 use Rattle.gaz_overlay.proofs.Laid.{custody_laid_is, tie}
 
@@ -85,10 +85,10 @@ adopted_touch : finite.get adopted.touched (key.Blpu 500) ≡ Some (record { sto
 adopted_touch =
     let was = finite.get-insert keys_total (finite.empty {X = Touch} {R = key_cmp}) (key.Blpu 500) touched_first (key.Blpu 500) in
     finite.get-insert keys_total (with_touched no_changes (key.Blpu 500) Past None).touched (key.Blpu 500) _ (key.Blpu 500)
-    ∙ ap (λ o. Some (let t : Touch = record { stood = option_map_or (λ t. t.stood) o Never; last = Some (item.Blpu alone) } in t)) was
+    ∙ ap (λ o. Some (let t : Touch = record { stood = option_map_or (λ t. t.stood) o NoRow; last = Some (item.Blpu alone) } in t)) was
 
-only_touch : finite.get only_released.touched (key.Blpu 500) ≡ Some (record { stood = Never; last = None })
-only_touch = finite.get-insert keys_total (finite.empty {X = Touch} {R = key_cmp}) (key.Blpu 500) (record { stood = Never; last = None }) (key.Blpu 500)
+only_touch : finite.get only_released.touched (key.Blpu 500) ≡ Some (record { stood = NoRow; last = None })
+only_touch = finite.get-insert keys_total (finite.empty {X = Touch} {R = key_cmp}) (key.Blpu 500) (record { stood = NoRow; last = None }) (key.Blpu 500)
 
 gone : finite.get handed_on.view.items (key.Blpu 500) ≡ None
 gone = finite.get-remove keys_total adopted.view.items (key.Blpu 500) (key.Blpu 500)
@@ -104,7 +104,7 @@ changes_hold = record {
   came_and_went = λ i. option_map_or (λ t. writing_of t (is_some (gone i))) (adopted_touch i) nothing;
   nothing_closed = let x = only_at 500 in let b = at_first None 500 in λ i. passage_with (x i) (b i);
   no_item = λ i. option_map_or (λ t. writing_of t (is_some (never_there i))) (only_touch i) nothing;
-  key_used = ap (λ b. b || was_there (option_map_or (λ t. t.stood) (finite.get only_released.touched (key.Blpu 500)) Never)) (set.contains-insert keys_total empty_view.used (key.Blpu 500) (key.Blpu 500));
+  key_used = ap (λ b. b || was_there (option_map_or (λ t. t.stood) (finite.get only_released.touched (key.Blpu 500)) NoRow)) (set.contains-insert keys_total empty_view.used (key.Blpu 500) (key.Blpu 500));
   its_key = ap is_some (at_first None 500);
   street_not = refl;
 }

@@ -22,7 +22,7 @@ use Rattle.gaz_overlay.specs.Rows.{HistoryRow, IsUntil, added, closed, holds_aft
 use Rattle.gaz_overlay.specs.Writings.{born_in, writing_at, writing_of}
 use Rattle.gaz_overlay.specs.declared.touch.NewRow.{NewRow}
 use Rattle.gaz_overlay.specs.declared.touch.Stood.{Stood}
-use Rattle.gaz_overlay.specs.declared.touch.Stood.TheVariants.{Never, Past, Since}
+use Rattle.gaz_overlay.specs.declared.touch.Stood.TheVariants.{NoRow, Past, Since}
 use Rattle.gaz_overlay.specs.declared.touch.Touch.{Touch}
 use Rattle.gaz_overlay.specs.declared.touch.Writing.{Writing}
 use Rattle.gaz_overlay.proofs.Laid.{at_key, besides, custody_laid, same_view, tie, used_at}
@@ -155,7 +155,7 @@ pub closes_since : (c : Changes) (k : Key) (born : ℕ) → (writing_at c k).clo
 closes_since c k born is = by_touch (finite.get c.touched k) is
   where
     of_stood : (stood : Stood) → born_in stood ≡ Some born → stood ≡ Since born
-    of_stood Never h = cc
+    of_stood NoRow h = cc
     of_stood Past h = cc
     of_stood (Since b) h = let same : b ≡ born = cc in ap Since same
 
@@ -163,7 +163,7 @@ closes_since c k born is = by_touch (finite.get c.touched k) is
     of_test true stood h = of_stood stood h
     of_test false stood h = let none : None ≡ Some born = h in cc
 
-    by_touch : (o : Option Touch) → (option_map_or (λ t. writing_of t (is_some (finite.get c.view.items k))) o (record { closes = None; adds = None })).closes ≡ Some born → option_map_or (λ t. t.stood) o Never ≡ Since born
+    by_touch : (o : Option Touch) → (option_map_or (λ t. writing_of t (is_some (finite.get c.view.items k))) o (record { closes = None; adds = None })).closes ≡ Some born → option_map_or (λ t. t.stood) o NoRow ≡ Since born
     by_touch None h = let none : None ≡ Some born = h in cc
     by_touch (Some t) h = of_test _ t.stood h
 
@@ -368,7 +368,7 @@ use_stays false true passed w p u = refl
 use_stays false false passed w p u = p ∙ sym u
 
 no_row : (stood : Stood) (before : KeyView) → IsStood stood before → born_in stood ≡ None → before.item ≡ None
-no_row Never before h e = h.0
+no_row NoRow before h e = h
 no_row Past before h e = h.0
 no_row (Since b) before h e = let none : Some b ≡ None = e in cc
 
@@ -413,7 +413,7 @@ module _ (rows : Rows) (was are : List PassageRow) (n : ℕ) (c : Changes) (w : 
   untouched_here q is = unused last c made.over q (ap is_some is)
 
   copied_here : (q : Key) (t : Touch) → IsTouch q t (is_passed_key c q) (key_view last q) (key_view c.view q) → (stood : Stood) → t.stood ≡ stood → is_some (born_in stood) ≡ true → was_used c.view q ≡ true
-  copied_here q t it Never is e = absurd (true≢false (sym e))
+  copied_here q t it NoRow is e = absurd (true≢false (sym e))
   copied_here q t it Past is e = absurd (true≢false (sym e))
   copied_here q t it (Since b) is e = it.copied b is
 

@@ -14,7 +14,7 @@ use Rattle.gaz_views.specs.View.{View, empty_view, was_used, with_adoption, with
 use Rattle.gaz_views.specs.View.{without_key}
 use Rattle.gaz_overlay.specs.Laid.{with_some}
 use Rattle.gaz_overlay.specs.declared.touch.Stood.{Stood}
-use Rattle.gaz_overlay.specs.declared.touch.Stood.TheVariants.{Never, Past, Since}
+use Rattle.gaz_overlay.specs.declared.touch.Stood.TheVariants.{NoRow, Past, Since}
 use Rattle.gaz_overlay.specs.declared.touch.Touch.{Touch}
 
 -- what is kept of each key that was touched
@@ -41,15 +41,15 @@ is_touched c k = map.contains_key c.touched k
 
 -- what stood at a touched key before
 abbrev pub stood_in : Touched → Key → Stood
-stood_in touched k = option_map_or (λ t. t.stood) (map.get touched k) Never
+stood_in touched k = option_map_or (λ t. t.stood) (map.get touched k) NoRow
 
--- it was used before
+-- it had a row
 abbrev pub was_there : Stood → Bool
-was_there Never = false
+was_there NoRow = false
 was_there Past = true
 was_there (Since volume) = true
 
--- a touched key was used before, or an item was put there
+-- a touched key had a row, or an item was put there
 abbrev pub was_used_in : Changes → Key → Bool
 was_used_in c k = was_used c.view k || was_there (stood_in c.touched k)
 

@@ -12,7 +12,7 @@ use Rattle.gaz_overlay.specs.Questions.{both, in_order}
 use Rattle.gaz_overlay.specs.Rows.{AreHistories, HasCurrent, HistoryRow, closed, added, holds_after, is_born_by, view_after, written}
 use Rattle.gaz_overlay.specs.Writings.{writing_at, writing_of}
 use Rattle.gaz_overlay.specs.declared.touch.NewRow.{NewRow}
-use Rattle.gaz_overlay.specs.declared.touch.Stood.TheVariants.{Never, Past, Since}
+use Rattle.gaz_overlay.specs.declared.touch.Stood.TheVariants.{NoRow, Past, Since}
 use Rattle.gaz_overlay.specs.declared.touch.Touch.{Touch}
 
 -- ---- views
@@ -33,7 +33,7 @@ pub record WorkedViews : Type 0 where
   pub goes : map.get first_taken.items (key.Street 101) ≡ None
   pub still_used : was_used first_taken (key.Street 101) ≡ true
   pub stands_there : IsStood (Since 1) (key_view one_street (key.Street 101))
-  pub never_stood : IsStood Never (key_view one_street (key.Street 102))
+  pub never_stood : IsStood NoRow (key_view one_street (key.Street 102))
   pub merged : both (with_item empty_view (street 102)) (key.Street 101 ∷ key.Street 102 ∷ []) (key.Street 102 ∷ []) ≡ key.Street 101 ∷ key.Street 102 ∷ []
   pub once_each : in_order (key.Street 102 ∷ key.Street 101 ∷ key.Street 102 ∷ []) ≡ key.Street 101 ∷ key.Street 102 ∷ []
 
@@ -43,13 +43,13 @@ pub record WorkedViews : Type 0 where
 abbrev pub two_touched : Changes
 two_touched =
     with_taken (with_put (with_touched (with_put (with_touched no_changes (key.Street 101) (Since 1) (Some (street 101))) (street 101))
-    (key.Street 102) Never None) (street 102)) (key.Street 102)
+    (key.Street 102) NoRow None) (street 102)) (key.Street 102)
 
 pub record WorkedChanges : Type 0 where
   pub first_touched : is_touched two_touched (key.Street 101) ≡ true
   pub other_not_touched : is_touched two_touched (key.Street 103) ≡ false
   pub first_stood : stood_in two_touched.touched (key.Street 101) ≡ Since 1
-  pub second_stood : stood_in two_touched.touched (key.Street 102) ≡ Never
+  pub second_stood : stood_in two_touched.touched (key.Street 102) ≡ NoRow
   pub put_and_taken_used : was_used_in two_touched (key.Street 102) ≡ true
   pub other_not_used : was_used_in two_touched (key.Street 103) ≡ false
   pub past_used : was_used_in (with_touched no_changes (key.Street 102) Past None) (key.Street 102) ≡ true
@@ -61,7 +61,7 @@ abbrev pub had : Option Item → Touch
 had last = record { stood = Since 1; last = last }
 
 abbrev pub had_none : Option Item → Touch
-had_none last = record { stood = Never; last = last }
+had_none last = record { stood = NoRow; last = last }
 
 abbrev pub row_of : ℕ → Bool → Option NewRow
 row_of usrn current = Some (record { item = street usrn; current = current })

@@ -1,5 +1,5 @@
 -- What each change makes of the working view.
-use Rattle.std.specs.Prelude.{◌≡◌, ℕ, true, false, Option, Some, is_some}
+use Rattle.std.specs.Prelude.{◌≡◌, ◌||◌, ℕ, true, false, Option, Some, is_some}
 use Rattle.std.specs.FinMap as map
 use Rattle.gaz_records.specs.Blpus.{BlpuValue}
 use Rattle.gaz_records.specs.Items.{is_entry}
@@ -8,29 +8,26 @@ use Rattle.gaz_records.specs.declared.item.Item.{Item}
 use Rattle.gaz_records.specs.declared.key.Key.{Key}
 use Rattle.gaz_records.specs.declared.key.Key.TheVariants as key
 use Rattle.gaz_views.specs.Lawful.{IsLawfulView}
-use Rattle.gaz_views.specs.View.{View, custody_at, with_adoption, with_item, with_release}
+use Rattle.gaz_views.specs.View.{View, custody_at, was_used, with_adoption, with_item, with_release}
 use Rattle.gaz_views.specs.View.{without_key}
 use Rattle.gaz_overlay.specs.Changes.{Changes, is_passed, is_touched, no_changes, was_used_in}
 use Rattle.gaz_overlay.specs.Changes.{with_adopted_blpu, with_put, with_released, with_taken}
 use Rattle.gaz_overlay.specs.Changes.{with_touched}
 use Rattle.gaz_overlay.specs.Laws.{custody_laid_at}
-use Rattle.gaz_overlay.specs.Over.{IsStood, KeyView, Make, key_view}
+use Rattle.gaz_overlay.specs.Over.{IsStood, Make, key_view}
 use Rattle.gaz_overlay.specs.Writings.{writing_at}
 use Rattle.gaz_overlay.specs.declared.touch.NewRow.{NewRow}
 use Rattle.gaz_overlay.specs.declared.touch.Stood.{Stood}
-
--- what the working view has at a touched key
-abbrev pub told : Changes → Key → KeyView
-told c k = record { item = map.get c.view.items k; used = was_used_in c k }
 
 -- where a number is passed on first, a volume is given just if something had become of it before
 abbrev pub IsSince : View → Changes → ℕ → Option ℕ → Type 0
 IsSince v c uprn since =
     is_passed c uprn ≡ false → is_some since ≡ is_some (custody_at v uprn)
 
--- no changes make the last view; to touch a key alters nothing, to put and to take do just that; and
--- the changes alone say what the working view has at touched keys, the last view what it has at others;
--- what is to be written for a key is an entry of that key
+-- no changes make the last view; to touch a key alters nothing, to put and to take do just that; the
+-- changes alone say which item stands at a touched key, the last view what it has at others; a key is
+-- used where the changes or the last view say so; what is to be written for a key is an entry of that
+-- key
 pub record ChangesMake : Type 0 where
   pub nothing : (v : View) → Make v no_changes v
   pub touched : (v : View) (c : Changes) (w : View) → IsLawfulView v → Make v c w → (k : Key) (stood : Stood) → is_touched c k ≡ false
@@ -48,7 +45,10 @@ pub record ChangesMake : Type 0 where
   -- of a number that was passed on the changes say what became of it, of others the last view
   pub custody : (v : View) (c : Changes) (w : View) → Make v c w → (uprn : ℕ)
       → custody_at w uprn ≡ custody_laid_at v c.view uprn
-  pub there : (v : View) (c : Changes) (w : View) → Make v c w → (k : Key) → is_touched c k ≡ true → key_view w k ≡ told c k
+  pub there : (v : View) (c : Changes) (w : View) → Make v c w → (k : Key) → is_touched c k ≡ true
+      → map.get w.items k ≡ map.get c.view.items k
+  pub used : (v : View) (c : Changes) (w : View) → Make v c w → (k : Key)
+      → was_used w k ≡ (was_used_in c k || was_used v k)
   pub elsewhere : (v : View) (c : Changes) (w : View) → Make v c w → (k : Key) → is_touched c k ≡ false → key_view w k ≡ key_view v k
   pub own : (v : View) (c : Changes) (w : View) → Make v c w → (k : Key) (r : NewRow) → (writing_at c k).adds ≡ Some r → key_of r.item ≡ k
   pub entries : (v : View) (c : Changes) (w : View) → Make v c w → (k : Key) (r : NewRow)

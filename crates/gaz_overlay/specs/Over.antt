@@ -11,7 +11,7 @@ use Rattle.gaz_views.specs.View.{View, custody_at, was_used}
 use Rattle.gaz_overlay.specs.Changes.{Changes, is_passed, is_passed_key, is_touched}
 use Rattle.gaz_overlay.specs.Laid.{laid}
 use Rattle.gaz_overlay.specs.declared.touch.Stood.{Stood}
-use Rattle.gaz_overlay.specs.declared.touch.Stood.TheVariants.{Never, Past, Since}
+use Rattle.gaz_overlay.specs.declared.touch.Stood.TheVariants.{NoRow, Past, Since}
 use Rattle.gaz_overlay.specs.declared.touch.Touch.{Touch}
 
 -- what a view has at a key
@@ -22,9 +22,10 @@ pub record KeyView : Type 0 where
 abbrev pub key_view : View → Key → KeyView
 key_view v k = record { item = map.get v.items k; used = was_used v k }
 
--- it stood so at a key of the last view
+-- it stood so at a key of the last view; where there was no row, it isn't said whether the key was
+-- used, since a number that was passed on uses its key too
 abbrev pub IsStood : Stood → KeyView → Type 0
-IsStood Never before = (before.item ≡ None) × (before.used ≡ false)
+IsStood NoRow before = before.item ≡ None
 IsStood Past before = (before.item ≡ None) × (before.used ≡ true)
 IsStood (Since volume) before = (is_some before.item ≡ true) × (before.used ≡ true)
 

@@ -12,7 +12,7 @@ use Rattle.gaz_overlay.specs.Changes.{with_released, with_touched}
 use Rattle.gaz_overlay.specs.Laid.{laid}
 use Rattle.gaz_overlay.specs.Passages.{PassageRow, custody_after, has_passed, with_passages}
 use Rattle.gaz_overlay.specs.Writings.{passage_at, writing_at}
-use Rattle.gaz_overlay.specs.declared.touch.Stood.TheVariants.{Never, Past}
+use Rattle.gaz_overlay.specs.declared.touch.Stood.TheVariants.{NoRow, Past}
 
 -- ---- views: number 500 was released to 1002 at the first hop, and is released again at the third
 
@@ -37,7 +37,7 @@ handed_on = with_released adopted 500 1003 4 (Some 9)
 
 -- or it releases 500, of which the tables have nothing
 abbrev pub only_released : Changes
-only_released = with_released (with_touched no_changes (key.Blpu 500) Never None) 500 1002 1 None
+only_released = with_released (with_touched no_changes (key.Blpu 500) NoRow None) 500 1002 1 None
 
 pub record WorkedChanges : Type 0 where
   pub adoption : passage_at adopted 500

@@ -7,13 +7,13 @@ use Rattle.gaz_views.specs.View.{custody_at, holds}
 use Rattle.gaz_overlay.specs.Changes.{Changes, born_before}
 use Rattle.gaz_overlay.specs.declared.passage.Passage.{Passage}
 use Rattle.gaz_overlay.specs.declared.touch.Stood.{Stood}
-use Rattle.gaz_overlay.specs.declared.touch.Stood.TheVariants.{Never, Past, Since}
+use Rattle.gaz_overlay.specs.declared.touch.Stood.TheVariants.{NoRow, Past, Since}
 use Rattle.gaz_overlay.specs.declared.touch.Touch.{Touch}
 use Rattle.gaz_overlay.specs.declared.touch.Writing.{Writing}
 
 -- the volume in which the current row was born, where there is one
 abbrev pub born_in : Stood → Option ℕ
-born_in Never = None
+born_in NoRow = None
 born_in Past = None
 born_in (Since volume) = Some volume
 

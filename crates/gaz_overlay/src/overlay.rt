@@ -61,7 +61,7 @@ impl Overlay {
         }
     }
 
-    /// Whether a key was touched, so that the overlay answers for it alone.
+    /// Whether a key was touched, so that the overlay alone says which item stands there.
     pub fn is_touched(&self, key: &Key) -> bool
         ensures { result ≡ is_touched self.now key.now }
     {
@@ -138,11 +138,12 @@ impl Overlay {
         self.ledger.ledger().item(WORKING, key)
     }
 
-    /// Whether a touched key was ever used.
+    /// Whether a touched key had a row, or an item was put there. Whether it was used without either,
+    /// by a number that was passed on, the last view says.
     pub fn was_used(&self, key: &Key) -> bool
         ensures { result ≡ was_used_in self.now key.now }
     {
-        self.hides(key) || self.touches.stood(key) != Stood::Never
+        self.hides(key) || self.touches.stood(key) != Stood::NoRow
     }
 
     /// The touched keys, each once, in key order.

@@ -9,8 +9,8 @@ use std::alloc::AllocError;
 /// What the tables have at a key before the volume.
 #[derive(Clone, Copy, PartialEq, Eq)]
 pub enum Stood {
-    /// No row, so that the key was never used.
-    Never,
+    /// No row. The key was used all the same where it is that of the BLPU of a number that was passed on.
+    NoRow,
     /// Rows that are gone, and no current one.
     Past,
     /// A current row, which was born in this volume.

@@ -79,7 +79,7 @@ impl Touches {
     {
         match self.by_key.get(key) {
             Some(touch) => touch.stood,
-            None => Stood::Never,
+            None => Stood::NoRow,
         }
     }
 

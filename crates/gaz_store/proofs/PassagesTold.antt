@@ -1,6 +1,6 @@
 -- What is told of a custodian's numbers, number by number and for each volume by volume.
-use Rattle.std.proofs.Common.{◌≡◌, ◌∙◌, ◌≤◌, ◌<◌, ◌+◌, ◌⊎◌, ℕ, pos, ◌<ℤ◌, true, false, List, [], ◌∷◌, map, take, suc, zero, inl, inr, refl, sym, ap, subst, arith, true≢false}
-use Rattle.std.proofs.lemmas.Bool.{and_parts, cases_lt}
+use Rattle.std.proofs.Common.{◌≡◌, ◌∙◌, ◌≤◌, ◌<◌, ◌+◌, ◌⊎◌, ◌==◌, ℕ, pos, ◌<ℤ◌, Bool, true, false, not, List, [], ◌∷◌, length, map, take, suc, zero, inl, inr, refl, sym, ap, subst, arith, true≢false}
+use Rattle.std.proofs.lemmas.Bool.{and_parts, cases_lt, ne_eqb}
 use Rattle.std.proofs.lemmas.Int.{ints}
 use Rattle.std.specs.Prelude.{⊤, Option, Some, None, IsSorted}
 use Rattle.std.proofs.lemmas.Cmp.{on_total}
@@ -43,7 +43,7 @@ use Rattle.gaz_kept.proofs.Statements.{read_from, read_in, some_same, tells_of}
 use Rattle.gaz_loaded.specs.Passing.{AreToldBehind, AreToldInTurn, ComesBehind, IsNext, passage_of}
 use Rattle.gaz_loaded.specs.declared.listed.Passage.{Passage}
 use Rattle.gaz_store.specs.Passages.{IsStartOf, SayPassages, SaysPassage}
-use Rattle.gaz_store.specs.Passing.{passages_of}
+use Rattle.gaz_store.specs.Passing.{is_any, passages_of}
 use Rattle.gaz_store.proofs.Fits.{pos_same}
 use Rattle.gaz_store.proofs.Holding.{by_ids, like_kinds}
 use Rattle.gaz_store.proofs.Listed.{empty_is}
@@ -337,8 +337,32 @@ module _ (db : Database) (kept : IsKept db) (c : ℕ) where
         shown : SayPassages (map listed_shown (take 512 found.chosen)) xs
         shown = subst (λ l. SayPassages l xs) found.shown say
 
-  -- no number was passed on, where not one row is found from the first
-  pub none_there : (answer : List Row) → FindsCustodyBehind c [] 0 1 rows answer → answer ≡ [] → (p : PassageRow) → ¬ Has all p
-  none_there answer found none p there =
-      let r = cover None [] 0 (refl, refl) 1 answer found p there tt in
-      none_taken 0 found.chosen (λ q here. subst (λ l. Has l (listed_shown q)) (sym found.shown ∙ none) (mapped_has listed_shown (take 1 found.chosen) q here)) r.0 r.1
+  -- a number was passed on just where one row is found from the first
+  pub any_there : (answer : List Row) → FindsCustodyBehind c [] 0 1 rows answer → (is_empty : Bool) → is_empty ≡ (length answer == 0) → not is_empty ≡ is_any all
+  any_there answer found is_empty is = ap not is ∙ by_answer answer found
+    where
+      some_there : (l : List PassageRow) (p : PassageRow) → Has l p → true ≡ is_any l
+      some_there [] p here = absurd here
+      some_there (q ∷ l) p here = refl
+
+      none_there : (l : List PassageRow) → ((p : PassageRow) → ¬ Has l p) → false ≡ is_any l
+      none_there [] none = refl
+      none_there (q ∷ l) none = absurd (none q (inl refl))
+
+      no_row : FindsCustodyBehind c [] 0 1 rows [] → (p : PassageRow) → ¬ Has all p
+      no_row found p there =
+          let r = cover None [] 0 (refl, refl) 1 [] found p there tt in
+          none_taken 0 found.chosen (λ q here. subst (λ l. Has l (listed_shown q)) (sym found.shown) (mapped_has listed_shown (take 1 found.chosen) q here)) r.0 r.1
+
+      one_row : (r : Row) (rest : List Row) → FindsCustodyBehind c [] 0 1 rows (r ∷ rest) → true ≡ is_any all
+      one_row r rest found = by_chosen found.chosen (sym found.shown) (are_from None [] 0 (refl, refl) 1 (r ∷ rest) found)
+        where
+          by_chosen : (chosen : List Row) → map listed_shown (take 1 chosen) ≡ r ∷ rest → AreFrom None chosen → true ≡ is_any all
+          by_chosen [] shown from = let clash : [] ≡ r ∷ rest = shown in cc
+          by_chosen (q ∷ chosen) shown from =
+              let f = from q (inl refl) in
+              some_there all f.0 (read_in (passage_in c) rows q f.0 f.1.there f.1.said)
+
+      by_answer : (answer : List Row) → FindsCustodyBehind c [] 0 1 rows answer → not (length answer == 0) ≡ is_any all
+      by_answer [] found = none_there all (no_row found)
+      by_answer (r ∷ rest) found = ap not (ne_eqb (suc (length rest)) 0 (λ e. omega (arith, e))) ∙ one_row r rest found

@@ -91,7 +91,7 @@ module _ (db : Database) (j : Judgement) (uprn : ℕ) (since : Option ℕ) (told
     made = changes_make.released last j.changes w makes.made uprn to hop since touched told.is_since;
     told = record { told = makes.told.told };
     passed = told_noted makes.passed;
-    none = makes.none;
+    known = makes.known;
   }
 
 -- an item, which is a BLPU of this number
@@ -104,7 +104,7 @@ adopted_turns db j (item.Blpu b) from hop uprn since blpu own touched told w mak
       made = changes_make.adopted (last_in db j.code) j.changes w makes.made b from hop since touched its.is_since;
       told = record { told = (told_put (histories_in (db.trees versions) j.code) j.changes (item.Blpu b) makes.told).told };
       passed = told_noted db j b.uprn since its makes.passed;
-      none = makes.none;
+      known = makes.known;
     }
 adopted_turns db j (item.Street x) from hop uprn since blpu own touched told w makes = absurd (true≢false (sym blpu))
 adopted_turns db j (item.Descriptor x) from hop uprn since blpu own touched told w makes = absurd (true≢false (sym blpu))

@@ -71,10 +71,10 @@ module _ {S R : Type 0} {store : Ghosts S} (register : List ℕ) (old : Store S 
   pub abandons : Goes (seen_in register old) (seen_in register (record old { judging = Idle })) (Ok (tt {0})) ⊤ (after_abandon (seen_in register old).content) None keeper.Idle
   abandons = goes_idle register s old.tables.at_hand old.judging old.tables.failures
 
-  pub begins : (c : ℕ) (j : Judgement) → j.code ≡ c → j.changes ≡ no_changes → j.asked ≡ false → j.none_passed ≡ false
+  pub begins : (c : ℕ) (j : Judgement) → j.code ≡ c → j.changes ≡ no_changes → j.any_passed ≡ None
       → Goes (seen_in register old) (seen_in register (record old { judging = Open j })) (Ok (tt {0})) (IsAtHand (seen_in register old).content c) (after_begin (seen_in register old).content c) None (keeper.Open c)
-  begins c j code none asked none_passed =
-      let same : record { code = c; changes = no_changes; asked = false; none_passed = false } ≡ j = λ i. record { code = sym code i; changes = sym none i; asked = sym asked i; none_passed = sym none_passed i } in
+  begins c j code none known =
+      let same : record { code = c; changes = no_changes; any_passed = None } ≡ j = λ i. record { code = sym code i; changes = sym none i; any_passed = sym known i } in
       subst (λ k. Goes (seen_in register old) (seen_in register (record old { judging = Open k })) (Ok (tt {0})) (IsAtHand (seen_in register old).content c) (after_begin (seen_in register old).content c) None (keeper.Open c)) same
       (goes_open register s old.tables.at_hand old.judging old.tables.failures c)
 

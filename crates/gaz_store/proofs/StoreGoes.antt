@@ -18,7 +18,7 @@ use Rattle.gaz_views.specs.declared.verdict.Verdict.TheVariants as verdict
 use Rattle.gaz_overlay.specs.Changes.{no_changes, stood_in}
 use Rattle.gaz_overlay.specs.Over.{Make}
 use Rattle.gaz_overlay.specs.Rows.{AreTold}
-use Rattle.gaz_overlay.specs.declared.touch.Stood.TheVariants.{Never, Since}
+use Rattle.gaz_overlay.specs.declared.touch.Stood.TheVariants.{NoRow, Since}
 use Rattle.gaz_overlay.proofs.Laid.{nothing}
 use Rattle.gaz_overlay.proofs.Making.{changes_make}
 use Rattle.gaz_keeper.specs.Keeper as keeper
@@ -79,17 +79,17 @@ told_nothing rows = record { told = λ k volume is. absurd (never_since k volume
   where
     never_since : (k : Key) (volume : ℕ) → stood_in no_changes.touched k ≡ Since volume → ⊥
     never_since k volume is =
-        let none : Never ≡ Since volume = sym (ap (λ o. option_map_or (λ (t : Touch). t.stood) o Never) (finite.get-empty key_cmp k)) ∙ is in
+        let none : NoRow ≡ Since volume = sym (ap (λ o. option_map_or (λ (t : Touch). t.stood) o NoRow) (finite.get-empty key_cmp k)) ∙ is in
         cc
 
 module _ (register : List ℕ) (s : State) (a : Remembered) (j : Judging) (f c : ℕ) where
   abbrev db : Database
   db = s.now
 
-  made_is : view_made db (record { code = c; changes = no_changes; asked = false; none_passed = false }) ≡ last_in db c
+  made_is : view_made db (record { code = c; changes = no_changes; any_passed = None }) ≡ last_in db c
   made_is = nothing (last_in db c)
 
-  pub goes_open : Goes (seen_beside register s a j f) (seen_beside register s a (Open (record { code = c; changes = no_changes; asked = false; none_passed = false })) f) (Ok (tt {0})) (IsAtHand (content_in db.trees (working_of db j)) c)
+  pub goes_open : Goes (seen_beside register s a j f) (seen_beside register s a (Open (record { code = c; changes = no_changes; any_passed = None })) f) (Ok (tt {0})) (IsAtHand (content_in db.trees (working_of db j)) c)
       (after_begin (content_in db.trees (working_of db j)) c) None (keeper.Open c)
   goes_open = record {
     harm = λ h. h;
@@ -102,7 +102,7 @@ module _ (register : List ℕ) (s : State) (a : Remembered) (j : Judging) (f c :
       };
       beside = record {
         at_hand = ask;
-        makes = record { made = subst (Make (last_in db c) no_changes) (sym made_is) (changes_make.nothing (last_in db c)); told = told_nothing (histories_in (db.trees versions) c); passed = passed_nothing (db.trees versions) c; none = λ is p there. absurd (true≢false (sym is)) };
+        makes = record { made = subst (Make (last_in db c) no_changes) (sym made_is) (changes_make.nothing (last_in db c)); told = told_nothing (histories_in (db.trees versions) c); passed = passed_nothing (db.trees versions) c; known = λ any is. cc };
       };
     };
     done = λ stood ask h. ap (content_in db.trees) (made_is ∙ sym (last_is db stood.tables.kept c));

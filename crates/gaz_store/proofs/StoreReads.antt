@@ -35,6 +35,8 @@ use Rattle.gaz_store.specs.declared.progress.Judging.{Judging}
 use Rattle.gaz_store.specs.declared.progress.Judging.TheVariants.{Idle, Open, Broken}
 use Rattle.gaz_store.specs.declared.store.Store.{Store}
 use Rattle.gaz_store.specs.declared.tables.Tables.{Tables}
+use Rattle.gaz_store.proofs.Answered.{asked_more}
+use Rattle.gaz_store.proofs.Composing.{faulted}
 use Rattle.gaz_store.proofs.Whole.{whole_still}
 use Rattle.gaz_kept.proofs.LawfulViews.{board_view, last_is}
 
@@ -78,30 +80,49 @@ pub on_ok_all : {T E : Type 0} {P : Type 0} (r : Result T E) → P → OnOk r P
 on_ok_all (Ok x) h = h
 on_ok_all (Err e) h = tt
 
+-- a judgement goes on as another: of the same custodian, with the same view
+pub record GoesOnAs (old new : Judging) : Type 0 where
+  pub progress : progress_of new ≡ progress_of old
+  pub working : (db : Database) → working_of db new ≡ working_of db old
+
+pub goes_on_alone : (j : Judging) → GoesOnAs j j
+goes_on_alone j = record { progress = refl; working = λ db. refl }
+
 -- ---- a call that asks is one that reads
 
-module _ {T : Type 0} (register : List ℕ) (old new : State) (before after : Remembered) (j : Judging) (f g : ℕ) (r : Result T ShelfFault)
-    (IsRight : Database → T → Type 0) (Q : T → Type 0) (asks : Asks old new r IsRight) (tallies : Tallies f g r)
+module _ {T : Type 0} (register : List ℕ) (old new : State) (before after : Remembered) (j k : Judging) (f g : ℕ) (r : Result T ShelfFault)
+    (IsRight : Database → T → Type 0) (Q : T → Type 0) (goes_on : GoesOnAs (cleared j) k)
+    (beside : IsUnharmed new → IsKept old.now → StandsBeside old.now (cleared j) → StandsBeside old.now k)
+    (asks : Asks old new r IsRight) (tallies : Tallies f g r)
     (at_hand : IsUnharmed new → IsKept old.now → AreSo before (old.now.trees receiveds) → AreSo after (old.now.trees receiveds))
-    (goes : (x : T) → StoreStands register old before j → IsRight old.now x → Q x) where
+    (goes : (x : T) → StoreStands register old before j → StandsBeside old.now k → IsRight old.now x → Q x) where
   still : StoreStands register old before j → IsUnharmed new → new.now ≡ old.now
   still stood h = asks.rests h stood.tables.kept.tables
 
-  stands_then : StoreStands register old before j → IsUnharmed new → (db : Database) → old.now ≡ db → (IsKept db) × (IsOf register (db.trees metas)) × (AreSo after (db.trees receiveds)) × (IsLawful (content_in db.trees (working_of db (cleared j)))) × (StandsBeside db (cleared j))
-  stands_then stood h db same = subst (λ (d : Database). (IsKept d) × (IsOf register (d.trees metas)) × (AreSo after (d.trees receiveds)) × (IsLawful (content_in d.trees (working_of d (cleared j)))) × (StandsBeside d (cleared j))) same
-      (stood.tables.kept, stood.tables.whose, at_hand h stood.tables.kept stood.tables.so, subst (λ w. IsLawful (content_in old.now.trees w)) (sym (working_cleared old.now j)) stood.tables.lawful, beside_cleared old.now j stood.beside)
+  working_then : (db : Database) → working_of db k ≡ working_of db j
+  working_then db = goes_on.working db ∙ working_cleared db j
 
-  pub store_reads : Reads (seen_beside register old before j f) (seen_beside register new after (cleared j) g) r Q
-  store_reads = record {
+  beside_then : StoreStands register old before j → IsUnharmed new → StandsBeside old.now k
+  beside_then stood h = beside h stood.tables.kept (beside_cleared old.now j stood.beside)
+
+  abbrev StandsNow : Database → Type 0
+  StandsNow db = (IsKept db) × (IsOf register (db.trees metas)) × (AreSo after (db.trees receiveds)) × (IsLawful (content_in db.trees (working_of db k))) × (StandsBeside db k)
+
+  stands_then : StoreStands register old before j → IsUnharmed new → (db : Database) → old.now ≡ db → StandsNow db
+  stands_then stood h db same = subst StandsNow same
+      (stood.tables.kept, stood.tables.whose, at_hand h stood.tables.kept stood.tables.so, subst (λ w. IsLawful (content_in old.now.trees w)) (sym (working_then old.now)) stood.tables.lawful, beside_then stood h)
+
+  pub noted_reads : Reads (seen_beside register old before j f) (seen_beside register new after k g) r Q
+  noted_reads = record {
     keeps = record {
       harm = asks.harm;
       stands = λ stood h.
           let s = stands_then stood h new.now (sym (still stood h)) in
           record { tables = record { kept = s.0; whose = s.1; so = s.2; lawful = s.3 }; beside = s.4 };
       content = λ stood h.
-          ap (λ w. content_in new.now.trees w) (working_cleared new.now j)
+          ap (λ w. content_in new.now.trees w) (working_then new.now)
           ∙ ap (λ (db : Database). content_in db.trees (working_of db j)) (still stood h);
-      progress = left_cleared j;
+      progress = subst (IsLeft (progress_of j)) (sym goes_on.progress) (left_cleared j);
       leaves = λ sound k l.
           let s = asks.leaves (λ h. (sound h).tables.kept.tables) in
           record {
@@ -112,10 +133,18 @@ module _ {T : Type 0} (register : List ℕ) (old new : State) (before after : Re
           };
       whole = λ sound. whole_still register old new (asks.leaves (λ h. (sound h).tables.kept.tables));
     };
-    right = λ stood h. if_ok r (IsRight old.now) Q (λ x is. goes x stood is) (asks.right h stood.tables.kept);
-    cleared = on_ok_all r (not_broken j);
+    right = λ stood h. if_ok r (IsRight old.now) Q (λ x is. goes x stood (beside_then stood h) is) (asks.right h stood.tables.kept);
+    cleared = on_ok_all r (λ e. not_broken j (sym goes_on.progress ∙ e));
     counts = record { kept = tallies.kept; store = tallies.store; trust = asks.trust };
   }
+
+-- and one that leaves the judgement as it is
+module _ {T : Type 0} (register : List ℕ) (old new : State) (before after : Remembered) (j : Judging) (f g : ℕ) (r : Result T ShelfFault)
+    (IsRight : Database → T → Type 0) (Q : T → Type 0) (asks : Asks old new r IsRight) (tallies : Tallies f g r)
+    (at_hand : IsUnharmed new → IsKept old.now → AreSo before (old.now.trees receiveds) → AreSo after (old.now.trees receiveds))
+    (goes : (x : T) → StoreStands register old before j → IsRight old.now x → Q x) where
+  pub store_reads : Reads (seen_beside register old before j f) (seen_beside register new after (cleared j) g) r Q
+  store_reads = noted_reads register old new before after j (cleared j) f g r IsRight Q (goes_on_alone (cleared j)) (λ h kept stands. stands) asks tallies at_hand (λ x stood beside is. goes x stood is)
 
 -- ---- what is seen of a custodian
 
@@ -174,16 +203,25 @@ module _ {S R : Type 0} {store : Ghosts S} {T : Type 0} (register : List ℕ) (o
           subst (λ k. P (viewed (progress_of k) (content_in db.trees (working_of db k)) c) x) (sym same)
           (subst (λ v. P v x) (sym (viewed_here db m c own)) (right (view_made db m) (subst (StandsBeside db) same beside).makes))
 
-  -- what is asked of its view, whichever it is
-  pub tells_of_view : (P : View → T → Type 0) (c : ℕ) (asked : Judging) → asked ≡ cleared old.judging → AsksTables old.tables tables r (λ d x. IsOfView d asked c (λ v. P v x))
-      → Tells (λ x. P (view_of (seen_in register old) c) x) k
-  tells_of_view P c asked same asks =
-      subst (Tells (λ x. P (view_of (seen_in register old) c) x)) (sym is_cleared)
-      (store_reads register _ _ _ _ old.judging _ _ r (λ d x. IsOfView d asked c (λ v. P v x)) (λ x. P (view_of (seen_in register old) c) x) asks.asks asks.tallies
+  -- what is asked of its view, whichever it is, once more is known of the judgement
+  pub tells_noted : (P : View → T → Type 0) (c : ℕ) (next : Judging) → GoesOnAs (cleared old.judging) next
+      → (IsUnharmed (state store tables.conn) → IsKept db → StandsBeside db (cleared old.judging) → StandsBeside db next)
+      → AsksTables old.tables tables r (λ d x. IsOfView d next c (λ v. P v x))
+      → Tells (λ x. P (view_of (seen_in register old) c) x) next
+  tells_noted P c next goes_on beside asks =
+      noted_reads register _ _ _ _ old.judging next _ _ r (λ d x. IsOfView d next c (λ v. P v x)) (λ x. P (view_of (seen_in register old) c) x) goes_on beside asks.asks asks.tallies
       (λ h kept so. subst (λ a. AreSo a (db.trees receiveds)) (sym asks.at_hand) so)
-      (λ x stood right. by_judging old.judging stood.tables.kept stood.beside x (subst (λ j. IsOfView db j c (λ v. P v x)) same right)))
+      (λ x stood stands right. subst (λ v. P v x) viewed_next (by_judging next stood.tables.kept stands x right))
     where
-      by_judging : (j : Judging) → IsKept db → StandsBeside db j → (x : T) → IsOfView db (cleared j) c (λ v. P v x) → P (viewed (progress_of j) (content_in db.trees (working_of db j)) c) x
+      cleared_view : (j : Judging) → viewed (progress_of (cleared j)) (content_in db.trees (working_of db (cleared j))) c ≡ viewed (progress_of j) (content_in db.trees (working_of db j)) c
+      cleared_view Idle = refl
+      cleared_view (Open m) = refl
+      cleared_view Broken = refl
+
+      viewed_next : viewed (progress_of next) (content_in db.trees (working_of db next)) c ≡ viewed (progress_of old.judging) (content_in db.trees (working_of db old.judging)) c
+      viewed_next = (λ i. viewed (goes_on.progress i) (content_in db.trees (goes_on.working db i)) c) ∙ cleared_view old.judging
+
+      by_judging : (j : Judging) → IsKept db → StandsBeside db j → (x : T) → IsOfView db j c (λ v. P v x) → P (viewed (progress_of j) (content_in db.trees (working_of db j)) c) x
       by_judging Idle kept beside x right = subst (λ v. P v x) (sym (viewed_last db kept Idle c tt)) right
       by_judging Broken kept beside x right = subst (λ v. P v x) (sym (viewed_last db kept Broken c tt)) right
       by_judging (Open m) kept beside x right = by_test (m.code == c) refl
@@ -195,6 +233,30 @@ module _ {S R : Type 0} {store : Ghosts S} {T : Type 0} (register : List ℕ) (o
           by_test false is =
               let other : m.code ≢ c = λ e. absurd (true≢false (sym (eq-eqb m.code c e) ∙ is)) in
               subst (λ v. P v x) (sym (viewed_last db kept (Open m) c other)) (right.1 other)
+
+  -- behind a call that told more of the judgement
+  pub tells_after : (P : View → T → Type 0) (c : ℕ) (asked : Tables S store) (first : Result (Unit {0}) ShelfFault) (x : Unit {0}) (next : Judging)
+      → progress_of next ≡ progress_of k → ((d : Database) → working_of d next ≡ working_of d k)
+      → AsksTables old.tables asked first (λ d y. StandsBeside d k → StandsBeside d next) → first ≡ Ok x
+      → AsksTables asked tables r (λ d y. IsOfView d next c (λ v. P v y))
+      → Tells (λ y. P (view_of (seen_in register old) c) y) next
+  tells_after P c asked first x next progress working before is after =
+      tells_noted P c next (record { progress = progress ∙ ap progress_of is_cleared; working = λ d. working d ∙ ap (working_of d) is_cleared })
+      (λ h kept stands. subst (λ q. IfOk q (λ y. StandsBeside db k → StandsBeside db next)) is (before.asks.right (after.asks.harm h) kept) (subst (StandsBeside db) (sym is_cleared) stands))
+      (asked_more _ _ _ first r x _ _ _ before after is (λ d kept was y right. right))
+
+  -- or as it was
+  pub tells_of_view : (P : View → T → Type 0) (c : ℕ) (asked : Judging) → asked ≡ cleared old.judging → AsksTables old.tables tables r (λ d x. IsOfView d asked c (λ v. P v x))
+      → Tells (λ x. P (view_of (seen_in register old) c) x) k
+  tells_of_view P c asked same asks =
+      subst (Tells (λ x. P (view_of (seen_in register old) c) x)) (sym is_cleared)
+      (tells_noted P c (cleared old.judging) (goes_on_alone (cleared old.judging)) (λ h kept stands. stands)
+      (subst (λ j. AsksTables old.tables tables r (λ d x. IsOfView d j c (λ v. P v x))) same asks))
+
+  -- of a fault nothing more is told
+  pub tells_fault : {A : Type 0} (first : Result A ShelfFault) (e : ShelfFault) (P : Database → A → Type 0) (Q : T → Type 0) → AsksTables old.tables tables first P → first ≡ Err e → r ≡ Err e → Tells Q k
+  tells_fault first e P Q asks is ends =
+      tells (λ d x. ⊥) Q (subst (λ q. AsksTables old.tables tables q (λ d x. ⊥)) (sym ends) (faulted _ _ first e P _ asks is)) (λ x kept never. absurd never)
 
 -- how many files wait above the judged ones
 pub tells_held : {S R : Type 0} {store : Ghosts S} (register : List ℕ) (old : Store S R store) (tables : Tables S store) (k : Judging) → k ≡ cleared old.judging → (r : Result ℕ ShelfFault) (c : ℕ)

@@ -14,7 +14,8 @@ use Rattle.gaz_records.specs.declared.item.Item.{Item}
 use Rattle.gaz_records.specs.declared.key.Key.{Key}
 use Rattle.gaz_records.specs.declared.item.Kind.TheVariants as kind
 use Rattle.gaz_records.specs.declared.key.Key.TheVariants as key
-use Rattle.gaz_views.specs.View.{View, was_used, with_item, without_key}
+use Rattle.gaz_views.specs.View.{View, empty_view, was_used, with_item, without_key}
+use Rattle.gaz_keeper.specs.Keeper.{IsAtHand}
 use Rattle.gaz_views.specs.Lawful.{IsLawfulView}
 use Rattle.gaz_views.specs.Words.{approved_of, approved_on, entries, first_of, has_children, is_approved_on, is_child_of, names, property_of, tied}
 use Rattle.gaz_overlay.specs.Changes.{Changes, Touched, is_touched, stood_in, was_used_in, with_put, with_taken, with_touched}
@@ -30,22 +31,24 @@ use Rattle.gaz_overlay.specs.Over.{KeyView, Make}
 use Rattle.gaz_overlay.specs.Questions.{LaidAnswers, both, keys_with, property_at}
 use Rattle.gaz_overlay.specs.Rows.{AreTold, HasCurrent, HistoryRow}
 use Rattle.gaz_overlay.specs.declared.touch.Stood.{Stood}
-use Rattle.gaz_overlay.specs.declared.touch.Stood.TheVariants.{Never, Since}
+use Rattle.gaz_overlay.specs.declared.touch.Stood.TheVariants.{NoRow, Since}
 use Rattle.gaz_overlay.specs.declared.touch.Touch.{Touch}
 use Rattle.gaz_overlay.proofs.Making.{changes_make}
 use Rattle.gaz_overlay.proofs.Questions.{laid_questions}
 use Rattle.gaz_tables.specs.Schema.{receiveds, versions}
+use Rattle.gaz_kept.specs.Contents.{content_in}
 use Rattle.gaz_kept.specs.Files.{reached_in}
 use Rattle.gaz_kept.specs.Kept.{IsKept}
 use Rattle.gaz_kept.specs.LastViews.{last_in}
 use Rattle.gaz_kept.specs.Newest.{TellsStood}
 use Rattle.gaz_kept.specs.Versions.{histories_in}
 use Rattle.gaz_store.specs.Beside.{Makes, Turns}
+use Rattle.gaz_store.specs.Store.{IsUnderWay, view_made}
 use Rattle.gaz_store.specs.declared.judgement.Judgement.{Judgement}
 use Rattle.gaz_kept.proofs.LawfulViews.{view_lawful}
 
 abbrev pub with_changes : Judgement → Changes → Judgement
-with_changes j c = record { code = j.code; changes = c; asked = j.asked; none_passed = j.none_passed }
+with_changes j c = record { code = j.code; changes = c; any_passed = j.any_passed }
 
 -- ---- what stood at a key
 
@@ -54,9 +57,9 @@ tie q k = eq_by_cmp key_cmp q k
 
 -- what stood at a key once another is noted
 noted_at : (touched : Touched) (k q : Key) (x : Touch) (b : Bool) → tie q k ≡ b → stood_in (map.insert touched k x) q ≡ cond b x.stood (stood_in touched q)
-noted_at touched k q x b is = ap (λ o. option_map_or (λ (t : Touch). t.stood) o Never) (map.get-insert keys_total touched k x q ∙ ap (λ c. cond c (Some x) (map.get touched q)) is) ∙ by_test b
+noted_at touched k q x b is = ap (λ o. option_map_or (λ (t : Touch). t.stood) o NoRow) (map.get-insert keys_total touched k x q ∙ ap (λ c. cond c (Some x) (map.get touched q)) is) ∙ by_test b
   where
-    by_test : (b : Bool) → option_map_or (λ (t : Touch). t.stood) (cond b (Some x) (map.get touched q)) Never ≡ cond b x.stood (stood_in touched q)
+    by_test : (b : Bool) → option_map_or (λ (t : Touch). t.stood) (cond b (Some x) (map.get touched q)) NoRow ≡ cond b x.stood (stood_in touched q)
     by_test true = refl
     by_test false = refl
 
@@ -100,14 +103,14 @@ module _ (db : Database) (kept : IsKept db) (j : Judgement) where
         (changes_make.touched last j.changes w (view_lawful db kept j.code (reached_in (db.trees receiveds) j.code)) makes.made k stood fresh tells.is_stood);
     told = told_touched rows j.changes k stood item makes.told tells.current;
     passed = makes.passed;
-    none = makes.none;
+    known = makes.known;
   }
 
   pub put_turns : (i : Item) → is_entry i ≡ true → is_touched j.changes (key_of i) ≡ true → Turns db j (with_changes j (with_put j.changes i)) (λ w. with_item w i)
-  put_turns i entry noted w makes = record { made = changes_make.put last j.changes w makes.made i entry noted; told = told_put rows j.changes i makes.told; passed = makes.passed; none = makes.none }
+  put_turns i entry noted w makes = record { made = changes_make.put last j.changes w makes.made i entry noted; told = told_put rows j.changes i makes.told; passed = makes.passed; known = makes.known }
 
   pub taken_turns : (k : Key) → is_touched j.changes k ≡ true → Turns db j (with_changes j (with_taken j.changes k)) (λ w. without_key w k)
-  taken_turns k noted w makes = record { made = changes_make.taken last j.changes w makes.made k noted; told = record { told = makes.told.told }; passed = makes.passed; none = makes.none }
+  taken_turns k noted w makes = record { made = changes_make.taken last j.changes w makes.made k noted; told = record { told = makes.told.told }; passed = makes.passed; known = makes.known }
 
 -- keys that pass a test and aren't used by changes
 left_entries : (s : View) (p : Item → Bool) (es : List (Key × Item)) → list_any (λ e. p e.1 && untouched s e.0) es ≡ list_any (untouched s) (map_of (λ e. e.0) (filter (λ e. p e.1) es))
@@ -119,6 +122,14 @@ left_entries s p (e ∷ es) = by_test (left_entries s p es) (p e.1)
     by_test behind true = ap (λ b. untouched s e.0 || b) behind
     by_test behind false = behind
 
+-- ---- a judgement of the same changes
+
+pub stands_on : (db : Database) (m n : Judgement) → n.code ≡ m.code → n.changes ≡ m.changes → Turns db m n (λ w. w) → IsUnderWay db m → IsUnderWay db n
+stands_on db m n code changes turns stands = record {
+  at_hand = subst (IsAtHand (content_in db.trees empty_view)) (sym code) stands.at_hand;
+  makes = subst (Makes db n) (λ i. laid (last_in db (sym code i)) (sym changes i).view) (turns (view_made db m) stands.makes);
+}
+
 -- ---- what it answers
 
 module _ (db : Database) (j : Judgement) (w : View) (makes : Makes db j w) where
@@ -129,16 +140,13 @@ module _ (db : Database) (j : Judgement) (w : View) (makes : Makes db j w) where
   s = j.changes.view
 
   pub item_beside : (k : Key) → is_touched j.changes k ≡ true → map.get s.items k ≡ map.get w.items k
-  item_beside k noted = sym (ap (λ (x : KeyView). x.item) (changes_make.there v j.changes w makes.made k noted))
+  item_beside k noted = sym (changes_make.there v j.changes w makes.made k noted)
 
-  pub used_beside : (k : Key) → is_touched j.changes k ≡ true → was_used_in j.changes k ≡ was_used w k
-  used_beside k noted = sym (ap (λ (x : KeyView). x.used) (changes_make.there v j.changes w makes.made k noted))
+  pub used_beside : (k : Key) → (was_used_in j.changes k || was_used v k) ≡ was_used w k
+  used_beside k = sym (changes_make.used v j.changes w makes.made k)
 
   pub item_elsewhere : (k : Key) → is_touched j.changes k ≡ false → map.get v.items k ≡ map.get w.items k
   item_elsewhere k fresh = sym (ap (λ (x : KeyView). x.item) (changes_make.elsewhere v j.changes w makes.made k fresh))
-
-  pub used_elsewhere : (k : Key) → is_touched j.changes k ≡ false → was_used v k ≡ was_used w k
-  used_elsewhere k fresh = sym (ap (λ (x : KeyView). x.used) (changes_make.elsewhere v j.changes w makes.made k fresh))
 
   answers : LaidAnswers v s
   answers = laid_questions v s makes.made.over.lawful

@@ -11,16 +11,16 @@ use Rattle.gaz_tables.specs.Schema.{versions}
 use Rattle.gaz_kept.specs.Keeping.{AreToldPassages}
 use Rattle.gaz_kept.specs.LastViews.{last_in}
 use Rattle.gaz_kept.specs.Versions.{histories_in}
-use Rattle.gaz_store.specs.Passing.{MayKnowNone}
+use Rattle.gaz_store.specs.Passing.{MayKnow}
 use Rattle.gaz_store.specs.declared.judgement.Judgement.{Judgement}
 
 -- its changes make this working view of the custodian's last, and were told which rows of items and
--- which passages are current; and where it is known that no number was passed on, none was
+-- which passages are current; and what is known of whether a number was passed on is so
 pub record Makes (db : Database) (j : Judgement) (working : View) : Type 0 where
   pub made : Make (last_in db j.code) j.changes working
   pub told : AreTold j.changes (histories_in (db.trees versions) j.code)
   pub passed : AreToldPassages j.changes (db.trees versions) j.code
-  pub none : MayKnowNone j.none_passed db j.code
+  pub known : MayKnow j.any_passed db j.code
 
 -- after a call the changes make another working view of the same last one
 abbrev pub Turns : Database → Judgement → Judgement → (View → View) → Type 0

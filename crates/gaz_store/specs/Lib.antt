@@ -17,5 +17,6 @@ pub mod Volumes
 pub mod Listing
 pub mod Made
 pub mod WorkedLives
+pub mod WorkedPassing
 pub mod Growing
 pub mod WorkedGrowing

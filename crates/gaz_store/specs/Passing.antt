@@ -1,5 +1,5 @@
 -- What is told of a number's newest passage, and what a judgement that passes it on is told.
-use Rattle.std.specs.Prelude.{◌≡◌, ℕ, Bool, false, true, List, Option, Some, is_some}
+use Rattle.std.specs.Prelude.{◌≡◌, ℕ, Bool, false, true, not, List, [], ◌∷◌, Option, None, Some, is_some}
 use Rattle.sqlite.specs.Effect.{Database}
 use Rattle.sqlite_rules.specs.Lists.{Has}
 use Rattle.gaz_records.specs.declared.key.Key.{Key}
@@ -24,9 +24,22 @@ passages_of db c = passages_in (db.trees versions) c
 abbrev pub was_passed : Database → ℕ → Key → Bool
 was_passed db c k = has_passed (passages_of db c) (reached_in (db.trees receiveds) c) k
 
--- where it is known that a custodian passed no number on, the tables say of none that it was
-abbrev pub MayKnowNone : Bool → Database → ℕ → Type 0
-MayKnowNone none db c = none ≡ true → (p : PassageRow) → ¬ Has (passages_of db c) p
+-- one of a custodian's numbers was passed on
+abbrev pub is_any : List PassageRow → Bool
+is_any [] = false
+is_any (p ∷ rows) = true
+
+abbrev pub any_passed : Database → ℕ → Bool
+any_passed db c = is_any (passages_of db c)
+
+-- where the tables were asked whether one was, that is known
+abbrev pub MayKnow : Option Bool → Database → ℕ → Type 0
+MayKnow known db c = (any : Bool) → known ≡ Some any → any ≡ any_passed db c
+
+-- it is known that none was
+abbrev pub knows_none : Option Bool → Bool
+knows_none None = false
+knows_none (Some any) = not any
 
 -- the newest passage of a number, where it has one: it says what became of the number in the last
 -- view, it is there just where the key of its BLPU is used by it, and it is the current one

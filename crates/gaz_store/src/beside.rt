@@ -45,10 +45,10 @@ impl Judgement {
         ensures { AsksTables tables.old tables.new result
             (λ db b. Beside db self.now (λ w. b ≡ was_used w key.now)) }
     {
-        if !self.changes.is_touched(key) {
-            return tables.used(self.code, key, self.none_passed);
+        if self.changes.was_used(key) {
+            return Ok(true);
         }
-        Ok(self.changes.was_used(key))
+        tables.used(self.code, key, self.knows_none())
     }
 
     /// The keys of a BLPU's approved LPIs, in key order.
@@ -156,7 +156,7 @@ impl Judgement {
     {
         match self.changes.custody(uprn) {
             Some(custody) => Ok(Some(custody)),
-            None if self.none_passed => Ok(None),
+            None if self.knows_none() => Ok(None),
             None => tables.custody(self.code, uprn),
         }
     }

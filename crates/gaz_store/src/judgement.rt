@@ -1,5 +1,5 @@
 //! The judgement in progress of a store: a custodian, and the changes beside its tables.
-ghost use Rattle.std.specs.Prelude.{◌≡◌, true, false, IsSome, OnOk};
+ghost use Rattle.std.specs.Prelude.{◌≡◌, true, false, None, IsSome, OnErr, OnOk};
 ghost use Rattle.gaz_overlay.specs.Changes.{is_touched, no_changes};
 ghost use Rattle.gaz_records.specs.Items.{is_entry};
 ghost use Rattle.gaz_records.specs.Keys.{key_of};
@@ -7,7 +7,7 @@ ghost use Rattle.gaz_views.specs.Numbered.{as_blpu};
 ghost use Rattle.gaz_views.specs.View.{with_item, with_release, without_key};
 ghost use Rattle.gaz_store.specs.Asking.{AsksTables};
 ghost use Rattle.gaz_store.specs.Beside.{Turns, adopted};
-ghost use Rattle.gaz_store.specs.Passing.{IsToldSince, MayKnowNone};
+ghost use Rattle.gaz_store.specs.Passing.{IsToldSince, MayKnow, knows_none};
 
 use crate::tables::Tables;
 use gaz_ids::{Code, Hop, Uprn};
@@ -24,10 +24,8 @@ use std::alloc::Global;
 pub(crate) struct Judgement {
     pub(crate) code: Code,
     pub(crate) changes: Overlay,
-    /// Whether the tables were asked if one of the custodian's numbers was passed on.
-    asked: bool,
-    /// They were, and none was.
-    pub(crate) none_passed: bool,
+    /// Whether one of the custodian's numbers was passed on, once the tables were asked.
+    any_passed: Option<bool>,
 }
 
 impl Judgement {
@@ -35,34 +33,42 @@ impl Judgement {
     pub(crate) fn new(alloc: Global, seed: Seed, code: Code) -> Judgement
         ensures code { result.code ≡ code }
         ensures changes { result.changes ≡ no_changes }
-        ensures asked { result.asked ≡ false }
-        ensures none { result.none_passed ≡ false }
+        ensures known { result.any_passed ≡ None }
     {
         Judgement {
             code,
             changes: Overlay::new(alloc, seed),
-            asked: false,
-            none_passed: false,
+            any_passed: None,
         }
     }
 
-    // Asks the tables, once, whether one of the custodian's numbers was passed on.
-    fn ask_passed<S: Alter>(&mut self, tables: &mut Tables<S>) -> Result<(), ShelfFault>
+    /// Asks the tables, once, whether one of the custodian's numbers was passed on.
+    pub(crate) fn ask_passed<S: Alter>(&mut self, tables: &mut Tables<S>) -> Result<(), ShelfFault>
         ensures asks { AsksTables tables.old tables.new result
             (λ db _. Turns db self.old self.new (λ w. w)) }
         ensures code { self.new.code ≡ self.old.code }
         ensures changes { self.new.changes ≡ self.old.changes }
+        ensures err { OnErr result (self.new ≡ self.old) }
     {
-        if self.asked {
+        if self.any_passed.is_some() {
             return Ok(());
         }
-        match tables.none_passed(self.code) {
-            Ok(none) => {
-                self.asked = true;
-                self.none_passed = none;
+        match tables.any_passed(self.code) {
+            Ok(any) => {
+                self.any_passed = Some(any);
                 Ok(())
             }
             Err(fault) => Err(fault),
+        }
+    }
+
+    /// Whether it is known that none was.
+    pub(crate) fn knows_none(&self) -> bool
+        ensures { result ≡ knows_none self.now.any_passed }
+    {
+        match self.any_passed {
+            Some(any) => !any,
+            None => false,
         }
     }
 
@@ -74,8 +80,7 @@ impl Judgement {
         ensures touched { OnOk result (is_touched self.new.changes key.now ≡ true) }
         ensures code { self.new.code ≡ self.old.code }
     {
-        self.ask_passed(tables)?;
-        match tables.stood(self.code, key, self.none_passed) {
+        match tables.stood(self.code, key) {
             Ok((stood, item)) => match self.changes.touch(key, stood, item) {
                 Ok(()) => Ok(()),
                 Err(_) => Err(ShelfFault::Memory),
@@ -120,13 +125,13 @@ impl Judgement {
     // yet; what is answered otherwise is passed over.
     fn since<S: Alter>(&self, tables: &mut Tables<S>, uprn: Uprn) -> Result<Option<u64>, ShelfFault>
         ensures { AsksTables tables.old tables.new result
-            (λ db since. MayKnowNone self.now.none_passed db self.now.code
+            (λ db since. MayKnow self.now.any_passed db self.now.code
             → IsToldSince db self.now uprn since) }
     {
         if self.changes.is_passed(uprn) {
             return Ok(None);
         }
-        if self.none_passed {
+        if self.knows_none() {
             return Ok(None);
         }
         let passed = tables.passed(self.code, uprn)?;

@@ -1,5 +1,5 @@
 //! What stands at a key.
-ghost use Rattle.std.specs.Prelude.{◌≡◌, ◌≤◌, is_some};
+ghost use Rattle.std.specs.Prelude.{◌≡◌, true, false, ◌≤◌, is_some};
 ghost use Rattle.std.specs.FinMap as map;
 ghost use Rattle.gaz_cells.specs.Ids.{id_of, kind_in};
 ghost use Rattle.gaz_records.specs.Kinds.{number_of};
@@ -11,14 +11,14 @@ ghost use Rattle.gaz_kept.specs.Files.{reached_in};
 ghost use Rattle.gaz_kept.specs.LastViews.{last_in};
 ghost use Rattle.gaz_kept.specs.Newest.{IsNewest, IsNewestUntil, TellsStood};
 ghost use Rattle.gaz_kept.specs.Versions.{histories_in, view_in};
-ghost use Rattle.gaz_store.specs.Passing.{MayKnowNone, was_passed};
+ghost use Rattle.gaz_store.specs.Passing.{any_passed, was_passed};
 
 use crate::tables::Tables;
 use gaz_ids::{Code, LAST_VOLUME};
 use gaz_keeper::ShelfFault;
 use gaz_kept::decoding::{kind_in, name_of};
 use gaz_kept::newest::{Life, current_in, item_after, newest_said, stood_by};
-use gaz_kept::passages::{Passed, stood_with};
+use gaz_kept::passages::Passed;
 use gaz_overlay::Stood;
 use gaz_records::{Key, Kind, SharedItem};
 use gaz_tables::versions;
@@ -108,8 +108,8 @@ impl<S: Alter> Tables<S> {
     // The newest passage of the number whose BLPU has this key, which isn't asked for where it is
     // known that the custodian passed none on; of another kind of key there is none.
     fn passed_at(&mut self, code: Code, key: &Key, none: bool) -> Result<Option<Passed>, ShelfFault>
-        ensures { AsksTables self.old self.new result (λ db passed. MayKnowNone none db code
-            → is_some passed ≡ was_passed db code key.now) }
+        ensures { AsksTables self.old self.new result (λ db passed.
+            (none ≡ true → any_passed db code ≡ false) → is_some passed ≡ was_passed db code key.now) }
     {
         if none {
             return Ok(None);
@@ -123,8 +123,8 @@ impl<S: Alter> Tables<S> {
     /// Whether a key was used in a custodian's last view or before it; `none` where it is known that
     /// the custodian passed no number on.
     pub(crate) fn used(&mut self, code: Code, key: &Key, none: bool) -> Result<bool, ShelfFault>
-        ensures { AsksTables self.old self.new result (λ db b. MayKnowNone none db code
-            → b ≡ was_used (last_in db code) key.now) }
+        ensures { AsksTables self.old self.new result (λ db b.
+            (none ≡ true → any_passed db code ≡ false) → b ≡ was_used (last_in db code) key.now) }
     {
         let life = self.newest(code, key)?;
         if life.is_some() {
@@ -144,25 +144,17 @@ impl<S: Alter> Tables<S> {
         self.used(code, key, false)
     }
 
-    /// What the tables have at a key for an overlay that touches it, with the item of the current
-    /// row; `none` where it is known that the custodian passed no number on.
+    /// The newest row of a key for an overlay that touches it, with the item of the current one.
     pub(crate) fn stood(
         &mut self,
         code: Code,
         key: &Key,
-        none: bool,
     ) -> Result<(Stood, Option<SharedItem>), ShelfFault>
-        ensures { AsksTables self.old self.new result (λ db s. MayKnowNone none db code
-            → TellsStood (histories_in (db.trees versions) code) (last_in db code) key.now s.0 s.1) }
+        ensures { AsksTables self.old self.new result (λ db s.
+            TellsStood (histories_in (db.trees versions) code) (last_in db code) key.now s.0 s.1) }
     {
         let life = self.newest(code, key)?;
-        if life.is_some() {
-            return Ok((stood_by(&life), current_in(life)));
-        }
-        match self.passed_at(code, key, none) {
-            Ok(passed) => Ok((stood_with(&life, &passed), None)),
-            Err(fault) => Err(fault),
-        }
+        Ok((stood_by(&life), current_in(life)))
     }
 
     /// The item at a key after a volume, which is to be reached; after volume 0 there is none.

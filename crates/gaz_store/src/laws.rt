@@ -1,6 +1,7 @@
 //! What a reader of the definitions may rely on.
 ghost use Rattle.gaz_store.specs.WorkedGrowing.{WorkedGrowing};
 ghost use Rattle.gaz_store.specs.WorkedLives.{WorkedTelling};
+ghost use Rattle.gaz_store.specs.WorkedPassing.{WorkedPassing};
 
 /// What is told of a table's rows in turn, on worked examples.
 pub fn worked_telling()
@@ -10,4 +11,9 @@ pub fn worked_telling()
 /// What is told where a store's register grows, on worked examples.
 pub fn worked_growing()
     ensures { WorkedGrowing }
+{}
+
+/// What is known of numbers that were passed on, on worked examples.
+pub fn worked_passing()
+    ensures { WorkedPassing }
 {}

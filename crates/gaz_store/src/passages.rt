@@ -9,7 +9,7 @@ ghost use Rattle.gaz_kept.specs.Versions.{text_in};
 ghost use Rattle.gaz_loaded.specs.Passing.{AreToldBehind};
 ghost use Rattle.gaz_store.specs.Asking.{AsksTables};
 ghost use Rattle.gaz_store.specs.Passages.{IsBare, IsStartOf, SayPassages, custody_listed};
-ghost use Rattle.gaz_store.specs.Passing.{MayKnowNone, passages_of};
+ghost use Rattle.gaz_store.specs.Passing.{any_passed, passages_of};
 
 use crate::tables::Tables;
 use gaz_ids::{Code, Hop, LAST_VOLUME, Uprn};
@@ -143,11 +143,11 @@ impl<S: Alter> Tables<S> {
         }
     }
 
-    /// Whether it is known, after asking, that none of a custodian's numbers was passed on.
-    pub(crate) fn none_passed(&mut self, code: Code) -> Result<bool, ShelfFault>
-        ensures { AsksTables self.old self.new result (λ db none. MayKnowNone none db code) }
+    /// Whether one of a custodian's numbers was passed on.
+    pub(crate) fn any_passed(&mut self, code: Code) -> Result<bool, ShelfFault>
+        ensures { AsksTables self.old self.new result (λ db any. any ≡ any_passed db code) }
     {
         let rows = self.passage_rows(code, "", 0, 1)?;
-        Ok(rows.is_empty())
+        Ok(!rows.is_empty())
     }
 }

@@ -1,13 +1,18 @@
 //! Whether a judgement is in progress, and which.
-ghost use Rattle.std.specs.Prelude.{◌≡◌, IfNone, IfSome};
+ghost use Rattle.std.specs.Prelude.{◌≡◌, IfNone, IfSome, OnErr};
+ghost use Rattle.sqlite.specs.Effect.{Database};
+ghost use Rattle.gaz_views.specs.View.{custody_at, was_used};
 ghost use Rattle.gaz_views.specs.Words.{tied};
 ghost use Rattle.gaz_store.specs.Asking.{AsksTables};
-ghost use Rattle.gaz_store.specs.Store.{IsElsewhere, IsOfView, cleared};
+ghost use Rattle.gaz_store.specs.Store.{IsElsewhere, IsOfView, StandsBeside, cleared, progress_of};
+ghost use Rattle.gaz_store.specs.Store.{working_of};
 
 use crate::judgement::Judgement;
 use crate::tables::Tables;
 use gaz_ids::{Code, Uprn};
 use gaz_keeper::ShelfFault;
+use gaz_records::Key;
+use gaz_views::Custody;
 use sqlite::Alter;
 
 /// The judgement in progress of a store.
@@ -38,6 +43,62 @@ impl Judging {
         match self {
             Judging::Open(judgement) if judgement.code == code => Some(judgement),
             _ => None,
+        }
+    }
+
+    /// Where this custodian's volume is judged and the key is that of a BLPU: asks the tables, once
+    /// a judgement, whether one of the custodian's numbers was passed on.
+    pub(crate) fn ask_passed<S: Alter>(
+        &mut self,
+        tables: &mut Tables<S>,
+        code: Code,
+        key: &Key,
+    ) -> Result<(), ShelfFault>
+        ensures asks { AsksTables tables.old tables.new result
+            (λ db _. StandsBeside db self.old → StandsBeside db self.new) }
+        ensures progress { progress_of self.new ≡ progress_of self.old }
+        ensures working { (db : Database) → working_of db self.new ≡ working_of db self.old }
+        ensures err { OnErr result (self.new ≡ self.old) }
+    {
+        match self {
+            Judging::Open(judgement) if judgement.code == code && matches!(key, Key::Blpu(_)) => {
+                judgement.ask_passed(tables)
+            }
+            _ => Ok(()),
+        }
+    }
+
+    /// Whether a key was ever used in the working view, where this custodian's volume is judged,
+    /// else in its last one.
+    pub(crate) fn was_used<S: Alter>(
+        &self,
+        tables: &mut Tables<S>,
+        code: Code,
+        key: &Key,
+    ) -> Result<bool, ShelfFault>
+        ensures { AsksTables tables.old tables.new result
+            (λ db b. IsOfView db self.now code (λ v. b ≡ was_used v key.now)) }
+    {
+        match self {
+            Judging::Open(judgement) if judgement.code == code => judgement.was_used(tables, key),
+            _ => tables.was_used(code, key),
+        }
+    }
+
+    /// What last became of a number in the working view, where this custodian's volume is judged,
+    /// else in its last one.
+    pub(crate) fn custody<S: Alter>(
+        &self,
+        tables: &mut Tables<S>,
+        code: Code,
+        uprn: Uprn,
+    ) -> Result<Option<Custody>, ShelfFault>
+        ensures { AsksTables tables.old tables.new result
+            (λ db x. IsOfView db self.now code (λ v. x ≡ custody_at v uprn)) }
+    {
+        match self {
+            Judging::Open(judgement) if judgement.code == code => judgement.custody(tables, uprn),
+            _ => tables.custody(code, uprn),
         }
     }
 

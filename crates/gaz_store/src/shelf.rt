@@ -41,9 +41,9 @@ impl<S: Alter, R: OfRegister> Shelf for Store<S, R> {
 
     fn ever(&mut self, code: Code, key: &Key) -> Result<bool, ShelfFault> {
         self.judging.clear();
-        match self.judging.of(code) {
-            Some(judgement) => judgement.was_used(&mut self.tables, key),
-            None => self.tables.was_used(code, key),
+        match self.judging.ask_passed(&mut self.tables, code, key) {
+            Ok(()) => self.judging.was_used(&mut self.tables, code, key),
+            Err(fault) => Err(fault),
         }
     }
 
@@ -86,9 +86,12 @@ impl<S: Alter, R: OfRegister> Shelf for Store<S, R> {
 
     fn custody(&mut self, code: Code, uprn: Uprn) -> Result<Option<Custody>, ShelfFault> {
         self.judging.clear();
-        match self.judging.of(code) {
-            Some(judgement) => judgement.custody(&mut self.tables, uprn),
-            None => self.tables.custody(code, uprn),
+        match self
+            .judging
+            .ask_passed(&mut self.tables, code, &Key::Blpu(uprn))
+        {
+            Ok(()) => self.judging.custody(&mut self.tables, code, uprn),
+            Err(fault) => Err(fault),
         }
     }
 

@@ -15,7 +15,7 @@ returns-in-Ok-adopt-clause-asks g c =
     let turns = subst (λ r. IfOk r (λ _. Turns db c.args.self.now j (λ w. w))) c.in_ok-touch.was was in
     subst (λ ch. Makes db (with_changes j ch) (adopted w c.args.blpu c.args.from c.args.hop)) (sym c.in-Ok-adopt.ensures.ok)
     (adopted_turns db j c.args.blpu c.args.from c.args.hop c.in-Blpu.uprn c.in-Ok.since c.requires (sym own ∙ c.in-Blpu.is)
-    (subst (λ k. is_touched j.changes k ≡ true) (sym c.in-Blpu.is ∙ own) c.in_ok-touch.ensures.touched) (told (turns w makes).none) w (turns w makes)))
+    (subst (λ k. is_touched j.changes k ≡ true) (sym c.in-Blpu.is ∙ own) c.in_ok-touch.ensures.touched) (told (turns w makes).known) w (turns w makes)))
 
 pub returns-in-Err-adopt-clause-asks : goal.returns-in-Err-adopt-clause-asks
 returns-in-Err-adopt-clause-asks g c = asked_want _ _ _ _ _ _ _ _ c.touch.ensures.asks c.since.ensures

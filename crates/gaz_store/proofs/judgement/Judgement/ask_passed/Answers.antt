@@ -1,10 +1,17 @@
+use Rattle.std.proofs.Common.{◌∙◌, sym}
+use Rattle.std.specs.Prelude.{Some}
 use Rattle.gaz_store.proofs.Answered.{answered_ok}
 use Rattle.gaz_store.proofs.Composing.{asked_nothing}
 use Rattle.gaz_store.proofs.judgement.Judgement.ask_passed.Goals as goal
 
-pub returns-then-self-clause-asks : goal.returns-then-self-clause-asks
-returns-then-self-clause-asks g c = asked_nothing _ _ _ (λ db kept w makes. makes)
+pub returns-then-is_some-clause-asks : goal.returns-then-is_some-clause-asks
+returns-then-is_some-clause-asks g c = asked_nothing _ _ _ (λ db kept w makes. makes)
 
 pub returns-in-Ok-clause-asks : goal.returns-in-Ok-clause-asks
 returns-in-Ok-clause-asks g c =
-    answered_ok _ _ _ c.in-Ok.none _ _ _ c.none_passed.ensures c.in-Ok.is (λ db kept known w makes. record { made = makes.made; told = makes.told; passed = makes.passed; none = known })
+    answered_ok _ _ _ c.in-Ok.any _ _ _ c.any_passed.ensures c.in-Ok.is (λ db kept so w makes. record {
+      made = makes.made;
+      told = makes.told;
+      passed = makes.passed;
+      known = λ b is. (cc) ∙ so;
+    })

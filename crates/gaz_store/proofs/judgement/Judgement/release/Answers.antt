@@ -12,7 +12,7 @@ returns-in-Ok-release-clause-asks g c =
     asked_step _ _ _ _ c.since.result c.in-Ok.since _ _ _ _ c.touch.ensures.asks c.since.ensures c.in-Ok.is (λ db kept was told w makes.
     let turns = subst (λ r. IfOk r (λ _. Turns db c.args.self.now j (λ w. w))) c.in_ok-touch.was was in
     subst (λ ch. Makes db (with_changes j ch) (with_release w c.args.uprn c.args.to c.args.hop)) (sym c.in-Ok-release.ensures.ok)
-    (released_turns db j c.args.uprn c.in-Ok.since (told (turns w makes).none) c.args.to c.args.hop c.in_ok-touch.ensures.touched w (turns w makes)))
+    (released_turns db j c.args.uprn c.in-Ok.since (told (turns w makes).known) c.args.to c.args.hop c.in_ok-touch.ensures.touched w (turns w makes)))
 
 pub returns-in-Err-release-clause-asks : goal.returns-in-Err-release-clause-asks
 returns-in-Err-release-clause-asks g c = asked_want _ _ _ _ _ _ _ _ c.touch.ensures.asks c.since.ensures

@@ -6,7 +6,7 @@ use Rattle.gaz_store.proofs.Passed.{none_used, not_of_number}
 use Rattle.gaz_store.proofs.tables.Tables.passed_at.Goals as goal
 
 pub returns-then-none : goal.returns-then-none
-returns-then-none g c = asked_nothing _ _ _ (λ db kept known. none_used db kept c.args.code (known c.if-none.true) c.args.key.now)
+returns-then-none g c = asked_nothing _ _ _ (λ db kept none. none_used db kept c.args.code (none c.if-none.true) c.args.key.now)
 
 pub returns-in-Blpu : goal.returns-in-Blpu
 returns-in-Blpu g c = asked_as _ _ _ _ _ c.passed.ensures (λ db kept passed tells known. tells.used ∙ ap (was_passed db c.args.code) (sym c.in-Blpu.is))

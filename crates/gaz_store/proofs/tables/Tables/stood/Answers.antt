@@ -1,26 +1,18 @@
-use Rattle.std.proofs.Common.{◌∙◌, IfOk, subst, sym}
-use Rattle.std.specs.Prelude.{None}
+use Rattle.std.proofs.Common.{subst, sym}
 use Rattle.gaz_tables.specs.Schema.{versions}
 use Rattle.gaz_kept.specs.LastViews.{last_in}
-use Rattle.gaz_kept.specs.Newest.{IsNewest, TellsStood, current_in}
+use Rattle.gaz_kept.specs.Newest.{TellsStood, current_in}
 use Rattle.gaz_kept.specs.Versions.{histories_in}
-use Rattle.gaz_store.proofs.Answered.{answered_ok, asked_fault, asked_step}
-use Rattle.gaz_store.proofs.Passed.{stood_by_life, stood_by_passage}
+use Rattle.gaz_store.proofs.Answered.{answered_ok}
+use Rattle.gaz_store.proofs.Passed.{stood_told}
 use Rattle.gaz_store.proofs.tables.Tables.stood.Goals as goal
 
-pub returns-then-is_some : goal.returns-then-is_some
-returns-then-is_some g c =
-    answered_ok _ _ _ c.in_ok-life.life _ _ _ c.newest.ensures c.in_ok-life.was (λ db kept newest known.
-    subst (λ i. TellsStood (histories_in (db.trees versions) c.args.code) (last_in db c.args.code) c.args.key.now c.stood_by.result i) (sym c.current_in.ensures)
-    (subst (λ s. TellsStood (histories_in (db.trees versions) c.args.code) (last_in db c.args.code) c.args.key.now s (current_in c.in_ok-life.life)) (sym c.stood_by.ensures)
-    (stood_by_life db c.args.code c.args.key.now c.in_ok-life.life kept newest (sym c.is_some.ensures ∙ c.if-is_some.true))))
-
-pub returns-in-Ok : goal.returns-in-Ok
-returns-in-Ok g c =
-    asked_step _ _ _ _ c.passed_at.result c.in-Ok.passed _ _ _ _ c.newest.ensures c.passed_at.ensures c.in-Ok.is (λ db kept was passed known.
-    let newest = subst (λ r. IfOk r (IsNewest (histories_in (db.trees versions) c.args.code) c.args.key.now)) c.in_ok-life.was was in
-    subst (λ s. TellsStood (histories_in (db.trees versions) c.args.code) (last_in db c.args.code) c.args.key.now s None) (sym c.stood_with.ensures)
-    (stood_by_passage db c.args.code c.args.key.now c.in_ok-life.life kept newest (sym c.is_some.ensures ∙ c.if-is_some.false) c.in-Ok.passed (passed known)))
-
 pub returns : goal.returns
-returns g c = asked_fault _ _ _ _ _ c.in-Err.fault _ _ _ c.newest.ensures c.passed_at.ensures c.in-Err.is
+returns g c =
+    let life = c.in_ok-life.life in
+    answered_ok _ _ _ life _ _ _ c.newest.ensures c.in_ok-life.was (λ db kept newest.
+    let rows = histories_in (db.trees versions) c.args.code in
+    let last = last_in db c.args.code in
+    subst (λ i. TellsStood rows last c.args.key.now c.stood_by.result i) (sym c.current_in.ensures)
+    (subst (λ s. TellsStood rows last c.args.key.now s (current_in life)) (sym c.stood_by.ensures)
+    (stood_told db c.args.code c.args.key.now life kept newest)))

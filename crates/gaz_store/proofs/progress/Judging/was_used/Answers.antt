@@ -1,0 +1,11 @@
+use Rattle.std.proofs.Common.{◌≡◌, rules, subst, sym}
+use Rattle.gaz_views.specs.View.{was_used}
+use Rattle.gaz_store.specs.Store.{IsOfView}
+use Rattle.gaz_store.proofs.Answered.{asked_as}
+use Rattle.gaz_store.proofs.progress.Judging.was_used.Goals as goal
+
+pub returns-in-Open : goal.returns-in-Open
+returns-in-Open g c =
+    let own : c.in-Open.judgement.code ≡ c.args.code = search rules in
+    asked_as _ _ _ _ _ c.was_used.ensures (λ db kept b beside.
+    subst (λ j. IsOfView db j c.args.code (λ v. b ≡ was_used v c.args.key.now)) (sym c.in-Open.is) (λ same. beside, λ other. absurd (other own)))
