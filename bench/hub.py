@@ -5,8 +5,8 @@ import io
 import json
 import sys
 
-from baseline import MOST, head_of, header_fault, is_closing, length_of, number
-from items import KINDS, PASSING, Fault
+from framing import MOST, head_of, is_closing, length_of, number
+from items import KINDS, PASSING, Fault, day
 
 REGISTER = {
     1001: ([(1, 99_999), (999_999_999_000, 999_999_999_999)], [(100, 199), (99_999_999, 99_999_999)]),
@@ -22,6 +22,23 @@ KEY_WIDTH = {"11": 1, "15": 2, "21": 1, "23": 1, "24": 1}
 
 
 # ---- reading
+
+
+def is_day(text):
+    try:
+        return bool(day(text, 0))
+    except Fault:
+        return False
+
+
+def header_fault(row, code, volume):
+    """The rule that a file's first record breaks, or None."""
+    if len(row) != 5 or row[0] != "10" or number(row[1], 4, 1, 9999) not in PROFILES or not is_day(row[4]):
+        return 2
+    named = number(row[2], 4, 1, 9999), number(row[3], 6, 1, 999_999)
+    if None in named:
+        return 2
+    return None if named == (code, volume) else 3
 
 
 def basis_fault(row, code, bases, changes):
@@ -61,7 +78,7 @@ def read(data, code, volume):
     except UnicodeDecodeError:
         return 1, 1
     header = next(rows, None)
-    rule = 1 if header is None else header_fault(header, code, volume, PROFILES)
+    rule = 1 if header is None else header_fault(header, code, volume)
     if rule:
         return 1, rule
     readers = READERS_OF[int(header[1])]

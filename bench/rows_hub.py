@@ -1,16 +1,13 @@
 """What the hub costs by `gazhub play`, and over the keeper in memory, beside Python: posts and repeats, many files, look-ups, extracts and closed streets."""
-import sys
-
 import streams
-from measure import ROUNDS, TOP, Talk, in_file, run_in_turn
+from measure import ROUNDS, Talk, in_file, run_in_turn
 from sides import Place, begun, behind, over_sqlite, plain, played, with_memory
 
 
 def stream_rows(place, title, pair, body, count):
     path = in_file(place.folder, "stream", streams.post(pair, body) * count)
-    baseline = [sys.executable, f"{TOP}/bench/baseline.py", "stream"]
-    (ours, memory, theirs), _ = run_in_turn((played(), place.in_memory(), baseline), path)
-    yield from with_memory(title, ours, memory, lambda took: (f"{theirs / took:.1f} times the baseline", f"{count / took:,.0f} requests/s"))
+    (ours, memory, theirs), _ = run_in_turn((played(), place.in_memory(), plain()), path)
+    yield from with_memory(title, ours, memory, lambda took: (f"{theirs / took:.1f} times the plain hub", f"{count / took:,.0f} requests/s"))
 
 
 def file_rows(place, volumes=20):

@@ -1,5 +1,4 @@
 """What reading costs: change files, registers, items; and what a hostile file costs."""
-import baseline
 import hub
 import items
 import registers
@@ -21,11 +20,11 @@ def reading_seconds(what, folder, data, rounds):
     return int(output_of("gaz_bench", what, in_file(folder, "read", data), rounds)) / 1e6
 
 
-def file_row(folder, title, data, read):
+def file_row(folder, title, data):
     ours = reading_seconds("file", folder, data, 100)
-    theirs, told = least_seconds(lambda: read(data, 1001, 1), 20)
-    assert not isinstance(told, tuple) or isinstance(told[0], list), f"the baseline finds a fault: {title}"
-    return f"reading a file of {title}", f"{theirs / ours:.1f} times the baseline", f"{len(data) / ours / 1e6:,.0f} MB/s"
+    theirs, told = least_seconds(lambda: hub.read(data, 1001, 1), 20)
+    assert isinstance(told[0], list), f"the plain hub finds a fault: {title}"
+    return f"reading a file of {title}", f"{theirs / ours:.1f} times the plain hub", f"{len(data) / ours / 1e6:,.0f} MB/s"
 
 
 def peaks_over(folder, *bodies):
@@ -78,8 +77,8 @@ def item_rows(folder, kind, count=5000):
 
 
 def rows(folder):
-    yield file_row(folder, "5,000 streets", streams.streets_file(5000), baseline.read)
-    yield file_row(folder, "5,000 mixed changes", streams.mixed_file(), hub.read)
+    yield file_row(folder, "5,000 streets", streams.streets_file(5000))
+    yield file_row(folder, "5,000 mixed changes", streams.mixed_file())
     yield from hostile_rows(folder)
     yield from memory_rows(folder)
     yield register_row(folder)
