@@ -3,11 +3,38 @@
 import os
 import threading
 import time
-from concurrent.futures import Future, ThreadPoolExecutor
+from concurrent.futures import FIRST_COMPLETED, Future, ThreadPoolExecutor, wait
 from pathlib import Path
 from typing import Callable
 
 TICK = os.sysconf("SC_CLK_TCK")
+
+
+def free() -> int:
+    """The bytes of memory that are free."""
+    words = Path("/proc/meminfo").read_text().partition("MemAvailable:")[2].split()
+    return int(words[0]) * 1024
+
+
+def processors() -> int:
+    """How many pieces of work there may be at a time: RT_JOBS, or one a processor."""
+    number = os.environ.get("RT_JOBS", "")
+    return int(number) if number.isdigit() and int(number) else len(os.sched_getaffinity(0))
+
+
+def side_by_side(pieces: list, need: Callable, memory: int, work: Callable) -> None:
+    """Does all these pieces of work, as many at a time as there are processors and as fit into nearly all of this memory."""
+    left, running, most = [*pieces], {}, processors()
+    with ThreadPoolExecutor(most) as pool:
+        while left or running:
+            for piece in [*left]:
+                room = 0.85 * memory - sum(running.values())
+                if len(running) < most and (not running or need(piece) <= room):
+                    left.remove(piece)
+                    running[pool.submit(work, piece)] = need(piece)
+            for it in wait(running, return_when=FIRST_COMPLETED).done:
+                del running[it]
+                it.result()
 
 
 class Idle:

@@ -12,7 +12,7 @@ from pathlib import Path
 from typing import Callable
 
 from checks import kit, measure, outside, pages, refused, stores, trying
-from checks.beside import Beside
+from checks.beside import Beside, free, side_by_side
 from checks.refused import Refused
 
 SAYING = threading.Lock()
@@ -183,15 +183,11 @@ class Edits:
 
     def try_all(self, crates: list) -> None:
         """Tries those of these crates side by side."""
-        rt = kit.load()
-        lines = {it.name: it.count(rb"\n") for it in crates}
-        tasks = {it.name: ([], lines[it.name], rt.need(it), lambda given, jobs, it=it: self.try_crate(it)) for it in crates}
-        rt.in_lanes(tasks)
+        side_by_side(sorted(crates, key=lambda it: -it.lines(".rt")), lambda it: it.need(), free(), self.try_crate)
 
     def beside(self, crates: list, proved: set[str]) -> Beside:
         """Tries those of each crate that is proved beside other work, in what that leaves idle."""
-        rt = kit.load()
-        return Beside(crates, lambda it: it.name in proved, lambda it: rt.need(it) + SPARE < rt.free(), self.try_crate)
+        return Beside(crates, lambda it: it.name in proved, lambda it: it.need() + SPARE < free(), self.try_crate)
 
 
 def close(names: list[str], account: Account, clock: measure.Clock) -> int:
@@ -250,11 +246,10 @@ def kept_of(crate, kept: Path) -> None:
 
 
 def build_below(crates: list) -> None:
-    """Builds the libraries that these crates stand on, where they have changed."""
-    for crate in crates:
-        for below in crate.below():
-            if below.build_rlib(["--jobs", "2"], anew=False):
-                raise Usage(f"{below.name}, below {crate.name}, isn't proved")
+    """Builds the libraries that these crates stand on, where they have changed: a check does, before it looks at no function."""
+    for crate in (it for it in crates if it.named):
+        if measure.run(["rt", "check", "--only", ""], Path(crate.folder)).status != 0:
+            raise Usage(f"{crate.name} can't be read, or what it stands on isn't proved")
 
 
 def prove_one(crate, account: Account) -> None:

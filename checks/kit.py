@@ -1,62 +1,102 @@
-"""What the kit's own `rt` knows of a repository: its crates, the words of a check, how many checks fit beside each other."""
+"""What the gate asks of the kit by what anybody may: where it lies (`rt doc`), its version, and the words of a check by `rattle`, for the crates that crates.txt names."""
 
-import importlib.machinery
-import importlib.util
-import os
+import functools
+import re
 import shutil
-import sys
+import subprocess
+from dataclasses import dataclass
 from pathlib import Path
-from types import ModuleType
+
+TEST = re.compile(r"^\s*#\[test\]", re.M)
 
 
 class NoKit(Exception):
     """There is no `rt` on the path."""
 
 
-def _loaded(name: str, path: str) -> ModuleType:
-    loader = importlib.machinery.SourceFileLoader(name, path)
-    made = importlib.util.module_from_spec(importlib.util.spec_from_loader(name, loader))
-    loader.exec_module(made)
-    return made
+def said_by(word: str) -> str:
+    """What `rt` says to a word."""
+    if shutil.which("rt") is None or shutil.which("rattle") is None:
+        raise NoKit("there is no rt on the path: it comes with the kit that the README names")
+    return subprocess.run(["rt", word], capture_output=True, text=True, check=True).stdout.strip()
 
 
-def load() -> ModuleType:
-    """The kit's `rt` as a module. Only what it says of crates, edits and lanes is used, so that both read them alike."""
-    if "kit_rt" not in sys.modules:
-        program = shutil.which("rt")
-        if program is None:
-            raise NoKit("there is no rt on the path: it comes with the kit that the README names")
-        sys.dont_write_bytecode = True
-        sys.modules["kit_rt"] = _loaded("kit_rt", os.path.realpath(program))
-    return sys.modules["kit_rt"]
+@functools.cache
+def folder() -> Path:
+    """The kit's folder, in which the page stands that is to be read first."""
+    return Path(said_by("doc")).parent
 
 
-def crates(root: Path) -> list:
+@functools.cache
+def version() -> str:
+    return said_by("version")
+
+
+@dataclass(eq=False)
+class Crate:
+    """A crate of the repository, the crates of it that it names, and the kit's libraries that it names."""
+
+    name: str
+    folder: str
+    named: list["Crate"]
+    of_kit: list[str]
+
+    def below(self) -> list["Crate"]:
+        """All that it stands on, each once, behind those that it stands on."""
+        found: list[Crate] = []
+        for it in self.named:
+            found += [lower for lower in (*it.below(), it) if lower not in found]
+        return found
+
+    def files(self) -> list[Path]:
+        """What a check of it reads."""
+        parts = (Path(self.folder) / part for part in ("src", "specs", "proofs"))
+        return sorted(it for part in parts for it in part.rglob("*") if it.is_file())
+
+    def lines(self, suffix: str) -> int:
+        return sum(it.read_bytes().count(b"\n") for it in self.files() if it.suffix == suffix)
+
+    def root(self) -> str:
+        """The file that its others belong to."""
+        return "src/main.rt" if (Path(self.folder) / "src" / "main.rt").is_file() else "src/lib.rt"
+
+    def rlib(self) -> str:
+        """Where its library stands once it is built."""
+        return f"{self.folder}/out/rlib/{self.name}.rlib"
+
+    def has_tests(self) -> bool:
+        return any(TEST.search(it.read_text(encoding="utf-8")) for it in self.files() if it.suffix == ".rt")
+
+    def need(self) -> int:
+        """The bytes of memory that a check of it is likely to take, as measured: what it reads of libraries, and what it makes of its own lines."""
+        below = sum(it.lines(".rt") for it in self.below())
+        return 3_000_000_000 + 1_000_000 * self.lines(".rt") + 200_000 * self.lines(".antt") + 80_000 * below
+
+
+def crates(root: Path) -> list[Crate]:
     """The repository's crates, each after those that it stands on."""
-    # (the kit's functions for one crate ask for the folder that they work in)
-    before = os.getcwd()
-    os.chdir(root)
-    try:
-        found = load().rtlib.crates_below(str(root))
-    finally:
-        os.chdir(before)
-    return sorted(found, key=lambda crate: len(crate.below()))
+    said = [it.partition(":") for it in (root / "crates.txt").read_text().split("\n") if it and not it.startswith("#")]
+    found = {name: Crate(name, str(root / "crates" / name), [], []) for name, _, _ in said}
+    for name, _, words in said:
+        found[name].named = [found[it] for it in words.split() if it in found]
+        found[name].of_kit = ["std", *(it for it in words.split() if it not in found)]
+    return sorted(found.values(), key=lambda it: len(it.below()))
 
 
-def check_words(crate, only: list[str], kept: Path | None) -> list[str]:
+def check_words(crate: Crate, only: list[str], kept: Path | None) -> list[str]:
     """The command that checks a crate, from nothing or over what `kept` holds: the whole crate, or only the functions that `only` names, past holes."""
-    rt = load()
-    words = [rt.rtlib.RATTLE, "check", *crate.words(["--jobs", "1"], keeps=False)]
+    libraries = folder() / "rlibs"
+    words = ["rattle", "check", "--crate-name", crate.name, crate.root()]
+    for name in crate.of_kit:
+        words += ["--extern", f"{name}={libraries / name}.rlib"]
+    words += ["-L", f"dependency={libraries}"]
+    for it in crate.named:
+        words += ["--extern", f"{it.name}={it.rlib()}"]
+    for it in crate.below():
+        words += ["-L", f"dependency={Path(it.rlib()).parent}"]
+    words += ["--antt-project", str(folder() / "rattle" / "logic" / "antt-project.json"), "--logic-built", str(folder() / "logic_built")]
+    words += ["--links", f"{crate.name}=", "--jobs", "1"]
     words += ["--allow-holes"] if only else []
     for path in only:
         words += ["--only", path]
     return words if kept is None else [*words, "--incremental", str(kept)]
-
-
-def is_unreadable(line: str, changed: list[str]) -> bool:
-    """Whether a line says that a text can't be read, or that a name in it is gone."""
-    return bool(load().unread(line, changed))
-
-
-def version() -> str:
-    return (Path(load().KIT) / "KIT-ID").read_text().strip()

@@ -11,7 +11,7 @@ class NoLibrary(Exception):
 
 def library(source: Path, folder: Path) -> Path:
     """Builds such a library, by the kit's compiler."""
-    tools, built = Path(kit.load().KIT) / "toolchain" / "bin", folder / f"{source.stem}.so"
+    tools, built = kit.folder() / "toolchain" / "bin", folder / f"{source.stem}.so"
     words = [tools / "clang", "--target=x86_64-unknown-linux-gnu", f"--ld-path={tools / 'ld.lld'}"]
     ran = measure.run([*map(str, words), "-O2", "-fPIC", "-shared", "-nostdlib", "-o", str(built), str(source)], folder)
     if ran.status != 0:

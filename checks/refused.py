@@ -12,15 +12,21 @@ TRYING = ("edits.py", "holes.py", "kit.py", "measure.py", "refused.py", "source.
 
 
 def store() -> Path:
-    """Beside what the kit keeps on this machine."""
-    return Path(kit.load().STORE).parent / "gomsverk-edits"
+    """Beside the kit, so that it lasts as long as the machine."""
+    return kit.folder().parent / "gomsverk-edits"
+
+
+def texts_of(crate) -> list[tuple[str, bytes]]:
+    """The files of a crate, by their paths in it."""
+    return [(str(it.relative_to(crate.folder)), it.read_bytes()) for it in crate.files()]
 
 
 def key_of(crate, edits: Path) -> str:
     """The checksum of a crate, of those below it, of its edits and of what tries them."""
+    texts = [(it.name, it.of_kit, [lower.name for lower in it.named], texts_of(it)) for it in (*crate.below(), crate)]
     found = sorted((it.name, it.read_bytes()) for it in edits.glob("*.edit"))
     ours = [(name, (Path(__file__).parent / name).read_bytes()) for name in TRYING]
-    return hashlib.sha256(repr((kit.version(), kit.load().stamp_of(crate, {}), found, ours)).encode()).hexdigest()
+    return hashlib.sha256(repr((kit.version(), texts, found, ours)).encode()).hexdigest()
 
 
 @dataclass(frozen=True)

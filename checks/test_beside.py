@@ -1,8 +1,9 @@
 """Work beside other work: what may begin is begun where there is room, the rest is left, and what fails is told."""
 
+import threading
 import unittest
 
-from checks.beside import Beside, Idle
+from checks.beside import Beside, Idle, side_by_side
 from checks.test_gate import wait_for
 
 
@@ -55,3 +56,30 @@ class WorkBeside(unittest.TestCase):
         idle = Idle()
         wait_for(lambda: False, 0.1)
         self.assertTrue(0 <= idle.processors() < 10_000)
+
+
+class SideBySide(unittest.TestCase):
+    def test_all_is_done_and_no_more_at_a_time_than_memory_holds(self):
+        lock, now, most, done = threading.Lock(), [0], [0], []
+
+        def work(piece: int) -> None:
+            with lock:
+                now[0] += piece
+                most[0] = max(most[0], now[0])
+            threading.Event().wait(0.02)
+            with lock:
+                now[0] -= piece
+                done.append(piece)
+
+        side_by_side([8, 4, 4, 3, 1], lambda piece: piece, 10, work)
+        self.assertEqual([1, 3, 4, 4, 8], sorted(done))
+        self.assertLessEqual(most[0], 8.5)
+
+    def test_what_no_memory_holds_is_done_alone(self):
+        done = []
+        side_by_side(["large"], lambda piece: 20, 10, done.append)
+        self.assertEqual(["large"], done)
+
+    def test_what_fails_is_told(self):
+        with self.assertRaises(ZeroDivisionError):
+            side_by_side([0], lambda piece: 1, 10, lambda piece: 1 // piece)

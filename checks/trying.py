@@ -17,6 +17,10 @@ PLACE = re.compile(r"(?:note: )?(?:\./)?(\S+?):(\d+):\d+: (.*)")
 # (a proof that names what an edit took away, and what cites that proof, says little of a contract)
 GONE = re.compile(r"has no field|is not in scope|has no `|was not admitted")
 IS_FAULT = re.compile(r"error\b|it is not proved that|`search` found no proof")
+# An error of a declaration names it, and is of what it says, unless it says that it can't be read.
+ERROR = re.compile(r"error: (?:(`[^`]*`): )?(.*)")
+NAMED = re.compile(r"`[^`]*`")
+UNREAD = re.compile(r"is not in scope|has no field|is no name|operand is missing|expected the end|cannot continue")
 
 
 @dataclass(frozen=True)
@@ -96,6 +100,12 @@ def put(file: Path, text: str | None) -> None:
         file.write_text(text, encoding="utf-8")
 
 
+def is_unread(said: str) -> bool:
+    """Whether an error says that a text can't be read, or that a name in it is gone."""
+    error = ERROR.match(said)
+    return bool(error) and (error[1] is None or bool(UNREAD.search(NAMED.sub("", error[2]))))
+
+
 def faults_in(text: str, changed: list[str]) -> list[Fault]:
     """The places that the prover named as faulty."""
     found = []
@@ -103,7 +113,7 @@ def faults_in(text: str, changed: list[str]) -> list[Fault]:
         at = PLACE.match(line)
         if at and IS_FAULT.match(at[3]):
             # (an error with its name in brackets comes before any proof)
-            is_unreadable = at[3].startswith("error[") or kit.is_unreadable(line, changed)
+            is_unreadable = at[3].startswith("error[") or (at[1] in changed or at[1].startswith(("src/", "specs/"))) and is_unread(at[3])
             found.append(Fault(at[1], int(at[2]), at[3], is_unreadable))
     return found
 
