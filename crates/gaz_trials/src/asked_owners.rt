@@ -3,6 +3,7 @@ use crate::items::uprn_of;
 use crate::resting::{Resting, counting_hub};
 use crate::wanted::holds;
 use gaz_hub::{Answer, Outcome};
+use gaz_keeper::Inbox;
 use gaz_register::Register;
 use gaz_samples::REGISTER;
 use gaz_shelf::{Faulty, MemShelf};
@@ -31,12 +32,24 @@ const NUMBERS: &[(u64, Option<u64>, u64)] = &[
     (300_000, None, 0),
 ];
 
+// How many were asked.
+fn asked(hub: &Resting<Faulty<MemShelf>>) -> u64 {
+    hub.shelf().counted().property_of
+}
+
+// Whose a number is found to be.
+fn owner<K: Inbox + Drop>(hub: &mut Resting<K>, uprn: u64) -> Result<Option<u64>, Fail> {
+    match hub.lookup(uprn_of(uprn)?)? {
+        Some(found) => Ok(Some(found.custodian.number())),
+        None => Ok(None),
+    }
+}
+
 // Looks a number up on a settled board: whose it is found to be, and how many are asked.
 fn found(hub: &mut Resting<Faulty<MemShelf>>, uprn: u64) -> Result<(Option<u64>, u64), Fail> {
-    let before = hub.shelf().counted().property_of;
-    let found = hub.lookup(uprn_of(uprn)?)?;
-    let asked = hub.shelf().counted().property_of.saturating_sub(before);
-    Ok((found.map(|found| found.custodian.number()), asked))
+    let before = asked(hub);
+    let owner = owner(hub, uprn)?;
+    Ok((owner, asked(hub).saturating_sub(before)))
 }
 
 #[test]

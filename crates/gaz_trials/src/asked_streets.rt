@@ -1,19 +1,17 @@
-//! How often a keeper is asked for closed streets and for a property, by one that counts.
-use crate::items::{Row, custodian, item, uprn_of, volume, writes};
+//! How often a keeper is asked for closed streets, by one that counts.
+use crate::items::{Row, custodian, item, volume, writes};
 use crate::keepers::refusal::Refusal;
-use crate::keepers::tried::{Tried, counting_shelf};
-use crate::wanted::{counts, holds};
+use crate::keepers::tried::{Tried, counting_shelf, looked_up};
+use crate::wanted::holds;
 use gaz_keeper::Inbox;
 use gaz_records::{Kind, SharedItem};
 use gaz_register::Register;
 use gaz_samples::REGISTER;
-use gaz_shelf::{Ending, Faulty, MemShelf};
+use gaz_shelf::Ending;
 use std::alloc::Global;
 use std::test::Fail;
 
 const SHUT: Row = (Kind::Street, "150,1,1990-01-01,2024-04-30");
-
-const HOUSE: Row = (Kind::Blpu, "100001,1,455000,255000,,,2020-01-01,");
 
 // A hundred approved addresses on the street that shut.
 fn addresses(alloc: Global) -> Result<Vec<SharedItem>, Refusal> {
@@ -47,18 +45,32 @@ const CASES: &[Case] = &[
     (&[(1001, 2), (1002, 1), (1003, 1)], 200, 5),
 ];
 
-// How many are listed, and how often an item is looked up for it.
-fn listed(alloc: Global, volumes: &[(u64, u64)]) -> Result<(usize, u64), Fail> {
-    let register = Register::read(alloc, REGISTER)?;
-    let mut shelf = counting_shelf(alloc);
-    writes(alloc, &mut shelf, custodian(1001)?, &[SHUT])?;
+// The street, and then these volumes.
+fn fills<K: Inbox + Drop>(
+    alloc: Global,
+    shelf: &mut Tried<K>,
+    volumes: &[(u64, u64)],
+) -> Result<(), Refusal> {
+    writes(alloc, shelf, custodian(1001)?, &[SHUT])?;
     for (code, number) in volumes {
-        adds_addresses(alloc, &mut shelf, *code, *number)?;
+        adds_addresses(alloc, shelf, *code, *number)?;
     }
-    let before = shelf.keeper().counted().current;
-    let closed = shelf.closed_streets(alloc, &register)?;
-    let asked = shelf.keeper().counted().current.saturating_sub(before);
-    Ok((closed.len(), asked))
+    Ok(())
+}
+
+// How many are listed.
+fn lists<K: Inbox + Drop>(alloc: Global, shelf: &mut Tried<K>) -> Result<usize, Fail> {
+    let register = Register::read(alloc, REGISTER)?;
+    Ok(shelf.closed_streets(alloc, &register)?.len())
+}
+
+// The same, and how often an item is looked up for it.
+fn listed(alloc: Global, volumes: &[(u64, u64)]) -> Result<(usize, u64), Fail> {
+    let mut shelf = counting_shelf(alloc);
+    fills(alloc, &mut shelf, volumes)?;
+    let before = looked_up(&shelf);
+    let listed = lists(alloc, &mut shelf)?;
+    Ok((listed, looked_up(&shelf).saturating_sub(before)))
 }
 
 #[test]
@@ -66,34 +78,6 @@ fn each_custodian_asks_once_for_a_street(rt: HostRuntime) -> Result<(), Fail> {
     for (volumes, wanted, asked) in CASES {
         let found = listed(rt.alloc(), volumes)?;
         holds(&rt, found == (*wanted, *asked), "how many are listed");
-    }
-    Ok(())
-}
-
-/// Who is asked for property 100001, and what is found.
-const PROPERTIES: &[(u64, Option<u64>)] = &[(1002, Some(100_001)), (1001, None)];
-
-// What a look-up of it finds.
-fn found(
-    alloc: Global,
-    shelf: &mut Tried<Faulty<MemShelf>>,
-    code: u64,
-) -> Result<Option<u64>, Fail> {
-    let register = Register::read(alloc, REGISTER)?;
-    let found = shelf.lookup_with(alloc, &register, custodian(code)?, uprn_of(100_001)?)?;
-    Ok(found.map(|found| found.uprn.number()))
-}
-
-#[test]
-fn one_custodian_is_asked_for_a_property(rt: HostRuntime) -> Result<(), Fail> {
-    let mut shelf = counting_shelf(rt.alloc());
-    writes(rt.alloc(), &mut shelf, custodian(1002)?, &[HOUSE])?;
-    let mut asked: u64 = 0;
-    for (code, property) in PROPERTIES {
-        let found = found(rt.alloc(), &mut shelf, *code)?;
-        holds(&rt, found == *property, "what is found");
-        asked = asked.saturating_add(1);
-        counts(&rt, shelf.keeper().counted().property_of, asked);
     }
     Ok(())
 }

@@ -3,7 +3,7 @@
 use crate::items::{custodian, volume};
 use crate::resting::Resting;
 use crate::wanted::holds_at;
-use gaz_hub::{Answer, Outcome, Refusal};
+use gaz_hub::{Answer, Outcome};
 use gaz_keeper::Inbox;
 use std::alloc::Global;
 use std::fmt::Write;
@@ -19,7 +19,6 @@ pub(crate) enum Gets {
     Applied,
     /// It waits for volume 1 of a custodian.
     WaitsFor(u64),
-    Unknown,
     /// It is a new one, whatever became of it.
     New,
 }
@@ -40,7 +39,7 @@ fn file_on(alloc: Global, place: Place, bases: &[Place]) -> Result<String, Fail>
     for (custodian, basis) in bases {
         write!(file, "90,{custodian},{basis}\n")?;
     }
-    write!(file, "99,0\n")?;
+    file.push_str("99,0\n")?;
     Ok(file)
 }
 
@@ -55,7 +54,6 @@ fn is_answer(answer: Answer, gets: Gets) -> Result<bool, Fail> {
     match gets {
         Gets::Applied => Ok(answer == Answer::New(Outcome::Applied)),
         Gets::WaitsFor(whom) => Ok(answer == waits_for(whom)?),
-        Gets::Unknown => Ok(answer == Answer::Refused(Refusal::UnknownCustodian)),
         Gets::New => Ok(matches!(answer, Answer::New(_))),
     }
 }

@@ -2,7 +2,6 @@
 
 mod acts;
 mod answers;
-mod broken;
 mod calls;
 mod mirrors;
 mod passed;

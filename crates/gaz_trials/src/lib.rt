@@ -14,8 +14,6 @@ mod file_fixtures;
 #[cfg(test)]
 mod files_back;
 #[cfg(test)]
-mod growth;
-#[cfg(test)]
 mod items;
 #[cfg(test)]
 mod keepers;
@@ -25,8 +23,6 @@ mod look_ups;
 mod mirrored;
 #[cfg(test)]
 mod objects;
-#[cfg(test)]
-mod profiles;
 #[cfg(test)]
 mod records;
 #[cfg(test)]

@@ -1,11 +1,11 @@
 //! How often a judgement looks an item up, by a keeper that counts.
 use crate::items::{Row, custodian, file_of, item, item_of, judged, writes};
 use crate::keepers::refusal::Refusal;
-use crate::keepers::tried::counting_shelf;
+use crate::keepers::tried::{Tried, counting_shelf, looked_up};
 use crate::wanted::{counts, holds};
 use gaz_changefile::Action::{self, Delete, Insert};
 use gaz_changefile::{Change, ChangeFile};
-use gaz_keeper::Verdict;
+use gaz_keeper::{Inbox, Verdict};
 use gaz_records::Kind;
 use gaz_register::Register;
 use gaz_samples::REGISTER;
@@ -117,24 +117,33 @@ fn verdict_of(fault: Option<(u64, u8)>) -> Verdict {
     }
 }
 
-// The verdict on the case's file, and how often an item was looked up.
-fn judges(alloc: Global, case: &Case) -> Result<(Verdict, u64), Fail> {
-    let (action, before, rows, _, _) = *case;
+// The verdict on a file behind a view.
+fn judges<K: Inbox + Drop>(
+    alloc: Global,
+    shelf: &mut Tried<K>,
+    view: &[Row],
+    file: &ChangeFile,
+) -> Result<Verdict, Fail> {
     let register = Register::read(alloc, REGISTER)?;
+    writes(alloc, shelf, custodian(1001)?, view)?;
+    Ok(judged(alloc, shelf, &register, custodian(1001)?, file)?)
+}
+
+// The same, and how often an item was looked up.
+fn counted(alloc: Global, view: &[Row], file: &ChangeFile) -> Result<(Verdict, u64), Fail> {
     let mut shelf = counting_shelf(alloc);
-    writes(alloc, &mut shelf, custodian(1001)?, before)?;
-    let file = changes(alloc, action, rows)?;
-    let verdict = judged(alloc, &mut shelf, &register, custodian(1001)?, &file)?;
-    Ok((verdict, shelf.keeper().counted().current))
+    let verdict = judges(alloc, &mut shelf, view, file)?;
+    Ok((verdict, looked_up(&shelf)))
 }
 
 #[test]
 fn each_key_is_asked_with_few_look_ups(rt: HostRuntime) -> Result<(), Fail> {
     for case in CASES {
-        let (_, _, _, looked, fault) = *case;
-        let (verdict, counted) = judges(rt.alloc(), case)?;
+        let (action, view, rows, looked, fault) = *case;
+        let file = changes(rt.alloc(), action, rows)?;
+        let (verdict, found) = counted(rt.alloc(), view, &file)?;
         holds(&rt, verdict == verdict_of(fault), "the verdict");
-        counts(&rt, counted, looked);
+        counts(&rt, found, looked);
     }
     Ok(())
 }
@@ -162,19 +171,11 @@ fn chain(alloc: Global, backwards: bool) -> Result<ChangeFile, Refusal> {
     file_of(Vec::new(alloc), changes)
 }
 
-// The verdict on the chain, and how often an item was looked up.
-fn judges_chain(alloc: Global, backwards: bool) -> Result<(Verdict, u64), Fail> {
-    let register = Register::read(alloc, REGISTER)?;
-    let file = chain(alloc, backwards)?;
-    let mut shelf = counting_shelf(alloc);
-    let verdict = judged(alloc, &mut shelf, &register, custodian(1001)?, &file)?;
-    Ok((verdict, shelf.keeper().counted().current))
-}
-
 #[test]
 fn a_long_chain_is_walked_once(rt: HostRuntime) -> Result<(), Fail> {
     for backwards in [false, true] {
-        let (verdict, looked) = judges_chain(rt.alloc(), backwards)?;
+        let file = chain(rt.alloc(), backwards)?;
+        let (verdict, looked) = counted(rt.alloc(), &[], &file)?;
         let is_so = verdict == Verdict::Applied && looked <= 50_000;
         holds(&rt, is_so, "it is applied with few look-ups");
     }

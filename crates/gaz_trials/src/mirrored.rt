@@ -4,8 +4,10 @@ use crate::comings::Gets::New;
 use crate::comings::{Event, are_so};
 use crate::keepers::reopening::Reopens;
 use crate::keepers::whereabouts::{Task, in_memory};
-use crate::resting::hub_in;
+use crate::resting::{Resting, hub_in};
 use crate::wanted::holds;
+use gaz_keeper::Inbox;
+use gaz_mirror::{Mirror, Unshared};
 use std::process::Abort;
 use std::test::Fail;
 
@@ -27,18 +29,26 @@ const GOES_ON: &[Event] = &[
     Stands(1001, 4, 0),
 ];
 
-/// Whether all is at hand where nothing failed, and still is when the hub went on.
+// The hub goes on, and then all is at hand: so it was from the beginning, since what is dropped isn't
+// brought to hand again.
+fn goes_on<L: Inbox + Drop, U: Unshared + Drop>(
+    rt: &(impl Abort + AllocGlobal),
+    hub: Resting<Mirror<L, U>>,
+) -> Result<(), Fail> {
+    let mut hub = hub;
+    are_so(rt, &mut hub, GOES_ON)?;
+    holds(rt, hub.shelf().has_upper(), "all is at hand");
+    Ok(())
+}
+
+/// Whether all is at hand where nothing failed.
 pub(crate) fn is_at_hand<K: Reopens>(
     rt: &(impl Abort + AllocGlobal),
     conn: K::Conn,
 ) -> Result<(), Fail> {
     let mut hub = hub_in::<K>(rt.alloc(), conn)?;
     are_so(rt, &mut hub, FILLED)?;
-    let mut hub = hub.mirrored(rt.alloc());
-    holds(rt, hub.shelf().has_upper(), "all is at hand");
-    are_so(rt, &mut hub, GOES_ON)?;
-    holds(rt, hub.shelf().has_upper(), "it stays so");
-    Ok(())
+    goes_on(rt, hub.mirrored(rt.alloc()))
 }
 
 #[test]

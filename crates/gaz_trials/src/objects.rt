@@ -1,6 +1,6 @@
 //! Addressable objects, their texts and house numbers.
 use crate::wanted::holds;
-use gaz_addressable::{HouseNumber, ObjFault, Object};
+use gaz_addressable::{ObjFault, Object};
 use std::alloc::Global;
 use std::test::Fail;
 
@@ -71,27 +71,6 @@ fn objects_come_back_and_print_their_numbers(rt: HostRuntime) -> Result<(), Fail
             is_so && has(rt.alloc(), &back, numbers, text)?,
             numbers,
         );
-    }
-    Ok(())
-}
-
-/// House numbers in order: by the number first, then no suffix before A before Z.
-const HOUSES: &[(&str, &str)] = &[("2", "Z"), ("12", ""), ("12", "A"), ("12", "Z"), ("13", "")];
-
-fn house(alloc: Global, house: (&str, &str)) -> Result<HouseNumber, Fail> {
-    let object = read(alloc, [house.0, house.1, "", "", ""])?;
-    Ok(object.from().ok_or("no house number")?)
-}
-
-fn is_less(low: &HouseNumber, high: &HouseNumber) -> bool {
-    low < high && low.is_before(high) && low.compare(high).is_lt()
-}
-
-#[test]
-fn house_numbers_are_in_order(rt: HostRuntime) -> Result<(), Fail> {
-    for pair in HOUSES.windows(2) {
-        let (low, high) = (house(rt.alloc(), pair[0])?, house(rt.alloc(), pair[1])?);
-        holds(&rt, is_less(&low, &high), "in order");
     }
     Ok(())
 }

@@ -55,15 +55,6 @@ impl<K: Inbox + Drop> Resting<K> {
         }
     }
 
-    /// The hub goes on under a register that its own grew to.
-    pub(crate) fn grown(self, alloc: Global, grown: Register) -> Result<Resting<K>, Fail> {
-        let Resting { hub } = self;
-        let (register, keeper) = hub.into_parts();
-        let mut register = register;
-        register.extend(grown)?;
-        Ok(Resting::over(alloc, register, keeper))
-    }
-
     pub(crate) fn submit(&mut self, code: u64, volume: u64, file: &[u8]) -> Answer {
         self.hub.submit(code, volume, file)
     }

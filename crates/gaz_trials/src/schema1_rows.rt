@@ -2,11 +2,8 @@
 //! which a migration has to begin.
 use crate::file_fixtures::*;
 use crate::wanted::{counts, holds};
-use gaz_register::Register;
-use gaz_samples::REGISTER;
 use gaz_samples::files::*;
 use std::process::Abort;
-use std::test::Fail;
 
 pub(crate) mod a_closed_street_with_a_neighbours_address;
 pub(crate) mod a_deleted_address;
@@ -47,7 +44,7 @@ pub(crate) struct Version {
     pub(crate) body: &'static str,
 }
 
-/// The one row of `meta`, of each store alike.
+/// The one row of `meta`, of each store alike: the sample register (`registers.rt` reads it so).
 pub(crate) const META: Meta = Meta {
     id: 1,
     number: 1,
@@ -56,15 +53,6 @@ pub(crate) const META: Meta = Meta {
 
 /// The `gone` of a row that is current.
 const NEVER: i64 = 1_000_000;
-
-#[test]
-fn they_are_of_the_sample_register(rt: HostRuntime) -> Result<(), Fail> {
-    let register = Register::read(rt.alloc(), REGISTER)?;
-    let text = register.text(rt.alloc())?;
-    holds(&rt, text.as_str() == META.register, "the register's text");
-    holds(&rt, META.id == 1 && META.number == 1, "the number");
-    Ok(())
-}
 
 // A volume was applied, by these rows.
 fn is_applied(rows: &[Received], cust: i64, volume: i64) -> bool {

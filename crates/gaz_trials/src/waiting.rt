@@ -5,6 +5,7 @@ use crate::comings::Gets::{Applied, WaitsFor};
 use crate::comings::{Event, are_so, comes};
 use crate::resting::{Resting, counting_hub};
 use crate::wanted::{counts, holds};
+use gaz_keeper::Inbox;
 use gaz_register::Register;
 use gaz_shelf::{Faulty, MemShelf};
 use std::alloc::Global;
@@ -70,7 +71,17 @@ const THREE_WAIT: &[Event] = &[
     Comes((400, 1), &[(7, 1)], WaitsFor(7)),
 ];
 
-const THREE_ARE_JUDGED: &[Event] = &[Stands(10, 1, 0), Stands(200, 1, 0), Stands(400, 1, 0)];
+/// They are judged, and then one waits for two volumes and is looked at for each.
+const THREE_ARE_JUDGED: &[Event] = &[
+    Stands(10, 1, 0),
+    Stands(200, 1, 0),
+    Stands(400, 1, 0),
+    Comes((9, 1), &[(11, 1), (12, 1)], WaitsFor(11)),
+    Comes((11, 1), &[], Applied),
+    Stands(9, 0, 1),
+    Comes((12, 1), &[], Applied),
+    Stands(9, 1, 0),
+];
 
 #[test]
 fn who_waits_is_looked_at_once(rt: HostRuntime) -> Result<(), Fail> {
@@ -80,24 +91,10 @@ fn who_waits_is_looked_at_once(rt: HostRuntime) -> Result<(), Fail> {
     are_so(&rt, &mut hub, THREE_ARE_JUDGED)
 }
 
-const WAITS_FOR_TWO: &[Event] = &[
-    Comes((9, 1), &[(7, 1), (8, 1)], WaitsFor(7)),
-    Comes((7, 1), &[], Applied),
-    Stands(9, 0, 1),
-    Comes((8, 1), &[], Applied),
-    Stands(9, 1, 0),
-];
-
-#[test]
-fn who_waits_for_two_volumes_is_looked_at_for_each(rt: HostRuntime) -> Result<(), Fail> {
-    let mut hub = hub_of_400(rt.alloc())?;
-    are_so(&rt, &mut hub, WAITS_FOR_TWO)
-}
-
 // All but the last wait for volume 1 of the last.
-fn all_wait(
+fn all_wait<K: Inbox + Drop>(
     rt: &(impl Abort + AllocGlobal),
-    hub: &mut Resting<Faulty<MemShelf>>,
+    hub: &mut Resting<K>,
 ) -> Result<(), Fail> {
     for code in 1..CUSTODIANS {
         let is_so = comes(
@@ -112,13 +109,18 @@ fn all_wait(
     Ok(())
 }
 
+// Of each of them one file is judged.
+fn all_are_judged<K: Inbox + Drop>(rt: &impl Abort, hub: &mut Resting<K>) -> Result<(), Fail> {
+    for code in 1..CUSTODIANS {
+        counts(rt, hub.status(code)?.judged, 1);
+    }
+    Ok(())
+}
+
 #[test]
 fn three_hundred_and_ninety_nine_wait_for_one(rt: HostRuntime) -> Result<(), Fail> {
     let mut hub = hub_of_400(rt.alloc())?;
     all_wait(&rt, &mut hub)?;
     is_applied(&rt, &mut hub, CUSTODIANS, 6 * CUSTODIANS)?;
-    for code in 1..CUSTODIANS {
-        counts(&rt, hub.status(code)?.judged, 1);
-    }
-    Ok(())
+    all_are_judged(&rt, &mut hub)
 }

@@ -16,3 +16,10 @@ pub(crate) fn holds_at(rt: &impl Abort, is_so: bool, table: &str, place: u64) {
 pub(crate) fn counts(rt: &impl Abort, found: u64, wanted: u64) {
     assert_eq!(rt; found, wanted);
 }
+
+/// The same of pairs of what was found and is wanted.
+pub(crate) fn counts_all(rt: &impl Abort, pairs: &[(u64, u64)]) {
+    for (found, wanted) in pairs {
+        counts(rt, *found, *wanted);
+    }
+}

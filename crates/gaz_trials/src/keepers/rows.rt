@@ -28,13 +28,15 @@ pub(crate) fn is_property(
     found: Option<Property>,
     rows: Option<(&str, &str)>,
 ) -> Result<bool, Refusal> {
-    match (found, rows) {
-        (None, None) => Ok(true),
-        (Some(found), Some((blpu, address))) => {
+    let Some(found) = found else {
+        return Ok(rows.is_none());
+    };
+    match rows {
+        Some((blpu, address)) => {
             let is_address = is_row(alloc, &found.address, Some(address))?;
             Ok(reads(alloc, &found.blpu, blpu)? && is_address)
         }
-        _ => Ok(false),
+        None => Ok(false),
     }
 }
 

@@ -1,6 +1,6 @@
 //! The list of calls over a store in memory, and over one that is closed and opened between its parts.
 
-use crate::keepers::calls::{parts, performs, performs_all};
+use crate::keepers::calls::{in_vain, passing, performs, performs_all, read, written};
 use crate::keepers::reopening::Reopens;
 use crate::keepers::steps::Part;
 use crate::keepers::steps::Question::{Counts, File, Verdict};
@@ -44,16 +44,30 @@ pub(crate) fn performs_in_all<K: Reopens>(
     Ok(performs_all(rt, &mut new_store::<K>(rt, conn)?)?)
 }
 
-/// Makes a store, and closes and opens it after each part.
+// Makes the calls of a table over a store, which is closed and opened after each part.
+fn performed_anew<K: Reopens>(
+    rt: &(impl Abort + AllocGlobal),
+    store: Tried<K>,
+    table: &[Part],
+) -> Result<Tried<K>, Fail> {
+    let mut store = store;
+    for part in table {
+        performs(rt, &mut store, part)?;
+        store = opened::<K>(rt.alloc(), store.into_keeper().into_conn())?;
+    }
+    Ok(store)
+}
+
+/// Makes a store, and all calls over it, between whose parts it is closed and opened.
 pub(crate) fn performs_anew<K: Reopens>(
     rt: &(impl Abort + AllocGlobal),
     conn: K::Conn,
 ) -> Result<(), Fail> {
-    let mut store = new_store::<K>(rt, conn)?;
-    for part in parts() {
-        performs(rt, &mut store, part)?;
-        store = opened::<K>(rt.alloc(), store.into_keeper().into_conn())?;
-    }
+    let store = new_store::<K>(rt, conn)?;
+    let store = performed_anew(rt, store, written())?;
+    let store = performed_anew(rt, store, read())?;
+    let store = performed_anew(rt, store, passing())?;
+    let _store = performed_anew(rt, store, in_vain())?;
     Ok(())
 }
 

@@ -16,6 +16,14 @@ impl<K: Inbox + Drop> Tried<K> {
         self.keeper.reached(code)
     }
 
+    fn held(&mut self, code: Code) -> Result<u64, ShelfFault> {
+        self.keeper.held(code)
+    }
+
+    fn sure(&mut self) -> Result<(), ShelfFault> {
+        self.keeper.sure()
+    }
+
     // It can be asked, and so many volumes are judged and held.
     pub(crate) fn has_counts(
         &mut self,
@@ -23,9 +31,9 @@ impl<K: Inbox + Drop> Tried<K> {
         judged: u64,
         held: u64,
     ) -> Result<bool, Refusal> {
-        let found = (self.keeper.reached(code)?, self.keeper.held(code)?);
-        self.keeper.sure()?;
-        Ok(found == (judged, held))
+        let are_so = self.reached(code)? == judged && self.held(code)? == held;
+        self.sure()?;
+        Ok(are_so)
     }
 
     pub(crate) fn has_verdict(

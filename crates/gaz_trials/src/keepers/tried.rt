@@ -5,8 +5,8 @@ ghost use Rattle.gaz_keeper.specs.Keeper.{IsNotOpen, Open};
 
 use crate::keepers::refusal::Refusal;
 use gaz_changefile::ChangeFile;
-use gaz_extract::{Closed, Found, closed_streets, lookup_with};
-use gaz_ids::{Code, Uprn, Volume};
+use gaz_extract::{Closed, closed_streets};
+use gaz_ids::{Code, Volume};
 use gaz_keeper::{Inbox, Verdict};
 use gaz_records::{Key, SharedItem};
 use gaz_register::Register;
@@ -28,6 +28,11 @@ pub(crate) fn counting_shelf(alloc: Global) -> Tried<Faulty<MemShelf>> {
     Tried::new(Faulty::new(MemShelf::new(alloc, Seed::of(1)), 0))
 }
 
+/// How often an item was looked up in it.
+pub(crate) fn looked_up(shelf: &Tried<Faulty<MemShelf>>) -> u64 {
+    shelf.keeper.counted().current
+}
+
 impl<K: Inbox + Drop> Tried<K> {
     /// A keeper between judgements.
     pub(crate) fn new(keeper: K) -> Tried<K>
@@ -36,15 +41,6 @@ impl<K: Inbox + Drop> Tried<K> {
         Tried {
             keeper,
             judged: None,
-        }
-    }
-
-    /// One around it, of which the call of this number fails, and none where that is 0.
-    pub(crate) fn failing_at(self, number: u64) -> Result<Tried<Faulty<K>>, Refusal> {
-        let Tried { keeper, judged } = self;
-        match judged {
-            None => Ok(Tried::new(Faulty::new(keeper, number))),
-            Some(_) => Err(Refusal::Misused),
         }
     }
 
@@ -157,19 +153,6 @@ impl<K: Inbox + Drop> Tried<K> {
             return Err(Refusal::Misused);
         }
         Ok(judge(alloc, &mut self.keeper, register, code, file)?)
-    }
-
-    pub(crate) fn lookup_with(
-        &mut self,
-        alloc: Global,
-        register: &Register,
-        code: Code,
-        uprn: Uprn,
-    ) -> Result<Option<Found>, Refusal> {
-        if self.judged.is_some() {
-            return Err(Refusal::Misused);
-        }
-        Ok(lookup_with(alloc, &mut self.keeper, register, code, uprn)?)
     }
 
     pub(crate) fn closed_streets(

@@ -1,8 +1,9 @@
 //! The volumes that the list of calls writes.
 use crate::keepers::steps::Act::{Abandon, Begin, Keep, Put, Receive, Skip, Take, Volume};
-use crate::keepers::steps::Name::{Lpi, Xref};
+use crate::keepers::steps::Name::{Lpi, Street, Xref};
 use crate::keepers::steps::Part;
-use crate::keepers::steps::Step::Does;
+use crate::keepers::steps::Question::Item;
+use crate::keepers::steps::Step::{Asks, Does};
 use gaz_records::Kind;
 use gaz_shelf::Ending;
 
@@ -59,14 +60,16 @@ pub(crate) const FIRST: Part = (
 /// The first volume of 1002.
 pub(crate) const REJECTED: Part = ("a rejected volume", &[Does(Skip(1002, 2, 20))]);
 
-/// The second volume of 1001: a street is closed, a cross reference and an address go, another
-/// address comes.
+/// The second volume of 1001, which is read as it is made: a street is closed, a cross reference and
+/// an address go, another address comes.
 pub(crate) const SECOND: Part = (
     "the second volume",
     &[
         Does(Begin(1001)),
         Does(Put((Kind::Street, CLOSED))),
+        Asks(1001, Item(Street(102), Some(CLOSED))),
         Does(Take(Lpi("L2"))),
+        Asks(1001, Item(Lpi("L2"), None)),
         Does(Take(Xref("X1"))),
         Does(Put((Kind::Lpi, FELIN))),
         Does(Keep),
