@@ -18,6 +18,7 @@ BLPU = "1,450000,250000,,,2020-01-01,"  # of a property, what stands behind its 
 BEHIND_THE_LAST = (
     ("11,X", 5002, 9),
     ("91,I,1,500,1002,1", 5002, 5),
+    ("92,I,1,500,1002,1", 5002, 5),
     ("90,1002,1", 5002, 4),
     ("99,5000\n11,X", 5003, 8),
     ("99,4999", 5002, 8),
@@ -141,13 +142,13 @@ def most_releases() -> Conversation:
     numbers = range(1, MOST_CHANGES + 1)
     releases = [f"91,I,{n},{n},1002,1" for n in numbers]
     adoptions = [f"92,I,{n},{n},1001,1,{BLPU}" for n in numbers]
-    longer = [*releases, "91,I,5001,5001,1002,1"]
+    behind = ("91,I,5001,5001,1002,1", f"92,I,5001,5001,1002,1,{BLPU}")
     turns = [
-        told(post(1001, 1, file_of(1001, 1, longer, profile=2)), rejected(5002, 9)),
-        told(post(1001, 2, file_of(1001, 2, releases, profile=2)), APPLIED),
-        told(post(1002, 1, file_of(1002, 1, adoptions, ("90,1001,2",), 2)), APPLIED),
-        told(post(1002, 2, file_of(1002, 2, adoptions, ("90,1001,2",), 2)), rejected(3, 42)),
-        extracted(1001, 2, []),
+        *(told(post(1001, k, file_of(1001, k, [*releases, one], profile=2)), rejected(5002, 9)) for k, one in enumerate(behind, 1)),
+        told(post(1001, 3, file_of(1001, 3, releases, profile=2)), APPLIED),
+        told(post(1002, 1, file_of(1002, 1, adoptions, ("90,1001,3",), 2)), APPLIED),
+        told(post(1002, 2, file_of(1002, 2, adoptions, ("90,1001,3",), 2)), rejected(3, 42)),
+        extracted(1001, 3, []),
         extracted(1002, 1, inserted("21", [f"{n},{BLPU}" for n in numbers])),
     ]
     return conversation("5,000 properties are handed over by a file each", turns)
