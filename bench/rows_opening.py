@@ -1,6 +1,6 @@
 """What a command waits for before it answers: `gazhub status` over stores in files, and the first answer of `gazhub serve` over the same.
 
-Beside them the library's reading of the file alone (`gaz_bench opening`), a plain hub over Python's `sqlite3` that is asked the same, and the keeper in memory,
+Beside them the library's reading of the file alone (`gaz_bench floor` without a statement), a plain hub over Python's `sqlite3` that is asked the same, and the keeper in memory,
 which takes the files anew. Sizes are of rows. A store of 1,000,000 rows takes long to make, so it is measured by a word of its own.
 
     bench/rows_opening.py [ROWS..]   only stores of so many rows, and what filling takes where none is named
@@ -37,7 +37,7 @@ class Waits:
         load, self.asked = place.asked(load, [streams.get(f"/custodians/{CODE}")])
         self.store, self.loading = place.loaded(load), in_file(place.folder, "loading", load.whole[0])
         self.status = place.words("status", self.store, CODE)
-        self.library = [program("gaz_bench"), "opening", self.store, str(pages_for(self.store))]
+        self.library = [program("gaz_bench"), "floor", self.store, os.devnull, str(pages_for(self.store))]
 
     def memory(self):
         """The most memory of `status`, and that of `serve`."""

@@ -15,7 +15,8 @@ import hub
 import hub_sqlite
 import random_streams
 import streams
-from measure import ROUNDS, Talk, medians, output_of, seconds
+import volumes
+from measure import ROUNDS, Talk, medians, seconds
 from sides import FEWEST, IN_MEMORY, PAGE, Opened, Place, anew, begun, behind, commit_alone, over_sqlite, pages_for, with_memory
 
 LOOK_UPS, REPEATS, LISTS, EXTRACTS = 20_000, 20_000, 3, 3  # of a round
@@ -70,19 +71,13 @@ def call_rows(place):
     yield "`extract` of 50,000 items", f"{extract / opening:.2f} times `status`", f"{50_000 / (extract - opening):,.0f} items/s beyond that"
 
 
-def volumes_alone(place):
-    """Seconds of the statements alone that the files of `files_rows` need."""
-    lines = output_of("gaz_bench", "volumes", place.fresh(), FILES, FEWEST).decode().splitlines()
-    return sum(int(line.split()[3]) for line in lines) / 1e9
-
-
 def files_rows(place):
     """60 files of three custodians in turn, each committed before it is answered."""
     load, asked = place.asked([], list(streams.files_in_turn(FILES // 3)))
     assert asked.count(b'"applied"') == FILES
     makers = (lambda: place.served(place.new())), (lambda: Talk(place.in_memory())), (lambda: Talk(over_sqlite(place.fresh())))
     ours, memory, theirs = anew(makers, load, asked)
-    alone = statistics.median(volumes_alone(place) for _ in range(ROUNDS))
+    alone = statistics.median(volumes.seconds_alone(place.fresh(), FILES, FEWEST) for _ in range(ROUNDS))
     title, changes = f"{FILES} files of 1,000 changes, each committed", FILES * 1_000
     yield title, f"{ours / alone:.2f} times the statements alone (at most 1.6)", f"{changes / ours:,.0f} changes/s, alone {changes / alone:,.0f}"
     yield "the same", f"{ours / theirs:.2f} of Python over sqlite3 (at most 0.25)", f"sqlite3 {changes / theirs:,.0f} changes/s"

@@ -13,7 +13,8 @@ import tempfile
 import time
 from itertools import islice
 
-from measure import ROUNDS, SAMPLE, TOP, Talk, exchanged, in_file, medians, memory_of, one_by_one, output_of, program, seconds
+from measure import ROUNDS, SAMPLE, TOP, Talk, exchanged, in_file, medians, memory_of, one_by_one, program, seconds
+from statements import FILES, by_library, received, tables
 
 EACH = 1_000  # requests of a connection
 MANY = 1_000_000  # connections of a hub that is stopped before all have come
@@ -237,9 +238,8 @@ def anew(makers, load, asked):
 
 def commit_alone(place):
     """Seconds of a small file's receiving by the statement alone, with its commit."""
-    lines = output_of("gaz_bench", "floor", place.fresh(), 1_000, FEWEST).decode().splitlines()
-    _, calls, _, nanoseconds = next(line.split() for line in lines if line.startswith("receive "))
-    return int(nanoseconds) / int(calls) / 1e9
+    _, nanoseconds = by_library(place.fresh(), (tables(), ("receive", received())), FEWEST)["receive"]
+    return nanoseconds / FILES / 1e9
 
 
 def pages_for(store):

@@ -165,10 +165,15 @@ def memory(room: Room, way: str, store: Path, history: Requests, number: int) ->
     return in_file(room, way, store, history, **room.memory(number))
 
 
+def failing(room: Room, way: str, store: Path, first: int = 0, second: int = 0) -> list[str]:
+    """The words of a hub over a new keeper of which the calls of these numbers fail."""
+    words = ["failing", way, str(room.folder / "register.toml"), str(first), str(second)]
+    return words if way == "maps" else [*words, tempfile.mkdtemp(dir=store.parent) + "/store"]
+
+
 def memory_twice(room: Room, way: str, store: Path, history: Requests, number: int) -> Came:
-    """A request for memory is refused and one of the next, over a keeper in memory."""
-    words = ["failing", way, str(room.folder / "register.toml")]
-    return within(room, words, history, **room.memory(number, number + 1 + number % FARTHEST))
+    """A request for memory is refused and one of the next, over a new keeper."""
+    return within(room, failing(room, way, store), history, **room.memory(number, number + 1 + number % FARTHEST))
 
 
 def calls(behinds: tuple[int, ...], room: Room, way: str, store: Path, history: Requests, number: int) -> Came:
@@ -176,8 +181,7 @@ def calls(behinds: tuple[int, ...], room: Room, way: str, store: Path, history: 
     met: Counter[str] = Counter()
     for behind in behinds:
         second = number + 1 + behind if behind >= 0 else 0
-        words = ["failing", way, str(room.folder / "register.toml"), str(number + 1), str(second)]
-        came = within(room, words, history, 1 + (behind >= 0))
+        came = within(room, failing(room, way, store, number + 1, second), history, 1 + (behind >= 0))
         met += came.met
         if came.fault:
             return Came(f"and {second}: {came.fault}", met)
@@ -187,8 +191,7 @@ def calls(behinds: tuple[int, ...], room: Room, way: str, store: Path, history: 
 def sent_again(room: Room, way: str, store: Path, history: Requests, number: int) -> Came:
     """The keeper's call of a number fails, as that which keeps the judgement of the file for which the others wait. That file is then
     answered 52; it is sent once more, and is applied, as those are that waited for it."""
-    words = ["failing", way, str(room.folder / "register.toml"), str(number + 1), "0"]
-    ended = room.run(words, (*history[:3], history[2], *map(outcome_of, history[:2])))
+    ended = room.run(failing(room, way, store, number + 1), (*history[:3], history[2], *map(outcome_of, history[:2])))
     met = met_in(ended)
     if ended.refusals()[2:3] != [52]:
         return Came(None, met)

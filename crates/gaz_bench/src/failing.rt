@@ -4,22 +4,19 @@ ghost use Rattle.gaz_shelf.specs.Around.{seen_around};
 ghost use Rattle.gaz_keeper.specs.Keeper.{IsNotOpen};
 ghost use Rattle.gaz_store.specs.Store.{progress_of};
 
+use crate::at_file::{Work, over_file};
+use crate::playing::{answer, register_in};
 use crate::stored::rests;
-use anyhow::{Result, bail, ensure};
-use gaz_exchange::converse;
-use gaz_hub::Hub;
+use anyhow::{Context, Result, bail};
 use gaz_keeper::Inbox;
 use gaz_register::Register;
 use gaz_shelf::{Faulty, MemShelf, Seed};
 use gaz_store::Store;
 use sqlite::{Alter, Connection};
 use std::alloc::Global;
-use std::io::BufWriter;
-use std::mem::forget;
-use std::{fs, io};
 
-/// The most requests of one run.
-const MOST: u64 = 1_000_000;
+/// The pages of a store that are kept at hand: few, since they are made ready anew for each call that fails.
+const PAGES: usize = 200;
 
 /// The calls of a keeper that fail, by their numbers from 1, and 0 for none.
 #[derive(Clone, Copy)]
@@ -27,18 +24,6 @@ pub struct Failing {
     pub first: u64,
     /// Among the calls that come to the keeper within that of the first.
     pub second: u64,
-}
-
-// Answers the requests on standard input over a keeper.
-fn answer<K: Inbox + Drop>(rt: &HostRuntime, register: Register, keeper: K) -> Result<()>
-    requires { IsNotOpen (K.seen keeper).progress }
-{
-    let mut hub = Hub::new(rt.alloc(), register, keeper);
-    let mut w = BufWriter::new(rt.alloc(), io::writer(rt))?;
-    let ended = converse(rt.alloc(), &mut rt.reader(), &mut w, &mut hub, MOST);
-    forget(hub);
-    ensure!(ended.is_ok(), "the stream failed");
-    Ok(())
 }
 
 // A keeper of which these calls fail.
@@ -76,30 +61,38 @@ fn store_in<S: Alter + Drop>(
     }
 }
 
-// The same over a new store behind a connection.
-fn answer_behind<S: Alter + Drop>(
-    rt: &HostRuntime,
+/// A conversation with a hub of a register, over a new store of which these calls fail.
+#[derive(Drop)]
+struct Trouble {
     register: Register,
-    conn: Connection<S>,
     calls: Failing,
-) -> Result<()> {
-    let store = store_in(rt.alloc(), conn, &register)?;
-    answer_failing(rt, register, store, calls)
 }
 
-/// Answers the requests on standard input at a hub of the register in a file, over a new keeper of
-/// which these calls fail: `maps` is the one in memory, `store` a store whose database is in memory.
-pub fn answer_over(rt: &HostRuntime, kind: &str, path: &str, calls: Failing) -> Result<()> {
-    let register = Register::read(rt.alloc(), &fs::read(rt, path)?)?;
-    match kind {
-        "maps" => {
-            let keeper = MemShelf::new(rt.alloc(), Seed::of(1));
-            answer_failing(rt, register, keeper, calls)
-        }
-        "store" => {
-            let conn = Connection::open_in_memory(rt.alloc())?;
-            answer_behind(rt, register, conn, calls)
-        }
-        _ => bail!("neither maps nor a store"),
+impl Work for Trouble {
+    type Told = ();
+
+    fn done<S: Alter + Drop>(
+        self,
+        rt: &HostRuntime,
+        conn: Connection<S>,
+    ) -> Result<(Option<Connection<S>>, ())> {
+        let Trouble { register, calls } = self;
+        let store = store_in(rt.alloc(), conn, &register)?;
+        answer_failing(rt, register, store, calls)?;
+        Ok((None, ()))
     }
+}
+
+/// Answers the requests on standard input at a hub of the register in a file, over a keeper in memory
+/// of which these calls fail.
+pub fn over_maps(rt: &HostRuntime, register: &str, calls: Failing) -> Result<()> {
+    let register = register_in(rt, register)?;
+    let keeper = MemShelf::new(rt.alloc(), Seed::of(1));
+    answer_failing(rt, register, keeper, calls)
+}
+
+/// The same over a new store in the file at this path, which isn't closed.
+pub fn over_store(rt: &HostRuntime, register: &str, calls: Failing, path: &str) -> Result<()> {
+    let register = register_in(rt, register)?;
+    over_file(rt, path, PAGES, Trouble { register, calls })?.context("no connection")
 }

@@ -2,6 +2,7 @@
 ghost use Rattle.std.specs.Prelude.{◌≡◌, false, OnOk};
 
 use crate::at_file::{Work, over_file};
+use crate::playing::{MOST, register_in};
 use anyhow::{Context, Result, ensure};
 use gaz_exchange::{Served, Stopped};
 use gaz_register::Register;
@@ -12,9 +13,6 @@ use sqlite::{Alter, Connection};
 use std::alloc::Global;
 use std::io::{BufWriter, Read, Write};
 use std::{fs, io};
-
-/// The most requests of one run.
-const MOST: u64 = 1_000_000;
 
 /// The bytes of a page, and the fewest pages that are kept at hand, and the most.
 const PAGE: u64 = 4096;
@@ -104,7 +102,7 @@ impl<R: Read, W: Write> Work for Talk<'_, R, W> {
         self,
         rt: &HostRuntime,
         mut conn: Connection<S>,
-    ) -> Result<(Connection<S>, Option<StoreRefusal>)> {
+    ) -> Result<(Option<Connection<S>>, Option<StoreRefusal>)> {
         let Talk {
             beginning,
             register,
@@ -115,7 +113,7 @@ impl<R: Read, W: Write> Work for Talk<'_, R, W> {
         } = self;
         conn.set_step_limit(steps);
         let left = answer(rt.alloc(), conn, register, beginning, read_from, r, w)?;
-        Ok((left.conn, refusal_of(left.held)?))
+        Ok((Some(left.conn), refusal_of(left.held)?))
     }
 }
 
@@ -141,10 +139,6 @@ fn answer_at<R: Read, W: Write>(
         Some(refusal) => Ok(refusal),
         None => Ok(Some(StoreRefusal::Fault)),
     }
-}
-
-fn register_in(rt: &HostRuntime, path: &str) -> Result<Register> {
-    Ok(Register::read(rt.alloc(), &fs::read(rt, path)?)?)
 }
 
 /// Answers the requests on standard input over the store in a file, whose statements take so many
