@@ -86,15 +86,15 @@ def lanes() -> int:
     return min(max(len(os.sched_getaffinity(0)) - 1, 2), 3)
 
 
-def prove(room: Path, account: Account, proved: set[str]) -> None:
-    """Everything from nothing, by the kit's own gate: HANDLES, layout, proofs, tests, and the programs by two compilers. The name of
-    each crate is among the proved ones once it is."""
+def prove(room: Path, account: Account, proved: set[str], is_anew: bool) -> None:
+    """Everything from nothing, by the kit's own gate: HANDLES, layout, proofs, tests, and the programs by two compilers; anew, also what
+    an earlier run on this machine proved. The name of each crate is among the proved ones once it is."""
 
     def hear(line: str) -> None:
         say(line)
         proved.update(PROVED.findall(line))
 
-    ran, costs = measure.watch(["env", f"RT_JOBS={lanes()}", "rt", "ci"], room, hear)
+    ran, costs = measure.watch(["env", f"RT_JOBS={lanes()}", "rt", "ci", *["--anew"] * is_anew], room, hear)
     for (name, tests), seconds in costs.seconds.items():
         column = account.tests if tests else account.proof
         column[name] = column.get(name, 0.0) + seconds
@@ -208,20 +208,23 @@ def copy_edits(root: Path, room: Path) -> None:
         shutil.copytree(edits, room / edits.parent.name / "must-fail")
 
 
-def whole(root: Path) -> int:
+def whole(root: Path, is_anew: bool) -> int:
     """The gate: everything from nothing, in a copy of the tree."""
     clock, account, proved = measure.Clock(), Account(), set()
-    own_tests(root, account)
     read_pages(root, account)
+    # (beside the first proofs, which leave a processor idle)
+    own = threading.Thread(target=own_tests, args=(root, account))
+    own.start()
     with tempfile.TemporaryDirectory(prefix="check-tree-") as made, tempfile.TemporaryDirectory(prefix="check-edits-") as apart:
         room = Path(made)
         copy_of(root, room)
         copy_edits(root, Path(apart))
         crates = kit.crates(room)
-        edits = Edits(lambda crate: Path(apart) / crate.name, lambda crate, kept: None, account, Refused(refused.store()))
+        edits = Edits(lambda crate: Path(apart) / crate.name, lambda crate, kept: None, account, Refused(refused.store()), is_anew)
         beside = edits.beside(edits.have(crates), proved)
         beside.start()
-        prove(room, account, proved)
+        prove(room, account, proved, is_anew)
+        own.join()
         converse(room, root, account)
         keep(room, root, account)
         edits.try_all([it for it in beside.end() if it.name in proved])
