@@ -14,7 +14,11 @@ import os
 import sqlite3
 import sys
 
-from hub import ADOPTION, READERS, REGISTER, RELEASE, ROWS, Custody, Hub, answer, judge, line_of, names_unknown_profile, needed_by, read
+from hub import REGISTER, Hub, answer
+from hub_files import READERS, ROWS, names_unknown_profile, read
+from hub_lines import line_of
+from hub_rules import judge
+from hub_views import ADOPTION, RELEASE, Custody, needed_by
 
 sys.path.append(os.path.dirname(os.path.dirname(os.path.abspath(__file__))))
 from checks.sample import TEXT  # noqa: E402

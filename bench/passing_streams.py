@@ -7,7 +7,9 @@ import csv
 import io
 import random
 
-import hub
+from hub_files import READERS_OF, ROWS, change_of
+from hub_rules import record_rule
+from hub_views import RELEASE, apply, needed_by
 from random_streams import GROWN, OWN, Cast, fields_of, files_of, requests_of
 
 SIX = GROWN | {1005: ([(400_000, 499_999)], [(500, 599)]), 1006: ([(500_000, 599_999)], [(600, 699)])}
@@ -26,7 +28,7 @@ def pairs(blocks):
 
 def offers(view, code):
     """What a view shows as released to a custodian: the number and the hop of each."""
-    return [(n, hop) for n, (action, to, hop) in view.custody.known.items() if (action, to) == (hub.RELEASE, code)]
+    return [(n, hop) for n, (action, to, hop) in view.custody.known.items() if (action, to) == (RELEASE, code)]
 
 
 def bases_of(rng, code, boards):
@@ -45,11 +47,11 @@ def text_of(fields):
 def freed(view, uprn):
     """The changes by which nothing in a view names a property any more."""
     for key, item in sorted(view.items.items()):
-        needed = hub.needed_by(key, item)
+        needed = needed_by(key, item)
         if needed == (31, uprn):
-            yield key[0], "D", hub.ROWS[key[0]](item)
+            yield key[0], "D", ROWS[key[0]](item)
         elif needed == (35, uprn):
-            yield key[0], "U", hub.ROWS[key[0]]((*item[:4], "", *item[5:]))
+            yield key[0], "U", ROWS[key[0]]((*item[:4], "", *item[5:]))
 
 
 def release(rng, cast, code, view, held):
@@ -97,7 +99,7 @@ def change_in(code, change):
     """A change as a file's reading has it: its action, key and item."""
     kind, action, fields = change
     row = [kind, action, "1", *map(str, fields)]
-    return hub.change_of(hub.READERS_OF[2][kind], row, 1, 0, code)[1:]
+    return change_of(READERS_OF[2][kind], row, 1, 0, code)[1:]
 
 
 def is_fit(cast, code, view, out, changes):
@@ -105,10 +107,10 @@ def is_fit(cast, code, view, out, changes):
     *before, last = (change_in(code, it) for it in changes)
     view = view.copy() if before else view
     for it in before:
-        if hub.record_rule(code, cast.register[code], view, out, *it):
+        if record_rule(code, cast.register[code], view, out, *it):
             return False
-        hub.apply(view, *it)
-    return hub.record_rule(code, cast.register[code], view, out, *last) is None
+        apply(view, *it)
+    return record_rule(code, cast.register[code], view, out, *last) is None
 
 
 def draft(cast, rng, code, volume, boards):
@@ -123,7 +125,7 @@ def draft(cast, rng, code, volume, boards):
             if changes and is_fit(cast, code, view, out, changes):
                 break
         for change in changes:
-            hub.apply(view, *change_in(code, change))
+            apply(view, *change_in(code, change))
         rows += changes
     lines = [f"{kind},{action},{order},{text_of(fields)}" for order, (kind, action, fields) in enumerate(rows, 1)]
     return [f"10,2,{code},{volume},2025-01-02", *(f"90,{d},{w}" for d, w in bases.items()), *lines, f"99,{len(rows)}"]

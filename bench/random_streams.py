@@ -6,6 +6,9 @@ import random
 from dataclasses import dataclass, field
 
 import hub
+from hub_files import KEY_WIDTH, READERS, read
+from hub_rules import judge, record_rule
+from hub_views import View, apply
 
 DAYS = ["2001-04-01", "2020-01-01", "2024-04-30"]
 
@@ -68,11 +71,11 @@ def draft(cast, rng, code, volume, boards):
         for _ in range(rng.choice([1, 20, 20, 20, 20])):
             kind, fields = fields_of(cast, rng, *cast.own[code])
             action = rng.choice("IIIUUD")
-            item = hub.READERS[kind]([str(f).strip('"') for f in fields])
-            key = (kind, *item[: hub.KEY_WIDTH[kind]])
-            if hub.record_rule(code, cast.register[code], view, {}, action, key, item) is None:
+            item = READERS[kind]([str(f).strip('"') for f in fields])
+            key = (kind, *item[: KEY_WIDTH[kind]])
+            if record_rule(code, cast.register[code], view, {}, action, key, item) is None:
                 break
-        hub.apply(view, action, key, item)
+        apply(view, action, key, item)
         lines.append(",".join([kind, action, str(order), *map(str, fields)]))
     changes = sum(1 for line in lines if not line.startswith("90"))
     return [f"10,1,{code},{volume},2024-01-02", *lines, f"99,{changes}"]
@@ -99,12 +102,12 @@ def spoilt(rng, lines):
 
 def judged(cast, code, volume, data, boards):
     """The verdict on a file on the planned boards, where its bases are there."""
-    bases, changes = hub.read(data, code, volume)
+    bases, changes = read(data, code, volume)
     if not isinstance(bases, list):
         return (bases, changes), boards[code][-1]
     if any(d not in boards or w >= len(boards[d]) for d, w in bases):
         return "held", boards[code][-1]
-    return hub.judge(code, cast.register[code], boards[code][-1], {d: boards[d][w] for d, w in bases}, changes)
+    return judge(code, cast.register[code], boards[code][-1], {d: boards[d][w] for d, w in bases}, changes)
 
 
 def next_file(cast, rng, code, boards, drafted=draft):
@@ -133,7 +136,7 @@ def opening(cast, code):
 
 
 def files_of(cast, rng, count, drafted=draft):
-    boards = {code: [hub.View()] for code in cast.own}
+    boards = {code: [View()] for code in cast.own}
     files = []
     for code in rng.sample(list(cast.own), rng.randint(0, len(cast.own))):
         files.append((code, 1, opening(cast, code)))

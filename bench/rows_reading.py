@@ -1,8 +1,8 @@
 """What reading costs: change files, registers, items; and what a hostile file costs."""
-import hub
 import items
 import registers
 import streams
+from hub_files import read
 from measure import MIB, blocked_peak, in_file, least_seconds, output_of, register_of
 from sides import IN_MEMORY, Place, played
 
@@ -22,7 +22,7 @@ def reading_seconds(what, folder, data, rounds):
 
 def file_row(folder, title, data):
     ours = reading_seconds("file", folder, data, 100)
-    theirs, told = least_seconds(lambda: hub.read(data, 1001, 1), 20)
+    theirs, told = least_seconds(lambda: read(data, 1001, 1), 20)
     assert isinstance(told[0], list), f"the plain hub finds a fault: {title}"
     return f"reading a file of {title}", f"{theirs / ours:.1f} times the plain hub", f"{len(data) / ours / 1e6:,.0f} MB/s"
 
