@@ -27,7 +27,7 @@ use Rattle.gaz_changefile.specs.Rules.{Before, before_of, later_rules, rules_at}
 use Rattle.gaz_changefile.specs.declared.action.Action.{Action}
 use Rattle.gaz_changefile.specs.declared.change.Change.{Change}
 use Rattle.gaz_changefile.specs.declared.line.Line.TheVariants as line
-use Rattle.gaz_changefile.proofs.Back.{cons_all}
+use Rattle.gaz_changefile.proofs.RecordsBack.{cons_all}
 
 -- an item that was read is of the kind that it was read as
 mapped : {A B E : Type 0} (f : A → B) (r : Result A E) (y : B) → map_ok f r ≡ Ok y → (x : A) × (f x ≡ y)

@@ -4,6 +4,9 @@ pub mod Orderly
 pub mod Typed
 pub mod Written
 pub mod Texts
+pub mod RecordsBack
+pub mod RulesKept
+pub mod ContentsBack
 pub mod Back
 pub mod Entries
 pub mod Quick
