@@ -24,6 +24,7 @@ COLUMNS = {
     "version": ["cust", "kind", "id", "blpu", "street", "lang", "live", "born", "gone", "body"],
 }
 FIELD = re.compile(r'(\w+): (b?"(?:[^"\\]|\\.)*"|[0-9_]+)')
+CONTINUED = re.compile(r"\\\n\s*")
 ROWS = {
     "meta": [(1, 1, TEXT)],
     "received": [(1001, 1, b"a 'file'\n", 1, 0, 0), (1001, 2, b"", 2, 3, 21), (1001, 4, b"x", 0, 0, 0)],
@@ -32,8 +33,8 @@ ROWS = {
 
 
 def rows_in(text: str, table: str) -> list[tuple]:
-    """The rows of a table as a module has them: values of a struct with a field for each column, which Python writes alike."""
-    found = [FIELD.findall(it) for it in re.findall(rf"\b{table.capitalize()} \{{([^{{}}]*)\}}[,;\]]", text)]
+    """The rows of a table as a module has them: values of a struct with a field for each column, which Python writes alike once a text is on one line."""
+    found = [FIELD.findall(it) for it in re.findall(rf"\b{table.capitalize()} \{{([^{{}}]*)\}}[,;\]]", CONTINUED.sub("", text))]
     assert all([name for name, _ in fields] == COLUMNS[table] for fields in found), table
     return [tuple(ast.literal_eval(value) for _, value in fields) for fields in found]
 

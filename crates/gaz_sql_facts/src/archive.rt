@@ -22,7 +22,10 @@ pub fn make_archive<S: Alter>(tx: &mut Transaction<'_, S>) -> Result<usize, Erro
         (λ _. ⊥) }
 {
     tx.execute(
-        "CREATE TABLE archive (shelf INTEGER NOT NULL, name TEXT NOT NULL, since INTEGER NOT NULL, body BLOB NOT NULL, lent INTEGER NOT NULL, PRIMARY KEY (shelf, name, since)) STRICT",
+        "CREATE TABLE archive \
+         (shelf INTEGER NOT NULL, name TEXT NOT NULL, since INTEGER NOT NULL, \
+         body BLOB NOT NULL, lent INTEGER NOT NULL, \
+         PRIMARY KEY (shelf, name, since)) STRICT",
         &[],
     )
 }

@@ -48,7 +48,9 @@ pub(crate) struct Version {
 pub(crate) const META: Meta = Meta {
     id: 1,
     number: 1,
-    register: "1001,Upper County,1-99999 999999999000-999999999999,100-199 99999999-99999999\n1002,Lower District,100000-199999,200-299\n1003,Bay District,200000-299999,300-399\n",
+    register: "1001,Upper County,1-99999 999999999000-999999999999,100-199 99999999-99999999\n\
+        1002,Lower District,100000-199999,200-299\n\
+        1003,Bay District,200000-299999,300-399\n",
 };
 
 /// The `gone` of a row that is current.
