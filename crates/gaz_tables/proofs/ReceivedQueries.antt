@@ -34,16 +34,6 @@ pub verdict_is : IsSelect store_schema verdict_text (selecting receiveds volume_
 unfolding understood everything
 verdict_is = record { is = refl; plain = (refl, refl); unlisted = refl }
 
-abbrev pub is_there_text : List ℕ
-is_there_text = codes "SELECT volume FROM received WHERE cust = ?1 AND volume = ?2"
-
-abbrev pub is_there_terms : List Term
-is_there_terms = col 1 2 ∷ []
-
-pub is_there_is : IsSelect store_schema is_there_text (selecting receiveds volume_tests is_there_terms [] every) (codes "volume" ∷ [])
-unfolding understood everything
-is_there_is = record { is = refl; plain = (refl, refl); unlisted = refl }
-
 abbrev pub above_text : List ℕ
 above_text = codes "SELECT volume FROM received WHERE cust = ?1 AND volume > ?2 ORDER BY volume LIMIT ?3"
 

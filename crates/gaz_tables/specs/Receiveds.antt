@@ -59,10 +59,6 @@ FindsFile cust volume rows answer = ShowsAll (IsVolume cust volume) file_shown r
 abbrev pub FindsVerdict : ℕ → ℕ → List Row → List Row → Type 0
 FindsVerdict cust volume rows answer = ShowsAll (IsVolume cust volume) verdict_shown rows answer
 
--- the volume itself, where it was received
-abbrev pub FindsVolume : ℕ → ℕ → List Row → List Row → Type 0
-FindsVolume cust volume rows answer = ShowsAll (IsVolume cust volume) volume_shown rows answer
-
 -- the volumes above one, as they rise, each once: the first so many
 pub record FindsAbove (cust volume most : ℕ) (rows answer : List Row) : Type 0 where
   pub page : ShowsPage (IsAbove cust volume) volume_place most volume_shown rows answer

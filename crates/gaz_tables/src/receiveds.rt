@@ -4,7 +4,7 @@ ghost use Rattle.std.specs.Prelude.{◌≡◌, false};
 ghost use Rattle.gaz_tables.specs.Stores.{AddsRow, Finds, LeavesAsBefore, Spares, SparesInside};
 ghost use Rattle.gaz_tables.specs.Stores.{Stays, StaysInside, WasOpen, WritesInside};
 ghost use Rattle.gaz_tables.specs.Receiveds.{Applies, AtMostOne, FindsAbove, FindsFile};
-ghost use Rattle.gaz_tables.specs.Receiveds.{FindsVerdict, FindsVolume, Rejects, unjudged};
+ghost use Rattle.gaz_tables.specs.Receiveds.{FindsVerdict, Rejects, unjudged};
 
 use sqlite::{Alter, Connection, Error, Row, Transaction, params};
 
@@ -40,26 +40,6 @@ pub fn verdict<S: Alter>(
 {
     conn.query_all(
         "SELECT state, place, rule FROM received WHERE cust = ?1 AND volume = ?2",
-        params![cust, volume],
-    )
-}
-
-/// The volume itself where it was received, or no row; reads the index alone.
-pub fn is_there<S: Alter>(
-    conn: &mut Connection<S>,
-    cust: u32,
-    volume: u32,
-) -> Result<Vec<Row>, Error>
-    ensures found { Finds S.Store conn.old conn.new receiveds result (FindsVolume cust volume) }
-    ensures one { Finds S.Store conn.old conn.new receiveds result AtMostOne }
-    ensures stays { Stays S.Store conn.old conn.new result }
-    ensures open { WasOpen S.Store conn.old conn.new result }
-    ensures spared { Spares S.Store conn.old conn.new result }
-    ensures leaves { LeavesAsBefore S.Store conn.old conn.new }
-    ensures mode { conn.old.in_transaction ≡ false → conn.new.in_transaction ≡ false }
-{
-    conn.query_all(
-        "SELECT volume FROM received WHERE cust = ?1 AND volume = ?2",
         params![cust, volume],
     )
 }
