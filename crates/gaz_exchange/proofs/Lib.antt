@@ -7,9 +7,13 @@ pub mod IncomingFacts
 pub mod ExchangeFacts
 pub mod RoutesKept
 pub mod TurnFacts
+pub mod ConversationEnds
 pub mod ConversationFacts
+pub mod SegmentFacts
 pub mod SeekFacts
+pub mod ParameterFacts
 pub mod RouteFacts
+pub mod NamedFacts
 pub mod WalkFacts
 pub mod BodyFacts
 pub mod StreamLaws

@@ -15,8 +15,9 @@ use Rattle.gaz_exchange.specs.Targets.{Closed, Custodian, Extract, Nowhere, Prop
 use Rattle.gaz_exchange.specs.declared.route.Place.{Place}
 use Rattle.gaz_exchange.specs.declared.route.Place.TheVariants as place
 use Rattle.gaz_exchange.proofs.ExchangeFacts.{both}
-use Rattle.gaz_exchange.proofs.RouteFacts.{IsAt, IsCustodian, IsExtract, IsProperty, IsVolume, closed_named, custodian_named, extract_named, extract_target, found_is, property_named, route_of, volume_named, volume_target}
-use Rattle.gaz_exchange.proofs.SeekFacts.{AllBytes, are_bytes, segment_cut}
+use Rattle.gaz_exchange.proofs.RouteFacts.{IsAt, IsCustodian, IsExtract, IsProperty, IsVolume, extract_target, found_is, route_of, volume_target}
+use Rattle.gaz_exchange.proofs.NamedFacts.{closed_named, custodian_named, extract_named, property_named, volume_named}
+use Rattle.gaz_exchange.proofs.SegmentFacts.{AllBytes, are_bytes, segment_cut}
 
 next_at-below : (len at : ℕ) → at < len → next_at len at ≡ at + 1
 next_at-below len at h = let below : nat_lt at len ≡ true = grind (arith, nat_tests, h) in rw below refl

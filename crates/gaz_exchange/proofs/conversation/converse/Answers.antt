@@ -1,7 +1,8 @@
 use Rattle.std.proofs.Common.{◌∙◌, ap, arith, refl}
 use Rattle.gaz_hub.specs.Hubs.{door_of}
 use Rattle.gaz_exchange.proofs.TurnFacts.{turn_at}
-use Rattle.gaz_exchange.proofs.ConversationFacts.{ends_closed, ends_most, ends_over, finishes, so_far_more, so_far_none, stops}
+use Rattle.gaz_exchange.proofs.ConversationEnds.{finishes}
+use Rattle.gaz_exchange.proofs.ConversationFacts.{ends_closed, ends_most, ends_over, so_far_more, so_far_none, stops}
 use Rattle.gaz_exchange.proofs.FailureFacts.{finish_fault}
 use Rattle.gaz_exchange.proofs.conversation.converse.Goals as goal
 

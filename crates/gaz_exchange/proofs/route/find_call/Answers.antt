@@ -1,8 +1,8 @@
 use Rattle.std.proofs.Common.{◌∙◌, ap, arith, sym}
 use Rattle.gaz_exchange.specs.Asking.{call_at}
 use Rattle.gaz_exchange.specs.declared.route.Place.TheVariants as place
-use Rattle.gaz_exchange.proofs.RouteFacts.{named_nowhere}
-use Rattle.gaz_exchange.proofs.SeekFacts.{AllBytes}
+use Rattle.gaz_exchange.proofs.NamedFacts.{named_nowhere}
+use Rattle.gaz_exchange.proofs.SegmentFacts.{AllBytes}
 use Rattle.gaz_exchange.proofs.WalkFacts.{named_as}
 use Rattle.gaz_exchange.proofs.route.find_call.Goals as goal
 
