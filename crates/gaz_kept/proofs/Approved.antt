@@ -34,7 +34,7 @@ use Rattle.gaz_kept.proofs.AtKeys.{held_item, item_held}
 use Rattle.gaz_kept.proofs.NewestRows.{same_item}
 use Rattle.gaz_kept.proofs.Rising.{approved_is, approved_rise, approved_there, entry_is, rising_same}
 use Rattle.gaz_kept.proofs.Views.{IsEntry}
-use Rattle.gaz_kept.proofs.Statements.{Says, fits, history_of, item_of, item_row, its_custodian, kind_row, read_from, read_in, some_same, whole}
+use Rattle.gaz_kept.proofs.RowsRead.{Says, fits, history_of, item_of, item_row, its_custodian, kind_row, read_from, read_in, some_same, whole}
 
 -- ---- an approved address by its cells
 

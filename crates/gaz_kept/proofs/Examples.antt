@@ -29,7 +29,7 @@ use Rattle.gaz_views.specs.declared.verdict.Verdict.TheVariants.{Applied, Reject
 use Rattle.gaz_cells.proofs.CellsBack.{cells_back}
 use Rattle.gaz_cells.specs.Columns.{cells_of}
 use Rattle.gaz_cells.specs.Reading.{read_cells}
-use Rattle.gaz_overlay.proofs.Rows.{item_after, stands, used_after, uses}
+use Rattle.gaz_overlay.proofs.StandingRows.{item_after, stands, used_after, uses}
 use Rattle.gaz_overlay.specs.Passages.{has_passed, passed_keys}
 use Rattle.gaz_overlay.specs.Rows.{HistoryRow, view_after}
 use Rattle.gaz_tables.specs.Receiveds.{judged}
@@ -44,7 +44,7 @@ use Rattle.gaz_kept.specs.Newest.{IsNewest, IsNewestUntil}
 use Rattle.gaz_kept.specs.Versions.{histories_in, history_in, item_in, living, passages_in, values_of, view_in}
 use Rattle.gaz_kept.proofs.CustodyFollows.{no_passage}
 use Rattle.gaz_kept.proofs.PassageRows.{never_passed}
-use Rattle.gaz_kept.proofs.Statements.{passage_kind, passage_none}
+use Rattle.gaz_kept.proofs.RowsRead.{passage_kind, passage_none}
 use Rattle.gaz_kept.proofs.Said.{cells_same, not_another, says}
 
 -- ---- histories

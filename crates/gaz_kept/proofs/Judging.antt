@@ -26,7 +26,7 @@ use Rattle.gaz_kept.specs.Judging.{AreFiles, Arrives, FilesChange, IsJudged, IsV
 use Rattle.gaz_kept.specs.Kept.{AreFirst, IsFile}
 use Rattle.gaz_kept.specs.Versions.{number_in}
 use Rattle.gaz_kept.proofs.Pairs.{AreSingle, IsWith, alike, inserted, not_there}
-use Rattle.gaz_kept.proofs.Statements.{not_none, read_from, read_in, some_same, whole}
+use Rattle.gaz_kept.proofs.RowsRead.{not_none, read_from, read_in, some_same, whole}
 
 -- ---- the entries of the files
 

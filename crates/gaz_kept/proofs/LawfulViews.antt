@@ -31,7 +31,7 @@ use Rattle.gaz_kept.proofs.AtKeys.{item_held}
 use Rattle.gaz_kept.proofs.Boards.{board_reads}
 use Rattle.gaz_kept.proofs.Pairs.{in_set}
 use Rattle.gaz_kept.proofs.PassageStatements.{passed_later}
-use Rattle.gaz_kept.proofs.Statements.{born_later, history_of, item_of, item_row, its_custodian, read_from, some_same}
+use Rattle.gaz_kept.proofs.RowsRead.{born_later, history_of, item_of, item_row, its_custodian, read_from, some_same}
 use Rattle.gaz_kept.proofs.Views.{IsEntry, used_as, used_at}
 
 -- each row of a custodian's histories has the key of its item

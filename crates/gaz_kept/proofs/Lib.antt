@@ -4,6 +4,7 @@ pub mod Said
 pub mod CustodyFollows
 pub mod Views
 pub mod GoneRows
+pub mod RowsRead
 pub mod Statements
 pub mod PassageStatements
 pub mod PassageRows

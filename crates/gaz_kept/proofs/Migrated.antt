@@ -22,7 +22,7 @@ use Rattle.gaz_kept.specs.OpeningFirst.{IsOfFirst, first_number}
 use Rattle.gaz_kept.specs.Stands.{Stands}
 use Rattle.gaz_kept.specs.Versions.{histories_in, history_in, passage_in, passages_in, view_in}
 use Rattle.gaz_kept.proofs.Rewritten.{becomes_of}
-use Rattle.gaz_kept.proofs.Statements.{read_from, read_in}
+use Rattle.gaz_kept.proofs.RowsRead.{read_from, read_in}
 use Rattle.gaz_kept.proofs.PassageRows.{passages_same}
 use Rattle.gaz_kept.proofs.PassageViews.{same_views}
 

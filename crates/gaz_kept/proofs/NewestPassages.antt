@@ -33,7 +33,7 @@ use Rattle.gaz_kept.specs.declared.passages.Passed.{Passed}
 use Rattle.gaz_kept.proofs.PassageRows.{last_is_current, rows_say}
 use Rattle.gaz_kept.proofs.PassageStatements.{IsPassingOf, PassedBorn, kind_passage, known_of, passage_of, passed_as}
 use Rattle.gaz_kept.proofs.Reached.{reached_room}
-use Rattle.gaz_kept.proofs.Statements.{read_from, read_in, some_same, tells_of}
+use Rattle.gaz_kept.proofs.RowsRead.{read_from, read_in, some_same, tells_of}
 
 -- what cells of what became of a number tell
 told_back : (n : ℕ) (x : Custody) → is_custody x ≡ true → told_in (custody_cells n x) ≡ Some x

@@ -21,7 +21,7 @@ use Rattle.gaz_kept.specs.Kept.{IsItemRow}
 use Rattle.gaz_kept.specs.Newest.{IsLatestOf, IsNewest, IsNewestUntil, SaysLife, SaysNewest, row_of}
 use Rattle.gaz_kept.specs.Versions.{histories_in, history_in, living, number_in, text_in}
 use Rattle.gaz_kept.specs.declared.newest.Life.{Life}
-use Rattle.gaz_kept.proofs.Statements.{Born, IsBirthOf, Says, birth_of, born_as, fits, history_of, item_of, kind_row, read_from, read_in, some_same}
+use Rattle.gaz_kept.proofs.RowsRead.{Born, IsBirthOf, Says, birth_of, born_as, fits, history_of, item_of, kind_row, read_from, read_in, some_same}
 
 -- ---- what the cells of a row at a key say
 

@@ -12,7 +12,7 @@ use Rattle.gaz_records.specs.declared.item.Item.{Item}
 use Rattle.gaz_records.specs.declared.key.Key.TheVariants as key
 use Rattle.gaz_views.specs.View.{custody_at, was_used}
 use Rattle.gaz_views.specs.declared.custody.Custody.TheVariants.{Adopted, Released}
-use Rattle.gaz_overlay.proofs.Rows.{used_after}
+use Rattle.gaz_overlay.proofs.StandingRows.{used_after}
 use Rattle.gaz_overlay.specs.Passages.{PassageRow, custody_after, has_passed, passed_keys}
 use Rattle.gaz_overlay.specs.Rows.{never, view_after}
 use Rattle.gaz_kept.specs.Examples.{changed_101}
@@ -24,7 +24,7 @@ use Rattle.gaz_kept.proofs.CustodyFollows.{no_item, no_passage}
 use Rattle.gaz_kept.proofs.Examples.{none_passed}
 use Rattle.gaz_kept.proofs.PassageRows.{custody_is, used_is}
 use Rattle.gaz_kept.proofs.PassageStatements.{not_owned, says_passage, written_passage}
-use Rattle.gaz_kept.proofs.Statements.{history_none, passage_none}
+use Rattle.gaz_kept.proofs.RowsRead.{history_none, passage_none}
 
 other : ¬ (◌≡◌ {A = ℕ} 1001 1002)
 other e = absurd (omega (arith, e))

@@ -24,7 +24,7 @@ use Rattle.gaz_kept.specs.Kept.{IsPassageRow, IsVersion}
 use Rattle.gaz_kept.specs.Passages.{ArePassedOnce, EndsPassing, InsertPasses, ended_with}
 use Rattle.gaz_kept.specs.Versions.{custody_cells_in, history_in, number_in, passage_in, passage_values, passages_in, passing, text_in}
 use Rattle.gaz_kept.proofs.CustodyFollows.{no_item, no_passage}
-use Rattle.gaz_kept.proofs.Statements.{Tells, gone_version, history_none, not_none, passage_kind, passage_none, read_from, read_in, same_added, same_changed, some_same, tells_of, whole}
+use Rattle.gaz_kept.proofs.RowsRead.{Tells, gone_version, history_none, not_none, passage_kind, passage_none, read_from, read_in, same_added, same_changed, some_same, tells_of, whole}
 
 -- ---- a row and what became of its number
 

@@ -15,7 +15,7 @@ use Rattle.gaz_kept.specs.Files.{judged_in, judged_volumes, reached_in}
 use Rattle.gaz_kept.specs.Kept.{AreFirst, IsFile, IsKept}
 use Rattle.gaz_kept.proofs.Judging.{said_by}
 use Rattle.gaz_kept.proofs.Pairs.{found, listed}
-use Rattle.gaz_kept.proofs.Statements.{read_from}
+use Rattle.gaz_kept.proofs.RowsRead.{read_from}
 
 has_last : (a n : ℕ) → Has (range_with_len a (suc n)) (a + n)
 has_last a zero = let same : a + 0 ≡ a = omega arith in inl same

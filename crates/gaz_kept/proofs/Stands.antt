@@ -36,7 +36,7 @@ use Rattle.gaz_kept.specs.Versions.{histories_in, number_in, passages_in, view_i
 use Rattle.gaz_kept.proofs.Boards.{board_adds, board_reads}
 use Rattle.gaz_kept.proofs.Judging.{files_change}
 use Rattle.gaz_kept.proofs.Pairs.{found}
-use Rattle.gaz_kept.proofs.Statements.{born_later, whole}
+use Rattle.gaz_kept.proofs.RowsRead.{born_later, whole}
 use Rattle.gaz_kept.proofs.PassageRows.{no_passages, passages_next}
 use Rattle.gaz_kept.proofs.PassageStatements.{passed_later}
 use Rattle.gaz_kept.proofs.PassageViews.{views_stay}

@@ -29,7 +29,7 @@ use Rattle.gaz_overlay.specs.Rows.{AreTold, HistoryRow, added, closed, is_of_bir
 use Rattle.gaz_overlay.specs.Writings.{nothing, writing_at, writing_of}
 use Rattle.gaz_overlay.specs.declared.touch.NewRow.{NewRow}
 use Rattle.gaz_overlay.specs.declared.touch.Touch.{Touch}
-use Rattle.gaz_overlay.proofs.Rows.{closes_since}
+use Rattle.gaz_overlay.proofs.NextRows.{closes_since}
 use Rattle.gaz_tables.specs.Versions.{Closes}
 use Rattle.gaz_kept.specs.Histories.{AddsVersion, AreSame, AreVersions, ClosesVersion, Gain, SamePassages, gone_with}
 use Rattle.gaz_kept.specs.Keeping.{AddsItem, ClosesRow, WritesKey, WritesKeys}
@@ -37,7 +37,8 @@ use Rattle.gaz_kept.specs.Kept.{AreThrough}
 use Rattle.gaz_kept.specs.Versions.{histories_in, living}
 use Rattle.gaz_kept.proofs.Pairs.{missing, ties_has}
 use Rattle.gaz_kept.proofs.Singly.{Current, current_of, singly, singly_kept, singly_only}
-use Rattle.gaz_kept.proofs.Statements.{AreOnce, closes_version, insert_adds, read_from, read_in}
+use Rattle.gaz_kept.proofs.RowsRead.{read_from, read_in}
+use Rattle.gaz_kept.proofs.Statements.{AreOnce, closes_version, insert_adds}
 use Rattle.gaz_kept.proofs.Written.{Comes, IsWritten, Rows, WasThere, adds_none, adds_row, among, before_here, closed_in, closes_none, closes_row, once_now}
 
 -- ---- keys in turn

@@ -10,7 +10,7 @@ use Rattle.sqlite_rules.specs.Lists.{Has}
 use Rattle.sqlite_schema.specs.Names.{same_name}
 use Rattle.gaz_records.specs.declared.key.Key.TheVariants as key
 use Rattle.gaz_views.specs.Examples.{street}
-use Rattle.gaz_overlay.proofs.Rows.{item_after, stands}
+use Rattle.gaz_overlay.proofs.StandingRows.{item_after, stands}
 use Rattle.gaz_overlay.specs.Rows.{view_after}
 use Rattle.gaz_sql_facts.specs.Copies.{AreCopied}
 use Rattle.gaz_tables.specs.Metas.{Rewrites, id_of, meta_row}

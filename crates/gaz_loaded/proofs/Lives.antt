@@ -20,7 +20,7 @@ use Rattle.gaz_overlay.specs.Rows.{HistoryRow, never}
 use Rattle.gaz_overlay.specs.Rows as rows
 use Rattle.gaz_kept.specs.Histories.{AreSame, Gain, Gained}
 use Rattle.gaz_kept.specs.Kept.{AreInTurn}
-use Rattle.gaz_kept.proofs.Statements.{read_from, read_in}
+use Rattle.gaz_kept.proofs.RowsRead.{read_from, read_in}
 use Rattle.gaz_kept.proofs.Views.{rows_join, same_rows}
 use Rattle.gaz_loaded.specs.Lives.{AllAtHand, AreAtHand, AreOf, IsBehind, IsBy, IsFirst, LivesJoin, RestoredIsAtHand, Told, gone_of, life_of, lives_of}
 use Rattle.gaz_loaded.proofs.LifeViews.{gained_life, life_beside}

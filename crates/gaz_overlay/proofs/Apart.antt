@@ -27,7 +27,9 @@ use Rattle.gaz_overlay.specs.declared.touch.Stood.{Stood}
 use Rattle.gaz_overlay.specs.declared.touch.Stood.TheVariants.{NoRow, Past, Since}
 use Rattle.gaz_overlay.specs.declared.touch.Touch.{Touch}
 use Rattle.gaz_overlay.proofs.Laid.{tie}
-use Rattle.gaz_overlay.proofs.Rows.{Given, IsNoted, Rows, closes_since, item_after, le_so, lt_so, next_view, past_view, stands}
+use Rattle.gaz_overlay.proofs.StandingRows.{Given, IsNoted, Rows, item_after, le_so, lt_so, stands}
+use Rattle.gaz_overlay.proofs.NextRows.{closes_since}
+use Rattle.gaz_overlay.proofs.Rows.{next_view, past_view}
 
 -- ---- lists
 

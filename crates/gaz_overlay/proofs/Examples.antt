@@ -27,7 +27,7 @@ use Rattle.gaz_overlay.specs.declared.touch.Stood.TheVariants.{NoRow, Past, Sinc
 use Rattle.gaz_overlay.specs.declared.touch.Touch.{Touch}
 use Rattle.gaz_overlay.specs.declared.touch.Writing.{Writing}
 use Rattle.gaz_overlay.proofs.Laid.{at_key, tie, used_at}
-use Rattle.gaz_overlay.proofs.Rows.{item_after, used_after}
+use Rattle.gaz_overlay.proofs.StandingRows.{item_after, used_after}
 
 -- ---- views
 

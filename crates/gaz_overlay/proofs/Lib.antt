@@ -1,6 +1,10 @@
 pub mod Laid
 pub mod Questions
+pub mod Touching
+pub mod NumbersPassed
 pub mod Making
+pub mod StandingRows
+pub mod NextRows
 pub mod Rows
 pub mod Kept
 pub mod PassedTree

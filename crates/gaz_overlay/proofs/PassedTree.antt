@@ -10,7 +10,7 @@ use Rattle.std.specs.Map.{keys_of, lookup}
 use Rattle.std.specs.Ordering.{eq_by_cmp, is_eq, nat_cmp}
 use Rattle.gaz_views.proofs.Trees.{entries_tree, get_tree, inserted}
 use Rattle.gaz_overlay.specs.Changes.{Passed, noted}
-use Rattle.gaz_overlay.proofs.Making.{one_number}
+use Rattle.gaz_overlay.proofs.Touching.{one_number}
 
 abbrev pub Kept : Type 0
 Kept = List (ℕ × Option ℕ)

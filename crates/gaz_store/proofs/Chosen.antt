@@ -30,7 +30,7 @@ use Rattle.gaz_kept.specs.Kept.{IsKept}
 use Rattle.gaz_kept.specs.Versions.{history_in, view_in}
 use Rattle.gaz_store.proofs.Holding.{HoldsItem, by_rows, entry_in_view, entry_of, one_row, row_of, said_entry, said_history}
 use Rattle.gaz_kept.proofs.Sorted.{same_sorted, sorted_filter, sorted_from, taken_read}
-use Rattle.gaz_kept.proofs.Statements.{read_from, read_in, some_same}
+use Rattle.gaz_kept.proofs.RowsRead.{read_from, read_in, some_same}
 
 -- the number of a key is that of its entry's kind
 pub kind_of_key : (x : Item) → is_entry x ≡ true → kind_number (key_of x) ≡ number_of (kind_of x)

@@ -40,7 +40,7 @@ use Rattle.gaz_store.proofs.Chosen.{FitJust}
 use Rattle.gaz_store.proofs.Holding.{HoldsItem, kind_row, own_row, said_cells, said_entry, said_history, said_key, said_known, said_text}
 use Rattle.gaz_store.specs.Streets.{is_of_blpu}
 use Rattle.gaz_kept.proofs.Reached.{reached_room}
-use Rattle.gaz_kept.proofs.Statements.{fits, item_of, read_in, same_kind, whole}
+use Rattle.gaz_kept.proofs.RowsRead.{fits, item_of, read_in, same_kind, whole}
 
 -- ---- ids behind a text
 

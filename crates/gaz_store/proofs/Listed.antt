@@ -21,7 +21,7 @@ use Rattle.gaz_tables.specs.Versions.{kind_of}
 use Rattle.gaz_kept.specs.Kept.{IsItemRow, IsKept, IsVersion}
 use Rattle.gaz_kept.specs.Versions.{number_in, passages_in}
 use Rattle.gaz_kept.proofs.CustodyFollows.{no_item}
-use Rattle.gaz_kept.proofs.Statements.{history_of, item_of, item_row, not_none, passage_kind, read_from, read_in, some_same}
+use Rattle.gaz_kept.proofs.RowsRead.{history_of, item_of, item_row, not_none, passage_kind, read_from, read_in, some_same}
 use Rattle.gaz_loaded.proofs.Lives.{by_or_behind}
 use Rattle.gaz_loaded.specs.Lives.{IsBehind, IsBy, Told}
 use Rattle.gaz_loaded.specs.Telling as listed

@@ -43,7 +43,7 @@ use Rattle.gaz_store.proofs.Fits.{comes_in, holding_just}
 use Rattle.gaz_store.proofs.Holding.{HoldsItem, by_ids, said_cells, said_entry, said_known}
 use Rattle.gaz_kept.proofs.Reached.{reached_room}
 use Rattle.gaz_kept.proofs.PassageStatements.{passed_later}
-use Rattle.gaz_kept.proofs.Statements.{born_later, fits}
+use Rattle.gaz_kept.proofs.RowsRead.{born_later, fits}
 
 -- ---- where a page begins
 

@@ -39,7 +39,7 @@ use Rattle.gaz_kept.specs.Versions.{custody_cells_in, number_in, passage_in, pas
 use Rattle.gaz_kept.proofs.PassageStatements.{Known, its_owner, kind_passage, known_of, passage_row}
 use Rattle.gaz_kept.proofs.PassageStatements as said
 use Rattle.gaz_kept.proofs.Reached.{reached_room}
-use Rattle.gaz_kept.proofs.Statements.{read_from, read_in, some_same, tells_of}
+use Rattle.gaz_kept.proofs.RowsRead.{read_from, read_in, some_same, tells_of}
 use Rattle.gaz_loaded.specs.Passing.{AreToldBehind, AreToldInTurn, ComesBehind, IsNext, passage_of}
 use Rattle.gaz_loaded.specs.declared.listed.Passage.{Passage}
 use Rattle.gaz_store.specs.Passages.{IsStartOf, SayPassages, SaysPassage}

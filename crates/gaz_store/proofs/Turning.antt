@@ -20,7 +20,7 @@ use Rattle.gaz_views.specs.Lawful.{IsLawfulView}
 use Rattle.gaz_views.specs.Words.{approved_of, approved_on, entries, first_of, has_children, is_approved_on, is_child_of, names, property_of, tied}
 use Rattle.gaz_overlay.specs.Changes.{Changes, Touched, is_touched, stood_in, was_used_in, with_put, with_taken, with_touched}
 use Rattle.gaz_overlay.specs.Laid.{any_untouched, laid, untouched}
-use Rattle.gaz_overlay.proofs.Making.{none_there, unused}
+use Rattle.gaz_overlay.proofs.Touching.{none_there, unused}
 use Rattle.gaz_ids.specs.declared.lang.Lang.{Lang}
 use Rattle.sqlite_rules.specs.Lists.{Has}
 use Rattle.std.specs.List.{list_any}

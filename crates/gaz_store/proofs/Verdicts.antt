@@ -27,7 +27,7 @@ use Rattle.gaz_kept.proofs.Boards.{board_reads}
 use Rattle.gaz_kept.proofs.Judging.{said_as, said_by, single_judged}
 use Rattle.gaz_kept.proofs.Pairs.{at_one, missing}
 use Rattle.gaz_kept.proofs.Stands.{are_files}
-use Rattle.gaz_kept.proofs.Statements.{not_none, read_from, read_in, whole}
+use Rattle.gaz_kept.proofs.RowsRead.{not_none, read_from, read_in, whole}
 
 module _ (c v : ℕ) (rows answer : List Row) (are : AreFiles rows) (found : FindsVerdict c v rows answer) where
   abbrev entries : List (ℕ × Verdict)

@@ -39,7 +39,7 @@ use Rattle.gaz_kept.proofs.Judging.{said_by, single_files}
 use Rattle.gaz_kept.proofs.Pairs.{at_one}
 use Rattle.gaz_kept.proofs.Pairs as pairs
 use Rattle.gaz_kept.proofs.Stands.{IsThere, are_files, row_of}
-use Rattle.gaz_kept.proofs.Statements.{read_from}
+use Rattle.gaz_kept.proofs.RowsRead.{read_from}
 
 -- ---- what waits
 

@@ -23,7 +23,7 @@ use Rattle.gaz_kept.specs.Files.{file_in}
 use Rattle.gaz_kept.specs.Versions.{living}
 use Rattle.gaz_kept.proofs.Pairs as pairs
 use Rattle.gaz_kept.proofs.Said.{says}
-use Rattle.gaz_kept.proofs.Statements.{some_same}
+use Rattle.gaz_kept.proofs.RowsRead.{some_same}
 use Rattle.gaz_loaded.specs.declared.listed.Life.{Life}
 use Rattle.gaz_store.specs.Lives.{IsRowUntil, SaysLife, TellsLives, is_items}
 use Rattle.gaz_store.specs.Volumes.{TellsVolumes, WasReceived}

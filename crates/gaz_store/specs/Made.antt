@@ -20,7 +20,7 @@ use Rattle.gaz_kept.specs.Versions.{passages_in}
 use Rattle.gaz_kept.proofs.Boards.{board_reads}
 use Rattle.gaz_kept.proofs.LawfulViews.{board_view}
 use Rattle.gaz_kept.proofs.Reached.{reached_room}
-use Rattle.gaz_kept.proofs.Statements.{not_none, read_from}
+use Rattle.gaz_kept.proofs.RowsRead.{not_none, read_from}
 use Rattle.gaz_loaded.specs.Lives.{AreOf, Told, lives_of}
 use Rattle.gaz_store.specs.Listing.{lives_kept, passages_kept, told_in, told_with}
 use Rattle.gaz_store.specs.Store.{seen_in}
