@@ -6,6 +6,7 @@ from pathlib import Path
 from checks import (
     at_hand,
     breaking,
+    calls,
     conversations,
     damaged,
     foreign,
@@ -71,6 +72,7 @@ def of_stores(root: Path, room: Path) -> Iterator[Case]:
     """Of stores in files: the conversations over them, other people's SQLite, rows of custody, damage, stores of the schema before and their migration, rows as they are written,
     registers that grow, what they cost, rings; memory that is wanting, and histories over stores and keepers that fail."""
     yield from held(stored.run_all(root, room))
+    yield from named("calls:", calls.run_all(room))
     yield from held(in_turn.run_all(root, room))
     yield from named("a store", foreign.run_all(root, room))
     yield from named("handed on:", handed_on.run_all(root, room))

@@ -26,7 +26,8 @@ from checks.wanting import body_of
 
 WAITING = ("a file waits for a neighbour's",)
 
-STORES, KEEPERS = ("stored", "at-hand"), ("maps", "store")
+STORES = ("stored", "at-hand")
+MAPS = ("maps",)  # a keeper in memory
 IN_TURN = "stored-each"  # the store is closed and opened between two requests
 
 CALM = 8  # so many runs one behind the other that met nothing are the last
@@ -165,15 +166,14 @@ def memory(room: Room, way: str, store: Path, history: Requests, number: int) ->
     return in_file(room, way, store, history, **room.memory(number))
 
 
-def failing(room: Room, way: str, store: Path, first: int = 0, second: int = 0) -> list[str]:
-    """The words of a hub over a new keeper of which the calls of these numbers fail."""
-    words = ["failing", way, str(room.folder / "register.toml"), str(first), str(second)]
-    return words if way == "maps" else [*words, tempfile.mkdtemp(dir=store.parent) + "/store"]
+def failing(room: Room, first: int = 0, second: int = 0) -> list[str]:
+    """The words of a hub over a keeper in memory of which the calls of these numbers fail."""
+    return ["failing", str(room.folder / "register.toml"), str(first), str(second)]
 
 
 def memory_twice(room: Room, way: str, store: Path, history: Requests, number: int) -> Came:
-    """A request for memory is refused and one of the next, over a new keeper."""
-    return within(room, failing(room, way, store), history, **room.memory(number, number + 1 + number % FARTHEST))
+    """A request for memory is refused and one of the next, over a keeper in memory."""
+    return within(room, failing(room), history, **room.memory(number, number + 1 + number % FARTHEST))
 
 
 def calls(behinds: tuple[int, ...], room: Room, way: str, store: Path, history: Requests, number: int) -> Came:
@@ -181,7 +181,7 @@ def calls(behinds: tuple[int, ...], room: Room, way: str, store: Path, history: 
     met: Counter[str] = Counter()
     for behind in behinds:
         second = number + 1 + behind if behind >= 0 else 0
-        came = within(room, failing(room, way, store, number + 1, second), history, 1 + (behind >= 0))
+        came = within(room, failing(room, number + 1, second), history, 1 + (behind >= 0))
         met += came.met
         if came.fault:
             return Came(f"and {second}: {came.fault}", met)
@@ -191,7 +191,7 @@ def calls(behinds: tuple[int, ...], room: Room, way: str, store: Path, history: 
 def sent_again(room: Room, way: str, store: Path, history: Requests, number: int) -> Came:
     """The keeper's call of a number fails, as that which keeps the judgement of the file for which the others wait. That file is then
     answered 52; it is sent once more, and is applied, as those are that waited for it."""
-    ended = room.run(failing(room, way, store, number + 1), (*history[:3], history[2], *map(outcome_of, history[:2])))
+    ended = room.run(failing(room, number + 1), (*history[:3], history[2], *map(outcome_of, history[:2])))
     met = met_in(ended)
     if ended.refusals()[2:3] != [52]:
         return Came(None, met)
@@ -224,10 +224,10 @@ PARTS = (
     Part("cut-file", functools.partial(cut, "file"), STORES, 4, ("stop",)),
     Part("twice", functools.partial(twice, 5), STORES, 29, ("stop",)),
     Part("memory", memory, STORES, 61, ("51", "no store")),
-    Part("memory twice", memory_twice, KEEPERS, 13),
-    Part("calls", functools.partial(calls, (-1,)), KEEPERS, 1),
-    Part("sent again", sent_again, KEEPERS, 1, ("freed",), WAITING),
-    Part("calls twice", functools.partial(calls, tuple(range(FARTHEST + 1))), KEEPERS, 11),
+    Part("memory twice", memory_twice, MAPS, 13),
+    Part("calls", functools.partial(calls, (-1,)), MAPS, 1),
+    Part("sent again", sent_again, MAPS, 1, ("freed",), WAITING),
+    Part("calls twice", functools.partial(calls, tuple(range(FARTHEST + 1))), MAPS, 11),
 )
 
 

@@ -10,9 +10,11 @@
 //! `gaz_bench replies REQUESTS REPLIES` learns the replies to requests, which are in two files, and answers the requests on standard input, each by
 //! the reply that it learned for its target and body.
 //! `gaz_bench play REGISTER` answers the requests on standard input at a hub of the register in a file, over a keeper in memory.
-//! `gaz_bench failing maps REGISTER FIRST SECOND` does as `play`, but the keeper's call of the number FIRST fails, from 1, and of the calls that
-//! come to the keeper within that which fails so, the one of the number SECOND; 0 is none. `gaz_bench failing store REGISTER FIRST SECOND STORE` does so
-//! over a new store in a file, which is left as it is when the requests end.
+//! `gaz_bench failing REGISTER FIRST SECOND` does as `play`, but the keeper's call of the number FIRST fails, from 1, and of the calls that
+//! come to the keeper within that which fails so, the one of the number SECOND; 0 is none.
+//! `gaz_bench calls STORE REGISTER` makes the calls of the list that each keeper answers alike, over a new store in a file; `gaz_bench calls STORE REGISTER
+//! NUMBER` those of its part of that number, from 0, over what the parts before it left; `gaz_bench calls-at-hand STORE REGISTER` all of them, and brings
+//! what is kept to hand before numbers pass on. Where one is answered otherwise, that is said on standard error.
 //! `gaz_bench IDENTIFIER FILE ROUNDS` takes a record identifier and a file of rows of that kind, which begin behind the order field. It prints a
 //! line with the least time in nanoseconds of reading all items and that of writing all rows, and then the rows.
 #![tactic(auto)]
@@ -20,6 +22,7 @@
 mod at_file;
 mod failing;
 mod floor;
+mod listing;
 mod playing;
 mod reading;
 mod records;
@@ -27,10 +30,11 @@ mod replying;
 mod stored;
 
 use anyhow::Result;
-use failing::{Failing, over_maps, over_store};
+use failing::{Failing, over_maps};
 use floor::play_script;
 use gaz_store::StoreRefusal;
 use gaz_stored::ReadFrom;
+use listing::{Way, make_calls};
 use playing::play;
 use reading::print_rounds;
 use replying::reply_as_learned;
@@ -59,12 +63,12 @@ fn calls_of(first: &str, second: &str) -> Result<Failing> {
 fn measured(rt: &HostRuntime, words: &[&str]) -> Result<()> {
     match words {
         ["play", register] => play(rt, register),
-        ["failing", "maps", register, first, second] => {
-            over_maps(rt, register, calls_of(first, second)?)
+        ["failing", register, first, second] => over_maps(rt, register, calls_of(first, second)?),
+        ["calls", store, register] => make_calls(rt, store, register, Way::All),
+        ["calls", store, register, number] => {
+            make_calls(rt, store, register, Way::Part(number.parse::<u64>()?))
         }
-        ["failing", "store", register, first, second, store] => {
-            over_store(rt, register, calls_of(first, second)?, store)
-        }
+        ["calls-at-hand", store, register] => make_calls(rt, store, register, Way::AtHand),
         ["floor", path, script, pages] => play_script(rt, path, script, pages.parse::<usize>()?),
         ["replies", requests, replies] => reply_as_learned(rt, requests, replies),
         [word, path, rounds] => print_rounds(rt, word, path, rounds),

@@ -23,7 +23,7 @@ const MOST_PAGES: u64 = 64_000;
 
 /// How a store begins.
 #[derive(Clone, Copy)]
-enum Beginning {
+pub enum Beginning {
     Made,
     Opened,
 }
@@ -66,7 +66,7 @@ fn refusal_of(held: Result<Result<Served, Stopped>, StoreRefusal>) -> Result<Opt
 }
 
 /// How the store in a file begins: it is opened where a file is there.
-fn beginning_at(rt: &HostRuntime, path: &str) -> Beginning {
+pub fn beginning_at(rt: &HostRuntime, path: &str) -> Beginning {
     match fs::metadata(rt, path) {
         Ok(_) => Beginning::Opened,
         Err(_) => Beginning::Made,

@@ -1,7 +1,10 @@
-//! What the crates of tests share.
+//! What the crates of tests share: files, a register, items as text, and one list of calls over any
+//! keeper.
 #![tactic(auto)]
 
 pub mod files;
+pub mod items;
+pub mod keepers;
 
 /// A register of three custodians.
 pub const REGISTER: &[u8] = b"[[custodian]]

@@ -1,11 +1,11 @@
 //! Whom a hub asks for a property, by a keeper that counts.
-use crate::items::uprn_of;
 use crate::resting::{Resting, counting_hub};
 use crate::wanted::holds;
 use gaz_hub::{Answer, Outcome};
 use gaz_keeper::Inbox;
 use gaz_register::Register;
 use gaz_samples::REGISTER;
+use gaz_samples::items::uprn_of;
 use gaz_shelf::{Faulty, MemShelf};
 use std::alloc::Global;
 use std::process::Abort;

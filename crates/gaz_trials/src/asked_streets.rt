@@ -1,12 +1,11 @@
 //! How often a keeper is asked for closed streets, by one that counts.
-use crate::items::{Row, custodian, item, volume, writes};
-use crate::keepers::refusal::Refusal;
-use crate::keepers::tried::{Tried, counting_shelf, looked_up};
 use crate::wanted::holds;
 use gaz_keeper::Inbox;
 use gaz_records::{Kind, SharedItem};
 use gaz_register::Register;
 use gaz_samples::REGISTER;
+use gaz_samples::items::{Row, custodian, item, volume, writes};
+use gaz_samples::keepers::{Refusal, Tried, counting_shelf, looked_up};
 use gaz_shelf::Ending;
 use std::alloc::Global;
 use std::test::Fail;

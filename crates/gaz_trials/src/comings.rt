@@ -1,10 +1,10 @@
 //! What comes to a hub and what it then tells, as data: one more in a table costs the proof next to
 //! nothing.
-use crate::items::{custodian, volume};
 use crate::resting::Resting;
 use crate::wanted::holds_at;
 use gaz_hub::{Answer, Outcome};
 use gaz_keeper::Inbox;
+use gaz_samples::items::{custodian, volume};
 use std::alloc::Global;
 use std::fmt::Write;
 use std::process::Abort;
@@ -19,15 +19,11 @@ pub(crate) enum Gets {
     Applied,
     /// It waits for volume 1 of a custodian.
     WaitsFor(u64),
-    /// It is a new one, whatever became of it.
-    New,
 }
 
 pub(crate) enum Event {
     /// A file without changes comes, which rests on these volumes.
     Comes(Place, &'static [Place], Gets),
-    /// One comes that can't be read.
-    Unreadable(Place),
     /// So many files of a custodian are judged and held.
     Stands(u64, u64, u64),
 }
@@ -54,7 +50,6 @@ fn is_answer(answer: Answer, gets: Gets) -> Result<bool, Fail> {
     match gets {
         Gets::Applied => Ok(answer == Answer::New(Outcome::Applied)),
         Gets::WaitsFor(whom) => Ok(answer == waits_for(whom)?),
-        Gets::New => Ok(matches!(answer, Answer::New(_))),
     }
 }
 
@@ -89,9 +84,6 @@ fn is_so<K: Inbox + Drop>(
 ) -> Result<bool, Fail> {
     match event {
         Event::Comes(place, bases, gets) => comes(alloc, hub, *place, bases, *gets),
-        Event::Unreadable((code, volume)) => {
-            is_answer(hub.submit(*code, *volume, b"nothing"), Gets::New)
-        }
         Event::Stands(code, judged, held) => stands(hub, *code, *judged, *held),
     }
 }

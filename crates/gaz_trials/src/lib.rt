@@ -1,5 +1,5 @@
-//! What no reply, no contract and no run of a program tells: what each keeper answers to one list of
-//! calls; how often a keeper is asked, by one that counts; and objects, items, files and registers as
+//! What no reply, no contract and no run of a program tells: what keepers in memory answer to
+//! one list of calls; how often a keeper is asked, by one that counts; and objects, items, files and registers as
 //! callers of the lower crates read and write them.
 #![tactic(auto)]
 
@@ -8,19 +8,17 @@ mod asked_owners;
 #[cfg(test)]
 mod asked_streets;
 #[cfg(test)]
+mod calls;
+#[cfg(test)]
 mod comings;
 #[cfg(test)]
 mod file_fixtures;
 #[cfg(test)]
 mod files_back;
 #[cfg(test)]
-mod items;
-#[cfg(test)]
-mod keepers;
-#[cfg(test)]
 mod look_ups;
 #[cfg(test)]
-mod mirrored;
+mod mirrors;
 #[cfg(test)]
 mod objects;
 #[cfg(test)]

@@ -1,7 +1,4 @@
 //! How often a judgement looks an item up, by a keeper that counts.
-use crate::items::{Row, custodian, file_of, item, item_of, judged, writes};
-use crate::keepers::refusal::Refusal;
-use crate::keepers::tried::{Tried, counting_shelf, looked_up};
 use crate::wanted::{counts, holds};
 use gaz_changefile::Action::{self, Delete, Insert};
 use gaz_changefile::{Change, ChangeFile};
@@ -9,6 +6,8 @@ use gaz_keeper::{Inbox, Verdict};
 use gaz_records::Kind;
 use gaz_register::Register;
 use gaz_samples::REGISTER;
+use gaz_samples::items::{Row, custodian, file_of, item, item_of, judged, writes};
+use gaz_samples::keepers::{Refusal, Tried, counting_shelf, looked_up};
 use std::alloc::Global;
 use std::test::Fail;
 

@@ -2,19 +2,13 @@
 //! these has a clause, and no test carries what the hub's own say.
 ghost use Rattle.gaz_keeper.specs.Keeper.{IsNotOpen};
 
-use crate::keepers::reopening::Reopens;
 use gaz_extract::Found;
 use gaz_hub::{Answer, Hub, Refusal, Standing};
 use gaz_ids::Uprn;
 use gaz_keeper::Inbox;
-use gaz_loaded::Listed;
-use gaz_mirror::Mirror;
-use gaz_mirrored::mirrored;
 use gaz_register::Register;
-use gaz_samples::REGISTER;
 use gaz_shelf::{Faulty, MemShelf, Seed};
 use std::alloc::Global;
-use std::test::Fail;
 
 /// A hub whose keeper has no judgement open.
 #[derive(Drop)]
@@ -27,23 +21,6 @@ pub(crate) struct Resting<K: Inbox + Drop> {
 pub(crate) fn counting_hub(alloc: Global, register: Register) -> Resting<Faulty<MemShelf>> {
     let keeper = Faulty::new(MemShelf::new(alloc, Seed::of(1)), 0);
     Resting::over(alloc, register, keeper)
-}
-
-/// A hub of the sample register that received nothing, over a store that is made in a database.
-pub(crate) fn hub_in<K: Reopens>(alloc: Global, conn: K::Conn) -> Result<Resting<K>, Fail> {
-    let register = Register::read(alloc, REGISTER)?;
-    let keeper = K::made(alloc, conn, &register)?;
-    Ok(Resting::over(alloc, register, keeper))
-}
-
-impl<K: Listed + Drop> Resting<K> {
-    /// A hub over a mirror of its keeper, with all of it at hand.
-    pub(crate) fn mirrored(self, alloc: Global) -> Resting<Mirror<K, MemShelf>> {
-        let Resting { hub } = self;
-        Resting {
-            hub: mirrored(alloc, Seed::of(1), hub),
-        }
-    }
 }
 
 impl<K: Inbox + Drop> Resting<K> {

@@ -1,6 +1,5 @@
 //! Items as text, and the volumes that hold them.
-use crate::keepers::refusal::Refusal;
-use crate::keepers::tried::Tried;
+use crate::keepers::{Refusal, Tried};
 use gaz_changefile::{Basis, Change, ChangeFile};
 use gaz_ids::{Code, Uprn, Volume};
 use gaz_keeper::{Inbox, Verdict};
@@ -9,20 +8,20 @@ use gaz_register::Register;
 use gaz_shelf::Ending;
 use std::alloc::Global;
 
-pub(crate) fn custodian(number: u64) -> Result<Code, Refusal> {
+pub fn custodian(number: u64) -> Result<Code, Refusal> {
     Code::of(number).ok_or(Refusal::Misused)
 }
 
-pub(crate) fn volume(number: u64) -> Result<Volume, Refusal> {
+pub fn volume(number: u64) -> Result<Volume, Refusal> {
     Volume::of(number).ok_or(Refusal::Misused)
 }
 
-pub(crate) fn uprn_of(number: u64) -> Result<Uprn, Refusal> {
+pub fn uprn_of(number: u64) -> Result<Uprn, Refusal> {
     Uprn::of(number).ok_or(Refusal::Misused)
 }
 
 // A file of a day.
-pub(crate) fn file_of(bases: Vec<Basis>, changes: Vec<Change>) -> Result<ChangeFile, Refusal> {
+pub fn file_of(bases: Vec<Basis>, changes: Vec<Change>) -> Result<ChangeFile, Refusal> {
     let date = Day::of(2024, 1, 2).ok_or(Refusal::Misused)?;
     Ok(ChangeFile {
         date,
@@ -32,7 +31,7 @@ pub(crate) fn file_of(bases: Vec<Basis>, changes: Vec<Change>) -> Result<ChangeF
 }
 
 // Judges a file as the next volume, which is received first.
-pub(crate) fn judged<K: Inbox + Drop>(
+pub fn judged<K: Inbox + Drop>(
     alloc: Global,
     shelf: &mut Tried<K>,
     register: &Register,
@@ -45,18 +44,18 @@ pub(crate) fn judged<K: Inbox + Drop>(
 }
 
 /// The kind and the row of an item.
-pub(crate) type Row = (Kind, &'static str);
+pub type Row = (Kind, &'static str);
 
-pub(crate) fn item(alloc: Global, kind: Kind, row: &str) -> Result<SharedItem, Refusal> {
+pub fn item(alloc: Global, kind: Kind, row: &str) -> Result<SharedItem, Refusal> {
     let item = item_of_text(alloc, kind, row.as_bytes())?;
     Ok(SharedItem::new(alloc, item)?)
 }
 
-pub(crate) fn item_of(alloc: Global, row: Row) -> Result<SharedItem, Refusal> {
+pub fn item_of(alloc: Global, row: Row) -> Result<SharedItem, Refusal> {
     item(alloc, row.0, row.1)
 }
 
-pub(crate) fn items_of(alloc: Global, rows: &[Row]) -> Result<Vec<SharedItem>, Refusal> {
+pub fn items_of(alloc: Global, rows: &[Row]) -> Result<Vec<SharedItem>, Refusal> {
     let mut items = Vec::new(alloc);
     for row in rows {
         items.push(item_of(alloc, *row)?)?;
@@ -65,7 +64,7 @@ pub(crate) fn items_of(alloc: Global, rows: &[Row]) -> Result<Vec<SharedItem>, R
 }
 
 // A custodian's volume 1 puts these items into its view, as a file may or may not.
-pub(crate) fn writes<K: Inbox + Drop>(
+pub fn writes<K: Inbox + Drop>(
     alloc: Global,
     shelf: &mut Tried<K>,
     code: Code,

@@ -12,7 +12,7 @@ use gaz_shelf::read_kind;
 use std::alloc::Global;
 
 impl<K: Inbox + Drop> Tried<K> {
-    pub(crate) fn reached(&mut self, code: Code) -> Result<u64, ShelfFault> {
+    pub fn reached(&mut self, code: Code) -> Result<u64, ShelfFault> {
         self.keeper.reached(code)
     }
 

@@ -5,11 +5,13 @@ use std::alloc::{AllocError, AllocFailed};
 
 /// Why a call came to nothing.
 #[derive(Debug, Drop)]
-pub(crate) enum Refusal {
+pub enum Refusal {
     /// The test made it where it is not to be made.
     Misused,
     /// The keeper's answer.
     Fault(ShelfFault),
+    /// The keeper answered otherwise than it is to at this place of a part, from 1.
+    Otherwise(u64),
 }
 
 impl From<ShelfFault> for Refusal {

@@ -10,7 +10,7 @@ use std::alloc::Global;
 
 /// What last became of a number: the other custodian, and the hop.
 #[derive(Clone, Copy, PartialEq, Eq)]
-pub(crate) enum Passage {
+pub enum Passage {
     ReleasedTo(u64, u64),
     AdoptedFrom(u64, u64),
 }

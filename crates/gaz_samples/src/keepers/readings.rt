@@ -10,6 +10,16 @@ use gaz_ids::Lang;
 use gaz_keeper::Verdict::{Applied, Rejected};
 use gaz_records::Kind;
 
+/// Nothing is received or judged.
+pub(crate) const NEW: Part = (
+    "a new keeper",
+    &[
+        Asks(1001, Counts(0, 0)),
+        Asks(1001, File(1, false)),
+        Asks(1001, Verdict(1, None)),
+    ],
+);
+
 pub(crate) const COUNTS: Part = (
     "counts",
     &[

@@ -1,6 +1,6 @@
 //! A keeper as its callers have it. What a call answers is for the tests to find out, so that of
 //! these only the first has a clause, and no test carries what the keeper's own say.
-ghost use Rattle.std.specs.Prelude.{◌≡◌, ℕ, None, Some};
+ghost use Rattle.std.specs.Prelude.{◌≡◌, ℕ, IfOk, None, Some};
 ghost use Rattle.gaz_keeper.specs.Keeper.{IsNotOpen, Open};
 
 use crate::keepers::refusal::Refusal;
@@ -16,7 +16,7 @@ use std::alloc::Global;
 
 /// A keeper, and whose judgement is in progress, where one is known to be.
 #[derive(Drop)]
-pub(crate) struct Tried<K: Inbox + Drop> {
+pub struct Tried<K: Inbox + Drop> {
     pub(crate) keeper: K,
     pub(crate) judged: Option<Code>,
     ghost rests: { judged ≡ None → IsNotOpen (K.seen keeper).progress },
@@ -24,18 +24,18 @@ pub(crate) struct Tried<K: Inbox + Drop> {
 }
 
 /// One around whole maps that counts its calls, and received nothing.
-pub(crate) fn counting_shelf(alloc: Global) -> Tried<Faulty<MemShelf>> {
+pub fn counting_shelf(alloc: Global) -> Tried<Faulty<MemShelf>> {
     Tried::new(Faulty::new(MemShelf::new(alloc, Seed::of(1)), 0))
 }
 
 /// How often an item was looked up in it.
-pub(crate) fn looked_up(shelf: &Tried<Faulty<MemShelf>>) -> u64 {
+pub fn looked_up(shelf: &Tried<Faulty<MemShelf>>) -> u64 {
     shelf.keeper.counted().current
 }
 
 impl<K: Inbox + Drop> Tried<K> {
     /// A keeper between judgements.
-    pub(crate) fn new(keeper: K) -> Tried<K>
+    pub fn new(keeper: K) -> Tried<K>
         requires { IsNotOpen (K.seen keeper).progress }
     {
         Tried {
@@ -44,19 +44,30 @@ impl<K: Inbox + Drop> Tried<K> {
         }
     }
 
-    pub(crate) fn keeper(&self) -> &K {
+    pub fn keeper(&self) -> &K {
         &self.keeper
     }
 
-    pub(crate) fn into_keeper(self) -> K {
+    pub fn into_keeper(self) -> K {
         let Tried { keeper, judged: _ } = self;
         keeper
+    }
+
+    /// The keeper, where no judgement is in progress.
+    pub fn at_rest(self) -> Result<K, Refusal>
+        ensures { IfOk result (λ keeper. IsNotOpen (K.seen keeper).progress) }
+    {
+        let Tried { keeper, judged } = self;
+        match judged {
+            None => Ok(keeper),
+            Some(_) => Err(Refusal::Misused),
+        }
     }
 }
 
 // The calls that write.
 impl<K: Inbox + Drop> Tried<K> {
-    pub(crate) fn begin(&mut self, code: Code) -> Result<(), Refusal> {
+    pub fn begin(&mut self, code: Code) -> Result<(), Refusal> {
         if self.judged.is_some() {
             return Err(Refusal::Misused);
         }
@@ -67,7 +78,7 @@ impl<K: Inbox + Drop> Tried<K> {
         Ok(begun?)
     }
 
-    pub(crate) fn put(&mut self, item: SharedItem) -> Result<(), Refusal> {
+    pub fn put(&mut self, item: SharedItem) -> Result<(), Refusal> {
         if self.judged.is_none() || !item.is_entry() {
             return Err(Refusal::Misused);
         }
@@ -78,7 +89,7 @@ impl<K: Inbox + Drop> Tried<K> {
         Ok(done?)
     }
 
-    pub(crate) fn take(&mut self, key: &Key) -> Result<(), Refusal> {
+    pub fn take(&mut self, key: &Key) -> Result<(), Refusal> {
         if self.judged.is_none() {
             return Err(Refusal::Misused);
         }
@@ -89,7 +100,7 @@ impl<K: Inbox + Drop> Tried<K> {
         Ok(done?)
     }
 
-    pub(crate) fn keep(&mut self) -> Result<(), Refusal> {
+    pub fn keep(&mut self) -> Result<(), Refusal> {
         if self.judged.is_none() {
             return Err(Refusal::Misused);
         }
@@ -98,7 +109,7 @@ impl<K: Inbox + Drop> Tried<K> {
         Ok(done?)
     }
 
-    pub(crate) fn abandon(&mut self) -> Result<(), Refusal> {
+    pub fn abandon(&mut self) -> Result<(), Refusal> {
         if self.judged.is_none() {
             return Err(Refusal::Misused);
         }
@@ -107,7 +118,7 @@ impl<K: Inbox + Drop> Tried<K> {
         Ok(done?)
     }
 
-    pub(crate) fn write_volume(
+    pub fn write_volume(
         &mut self,
         code: Code,
         items: Vec<SharedItem>,
@@ -120,19 +131,14 @@ impl<K: Inbox + Drop> Tried<K> {
         Ok(done?)
     }
 
-    pub(crate) fn skip(&mut self, code: Code, place: u64, rule: u8) -> Result<(), Refusal> {
+    pub fn skip(&mut self, code: Code, place: u64, rule: u8) -> Result<(), Refusal> {
         if self.judged.is_some() {
             return Err(Refusal::Misused);
         }
         Ok(self.keeper.skip(code, place, rule)?)
     }
 
-    pub(crate) fn receive(
-        &mut self,
-        code: Code,
-        volume: Volume,
-        bytes: &[u8],
-    ) -> Result<(), Refusal> {
+    pub fn receive(&mut self, code: Code, volume: Volume, bytes: &[u8]) -> Result<(), Refusal> {
         if self.judged.is_some() {
             return Err(Refusal::Misused);
         }
@@ -142,7 +148,7 @@ impl<K: Inbox + Drop> Tried<K> {
 
 // What goes over any keeper.
 impl<K: Inbox + Drop> Tried<K> {
-    pub(crate) fn judge(
+    pub fn judge(
         &mut self,
         alloc: Global,
         register: &Register,
@@ -155,7 +161,7 @@ impl<K: Inbox + Drop> Tried<K> {
         Ok(judge(alloc, &mut self.keeper, register, code, file)?)
     }
 
-    pub(crate) fn closed_streets(
+    pub fn closed_streets(
         &mut self,
         alloc: Global,
         register: &Register,

@@ -2,28 +2,28 @@
 ghost use Rattle.std.specs.Prelude.{◌≡◌};
 ghost use Rattle.gaz_keeper.specs.Keeper.{Idle};
 
-use crate::keepers::calls::{are_read, performs_all};
-use crate::keepers::refusal::Refusal;
-use crate::keepers::tried::Tried;
+use crate::calls::are_read;
 use crate::wanted::counts_all;
 use gaz_keeper::Inbox;
 use gaz_mirror::{Mirror, Unshared};
+use gaz_samples::keepers::{Refusal, Tried, performs_all};
 use gaz_shelf::{Calls, Faulty, MemShelf, Seed};
+use std::alloc::Global;
 use std::process::Abort;
 use std::test::Fail;
 
 // Makes all calls over two, and takes them apart. What names a mirror of keepers by their own types
 // costs the proof a minute, so that this stays generic over both.
 fn performed<L: Inbox + Drop, U: Unshared + Drop>(
-    rt: &(impl Abort + AllocGlobal),
+    alloc: Global,
     lower: L,
     upper: U,
 ) -> Result<(L, Option<U>), Refusal>
     requires lower { (L.seen lower).progress ≡ Idle }
     requires upper { (U.seen upper).progress ≡ Idle }
 {
-    let mut shelf = Tried::new(Mirror::with(rt.alloc(), lower, upper));
-    performs_all(rt, &mut shelf)?;
+    let mut shelf = Tried::new(Mirror::with(alloc, lower, upper));
+    performs_all(alloc, &mut shelf)?;
     Ok(shelf.into_keeper().into_parts())
 }
 
@@ -32,13 +32,10 @@ type Counting = Faulty<MemShelf>;
 
 // The same over two of which the upper one fails at the call of this number, and at none where that
 // is 0: the lower one, and the upper one unless it was dropped.
-fn performed_failing(
-    rt: &(impl Abort + AllocGlobal),
-    number: u64,
-) -> Result<(Counting, Option<Counting>), Refusal> {
-    let lower = Faulty::new(MemShelf::new(rt.alloc(), Seed::of(1)), 0);
-    let upper = Faulty::new(MemShelf::new(rt.alloc(), Seed::of(2)), number);
-    performed(rt, lower, upper)
+fn performed_failing(alloc: Global, number: u64) -> Result<(Counting, Option<Counting>), Refusal> {
+    let lower = Faulty::new(MemShelf::new(alloc, Seed::of(1)), 0);
+    let upper = Faulty::new(MemShelf::new(alloc, Seed::of(2)), number);
+    performed(alloc, lower, upper)
 }
 
 // All is asked of the keeper above, and nothing of the lower one, nor of what passes.
@@ -92,7 +89,7 @@ fn is_spared(rt: &impl Abort, below: Calls) {
 
 #[test]
 fn the_upper_keeper_answers_so(rt: HostRuntime) -> Result<(), Fail> {
-    let (lower, Some(upper)) = performed_failing(&rt, 0)? else {
+    let (lower, Some(upper)) = performed_failing(rt.alloc(), 0)? else {
         return Err("it was dropped".into());
     };
     let (above, below) = (upper.counted(), lower.counted());
@@ -106,8 +103,8 @@ fn the_upper_keeper_answers_so(rt: HostRuntime) -> Result<(), Fail> {
 // The list has judgements that are read as they are made, so that a reading also fails within one.
 #[test]
 fn the_lower_keeper_answers_where_the_upper_fails(rt: HostRuntime) -> Result<(), Fail> {
-    for call in 1..340 {
-        let _parts = performed_failing(&rt, call)?;
+    for call in 1..345 {
+        let _parts = performed_failing(rt.alloc(), call)?;
     }
     Ok(())
 }

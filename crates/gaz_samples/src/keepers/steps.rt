@@ -8,7 +8,7 @@ use gaz_records::{Key, Kind, RecordKey};
 use gaz_shelf::Ending;
 
 /// A key, by its number or its text.
-pub(crate) enum Name {
+pub enum Name {
     Street(u64),
     Blpu(u64),
     Lpi(&'static str),
@@ -31,20 +31,20 @@ impl Name {
 }
 
 /// A number, and what last became of it.
-pub(crate) type Became = (u64, Option<Passage>);
+pub type Became = (u64, Option<Passage>);
 
 /// A number, and whether an LPI or a cross reference names it.
-pub(crate) type Named = (u64, bool);
+pub type Named = (u64, bool);
 
 /// All items of a kind after a volume, by their rows.
-pub(crate) type View = (u64, Kind, &'static [&'static str]);
+pub type View = (u64, Kind, &'static [&'static str]);
 
 /// A page of a kind after a volume and a key, of so many items at most: how many items it has, and
 /// the row of the first.
-pub(crate) type Page = (u64, Kind, Option<Name>, usize, usize, &'static str);
+pub type Page = (u64, Kind, Option<Name>, usize, usize, &'static str);
 
 /// A call that writes.
-pub(crate) enum Act {
+pub enum Act {
     /// A file of a custodian, by its volume.
     Receive(u64, u64),
     /// Its next volume is rejected, by the place and the rule.
@@ -63,7 +63,7 @@ pub(crate) enum Act {
 }
 
 /// What a keeper is asked of a custodian, and behind that what it is to tell.
-pub(crate) enum Question {
+pub enum Question {
     /// How many volumes are judged and held, and that it can be asked.
     Counts(u64, u64),
     Verdict(u64, Option<Verdict>),
@@ -95,11 +95,11 @@ pub(crate) enum Question {
 }
 
 /// A call of the list.
-pub(crate) enum Step {
+pub enum Step {
     Does(Act),
     /// A custodian's number, and what is asked of it.
     Asks(u64, Question),
 }
 
 /// Steps, and what they are called where one goes wrong.
-pub(crate) type Part = (&'static str, &'static [Step]);
+pub type Part = (&'static str, &'static [Step]);
