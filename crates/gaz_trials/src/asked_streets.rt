@@ -6,7 +6,7 @@ use gaz_register::Register;
 use gaz_samples::REGISTER;
 use gaz_samples::items::{Row, custodian, item, volume, writes};
 use gaz_samples::keepers::{Refusal, Tried, counting_shelf, looked_up};
-use gaz_shelf::Ending;
+use gaz_shelf::{Ending, Faulty, MemShelf};
 use std::alloc::Global;
 use std::test::Fail;
 
@@ -63,13 +63,22 @@ fn lists<K: Inbox + Drop>(alloc: Global, shelf: &mut Tried<K>) -> Result<usize, 
     Ok(shelf.closed_streets(alloc, &register)?.len())
 }
 
-// The same, and how often an item is looked up for it.
+// The same behind these volumes, and how often an item is looked up for it.
+fn listed_behind(
+    alloc: Global,
+    shelf: &mut Tried<Faulty<MemShelf>>,
+    volumes: &[(u64, u64)],
+) -> Result<(usize, u64), Fail> {
+    fills(alloc, shelf, volumes)?;
+    let before = looked_up(shelf);
+    let listed = lists(alloc, shelf)?;
+    Ok((listed, looked_up(shelf).saturating_sub(before)))
+}
+
+// The same in a new keeper.
 fn listed(alloc: Global, volumes: &[(u64, u64)]) -> Result<(usize, u64), Fail> {
     let mut shelf = counting_shelf(alloc);
-    fills(alloc, &mut shelf, volumes)?;
-    let before = looked_up(&shelf);
-    let listed = lists(alloc, &mut shelf)?;
-    Ok((listed, looked_up(&shelf).saturating_sub(before)))
+    listed_behind(alloc, &mut shelf, volumes)
 }
 
 #[test]

@@ -53,16 +53,31 @@ fn is_applied(
     Ok(())
 }
 
+// Each test makes the hub, and another function goes on with it: a function that has it and calls
+// several costs the proof three times as much.
+
+// How often the keeper is asked for the standing of a custodian, of whom nothing is judged.
+fn asked_for(rt: &impl Abort, hub: &mut Resting<Faulty<MemShelf>>, code: u64) -> Result<u64, Fail> {
+    let before = asked(hub);
+    counts(rt, hub.status(code)?.judged, 0);
+    Ok(asked(hub).saturating_sub(before))
+}
+
+fn are_looked_at_once(
+    rt: &(impl Abort + AllocGlobal),
+    hub: &mut Resting<Faulty<MemShelf>>,
+) -> Result<(), Fail> {
+    let looks = asked_for(rt, hub, 1)?;
+    holds(rt, looks >= CUSTODIANS, "everyone is looked at once");
+    // What is judged of 2, and nothing else: what it waits for is remembered.
+    counts(rt, asked_for(rt, hub, 2)?, 1);
+    is_applied(rt, hub, 7, 12)
+}
+
 #[test]
 fn nobody_is_looked_at_in_vain(rt: HostRuntime) -> Result<(), Fail> {
     let mut hub = hub_of_400(rt.alloc())?;
-    let _settled = hub.status(1)?;
-    let before = asked(&hub);
-    holds(&rt, before >= CUSTODIANS, "everyone is looked at once");
-    let _settled = hub.status(2)?;
-    // What is judged of 2, and nothing else: what it waits for is remembered.
-    counts(&rt, asked(&hub).saturating_sub(before), 1);
-    is_applied(&rt, &mut hub, 7, 12)
+    are_looked_at_once(&rt, &mut hub)
 }
 
 const THREE_WAIT: &[Event] = &[
@@ -83,12 +98,19 @@ const THREE_ARE_JUDGED: &[Event] = &[
     Stands(9, 1, 0),
 ];
 
+fn three_are_judged(
+    rt: &(impl Abort + AllocGlobal),
+    hub: &mut Resting<Faulty<MemShelf>>,
+) -> Result<(), Fail> {
+    are_so(rt, hub, THREE_WAIT)?;
+    is_applied(rt, hub, 7, 48)?;
+    are_so(rt, hub, THREE_ARE_JUDGED)
+}
+
 #[test]
 fn who_waits_is_looked_at_once(rt: HostRuntime) -> Result<(), Fail> {
     let mut hub = hub_of_400(rt.alloc())?;
-    are_so(&rt, &mut hub, THREE_WAIT)?;
-    is_applied(&rt, &mut hub, 7, 48)?;
-    are_so(&rt, &mut hub, THREE_ARE_JUDGED)
+    three_are_judged(&rt, &mut hub)
 }
 
 // All but the last wait for volume 1 of the last.
@@ -117,10 +139,17 @@ fn all_are_judged<K: Inbox + Drop>(rt: &impl Abort, hub: &mut Resting<K>) -> Res
     Ok(())
 }
 
+fn all_wait_for_the_last(
+    rt: &(impl Abort + AllocGlobal),
+    hub: &mut Resting<Faulty<MemShelf>>,
+) -> Result<(), Fail> {
+    all_wait(rt, hub)?;
+    is_applied(rt, hub, CUSTODIANS, 6 * CUSTODIANS)?;
+    all_are_judged(rt, hub)
+}
+
 #[test]
 fn three_hundred_and_ninety_nine_wait_for_one(rt: HostRuntime) -> Result<(), Fail> {
     let mut hub = hub_of_400(rt.alloc())?;
-    all_wait(&rt, &mut hub)?;
-    is_applied(&rt, &mut hub, CUSTODIANS, 6 * CUSTODIANS)?;
-    all_are_judged(&rt, &mut hub)
+    all_wait_for_the_last(&rt, &mut hub)
 }
