@@ -1,7 +1,8 @@
 //! The list of calls over keepers in memory.
 use crate::wanted::counts_all;
-use gaz_samples::keepers::{Tried, counting_shelf, performs_all};
+use gaz_samples::keepers::{Refusal, Tried, counting_shelf, performs_all};
 use gaz_shelf::{Calls, MemShelf, Seed};
+use std::alloc::Global;
 use std::process::Abort;
 use std::test::Fail;
 
@@ -37,11 +38,16 @@ fn whole_maps_answer_so(rt: HostRuntime) -> Result<(), Fail> {
     Ok(performs_all(rt.alloc(), &mut shelf)?)
 }
 
+// All calls of the list, by a keeper that counts them.
+fn counted(alloc: Global) -> Result<Calls, Refusal> {
+    let mut shelf = counting_shelf(alloc);
+    performs_all(alloc, &mut shelf)?;
+    Ok(shelf.keeper().counted())
+}
+
 #[test]
 fn a_keeper_around_another_answers_so(rt: HostRuntime) -> Result<(), Fail> {
-    let mut shelf = counting_shelf(rt.alloc());
-    performs_all(rt.alloc(), &mut shelf)?;
-    let calls = shelf.keeper().counted();
+    let calls = counted(rt.alloc())?;
     are_read(&rt, calls);
     are_linked(&rt, calls);
     Ok(())
