@@ -12,7 +12,7 @@ use Rattle.gaz_keeper.specs.declared.fault.ShelfFault.{ShelfFault}
 use Rattle.gaz_sql_facts.specs.Changes.{IsUndone, LeavesTheCommit}
 use Rattle.gaz_tables.specs.Stores.{HasTables}
 use Rattle.gaz_store.specs.Altering.{Alters, AltersTables, MayWrite}
-use Rattle.gaz_store.specs.Asking.{Asks, AsksTables, IsAnyway, Tallies, Tells}
+use Rattle.gaz_store.specs.Asking.{AreReady, Asks, AsksTables, IsAnyway, Tallies, Tells}
 use Rattle.gaz_store.specs.Seen.{IsSettled, IsUnharmed}
 use Rattle.gaz_store.specs.declared.tables.Tables.{Tables}
 use Rattle.gaz_store.proofs.Seeing.{clean_before, tallies_then}
@@ -141,7 +141,7 @@ module _ {S : Type 0} {store : Ghosts S} where
 
   pub statement_alters : {A B : Type 0} (first sure asked last : Tables S store) (one : Result B ShelfFault) (answer : Result A Error) (result : Result A ShelfFault) (Becomes : Database → Database → Type 0)
       → AsksTables first sure one IsAnyway
-      → (HasCleanDisk (at sure) → IsTrue (at sure).is_open) → IsSettled (at sure)
+      → AreReady sure
       → (HasCleanDisk (at asked) → OnOk answer (IsTrue (at sure).is_open × IsTrue (at asked).is_open))
       → (HasCleanDisk (at asked) → HasTables (at sure).now → OnOk answer (Becomes (at sure).now (at asked).now × ((at asked).committed ≡ (at asked).now)))
       → (HasCleanDisk (at asked) → OnErr answer (IsUndone (at sure) (at asked)))
@@ -149,9 +149,9 @@ module _ {S : Type 0} {store : Ghosts S} where
       → OnOk answer (LeavesTheCommit (at asked))
       → asked.failures ≡ sure.failures → asked.at_hand ≡ sure.at_hand
       → Tells asked last answer result → AltersTables first last result Becomes
-  statement_alters {A} {B} first sure asked last one answer result Becomes before is_open settled open_still written undone leaves certain same_count same_hand tells = record {
+  statement_alters {A} {B} first sure asked last one answer result Becomes before ready open_still written undone leaves certain same_count same_hand tells = record {
     alters = subst (λ h. Alters (at first) (state store h) result Becomes) (sym tells.conn)
-        (alters_once (at first) (at sure) (at asked) one answer result Becomes before.asks is_open settled open_still written undone leaves certain tells.same tells.fault);
+        (alters_once (at first) (at sure) (at asked) one answer result Becomes before.asks ready.is_open ready.settled open_still written undone leaves certain tells.same tells.fault);
     tallies = tallies_then first.failures sure.failures last.failures one result before.tallies
         (subst (λ (n : ℕ). Tallies n last.failures result) same_count tells.tallies);
     at_hand = tells.at_hand ∙ same_hand ∙ before.at_hand;

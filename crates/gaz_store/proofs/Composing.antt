@@ -1,6 +1,5 @@
 -- How calls on the tables are put together that only ask them.
 use Rattle.std.proofs.Common.{◌≡◌, ◌∙◌, ℕ, Result, Ok, Err, IfOk, OnErr, OnOk, arith, refl, sym, subst}
-use Rattle.std.specs.Prelude.{IsTrue}
 use Rattle.sqlite.specs.Effect.{Database}
 use Rattle.sqlite.specs.declared.error.Error.{Error}
 use Rattle.sqlite.specs.Held.{state}
@@ -9,7 +8,7 @@ use Rattle.sqlite_trees.specs.declared.store.Store.{Ghosts}
 use Rattle.gaz_keeper.specs.declared.fault.ShelfFault.{ShelfFault}
 use Rattle.gaz_sql_facts.specs.Changes.{IsSpared}
 use Rattle.gaz_tables.specs.Stores.{HasTables}
-use Rattle.gaz_store.specs.Asking.{Asks, AsksTables, Fails, IsAnyway, Tallies, Tells}
+use Rattle.gaz_store.specs.Asking.{AreReady, Asks, AsksTables, Fails, IsAnyway, Tallies, Tells}
 use Rattle.gaz_kept.specs.Kept.{IsKept}
 use Rattle.gaz_store.specs.Seen.{IsSettled}
 use Rattle.gaz_store.specs.declared.tables.Tables.{Tables}
@@ -22,17 +21,17 @@ module _ {S : Type 0} {store : Ghosts S} where
   -- a query, once it is known that the connection is open, and what is told of its answer
   pub query_asks : {A B : Type 0} (first sure asked last : Tables S store) (one : Result B ShelfFault) (answer : Result A Error) (result : Result A ShelfFault) (IsAnswer : Database → A → Type 0)
       → AsksTables first sure one IsAnyway
-      → (HasCleanDisk (at sure) → IsTrue (at sure).is_open) → IsSettled (at sure)
+      → AreReady sure
       → (HasCleanDisk (at asked) → HasTables (at sure).now → IfOk answer (IsAnswer (at sure).now))
       → (HasCleanDisk (at asked) → HasTables (at sure).now → OnOk answer (IsUnchanged (at sure) (at asked)))
       → (HasCleanDisk (at asked) → OnErr answer (IsSpared (at sure) (at asked)))
       → ((HasCleanDisk (at sure) → HasTables (at sure).now) → Survives (at sure) (at asked) (λ _. ⊥))
       → asked.failures ≡ sure.failures → asked.at_hand ≡ sure.at_hand
       → Tells asked last answer result → AsksTables first last result IsAnswer
-  query_asks {A} {B} first sure asked last one answer result IsAnswer before is_open settled found stays spared leaves same_count same_hand tells = record {
+  query_asks {A} {B} first sure asked last one answer result IsAnswer before ready found stays spared leaves same_count same_hand tells = record {
     asks = subst (λ h. Asks (at first) (state store h) result IsAnswer) (sym tells.conn)
         (asks_then (at first) (at sure) (at asked) one result result IsAnyway IsAnswer IsAnswer before.asks
-        (asks_query (at sure) (at asked) answer result IsAnswer is_open settled found stays spared leaves tells.same)
+        (asks_query (at sure) (at asked) answer result IsAnswer ready.is_open ready.settled found stays spared leaves tells.same)
         (λ db kept was is. is));
     tallies = tallies_then first.failures sure.failures last.failures one result before.tallies
         (subst (λ (n : ℕ). Tallies n last.failures result) same_count tells.tallies);

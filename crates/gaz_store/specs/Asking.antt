@@ -1,5 +1,5 @@
 -- What a call tells that asks the tables and writes nothing.
-use Rattle.std.specs.Prelude.{◌≡◌, ◌≤◌, ◌<◌, ⊤, ℕ, Result, Ok, IfOk, IfErr, OnOk, OnErr}
+use Rattle.std.specs.Prelude.{◌≡◌, ◌≤◌, ◌<◌, ⊤, false, ℕ, Result, Ok, IfOk, IfErr, IsTrue, OnOk, OnErr}
 use Rattle.sqlite.specs.declared.error.Error.{Error}
 use Rattle.sqlite.specs.Effect.{Database}
 use Rattle.sqlite.specs.Held.{state}
@@ -11,7 +11,7 @@ use Rattle.gaz_tables.specs.Schema.{receiveds}
 use Rattle.gaz_tables.specs.Stores.{HasTables}
 use Rattle.gaz_kept.specs.Kept.{IsKept}
 use Rattle.gaz_store.specs.Remembered.{AreSo}
-use Rattle.gaz_store.specs.Seen.{IsUnharmed}
+use Rattle.gaz_store.specs.Seen.{IsSettled, IsUnharmed}
 use Rattle.gaz_store.specs.declared.tables.Tables.{Tables}
 
 -- no failure is forgotten, and one of the store is counted
@@ -50,6 +50,13 @@ pub record Recalls {S : Type 0} {store : Ghosts S} {T : Type 0} (old new : Table
       → AreSo new.at_hand ((state store old.conn).now.trees receiveds)
 
 -- ---- within a call
+
+-- a statement may be asked of the tables: their connection is open, where the disk returned what was
+-- written, and shows what was committed; that it is open isn't known any more once one was asked
+pub record AreReady {S : Type 0} {store : Ghosts S} (t : Tables S store) : Type 0 where
+  pub is_open : HasCleanDisk (state store t.conn) → IsTrue (state store t.conn).is_open
+  pub settled : IsSettled (state store t.conn)
+  pub unsure : t.sure ≡ false
 
 -- a fault, and the tables but for the count
 pub record Fails {S : Type 0} {store : Ghosts S} (old new : Tables S store) (fault : ShelfFault)

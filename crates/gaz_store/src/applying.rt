@@ -38,9 +38,9 @@ impl<S: Alter> Tables<S> {
     fn write(&mut self, code: Code, volume: Volume, changes: &Overlay) -> Result<(), ShelfFault>
         ensures { AltersTables self.old self.new result (KeepsVolume code volume changes.now) }
     {
-        self.make_sure()?;
-        self.known();
-        self.sure = false;
+        if let Err(fault) = self.ready() {
+            return Err(fault);
+        }
         let done = keeping::keep(self.alloc, &mut self.conn, code, volume, changes);
         self.told(done)
     }

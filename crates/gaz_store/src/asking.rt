@@ -3,7 +3,7 @@ ghost use Rattle.std.specs.Prelude.{◌≡◌, ◌==◌, ◌^◌, ◌-◌, true,
 ghost use Rattle.std.specs.Prelude.{IsTrue, OnOk};
 ghost use Rattle.sqlite.specs.Held.{state};
 ghost use Rattle.sqlite.specs.State.{HasCleanDisk};
-ghost use Rattle.gaz_store.specs.Asking.{AsksTables, Fails, IsAnyway, Tells};
+ghost use Rattle.gaz_store.specs.Asking.{AreReady, AsksTables, Fails, IsAnyway, Tells};
 ghost use Rattle.gaz_store.specs.Seen.{IsSettled};
 
 use crate::tables::Tables;
@@ -54,6 +54,18 @@ impl<S: Alter> Tables<S> {
         self.known();
         let answer = probe(&mut self.conn);
         self.told(answer)?;
+        Ok(())
+    }
+
+    /// Makes sure that the connection is open, for one statement: `told` says of its answer whether
+    /// that is still known. It is asked by `if let`, since `?` takes two seconds more of each proof.
+    pub(crate) fn ready(&mut self) -> Result<(), ShelfFault>
+        ensures asks { AsksTables self.old self.new result IsAnyway }
+        ensures ready { OnOk result (AreReady self.new) }
+    {
+        self.make_sure()?;
+        self.known();
+        self.sure = false;
         Ok(())
     }
 

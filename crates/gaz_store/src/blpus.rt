@@ -21,9 +21,9 @@ impl<S: Alter> Tables<S> {
         ensures { AsksTables self.old self.new result
             (λ db rows. FindsApprovedOf code (pos uprn) (db.trees versions) rows.items) }
     {
-        self.make_sure()?;
-        self.known();
-        self.sure = false;
+        if let Err(fault) = self.ready() {
+            return Err(fault);
+        }
         let cust = code.number() as u32;
         let blpu = uprn.number() as i64;
         let found = versions::approved_of(&mut self.conn, cust, &blpu);

@@ -123,9 +123,9 @@ impl<S: Alter> Tables<S> {
         ensures { AsksTables self.old self.new result
             (λ db rows. FindsAbove code volume most (db.trees receiveds) rows.items) }
     {
-        self.make_sure()?;
-        self.known();
-        self.sure = false;
+        if let Err(fault) = self.ready() {
+            return Err(fault);
+        }
         let found = receiveds::above(&mut self.conn, code.number() as u32, volume as u32, most);
         self.told(found)
     }

@@ -27,9 +27,9 @@ impl<S: Alter> Tables<S> {
         ensures { AsksTables self.old self.new result
             (λ db rows. FindsCustody code id.now (db.trees versions) rows.items) }
     {
-        self.make_sure()?;
-        self.known();
-        self.sure = false;
+        if let Err(fault) = self.ready() {
+            return Err(fault);
+        }
         let cust = code.number() as u32;
         let found = custody::newest(&mut self.conn, cust, id);
         self.told(found)
@@ -45,9 +45,9 @@ impl<S: Alter> Tables<S> {
         ensures { AsksTables self.old self.new result
             (λ db rows. FindsCustodyUntil code id.now volume (db.trees versions) rows.items) }
     {
-        self.make_sure()?;
-        self.known();
-        self.sure = false;
+        if let Err(fault) = self.ready() {
+            return Err(fault);
+        }
         let cust = code.number() as u32;
         let found = custody::newest_until(&mut self.conn, cust, id, volume);
         self.told(found)

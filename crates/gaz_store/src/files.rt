@@ -29,9 +29,9 @@ impl<S: Alter> Tables<S> {
         ensures { AsksTables self.old self.new result
             (λ db rows. FindsVerdict code volume (db.trees receiveds) rows.items) }
     {
-        self.make_sure()?;
-        self.known();
-        self.sure = false;
+        if let Err(fault) = self.ready() {
+            return Err(fault);
+        }
         let found = receiveds::verdict(
             &mut self.conn,
             code.number() as u32,
@@ -57,9 +57,9 @@ impl<S: Alter> Tables<S> {
         ensures { AsksTables self.old self.new result
             (λ db rows. FindsFile code volume (db.trees receiveds) rows.items) }
     {
-        self.make_sure()?;
-        self.known();
-        self.sure = false;
+        if let Err(fault) = self.ready() {
+            return Err(fault);
+        }
         let found = receiveds::file(&mut self.conn, code.number() as u32, volume.number() as u32);
         self.told(found)
     }

@@ -79,9 +79,9 @@ impl<S: Alter> Tables<S> {
     fn rewrite(&mut self, register: &str) -> Result<(), ShelfFault>
         ensures { AltersTables self.old self.new result (Registers register.now) }
     {
-        self.make_sure()?;
-        self.known();
-        self.sure = false;
+        if let Err(fault) = self.ready() {
+            return Err(fault);
+        }
         let done = rewriting::rewrite(&mut self.conn, register);
         self.told(done)
     }

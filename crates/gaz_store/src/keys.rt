@@ -30,9 +30,9 @@ impl<S: Alter> Tables<S> {
         ensures { AsksTables self.old self.new result
             (λ db rows. FindsNewest code (number_of kind) id.now (db.trees versions) rows.items) }
     {
-        self.make_sure()?;
-        self.known();
-        self.sure = false;
+        if let Err(fault) = self.ready() {
+            return Err(fault);
+        }
         let cust = code.number() as u32;
         let kind = kind.number() as u32;
         let found = versions::newest(&mut self.conn, cust, kind, id);
@@ -50,9 +50,9 @@ impl<S: Alter> Tables<S> {
         ensures { AsksTables self.old self.new result (λ db rows. FindsNewestUntil
             code (number_of kind) id.now volume (db.trees versions) rows.items) }
     {
-        self.make_sure()?;
-        self.known();
-        self.sure = false;
+        if let Err(fault) = self.ready() {
+            return Err(fault);
+        }
         let cust = code.number() as u32;
         let kind = kind.number() as u32;
         let found = versions::newest_until(&mut self.conn, cust, kind, id, volume);

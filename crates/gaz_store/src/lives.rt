@@ -22,9 +22,9 @@ impl<S: Alter> Tables<S> {
         ensures { AsksTables self.old self.new result
             (λ db rows. FindsFirst MOST (db.trees versions) rows.items) }
     {
-        self.make_sure()?;
-        self.known();
-        self.sure = false;
+        if let Err(fault) = self.ready() {
+            return Err(fault);
+        }
         let found = rowids::first(&mut self.conn, MOST);
         self.told(found)
     }
@@ -34,9 +34,9 @@ impl<S: Alter> Tables<S> {
         ensures { AsksTables self.old self.new result
             (λ db rows. FindsBehind after MOST (db.trees versions) rows.items) }
     {
-        self.make_sure()?;
-        self.known();
-        self.sure = false;
+        if let Err(fault) = self.ready() {
+            return Err(fault);
+        }
         let found = rowids::behind(&mut self.conn, &after, MOST);
         self.told(found)
     }

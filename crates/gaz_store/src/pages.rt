@@ -90,9 +90,9 @@ impl<S: Alter> Tables<S> {
         ensures { AsksTables self.old self.new result (λ db rows.
             FindsHolding code (number_of kind) start.now volume most (db.trees versions) rows.items) }
     {
-        self.make_sure()?;
-        self.known();
-        self.sure = false;
+        if let Err(fault) = self.ready() {
+            return Err(fault);
+        }
         let cust = code.number() as u32;
         let kind = kind.number() as u32;
         let found = versions::holding(&mut self.conn, cust, kind, start, volume, most);

@@ -114,9 +114,9 @@ impl<S: Alter> Tables<S> {
         ensures { AsksTables self.old self.new result (λ db rows.
             FindsCustodyBehind code id.now born most (db.trees versions) rows.items) }
     {
-        self.make_sure()?;
-        self.known();
-        self.sure = false;
+        if let Err(fault) = self.ready() {
+            return Err(fault);
+        }
         let cust = code.number() as u32;
         let found = custody::behind(&mut self.conn, cust, id, born, most);
         self.told(found)

@@ -30,9 +30,9 @@ impl<S: Alter> Tables<S> {
         ensures { AsksTables self.old self.new result (λ db rows.
             FindsApprovedOn code usrn start.now most (db.trees versions) rows.items) }
     {
-        self.make_sure()?;
-        self.known();
-        self.sure = false;
+        if let Err(fault) = self.ready() {
+            return Err(fault);
+        }
         let cust = code.number() as u32;
         let street = usrn.number() as u32;
         let found = versions::approved_on(&mut self.conn, cust, street, start, most);
@@ -53,9 +53,9 @@ impl<S: Alter> Tables<S> {
         ensures some { 1 ≤ uprn }
     {
         let blpu = uprn.number() as i64;
-        self.make_sure()?;
-        self.known();
-        self.sure = false;
+        if let Err(fault) = self.ready() {
+            return Err(fault);
+        }
         let cust = code.number() as u32;
         let kind = kind.number() as u32;
         let found = versions::parts_of(&mut self.conn, cust, kind, &blpu, start, most);

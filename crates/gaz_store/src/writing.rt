@@ -60,9 +60,9 @@ impl<S: Alter> Tables<S> {
     fn add_file(&mut self, cust: u32, volume: u32, bytes: &[u8]) -> Result<(), ShelfFault>
         ensures { AltersTables self.old self.new result (Comes cust volume bytes.now) }
     {
-        self.make_sure()?;
-        self.known();
-        self.sure = false;
+        if let Err(fault) = self.ready() {
+            return Err(fault);
+        }
         let done = alone::receive(&mut self.conn, cust, volume, bytes);
         self.told(done)
     }
@@ -72,9 +72,9 @@ impl<S: Alter> Tables<S> {
         ensures { AltersTables self.old self.new result
             (Changes receiveds (Rejects cust volume place rule)) }
     {
-        self.make_sure()?;
-        self.known();
-        self.sure = false;
+        if let Err(fault) = self.ready() {
+            return Err(fault);
+        }
         let done = alone::reject(&mut self.conn, cust, volume, &place, rule as u32);
         self.told(done)
     }

@@ -6,6 +6,6 @@ use Rattle.gaz_store.proofs.tables.Tables.add_file.Goals as goal
 pub returns : goal.returns
 returns g c =
     statement_alters _ _ _ _ _ _ _ (Comes c.args.cust c.args.volume c.args.bytes.now)
-    c.make_sure.ensures.asks (c.make_sure.new.self.is_open c.in_ok-make_sure.ensures.sure) c.known.ensures
+    c.ready.ensures.asks c.in_default.ensures.ready
     c.receive-done.ensures.open c.receive-done.ensures.written c.receive-done.ensures.undone c.receive-done.ensures.leaves c.receive-done.ensures.certain
     refl refl c.told.ensures.tells

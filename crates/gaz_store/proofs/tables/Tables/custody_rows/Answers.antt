@@ -7,6 +7,6 @@ use Rattle.gaz_store.proofs.tables.Tables.custody_rows.Goals as goal
 pub returns : goal.returns
 returns g c =
     query_asks _ _ _ _ _ _ _ (λ db rows. FindsCustody c.args.code c.args.id.now (db.trees versions) rows.items)
-    c.make_sure.ensures.asks (c.make_sure.new.self.is_open c.in_ok-make_sure.ensures.sure) c.known.ensures
+    c.ready.ensures.asks c.in_default.ensures.ready
     (rw c.number-cust.ensures.value at c.newest-found.ensures.found) c.newest-found.ensures.stays c.newest-found.ensures.spared c.newest-found.ensures.leaves
     refl refl c.told.ensures.tells

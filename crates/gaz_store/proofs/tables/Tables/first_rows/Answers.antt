@@ -7,6 +7,6 @@ use Rattle.gaz_store.proofs.tables.Tables.first_rows.Goals as goal
 pub returns : goal.returns
 returns g c =
     query_asks _ _ _ _ _ _ _ (λ db rows. FindsFirst 512 (db.trees versions) rows.items)
-    c.make_sure.ensures.asks (c.make_sure.new.self.is_open c.in_ok-make_sure.ensures.sure) c.known.ensures
+    c.ready.ensures.asks c.in_default.ensures.ready
     c.first-found.ensures.found c.first-found.ensures.stays c.first-found.ensures.spared c.first-found.ensures.leaves
     refl refl c.told.ensures.tells

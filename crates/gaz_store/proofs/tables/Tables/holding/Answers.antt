@@ -8,6 +8,6 @@ use Rattle.gaz_store.proofs.tables.Tables.holding.Goals as goal
 pub returns : goal.returns
 returns g c =
     query_asks _ _ _ _ _ _ _ (λ db rows. FindsHolding c.args.code (number_of c.args.kind) c.args.start.now c.args.volume c.args.most (db.trees versions) rows.items)
-    c.make_sure.ensures.asks (c.make_sure.new.self.is_open c.in_ok-make_sure.ensures.sure) c.known.ensures
+    c.ready.ensures.asks c.in_default.ensures.ready
     (rw (c.number-cust.ensures.value, c.number-kind.ensures) at c.holding-found.ensures.found) c.holding-found.ensures.stays c.holding-found.ensures.spared c.holding-found.ensures.leaves
     refl refl c.told.ensures.tells

@@ -8,6 +8,6 @@ use Rattle.gaz_store.proofs.tables.Tables.newest_rows_until.Goals as goal
 pub returns : goal.returns
 returns g c =
     query_asks _ _ _ _ _ _ _ (λ db rows. FindsNewestUntil c.args.code (number_of c.args.kind) c.args.id.now c.args.volume (db.trees versions) rows.items)
-    c.make_sure.ensures.asks (c.make_sure.new.self.is_open c.in_ok-make_sure.ensures.sure) c.known.ensures
+    c.ready.ensures.asks c.in_default.ensures.ready
     (rw (c.number-cust.ensures.value, c.number-kind.ensures) at c.newest_until-found.ensures.found) c.newest_until-found.ensures.stays c.newest_until-found.ensures.spared c.newest_until-found.ensures.leaves
     refl refl c.told.ensures.tells

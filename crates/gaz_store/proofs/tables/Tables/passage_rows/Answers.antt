@@ -7,6 +7,6 @@ use Rattle.gaz_store.proofs.tables.Tables.passage_rows.Goals as goal
 pub returns : goal.returns
 returns g c =
     query_asks _ _ _ _ _ _ _ (λ db rows. FindsCustodyBehind c.args.code c.args.id.now c.args.born c.args.most (db.trees versions) rows.items)
-    c.make_sure.ensures.asks (c.make_sure.new.self.is_open c.in_ok-make_sure.ensures.sure) c.known.ensures
+    c.ready.ensures.asks c.in_default.ensures.ready
     (rw c.number-cust.ensures.value at c.behind-found.ensures.found) c.behind-found.ensures.stays c.behind-found.ensures.spared c.behind-found.ensures.leaves
     refl refl c.told.ensures.tells

@@ -11,6 +11,6 @@ pub returns : goal.returns
 returns g c =
     let place : to_z w64 (of_z w64 c.args.place) ≡ c.args.place = omega (arith, ints, c.ranges.place.sfits) in
     statement_alters _ _ _ _ _ _ _ (Changes receiveds (Rejects c.args.cust c.args.volume c.args.place c.args.rule))
-    c.make_sure.ensures.asks (c.make_sure.new.self.is_open c.in_ok-make_sure.ensures.sure) c.known.ensures
+    c.ready.ensures.asks c.in_default.ensures.ready
     c.reject-done.ensures.open (rw place at c.reject-done.ensures.written) c.reject-done.ensures.undone (rw place at c.reject-done.ensures.leaves) c.reject-done.ensures.certain
     refl refl c.told.ensures.tells

@@ -6,6 +6,6 @@ use Rattle.gaz_store.proofs.tables.Tables.rewrite.Goals as goal
 pub returns : goal.returns
 returns g c =
     statement_alters _ _ _ _ _ _ _ (Registers c.args.register.now)
-    c.make_sure.ensures.asks (c.make_sure.new.self.is_open c.in_ok-make_sure.ensures.sure) c.known.ensures
+    c.ready.ensures.asks c.in_default.ensures.ready
     c.rewrite-done.ensures.open c.rewrite-done.ensures.written c.rewrite-done.ensures.undone c.rewrite-done.ensures.leaves c.rewrite-done.ensures.certain
     refl refl c.told.ensures.tells

@@ -7,6 +7,6 @@ use Rattle.gaz_store.proofs.tables.Tables.rows_above.Goals as goal
 pub returns : goal.returns
 returns g c =
     query_asks _ _ _ _ _ _ _ (λ db rows. FindsAbove c.args.code c.args.volume c.args.most (db.trees receiveds) rows.items)
-    c.make_sure.ensures.asks (c.make_sure.new.self.is_open c.in_ok-make_sure.ensures.sure) c.known.ensures
+    c.ready.ensures.asks c.in_default.ensures.ready
     (rw c.number.ensures.value at c.above-found.ensures.found) c.above-found.ensures.stays c.above-found.ensures.spared c.above-found.ensures.leaves
     refl refl c.told.ensures.tells

@@ -8,6 +8,6 @@ use Rattle.gaz_store.proofs.tables.Tables.rows_behind.Goals as goal
 pub returns : goal.returns
 returns g c =
     query_asks _ _ _ _ _ _ _ (λ db rows. FindsBehind c.args.after 512 (db.trees versions) rows.items)
-    c.make_sure.ensures.asks (c.make_sure.new.self.is_open c.in_ok-make_sure.ensures.sure) c.known.ensures
+    c.ready.ensures.asks c.in_default.ensures.ready
     (rw (to_z-of_z w64 c.args.after c.ranges.after) at c.behind-found.ensures.found) c.behind-found.ensures.stays c.behind-found.ensures.spared c.behind-found.ensures.leaves
     refl refl c.told.ensures.tells

@@ -7,6 +7,6 @@ use Rattle.gaz_store.proofs.tables.Tables.street_rows.Goals as goal
 pub returns : goal.returns
 returns g c =
     query_asks _ _ _ _ _ _ _ (λ db rows. FindsApprovedOn c.args.code c.args.usrn c.args.start.now c.args.most (db.trees versions) rows.items)
-    c.make_sure.ensures.asks (c.make_sure.new.self.is_open c.in_ok-make_sure.ensures.sure) c.known.ensures
+    c.ready.ensures.asks c.in_default.ensures.ready
     (rw (c.number-cust.ensures.value, c.number-street.ensures.value) at c.approved_on-found.ensures.found) c.approved_on-found.ensures.stays c.approved_on-found.ensures.spared c.approved_on-found.ensures.leaves
     refl refl c.told.ensures.tells

@@ -7,6 +7,6 @@ use Rattle.gaz_store.proofs.tables.Tables.verdict_rows.Goals as goal
 pub returns : goal.returns
 returns g c =
     query_asks _ _ _ _ _ _ _ (λ db rows. FindsVerdict c.args.code c.args.volume (db.trees receiveds) rows.items)
-    c.make_sure.ensures.asks (c.make_sure.new.self.is_open c.in_ok-make_sure.ensures.sure) c.known.ensures
+    c.ready.ensures.asks c.in_default.ensures.ready
     (rw (c.number.ensures.value, c.number-2.ensures.value) at c.verdict-found.ensures.found) c.verdict-found.ensures.stays c.verdict-found.ensures.spared c.verdict-found.ensures.leaves
     refl refl c.told.ensures.tells

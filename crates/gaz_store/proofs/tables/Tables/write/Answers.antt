@@ -6,6 +6,6 @@ use Rattle.gaz_store.proofs.tables.Tables.write.Goals as goal
 pub returns : goal.returns
 returns g c =
     statement_alters _ _ _ _ _ _ _ (KeepsVolume c.args.code c.args.volume c.args.changes.now)
-    c.make_sure.ensures.asks (c.make_sure.new.self.is_open c.in_ok-make_sure.ensures.sure) c.known.ensures
+    c.ready.ensures.asks c.in_default.ensures.ready
     c.keep-done.ensures.open c.keep-done.ensures.kept c.keep-done.ensures.undone c.keep-done.ensures.leaves c.keep-done.ensures.certain
     refl refl c.told.ensures.tells
