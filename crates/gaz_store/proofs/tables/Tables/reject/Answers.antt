@@ -4,8 +4,12 @@ use mir.Val.{to_z, of_z}
 use Rattle.gaz_tables.specs.Receiveds.{Rejects}
 use Rattle.gaz_tables.specs.Schema.{receiveds}
 use Rattle.gaz_sql_facts.specs.Changes.{Changes}
-use Rattle.gaz_store.proofs.Altering.{statement_alters}
+use Rattle.gaz_store.specs.Asking.{IsAnyway}
+use Rattle.gaz_store.proofs.Altering.{altered_nothing, statement_alters}
 use Rattle.gaz_store.proofs.tables.Tables.reject.Goals as goal
+
+pub returns-in-Err : goal.returns-in-Err
+returns-in-Err g c = altered_nothing _ _ _ _ IsAnyway _ c.ready.ensures.asks c.in-Err.is
 
 pub returns : goal.returns
 returns g c =

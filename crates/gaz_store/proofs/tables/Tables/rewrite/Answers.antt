@@ -1,7 +1,11 @@
 use Rattle.std.proofs.Common.{refl}
 use Rattle.gaz_kept.specs.Rewriting.{Registers}
-use Rattle.gaz_store.proofs.Altering.{statement_alters}
+use Rattle.gaz_store.specs.Asking.{IsAnyway}
+use Rattle.gaz_store.proofs.Altering.{altered_nothing, statement_alters}
 use Rattle.gaz_store.proofs.tables.Tables.rewrite.Goals as goal
+
+pub returns-in-Err : goal.returns-in-Err
+returns-in-Err g c = altered_nothing _ _ _ _ IsAnyway _ c.ready.ensures.asks c.in-Err.is
 
 pub returns : goal.returns
 returns g c =
