@@ -51,8 +51,8 @@ can_mirror {S} {N} {g} text d t run =
     record { run = run; volumes = volumes db (working_of db t.judging) run.stands.0.tables.kept }
 
 -- where nothing is put at hand, nothing is even read
-pub reads_given : {S N : Type 0} {g : Ghosts S} (text : List ℕ) (given kept : Store S N g) → kept ≡ given → OnlyReads (seen_in text given) (seen_in text kept)
-reads_given {S} {N} {g} text given kept same = subst (λ (t : Store S N g). OnlyReads (seen_in text given) (seen_in text t)) (sym same) (reads_nothing (seen_in text given))
+pub reads_given : {K : Type 0} (seen : K → Seen) (given kept : K) → kept ≡ given → OnlyReads (seen given) (seen kept)
+reads_given {K} seen given kept same = subst (λ (t : K). OnlyReads (seen given) (seen t)) (sym same) (reads_nothing (seen given))
 
 -- ---- runs
 

@@ -1,5 +1,5 @@
 -- What is said of connections over a store, from the connection that is given to the one that is handed back.
-use Rattle.std.proofs.Common.{◌≡◌, ℕ, List, [], ◌∷◌, refl}
+use Rattle.std.proofs.Common.{◌≡◌, ◌∙◌, ℕ, List, [], ◌∷◌, ap, refl, subst, sym}
 use Rattle.std.specs.declared.marker.Brand.{Brand}
 use Rattle.std.specs.Prelude.{Ok, None, Result}
 use Rattle.sqlite.specs.Held.{Held, state}
@@ -24,12 +24,14 @@ use Rattle.gaz_loaded.specs.Files.{OnlyReads}
 use Rattle.gaz_mirrored.proofs.Filled.{over_parts}
 use Rattle.gaz_stored.specs.Answering.{Settles}
 use Rattle.gaz_stored.specs.Attending.{ServesOpened, ServesOver}
+use Rattle.gaz_stored.specs.Keepers.{ServesWith}
 use Rattle.gaz_stored.specs.Serving.{Serves}
-use Rattle.gaz_stored.specs.Using.{Mirrored}
+use Rattle.gaz_stored.specs.Using.{IsSame, Mirrored}
 use Rattle.gaz_stored.proofs.Alone.{runs_alone}
 use Rattle.gaz_stored.proofs.Answered.{settled_stands}
-use Rattle.gaz_stored.proofs.Below.{runs_below}
+use Rattle.gaz_stored.proofs.Below.{can_mirror, rests_bare, runs_below}
 use Rattle.gaz_stored.proofs.Going.{begins_opened}
+use Rattle.gaz_stored.proofs.Parts.{seen_same}
 use Rattle.gaz_stored.proofs.Using.{uses}
 
 module _ {S R N : Type 0} {g : Ghosts S} (text : List ℕ) (register : RegisterValue) (most served : ℕ) where
@@ -69,3 +71,22 @@ module _ {S : Type 0} {g : Ghosts S} (register : RegisterValue) (most served : �
     uses = uses register first is.last.keeper.lower before after (Pose Settle ∷ is.serves.commands) (Replied Settle is.told_settled ∷ is.serves.responses) opened told is.back
         (λ stood. is.runs (λ fine. begins_opened (register_text register) register first fine (state g before) opened stood));
   }
+
+-- the same of a keeper that is a store, whatever names its register
+pub serves_named : {S R N : Type 0} {g : Ghosts S} (text : List ℕ) (register : RegisterValue) (most served : ℕ) (given : Store S R g) (named left : Store S N g) (after : Held S) → IsSame given named
+    → ServesWith {K = Store S N g} (record { seen = seen_in text }) register most served named left → left.tables.conn ≡ after → ServesOver N text register most served given after
+serves_named {S} {R} {N} {g} text register most served given named left after same told back =
+    let d = door_of register in
+    let over = serves_over text register most served named told.settled told.told_settled told.begun told.last after told.settles told.register_is told.fresh told.mirrors.reads told.mirrors.idle
+    (λ stood fine. told.mirrors.stands (rests_bare text) (can_mirror text d told.settled stood) fine) told.serves (ap (λ (t : Store S N g). t.tables.conn) told.back ∙ back) in
+    let seen = seen_same text given named same in
+    record {
+      told_settled = over.told_settled;
+      begun = over.begun;
+      last = over.last;
+      serves = over.serves;
+      runs = λ was.
+          subst (λ s. Runs d s (seen_in text over.last.keeper.lower) (Pose Settle ∷ over.serves.commands) (Replied Settle over.told_settled ∷ over.serves.responses)) seen
+          (over.runs (subst (λ s. s.unharmed → StandsForRun d s) (sym seen) was));
+      back = over.back;
+    }

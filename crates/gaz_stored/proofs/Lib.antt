@@ -1,5 +1,6 @@
 mod Alone
 mod Parts
+mod Mirrors
 mod Below
 mod Going
 mod Stopping

@@ -1,19 +1,13 @@
--- A hub, taken into its parts and put together from them.
-use Rattle.std.proofs.Common.{◌≡◌, ◌∙◌, ℕ, List, ap, subst, sym}
-use Rattle.sqlite.specs.Held.{Held, state}
+-- A store, whatever names its register.
+use Rattle.std.proofs.Common.{◌≡◌, ℕ, List, subst, sym}
+use Rattle.sqlite.specs.Held.{state}
 use Rattle.sqlite_trees.specs.declared.store.Store.{Ghosts}
 use Rattle.gaz_register.specs.Registers.{RegisterValue}
 use Rattle.gaz_store.specs.Store.{seen_beside, seen_in}
 use Rattle.gaz_store.specs.declared.store.Store.{Store}
 use Rattle.gaz_hub.specs.Hubs.{door_of}
 use Rattle.gaz_hub.specs.Laws.{StandsForRun}
-use Rattle.gaz_stored.specs.Using.{IsSame, Mirrored}
-
--- the connection that is handed back is that of the store that is left
-pub of_left : {S N : Type 0} {g : Ghosts S} {text : List ℕ} (register : RegisterValue) (last : Mirrored g N text) (parts : RegisterValue × Mirrored g N text) (store : Store S N g) (after : Held S)
-    → parts ≡ (register, last) → store ≡ parts.1.lower → after ≡ store.tables.conn → last.lower.tables.conn ≡ after
-of_left {S} {N} {g} {text} register last parts store after same below e =
-    sym (e ∙ ap (λ (t : Store S N g). t.tables.conn) (below ∙ ap (λ (p : RegisterValue × Mirrored g N text). p.1.lower) same))
+use Rattle.gaz_stored.specs.Using.{IsSame}
 
 -- whatever names its register, a store is seen so
 pub seen_same : {S R N : Type 0} {g : Ghosts S} (text : List ℕ) (one : Store S R g) (other : Store S N g) → IsSame one other → seen_in text other ≡ seen_in text one

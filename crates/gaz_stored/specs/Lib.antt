@@ -8,6 +8,7 @@ pub mod Serving
 pub mod Asking
 pub mod Attending
 pub mod Extending
+pub mod Keepers
 pub mod Migrating
 pub mod GrownChains
 pub mod Reopening

@@ -10,9 +10,9 @@ ghost use Rattle.gaz_exchange.specs.Conversing.{StopsByFault, transfer};
 ghost use Rattle.gaz_stored.specs.Answering.{AnswersNew, AnswersOpened, Converses, HoldsNone};
 ghost use Rattle.gaz_stored.specs.Answering.{Settles};
 
-use crate::mirroring::{ReadFrom, mirror};
-use gaz_exchange::{Served, Sink, Source, Stopped, converse};
-use gaz_hub::Hub;
+use crate::keepers::{converse_with, settled};
+use crate::mirroring::ReadFrom;
+use gaz_exchange::{Served, Sink, Source, Stopped};
 use gaz_keeper::ShelfFault;
 use gaz_register::Register;
 use gaz_shelf::{MemShelf, Seed};
@@ -49,17 +49,14 @@ fn converse_over<S: Alter + Drop, N: OfRegister, R: Source, W: Sink>(
         (transfer R.remaining W.contents r.old r.new w.old w.new) store result.0 result.2 }
     ensures failed { StopsByFault R.failed W.failed r.new w.new result.2 }
 {
-    let hub = Hub::new(alloc, register, store.named::<N>());
-    let mut hub = mirror(alloc, seed, hub, read_from);
-    let ended = converse(alloc, r, w, &mut hub, most);
-    let (_register, mirror) = hub.into_parts();
-    let (store, at_hand) = mirror.into_parts();
-    (store.into_connection(), at_hand, ended)
+    let store = store.named::<N>();
+    let (left, at_hand, ended) = converse_with(alloc, seed, store, register, read_from, r, w, most);
+    (left.into_connection(), at_hand, ended)
 }
 
-/// Judges what is ready in a store, seen as one of the register that `N` names, and whether that
-/// went well.
-pub(crate) fn settle<S: Alter + Drop, N: OfRegister>(
+// Judges what is ready in a store, seen as one of the register that `N` names, and whether that went
+// well.
+fn settle<S: Alter + Drop, N: OfRegister>(
     alloc: Global,
     register: Register,
     store: Store<S>,
@@ -69,10 +66,8 @@ pub(crate) fn settle<S: Alter + Drop, N: OfRegister>(
     ensures idle { IsNotOpen (progress_of result.1.judging) }
     ensures settles { Settles N.text register store result.1 (or_not_received result.2) }
 {
-    let mut hub = Hub::new(alloc, register, store.named::<N>());
-    let settled = hub.settle();
-    let (register, settled_store) = hub.into_parts();
-    (register, settled_store.named(), settled)
+    let (register, store, told) = settled(alloc, register, store.named::<N>());
+    (register, store.named(), told)
 }
 
 /// Makes a store of a register in the empty database behind a connection outside a transaction, and

@@ -10,6 +10,7 @@ ghost use Rattle.gaz_store.specs.Store.{progress_of};
 ghost use Rattle.gaz_commands.specs.Obeying.{Obeys};
 ghost use Rattle.gaz_stored.specs.Asking.{Asks, ObeysUnder, asked};
 
+use crate::keepers::ask_with;
 use gaz_commands::{Said, extract, line, status, submit};
 use gaz_hub::Hub;
 use gaz_keeper::Inbox;
@@ -30,8 +31,12 @@ pub struct Asked<S: Alter + Drop> {
     pub said: Result<Said, StoreRefusal>,
 }
 
-// What a hub is asked, and what is said.
-fn ask_hub<K: Inbox + Drop>(hub: &mut Hub<K>, call: Call<'_>, file: Option<&[u8]>) -> Said
+/// What a hub is asked, and what is said.
+pub(crate) fn ask_hub<K: Inbox + Drop>(
+    hub: &mut Hub<K>,
+    call: Call<'_>,
+    file: Option<&[u8]>,
+) -> Said
     requires { IsNotJudging K.seen hub.old.keeper }
     ensures { Obeys K.seen (asked call.entry (option_map (λ bytes. bytes.now) file.entry))
         hub.old hub.new result }
@@ -57,10 +62,8 @@ fn ask_over<S: Alter + Drop, N: OfRegister>(
     ensures asks { ObeysUnder N N.text register
         (asked call.entry (option_map (λ bytes. bytes.now) file.entry)) store result.0 result.1 }
 {
-    let mut hub = Hub::new(alloc, register, store.named::<N>());
-    let said = ask_hub(&mut hub, call, file);
-    let (_register, store) = hub.into_parts();
-    (store.into_connection(), said)
+    let (left, said) = ask_with(alloc, store.named::<N>(), register, call, file);
+    (left.into_connection(), said)
 }
 
 /// Takes the database behind a connection outside a transaction as the store of a register, and asks

@@ -10,10 +10,8 @@ ghost use Rattle.gaz_store.specs.Store.{progress_of};
 ghost use Rattle.gaz_stored.specs.Attending.{Attends, ServesOver, is_told, unserved};
 ghost use Rattle.gaz_stored.specs.Serving.{EndsEarly};
 
-use crate::answering::settle;
-use crate::connections::{MOST_REQUESTS, serve_on};
-use crate::mirroring::{ReadFrom, mirror};
-use gaz_hub::Hub;
+use crate::connections::MOST_REQUESTS;
+use crate::keepers::serve_with;
 use gaz_register::Register;
 use gaz_shelf::{MemShelf, Seed};
 use gaz_store::{OfRegister, Store, StoreRefusal};
@@ -68,13 +66,9 @@ where
     ensures serves { ServesOver N N.text register MOST_REQUESTS result.2 store result.0 }
     ensures many { EndsEarly connections result.2 result.1 }
 {
-    let (register, store, _settled) = settle::<_, N>(alloc, register, store);
-    let hub = Hub::new(alloc, register, store.named::<N>());
-    let mut hub = mirror(alloc, seed, hub, ReadFrom::Memory);
-    let served = serve_on(alloc, listener, &mut hub, connections);
-    let (_register, mirror) = hub.into_parts();
-    let (store, at_hand) = mirror.into_parts();
-    (store.into_connection(), at_hand, served)
+    let store = store.named::<N>();
+    let (left, at_hand, served) = serve_with(alloc, seed, store, register, listener, connections);
+    (left.into_connection(), at_hand, served)
 }
 
 // The listener, once it is said where connections come.

@@ -7,6 +7,7 @@ mod asking;
 mod attending;
 mod connections;
 mod extending;
+mod keepers;
 pub mod laws;
 mod migrating;
 mod mirroring;

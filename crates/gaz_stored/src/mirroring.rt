@@ -6,14 +6,13 @@ ghost use Rattle.gaz_hub.specs.Laws.{StandsForRun};
 ghost use Rattle.gaz_hub.specs.Seen.{RemembersNothing};
 ghost use Rattle.gaz_mirror.specs.Mirrored.{seen_mirrored};
 ghost use Rattle.gaz_loaded.specs.Files.{OnlyReads};
-ghost use Rattle.gaz_store.specs.Store.{seen_in};
+ghost use Rattle.gaz_mirrored.specs.Filling.{CanBeMirrored, RestsBare};
 
 use gaz_hub::Hub;
+use gaz_loaded::Listed;
 use gaz_mirror::Mirror;
 use gaz_mirrored::mirrored;
 use gaz_shelf::{MemShelf, Seed};
-use gaz_store::{OfRegister, Store};
-use sqlite::Alter;
 use std::alloc::Global;
 
 /// Where what is asked of a store is read.
@@ -26,27 +25,28 @@ pub enum ReadFrom {
     Tables,
 }
 
-/// The hub over a mirror of its store, with all of it at hand or nothing.
-pub(crate) fn mirror<S: Alter + Drop, N: OfRegister>(
+/// The hub over a mirror of its keeper, with all of it at hand or nothing.
+pub(crate) fn mirror<L: Listed + Drop>(
     alloc: Global,
     seed: Seed,
-    hub: Hub<Store<S, N>>,
+    hub: Hub<L>,
     read_from: ReadFrom,
-) -> Hub<Mirror<Store<S, N>, MemShelf>>
-    requires { IsNotOpen (seen_in N.text hub.keeper).progress }
+) -> Hub<Mirror<L, MemShelf>>
+    requires { IsNotOpen (L.seen hub.keeper).progress }
     ensures register { result.register ≡ hub.register }
     ensures remembers { RemembersNothing result }
     ensures idle { IsNotOpen (seen_mirrored result.keeper).progress }
-    ensures reads { OnlyReads (seen_in N.text hub.keeper) (seen_in N.text result.keeper.lower) }
-    ensures mirrors { StandsForRun (door_of hub.register) (seen_in N.text hub.keeper)
+    ensures reads { OnlyReads (L.seen hub.keeper) (L.seen result.keeper.lower) }
+    ensures mirrors { RestsBare L.seen
+        → CanBeMirrored (door_of hub.register) (L.seen hub.keeper)
         → (seen_mirrored result.keeper).unharmed
         → StandsForRun (door_of hub.register) (seen_mirrored result.keeper) }
 {
     match read_from {
         ReadFrom::Memory => mirrored(alloc, seed, hub),
         ReadFrom::Tables => {
-            let (register, store) = hub.into_parts();
-            Hub::new(alloc, register, Mirror::over(alloc, store))
+            let (register, keeper) = hub.into_parts();
+            Hub::new(alloc, register, Mirror::over(alloc, keeper))
         }
     }
 }

@@ -1,0 +1,110 @@
+//! What a hub does over a keeper, whatever it is: so it is proved once, and at a store's type each call
+//! would cost the proof ten seconds more.
+ghost use Rattle.std.specs.Prelude.{◌≡◌, ◌∷◌, [], option_map};
+ghost use Rattle.gaz_keeper.specs.Keeper.{IsNotOpen};
+ghost use Rattle.gaz_hub.specs.Hubs.{Runs, door_of, or_not_received};
+ghost use Rattle.gaz_hub.specs.Step.{Pose, Replied, Settle};
+ghost use Rattle.gaz_exchange.specs.Conversing.{StopsByFault, transfer};
+ghost use Rattle.gaz_stored.specs.Asking.{asked};
+ghost use Rattle.gaz_stored.specs.Keepers.{AsksWith, ConversesWith, ServesWith};
+ghost use Rattle.gaz_stored.specs.Serving.{EndsEarly};
+
+use crate::asking::ask_hub;
+use crate::connections::{MOST_REQUESTS, serve_on};
+use crate::mirroring::{ReadFrom, mirror};
+use gaz_commands::Said;
+use gaz_exchange::{Served, Sink, Source, Stopped, converse};
+use gaz_hub::Hub;
+use gaz_keeper::{Inbox, ShelfFault};
+use gaz_loaded::Listed;
+use gaz_register::Register;
+use gaz_shelf::{MemShelf, Seed};
+use gaz_words::Call;
+use std::alloc::Global;
+use std::io::{Read, Write};
+use std::net::{OpenListener, OpenStream};
+
+/// Judges what is ready in a keeper, and whether that went well.
+pub(crate) fn settled<K: Inbox + Drop>(
+    alloc: Global,
+    register: Register,
+    keeper: K,
+) -> (Register, K, Result<(), ShelfFault>)
+    requires { IsNotOpen (K.seen keeper).progress }
+    ensures register { result.0 ≡ register }
+    ensures idle { IsNotOpen (K.seen result.1).progress }
+    ensures runs { Runs (door_of register) (K.seen keeper) (K.seen result.1)
+        (Pose Settle ∷ []) (Replied Settle (or_not_received result.2) ∷ []) }
+{
+    let mut hub = Hub::new(alloc, register, keeper);
+    let told = hub.settle();
+    let (register, keeper) = hub.into_parts();
+    (register, keeper, told)
+}
+
+/// Holds a conversation over a keeper; it and what is at hand of it are left.
+pub(crate) fn converse_with<K: Listed + Drop, R: Source, W: Sink>(
+    alloc: Global,
+    seed: Seed,
+    keeper: K,
+    register: Register,
+    read_from: ReadFrom,
+    r: &mut R,
+    w: &mut W,
+    most: u64,
+) -> (K, Option<MemShelf>, Result<Served, Stopped>)
+    requires { IsNotOpen (K.seen keeper).progress }
+    ensures converses { ConversesWith K.Shelf register most
+        (transfer R.remaining W.contents r.old r.new w.old w.new) keeper result.0 result.2 }
+    ensures failed { StopsByFault R.failed W.failed r.new w.new result.2 }
+{
+    let hub = Hub::new(alloc, register, keeper);
+    let mut hub = mirror(alloc, seed, hub, read_from);
+    let ended = converse(alloc, r, w, &mut hub, most);
+    let (_register, mirror) = hub.into_parts();
+    let (keeper, at_hand) = mirror.into_parts();
+    (keeper, at_hand, ended)
+}
+
+/// Answers connections over a keeper, once it is settled and all of it put at hand, where memory
+/// allows; it, what is at hand, and how many were answered are left.
+pub(crate) fn serve_with<L: OpenListener, K: Listed + Drop>(
+    alloc: Global,
+    seed: Seed,
+    keeper: K,
+    register: Register,
+    listener: &L,
+    connections: u64,
+) -> (K, Option<MemShelf>, u64)
+where
+    L::Stream: Read + Write + OpenStream,
+    requires { IsNotOpen (K.seen keeper).progress }
+    ensures serves { ServesWith K.Shelf register MOST_REQUESTS result.2 keeper result.0 }
+    ensures many { EndsEarly connections result.2 result.1 }
+{
+    let (register, keeper, _settled) = settled(alloc, register, keeper);
+    let hub = Hub::new(alloc, register, keeper);
+    let mut hub = mirror(alloc, seed, hub, ReadFrom::Memory);
+    let served = serve_on(alloc, listener, &mut hub, connections);
+    let (_register, mirror) = hub.into_parts();
+    let (keeper, at_hand) = mirror.into_parts();
+    (keeper, at_hand, served)
+}
+
+/// Asks a hub over a keeper once, which is left, and what is said.
+pub(crate) fn ask_with<K: Inbox + Drop>(
+    alloc: Global,
+    keeper: K,
+    register: Register,
+    call: Call<'_>,
+    file: Option<&[u8]>,
+) -> (K, Said)
+    requires { IsNotOpen (K.seen keeper).progress }
+    ensures { AsksWith K.seen register
+        (asked call.entry (option_map (λ bytes. bytes.now) file.entry)) keeper result.0 result.1 }
+{
+    let mut hub = Hub::new(alloc, register, keeper);
+    let said = ask_hub(&mut hub, call, file);
+    let (_register, keeper) = hub.into_parts();
+    (keeper, said)
+}
