@@ -1,6 +1,7 @@
 //! The list of calls, over a store in a file.
 ghost use Rattle.std.specs.Prelude.{IfOk};
 ghost use Rattle.gaz_keeper.specs.Keeper.{IsNotOpen};
+ghost use Rattle.gaz_mirror.specs.Mirrored.{seen_mirrored};
 ghost use Rattle.gaz_store.specs.Store.{progress_of};
 
 use crate::at_file::{Work, over_file};
@@ -10,6 +11,7 @@ use anyhow::{Context, Result, bail, ensure};
 use gaz_hub::Hub;
 use gaz_keeper::Inbox;
 use gaz_loaded::Listed;
+use gaz_mirror::{Mirror, Unshared};
 use gaz_mirrored::mirrored;
 use gaz_register::Register;
 use gaz_samples::keepers::{Part, Refusal, Tried, part, parts, performs};
@@ -107,16 +109,23 @@ fn performed_part<K: Inbox + Drop>(alloc: Global, keeper: K, part: &Part) -> Res
     at_rest(keeper)
 }
 
-// What a keeper lists is brought to hand, and behind that numbers pass on; in the end all is at hand.
+// Numbers pass on in a keeper over two; in the end all is at hand.
+fn goes_on<L: Inbox + Drop, U: Unshared + Drop>(alloc: Global, mirror: Mirror<L, U>) -> Result<()>
+    requires { IsNotOpen (seen_mirrored mirror).progress }
+{
+    let mut keeper = Tried::new(mirror);
+    performs_tables(alloc, &mut keeper, 2, TABLES)?;
+    ensure!(keeper.keeper().has_upper(), "not all is at hand");
+    Ok(())
+}
+
+// What a keeper lists is brought to hand, and behind that numbers pass on.
 fn goes_on_at_hand<K: Listed + Drop>(alloc: Global, register: Register, keeper: K) -> Result<()>
     requires { IsNotOpen (K.seen keeper).progress }
 {
     let hub = mirrored(alloc, Seed::of(1), Hub::new(alloc, register, keeper));
     let (_, mirror) = hub.into_parts();
-    let mut keeper = Tried::new(mirror);
-    performs_tables(alloc, &mut keeper, 2, TABLES)?;
-    ensure!(keeper.keeper().has_upper(), "not all is at hand");
-    Ok(())
+    goes_on(alloc, mirror)
 }
 
 /// What of the list is done.
@@ -128,6 +137,28 @@ pub enum Way {
     Part(u64),
     /// All of it, and before numbers pass on, what is kept is brought to hand.
     AtHand,
+}
+
+// Does it over a keeper, which is left, unless it was brought to hand.
+fn listed<K: Listed + Drop>(
+    alloc: Global,
+    register: Register,
+    keeper: K,
+    way: Way,
+) -> Result<Option<K>>
+    requires { IsNotOpen (K.seen keeper).progress }
+{
+    match way {
+        Way::All => Ok(Some(performed(alloc, keeper, TABLES)?)),
+        Way::Part(number) => {
+            let part = part(number).context("there is no such part")?;
+            Ok(Some(performed_part(alloc, keeper, part)?))
+        }
+        Way::AtHand => {
+            goes_on_at_hand(alloc, register, performed(alloc, keeper, 2)?)?;
+            Ok(None)
+        }
+    }
 }
 
 #[derive(Drop)]
@@ -152,18 +183,10 @@ impl Work for Listing {
         } = self;
         let alloc = rt.alloc();
         let store = store_in(alloc, conn, &register, beginning)?;
-        let left = match way {
-            Way::All => performed(alloc, store, TABLES)?,
-            Way::Part(number) => {
-                let part = part(number).context("there is no such part")?;
-                performed_part(alloc, store, part)?
-            }
-            Way::AtHand => {
-                goes_on_at_hand(alloc, register, performed(alloc, store, 2)?)?;
-                return Ok((None, ()));
-            }
-        };
-        Ok((Some(left.into_connection()), ()))
+        match listed(alloc, register, store, way)? {
+            Some(store) => Ok((Some(store.into_connection()), ())),
+            None => Ok((None, ())),
+        }
     }
 }
 
