@@ -137,8 +137,6 @@ def keep(room: Path, root: Path, account: Account) -> None:
     before = measure.spent()
     for name, fault in outside.of_stores(root, room):
         tell(name, fault, account)
-    ran = measure.run([sys.executable, "bench/agree"], room)
-    tell("bench/agree", ran.text if ran.status else None, account)
     account.rest += measure.spent() - before
 
 

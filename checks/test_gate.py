@@ -5,11 +5,12 @@ import signal
 import subprocess
 import sys
 import tempfile
+import threading
 import time
 import unittest
 from pathlib import Path
 
-from checks import gate, measure
+from checks import gate, measure, outside
 from checks.test_trying import RIGHT, small_crate
 
 CHECK = Path(__file__).resolve().parent.parent / "check"
@@ -102,6 +103,22 @@ class TheSteps(unittest.TestCase):
         for fault in (None, "differs"):
             gate.tell(f"it {fault}", fault, account)
         self.assertEqual((1, ["it differs"]), (account.passed, account.failed))
+
+
+class FromOutside(unittest.TestCase):
+    def test_parts_run_beside_each_other_and_their_cases_come_in_order(self):
+        both = threading.Barrier(2, timeout=30)
+
+        def part(name: str) -> list[outside.Case]:
+            both.wait()
+            return [(f"{name} 1", None), (f"{name} 2", name)]
+
+        found = list(outside.in_lanes([lambda: part("a"), lambda: part("b"), lambda: []]))
+        self.assertEqual([("a 1", None), ("a 2", "a"), ("b 1", None), ("b 2", "b")], found)
+
+    def test_a_part_that_breaks_off_is_told(self):
+        with self.assertRaises(OSError):
+            list(outside.in_lanes([lambda: [("a", None)], lambda: os.stat("/nowhere") and []]))
 
 
 class TheAccount(unittest.TestCase):
