@@ -90,6 +90,8 @@ def of_stores(root: Path, room: Path) -> Iterator[Case]:
     they are written, registers that grow, what they cost, rings; memory that is wanting, and histories over stores that fail and over a keeper in memory that does."""
     yield from in_lanes(
         (
+            # (the longest comes first)
+            lambda: [("bench/agree", agreed(room))],
             lambda: held(stored.run_all(root, room)),
             lambda: named("calls:", calls.run_all(room)),
             lambda: held(in_turn.run_all(root, room)),
@@ -110,7 +112,6 @@ def of_stores(root: Path, room: Path) -> Iterator[Case]:
             lambda: named("breaking:", breaking.stay_all(root, room)),
             lambda: named("wanting memory:", wanting.run_all(built(room, "gazhub"), built(room, "gaz_bench"))),
             lambda: named("trouble:", troubled.run_all(built(room, "gaz_bench"))),
-            lambda: [("bench/agree", agreed(room))],
         )
     )
 
