@@ -13,7 +13,7 @@ use Rattle.gaz_keeper.specs.Keeper.{Content, Enters, Goes, IsAtHand, IsNew, IsNo
 use Rattle.gaz_keeper.specs.declared.fault.ShelfFault.{ShelfFault}
 use Rattle.gaz_kept.specs.Contents.{content_in}
 use Rattle.gaz_store.specs.Altering.{Writes}
-use Rattle.gaz_store.specs.Asking.{Asks, AsksTables, Fails, IsAnyway, Tallies}
+use Rattle.gaz_store.specs.Asking.{AsksTables, Tallies}
 use Rattle.gaz_store.specs.Beside.{Turns}
 use Rattle.gaz_store.specs.Remembered.{Remembered}
 use Rattle.gaz_store.specs.Seen.{seen_of}
@@ -24,7 +24,6 @@ use Rattle.gaz_store.specs.declared.progress.Judging.{Judging}
 use Rattle.gaz_store.specs.declared.progress.Judging.TheVariants.{Idle, Open, Broken}
 use Rattle.gaz_store.specs.declared.store.Store.{Store}
 use Rattle.gaz_store.specs.declared.tables.Tables.{Tables}
-use Rattle.gaz_store.proofs.Seeing.{asks_nothing}
 use Rattle.gaz_store.proofs.Entering.{receive_enters, skip_enters}
 use Rattle.gaz_store.proofs.StoreReads.{left_cleared, not_broken, on_ok_all}
 use Rattle.gaz_store.proofs.StoreGoes.{goes_idle, goes_kept, goes_not_kept, goes_on, goes_open, goes_wrong}
@@ -98,16 +97,6 @@ module _ {S R : Type 0} {store : Ghosts S} (register : List ℕ) (old : Store S 
       subst (λ j. Goes {T = T} (seen_in register old) (seen_in register (record old { tables = t; judging = j })) (Err e) ⊤ becomes None after) (sym broken)
       (goes_wrong {T = T} register s (state store t.conn) old.tables.at_hand t.at_hand old.judging old.tables.failures t.failures e r P becomes after asks.asks
       (record { kept = tallies.kept; store = tallies.store }) asks.at_hand)
-
-  -- so does one of its own
-  pub breaks_itself : {T : Type 0} (t : Tables S store) (k : Judging) → k ≡ Broken → (e : ShelfFault) (becomes : Content) (after : keeper.Progress) → Fails old.tables t e
-      → Goes {T = T} (seen_in register old) (seen_in register (record old { tables = t; judging = k })) (Err e) ⊤ becomes None after
-  breaks_itself {T} t k broken e becomes after fails =
-      let done : Result (Unit {0}) ShelfFault = Ok (tt {0}) in
-      subst (λ j. Goes {T = T} (seen_in register old) (seen_in register (record old { tables = t; judging = j })) (Err e) ⊤ becomes None after) (sym broken)
-      (goes_wrong {T = T} register s (state store t.conn) old.tables.at_hand t.at_hand old.judging old.tables.failures t.failures e done IsAnyway becomes after
-      (subst (λ h. Asks s (state store h) done IsAnyway) (sym fails.conn) (asks_nothing s done IsAnyway (λ h kept. tt)))
-      (record { kept = fails.kept; store = fails.counted }) fails.at_hand)
 
   -- the judgement is kept
   pub keeps : (m : Judgement) (t : Tables S store) (r : Result (Unit {0}) ShelfFault) → old.judging ≡ Open m

@@ -12,6 +12,7 @@ use gaz_shelf::read_kind;
 use std::alloc::Global;
 
 impl<K: Inbox + Drop> Tried<K> {
+    /// How far a custodian is judged.
     pub fn reached(&mut self, code: Code) -> Result<u64, ShelfFault> {
         self.keeper.reached(code)
     }

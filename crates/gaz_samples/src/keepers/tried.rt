@@ -44,10 +44,12 @@ impl<K: Inbox + Drop> Tried<K> {
         }
     }
 
+    /// The keeper, to look at.
     pub fn keeper(&self) -> &K {
         &self.keeper
     }
 
+    /// The keeper, whether a judgement is in progress or not.
     pub fn into_keeper(self) -> K {
         let Tried { keeper, judged: _ } = self;
         keeper
@@ -67,6 +69,7 @@ impl<K: Inbox + Drop> Tried<K> {
 
 // The calls that write.
 impl<K: Inbox + Drop> Tried<K> {
+    /// A judgement of a custodian's next volume. `Misused` where one is in progress.
     pub fn begin(&mut self, code: Code) -> Result<(), Refusal> {
         if self.judged.is_some() {
             return Err(Refusal::Misused);
@@ -78,6 +81,7 @@ impl<K: Inbox + Drop> Tried<K> {
         Ok(begun?)
     }
 
+    /// An item is put in the judgement. `Misused` where none is in progress.
     pub fn put(&mut self, item: SharedItem) -> Result<(), Refusal> {
         if self.judged.is_none() || !item.is_entry() {
             return Err(Refusal::Misused);
@@ -89,6 +93,7 @@ impl<K: Inbox + Drop> Tried<K> {
         Ok(done?)
     }
 
+    /// A key is taken in the judgement. `Misused` where none is in progress.
     pub fn take(&mut self, key: &Key) -> Result<(), Refusal> {
         if self.judged.is_none() {
             return Err(Refusal::Misused);
@@ -100,6 +105,7 @@ impl<K: Inbox + Drop> Tried<K> {
         Ok(done?)
     }
 
+    /// The judgement is kept. `Misused` where none is in progress.
     pub fn keep(&mut self) -> Result<(), Refusal> {
         if self.judged.is_none() {
             return Err(Refusal::Misused);
@@ -109,6 +115,7 @@ impl<K: Inbox + Drop> Tried<K> {
         Ok(done?)
     }
 
+    /// The judgement is given up. `Misused` where none is in progress.
     pub fn abandon(&mut self) -> Result<(), Refusal> {
         if self.judged.is_none() {
             return Err(Refusal::Misused);
@@ -118,6 +125,7 @@ impl<K: Inbox + Drop> Tried<K> {
         Ok(done?)
     }
 
+    /// A custodian's next volume puts these items, and is kept or given up. `Misused` where one is in progress.
     pub fn write_volume(
         &mut self,
         code: Code,
@@ -131,6 +139,7 @@ impl<K: Inbox + Drop> Tried<K> {
         Ok(done?)
     }
 
+    /// A custodian's next volume is rejected at a place by a rule. `Misused` where one is in progress.
     pub fn skip(&mut self, code: Code, place: u64, rule: u8) -> Result<(), Refusal> {
         if self.judged.is_some() {
             return Err(Refusal::Misused);
@@ -138,6 +147,7 @@ impl<K: Inbox + Drop> Tried<K> {
         Ok(self.keeper.skip(code, place, rule)?)
     }
 
+    /// A volume is received. `Misused` where one is in progress.
     pub fn receive(&mut self, code: Code, volume: Volume, bytes: &[u8]) -> Result<(), Refusal> {
         if self.judged.is_some() {
             return Err(Refusal::Misused);
@@ -148,6 +158,7 @@ impl<K: Inbox + Drop> Tried<K> {
 
 // What goes over any keeper.
 impl<K: Inbox + Drop> Tried<K> {
+    /// A file is judged as a custodian's next volume. `Misused` where one is in progress.
     pub fn judge(
         &mut self,
         alloc: Global,
@@ -161,6 +172,7 @@ impl<K: Inbox + Drop> Tried<K> {
         Ok(judge(alloc, &mut self.keeper, register, code, file)?)
     }
 
+    /// The addresses on streets that others closed. `Misused` where one is in progress.
     pub fn closed_streets(
         &mut self,
         alloc: Global,
