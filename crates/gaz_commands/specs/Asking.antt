@@ -4,7 +4,8 @@ use Rattle.std.specs.Prelude.{ℕ, List, Option, Some, None, Result, Ok, Err}
 use Rattle.std.specs.Result.{result_ok}
 use Rattle.gaz_ids.specs.Limits.{last_uprn, last_volume}
 use Rattle.gaz_ids.specs.Numbers.{read_id}
-use Rattle.gaz_hub.specs.Step.{Command, Extract, LookUp, Pose, Stand, Submit}
+use Rattle.gaz_hub.specs.Step.{Command, Pose, Submit}
+use Rattle.gaz_hub.specs.declared.question.Question.TheVariants.{Extract, LookUp, Stand}
 use Rattle.gaz_commands.specs.Saying.{turned_away}
 use Rattle.gaz_commands.specs.declared.printed.DoorRefusal.TheVariants as door
 use Rattle.gaz_commands.specs.declared.printed.PrintedLine.TheVariants as line

@@ -1,14 +1,14 @@
 -- What a command says of the hub's response, where it is printed, and the exit status.
 use Rattle.std.specs.Prelude.{ℕ, if◌then◌else◌, List, [], ◌++◌, codes, Option, Some, None, Result}
 use Rattle.std.specs.Prelude.{Ok, Err}
-use Rattle.gaz_extract.specs.declared.found.Found.{Found}
-use Rattle.gaz_hub.specs.Step.{Ask, Extract, ListClosed, LookUp, Question, Replied, Response}
-use Rattle.gaz_hub.specs.Step.{Settle, Stand, Submitted, Told}
+use Rattle.gaz_hub.specs.Posing.{telling}
+use Rattle.gaz_hub.specs.Step.{Replied, Response, Submitted}
 use Rattle.gaz_hub.specs.declared.answer.Answer.{Answer}
 use Rattle.gaz_hub.specs.declared.answer.Answer.TheVariants as answer
 use Rattle.gaz_hub.specs.declared.refusal.Refusal.{Refusal}
 use Rattle.gaz_hub.specs.declared.refusal.Refusal.TheVariants as refusal
-use Rattle.gaz_hub.specs.declared.standing.Standing.{Standing}
+use Rattle.gaz_hub.specs.declared.question.Told.{Told}
+use Rattle.gaz_hub.specs.declared.question.Told.TheVariants as told
 use Rattle.gaz_commands.specs.Lines.{is_done, line_text}
 use Rattle.gaz_commands.specs.declared.printed.DoorRefusal.{DoorRefusal}
 use Rattle.gaz_commands.specs.declared.printed.DoorRefusal.TheVariants as door
@@ -38,41 +38,29 @@ said_of (answer.Repeat outcome) = said.Line (line.Repeat outcome)
 said_of (answer.Taken digest) = said.Line (line.Taken digest)
 said_of (answer.Refused why) = said_refused why
 
--- what is said of a custodian's standing
-abbrev pub said_on_standing : Result Standing Refusal → Said
-said_on_standing (Ok standing) = said.Line (line.Stands standing)
-said_on_standing (Err why) = said_refused why
-
 -- what is said of a property's line
 abbrev pub said_address : Option (List ℕ) → Said
 said_address (Some text) = said.Line (line.Address text)
 said_address None = said.Line line.Nothing
 
--- what is said of where a property stands
-abbrev pub said_on_found : Result (Option Found) Refusal → Said
-said_on_found (Ok None) = said.Line line.Nothing
-said_on_found (Ok (Some found)) = said_address found.line
-said_on_found (Err why) = said_refused why
+-- what is said of what is there; no command asks what became of a file, or for closed streets
+abbrev pub said_of_told : Told → Said
+said_of_told (told.Outcome digest outcome) = said.Line line.Nothing
+said_of_told (told.Standing standing) = said.Line (line.Stands standing)
+said_of_told (told.Found found) = said_address found.line
+said_of_told (told.Extract bytes) = said.Extract bytes
+said_of_told (told.Closed closed) = said.Line line.Nothing
 
--- what is said of an extract, where the volume is reached
-abbrev pub said_on_extract : Result (Option (List ℕ)) Refusal → Said
-said_on_extract (Ok None) = said.Line line.Nothing
-said_on_extract (Ok (Some bytes)) = said.Extract bytes
-said_on_extract (Err why) = said_refused why
-
--- what is said of the answer to a question; no command asks the others
-abbrev pub said_on : (q : Question) → Result (Told q) Refusal → Said
-said_on (Ask c volume) told = said.Line line.Nothing
-said_on (Stand c) standing = said_on_standing standing
-said_on Settle done = said.Line line.Nothing
-said_on (LookUp uprn) found = said_on_found found
-said_on (Extract c volume) bytes = said_on_extract bytes
-said_on ListClosed closed = said.Line line.Nothing
+-- what is said of what is told of a question
+abbrev pub said_told : Result (Option Told) Refusal → Said
+said_told (Ok None) = said.Line line.Nothing
+said_told (Ok (Some told)) = said_of_told told
+said_told (Err why) = said_refused why
 
 -- what is said of what the hub said
 abbrev pub said_to : Response → Said
-said_to (Submitted told) = said_of told
-said_to (Replied q told) = said_on q told
+said_to (Submitted answer) = said_of answer
+said_to (Replied q reply) = said_told (telling q reply)
 
 -- what is printed on standard output; nothing for a fault
 abbrev pub text_of : Said → List ℕ

@@ -1,11 +1,11 @@
 -- Worked examples on what commands ask and what they print.
 use Rattle.std.specs.Prelude.{◌≡◌, ℕ, List, [], ◌∷◌, codes, Some, None, Ok, Err}
 use Rattle.gaz_keeper.specs.declared.fault.ShelfFault.TheVariants as cause
-use Rattle.gaz_hub.specs.Step.{Extract, LookUp, Pose, Replied, Response, Stand, Submit}
-use Rattle.gaz_hub.specs.Step.{Submitted}
+use Rattle.gaz_hub.specs.Step.{Pose, Replied, Response, Submit, Submitted}
 use Rattle.gaz_hub.specs.declared.answer.Answer.{Answer}
 use Rattle.gaz_hub.specs.declared.answer.Answer.TheVariants as answer
 use Rattle.gaz_hub.specs.declared.outcome.Outcome.TheVariants.{Applied, Rejected, Held}
+use Rattle.gaz_hub.specs.declared.question.Question.TheVariants.{Extract, LookUp, Stand}
 use Rattle.gaz_hub.specs.declared.refusal.Refusal.TheVariants as refusal
 use Rattle.gaz_hub.specs.declared.standing.Standing.{Standing}
 use Rattle.gaz_register.specs.declared.growth.GrowFault.TheVariants as growth

@@ -1,14 +1,15 @@
 //! What each command asks of a hub.
 ghost use Rattle.std.specs.Prelude.{◌≡◌, option_map};
 ghost use Rattle.gaz_keeper.specs.Telling.{IsNotJudging};
+ghost use Rattle.gaz_hub.specs.Step.{Pose};
 ghost use Rattle.gaz_commands.specs.Asking.{asks_address, asks_extract, asks_standing};
 ghost use Rattle.gaz_commands.specs.Asking.{asks_to_submit};
-ghost use Rattle.gaz_commands.specs.Obeying.{Obeys};
+ghost use Rattle.gaz_commands.specs.Obeying.{IsAnswered, Obeys};
 
 use crate::numbers::{code_named, uprn_named, volume_named};
 use crate::printed::{DoorRefusal, PrintedLine};
 use crate::said::{Fault, Said, turned_away};
-use gaz_hub::Hub;
+use gaz_hub::{Hub, Question};
 use gaz_keeper::Inbox;
 
 /// Submits a change file, whose bytes are given where it could be read.
@@ -37,6 +38,15 @@ pub fn submit<K: Inbox + Drop>(
     Said::answered(hub.submit(code.number(), volume.number(), file))
 }
 
+// Asks a question, and says what is told of it.
+fn ask<K: Inbox + Drop>(hub: &mut Hub<K>, question: Question) -> Said
+    requires idle { IsNotJudging K.seen hub.old.keeper }
+    ensures answered { IsAnswered K.seen (Pose question) hub.old hub.new result }
+    ensures register { hub.new.register ≡ hub.old.register }
+{
+    Said::told(hub.ask(question))
+}
+
 /// Says how far a custodian's files are judged.
 pub fn status<K: Inbox + Drop>(hub: &mut Hub<K>, code: &str) -> Said
     requires idle { IsNotJudging K.seen hub.old.keeper }
@@ -46,7 +56,8 @@ pub fn status<K: Inbox + Drop>(hub: &mut Hub<K>, code: &str) -> Said
     let Some(code) = code_named(code) else {
         return turned_away(DoorRefusal::UnknownCustodian);
     };
-    Said::stands(hub.status(code.number()))
+    let code = code.number();
+    ask(hub, Question::Stand { code })
 }
 
 /// Says the address line of a property.
@@ -58,7 +69,7 @@ pub fn line<K: Inbox + Drop>(hub: &mut Hub<K>, uprn: &str) -> Said
     let Some(uprn) = uprn_named(uprn) else {
         return Said::Line(PrintedLine::Nothing);
     };
-    Said::found(hub.lookup(uprn))
+    ask(hub, Question::LookUp { uprn })
 }
 
 /// Says a custodian's view after a volume, as the text of an extract.
@@ -73,5 +84,6 @@ pub fn extract<K: Inbox + Drop>(hub: &mut Hub<K>, code: &str, volume: &str) -> S
     let Some(volume) = volume_named(volume) else {
         return turned_away(DoorRefusal::BadVolume);
     };
-    Said::extracted(hub.extract(code.number(), volume.number()))
+    let (code, volume) = (code.number(), volume.number());
+    ask(hub, Question::Extract { code, volume })
 }

@@ -1,14 +1,11 @@
 //! What is said of the hub's answers.
 ghost use Rattle.std.specs.Prelude.{◌≡◌};
-ghost use Rattle.gaz_hub.specs.Hubs.{told};
 ghost use Rattle.gaz_commands.specs.Saying.{error_line, error_of, said_address, said_of};
-ghost use Rattle.gaz_commands.specs.Saying.{said_on_extract, said_on_found, said_on_standing};
-ghost use Rattle.gaz_commands.specs.Saying.{said_refused, status_of};
+ghost use Rattle.gaz_commands.specs.Saying.{said_of_told, said_refused, said_told, status_of};
 
 use crate::printed::{DoorRefusal, PrintedLine};
-use gaz_extract::{AddressLine, Found};
-use gaz_hub::{Answer, Refusal, Standing};
-use std::marker::Model;
+use gaz_extract::AddressLine;
+use gaz_hub::{Answer, ExtractText, Refusal, Told};
 
 /// A fault, which standard error names.
 #[derive(Clone, Copy, PartialEq, Eq)]
@@ -31,29 +28,6 @@ impl Fault {
             Fault::NotReceived => "gazhub: NotReceived\n",
             Fault::ReceivedUnsettled => "gazhub: ReceivedUnsettled\n",
         }
-    }
-}
-
-/// The text of an extract.
-#[derive(Drop)]
-pub struct ExtractText {
-    bytes: Vec<u8>,
-}
-
-impl Model for ExtractText {
-    ghost use Rattle.std.specs.Prelude.{List, ℕ};
-
-    ghost Value = { List ℕ };
-
-    ghost view = { λ e. e.bytes.items };
-}
-
-impl ExtractText {
-    /// The bytes.
-    pub fn as_slice(&self) -> &[u8]
-        ensures { result.now ≡ self.now }
-    {
-        self.bytes.as_slice()
     }
 }
 
@@ -102,16 +76,6 @@ impl Said {
         }
     }
 
-    /// What is said of how far a custodian's files are judged.
-    pub fn stands(standing: Result<Standing, Refusal>) -> Said
-        ensures { result ≡ said_on_standing standing }
-    {
-        match standing {
-            Ok(standing) => Said::Line(PrintedLine::Stands(standing)),
-            Err(refusal) => Said::refused(refusal),
-        }
-    }
-
     // What is said of the line of a property.
     fn address(line: Option<AddressLine>) -> Said
         ensures { result ≡ said_address line }
@@ -122,23 +86,24 @@ impl Said {
         }
     }
 
-    /// What is said of where a property stands: its line.
-    pub fn found(found: Result<Option<Found>, Refusal>) -> Said
-        ensures { result ≡ said_on_found found }
+    // What is said of what is there. No command asks what became of a file, or for closed streets.
+    fn of_told(told: Told) -> Said
+        ensures { result ≡ said_of_told told }
     {
-        match found {
-            Ok(Some(found)) => Said::address(found.line),
-            Ok(None) => Said::Line(PrintedLine::Nothing),
-            Err(refusal) => Said::refused(refusal),
+        match told {
+            Told::Standing(standing) => Said::Line(PrintedLine::Stands(standing)),
+            Told::Found(found) => Said::address(found.line),
+            Told::Extract(text) => Said::Extract(text),
+            Told::Outcome(..) | Told::Closed(_) => Said::Line(PrintedLine::Nothing),
         }
     }
 
-    /// What is said of an extract.
-    pub fn extracted(extract: Result<Option<Vec<u8>>, Refusal>) -> Said
-        ensures { result ≡ said_on_extract (told extract) }
+    /// What is said of what the hub tells of a question: of a property, its line.
+    pub fn told(told: Result<Option<Told>, Refusal>) -> Said
+        ensures { result ≡ said_told told }
     {
-        match extract {
-            Ok(Some(bytes)) => Said::Extract(ExtractText { bytes }),
+        match told {
+            Ok(Some(told)) => Said::of_told(told),
             Ok(None) => Said::Line(PrintedLine::Nothing),
             Err(refusal) => Said::refused(refusal),
         }

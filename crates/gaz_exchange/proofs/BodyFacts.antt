@@ -1,5 +1,5 @@
 -- The texts in a reply.
-use Rattle.std.proofs.Common.{◌≡◌, ℕ, ◌+◌, ◌<◌, true, take, get_or, append_assoc, List, [], ◌∷◌, ◌++◌, Ok, Err, ◌∙◌, ap, arith, append-nil}
+use Rattle.std.proofs.Common.{◌≡◌, ℕ, ◌+◌, ◌<◌, true, false, not, take, get_or, append_assoc, List, [], ◌∷◌, ◌++◌, Ok, Err, ◌∙◌, ap, refl, arith, append-nil}
 use Rattle.std.specs.Prelude.{◌&&◌, codes, Bool, nat_le, length, IfOk, IsUtf8, Result}
 use Rattle.std.proofs.lemmas.Bool.Decides.{nat_tests}
 use Rattle.std.specs.List.{flat_map}
@@ -9,8 +9,11 @@ use Rattle.std.proofs.lemmas.Str.{IsUtf8-from_ascii}
 use Rattle.std.proofs.lemmas.Str.Ascii.{IsAscii-cons, IsAscii-nil}
 use Rattle.std.specs.Str.{IsAscii}
 use Rattle.gaz_records.specs.Labels.{are_label_bytes, is_label, is_label_byte}
-use Rattle.gaz_exchange.specs.Replies.{message}
+use Rattle.gaz_hub.specs.declared.question.Told.{Told}
+use Rattle.gaz_hub.specs.declared.question.Told.TheVariants as told
+use Rattle.gaz_exchange.specs.Replies.{is_extract, message, reply_text, takes_memory, told_text}
 use Rattle.gaz_exchange.specs.Sending.{head_of}
+use Rattle.gaz_exchange.specs.declared.reply.Reply.TheVariants as reply
 use Rattle.json.specs.Print.{print, print_from, token_text}
 use Rattle.json.specs.Token.{Token}
 use Rattle.json.specs.Written.{Writes, Written}
@@ -51,6 +54,23 @@ pub made_behind_head : {A E : Type 0} (r : Result A E) (f : A → List ℕ) (sta
     → IfOk r (λ b. head_of (front_of status content) (length (f b)) is_last ++ f b ≡ message status content (length body) [] body is_last)
 made_behind_head (Ok b) f status content body is_last e = rw e (behind_head status content body is_last)
 made_behind_head (Err x) f status content body is_last e = tt
+
+-- what is told of a question, but for an extract
+pub is_other : (t : Told) → ((bytes : List ℕ) → t ≡ told.Extract bytes → ⊥) → is_extract t ≡ false
+is_other (told.Outcome digest outcome) not = refl
+is_other (told.Standing standing) not = refl
+is_other (told.Found found) not = refl
+is_other (told.Extract bytes) not = absurd (not bytes refl)
+is_other (told.Closed closed) not = refl
+
+pub takes_other : (t : Told) → is_extract t ≡ false → takes_memory (reply.Told t) ≡ true
+takes_other t other = ap not other
+
+pub other_behind_head : {A E : Type 0} (r : Result A E) (f : A → List ℕ) (t : Told) (is_last : Bool) → is_extract t ≡ false → IfOk r (λ b. f b ≡ told_text t)
+    → IfOk r (λ b. head_of (front_of (codes "200 OK") (codes "application/json")) (length (f b)) is_last ++ f b ≡ reply_text (reply.Told t) is_last)
+unfolding reply_text
+other_behind_head r f t is_last other e =
+    rw other (made_behind_head r f (codes "200 OK") (codes "application/json") (told_text t) is_last e)
 
 -- what a writer of JSON gives back after one token
 pub one_token : {E : Type 0} (out items : List ℕ) (old new done : Written) (t : Token) → old.before ≡ out → old.tokens ≡ [] → Writes {E = E} (Ok tt) old new t → done ≡ new

@@ -2,17 +2,17 @@
 use Rattle.std.specs.Prelude.{ℕ, if◌then◌else◌, List, codes, bytes_eq, Option, Some, None, Result}
 use Rattle.std.specs.Prelude.{Ok, Err}
 use Rattle.httparse.specs.Grammar.{RequestHead}
-use Rattle.gaz_hub.specs.Step.{Command, Pose}
+use Rattle.gaz_hub.specs.Step.{Command}
 use Rattle.gaz_hub.specs.Step as hub
+use Rattle.gaz_hub.specs.declared.question.Question.TheVariants.{Ask, ListClosed, LookUp, Stand}
+use Rattle.gaz_hub.specs.declared.question.Question.TheVariants as question
 use Rattle.gaz_exchange.specs.Targets.{Target, Volume, Custodian, Extract, Property, Closed}
 use Rattle.gaz_exchange.specs.Targets.{Nowhere, target_of, code_in, volume_in, uprn_in}
 use Rattle.gaz_exchange.specs.declared.fault.Allowed.TheVariants as allowed
 use Rattle.gaz_exchange.specs.declared.fault.Fault.{Fault}
 use Rattle.gaz_exchange.specs.declared.fault.Fault.TheVariants.{NotThere, NoRoute, BadMethod}
 use Rattle.gaz_exchange.specs.declared.calls.Call.{Call}
-use Rattle.gaz_exchange.specs.declared.calls.Call.TheVariants.{Submit, Ask, Stand, LookUp}
-use Rattle.gaz_exchange.specs.declared.calls.Call.TheVariants.{ListClosed}
-use Rattle.gaz_exchange.specs.declared.calls.Call.TheVariants as call
+use Rattle.gaz_exchange.specs.declared.calls.Call.TheVariants.{Submit, Pose}
 use Rattle.gaz_exchange.specs.declared.calls.Method.{Method}
 use Rattle.gaz_exchange.specs.declared.calls.Method.TheVariants.{Get, Post, Other}
 
@@ -25,7 +25,7 @@ method_of text =
 
 -- a property is looked up by its UPRN; a number that doesn't read is that of no property
 abbrev pub look_up : Option ℕ → Result Call Fault
-look_up (Some uprn) = Ok (LookUp uprn)
+look_up (Some uprn) = Ok (Pose (LookUp uprn))
 look_up None = Err NotThere
 
 -- what is asked at a target by a method, or why nothing is: the target is looked at before the
@@ -33,29 +33,25 @@ look_up None = Err NotThere
 abbrev pub call_at : Target → Method → Result Call Fault
 call_at Nowhere m = Err NoRoute
 call_at (Volume c v) Post = Ok (Submit (code_in c) (volume_in v))
-call_at (Volume c v) Get = Ok (Ask (code_in c) (volume_in v))
+call_at (Volume c v) Get = Ok (Pose (Ask (code_in c) (volume_in v)))
 call_at (Volume c v) Other = Err (BadMethod allowed.GetAndPost)
-call_at (Custodian c) Get = Ok (Stand (code_in c))
+call_at (Custodian c) Get = Ok (Pose (Stand (code_in c)))
 call_at (Custodian c) Post = Err (BadMethod allowed.Get)
 call_at (Custodian c) Other = Err (BadMethod allowed.Get)
-call_at (Extract c v) Get = Ok (call.Extract (code_in c) (volume_in v))
+call_at (Extract c v) Get = Ok (Pose (question.Extract (code_in c) (volume_in v)))
 call_at (Extract c v) Post = Err (BadMethod allowed.Get)
 call_at (Extract c v) Other = Err (BadMethod allowed.Get)
 call_at (Property n) Get = look_up (uprn_in n)
 call_at (Property n) Post = Err (BadMethod allowed.Get)
 call_at (Property n) Other = Err (BadMethod allowed.Get)
-call_at Closed Get = Ok ListClosed
+call_at Closed Get = Ok (Pose ListClosed)
 call_at Closed Post = Err (BadMethod allowed.Get)
 call_at Closed Other = Err (BadMethod allowed.Get)
 
 -- what the hub is asked by a call and a body, which a submission alone takes
 abbrev pub command_of : List ℕ → Call → Command
 command_of body (Submit code volume) = hub.Submit code volume body
-command_of body (Ask code volume) = Pose (hub.Ask code volume)
-command_of body (Stand code) = Pose (hub.Stand code)
-command_of body (LookUp uprn) = Pose (hub.LookUp uprn)
-command_of body (call.Extract code volume) = Pose (hub.Extract code volume)
-command_of body ListClosed = Pose hub.ListClosed
+command_of body (Pose question) = hub.Pose question
 
 -- what it is asked where a call was found
 abbrev pub with_body : List ℕ → Result Call Fault → Result Command Fault

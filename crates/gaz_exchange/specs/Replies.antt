@@ -1,6 +1,6 @@
 -- The text of a reply (RFC 9112, section 4; RFC 9110, section 15).
-use Rattle.std.specs.Prelude.{◌≡◌, ◌⊎◌, ℕ, Bool, true, false, if◌then◌else◌, List, [], ◌++◌, length}
-use Rattle.std.specs.Prelude.{codes, Option, Some, None, Result, Ok, Err}
+use Rattle.std.specs.Prelude.{◌≡◌, ◌⊎◌, ℕ, Bool, true, false, not, if◌then◌else◌, List, [], ◌++◌}
+use Rattle.std.specs.Prelude.{length, codes, Option, Some, None, Result, Ok, Err}
 use Rattle.std.specs.List.{join_by}
 use Rattle.std.specs.Fmt.{decimal}
 use Rattle.hex.specs.Hex.{encode_lower}
@@ -8,15 +8,15 @@ use Rattle.serde_json.specs.Data as json
 use Rattle.serde_json.specs.Written.{compact_text}
 use Rattle.gaz_ids.specs.Codes.{status_number}
 use Rattle.gaz_extract.specs.declared.closed.Closed.{Closed}
-use Rattle.gaz_extract.specs.declared.found.Found.{Found}
-use Rattle.gaz_hub.specs.Step.{Ask, Extract, ListClosed, LookUp, Question, Replied, Response}
-use Rattle.gaz_hub.specs.Step.{Settle, Stand, Submitted, Told}
+use Rattle.gaz_hub.specs.Posing.{telling}
+use Rattle.gaz_hub.specs.Step.{Replied, Response, Submitted}
 use Rattle.gaz_hub.specs.declared.answer.Answer.{Answer}
 use Rattle.gaz_hub.specs.declared.answer.Answer.TheVariants as answer
 use Rattle.gaz_hub.specs.declared.outcome.Outcome.{Outcome}
 use Rattle.gaz_hub.specs.declared.outcome.Outcome.TheVariants.{Applied, Rejected, Held}
 use Rattle.gaz_hub.specs.declared.refusal.Refusal.{Refusal}
-use Rattle.gaz_hub.specs.declared.standing.Standing.{Standing}
+use Rattle.gaz_hub.specs.declared.question.Told.{Told}
+use Rattle.gaz_hub.specs.declared.question.Told.TheVariants as told
 use Rattle.gaz_exchange.specs.Faults.{allow_of, fault_of, number_of, status_of}
 use Rattle.gaz_exchange.specs.declared.fault.Fault.{Fault}
 use Rattle.gaz_exchange.specs.declared.fault.Fault.TheVariants.{NotThere, NotReceived, Unsettled}
@@ -30,63 +30,33 @@ reply_of (answer.Repeat outcome) = reply.Repeat outcome
 reply_of (answer.Taken digest) = reply.Taken digest
 reply_of (answer.Refused refusal) = reply.Refused (fault_of refusal)
 
--- what a reply says of the outcome of a volume
-abbrev pub reply_told : Result (Option (List ℕ × Outcome)) Refusal → Reply
+-- what a reply says of what is told of a question, where anything is there
+abbrev pub reply_told : Result (Option Told) Refusal → Reply
 reply_told (Ok None) = reply.Refused NotThere
-reply_told (Ok (Some told)) = reply.Told told.0 told.1
+reply_told (Ok (Some told)) = reply.Told told
 reply_told (Err refusal) = reply.Refused (fault_of refusal)
-
--- what a reply says of a custodian's standing
-abbrev pub reply_stands : Result Standing Refusal → Reply
-reply_stands (Ok standing) = reply.Stands standing
-reply_stands (Err refusal) = reply.Refused (fault_of refusal)
-
--- what a reply says of where a property stands
-abbrev pub reply_found : Result (Option Found) Refusal → Reply
-reply_found (Ok None) = reply.Refused NotThere
-reply_found (Ok (Some found)) = reply.Found found
-reply_found (Err refusal) = reply.Refused (fault_of refusal)
-
--- what a reply says of an extract, where the volume is reached
-abbrev pub reply_extracted : Result (Option (List ℕ)) Refusal → Reply
-reply_extracted (Ok None) = reply.Refused NotThere
-reply_extracted (Ok (Some bytes)) = reply.Extract bytes
-reply_extracted (Err refusal) = reply.Refused (fault_of refusal)
-
--- what a reply says of addresses on closed streets
-abbrev pub reply_listed : Result (List Closed) Refusal → Reply
-reply_listed (Ok closed) = reply.Closed closed
-reply_listed (Err refusal) = reply.Refused (fault_of refusal)
-
--- what a reply says of the answer to a question; settling alone is asked by no request
-abbrev pub reply_on : (q : Question) → Result (Told q) Refusal → Reply
-reply_on (Ask c volume) told = reply_told told
-reply_on (Stand c) standing = reply_stands standing
-reply_on Settle done = reply.Refused NotReceived
-reply_on (LookUp uprn) found = reply_found found
-reply_on (Extract c volume) bytes = reply_extracted bytes
-reply_on ListClosed closed = reply_listed closed
 
 -- what a reply says of what the hub said
 abbrev pub reply_to : Response → Reply
 reply_to (Submitted answer) = reply_of answer
-reply_to (Replied q told) = reply_on q told
+reply_to (Replied q answer) = reply_told (telling q answer)
 
 -- the status of a reply and its reason
 abbrev pub status_line : Reply → List ℕ
 status_line (reply.New outcome) = codes "201 Created"
 status_line (reply.Repeat outcome) = codes "200 OK"
 status_line (reply.Taken digest) = codes "409 Conflict"
-status_line (reply.Told digest outcome) = codes "200 OK"
-status_line (reply.Stands standing) = codes "200 OK"
-status_line (reply.Found found) = codes "200 OK"
-status_line (reply.Extract bytes) = codes "200 OK"
-status_line (reply.Closed closed) = codes "200 OK"
+status_line (reply.Told told) = codes "200 OK"
 status_line (reply.Refused fault) = status_of fault
+
+abbrev pub is_extract : Told → Bool
+is_extract (told.Extract bytes) = true
+is_extract _ = false
 
 -- what the body is: an extract's rows of `csv`, else JSON
 abbrev pub content_type : Reply → List ℕ
-content_type (reply.Extract bytes) = codes "text/csv"
+content_type (reply.Told told) =
+    if is_extract told then codes "text/csv" else codes "application/json"
 content_type _ = codes "application/json"
 
 -- the header that names the allowed methods, where another was used
@@ -126,28 +96,32 @@ closed_text closed =
     ++ (codes ",\"lpi\":\"" ++ (closed.lpi
     ++ (codes "\",\"usrn\":" ++ (decimal closed.usrn ++ codes "}")))))
 
--- an extract as it is, else compact JSON, its keys in byte order, and a line feed
+-- what is told of a question: an extract as it is
+abbrev pub told_text : Told → List ℕ
+told_text (told.Outcome digest outcome) =
+    codes "{\"digest\":\"" ++ (encode_lower digest
+    ++ (codes "\"," ++ (outcome_text outcome ++ codes "}\n")))
+told_text (told.Standing s) =
+    codes "{\"custodian\":" ++ (decimal s.custodian
+    ++ (codes ",\"held\":" ++ (decimal s.held
+    ++ (codes ",\"judged\":" ++ (decimal s.judged
+    ++ (codes ",\"wants\":" ++ (wants_text s.wants ++ codes "}\n")))))))
+told_text (told.Found f) =
+    codes "{\"custodian\":" ++ (decimal f.custodian
+    ++ (codes ",\"line\":" ++ (line_text f.line
+    ++ (codes ",\"status\":" ++ (decimal (status_number f.status)
+    ++ (codes ",\"uprn\":" ++ (decimal f.uprn ++ codes "}\n")))))))
+told_text (told.Extract bytes) = bytes
+told_text (told.Closed closed) =
+    codes "{\"closed\":[" ++ (join_by closed_text (codes ",") closed ++ codes "]}\n")
+
+-- compact JSON, its keys in byte order, and a line feed, but for an extract
 abbrev pub body_of : Reply → List ℕ
 body_of (reply.New outcome) = codes "{" ++ (outcome_text outcome ++ codes "}\n")
 body_of (reply.Repeat outcome) = codes "{" ++ (outcome_text outcome ++ codes "}\n")
 body_of (reply.Taken digest) =
     codes "{\"digest\":\"" ++ (encode_lower digest ++ codes "\",\"outcome\":\"taken\"}\n")
-body_of (reply.Told digest outcome) =
-    codes "{\"digest\":\"" ++ (encode_lower digest
-    ++ (codes "\"," ++ (outcome_text outcome ++ codes "}\n")))
-body_of (reply.Stands s) =
-    codes "{\"custodian\":" ++ (decimal s.custodian
-    ++ (codes ",\"held\":" ++ (decimal s.held
-    ++ (codes ",\"judged\":" ++ (decimal s.judged
-    ++ (codes ",\"wants\":" ++ (wants_text s.wants ++ codes "}\n")))))))
-body_of (reply.Found f) =
-    codes "{\"custodian\":" ++ (decimal f.custodian
-    ++ (codes ",\"line\":" ++ (line_text f.line
-    ++ (codes ",\"status\":" ++ (decimal (status_number f.status)
-    ++ (codes ",\"uprn\":" ++ (decimal f.uprn ++ codes "}\n")))))))
-body_of (reply.Extract bytes) = bytes
-body_of (reply.Closed closed) =
-    codes "{\"closed\":[" ++ (join_by closed_text (codes ",") closed ++ codes "]}\n")
+body_of (reply.Told told) = told_text told
 body_of (reply.Refused fault) = codes "{\"refusal\":" ++ (decimal (number_of fault) ++ codes "}\n")
 
 -- said where the conversation ends after the reply
@@ -186,7 +160,7 @@ memory_fault received = if received then Unsettled else NotReceived
 -- already
 abbrev pub takes_memory : Reply → Bool
 takes_memory (reply.Refused fault) = false
-takes_memory (reply.Extract bytes) = false
+takes_memory (reply.Told told) = not (is_extract told)
 takes_memory _ = true
 
 -- there was no memory for the reply's text, and that of 52 or 51 stands in its place

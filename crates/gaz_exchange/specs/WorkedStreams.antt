@@ -2,9 +2,10 @@
 use Rattle.std.specs.Prelude.{◌≡◌, ℕ, true, false, List, [], ◌∷◌, ◌++◌, codes, Some, None}
 use Rattle.std.specs.Prelude.{Ok}
 use Rattle.httparse.specs.Grammar.{Field, RequestHead, crlf}
-use Rattle.gaz_hub.specs.Step.{Ask, Pose, Replied, Submit, Submitted}
+use Rattle.gaz_hub.specs.Step.{Pose, Replied, Submit, Submitted}
 use Rattle.gaz_hub.specs.declared.answer.Answer.TheVariants.{New}
 use Rattle.gaz_hub.specs.declared.outcome.Outcome.TheVariants.{Rejected}
+use Rattle.gaz_hub.specs.declared.question.Question.TheVariants.{Ask}
 use Rattle.gaz_exchange.specs.Exchanges.{Comes, Exchange, RoutesStay, commands_of, goes_on, replies}
 use Rattle.gaz_exchange.specs.Exchanges.{responses_of}
 use Rattle.gaz_exchange.specs.Refusals.{IsRefused, IsUnfinished}

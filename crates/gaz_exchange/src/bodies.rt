@@ -1,14 +1,15 @@
 //! The bodies of replies: compact JSON with its keys in byte order, and one line feed.
-ghost use Rattle.std.specs.Prelude.{◌≡◌, ◌≤◌, ◌+◌, ◌++◌, [], codes, decimal, flat_map, length};
-ghost use Rattle.std.specs.Prelude.{IfOk, OnOk, string_bytes};
+ghost use Rattle.std.specs.Prelude.{◌≡◌, ◌≤◌, ◌+◌, ◌++◌, [], codes, decimal, false, flat_map};
+ghost use Rattle.std.specs.Prelude.{length, IfOk, OnOk, string_bytes};
 ghost use Rattle.std.specs.List.{join_by};
 ghost use Rattle.std.specs.Option.{unwrap_or};
-ghost use Rattle.gaz_exchange.specs.Replies.{body_of, closed_text, line_text, outcome_text};
-ghost use Rattle.gaz_exchange.specs.Replies.{want_text, wants_text};
+ghost use Rattle.gaz_hub.specs.declared.question.Told.TheVariants as Told;
+ghost use Rattle.gaz_exchange.specs.Replies.{body_of, closed_text, is_extract, line_text};
+ghost use Rattle.gaz_exchange.specs.Replies.{outcome_text, told_text, want_text, wants_text};
 ghost use Rattle.gaz_exchange.specs.declared.reply.Reply.TheVariants as Reply;
 
 use gaz_extract::{AddressLine, Closed, Found};
-use gaz_hub::{Digest, Outcome, Standing};
+use gaz_hub::{Digest, Outcome, Standing, Told};
 use gaz_ids::{Code, Volume};
 use gaz_records::RecordKey;
 use itoa::Buffer;
@@ -89,9 +90,9 @@ pub fn taken_body(alloc: Global, digest: Digest) -> Result<Vec<u8>, AllocError>
     Ok(body.into_bytes())
 }
 
-/// A file's digest and what became of it.
-pub fn told_body(alloc: Global, digest: Digest, outcome: Outcome) -> Result<Vec<u8>, AllocError>
-    ensures { IfOk result (λ body. body.items ≡ body_of (Reply.Told digest outcome)) }
+// A file's digest and what became of it.
+fn became_body(alloc: Global, digest: Digest, outcome: Outcome) -> Result<Vec<u8>, AllocError>
+    ensures { IfOk result (λ body. body.items ≡ told_text (Told.Outcome digest outcome)) }
 {
     let digest = hex::encode(alloc, digest)?;
     let mut out = Vec::with_capacity(alloc, TOLD_ROOM)?;
@@ -103,9 +104,9 @@ pub fn told_body(alloc: Global, digest: Digest, outcome: Outcome) -> Result<Vec<
     Ok(out)
 }
 
-/// How far a custodian's files are judged.
-pub fn standing_body(alloc: Global, standing: Standing) -> Result<Vec<u8>, AllocError>
-    ensures { IfOk result (λ body. body.items ≡ body_of (Reply.Stands standing)) }
+// How far a custodian's files are judged.
+fn standing_body(alloc: Global, standing: Standing) -> Result<Vec<u8>, AllocError>
+    ensures { IfOk result (λ body. body.items ≡ told_text (Told.Standing standing)) }
 {
     let mut out = Vec::with_capacity(alloc, TOLD_ROOM)?;
     add_number(&mut out, b"{\"custodian\":", standing.custodian.number())?;
@@ -139,9 +140,9 @@ fn room_for(found: &Found) -> usize
     }
 }
 
-/// Where a property stands and how it is addressed.
-pub fn found_body(alloc: Global, found: &Found) -> Result<Vec<u8>, AllocError>
-    ensures { IfOk result (λ body. body.items ≡ body_of (Reply.Found found.now)) }
+// Where a property stands and how it is addressed.
+fn found_body(alloc: Global, found: &Found) -> Result<Vec<u8>, AllocError>
+    ensures { IfOk result (λ body. body.items ≡ told_text (Told.Found found.now)) }
 {
     let mut out = Vec::with_capacity(alloc, room_for(found))?;
     add_number(&mut out, b"{\"custodian\":", found.custodian.number())?;
@@ -204,12 +205,26 @@ fn add_all(out: &mut String, closed: &[Closed]) -> Result<(), AllocError>
     }
 }
 
-/// Addresses on closed streets.
-pub fn closed_body(alloc: Global, closed: &[Closed]) -> Result<Vec<u8>, AllocError>
-    ensures { IfOk result (λ body. body.items ≡ body_of (Reply.Closed closed.now)) }
+// Addresses on closed streets.
+fn closed_body(alloc: Global, closed: &[Closed]) -> Result<Vec<u8>, AllocError>
+    ensures { IfOk result (λ body. body.items ≡ told_text (Told.Closed closed.now)) }
 {
     let mut out = String::from_str(alloc, "{\"closed\":[")?;
     add_all(&mut out, closed)?;
     out.push_str("]}\n")?;
     Ok(out.into_bytes())
+}
+
+/// What is told of a question, but for an extract, whose bytes are there.
+pub fn told_body(alloc: Global, told: &Told) -> Result<Vec<u8>, AllocError>
+    requires { is_extract told.now ≡ false }
+    ensures { IfOk result (λ body. body.items ≡ told_text told.now) }
+{
+    match told {
+        Told::Outcome(digest, outcome) => became_body(alloc, *digest, *outcome),
+        Told::Standing(standing) => standing_body(alloc, *standing),
+        Told::Found(found) => found_body(alloc, found),
+        Told::Closed(closed) => closed_body(alloc, closed.as_slice()),
+        Told::Extract(_) => unreachable!(),
+    }
 }

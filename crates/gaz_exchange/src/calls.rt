@@ -6,6 +6,7 @@ ghost use Rattle.gaz_exchange.specs.Targets as seen;
 ghost use Rattle.gaz_exchange.specs.Targets.{code_in, uprn_in, volume_in};
 
 use crate::fault::{Allowed, Fault};
+use gaz_hub::Question;
 use gaz_ids::{Code, Uprn, Volume};
 use matchit::{Params, ParamsIter};
 
@@ -40,11 +41,7 @@ impl Method {
 #[derive(Clone, Copy)]
 pub enum Call {
     Submit { code: u64, volume: u64 },
-    Ask { code: u64, volume: u64 },
-    Stand { code: u64 },
-    LookUp { uprn: Uprn },
-    Extract { code: u64, volume: u64 },
-    ListClosed,
+    Pose(Question),
 }
 
 // The code that the text writes, or 0.
@@ -89,7 +86,7 @@ pub fn volume_call(params: &Params<'_, '_>, method: Method) -> Result<Call, Faul
     let volume = volume_of(next_part(&mut parts));
     match method {
         Method::Post => Ok(Call::Submit { code, volume }),
-        Method::Get => Ok(Call::Ask { code, volume }),
+        Method::Get => Ok(Call::Pose(Question::Ask { code, volume })),
         Method::Other => Err(Fault::BadMethod(Allowed::GetAndPost)),
     }
 }
@@ -101,7 +98,7 @@ pub fn custodian_call(params: &Params<'_, '_>, method: Method) -> Result<Call, F
 {
     let code = code_of(next_part(&mut params.iter()));
     match method {
-        Method::Get => Ok(Call::Stand { code }),
+        Method::Get => Ok(Call::Pose(Question::Stand { code })),
         Method::Post | Method::Other => Err(Fault::BadMethod(Allowed::Get)),
     }
 }
@@ -115,7 +112,7 @@ pub fn extract_call(params: &Params<'_, '_>, method: Method) -> Result<Call, Fau
     let code = code_of(next_part(&mut segments));
     let volume = volume_of(next_part(&mut segments));
     match method {
-        Method::Get => Ok(Call::Extract { code, volume }),
+        Method::Get => Ok(Call::Pose(Question::Extract { code, volume })),
         Method::Post | Method::Other => Err(Fault::BadMethod(Allowed::Get)),
     }
 }
@@ -137,7 +134,7 @@ fn look_up(uprn: Option<Uprn>) -> Result<Call, Fault>
     ensures { result ≡ look_up uprn }
 {
     match uprn {
-        Some(uprn) => Ok(Call::LookUp { uprn }),
+        Some(uprn) => Ok(Call::Pose(Question::LookUp { uprn })),
         None => Err(Fault::NotThere),
     }
 }
@@ -147,7 +144,7 @@ pub fn closed_call(method: Method) -> Result<Call, Fault>
     ensures { result ≡ call_at seen.Closed method }
 {
     match method {
-        Method::Get => Ok(Call::ListClosed),
+        Method::Get => Ok(Call::Pose(Question::ListClosed)),
         Method::Post | Method::Other => Err(Fault::BadMethod(Allowed::Get)),
     }
 }

@@ -69,11 +69,7 @@ fn ask_call<K: Inbox + Drop>(hub: &mut Hub<K>, call: Call, body: &[u8]) -> Reply
 {
     match call {
         Call::Submit { code, volume } => hub.submit(code, volume, body).into(),
-        Call::Ask { code, volume } => Reply::told(hub.outcome(code, volume)),
-        Call::Stand { code } => Reply::stands(hub.status(code)),
-        Call::LookUp { uprn } => Reply::found(hub.lookup(uprn)),
-        Call::Extract { code, volume } => Reply::extracted(hub.extract(code, volume)),
-        Call::ListClosed => Reply::listed(hub.closed_streets()),
+        Call::Pose(question) => Reply::told(hub.ask(question)),
     }
 }
 

@@ -1,60 +1,9 @@
 ghost use Rattle.std.specs.Prelude.{◌≡◌};
-ghost use Rattle.gaz_hub.specs.Hubs.{told, told_all};
-ghost use Rattle.gaz_exchange.specs.Replies.{is_received, memory_fault, reply_extracted};
-ghost use Rattle.gaz_exchange.specs.Replies.{reply_found, reply_listed, reply_of, reply_stands};
-ghost use Rattle.gaz_exchange.specs.Replies.{reply_text, reply_told};
+ghost use Rattle.gaz_exchange.specs.Replies.{is_received, memory_fault, reply_of, reply_text};
+ghost use Rattle.gaz_exchange.specs.Replies.{reply_told};
 
 use crate::fault::Fault;
-use gaz_extract::{Closed, Found};
-use gaz_hub::{Answer, Digest, Outcome, Refusal, Standing};
-use std::marker::Model;
-
-/// The text of an extract.
-#[derive(Drop)]
-pub struct ExtractText {
-    bytes: Vec<u8>,
-}
-
-impl Model for ExtractText {
-    ghost use Rattle.std.specs.Prelude.{List, ℕ};
-
-    ghost Value = { List ℕ };
-
-    ghost view = { λ e. e.bytes.items };
-}
-
-impl ExtractText {
-    /// The bytes.
-    pub fn as_slice(&self) -> &[u8]
-        ensures { result.now ≡ self.now }
-    {
-        self.bytes.as_slice()
-    }
-}
-
-/// Addresses on closed streets.
-#[derive(Drop)]
-pub struct ClosedList {
-    closed: Vec<Closed>,
-}
-
-impl Model for ClosedList {
-    ghost use Rattle.std.specs.Prelude.{List};
-    ghost use Rattle.gaz_extract.specs.declared.closed.Closed.{Closed};
-
-    ghost Value = { List Closed };
-
-    ghost view = { λ l. l.closed.items };
-}
-
-impl ClosedList {
-    /// The addresses, in order.
-    pub fn as_slice(&self) -> &[Closed]
-        ensures { result.now ≡ self.now }
-    {
-        self.closed.as_slice()
-    }
-}
+use gaz_hub::{Answer, Digest, Outcome, Refusal, Told};
 
 /// What a reply says.
 #[derive(Drop)]
@@ -65,16 +14,8 @@ pub enum Reply {
     Repeat(Outcome),
     /// Another file was received before.
     Taken(Digest),
-    /// What became of the file of a volume.
-    Told(Digest, Outcome),
-    /// How far a custodian's files are judged.
-    Stands(Standing),
-    /// Where a property stands and how it is addressed.
-    Found(Found),
-    /// A custodian's view after a volume.
-    Extract(ExtractText),
-    /// Addresses on closed streets.
-    Closed(ClosedList),
+    /// What is told of a question.
+    Told(Told),
     Refused(Fault),
 }
 
@@ -92,58 +33,13 @@ impl From<Answer> for Reply {
 }
 
 impl Reply {
-    /// What a reply says of the outcome of a volume.
-    pub fn told(told: Result<Option<(Digest, Outcome)>, Refusal>) -> Reply
+    /// What a reply says of what is told of a question.
+    pub fn told(told: Result<Option<Told>, Refusal>) -> Reply
         ensures { result ≡ reply_told told }
     {
         match told {
+            Ok(Some(told)) => Reply::Told(told),
             Ok(None) => Reply::Refused(Fault::NotThere),
-            Ok(Some(told)) => {
-                let digest = told.0;
-                Reply::Told(digest, told.1)
-            }
-            Err(refusal) => Reply::Refused(refusal.into()),
-        }
-    }
-
-    /// What a reply says of a custodian's standing.
-    pub fn stands(standing: Result<Standing, Refusal>) -> Reply
-        ensures { result ≡ reply_stands standing }
-    {
-        match standing {
-            Ok(standing) => Reply::Stands(standing),
-            Err(refusal) => Reply::Refused(refusal.into()),
-        }
-    }
-
-    /// What a reply says of where a property stands.
-    pub fn found(found: Result<Option<Found>, Refusal>) -> Reply
-        ensures { result ≡ reply_found found }
-    {
-        match found {
-            Ok(None) => Reply::Refused(Fault::NotThere),
-            Ok(Some(found)) => Reply::Found(found),
-            Err(refusal) => Reply::Refused(refusal.into()),
-        }
-    }
-
-    /// What a reply says of an extract.
-    pub fn extracted(extract: Result<Option<Vec<u8>>, Refusal>) -> Reply
-        ensures { result ≡ reply_extracted (told extract) }
-    {
-        match extract {
-            Ok(None) => Reply::Refused(Fault::NotThere),
-            Ok(Some(bytes)) => Reply::Extract(ExtractText { bytes }),
-            Err(refusal) => Reply::Refused(refusal.into()),
-        }
-    }
-
-    /// What a reply says of addresses on closed streets.
-    pub fn listed(closed: Result<Vec<Closed>, Refusal>) -> Reply
-        ensures { result ≡ reply_listed (told_all closed) }
-    {
-        match closed {
-            Ok(closed) => Reply::Closed(ClosedList { closed }),
             Err(refusal) => Reply::Refused(refusal.into()),
         }
     }

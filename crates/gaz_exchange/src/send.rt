@@ -5,9 +5,10 @@ ghost use Rattle.gaz_exchange.specs.Sending.{IsPut, IsSent, head_of};
 ghost use Rattle.gaz_exchange.specs.declared.fault.Fault.{Fault};
 ghost use Rattle.gaz_exchange.specs.declared.reply.Reply.TheVariants as Reply;
 
-use crate::bodies::{closed_body, found_body, outcome_body, standing_body, taken_body, told_body};
+use crate::bodies::{outcome_body, taken_body, told_body};
 use crate::reply::{Reply, memory_text};
 use crate::sink::Sink;
+use gaz_hub::Told;
 use itoa::Buffer;
 use std::alloc::{AllocError, Global};
 
@@ -110,9 +111,21 @@ fn put_made<W: Sink>(
     }
 }
 
+// Writes what is told of a question.
+fn send_told<W: Sink>(alloc: Global, w: &mut W, reply: &Reply, told: &Told, is_last: bool) -> bool
+    requires told { reply.now ≡ Reply.Told told.now }
+    ensures sent { IsSent (W.contents w.old) (W.contents w.new) reply.now is_last result }
+    ensures failed { result ≡ false → FailedInto W.failed w.new }
+{
+    match told {
+        Told::Extract(extract) => put_message(w, EXTRACT, extract.as_slice(), is_last),
+        _ => put_made(w, reply, OK, told_body(alloc, told), is_last),
+    }
+}
+
 // Writes a reply that is no refusal.
-fn send_told<W: Sink>(alloc: Global, w: &mut W, reply: &Reply, is_last: bool) -> bool
-    requires told { (fault : Fault) → reply.now ≡ Reply.Refused fault → ⊥ }
+fn send_made<W: Sink>(alloc: Global, w: &mut W, reply: &Reply, is_last: bool) -> bool
+    requires made { (fault : Fault) → reply.now ≡ Reply.Refused fault → ⊥ }
     ensures sent { IsSent (W.contents w.old) (W.contents w.new) reply.now is_last result }
     ensures failed { result ≡ false → FailedInto W.failed w.new }
 {
@@ -120,23 +133,7 @@ fn send_told<W: Sink>(alloc: Global, w: &mut W, reply: &Reply, is_last: bool) ->
         Reply::New(outcome) => put_made(w, reply, CREATED, outcome_body(alloc, *outcome), is_last),
         Reply::Repeat(outcome) => put_made(w, reply, OK, outcome_body(alloc, *outcome), is_last),
         Reply::Taken(digest) => put_made(w, reply, CONFLICT, taken_body(alloc, *digest), is_last),
-        Reply::Told(digest, outcome) => put_made(
-            w,
-            reply,
-            OK,
-            told_body(alloc, *digest, *outcome),
-            is_last,
-        ),
-        Reply::Stands(standing) => put_made(w, reply, OK, standing_body(alloc, *standing), is_last),
-        Reply::Found(found) => put_made(w, reply, OK, found_body(alloc, found), is_last),
-        Reply::Extract(extract) => put_message(w, EXTRACT, extract.as_slice(), is_last),
-        Reply::Closed(closed) => put_made(
-            w,
-            reply,
-            OK,
-            closed_body(alloc, closed.as_slice()),
-            is_last,
-        ),
+        Reply::Told(told) => send_told(alloc, w, reply, told, is_last),
         Reply::Refused(_) => unreachable!(),
     }
 }
@@ -150,6 +147,6 @@ pub fn send<W: Sink>(alloc: Global, w: &mut W, reply: &Reply, is_last: bool) -> 
     // Apart from the others, since a function pays at entry for the room of all its locals.
     match reply {
         Reply::Refused(fault) => write_all(w, fault.text(is_last).as_bytes()),
-        _ => send_told(alloc, w, reply, is_last),
+        _ => send_made(alloc, w, reply, is_last),
     }
 }

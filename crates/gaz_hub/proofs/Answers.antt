@@ -7,9 +7,10 @@ use Rattle.gaz_hub.specs.Answers.{AllAnswered, AllReadOff, EveryAnswer, IsAnswer
 use Rattle.gaz_hub.specs.Outcomes.{outcome}
 use Rattle.gaz_hub.specs.Runs.{Run, is_settled}
 use Rattle.gaz_hub.specs.Standing.{IsPartial, standing}
-use Rattle.gaz_hub.specs.Step.{Command, Door, HubState, Pose, Question, Refuses, Replied, Response, Step, Submit, Submits, Submitted, answer_to, blocks, file_refusal}
+use Rattle.gaz_hub.specs.Step.{Command, Door, HubState, Pose, Refuses, Replied, Response, Step, Submit, Submits, Submitted, answer_to, blocks, file_refusal}
 use Rattle.gaz_hub.specs.declared.answer.Answer.{Answer}
 use Rattle.gaz_hub.specs.declared.answer.Answer.TheVariants.{New, Repeat, Taken, Refused}
+use Rattle.gaz_hub.specs.declared.question.Question.{Question}
 use Rattle.gaz_hub.specs.declared.refusal.Refusal.{Refusal}
 use Rattle.gaz_hub.specs.declared.refusal.Refusal.TheVariants as refusal
 use Rattle.gaz_hub.proofs.Orders.{any_order_holds}

@@ -12,7 +12,8 @@ use Rattle.gaz_hub.specs.Hubs.{StandsFor, Steps, door_of}
 use Rattle.gaz_hub.specs.Owners.{told_by_holder}
 use Rattle.gaz_hub.specs.Settling.{AnswersSettled, Tells}
 use Rattle.gaz_hub.specs.Standing.{NothingReady}
-use Rattle.gaz_hub.specs.Step.{Door, LookUp, Pose, Replied}
+use Rattle.gaz_hub.specs.Step.{Door, Pose, Replied}
+use Rattle.gaz_hub.specs.declared.question.Question.TheVariants.{LookUp}
 use Rattle.gaz_hub.specs.declared.refusal.Refusal.{Refusal}
 use Rattle.gaz_hub.proofs.Owners.{holder_tells}
 use Rattle.gaz_hub.proofs.Replying.{steps_read}

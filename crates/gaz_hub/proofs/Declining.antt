@@ -6,9 +6,10 @@ use Rattle.gaz_keeper.specs.Keeper.{IsNotOpen, Seen}
 use Rattle.gaz_keeper.specs.declared.fault.ShelfFault.TheVariants.{Store}
 use Rattle.gaz_register.specs.Registers.{knows}
 use Rattle.gaz_hub.specs.Hubs.{Steps, cause_of, is_declined, is_declined_by, state_of}
-use Rattle.gaz_hub.specs.Step.{Command, Door, HubState, Pose, Question, Replied, Response, Step, Submit, Submitted, file_refusal, is_volume, question_refusal, turned_away}
+use Rattle.gaz_hub.specs.Step.{Command, Door, HubState, Pose, Replied, Response, Step, Submit, Submitted, file_refusal, is_volume, question_refusal, turned_away}
 use Rattle.gaz_hub.specs.Stops.{is_taken_in}
 use Rattle.gaz_hub.specs.declared.answer.Answer.TheVariants.{Refused}
+use Rattle.gaz_hub.specs.declared.question.Question.{Question}
 use Rattle.gaz_hub.specs.declared.refusal.Refusal.{Refusal}
 use Rattle.gaz_hub.specs.declared.refusal.Refusal.TheVariants as refusal
 use Rattle.gaz_hub.proofs.Answers.{reads_standing}

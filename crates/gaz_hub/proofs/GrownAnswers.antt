@@ -30,7 +30,9 @@ use Rattle.gaz_views.proofs.Emptiness.{get_none, no_entries_yet}
 use Rattle.gaz_hub.specs.Growth.{AnswersStay}
 use Rattle.gaz_hub.specs.Hubs.{AreKnown, door_of, is_foreign}
 use Rattle.gaz_hub.specs.Standing.{IsPartial, Leads, judge_one, with_next}
-use Rattle.gaz_hub.specs.Step.{Ask, Command, Extract, HubState, ListClosed, LookUp, Pose, Question, Settle, Stand, Submit, answer_to, question_refusal, refusal_at_door, turned_away, or_foreign}
+use Rattle.gaz_hub.specs.Step.{Command, HubState, Pose, Submit, answer_to, question_refusal, refusal_at_door, turned_away, or_foreign}
+use Rattle.gaz_hub.specs.declared.question.Question.{Question}
+use Rattle.gaz_hub.specs.declared.question.Question.TheVariants.{Ask, Extract, ListClosed, LookUp, Settle, Stand}
 use Rattle.gaz_hub.specs.declared.refusal.Refusal.{Refusal}
 use Rattle.gaz_hub.specs.declared.refusal.Refusal.TheVariants.{UnknownCustodian}
 use Rattle.gaz_hub.proofs.Orders.{ready_gives}

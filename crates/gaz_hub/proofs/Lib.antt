@@ -14,6 +14,7 @@ pub mod Memory
 pub mod Telling
 pub mod Told
 pub mod Replying
+pub mod Posing
 pub mod AnswerSteps
 pub mod Declining
 pub mod Receiving

@@ -9,7 +9,8 @@ use Rattle.gaz_extract.specs.Readings.{Looks}
 use Rattle.gaz_hub.specs.Hubs.{MeetsDoor, StandsFor, Steps, cause_in, or_not_received, state_of}
 use Rattle.gaz_hub.specs.Settling.{AnswersSettled, Tells}
 use Rattle.gaz_hub.specs.Standing.{NothingReady}
-use Rattle.gaz_hub.specs.Step.{Door, HubState, Pose, Question, Replied, Step, Told, answer_to, blocks, question_refusal}
+use Rattle.gaz_hub.specs.Step.{Door, HubState, Pose, Replied, Step, Told, answer_to, blocks, question_refusal}
+use Rattle.gaz_hub.specs.declared.question.Question.{Question}
 use Rattle.gaz_hub.specs.declared.refusal.Refusal.{Refusal}
 use Rattle.gaz_hub.specs.declared.refusal.Refusal.TheVariants as refusal
 use Rattle.gaz_hub.proofs.Answers.{reads_standing}
@@ -85,7 +86,7 @@ module _ {T : Type 0} (d : Door) (q : Question) (say : T → Told q) (reply : Re
       (steps_read (seen old) (seen new) a.read a.is_open
       (tells_settled d seen Calls old new a.read IsSaid a.calls (λ mid called. looks mid a.read called)))
 
-  door_read : {K : Type 0} (old new : K) (r : Result T ShelfFault) → MeetsDoor d old new (Pose q) (Replied q (reply (or_not_received r)))
+  pub door_read : {K : Type 0} (old new : K) (r : Result T ShelfFault) → MeetsDoor d old new (Pose q) (Replied q (reply (or_not_received r)))
   door_read old new (Ok x) =
       subst (λ k. MeetsDoor d old new (Pose q) (Replied q k)) (sym (says.ok x))
       (record {

@@ -7,10 +7,11 @@ use Rattle.std.specs.FinMap as map
 use Rattle.gaz_keeper.specs.Board.{Board}
 use Rattle.gaz_keeper.specs.Received.{Received, pair_cmp, with_file}
 use Rattle.gaz_hub.specs.Standing.{HasAllOf, Follows, NothingReady}
-use Rattle.gaz_hub.specs.Step.{Command, Door, HubState, NotReceived, Pose, Question, Refuses, Replied, Response, Settles, Step, Submit, Submits, Submitted, Told, TurnedAway, WasAsked, blocks, file_refusal}
+use Rattle.gaz_hub.specs.Step.{Command, Door, HubState, NotReceived, Pose, Refuses, Replied, Response, Settles, Step, Submit, Submits, Submitted, Told, TurnedAway, WasAsked, blocks, file_refusal}
 use Rattle.gaz_hub.specs.Runs.{accepted, is_settled, same_pair, is_answered_51}
 use Rattle.gaz_hub.specs.declared.answer.Answer.{Answer}
 use Rattle.gaz_hub.specs.declared.answer.Answer.TheVariants.{New, Repeat, Taken, Refused}
+use Rattle.gaz_hub.specs.declared.question.Question.{Question}
 use Rattle.gaz_hub.specs.declared.refusal.Refusal.{Refusal}
 use Rattle.gaz_hub.specs.declared.refusal.Refusal.TheVariants as refusal
 use Rattle.gaz_keeper.proofs.Pairs.{pairs_total, pairs_exact}

@@ -13,10 +13,11 @@ use Rattle.gaz_hub.specs.Examples.{first_hub, first_sent, no_text, no_text_judge
 use Rattle.gaz_hub.specs.Found.{HasOneMore, HasOneSince}
 use Rattle.gaz_hub.specs.Hubs.{AreKnown}
 use Rattle.gaz_hub.specs.Sample.{sample_door, sample_register}
-use Rattle.gaz_hub.specs.Step.{HubState, Pose, Settle, Step, new_hub}
+use Rattle.gaz_hub.specs.Step.{HubState, Pose, Step, new_hub}
 use Rattle.gaz_hub.specs.Stops.{IsLater, IsLaterWith, IsLeftOnceTold, IsLeftSince, StopsCall}
 use Rattle.gaz_hub.specs.WorkedFound.{WorkedCalls, WorkedFound, WorkedRunsStopped, WorkedSince, WorkedTold, keeps, told_51, told_new, told_repeat, told_settled}
 use Rattle.gaz_hub.specs.WorkedStops.{at_rest, sends, unjudged_hub}
+use Rattle.gaz_hub.specs.declared.question.Question.TheVariants.{Settle}
 use Rattle.gaz_hub.proofs.AnswerSteps.{known_with, there_now}
 use Rattle.gaz_hub.proofs.Examples.{closed_empty, closed_first, get_first, no_none, partial_first}
 use Rattle.gaz_hub.proofs.RunStops.{run_stops_one}

@@ -58,4 +58,10 @@ worked_readings_hold = record {
   done_told = refl;
   nothing_told = refl;
   refusal_told = refl;
+  extract_told = refl;
+  list_told = refl;
+  not_there_told = refl;
+  settling_told = refl;
+  door_told = refl;
+  never_told_otherwise = λ e. let no = e in cc;
 }

@@ -7,11 +7,12 @@ use Rattle.gaz_keeper.specs.Received.{Received, with_file}
 use Rattle.gaz_hub.specs.Outcomes.{outcome}
 use Rattle.gaz_hub.specs.Runs.{Run, is_answered_51, is_settled}
 use Rattle.gaz_hub.specs.Standing.{IsPartial, standing}
-use Rattle.gaz_hub.specs.Step.{Command, Door, HubState, Pose, Question, Replied, Response, Submit}
-use Rattle.gaz_hub.specs.Step.{Submitted, Told, answer_to, blocks, file_refusal}
+use Rattle.gaz_hub.specs.Step.{Command, Door, HubState, Pose, Replied, Response, Submit, Submitted}
+use Rattle.gaz_hub.specs.Step.{Told, answer_to, blocks, file_refusal}
 use Rattle.gaz_hub.specs.declared.answer.Answer.{Answer}
 use Rattle.gaz_hub.specs.declared.answer.Answer.TheVariants.{New, Repeat, Taken, Refused}
 use Rattle.gaz_hub.specs.declared.outcome.Outcome.{Outcome}
+use Rattle.gaz_hub.specs.declared.question.Question.{Question}
 use Rattle.gaz_hub.specs.declared.refusal.Refusal.{Refusal}
 
 -- ---- what is received

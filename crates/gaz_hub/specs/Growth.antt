@@ -13,8 +13,8 @@ use Rattle.gaz_hub.specs.Hubs.{AreKnown, door_of}
 use Rattle.gaz_hub.specs.Laws.{StandsForRun}
 use Rattle.gaz_hub.specs.Runs.{Run, first_received}
 use Rattle.gaz_hub.specs.Standing.{IsPartial, standing}
-use Rattle.gaz_hub.specs.Step.{Command, HubState, Question, Response}
-use Rattle.gaz_hub.specs.Step.{answer_to, refusal_at_door}
+use Rattle.gaz_hub.specs.Step.{Command, HubState, Response, answer_to, refusal_at_door}
+use Rattle.gaz_hub.specs.declared.question.Question.{Question}
 
 -- ---- what stays
 

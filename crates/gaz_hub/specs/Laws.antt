@@ -11,8 +11,9 @@ use Rattle.gaz_hub.specs.Hubs.{Runs, StandsFor, Steps, state_of}
 use Rattle.gaz_hub.specs.Outcomes.{outcome}
 use Rattle.gaz_hub.specs.Runs.{Abides, AbidesFrom, is_settled}
 use Rattle.gaz_hub.specs.Standing.{IsPartial, NothingReady, standing}
-use Rattle.gaz_hub.specs.Step.{Ask, Command, Door, HubState, Pose, Replied, Response, Step, blocks}
+use Rattle.gaz_hub.specs.Step.{Command, Door, HubState, Pose, Replied, Response, Step, blocks}
 use Rattle.gaz_hub.specs.Step.{is_volume}
+use Rattle.gaz_hub.specs.declared.question.Question.TheVariants.{Ask}
 
 -- every view of a partial board is sound
 abbrev pub AllSound : Type 0

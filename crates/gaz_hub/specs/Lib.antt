@@ -16,6 +16,7 @@ pub mod Owners
 pub mod Following
 pub mod Settling
 pub mod Telling
+pub mod Posing
 pub mod Waiting
 pub mod Seen
 pub mod Knowing

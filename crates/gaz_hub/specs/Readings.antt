@@ -8,8 +8,9 @@ use Rattle.gaz_keeper.specs.Received.{Received}
 use Rattle.gaz_views.specs.View.{holds}
 use Rattle.gaz_hub.specs.Runs.{Run}
 use Rattle.gaz_hub.specs.Standing.{HasAllOf, IsPartial, Register, standing}
-use Rattle.gaz_hub.specs.Step.{Command, Door, HubState, Pose, Question, Replied, Response, Step}
-use Rattle.gaz_hub.specs.Step.{Told, new_hub}
+use Rattle.gaz_hub.specs.Step.{Command, Door, HubState, Pose, Replied, Response, Step, Told}
+use Rattle.gaz_hub.specs.Step.{new_hub}
+use Rattle.gaz_hub.specs.declared.question.Question.{Question}
 
 -- whatever came before, and in whatever order: two hubs with equal received sets answer a question
 -- equally, wherever both answer it

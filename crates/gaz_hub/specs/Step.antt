@@ -18,6 +18,9 @@ use Rattle.gaz_hub.specs.Outcomes.{outcome, status}
 use Rattle.gaz_hub.specs.declared.answer.Answer.{Answer}
 use Rattle.gaz_hub.specs.declared.answer.Answer.TheVariants.{New, Repeat, Taken, Refused}
 use Rattle.gaz_hub.specs.declared.outcome.Outcome.{Outcome}
+use Rattle.gaz_hub.specs.declared.question.Question.{Question}
+use Rattle.gaz_hub.specs.declared.question.Question.TheVariants.{Ask, Extract, ListClosed}
+use Rattle.gaz_hub.specs.declared.question.Question.TheVariants.{LookUp, Settle, Stand}
 use Rattle.gaz_hub.specs.declared.refusal.Refusal.{Refusal}
 use Rattle.gaz_hub.specs.declared.refusal.Refusal.TheVariants as refusal
 use Rattle.gaz_hub.specs.declared.standing.Standing.{Standing}
@@ -42,18 +45,7 @@ new_hub = record { received = map.empty; board = empty_board }
 
 -- ---- what is asked, and what is told
 
--- the digest and the outcome of a volume; how far a custodian is judged; nothing but settling; a
--- property looked up by its UPRN; a custodian's view after a volume; approved addresses on streets
--- that others closed
-pub data Question : Type 0 where
-  Ask : ℕ → ℕ → Question
-  Stand : ℕ → Question
-  Settle : Question
-  LookUp : ℕ → Question
-  Extract : ℕ → ℕ → Question
-  ListClosed : Question
-
--- what each is told
+-- what each question is told
 abbrev pub Told : Question → Type 0
 Told (Ask c volume) = Option (List ℕ × Outcome)
 Told (Stand c) = Standing

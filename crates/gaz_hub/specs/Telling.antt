@@ -8,7 +8,8 @@ use Rattle.gaz_keeper.specs.Received.{Received}
 use Rattle.gaz_keeper.specs.declared.fault.ShelfFault.{ShelfFault}
 use Rattle.gaz_hub.specs.Hubs.{Steps, door_of}
 use Rattle.gaz_hub.specs.Settling.{Tells}
-use Rattle.gaz_hub.specs.Step.{Command, Pose, Question, Replied, Response, Told}
+use Rattle.gaz_hub.specs.Step.{Command, Pose, Replied, Response, Told}
+use Rattle.gaz_hub.specs.declared.question.Question.{Question}
 use Rattle.gaz_hub.specs.declared.refusal.Refusal.{Refusal}
 
 -- the answer is right of the files and the board before

@@ -7,13 +7,13 @@ use Rattle.gaz_keeper.specs.declared.fault.ShelfFault.TheVariants as fault
 use Rattle.gaz_hub.specs.Examples.{first_hub, first_sent, no_text}
 use Rattle.gaz_hub.specs.Found.{HasOneMore, HasOneSince, IsFound}
 use Rattle.gaz_hub.specs.Sample.{sample_door}
-use Rattle.gaz_hub.specs.Step.{HubState, Pose, Replied, Response, Settle, Submit}
-use Rattle.gaz_hub.specs.Step.{Submitted, new_hub}
+use Rattle.gaz_hub.specs.Step.{HubState, Pose, Replied, Response, Submit, Submitted, new_hub}
 use Rattle.gaz_hub.specs.Stops.{HasAllTold, HasTold, IsLater, IsLeftOnceTold, IsLeftSince, Stops}
 use Rattle.gaz_hub.specs.Stops.{StopsCall, StopsRun}
 use Rattle.gaz_hub.specs.WorkedStops.{at_rest, sends, unjudged_hub}
 use Rattle.gaz_hub.specs.declared.answer.Answer.TheVariants.{New, Repeat, Taken, Refused}
 use Rattle.gaz_hub.specs.declared.outcome.Outcome.TheVariants.{Rejected}
+use Rattle.gaz_hub.specs.declared.question.Question.TheVariants.{Settle}
 use Rattle.gaz_hub.specs.declared.refusal.Refusal.TheVariants as refusal
 
 -- ---- keepers

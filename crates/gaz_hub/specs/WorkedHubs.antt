@@ -10,13 +10,14 @@ use Rattle.gaz_hub.specs.Examples.{one_judged, sent}
 use Rattle.gaz_hub.specs.Hubs.{cause_of, door_of, is_foreign, state_of}
 use Rattle.gaz_hub.specs.Outcomes.{first_unreached}
 use Rattle.gaz_hub.specs.Settling.{IsNext, IsNextFile, wanted_by}
-use Rattle.gaz_hub.specs.Step.{Ask, Replied, Settle, Stand, Submitted, blocks, new_hub, turned_away}
+use Rattle.gaz_hub.specs.Step.{Replied, Submitted, blocks, new_hub, turned_away}
 use Rattle.gaz_hub.specs.WorkedBoards.{basis}
 use Rattle.gaz_hub.specs.declared.answer.Answer.TheVariants.{New, Refused, Taken}
 use Rattle.gaz_hub.specs.declared.looking.Next.{Next}
 use Rattle.gaz_hub.specs.declared.looking.Next.TheVariants.{Bad, Done, Waits}
 use Rattle.gaz_hub.specs.declared.looking.NextFile.TheVariants.{Missing, Past}
 use Rattle.gaz_hub.specs.declared.outcome.Outcome.TheVariants.{Rejected}
+use Rattle.gaz_hub.specs.declared.question.Question.TheVariants.{Ask, Settle, Stand}
 use Rattle.gaz_hub.specs.declared.refusal.Refusal.TheVariants.{UnknownCustodian, BadVolume}
 use Rattle.gaz_hub.specs.declared.refusal.Refusal.TheVariants.{TooLarge, NotReceived}
 use Rattle.gaz_hub.specs.declared.refusal.Refusal.TheVariants.{ReceivedUnsettled}

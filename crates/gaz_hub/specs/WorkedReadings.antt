@@ -7,10 +7,13 @@ use Rattle.gaz_rows.specs.Rows.{lines_of}
 use Rattle.gaz_keeper.specs.declared.fault.ShelfFault.TheVariants as fault
 use Rattle.gaz_hub.specs.Examples.{gap_hub, late_hub}
 use Rattle.gaz_hub.specs.Hubs.{cause_of, told, told_all, or_not_received}
+use Rattle.gaz_hub.specs.Posing.{telling}
 use Rattle.gaz_hub.specs.Runs.{is_settled}
 use Rattle.gaz_hub.specs.Sample.{sample_door}
-use Rattle.gaz_hub.specs.Step.{Command, Extract, HubState, ListClosed, LookUp, Pose, Replied}
-use Rattle.gaz_hub.specs.Step.{Response, Step, early_refusal}
+use Rattle.gaz_hub.specs.Step.{Command, HubState, Pose, Replied, Response, Step, early_refusal}
+use Rattle.gaz_hub.specs.declared.question.Question.TheVariants.{Extract, ListClosed, LookUp}
+use Rattle.gaz_hub.specs.declared.question.Question.TheVariants.{Settle}
+use Rattle.gaz_hub.specs.declared.question.Told.TheVariants as says
 use Rattle.gaz_hub.specs.declared.refusal.Refusal.TheVariants as refusal
 
 -- from one state of a hub over the sample register to another
@@ -66,3 +69,10 @@ pub record WorkedReadings : Type 0 where
       ≡ Err (refusal.NotReceived fault.Store)
   pub nothing_told : told (Ok None) ≡ Ok None
   pub refusal_told : told_all (Err refusal.BadVolume) ≡ Err refusal.BadVolume
+  pub extract_told : telling (Extract 1003 1) (Ok (Some of_nothing))
+      ≡ Ok (Some (says.Extract of_nothing))
+  pub list_told : telling ListClosed (Ok []) ≡ Ok (Some (says.Closed []))
+  pub not_there_told : telling (LookUp 42) (Ok None) ≡ Ok None
+  pub settling_told : telling Settle (Ok tt) ≡ Ok None
+  pub door_told : telling (Extract 1003 0) (Err refusal.BadVolume) ≡ Err refusal.BadVolume
+  pub never_told_otherwise : telling ListClosed (Ok []) ≡ Ok None → ⊥

@@ -6,11 +6,12 @@ use Rattle.gaz_hub.specs.Answers.{AllReadOff, IsReadOff, received_by, then_recei
 use Rattle.gaz_hub.specs.Runs.{Abides, ChangesNothing, Run, accepted, first_received}
 use Rattle.gaz_hub.specs.Runs.{is_answered_51, is_not_received, is_settled, is_settled_answer}
 use Rattle.gaz_hub.specs.Runs.{same_pair}
-use Rattle.gaz_hub.specs.Step.{Ask, Command, HubState, Pose, Replied, Response, Settle, Stand}
-use Rattle.gaz_hub.specs.Step.{Submit, Submitted, new_hub}
+use Rattle.gaz_hub.specs.Step.{Command, HubState, Pose, Replied, Response, Submit, Submitted}
+use Rattle.gaz_hub.specs.Step.{new_hub}
 use Rattle.gaz_hub.specs.Sample.{sample_door}
 use Rattle.gaz_hub.specs.declared.answer.Answer.TheVariants.{New, Repeat, Taken, Refused}
 use Rattle.gaz_hub.specs.declared.outcome.Outcome.TheVariants.{Rejected, Held}
+use Rattle.gaz_hub.specs.declared.question.Question.TheVariants.{Ask, Settle, Stand}
 use Rattle.gaz_hub.specs.declared.refusal.Refusal.TheVariants as refusal
 use Rattle.gaz_hub.specs.Examples.{first_hub, first_sent, gap_hub, no_text, sent, whole_hub}
 

@@ -3,13 +3,13 @@ use Rattle.std.specs.Prelude.{◌≡◌, ℕ, List, true, false, [], Some, None,
 use Rattle.sha2.specs.Sha256.{sha256}
 use Rattle.gaz_keeper.specs.Board.{empty_board}
 use Rattle.gaz_keeper.specs.declared.fault.ShelfFault.TheVariants as fault
-use Rattle.gaz_hub.specs.Step.{Ask, Command, HubState, Pose, Replied, Response, Settle, Settles}
-use Rattle.gaz_hub.specs.Step.{Stand, Step, Submit, Submitted, early_refusal, file_refusal}
-use Rattle.gaz_hub.specs.Step.{is_volume}
-use Rattle.gaz_hub.specs.Step.{new_hub, or_foreign, refusal_at_door, turned_away}
+use Rattle.gaz_hub.specs.Step.{Command, HubState, Pose, Replied, Response, Settles, Step, Submit}
+use Rattle.gaz_hub.specs.Step.{Submitted, early_refusal, file_refusal, is_volume, new_hub}
+use Rattle.gaz_hub.specs.Step.{or_foreign, refusal_at_door, turned_away}
 use Rattle.gaz_hub.specs.Sample.{sample_door}
 use Rattle.gaz_hub.specs.declared.answer.Answer.TheVariants.{New, Repeat, Taken, Refused}
 use Rattle.gaz_hub.specs.declared.outcome.Outcome.TheVariants.{Rejected, Held}
+use Rattle.gaz_hub.specs.declared.question.Question.TheVariants.{Ask, Settle, Stand}
 use Rattle.gaz_hub.specs.declared.refusal.Refusal.TheVariants as refusal
 use Rattle.gaz_hub.specs.Examples.{first_hub, foreign_door, gap_hub, late_hub, no_text, one_judged}
 use Rattle.gaz_hub.specs.Examples.{sent, whole_hub}

@@ -7,10 +7,11 @@ use Rattle.gaz_keeper.specs.declared.fault.ShelfFault.TheVariants as fault
 use Rattle.gaz_views.specs.View.{empty_view}
 use Rattle.gaz_hub.specs.Examples.{first_hub, first_sent, no_text}
 use Rattle.gaz_hub.specs.Sample.{sample_door}
-use Rattle.gaz_hub.specs.Step.{Command, HubState, Pose, Stand, Submit, Submitted, new_hub}
+use Rattle.gaz_hub.specs.Step.{Command, HubState, Pose, Submit, Submitted, new_hub}
 use Rattle.gaz_hub.specs.Stops.{HasReceived, IsLeftBy, IsLeftWith, is_taken_in}
 use Rattle.gaz_hub.specs.declared.answer.Answer.TheVariants.{New, Repeat, Refused}
 use Rattle.gaz_hub.specs.declared.outcome.Outcome.TheVariants.{Rejected}
+use Rattle.gaz_hub.specs.declared.question.Question.TheVariants.{Stand}
 use Rattle.gaz_hub.specs.declared.refusal.Refusal.TheVariants as refusal
 
 -- a keeper of this hub, in which no judgement is in progress

@@ -5,10 +5,11 @@ ghost use Rattle.gaz_hub.specs.Asked.{IsToldNow};
 ghost use Rattle.gaz_hub.specs.Hubs.{MeetsDoor, door_of};
 ghost use Rattle.gaz_hub.specs.Outcomes.{held_count, status};
 ghost use Rattle.gaz_hub.specs.Seen.{ForgetsOver, hub_seen};
-ghost use Rattle.gaz_hub.specs.Step.{Ask, Pose, Replied, Stand};
+ghost use Rattle.gaz_hub.specs.Step.{Pose, Replied};
 ghost use Rattle.gaz_keeper.specs.Telling.{IsNotJudging};
 ghost use Rattle.gaz_hub.specs.Telling.{LooksAtKept, RepliesTo};
 ghost use Rattle.gaz_hub.specs.Waiting.{IsSo};
+ghost use Rattle.gaz_hub.specs.declared.question.Question.TheVariants.{Ask, Stand};
 
 use crate::admission::{at_door, known_code};
 use crate::answer::Digest as FileDigest;

@@ -1,9 +1,10 @@
 ghost use Rattle.std.specs.Prelude.{◌≡◌, OnErr};
 ghost use Rattle.gaz_keeper.specs.Telling.{IsNotJudging};
 ghost use Rattle.gaz_hub.specs.Seen.{RemembersNothing, hub_seen};
-ghost use Rattle.gaz_hub.specs.Hubs.{or_not_received};
-ghost use Rattle.gaz_hub.specs.Step.{Settle};
+ghost use Rattle.gaz_hub.specs.Hubs.{MeetsDoor, door_of, or_not_received};
+ghost use Rattle.gaz_hub.specs.Step.{Pose, Replied};
 ghost use Rattle.gaz_hub.specs.Telling.{RepliesTo};
+ghost use Rattle.gaz_hub.specs.declared.question.Question.TheVariants.{Settle};
 
 use crate::remembering::settled;
 use crate::waiters::Waiters;
@@ -52,6 +53,8 @@ impl<K: Inbox + Drop> Hub<K> {
         ensures steps { RepliesTo (hub_seen K.seen) self.old.register self.old self.new
             Settle (or_not_received result) }
         ensures forgets { OnErr result (RemembersNothing self.new) }
+        ensures door { MeetsDoor (door_of self.old.register) self.old.keeper self.new.keeper
+            (Pose Settle) (Replied Settle (or_not_received result)) }
         ensures register { self.new.register ≡ self.old.register }
     {
         let read = |_keeper: &mut K| Ok(());

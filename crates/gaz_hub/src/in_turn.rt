@@ -4,7 +4,8 @@ ghost use Rattle.gaz_keeper.specs.Telling.{IsNotJudging};
 ghost use Rattle.gaz_hub.specs.Hubs.{door_of};
 ghost use Rattle.gaz_hub.specs.InTurn.{GoInTurn};
 ghost use Rattle.gaz_hub.specs.Seen.{hub_seen};
-ghost use Rattle.gaz_hub.specs.Step.{Ask, Pose, Replied, Submit, Submitted};
+ghost use Rattle.gaz_hub.specs.Step.{Pose, Replied, Submit, Submitted};
+ghost use Rattle.gaz_hub.specs.declared.question.Question.TheVariants.{Ask};
 
 use crate::answer::{Answer, Digest as FileDigest};
 use crate::hub::Hub;

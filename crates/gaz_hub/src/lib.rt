@@ -4,12 +4,16 @@
 mod admission;
 mod answer;
 mod asking;
+mod closed_list;
+mod extract_text;
 mod holding;
 mod hub;
 mod in_turn;
 pub mod laws;
 mod looking;
 mod outcome;
+mod posing;
+mod question;
 mod reading;
 mod refusal;
 mod remembering;
@@ -20,8 +24,11 @@ mod submitting;
 mod waiters;
 
 pub use answer::{Answer, Digest};
+pub use closed_list::ClosedList;
+pub use extract_text::ExtractText;
 pub use hub::Hub;
 pub use in_turn::submit_and_ask;
 pub use outcome::Outcome;
+pub use question::{Question, Told};
 pub use refusal::Refusal;
 pub use standing::Standing;

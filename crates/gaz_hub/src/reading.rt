@@ -3,9 +3,10 @@
 ghost use Rattle.std.specs.Prelude.{◌≡◌};
 ghost use Rattle.gaz_hub.specs.Hubs.{MeetsDoor, door_of, told, told_all};
 ghost use Rattle.gaz_hub.specs.Seen.{ForgetsOver, hub_seen};
-ghost use Rattle.gaz_hub.specs.Step.{Extract, ListClosed, LookUp, Pose, Replied};
+ghost use Rattle.gaz_hub.specs.Step.{Pose, Replied};
 ghost use Rattle.gaz_keeper.specs.Telling.{IsNotJudging};
 ghost use Rattle.gaz_hub.specs.Telling.{RepliesTo};
+ghost use Rattle.gaz_hub.specs.declared.question.Question.TheVariants.{Extract, ListClosed, LookUp};
 
 use crate::admission::at_door;
 use crate::holding::ask_holder;

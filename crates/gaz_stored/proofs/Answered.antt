@@ -17,7 +17,8 @@ use Rattle.gaz_store.specs.declared.store.Store.{Store}
 use Rattle.gaz_shelf.specs.Mem.{seen_in as memory}
 use Rattle.gaz_hub.specs.Hubs.{Runs, door_of, state_of}
 use Rattle.gaz_hub.specs.Laws.{StandsForRun}
-use Rattle.gaz_hub.specs.Step.{Door, Pose, Replied, Settle, new_hub}
+use Rattle.gaz_hub.specs.Step.{Door, Pose, Replied, new_hub}
+use Rattle.gaz_hub.specs.declared.question.Question.TheVariants.{Settle}
 use Rattle.gaz_hub.specs.declared.refusal.Refusal.{Refusal}
 use Rattle.gaz_hub.proofs.HubRuns.{runs_then}
 use Rattle.gaz_hub.proofs.Runs.{abides_after, every_run_from_holds}

@@ -14,8 +14,9 @@ use Rattle.gaz_shelf.specs.Mem.{seen_in as memory}
 use Rattle.gaz_hub.specs.Hubs.{Runs, door_of}
 use Rattle.gaz_hub.specs.Laws.{StandsForRun}
 use Rattle.gaz_hub.specs.Seen.{hub_seen}
-use Rattle.gaz_hub.specs.Step.{Pose, Replied, Settle}
+use Rattle.gaz_hub.specs.Step.{Pose, Replied}
 use Rattle.gaz_hub.specs.declared.hub.Hub.{Hub}
+use Rattle.gaz_hub.specs.declared.question.Question.TheVariants.{Settle}
 use Rattle.gaz_hub.specs.declared.refusal.Refusal.{Refusal}
 use Rattle.gaz_hub.proofs.HubRuns.{runs_then}
 use Rattle.gaz_keeper.specs.Keeper.{IsNotOpen}

@@ -17,7 +17,8 @@ use Rattle.gaz_store.specs.declared.store.Store.{Store}
 use Rattle.gaz_hub.specs.Hubs.{Runs, door_of}
 use Rattle.gaz_hub.specs.Laws.{StandsForRun}
 use Rattle.gaz_hub.specs.Runs.{Abides}
-use Rattle.gaz_hub.specs.Step.{Pose, Replied, Settle, new_hub}
+use Rattle.gaz_hub.specs.Step.{Pose, Replied, new_hub}
+use Rattle.gaz_hub.specs.declared.question.Question.TheVariants.{Settle}
 use Rattle.gaz_hub.specs.declared.refusal.Refusal.{Refusal}
 use Rattle.gaz_keeper.specs.Keeper.{IsNotOpen}
 use Rattle.gaz_mirror.specs.Mirrored.{seen_mirrored}

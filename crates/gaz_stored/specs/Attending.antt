@@ -10,8 +10,9 @@ use Rattle.gaz_store.specs.Store.{seen_in}
 use Rattle.gaz_store.specs.declared.store.Store.{Store}
 use Rattle.gaz_hub.specs.Hubs.{Runs, door_of}
 use Rattle.gaz_hub.specs.Laws.{StandsForRun}
-use Rattle.gaz_hub.specs.Step.{Pose, Replied, Settle}
+use Rattle.gaz_hub.specs.Step.{Pose, Replied}
 use Rattle.gaz_hub.specs.declared.hub.Hub.{Hub}
+use Rattle.gaz_hub.specs.declared.question.Question.TheVariants.{Settle}
 use Rattle.gaz_hub.specs.declared.refusal.Refusal.{Refusal}
 use Rattle.gaz_mirror.specs.Mirrored.{seen_mirrored}
 use Rattle.gaz_stored.specs.Asking.{RestsOpened}

@@ -11,7 +11,8 @@ use Rattle.gaz_kept.specs.Examples.{four_rows, six_files}
 use Rattle.gaz_kept.specs.declared.refusal.StoreRefusal.TheVariants.{BadSchema, Fault}
 use Rattle.gaz_kept.specs.declared.refusal.StoreRefusal.TheVariants.{OtherRegister}
 use Rattle.gaz_hub.specs.Growth.{last_register}
-use Rattle.gaz_hub.specs.Step.{Command, HubState, Pose, Settle, Stand, Submit}
+use Rattle.gaz_hub.specs.Step.{Command, HubState, Pose, Submit}
+use Rattle.gaz_hub.specs.declared.question.Question.TheVariants.{Settle, Stand}
 use Rattle.gaz_stored.specs.Chains.{Talk, after_all, all_commands}
 use Rattle.gaz_stored.specs.GrownChains.{GrownChain, Turn, after_turns, period_of}
 use Rattle.gaz_stored.specs.Reopening.{OpensOrFails}

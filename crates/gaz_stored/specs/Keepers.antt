@@ -11,8 +11,9 @@ use Rattle.gaz_mirror.specs.declared.mirror.Mirror.{Mirror}
 use Rattle.gaz_mirrored.specs.Filling.{CanBeMirrored, RestsBare}
 use Rattle.gaz_hub.specs.Hubs.{Runs, door_of}
 use Rattle.gaz_hub.specs.Laws.{StandsForRun}
-use Rattle.gaz_hub.specs.Step.{Command, Pose, Replied, Settle}
+use Rattle.gaz_hub.specs.Step.{Command, Pose, Replied}
 use Rattle.gaz_hub.specs.declared.hub.Hub.{Hub}
+use Rattle.gaz_hub.specs.declared.question.Question.TheVariants.{Settle}
 use Rattle.gaz_hub.specs.declared.refusal.Refusal.{Refusal}
 use Rattle.gaz_commands.specs.Obeying.{Obeys}
 use Rattle.gaz_commands.specs.declared.said.Said.{Said}

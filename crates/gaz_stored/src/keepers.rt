@@ -3,7 +3,8 @@
 ghost use Rattle.std.specs.Prelude.{◌≡◌, ◌∷◌, [], option_map};
 ghost use Rattle.gaz_keeper.specs.Keeper.{IsNotOpen};
 ghost use Rattle.gaz_hub.specs.Hubs.{Runs, door_of, or_not_received};
-ghost use Rattle.gaz_hub.specs.Step.{Pose, Replied, Settle};
+ghost use Rattle.gaz_hub.specs.Step.{Pose, Replied};
+ghost use Rattle.gaz_hub.specs.declared.question.Question.TheVariants.{Settle};
 ghost use Rattle.gaz_exchange.specs.Conversing.{StopsByFault, transfer};
 ghost use Rattle.gaz_stored.specs.Asking.{asked};
 ghost use Rattle.gaz_stored.specs.Keepers.{AsksWith, ConversesWith, ServesWith};

@@ -14,7 +14,8 @@ use Rattle.gaz_kept.specs.declared.refusal.StoreRefusal.TheVariants.{BadSchema, 
 use Rattle.gaz_store.specs.Opened.{IsMade}
 use Rattle.gaz_store.specs.Store.{seen_in}
 use Rattle.gaz_store.specs.declared.store.Store.{Store}
-use Rattle.gaz_hub.specs.Step.{Command, Pose, Replied, Response, Settle}
+use Rattle.gaz_hub.specs.Step.{Command, Pose, Replied, Response}
+use Rattle.gaz_hub.specs.declared.question.Question.TheVariants.{Settle}
 use Rattle.gaz_stored.specs.Asking.{Asks}
 use Rattle.gaz_stored.specs.Attending.{Attends}
 use Rattle.gaz_stored.specs.declared.attending.Unserved.{Unserved}

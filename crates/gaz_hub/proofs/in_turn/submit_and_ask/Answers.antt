@@ -5,7 +5,8 @@ use Rattle.std.proofs.Common.{subst}
 use Rattle.gaz_register.specs.Registers.{RegisterValue}
 use Rattle.gaz_hub.specs.Hubs.{Steps, door_of}
 use Rattle.gaz_hub.specs.Seen.{hub_seen}
-use Rattle.gaz_hub.specs.Step.{Ask, Pose, Replied}
+use Rattle.gaz_hub.specs.Step.{Pose, Replied}
+use Rattle.gaz_hub.specs.declared.question.Question.TheVariants.{Ask}
 use Rattle.gaz_hub.proofs.in_turn.submit_and_ask.Goals as goal
 
 pub returns-clause-in_turn : goal.returns-clause-in_turn

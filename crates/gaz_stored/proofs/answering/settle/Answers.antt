@@ -2,7 +2,8 @@
 use Rattle.std.proofs.Common.{[], ◌∷◌, subst, sym}
 use Rattle.gaz_hub.specs.Hubs.{Runs, door_of, or_not_received}
 use Rattle.gaz_store.specs.Store.{seen_in}
-use Rattle.gaz_hub.specs.Step.{Pose, Replied, Settle}
+use Rattle.gaz_hub.specs.Step.{Pose, Replied}
+use Rattle.gaz_hub.specs.declared.question.Question.TheVariants.{Settle}
 use Rattle.gaz_stored.specs.Using.{IsSame}
 use Rattle.gaz_stored.proofs.Parts.{seen_same}
 use Rattle.gaz_stored.proofs.answering.settle.Goals as goal

@@ -1,7 +1,8 @@
 -- The hub remembered nothing before it settled.
 use Rattle.std.proofs.Common.{ap, sym}
 use Rattle.gaz_hub.specs.Hubs.{or_not_received}
-use Rattle.gaz_hub.specs.Step.{Pose, Replied, Settle}
+use Rattle.gaz_hub.specs.Step.{Pose, Replied}
+use Rattle.gaz_hub.specs.declared.question.Question.TheVariants.{Settle}
 use Rattle.gaz_stored.proofs.Alone.{steps_alone}
 use Rattle.gaz_stored.proofs.keepers.settled.Goals as goal
 

@@ -6,8 +6,8 @@ use Rattle.std.specs.Prelude.{ℕ}
 use Rattle.gaz_extract.specs.Extracts.{extract}
 use Rattle.gaz_extract.proofs.Readings.{looks_as}
 use Rattle.gaz_hub.specs.Hubs.{door_of, told}
-use Rattle.gaz_hub.specs.Step.{Extract}
 use Rattle.gaz_hub.specs.Seen.{hub_seen, kept_seen}
+use Rattle.gaz_hub.specs.declared.question.Question.TheVariants.{Extract}
 use Rattle.gaz_hub.proofs.Declining.{away_by_door, declines_question}
 use Rattle.gaz_hub.proofs.Replying.{answered_door, answered_steps}
 use Rattle.gaz_hub.proofs.Memory.{looks_called}

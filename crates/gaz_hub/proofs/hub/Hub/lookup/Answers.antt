@@ -3,7 +3,7 @@ use Rattle.std.proofs.Common.{rules, refl}
 use Rattle.gaz_extract.proofs.Readings.{looks_as}
 use Rattle.gaz_hub.specs.Hubs.{door_of}
 use Rattle.gaz_hub.specs.Seen.{kept_seen}
-use Rattle.gaz_hub.specs.Step.{LookUp}
+use Rattle.gaz_hub.specs.declared.question.Question.TheVariants.{LookUp}
 use Rattle.gaz_hub.proofs.AskingHolder.{holder_steps}
 use Rattle.gaz_hub.proofs.Memory.{looks_called}
 use Rattle.gaz_hub.proofs.Replying.{answered_door}

@@ -7,7 +7,8 @@ use Rattle.gaz_hub.specs.Seen.{hub_seen, kept_seen}
 use Rattle.gaz_hub.specs.Asked.{IsToldNow}
 use Rattle.gaz_hub.specs.Standing.{NothingReady}
 use Rattle.gaz_hub.specs.Waiting.{IsSo, known_in}
-use Rattle.gaz_hub.specs.Step.{Ask, told_of}
+use Rattle.gaz_hub.specs.Step.{told_of}
+use Rattle.gaz_hub.specs.declared.question.Question.TheVariants.{Ask}
 use Rattle.gaz_hub.proofs.AnswerSteps.{known_at}
 use Rattle.gaz_hub.proofs.Declining.{away_by_door, declines_question}
 use Rattle.gaz_hub.proofs.Replying.{answered_door, answered_steps}

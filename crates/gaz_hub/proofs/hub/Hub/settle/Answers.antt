@@ -4,10 +4,11 @@ use Rattle.gaz_keeper.specs.Keeper.{Content}
 use Rattle.gaz_hub.specs.Hubs.{door_of, state_of}
 use Rattle.gaz_hub.specs.Seen.{hub_seen, kept_seen}
 use Rattle.gaz_hub.specs.Standing.{NothingReady}
-use Rattle.gaz_hub.specs.Step.{Settle, answer_to}
+use Rattle.gaz_hub.specs.Step.{answer_to}
+use Rattle.gaz_hub.specs.declared.question.Question.TheVariants.{Settle}
 use Rattle.gaz_hub.proofs.Looks.{looks_still}
 use Rattle.gaz_hub.proofs.Memory.{looks_called}
-use Rattle.gaz_hub.proofs.Replying.{steps_read}
+use Rattle.gaz_hub.proofs.Replying.{door_read, steps_read}
 use Rattle.gaz_hub.proofs.Telling.{tells_settled}
 use Rattle.gaz_hub.proofs.hub.Hub.settle.Goals as goal
 
@@ -20,3 +21,7 @@ returns-clause-steps g c =
     (kept_seen g.K.Shelf.seen hub.register (c.settled.new.keeper, c.settled.new.waiters)) c.settled.result c.settled.ensures.open
     (tells_settled d (kept_seen g.K.Shelf.seen hub.register) _ (hub.keeper, hub.waiters) (c.settled.new.keeper, c.settled.new.waiters) c.settled.result IsTold c.settled.ensures.calls
     (λ mid called. looks_called g.K.Shelf.seen hub.register _ _ _ _ _ called (rw (← called.called.shows, ← called.called.leaves) (looks_still (g.K.Shelf.seen called.called.shown.now) (g.K.Shelf.seen called.called.left.now) _ tt _ (ap g.K.Shelf.seen (search rules)) (search rules) (λ closed. refl)))))
+
+pub returns-clause-door : goal.returns-clause-door
+returns-clause-door g c =
+    door_read (door_of c.args.self.now.register) Settle (λ (done : Unit {0}). tt) (λ r. r) (record { ok = λ x. refl; err = λ r. refl }) refl c.args.self.now.keeper c.settled.new.keeper c.settled.result

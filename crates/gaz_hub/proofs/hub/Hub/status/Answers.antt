@@ -6,8 +6,8 @@ use Rattle.gaz_hub.specs.Hubs.{door_of}
 use Rattle.gaz_hub.specs.Outcomes.{status}
 use Rattle.gaz_hub.specs.Seen.{hub_seen, kept_seen}
 use Rattle.gaz_hub.specs.Standing.{NothingReady}
-use Rattle.gaz_hub.specs.Step.{Stand}
 use Rattle.gaz_hub.specs.Waiting.{IsSo, known_in}
+use Rattle.gaz_hub.specs.declared.question.Question.TheVariants.{Stand}
 use Rattle.gaz_hub.specs.declared.refusal.Refusal.TheVariants as refusal
 use Rattle.gaz_hub.proofs.Declining.{declines_question}
 use Rattle.gaz_hub.proofs.Replying.{answered_door, answered_steps}
