@@ -7,6 +7,7 @@ pub mod Growing
 pub mod Making
 pub mod MetaTexts
 pub mod Moving
+pub mod Queries
 pub mod ReceivedMeanings
 pub mod ReceivedOnce
 pub mod ReceivedQueries

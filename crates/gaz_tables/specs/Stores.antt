@@ -110,3 +110,13 @@ module _ {S : Type 0} (g : Ghosts S) (before after : Held S) where
   abbrev pub MayLeave : ℕ → (List Row → List Row → Type 0) → Type 0
   MayLeave table Becomes = (HasCleanDisk old → HasTables old.now)
       → Survives old new (AreTreesOf (Changes table Becomes old.now))
+
+-- a query of a table tells this of its rows, and changes nothing
+pub record Queries {S : Type 0} (g : Ghosts S) (before after : Held S) (table : ℕ)
+    (result : Result (Vec Row Global) Error) (IsAnswer : List Row → List Row → Type 0)
+    : Type 0 where
+  pub found : Finds g before after table result IsAnswer
+  pub stays : Stays g before after result
+  pub open : WasOpen g before after result
+  pub spared : Spares g before after result
+  pub leaves : LeavesAsBefore g before after

@@ -2,18 +2,14 @@
 ghost use Rattle.gaz_tables.specs.Schema.{versions};
 ghost use Rattle.std.specs.Prelude.{◌≡◌, false};
 ghost use Rattle.gaz_tables.specs.Custody.{FindsCustody, FindsCustodyBehind, FindsCustodyUntil};
-ghost use Rattle.gaz_tables.specs.Stores.{Finds, LeavesAsBefore, Spares, Stays, WasOpen};
+ghost use Rattle.gaz_tables.specs.Stores.{Queries};
 
 use sqlite::{Alter, Connection, Error, Row, params};
 
 /// `born`, `gone`, `live`, `street`, `hop`, `lang` and `body` of the newest row of a number, or no
 /// row.
 pub fn newest<S: Alter>(conn: &mut Connection<S>, cust: u32, id: &str) -> Result<Vec<Row>, Error>
-    ensures found { Finds S.Store conn.old conn.new versions result (FindsCustody cust id.now) }
-    ensures stays { Stays S.Store conn.old conn.new result }
-    ensures open { WasOpen S.Store conn.old conn.new result }
-    ensures spared { Spares S.Store conn.old conn.new result }
-    ensures leaves { LeavesAsBefore S.Store conn.old conn.new }
+    ensures asked { Queries S.Store conn.old conn.new versions result (FindsCustody cust id.now) }
     ensures mode { conn.old.in_transaction ≡ false → conn.new.in_transaction ≡ false }
 {
     conn.query_all(
@@ -30,12 +26,8 @@ pub fn newest_until<S: Alter>(
     id: &str,
     volume: u32,
 ) -> Result<Vec<Row>, Error>
-    ensures found { Finds S.Store conn.old conn.new versions result
+    ensures asked { Queries S.Store conn.old conn.new versions result
         (FindsCustodyUntil cust id.now volume) }
-    ensures stays { Stays S.Store conn.old conn.new result }
-    ensures open { WasOpen S.Store conn.old conn.new result }
-    ensures spared { Spares S.Store conn.old conn.new result }
-    ensures leaves { LeavesAsBefore S.Store conn.old conn.new }
     ensures mode { conn.old.in_transaction ≡ false → conn.new.in_transaction ≡ false }
 {
     conn.query_all(
@@ -54,12 +46,8 @@ pub fn behind<S: Alter>(
     born: u32,
     most: u32,
 ) -> Result<Vec<Row>, Error>
-    ensures found { Finds S.Store conn.old conn.new versions result
+    ensures asked { Queries S.Store conn.old conn.new versions result
         (FindsCustodyBehind cust id.now born most) }
-    ensures stays { Stays S.Store conn.old conn.new result }
-    ensures open { WasOpen S.Store conn.old conn.new result }
-    ensures spared { Spares S.Store conn.old conn.new result }
-    ensures leaves { LeavesAsBefore S.Store conn.old conn.new }
     ensures mode { conn.old.in_transaction ≡ false → conn.new.in_transaction ≡ false }
 {
     conn.query_all(

@@ -1,8 +1,8 @@
 //! The statements of the table `received`.
 ghost use Rattle.gaz_tables.specs.Schema.{receiveds};
 ghost use Rattle.std.specs.Prelude.{◌≡◌, false};
-ghost use Rattle.gaz_tables.specs.Stores.{AddsRow, Finds, LeavesAsBefore, Spares, SparesInside};
-ghost use Rattle.gaz_tables.specs.Stores.{Stays, StaysInside, WasOpen, WritesInside};
+ghost use Rattle.gaz_tables.specs.Stores.{AddsRow, Finds, Queries, SparesInside, StaysInside};
+ghost use Rattle.gaz_tables.specs.Stores.{WasOpen, WritesInside};
 ghost use Rattle.gaz_tables.specs.Receiveds.{Applies, AtMostOne, FindsAbove, FindsFile};
 ghost use Rattle.gaz_tables.specs.Receiveds.{FindsVerdict, Rejects, unjudged};
 
@@ -10,12 +10,8 @@ use sqlite::{Alter, Connection, Error, Row, Transaction, params};
 
 /// `bytes`, `state`, `place` and `rule` of a volume, or no row.
 pub fn file<S: Alter>(conn: &mut Connection<S>, cust: u32, volume: u32) -> Result<Vec<Row>, Error>
-    ensures found { Finds S.Store conn.old conn.new receiveds result (FindsFile cust volume) }
+    ensures asked { Queries S.Store conn.old conn.new receiveds result (FindsFile cust volume) }
     ensures one { Finds S.Store conn.old conn.new receiveds result AtMostOne }
-    ensures stays { Stays S.Store conn.old conn.new result }
-    ensures open { WasOpen S.Store conn.old conn.new result }
-    ensures spared { Spares S.Store conn.old conn.new result }
-    ensures leaves { LeavesAsBefore S.Store conn.old conn.new }
     ensures mode { conn.old.in_transaction ≡ false → conn.new.in_transaction ≡ false }
 {
     conn.query_all(
@@ -30,12 +26,8 @@ pub fn verdict<S: Alter>(
     cust: u32,
     volume: u32,
 ) -> Result<Vec<Row>, Error>
-    ensures found { Finds S.Store conn.old conn.new receiveds result (FindsVerdict cust volume) }
+    ensures asked { Queries S.Store conn.old conn.new receiveds result (FindsVerdict cust volume) }
     ensures one { Finds S.Store conn.old conn.new receiveds result AtMostOne }
-    ensures stays { Stays S.Store conn.old conn.new result }
-    ensures open { WasOpen S.Store conn.old conn.new result }
-    ensures spared { Spares S.Store conn.old conn.new result }
-    ensures leaves { LeavesAsBefore S.Store conn.old conn.new }
     ensures mode { conn.old.in_transaction ≡ false → conn.new.in_transaction ≡ false }
 {
     conn.query_all(
@@ -51,11 +43,7 @@ pub fn above<S: Alter>(
     volume: u32,
     most: u32,
 ) -> Result<Vec<Row>, Error>
-    ensures found { Finds S.Store conn.old conn.new receiveds result (FindsAbove cust volume most) }
-    ensures stays { Stays S.Store conn.old conn.new result }
-    ensures open { WasOpen S.Store conn.old conn.new result }
-    ensures spared { Spares S.Store conn.old conn.new result }
-    ensures leaves { LeavesAsBefore S.Store conn.old conn.new }
+    ensures asked { Queries S.Store conn.old conn.new receiveds result (FindsAbove cust volume most) }
     ensures mode { conn.old.in_transaction ≡ false → conn.new.in_transaction ≡ false }
 {
     conn.query_all(

@@ -1,18 +1,14 @@
 //! The statements that go through the table `version2` in the order of its rowids.
 ghost use Rattle.gaz_tables.specs.Schema.{versions};
 ghost use Rattle.std.specs.Prelude.{◌≡◌, false};
-ghost use Rattle.gaz_tables.specs.Stores.{Finds, LeavesAsBefore, Spares, Stays, WasOpen};
+ghost use Rattle.gaz_tables.specs.Stores.{Queries};
 ghost use Rattle.gaz_tables.specs.Rowids.{FindsBehind, FindsFirst};
 
 use sqlite::{Alter, Connection, Error, Row, params};
 
 /// Rowid and columns of the rows, by rising rowids: at most so many.
 pub fn first<S: Alter>(conn: &mut Connection<S>, most: u32) -> Result<Vec<Row>, Error>
-    ensures found { Finds S.Store conn.old conn.new versions result (FindsFirst most) }
-    ensures stays { Stays S.Store conn.old conn.new result }
-    ensures open { WasOpen S.Store conn.old conn.new result }
-    ensures spared { Spares S.Store conn.old conn.new result }
-    ensures leaves { LeavesAsBefore S.Store conn.old conn.new }
+    ensures asked { Queries S.Store conn.old conn.new versions result (FindsFirst most) }
     ensures mode { conn.old.in_transaction ≡ false → conn.new.in_transaction ≡ false }
 {
     conn.query_all(
@@ -23,11 +19,7 @@ pub fn first<S: Alter>(conn: &mut Connection<S>, most: u32) -> Result<Vec<Row>, 
 
 /// The same of the rows behind a rowid.
 pub fn behind<S: Alter>(conn: &mut Connection<S>, after: &i64, most: u32) -> Result<Vec<Row>, Error>
-    ensures found { Finds S.Store conn.old conn.new versions result (FindsBehind after.now most) }
-    ensures stays { Stays S.Store conn.old conn.new result }
-    ensures open { WasOpen S.Store conn.old conn.new result }
-    ensures spared { Spares S.Store conn.old conn.new result }
-    ensures leaves { LeavesAsBefore S.Store conn.old conn.new }
+    ensures asked { Queries S.Store conn.old conn.new versions result (FindsBehind after.now most) }
     ensures mode { conn.old.in_transaction ≡ false → conn.new.in_transaction ≡ false }
 {
     conn.query_all(

@@ -1,8 +1,8 @@
 //! The statements of the table `version2`.
 ghost use Rattle.gaz_tables.specs.Schema.{versions};
 ghost use Rattle.std.specs.Prelude.{◌≡◌, false};
-ghost use Rattle.gaz_tables.specs.Stores.{AddsRow, Finds, LeavesAsBefore, Spares, SparesInside};
-ghost use Rattle.gaz_tables.specs.Stores.{Stays, StaysInside, WasOpen, WritesInside};
+ghost use Rattle.gaz_tables.specs.Stores.{AddsRow, Queries, SparesInside, StaysInside, WasOpen};
+ghost use Rattle.gaz_tables.specs.Stores.{WritesInside};
 ghost use Rattle.gaz_tables.specs.Versions.{Closes, FindsApprovedOf, FindsApprovedOn, FindsHolding};
 ghost use Rattle.gaz_tables.specs.Versions.{FindsNewest, FindsNewestUntil, FindsParts};
 ghost use Rattle.gaz_tables.specs.Versions.{version_values};
@@ -16,11 +16,7 @@ pub fn newest<S: Alter>(
     kind: u32,
     id: &str,
 ) -> Result<Vec<Row>, Error>
-    ensures found { Finds S.Store conn.old conn.new versions result (FindsNewest cust kind id.now) }
-    ensures stays { Stays S.Store conn.old conn.new result }
-    ensures open { WasOpen S.Store conn.old conn.new result }
-    ensures spared { Spares S.Store conn.old conn.new result }
-    ensures leaves { LeavesAsBefore S.Store conn.old conn.new }
+    ensures asked { Queries S.Store conn.old conn.new versions result (FindsNewest cust kind id.now) }
     ensures mode { conn.old.in_transaction ≡ false → conn.new.in_transaction ≡ false }
 {
     conn.query_all(
@@ -39,12 +35,8 @@ pub fn newest_until<S: Alter>(
     id: &str,
     volume: u32,
 ) -> Result<Vec<Row>, Error>
-    ensures found { Finds S.Store conn.old conn.new versions result
+    ensures asked { Queries S.Store conn.old conn.new versions result
         (FindsNewestUntil cust kind id.now volume) }
-    ensures stays { Stays S.Store conn.old conn.new result }
-    ensures open { WasOpen S.Store conn.old conn.new result }
-    ensures spared { Spares S.Store conn.old conn.new result }
-    ensures leaves { LeavesAsBefore S.Store conn.old conn.new }
     ensures mode { conn.old.in_transaction ≡ false → conn.new.in_transaction ≡ false }
 {
     conn.query_all(
@@ -64,12 +56,8 @@ pub fn holding<S: Alter>(
     volume: u32,
     most: u32,
 ) -> Result<Vec<Row>, Error>
-    ensures found { Finds S.Store conn.old conn.new versions result
+    ensures asked { Queries S.Store conn.old conn.new versions result
         (FindsHolding cust kind after.now volume most) }
-    ensures stays { Stays S.Store conn.old conn.new result }
-    ensures open { WasOpen S.Store conn.old conn.new result }
-    ensures spared { Spares S.Store conn.old conn.new result }
-    ensures leaves { LeavesAsBefore S.Store conn.old conn.new }
     ensures mode { conn.old.in_transaction ≡ false → conn.new.in_transaction ≡ false }
 {
     conn.query_all(
@@ -85,12 +73,8 @@ pub fn approved_of<S: Alter>(
     cust: u32,
     blpu: &i64,
 ) -> Result<Vec<Row>, Error>
-    ensures found { Finds S.Store conn.old conn.new versions result
+    ensures asked { Queries S.Store conn.old conn.new versions result
         (FindsApprovedOf cust blpu.now) }
-    ensures stays { Stays S.Store conn.old conn.new result }
-    ensures open { WasOpen S.Store conn.old conn.new result }
-    ensures spared { Spares S.Store conn.old conn.new result }
-    ensures leaves { LeavesAsBefore S.Store conn.old conn.new }
     ensures mode { conn.old.in_transaction ≡ false → conn.new.in_transaction ≡ false }
 {
     conn.query_all(
@@ -109,12 +93,8 @@ pub fn approved_on<S: Alter>(
     after: &str,
     most: u32,
 ) -> Result<Vec<Row>, Error>
-    ensures found { Finds S.Store conn.old conn.new versions result
+    ensures asked { Queries S.Store conn.old conn.new versions result
         (FindsApprovedOn cust street after.now most) }
-    ensures stays { Stays S.Store conn.old conn.new result }
-    ensures open { WasOpen S.Store conn.old conn.new result }
-    ensures spared { Spares S.Store conn.old conn.new result }
-    ensures leaves { LeavesAsBefore S.Store conn.old conn.new }
     ensures mode { conn.old.in_transaction ≡ false → conn.new.in_transaction ≡ false }
 {
     conn.query_all(
@@ -134,12 +114,8 @@ pub fn parts_of<S: Alter>(
     after: &str,
     most: u32,
 ) -> Result<Vec<Row>, Error>
-    ensures found { Finds S.Store conn.old conn.new versions result
+    ensures asked { Queries S.Store conn.old conn.new versions result
         (FindsParts cust kind blpu.now after.now most) }
-    ensures stays { Stays S.Store conn.old conn.new result }
-    ensures open { WasOpen S.Store conn.old conn.new result }
-    ensures spared { Spares S.Store conn.old conn.new result }
-    ensures leaves { LeavesAsBefore S.Store conn.old conn.new }
     ensures mode { conn.old.in_transaction ≡ false → conn.new.in_transaction ≡ false }
 {
     conn.query_all(

@@ -1,30 +1,15 @@
 use Rattle.sqlite.specs.Held.{state}
-use Rattle.gaz_sql_facts.proofs.Texts.{answers, stays, leaves_as_before, open_query, spared_query}
+use Rattle.gaz_tables.proofs.Queries.{queries}
 use Rattle.gaz_tables.proofs.ReceivedMeanings.{volume_found}
 use Rattle.gaz_tables.specs.Receiveds.{verdict_shown}
 use Rattle.gaz_tables.proofs.ReceivedOnce.{volume_alone}
 use Rattle.gaz_tables.proofs.ReceivedQueries.{verdict_is, verdict_terms}
 use Rattle.gaz_tables.proofs.receiveds.verdict.Goals as goal
 
-pub returns-clause-found : goal.returns-clause-found
-returns-clause-found g c clean has =
-    volume_found (state g.S.Store c.args.conn.now).now has c.args.cust c.args.volume verdict_terms c.query_all.result
-    (answers _ _ _ _ _ _ _ _ verdict_is _ (state g.S.Store c.args.conn.now) (state g.S.Store c.query_all.new.self) has.schema_is c.query_all.result
-    (rw (c.params-to_sql.ensures, c.params-to_sql-2.ensures) at (c.query_all.ensures.ok clean)))
-
-pub returns-clause-stays : goal.returns-clause-stays
-returns-clause-stays g c clean has =
-    stays _ _ _ _ _ _ _ _ verdict_is _ (state g.S.Store c.args.conn.now) (state g.S.Store c.query_all.new.self) has.schema_is c.query_all.result (c.query_all.ensures.ok clean)
-
-pub returns-clause-leaves : goal.returns-clause-leaves
-returns-clause-leaves g c has =
-    leaves_as_before _ _ _ _ _ _ _ _ verdict_is _ (state g.S.Store c.args.conn.now) (state g.S.Store c.query_all.new.self) (λ early. (has early).schema_is) c.query_all.ensures.survives
+pub returns-clause-asked : goal.returns-clause-asked
+returns-clause-asked g c =
+    queries g.S.Store c.args.conn.now c.query_all.new.self _ _ _ _ _ _ _ verdict_is _ c.query_all.result c.query_all.ensures.ok c.query_all.ensures.err c.query_all.ensures.survives _ _
+    (λ has answer. volume_found (state g.S.Store c.args.conn.now).now has c.args.cust c.args.volume verdict_terms c.query_all.result (rw (c.params-to_sql.ensures, c.params-to_sql-2.ensures) at answer))
 
 pub returns-clause-one : goal.returns-clause-one
-returns-clause-one g c clean has = volume_alone (state g.S.Store c.args.conn.now).now has c.args.cust c.args.volume verdict_shown c.query_all.result (returns-clause-found g c clean has)
-
-pub returns-clause-spared : goal.returns-clause-spared
-returns-clause-spared g c clean = spared_query _ _ (state g.S.Store c.args.conn.now) (state g.S.Store c.query_all.new.self) c.query_all.result (c.query_all.ensures.err clean)
-
-pub returns-clause-open : goal.returns-clause-open
-returns-clause-open g c clean = open_query _ _ (state g.S.Store c.args.conn.now) (state g.S.Store c.query_all.new.self) c.query_all.result (c.query_all.ensures.ok clean)
+returns-clause-one g c clean has = volume_alone (state g.S.Store c.args.conn.now).now has c.args.cust c.args.volume verdict_shown c.query_all.result ((returns-clause-asked g c).found clean has)

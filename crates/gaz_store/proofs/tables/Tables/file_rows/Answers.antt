@@ -8,5 +8,5 @@ pub returns : goal.returns
 returns g c =
     query_asks _ _ _ _ _ _ _ (λ db rows. FindsFile c.args.code c.args.volume (db.trees receiveds) rows.items)
     c.ready.ensures.asks c.in_default.ensures.ready
-    (rw (c.number.ensures.value, c.number-2.ensures.value) at c.file-found.ensures.found) c.file-found.ensures.stays c.file-found.ensures.spared c.file-found.ensures.leaves
+    (rw (c.number.ensures.value, c.number-2.ensures.value) at c.file-found.ensures.asked.found) c.file-found.ensures.asked.stays c.file-found.ensures.asked.spared c.file-found.ensures.asked.leaves
     refl refl c.told.ensures.tells

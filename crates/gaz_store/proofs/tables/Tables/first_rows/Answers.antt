@@ -8,5 +8,5 @@ pub returns : goal.returns
 returns g c =
     query_asks _ _ _ _ _ _ _ (λ db rows. FindsFirst 512 (db.trees versions) rows.items)
     c.ready.ensures.asks c.in_default.ensures.ready
-    c.first-found.ensures.found c.first-found.ensures.stays c.first-found.ensures.spared c.first-found.ensures.leaves
+    c.first-found.ensures.asked.found c.first-found.ensures.asked.stays c.first-found.ensures.asked.spared c.first-found.ensures.asked.leaves
     refl refl c.told.ensures.tells

@@ -9,5 +9,5 @@ pub returns : goal.returns
 returns g c =
     query_asks _ _ _ _ _ _ _ (λ db rows. FindsHolding c.args.code (number_of c.args.kind) c.args.start.now c.args.volume c.args.most (db.trees versions) rows.items)
     c.ready.ensures.asks c.in_default.ensures.ready
-    (rw (c.number-cust.ensures.value, c.number-kind.ensures) at c.holding-found.ensures.found) c.holding-found.ensures.stays c.holding-found.ensures.spared c.holding-found.ensures.leaves
+    (rw (c.number-cust.ensures.value, c.number-kind.ensures) at c.holding-found.ensures.asked.found) c.holding-found.ensures.asked.stays c.holding-found.ensures.asked.spared c.holding-found.ensures.asked.leaves
     refl refl c.told.ensures.tells

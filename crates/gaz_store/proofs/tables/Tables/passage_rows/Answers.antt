@@ -8,5 +8,5 @@ pub returns : goal.returns
 returns g c =
     query_asks _ _ _ _ _ _ _ (λ db rows. FindsCustodyBehind c.args.code c.args.id.now c.args.born c.args.most (db.trees versions) rows.items)
     c.ready.ensures.asks c.in_default.ensures.ready
-    (rw c.number-cust.ensures.value at c.behind-found.ensures.found) c.behind-found.ensures.stays c.behind-found.ensures.spared c.behind-found.ensures.leaves
+    (rw c.number-cust.ensures.value at c.behind-found.ensures.asked.found) c.behind-found.ensures.asked.stays c.behind-found.ensures.asked.spared c.behind-found.ensures.asked.leaves
     refl refl c.told.ensures.tells

@@ -8,5 +8,5 @@ pub returns : goal.returns
 returns g c =
     query_asks _ _ _ _ _ _ _ (λ db rows. FindsAbove c.args.code c.args.volume c.args.most (db.trees receiveds) rows.items)
     c.ready.ensures.asks c.in_default.ensures.ready
-    (rw c.number.ensures.value at c.above-found.ensures.found) c.above-found.ensures.stays c.above-found.ensures.spared c.above-found.ensures.leaves
+    (rw c.number.ensures.value at c.above-found.ensures.asked.found) c.above-found.ensures.asked.stays c.above-found.ensures.asked.spared c.above-found.ensures.asked.leaves
     refl refl c.told.ensures.tells

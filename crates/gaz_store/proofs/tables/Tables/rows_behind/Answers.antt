@@ -9,5 +9,5 @@ pub returns : goal.returns
 returns g c =
     query_asks _ _ _ _ _ _ _ (λ db rows. FindsBehind c.args.after 512 (db.trees versions) rows.items)
     c.ready.ensures.asks c.in_default.ensures.ready
-    (rw (to_z-of_z w64 c.args.after c.ranges.after) at c.behind-found.ensures.found) c.behind-found.ensures.stays c.behind-found.ensures.spared c.behind-found.ensures.leaves
+    (rw (to_z-of_z w64 c.args.after c.ranges.after) at c.behind-found.ensures.asked.found) c.behind-found.ensures.asked.stays c.behind-found.ensures.asked.spared c.behind-found.ensures.asked.leaves
     refl refl c.told.ensures.tells

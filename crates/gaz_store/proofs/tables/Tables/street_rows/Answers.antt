@@ -8,5 +8,5 @@ pub returns : goal.returns
 returns g c =
     query_asks _ _ _ _ _ _ _ (λ db rows. FindsApprovedOn c.args.code c.args.usrn c.args.start.now c.args.most (db.trees versions) rows.items)
     c.ready.ensures.asks c.in_default.ensures.ready
-    (rw (c.number-cust.ensures.value, c.number-street.ensures.value) at c.approved_on-found.ensures.found) c.approved_on-found.ensures.stays c.approved_on-found.ensures.spared c.approved_on-found.ensures.leaves
+    (rw (c.number-cust.ensures.value, c.number-street.ensures.value) at c.approved_on-found.ensures.asked.found) c.approved_on-found.ensures.asked.stays c.approved_on-found.ensures.asked.spared c.approved_on-found.ensures.asked.leaves
     refl refl c.told.ensures.tells
