@@ -36,7 +36,7 @@ pub fn rests<S: Alter>(conn: &Connection<S>) -> Result<()>
     Ok(())
 }
 
-/// Answers the requests of a reader over a store behind a connection.
+// Answers the requests of a reader over a store behind a connection.
 fn answer<S: Alter + Drop, R: Read, W: Write>(
     alloc: Global,
     conn: Connection<S>,
@@ -54,7 +54,7 @@ fn answer<S: Alter + Drop, R: Read, W: Write>(
     })
 }
 
-/// Why no conversation was held, or none; an error where its stream failed.
+// Why no conversation was held, or none; an error where its stream failed.
 fn refusal_of(held: Result<Result<Served, Stopped>, StoreRefusal>) -> Result<Option<StoreRefusal>> {
     match held {
         Ok(ended) => {
@@ -73,8 +73,8 @@ pub fn beginning_at(rt: &HostRuntime, path: &str) -> Beginning {
     }
 }
 
-/// The pages that are kept at hand of the file at this path, as many as the program keeps: all and
-/// half as many more, where they aren't too many.
+// The pages that are kept at hand of the file at this path, as many as the program keeps: all and
+// half as many more, where they aren't too many.
 fn pages_at(rt: &HostRuntime, path: &str) -> usize {
     let pages = match fs::metadata(rt, path) {
         Ok(found) => found.len() / PAGE,
@@ -117,7 +117,7 @@ impl<R: Read, W: Write> Work for Talk<'_, R, W> {
     }
 }
 
-/// Answers the requests of a reader over the store in a file, which is made where there is none.
+// Answers the requests of a reader over the store in a file, which is made where there is none.
 fn answer_at<R: Read, W: Write>(
     rt: &HostRuntime,
     path: &str,
@@ -156,8 +156,8 @@ pub fn stored(
     answer_at(rt, path, register, steps, read_from, &mut r, &mut w)
 }
 
-/// The first piece of what is left, and what is behind it: a line has its length in bytes, and the
-/// piece stands behind that line.
+// The first piece of what is left, and what is behind it: a line has its length in bytes, and the
+// piece stands behind that line.
 fn piece_of(left: &[u8]) -> Option<(&[u8], &[u8])> {
     let end = left.iter().position(|b| *b == b'\n')?;
     let (line, behind) = left.split_at_checked(end)?;

@@ -10,8 +10,8 @@ use gaz_ids::{Code, MOST_BYTES, Volume};
 use gaz_register::Register;
 use std::alloc::{AllocError, Global};
 
-/// Whether the hub takes in files of a profile: of 1, and of 2, in whose files numbers pass on (our
-/// profile).
+// Whether the hub takes in files of a profile: of 1, and of 2, in whose files numbers pass on (our
+// profile).
 fn is_admitted_profile(profile: u64) -> bool
     ensures { result ≡ is_admitted_profile profile }
 {

@@ -42,7 +42,7 @@ pub enum Next {
 }
 
 impl Next {
-    /// The volume that it waits for, if any.
+    // The volume that it waits for, if any.
     fn wanted(&self) -> Option<(Code, Volume)>
         ensures { result ≡ wanted_by self.now }
     {
@@ -71,7 +71,7 @@ pub fn next_file<K: Inbox>(keeper: &mut K, code: Code) -> Result<NextFile, Shelf
     }
 }
 
-/// The first basis line whose volume isn't reached.
+// The first basis line whose volume isn't reached.
 fn first_unreached<K: Shelf>(keeper: &mut K, bases: &[Basis]) -> Result<Option<Basis>, ShelfFault>
     ensures { LooksAtBoard K.seen keeper.old keeper.new result
         (λ board basis. basis ≡ first_unreached board bases.now) }
@@ -84,7 +84,7 @@ fn first_unreached<K: Shelf>(keeper: &mut K, bases: &[Basis]) -> Result<Option<B
     Ok(None)
 }
 
-/// What is to become of a good file that came as this volume.
+// What is to become of a good file that came as this volume.
 fn weigh<K: Shelf>(keeper: &mut K, volume: Volume, file: ChangeFile) -> Result<Next, ShelfFault>
     ensures { LooksAtBoard K.seen keeper.old keeper.new result
         (λ board. IsWeighed board volume file) }
@@ -131,7 +131,7 @@ pub fn look<K: Inbox>(alloc: Global, keeper: &mut K, code: Code) -> Result<Next,
     }
 }
 
-/// What a custodian's next volume waits for; nothing where it is ready, or after volume 999,999.
+// What a custodian's next volume waits for; nothing where it is ready, or after volume 999,999.
 fn wants<K: Inbox>(
     alloc: Global,
     keeper: &mut K,

@@ -24,8 +24,8 @@ fn ask_room(left: u64) -> Result<(), ShelfFault>
     Ok(())
 }
 
-/// Judges a custodian's next volume, where it is ready, and remembers what it waits for, where it
-/// waits; how many were judged, of at most `left`.
+// Judges a custodian's next volume, where it is ready, and remembers what it waits for, where it
+// waits; how many were judged, of at most `left`.
 fn judge_next<K: Inbox>(
     alloc: Global,
     register: &Register,
@@ -70,8 +70,8 @@ fn judge_next<K: Inbox>(
     }
 }
 
-/// Looks at these custodians one after another, and judges the next volume of each that is ready;
-/// how many were judged, of at most `left`.
+// Looks at these custodians one after another, and judges the next volume of each that is ready;
+// how many were judged, of at most `left`.
 fn judge_each<K: Inbox>(
     alloc: Global,
     register: &Register,
@@ -94,8 +94,8 @@ fn judge_each<K: Inbox>(
     Ok(judged)
 }
 
-/// Looks at all who are to be looked at, and judges the next volume of each that is ready; how many
-/// were judged, of at most `left`. Where none was, nobody is to be looked at any more.
+// Looks at all who are to be looked at, and judges the next volume of each that is ready; how many
+// were judged, of at most `left`. Where none was, nobody is to be looked at any more.
 fn settle_round<K: Inbox>(
     alloc: Global,
     register: &Register,

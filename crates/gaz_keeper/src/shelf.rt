@@ -20,7 +20,7 @@ use gaz_ids::{Code, Hop, Lang, Uprn, Usrn, Volume};
 use gaz_records::{Key, Kind, SharedItem};
 use gaz_views::{Custody, Property, Verdict};
 
-/// Keeps each custodian's views and verdicts, and at most one judgement in progress.
+/// A keeper: it keeps each custodian's views and verdicts, and at most one judgement in progress.
 ///
 /// Every call may answer a fault: `Memory`, or `Store`, which is counted. What is said of the
 /// content is said where the keeper stood for one before the call and nobody else wrote on it up to

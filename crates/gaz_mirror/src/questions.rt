@@ -12,7 +12,7 @@ pub(crate) trait Question {
     // An answer is right where this is the content, and these are the custodians' views.
     ghost is_right: { Self → Content → (ℕ → View) → Self.Answer → Type 0 };
 
-    /// Asks a keeper.
+    // Asks a keeper.
     fn ask<K: Inbox>(&self, keeper: &mut K) -> Result<Self::Answer, ShelfFault>
         ensures { Reads (K.seen keeper.old) (K.seen keeper.new) result
             (is_right self.now (K.seen keeper.old).content (view_of (K.seen keeper.old))) };

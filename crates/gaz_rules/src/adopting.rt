@@ -6,7 +6,7 @@ use gaz_addressable::{Text, TextFault};
 use gaz_records::{Blpu, Item, SharedItem};
 use std::alloc::{AllocError, Global};
 
-/// A postcode once more. What was read once reads again, so only memory can be wanting.
+// A postcode once more. What was read once reads again, so only memory can be wanting.
 fn postcode_of(alloc: Global, postcode: &Text<8>) -> Result<Text<8>, AllocError>
     ensures { IfOk result (λ text. text ≡ postcode.now) }
 {

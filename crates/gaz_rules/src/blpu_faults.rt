@@ -17,7 +17,7 @@ use gaz_ids::{Code, Status, Uprn};
 use gaz_keeper::{Shelf, ShelfFault};
 use gaz_records::{Blpu, Item, Key, SharedItem, item_in};
 
-/// Whether a BLPU's parent isn't there.
+// Whether a BLPU's parent isn't there.
 fn lacks_parent<K: Shelf>(keeper: &mut K, code: Code, blpu: &Blpu) -> Result<bool, ShelfFault>
     requires { IsJudging K.seen keeper.old code }
     ensures { ReadsView K.seen keeper.old keeper.new result
@@ -29,7 +29,7 @@ fn lacks_parent<K: Shelf>(keeper: &mut K, code: Code, blpu: &Blpu) -> Result<boo
     Ok(!is_there(keeper, code, &Key::Blpu(parent))?)
 }
 
-/// Whether a BLPU with this parent is on a ring; one without a parent is on none.
+// Whether a BLPU with this parent is on a ring; one without a parent is on none.
 fn is_own_ancestor<K: Shelf>(
     keeper: &mut K,
     code: Code,
@@ -54,7 +54,7 @@ fn is_filled(keys: &[Key]) -> bool
     !keys.is_empty()
 }
 
-/// Whether a BLPU of this status is historical and has an approved LPI.
+// Whether a BLPU of this status is historical and has an approved LPI.
 fn past_under_lpi<K: Shelf>(
     keeper: &mut K,
     code: Code,
@@ -102,7 +102,7 @@ pub(crate) fn blpu_faults<K: Shelf>(
     Ok(faults)
 }
 
-/// Whether an LPI or a cross reference names a BLPU.
+// Whether an LPI or a cross reference names a BLPU.
 fn is_tied<K: Shelf>(keeper: &mut K, code: Code, uprn: Uprn) -> Result<bool, ShelfFault>
     requires { IsJudging K.seen keeper.old code }
     ensures { ReadsView K.seen keeper.old keeper.new result (λ v b. b ≡ tied v uprn) }
@@ -110,7 +110,7 @@ fn is_tied<K: Shelf>(keeper: &mut K, code: Code, uprn: Uprn) -> Result<bool, She
     Ok(keeper.tied(code, uprn)?)
 }
 
-/// Whether a BLPU is a part of another.
+// Whether a BLPU is a part of another.
 fn has_parts<K: Shelf>(keeper: &mut K, code: Code, uprn: Uprn) -> Result<bool, ShelfFault>
     requires { IsJudging K.seen keeper.old code }
     ensures { ReadsView K.seen keeper.old keeper.new result (λ v b. b ≡ has_children v uprn) }

@@ -16,7 +16,7 @@ use gaz_records::{Adopt, Release};
 use gaz_register::Register;
 use gaz_views::Custody;
 
-/// Whether a number is held of which this became last, and which is or isn't of the own blocks.
+// Whether a number is held of which this became last, and which is or isn't of the own blocks.
 fn is_holding(allotted: bool, custody: &Option<Custody>) -> bool
     ensures { result ≡ is_holding allotted custody.now }
 {
@@ -27,7 +27,7 @@ fn is_holding(allotted: bool, custody: &Option<Custody>) -> bool
     }
 }
 
-/// How often a number had passed on of which this became last.
+// How often a number had passed on of which this became last.
 fn hop_of(custody: &Option<Custody>) -> u64
     ensures value { result ≡ hop_of custody.now }
     ensures range { result ≤ 9999 }
@@ -54,7 +54,7 @@ pub(crate) fn holds_number<K: Shelf>(
     Ok(is_holding(register.allotted(code, uprn), &custody))
 }
 
-/// The least rule that a release at a hop breaks of a number of which this became last.
+// The least rule that a release at a hop breaks of a number of which this became last.
 fn release_rule(allotted: bool, custody: &Option<Custody>, hop: Hop) -> Option<u8>
     ensures { result ≡ (if is_holding allotted custody.now
         then (if hop == hop_of custody.now + 1 then None else Some 40) else Some 20) }
@@ -86,7 +86,7 @@ pub(crate) fn release_breach<K: Shelf>(
     Ok(release_rule(allotted, &custody, release.hop))
 }
 
-/// The first basis line of a custodian.
+// The first basis line of a custodian.
 fn basis_of(bases: &[Basis], from: Code) -> Option<Basis>
     ensures { result ≡ find (λ b. b.custodian == from) bases.now }
 {
@@ -98,7 +98,7 @@ fn basis_of(bases: &[Basis], from: Code) -> Option<Basis>
     None
 }
 
-/// Whether this says that a number was released to a custodian at a hop.
+// Whether this says that a number was released to a custodian at a hop.
 fn is_released_to(code: Code, hop: Hop, custody: &Option<Custody>) -> bool
     ensures { result ≡ option_map_or (is_released_to code hop) custody.now false }
 {
@@ -110,7 +110,7 @@ fn is_released_to(code: Code, hop: Hop, custody: &Option<Custody>) -> bool
     }
 }
 
-/// What last became of a number after the volume that a basis line names, and never a newer one.
+// What last became of a number after the volume that a basis line names, and never a newer one.
 fn basis_custody<K: Shelf>(
     keeper: &mut K,
     basis: Basis,
@@ -124,8 +124,8 @@ fn basis_custody<K: Shelf>(
     Ok(keeper.custody_at(basis.custodian, volume, uprn)?)
 }
 
-/// Whether a number was released to a custodian at a hop, in the view on which the first basis line
-/// of the other one rests.
+// Whether a number was released to a custodian at a hop, in the view on which the first basis line
+// of the other one rests.
 fn was_released<K: Shelf>(
     keeper: &mut K,
     code: Code,
@@ -144,7 +144,7 @@ fn was_released<K: Shelf>(
     Ok(is_released_to(code, adopt.hop, &custody))
 }
 
-/// Whether a hop is greater than the own one of a number in the view that is judged.
+// Whether a hop is greater than the own one of a number in the view that is judged.
 fn is_later<K: Shelf>(keeper: &mut K, code: Code, uprn: Uprn, hop: Hop) -> Result<bool, ShelfFault>
     requires { IsJudging K.seen keeper.old code }
     ensures { ReadsView K.seen keeper.old keeper.new result

@@ -19,7 +19,7 @@ use gaz_ids::Code;
 use gaz_keeper::{Shelf, ShelfFault};
 use gaz_records::{Item, Key, SharedItem, key_of};
 
-/// The least rule that is broken.
+// The least rule that is broken.
 fn least(names: NameFaults, keys: KeyFaults) -> Option<u8>
     ensures { result ≡ first_broken (numbered names keys) }
 {
@@ -38,7 +38,7 @@ fn least(names: NameFaults, keys: KeyFaults) -> Option<u8>
     rules.iter().find(|rule| rule.1).map(|rule| rule.0)
 }
 
-/// What a key breaks under which this stands.
+// What a key breaks under which this stands.
 fn key_faults<K: Shelf>(
     keeper: &mut K,
     code: Code,
@@ -64,7 +64,7 @@ fn key_faults<K: Shelf>(
     }
 }
 
-/// The least end rule that a key breaks under which this stands.
+// The least end rule that a key breaks under which this stands.
 fn breach_at<K: Shelf>(
     keeper: &mut K,
     code: Code,

@@ -24,7 +24,7 @@ pub(crate) struct Fault {
     pub rule: u8,
 }
 
-/// Does the changes one after another, up to the first that doesn't fit.
+// Does the changes one after another, up to the first that doesn't fit.
 fn record_phase<K: Shelf>(
     alloc: Global,
     keeper: &mut K,
@@ -47,7 +47,7 @@ fn record_phase<K: Shelf>(
     Ok(None)
 }
 
-/// Looks for the first record whose key breaks an end rule.
+// Looks for the first record whose key breaks an end rule.
 fn end_phase<K: Shelf>(
     alloc: Global,
     keeper: &mut K,
@@ -68,7 +68,7 @@ fn end_phase<K: Shelf>(
     Ok(None)
 }
 
-/// Does a file's changes on the working view, and looks for its first fault.
+// Does a file's changes on the working view, and looks for its first fault.
 fn phases<K: Shelf>(
     alloc: Global,
     keeper: &mut K,
@@ -86,7 +86,7 @@ fn phases<K: Shelf>(
     end_phase(alloc, keeper, code, &file.bases, &file.changes)
 }
 
-/// Gives a judgement up, whatever the keeper answers.
+// Gives a judgement up, whatever the keeper answers.
 fn give_up<K: Shelf>(keeper: &mut K)
     requires { (K.seen keeper.old).progress ≢ Idle }
     ensures { GivesUp (K.seen keeper.old) (K.seen keeper.new) }
@@ -96,7 +96,7 @@ fn give_up<K: Shelf>(keeper: &mut K)
     };
 }
 
-/// Ends a judgement as rejected for a fault.
+// Ends a judgement as rejected for a fault.
 fn reject<K: Shelf>(keeper: &mut K, code: Code, fault: Fault) -> Result<Verdict, ShelfFault>
     requires { IsJudging K.seen keeper.old code }
     ensures { Concludes K.seen keeper.old keeper.new result code (Some fault) }
@@ -109,7 +109,7 @@ fn reject<K: Shelf>(keeper: &mut K, code: Code, fault: Fault) -> Result<Verdict,
     })
 }
 
-/// Ends a judgement as applied.
+// Ends a judgement as applied.
 fn apply<K: Shelf>(keeper: &mut K, code: Code) -> Result<Verdict, ShelfFault>
     requires { IsJudging K.seen keeper.old code }
     ensures { Concludes K.seen keeper.old keeper.new result code None }
@@ -118,7 +118,7 @@ fn apply<K: Shelf>(keeper: &mut K, code: Code) -> Result<Verdict, ShelfFault>
     Ok(Verdict::Applied)
 }
 
-/// Ends a judgement by what was found.
+// Ends a judgement by what was found.
 fn conclude<K: Shelf>(
     keeper: &mut K,
     code: Code,

@@ -60,7 +60,7 @@ pub(crate) fn is_there<K: Shelf>(keeper: &mut K, code: Code, key: &Key) -> Resul
     Ok(keeper.current(code, key)?.is_some())
 }
 
-/// Whether an approved LPI is on a street, in this language where one is given.
+// Whether an approved LPI is on a street, in this language where one is given.
 fn has_lpi_on<K: Shelf>(
     keeper: &mut K,
     code: Code,
@@ -73,7 +73,7 @@ fn has_lpi_on<K: Shelf>(
     Ok(keeper.approved_on(code, usrn, lang)?)
 }
 
-/// Whether a street is closed and an approved LPI is on it.
+// Whether a street is closed and an approved LPI is on it.
 fn closed_under_lpi<K: Shelf>(
     keeper: &mut K,
     code: Code,

@@ -32,7 +32,7 @@ impl LastStreet {
         LastStreet { answer: None }
     }
 
-    /// The answer, where it is about this street in this language.
+    // The answer, where it is about this street in this language.
     fn about(&self, usrn: Usrn, lang: Lang) -> Option<StreetFaults>
         ensures { (v : View) (others : List (ℕ × View)) → Recalls v others self.now
             → IfSome result (λ f. f ≡ street_faults v others usrn lang) }
@@ -46,7 +46,7 @@ impl LastStreet {
         None
     }
 
-    /// An answer about this street in this language is the last.
+    // An answer about this street in this language is the last.
     fn set(&mut self, usrn: Usrn, lang: Lang, faults: StreetFaults)
         ensures { (v : View) (others : List (ℕ × View)) → faults ≡ street_faults v others usrn lang
             → Recalls v others self.new }

@@ -35,7 +35,7 @@ pub(crate) struct NameFaults {
 }
 
 impl NameFaults {
-    /// At most that the BLPU isn't there.
+    // At most that the BLPU isn't there.
     fn of_blpu(lacks_blpu: bool) -> NameFaults
         ensures { result ≡ blpu_fault lacks_blpu }
     {
@@ -57,7 +57,7 @@ struct BlpuState {
     is_past: bool,
 }
 
-/// A BLPU in the view that is judged.
+// A BLPU in the view that is judged.
 fn blpu_state<K: Shelf>(keeper: &mut K, code: Code, uprn: Uprn) -> Result<BlpuState, ShelfFault>
     requires { IsJudging K.seen keeper.old code }
     ensures { ReadsView K.seen keeper.old keeper.new result (λ view s. s ≡ blpu_state view uprn) }
@@ -73,14 +73,14 @@ fn blpu_state<K: Shelf>(keeper: &mut K, code: Code, uprn: Uprn) -> Result<BlpuSt
     })
 }
 
-/// Whether some key is another.
+// Whether some key is another.
 fn any_other(keys: &[Key], key: &Key) -> bool
     ensures { result ≡ list_any (λ m. not (same_key m key.now)) keys.now }
 {
     keys.iter().any(|other| other.compare(key).is_ne())
 }
 
-/// Whether an approved LPI of a BLPU stands under another key.
+// Whether an approved LPI of a BLPU stands under another key.
 fn has_other<K: Shelf>(
     keeper: &mut K,
     code: Code,
@@ -95,7 +95,7 @@ fn has_other<K: Shelf>(
     Ok(any_other(&keys, key))
 }
 
-/// What an LPI breaks. Its BLPU is looked up once.
+// What an LPI breaks. Its BLPU is looked up once.
 fn lpi_faults<K: Shelf>(
     keeper: &mut K,
     code: Code,
@@ -125,7 +125,7 @@ fn lpi_faults<K: Shelf>(
     })
 }
 
-/// What a cross reference to a BLPU breaks.
+// What a cross reference to a BLPU breaks.
 fn xref_faults<K: Shelf>(keeper: &mut K, code: Code, uprn: Uprn) -> Result<NameFaults, ShelfFault>
     requires { IsJudging K.seen keeper.old code }
     ensures { ReadsView K.seen keeper.old keeper.new result

@@ -12,7 +12,7 @@ use gaz_keeper::{Shelf, ShelfFault};
 use gaz_records::{Adopt, Item, SharedItem, key_of};
 use std::alloc::Global;
 
-/// Sets an item in the working view, which shares it with the file.
+// Sets an item in the working view, which shares it with the file.
 fn put_shared<K: Shelf>(keeper: &mut K, code: Code, item: &SharedItem) -> Result<(), ShelfFault>
     requires judging { IsJudging K.seen keeper.old code }
     requires entry { is_entry item.now ≡ true }
@@ -22,7 +22,7 @@ fn put_shared<K: Shelf>(keeper: &mut K, code: Code, item: &SharedItem) -> Result
     keeper.put(shared)
 }
 
-/// Does a change of an entry on the working view.
+// Does a change of an entry on the working view.
 fn enter<K: Shelf>(keeper: &mut K, code: Code, change: &Change) -> Result<(), ShelfFault>
     requires judging { IsJudging K.seen keeper.old code }
     requires entry { is_entry change.now.item ≡ true }
@@ -35,7 +35,7 @@ fn enter<K: Shelf>(keeper: &mut K, code: Code, change: &Change) -> Result<(), Sh
     }
 }
 
-/// Adopts a property in the working view.
+// Adopts a property in the working view.
 fn adopt<K: Shelf>(
     alloc: Global,
     keeper: &mut K,

@@ -17,7 +17,7 @@ use gaz_keeper::{Shelf, ShelfFault};
 use gaz_records::{Item, Key, key_of};
 use gaz_register::Register;
 
-/// Whether an item's number isn't the custodian's, in the view that is judged.
+// Whether an item's number isn't the custodian's, in the view that is judged.
 fn is_outside<K: Shelf>(
     keeper: &mut K,
     register: &Register,
@@ -51,7 +51,7 @@ fn is_moved(old: &Item, new: &Item) -> bool
     }
 }
 
-/// The least rule that an insert under this key breaks, its number being the custodian's own.
+// The least rule that an insert under this key breaks, its number being the custodian's own.
 fn insert_breach<K: Shelf>(keeper: &mut K, code: Code, key: &Key) -> Result<Option<u8>, ShelfFault>
     requires { IsJudging K.seen keeper.old code }
     ensures { ReadsView K.seen keeper.old keeper.new result
@@ -63,7 +63,7 @@ fn insert_breach<K: Shelf>(keeper: &mut K, code: Code, key: &Key) -> Result<Opti
     Ok(None)
 }
 
-/// The least rule that an update to this item breaks, its number being the custodian's own.
+// The least rule that an update to this item breaks, its number being the custodian's own.
 fn update_breach<K: Shelf>(
     keeper: &mut K,
     code: Code,
@@ -81,7 +81,7 @@ fn update_breach<K: Shelf>(
     Ok(if is_moved(&old, item) { Some(24) } else { None })
 }
 
-/// The least rule that a deletion of this item breaks, its number being the custodian's own.
+// The least rule that a deletion of this item breaks, its number being the custodian's own.
 fn delete_breach<K: Shelf>(
     keeper: &mut K,
     code: Code,
@@ -98,7 +98,7 @@ fn delete_breach<K: Shelf>(
     Ok(if stays(item) { Some(23) } else { None })
 }
 
-/// The least record rule that a change of an entry breaks, its number being the custodian's own.
+// The least record rule that a change of an entry breaks, its number being the custodian's own.
 fn action_breach<K: Shelf>(
     keeper: &mut K,
     code: Code,
@@ -118,7 +118,7 @@ fn action_breach<K: Shelf>(
     }
 }
 
-/// The least record rule that a change of an entry breaks.
+// The least record rule that a change of an entry breaks.
 fn entry_breach<K: Shelf>(
     keeper: &mut K,
     register: &Register,

@@ -35,7 +35,7 @@ impl Walked {
         }
     }
 
-    /// Visits a BLPU, of which no ring is known so far. There is room for at most so many visits.
+    // Visits a BLPU, of which no ring is known so far. There is room for at most so many visits.
     fn visit(&mut self, uprn: Uprn) -> Result<(), AllocError>
         ensures visits { OnOk result ((q : ℕ) → visit_of self.new q
             ≡ cond (tree.is_at (nat_cmp uprn) q) (Some (length self.old.on_ring.items))
@@ -50,14 +50,14 @@ impl Walked {
         Ok(())
     }
 
-    /// When a BLPU was visited.
+    // When a BLPU was visited.
     fn visit_of(&self, uprn: Uprn) -> Option<usize>
         ensures { result ≡ visit_of self.now uprn }
     {
         self.visits.get(&uprn).copied()
     }
 
-    /// Whether a BLPU is on a ring, as far as it was visited.
+    // Whether a BLPU is on a ring, as far as it was visited.
     fn is_on_ring(&self, uprn: Uprn) -> bool
         ensures visited { (i : ℕ) (b : Bool) → visit_of self.now uprn ≡ Some i
             → slice_get self.now.on_ring.items i ≡ Some b → result ≡ b }
@@ -69,7 +69,7 @@ impl Walked {
         self.on_ring.get(visit).copied().unwrap_or(false)
     }
 
-    /// The BLPUs that were visited from here on are on a ring.
+    // The BLPUs that were visited from here on are on a ring.
     fn close_ring(&mut self, from: usize)
         ensures visits { self.new.visits ≡ self.old.visits }
         ensures before { (i : ℕ) → i < from
@@ -81,7 +81,7 @@ impl Walked {
     }
 }
 
-/// Sets the marks from one on.
+// Sets the marks from one on.
 fn mark_from(marks: &mut [bool], from: usize)
     ensures len { length marks.new ≡ length marks.old }
     ensures before { (i : ℕ) → i < from → slice_get marks.new i ≡ slice_get marks.old i }
@@ -92,7 +92,7 @@ fn mark_from(marks: &mut [bool], from: usize)
     }
 }
 
-/// The parent of a BLPU.
+// The parent of a BLPU.
 fn parent_of<K: Shelf>(keeper: &mut K, code: Code, uprn: Uprn) -> Result<Option<Uprn>, ShelfFault>
     requires { IsJudging K.seen keeper.old code }
     ensures { ReadsView K.seen keeper.old keeper.new result (λ view p. p ≡ parent_of view uprn) }
@@ -104,9 +104,9 @@ fn parent_of<K: Shelf>(keeper: &mut K, code: Code, uprn: Uprn) -> Result<Option<
     Ok(blpu.parent)
 }
 
-/// Walks up from a BLPU, to the top or to one that was visited, and marks those on a ring that this
-/// closes. Each turn visits one that wasn't, and takes memory for it: so the walk ends whatever the
-/// keeper answers.
+// Walks up from a BLPU, to the top or to one that was visited, and marks those on a ring that this
+// closes. Each turn visits one that wasn't, and takes memory for it: so the walk ends whatever the
+// keeper answers.
 fn walk<K: Shelf>(
     keeper: &mut K,
     code: Code,

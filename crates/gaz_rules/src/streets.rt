@@ -39,7 +39,7 @@ impl StreetState {
     }
 }
 
-/// A street in the view that is judged.
+// A street in the view that is judged.
 fn own_street<K: Shelf>(keeper: &mut K, code: Code, usrn: Usrn) -> Result<StreetState, ShelfFault>
     requires { IsJudging K.seen keeper.old code }
     ensures { ReadsView K.seen keeper.old keeper.new result (λ view s. s ≡ street_state view usrn) }
@@ -48,7 +48,7 @@ fn own_street<K: Shelf>(keeper: &mut K, code: Code, usrn: Usrn) -> Result<Street
     Ok(StreetState::of(&stored))
 }
 
-/// A street after the named volume of a basis custodian.
+// A street after the named volume of a basis custodian.
 fn basis_street<K: Shelf>(
     keeper: &mut K,
     basis: Basis,
@@ -77,8 +77,8 @@ struct Found {
     is_closed: bool,
 }
 
-/// Where a street is found: in the own view, else in the first basis view, in the order of the
-/// file, that has it.
+// Where a street is found: in the own view, else in the first basis view, in the order of the
+// file, that has it.
 fn find_street<K: Shelf>(
     keeper: &mut K,
     code: Code,
@@ -112,7 +112,7 @@ fn find_street<K: Shelf>(
     Ok(None)
 }
 
-/// Whether something stands under a key in the view at a place.
+// Whether something stands under a key in the view at a place.
 fn stands_at<K: Shelf>(
     keeper: &mut K,
     code: Code,

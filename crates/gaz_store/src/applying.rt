@@ -34,7 +34,7 @@ impl<S: Alter> Tables<S> {
         }
     }
 
-    /// The rows of a volume, and its mark.
+    // The rows of a volume, and its mark.
     fn write(&mut self, code: Code, volume: Volume, changes: &Overlay) -> Result<(), ShelfFault>
         ensures { AltersTables self.old self.new result (KeepsVolume code volume changes.now) }
     {

@@ -37,7 +37,7 @@ impl<S: Alter> Tables<S> {
         Ok(at_hand.held)
     }
 
-    /// Both, which are counted where they aren't at hand.
+    // Both, which are counted where they aren't at hand.
     fn counts(&mut self, code: Code) -> Result<AtHand, ShelfFault>
         ensures { Recalls self.old self.new result (λ db h. IsSo (db.trees receiveds) code h) }
     {
@@ -54,7 +54,7 @@ impl<S: Alter> Tables<S> {
         }
     }
 
-    /// Both, counted.
+    // Both, counted.
     fn count(&mut self, code: Code) -> Result<AtHand, ShelfFault>
         ensures { AsksTables self.old self.new result
             (λ db h. IsSo (db.trees receiveds) code h) }
@@ -66,8 +66,8 @@ impl<S: Alter> Tables<S> {
         }
     }
 
-    /// How many volumes of a custodian are judged: as these are the first ones, half of what is left
-    /// goes with each that is looked at.
+    // How many volumes of a custodian are judged: as these are the first ones, half of what is left
+    // goes with each that is looked at.
     fn count_judged(&mut self, code: Code) -> Result<u64, ShelfFault>
         ensures asks { AsksTables self.old self.new result
             (λ db n. n ≡ reached_in (db.trees receiveds) code) }
@@ -86,7 +86,7 @@ impl<S: Alter> Tables<S> {
         Ok(reached)
     }
 
-    /// Whether a volume is judged.
+    // Whether a volume is judged.
     fn is_judged(&mut self, code: Code, volume: u64) -> Result<bool, ShelfFault>
         requires { (1 ≤ volume) × (volume ≤ 999_999) }
         ensures { AsksTables self.old self.new result
@@ -99,7 +99,7 @@ impl<S: Alter> Tables<S> {
         Ok(verdict.is_some())
     }
 
-    /// How many files of a custodian are above a volume.
+    // How many files of a custodian are above a volume.
     fn count_above(&mut self, code: Code, volume: u64) -> Result<u64, ShelfFault>
         requires { volume ≤ 999_999 }
         ensures { AsksTables self.old self.new result

@@ -56,7 +56,7 @@ impl<S: Alter> Tables<S> {
         }
     }
 
-    /// The row of a volume, which nobody has judged.
+    // The row of a volume, which nobody has judged.
     fn add_file(&mut self, cust: u32, volume: u32, bytes: &[u8]) -> Result<(), ShelfFault>
         ensures { AltersTables self.old self.new result (Comes cust volume bytes.now) }
     {
@@ -67,7 +67,7 @@ impl<S: Alter> Tables<S> {
         self.told(done)
     }
 
-    /// Marks a volume rejected at a place by a rule.
+    // Marks a volume rejected at a place by a rule.
     fn reject(&mut self, cust: u32, volume: u32, place: i64, rule: u8) -> Result<(), ShelfFault>
         ensures { AltersTables self.old self.new result
             (Changes receiveds (Rejects cust volume place rule)) }

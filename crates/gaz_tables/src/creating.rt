@@ -12,7 +12,7 @@ ghost use Rattle.gaz_tables.specs.Stores.{StaysInside, Undoes, WasOpen};
 use crate::metas;
 use sqlite::{Alter, Connection, Error, Transaction};
 
-/// Makes the table `version`, within a transaction.
+// Makes the table `version`, within a transaction.
 fn make_version<S: Alter>(tx: &mut Transaction<'_, S>) -> Result<usize, Error>
     ensures same_reference { tx.new.conn.ghost_name ≡ tx.old.conn.ghost_name }
     ensures made { Grows S.Store tx.old.conn.now tx.new.conn.now no_schema with_version result }
@@ -28,7 +28,7 @@ fn make_version<S: Alter>(tx: &mut Transaction<'_, S>) -> Result<usize, Error>
     )
 }
 
-/// Makes the index of `blpu`, within a transaction.
+// Makes the index of `blpu`, within a transaction.
 fn make_by_blpu<S: Alter>(tx: &mut Transaction<'_, S>) -> Result<usize, Error>
     ensures same_reference { tx.new.conn.ghost_name ≡ tx.old.conn.ghost_name }
     ensures made { Grows S.Store tx.old.conn.now tx.new.conn.now with_version with_by_blpu result }
@@ -40,7 +40,7 @@ fn make_by_blpu<S: Alter>(tx: &mut Transaction<'_, S>) -> Result<usize, Error>
     )
 }
 
-/// Makes the index of `street`, within a transaction.
+// Makes the index of `street`, within a transaction.
 fn make_by_street<S: Alter>(tx: &mut Transaction<'_, S>) -> Result<usize, Error>
     ensures same_reference { tx.new.conn.ghost_name ≡ tx.old.conn.ghost_name }
     ensures made { Grows S.Store tx.old.conn.now tx.new.conn.now
@@ -53,7 +53,7 @@ fn make_by_street<S: Alter>(tx: &mut Transaction<'_, S>) -> Result<usize, Error>
     )
 }
 
-/// Makes the table `received`, within a transaction.
+// Makes the table `received`, within a transaction.
 fn make_received<S: Alter>(tx: &mut Transaction<'_, S>) -> Result<usize, Error>
     ensures same_reference { tx.new.conn.ghost_name ≡ tx.old.conn.ghost_name }
     ensures made { Grows S.Store tx.old.conn.now tx.new.conn.now
@@ -68,7 +68,7 @@ fn make_received<S: Alter>(tx: &mut Transaction<'_, S>) -> Result<usize, Error>
     )
 }
 
-/// Makes the table `meta`, within a transaction.
+// Makes the table `meta`, within a transaction.
 fn make_meta<S: Alter>(tx: &mut Transaction<'_, S>) -> Result<usize, Error>
     ensures same_reference { tx.new.conn.ghost_name ≡ tx.old.conn.ghost_name }
     ensures made { Grows S.Store tx.old.conn.now tx.new.conn.now with_received first_schema result }
@@ -81,7 +81,7 @@ fn make_meta<S: Alter>(tx: &mut Transaction<'_, S>) -> Result<usize, Error>
     )
 }
 
-/// Makes the table `version2`, within a transaction.
+// Makes the table `version2`, within a transaction.
 fn make_version2<S: Alter>(tx: &mut Transaction<'_, S>) -> Result<usize, Error>
     ensures same_reference { tx.new.conn.ghost_name ≡ tx.old.conn.ghost_name }
     ensures made { Widens S.Store tx.old.conn.now tx.new.conn.now
@@ -98,7 +98,7 @@ fn make_version2<S: Alter>(tx: &mut Transaction<'_, S>) -> Result<usize, Error>
     )
 }
 
-/// Makes the index of `blpu` in `version2`, within a transaction.
+// Makes the index of `blpu` in `version2`, within a transaction.
 fn make_by_blpu2<S: Alter>(tx: &mut Transaction<'_, S>) -> Result<usize, Error>
     ensures same_reference { tx.new.conn.ghost_name ≡ tx.old.conn.ghost_name }
     ensures made { Widens S.Store tx.old.conn.now tx.new.conn.now
@@ -111,7 +111,7 @@ fn make_by_blpu2<S: Alter>(tx: &mut Transaction<'_, S>) -> Result<usize, Error>
     )
 }
 
-/// Makes the index of `street` in `version2`, within a transaction.
+// Makes the index of `street` in `version2`, within a transaction.
 fn make_by_street2<S: Alter>(tx: &mut Transaction<'_, S>) -> Result<usize, Error>
     ensures same_reference { tx.new.conn.ghost_name ≡ tx.old.conn.ghost_name }
     ensures made { Widens S.Store tx.old.conn.now tx.new.conn.now
@@ -124,7 +124,7 @@ fn make_by_street2<S: Alter>(tx: &mut Transaction<'_, S>) -> Result<usize, Error
     )
 }
 
-/// Makes the table `version` and its indexes, within a transaction.
+// Makes the table `version` and its indexes, within a transaction.
 fn make_versions<S: Alter>(tx: &mut Transaction<'_, S>) -> Result<(), Error>
     ensures same_reference { tx.new.conn.ghost_name ≡ tx.old.conn.ghost_name }
     ensures made { Grows S.Store tx.old.conn.now tx.new.conn.now no_schema with_by_street result }
@@ -136,7 +136,7 @@ fn make_versions<S: Alter>(tx: &mut Transaction<'_, S>) -> Result<(), Error>
     Ok(())
 }
 
-/// Makes the tables `received` and `meta`, within a transaction.
+// Makes the tables `received` and `meta`, within a transaction.
 fn make_others<S: Alter>(tx: &mut Transaction<'_, S>) -> Result<(), Error>
     ensures same_reference { tx.new.conn.ghost_name ≡ tx.old.conn.ghost_name }
     ensures made { Grows S.Store tx.old.conn.now tx.new.conn.now
@@ -148,7 +148,7 @@ fn make_others<S: Alter>(tx: &mut Transaction<'_, S>) -> Result<(), Error>
     Ok(())
 }
 
-/// Makes the tables of schema 1 and their indexes, within a transaction.
+// Makes the tables of schema 1 and their indexes, within a transaction.
 fn make_first<S: Alter>(tx: &mut Transaction<'_, S>) -> Result<(), Error>
     ensures same_reference { tx.new.conn.ghost_name ≡ tx.old.conn.ghost_name }
     ensures made { Grows S.Store tx.old.conn.now tx.new.conn.now no_schema first_schema result }
@@ -172,7 +172,7 @@ pub(crate) fn make_second<S: Alter>(tx: &mut Transaction<'_, S>) -> Result<(), E
     Ok(())
 }
 
-/// Makes the tables, their indexes and the row of `meta`, within a transaction.
+// Makes the tables, their indexes and the row of `meta`, within a transaction.
 fn furnish<S: Alter>(tx: &mut Transaction<'_, S>, number: u32, register: &str) -> Result<(), Error>
     ensures same_reference { tx.new.conn.ghost_name ≡ tx.old.conn.ghost_name }
     ensures made { Furnishes S.Store tx.old.conn.now tx.new.conn.now number register.now result }

@@ -12,7 +12,7 @@ use crate::creating::make_second;
 use crate::metas;
 use sqlite::{Alter, Connection, Error, Transaction};
 
-/// Copies each row of `version` into `version2`, with hop 0, within a transaction.
+// Copies each row of `version` into `version2`, with hop 0, within a transaction.
 fn copy_rows<S: Alter>(tx: &mut Transaction<'_, S>) -> Result<usize, Error>
     ensures same_reference { tx.new.conn.ghost_name ≡ tx.old.conn.ghost_name }
     ensures copied { WritesInside S.Store tx.old.conn.now tx.new.conn.now
@@ -25,7 +25,7 @@ fn copy_rows<S: Alter>(tx: &mut Transaction<'_, S>) -> Result<usize, Error>
     )
 }
 
-/// Takes out every row of `version`, within a transaction.
+// Takes out every row of `version`, within a transaction.
 fn empty_rows<S: Alter>(tx: &mut Transaction<'_, S>) -> Result<usize, Error>
     ensures same_reference { tx.new.conn.ghost_name ≡ tx.old.conn.ghost_name }
     ensures emptied { WritesInside S.Store tx.old.conn.now tx.new.conn.now
@@ -35,7 +35,7 @@ fn empty_rows<S: Alter>(tx: &mut Transaction<'_, S>) -> Result<usize, Error>
     tx.execute("DELETE FROM version", &[])
 }
 
-/// Moves the rows of `version` into `version2`, within a transaction.
+// Moves the rows of `version` into `version2`, within a transaction.
 fn move_rows<S: Alter>(tx: &mut Transaction<'_, S>) -> Result<(), Error>
     ensures same_reference { tx.new.conn.ghost_name ≡ tx.old.conn.ghost_name }
     ensures moved { MovesInside S.Store tx.old.conn.now tx.new.conn.now result }
@@ -46,8 +46,8 @@ fn move_rows<S: Alter>(tx: &mut Transaction<'_, S>) -> Result<(), Error>
     Ok(())
 }
 
-/// Makes what schema 2 has beside schema 1, moves the rows there, and says so in `meta`, within a
-/// transaction.
+// Makes what schema 2 has beside schema 1, moves the rows there, and says so in `meta`, within a
+// transaction.
 fn refit<S: Alter>(tx: &mut Transaction<'_, S>, number: u32, register: &str) -> Result<(), Error>
     ensures same_reference { tx.new.conn.ghost_name ≡ tx.old.conn.ghost_name }
     ensures migrated { MigratesInside S.Store tx.old.conn.now tx.new.conn.now
