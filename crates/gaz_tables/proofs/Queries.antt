@@ -28,7 +28,7 @@ pub queries : {S : Type 0} (g : Ghosts S) (old new : Held S) (sql : List ℕ) (n
 queries g old new sql names tree tests project order limit text params r ok err survives table IsAnswer tells = record {
   found = λ clean has. tells has (answers store_schema sql names tree tests project order limit text params (state g old) (state g new) has.schema_is r (ok clean));
   stays = λ clean has. stays store_schema sql names tree tests project order limit text params (state g old) (state g new) has.schema_is r (ok clean);
-  open = λ clean. open_query sql params (state g old) (state g new) r (ok clean);
+  was_open = λ clean. open_query sql params (state g old) (state g new) r (ok clean);
   spared = λ clean. spared_query sql params (state g old) (state g new) r (err clean);
   leaves = λ has. leaves_as_before store_schema sql names tree tests project order limit text params (state g old) (state g new) (λ early. (has early).schema_is) survives;
 }

@@ -117,6 +117,6 @@ pub record Queries {S : Type 0} (g : Ghosts S) (before after : Held S) (table : 
     : Type 0 where
   pub found : Finds g before after table result IsAnswer
   pub stays : Stays g before after result
-  pub open : WasOpen g before after result
+  pub was_open : WasOpen g before after result
   pub spared : Spares g before after result
   pub leaves : LeavesAsBefore g before after
