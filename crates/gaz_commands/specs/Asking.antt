@@ -7,7 +7,7 @@ use Rattle.gaz_ids.specs.Numbers.{read_id}
 use Rattle.gaz_hub.specs.Step.{Command, Pose, Submit}
 use Rattle.gaz_hub.specs.declared.question.Question.TheVariants.{Extract, LookUp, Stand}
 use Rattle.gaz_commands.specs.Saying.{turned_away}
-use Rattle.gaz_commands.specs.declared.printed.DoorRefusal.TheVariants as door
+use Rattle.gaz_hub.specs.declared.refusal.DoorRefusal.TheVariants as door
 use Rattle.gaz_commands.specs.declared.printed.PrintedLine.TheVariants as line
 use Rattle.gaz_commands.specs.declared.said.Fault.TheVariants as fault
 use Rattle.gaz_commands.specs.declared.said.Said.{Said}

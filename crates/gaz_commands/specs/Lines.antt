@@ -2,29 +2,19 @@
 use Rattle.std.specs.Prelude.{ℕ, Bool, true, false, List, ◌++◌, codes, Option, Some, None}
 use Rattle.std.specs.Fmt.{decimal}
 use Rattle.hex.specs.Hex.{encode_lower}
+use Rattle.gaz_hub.specs.DoorNumbers.{door_number}
 use Rattle.gaz_hub.specs.declared.outcome.Outcome.{Outcome}
 use Rattle.gaz_hub.specs.declared.outcome.Outcome.TheVariants.{Applied, Rejected, Held}
 use Rattle.gaz_hub.specs.declared.standing.Standing.{Standing}
 use Rattle.gaz_register.specs.declared.growth.GrowFault.{GrowFault}
 use Rattle.gaz_register.specs.declared.growth.GrowFault.TheVariants.{RemovedCustodian}
 use Rattle.gaz_register.specs.declared.growth.GrowFault.TheVariants.{ChangedBlocks}
-use Rattle.gaz_commands.specs.declared.printed.DoorRefusal.{DoorRefusal}
-use Rattle.gaz_commands.specs.declared.printed.DoorRefusal.TheVariants.{UnknownCustodian}
-use Rattle.gaz_commands.specs.declared.printed.DoorRefusal.TheVariants.{BadVolume, TooLarge}
-use Rattle.gaz_commands.specs.declared.printed.DoorRefusal.TheVariants.{UnknownProfile}
 use Rattle.gaz_commands.specs.declared.printed.PrintedLine.{PrintedLine}
 use Rattle.gaz_commands.specs.declared.printed.PrintedLine.TheVariants.{Ready, New, Repeat, Taken}
 use Rattle.gaz_commands.specs.declared.printed.PrintedLine.TheVariants.{Stands, Address, Nothing}
 use Rattle.gaz_commands.specs.declared.printed.PrintedLine.TheVariants.{Refused, Extended}
 use Rattle.gaz_commands.specs.declared.printed.PrintedLine.TheVariants.{NotExtended, Migrated}
 use Rattle.gaz_commands.specs.declared.printed.PrintedLine.TheVariants.{Current}
-
--- the number of a refusal
-abbrev pub number_of : DoorRefusal → ℕ
-number_of UnknownCustodian = 11
-number_of BadVolume = 12
-number_of TooLarge = 13
-number_of UnknownProfile = 16
 
 -- the number that is told where a register is no growth of another
 abbrev pub growth_number : GrowFault → ℕ
@@ -72,7 +62,7 @@ line_text (Taken digest) = codes "taken " ++ hex_text digest
 line_text (Stands standing) = standing_text standing
 line_text (Address line) = line
 line_text Nothing = codes "none"
-line_text (Refused refusal) = codes "refused " ++ decimal (number_of refusal)
+line_text (Refused refusal) = codes "refused " ++ decimal (door_number refusal)
 
 -- what became of a file is that all its changes stand
 abbrev pub is_applied : Outcome → Bool

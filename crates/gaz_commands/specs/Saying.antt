@@ -10,8 +10,7 @@ use Rattle.gaz_hub.specs.declared.refusal.Refusal.TheVariants as refusal
 use Rattle.gaz_hub.specs.declared.question.Told.{Told}
 use Rattle.gaz_hub.specs.declared.question.Told.TheVariants as told
 use Rattle.gaz_commands.specs.Lines.{is_done, line_text}
-use Rattle.gaz_commands.specs.declared.printed.DoorRefusal.{DoorRefusal}
-use Rattle.gaz_commands.specs.declared.printed.DoorRefusal.TheVariants as door
+use Rattle.gaz_hub.specs.declared.refusal.DoorRefusal.{DoorRefusal}
 use Rattle.gaz_commands.specs.declared.printed.PrintedLine.TheVariants as line
 use Rattle.gaz_commands.specs.declared.said.Fault.{Fault}
 use Rattle.gaz_commands.specs.declared.said.Fault.TheVariants as fault
@@ -24,10 +23,7 @@ turned_away refusal = said.Line (line.Refused refusal)
 
 -- what is said of a refusal: those of the door are printed, the others are faults
 abbrev pub said_refused : Refusal → Said
-said_refused refusal.UnknownCustodian = turned_away door.UnknownCustodian
-said_refused refusal.BadVolume = turned_away door.BadVolume
-said_refused refusal.TooLarge = turned_away door.TooLarge
-said_refused refusal.UnknownProfile = turned_away door.UnknownProfile
+said_refused (refusal.Door why) = turned_away why
 said_refused (refusal.NotReceived cause) = said.Failed fault.NotReceived
 said_refused (refusal.ReceivedUnsettled cause) = said.Failed fault.ReceivedUnsettled
 

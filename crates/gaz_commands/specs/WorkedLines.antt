@@ -11,7 +11,7 @@ use Rattle.gaz_hub.specs.declared.standing.Standing.{Standing}
 use Rattle.gaz_register.specs.declared.growth.GrowFault.TheVariants as growth
 use Rattle.gaz_commands.specs.Asking.{asks_address, asks_extract, asks_standing, asks_to_submit}
 use Rattle.gaz_commands.specs.Saying.{error_of, said_to, status_of, text_of, turned_away}
-use Rattle.gaz_commands.specs.declared.printed.DoorRefusal.TheVariants as door
+use Rattle.gaz_hub.specs.declared.refusal.DoorRefusal.TheVariants as door
 use Rattle.gaz_commands.specs.declared.printed.PrintedLine.TheVariants as line
 use Rattle.gaz_commands.specs.declared.said.Fault.TheVariants as fault
 use Rattle.gaz_commands.specs.declared.said.Said.{Said}
@@ -36,10 +36,10 @@ pub record WorkedSubmissions : Type 0 where
   pub held : Answers (answer.New (Held 1001 2)) (codes "new held wants 1001/2\n") 1
   pub held_again : Answers (answer.Repeat (Held 1001 2)) (codes "repeat held wants 1001/2\n") 1
   pub taken : Answers (answer.Taken (0 ∷ 10 ∷ 255 ∷ [])) (codes "taken 000aff\n") 1
-  pub unknown : Answers (answer.Refused refusal.UnknownCustodian) (codes "refused 11\n") 1
-  pub no_volume : Answers (answer.Refused refusal.BadVolume) (codes "refused 12\n") 1
-  pub too_large : Answers (answer.Refused refusal.TooLarge) (codes "refused 13\n") 1
-  pub other_profile : Answers (answer.Refused refusal.UnknownProfile) (codes "refused 16\n") 1
+  pub unknown : Answers (answer.Refused (refusal.Door door.UnknownCustodian)) (codes "refused 11\n") 1
+  pub no_volume : Answers (answer.Refused (refusal.Door door.BadVolume)) (codes "refused 12\n") 1
+  pub too_large : Answers (answer.Refused (refusal.Door door.TooLarge)) (codes "refused 13\n") 1
+  pub other_profile : Answers (answer.Refused (refusal.Door door.UnknownProfile)) (codes "refused 16\n") 1
   pub not_received : Prints (Submitted (answer.Refused (refusal.NotReceived cause.Store))) []
       (codes "gazhub: NotReceived\n") 3
   pub unsettled : Prints (Submitted (answer.Refused (refusal.ReceivedUnsettled cause.Memory))) []
@@ -55,13 +55,13 @@ pub record WorkedQuestions : Type 0 where
   pub stands_for_good : Prints
       (Replied (Stand 1001) (Ok (record standing { held = 0; wants = None })))
       (codes "custodian 1001 judged 2 held 0 wants -\n") [] 0
-  pub unknown : Prints (Replied (Stand 9999) (Err refusal.UnknownCustodian))
+  pub unknown : Prints (Replied (Stand 9999) (Err (refusal.Door door.UnknownCustodian)))
       (codes "refused 11\n") [] 1
   pub not_there : Prints (Replied (LookUp 42) (Ok None)) (codes "none\n") [] 1
   pub extract : Prints (Replied (Extract 1001 1) (Ok (Some (codes "99,0\n"))))
       (codes "99,0\n") [] 0
   pub not_reached : Prints (Replied (Extract 1001 1) (Ok None)) (codes "none\n") [] 1
-  pub no_volume : Prints (Replied (Extract 1001 0) (Err refusal.BadVolume))
+  pub no_volume : Prints (Replied (Extract 1001 0) (Err (refusal.Door door.BadVolume)))
       (codes "refused 12\n") [] 1
   pub failed : Prints (Replied (LookUp 42) (Err (refusal.NotReceived cause.Memory))) []
       (codes "gazhub: NotReceived\n") 3

@@ -7,9 +7,9 @@ ghost use Rattle.gaz_commands.specs.Asking.{asks_to_submit};
 ghost use Rattle.gaz_commands.specs.Obeying.{IsAnswered, Obeys};
 
 use crate::numbers::{code_named, uprn_named, volume_named};
-use crate::printed::{DoorRefusal, PrintedLine};
+use crate::printed::PrintedLine;
 use crate::said::{Fault, Said, turned_away};
-use gaz_hub::{Hub, Question};
+use gaz_hub::{DoorRefusal, Hub, Question};
 use gaz_keeper::Inbox;
 
 /// Submits a change file, whose bytes are given where it could be read.

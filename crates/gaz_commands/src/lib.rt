@@ -10,6 +10,6 @@ mod printing;
 mod said;
 
 pub use commands::{extract, line, status, submit};
-pub use printed::{DoorRefusal, PrintedLine};
+pub use printed::PrintedLine;
 pub use printing::print;
 pub use said::{Fault, Said};

@@ -1,41 +1,14 @@
 //! The lines that commands print.
 ghost use Rattle.std.specs.Prelude.{◌≡◌, Some};
 ghost use Rattle.gaz_commands.specs.Lines.{became_text, growth_number, hex_text, is_done};
-ghost use Rattle.gaz_commands.specs.Lines.{line_text, number_of, pair_text, standing_text};
+ghost use Rattle.gaz_commands.specs.Lines.{line_text, pair_text, standing_text};
 ghost use Rattle.gaz_commands.specs.Lines.{wanted_text};
 
 use gaz_extract::AddressLine;
-use gaz_hub::{Digest, Outcome, Standing};
+use gaz_hub::{Digest, DoorRefusal, Outcome, Standing};
 use gaz_ids::{Code, Volume};
 use gaz_register::GrowFault;
 use std::fmt;
-
-/// Why the hub's door, or a word that doesn't read, turned a command away.
-#[derive(Clone, Copy)]
-pub enum DoorRefusal {
-    /// 11: no custodian's code.
-    UnknownCustodian,
-    /// 12: no volume number.
-    BadVolume,
-    /// 13: over 1,048,576 bytes.
-    TooLarge,
-    /// 16: the file names a profile that isn't known.
-    UnknownProfile,
-}
-
-impl DoorRefusal {
-    /// The number that is printed.
-    pub fn number(self) -> u8
-        ensures { result ≡ number_of self }
-    {
-        match self {
-            DoorRefusal::UnknownCustodian => 11,
-            DoorRefusal::BadVolume => 12,
-            DoorRefusal::TooLarge => 13,
-            DoorRefusal::UnknownProfile => 16,
-        }
-    }
-}
 
 // The number that is printed where a register is no growth of a store's.
 fn growth_number(fault: GrowFault) -> u8
@@ -72,6 +45,7 @@ pub enum PrintedLine {
     Address(AddressLine),
     /// What is asked for isn't there.
     Nothing,
+    /// By the hub's door, or since a word doesn't read.
     Refused(DoorRefusal),
 }
 

@@ -3,9 +3,9 @@ ghost use Rattle.std.specs.Prelude.{◌≡◌};
 ghost use Rattle.gaz_commands.specs.Saying.{error_line, error_of, said_address, said_of};
 ghost use Rattle.gaz_commands.specs.Saying.{said_of_told, said_refused, said_told, status_of};
 
-use crate::printed::{DoorRefusal, PrintedLine};
+use crate::printed::PrintedLine;
 use gaz_extract::AddressLine;
-use gaz_hub::{Answer, ExtractText, Refusal, Told};
+use gaz_hub::{Answer, DoorRefusal, ExtractText, Refusal, Told};
 
 /// A fault, which standard error names.
 #[derive(Clone, Copy, PartialEq, Eq)]
@@ -114,10 +114,7 @@ impl Said {
         ensures { result ≡ said_refused refusal }
     {
         match refusal {
-            Refusal::UnknownCustodian => turned_away(DoorRefusal::UnknownCustodian),
-            Refusal::BadVolume => turned_away(DoorRefusal::BadVolume),
-            Refusal::TooLarge => turned_away(DoorRefusal::TooLarge),
-            Refusal::UnknownProfile => turned_away(DoorRefusal::UnknownProfile),
+            Refusal::Door(why) => turned_away(why),
             Refusal::NotReceived(_) => Said::Failed(Fault::NotReceived),
             Refusal::ReceivedUnsettled(_) => Said::Failed(Fault::ReceivedUnsettled),
         }

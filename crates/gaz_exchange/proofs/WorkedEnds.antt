@@ -1,19 +1,19 @@
 -- The worked examples on how a conversation ends.
-use Rattle.std.proofs.Common.{◌≡◌, ◌≢◌, ℕ, ◌+◌, true, false, List, [], ◌∷◌, ◌++◌, length, Some, None, Option, inl, inr, refl, ap, sym, ◌∙◌, arith, codes, append_assoc, length-append}
+use Rattle.std.proofs.Common.{◌≡◌, ℕ, ◌+◌, true, false, List, [], ◌∷◌, ◌++◌, length, Some, None, Option, inl, inr, refl, ap, sym, ◌∙◌, arith, codes, length-append}
 use Rattle.std.specs.Prelude.{take, drop}
 use Rattle.httparse.proofs.OnLiterals.{httparse_on_literals}
 use Rattle.httparse.proofs.GrammarLemmas.{request_unique}
-use Rattle.gaz_exchange.specs.Conversing.{AnswersAll, ComesTo, EndsByReply, StopsAnswering, StopsRefusing, StopsWaiting, ended_after}
+use Rattle.gaz_exchange.specs.Conversing.{AnswersAll, ComesTo, StopsAnswering}
 use Rattle.gaz_exchange.specs.Exchanges.{Exchange, replies}
 use Rattle.gaz_exchange.specs.Framing.{is_closing, length_of}
 use Rattle.gaz_exchange.specs.Heads.{IsOver, NoHead, is_blank}
-use Rattle.gaz_exchange.specs.Refusals.{HasHead, IsRefused, IsUnfinished, no_memory, bad_length}
+use Rattle.gaz_exchange.specs.Refusals.{HasHead, IsRefused, no_memory, bad_length}
 use Rattle.gaz_exchange.specs.WorkedStreams.{lost, lost_bytes}
-use Rattle.gaz_exchange.specs.WorkedEnds.{WorkedAll, WorkedEndings, WorkedEnds, WorkedReads, WorkedStops, answered, broken_off, nothing, served, stopped}
+use Rattle.gaz_exchange.specs.WorkedEnds.{WorkedAll, WorkedEndings, WorkedEnds, WorkedReads, WorkedStops, answered, broken_off, served, stopped}
 use Rattle.gaz_exchange.specs.declared.conversation.Ended.TheVariants.{Most, Closed, InputEnd}
 use Rattle.gaz_exchange.specs.declared.fault.Fault.TheVariants.{NotReceived}
 use Rattle.gaz_exchange.specs.declared.framing.Framing.TheVariants.{Length, Refused}
-use Rattle.gaz_exchange.specs.declared.supply.Cause.TheVariants.{ReadFault, WriteFault}
+use Rattle.gaz_exchange.specs.declared.supply.Cause.TheVariants.{WriteFault}
 use Rattle.gaz_exchange.proofs.EndLaws.{head_inside}
 use Rattle.gaz_exchange.proofs.WorkedStreams.{lost_head, lost_request}
 

@@ -3,7 +3,7 @@ ghost use Rattle.gaz_exchange.specs.Faults.{fault_of};
 ghost use Rattle.gaz_exchange.specs.Replies.{reply_text};
 ghost use Rattle.gaz_exchange.specs.declared.reply.Reply.TheVariants as Reply;
 
-use gaz_hub::Refusal;
+use gaz_hub::{DoorRefusal, Refusal};
 
 /// The methods that a target takes.
 #[derive(Clone, Copy, PartialEq, Eq)]
@@ -15,14 +15,8 @@ pub enum Allowed {
 /// Why a request was refused.
 #[derive(Clone, Copy, PartialEq, Eq)]
 pub enum Fault {
-    /// 11: the register doesn't hold the code.
-    UnknownCustodian,
-    /// 12: no volume number.
-    BadVolume,
-    /// 13: over 1,048,576 bytes.
-    TooLarge,
-    /// 16: the file names a profile that isn't known.
-    UnknownProfile,
+    /// 11, 12, 13 and 16: by the hub's door.
+    Door(DoorRefusal),
     /// 17: what is asked for isn't there.
     NotThere,
     /// 40: no head of a request, no lawful `Content-Length`, or an input that ends within it.
@@ -44,10 +38,7 @@ impl From<Refusal> for Fault {
 
     fn from(refusal: Refusal) -> Fault {
         match refusal {
-            Refusal::UnknownCustodian => Fault::UnknownCustodian,
-            Refusal::BadVolume => Fault::BadVolume,
-            Refusal::TooLarge => Fault::TooLarge,
-            Refusal::UnknownProfile => Fault::UnknownProfile,
+            Refusal::Door(why) => Fault::Door(why),
             Refusal::NotReceived(_) => Fault::NotReceived,
             Refusal::ReceivedUnsettled(_) => Fault::Unsettled,
         }
@@ -99,6 +90,18 @@ impl Allowed {
     }
 }
 
+// The whole reply where the hub's door refused.
+fn door_text(why: DoorRefusal, is_last: bool) -> &'static str
+    ensures { result.now ≡ reply_text (Reply.Refused (Fault.Door why)) is_last }
+{
+    match why {
+        DoorRefusal::UnknownCustodian => refusal!(is_last, "404 Not Found", "", "11"),
+        DoorRefusal::BadVolume => refusal!(is_last, "404 Not Found", "", "12"),
+        DoorRefusal::TooLarge => refusal!(is_last, "413 Content Too Large", "", "13"),
+        DoorRefusal::UnknownProfile => refusal!(is_last, "415 Unsupported Media Type", "", "16"),
+    }
+}
+
 impl Fault {
     /// The whole reply, which takes no memory; `is_last` where the conversation ends after it.
     ///
@@ -110,10 +113,7 @@ impl Fault {
         ensures { result.now ≡ reply_text (Reply.Refused self) is_last }
     {
         match self {
-            Fault::UnknownCustodian => refusal!(is_last, "404 Not Found", "", "11"),
-            Fault::BadVolume => refusal!(is_last, "404 Not Found", "", "12"),
-            Fault::TooLarge => refusal!(is_last, "413 Content Too Large", "", "13"),
-            Fault::UnknownProfile => refusal!(is_last, "415 Unsupported Media Type", "", "16"),
+            Fault::Door(why) => door_text(why, is_last),
             Fault::NotThere => refusal!(is_last, "404 Not Found", "", "17"),
             Fault::BadRequest => refusal!(is_last, "400 Bad Request", "", "40"),
             Fault::NoRoute => refusal!(is_last, "404 Not Found", "", "41"),

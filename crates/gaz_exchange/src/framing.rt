@@ -6,6 +6,7 @@ ghost use Rattle.gaz_exchange.specs.Framing.{is_post_method, length_in, size_in}
 
 use crate::fault::Fault;
 use crate::headers::{find_value, how_many};
+use gaz_hub::DoorRefusal;
 use gaz_ids::MOST_BYTES;
 use gaz_ids::digits::are_digits;
 use httparse::spans::HeaderSpan;
@@ -52,7 +53,7 @@ fn size_of(value: &[u8]) -> Framing
     }
     match limited_value(value) {
         Some(size) => Framing::Length(size),
-        None => Framing::Refused(Fault::TooLarge),
+        None => Framing::Refused(Fault::Door(DoorRefusal::TooLarge)),
     }
 }
 

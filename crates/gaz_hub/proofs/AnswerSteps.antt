@@ -20,7 +20,8 @@ use Rattle.gaz_hub.specs.Stops.{is_taken_in}
 use Rattle.gaz_hub.specs.declared.answer.Answer.{Answer}
 use Rattle.gaz_hub.specs.declared.answer.Answer.TheVariants.{New, Repeat, Taken, Refused}
 use Rattle.gaz_hub.specs.declared.outcome.Outcome.{Outcome}
-use Rattle.gaz_hub.specs.declared.refusal.Refusal.{Refusal}
+use Rattle.gaz_hub.specs.declared.refusal.DoorRefusal.{DoorRefusal}
+use Rattle.gaz_hub.specs.declared.refusal.DoorRefusal.TheVariants as at_door
 use Rattle.gaz_hub.specs.declared.refusal.Refusal.TheVariants as refusal
 use Rattle.gaz_hub.proofs.Advancing.{may_keep}
 use Rattle.gaz_hub.proofs.Answers.{reads_standing}
@@ -30,7 +31,7 @@ use Rattle.gaz_hub.proofs.Stopping.{stops_judging, stops_not_received, stops_rec
 
 -- ---- the door
 
-or_none : (foreign : Bool) (o : Option Refusal) → or_foreign foreign o ≡ None → o ≡ None
+or_none : (foreign : Bool) (o : Option DoorRefusal) → or_foreign foreign o ≡ None → o ≡ None
 or_none foreign None e = refl
 or_none foreign (Some r) e = cc
 
@@ -38,7 +39,7 @@ or_none foreign (Some r) e = cc
 pub early_let_in : (d : Door) (c volume : ℕ) (bytes : List ℕ) → file_refusal d c volume bytes ≡ None → turned_away d c volume (length bytes) ≡ None
 early_let_in d c volume bytes e = or_none (d.is_foreign bytes) (turned_away d c volume (length bytes)) e
 
-pub known_at : (b : Bool) (o : Option Refusal) → cond (not b) (Some refusal.UnknownCustodian) o ≡ None → b ≡ true
+pub known_at : (b : Bool) (o : Option DoorRefusal) → cond (not b) (Some at_door.UnknownCustodian) o ≡ None → b ≡ true
 known_at true o e = refl
 known_at false o e = cc
 
@@ -234,10 +235,7 @@ module _ (d : Door) (old mid new : HubState) (c volume : ℕ) (bytes : List ℕ)
   submits_from (Taken digest) let_in free w = let no : Some w.others ≡ None = sym w.there ∙ free in cc
   submits_from (Refused (refusal.NotReceived cause)) let_in free w = was_not_received w
   submits_from (Refused (refusal.ReceivedUnsettled cause)) let_in free w = was_unsettled w
-  submits_from (Refused refusal.UnknownCustodian) let_in free w = let no : Some refusal.UnknownCustodian ≡ None = sym w.refused ∙ let_in in cc
-  submits_from (Refused refusal.BadVolume) let_in free w = let no : Some refusal.BadVolume ≡ None = sym w.refused ∙ let_in in cc
-  submits_from (Refused refusal.TooLarge) let_in free w = let no : Some refusal.TooLarge ≡ None = sym w.refused ∙ let_in in cc
-  submits_from (Refused refusal.UnknownProfile) let_in free w = let no : Some refusal.UnknownProfile ≡ None = sym w.refused ∙ let_in in cc
+  submits_from (Refused (refusal.Door why)) let_in free w = let no : Some why ≡ None = sym w.refused ∙ let_in in cc
 
 -- what declines a file that the door lets in leaves any hub as it is
 declined_stays : (d : Door) (c volume : ℕ) (bytes : List ℕ) (answer : Answer) → file_refusal d c volume bytes ≡ None → IsPastDoor answer → is_declined (Submitted answer) ≡ true → (hub : HubState)
@@ -248,10 +246,7 @@ declined_stays d c volume bytes (Taken digest) let_in past is hub = absurd (true
 declined_stays d c volume bytes (Refused (refusal.NotReceived cause)) let_in past is hub =
     record { let_in = early_let_in d c volume bytes let_in; received = refl; board = follows_itself (blocks d) _ _ _ refl }
 declined_stays d c volume bytes (Refused (refusal.ReceivedUnsettled cause)) let_in past is hub = absurd (true≢false (sym is))
-declined_stays d c volume bytes (Refused refusal.UnknownCustodian) let_in past is hub = absurd (true≢false (sym past))
-declined_stays d c volume bytes (Refused refusal.BadVolume) let_in past is hub = absurd (true≢false (sym past))
-declined_stays d c volume bytes (Refused refusal.TooLarge) let_in past is hub = absurd (true≢false (sym past))
-declined_stays d c volume bytes (Refused refusal.UnknownProfile) let_in past is hub = absurd (true≢false (sym past))
+declined_stays d c volume bytes (Refused (refusal.Door why)) let_in past is hub = absurd (true≢false (sym past))
 
 pub taken_in : (d : Door) (a b c : Seen) (code volume : ℕ) (bytes : List ℕ) (answer : Answer) → file_refusal d code volume bytes ≡ None
     → Tells {T = Option Answer} d a b (Ok None) (IsAgain b.content.files b.content.board code volume bytes) → TakesIn d b c code volume bytes answer → IsPastDoor answer

@@ -11,6 +11,7 @@ use Rattle.gaz_hub.specs.Step.{Command, Door, HubState, Pose, Refuses, Replied, 
 use Rattle.gaz_hub.specs.declared.answer.Answer.{Answer}
 use Rattle.gaz_hub.specs.declared.answer.Answer.TheVariants.{New, Repeat, Taken, Refused}
 use Rattle.gaz_hub.specs.declared.question.Question.{Question}
+use Rattle.gaz_hub.specs.declared.refusal.DoorRefusal.{DoorRefusal}
 use Rattle.gaz_hub.specs.declared.refusal.Refusal.{Refusal}
 use Rattle.gaz_hub.specs.declared.refusal.Refusal.TheVariants as refusal
 use Rattle.gaz_hub.proofs.Orders.{any_order_holds}
@@ -19,7 +20,7 @@ use Rattle.gaz_hub.proofs.Steps.{and_false, closed_door, goes}
 
 -- ---- what is received
 
-came : (F G K : Received) (o : Option (List ℕ)) (p : Option Refusal) (b : Bool) → o ≡ None → p ≡ None → b ≡ true → K ≡ G → K ≡ cond (is_none o && (is_none p && b)) G F
+came : (F G K : Received) (o : Option (List ℕ)) (p : Option DoorRefusal) (b : Bool) → o ≡ None → p ≡ None → b ≡ true → K ≡ G → K ≡ cond (is_none o && (is_none p && b)) G F
 came F G K o p b e f h k = k ∙ sym (λ i. cond (is_none (e i) && (is_none (f i) && h i)) G F)
 
 was_there : (F G K : Received) (o : Option (List ℕ)) (there : List ℕ) (b : Bool) → o ≡ Some there → K ≡ F → K ≡ cond (is_none o && b) G F
@@ -29,7 +30,7 @@ kept_out : (F G K : Received) (a b : Bool) → b ≡ false → K ≡ F → K ≡
 kept_out F G K a b e k = k ∙ sym (ap (λ x. cond (a && x) G F) e ∙ ap (λ x. cond x G F) (and_false a))
 
 module _ (d : Door) (old new : HubState) (c volume : ℕ) (bytes : List ℕ) where
-  shut : (r : Refusal) (b : Bool) → file_refusal d c volume bytes ≡ Some r → new ≡ old
+  shut : (r : DoorRefusal) (b : Bool) → file_refusal d c volume bytes ≡ Some r → new ≡ old
       → new.received ≡ cond (is_none (map.get old.received (c, volume)) && (is_none (file_refusal d c volume bytes) && b)) (with_file old.received c volume bytes) old.received
   shut r b e same =
       kept_out old.received (with_file old.received c volume bytes) new.received _ _ (closed_door (file_refusal d c volume bytes) r b e) (ap (λ (h : HubState). h.received) same)
@@ -41,18 +42,12 @@ module _ (d : Door) (old new : HubState) (c volume : ℕ) (bytes : List ℕ) whe
   submitted_then (Refused (refusal.NotReceived cause)) s =
       kept_out old.received (with_file old.received c volume bytes) new.received _ _ (and_false (is_none (file_refusal d c volume bytes))) s.received
   submitted_then (Refused (refusal.ReceivedUnsettled cause)) s = came old.received (with_file old.received c volume bytes) new.received _ _ true s.free s.let_in refl s.received
-  submitted_then (Refused refusal.UnknownCustodian) s = shut _ true s.refused s.same
-  submitted_then (Refused refusal.BadVolume) s = shut _ true s.refused s.same
-  submitted_then (Refused refusal.TooLarge) s = shut _ true s.refused s.same
-  submitted_then (Refused refusal.UnknownProfile) s = shut _ true s.refused s.same
+  submitted_then (Refused (refusal.Door why)) s = shut _ true s.refused s.same
 
 refused_then : (d : Door) (old : HubState) (q : Question) (r : Refusal) (new : HubState) → Refuses d old q r new → new.received ≡ old.received
 refused_then d old q (refusal.NotReceived cause) new s = s.received
 refused_then d old q (refusal.ReceivedUnsettled cause) new s = absurd s
-refused_then d old q refusal.UnknownCustodian new s = ap (λ (h : HubState). h.received) s.same
-refused_then d old q refusal.BadVolume new s = ap (λ (h : HubState). h.received) s.same
-refused_then d old q refusal.TooLarge new s = ap (λ (h : HubState). h.received) s.same
-refused_then d old q refusal.UnknownProfile new s = ap (λ (h : HubState). h.received) s.same
+refused_then d old q (refusal.Door why) new s = ap (λ (h : HubState). h.received) s.same
 
 -- what a step receives
 pub received_then : (d : Door) (old : HubState) (command : Command) (response : Response) (new : HubState) → Step d old command response new

@@ -16,7 +16,7 @@ use Rattle.gaz_hub.specs.Standing.{HasAllOf, IsPartial}
 use Rattle.gaz_hub.specs.Step.{Command, Door, HubState, Pose, Replied, Response, Step, Submit, Submitted, blocks, file_refusal}
 use Rattle.gaz_hub.specs.Stops.{IsLater, IsLaterWith, IsLeftAfter, IsLeftBy, IsLeftOnceTold}
 use Rattle.gaz_hub.specs.declared.answer.Answer.TheVariants.{New, Repeat, Taken, Refused}
-use Rattle.gaz_hub.specs.declared.refusal.Refusal.{Refusal}
+use Rattle.gaz_hub.specs.declared.refusal.DoorRefusal.{DoorRefusal}
 use Rattle.gaz_hub.specs.declared.refusal.Refusal.TheVariants as refusal
 use Rattle.gaz_hub.proofs.AnswerSteps.{is_known, known_with}
 use Rattle.gaz_hub.proofs.Receiving.{all_told, run_has_all}
@@ -26,7 +26,7 @@ use Rattle.gaz_hub.proofs.Steps.{goes, has_all_with, pairs_same}
 
 -- ---- who is known
 
-known_if : (d : Door) (p q : ℕ × ℕ) (volume : ℕ) (bytes : List ℕ) (same late : Bool) (o : Option Refusal) → (same ≡ true → p ≡ q) → (o ≡ None → knows d.register q.0 ≡ true)
+known_if : (d : Door) (p q : ℕ × ℕ) (volume : ℕ) (bytes : List ℕ) (same late : Bool) (o : Option DoorRefusal) → (same ≡ true → p ≡ q) → (o ≡ None → knows d.register q.0 ≡ true)
     → is_some (cond (same && (is_none o && late)) (Some bytes) None) ≡ true → knows d.register p.0 ≡ true
 known_if d p q volume bytes true true None is known h = ap (λ (x : ℕ × ℕ). knows d.register x.0) (is refl) ∙ known refl
 known_if d p q volume bytes true false None is known h = absurd (true≢false (sym h))
@@ -116,10 +116,7 @@ module _ (d : Door) (before last : HubState) (commands earlier later : List Comm
         one_more = record { c = c; volume = volume; bytes = bytes; command_is = refl; let_in = l.1.let_in; free = l.1.free; files_are = l.1.later.files };
       })
   since_files (Submit c volume bytes) (Submitted (Refused (refusal.ReceivedUnsettled cause))) k e f run since (inr l) = absurd (true≢false (sym l.0))
-  since_files (Submit c volume bytes) (Submitted (Refused refusal.UnknownCustodian)) k e f run since (inr l) = absurd (true≢false (sym l.0))
-  since_files (Submit c volume bytes) (Submitted (Refused refusal.BadVolume)) k e f run since (inr l) = absurd (true≢false (sym l.0))
-  since_files (Submit c volume bytes) (Submitted (Refused refusal.TooLarge)) k e f run since (inr l) = absurd (true≢false (sym l.0))
-  since_files (Submit c volume bytes) (Submitted (Refused refusal.UnknownProfile)) k e f run since (inr l) = absurd (true≢false (sym l.0))
+  since_files (Submit c volume bytes) (Submitted (Refused (refusal.Door why))) k e f run since (inr l) = absurd (true≢false (sym l.0))
   since_files (Submit c volume bytes) (Replied q reply) k e f run since l = inl l.files
   since_files (Pose q) response k e f run since l = inl l.files
 

@@ -33,8 +33,8 @@ use Rattle.gaz_hub.specs.Standing.{IsPartial, Leads, judge_one, with_next}
 use Rattle.gaz_hub.specs.Step.{Command, HubState, Pose, Submit, answer_to, question_refusal, refusal_at_door, turned_away, or_foreign}
 use Rattle.gaz_hub.specs.declared.question.Question.{Question}
 use Rattle.gaz_hub.specs.declared.question.Question.TheVariants.{Ask, Extract, ListClosed, LookUp, Settle, Stand}
-use Rattle.gaz_hub.specs.declared.refusal.Refusal.{Refusal}
-use Rattle.gaz_hub.specs.declared.refusal.Refusal.TheVariants.{UnknownCustodian}
+use Rattle.gaz_hub.specs.declared.refusal.DoorRefusal.{DoorRefusal}
+use Rattle.gaz_hub.specs.declared.refusal.DoorRefusal.TheVariants.{UnknownCustodian}
 use Rattle.gaz_hub.proofs.Orders.{ready_gives}
 
 -- ---- custodians by rising code
@@ -235,7 +235,7 @@ module _ (old grown : RegisterValue) (is_old : IsRegister old) (is_grown : IsReg
 
 module _ (old grown : RegisterValue) (more : Extends old grown) where
   -- where the code is known, what else is asked at the door tells
-  known_in : (c : ℕ) (unknown : Refusal) (else_told : Option Refusal) → cond (not (knows old c)) (Some unknown) else_told ≡ None → cond (not (knows grown c)) (Some unknown) else_told ≡ None
+  known_in : (c : ℕ) (unknown : DoorRefusal) (else_told : Option DoorRefusal) → cond (not (knows old c)) (Some unknown) else_told ≡ None → cond (not (knows grown c)) (Some unknown) else_told ≡ None
   known_in c unknown else_told e =
       elim (knows old c) as (λ b. knows old c ≡ b → cond (not b) (Some unknown) else_told ≡ None → cond (not (knows grown c)) (Some unknown) else_told ≡ None) [
         | true ↦ λ t told. ap (λ b. cond (not b) (Some unknown) else_told) (more.custodians c t) ∙ told
@@ -248,7 +248,7 @@ module _ (old grown : RegisterValue) (more : Extends old grown) where
   away_in : (c volume size : ℕ) → turned_away (door_of old) c volume size ≡ None → turned_away (door_of grown) c volume size ≡ None
   away_in c volume size e = known_in c UnknownCustodian _ e
 
-  file_in : (foreign : Bool) (was is : Option Refusal) → (was ≡ None → is ≡ None) → or_foreign foreign was ≡ None → or_foreign foreign is ≡ None
+  file_in : (foreign : Bool) (was is : Option DoorRefusal) → (was ≡ None → is ≡ None) → or_foreign foreign was ≡ None → or_foreign foreign is ≡ None
   file_in foreign (Some r) is to e = let joined_later : Some r ≡ None = e in cc
   file_in foreign None is to e = ap (or_foreign foreign) (to refl) ∙ e
 

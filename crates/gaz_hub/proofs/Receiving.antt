@@ -49,10 +49,7 @@ taken_there d old new c volume bytes (Submitted (Refused (refusal.ReceivedUnsett
 taken_there d old new c volume bytes (Submitted (Repeat told)) s is = absurd (true≢false (sym is))
 taken_there d old new c volume bytes (Submitted (Taken digest)) s is = absurd (true≢false (sym is))
 taken_there d old new c volume bytes (Submitted (Refused (refusal.NotReceived cause))) s is = absurd (true≢false (sym is))
-taken_there d old new c volume bytes (Submitted (Refused refusal.UnknownCustodian)) s is = absurd (true≢false (sym is))
-taken_there d old new c volume bytes (Submitted (Refused refusal.BadVolume)) s is = absurd (true≢false (sym is))
-taken_there d old new c volume bytes (Submitted (Refused refusal.TooLarge)) s is = absurd (true≢false (sym is))
-taken_there d old new c volume bytes (Submitted (Refused refusal.UnknownProfile)) s is = absurd (true≢false (sym is))
+taken_there d old new c volume bytes (Submitted (Refused (refusal.Door why))) s is = absurd (true≢false (sym is))
 taken_there d old new c volume bytes (Replied q reply) s is = absurd (true≢false (sym is))
 
 pub run_received : (d : Door) (old new : HubState) (commands : List Command) (responses : List Response) → Run d old commands responses new → HasReceived commands responses new.received
@@ -79,10 +76,7 @@ left_once d old new (Submit c volume bytes) (Submitted (Taken digest)) k s (inr 
 left_once d old new (Submit c volume bytes) (Submitted (Refused (refusal.NotReceived cause))) k s (inr l) = inr (refl, l)
 left_once d old new (Submit c volume bytes) (Submitted (Refused (refusal.ReceivedUnsettled cause))) k s (inr l) =
     let no : Some bytes ≡ None = sym (there_now old.received new.received c volume bytes s.received) ∙ l.free in cc
-left_once d old new (Submit c volume bytes) (Submitted (Refused refusal.UnknownCustodian)) k s (inr l) = let no : Some refusal.UnknownCustodian ≡ None = sym s.refused ∙ l.let_in in cc
-left_once d old new (Submit c volume bytes) (Submitted (Refused refusal.BadVolume)) k s (inr l) = let no : Some refusal.BadVolume ≡ None = sym s.refused ∙ l.let_in in cc
-left_once d old new (Submit c volume bytes) (Submitted (Refused refusal.TooLarge)) k s (inr l) = let no : Some refusal.TooLarge ≡ None = sym s.refused ∙ l.let_in in cc
-left_once d old new (Submit c volume bytes) (Submitted (Refused refusal.UnknownProfile)) k s (inr l) = let no : Some refusal.UnknownProfile ≡ None = sym s.refused ∙ l.let_in in cc
+left_once d old new (Submit c volume bytes) (Submitted (Refused (refusal.Door why))) k s (inr l) = let no : Some why ≡ None = sym s.refused ∙ l.let_in in cc
 left_once d old new (Submit c volume bytes) (Replied q reply) k s l = absurd s
 left_once d old new (Pose q) response k s l = l
 
@@ -107,10 +101,7 @@ module _ (d : Door) (old new : HubState) (files : Received) (all : HasAllOf file
     one_told (Submitted (Taken digest)) s has = record { others = s.others; there = all (c, volume) s.others s.there; differ = s.differ; digest_is = s.digest_is }
     one_told (Submitted (Refused (refusal.NotReceived cause))) s has = tt
     one_told (Submitted (Refused (refusal.ReceivedUnsettled cause))) s has = has refl
-    one_told (Submitted (Refused refusal.UnknownCustodian)) s has = tt
-    one_told (Submitted (Refused refusal.BadVolume)) s has = tt
-    one_told (Submitted (Refused refusal.TooLarge)) s has = tt
-    one_told (Submitted (Refused refusal.UnknownProfile)) s has = tt
+    one_told (Submitted (Refused (refusal.Door why))) s has = tt
     one_told (Replied q reply) s has = tt
 
     all_next : (response : Response) → Step d old (Submit c volume bytes) response new → (is_taken_in response ≡ true → map.get files (c, volume) ≡ Some bytes) → HasAllOf files new.received
@@ -119,10 +110,7 @@ module _ (d : Door) (old new : HubState) (files : Received) (all : HasAllOf file
     all_next (Submitted (Taken digest)) s has = same_all s.received
     all_next (Submitted (Refused (refusal.NotReceived cause))) s has = same_all s.received
     all_next (Submitted (Refused (refusal.ReceivedUnsettled cause))) s has = subst (HasAllOf files) (sym s.received) (all_with files old.received c volume bytes all (has refl))
-    all_next (Submitted (Refused refusal.UnknownCustodian)) s has = same_all (ap (λ (h : HubState). h.received) s.same)
-    all_next (Submitted (Refused refusal.BadVolume)) s has = same_all (ap (λ (h : HubState). h.received) s.same)
-    all_next (Submitted (Refused refusal.TooLarge)) s has = same_all (ap (λ (h : HubState). h.received) s.same)
-    all_next (Submitted (Refused refusal.UnknownProfile)) s has = same_all (ap (λ (h : HubState). h.received) s.same)
+    all_next (Submitted (Refused (refusal.Door why))) s has = same_all (ap (λ (h : HubState). h.received) s.same)
     all_next (Replied q reply) s has = absurd s
 
 -- files that have what was there before, and that of each command that was answered New or 52, have what each was told of

@@ -1,12 +1,11 @@
 -- Questions that are answered as steps.
 use Rattle.std.proofs.Common.{◌≡◌, refl, sym, ap, ◌∙◌, subst, true≢false}
 use Rattle.std.specs.Prelude.{Some, None, Result, Ok, Err, is_some}
-use Rattle.std.specs.Option.{option_and_then}
 use Rattle.gaz_keeper.specs.Keeper.{Content, IsOpen, Seen}
 use Rattle.gaz_keeper.specs.declared.fault.ShelfFault.{ShelfFault}
 use Rattle.gaz_keeper.specs.declared.fault.ShelfFault.TheVariants.{Store}
 use Rattle.gaz_extract.specs.Readings.{Looks}
-use Rattle.gaz_hub.specs.Hubs.{MeetsDoor, StandsFor, Steps, cause_in, or_not_received, state_of}
+use Rattle.gaz_hub.specs.Hubs.{MeetsDoor, StandsFor, Steps, or_not_received, state_of}
 use Rattle.gaz_hub.specs.Settling.{AnswersSettled, Tells}
 use Rattle.gaz_hub.specs.Standing.{NothingReady}
 use Rattle.gaz_hub.specs.Step.{Door, HubState, Pose, Replied, Step, Told, answer_to, blocks, question_refusal}
@@ -92,7 +91,7 @@ module _ {T : Type 0} (d : Door) (q : Question) (say : T → Told q) (reply : Re
       (record {
         early = λ r e. let no : Some r ≡ None = sym e ∙ let_in in cc;
         late = λ r e. let no : Some r ≡ None = sym e ∙ let_in in absurd (true≢false (ap is_some no));
-        only = λ r e n. cc;
+        only = λ why e. let no : None ≡ Some (refusal.Door why) = e in cc;
         unasked = λ h. absurd (true≢false (sym h ∙ ap is_some let_in));
       })
   door_read old new (Err fault) =
@@ -100,7 +99,7 @@ module _ {T : Type 0} (d : Door) (q : Question) (say : T → Told q) (reply : Re
       (record {
         early = λ r e. let no : Some r ≡ None = sym e ∙ let_in in cc;
         late = λ r e. let no : Some r ≡ None = sym e ∙ let_in in absurd (true≢false (ap is_some no));
-        only = λ r e n. let no : Some fault ≡ None = ap (option_and_then cause_in) e ∙ n in cc;
+        only = λ why e. let no : Some (refusal.NotReceived fault) ≡ Some (refusal.Door why) = e in cc;
         unasked = λ h. absurd (true≢false (sym h ∙ ap is_some let_in));
       })
 

@@ -1,5 +1,5 @@
 -- What one step keeps.
-use Rattle.std.proofs.Common.{◌≡◌, ℕ, Bool, true, false, cond, not, ◌&&◌, List, refl, sym, ap, ◌∙◌, subst, true≢false, is_none}
+use Rattle.std.proofs.Common.{◌≡◌, ℕ, Bool, true, false, cond, ◌&&◌, List, refl, sym, ap, ◌∙◌, subst, true≢false, is_none}
 use Rattle.std.specs.Prelude.{Option, Some, None, Ok, Err}
 use Rattle.std.specs.Option.{option_or}
 use Rattle.std.specs.Cmp.{Equal-is}
@@ -8,10 +8,11 @@ use Rattle.gaz_keeper.specs.Board.{Board}
 use Rattle.gaz_keeper.specs.Received.{Received, pair_cmp, with_file}
 use Rattle.gaz_hub.specs.Standing.{HasAllOf, Follows, NothingReady}
 use Rattle.gaz_hub.specs.Step.{Command, Door, HubState, NotReceived, Pose, Refuses, Replied, Response, Settles, Step, Submit, Submits, Submitted, Told, TurnedAway, WasAsked, blocks, file_refusal}
-use Rattle.gaz_hub.specs.Runs.{accepted, is_settled, same_pair, is_answered_51}
+use Rattle.gaz_hub.specs.Runs.{accepted, is_settled, same_pair}
 use Rattle.gaz_hub.specs.declared.answer.Answer.{Answer}
 use Rattle.gaz_hub.specs.declared.answer.Answer.TheVariants.{New, Repeat, Taken, Refused}
 use Rattle.gaz_hub.specs.declared.question.Question.{Question}
+use Rattle.gaz_hub.specs.declared.refusal.DoorRefusal.{DoorRefusal}
 use Rattle.gaz_hub.specs.declared.refusal.Refusal.{Refusal}
 use Rattle.gaz_hub.specs.declared.refusal.Refusal.TheVariants as refusal
 use Rattle.gaz_keeper.proofs.Pairs.{pairs_total, pairs_exact}
@@ -70,10 +71,10 @@ refused_first : (F K : Received) (p : ℕ × ℕ) (b ok : Bool) (bytes : List �
 refused_first F K p true ok bytes out same = ap (λ X. map.get X p) same ∙ or_none _ ∙ ap (λ x. option_or (map.get F p) (cond x (Some bytes) None)) (sym out)
 refused_first F K p false ok bytes out same = ap (λ X. map.get X p) same ∙ or_none _
 
-let_in_once : (o : Option Refusal) (b : Bool) → o ≡ None → b ≡ true → (is_none o && b) ≡ true
+let_in_once : (o : Option DoorRefusal) (b : Bool) → o ≡ None → b ≡ true → (is_none o && b) ≡ true
 let_in_once o b e h = ap (λ x. is_none x && b) e ∙ h
 
-pub closed_door : (o : Option Refusal) (r : Refusal) (b : Bool) → o ≡ Some r → (is_none o && b) ≡ false
+pub closed_door : (o : Option DoorRefusal) (r : DoorRefusal) (b : Bool) → o ≡ Some r → (is_none o && b) ≡ false
 closed_door o r b e = ap (λ x. is_none x && b) e
 
 settles_in : (d : Door) (F K : Received) (old new : Board) → K ≡ F → Settles d F old new → Follows (blocks d) K old new × NothingReady K new
@@ -109,10 +110,10 @@ from_not_received d old new asked command response n open_still first =
       first = first;
     }
 
-turned_goes : (d : Door) (old new : HubState) (c volume : ℕ) (bytes : List ℕ) (r : Refusal) → is_answered_51 (Refused r) ≡ false → TurnedAway d old (Submit c volume bytes) r new
-    → Goes d old (Submit c volume bytes) (Submitted (Refused r)) new
-turned_goes d old new c volume bytes r is t =
-    from_same d old new _ _ t.same refl (λ p. refused_first old.received new.received p _ _ bytes (closed_door (file_refusal d c volume bytes) r (not (is_answered_51 (Refused r))) t.refused) (ap (λ h. h.received) t.same))
+turned_goes : (d : Door) (old new : HubState) (c volume : ℕ) (bytes : List ℕ) (why : DoorRefusal) → TurnedAway d old (Submit c volume bytes) why new
+    → Goes d old (Submit c volume bytes) (Submitted (Refused (refusal.Door why))) new
+turned_goes d old new c volume bytes why t =
+    from_same d old new _ _ t.same refl (λ p. refused_first old.received new.received p _ _ bytes (closed_door (file_refusal d c volume bytes) why true t.refused) (ap (λ h. h.received) t.same))
 
 still : (d : Door) (old : HubState) (command : Command) (new : HubState) (response : Response) → new ≡ old → is_settled response ≡ false
     → ((p : ℕ × ℕ) → accepted d p command response ≡ None) → Goes d old command response new
@@ -124,10 +125,7 @@ refuses_goes : (d : Door) (old : HubState) (q p : Question) (r : Refusal) (new :
 refuses_goes d old q p (refusal.NotReceived cause) new s =
     from_not_received d old new _ (Pose q) _ s refl (λ k. ap (λ X. map.get X k) s.received ∙ or_none _)
 refuses_goes d old q p (refusal.ReceivedUnsettled cause) new s = absurd s
-refuses_goes d old q p refusal.UnknownCustodian new s = still d old (Pose q) new _ s.same refl (λ k. refl)
-refuses_goes d old q p refusal.BadVolume new s = still d old (Pose q) new _ s.same refl (λ k. refl)
-refuses_goes d old q p refusal.TooLarge new s = still d old (Pose q) new _ s.same refl (λ k. refl)
-refuses_goes d old q p refusal.UnknownProfile new s = still d old (Pose q) new _ s.same refl (λ k. refl)
+refuses_goes d old q p (refusal.Door why) new s = still d old (Pose q) new _ s.same refl (λ k. refl)
 
 submits_goes : (d : Door) (old : HubState) (c volume : ℕ) (bytes : List ℕ) (answer : Answer) (new : HubState) → Submits d old c volume bytes answer new
     → Goes d old (Submit c volume bytes) (Submitted answer) new
@@ -154,10 +152,7 @@ submits_goes d old c volume bytes (Refused (refusal.ReceivedUnsettled cause)) ne
       settled = λ y. absurd (true≢false (sym y));
       first = λ p. new_first old.received new.received p c volume bytes _ (let_in_once _ true s.let_in refl) s.received s.free;
     }
-submits_goes d old c volume bytes (Refused refusal.UnknownCustodian) new s = turned_goes d old new c volume bytes _ refl s
-submits_goes d old c volume bytes (Refused refusal.BadVolume) new s = turned_goes d old new c volume bytes _ refl s
-submits_goes d old c volume bytes (Refused refusal.TooLarge) new s = turned_goes d old new c volume bytes _ refl s
-submits_goes d old c volume bytes (Refused refusal.UnknownProfile) new s = turned_goes d old new c volume bytes _ refl s
+submits_goes d old c volume bytes (Refused (refusal.Door why)) new s = turned_goes d old new c volume bytes why s
 
 pub goes : (d : Door) (old : HubState) (command : Command) (response : Response) (new : HubState) → Step d old command response new → Goes d old command response new
 goes d old (Submit c volume bytes) (Submitted answer) new s = submits_goes d old c volume bytes answer new s

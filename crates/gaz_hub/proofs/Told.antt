@@ -15,8 +15,8 @@ use Rattle.gaz_hub.specs.Standing.{NothingReady}
 use Rattle.gaz_hub.specs.Step.{HubState, is_volume, told_of}
 use Rattle.gaz_hub.specs.declared.outcome.Outcome.{Outcome}
 use Rattle.gaz_hub.specs.declared.outcome.Outcome.TheVariants.{Held}
-use Rattle.gaz_hub.specs.declared.refusal.Refusal.{Refusal}
-use Rattle.gaz_hub.specs.declared.refusal.Refusal.TheVariants as refusal
+use Rattle.gaz_hub.specs.declared.refusal.DoorRefusal.{DoorRefusal}
+use Rattle.gaz_hub.specs.declared.refusal.DoorRefusal.TheVariants as at_door
 use Rattle.gaz_hub.proofs.Telling.{not_reached, waits, was_none}
 
 -- what is read there is what a hub with this state tells
@@ -48,7 +48,7 @@ has_outcome F B c volume closed e there =
 -- ---- nothing is told of nothing
 
 -- what the door lets in is a volume
-volume_in : (known volume : Bool) (o : Option Refusal) → cond (not known) (Some refusal.UnknownCustodian) (cond (not volume) (Some refusal.BadVolume) o) ≡ None → volume ≡ true
+volume_in : (known volume : Bool) (o : Option DoorRefusal) → cond (not known) (Some at_door.UnknownCustodian) (cond (not volume) (Some at_door.BadVolume) o) ≡ None → volume ≡ true
 volume_in known true o e = refl
 volume_in true false o e = cc
 volume_in false false o e = cc

@@ -12,7 +12,7 @@ use Rattle.gaz_hub.specs.Sample.{sample_door, sample_register}
 use Rattle.gaz_hub.specs.Step.{HubState, Settles, new_hub, told_of}
 use Rattle.gaz_hub.specs.declared.outcome.Outcome.{Outcome}
 use Rattle.gaz_hub.specs.declared.outcome.Outcome.TheVariants.{Rejected, Held}
-use Rattle.gaz_hub.specs.declared.refusal.Refusal.TheVariants as refusal
+use Rattle.gaz_hub.specs.declared.refusal.DoorRefusal.TheVariants as at_door
 use Rattle.gaz_hub.specs.declared.standing.Standing.{Standing}
 use Rattle.gaz_hub.specs.Examples.{all_sent, gap_hub, no_text, one_judged, sent, three_judged, whole_hub}
 use Rattle.gaz_hub.specs.WorkedSteps.{WorkedCommands, WorkedDoor, WorkedQuestions, WorkedRefusals, WorkedRepeats, WorkedSteps, WorkedSubmissions}
@@ -123,7 +123,7 @@ same_hub old new p bytes at none e = no_none _ bytes at (sym (ap (λ X. map.get 
 on_refusals : WorkedRefusals
 on_refusals = record {
   refused = record { refused = refl; same = refl };
-  never_for_another_reason = λ s. let e : Some refusal.BadVolume ≡ Some refusal.TooLarge = s.refused in cc;
+  never_for_another_reason = λ s. let e : Some at_door.BadVolume ≡ Some at_door.TooLarge = s.refused in cc;
   never_with_a_change = λ s. same_hub gap_hub new_hub (1003, 1) no_text (get_sent (1003, 1)) (map.get-empty pair_cmp (1003, 1)) (ap (λ h. h.received) s.same);
   asked_in_vain = (refl, record { refused = refl; same = refl });
   stands_in_vain = (refl, record { refused = refl; same = refl });

@@ -20,6 +20,7 @@ use Rattle.gaz_hub.specs.Standing.{IsPartial}
 use Rattle.gaz_hub.specs.Stops.{StopsCall, StopsRun}
 use Rattle.gaz_hub.specs.declared.answer.Answer.{Answer}
 use Rattle.gaz_hub.specs.declared.answer.Answer.TheVariants.{New, Repeat, Taken, Refused}
+use Rattle.gaz_hub.specs.declared.refusal.DoorRefusal.{DoorRefusal}
 use Rattle.gaz_hub.specs.declared.refusal.Refusal.{Refusal}
 use Rattle.gaz_hub.specs.declared.refusal.Refusal.TheVariants as refusal
 
@@ -64,10 +65,7 @@ IsSoundFor door s = s.unharmed → StandsFor door s
 abbrev pub cause_in : Refusal → Option ShelfFault
 cause_in (refusal.NotReceived cause) = Some cause
 cause_in (refusal.ReceivedUnsettled cause) = Some cause
-cause_in refusal.UnknownCustodian = None
-cause_in refusal.BadVolume = None
-cause_in refusal.TooLarge = None
-cause_in refusal.UnknownProfile = None
+cause_in (refusal.Door why) = None
 
 abbrev pub refusal_in_answer : Answer → Option Refusal
 refusal_in_answer (New told) = None
@@ -122,13 +120,15 @@ or_not_received (Err fault) = Err (refusal.NotReceived fault)
 pub record MeetsDoor {K : Type 0} (door : Door) (old new : K) (command : Command)
     (response : Response) : Type 0 where
   -- a refusal that takes no memory is told
-  pub early : (r : Refusal) → early_refusal door command ≡ Some r → refusal_of response ≡ Some r
+  pub early : (why : DoorRefusal) → early_refusal door command ≡ Some why
+      → refusal_of response ≡ Some (refusal.Door why)
   -- one that takes memory (that of a profile) is told, or that there was none
-  pub late : (r : Refusal) → refusal_at_door door command ≡ Some r
-      → (refusal_of response ≡ Some r) ⊎ (refusal_of response ≡ Some (refusal.NotReceived Memory))
+  pub late : (why : DoorRefusal) → refusal_at_door door command ≡ Some why
+      → (refusal_of response ≡ Some (refusal.Door why))
+      ⊎ (refusal_of response ≡ Some (refusal.NotReceived Memory))
   -- no other is told
-  pub only : (r : Refusal) → refusal_of response ≡ Some r → cause_in r ≡ None
-      → refusal_at_door door command ≡ Some r
+  pub only : (why : DoorRefusal) → refusal_of response ≡ Some (refusal.Door why)
+      → refusal_at_door door command ≡ Some why
   -- nor is the keeper called where the door refuses
   pub unasked : IsSome (refusal_at_door door command) → new ≡ old
 

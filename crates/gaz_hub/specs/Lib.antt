@@ -1,6 +1,7 @@
 pub mod Standing
 pub mod Stops
 pub mod Outcomes
+pub mod DoorNumbers
 pub mod Step
 pub mod Runs
 pub mod Sample

@@ -40,10 +40,7 @@ same_pair = eq_by_cmp pair_cmp
 abbrev pub is_not_received : Refusal → Bool
 is_not_received (refusal.NotReceived cause) = true
 is_not_received (refusal.ReceivedUnsettled cause) = false
-is_not_received refusal.UnknownCustodian = false
-is_not_received refusal.BadVolume = false
-is_not_received refusal.TooLarge = false
-is_not_received refusal.UnknownProfile = false
+is_not_received (refusal.Door why) = false
 
 -- the submission was answered 51
 abbrev pub is_answered_51 : Answer → Bool

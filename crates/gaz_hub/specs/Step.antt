@@ -21,6 +21,8 @@ use Rattle.gaz_hub.specs.declared.outcome.Outcome.{Outcome}
 use Rattle.gaz_hub.specs.declared.question.Question.{Question}
 use Rattle.gaz_hub.specs.declared.question.Question.TheVariants.{Ask, Extract, ListClosed}
 use Rattle.gaz_hub.specs.declared.question.Question.TheVariants.{LookUp, Settle, Stand}
+use Rattle.gaz_hub.specs.declared.refusal.DoorRefusal.{DoorRefusal}
+use Rattle.gaz_hub.specs.declared.refusal.DoorRefusal.TheVariants as at_door
 use Rattle.gaz_hub.specs.declared.refusal.Refusal.{Refusal}
 use Rattle.gaz_hub.specs.declared.refusal.Refusal.TheVariants as refusal
 use Rattle.gaz_hub.specs.declared.standing.Standing.{Standing}
@@ -86,38 +88,38 @@ abbrev pub is_volume : ℕ → Bool
 is_volume v = nat_le 1 v && nat_le v last_volume
 
 -- the refusals of the door that take no memory: the first that applies
-abbrev pub turned_away : Door → ℕ → ℕ → ℕ → Option Refusal
+abbrev pub turned_away : Door → ℕ → ℕ → ℕ → Option DoorRefusal
 turned_away door c volume size =
-    if not (knows door.register c) then Some refusal.UnknownCustodian
-    else (if not (is_volume volume) then Some refusal.BadVolume
-    else (if not (nat_le size most_bytes) then Some refusal.TooLarge else None))
+    if not (knows door.register c) then Some at_door.UnknownCustodian
+    else (if not (is_volume volume) then Some at_door.BadVolume
+    else (if not (nat_le size most_bytes) then Some at_door.TooLarge else None))
 
-abbrev pub or_foreign : Bool → Option Refusal → Option Refusal
-or_foreign foreign (Some r) = Some r
-or_foreign foreign None = if foreign then Some refusal.UnknownProfile else None
+abbrev pub or_foreign : Bool → Option DoorRefusal → Option DoorRefusal
+or_foreign foreign (Some why) = Some why
+or_foreign foreign None = if foreign then Some at_door.UnknownProfile else None
 
 -- all refusals of the door: the first that applies
-abbrev pub file_refusal : Door → ℕ → ℕ → List ℕ → Option Refusal
+abbrev pub file_refusal : Door → ℕ → ℕ → List ℕ → Option DoorRefusal
 file_refusal door c volume bytes =
     or_foreign (door.is_foreign bytes) (turned_away door c volume (length bytes))
 
 -- the refusal of a question at the door
-abbrev pub question_refusal : Door → Question → Option Refusal
+abbrev pub question_refusal : Door → Question → Option DoorRefusal
 question_refusal door (Ask c volume) = turned_away door c volume 0
 question_refusal door (Stand c) =
-    if not (knows door.register c) then Some refusal.UnknownCustodian else None
+    if not (knows door.register c) then Some at_door.UnknownCustodian else None
 question_refusal door Settle = None
 question_refusal door (LookUp uprn) = None
 question_refusal door (Extract c volume) = turned_away door c volume 0
 question_refusal door ListClosed = None
 
 -- the refusal of a command at the door, but for that of an unknown profile
-abbrev pub early_refusal : Door → Command → Option Refusal
+abbrev pub early_refusal : Door → Command → Option DoorRefusal
 early_refusal door (Submit c volume bytes) = turned_away door c volume (length bytes)
 early_refusal door (Pose q) = question_refusal door q
 
 -- the refusal of a command at the door
-abbrev pub refusal_at_door : Door → Command → Option Refusal
+abbrev pub refusal_at_door : Door → Command → Option DoorRefusal
 refusal_at_door door (Submit c volume bytes) = file_refusal door c volume bytes
 refusal_at_door door (Pose q) = question_refusal door q
 
@@ -129,9 +131,9 @@ pub record Settles (door : Door) (files : Received) (before after : Board) : Typ
   pub settled : NothingReady files after
 
 -- a refusal at the door changes nothing
-pub record TurnedAway (door : Door) (old : HubState) (command : Command) (r : Refusal)
+pub record TurnedAway (door : Door) (old : HubState) (command : Command) (why : DoorRefusal)
     (new : HubState) : Type 0 where
-  pub refused : refusal_at_door door command ≡ Some r
+  pub refused : refusal_at_door door command ≡ Some why
   pub same : new ≡ old
 
 -- 51: nothing was received, and some earlier files may have been judged
@@ -194,25 +196,14 @@ Submits door old c volume bytes (Refused (refusal.NotReceived cause)) new =
     NotReceived door old (Submit c volume bytes) new
 Submits door old c volume bytes (Refused (refusal.ReceivedUnsettled cause)) new =
     Unsettled door old c volume bytes new
-Submits door old c volume bytes (Refused refusal.UnknownCustodian) new =
-    TurnedAway door old (Submit c volume bytes) refusal.UnknownCustodian new
-Submits door old c volume bytes (Refused refusal.BadVolume) new =
-    TurnedAway door old (Submit c volume bytes) refusal.BadVolume new
-Submits door old c volume bytes (Refused refusal.TooLarge) new =
-    TurnedAway door old (Submit c volume bytes) refusal.TooLarge new
-Submits door old c volume bytes (Refused refusal.UnknownProfile) new =
-    TurnedAway door old (Submit c volume bytes) refusal.UnknownProfile new
+Submits door old c volume bytes (Refused (refusal.Door why)) new =
+    TurnedAway door old (Submit c volume bytes) why new
 
 -- a refusal of a question
 abbrev pub Refuses : Door → HubState → Question → Refusal → HubState → Type 0
 Refuses door old q (refusal.NotReceived cause) new = NotReceived door old (Pose q) new
 Refuses door old q (refusal.ReceivedUnsettled cause) new = ⊥
-Refuses door old q refusal.UnknownCustodian new =
-    TurnedAway door old (Pose q) refusal.UnknownCustodian new
-Refuses door old q refusal.BadVolume new = TurnedAway door old (Pose q) refusal.BadVolume new
-Refuses door old q refusal.TooLarge new = TurnedAway door old (Pose q) refusal.TooLarge new
-Refuses door old q refusal.UnknownProfile new =
-    TurnedAway door old (Pose q) refusal.UnknownProfile new
+Refuses door old q (refusal.Door why) new = TurnedAway door old (Pose q) why new
 
 abbrev pub Replies : Door → HubState → (q : Question) → Result (Told q) Refusal → HubState → Type 0
 Replies door old q (Ok told) new = WasAsked door old q told new

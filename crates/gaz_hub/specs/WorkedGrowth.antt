@@ -10,7 +10,8 @@ use Rattle.gaz_hub.specs.Sample.{sample_custodians}
 use Rattle.gaz_hub.specs.Step.{Command, Response, Submit, Submitted, new_hub}
 use Rattle.gaz_hub.specs.declared.answer.Answer.TheVariants.{New, Refused}
 use Rattle.gaz_hub.specs.declared.outcome.Outcome.TheVariants.{Rejected}
-use Rattle.gaz_hub.specs.declared.refusal.Refusal.TheVariants.{UnknownCustodian}
+use Rattle.gaz_hub.specs.declared.refusal.DoorRefusal.TheVariants.{UnknownCustodian}
+use Rattle.gaz_hub.specs.declared.refusal.Refusal.TheVariants as refusal
 
 -- a fourth custodian joins
 abbrev pub with_new_town : RegisterValue
@@ -28,7 +29,7 @@ abbrev pub sends : List Command
 sends = Submit 1004 1 [] ∷ []
 
 abbrev pub refused : List Response
-refused = Submitted (Refused UnknownCustodian) ∷ []
+refused = Submitted (Refused (refusal.Door UnknownCustodian)) ∷ []
 
 abbrev pub answered : List Response
 answered = Submitted (New (Rejected 1 1)) ∷ []

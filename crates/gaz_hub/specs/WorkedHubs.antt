@@ -18,8 +18,9 @@ use Rattle.gaz_hub.specs.declared.looking.Next.TheVariants.{Bad, Done, Waits}
 use Rattle.gaz_hub.specs.declared.looking.NextFile.TheVariants.{Missing, Past}
 use Rattle.gaz_hub.specs.declared.outcome.Outcome.TheVariants.{Rejected}
 use Rattle.gaz_hub.specs.declared.question.Question.TheVariants.{Ask, Settle, Stand}
-use Rattle.gaz_hub.specs.declared.refusal.Refusal.TheVariants.{UnknownCustodian, BadVolume}
-use Rattle.gaz_hub.specs.declared.refusal.Refusal.TheVariants.{TooLarge, NotReceived}
+use Rattle.gaz_hub.specs.declared.refusal.DoorRefusal.TheVariants.{BadVolume, TooLarge}
+use Rattle.gaz_hub.specs.declared.refusal.DoorRefusal.TheVariants.{UnknownCustodian}
+use Rattle.gaz_hub.specs.declared.refusal.Refusal.TheVariants.{Door, NotReceived}
 use Rattle.gaz_hub.specs.declared.refusal.Refusal.TheVariants.{ReceivedUnsettled}
 
 -- a register of two custodians
@@ -59,7 +60,7 @@ pub record WorkedCauses : Type 0 where
   pub of_taken : cause_of (Submitted (Taken [])) ≡ None
   pub of_51 : cause_of (Submitted (Refused (NotReceived fault.Store))) ≡ Some fault.Store
   pub of_52 : cause_of (Submitted (Refused (ReceivedUnsettled fault.Memory))) ≡ Some fault.Memory
-  pub of_the_door : cause_of (Replied (Ask 1003 0) (Err BadVolume)) ≡ None
+  pub of_the_door : cause_of (Replied (Ask 1003 0) (Err (Door BadVolume))) ≡ None
   pub of_standing : cause_of (Replied (Stand 1003) (Err (NotReceived fault.Memory)))
       ≡ Some fault.Memory
   pub of_settling : cause_of (Replied Settle (Err (NotReceived fault.Store))) ≡ Some fault.Store

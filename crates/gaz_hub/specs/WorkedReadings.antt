@@ -14,6 +14,7 @@ use Rattle.gaz_hub.specs.Step.{Command, HubState, Pose, Replied, Response, Step,
 use Rattle.gaz_hub.specs.declared.question.Question.TheVariants.{Extract, ListClosed, LookUp}
 use Rattle.gaz_hub.specs.declared.question.Question.TheVariants.{Settle}
 use Rattle.gaz_hub.specs.declared.question.Told.TheVariants as says
+use Rattle.gaz_hub.specs.declared.refusal.DoorRefusal.TheVariants as at_door
 use Rattle.gaz_hub.specs.declared.refusal.Refusal.TheVariants as refusal
 
 -- from one state of a hub over the sample register to another
@@ -32,7 +33,7 @@ pub record WorkedReadings : Type 0 where
   pub look_up_faults : Reads late_hub (Pose (LookUp 42))
       (Replied (LookUp 42) (Err (refusal.NotReceived fault.Memory))) late_hub
   pub never_refused_at_the_door : Reads gap_hub (Pose (LookUp 42))
-      (Replied (LookUp 42) (Err refusal.UnknownCustodian)) gap_hub → ⊥
+      (Replied (LookUp 42) (Err (refusal.Door at_door.UnknownCustodian))) gap_hub → ⊥
   pub extracted : Reads gap_hub (Pose (Extract 1003 1))
       (Replied (Extract 1003 1) (Ok (Some of_nothing))) gap_hub
   pub settled_first : Reads late_hub (Pose (Extract 1003 1))
@@ -47,9 +48,9 @@ pub record WorkedReadings : Type 0 where
       → Reads gap_hub (Pose (Extract 1003 2)) (Replied (Extract 1003 2) (Ok (Some text))) gap_hub
       → ⊥
   pub unknown_first : Reads gap_hub (Pose (Extract 9998 0))
-      (Replied (Extract 9998 0) (Err refusal.UnknownCustodian)) gap_hub
+      (Replied (Extract 9998 0) (Err (refusal.Door at_door.UnknownCustodian))) gap_hub
   pub no_volume : Reads gap_hub (Pose (Extract 1003 0))
-      (Replied (Extract 1003 0) (Err refusal.BadVolume)) gap_hub
+      (Replied (Extract 1003 0) (Err (refusal.Door at_door.BadVolume))) gap_hub
   pub never_received : Reads gap_hub (Pose (Extract 1003 1))
       (Replied (Extract 1003 1) (Err (refusal.ReceivedUnsettled fault.Memory))) gap_hub → ⊥
   pub listed : Reads gap_hub (Pose ListClosed) (Replied ListClosed (Ok [])) gap_hub
@@ -68,11 +69,11 @@ pub record WorkedReadings : Type 0 where
   pub done_told : or_not_received {T = Unit {0}} (Err fault.Store)
       ≡ Err (refusal.NotReceived fault.Store)
   pub nothing_told : told (Ok None) ≡ Ok None
-  pub refusal_told : told_all (Err refusal.BadVolume) ≡ Err refusal.BadVolume
+  pub refusal_told : told_all (Err (refusal.Door at_door.BadVolume)) ≡ Err (refusal.Door at_door.BadVolume)
   pub extract_told : telling (Extract 1003 1) (Ok (Some of_nothing))
       ≡ Ok (Some (says.Extract of_nothing))
   pub list_told : telling ListClosed (Ok []) ≡ Ok (Some (says.Closed []))
   pub not_there_told : telling (LookUp 42) (Ok None) ≡ Ok None
   pub settling_told : telling Settle (Ok tt) ≡ Ok None
-  pub door_told : telling (Extract 1003 0) (Err refusal.BadVolume) ≡ Err refusal.BadVolume
+  pub door_told : telling (Extract 1003 0) (Err (refusal.Door at_door.BadVolume)) ≡ Err (refusal.Door at_door.BadVolume)
   pub never_told_otherwise : telling ListClosed (Ok []) ≡ Ok None → ⊥

@@ -12,6 +12,7 @@ use Rattle.gaz_hub.specs.Sample.{sample_door}
 use Rattle.gaz_hub.specs.declared.answer.Answer.TheVariants.{New, Repeat, Taken, Refused}
 use Rattle.gaz_hub.specs.declared.outcome.Outcome.TheVariants.{Rejected, Held}
 use Rattle.gaz_hub.specs.declared.question.Question.TheVariants.{Ask, Settle, Stand}
+use Rattle.gaz_hub.specs.declared.refusal.DoorRefusal.TheVariants as at_door
 use Rattle.gaz_hub.specs.declared.refusal.Refusal.TheVariants as refusal
 use Rattle.gaz_hub.specs.Examples.{first_hub, first_sent, gap_hub, no_text, sent, whole_hub}
 
@@ -19,10 +20,10 @@ use Rattle.gaz_hub.specs.Examples.{first_hub, first_sent, gap_hub, no_text, sent
 pub record WorkedResponses : Type 0 where
   pub new_settles : is_settled_answer (New (Rejected 1 1)) ≡ true
   pub taken_settles : is_settled_answer (Taken []) ≡ true
-  pub refused_settles_nothing : is_settled_answer (Refused refusal.BadVolume) ≡ false
+  pub refused_settles_nothing : is_settled_answer (Refused (refusal.Door at_door.BadVolume)) ≡ false
   pub submitted_settles : is_settled (Submitted (Repeat (Rejected 1 1))) ≡ true
   pub told_settles : is_settled (Replied (Ask 1003 1) (Ok None)) ≡ true
-  pub stands_settles_nothing : is_settled (Replied (Stand 9999) (Err refusal.UnknownCustodian))
+  pub stands_settles_nothing : is_settled (Replied (Stand 9999) (Err (refusal.Door at_door.UnknownCustodian)))
       ≡ false
   pub settled_settles : is_settled (Replied Settle (Ok tt)) ≡ true
   pub given_up_settles_nothing : is_settled
@@ -30,7 +31,7 @@ pub record WorkedResponses : Type 0 where
   pub for_51 : is_not_received (refusal.NotReceived fault.Memory) ≡ true
   pub for_52 : is_not_received (refusal.ReceivedUnsettled fault.Memory) ≡ false
   pub answered_51 : is_answered_51 (Refused (refusal.NotReceived fault.Memory)) ≡ true
-  pub answered_12 : is_answered_51 (Refused refusal.BadVolume) ≡ false
+  pub answered_12 : is_answered_51 (Refused (refusal.Door at_door.BadVolume)) ≡ false
   pub answered_new : is_answered_51 (New (Rejected 1 1)) ≡ false
   pub one_pair : same_pair (1003, 1) (1003, 1) ≡ true
   pub another_volume : same_pair (1003, 1) (1003, 2) ≡ false
@@ -55,7 +56,7 @@ pub record WorkedFirsts : Type 0 where
   pub not_received : accepted sample_door (1003, 1) (Submit 1003 1 [])
       (Submitted (Refused (refusal.NotReceived fault.Memory))) ≡ None
   pub turned_away : accepted sample_door (1003, 0) (Submit 1003 0 [])
-      (Submitted (Refused refusal.BadVolume)) ≡ None
+      (Submitted (Refused (refusal.Door at_door.BadVolume))) ≡ None
   pub another_pair : accepted sample_door (1003, 2) (Submit 1003 1 [])
       (Submitted (New (Rejected 1 1))) ≡ None
   pub asked : accepted sample_door (1003, 1) (Pose (Ask 1003 1)) (Replied (Ask 1003 1) (Ok None))

@@ -10,6 +10,7 @@ use Rattle.gaz_hub.specs.Sample.{sample_door}
 use Rattle.gaz_hub.specs.declared.answer.Answer.TheVariants.{New, Repeat, Taken, Refused}
 use Rattle.gaz_hub.specs.declared.outcome.Outcome.TheVariants.{Rejected, Held}
 use Rattle.gaz_hub.specs.declared.question.Question.TheVariants.{Ask, Settle, Stand}
+use Rattle.gaz_hub.specs.declared.refusal.DoorRefusal.TheVariants as at_door
 use Rattle.gaz_hub.specs.declared.refusal.Refusal.TheVariants as refusal
 use Rattle.gaz_hub.specs.Examples.{first_hub, foreign_door, gap_hub, late_hub, no_text, one_judged}
 use Rattle.gaz_hub.specs.Examples.{sent, whole_hub}
@@ -20,26 +21,26 @@ pub record WorkedDoor : Type 0 where
   pub first_volume : is_volume 1 ≡ true
   pub last_volume : is_volume 999_999 ≡ true
   pub no_greater_volume : is_volume 1_000_000 ≡ false
-  pub unknown_first : turned_away sample_door 9999 0 1_048_577 ≡ Some refusal.UnknownCustodian
-  pub volume_next : turned_away sample_door 1003 0 1_048_577 ≡ Some refusal.BadVolume
-  pub size_last : turned_away sample_door 1003 1 1_048_577 ≡ Some refusal.TooLarge
+  pub unknown_first : turned_away sample_door 9999 0 1_048_577 ≡ Some at_door.UnknownCustodian
+  pub volume_next : turned_away sample_door 1003 0 1_048_577 ≡ Some at_door.BadVolume
+  pub size_last : turned_away sample_door 1003 1 1_048_577 ≡ Some at_door.TooLarge
   pub greatest : turned_away sample_door 1003 999_999 1_048_576 ≡ None
-  pub others_go_before_profile : or_foreign true (Some refusal.TooLarge) ≡ Some refusal.TooLarge
-  pub profile_at_last : or_foreign true None ≡ Some refusal.UnknownProfile
+  pub others_go_before_profile : or_foreign true (Some at_door.TooLarge) ≡ Some at_door.TooLarge
+  pub profile_at_last : or_foreign true None ≡ Some at_door.UnknownProfile
   pub no_foreign_profile : or_foreign false None ≡ None
-  pub profile_turned_away : file_refusal foreign_door 1003 1 [] ≡ Some refusal.UnknownProfile
-  pub volume_before_profile : file_refusal foreign_door 1003 0 [] ≡ Some refusal.BadVolume
+  pub profile_turned_away : file_refusal foreign_door 1003 1 [] ≡ Some at_door.UnknownProfile
+  pub volume_before_profile : file_refusal foreign_door 1003 0 [] ≡ Some at_door.BadVolume
   pub let_in : file_refusal sample_door 1003 1 [] ≡ None
 
 -- which commands are turned away
 pub record WorkedCommands : Type 0 where
   pub profile_not_early : early_refusal foreign_door (Submit 1003 1 []) ≡ None
   pub profile_at_door : refusal_at_door foreign_door (Submit 1003 1 [])
-      ≡ Some refusal.UnknownProfile
+      ≡ Some at_door.UnknownProfile
   pub no_profile_asked : refusal_at_door foreign_door (Pose (Ask 1003 1)) ≡ None
-  pub no_volume_asked : refusal_at_door sample_door (Pose (Ask 1003 0)) ≡ Some refusal.BadVolume
+  pub no_volume_asked : refusal_at_door sample_door (Pose (Ask 1003 0)) ≡ Some at_door.BadVolume
   pub unknown_asked : refusal_at_door sample_door (Pose (Stand 9999))
-      ≡ Some refusal.UnknownCustodian
+      ≡ Some at_door.UnknownCustodian
   pub known_asked : early_refusal sample_door (Pose (Stand 1003)) ≡ None
   pub settling_let_in : refusal_at_door sample_door (Pose Settle) ≡ None
 
@@ -86,15 +87,15 @@ pub record WorkedRepeats : Type 0 where
 
 -- refusals
 pub record WorkedRefusals : Type 0 where
-  pub refused : Goes gap_hub (Submit 1003 0 no_text) (Submitted (Refused refusal.BadVolume)) gap_hub
+  pub refused : Goes gap_hub (Submit 1003 0 no_text) (Submitted (Refused (refusal.Door at_door.BadVolume))) gap_hub
   pub never_for_another_reason : Goes gap_hub (Submit 1003 0 no_text)
-      (Submitted (Refused refusal.TooLarge)) gap_hub → ⊥
+      (Submitted (Refused (refusal.Door at_door.TooLarge))) gap_hub → ⊥
   pub never_with_a_change : Goes gap_hub (Submit 1003 0 no_text)
-      (Submitted (Refused refusal.BadVolume)) new_hub → ⊥
+      (Submitted (Refused (refusal.Door at_door.BadVolume))) new_hub → ⊥
   pub asked_in_vain : Goes gap_hub (Pose (Ask 1003 0))
-      (Replied (Ask 1003 0) (Err refusal.BadVolume)) gap_hub
+      (Replied (Ask 1003 0) (Err (refusal.Door at_door.BadVolume))) gap_hub
   pub stands_in_vain : Goes gap_hub (Pose (Stand 9999))
-      (Replied (Stand 9999) (Err refusal.UnknownCustodian)) gap_hub
+      (Replied (Stand 9999) (Err (refusal.Door at_door.UnknownCustodian))) gap_hub
   pub not_received : Goes gap_hub (Submit 1003 2 no_text)
       (Submitted (Refused (refusal.NotReceived fault.Memory))) gap_hub
   pub some_judged : Goes late_hub (Submit 1003 2 no_text)

@@ -4,7 +4,7 @@ ghost use Rattle.gaz_register.specs.Registers.{knows};
 ghost use Rattle.gaz_hub.specs.Hubs.{door_of, is_admitted_profile, is_foreign};
 ghost use Rattle.gaz_hub.specs.Step.{turned_away};
 
-use crate::refusal::Refusal;
+use crate::refusal::DoorRefusal;
 use gaz_changefile::profile_of;
 use gaz_ids::{Code, MOST_BYTES, Volume};
 use gaz_register::Register;
@@ -19,14 +19,14 @@ fn is_admitted_profile(profile: u64) -> bool
 }
 
 /// The code, where the register has it.
-pub fn known_code(register: &Register, code: u64) -> Result<Code, Refusal>
-    ensures refused { IfErr result (λ r. (r ≡ Refusal.UnknownCustodian)
+pub fn known_code(register: &Register, code: u64) -> Result<Code, DoorRefusal>
+    ensures refused { IfErr result (λ why. (why ≡ DoorRefusal.UnknownCustodian)
         × (knows register.now code ≡ false)) }
     ensures known { IfOk result (λ c. (c ≡ code) × (knows register.now code ≡ true)) }
 {
     match register.code_of(code) {
         Some(code) => Ok(code),
-        None => Err(Refusal::UnknownCustodian),
+        None => Err(DoorRefusal::UnknownCustodian),
     }
 }
 
@@ -36,18 +36,18 @@ pub fn at_door(
     code: u64,
     volume: u64,
     size: usize,
-) -> Result<(Code, Volume), Refusal>
-    ensures refused { IfErr result (λ r.
-        turned_away (door_of register.now) code volume size ≡ Some r) }
+) -> Result<(Code, Volume), DoorRefusal>
+    ensures refused { IfErr result (λ why.
+        turned_away (door_of register.now) code volume size ≡ Some why) }
     ensures let_in { IfOk result (λ p.
         (turned_away (door_of register.now) code volume size ≡ None) × (p ≡ (code, volume))) }
 {
     let code = known_code(register, code)?;
     let Some(volume) = Volume::of(volume) else {
-        return Err(Refusal::BadVolume);
+        return Err(DoorRefusal::BadVolume);
     };
     if size as u64 > MOST_BYTES {
-        return Err(Refusal::TooLarge);
+        return Err(DoorRefusal::TooLarge);
     }
     Ok((code, volume))
 }

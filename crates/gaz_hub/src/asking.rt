@@ -90,7 +90,7 @@ impl<K: Inbox + Drop> Hub<K> {
     {
         let (code, volume) = match at_door(&self.register, code, volume, 0) {
             Ok(pair) => pair,
-            Err(refusal) => return Err(refusal),
+            Err(why) => return Err(Refusal::Door(why)),
         };
         let alloc = self.alloc;
         let read = |keeper: &mut K, known: Option<(Code, Volume)>| {
@@ -118,7 +118,7 @@ impl<K: Inbox + Drop> Hub<K> {
     {
         let custodian = match known_code(&self.register, code) {
             Ok(custodian) => custodian,
-            Err(refusal) => return Err(refusal),
+            Err(why) => return Err(Refusal::Door(why)),
         };
         let alloc = self.alloc;
         let read = |keeper: &mut K, known: Option<(Code, Volume)>| {

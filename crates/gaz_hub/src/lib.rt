@@ -30,5 +30,5 @@ pub use hub::Hub;
 pub use in_turn::submit_and_ask;
 pub use outcome::Outcome;
 pub use question::{Question, Told};
-pub use refusal::Refusal;
+pub use refusal::{DoorRefusal, Refusal};
 pub use standing::Standing;

@@ -47,7 +47,7 @@ impl<K: Inbox + Drop> Hub<K> {
     {
         let (code, volume) = match at_door(&self.register, code, volume, 0) {
             Ok(pair) => pair,
-            Err(refusal) => return Err(refusal),
+            Err(why) => return Err(Refusal::Door(why)),
         };
         let alloc = self.alloc;
         let read = |keeper: &mut K| extract(alloc, keeper, code, volume);

@@ -14,7 +14,7 @@ use crate::admission::{at_door, names_unknown_profile};
 use crate::answer::Answer;
 use crate::hub::Hub;
 use crate::outcome::Outcome;
-use crate::refusal::Refusal;
+use crate::refusal::{DoorRefusal, Refusal};
 use crate::remembering::{receive, settled_knowing};
 use crate::reply::{digest_of, tell};
 use gaz_ids::{Code, Volume};
@@ -169,11 +169,11 @@ impl<K: Inbox + Drop> Hub<K> {
     {
         let (code, volume) = match at_door(&self.register, code, volume, file.len()) {
             Ok(pair) => pair,
-            Err(refusal) => return Answer::Refused(refusal),
+            Err(why) => return Answer::Refused(Refusal::Door(why)),
         };
         match names_unknown_profile(self.alloc, file) {
             Ok(false) => self.submit_let_in(code, volume, file),
-            Ok(true) => Answer::Refused(Refusal::UnknownProfile),
+            Ok(true) => Answer::Refused(Refusal::Door(DoorRefusal::UnknownProfile)),
             Err(_) => Answer::Refused(Refusal::NotReceived(ShelfFault::Memory)),
         }
     }

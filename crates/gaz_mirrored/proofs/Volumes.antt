@@ -7,13 +7,13 @@ use Rattle.std.specs.FinMap as map
 use Rattle.gaz_register.specs.Registers.{knows}
 use Rattle.gaz_hub.specs.Runs.{accepted, is_answered_51, same_pair}
 use Rattle.gaz_hub.specs.Step.{Command, Door, HubState, Pose, Replied, Response, Submit, Submitted, file_refusal, is_volume}
-use Rattle.gaz_hub.specs.declared.refusal.Refusal.{Refusal}
-use Rattle.gaz_hub.specs.declared.refusal.Refusal.TheVariants as refusal
+use Rattle.gaz_hub.specs.declared.refusal.DoorRefusal.{DoorRefusal}
+use Rattle.gaz_hub.specs.declared.refusal.DoorRefusal.TheVariants as at_door
 use Rattle.gaz_hub.proofs.AnswerSteps.{early_let_in}
 use Rattle.gaz_hub.proofs.Steps.{goes, pairs_same}
 use Rattle.gaz_mirrored.specs.Filling.{AreVolumes, VolumesStay}
 
-is_volume_in : (known volume : Bool) (o : Option Refusal) → cond (not known) (Some refusal.UnknownCustodian) (cond (not volume) (Some refusal.BadVolume) o) ≡ None → volume ≡ true
+is_volume_in : (known volume : Bool) (o : Option DoorRefusal) → cond (not known) (Some at_door.UnknownCustodian) (cond (not volume) (Some at_door.BadVolume) o) ≡ None → volume ≡ true
 is_volume_in known true o e = refl
 is_volume_in true false o e = cc
 is_volume_in false false o e = cc

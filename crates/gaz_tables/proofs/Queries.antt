@@ -1,5 +1,5 @@
 -- What a query comes to, by its text and what it tells of the rows that it was shown.
-use Rattle.std.proofs.Common.{◌≡◌, ℕ, List, [], ◌∷◌, Result, IfOk, Vec}
+use Rattle.std.proofs.Common.{ℕ, List, [], ◌∷◌, Result, IfOk, Vec}
 use Rattle.std.specs.Prelude.{IfErr}
 use Rattle.std.specs.declared.alloc.Global.{Global}
 use Rattle.sqlite_value.specs.declared.keys.Key.{Key}

@@ -10,7 +10,7 @@ use Rattle.gaz_hub.specs.Waiting.{IsSo, known_in}
 use Rattle.gaz_hub.specs.Step.{told_of}
 use Rattle.gaz_hub.specs.declared.question.Question.TheVariants.{Ask}
 use Rattle.gaz_hub.proofs.AnswerSteps.{known_at}
-use Rattle.gaz_hub.proofs.Declining.{away_by_door, declines_question}
+use Rattle.gaz_hub.proofs.Declining.{declines_question}
 use Rattle.gaz_hub.proofs.Replying.{answered_door, answered_steps}
 use Rattle.gaz_hub.proofs.Memory.{looks_knowing}
 use Rattle.gaz_hub.proofs.Told.{told_is}
@@ -38,5 +38,4 @@ returns-clause-door g c =
 pub returns-in-Err-clause-steps : goal.returns-in-Err-clause-steps
 returns-in-Err-clause-steps g c =
     let hub = c.args.self.now in
-    declines_question (door_of hub.register) (hub_seen g.K.Shelf.seen hub) (Ask c.args.code c.args.volume) c.in-Err.refusal c.in-Err.ensures.refused
-    (away_by_door (door_of hub.register) c.args.code c.args.volume 0 c.in-Err.refusal c.in-Err.ensures.refused) c.requires.idle
+    declines_question (door_of hub.register) (hub_seen g.K.Shelf.seen hub) (Ask c.args.code c.args.volume) c.in-Err.why c.in-Err.ensures.refused c.requires.idle
