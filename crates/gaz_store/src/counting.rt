@@ -66,8 +66,8 @@ impl<S: Alter> Tables<S> {
         }
     }
 
-    /// How many volumes of a custodian are judged: as these are the first ones, half of what is left
-    /// goes with each that is looked at.
+    /// How many volumes of a custodian are judged: as these are the first ones, half of what is
+    /// left goes with each that is looked at.
     fn count_judged(&mut self, code: Code) -> Result<u64, ShelfFault>
         ensures asks { AsksTables self.old self.new result
             (λ db n. n ≡ reached_in (db.trees receiveds) code) }
