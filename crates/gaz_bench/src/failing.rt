@@ -36,8 +36,8 @@ fn answer_failing<K: Inbox + Drop>(
     answer(rt, register, failing_twice(keeper, calls))
 }
 
-/// Answers the requests on standard input at a hub of the register in a file, over a keeper in memory
-/// of which these calls fail.
+/// Answers the requests on standard input at a hub of the register in a file, over a keeper in
+/// memory of which these calls fail.
 pub fn over_maps(rt: &HostRuntime, register: &str, calls: Failing) -> Result<()> {
     let register = register_in(rt, register)?;
     let keeper = MemShelf::new(rt.alloc(), Seed::of(1));

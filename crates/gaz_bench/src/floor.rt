@@ -1,9 +1,9 @@
 //! Statements alone, over the database in a file, as a script tells them.
 //!
-//! Each line of a script begins with a word, and a tab. Behind `sql` is the text of a statement. Behind
-//! `run` are the values with which it runs, a tab between them: each a number, a text behind `'` or bytes
-//! behind `x`. Behind `tell` is a name, which is printed with how many rows were found since the last
-//! such line, and the nanoseconds that the statements took.
+//! Each line of a script begins with a word, and a tab. Behind `sql` is the text of a statement.
+//! Behind `run` are the values with which it runs, a tab between them: each a number, a text behind
+//! `'` or bytes behind `x`. Behind `tell` is a name, which is printed with how many rows were found
+//! since the last such line, and the nanoseconds that the statements took.
 
 use crate::at_file::{Work, over_file};
 use anyhow::{Context, Result, bail};

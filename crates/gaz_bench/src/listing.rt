@@ -190,8 +190,8 @@ impl Work for Listing {
     }
 }
 
-/// Makes calls of the list over the store in the file at this path, which is made where there is none.
-/// An error where one is answered otherwise than it is to be.
+/// Makes calls of the list over the store in the file at this path, which is made where there is
+/// none. An error where one is answered otherwise than it is to be.
 pub fn make_calls(rt: &HostRuntime, path: &str, register: &str, way: Way) -> Result<()> {
     let listing = Listing {
         register: register_in(rt, register)?,

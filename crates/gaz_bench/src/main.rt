@@ -1,22 +1,34 @@
-//! Times reading, for `bench/run`: `gaz_bench file FILE ROUNDS` that of a good change file, `gaz_bench any FILE ROUNDS` that of a change
-//! file whatever its outcome, `gaz_bench register FILE ROUNDS` that of a register. It prints the least time in microseconds.
-//! `gaz_bench stored STORE REGISTER` answers the requests on standard input at a hub of the register in a file, over the store in a file, which is
-//! made where there is none; `gaz_bench stored-each STORE REGISTER` takes pieces of a stream, each behind a line with its length in bytes, and
-//! opens and closes the store for each of them. Why there is no store is said on standard error, as `gaz_bench: BadSchema`, and the status is 3.
-//! `gaz_bench at-hand STORE REGISTER` does as `stored` with all that the store keeps at hand in memory, as the program does.
-//! A fourth word of `stored` is the most steps that a statement over the opened store may take. As many pages are kept at hand as the program keeps.
-//! `gaz_bench floor FILE SCRIPT PAGES` runs the statements of a script, which is in a file, over the database in another, with so many pages at hand. It
-//! prints how many rows they found and the nanoseconds that they took, under the names that the script tells (`floor.rt`).
-//! `gaz_bench replies REQUESTS REPLIES` learns the replies to requests, which are in two files, and answers the requests on standard input, each by
-//! the reply that it learned for its target and body.
-//! `gaz_bench play REGISTER` answers the requests on standard input at a hub of the register in a file, over a keeper in memory.
-//! `gaz_bench failing REGISTER FIRST SECOND` does as `play`, but the keeper's call of the number FIRST fails, from 1, and of the calls that
-//! come to the keeper within that which fails so, the one of the number SECOND; 0 is none.
-//! `gaz_bench calls STORE REGISTER` makes the calls of the list that each keeper answers alike, over a new store in a file; `gaz_bench calls STORE REGISTER
-//! NUMBER` those of its part of that number, from 0, over what the parts before it left; `gaz_bench calls-at-hand STORE REGISTER` all of them, and brings
-//! what is kept to hand before numbers pass on. Where one is answered otherwise, that is said on standard error.
-//! `gaz_bench IDENTIFIER FILE ROUNDS` takes a record identifier and a file of rows of that kind, which begin behind the order field. It prints a
-//! line with the least time in nanoseconds of reading all items and that of writing all rows, and then the rows.
+//! What `bench/run` times beside `gazhub`, and what `./check` asks, by the words behind its name.
+//!
+//! * `file FILE ROUNDS` reads a good change file, `any FILE ROUNDS` a change file whatever its
+//!   outcome, `register FILE ROUNDS` a register. It prints the least time in microseconds.
+//! * `IDENTIFIER FILE ROUNDS` takes a record identifier and a file of rows of that kind, which
+//!   begin behind the order field. It prints a line with the least time in nanoseconds of reading
+//!   all items and that of writing all rows, and then the rows.
+//! * `floor FILE SCRIPT PAGES` runs the statements of a script, which is in a file, over the
+//!   database in another, with so many pages at hand. It prints how many rows they found and the
+//!   nanoseconds that they took, under the names that the script tells (`floor.rt`).
+//! * `stored STORE REGISTER` answers the requests on standard input at a hub of the register in a
+//!   file, over the store in a file, which is made where there is none. As many pages are kept at
+//!   hand as the program keeps. A fourth word is the most steps that a statement over the opened
+//!   store may take. Why there is no store is said on standard error, as `gaz_bench: BadSchema`,
+//!   and the status is 3.
+//! * `stored-each STORE REGISTER` takes pieces of a stream, each behind a line with its length in
+//!   bytes, and opens and closes the store for each of them.
+//! * `at-hand STORE REGISTER` does as `stored` with all that the store keeps at hand in memory, as
+//!   the program does.
+//! * `replies REQUESTS REPLIES` learns the replies to requests, which are in two files, and answers
+//!   the requests on standard input, each by the reply that it learned for its target and body.
+//! * `play REGISTER` answers the requests on standard input at a hub of the register in a file,
+//!   over a keeper in memory.
+//! * `failing REGISTER FIRST SECOND` does as `play`, but the keeper's call of the number FIRST
+//!   fails, from 1, and of the calls that come to the keeper within that which fails so, the one of
+//!   the number SECOND; 0 is none.
+//! * `calls STORE REGISTER` makes the calls of the list that each keeper answers alike, over a new
+//!   store in a file; `calls STORE REGISTER NUMBER` those of its part of that number, from 0, over
+//!   what the parts before it left; `calls-at-hand STORE REGISTER` all of them, and brings what is
+//!   kept to hand before numbers pass on. Where one is answered otherwise, that is said on standard
+//!   error.
 #![tactic(auto)]
 
 mod at_file;

@@ -31,8 +31,8 @@ pub fn answer<K: Inbox + Drop>(rt: &HostRuntime, register: Register, keeper: K) 
     Ok(())
 }
 
-/// Answers the requests on standard input at a hub of the register in a file, over a keeper in memory
-/// that begins with nothing.
+/// Answers the requests on standard input at a hub of the register in a file, over a keeper in
+/// memory that begins with nothing.
 pub fn play(rt: &HostRuntime, path: &str) -> Result<()> {
     let register = register_in(rt, path)?;
     let keeper = MemShelf::new(rt.alloc(), Seed::of(1));

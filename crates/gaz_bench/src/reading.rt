@@ -26,7 +26,8 @@ fn what_of(word: &str) -> Option<What> {
     }
 }
 
-// Reads the bytes as the file of volume 1 of custodian 1001. Whether they are as expected: good, or any that memory sufficed for.
+// Reads the bytes as the file of volume 1 of custodian 1001. Whether they are as expected: good, or
+// any that memory sufficed for.
 fn reads_file(rt: &HostRuntime, bytes: &[u8], has_to_be_good: bool) -> bool {
     let (Some(code), Some(volume)) = (Code::of(1001), Volume::of(1)) else {
         return false;

@@ -83,8 +83,8 @@ fn pages_at(rt: &HostRuntime, path: &str) -> usize {
     pages.saturating_add(pages / 2).clamp(FEWEST, MOST_PAGES) as usize
 }
 
-/// A conversation with a hub of a register, over a store that begins so, whose statements take so many
-/// steps at most.
+/// A conversation with a hub of a register, over a store that begins so, whose statements take so
+/// many steps at most.
 #[derive(Drop)]
 struct Talk<'a, R, W> {
     beginning: Beginning,
@@ -165,8 +165,8 @@ fn piece_of(left: &[u8]) -> Option<(&[u8], &[u8])> {
     behind.get(1..)?.split_at_checked(length)
 }
 
-/// The same for pieces of standard input, each of them over the file as it was closed behind the one
-/// before. Every piece is behind a line with its length in bytes.
+/// Answers the requests of each piece of standard input over the store in a file, as it was closed
+/// behind the piece before. Every piece is behind a line with its length in bytes.
 pub fn stored_each(rt: &HostRuntime, path: &str, register: &str) -> Result<Option<StoreRefusal>> {
     let mut w = BufWriter::new(rt.alloc(), io::writer(rt))?;
     let mut given = Vec::new(rt.alloc());

@@ -2,7 +2,8 @@
 use Rattle.std.specs.Prelude.{ℕ, List, Option, Some, None}
 use Rattle.gaz_ids.specs.Codes.{lang_number}
 use Rattle.gaz_ids.specs.declared.status.Status.{Status}
-use Rattle.gaz_ids.specs.declared.status.Status.TheVariants.{Approved, Alternative, Provisional, Historical}
+use Rattle.gaz_ids.specs.declared.status.Status.TheVariants.{Approved, Alternative}
+use Rattle.gaz_ids.specs.declared.status.Status.TheVariants.{Provisional, Historical}
 use Rattle.gaz_records.specs.Items.{item_text, kind_of}
 use Rattle.gaz_records.specs.Keys.{key_of}
 use Rattle.gaz_records.specs.Kinds.{number_of}
@@ -80,4 +81,9 @@ links_of x = record { blpu = blpu_of x; street = street_of x; lang = lang_in x; 
 
 -- the record identifier, the name of the key, the numbers, and the row as `csv` writes it
 abbrev pub cells_of : Item → CellsValue
-cells_of x = record { kind = number_of (kind_of x); id = id_of (key_of x); links = links_of x; body = item_text x }
+cells_of x = record {
+  kind = number_of (kind_of x);
+  id = id_of (key_of x);
+  links = links_of x;
+  body = item_text x;
+}

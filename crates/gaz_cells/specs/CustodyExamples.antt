@@ -19,7 +19,8 @@ pub record WorkedCustody : Type 0 where
   pub written : custody_cells 500 (Adopted 1001 2) ≡ taken
   pub read : custody_in taken ≡ Some (500, Adopted 1001 2)
   pub given_up : custody_in (custody_cells 500 (Released 1002 1)) ≡ Some (500, Released 1002 1)
-  pub of_a_property : custody_in (record taken { cells = record (taken.cells) { kind = 21 } }) ≡ None
+  pub of_a_property : custody_in (record taken { cells = record (taken.cells) { kind = 21 } })
+      ≡ None
   pub with_a_body : custody_in (record taken { cells = record (taken.cells) { body = codes "5" } })
       ≡ None
   pub at_no_hop : custody_in (record taken { hop = 0 }) ≡ None

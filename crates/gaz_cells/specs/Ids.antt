@@ -1,5 +1,6 @@
 -- The texts by which tables name the keys of a kind.
-use Rattle.std.specs.Prelude.{ℕ, ◌==◌, Bool, List, ◌++◌, length, take, drop, Option, Some, None, option_map, if◌then◌else◌}
+use Rattle.std.specs.Prelude.{ℕ, ◌==◌, Bool, List, ◌++◌, length, take, drop}
+use Rattle.std.specs.Prelude.{Option, Some, None, option_map, if◌then◌else◌}
 use Rattle.gaz_ids.specs.Codes.{lang_of, lang_text}
 use Rattle.gaz_ids.specs.Numbers.{read_id}
 use Rattle.gaz_ids.specs.declared.lang.Lang.{Lang}
@@ -41,7 +42,8 @@ is_key (key.Lpi t) = is_label 14 t
 
 -- the number, where the text is just so many digits and it is in range
 abbrev pub number_in_full : ℕ → ℕ → List ℕ → Option ℕ
-number_in_full width high text = if length text == width then ok_of (read_id width 1 high text) else None
+number_in_full width high text =
+    if length text == width then ok_of (read_id width 1 high text) else None
 
 abbrev pub usrn_in : List ℕ → Option ℕ
 usrn_in text = number_in_full 8 99_999_999 text
@@ -59,7 +61,8 @@ name_of (Some n) (Some l) = Some (key.Descriptor n l)
 -- of their own
 abbrev pub key_named : Kind → List ℕ → Option Key
 key_named kind.Street id = option_map key.Street (usrn_in id)
-key_named kind.Descriptor id = if length id == 11 then name_of (usrn_in (take 8 id)) (lang_of (drop 8 id)) else None
+key_named kind.Descriptor id =
+    if length id == 11 then name_of (usrn_in (take 8 id)) (lang_of (drop 8 id)) else None
 key_named kind.Blpu id = option_map key.Blpu (uprn_in id)
 key_named kind.Xref id = option_map key.Xref (label_of 14 id)
 key_named kind.Lpi id = option_map key.Lpi (label_of 14 id)

@@ -16,12 +16,14 @@ IdsReadBack = (k : Key) → is_key k ≡ true → key_named (kind_in k) (id_of k
 
 -- keys of a kind with one id are one key
 abbrev pub IdsAreApart : Type 0
-IdsAreApart = (a b : Key) → is_key a ≡ true → is_key b ≡ true → kind_in a ≡ kind_in b → id_of a ≡ id_of b → a ≡ b
+IdsAreApart = (a b : Key) → is_key a ≡ true → is_key b ≡ true → kind_in a ≡ kind_in b
+    → id_of a ≡ id_of b → a ≡ b
 
 -- keys go by kind, then by the bytes of their ids
 abbrev pub IdsAreOrdered : Type 0
 IdsAreOrdered = (a b : Key) → is_key a ≡ true → is_key b ≡ true
-    → key_cmp a b ≡ ordering_then (nat_cmp (kind_number a) (kind_number b)) (slice_cmp nat_cmp (id_of a) (id_of b))
+    → key_cmp a b ≡ ordering_then (nat_cmp (kind_number a) (kind_number b))
+    (slice_cmp nat_cmp (id_of a) (id_of b))
 
 -- the key of an entry is a key of the entry's kind, and the entry's body reads back as the entry
 pub record CellsFit (x : Item) : Type 0 where

@@ -31,7 +31,8 @@ disagreement c x =
     if c.links.street == street_of x then
     if c.links.lang == lang_in x then
     if c.links.live == live_of x then None
-    else Some fault.Live else Some fault.Lang else Some fault.Street else Some fault.Blpu else Some fault.Id else Some fault.Body
+    else Some fault.Live else Some fault.Lang else Some fault.Street else Some fault.Blpu
+    else Some fault.Id else Some fault.Body
 
 abbrev pub unless : Item → Option CellFault → Result Item CellFault
 unless x None = Ok x

@@ -31,7 +31,12 @@ impl Model for Links {
 
     ghost view = { λ x. record { blpu = x.blpu; street = x.street; lang = x.lang; live = x.live } };
 
-    ghost inverse = { λ x. record { blpu = x.blpu; street = x.street; lang = x.lang; live = x.live } };
+    ghost inverse = { λ x. record {
+      blpu = x.blpu;
+      street = x.street;
+      lang = x.lang;
+      live = x.live;
+    } };
 }
 
 /// The columns of an item.
@@ -51,7 +56,12 @@ impl Model for Cells {
 
     ghost Value = { CellsValue };
 
-    ghost view = { λ x. record { kind = x.kind; id = x.id.items; links = x.links; body = x.body.items } };
+    ghost view = { λ x. record {
+      kind = x.kind;
+      id = x.id.items;
+      links = x.links;
+      body = x.body.items;
+    } };
 }
 
 // The number of the property of which another is a part.

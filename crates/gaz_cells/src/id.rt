@@ -28,9 +28,10 @@ fn add_digits(out: &mut Vec<u8>, width: usize, number: u64) -> Result<(), AllocE
     Ok(())
 }
 
-/// The text by which tables name the key among those of its kind. Texts of a kind are in the order of keys.
+/// The text by which tables name the key among those of its kind.
 ///
-/// A USRN in 8 digits, that and its language, a UPRN in 12 digits, or the key itself.
+/// A USRN in 8 digits, that and its language, a UPRN in 12 digits, or the key itself. Texts of a
+/// kind are in the order of keys.
 pub fn id_of(alloc: Global, key: &Key) -> Result<Vec<u8>, AllocError>
     ensures id { IfOk result (λ id. id.items ≡ id_of key.now) }
     ensures form { is_key key.now ≡ true }

@@ -1,4 +1,5 @@
-//! The columns in which tables keep the items of a gazetteer, and back: the texts that name keys, the numbers by which items are looked for.
+//! The columns in which tables keep the items of a gazetteer, and back: the texts that name keys,
+//! the numbers by which items are looked for.
 #![tactic(auto)]
 
 mod bodies;

@@ -3,7 +3,8 @@ ghost use Rattle.std.specs.Prelude.{◌≡◌, Ok};
 ghost use Rattle.gaz_records.specs.Items.{item_text};
 ghost use Rattle.gaz_records.specs.Keys.{key_of};
 ghost use Rattle.gaz_cells.specs.Ids.{id_of};
-ghost use Rattle.gaz_cells.specs.Reading.{OrMemory, agreed, disagreement, kind_numbered, read_cells};
+ghost use Rattle.gaz_cells.specs.Reading.{OrMemory, agreed, disagreement};
+ghost use Rattle.gaz_cells.specs.Reading.{kind_numbered, read_cells};
 
 use crate::cells::{Links, links_of};
 use crate::fault::CellFault;
@@ -29,7 +30,12 @@ impl<'a> Model for Row<'a> {
 
     ghost Value = { CellsValue };
 
-    ghost view = { λ x. record { kind = x.kind; id = x.id.now; links = x.links; body = x.body.now } };
+    ghost view = { λ x. record {
+      kind = x.kind;
+      id = x.id.now;
+      links = x.links;
+      body = x.body.now;
+    } };
 }
 
 /// The kind of entries with this record identifier, or none.
@@ -105,7 +111,7 @@ impl<'a> Row<'a> {
     }
 
     #[tactic(auto, unfolding(crate::specs::Reading::read_cells))]
-    /// The item that the cells say, or the first cell that disagrees; `Memory` may come in place of either.
+    /// The item that the cells say, or the first cell that disagrees; `Memory` may come instead.
     pub fn item(&self, alloc: Global) -> Result<Item, CellFault>
         ensures { OrMemory result (read_cells self.now) }
     {

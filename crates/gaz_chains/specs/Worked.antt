@@ -33,7 +33,8 @@ pub record WorkedRules : Type 0 where
   -- a release with a hop that isn't the next
   pub skipped : HasNoChain ((1001, Released 1002 2) ∷ [])
   -- an adoption of what was released to another custodian
-  pub by_two : HasNoChain ((1001, Released 1002 1) ∷ (1002, Adopted 1001 1) ∷ (1003, Adopted 1001 1) ∷ [])
+  pub by_two : HasNoChain ((1001, Released 1002 1) ∷ (1002, Adopted 1001 1)
+      ∷ (1003, Adopted 1001 1) ∷ [])
   -- an adoption of an old release
   pub stale : HasNoChain (and_back ++ (1002, Adopted 1001 1) ∷ [])
 

@@ -1,6 +1,7 @@
 //! What a reader of the definitions may rely on.
 ghost use Rattle.gaz_changefile.specs.Laws.{BasesRise, ChangesAreAllowed, ChangesArePlaced};
-ghost use Rattle.gaz_changefile.specs.Laws.{EntriesAlone, FilesReadBack, LeastFault, ReadingsAreTyped};
+ghost use Rattle.gaz_changefile.specs.Laws.{EntriesAlone, FilesReadBack};
+ghost use Rattle.gaz_changefile.specs.Laws.{LeastFault, ReadingsAreTyped};
 ghost use Rattle.gaz_changefile.specs.Worked.{WorkedBases, WorkedFiles, WorkedProfiles};
 
 /// A bad reading names the least place at which a rule is broken and, there, the first that is. A

@@ -89,8 +89,8 @@ fn next_after(items: &[SharedItem], after: &Option<Key>) -> Option<Key>
 
 /// The page of a kind of entries after a key, or from the start, after a volume, which is to be
 /// reached. With what comes after it, it is what there is after that key. Whatever the keeper
-/// answers, less is left for the pages that follow: a page whose last key doesn't come after the one
-/// before is taken as the last, and no keeper that stands for a content answers such a one.
+/// answers, less is left for the pages that follow: a page whose last key doesn't come after the
+/// one before is taken as the last, and no keeper that stands for a content answers such a one.
 pub fn read_page<K: Shelf>(
     keeper: &mut K,
     code: Code,

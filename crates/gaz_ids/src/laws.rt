@@ -1,6 +1,7 @@
 ghost use Rattle.std.specs.Prelude.{◌≡◌};
 ghost use Rattle.gaz_ids.specs.Codes.{CodesReadBack};
-ghost use Rattle.gaz_ids.specs.Limits.{last_uprn, last_volume, most_bases, most_bytes, most_changes};
+ghost use Rattle.gaz_ids.specs.Limits.{last_uprn, last_volume};
+ghost use Rattle.gaz_ids.specs.Limits.{most_bases, most_bytes, most_changes};
 ghost use Rattle.gaz_ids.specs.Numbers.{read_id};
 
 use crate::fault::IdFault;

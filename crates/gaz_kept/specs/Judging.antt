@@ -12,7 +12,8 @@ use Rattle.gaz_overlay.specs.Rows.{HistoryRow, never, view_of_rows}
 use Rattle.gaz_sql_facts.specs.Changes.{IsAdded, IsChanged}
 use Rattle.gaz_tables.specs.Receiveds.{IsVolume, judged, unjudged}
 use Rattle.gaz_kept.specs.Contents.{board_in}
-use Rattle.gaz_kept.specs.Files.{custodian_in, files_in, judged_volumes, reached_in, verdict_of, verdicts_in, volume_in}
+use Rattle.gaz_kept.specs.Files.{custodian_in, files_in, judged_volumes, reached_in, verdict_of}
+use Rattle.gaz_kept.specs.Files.{verdicts_in, volume_in}
 use Rattle.gaz_kept.specs.Kept.{AreFirst, ArePassages, AreThrough, IsFile}
 use Rattle.gaz_kept.specs.Versions.{histories_in, passages_in, view_in}
 
@@ -58,7 +59,8 @@ pub record IsVerdict (state place rule : ℕ) (v : Verdict) : Type 0 where
 
 abbrev pub UpdateJudges : Type 0
 UpdateJudges = (c state place rule : ℕ) (v : Verdict) (old new : List Row)
-    → IsVerdict state place rule v → AreFiles old → AreFirst old c → (r : Row) → Has old r → IsVolume c (reached_in old c + 1) r
+    → IsVerdict state place rule v → AreFiles old → AreFirst old c
+    → (r : Row) → Has old r → IsVolume c (reached_in old c + 1) r
     → IsChanged (IsVolume c (reached_in old c + 1)) (judged state (pos place) rule) old new
     → IsJudged c (reached_in old c + 1) v old new
 

@@ -1,5 +1,6 @@
 -- What is written when a judgement is kept, and what the tables stand for then.
-use Rattle.std.specs.Prelude.{◌≡◌, ◌==◌, true, ℕ, pos, if◌then◌else◌, List, [], ◌∷◌, Option, Some, None, Result, OnOk}
+use Rattle.std.specs.Prelude.{◌≡◌, ◌==◌, true, ℕ, pos, if◌then◌else◌, List, [], ◌∷◌}
+use Rattle.std.specs.Prelude.{Option, Some, None, Result, OnOk}
 use Rattle.std.specs.FinMap as finite
 use Rattle.std.specs.String.{string_bytes}
 use Rattle.sqlite.specs.Effect.{Database}

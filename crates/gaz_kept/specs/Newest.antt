@@ -32,8 +32,8 @@ SaysNewest k (r ∷ rows) (Some life) = SaysLife k r life
 -- ---- what it is of the histories
 
 -- of the rows of a key that pass, this was born last
-pub record IsLatest (Passes : HistoryRow → Type 0) (rows : List HistoryRow) (k : Key) (h : HistoryRow)
-    : Type 0 where
+pub record IsLatest (Passes : HistoryRow → Type 0) (rows : List HistoryRow) (k : Key)
+    (h : HistoryRow) : Type 0 where
   pub there : Has rows h
   pub of_key : h.key ≡ k
   pub passes : Passes h

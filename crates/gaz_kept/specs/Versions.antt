@@ -1,5 +1,6 @@
 -- What the rows of `version2` stand for.
-use Rattle.std.specs.Prelude.{ℕ, pos, negsuc, ◌==◌, if◌then◌else◌, List, [], Option, None, option_map}
+use Rattle.std.specs.Prelude.{ℕ, pos, negsuc, ◌==◌, if◌then◌else◌, List, []}
+use Rattle.std.specs.Prelude.{Option, None, option_map}
 use Rattle.std.specs.List.{filter_map}
 use Rattle.sqlite.specs.declared.types.Value.{Value}
 use Rattle.sqlite.specs.declared.types.Value.TheVariants.{Null, Int, Real, Text, Blob}
@@ -14,7 +15,8 @@ use Rattle.gaz_cells.specs.Custody.{CustodyValue, custody_cells, custody_in}
 use Rattle.gaz_cells.specs.Reading.{read_cells}
 use Rattle.gaz_overlay.specs.Passages.{PassageRow}
 use Rattle.gaz_overlay.specs.Rows.{HistoryRow, view_of_rows}
-use Rattle.gaz_tables.specs.Versions.{blpu_of, body_of, born_of, cust_of, gone_of, hop_of, id_of, kind_of, lang_of, live_of, street_of, version_values}
+use Rattle.gaz_tables.specs.Versions.{blpu_of, body_of, born_of, cust_of, gone_of, hop_of, id_of}
+use Rattle.gaz_tables.specs.Versions.{kind_of, lang_of, live_of, street_of, version_values}
 
 -- ---- values
 

@@ -3,8 +3,8 @@ ghost use Rattle.std.specs.Prelude.{◌≡◌, if◌then◌else◌};
 ghost use Rattle.gaz_overlay.specs.Rows.{never};
 ghost use Rattle.gaz_overlay.specs.Writings.{writing_at};
 ghost use Rattle.gaz_tables.specs.Stores.{AddsRow, StaysInside};
-ghost use Rattle.gaz_kept.specs.Keeping.{AddsItem, ClosesRow, WritesKey, WritesKeys, WritesVersions};
-ghost use Rattle.gaz_kept.specs.Keeping.{row_values};
+ghost use Rattle.gaz_kept.specs.Keeping.{AddsItem, ClosesRow, WritesKey, WritesKeys};
+ghost use Rattle.gaz_kept.specs.Keeping.{WritesVersions, row_values};
 ghost use Rattle.gaz_kept.specs.Versions.{values_of};
 
 use crate::decoding::{kind_in, name_of};

@@ -34,8 +34,8 @@ pub fn statements_change()
     ensures { StatementsChange }
 {}
 
-/// What became of a number is what its row of kind 92 says that was born last. An INSERT brings one,
-/// an UPDATE of `gone` ends one; no other custodian's rows and no item's change by that.
+/// What became of a number is what its row of kind 92 says that was born last. An INSERT brings
+/// one, an UPDATE of `gone` ends one; no other custodian's rows and no item's change by that.
 pub fn passages_change()
     ensures { PassagesChange }
 {}
@@ -57,8 +57,8 @@ pub fn board_changes()
     ensures { BoardChanges }
 {}
 
-/// A new store stands for nothing; a file that comes, and a volume that is rejected, make of what the
-/// tables stand for what a keeper's calls say.
+/// A new store stands for nothing; a file that comes, and a volume that is rejected, make of what
+/// the tables stand for what a keeper's calls say.
 pub fn tables_stand()
     ensures { TablesStand }
 {}
@@ -73,8 +73,8 @@ pub fn create_opens()
     ensures { CreateOpens }
 {}
 
-/// A row of `meta` that gets another register keeps what the tables stand for, and makes of a store of
-/// one register one of the other.
+/// A row of `meta` that gets another register keeps what the tables stand for, and makes of a store
+/// of one register one of the other.
 pub fn rewrites_stand()
     ensures { RewritesStand }
 {}

@@ -74,9 +74,9 @@ pub fn is_first<S: Alter>(conn: &Connection<S>) -> bool
     has_first(conn.schema())
 }
 
-/// Tells that the database is a store of a register, as `check` does, or makes one of it where it is
-/// of schema 1, in one transaction: each row of `version` moves to `version2`, and `meta` says schema
-/// 2. A store is left as it is.
+/// Tells that the database is a store of a register, as `check` does, or makes one of it where it
+/// is of schema 1, in one transaction: each row of `version` moves to `version2`, and `meta` says
+/// schema 2. A store is left as it is.
 ///
 /// In this order: `BadSchema` where neither the tables of schema 2 are there nor those of schema 1
 /// alone, with their columns, or the rows of `meta` aren't just one, of id 1 and of that schema's

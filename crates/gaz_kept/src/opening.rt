@@ -150,7 +150,8 @@ pub fn create<S: Alter>(
         ↔ IsTrue (has_any (state S.Store conn.old).now.schema) }
     ensures causes { result ≢ Err StoreRefusal.OtherRegister }
     ensures rests { RestsRefused S.Store conn.old conn.new result }
-    ensures leaves { MayCreate S.Store conn.old conn.new schema_number (register_text register.now) }
+    ensures leaves { MayCreate S.Store conn.old conn.new schema_number
+        (register_text register.now) }
     ensures certain { OnOk result (LeavesTheCommit (state S.Store conn.new)) }
 {
     if has_any(conn.schema()) {

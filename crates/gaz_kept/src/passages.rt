@@ -2,7 +2,8 @@
 ghost use Rattle.std.specs.Prelude.{◌≡◌, IfOk};
 ghost use Rattle.gaz_ids.specs.Numbers.{of_id};
 ghost use Rattle.gaz_cells.specs.Custody.{custody_by, custody_told};
-ghost use Rattle.gaz_kept.specs.NewestPassages.{IsBare, SaysPassage, SaysPassed, born_of, custody_of};
+ghost use Rattle.gaz_kept.specs.NewestPassages.{IsBare, SaysPassage, SaysPassed};
+ghost use Rattle.gaz_kept.specs.NewestPassages.{born_of, custody_of};
 
 use crate::decoding::{RowFault, number, text};
 use gaz_ids::{Code, Hop};

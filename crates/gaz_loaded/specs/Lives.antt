@@ -1,5 +1,6 @@
 -- What a keeper lists, and how much of it is at hand.
-use Rattle.std.specs.Prelude.{◌≡◌, ◌≤◌, ◌<◌, ◌==◌, ⊤, ℕ, ℤ, ◌<ℤ◌, ◌≤ℤ◌, if◌then◌else◌, List, Option, Some, None, unwrap_or}
+use Rattle.std.specs.Prelude.{◌≡◌, ◌≤◌, ◌<◌, ◌==◌, ⊤, ℕ, ℤ, ◌<ℤ◌, ◌≤ℤ◌, if◌then◌else◌, List}
+use Rattle.std.specs.Prelude.{Option, Some, None, unwrap_or}
 use Rattle.std.specs.List.{filter_map}
 use Rattle.sqlite_rules.specs.Lists.{Has}
 use Rattle.gaz_records.specs.Keys.{key_of}

@@ -1,5 +1,6 @@
 -- What a keeper tells when it lists what it keeps.
-use Rattle.std.specs.Prelude.{◌≡◌, ◌≤◌, ◌<◌, ◌-◌, ⊤, ℕ, ℤ, true, List, [], ◌∷◌, IsSome, Option, Some, None, Result, length, slice_get}
+use Rattle.std.specs.Prelude.{◌≡◌, ◌≤◌, ◌<◌, ◌-◌, ⊤, ℕ, ℤ, true, List, [], ◌∷◌, IsSome}
+use Rattle.std.specs.Prelude.{Option, Some, None, Result, length, slice_get}
 use Rattle.std.specs.FinMap as map
 use Rattle.std.specs.Global.{Vec}
 use Rattle.std.specs.List.{All}

@@ -8,8 +8,8 @@ pub record IsInStep (lower upper : Progress) : Type 0 where
   pub same : upper ≡ lower
   pub whole : lower ≢ Broken
 
--- the upper one is in the judgement that is gathered, and the lower one in none; unless it was tried
--- to hand that down, there isn't a broken one below either
+-- the upper one is in the judgement that is gathered, and the lower one in none; unless it was
+-- tried to hand that down, there isn't a broken one below either
 pub record IsAhead (lower upper : Progress) (gathered : Gathered) : Type 0 where
   pub judging : upper ≡ Open gathered.code
   pub closed : IsNotOpen lower

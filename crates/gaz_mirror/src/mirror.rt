@@ -12,10 +12,11 @@ use std::alloc::Global;
 /// Keeps one content twice: below, where it is to last, and at hand above, where it is read.
 ///
 /// A judgement is made above and gathered, and handed down in one go when it is kept; one that is
-/// given up never comes below. Every other change goes to the lower keeper first, and is answered by
-/// it. Each reading is answered by the upper one, or by the lower one where the upper one can't: what
-/// is gathered is handed down before. After any fault of either in a change the upper one is dropped,
-/// and the lower one answers everything; so too where that can't make sure between judgements.
+/// given up never comes below. Every other change goes to the lower keeper first, and is answered
+/// by it. Each reading is answered by the upper one, or by the lower one where the upper one can't:
+/// what is gathered is handed down before. After any fault of either in a change the upper one is
+/// dropped, and the lower one answers everything; so too where that can't make sure between
+/// judgements.
 #[derive(Drop)]
 pub struct Mirror<L: Inbox + Drop, U: Unshared + Drop> {
     pub(crate) lower: L,

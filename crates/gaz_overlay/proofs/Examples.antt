@@ -18,7 +18,7 @@ use Rattle.gaz_views.specs.Examples.{one_street, street}
 use Rattle.gaz_views.specs.Lawful.{IsLawfulView}
 use Rattle.gaz_views.specs.View.{View, empty_view, was_used, with_item, without_key}
 use Rattle.gaz_overlay.specs.Changes.{Changes, Touched, no_changes, was_there, with_put, with_touched}
-use Rattle.gaz_overlay.specs.Examples.{WorkedChanges, WorkedExamples, WorkedRows, WorkedViews, WorkedWritings, row, three_streets, two_touched}
+use Rattle.gaz_overlay.specs.Examples.{WorkedChanges, WorkedExamples, WorkedRows, WorkedViews, WorkedWritings, first_put, row, three_streets, two_touched}
 use Rattle.gaz_overlay.specs.Laid.{laid, with_copied}
 use Rattle.gaz_overlay.specs.Questions.{in_order}
 use Rattle.gaz_overlay.specs.Rows.{HistoryRow, closed, added, is_of_birth, new_row, written}
@@ -89,9 +89,6 @@ views_hold =
     }
 
 -- ---- changes
-
-abbrev first_put : Changes
-first_put = with_put (with_touched no_changes (key.Street 101) (Since 1) (Some (street 101))) (street 101)
 
 abbrev touch_of_first : Touch
 touch_of_first = record { stood = Since 1; last = Some (street 101) }

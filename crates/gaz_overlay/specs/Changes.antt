@@ -64,7 +64,10 @@ with_touched c k stood found = record c {
 abbrev pub with_put : Changes → Item → Changes
 with_put c i = record c {
   view = with_item c.view i;
-  touched = map.insert c.touched (key_of i) (record { stood = stood_in c.touched (key_of i); last = Some i });
+  touched = map.insert c.touched (key_of i) (record {
+    stood = stood_in c.touched (key_of i);
+    last = Some i;
+  });
 }
 
 -- the item of a touched key is taken

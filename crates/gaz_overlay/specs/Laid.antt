@@ -13,7 +13,7 @@ use Rattle.gaz_views.specs.declared.custody.Custody.{Custody}
 abbrev pub untouched : View → Key → Bool
 untouched s k = not (was_used s k)
 
--- or of one of these
+-- the changes have nothing to say of one of these keys
 abbrev pub any_untouched : View → List Key → Bool
 any_untouched s keys = list_any (untouched s) keys
 
@@ -26,7 +26,8 @@ laid_custody was passed = map.from_entries (map.entries passed ++ map.entries wa
 -- has used. Of a number that the changes have passed on what they say, else what the view says
 unfoldable pub laid : View → View → View
 laid v s = record {
-  items = map.from_entries (map.entries s.items ++ map.entries (map.retain_keys v.items (untouched s)));
+  items = map.from_entries (map.entries s.items
+      ++ map.entries (map.retain_keys v.items (untouched s)));
   used = set.union v.used s.used;
   custody = laid_custody v.custody s.custody;
 }

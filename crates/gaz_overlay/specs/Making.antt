@@ -24,17 +24,19 @@ abbrev pub IsSince : View → Changes → ℕ → Option ℕ → Type 0
 IsSince v c uprn since =
     is_passed c uprn ≡ false → is_some since ≡ is_some (custody_at v uprn)
 
--- no changes make the last view; to touch a key alters nothing, to put and to take do just that; the
--- changes alone say which item stands at a touched key, the last view what it has at others; a key is
--- used where the changes or the last view say so; what is to be written for a key is an entry of that
--- key
+-- what changes make of the last view, and what they say of the view that they make
 pub record ChangesMake : Type 0 where
+  -- no changes make the last view
   pub nothing : (v : View) → Make v no_changes v
-  pub touched : (v : View) (c : Changes) (w : View) → IsLawfulView v → Make v c w → (k : Key) (stood : Stood) → is_touched c k ≡ false
-      → IsStood stood (key_view v k) → Make v (with_touched c k stood (map.get v.items k)) w
+  -- to touch a key alters nothing
+  pub touched : (v : View) (c : Changes) (w : View) → IsLawfulView v → Make v c w
+      → (k : Key) (stood : Stood) → is_touched c k ≡ false → IsStood stood (key_view v k)
+      → Make v (with_touched c k stood (map.get v.items k)) w
+  -- to put and to take, to release and to adopt do just that
   pub put : (v : View) (c : Changes) (w : View) → Make v c w → (i : Item) → is_entry i ≡ true
       → is_touched c (key_of i) ≡ true → Make v (with_put c i) (with_item w i)
-  pub taken : (v : View) (c : Changes) (w : View) → Make v c w → (k : Key) → is_touched c k ≡ true → Make v (with_taken c k) (without_key w k)
+  pub taken : (v : View) (c : Changes) (w : View) → Make v c w → (k : Key) → is_touched c k ≡ true
+      → Make v (with_taken c k) (without_key w k)
   pub released : (v : View) (c : Changes) (w : View) → Make v c w → (uprn to hop : ℕ)
       → (since : Option ℕ) → is_touched c (key.Blpu uprn) ≡ true → IsSince v c uprn since
       → Make v (with_released c uprn to hop since) (with_release w uprn to hop)
@@ -45,11 +47,17 @@ pub record ChangesMake : Type 0 where
   -- of a number that was passed on the changes say what became of it, of others the last view
   pub custody : (v : View) (c : Changes) (w : View) → Make v c w → (uprn : ℕ)
       → custody_at w uprn ≡ custody_laid_at v c.view uprn
+  -- which item stands at a touched key the changes alone say
   pub there : (v : View) (c : Changes) (w : View) → Make v c w → (k : Key) → is_touched c k ≡ true
       → map.get w.items k ≡ map.get c.view.items k
+  -- a key is used where the changes or the last view say so
   pub used : (v : View) (c : Changes) (w : View) → Make v c w → (k : Key)
       → was_used w k ≡ (was_used_in c k || was_used v k)
-  pub elsewhere : (v : View) (c : Changes) (w : View) → Make v c w → (k : Key) → is_touched c k ≡ false → key_view w k ≡ key_view v k
-  pub own : (v : View) (c : Changes) (w : View) → Make v c w → (k : Key) (r : NewRow) → (writing_at c k).adds ≡ Some r → key_of r.item ≡ k
+  -- at a key that isn't touched it is as in the last view
+  pub elsewhere : (v : View) (c : Changes) (w : View) → Make v c w → (k : Key)
+      → is_touched c k ≡ false → key_view w k ≡ key_view v k
+  -- what is to be written for a key is an entry of that key
+  pub own : (v : View) (c : Changes) (w : View) → Make v c w → (k : Key) (r : NewRow)
+      → (writing_at c k).adds ≡ Some r → key_of r.item ≡ k
   pub entries : (v : View) (c : Changes) (w : View) → Make v c w → (k : Key) (r : NewRow)
       → (writing_at c k).adds ≡ Some r → is_entry r.item ≡ true

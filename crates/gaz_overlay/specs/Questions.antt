@@ -1,4 +1,4 @@
--- What is asked of a view, answered for a laid view from answers for the last one and for the changes.
+-- What is asked of a view, answered for a laid view from answers for the last one and the changes.
 use Rattle.std.specs.Prelude.{◌≡◌, ◌||◌, ◌++◌, ℕ, Bool, List, map, filter, Option, option_map}
 use Rattle.std.specs.FinMap as finite
 use Rattle.std.specs.List.{list_any}
@@ -11,7 +11,8 @@ use Rattle.gaz_records.specs.declared.key.Key.{Key}
 use Rattle.gaz_records.specs.declared.key.Key.TheVariants as key
 use Rattle.gaz_views.specs.Lawful.{IsLawfulView}
 use Rattle.gaz_views.specs.View.{View}
-use Rattle.gaz_views.specs.Words.{approved_of, approved_on, entries, has_children, first_of, is_approved_on, is_child_of, names, property_of, tied}
+use Rattle.gaz_views.specs.Words.{approved_of, approved_on, entries, has_children, first_of}
+use Rattle.gaz_views.specs.Words.{is_approved_on, is_child_of, names, property_of, tied}
 use Rattle.gaz_views.specs.declared.property.Property.{Property}
 use Rattle.gaz_overlay.specs.Laid.{any_untouched, laid, untouched}
 
@@ -38,18 +39,28 @@ both s last own = in_order (filter (untouched s) last ++ own)
 -- the property of a view whose addresses have these keys: its address is the item of the first
 abbrev pub property_at : View → ℕ → List Key → Option Property
 property_at v uprn keys =
-    option_map (λ blpu. record { blpu = blpu; address = option_and_then (finite.get v.items) (first_of keys) })
+    option_map
+    (λ blpu. record { blpu = blpu; address = option_and_then (finite.get v.items) (first_of keys) })
     (finite.get v.items (key.Blpu uprn))
+
+-- a property's approved addresses of both
+abbrev pub both_approved : View → View → ℕ → List Key
+both_approved v s uprn = both s (approved_of v uprn) (approved_of s uprn)
+
+-- an item of the view passes a test whose key the changes haven't used
+abbrev pub any_left : (Item → Bool) → View → View → Bool
+any_left p v s = any_untouched s (keys_with p v)
 
 pub record LaidAnswers (v s : View) : Type 0 where
   -- the first of the addresses is that of the property
-  pub property_of : (uprn : ℕ) → property_of (laid v s) uprn ≡ property_at (laid v s) uprn (both s (approved_of v uprn) (approved_of s uprn))
-  pub approved_of : (uprn : ℕ) → approved_of (laid v s) uprn ≡ both s (approved_of v uprn) (approved_of s uprn)
-  pub approved_on : (usrn : ℕ) (lang : Option Lang)
-      → approved_on (laid v s) usrn lang ≡ (any_untouched s (keys_with (is_approved_on usrn lang) v) || approved_on s usrn lang)
-  pub has_children : (uprn : ℕ) → has_children (laid v s) uprn ≡ (any_untouched s (keys_with (is_child_of uprn) v) || has_children s uprn)
-  pub tied : (uprn : ℕ)
-      → tied (laid v s) uprn ≡ (any_untouched s (keys_with (names uprn) v) || tied s uprn)
+  pub property_of : (uprn : ℕ)
+      → property_of (laid v s) uprn ≡ property_at (laid v s) uprn (both_approved v s uprn)
+  pub approved_of : (uprn : ℕ) → approved_of (laid v s) uprn ≡ both_approved v s uprn
+  pub approved_on : (usrn : ℕ) (lang : Option Lang) → approved_on (laid v s) usrn lang
+      ≡ (any_left (is_approved_on usrn lang) v s || approved_on s usrn lang)
+  pub has_children : (uprn : ℕ)
+      → has_children (laid v s) uprn ≡ (any_left (is_child_of uprn) v s || has_children s uprn)
+  pub tied : (uprn : ℕ) → tied (laid v s) uprn ≡ (any_left (names uprn) v s || tied s uprn)
 
 -- each question of a laid view is answered from what the last view and the changes answer
 abbrev pub LaidQuestions : Type 0

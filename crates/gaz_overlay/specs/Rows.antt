@@ -1,6 +1,6 @@
--- The rows in which tables keep a custodian's histories, and what becomes of them when a volume is kept.
-use Rattle.std.specs.Prelude.{◌≡◌, ◌≤◌, ◌<◌, ◌+◌, ◌==◌, ◌&&◌, ◌⊎◌, ◌++◌, ℕ, false, Bool, nat_le, nat_lt}
-use Rattle.std.specs.Prelude.{List, [], ◌∷◌, map, filter, Option, option_map, if◌then◌else◌}
+-- The rows in which tables keep a custodian's histories, and what becomes of them with a volume.
+use Rattle.std.specs.Prelude.{◌≡◌, ◌≤◌, ◌<◌, ◌+◌, ◌==◌, ◌&&◌, ◌⊎◌, ◌++◌, ℕ, false, Bool, nat_le}
+use Rattle.std.specs.Prelude.{nat_lt, List, [], ◌∷◌, map, filter, Option, option_map, if◌then◌else◌}
 use Rattle.std.specs.FinMap as finite
 use Rattle.std.specs.FinSet as set
 use Rattle.std.specs.List.{AllByRecursion, filter_map}
@@ -49,18 +49,21 @@ is_of_birth born r = option_map_or (λ b. b == r.born) born false
 
 -- the row, gone with a volume where the changes close it
 abbrev pub closed : ℕ → Changes → HistoryRow → HistoryRow
-closed volume c r = if is_of_birth (writing_at c r.key).closes r then record r { gone = volume } else r
+closed volume c r =
+    if is_of_birth (writing_at c r.key).closes r then record r { gone = volume } else r
 
 -- a row that is born in a volume, and gone with it unless it is current
 abbrev pub new_row : ℕ → Key → NewRow → HistoryRow
-new_row volume k n = record { key = k; born = volume; gone = if n.current then never else volume; item = n.item }
+new_row volume k n =
+    record { key = k; born = volume; gone = if n.current then never else volume; item = n.item }
 
 abbrev pub added : ℕ → Changes → Key → Option HistoryRow
 added volume c k = option_map (new_row volume k) (writing_at c k).adds
 
 -- the rows once each touched key is written for a volume
 unfoldable pub written : ℕ → Changes → List HistoryRow → List HistoryRow
-written volume c rows = map (closed volume c) rows ++ filter_map (added volume c) (finite.keys c.touched)
+written volume c rows =
+    map (closed volume c) rows ++ filter_map (added volume c) (finite.keys c.touched)
 
 -- ---- histories through a volume
 
@@ -78,7 +81,7 @@ pub record IsBefore (a b : HistoryRow) : Type 0 where
 abbrev pub AreApart : HistoryRow → HistoryRow → Type 0
 AreApart a b = a.key ≡ b.key → IsBefore a b ⊎ IsBefore b a
 
--- so it is of each two
+-- each two of these rows are so apart
 abbrev pub AllApart : List HistoryRow → Type 0
 AllApart [] = Unit {0}
 AllApart (r ∷ rows) = AllByRecursion (AreApart r) rows × AllApart rows

@@ -138,8 +138,8 @@ impl Overlay {
         self.ledger.ledger().item(WORKING, key)
     }
 
-    /// Whether a touched key had a row, or an item was put there. Whether it was used without either,
-    /// by a number that was passed on, the last view says.
+    /// Whether a touched key had a row, or an item was put there. Whether it was used without
+    /// either, by a number that was passed on, the last view says.
     pub fn was_used(&self, key: &Key) -> bool
         ensures { result ≡ was_used_in self.now key.now }
     {

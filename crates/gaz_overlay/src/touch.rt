@@ -9,7 +9,7 @@ use std::alloc::AllocError;
 /// What the tables have at a key before the volume.
 #[derive(Clone, Copy, PartialEq, Eq)]
 pub enum Stood {
-    /// No row. The key was used all the same where it is that of the BLPU of a number that was passed on.
+    /// No row. The key was used all the same where a number was passed on whose BLPU has it.
     NoRow,
     /// Rows that are gone, and no current one.
     Past,

@@ -12,8 +12,8 @@ use std::io;
 /// A read within the file gives its bytes, and one beyond its end fails. A write puts its bytes in
 /// their place and changes no other; where it begins behind the end, zeros fill what lies between.
 /// A new length cuts the file, or adds zeros. A write and a greater length fail for want of memory
-/// alone, which is counted. The file goes with the process, so a crash leaves what a read gives, and
-/// a sync has nothing to do.
+/// alone, which is counted. The file goes with the process, so a crash leaves what a read gives,
+/// and a sync has nothing to do.
 #[derive(Drop)]
 pub struct QuietDisk {
     bytes: Vec<u8>,

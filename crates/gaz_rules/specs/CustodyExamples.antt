@@ -29,8 +29,8 @@ without_1001 = with_release with_1001 1001 1002 1
 abbrev pub with_500 : ℕ → View
 with_500 hop = with_adoption empty_view alone 1002 hop
 
--- rule 20 asks who holds the number, and rule 40 for the next hop; that the key was used is no fault
--- of a release, nor that its BLPU isn't there
+-- rule 20 asks who holds the number, and rule 40 for the next hop; that the key was used is no
+-- fault of a release, nor that its BLPU isn't there
 pub record WorkedReleases : Type 0 where
   pub there : broken with_1001 Insert (release 1001 1) ≡ None
   pub never_there : broken empty_view Insert (release 1001 1) ≡ None

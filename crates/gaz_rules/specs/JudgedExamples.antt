@@ -31,7 +31,8 @@ change place action item = record { place = place; action = action; item = item 
 -- the file with these changes leaves the view after them all
 abbrev pub applies : View → List Change → Type 0
 applies v changes =
-    judge 1001 own v [] (file_of changes) ≡ record { verdict = Applied; view = fold effect v changes }
+    judge 1001 own v [] (file_of changes)
+    ≡ record { verdict = Applied; view = fold effect v changes }
 
 -- it is rejected at this record with this rule, and nothing of it stays
 abbrev pub rejects : View → List Change → ℕ → ℕ → Type 0
@@ -43,8 +44,10 @@ one_name = with_item one_street (name 101 Eng)
 
 -- what becomes of a file
 pub record WorkedFiles : Type 0 where
-  pub bad : judge 1001 own one_street [] (Bad 3 8) ≡ record { verdict = Rejected 3 8; view = one_street }
-  pub empty : judge 1001 own one_street [] (file_of []) ≡ record { verdict = Applied; view = one_street }
+  pub bad : judge 1001 own one_street [] (Bad 3 8)
+      ≡ record { verdict = Rejected 3 8; view = one_street }
+  pub empty : judge 1001 own one_street [] (file_of [])
+      ≡ record { verdict = Applied; view = one_street }
   pub inserted : judge 1001 own empty_view [] (file_of (insertion ∷ []))
       ≡ record { verdict = Applied; view = one_street }
   pub updated : judge 1001 own one_street [] (file_of (change 2 Update (closed_street 101) ∷ []))

@@ -35,7 +35,7 @@ pub record StaysSound : Type 0 where
   pub after_file : (own : Owners) (c : ℕ) (v : View) (others : List (ℕ × View)) (r : Reading)
       → AreDisjoint own → IsSound (own c) v → AreSoundBases own c others
       → IsSound (own c) (judge c (own c) v others r).view
-  -- in a sound view no key breaks rule 31 or rule 35, nor is there one that isn't there and is named
+  -- in a sound view no key breaks rule 31 or rule 35, nor is one named that isn't there
   pub whole : (own : Blocks) (v : View) (k : Key) → IsSound own v
       → (is_untied v k ≡ false) × (is_apart v k ≡ false)
 
@@ -51,9 +51,9 @@ pub record BoardsStaySound : Type 0 where
 
 -- ---- own numbers stay own
 
--- rule 20 and custody keep them, whatever the basis views are; and no number is in the own blocks of
--- two custodians of a register. That no two hold a number once it passed on is a law of boards, not
--- of any two views
+-- rule 20 and custody keep them, whatever the basis views are; and no number is in the own blocks
+-- of two custodians of a register. That no two hold a number once it passed on is a law of boards,
+-- not of any two views
 pub record OwnNumbersStay : Type 0 where
   pub empty : (own : Blocks) → HoldsOwn own empty_view
   pub after_file : (c : ℕ) (own : Blocks) (v : View) (others : List (ℕ × View)) (r : Reading)

@@ -18,7 +18,7 @@ made_of uprn (item.Adopt a) = if uprn == a.blpu.uprn then Some (Adopted a.from a
 made_of uprn _ = None
 
 -- what the rules ask of it in a file of custodian c: only who holds the number releases it, at the
--- next hop; and it is adopted by whom it was released to, at that hop, which is greater than the own
+-- next hop; and whom it was released to adopts it, at that hop, which is greater than the own
 abbrev pub IsAsked : ℕ → Blocks → List (ℕ × View) → View → ℕ → Custody → Type 0
 IsAsked c own others v uprn (Released to hop) =
     (holds_number own v uprn ≡ true) × (hop ≡ hop_at v uprn + 1)

@@ -136,11 +136,11 @@ fn conclude<K: Shelf>(
 /// Judges a good file as its custodian's next volume, which is to be at hand, where all its bases
 /// are reached.
 ///
-/// The changes go into the working view, each asked the record rules (20 to 24, 40 to 42) first; then the
-/// keys that they touched are asked the end rules (30 to 39), in file order. The answer is the
-/// verdict that the keeper then has. After a fault, `Memory` or `Store`, the keeper's board is as
-/// it was. Whatever is answered, no judgement is in progress any more. That `Memory` isn't answered
-/// without need no clause says: `checks/large.py` asks it of 5,000 changes.
+/// The changes go into the working view, each asked the record rules (20 to 24, 40 to 42) first;
+/// then the keys that they touched are asked the end rules (30 to 39), in file order. The answer is
+/// the verdict that the keeper then has. After a fault, `Memory` or `Store`, the keeper's board is
+/// as it was. Whatever is answered, no judgement is in progress any more. That `Memory` isn't
+/// answered without need no clause says: `checks/large.py` asks it of 5,000 changes.
 pub fn judge<K: Shelf>(
     alloc: Global,
     keeper: &mut K,

@@ -16,7 +16,7 @@ use gaz_records::{Key, SharedItem};
 /// The end rules that a key breaks by itself.
 #[derive(Clone, Copy)]
 pub(crate) struct KeyFaults {
-    /// The second half of rule 31: a BLPU that isn't there, and an LPI or a cross reference names it.
+    /// The second half of rule 31: a BLPU that isn't there, and an LPI or cross reference names it.
     pub(crate) leaves_ties: bool,
     /// The second half of rule 34: a descriptor that isn't there, and an approved LPI needs it.
     pub(crate) leaves_lpi: bool,

@@ -48,7 +48,8 @@ pub const OLD_MILL_APPROVED: &[u8] = b"10,1,1003,2,2024-04-02\n\
     21,D,6,200002,1,0,0,200000,BY1 1AA,2024-04-01,\n\
     99,6\n";
 
-/// 1002/1, resting on 1001/1 and 1003/1: property 100002, 9 Mill Lane, with a flat and tax numbers of both.
+/// 1002/1, resting on 1001/1 and 1003/1: property 100002, 9 Mill Lane, with a flat and tax numbers
+/// of both.
 pub const NUMBER_9_MILL_LANE: &[u8] = b"10,1,1002,1,2024-03-01\n\
     90,1001,1\n\
     90,1003,1\n\

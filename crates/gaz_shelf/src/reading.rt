@@ -11,8 +11,8 @@ use gaz_keeper::{Shelf, ShelfFault};
 use gaz_records::{Key, Kind, SharedItem, key_of};
 use std::alloc::Global;
 
-/// All items of a kind of entries after a volume, which is to be reached, in key order, read `most` at a time,
-/// which is at least 1.
+/// All items of a kind of entries after a volume, which is to be reached, in key order, read `most`
+/// at a time, which is at least 1.
 ///
 /// `Memory` too where a keeper answers more items than memory holds.
 pub fn read_kind<S: Shelf>(

@@ -15,7 +15,8 @@ use Rattle.gaz_store.specs.Seen.{IsUnharmed}
 use Rattle.gaz_store.specs.declared.tables.Tables.{Tables}
 
 -- what a stop may leave where the database becomes another
-pub record MayWrite (old : State) (Becomes : Database → Database → Type 0) (trees : Trees) : Type 0 where
+pub record MayWrite (old : State) (Becomes : Database → Database → Type 0)
+    (trees : Trees) : Type 0 where
   pub unharmed : IsUnharmed old
   pub db : Database
   pub shown : trees ≡ db.trees

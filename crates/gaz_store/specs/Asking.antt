@@ -1,5 +1,6 @@
 -- What a call tells that asks the tables and writes nothing.
-use Rattle.std.specs.Prelude.{◌≡◌, ◌≤◌, ◌<◌, ⊤, false, ℕ, Result, Ok, IfOk, IfErr, IsTrue, OnOk, OnErr}
+use Rattle.std.specs.Prelude.{◌≡◌, ◌≤◌, ◌<◌, ⊤, false, ℕ}
+use Rattle.std.specs.Prelude.{Result, Ok, IfOk, IfErr, IsTrue, OnOk, OnErr}
 use Rattle.sqlite.specs.declared.error.Error.{Error}
 use Rattle.sqlite.specs.Effect.{Database}
 use Rattle.sqlite.specs.Held.{state}
@@ -51,8 +52,8 @@ pub record Recalls {S : Type 0} {store : Ghosts S} {T : Type 0} (old new : Table
 
 -- ---- within a call
 
--- a statement may be asked of the tables: their connection is open, where the disk returned what was
--- written, and shows what was committed; that it is open isn't known any more once one was asked
+-- a statement may be asked of the tables: their connection is open, where the disk returned what
+-- was written, and shows what was committed; once one was asked it isn't known to be open
 pub record AreReady {S : Type 0} {store : Ghosts S} (t : Tables S store) : Type 0 where
   pub is_open : HasCleanDisk (state store t.conn) → IsTrue (state store t.conn).is_open
   pub settled : IsSettled (state store t.conn)

@@ -1,6 +1,7 @@
 -- What the rows of `version2` say one after the other, in the order of their rowids.
 use Rattle.std.specs.Prelude.{◌≡◌, ◌≤◌, ◌==◌, ℕ, ℤ, pos, ◌<ℤ◌, ◌≤ℤ◌, ⊤, Bool, true, not, All}
-use Rattle.std.specs.Prelude.{if◌then◌else◌, List, [], length, map, filter, Option, None, Some, option_map}
+use Rattle.std.specs.Prelude.{if◌then◌else◌, List, [], length, map, filter}
+use Rattle.std.specs.Prelude.{Option, None, Some, option_map}
 use Rattle.sqlite.specs.declared.types.Value.TheVariants.{Int}
 use Rattle.sqlite.specs.Edit.{id_in}
 use Rattle.sqlite.specs.Effect.{Database}
@@ -88,7 +89,7 @@ IsRowBehind (Some after) = IsPlacedBehind after
 abbrev pub IsRowUntil : ℤ → Row → Type 0
 IsRowUntil last r = (n : ℤ) × (rowid_of r ≡ Int n) × (n ≤ℤ last)
 
--- these are the lives of the items' rows behind a rowid, from the first on, with none left out between
+-- the lives of the items' rows behind a rowid, from the first on, with none left out between
 pub record TellsLives (after : Option ℤ) (lives : List Life) (rows : List Row)
     : Type 0 where
   -- each is that of a row
@@ -103,7 +104,7 @@ pub record TellsLives (after : Option ℤ) (lives : List Life) (rows : List Row)
   pub ends : lives ≡ [] → (r : Row) → Has rows r → is_items r ≡ true → ¬ IsRowBehind after r
   pub few : length lives ≤ 512
 
--- what is asked for behind a rowid is just what is behind another: no row of an item is between them
+-- what is asked for behind a rowid is just what is behind another: no item's row is between them
 pub record GoesOn (after place : Option ℤ) (rows : List Row) : Type 0 where
   pub to : (r : Row) → Has rows r → is_items r ≡ true → IsRowBehind after r → IsRowBehind place r
   pub from : (r : Row) → IsRowBehind place r → IsRowBehind after r

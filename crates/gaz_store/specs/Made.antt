@@ -1,5 +1,6 @@
 -- The views that a store keeps are made of what it lists.
-use Rattle.std.proofs.Common.{◌≡◌, ◌∙◌, ◌≤◌, ◌<◌, ◌==◌, ℕ, Bool, true, false, cond, List, [], ◌∷◌, refl, sym, ap, subst}
+use Rattle.std.proofs.Common.{◌≡◌, ◌∙◌, ◌≤◌, ◌<◌, ◌==◌, ℕ, Bool, true, false, cond, List, [], ◌∷◌}
+use Rattle.std.proofs.Common.{refl, sym, ap, subst}
 use Rattle.std.specs.Prelude.{Option, Some, None, option_map}
 use Rattle.std.specs.List.{cons_option, filter_map}
 use Rattle.sqlite.specs.Effect.{Database}
@@ -65,11 +66,14 @@ board_of_told db kept = record {
       let r = read_from told_in (db.trees versions) x there in
       own_key r.0 x (item_in r.0) r.2;
   apart = λ c. subst AreInTurn (sym (lives_are c (db.trees versions))) (kept.histories c).apart;
-  passed = λ c. subst (λ n. ArePassages n (passages_in (db.trees versions) c)) (sym (reached_so c)) (kept.passages c);
+  passed = λ c.
+      subst (λ n. ArePassages n (passages_in (db.trees versions) c)) (sym (reached_so c))
+      (kept.passages c);
   few = λ c. subst (λ n. n < rows.never) (sym (reached_so c)) (reached_room db c kept);
   views = λ c t le.
       board_view db kept c t (subst (λ n. t ≤ n) (reached_so c) le)
-      ∙ ap (λ l. rows.view_of_rows l (passages_in (db.trees versions) c) t) (sym (lives_are c (db.trees versions)));
+      ∙ ap (λ l. rows.view_of_rows l (passages_in (db.trees versions) c) t)
+      (sym (lives_are c (db.trees versions)));
 }
   where
     reached_so : (c : ℕ) → reached (board_of db) c ≡ reached_in (db.trees receiveds) c

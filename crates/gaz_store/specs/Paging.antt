@@ -44,8 +44,8 @@ SayItems kind rows items = map (item_said kind) rows ≡ map Some items
 abbrev pub says_lang : Option Lang → Row → Bool
 says_lang lang r = option_map_or (λ l. number_in (column r 1) == lang_number l) lang true
 
--- these are the first so many items of a kind in key order, from where a page begins, after a volume
--- that is reached
+-- these are the first so many items of a kind in key order, from where a page begins, after a
+-- volume that is reached
 abbrev pub IsPageFrom : Board → ℕ → ℕ → Kind → Option (List ℕ) → ℕ → List Item → Type 0
 IsPageFrom board c volume kind start most items =
     (after : Option Key) → IsStart kind after start → IsPageAt board c volume kind after most items

@@ -1,5 +1,6 @@
 -- What is told of a number's newest passage, and what a judgement that passes it on is told.
-use Rattle.std.specs.Prelude.{◌≡◌, ℕ, Bool, false, true, not, List, [], ◌∷◌, Option, None, Some, is_some}
+use Rattle.std.specs.Prelude.{◌≡◌, ℕ, Bool, false, true, not, List, [], ◌∷◌}
+use Rattle.std.specs.Prelude.{Option, None, Some, is_some}
 use Rattle.sqlite.specs.Effect.{Database}
 use Rattle.sqlite_rules.specs.Lists.{Has}
 use Rattle.gaz_records.specs.declared.key.Key.{Key}

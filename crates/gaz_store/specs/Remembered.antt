@@ -7,7 +7,7 @@ use Rattle.gaz_keeper.specs.Received.{count_above}
 use Rattle.gaz_kept.specs.Files.{files_in, reached_in}
 use Rattle.gaz_store.specs.declared.at_hand.AtHand.{AtHand}
 
--- by custodian
+-- what is at hand, by custodian
 abbrev pub Remembered : Type 0
 Remembered = BTreeMap ℕ AtHand
 
@@ -20,7 +20,7 @@ pub record IsSo (files : List Row) (c : ℕ) (h : AtHand) : Type 0 where
   pub reached : h.reached ≡ reached_in files c
   pub held : h.held ≡ held_in files c
 
--- and so it is of each that is at hand
+-- what is at hand says of each custodian what the rows say
 abbrev pub AreSo : Remembered → List Row → Type 0
 AreSo at_hand files = (c : ℕ) → IfSome (get nat_cmp at_hand c) (IsSo files c)
 

@@ -58,7 +58,7 @@ impl<S: Alter> Tables<S> {
     }
 
     /// Makes sure that the connection is open, for one statement: `told` says of its answer whether
-    /// that is still known. It is asked by `if let`, since `?` takes two seconds more of each proof.
+    /// that is still known. It is asked by `if let`: `?` takes two seconds more of each proof.
     pub(crate) fn ready(&mut self) -> Result<(), ShelfFault>
         ensures asks { AsksTables self.old self.new result IsAnyway }
         ensures ready { OnOk result (AreReady self.new) }
@@ -69,7 +69,7 @@ impl<S: Alter> Tables<S> {
         Ok(())
     }
 
-    /// The answer of the connection, which is open where it gave one, or the fault that its error is.
+    /// What the connection answered, which is open then, or the fault that its error is.
     pub(crate) fn told<T>(&mut self, answer: Result<T, Error>) -> Result<T, ShelfFault>
         requires { HasCleanDisk (state S.Store self.old.conn)
             → OnOk answer (IsTrue (state S.Store self.old.conn).is_open) }

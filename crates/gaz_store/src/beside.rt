@@ -4,8 +4,8 @@ ghost use Rattle.std.specs.Option.{option_and_then};
 ghost use Rattle.std.specs.FinMap as map;
 ghost use Rattle.gaz_overlay.specs.Changes.{is_touched};
 ghost use Rattle.gaz_views.specs.View.{custody_at, was_used};
-ghost use Rattle.gaz_views.specs.Words.{approved_of, approved_on, first_of, has_children, property_of};
-ghost use Rattle.gaz_views.specs.Words.{tied};
+ghost use Rattle.gaz_views.specs.Words.{approved_of, approved_on, first_of, has_children};
+ghost use Rattle.gaz_views.specs.Words.{property_of, tied};
 ghost use Rattle.gaz_store.specs.Asking.{AsksTables};
 ghost use Rattle.gaz_store.specs.Beside.{Beside};
 

@@ -37,7 +37,8 @@ impl<S: Alter> Tables<S> {
         Ok(at_hand.held)
     }
 
-    // Both, which are counted where they aren't at hand.
+    // How many are judged and how many wait: what is at hand of them, or else what is counted, which
+    // is at hand from then on.
     fn counts(&mut self, code: Code) -> Result<AtHand, ShelfFault>
         ensures { Recalls self.old self.new result (λ db h. IsSo (db.trees receiveds) code h) }
     {
@@ -54,7 +55,7 @@ impl<S: Alter> Tables<S> {
         }
     }
 
-    // Both, counted.
+    // How many are judged and how many wait, counted by statements.
     fn count(&mut self, code: Code) -> Result<AtHand, ShelfFault>
         ensures { AsksTables self.old self.new result
             (λ db h. IsSo (db.trees receiveds) code h) }

@@ -109,7 +109,8 @@ impl<S: Alter> Tables<S> {
     // known that the custodian passed none on; of another kind of key there is none.
     fn passed_at(&mut self, code: Code, key: &Key, none: bool) -> Result<Option<Passed>, ShelfFault>
         ensures { AsksTables self.old self.new result (λ db passed.
-            (none ≡ true → any_passed db code ≡ false) → is_some passed ≡ was_passed db code key.now) }
+            (none ≡ true → any_passed db code ≡ false)
+            → is_some passed ≡ was_passed db code key.now) }
     {
         if none {
             return Ok(None);
@@ -120,8 +121,8 @@ impl<S: Alter> Tables<S> {
         }
     }
 
-    /// Whether a key was used in a custodian's last view or before it; `none` where it is known that
-    /// the custodian passed no number on.
+    /// Whether a key was used in a custodian's last view or before it; `none` where it is known
+    /// that the custodian passed no number on.
     pub(crate) fn used(&mut self, code: Code, key: &Key, none: bool) -> Result<bool, ShelfFault>
         ensures { AsksTables self.old self.new result (λ db b.
             (none ≡ true → any_passed db code ≡ false) → b ≡ was_used (last_in db code) key.now) }

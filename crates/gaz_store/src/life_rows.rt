@@ -5,7 +5,8 @@ ghost use Rattle.sqlite.specs.declared.types.Value.TheVariants.{Int};
 ghost use Rattle.gaz_records.specs.Items.{is_entry};
 ghost use Rattle.gaz_tables.specs.Versions.{hop_of};
 ghost use Rattle.gaz_kept.specs.Versions.{cells_in, item_in};
-ghost use Rattle.gaz_store.specs.Lives.{AreEntries, IsLifePage, SayLives, gone_in, is_items, life_in};
+ghost use Rattle.gaz_store.specs.Lives.{AreEntries, IsLifePage, SayLives};
+ghost use Rattle.gaz_store.specs.Lives.{gone_in, is_items, life_in};
 
 use gaz_cells::{Bodies, CellFault, Links, Row as Cells};
 use gaz_ids::Code;

@@ -35,8 +35,8 @@ impl<S: Alter, R: OfRegister> Listed for Store<S, R> {
         self.tables.volumes_above(code, volume)
     }
 
-    /// What the rows of items in `version2` say, each with its custodian and the volumes in which its item
-    /// stands, by rising rowids: at most 512.
+    /// What the rows of items in `version2` say, each with its custodian and the volumes in which
+    /// its item stands, by rising rowids: at most 512.
     ///
     /// A row that doesn't read, or whose cells aren't all those of its item, is a counted failure.
     fn lives_behind(&mut self, place: Option<i64>) -> Result<Vec<Life>, ShelfFault>
@@ -57,8 +57,8 @@ impl<S: Alter, R: OfRegister> Listed for Store<S, R> {
         code: Code,
         after: Option<Passage>,
     ) -> Result<Vec<Passage>, ShelfFault>
-        ensures tells { listed_passages.TellsPassages (seen_in R.text) passages_kept self.old self.new
-            result code after }
+        ensures tells { listed_passages.TellsPassages (seen_in R.text) passages_kept
+            self.old self.new result code after }
         ensures rests { TablesRest R.text self.old self.new }
     {
         self.judging.clear();

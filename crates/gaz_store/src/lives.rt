@@ -65,8 +65,8 @@ impl<S: Alter> Tables<S> {
         }
     }
 
-    /// What the rows of items behind a rowid say, or those from the first, by rising rowids: at most
-    /// 512. Rows of kind 92 are passed over, also where there is nothing else on a page.
+    /// What the rows of items behind a rowid say, or those from the first, by rising rowids: at
+    /// most 512. Rows of kind 92 are passed over, also where there is nothing else on a page.
     pub fn lives_behind(&mut self, after: Option<i64>) -> Result<Vec<Life>, ShelfFault>
         ensures asks { AsksTables self.old self.new result
             (λ db lives. TellsLives after lives.items (db.trees versions)) }

@@ -58,9 +58,9 @@ impl<S: Alter, R: OfRegister> Store<S, R> {
     ///
     /// In this order: `BadSchema` where a table of a store or a column of one is missing, or the
     /// rows of `meta` aren't just one, of id 1 and number 2; `OtherRegister` where its text isn't
-    /// the register's canonical one; `Fault` where memory or the database failed, so that this isn't
-    /// known. After a refusal the connection is handed back, over what was there. A stop within the
-    /// call leaves what was there.
+    /// the register's canonical one; `Fault` where memory or the database failed, so that this
+    /// isn't known. After a refusal the connection is handed back, over what was there. A stop
+    /// within the call leaves what was there.
     pub fn open(
         alloc: Global,
         seed: Seed,

@@ -22,8 +22,8 @@ use std::alloc::Global;
 // The most rows for which a statement is asked.
 const MOST_ROWS: u32 = u32::MAX;
 
-// The text behind which the ids of a kind stand that name the keys after this one; none where no key
-// of the kind comes after it.
+// The text behind which the ids of a kind stand that name the keys after this one; none where no
+// key of the kind comes after it.
 fn start_after(alloc: Global, kind: Kind, key: &Key) -> Result<Option<String>, RowFault>
     ensures { IfOk result (λ start. IsStart kind (Some key.now) (option_map string_bytes start)) }
 {
@@ -88,7 +88,8 @@ impl<S: Alter> Tables<S> {
         most: u32,
     ) -> Result<Vec<Row>, ShelfFault>
         ensures { AsksTables self.old self.new result (λ db rows.
-            FindsHolding code (number_of kind) start.now volume most (db.trees versions) rows.items) }
+            FindsHolding code (number_of kind) start.now volume most
+            (db.trees versions) rows.items) }
     {
         if let Err(fault) = self.ready() {
             return Err(fault);
@@ -109,7 +110,8 @@ impl<S: Alter> Tables<S> {
         most: usize,
     ) -> Result<Vec<Row>, ShelfFault>
         ensures { AsksTables self.old self.new result (λ db rows.
-            FindsHolding code (number_of kind) start.now volume most (db.trees versions) rows.items) }
+            FindsHolding code (number_of kind) start.now volume most
+            (db.trees versions) rows.items) }
     {
         if most <= MOST_ROWS as usize {
             return self.holding(code, kind, start, volume, most as u32);

@@ -49,7 +49,8 @@ impl<S: Alter> Tables<S> {
         most: u32,
     ) -> Result<Vec<Row>, ShelfFault>
         ensures asks { AsksTables self.old self.new result (λ db rows.
-            FindsParts code (number_of kind) (pos uprn) start.now most (db.trees versions) rows.items) }
+            FindsParts code (number_of kind) (pos uprn) start.now most
+            (db.trees versions) rows.items) }
         ensures some { 1 ≤ uprn }
     {
         let blpu = uprn.number() as i64;

@@ -11,9 +11,9 @@ use sqlite::{Alter, Connection};
 use std::alloc::Global;
 use std::collections::BTreeMap;
 
-/// The connection of a store, outside a transaction between calls; whether it answered last, so that
-/// it is known to be open; how often the store failed; and what is at hand of each custodian that
-/// was asked for.
+/// The connection of a store, outside a transaction between calls; whether it answered last, so
+/// that it is known to be open; how often the store failed; and what is at hand of each custodian
+/// that was asked for.
 pub struct Tables<S: Alter> {
     pub(crate) conn: Connection<S>,
     pub(crate) alloc: Global,

@@ -31,8 +31,8 @@ impl<S: Alter> Tables<S> {
         }
     }
 
-    /// Rejects a custodian's next volume at a place by a rule, which is committed when this answers.
-    /// A place that the tables have no room for is a failure.
+    /// Rejects a custodian's next volume at a place by a rule, which is committed when this
+    /// answers. A place that the tables have no room for is a failure.
     pub fn skip(&mut self, code: Code, place: u64, rule: u8) -> Result<(), ShelfFault>
         ensures { Writes self.old self.new result (IsNextIn code)
             (WhereSo self.old.at_hand (RejectsNext code place rule)) }

@@ -13,7 +13,8 @@ use Rattle.gaz_tables.specs.Versions.{FindsNewestUntil, gone_at, version_values}
 -- an address of 1001 that was changed at volume 3, a historical one of the same BLPU, and one that
 -- is 1002's
 abbrev pub flat_2 : Row
-flat_2 = Int (pos 1) ∷ version_values 1001 24 (codes "K1") (pos 42) 101 1 true 1 3 (codes "flat 2") 0
+flat_2 = Int (pos 1)
+    ∷ version_values 1001 24 (codes "K1") (pos 42) 101 1 true 1 3 (codes "flat 2") 0
 
 abbrev pub flat_3 : Row
 flat_3 = Int (pos 2)

@@ -17,7 +17,7 @@ pub fn first<S: Alter>(conn: &mut Connection<S>, most: u32) -> Result<Vec<Row>, 
     )
 }
 
-/// The same of the rows behind a rowid.
+/// Rowid and columns of the rows behind a rowid, by rising rowids: at most so many.
 pub fn behind<S: Alter>(conn: &mut Connection<S>, after: &i64, most: u32) -> Result<Vec<Row>, Error>
     ensures asked { Queries S.Store conn.old conn.new versions result (FindsBehind after.now most) }
     ensures mode { conn.old.in_transaction ≡ false → conn.new.in_transaction ≡ false }

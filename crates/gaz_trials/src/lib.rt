@@ -1,6 +1,6 @@
 //! What no reply, no contract and no run of a program tells: what keepers in memory answer to
-//! one list of calls; how often a keeper is asked, by one that counts; and objects, items, files and registers as
-//! callers of the lower crates read and write them.
+//! one list of calls; how often a keeper is asked, by one that counts; and objects, items, files
+//! and registers as callers of the lower crates read and write them.
 #![tactic(auto)]
 
 #[cfg(test)]

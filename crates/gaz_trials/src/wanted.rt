@@ -1,5 +1,5 @@
-//! What a test wants, where it stands once: each assertion costs the proof of its function some five
-//! seconds.
+//! What a test wants, where it stands once: each assertion costs the proof of its function some
+//! five seconds.
 use std::process::Abort;
 
 /// It is so; else the test ends and says this.

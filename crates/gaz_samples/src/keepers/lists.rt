@@ -20,8 +20,8 @@ const PASSING: &[Part] = &[THIRD_PASSES, PASSED, FOURTH_RETURNS, RETURNED];
 
 const IN_VAIN: &[Part] = &[FIFTH_IS_GIVEN_UP, RETURNED, AGAIN];
 
-// The list, in four tables. A function that names all of it takes the proof some 20 seconds, and one
-// that names a few parts one or two.
+// The list, in four tables. A function that names all of it takes the proof some 20 seconds, and
+// one that names a few parts one or two.
 
 fn written() -> &'static [Part] {
     WRITTEN
@@ -39,9 +39,9 @@ fn in_vain() -> &'static [Part] {
     IN_VAIN
 }
 
-/// The list, in four tables of parts that are performed one behind the other: what is written without
-/// passing on; what is read of it; numbers that pass on and come back; what is given up behind that.
-/// None for any other number. Between two parts no judgement is in progress.
+/// The list, in four tables of parts that are performed one behind the other: what is written
+/// without passing on; what is read of it; numbers that pass on and come back; what is given up
+/// behind that. None for any other number. Between two parts no judgement is in progress.
 pub fn parts(table: u64) -> Option<&'static [Part]> {
     match table {
         0 => Some(written()),

@@ -125,7 +125,8 @@ impl<K: Inbox + Drop> Tried<K> {
         Ok(done?)
     }
 
-    /// A custodian's next volume puts these items, and is kept or given up. `Misused` where one is in progress.
+    /// A custodian's next volume puts these items, and is kept or given up. `Misused` where one is
+    /// in progress.
     pub fn write_volume(
         &mut self,
         code: Code,
@@ -139,7 +140,8 @@ impl<K: Inbox + Drop> Tried<K> {
         Ok(done?)
     }
 
-    /// A custodian's next volume is rejected at a place by a rule. `Misused` where one is in progress.
+    /// A custodian's next volume is rejected at a place by a rule. `Misused` where one is in
+    /// progress.
     pub fn skip(&mut self, code: Code, place: u64, rule: u8) -> Result<(), Refusal> {
         if self.judged.is_some() {
             return Err(Refusal::Misused);

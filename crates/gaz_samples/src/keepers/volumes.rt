@@ -60,8 +60,8 @@ pub(crate) const FIRST: Part = (
 /// The first volume of 1002.
 pub(crate) const REJECTED: Part = ("a rejected volume", &[Does(Skip(1002, 2, 20))]);
 
-/// The second volume of 1001, which is read as it is made: a street is closed, a cross reference and
-/// an address go, another address comes.
+/// The second volume of 1001, which is read as it is made: a street is closed, a cross reference
+/// and an address go, another address comes.
 pub(crate) const SECOND: Part = (
     "the second volume",
     &[
