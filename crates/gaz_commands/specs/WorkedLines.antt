@@ -36,10 +36,12 @@ pub record WorkedSubmissions : Type 0 where
   pub held : Answers (answer.New (Held 1001 2)) (codes "new held wants 1001/2\n") 1
   pub held_again : Answers (answer.Repeat (Held 1001 2)) (codes "repeat held wants 1001/2\n") 1
   pub taken : Answers (answer.Taken (0 ∷ 10 ∷ 255 ∷ [])) (codes "taken 000aff\n") 1
-  pub unknown : Answers (answer.Refused (refusal.Door door.UnknownCustodian)) (codes "refused 11\n") 1
+  pub unknown : Answers (answer.Refused (refusal.Door door.UnknownCustodian))
+      (codes "refused 11\n") 1
   pub no_volume : Answers (answer.Refused (refusal.Door door.BadVolume)) (codes "refused 12\n") 1
   pub too_large : Answers (answer.Refused (refusal.Door door.TooLarge)) (codes "refused 13\n") 1
-  pub other_profile : Answers (answer.Refused (refusal.Door door.UnknownProfile)) (codes "refused 16\n") 1
+  pub other_profile : Answers (answer.Refused (refusal.Door door.UnknownProfile))
+      (codes "refused 16\n") 1
   pub not_received : Prints (Submitted (answer.Refused (refusal.NotReceived cause.Store))) []
       (codes "gazhub: NotReceived\n") 3
   pub unsettled : Prints (Submitted (answer.Refused (refusal.ReceivedUnsettled cause.Memory))) []

@@ -82,8 +82,8 @@ pub record StopsWaiting (most : ℕ) (passed : Passed) (count : ℕ) : Type 0 wh
   pub counted : count ≡ length passed.exchanges
   pub told : passed.written ≡ replies passed.exchanges
 
--- the writer failed in the reply to the last exchange: a front of it, and not all, stands behind the
--- earlier ones
+-- the writer failed in the reply to the last exchange: a front of it, and not all, stands behind
+-- the earlier ones
 pub record StopsAnswering (passed : Passed) (count : ℕ) : Type 0 where
   pub earlier : List Exchange
   pub in_hand : Exchange
@@ -119,16 +119,16 @@ EndsAs most passed count InputEnd = EndsWithInput most passed count
 EndsAs most passed count Most = (ended_after count most ≡ Most) × EndsByReply most passed count
 EndsAs most passed count Closed = (ended_after count most ≡ Closed) × EndsByReply most passed count
 
--- the conversation couldn't go on, for this cause; a writer that failed did so in a flush before the
--- next request was whole, in a reply, or in the flush behind the last
+-- the conversation couldn't go on, for this cause; a writer that failed did so in a flush before
+-- the next request was whole, in a reply, or in the flush behind the last
 abbrev pub StopsAs : ℕ → Passed → ℕ → Cause → Type 0
 StopsAs most passed count ReadFault = StopsWaiting most passed count
 StopsAs most passed count WriteFault =
     StopsWaiting most passed count ⊎ StopsAnswering passed count
     ⊎ StopsRefusing most passed count ⊎ EndsByReply most passed count
 
--- what a conversation comes to behind the last of so many replies, where the writer was flushed, and
--- where it failed in that
+-- what a conversation comes to behind the last of so many replies, where the writer was flushed,
+-- and where it failed in that
 abbrev pub FinishesAs : ℕ → ℕ → Result Served Stopped → Type 0
 FinishesAs most count (Ok served) =
     served ≡ record { requests = count; ended = ended_after count most }
@@ -205,8 +205,8 @@ pub record CountedConversation (door : Door) (most : ℕ) (through : Transfer) (
   pub none_behind : AreLast most conversation.exchanges result →
       OneForEachUsed before after conversation.read conversation.rest
 
--- where a conversation stopped, the reader or the writer failed, as the cause tells, and was left in
--- this state
+-- where a conversation stopped, the reader or the writer failed, as the cause tells, and was left
+-- in this state
 abbrev pub StopsByFault : {R W : Type 0} → (R → R → Type 0) → (W → W → Type 0) → R → W
     → Result Served Stopped → Type 0
 StopsByFault read_failed write_failed reader writer result =

@@ -1,5 +1,5 @@
--- A register that grows beneath a hub: what stays, and runs over registers of which each extends the
--- one before.
+-- A register that grows beneath a hub: what stays, and runs over registers of which each extends
+-- the one before.
 use Rattle.std.specs.Prelude.{◌≡◌, ⊤, ℕ, List, [], ◌∷◌, Option, None}
 use Rattle.std.specs.FinMap as map
 use Rattle.std.specs.Option.{option_or}

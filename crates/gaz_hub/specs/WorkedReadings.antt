@@ -69,11 +69,13 @@ pub record WorkedReadings : Type 0 where
   pub done_told : or_not_received {T = Unit {0}} (Err fault.Store)
       ≡ Err (refusal.NotReceived fault.Store)
   pub nothing_told : told (Ok None) ≡ Ok None
-  pub refusal_told : told_all (Err (refusal.Door at_door.BadVolume)) ≡ Err (refusal.Door at_door.BadVolume)
+  pub refusal_told : told_all (Err (refusal.Door at_door.BadVolume))
+      ≡ Err (refusal.Door at_door.BadVolume)
   pub extract_told : telling (Extract 1003 1) (Ok (Some of_nothing))
       ≡ Ok (Some (says.Extract of_nothing))
   pub list_told : telling ListClosed (Ok []) ≡ Ok (Some (says.Closed []))
   pub not_there_told : telling (LookUp 42) (Ok None) ≡ Ok None
   pub settling_told : telling Settle (Ok tt) ≡ Ok None
-  pub door_told : telling (Extract 1003 0) (Err (refusal.Door at_door.BadVolume)) ≡ Err (refusal.Door at_door.BadVolume)
+  pub door_told : telling (Extract 1003 0) (Err (refusal.Door at_door.BadVolume))
+      ≡ Err (refusal.Door at_door.BadVolume)
   pub never_told_otherwise : telling ListClosed (Ok []) ≡ Ok None → ⊥

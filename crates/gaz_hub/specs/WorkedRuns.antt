@@ -23,8 +23,8 @@ pub record WorkedResponses : Type 0 where
   pub refused_settles_nothing : is_settled_answer (Refused (refusal.Door at_door.BadVolume)) ≡ false
   pub submitted_settles : is_settled (Submitted (Repeat (Rejected 1 1))) ≡ true
   pub told_settles : is_settled (Replied (Ask 1003 1) (Ok None)) ≡ true
-  pub stands_settles_nothing : is_settled (Replied (Stand 9999) (Err (refusal.Door at_door.UnknownCustodian)))
-      ≡ false
+  pub stands_settles_nothing :
+      is_settled (Replied (Stand 9999) (Err (refusal.Door at_door.UnknownCustodian))) ≡ false
   pub settled_settles : is_settled (Replied Settle (Ok tt)) ≡ true
   pub given_up_settles_nothing : is_settled
       (Replied Settle (Err (refusal.NotReceived fault.Memory))) ≡ false

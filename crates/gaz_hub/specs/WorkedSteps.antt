@@ -87,7 +87,8 @@ pub record WorkedRepeats : Type 0 where
 
 -- refusals
 pub record WorkedRefusals : Type 0 where
-  pub refused : Goes gap_hub (Submit 1003 0 no_text) (Submitted (Refused (refusal.Door at_door.BadVolume))) gap_hub
+  pub refused : Goes gap_hub (Submit 1003 0 no_text)
+      (Submitted (Refused (refusal.Door at_door.BadVolume))) gap_hub
   pub never_for_another_reason : Goes gap_hub (Submit 1003 0 no_text)
       (Submitted (Refused (refusal.Door at_door.TooLarge))) gap_hub → ⊥
   pub never_with_a_change : Goes gap_hub (Submit 1003 0 no_text)

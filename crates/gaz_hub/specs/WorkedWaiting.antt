@@ -50,7 +50,8 @@ pub record WorkedWaiting : Type 0 where
   -- volume 1 of 1003 is judged, volume 2 is missing and volume 3 was received
   pub rests : Rests waits_for_itself sent one_judged 1003
   pub never_forgotten : Rests nobody sent one_judged 1003 → ⊥
-  pub never_of_another : Rests (with_waiter waits_for_itself (1001, 9) 1003) sent one_judged 1003 → ⊥
+  pub never_of_another : Rests (with_waiter waits_for_itself (1001, 9) 1003) sent one_judged 1003
+      → ⊥
   pub right_of_nothing : (k : Content) → IsRight upper_and_lower None k
   pub right_at_first : IsRight upper_and_lower (Some (all_ahead upper_and_lower)) empty_content
   pub never_right_of_nobody : IsRight upper_and_lower (Some nobody) empty_content → ⊥

@@ -147,8 +147,8 @@ pub fn one_holder()
     ensures { OneHolder }
 {}
 
-/// On every partial board each number in a custodian's blocks has one chain, and who holds it in its
-/// last view is the chain's holder, whatever volumes the files rest on.
+/// On every partial board each number in a custodian's blocks has one chain, and who holds it in
+/// its last view is the chain's holder, whatever volumes the files rest on.
 pub fn one_chain()
     ensures { OneChain }
 {}
@@ -184,8 +184,8 @@ pub fn owners_alone()
     ensures { OwnersAlone }
 {}
 
-/// Calls one after another are runs: of a keeper, and of a hub as it is seen with what it remembers,
-/// of which the hub's own calls speak. So it is with each law below.
+/// Calls one after another are runs: of a keeper, and of a hub as it is seen with what it
+/// remembers, of which the hub's own calls speak. So it is with each law below.
 pub fn calls_make_runs<K: Inbox + Drop>()
     ensures keeper { CallsMakeRuns K.seen }
     ensures hub { CallsMakeRuns (hub_seen K.seen) }

@@ -123,8 +123,8 @@ fn known_of(waiters: &Option<Waiters>, code: Code) -> Option<(Code, Volume)>
     }
 }
 
-/// What a reading tells that is given what a custodian is known to wait for, once all is settled. It
-/// may be any that can be made while no judgement is open. After a fault nothing is remembered.
+/// What a reading tells that is given what a custodian is known to wait for, once all is settled.
+/// It may be any that can be made while no judgement is open. After a fault nothing is remembered.
 pub fn settled_knowing<
     K: Inbox,
     T: Drop,

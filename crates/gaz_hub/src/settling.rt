@@ -114,8 +114,8 @@ fn settle_round<K: Inbox>(
     judge_each(alloc, register, keeper, waiters, codes.as_slice(), left)
 }
 
-/// Judges until nothing is ready. Only they are looked at who are to be, and who waited for a volume
-/// that was judged.
+/// Judges until nothing is ready. Only they are looked at who are to be, and who waited for a
+/// volume that was judged.
 ///
 /// At most 999,999 volumes of each custodian are judged, 399,999,600 in all; a content with more of
 /// them ready isn't lawful, and is answered `Store`.

@@ -16,9 +16,7 @@ pub enum RegFault {
     TooMany,
     #[error("a code that is not from 1 to 9999")]
     BadCode,
-    #[error(
-        "a name that is not 1 to 60 characters, or with a control character or a space at an end"
-    )]
+    #[error("a name that is not 1 to 60 characters, or with a control character or a space at an end")]
     BadName,
     #[error("a block out of range or with its last number below its first, or more than 8 blocks")]
     BadBlock,

@@ -92,8 +92,7 @@ impl<K: Inbox + Drop> Faulty<K> {
     /// Breaks the judgement, where it isn't broken already, and counts a failure.
     pub(crate) fn break_off(&mut self) -> ShelfFault
         requires { progress_around self.old.broken (K.seen self.old.inner).progress ≢ Idle }
-        ensures breaks {
-            let old = around (K.seen self.old.inner) self.old.broken self.old.plan.failures in
+        ensures breaks { let old = around (K.seen self.old.inner) self.old.broken self.old.plan.failures in
             let new = around (K.seen self.new.inner) self.new.broken self.new.plan.failures in
             Goes {T = Unit {0}} old new (Err result) ⊤
             (after_abandon (K.seen self.old.inner).content) None Idle }

@@ -37,8 +37,8 @@ impl<S: Alter> Tables<S> {
         Ok(at_hand.held)
     }
 
-    // How many are judged and how many wait: what is at hand of them, or else what is counted, which
-    // is at hand from then on.
+    // How many are judged and how many wait: what is at hand of them, or else what is counted,
+    // which is at hand from then on.
     fn counts(&mut self, code: Code) -> Result<AtHand, ShelfFault>
         ensures { Recalls self.old self.new result (λ db h. IsSo (db.trees receiveds) code h) }
     {

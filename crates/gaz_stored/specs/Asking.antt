@@ -14,8 +14,8 @@ use Rattle.gaz_words.specs.declared.command.Call.{Call}
 use Rattle.gaz_words.specs.declared.command.Call.TheVariants.{Submit, Status, Line, Extract}
 use Rattle.gaz_stored.specs.Using.{Goes, IsSame, Uses}
 
--- what a call asks of a hub, or what is said at once; a submission is of these bytes, none where its
--- file can't be read
+-- what a call asks of a hub, or what is said at once; a submission is of these bytes, none where
+-- its file can't be read
 abbrev pub asked : Call → Option (List ℕ) → Result Command Said
 asked (Submit code volume path) file = asks_to_submit code.now volume.now file
 asked (Status code) file = asks_standing code.now

@@ -1,4 +1,5 @@
--- What a hub does over a keeper, whatever it is, from the one that is given to the one that is left.
+-- What a hub does over a keeper, whatever it is, from the one that is given to the one that is
+-- left.
 use Rattle.std.specs.Prelude.{◌≡◌, ℕ, [], ◌∷◌, None, Result}
 use Rattle.gaz_register.specs.Registers.{RegisterValue}
 use Rattle.gaz_keeper.specs.Keeper.{IsNotOpen, Seen}
@@ -26,8 +27,8 @@ use Rattle.gaz_stored.specs.Serving.{Serves}
 abbrev pub MirrorOf : {K : Type 0} → Ghosts K → Type 0
 MirrorOf {K} keeper = Mirror K MemShelf keeper (record { seen = memory })
 
--- a mirror of a keeper, which was only read for that: what is at hand is what it stood for, if it can
--- be mirrored; no judgement is in progress
+-- a mirror of a keeper, which was only read for that: what is at hand is what it stood for, if it
+-- can be mirrored; no judgement is in progress
 pub record Mirrors {K : Type 0} (keeper : Ghosts K) (register : RegisterValue) (first : K)
     (begun : MirrorOf keeper) : Type 0 where
   pub reads : OnlyReads (keeper.seen first) (keeper.seen begun.lower)

@@ -26,7 +26,8 @@ use Rattle.gaz_stored.specs.declared.migrating.Migration.TheVariants.{Done, Curr
 abbrev pub first_hub_in : Database → HubState
 first_hub_in db = state_of (first_content_in db.trees empty_view)
 
--- the tables are those of schema 1, and stand for a partial run of files of custodians that are known
+-- the tables are those of schema 1, and stand for a partial run of files of custodians that are
+-- known
 pub record FirstStandForRun (register : RegisterValue) (db : Database) : Type 0 where
   pub kept : IsFirstKept db
   pub known : AreKnown (door_of register) (first_hub_in db).received

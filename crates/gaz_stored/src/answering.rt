@@ -54,8 +54,8 @@ fn converse_over<S: Alter + Drop, N: OfRegister, R: Source, W: Sink>(
     (left.into_connection(), at_hand, ended)
 }
 
-// Judges what is ready in a store, seen as one of the register that `N` names, and whether that went
-// well.
+// Judges what is ready in a store, seen as one of the register that `N` names, and whether that
+// went well.
 fn settle<S: Alter + Drop, N: OfRegister>(
     alloc: Global,
     register: Register,
@@ -117,13 +117,13 @@ pub fn answer_new<S: Alter + Drop, R: Source, W: Sink>(
 }
 
 /// Takes the database behind a connection outside a transaction as the store of a register, settles
-/// it, and answers the requests of a stream over it, at most `most` of them. It stops only where the
-/// reader or the writer failed. Who picks keys is not to foresee the seed.
+/// it, and answers the requests of a stream over it, at most `most` of them. It stops only where
+/// the reader or the writer failed. Who picks keys is not to foresee the seed.
 ///
-/// In this order: `BadSchema` where a table of a store or a column of one is missing, or the rows of
-/// `meta` aren't just one, of id 1 and number 2; `OtherRegister` where its text isn't the register's
-/// canonical one; `Fault` where memory or the database failed, so that this isn't known. No
-/// conversation is held then, and the database holds what it held.
+/// In this order: `BadSchema` where a table of a store or a column of one is missing, or the rows
+/// of `meta` aren't just one, of id 1 and number 2; `OtherRegister` where its text isn't the
+/// register's canonical one; `Fault` where memory or the database failed, so that this isn't known.
+/// No conversation is held then, and the database holds what it held.
 pub fn answer_opened<S: Alter + Drop, R: Source, W: Sink>(
     alloc: Global,
     seed: Seed,

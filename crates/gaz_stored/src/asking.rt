@@ -66,14 +66,14 @@ fn ask_over<S: Alter + Drop, N: OfRegister>(
     (left.into_connection(), said)
 }
 
-/// Takes the database behind a connection outside a transaction as the store of a register, and asks
-/// a hub over it once. A submission is of these bytes, none where its file can't be read. Who picks
-/// keys is not to foresee the seed.
+/// Takes the database behind a connection outside a transaction as the store of a register, and
+/// asks a hub over it once. A submission is of these bytes, none where its file can't be read. Who
+/// picks keys is not to foresee the seed.
 ///
-/// In this order: `BadSchema` where a table of a store or a column of one is missing, or the rows of
-/// `meta` aren't just one, of id 1 and number 2; `OtherRegister` where its text isn't the register's
-/// canonical one; `Fault` where memory or the database failed, so that this isn't known. Nothing is
-/// asked then, and the database holds what it held.
+/// In this order: `BadSchema` where a table of a store or a column of one is missing, or the rows
+/// of `meta` aren't just one, of id 1 and number 2; `OtherRegister` where its text isn't the
+/// register's canonical one; `Fault` where memory or the database failed, so that this isn't known.
+/// Nothing is asked then, and the database holds what it held.
 pub fn ask_opened<S: Alter + Drop>(
     alloc: Global,
     seed: Seed,

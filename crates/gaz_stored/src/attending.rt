@@ -95,13 +95,14 @@ fn announced<'a, L: OpenListener, W: Write>(
 /// behind one where nothing is at hand any more, since something failed: who opens the store again
 /// answers those that are left. Who picks keys is not to foresee the seed.
 ///
-/// Whatever the peers do, the hub makes a run of its steps: what was received stays received. A peer
-/// that sends nothing, or takes nothing, for 28 seconds is given up.
+/// Whatever the peers do, the hub makes a run of its steps: what was received stays received. A
+/// peer that sends nothing, or takes nothing, for 28 seconds is given up.
 ///
-/// In this order: `BadSchema` where a table of a store or a column of one is missing, or the rows of
-/// `meta` aren't just one, of id 1 and number 2; `OtherRegister` where its text isn't the register's
-/// canonical one; `Fault` where memory or the database failed, so that this isn't known; then
-/// `NoPort` where there is no listener. Nothing is written then, and the database holds what it held.
+/// In this order: `BadSchema` where a table of a store or a column of one is missing, or the rows
+/// of `meta` aren't just one, of id 1 and number 2; `OtherRegister` where its text isn't the
+/// register's canonical one; `Fault` where memory or the database failed, so that this isn't known;
+/// then `NoPort` where there is no listener. Nothing is written then, and the database holds what
+/// it held.
 pub fn serve_opened<S: Alter + Drop, L: OpenListener, W: Write>(
     alloc: Global,
     seed: Seed,

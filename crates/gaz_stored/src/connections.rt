@@ -34,8 +34,8 @@ fn writer_of<S: OpenStream>(stream: &S) -> io::Result<S> {
     stream.try_clone()
 }
 
-// Tells the peer that no reply follows, and reads on for a while: where bytes are left unread at the
-// end, the system drops what the peer has not taken yet of the last reply.
+// Tells the peer that no reply follows, and reads on for a while: where bytes are left unread at
+// the end, the system drops what the peer has not taken yet of the last reply.
 fn part<S: Read + OpenStream>(stream: &mut S) {
     let parting = Some(Duration::from_secs(PARTING));
     if stream.shutdown(Shutdown::Write).is_err() || stream.set_read_timeout(parting).is_err() {
@@ -87,9 +87,9 @@ where
 /// turn, at most 1,000 of them. Gives how many. A connection that can't be accepted counts as one.
 /// It ends early behind one where nothing is at hand: something failed.
 ///
-/// Whatever the peers do, the hub holds so many conversations at most, one after another, and makes a
-/// run of its steps: what was received stays received. A peer that sends nothing, or takes nothing,
-/// for 28 seconds is given up.
+/// Whatever the peers do, the hub holds so many conversations at most, one after another, and makes
+/// a run of its steps: what was received stays received. A peer that sends nothing, or takes
+/// nothing, for 28 seconds is given up.
 pub(crate) fn serve_on<L: OpenListener, B: Inbox + Drop, U: Unshared + Drop>(
     alloc: Global,
     listener: &L,

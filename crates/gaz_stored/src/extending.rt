@@ -22,8 +22,8 @@ pub struct Extended<S: Alter + Drop> {
     pub told: Result<Result<(), ExtendFault>, StoreRefusal>,
 }
 
-/// Takes the database behind a connection outside a transaction as the store of a register, and puts
-/// the grown register in its place. Who picks keys is not to foresee the seed.
+/// Takes the database behind a connection outside a transaction as the store of a register, and
+/// puts the grown register in its place. Who picks keys is not to foresee the seed.
 ///
 /// There is no store in the cases of `ask_opened`, in its order. Then come the faults of
 /// `Store::extend`, in its order, of which `OtherRegister` only comes where another connection has

@@ -1,5 +1,5 @@
-//! What a hub does over a keeper, whatever it is: so it is proved once, and at a store's type each call
-//! would cost the proof ten seconds more.
+//! What a hub does over a keeper, whatever it is: so it is proved once, and at a store's type each
+//! call would cost the proof ten seconds more.
 ghost use Rattle.std.specs.Prelude.{◌≡◌, ◌∷◌, [], option_map};
 ghost use Rattle.gaz_keeper.specs.Keeper.{IsNotOpen};
 ghost use Rattle.gaz_hub.specs.Hubs.{Runs, door_of, or_not_received};

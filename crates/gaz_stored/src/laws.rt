@@ -20,22 +20,22 @@ pub fn chains_are_one()
     ensures { ChainsAreOne }
 {}
 
-/// Tables that stood for a partial run stand for one under a register that grew; and conversations one
-/// after another, each under a register that extends the one before, are one run of one hub over
-/// these registers.
+/// Tables that stood for a partial run stand for one under a register that grew; and conversations
+/// one after another, each under a register that extends the one before, are one run of one hub
+/// over these registers.
 pub fn grown_chains_are_one()
     ensures { GrownChainsAreOne }
 {}
 
 /// Conversations one after another, each of which was stopped and goes on from what was left of the
-/// one before, however many: what is left stands for a partial run, and has each file that was there
-/// before.
+/// one before, however many: what is left stands for a partial run, and has each file that was
+/// there before.
 pub fn stops_are_survived()
     ensures { StopsAreSurvived }
 {}
 
-/// Tables of schema 1 that stood for a partial run stand for the same hub once they are migrated, and
-/// the next conversation can go on from them.
+/// Tables of schema 1 that stood for a partial run stand for the same hub once they are migrated,
+/// and the next conversation can go on from them.
 pub fn migrated_stands()
     ensures { MigratedStands }
 {}

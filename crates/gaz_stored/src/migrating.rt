@@ -1,4 +1,5 @@
-//! The store of schema 1 behind a connection becomes one of schema 2; the connection is handed back.
+//! The store of schema 1 behind a connection becomes one of schema 2; the connection is handed
+//! back.
 ghost use Rattle.std.specs.Prelude.{◌≡◌, false, Err, IfErr, IfOk};
 ghost use Rattle.sqlite.specs.Held.{state};
 ghost use Rattle.gaz_register.specs.Texts.{register_text};
@@ -44,10 +45,11 @@ fn told_of(first: bool) -> Migration
     }
 }
 
-/// Takes the database behind a connection outside a transaction as the store of a register, and makes
-/// one of it where it is of schema 1. Who picks keys is not to foresee the seed.
+/// Takes the database behind a connection outside a transaction as the store of a register, and
+/// makes one of it where it is of schema 1. Who picks keys is not to foresee the seed.
 ///
-/// There is none in the cases of `Store::migrate`, in its order. Then the database holds what it held.
+/// There is none in the cases of `Store::migrate`, in its order. Then the database holds what it
+/// held.
 pub fn migrate_opened<S: Alter + Drop>(
     alloc: Global,
     seed: Seed,

@@ -43,7 +43,8 @@ pub fn above<S: Alter>(
     volume: u32,
     most: u32,
 ) -> Result<Vec<Row>, Error>
-    ensures asked { Queries S.Store conn.old conn.new receiveds result (FindsAbove cust volume most) }
+    ensures asked { Queries S.Store conn.old conn.new receiveds result
+        (FindsAbove cust volume most) }
     ensures mode { conn.old.in_transaction ≡ false → conn.new.in_transaction ≡ false }
 {
     conn.query_all(

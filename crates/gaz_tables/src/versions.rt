@@ -16,7 +16,8 @@ pub fn newest<S: Alter>(
     kind: u32,
     id: &str,
 ) -> Result<Vec<Row>, Error>
-    ensures asked { Queries S.Store conn.old conn.new versions result (FindsNewest cust kind id.now) }
+    ensures asked { Queries S.Store conn.old conn.new versions result
+        (FindsNewest cust kind id.now) }
     ensures mode { conn.old.in_transaction ≡ false → conn.new.in_transaction ≡ false }
 {
     conn.query_all(

@@ -9,7 +9,8 @@ use Rattle.gaz_register.specs.declared.fault.RegFault.{RegFault}
 use Rattle.gaz_register.specs.declared.fault.RegFault.TheVariants as fault
 use Rattle.gazhub.specs.declared.ending.Ending.{Ending}
 use Rattle.gazhub.specs.declared.ending.Ending.TheVariants.{Done, NotDone, Usage, Memory}
-use Rattle.gazhub.specs.declared.ending.Ending.TheVariants.{ReadFault, WriteFault, NoHub, Lost, Failed}
+use Rattle.gazhub.specs.declared.ending.Ending.TheVariants.{ReadFault, WriteFault, NoHub, Lost}
+use Rattle.gazhub.specs.declared.ending.Ending.TheVariants.{Failed}
 
 -- the exit status
 abbrev pub status_of : Ending → ℕ
@@ -61,8 +62,8 @@ line_of (NoHub why) = no_hub_line why
 line_of (Lost why) = no_hub_line why
 line_of (Failed why) = error_line why
 
--- nothing is printed on standard output: at usage, and at each fault but that of the output and that
--- of a hub that was lost
+-- nothing is printed on standard output: at usage, and at each fault but that of the output and
+-- that of a hub that was lost
 abbrev pub is_silent : Ending → Bool
 is_silent Done = false
 is_silent NotDone = false

@@ -97,7 +97,8 @@ module _ {D : Type 0} (g : disk.Ghosts D) where
     abbrev pub MakesNone : StoreRefusal → Type 0
     MakesNone refusal = HasNone refusal ⊎ Declines (FindsTables refusal)
 
-    -- there is no hub of the register: there was no connection, or that is told of the row of `meta`
+    -- there is no hub of the register: there was no connection, or that is told of the row of
+    -- `meta`
     abbrev pub OpensNone : RegisterValue → StoreRefusal → Type 0
     OpensNone register refusal = HasNone refusal
         ⊎ Declines (λ conn back. Tells over_files conn back (Err refusal) (register_text register))

@@ -21,8 +21,8 @@ module _ {D : Type 0} (g : disk.Ghosts D) where
   abbrev pub turn_of : Stay → Turn
   turn_of stay = record { register = stay.register; talk = talk_of g stay.visit }
 
-  -- visits of hubs, each to the files that were given back before, and under a register that extends
-  -- the one before
+  -- visits of hubs, each to the files that were given back before, and under a register that
+  -- extends the one before
   abbrev pub AreGrown : RegisterValue → Option (Files D) → List Stay → Type 0
   AreGrown register left [] = ⊤
   AreGrown register left (stay ∷ later) =

@@ -52,8 +52,8 @@ module _ {D : Type 0} (g : disk.Ghosts D) where
       responses = [];
     }
 
-    -- there is a store of the register, and this is told; a hub goes on over it, whichever schema it
-    -- was of
+    -- there is a store of the register, and this is told; a hub goes on over it, whichever schema
+    -- it was of
     pub record MigratesStore (told : Migration) : Type 0 where
       pub conn : Held (FileStore D g)
       pub after : Held (FileStore D g)

@@ -59,7 +59,8 @@ module _ {D : Type 0} (g : disk.Ghosts D) where
   abbrev pub left_by : Visit → Database
   left_by visit = (file_state visit.after).now
 
-  -- a hub of the register went on from what the tables stood for, where they stood for a partial run
+  -- a hub of the register went on from what the tables stood for, where they stood for a partial
+  -- run
   pub record Visits (register : RegisterValue) (visit : Visit) : Type 0 where
     pub connects : Connects visit.files visit.conn
     pub goes_on : IsUnharmed (file_state visit.after) → StandForRun register (found_by visit)

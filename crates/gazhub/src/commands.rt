@@ -49,8 +49,8 @@ pub(crate) fn options_at(rt: &HostRuntime, store: &str) -> Result<Options, NoHub
     Ok(options)
 }
 
-/// How they are used where the store is migrated: its file doubles, and what is written stays at hand
-/// as long as there is room, or the log would grow to many times the file.
+/// How they are used where the store is migrated: its file doubles, and what is written stays at
+/// hand as long as there is room, or the log would grow to many times the file.
 pub(crate) fn options_to_migrate(rt: &HostRuntime, store: &str) -> Result<Options, NoHub> {
     let Some(bytes) = size_at(rt, store) else {
         return Err(NoHub::Store(StoreRefusal::Fault));
@@ -163,9 +163,9 @@ fn attend_on(
     Attendance::Whole
 }
 
-/// Answers connections over the store that is there, at a port of 127.0.0.1; for 0 the system chooses
-/// one. It says first where. A store that failed is opened again before the next connection is
-/// answered. No file is made.
+/// Answers connections over the store that is there, at a port of 127.0.0.1; for 0 the system
+/// chooses one. It says first where. A store that failed is opened again before the next connection
+/// is answered. No file is made.
 pub fn attend<W: Write>(
     rt: &HostRuntime,
     seed: Seed,

@@ -90,8 +90,8 @@ pub fn size_at(rt: &HostRuntime, path: &str) -> Option<u64> {
     }
 }
 
-/// Says what is being done with a store's file of so many bytes, where that takes over a second and a
-/// person waits: standard error is a terminal. What can't be said is lost.
+/// Says what is being done with a store's file of so many bytes, where that takes over a second and
+/// a person waits: standard error is a terminal. What can't be said is lost.
 pub fn announce(rt: &HostRuntime, bytes: u64, what: &str) {
     if bytes > A_SECOND && rt.stderr().is_terminal() {
         let _lost = eprintln!(rt; "{what}");

@@ -16,8 +16,9 @@ use sqlite::{Files, Options, Unknown};
 use sqlite_disk::Disk;
 use std::alloc::Global;
 
-/// Lets the register of the store in the files grow, which are given back where they can be closed. Why
-/// there is no store, or its register didn't grow, and in which order, is said of `extend_opened`.
+/// Lets the register of the store in the files grow, which are given back where they can be closed.
+/// Why there is no store, or its register didn't grow, and in which order, is said of
+/// `extend_opened`.
 pub fn extend_store<D: Disk + Drop>(
     alloc: Global,
     files: Files<D>,
@@ -42,8 +43,8 @@ pub fn extend_store<D: Disk + Drop>(
     (left, told)
 }
 
-// What is said where a store's register didn't grow: that what it was to grow to is no growth of it is
-// printed, the others are faults.
+// What is said where a store's register didn't grow: that what it was to grow to is no growth of it
+// is printed, the others are faults.
 fn not_extended(fault: ExtendFault) -> Result<Said, NoHub>
     ensures { result ≡ not_extended fault }
 {

@@ -17,17 +17,17 @@ pub fn calls_are_one<D: Disk>()
     chains_are_one();
 }
 
-/// So are calls between which the store's register grows: one run over registers of which each extends
-/// the one before. A call at which it grows asks nothing of a hub of either.
+/// So are calls between which the store's register grows: one run over registers of which each
+/// extends the one before. A call at which it grows asks nothing of a hub of either.
 pub fn grown_calls_are_one<D: Disk>()
     ensures { GrownCallsAreOne D.Disk }
 {
     grown_chains_are_one();
 }
 
-/// A call over files that ends whole leaves a store of its register, or of the one to which it grew;
-/// and whoever opens the files that it gave back, under that register, is told `Ok` or `Fault`, and
-/// never that there is no store, or one of another register.
+/// A call over files that ends whole leaves a store of its register, or of the one to which it
+/// grew; and whoever opens the files that it gave back, under that register, is told `Ok` or
+/// `Fault`, and never that there is no store, or one of another register.
 pub fn next_opens<D: Disk>()
     ensures { NextOpens D.Disk }
 {}

@@ -162,9 +162,9 @@ pub fn report<E: Write>(errors: &mut E, ending: Ending)
     let _whole = write_all(errors, ending.line().as_bytes());
 }
 
-/// Does what the words ask: holds a conversation where there are none, or `play` alone; makes a store,
-/// asks a hub over one, answers connections over it, lets its register grow, or migrates it. Gives
-/// the exit status.
+/// Does what the words ask: holds a conversation where there are none, or `play` alone; makes a
+/// store, asks a hub over one, answers connections over it, lets its register grow, or migrates it.
+/// Gives the exit status.
 ///
 /// `words` are those behind the program's name, none where they can't be read; `seed` is none where
 /// the system gives no random bytes. What files hold no contract can say: what is asked of a hub

@@ -28,8 +28,8 @@ fn sample_register(alloc: Global) -> Option<Register>
     }
 }
 
-/// Answers the requests of a stream, at most 100,000 of them, at a hub of the sample register over a
-/// store in memory that begins with nothing. Where it ends, no other may follow those that were
+/// Answers the requests of a stream, at most 100,000 of them, at a hub of the sample register over
+/// a store in memory that begins with nothing. Where it ends, no other may follow those that were
 /// answered, or none stands whole in what was read behind them, unless there was no memory for the
 /// body of the next.
 ///

@@ -36,8 +36,9 @@ pub(crate) fn connect<D: Disk + Drop>(
     }
 }
 
-/// Gives a store's files back. What was answered is in its log, where the next opening finds it, even
-/// if it can't be copied into the database now; then the files are closed and none are given back.
+/// Gives a store's files back. What was answered is in its log, where the next opening finds it,
+/// even if it can't be copied into the database now; then the files are closed and none are given
+/// back.
 pub(crate) fn close<D: Disk + Drop>(conn: Connection<FileStore<D>>) -> Option<Files<D>>
     requires { conn.in_transaction ≡ false }
     ensures { Closes D.Disk conn result }
@@ -85,8 +86,8 @@ pub fn make_store<D: Disk + Drop>(
 }
 
 /// Asks a hub of the register over the store in the files, which are given back where they can be
-/// closed. A submission is of these bytes, none where its file can't be read. Why there is none, and
-/// in which order, is said of `ask_opened`.
+/// closed. A submission is of these bytes, none where its file can't be read. Why there is none,
+/// and in which order, is said of `ask_opened`.
 pub fn ask_store<D: Disk + Drop>(
     alloc: Global,
     files: Files<D>,
@@ -112,8 +113,8 @@ pub fn ask_store<D: Disk + Drop>(
 
 /// Answers at most so many connections of a listener at a hub of the register over the store in the
 /// files, which are given back where they can be closed, and says first where they come. Gives how
-/// many: not all of them where something failed, but one at least. Why there is no hub, and in which
-/// order, is said of `serve_opened`.
+/// many: not all of them where something failed, but one at least. Why there is no hub, and in
+/// which order, is said of `serve_opened`.
 pub fn serve_store<D: Disk + Drop, L: OpenListener, W: Write>(
     alloc: Global,
     files: Files<D>,
