@@ -39,13 +39,12 @@ abbrev pub said_address : Option (List ℕ) → Said
 said_address (Some text) = said.Line (line.Address text)
 said_address None = said.Line line.Nothing
 
--- what is said of what is there; no command asks what became of a file, or for closed streets
+-- what is said of what is there; no command asks anything else
 abbrev pub said_of_told : Told → Said
-said_of_told (told.Outcome digest outcome) = said.Line line.Nothing
 said_of_told (told.Standing standing) = said.Line (line.Stands standing)
 said_of_told (told.Found found) = said_address found.line
 said_of_told (told.Extract bytes) = said.Extract bytes
-said_of_told (told.Closed closed) = said.Line line.Nothing
+said_of_told _ = said.Line line.Nothing
 
 -- what is said of what is told of a question
 abbrev pub said_told : Result (Option Told) Refusal → Said

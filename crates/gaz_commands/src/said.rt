@@ -86,7 +86,7 @@ impl Said {
         }
     }
 
-    // What is said of what is there. No command asks what became of a file, or for closed streets.
+    // What is said of what is there. No command asks anything else.
     fn of_told(told: Told) -> Said
         ensures { result ≡ said_of_told told }
     {
@@ -94,7 +94,7 @@ impl Said {
             Told::Standing(standing) => Said::Line(PrintedLine::Stands(standing)),
             Told::Found(found) => Said::address(found.line),
             Told::Extract(text) => Said::Extract(text),
-            Told::Outcome(..) | Told::Closed(_) => Said::Line(PrintedLine::Nothing),
+            _ => Said::Line(PrintedLine::Nothing),
         }
     }
 
