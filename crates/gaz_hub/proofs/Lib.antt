@@ -12,9 +12,9 @@ pub mod Advancing
 pub mod Rounds
 pub mod Memory
 pub mod Telling
-pub mod Told
+pub mod ToldNow
 pub mod Replying
-pub mod Posing
+pub mod Forgetting
 pub mod AnswerSteps
 pub mod Declining
 pub mod Receiving

@@ -1,4 +1,4 @@
-use Rattle.gaz_hub.proofs.Told.{each_is_told_holds}
+use Rattle.gaz_hub.proofs.ToldNow.{each_is_told_holds}
 use Rattle.gaz_hub.proofs.laws.each_is_told.Goals as goal
 
 pub returns : goal.returns

@@ -13,7 +13,7 @@ use Rattle.gaz_hub.proofs.AnswerSteps.{known_at}
 use Rattle.gaz_hub.proofs.Declining.{declines_question}
 use Rattle.gaz_hub.proofs.Replying.{answered_door, answered_steps}
 use Rattle.gaz_hub.proofs.Memory.{looks_knowing}
-use Rattle.gaz_hub.proofs.Told.{told_is}
+use Rattle.gaz_hub.proofs.ToldNow.{told_is}
 use Rattle.gaz_hub.proofs.hub.Hub.outcome.Goals as goal
 
 pub returns-clause-steps : goal.returns-clause-steps
