@@ -33,7 +33,7 @@ returns-in-Settle-clause-posed g c =
       reply = or_not_received c.settle.result;
       tells = c.of_settling.ensures;
       steps = c.settle.ensures.steps;
-      forgets = forgets_settling _ c.settle.result c.settle.ensures.forgets;
+      forgets = forgets_settling c.settle.new.self c.settle.result c.settle.ensures.forgets;
       door = c.settle.ensures.door;
     })
 
@@ -55,7 +55,7 @@ returns-in-Extract-clause-posed g c =
       reply = told c.extract.result;
       tells = c.of_extract.ensures c.in-Extract.code c.in-Extract.volume;
       steps = c.extract.ensures.steps;
-      forgets = forgets_told (Extract c.in-Extract.code c.in-Extract.volume) _ c.extract.result c.extract.ensures.forgets;
+      forgets = forgets_told (Extract c.in-Extract.code c.in-Extract.volume) c.extract.new.self c.extract.result c.extract.ensures.forgets;
       door = c.extract.ensures.door;
     })
 
@@ -66,6 +66,6 @@ returns-in-ListClosed-clause-posed g c =
       reply = told_all c.closed_streets.result;
       tells = c.of_closed.ensures;
       steps = c.closed_streets.ensures.steps;
-      forgets = forgets_told_all ListClosed _ c.closed_streets.result c.closed_streets.ensures.forgets;
+      forgets = forgets_told_all ListClosed c.closed_streets.new.self c.closed_streets.result c.closed_streets.ensures.forgets;
       door = c.closed_streets.ensures.door;
     })
