@@ -10,10 +10,10 @@ returns-in-Extract-clause-sent g c =
     (record { text = _; told = inl (behind_head (codes "200 OK") (codes "text/csv") c.as_slice.result.now c.args.is_last); put = c.put_message.ensures.put })
 
 pub told_body-requires : goal.told_body-requires
-told_body-requires g c = is_other c.args.told.now _
+told_body-requires g c = is_other c.args.told.now c.in_default.not-Extract
 
 pub put_made-requires : goal.put_made-requires
 unfolding reply_text
 put_made-requires g c =
-    let other = is_other c.args.told.now _ in
+    let other = is_other c.args.told.now c.in_default.not-Extract in
     rw c.requires.told (record { takes = takes_other _ other; whole = other_behind_head _ (λ b. b.items) c.args.told.now c.args.is_last other c.told_body.ensures })
