@@ -68,7 +68,7 @@ fn placed(rt: &HostRuntime, places: Places<'_>) -> Result<(Register, Options), N
     Ok((register, options))
 }
 
-/// Asks a hub over the store that is there. No file is made.
+/// Asks a hub over the store that is there. No store is made, though an empty log may be.
 pub fn ask(
     rt: &HostRuntime,
     seed: Seed,
@@ -165,7 +165,7 @@ fn attend_on(
 
 /// Answers connections over the store that is there, at a port of 127.0.0.1; for 0 the system
 /// chooses one. It says first where. A store that failed is opened again before the next connection
-/// is answered. No file is made.
+/// is answered. No store is made, though an empty log may be.
 pub fn attend<W: Write>(
     rt: &HostRuntime,
     seed: Seed,

@@ -70,7 +70,8 @@ fn said_of_growth(told: Result<Result<(), ExtendFault>, StoreRefusal>) -> Result
 }
 
 /// Lets the register of the store that is there grow to the one whose file stands at a path. The
-/// register is read first, then the grown one, then the store. No file is made.
+/// register is read first, then the grown one, then the store. No store is made, though an empty
+/// log may be.
 pub fn extend(
     rt: &HostRuntime,
     seed: Seed,

@@ -49,7 +49,8 @@ fn said_of_migration(told: Result<Migration, StoreRefusal>) -> Result<Said, NoHu
     }
 }
 
-/// Migrates the store that is there. The register is read first. No file is made.
+/// Migrates the store that is there. The register is read first. No store is made, though an empty
+/// log may be.
 pub fn migrate(rt: &HostRuntime, seed: Seed, places: Places<'_>) -> Result<Said, NoHub> {
     let register = read_register(rt, places.register)?;
     let options = options_to_migrate(rt, places.store)?;
