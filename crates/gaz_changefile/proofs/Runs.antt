@@ -16,7 +16,7 @@ use Rattle.gaz_changefile.specs.Rules.{before_of, custodian_at, first_broken, he
 use Rattle.gaz_changefile.specs.Fault.{IsFault}
 use Rattle.gaz_changefile.specs.Steps.{Adds, IsFirstOf, before_in, listed}
 use Rattle.gaz_changefile.specs.declared.change.Basis.{Basis}
-use Rattle.gaz_changefile.specs.declared.draft.Draft.{Draft}
+use Rattle.gaz_changefile.specs.declared.draft.FileDraft.{FileDraft}
 use Rattle.gaz_changefile.specs.declared.file.FileFault.{FileFault}
 use Rattle.gaz_changefile.specs.declared.file.FileFault.TheVariants as fault
 use Rattle.gaz_changefile.specs.declared.line.Line.TheVariants as line
@@ -57,7 +57,7 @@ rules_end c v p (b ∷ bs) h e =
     at ∙ ap (λ (q : ℕ). later_rules c (before_of q (b ∷ bs)) None) e
 
 -- what is known once the records before a place broke no rule: the faults are those of what is left
-pub record Kept (c v : ℕ) (rows before left : List Fields) (place : ℕ) (draft : Draft) : Type 0 where
+pub record Kept (c v : ℕ) (rows before left : List Fields) (place : ℕ) (draft : FileDraft) : Type 0 where
   pub split : rows ≡ before ++ left
   pub some : 1 ≤ length before
   pub place_is : place ≡ length before + 1
@@ -140,7 +140,7 @@ changes_push p rows row place e =
     rw (enumerate_push 1 rows row, n, filter_map-append (change_at p) (enumerate_from 1 rows) ((place, row) ∷ []), cons_listed p place row) refl
 
 -- the header broke no rule
-pub kept_start : (c v : ℕ) (rows : List Fields) (row : Fields) (rest : List Fields) (draft : Draft) → rows ≡ row ∷ rest
+pub kept_start : (c v : ℕ) (rows : List Fields) (row : Fields) (rest : List Fields) (draft : FileDraft) → rows ≡ row ∷ rest
     → first_broken (header_rules c v row) ≡ None → line_of draft.profile row ≡ line.Other → draft.own ≡ c → profile_named (row ∷ rest) ≡ draft.profile → date_in (row ∷ []) ≡ draft.date → draft.bases.items ≡ []
     → draft.changes.items ≡ [] → draft.last ≡ None → draft.ended ≡ false → Kept c v rows (row ∷ []) rest 2 draft
 unfolding rules_at
@@ -166,22 +166,22 @@ kept_start c v rows row rest draft e fault other own named date bases changes la
     }
 
 -- what stands before is told by the file as far as it was read
-before_is : (c v : ℕ) (rows before left : List Fields) (place : ℕ) (draft : Draft) → Kept c v rows before left place draft → before_in draft ≡ before_of draft.profile before
+before_is : (c v : ℕ) (rows before left : List Fields) (place : ℕ) (draft : FileDraft) → Kept c v rows before left place draft → before_in draft ≡ before_of draft.profile before
 before_is c v rows before left place draft k = rw (k.base_count, k.count, k.last, k.ended) refl
 
 -- the rules of the next record, and of the end
-rules_here : (c v : ℕ) (rows before : List Fields) (row : Fields) (rest : List Fields) (place : ℕ) (draft : Draft) → Kept c v rows before (row ∷ rest) place draft
+rules_here : (c v : ℕ) (rows before : List Fields) (row : Fields) (rest : List Fields) (place : ℕ) (draft : FileDraft) → Kept c v rows before (row ∷ rest) place draft
     → rules_at c v rows (length before) ≡ later_rules draft.own (before_in draft) (Some row)
 rules_here c v rows before row rest place draft k =
     rw (k.split, rules_next c v draft.profile before row rest k.some (rw k.split at k.named), k.own, before_is c v rows before (row ∷ rest) place draft k) refl
 
-rules_over : (c v : ℕ) (rows before : List Fields) (place : ℕ) (draft : Draft) → Kept c v rows before [] place draft
+rules_over : (c v : ℕ) (rows before : List Fields) (place : ℕ) (draft : FileDraft) → Kept c v rows before [] place draft
     → rules_at c v rows (length before) ≡ later_rules draft.own (before_in draft) None
 rules_over c v rows before place draft k =
     rw (k.split, append-nil before, rules_end c v draft.profile before k.some (rw (k.split, append-nil before) at k.named), k.own, before_is c v rows before [] place draft k) refl
 
 -- one more record broke no rule
-pub kept_more : (c v : ℕ) (rows before : List Fields) (row : Fields) (rest : List Fields) (place : ℕ) (old new : Draft)
+pub kept_more : (c v : ℕ) (rows before : List Fields) (row : Fields) (rest : List Fields) (place : ℕ) (old new : FileDraft)
     → Kept c v rows before (row ∷ rest) place old → Adds old new place row → Kept c v rows (before ++ (row ∷ [])) rest (place + 1) new
 kept_more c v rows before row rest place old new k a =
     let f = fault_at c v rows in
@@ -206,21 +206,21 @@ kept_more c v rows before row rest place old new k a =
     }
 
 -- the next record breaks a rule
-pub bad_next : (c v : ℕ) (rows before : List Fields) (row : Fields) (rest : List Fields) (place : ℕ) (draft : Draft) (contents : Contents) (rule : ℕ)
+pub bad_next : (c v : ℕ) (rows before : List Fields) (row : Fields) (rest : List Fields) (place : ℕ) (draft : FileDraft) (contents : Contents) (rule : ℕ)
     → Kept c v rows before (row ∷ rest) place draft → first_broken (later_rules draft.own (before_in draft) (Some row)) ≡ Some rule
     → by_faults contents (faults c v rows) ≡ Bad place rule
 bad_next c v rows before row rest place draft contents rule k h =
     rw k.place_is (bad_here c v rows contents (length before) (length (row ∷ rest)) rule _ k.faults_left (rules_here c v rows before row rest place draft k) h)
 
 -- the end breaks one
-pub bad_end : (c v : ℕ) (rows before : List Fields) (place : ℕ) (draft : Draft) (contents : Contents) (rule : ℕ)
+pub bad_end : (c v : ℕ) (rows before : List Fields) (place : ℕ) (draft : FileDraft) (contents : Contents) (rule : ℕ)
     → Kept c v rows before [] place draft → first_broken (later_rules draft.own (before_in draft) None) ≡ Some rule
     → by_faults contents (faults c v rows) ≡ Bad place rule
 bad_end c v rows before place draft contents rule k h =
     rw k.place_is (bad_here c v rows contents (length before) 0 rule _ k.faults_left (rules_over c v rows before place draft k) h)
 
 -- it breaks none
-pub good_end : (c v : ℕ) (rows before : List Fields) (place : ℕ) (draft : Draft)
+pub good_end : (c v : ℕ) (rows before : List Fields) (place : ℕ) (draft : FileDraft)
     → Kept c v rows before [] place draft → first_broken (later_rules draft.own (before_in draft) None) ≡ None
     → by_faults (contents_of rows) (faults c v rows) ≡ Good (record { date = draft.date; bases = draft.bases.items; changes = draft.changes.items })
 unfolding contents_of

@@ -6,7 +6,7 @@ use Rattle.gaz_rows.specs.Rows.{Fields}
 use Rattle.gaz_changefile.specs.Contents.{basis_at, change_at}
 use Rattle.gaz_changefile.specs.Lines.{is_basis, is_change, is_trailer}
 use Rattle.gaz_changefile.specs.Rules.{Before, custodian_at, first_broken, later_rules}
-use Rattle.gaz_changefile.specs.declared.draft.Draft.{Draft}
+use Rattle.gaz_changefile.specs.declared.draft.FileDraft.{FileDraft}
 use Rattle.gaz_changefile.specs.declared.file.FileFault.{FileFault}
 use Rattle.gaz_changefile.specs.declared.file.FileFault.TheVariants.{Bad, Memory}
 
@@ -26,7 +26,7 @@ listed None = []
 listed (Some x) = x ∷ []
 
 -- what stands before the next record of a file that was read so far
-abbrev pub before_in : Draft → Before
+abbrev pub before_in : FileDraft → Before
 before_in draft = record {
   profile = draft.profile;
   bases = length draft.bases.items;
@@ -37,7 +37,7 @@ before_in draft = record {
 
 -- a record that breaks no rule was read: its basis or its change stands last, and the file ends
 -- where it is a trailer
-pub record Adds (old new : Draft) (place : ℕ) (row : Fields) : Type 0 where
+pub record Adds (old new : FileDraft) (place : ℕ) (row : Fields) : Type 0 where
   pub kept : first_broken (later_rules old.own (before_in old) (Some row)) ≡ None
   pub open_before : old.ended ≡ false
   pub bases : new.bases.items ≡ old.bases.items ++ listed (basis_at old.profile row)

@@ -18,7 +18,7 @@ use std::alloc::Global;
 
 /// A file as far as it was read.
 #[derive(Drop)]
-pub(crate) struct Draft {
+pub(crate) struct FileDraft {
     /// The custodian whose file it is.
     own: Code,
     /// The profile that its header names.
@@ -42,9 +42,9 @@ fn is_above(last: Option<Code>, custodian: Code) -> bool
     }
 }
 
-impl Draft {
+impl FileDraft {
     /// The file behind its header.
-    pub(crate) fn new(alloc: Global, own: Code, header: Header) -> Draft
+    pub(crate) fn new(alloc: Global, own: Code, header: Header) -> FileDraft
         ensures own { result.own ≡ own }
         ensures profile { result.profile ≡ header.profile }
         ensures date { result.date ≡ header.date }
@@ -53,7 +53,7 @@ impl Draft {
         ensures last { result.last ≡ None }
         ensures open { result.ended ≡ false }
     {
-        Draft {
+        FileDraft {
             own,
             profile: header.profile,
             date: header.date,

@@ -4,7 +4,7 @@ ghost use Rattle.gaz_changefile.specs.Fault.{IsFault};
 ghost use Rattle.gaz_changefile.specs.Files.{AreBases, ArePlaced};
 ghost use Rattle.gaz_changefile.specs.Reading.{Good, reading};
 
-use crate::draft::Draft;
+use crate::draft::FileDraft;
 use crate::file::{ChangeFile, FileFault};
 use crate::header::read_header;
 use crate::rule;
@@ -42,7 +42,7 @@ pub fn read_file(
         return Err(none);
     }
     let header = read_header(&row, code, volume)?;
-    let mut draft = Draft::new(alloc, code, header);
+    let mut draft = FileDraft::new(alloc, code, header);
     for place in 2..u64::MAX {
         if !next_row(&mut rdr, &mut row)? {
             return draft.finish(place);

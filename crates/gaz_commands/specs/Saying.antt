@@ -12,8 +12,8 @@ use Rattle.gaz_hub.specs.declared.question.Told.TheVariants as told
 use Rattle.gaz_commands.specs.Lines.{is_done, line_text}
 use Rattle.gaz_hub.specs.declared.refusal.DoorRefusal.{DoorRefusal}
 use Rattle.gaz_commands.specs.declared.printed.PrintedLine.TheVariants as line
-use Rattle.gaz_commands.specs.declared.said.Fault.{Fault}
-use Rattle.gaz_commands.specs.declared.said.Fault.TheVariants as fault
+use Rattle.gaz_commands.specs.declared.said.CommandFault.{CommandFault}
+use Rattle.gaz_commands.specs.declared.said.CommandFault.TheVariants as fault
 use Rattle.gaz_commands.specs.declared.said.Said.{Said}
 use Rattle.gaz_commands.specs.declared.said.Said.TheVariants as said
 
@@ -64,7 +64,7 @@ text_of (said.Extract bytes) = bytes
 text_of (said.Failed why) = []
 
 -- the line on standard error, which names the fault
-abbrev pub error_line : Fault → List ℕ
+abbrev pub error_line : CommandFault → List ℕ
 error_line fault.Unreadable = codes "gazhub: Unreadable\n"
 error_line fault.NotReceived = codes "gazhub: NotReceived\n"
 error_line fault.ReceivedUnsettled = codes "gazhub: ReceivedUnsettled\n"

@@ -13,7 +13,7 @@ use Rattle.gaz_commands.specs.Asking.{asks_address, asks_extract, asks_standing,
 use Rattle.gaz_commands.specs.Saying.{error_of, said_to, status_of, text_of, turned_away}
 use Rattle.gaz_hub.specs.declared.refusal.DoorRefusal.TheVariants as door
 use Rattle.gaz_commands.specs.declared.printed.PrintedLine.TheVariants as line
-use Rattle.gaz_commands.specs.declared.said.Fault.TheVariants as fault
+use Rattle.gaz_commands.specs.declared.said.CommandFault.TheVariants as fault
 use Rattle.gaz_commands.specs.declared.said.Said.{Said}
 use Rattle.gaz_commands.specs.declared.said.Said.TheVariants as said
 

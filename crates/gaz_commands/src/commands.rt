@@ -8,7 +8,7 @@ ghost use Rattle.gaz_commands.specs.Obeying.{IsAnswered, Obeys};
 
 use crate::numbers::{code_named, uprn_named, volume_named};
 use crate::printed::PrintedLine;
-use crate::said::{Fault, Said, turned_away};
+use crate::said::{CommandFault, Said, turned_away};
 use gaz_hub::{DoorRefusal, Hub, Question};
 use gaz_keeper::Inbox;
 
@@ -33,7 +33,7 @@ pub fn submit<K: Inbox + Drop>(
         return turned_away(DoorRefusal::BadVolume);
     };
     let Some(file) = file else {
-        return Said::Failed(Fault::Unreadable);
+        return Said::Failed(CommandFault::Unreadable);
     };
     Said::answered(hub.submit(code.number(), volume.number(), file))
 }

@@ -12,4 +12,4 @@ mod said;
 pub use commands::{extract, line, status, submit};
 pub use printed::PrintedLine;
 pub use printing::print;
-pub use said::{Fault, Said};
+pub use said::{CommandFault, Said};

@@ -9,7 +9,7 @@ use gaz_hub::{Answer, DoorRefusal, ExtractText, Refusal, Told};
 
 /// A fault, which standard error names.
 #[derive(Clone, Copy, PartialEq, Eq)]
-pub enum Fault {
+pub enum CommandFault {
     /// The change file can't be read.
     Unreadable,
     /// Nothing was received.
@@ -18,15 +18,15 @@ pub enum Fault {
     ReceivedUnsettled,
 }
 
-impl Fault {
+impl CommandFault {
     /// The line on standard error that names the fault, with its end.
     pub fn line(self) -> &'static str
         ensures { result.now ≡ error_line self }
     {
         match self {
-            Fault::Unreadable => "gazhub: Unreadable\n",
-            Fault::NotReceived => "gazhub: NotReceived\n",
-            Fault::ReceivedUnsettled => "gazhub: ReceivedUnsettled\n",
+            CommandFault::Unreadable => "gazhub: Unreadable\n",
+            CommandFault::NotReceived => "gazhub: NotReceived\n",
+            CommandFault::ReceivedUnsettled => "gazhub: ReceivedUnsettled\n",
         }
     }
 }
@@ -39,7 +39,7 @@ pub enum Said {
     /// A custodian's view after a volume, for standard output.
     Extract(ExtractText),
     /// Nothing for standard output.
-    Failed(Fault),
+    Failed(CommandFault),
 }
 
 impl Said {
@@ -115,8 +115,8 @@ impl Said {
     {
         match refusal {
             Refusal::Door(why) => turned_away(why),
-            Refusal::NotReceived(_) => Said::Failed(Fault::NotReceived),
-            Refusal::ReceivedUnsettled(_) => Said::Failed(Fault::ReceivedUnsettled),
+            Refusal::NotReceived(_) => Said::Failed(CommandFault::NotReceived),
+            Refusal::ReceivedUnsettled(_) => Said::Failed(CommandFault::ReceivedUnsettled),
         }
     }
 }

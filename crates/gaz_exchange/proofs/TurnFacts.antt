@@ -25,7 +25,7 @@ use Rattle.gaz_exchange.specs.declared.fault.Fault.TheVariants.{NotReceived}
 use Rattle.gaz_exchange.specs.declared.reply.Reply.{Reply}
 use Rattle.gaz_exchange.specs.declared.reply.Reply.TheVariants.{Refused}
 use Rattle.gaz_exchange.specs.declared.request.Request.{Request}
-use Rattle.gaz_exchange.specs.declared.calls.Call.{Call}
+use Rattle.gaz_exchange.specs.declared.calls.Routed.{Routed}
 use Rattle.gaz_exchange.proofs.StreamFacts.{kept_appends, kept_appends_none}
 
 -- a refusal's text takes no memory
@@ -34,15 +34,15 @@ refusal_text fault is_last text (inl e) = e
 refusal_text fault is_last text (inr none) = let wrong : false ≡ true = none.took in cc
 
 -- what isn't for the hub leaves it as it is
-pub not_asked : (d : Door) (body : List ℕ) (old : Seen) (called : Result Call Fault) (fault : Fault) → called ≡ Err fault → Asks d called body old old (Refused fault)
-not_asked d body old called fault is = subst (λ (r : Result Call Fault). Asks d r body old old (Refused fault)) (sym is) (runs_none d old, refl)
+pub not_asked : (d : Door) (body : List ℕ) (old : Seen) (called : Result Routed Fault) (fault : Fault) → called ≡ Err fault → Asks d called body old old (Refused fault)
+not_asked d body old called fault is = subst (λ (r : Result Routed Fault). Asks d r body old old (Refused fault)) (sym is) (runs_none d old, refl)
 
 -- the exchange where the hub wasn't asked
 abbrev unasked_exchange : RequestHead → List ℕ → Bool → List ℕ → Exchange
 unasked_exchange h body routed text = record { head = h; body = body; routed = routed; response = None; reply = text }
 
 module _ (h : RequestHead) (body : List ℕ) where
-  asked_with : (called : Result Call Fault) → called ≡ call_at (target_of h.target) (method_of h.method) → asked h body ≡ with_body body called
+  asked_with : (called : Result Routed Fault) → called ≡ call_at (target_of h.target) (method_of h.method) → asked h body ≡ with_body body called
   unfolding asked
   asked_with called e = ap (with_body body) (sym e)
 
@@ -63,7 +63,7 @@ module _ (h : RequestHead) (body : List ℕ) where
   asked_answer command response is_last text e told = subst (λ (r : Result Command Fault). IsReplyTo r (Some response) is_last text) (sym e) told
 
   -- what asks anything is asked only where the routes were found
-  call_found : (routed : Bool) (call : Call) → IsCall routed h (Ok call) → (routed ≡ true) × (asked h body ≡ Ok (command_of body call))
+  call_found : (routed : Bool) (call : Routed) → IsCall routed h (Ok call) → (routed ≡ true) × (asked h body ≡ Ok (command_of body call))
   call_found true call e = (refl, asked_with (Ok call) e)
   call_found false call e = absurd (cc e)
 
@@ -77,7 +77,7 @@ module _ (d : Door) where
 
   module _ (h : RequestHead) (bytes body rest text : List ℕ) (closing is_last routed : Bool) (old new : Seen) (reply : Reply)
       (begins : BeginsWithRequest bytes h body rest) (same : closing ≡ is_closing h) (told : IsReplyText reply (closing || is_last) text) where
-    pub exchange_out : (called : Result Call Fault) → IsCall routed h called → Asks d called body old new reply → IsOut h bytes rest text is_last routed old new
+    pub exchange_out : (called : Result Routed Fault) → IsCall routed h called → Asks d called body old new reply → IsOut h bytes rest text is_last routed old new
     exchange_out (Ok call) is a =
         let found = call_found h body routed call is in
         let made : Exchange = record { head = h; body = body; routed = true; response = Some a.0; reply = text } in

@@ -11,8 +11,8 @@ use Rattle.gaz_exchange.specs.Targets.{Nowhere, target_of, code_in, volume_in, u
 use Rattle.gaz_exchange.specs.declared.fault.Allowed.TheVariants as allowed
 use Rattle.gaz_exchange.specs.declared.fault.Fault.{Fault}
 use Rattle.gaz_exchange.specs.declared.fault.Fault.TheVariants.{NotThere, NoRoute, BadMethod}
-use Rattle.gaz_exchange.specs.declared.calls.Call.{Call}
-use Rattle.gaz_exchange.specs.declared.calls.Call.TheVariants.{Submit, Pose}
+use Rattle.gaz_exchange.specs.declared.calls.Routed.{Routed}
+use Rattle.gaz_exchange.specs.declared.calls.Routed.TheVariants.{Submit, Pose}
 use Rattle.gaz_exchange.specs.declared.calls.Method.{Method}
 use Rattle.gaz_exchange.specs.declared.calls.Method.TheVariants.{Get, Post, Other}
 
@@ -24,13 +24,13 @@ method_of text =
     else Other
 
 -- a property is looked up by its UPRN; a number that doesn't read is that of no property
-abbrev pub look_up : Option ℕ → Result Call Fault
+abbrev pub look_up : Option ℕ → Result Routed Fault
 look_up (Some uprn) = Ok (Pose (LookUp uprn))
 look_up None = Err NotThere
 
 -- what is asked at a target by a method, or why nothing is: the target is looked at before the
 -- method, and the method before the numbers
-abbrev pub call_at : Target → Method → Result Call Fault
+abbrev pub call_at : Target → Method → Result Routed Fault
 call_at Nowhere m = Err NoRoute
 call_at (Volume c v) Post = Ok (Submit (code_in c) (volume_in v))
 call_at (Volume c v) Get = Ok (Pose (Ask (code_in c) (volume_in v)))
@@ -49,12 +49,12 @@ call_at Closed Post = Err (BadMethod allowed.Get)
 call_at Closed Other = Err (BadMethod allowed.Get)
 
 -- what the hub is asked by a call and a body, which a submission alone takes
-abbrev pub command_of : List ℕ → Call → Command
+abbrev pub command_of : List ℕ → Routed → Command
 command_of body (Submit code volume) = hub.Submit code volume body
 command_of body (Pose question) = hub.Pose question
 
 -- what it is asked where a call was found
-abbrev pub with_body : List ℕ → Result Call Fault → Result Command Fault
+abbrev pub with_body : List ℕ → Result Routed Fault → Result Command Fault
 with_body body (Ok call) = Ok (command_of body call)
 with_body body (Err fault) = Err fault
 

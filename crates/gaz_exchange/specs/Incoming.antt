@@ -14,7 +14,7 @@ use Rattle.gaz_exchange.specs.declared.fault.Fault.{Fault}
 use Rattle.gaz_exchange.specs.declared.fault.Fault.TheVariants.{BadRequest, NotReceived}
 use Rattle.gaz_exchange.specs.declared.framing.Framing.{Framing}
 use Rattle.gaz_exchange.specs.declared.framing.Framing.TheVariants.{Length, Refused}
-use Rattle.gaz_exchange.specs.declared.calls.Call.{Call}
+use Rattle.gaz_exchange.specs.declared.calls.Routed.{Routed}
 use Rattle.gaz_exchange.specs.declared.calls.Method.{Method}
 use Rattle.gaz_exchange.specs.declared.request.Incoming.{Incoming}
 use Rattle.gaz_exchange.specs.declared.request.Incoming.TheVariants as incoming
@@ -23,12 +23,12 @@ use Rattle.gaz_exchange.specs.declared.supply.Cause.{Cause}
 use Rattle.gaz_exchange.specs.declared.supply.Cause.TheVariants.{ReadFault}
 
 -- what the hub is asked at a target, where the routes were found, and else 51
-abbrev pub IsCallAt : Bool → List ℕ → Method → Result Call Fault → Type 0
+abbrev pub IsCallAt : Bool → List ℕ → Method → Result Routed Fault → Type 0
 IsCallAt true target method call = call ≡ call_at (target_of target) method
 IsCallAt false target method call = call ≡ Err NotReceived
 
 -- what the hub is asked by a head
-abbrev pub IsCall : Bool → RequestHead → Result Call Fault → Type 0
+abbrev pub IsCall : Bool → RequestHead → Result Routed Fault → Type 0
 IsCall routed h call = IsCallAt routed h.target (method_of h.method) call
 
 -- what the head says

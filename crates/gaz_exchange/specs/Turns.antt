@@ -22,14 +22,14 @@ use Rattle.gaz_exchange.specs.declared.fault.Fault.{Fault}
 use Rattle.gaz_exchange.specs.declared.reply.Reply.{Reply}
 use Rattle.gaz_exchange.specs.declared.reply.Reply.TheVariants.{Refused}
 use Rattle.gaz_exchange.specs.declared.request.Request.{Request}
-use Rattle.gaz_exchange.specs.declared.calls.Call.{Call}
+use Rattle.gaz_exchange.specs.declared.calls.Routed.{Routed}
 
 -- the hub isn't asked, and what its keeper stands for stays
 abbrev pub Rests : Door → Seen → Seen → Type 0
 Rests door old new = Runs door old new [] []
 
 -- the hub is asked by the call, or rests
-abbrev pub Asks : Door → Result Call Fault → List ℕ → Seen → Seen → Reply → Type 0
+abbrev pub Asks : Door → Result Routed Fault → List ℕ → Seen → Seen → Reply → Type 0
 Asks door (Ok call) body old new reply =
     (response : Response) × Steps door old new (command_of body call) response
     × (reply ≡ reply_to response)

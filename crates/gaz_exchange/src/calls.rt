@@ -39,7 +39,7 @@ impl Method {
 /// What the hub is asked, but for the body. A number that doesn't read stands as 0, which the hub's
 /// door refuses.
 #[derive(Clone, Copy)]
-pub enum Call {
+pub enum Routed {
     Submit { code: u64, volume: u64 },
     Pose(Question),
 }
@@ -77,7 +77,7 @@ fn next_part<'v>(parts: &mut ParamsIter<'_, '_, 'v>) -> &'v str
 }
 
 /// What a request asks of a custodian's volume.
-pub fn volume_call(params: &Params<'_, '_>, method: Method) -> Result<Call, Fault>
+pub fn volume_call(params: &Params<'_, '_>, method: Method) -> Result<Routed, Fault>
     ensures { (c v : List ℕ) → Took params.now ((codes "c", c) ∷ (codes "v", v) ∷ [])
         → result ≡ call_at (seen.Volume c v) method }
 {
@@ -85,26 +85,26 @@ pub fn volume_call(params: &Params<'_, '_>, method: Method) -> Result<Call, Faul
     let code = code_of(next_part(&mut parts));
     let volume = volume_of(next_part(&mut parts));
     match method {
-        Method::Post => Ok(Call::Submit { code, volume }),
-        Method::Get => Ok(Call::Pose(Question::Ask { code, volume })),
+        Method::Post => Ok(Routed::Submit { code, volume }),
+        Method::Get => Ok(Routed::Pose(Question::Ask { code, volume })),
         Method::Other => Err(Fault::BadMethod(Allowed::GetAndPost)),
     }
 }
 
 /// What a request asks of a custodian.
-pub fn custodian_call(params: &Params<'_, '_>, method: Method) -> Result<Call, Fault>
+pub fn custodian_call(params: &Params<'_, '_>, method: Method) -> Result<Routed, Fault>
     ensures { (c : List ℕ) → Took params.now ((codes "c", c) ∷ [])
         → result ≡ call_at (seen.Custodian c) method }
 {
     let code = code_of(next_part(&mut params.iter()));
     match method {
-        Method::Get => Ok(Call::Pose(Question::Stand { code })),
+        Method::Get => Ok(Routed::Pose(Question::Stand { code })),
         Method::Post | Method::Other => Err(Fault::BadMethod(Allowed::Get)),
     }
 }
 
 /// What a request asks of an extract.
-pub fn extract_call(params: &Params<'_, '_>, method: Method) -> Result<Call, Fault>
+pub fn extract_call(params: &Params<'_, '_>, method: Method) -> Result<Routed, Fault>
     ensures { (c v : List ℕ) → Took params.now ((codes "c", c) ∷ (codes "v", v) ∷ [])
         → result ≡ call_at (seen.Extract c v) method }
 {
@@ -112,13 +112,13 @@ pub fn extract_call(params: &Params<'_, '_>, method: Method) -> Result<Call, Fau
     let code = code_of(next_part(&mut segments));
     let volume = volume_of(next_part(&mut segments));
     match method {
-        Method::Get => Ok(Call::Pose(Question::Extract { code, volume })),
+        Method::Get => Ok(Routed::Pose(Question::Extract { code, volume })),
         Method::Post | Method::Other => Err(Fault::BadMethod(Allowed::Get)),
     }
 }
 
 /// What a request asks of a property.
-pub fn property_call(params: &Params<'_, '_>, method: Method) -> Result<Call, Fault>
+pub fn property_call(params: &Params<'_, '_>, method: Method) -> Result<Routed, Fault>
     ensures { (n : List ℕ) → Took params.now ((codes "n", n) ∷ [])
         → result ≡ call_at (seen.Property n) method }
 {
@@ -130,21 +130,21 @@ pub fn property_call(params: &Params<'_, '_>, method: Method) -> Result<Call, Fa
 }
 
 // A number that doesn't read is that of no property.
-fn look_up(uprn: Option<Uprn>) -> Result<Call, Fault>
+fn look_up(uprn: Option<Uprn>) -> Result<Routed, Fault>
     ensures { result ≡ look_up uprn }
 {
     match uprn {
-        Some(uprn) => Ok(Call::Pose(Question::LookUp { uprn })),
+        Some(uprn) => Ok(Routed::Pose(Question::LookUp { uprn })),
         None => Err(Fault::NotThere),
     }
 }
 
 /// What a request asks of the closed streets.
-pub fn closed_call(method: Method) -> Result<Call, Fault>
+pub fn closed_call(method: Method) -> Result<Routed, Fault>
     ensures { result ≡ call_at seen.Closed method }
 {
     match method {
-        Method::Get => Ok(Call::Pose(Question::ListClosed)),
+        Method::Get => Ok(Routed::Pose(Question::ListClosed)),
         Method::Post | Method::Other => Err(Fault::BadMethod(Allowed::Get)),
     }
 }

@@ -9,7 +9,7 @@ ghost use Rattle.gaz_exchange.specs.Failing.{FailedInto, HasFailed, WriterFailed
 ghost use Rattle.gaz_exchange.specs.Turns.{Answers, Asks, IfStopped, IsAsked, IsTurn, Refuses};
 ghost use Rattle.gaz_exchange.specs.Turns.{turn_of};
 
-use crate::calls::Call;
+use crate::calls::Routed;
 use crate::fault::Fault;
 use crate::reply::Reply;
 use crate::request::{Incoming, Intake, Request, next_request};
@@ -61,15 +61,15 @@ pub enum Turn {
 }
 
 // Asks the hub by the call.
-fn ask_call<K: Inbox + Drop>(hub: &mut Hub<K>, call: Call, body: &[u8]) -> Reply
+fn ask_call<K: Inbox + Drop>(hub: &mut Hub<K>, call: Routed, body: &[u8]) -> Reply
     requires idle { IsNotOpen (K.seen hub.old.keeper).progress }
     ensures asked { Asks (door_of hub.old.register) (Ok call) body.now
         (hub_seen K.seen hub.old) (hub_seen K.seen hub.new) result }
     ensures register { hub.new.register ≡ hub.old.register }
 {
     match call {
-        Call::Submit { code, volume } => hub.submit(code, volume, body).into(),
-        Call::Pose(question) => Reply::told(hub.ask(question)),
+        Routed::Submit { code, volume } => hub.submit(code, volume, body).into(),
+        Routed::Pose(question) => Reply::told(hub.ask(question)),
     }
 }
 

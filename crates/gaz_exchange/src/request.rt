@@ -9,7 +9,7 @@ ghost use Rattle.gaz_exchange.specs.Incoming.{IsReadForRequest};
 ghost use Rattle.gaz_exchange.specs.Supplies.{Reads};
 
 use crate::body::{Body, read_body};
-use crate::calls::{Call, Method};
+use crate::calls::{Method, Routed};
 use crate::fault::Fault;
 use crate::framing::{Framing, find_framing, is_post};
 use crate::headers::closes;
@@ -27,7 +27,7 @@ use std::mem::replace;
 #[derive(Drop)]
 pub struct Request {
     /// What the hub is asked, or why it isn't.
-    pub call: Result<Call, Fault>,
+    pub call: Result<Routed, Fault>,
     /// Whether the conversation ends after it by its own word.
     pub closing: bool,
     pub body: Vec<u8>,
@@ -49,7 +49,7 @@ pub enum Incoming {
 #[derive(Clone, Copy)]
 pub struct Needed {
     framing: Framing,
-    call: Result<Call, Fault>,
+    call: Result<Routed, Fault>,
     closing: bool,
 }
 

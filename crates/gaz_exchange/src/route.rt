@@ -6,7 +6,7 @@ ghost use Rattle.gaz_exchange.specs.Routing.{routes};
 ghost use Rattle.gaz_exchange.specs.Targets.{target_of};
 
 use crate::calls::{
-    Call, Method, closed_call, custodian_call, extract_call, property_call, volume_call,
+    Method, Routed, closed_call, custodian_call, extract_call, property_call, volume_call,
 };
 use crate::fault::Fault;
 use matchit::Router;
@@ -51,7 +51,7 @@ fn make_router(alloc: Global) -> Option<Router<Place>>
 }
 
 // What a request asks of the hub.
-fn find_call(router: &Router<Place>, target: &str, method: Method) -> Result<Call, Fault>
+fn find_call(router: &Router<Place>, target: &str, method: Method) -> Result<Routed, Fault>
     requires { router.now ≡ routes }
     ensures { result ≡ call_at (target_of target.now) method }
 {
@@ -95,7 +95,7 @@ impl Routes {
 
     /// What a request asks of the hub. Where there is no memory for the routes it is refusal 51;
     /// once they are there, they stay.
-    pub fn call(&mut self, alloc: Global, target: &[u8], method: Method) -> Result<Call, Fault>
+    pub fn call(&mut self, alloc: Global, target: &[u8], method: Method) -> Result<Routed, Fault>
         requires { IsUtf8 target.now }
         ensures call { IsCallAt self.new target.now method result }
         ensures stay { self.old ≡ true → self.new ≡ true }

@@ -12,12 +12,12 @@ use std::marker::Model;
 
 /// An extract that is being written: its text so far, and the order of the next record.
 #[derive(Drop)]
-pub struct Draft {
+pub struct ExtractDraft {
     text: Vec<u8>,
     next: u64,
 }
 
-impl Model for Draft {
+impl Model for ExtractDraft {
     ghost use Rattle.std.specs.Prelude.{◌≤◌, ◌+◌, length};
     ghost use Rattle.gaz_extract.specs.Drafts.{DraftValue};
 
@@ -63,9 +63,9 @@ fn add_row(alloc: Global, out: &mut Vec<u8>, fields: &[&[u8]]) -> Result<(), All
     Ok(())
 }
 
-impl Draft {
+impl ExtractDraft {
     /// The header alone.
-    pub fn new(alloc: Global, code: Code, volume: Volume) -> Result<Draft, AllocError>
+    pub fn new(alloc: Global, code: Code, volume: Volume) -> Result<ExtractDraft, AllocError>
         ensures { IfOk result (λ d. d ≡ begun_draft code volume) }
     {
         let mut text = Vec::new(alloc);
@@ -73,23 +73,23 @@ impl Draft {
         let volume = format!(in alloc; "{volume}")?;
         let fields: [&[u8]; 4] = [b"10", b"E", code.as_bytes(), volume.as_bytes()];
         add_row(alloc, &mut text, &fields)?;
-        Ok(Draft { text, next: 1 })
+        Ok(ExtractDraft { text, next: 1 })
     }
 
     // The draft with an item's record.
-    fn push(self, item: &Item) -> Result<Draft, AllocError>
+    fn push(self, item: &Item) -> Result<ExtractDraft, AllocError>
         ensures { IfOk result (λ d. d ≡ with_items self (item.now ∷ [])) }
     {
-        let Draft { mut text, next } = self;
+        let ExtractDraft { mut text, next } = self;
         add_record(&mut text, next, item)?;
-        Ok(Draft {
+        Ok(ExtractDraft {
             text,
             next: next + 1,
         })
     }
 
     /// The draft with the records of these items.
-    pub fn append(self, items: &[SharedItem]) -> Result<Draft, AllocError>
+    pub fn append(self, items: &[SharedItem]) -> Result<ExtractDraft, AllocError>
         ensures { IfOk result (λ d. d ≡ with_items self items.now) }
     {
         let mut draft = self;
@@ -103,7 +103,7 @@ impl Draft {
     pub fn finish(self, alloc: Global) -> Result<Vec<u8>, AllocError>
         ensures { IfOk result (λ t. t.items ≡ ended_text self) }
     {
-        let Draft { mut text, next } = self;
+        let ExtractDraft { mut text, next } = self;
         let count = format!(in alloc; "{}", next - 1)?;
         let fields: [&[u8]; 2] = [b"99", count.as_bytes()];
         add_row(alloc, &mut text, &fields)?;

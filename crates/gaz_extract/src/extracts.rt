@@ -8,7 +8,7 @@ ghost use Rattle.gaz_extract.specs.Paging.{pages_left};
 ghost use Rattle.gaz_extract.specs.Readings.{LooksAfter, LooksAtBoard};
 ghost use Rattle.gaz_keeper.specs.Telling.{IsNotJudging};
 
-use crate::draft::Draft;
+use crate::draft::ExtractDraft;
 use crate::page::read_page;
 use gaz_ids::{Code, Volume};
 use gaz_keeper::{Shelf, ShelfFault};
@@ -18,7 +18,7 @@ use std::alloc::Global;
 /// A draft, and the key after which the next page begins, if there is one.
 #[derive(Drop)]
 struct Written {
-    draft: Draft,
+    draft: ExtractDraft,
     next: Option<Key>,
 }
 
@@ -29,7 +29,7 @@ fn add_page<K: Shelf>(
     volume: u64,
     kind: Kind,
     after: Option<Key>,
-    draft: Draft,
+    draft: ExtractDraft,
 ) -> Result<Written, ShelfFault>
     requires idle { IsNotJudging K.seen keeper.old }
     requires entry { is_entry_kind kind ≡ true }
@@ -53,8 +53,8 @@ fn add_kind<K: Shelf>(
     code: Code,
     volume: u64,
     kind: Kind,
-    draft: Draft,
-) -> Result<Draft, ShelfFault>
+    draft: ExtractDraft,
+) -> Result<ExtractDraft, ShelfFault>
     requires idle { IsNotJudging K.seen keeper.old }
     requires entry { is_entry_kind kind ≡ true }
     ensures tells { LooksAfter K.seen keeper.old keeper.new result code volume
@@ -76,8 +76,8 @@ fn add_view<K: Shelf>(
     keeper: &mut K,
     code: Code,
     volume: u64,
-    draft: Draft,
-) -> Result<Draft, ShelfFault>
+    draft: ExtractDraft,
+) -> Result<ExtractDraft, ShelfFault>
     requires { IsNotJudging K.seen keeper.old }
     ensures tells { LooksAfter K.seen keeper.old keeper.new result code volume
         (λ view d. d ≡ with_items draft (by_kind view)) }
@@ -111,7 +111,7 @@ pub fn extract<K: Shelf>(
     if keeper.reached(code)? < volume.number() {
         return Ok(None);
     }
-    let draft = Draft::new(alloc, code, volume)?;
+    let draft = ExtractDraft::new(alloc, code, volume)?;
     let draft = add_view(keeper, code, volume.number(), draft)?;
     let text = draft.finish(alloc)?;
     Ok(Some(text))

@@ -75,7 +75,8 @@ pub fn every_settled_run()
     ensures { EverySettledRun }
 {}
 
-/// An exact repeat changes nothing, and is answered by the outcome then standing.
+/// Where all was settled, an exact repeat changes nothing, and is answered by the outcome that
+/// stands.
 pub fn every_repeat()
     ensures { EveryRepeat }
 {}

@@ -16,14 +16,14 @@ pub(crate) type Pair = (i64, i64);
 
 /// A custodian as its table writes it.
 #[derive(Drop)]
-pub(crate) struct Draft<'t> {
+pub(crate) struct CustodianDraft<'t> {
     pub(crate) code: i64,
     pub(crate) name: &'t str,
     pub(crate) uprn: Vec<Pair>,
     pub(crate) usrn: Vec<Pair>,
 }
 
-impl<'t> Model for Draft<'t> {
+impl<'t> Model for CustodianDraft<'t> {
     ghost use Rattle.gaz_register.specs.Drafts.{DraftValue};
 
     ghost Value = { DraftValue };
@@ -103,7 +103,7 @@ fn pairs_of(alloc: Global, table: &Table, key: &str) -> Result<Vec<Pair>, RegFau
 }
 
 #[tactic(auto, unfolding(crate::specs::Drafts::draft_in))]
-fn draft_in<'t>(alloc: Global, table: &'t Table) -> Result<Draft<'t>, RegFault>
+fn draft_in<'t>(alloc: Global, table: &'t Table) -> Result<CustodianDraft<'t>, RegFault>
     ensures { OrMemory result (draft_in (table_view table.now)) }
 {
     if table.len() != 4 {
@@ -113,7 +113,7 @@ fn draft_in<'t>(alloc: Global, table: &'t Table) -> Result<Draft<'t>, RegFault>
     let name = text_at(table, "name")?;
     let uprn = pairs_of(alloc, table, "uprn")?;
     let usrn = pairs_of(alloc, table, "usrn")?;
-    Ok(Draft {
+    Ok(CustodianDraft {
         code,
         name,
         uprn,
@@ -121,7 +121,7 @@ fn draft_in<'t>(alloc: Global, table: &'t Table) -> Result<Draft<'t>, RegFault>
     })
 }
 
-fn draft_of<'t>(alloc: Global, value: &'t Value) -> Result<Draft<'t>, RegFault>
+fn draft_of<'t>(alloc: Global, value: &'t Value) -> Result<CustodianDraft<'t>, RegFault>
     ensures { OrMemory result (draft_of (view value.now)) }
 {
     match value.as_table() {
@@ -132,7 +132,7 @@ fn draft_of<'t>(alloc: Global, value: &'t Value) -> Result<Draft<'t>, RegFault>
 
 #[tactic(auto, using(crate::proofs::Gather::onto_pushed))]
 // The items as custodians.
-fn drafts_from<'t>(alloc: Global, items: &'t [Value]) -> Result<Vec<Draft<'t>>, RegFault>
+fn drafts_from<'t>(alloc: Global, items: &'t [Value]) -> Result<Vec<CustodianDraft<'t>>, RegFault>
     ensures { ItemsOrMemory result (all_good (map (λ v. draft_of (view v)) items.now)) }
 {
     let mut drafts = Vec::new(alloc);
@@ -144,7 +144,10 @@ fn drafts_from<'t>(alloc: Global, items: &'t [Value]) -> Result<Vec<Draft<'t>>, 
 
 #[tactic(auto, unfolding(crate::specs::Drafts::drafts_in))]
 /// The custodians of a document as their tables write them, in the order of the text.
-pub(crate) fn drafts_in<'t>(alloc: Global, table: &'t Table) -> Result<Vec<Draft<'t>>, RegFault>
+pub(crate) fn drafts_in<'t>(
+    alloc: Global,
+    table: &'t Table,
+) -> Result<Vec<CustodianDraft<'t>>, RegFault>
     ensures { ItemsOrMemory result (drafts_in (table_view table.now)) }
 {
     if table.len() != 1 {

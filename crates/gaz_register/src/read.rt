@@ -9,7 +9,7 @@ ghost use Rattle.gaz_register.specs.Reading.{custodians_from, document, number_f
 
 use crate::block::{Block, put_block};
 use crate::custodian::{Custodian, put_custodian};
-use crate::draft::{Draft, Pair, drafts_in};
+use crate::draft::{CustodianDraft, Pair, drafts_in};
 use crate::fault::RegFault;
 use crate::name::is_name;
 use crate::register::Register;
@@ -91,7 +91,7 @@ fn blocks_from(alloc: Global, most: u64, pairs: &[Pair]) -> Result<Vec<Block>, R
 }
 
 #[tactic(auto, using(std::proofs::lemmas::Bool::Decides::nat_tests), unfolding(crate::specs::Reading::custodian_from))]
-fn custodian_from(alloc: Global, draft: &Draft) -> Result<Custodian, RegFault>
+fn custodian_from(alloc: Global, draft: &CustodianDraft) -> Result<Custodian, RegFault>
     ensures { OrMemory result (custodian_from draft.now) }
 {
     let Some(code) = number_from(9999, draft.code).and_then(Code::of) else {
@@ -108,7 +108,7 @@ fn custodian_from(alloc: Global, draft: &Draft) -> Result<Custodian, RegFault>
 
 #[tactic(auto, unfolding(crate::specs::Reading::custodians_from))]
 // The custodians by rising code.
-fn custodians_from(alloc: Global, drafts: &[Draft]) -> Result<Vec<Custodian>, RegFault>
+fn custodians_from(alloc: Global, drafts: &[CustodianDraft]) -> Result<Vec<Custodian>, RegFault>
     ensures value { ItemsOrMemory result (custodians_from drafts.now) }
     ensures sorted { IfOk result (λ v. IsNonDecreasingBy (λ c. c.code) v.items) }
 {

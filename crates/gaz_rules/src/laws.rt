@@ -17,8 +17,8 @@ pub fn judges_say()
     ensures { JudgesSay }
 {}
 
-/// The tests of the record rules, of the end rules, and of where a street is found, are true just
-/// where their sentences hold.
+/// The tests of the record rules, of the end rules but rule 36, and of where a street is found, are
+/// true just where their sentences hold.
 pub fn tests_say()
     ensures records { RecordTestsSay }
     ensures ends { TestsSay }

@@ -5,7 +5,7 @@ use gaz_ids::{Code, Uprn, Volume};
 use gaz_keeper::{Inbox, Verdict};
 use gaz_records::{Day, Kind, SharedItem, item_of_text};
 use gaz_register::Register;
-use gaz_shelf::Ending;
+use gaz_shelf::Conclusion;
 use std::alloc::Global;
 
 /// The code of a number. `Misused` where it is none.
@@ -77,5 +77,5 @@ pub fn writes<K: Inbox + Drop>(
     rows: &[Row],
 ) -> Result<(), Refusal> {
     shelf.receive(code, volume(1)?, b"a file")?;
-    shelf.write_volume(code, items_of(alloc, rows)?, Ending::Keep)
+    shelf.write_volume(code, items_of(alloc, rows)?, Conclusion::Keep)
 }

@@ -8,7 +8,7 @@ use Rattle.gaz_keeper.specs.Keeper.{Content, Goes, Idle, IsAtHand, IsSound, Open
 use Rattle.gaz_shelf.specs.Writing.{written}
 use Rattle.gaz_keeper.specs.declared.fault.ShelfFault.{ShelfFault}
 use Rattle.gaz_keeper.specs.declared.fault.ShelfFault.TheVariants.{Store}
-use Rattle.gaz_shelf.specs.declared.writing.Ending.TheVariants.{Keep}
+use Rattle.gaz_shelf.specs.declared.writing.Conclusion.TheVariants.{Keep}
 
 further : {T : Type 0} (r : Result T ShelfFault) (m n k : ℕ) → m ≤ n → IfErr r (λ e. e ≡ Store → n < k) → IfErr r (λ e. e ≡ Store → m < k)
 further (Ok x) m n k le f = tt

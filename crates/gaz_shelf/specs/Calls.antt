@@ -1,8 +1,8 @@
 -- The calls of a keeper, counted, and the one that is to fail.
 use Rattle.std.specs.Prelude.{◌≡◌, ◌≢◌, ◌+◌, ◌-◌, ◌^◌, ◌==◌, ℕ, min, Bool, false, if◌then◌else◌}
 use Rattle.std.specs.Prelude.{Some, None, Result, Err}
-use Rattle.gaz_shelf.specs.declared.calls.Call.{Call}
-use Rattle.gaz_shelf.specs.declared.calls.Call.TheVariants as call
+use Rattle.gaz_shelf.specs.declared.calls.Counted.{Counted}
+use Rattle.gaz_shelf.specs.declared.calls.Counted.TheVariants as call
 use Rattle.gaz_shelf.specs.declared.calls.Calls.{Calls}
 use Rattle.gaz_shelf.specs.declared.calls.Plan.{Plan}
 use Rattle.gaz_keeper.specs.declared.fault.ShelfFault.{ShelfFault}
@@ -43,7 +43,7 @@ abbrev pub one_more : ℕ → ℕ
 one_more n = min (n + 1) (2 ^ 64 - 1)
 
 -- one more call of this kind
-abbrev pub counted : Call → Calls → Calls
+abbrev pub counted : Counted → Calls → Calls
 counted call.Reached n = record n { reached = one_more n.reached }
 counted call.Verdict n = record n { verdict = one_more n.verdict }
 counted call.Current n = record n { current = one_more n.current }
@@ -80,7 +80,7 @@ failure_of p = if p.failures == 2 ^ 64 - 1 then Memory else Store
 
 -- a call of this kind is counted, and it fails where its number has come; else nothing fails here,
 -- unless its judgement was broken already
-pub record CountsAs {T : Type 0} (kind : Call) (old new : Plan) (broken : Bool)
+pub record CountsAs {T : Type 0} (kind : Counted) (old new : Plan) (broken : Bool)
     (result : Result T ShelfFault) : Type 0 where
   pub calls : new.calls ≡ counted kind old.calls
   pub left : new.left ≡ old.left - 1

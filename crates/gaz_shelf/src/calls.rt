@@ -6,7 +6,7 @@ use gaz_keeper::ShelfFault;
 
 /// A call of a keeper.
 #[derive(Clone, Copy)]
-pub enum Call {
+pub enum Counted {
     Reached,
     Verdict,
     Current,
@@ -99,35 +99,35 @@ impl Calls {
     }
 
     // Counts a call of this kind.
-    fn add(&mut self, call: Call)
+    fn add(&mut self, call: Counted)
         ensures { self.new ≡ counted call self.old }
     {
         match call {
-            Call::Reached => self.reached = self.reached.saturating_add(1),
-            Call::Verdict => self.verdict = self.verdict.saturating_add(1),
-            Call::Current => self.current = self.current.saturating_add(1),
-            Call::At => self.at = self.at.saturating_add(1),
-            Call::Ever => self.ever = self.ever.saturating_add(1),
-            Call::ApprovedOf => self.approved_of = self.approved_of.saturating_add(1),
-            Call::PropertyOf => self.property_of = self.property_of.saturating_add(1),
-            Call::ApprovedOn => self.approved_on = self.approved_on.saturating_add(1),
-            Call::Children => self.children = self.children.saturating_add(1),
-            Call::Custody => self.custody = self.custody.saturating_add(1),
-            Call::CustodyAt => self.custody_at = self.custody_at.saturating_add(1),
-            Call::Tied => self.tied = self.tied.saturating_add(1),
-            Call::Page => self.page = self.page.saturating_add(1),
-            Call::Begin => self.begin = self.begin.saturating_add(1),
-            Call::Put => self.put = self.put.saturating_add(1),
-            Call::Take => self.take = self.take.saturating_add(1),
-            Call::Release => self.release = self.release.saturating_add(1),
-            Call::Adopt => self.adopt = self.adopt.saturating_add(1),
-            Call::Keep => self.keep = self.keep.saturating_add(1),
-            Call::Abandon => self.abandon = self.abandon.saturating_add(1),
-            Call::Skip => self.skip = self.skip.saturating_add(1),
-            Call::Received => self.received = self.received.saturating_add(1),
-            Call::Receive => self.receive = self.receive.saturating_add(1),
-            Call::Held => self.held = self.held.saturating_add(1),
-            Call::Sure => self.sure = self.sure.saturating_add(1),
+            Counted::Reached => self.reached = self.reached.saturating_add(1),
+            Counted::Verdict => self.verdict = self.verdict.saturating_add(1),
+            Counted::Current => self.current = self.current.saturating_add(1),
+            Counted::At => self.at = self.at.saturating_add(1),
+            Counted::Ever => self.ever = self.ever.saturating_add(1),
+            Counted::ApprovedOf => self.approved_of = self.approved_of.saturating_add(1),
+            Counted::PropertyOf => self.property_of = self.property_of.saturating_add(1),
+            Counted::ApprovedOn => self.approved_on = self.approved_on.saturating_add(1),
+            Counted::Children => self.children = self.children.saturating_add(1),
+            Counted::Custody => self.custody = self.custody.saturating_add(1),
+            Counted::CustodyAt => self.custody_at = self.custody_at.saturating_add(1),
+            Counted::Tied => self.tied = self.tied.saturating_add(1),
+            Counted::Page => self.page = self.page.saturating_add(1),
+            Counted::Begin => self.begin = self.begin.saturating_add(1),
+            Counted::Put => self.put = self.put.saturating_add(1),
+            Counted::Take => self.take = self.take.saturating_add(1),
+            Counted::Release => self.release = self.release.saturating_add(1),
+            Counted::Adopt => self.adopt = self.adopt.saturating_add(1),
+            Counted::Keep => self.keep = self.keep.saturating_add(1),
+            Counted::Abandon => self.abandon = self.abandon.saturating_add(1),
+            Counted::Skip => self.skip = self.skip.saturating_add(1),
+            Counted::Received => self.received = self.received.saturating_add(1),
+            Counted::Receive => self.receive = self.receive.saturating_add(1),
+            Counted::Held => self.held = self.held.saturating_add(1),
+            Counted::Sure => self.sure = self.sure.saturating_add(1),
         }
     }
 }
@@ -138,7 +138,7 @@ pub(crate) struct Plan {
     calls: Calls,
     /// How many calls there are up to the one that is to fail, and that one; 0 where none is.
     left: u64,
-    failed: Option<Call>,
+    failed: Option<Counted>,
     /// How often a call failed here; the count stays at its last value.
     failures: u64,
 }
@@ -162,14 +162,14 @@ impl Plan {
         self.calls
     }
 
-    pub(crate) fn failed(&self) -> Option<Call>
+    pub(crate) fn failed(&self) -> Option<Counted>
         ensures { result ≡ self.now.failed }
     {
         self.failed
     }
 
     /// Counts a call, and tells whether it is the one to fail.
-    pub(crate) fn is_due(&mut self, call: Call) -> bool
+    pub(crate) fn is_due(&mut self, call: Counted) -> bool
         ensures due { result ≡ (self.old.left == 1) }
         ensures calls { self.new.calls ≡ counted call self.old.calls }
         ensures left { self.new.left ≡ self.old.left - 1 }

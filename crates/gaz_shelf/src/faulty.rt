@@ -5,7 +5,7 @@ ghost use Rattle.gaz_shelf.specs.Calls.{CountsAs, counted, failure_of, plan_from
 ghost use Rattle.gaz_shelf.specs.Faulting.{around, progress_around};
 ghost use Rattle.gaz_keeper.specs.Keeper.{Goes, Idle, IsNotOpen, after_abandon};
 
-use crate::calls::{Call, Calls, Plan};
+use crate::calls::{Calls, Counted, Plan};
 use gaz_keeper::{Inbox, ShelfFault};
 
 /// Passes every call on to another keeper and counts it; one call, chosen by its number, fails as
@@ -48,7 +48,7 @@ impl<K: Inbox + Drop> Faulty<K> {
     }
 
     /// The call that failed, where its number has come.
-    pub fn failed(&self) -> Option<Call>
+    pub fn failed(&self) -> Option<Counted>
         ensures { result ≡ self.now.plan.failed }
     {
         self.plan.failed()
@@ -56,7 +56,7 @@ impl<K: Inbox + Drop> Faulty<K> {
 
     /// Counts a call outside a judgement: an error where it is to fail; else a broken judgement is
     /// cleared.
-    pub(crate) fn admit(&mut self, call: Call) -> Result<(), ShelfFault>
+    pub(crate) fn admit(&mut self, call: Counted) -> Result<(), ShelfFault>
         ensures counts { CountsAs call self.old.plan self.new.plan self.old.broken result }
         ensures inner { self.new.inner ≡ self.old.inner }
         ensures ok { OnOk result ((self.new.broken ≡ false)
@@ -76,7 +76,7 @@ impl<K: Inbox + Drop> Faulty<K> {
 
     /// Counts a call of a judgement, and tells whether it is to fail or the judgement is broken
     /// already.
-    pub(crate) fn is_stopped(&mut self, call: Call) -> bool
+    pub(crate) fn is_stopped(&mut self, call: Counted) -> bool
         ensures calls { self.new.plan.calls ≡ counted call self.old.plan.calls }
         ensures left { self.new.plan.left ≡ self.old.plan.left - 1 }
         ensures failed { self.new.plan.failed

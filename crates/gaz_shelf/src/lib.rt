@@ -17,10 +17,10 @@ mod reading;
 mod restoring;
 mod writing;
 
-pub use calls::{Call, Calls};
+pub use calls::{Calls, Counted};
 pub use faulty::Faulty;
 pub use gaz_keeper::{Inbox, Property, Shelf, ShelfFault, Verdict};
 pub use gaz_ledger::Seed;
 pub use mem_shelf::MemShelf;
 pub use reading::read_kind;
-pub use writing::{Ending, are_entries, put_all, write_volume};
+pub use writing::{Conclusion, are_entries, put_all, write_volume};

@@ -18,7 +18,7 @@ ghost use Rattle.gaz_keeper.specs.Telling.{TellsPage};
 ghost use Rattle.gaz_keeper.specs.Telling.{TellsPropertyOf, TellsReached, TellsReceived};
 ghost use Rattle.gaz_keeper.specs.Telling.{TellsTied, TellsVerdict};
 
-use crate::calls::Call;
+use crate::calls::Counted;
 use crate::faulty::Faulty;
 use gaz_ids::{Code, Hop, Lang, Uprn, Usrn, Volume};
 use gaz_keeper::{Inbox, Shelf, ShelfFault};
@@ -32,59 +32,62 @@ impl<K: Inbox + Drop> Shelf for Faulty<K> {
 
     fn reached(&mut self, code: Code) -> Result<u64, ShelfFault>
         ensures reads { TellsReached seen_around self.old self.new result code }
-        ensures counts { CountsAs Call.Reached self.old.plan self.new.plan self.old.broken result }
+        ensures counts { CountsAs Counted.Reached
+            self.old.plan self.new.plan self.old.broken result }
     {
-        self.admit(Call::Reached)?;
+        self.admit(Counted::Reached)?;
         self.inner.reached(code)
     }
 
     fn verdict(&mut self, code: Code, volume: Volume) -> Result<Option<Verdict>, ShelfFault>
         ensures reads { TellsVerdict seen_around self.old self.new result code volume }
-        ensures counts { CountsAs Call.Verdict self.old.plan self.new.plan self.old.broken result }
+        ensures counts { CountsAs Counted.Verdict
+            self.old.plan self.new.plan self.old.broken result }
     {
-        self.admit(Call::Verdict)?;
+        self.admit(Counted::Verdict)?;
         self.inner.verdict(code, volume)
     }
 
     fn current(&mut self, code: Code, key: &Key) -> Result<Option<SharedItem>, ShelfFault>
         ensures reads { TellsCurrent seen_around self.old self.new result code key.now }
-        ensures counts { CountsAs Call.Current self.old.plan self.new.plan self.old.broken result }
+        ensures counts { CountsAs Counted.Current
+            self.old.plan self.new.plan self.old.broken result }
     {
-        self.admit(Call::Current)?;
+        self.admit(Counted::Current)?;
         self.inner.current(code, key)
     }
 
     fn at(&mut self, code: Code, volume: u64, key: &Key) -> Result<Option<SharedItem>, ShelfFault>
         ensures reads { TellsAt seen_around self.old self.new result code volume key.now }
-        ensures counts { CountsAs Call.At self.old.plan self.new.plan self.old.broken result }
+        ensures counts { CountsAs Counted.At self.old.plan self.new.plan self.old.broken result }
     {
-        self.admit(Call::At)?;
+        self.admit(Counted::At)?;
         self.inner.at(code, volume, key)
     }
 
     fn ever(&mut self, code: Code, key: &Key) -> Result<bool, ShelfFault>
         ensures reads { TellsEver seen_around self.old self.new result code key.now }
-        ensures counts { CountsAs Call.Ever self.old.plan self.new.plan self.old.broken result }
+        ensures counts { CountsAs Counted.Ever self.old.plan self.new.plan self.old.broken result }
     {
-        self.admit(Call::Ever)?;
+        self.admit(Counted::Ever)?;
         self.inner.ever(code, key)
     }
 
     fn approved_of(&mut self, code: Code, uprn: Uprn) -> Result<Vec<Key>, ShelfFault>
         ensures reads { TellsApprovedOf seen_around self.old self.new result code uprn }
-        ensures counts { CountsAs Call.ApprovedOf
+        ensures counts { CountsAs Counted.ApprovedOf
             self.old.plan self.new.plan self.old.broken result }
     {
-        self.admit(Call::ApprovedOf)?;
+        self.admit(Counted::ApprovedOf)?;
         self.inner.approved_of(code, uprn)
     }
 
     fn property_of(&mut self, code: Code, uprn: Uprn) -> Result<Option<Property>, ShelfFault>
         ensures reads { TellsPropertyOf seen_around self.old self.new result code uprn }
-        ensures counts { CountsAs Call.PropertyOf
+        ensures counts { CountsAs Counted.PropertyOf
             self.old.plan self.new.plan self.old.broken result }
     {
-        self.admit(Call::PropertyOf)?;
+        self.admit(Counted::PropertyOf)?;
         self.inner.property_of(code, uprn)
     }
 
@@ -95,26 +98,28 @@ impl<K: Inbox + Drop> Shelf for Faulty<K> {
         lang: Option<Lang>,
     ) -> Result<bool, ShelfFault>
         ensures reads { TellsApprovedOn seen_around self.old self.new result code usrn lang }
-        ensures counts { CountsAs Call.ApprovedOn
+        ensures counts { CountsAs Counted.ApprovedOn
             self.old.plan self.new.plan self.old.broken result }
     {
-        self.admit(Call::ApprovedOn)?;
+        self.admit(Counted::ApprovedOn)?;
         self.inner.approved_on(code, usrn, lang)
     }
 
     fn children(&mut self, code: Code, uprn: Uprn) -> Result<bool, ShelfFault>
         ensures reads { TellsChildren seen_around self.old self.new result code uprn }
-        ensures counts { CountsAs Call.Children self.old.plan self.new.plan self.old.broken result }
+        ensures counts { CountsAs Counted.Children
+            self.old.plan self.new.plan self.old.broken result }
     {
-        self.admit(Call::Children)?;
+        self.admit(Counted::Children)?;
         self.inner.children(code, uprn)
     }
 
     fn custody(&mut self, code: Code, uprn: Uprn) -> Result<Option<Custody>, ShelfFault>
         ensures reads { TellsCustody seen_around self.old self.new result code uprn }
-        ensures counts { CountsAs Call.Custody self.old.plan self.new.plan self.old.broken result }
+        ensures counts { CountsAs Counted.Custody
+            self.old.plan self.new.plan self.old.broken result }
     {
-        self.admit(Call::Custody)?;
+        self.admit(Counted::Custody)?;
         self.inner.custody(code, uprn)
     }
 
@@ -125,18 +130,18 @@ impl<K: Inbox + Drop> Shelf for Faulty<K> {
         uprn: Uprn,
     ) -> Result<Option<Custody>, ShelfFault>
         ensures reads { TellsCustodyAt seen_around self.old self.new result code volume uprn }
-        ensures counts { CountsAs Call.CustodyAt
+        ensures counts { CountsAs Counted.CustodyAt
             self.old.plan self.new.plan self.old.broken result }
     {
-        self.admit(Call::CustodyAt)?;
+        self.admit(Counted::CustodyAt)?;
         self.inner.custody_at(code, volume, uprn)
     }
 
     fn tied(&mut self, code: Code, uprn: Uprn) -> Result<bool, ShelfFault>
         ensures reads { TellsTied seen_around self.old self.new result code uprn }
-        ensures counts { CountsAs Call.Tied self.old.plan self.new.plan self.old.broken result }
+        ensures counts { CountsAs Counted.Tied self.old.plan self.new.plan self.old.broken result }
     {
-        self.admit(Call::Tied)?;
+        self.admit(Counted::Tied)?;
         self.inner.tied(code, uprn)
     }
 
@@ -150,18 +155,18 @@ impl<K: Inbox + Drop> Shelf for Faulty<K> {
     ) -> Result<Vec<SharedItem>, ShelfFault>
         requires { is_entry_kind kind ≡ true }
         ensures reads { TellsPage seen_around self.old self.new result code volume kind after most }
-        ensures counts { CountsAs Call.Page self.old.plan self.new.plan self.old.broken result }
+        ensures counts { CountsAs Counted.Page self.old.plan self.new.plan self.old.broken result }
     {
-        self.admit(Call::Page)?;
+        self.admit(Counted::Page)?;
         self.inner.page(code, volume, kind, after, most)
     }
 
     fn begin(&mut self, code: Code) -> Result<(), ShelfFault>
         requires { IsNotOpen (progress_around self.old.broken (K.seen self.old.inner).progress) }
         ensures goes { Begins seen_around self.old self.new result code }
-        ensures counts { CountsAs Call.Begin self.old.plan self.new.plan self.old.broken result }
+        ensures counts { CountsAs Counted.Begin self.old.plan self.new.plan self.old.broken result }
     {
-        if self.plan.is_due(Call::Begin) {
+        if self.plan.is_due(Counted::Begin) {
             self.broken = true;
             return Err(self.plan.fail());
         }
@@ -176,9 +181,9 @@ impl<K: Inbox + Drop> Shelf for Faulty<K> {
         requires entry { is_entry item ≡ true }
         ensures sets { Puts seen_around self.old self.new result item }
         ensures refuses { Refuses (seen_around self.old) result }
-        ensures counts { CountsAs Call.Put self.old.plan self.new.plan self.old.broken result }
+        ensures counts { CountsAs Counted.Put self.old.plan self.new.plan self.old.broken result }
     {
-        if self.is_stopped(Call::Put) {
+        if self.is_stopped(Counted::Put) {
             return Err(self.break_off());
         }
         let put = self.inner.put(item);
@@ -190,9 +195,9 @@ impl<K: Inbox + Drop> Shelf for Faulty<K> {
         requires { progress_around self.old.broken (K.seen self.old.inner).progress ≢ Idle }
         ensures sets { Takes seen_around self.old self.new result key.now }
         ensures refuses { Refuses (seen_around self.old) result }
-        ensures counts { CountsAs Call.Take self.old.plan self.new.plan self.old.broken result }
+        ensures counts { CountsAs Counted.Take self.old.plan self.new.plan self.old.broken result }
     {
-        if self.is_stopped(Call::Take) {
+        if self.is_stopped(Counted::Take) {
             return Err(self.break_off());
         }
         let taken = self.inner.take(key);
@@ -204,9 +209,10 @@ impl<K: Inbox + Drop> Shelf for Faulty<K> {
         requires { progress_around self.old.broken (K.seen self.old.inner).progress ≢ Idle }
         ensures sets { Releases seen_around self.old self.new result uprn to hop }
         ensures refuses { Refuses (seen_around self.old) result }
-        ensures counts { CountsAs Call.Release self.old.plan self.new.plan self.old.broken result }
+        ensures counts { CountsAs Counted.Release
+            self.old.plan self.new.plan self.old.broken result }
     {
-        if self.is_stopped(Call::Release) {
+        if self.is_stopped(Counted::Release) {
             return Err(self.break_off());
         }
         let released = self.inner.release(uprn, to, hop);
@@ -219,9 +225,9 @@ impl<K: Inbox + Drop> Shelf for Faulty<K> {
         requires blpu { IsSome (as_blpu blpu) }
         ensures sets { Adopts seen_around self.old self.new result blpu from hop }
         ensures refuses { Refuses (seen_around self.old) result }
-        ensures counts { CountsAs Call.Adopt self.old.plan self.new.plan self.old.broken result }
+        ensures counts { CountsAs Counted.Adopt self.old.plan self.new.plan self.old.broken result }
     {
-        if self.is_stopped(Call::Adopt) {
+        if self.is_stopped(Counted::Adopt) {
             return Err(self.break_off());
         }
         let adopted = self.inner.adopt(blpu, from, hop);
@@ -233,9 +239,9 @@ impl<K: Inbox + Drop> Shelf for Faulty<K> {
         requires { progress_around self.old.broken (K.seen self.old.inner).progress ≢ Idle }
         ensures keeps { Applies seen_around self.old self.new result }
         ensures refuses { Refuses (seen_around self.old) result }
-        ensures counts { CountsAs Call.Keep self.old.plan self.new.plan self.old.broken result }
+        ensures counts { CountsAs Counted.Keep self.old.plan self.new.plan self.old.broken result }
     {
-        if self.is_stopped(Call::Keep) {
+        if self.is_stopped(Counted::Keep) {
             return Err(self.break_off());
         }
         let kept = self.inner.keep();
@@ -246,9 +252,10 @@ impl<K: Inbox + Drop> Shelf for Faulty<K> {
     fn abandon(&mut self) -> Result<(), ShelfFault>
         requires { progress_around self.old.broken (K.seen self.old.inner).progress ≢ Idle }
         ensures goes { Abandons seen_around self.old self.new result }
-        ensures counts { CountsAs Call.Abandon self.old.plan self.new.plan self.old.broken result }
+        ensures counts { CountsAs Counted.Abandon
+            self.old.plan self.new.plan self.old.broken result }
     {
-        if self.plan.is_due(Call::Abandon) {
+        if self.plan.is_due(Counted::Abandon) {
             return Err(self.break_off());
         }
         if self.broken {
@@ -263,9 +270,9 @@ impl<K: Inbox + Drop> Shelf for Faulty<K> {
     fn skip(&mut self, code: Code, place: u64, rule: u8) -> Result<(), ShelfFault>
         requires { IsNotOpen (progress_around self.old.broken (K.seen self.old.inner).progress) }
         ensures enters { Skips seen_around self.old self.new result code place rule }
-        ensures counts { CountsAs Call.Skip self.old.plan self.new.plan self.old.broken result }
+        ensures counts { CountsAs Counted.Skip self.old.plan self.new.plan self.old.broken result }
     {
-        self.admit(Call::Skip)?;
+        self.admit(Counted::Skip)?;
         self.inner.skip(code, place, rule)
     }
 }
@@ -273,9 +280,10 @@ impl<K: Inbox + Drop> Shelf for Faulty<K> {
 impl<K: Inbox + Drop> Inbox for Faulty<K> {
     fn received(&mut self, code: Code, volume: Volume) -> Result<Option<Vec<u8>>, ShelfFault>
         ensures reads { TellsReceived seen_around self.old self.new result code volume }
-        ensures counts { CountsAs Call.Received self.old.plan self.new.plan self.old.broken result }
+        ensures counts { CountsAs Counted.Received
+            self.old.plan self.new.plan self.old.broken result }
     {
-        self.admit(Call::Received)?;
+        self.admit(Counted::Received)?;
         self.inner.received(code, volume)
     }
 
@@ -283,26 +291,27 @@ impl<K: Inbox + Drop> Inbox for Faulty<K> {
         requires { IsNotOpen (progress_around self.old.broken (K.seen self.old.inner).progress) }
         ensures enters { Receives seen_around self.old self.new result code volume bytes.now }
         ensures open { IsOpen (seen_around self.new) result }
-        ensures counts { CountsAs Call.Receive self.old.plan self.new.plan self.old.broken result }
+        ensures counts { CountsAs Counted.Receive
+            self.old.plan self.new.plan self.old.broken result }
     {
-        self.admit(Call::Receive)?;
+        self.admit(Counted::Receive)?;
         self.inner.receive(code, volume, bytes)
     }
 
     fn held(&mut self, code: Code) -> Result<u64, ShelfFault>
         ensures reads { TellsHeld seen_around self.old self.new result code }
-        ensures counts { CountsAs Call.Held self.old.plan self.new.plan self.old.broken result }
+        ensures counts { CountsAs Counted.Held self.old.plan self.new.plan self.old.broken result }
     {
-        self.admit(Call::Held)?;
+        self.admit(Counted::Held)?;
         self.inner.held(code)
     }
 
     fn sure(&mut self) -> Result<(), ShelfFault>
         ensures reads { TellsNothing seen_around self.old self.new result }
         ensures open { IsOpen (seen_around self.new) result }
-        ensures counts { CountsAs Call.Sure self.old.plan self.new.plan self.old.broken result }
+        ensures counts { CountsAs Counted.Sure self.old.plan self.new.plan self.old.broken result }
     {
-        self.admit(Call::Sure)?;
+        self.admit(Counted::Sure)?;
         self.inner.sure()
     }
 }

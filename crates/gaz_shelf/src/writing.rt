@@ -11,7 +11,7 @@ use gaz_records::SharedItem;
 
 /// How a judgement is to end.
 #[derive(Clone, Copy)]
-pub enum Ending {
+pub enum Conclusion {
     /// The volume is applied.
     Keep,
     /// The board stays as it was.
@@ -44,7 +44,7 @@ pub fn write_volume<S: Shelf>(
     keeper: &mut S,
     code: Code,
     items: Vec<SharedItem>,
-    ending: Ending,
+    ending: Conclusion,
 ) -> Result<(), ShelfFault>
     requires idle { IsNotOpen (S.seen keeper.old).progress }
     requires entries { list_all is_entry items.items ≡ true }
@@ -53,7 +53,7 @@ pub fn write_volume<S: Shelf>(
     keeper.begin(code)?;
     put_all(keeper, items)?;
     match ending {
-        Ending::Keep => keeper.keep(),
-        Ending::Abandon => keeper.abandon(),
+        Conclusion::Keep => keeper.keep(),
+        Conclusion::Abandon => keeper.abandon(),
     }
 }

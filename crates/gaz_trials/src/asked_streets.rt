@@ -6,7 +6,7 @@ use gaz_register::Register;
 use gaz_samples::REGISTER;
 use gaz_samples::items::{Row, custodian, item, volume, writes};
 use gaz_samples::keepers::{Refusal, Tried, counting_shelf, looked_up};
-use gaz_shelf::{Ending, Faulty, MemShelf};
+use gaz_shelf::{Conclusion, Faulty, MemShelf};
 use std::alloc::Global;
 use std::test::Fail;
 
@@ -30,7 +30,7 @@ fn adds_addresses<K: Inbox + Drop>(
     number: u64,
 ) -> Result<(), Refusal> {
     shelf.receive(custodian(code)?, volume(number)?, b"a file")?;
-    shelf.write_volume(custodian(code)?, addresses(alloc)?, Ending::Keep)
+    shelf.write_volume(custodian(code)?, addresses(alloc)?, Conclusion::Keep)
 }
 
 /// Volumes of custodians whose addresses stand on a street that shut: how many are listed, and how

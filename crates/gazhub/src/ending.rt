@@ -4,7 +4,7 @@ ghost use Rattle.gazhub.specs.Endings.{line_of, no_hub_line, refusal_line, regis
 ghost use Rattle.gazhub.specs.Endings.{status_of};
 
 use crate::files::NoHub;
-use gaz_commands::Fault;
+use gaz_commands::CommandFault;
 use gaz_register::RegFault;
 use gaz_store::StoreRefusal;
 
@@ -28,7 +28,7 @@ pub enum Ending {
     /// There was none any more, after connections were answered.
     Lost(NoHub),
     /// The change file couldn't be read, or the hub failed.
-    Failed(Fault),
+    Failed(CommandFault),
 }
 
 // The line that names the fault of a register.

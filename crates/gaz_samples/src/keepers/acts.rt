@@ -5,7 +5,7 @@ use crate::keepers::refusal::Refusal;
 use crate::keepers::steps::{Act, Name};
 use crate::keepers::tried::Tried;
 use gaz_keeper::Inbox;
-use gaz_shelf::Ending;
+use gaz_shelf::Conclusion;
 use std::alloc::Global;
 
 fn receives<K: Inbox + Drop>(shelf: &mut Tried<K>, code: u64, number: u64) -> Result<(), Refusal> {
@@ -26,7 +26,7 @@ fn writes_volume<K: Inbox + Drop>(
     shelf: &mut Tried<K>,
     code: u64,
     rows: &[Row],
-    ending: Ending,
+    ending: Conclusion,
 ) -> Result<(), Refusal> {
     shelf.write_volume(custodian(code)?, items_of(alloc, rows)?, ending)
 }

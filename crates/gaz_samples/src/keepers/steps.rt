@@ -5,7 +5,7 @@ use crate::keepers::refusal::Refusal;
 use gaz_ids::{Lang, Uprn, Usrn};
 use gaz_keeper::Verdict;
 use gaz_records::{Key, Kind, RecordKey};
-use gaz_shelf::Ending;
+use gaz_shelf::Conclusion;
 
 /// A key, by its number or its text.
 pub enum Name {
@@ -50,7 +50,7 @@ pub enum Act {
     /// Its next volume is rejected, by the place and the rule.
     Skip(u64, u64, u8),
     /// Its next volume, which only puts.
-    Volume(u64, &'static [Row], Ending),
+    Volume(u64, &'static [Row], Conclusion),
     Begin(u64),
     Put(Row),
     Take(Name),

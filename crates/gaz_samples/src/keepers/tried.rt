@@ -11,7 +11,7 @@ use gaz_keeper::{Inbox, Verdict};
 use gaz_records::{Key, SharedItem};
 use gaz_register::Register;
 use gaz_rules::judge;
-use gaz_shelf::{Ending, Faulty, MemShelf, Seed, are_entries, write_volume};
+use gaz_shelf::{Conclusion, Faulty, MemShelf, Seed, are_entries, write_volume};
 use std::alloc::Global;
 
 /// A keeper, and whose judgement is in progress, where one is known to be.
@@ -131,7 +131,7 @@ impl<K: Inbox + Drop> Tried<K> {
         &mut self,
         code: Code,
         items: Vec<SharedItem>,
-        ending: Ending,
+        ending: Conclusion,
     ) -> Result<(), Refusal> {
         if self.judged.is_some() || !are_entries(items.as_slice()) {
             return Err(Refusal::Misused);

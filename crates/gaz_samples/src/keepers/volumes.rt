@@ -5,7 +5,7 @@ use crate::keepers::steps::Part;
 use crate::keepers::steps::Question::Item;
 use crate::keepers::steps::Step::{Asks, Does};
 use gaz_records::Kind;
-use gaz_shelf::Ending;
+use gaz_shelf::Conclusion;
 
 pub(crate) const MAIN: &str = "101,1,2001-04-01,";
 
@@ -53,7 +53,7 @@ pub(crate) const FIRST: Part = (
             (Kind::Xref, TAX),
             (Kind::Lpi, MILL),
         ],
-        Ending::Keep,
+        Conclusion::Keep,
     ))],
 );
 
@@ -82,7 +82,7 @@ pub(crate) const GIVEN_UP: Part = (
     &[Does(Volume(
         1001,
         &[(Kind::Blpu, "1003,1,1,1,,,2001-04-01,")],
-        Ending::Abandon,
+        Conclusion::Abandon,
     ))],
 );
 

@@ -1,7 +1,7 @@
 use Rattle.std.proofs.Common.{subst, sym}
 use Rattle.gaz_keeper.specs.Keeper.{Goes, Idle, IsAtHand}
 use Rattle.gaz_shelf.specs.Writing.{committed_by, written}
-use Rattle.gaz_shelf.specs.declared.writing.Ending.{Ending}
+use Rattle.gaz_shelf.specs.declared.writing.Conclusion.{Conclusion}
 use Rattle.gaz_shelf.proofs.Written.{writes}
 use Rattle.gaz_shelf.proofs.writing.write_volume.Goals as goal
 
@@ -11,6 +11,6 @@ returns-in-Keep g c =
     let now = g.S.Shelf.seen c.keep.new.self in
     let code = c.args.code in
     let items = c.args.items.items in
-    subst (λ (ending : Ending). Goes {T = Unit {0}} was now c.keep.result (IsAtHand was.content code) (written was.content code items ending)
+    subst (λ (ending : Conclusion). Goes {T = Unit {0}} was now c.keep.result (IsAtHand was.content code) (written was.content code items ending)
     (committed_by ending (written was.content code items ending)) Idle) (sym c.in-Keep.is)
     (writes was (g.S.Shelf.seen c.begin.new.self) (g.S.Shelf.seen c.put_all.new.keeper) now code items c.keep.result c.in_ok-begin.ensures c.in_ok-put_all.ensures.sets c.keep.ensures.keeps)

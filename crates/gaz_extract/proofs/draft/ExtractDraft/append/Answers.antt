@@ -4,7 +4,7 @@ use Rattle.gaz_records.specs.declared.item.Item.{Item}
 use Rattle.gaz_extract.specs.Drafts.{DraftValue, with_items}
 use Rattle.gaz_extract.proofs.Lists.{next_item}
 use Rattle.gaz_extract.proofs.Rows.{with-append, with-none}
-use Rattle.gaz_extract.proofs.draft.Draft.append.Goals as goal
+use Rattle.gaz_extract.proofs.draft.ExtractDraft.append.Goals as goal
 
 pub loop-item-preserved : goal.loop-item-preserved
 loop-item-preserved c =

@@ -1,7 +1,7 @@
 use Rattle.std.proofs.Common.{◌∙◌, ap, ◌∷◌, []}
 use Rattle.gaz_extract.specs.Drafts.{DraftValue, with_items}
 use Rattle.gaz_extract.proofs.Rows.{with-one}
-use Rattle.gaz_extract.proofs.draft.Draft.push.Goals as goal
+use Rattle.gaz_extract.proofs.draft.ExtractDraft.push.Goals as goal
 
 pub returns : goal.returns
 returns c =
