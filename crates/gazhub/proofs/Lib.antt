@@ -1,4 +1,7 @@
 pub mod Playing
+mod Sites
+mod Serving
+mod Finishing
 mod Endings
 mod Closing
 mod Resting
@@ -8,4 +11,5 @@ mod Migrates
 mod Joining
 mod GrownCalls
 mod WorkedJoined
+mod WorkedSites
 mod Reopened

@@ -1,9 +1,13 @@
 -- What the program does at its words, and how it ends.
-use Rattle.std.specs.Prelude.{◌≡◌, ℕ, Bool, true, false, List, Option, Some, None, Result, Ok, Err}
+use Rattle.std.specs.Prelude.{◌≡◌, ℕ, zero, suc, Bool, true, false, List, Option, Some, None}
+use Rattle.std.specs.Prelude.{Result, Ok, Err}
 use Rattle.std.specs.Io.KnownBytes.{Appends, Keeps}
+use Rattle.clap.specs.declared.error.Error.{Error}
+use Rattle.sqlite_disk.specs.declared.Disk as disk
 use Rattle.gaz_commands.specs.Saying.{text_of}
 use Rattle.gaz_commands.specs.Saying as saying
 use Rattle.gaz_commands.specs.declared.said.Said.{Said}
+use Rattle.gaz_commands.specs.declared.said.Said.TheVariants as said
 use Rattle.gaz_exchange.specs.Conversing.{Transfer}
 use Rattle.gaz_exchange.specs.Sending.{IsPut}
 use Rattle.gaz_exchange.specs.declared.conversation.Served.{Served}
@@ -11,13 +15,19 @@ use Rattle.gaz_exchange.specs.declared.supply.Cause.{Cause}
 use Rattle.gaz_exchange.specs.declared.supply.Cause.TheVariants as cause
 use Rattle.gaz_words.specs.Words.{asks_play}
 use Rattle.gaz_words.specs.declared.command.Command.{Command}
+use Rattle.gaz_words.specs.declared.command.Places.{Places}
+use Rattle.gaz_words.specs.declared.command.Serving.{Serving}
 use Rattle.gaz_words.specs.declared.command.Command.TheVariants.{Play, Init, Ask, Serve}
 use Rattle.gaz_words.specs.declared.command.Command.TheVariants.{Extend, Migrate}
 use Rattle.gazhub.specs.Endings.{is_silent, line_of, status_of}
 use Rattle.gazhub.specs.Playing.{Plays}
+use Rattle.gazhub.specs.Serving.{Serves}
+use Rattle.gazhub.specs.Sites.{Deed}
+use Rattle.gazhub.specs.Working.{Asks, Extends, Makes, Migrates}
 use Rattle.gazhub.specs.declared.ending.Ending.{Ending}
-use Rattle.gazhub.specs.declared.ending.Ending.TheVariants.{Done, Usage, Memory, ReadFault}
-use Rattle.gazhub.specs.declared.ending.Ending.TheVariants.{WriteFault}
+use Rattle.gazhub.specs.declared.ending.Ending.TheVariants.{Done, NotDone, Usage, Memory}
+use Rattle.gazhub.specs.declared.ending.Ending.TheVariants.{ReadFault, WriteFault, NoHub, Failed}
+use Rattle.gazhub.specs.declared.files.NoHub.{NoHub as WhyNoHub}
 
 -- nothing was read or written
 abbrev pub Rests : Transfer → Type 0
@@ -37,48 +47,101 @@ Holds text most through ReadFault = StopsFor cause.ReadFault text most through
 Holds text most through WriteFault = StopsFor cause.WriteFault text most through
 Holds text most through _ = ⊥
 
--- a command asks for a conversation
-abbrev pub is_play : Command → Bool
-is_play Play = true
-is_play (Init places) = false
-is_play (Ask places call) = false
-is_play (Serve places serving) = false
-is_play (Extend places grown) = false
-is_play (Migrate places) = false
-
 -- nothing was read; and nothing was printed, at usage and at faults but that of the output
 pub record StaysSilent (through : Transfer) (ending : Ending) : Type 0 where
   pub read : Keeps through.had through.left
   pub printed : is_silent ending ≡ true → Keeps through.held through.holds
 
--- how the program ends, by whether a conversation is asked for
-abbrev pub EndsAt : Bool → List ℕ → ℕ → Transfer → Ending → Type 0
-EndsAt true text most through ending = Holds text most through ending
-EndsAt false text most through ending = StaysSilent through ending
+-- a status of 0 says that what was asked for was done
+abbrev pub done_where : ℕ → Ending
+done_where zero = Done
+done_where (suc n) = NotDone
 
--- the words ask for a conversation, or `clap` says whether they do
-abbrev pub EndsAtWords : Bool → List ℕ → ℕ → Transfer → Ending → Type 0
-EndsAtWords true text most through ending = Holds text most through ending
-EndsAtWords false text most through ending = (plays : Bool) × EndsAt plays text most through ending
+-- how the program ends once this was printed
+abbrev pub ends_by : Said → Ending
+ends_by (said.Failed fault) = Failed fault
+ends_by said = done_where (saying.status_of said)
 
--- how the program ends by its words, none where they can't be read, and by whether the system gave
--- random bytes
-abbrev pub Ends : List ℕ → ℕ → Option (List (List ℕ)) → Bool → Transfer → Ending → Type 0
-Ends text most None random through ending = (ending ≡ ReadFault) × Rests through
-Ends text most (Some words) false through ending = (ending ≡ ReadFault) × Rests through
-Ends text most (Some words) true through ending =
-    EndsAtWords (asks_play words) text most through ending
+-- what a command says was printed, and the program ends by it, unless the output failed
+abbrev pub IsTold : Option (List ℕ) → Option (List ℕ) → Said → Ending → Type 0
+IsTold held holds said WriteFault = Unit {0}
+IsTold held holds said ending = Appends held holds (text_of said) × (ending ≡ ends_by said)
+
+-- how the program ends where a command came to this, or there was no hub
+abbrev pub IsFinished : Option (List ℕ) → Option (List ℕ) → Result Said WhyNoHub → Ending → Type 0
+IsFinished held holds (Ok said) ending = IsTold held holds said ending
+IsFinished held holds (Err why) ending = (ending ≡ NoHub why) × Keeps held holds
+
+-- a command came to something, and the program ends by it
+pub record Finishes (Works : Result Said WhyNoHub → Type 0) (through : Transfer) (ending : Ending)
+    : Type 0 where
+  pub told : Result Said WhyNoHub
+  pub works : Works told
+  pub finished : IsFinished through.held through.holds told ending
+  pub silent : StaysSilent through ending
+
+-- how the program ends where help was asked for, or the words are at fault
+abbrev pub IsExplained : Ending → Type 0
+IsExplained Done = Unit {0}
+IsExplained Usage = Unit {0}
+IsExplained Memory = Unit {0}
+IsExplained WriteFault = Unit {0}
+IsExplained _ = ⊥
+
+-- Below, g is what is seen of a disk, on which the store at a path is; before and after are what
+-- was done at a site by then, where that is known; and a conversation is held at a hub of the
+-- register that the text describes, with at most so many requests.
+module _ {D : Type 0} (g : disk.Ghosts D) (text : List ℕ) (most : ℕ)
+    (before after : Option (List (Deed D))) (through : Transfer) where
+  -- a conversation is held, for which nothing is done at a site
+  abbrev pub Converses : Ending → Type 0
+  Converses ending = Holds text most through ending × (after ≡ before)
+
+  -- connections are answered
+  pub record EndsServing (places : Places) (serving : Serving) (ending : Ending) : Type 0 where
+    pub serves : Serves g places serving.port serving.connections before after ending
+    pub silent : StaysSilent through ending
+
+  -- how the program ends, by the command
+  abbrev pub EndsAt : Command → Ending → Type 0
+  EndsAt Play ending = Converses ending
+  EndsAt (Init places) ending = Finishes (Makes g places before after) through ending
+  EndsAt (Ask places call) ending = Finishes (Asks g places call before after) through ending
+  EndsAt (Serve places serving) ending = EndsServing places serving ending
+  EndsAt (Extend places path) ending =
+      Finishes (Extends g places path.now before after) through ending
+  EndsAt (Migrate places) ending = Finishes (Migrates g places before after) through ending
+
+  -- help is printed, or is said to be at fault, and nothing is done
+  pub record Explains (ending : Ending) : Type 0 where
+    pub explained : IsExplained ending
+    pub silent : StaysSilent through ending
+    pub still : after ≡ before
+
+  -- what the words mean is done, or explained
+  pub data EndsByMeaning (Means : Result Command Error → Type 0) (ending : Ending) : Type 0 where
+    Obeys : (command : Command) → Means (Ok command) → EndsAt command ending
+        → EndsByMeaning Means ending
+    Told : (error : Error) → Means (Err error) → Explains ending → EndsByMeaning Means ending
+
+  -- the words ask for a conversation, or it is looked for what they mean
+  abbrev pub EndsAtWords : Bool → (Result Command Error → Type 0) → Ending → Type 0
+  EndsAtWords true Means ending = Converses ending
+  EndsAtWords false Means ending = EndsByMeaning Means ending
+
+  -- how the program ends by its words, none where they can't be read, and by whether the system
+  -- gave random bytes
+  abbrev pub Ends : (List (List ℕ) → Result Command Error → Type 0) → Option (List (List ℕ))
+      → Bool → Ending → Type 0
+  Ends means None random ending = ((ending ≡ ReadFault) × Rests through) × (after ≡ before)
+  Ends means (Some words) false ending =
+      ((ending ≡ ReadFault) × Rests through) × (after ≡ before)
+  Ends means (Some words) true ending = EndsAtWords (asks_play words) (means words) ending
 
 -- how the program ends, where `clap` may have told of the usage instead
 abbrev pub ending_of : {E : Type 0} → Result Ending E → Ending
 ending_of (Ok ending) = ending
 ending_of (Err usage) = Usage
-
--- what a command says was printed, unless the output failed, and the program ends by its status
-abbrev pub IsTold : Option (List ℕ) → Option (List ℕ) → Said → Ending → Type 0
-IsTold held holds said WriteFault = Unit {0}
-IsTold held holds said ending =
-    Appends held holds (text_of said) × (status_of ending ≡ saying.status_of said)
 
 -- the line, or where the writer failed a front of it, was written behind what the writer held
 pub record Reports (held holds : Option (List ℕ)) (line : List ℕ) : Type 0 where
@@ -92,9 +155,11 @@ IsReported heard hears ending = Reports heard hears (line_of ending)
 
 -- the program at these words ends with this status; heard and hears are what standard error held
 -- and holds
-pub record Commands (text : List ℕ) (most : ℕ) (words : Option (List (List ℕ))) (random : Bool)
-    (through : Transfer) (heard hears : Option (List ℕ)) (status : ℕ) : Type 0 where
+pub record Commands {D : Type 0} (g : disk.Ghosts D) (text : List ℕ) (most : ℕ)
+    (means : List (List ℕ) → Result Command Error → Type 0) (words : Option (List (List ℕ)))
+    (random : Bool) (before after : Option (List (Deed D))) (through : Transfer)
+    (heard hears : Option (List ℕ)) (status : ℕ) : Type 0 where
   pub ending : Ending
-  pub ends : Ends text most words random through ending
+  pub ends : Ends g text most before after through means words random ending
   pub reports : IsReported heard hears ending
   pub status_is : status ≡ status_of ending

@@ -1,11 +1,15 @@
 pub mod Playing
 pub mod Endings
-pub mod Commands
 pub mod Visits
 pub mod Filing
 pub mod Migrating
 pub mod Joined
 pub mod Growing
 pub mod Grown
+pub mod Sites
+pub mod Working
+pub mod Serving
+pub mod Commands
 pub mod WorkedJoined
+pub mod WorkedSites
 pub mod Reopened

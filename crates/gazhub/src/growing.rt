@@ -2,9 +2,11 @@
 ghost use Rattle.std.specs.Prelude.{◌≡◌, IfErr, IfOk, IsTrue};
 ghost use Rattle.gazhub.specs.Filing.{OpensNone};
 ghost use Rattle.gazhub.specs.Growing.{ExtendsStore, not_extended, said_of_growth};
+ghost use Rattle.gazhub.specs.Working.{Extends, ExtendsTo, GrowsIn};
 
-use crate::commands::options_at;
-use crate::files::{NoHub, read_register};
+use crate::files::{NoHub, open_files, read_register};
+use crate::purpose::Purpose;
+use crate::site::Site;
 use crate::stores::{close, connect};
 use gaz_commands::{PrintedLine, Said};
 use gaz_ledger::Seed;
@@ -12,7 +14,7 @@ use gaz_register::{GrowFault, Register};
 use gaz_store::{ExtendFault, StoreRefusal};
 use gaz_stored::{Extended, extend_opened};
 use gaz_words::Places;
-use sqlite::{Files, Options, Unknown};
+use sqlite::{Files, Options};
 use sqlite_disk::Disk;
 use std::alloc::Global;
 
@@ -69,21 +71,55 @@ fn said_of_growth(told: Result<Result<(), ExtendFault>, StoreRefusal>) -> Result
     }
 }
 
+// Lets the register of the store in these files grow.
+fn extend_in<S: Site>(
+    site: &mut S,
+    alloc: Global,
+    seed: Seed,
+    register: Register,
+    grown: Register,
+    files: Files<S::Medium>,
+    options: Options,
+) -> Result<Said, NoHub>
+    requires log { IsTrue (S.Medium.Disk.is_usable files.log) }
+    requires db { IsTrue (S.Medium.Disk.is_usable files.db) }
+    ensures { GrowsIn S.Medium.Disk register grown files
+        (S.deeds site.old) (S.deeds site.new) result }
+{
+    let (_closed, told) = extend_store(alloc, files, options, seed, register, grown);
+    said_of_growth(told)
+}
+
+// Lets the register of the store at a path grow to the one whose file stands at another.
+fn extend_to<S: Site>(
+    site: &mut S,
+    alloc: Global,
+    seed: Seed,
+    register: Register,
+    store: &str,
+    grown: &str,
+) -> Result<Said, NoHub>
+    ensures { ExtendsTo S.Medium.Disk store.now grown.now register
+        (S.deeds site.old) (S.deeds site.new) result }
+{
+    let grown = read_register(site, alloc, grown)?;
+    let (files, options) = open_files(site, store, Purpose::Use)?;
+    extend_in(site, alloc, seed, register, grown, files, options)
+}
+
 /// Lets the register of the store that is there grow to the one whose file stands at a path. The
 /// register is read first, then the grown one, then the store. No store is made, though an empty
 /// log may be.
-pub fn extend(
-    rt: &HostRuntime,
+pub fn extend<S: Site>(
+    site: &mut S,
+    alloc: Global,
     seed: Seed,
     places: Places<'_>,
     grown: &str,
-) -> Result<Said, NoHub> {
-    let register = read_register(rt, places.register)?;
-    let grown = read_register(rt, grown)?;
-    let options = options_at(rt, places.store)?;
-    let Ok(files) = sqlite_std_file::open(rt, places.store, Unknown) else {
-        return Err(NoHub::Store(StoreRefusal::Fault));
-    };
-    let (_closed, told) = extend_store(rt.alloc(), files, options, seed, register, grown);
-    said_of_growth(told)
+) -> Result<Said, NoHub>
+    ensures { Extends S.Medium.Disk places.entry grown.now
+        (S.deeds site.old) (S.deeds site.new) result }
+{
+    let register = read_register(site, alloc, places.register)?;
+    extend_to(site, alloc, seed, register, places.store, grown)
 }

@@ -3,6 +3,7 @@ ghost use Rattle.gazhub.specs.Grown.{GrownCallsAreOne};
 ghost use Rattle.gazhub.specs.Joined.{CallsAreOne};
 ghost use Rattle.gazhub.specs.Reopened.{NextOpens};
 ghost use Rattle.gazhub.specs.WorkedJoined.{WorkedJoined};
+ghost use Rattle.gazhub.specs.WorkedSites.{WorkedSites};
 
 use gaz_stored::laws::{chains_are_one, grown_chains_are_one};
 use sqlite_disk::Disk;
@@ -35,4 +36,9 @@ pub fn next_opens<D: Disk>()
 /// Which calls are one after another, on worked examples.
 pub fn worked_joined<D: Disk>()
     ensures { WorkedJoined D.Disk }
+{}
+
+/// What is done at a site, and how the program ends, on worked examples.
+pub fn worked_sites<D: Disk>()
+    ensures { WorkedSites D.Disk }
 {}

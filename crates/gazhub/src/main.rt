@@ -2,18 +2,25 @@
 //! over a store.
 #![tactic(auto)]
 
+mod attending;
 mod commands;
 mod ending;
 mod files;
 mod growing;
+mod host;
 mod laws;
+mod meaning;
 mod migrating;
 mod obeying;
 mod program;
+mod purpose;
 mod sample;
+mod site;
 mod stores;
 
 use gaz_ledger::Seed;
+use host::Host;
+use meaning::Words;
 use obeying::command;
 use std::alloc::Global;
 use std::io::{BufWriter, Printer};
@@ -54,6 +61,15 @@ fn main(rt: HostRuntime) -> ExitCode {
     let words = words.as_ref().map(|words| words.as_slice());
     let seed = random_seed(&rt).ok();
     let mut w = buffered(rt.alloc(), &rt);
-    let status = command(&rt, words, seed, &mut rt.reader(), &mut w, &mut rt.stderr());
+    let status = command(
+        &mut Host::of(&rt),
+        rt.alloc(),
+        &Words,
+        words,
+        seed,
+        &mut rt.reader(),
+        &mut w,
+        &mut rt.stderr(),
+    );
     ExitCode::from(status)
 }

@@ -1,9 +1,11 @@
 //! A store of schema 1 becomes one of schema 2.
 ghost use Rattle.std.specs.Prelude.{◌≡◌, IfErr, IfOk, IsTrue};
 ghost use Rattle.gazhub.specs.Migrating.{MigratesNone, MigratesStore, said_of_migration};
+ghost use Rattle.gazhub.specs.Working.{MigratesIn, Migrates};
 
-use crate::commands::options_to_migrate;
-use crate::files::{NoHub, read_register};
+use crate::files::{NoHub, open_files, read_register};
+use crate::purpose::Purpose;
+use crate::site::Site;
 use crate::stores::{close, connect};
 use gaz_commands::{PrintedLine, Said};
 use gaz_ledger::Seed;
@@ -11,7 +13,7 @@ use gaz_register::Register;
 use gaz_store::StoreRefusal;
 use gaz_stored::{Migrated, Migration, migrate_opened};
 use gaz_words::Places;
-use sqlite::{Files, Options, Unknown};
+use sqlite::{Files, Options};
 use sqlite_disk::Disk;
 use std::alloc::Global;
 
@@ -49,14 +51,35 @@ fn said_of_migration(told: Result<Migration, StoreRefusal>) -> Result<Said, NoHu
     }
 }
 
+// Migrates the store in these files.
+fn migrate_in<S: Site>(
+    site: &mut S,
+    alloc: Global,
+    seed: Seed,
+    register: &Register,
+    files: Files<S::Medium>,
+    options: Options,
+) -> Result<Said, NoHub>
+    requires log { IsTrue (S.Medium.Disk.is_usable files.log) }
+    requires db { IsTrue (S.Medium.Disk.is_usable files.db) }
+    ensures { MigratesIn S.Medium.Disk register.now files
+        (S.deeds site.old) (S.deeds site.new) result }
+{
+    let (_closed, told) = migrate_store(alloc, files, options, seed, register);
+    said_of_migration(told)
+}
+
 /// Migrates the store that is there. The register is read first. No store is made, though an empty
 /// log may be.
-pub fn migrate(rt: &HostRuntime, seed: Seed, places: Places<'_>) -> Result<Said, NoHub> {
-    let register = read_register(rt, places.register)?;
-    let options = options_to_migrate(rt, places.store)?;
-    let Ok(files) = sqlite_std_file::open(rt, places.store, Unknown) else {
-        return Err(NoHub::Store(StoreRefusal::Fault));
-    };
-    let (_closed, told) = migrate_store(rt.alloc(), files, options, seed, &register);
-    said_of_migration(told)
+pub fn migrate<S: Site>(
+    site: &mut S,
+    alloc: Global,
+    seed: Seed,
+    places: Places<'_>,
+) -> Result<Said, NoHub>
+    ensures { Migrates S.Medium.Disk places.entry (S.deeds site.old) (S.deeds site.new) result }
+{
+    let register = read_register(site, alloc, places.register)?;
+    let (files, options) = open_files(site, places.store, Purpose::Migrate)?;
+    migrate_in(site, alloc, seed, &register, files, options)
 }

@@ -1,24 +1,28 @@
 //! What the program does at its words, over a reader and two writers that are lent.
-ghost use Rattle.std.specs.Prelude.{◌≡◌, false, is_some, map, option_map, string_bytes, true};
+ghost use Rattle.std.specs.Prelude.{◌≡◌, is_some, map, option_map, string_bytes, true};
 ghost use Rattle.std.specs.Io.KnownBytes.{Keeps};
 ghost use Rattle.gaz_exchange.specs.Conversing.{transfer};
-ghost use Rattle.gazhub.specs.Commands.{Commands, Ends, EndsAt, EndsAtWords, IsTold, Reports};
-ghost use Rattle.gazhub.specs.Commands.{ending_of, is_play};
+ghost use Rattle.gazhub.specs.Commands.{Commands, Ends, EndsAt, EndsByMeaning, IsExplained};
+ghost use Rattle.gazhub.specs.Commands.{IsFinished, IsTold, Reports, ending_of};
 ghost use Rattle.gazhub.specs.Endings.{is_silent, line_of};
 
-use crate::commands::{Attendance, ask, attend, init};
+use crate::attending::serve;
+use crate::commands::{ask, init};
 use crate::ending::Ending;
 use crate::files::NoHub;
 use crate::growing::extend;
+use crate::meaning::Grammar;
 use crate::migrating::migrate;
 use crate::program::{MOST, play};
 use crate::sample::SAMPLE;
+use crate::site::Site;
 use clap::Error;
 use clap::error::ErrorKind;
 use gaz_commands::{Said, print};
 use gaz_exchange::write_all;
 use gaz_ledger::Seed;
-use gaz_words::{Command, Places, Serving, asks_play, read};
+use gaz_words::{Command, asks_play};
+use std::alloc::Global;
 use std::io::{Read, Write};
 
 // Prints what a command says.
@@ -41,7 +45,8 @@ fn tell<W: Write>(w: &mut W, said: &Said) -> Ending
 
 // Prints help, or the version.
 fn tell_help<W: Write>(w: &mut W, help: &Error) -> Ending
-    ensures { is_silent result ≡ true → Keeps (W.contents w.old) (W.contents w.new) }
+    ensures silent { is_silent result ≡ true → Keeps (W.contents w.old) (W.contents w.new) }
+    ensures explained { IsExplained result }
 {
     if help.kind() == ErrorKind::OutOfMemory {
         return Ending::Memory;
@@ -55,7 +60,9 @@ fn tell_help<W: Write>(w: &mut W, help: &Error) -> Ending
 
 // Prints what came of a command over a store.
 fn finish<W: Write>(w: &mut W, said: Result<Said, NoHub>) -> Ending
-    ensures { is_silent result ≡ true → Keeps (W.contents w.old) (W.contents w.new) }
+    ensures silent { is_silent result ≡ true → Keeps (W.contents w.old) (W.contents w.new) }
+    ensures finished { IsFinished (W.contents w.old) (W.contents w.new)
+        said result }
 {
     match said {
         Ok(said) => tell(w, &said),
@@ -63,58 +70,44 @@ fn finish<W: Write>(w: &mut W, said: Result<Said, NoHub>) -> Ending
     }
 }
 
-// Answers connections over a store, and says first where.
-fn serve<W: Write>(
-    rt: &HostRuntime,
-    seed: Seed,
-    places: Places<'_>,
-    serving: Serving,
-    w: &mut W,
-) -> Ending
-    ensures { is_silent result ≡ true → Keeps (W.contents w.old) (W.contents w.new) }
-{
-    match attend(rt, seed, places, serving, w) {
-        Ok(Attendance::Whole) => Ending::Done,
-        Ok(Attendance::Unwritten) => Ending::WriteFault,
-        Ok(Attendance::Lost(no_hub)) => Ending::Lost(no_hub),
-        Err(no_hub) => Ending::NoHub(no_hub),
-    }
-}
-
 // Does what a command asks.
-fn obey<R: Read, W: Write>(
-    rt: &HostRuntime,
+fn obey<S: Site, R: Read, W: Write>(
+    site: &mut S,
+    alloc: Global,
     seed: Seed,
     command: Command<'_>,
     r: &mut R,
     w: &mut W,
 ) -> Ending
-    ensures { EndsAt (is_play command.entry) SAMPLE.now MOST
-        (transfer R.remaining W.contents r.old r.new w.old w.new) result }
+    ensures { EndsAt S.Medium.Disk SAMPLE.now MOST (S.deeds site.old) (S.deeds site.new)
+        (transfer R.remaining W.contents r.old r.new w.old w.new) command.entry result }
 {
     match command {
-        Command::Play => play(rt.alloc(), seed, r, w),
-        Command::Init(places) => finish(w, init(rt, seed, places)),
-        Command::Ask(places, call) => finish(w, ask(rt, seed, places, call)),
-        Command::Serve(places, serving) => serve(rt, seed, places, serving, w),
-        Command::Extend(places, grown) => finish(w, extend(rt, seed, places, grown)),
-        Command::Migrate(places) => finish(w, migrate(rt, seed, places)),
+        Command::Play => play(alloc, seed, r, w),
+        Command::Init(places) => finish(w, init(site, alloc, seed, places)),
+        Command::Ask(places, call) => finish(w, ask(site, alloc, seed, places, call)),
+        Command::Serve(places, serving) => serve(site, alloc, seed, places, serving, w),
+        Command::Extend(places, grown) => finish(w, extend(site, alloc, seed, places, grown)),
+        Command::Migrate(places) => finish(w, migrate(site, alloc, seed, places)),
     }
 }
 
-// Does what `clap` reads in the words, or gives what it says of their usage.
-fn follow<R: Read, W: Write>(
-    rt: &HostRuntime,
+// Does what the words mean, or gives what is said of their usage.
+fn follow<S: Site, G: Grammar, R: Read, W: Write>(
+    site: &mut S,
+    alloc: Global,
+    grammar: &G,
     words: &[String],
     seed: Seed,
     r: &mut R,
     w: &mut W,
 ) -> Result<Ending, Error>
-    ensures { EndsAtWords false SAMPLE.now MOST
-        (transfer R.remaining W.contents r.old r.new w.old w.new) (ending_of result) }
+    ensures { EndsByMeaning S.Medium.Disk SAMPLE.now MOST (S.deeds site.old) (S.deeds site.new)
+        (transfer R.remaining W.contents r.old r.new w.old w.new)
+        (G.means (map string_bytes words.now)) (ending_of result) }
 {
-    match read(rt.alloc(), words) {
-        Ok(command) => Ok(obey(rt, seed, command, r, w)),
+    match grammar.read(alloc, words) {
+        Ok(command) => Ok(obey(site, alloc, seed, command, r, w)),
         Err(error) => {
             if is_usage(&error) {
                 Err(error)
@@ -125,17 +118,20 @@ fn follow<R: Read, W: Write>(
     }
 }
 
-// Does what the words ask, or gives what `clap` says of their usage.
-fn begin<R: Read, W: Write>(
-    rt: &HostRuntime,
+// Does what the words ask, or gives what is said of their usage.
+fn begin<S: Site, G: Grammar, R: Read, W: Write>(
+    site: &mut S,
+    alloc: Global,
+    grammar: &G,
     words: Option<&[String]>,
     seed: Option<Seed>,
     r: &mut R,
     w: &mut W,
 ) -> Result<Ending, Error>
-    ensures { Ends SAMPLE.now MOST
+    ensures { Ends S.Medium.Disk SAMPLE.now MOST (S.deeds site.old) (S.deeds site.new)
+        (transfer R.remaining W.contents r.old r.new w.old w.new) G.means
         (option_map (λ all. map string_bytes all.now) words.entry) (is_some seed)
-        (transfer R.remaining W.contents r.old r.new w.old w.new) (ending_of result) }
+        (ending_of result) }
 {
     let Some(words) = words else {
         return Ok(Ending::ReadFault);
@@ -145,9 +141,9 @@ fn begin<R: Read, W: Write>(
     };
     // Looked for first, so that a conversation takes no memory for the words.
     if asks_play(words) {
-        return Ok(play(rt.alloc(), seed, r, w));
+        return Ok(play(alloc, seed, r, w));
     }
-    follow(rt, words, seed, r, w)
+    follow(site, alloc, grammar, words, seed, r, w)
 }
 
 // Whether the words are at fault.
@@ -167,22 +163,26 @@ pub fn report<E: Write>(errors: &mut E, ending: Ending)
 /// Gives the exit status.
 ///
 /// `words` are those behind the program's name, none where they can't be read; `seed` is none where
-/// the system gives no random bytes. What files hold no contract can say: what is asked of a hub
-/// and printed of its answer is said of the commands of `gaz_commands`.
-pub fn command<R: Read, W: Write, E: Write>(
-    rt: &HostRuntime,
+/// the system gives no random bytes. The command is what the grammar finds in the words. Which files
+/// are read and opened, and in which order, is said where the site knows what was done at it, and
+/// so that what a hub over them answered is what is printed.
+pub fn command<S: Site, G: Grammar, R: Read, W: Write, E: Write>(
+    site: &mut S,
+    alloc: Global,
+    grammar: &G,
     words: Option<&[String]>,
     seed: Option<Seed>,
     r: &mut R,
     w: &mut W,
     errors: &mut E,
 ) -> u8
-    ensures { Commands SAMPLE.now MOST
+    ensures { Commands S.Medium.Disk SAMPLE.now MOST G.means
         (option_map (λ all. map string_bytes all.now) words.entry) (is_some seed)
+        (S.deeds site.old) (S.deeds site.new)
         (transfer R.remaining W.contents r.old r.new w.old w.new)
         (E.contents errors.old) (E.contents errors.new) result }
 {
-    match begin(rt, words, seed, r, w) {
+    match begin(site, alloc, grammar, words, seed, r, w) {
         Ok(ending) => {
             report(errors, ending);
             ending.status()

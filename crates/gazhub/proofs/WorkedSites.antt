@@ -1,0 +1,30 @@
+-- Worked examples on what is done at a site.
+use Rattle.std.proofs.Common.{List, ℕ, Ok, ap, refl, subst, sym}
+use Rattle.std.specs.Prelude.{Option, Some, None, [], ◌∷◌}
+use Rattle.sqlite_disk.specs.declared.Disk as disk
+use Rattle.gaz_register.specs.Registers.{RegisterValue}
+use Rattle.gazhub.specs.Sites.{Deed, FindsRegister, IsRegisterOf, Listened, Opened, Read}
+use Rattle.gazhub.specs.WorkedSites.{WorkedSites, nothing_done, read_in_vain}
+
+-- what the last deed read
+bytes_in : {D : Type 0} → Option (List (Deed D)) → Option (List ℕ)
+bytes_in None = None
+bytes_in (Some []) = None
+bytes_in (Some (Read path most bytes ∷ deeds)) = bytes
+bytes_in (Some (Opened path purpose files ∷ deeds)) = None
+bytes_in (Some (Listened port is_open ∷ deeds)) = None
+
+module _ {D : Type 0} (g : disk.Ghosts D) where
+  not_found : (path : List ℕ) (register : RegisterValue) → FindsRegister (nothing_done g) (read_in_vain g path) path (Ok register) → ⊥
+  unfolding bytes_in
+  not_found path register it = subst (λ bytes. IsRegisterOf bytes (Ok register)) (sym (ap bytes_in it.does)) it.told
+
+  pub worked : WorkedSites g
+  worked = record {
+    read = λ path. refl;
+    not_read = λ path e. absurd (cc);
+    unreadable = λ path. record { bytes = None; does = refl; told = refl };
+    not_found = not_found;
+    lost = λ places port connections after why it. elim it [ ];
+    not_explained = λ it. it;
+  }

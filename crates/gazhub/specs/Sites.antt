@@ -1,0 +1,104 @@
+-- What a command does where it reaches outside: it reads files, opens a store's, listens at a port.
+use Rattle.std.specs.Prelude.{◌≡◌, ◌^◌, ◌-◌, ◌++◌, ℕ, suc, Bool, ⊤, List, [], ◌∷◌, Option, Some}
+use Rattle.std.specs.Prelude.{None, Result, Ok, Err, option_map}
+use Rattle.std.specs.Global.{Vec}
+use Rattle.sqlite_disk.specs.declared.Files.{Files}
+use Rattle.gaz_ids.specs.Limits.{most_bytes}
+use Rattle.gaz_kept.specs.declared.refusal.StoreRefusal.{StoreRefusal}
+use Rattle.gaz_kept.specs.declared.refusal.StoreRefusal.TheVariants.{Fault}
+use Rattle.gaz_register.specs.Drafts.{OrMemory}
+use Rattle.gaz_register.specs.Reading.{register_of}
+use Rattle.gaz_register.specs.Registers.{RegisterValue}
+use Rattle.gaz_register.specs.declared.fault.RegFault.{RegFault}
+use Rattle.gaz_words.specs.declared.command.Call.{Call}
+use Rattle.gaz_words.specs.declared.command.Call.TheVariants.{Submit}
+use Rattle.gazhub.specs.declared.files.NoHub.{NoHub}
+use Rattle.gazhub.specs.declared.files.NoHub.TheVariants as none
+use Rattle.gazhub.specs.declared.purpose.Purpose.{Purpose}
+
+-- a deed: of the file at a path so many bytes at most were read; the store's files at a path were
+-- opened for a purpose; a port was listened at. Each tells what came of it
+pub data Deed (D : Type 0) : Type 0 where
+  Read : (path : List ℕ) (most : ℕ) (bytes : Option (List ℕ)) → Deed D
+  Opened : (path : List ℕ) (purpose : Purpose) (files : Option (Files D)) → Deed D
+  Listened : (port : ℕ) (is_open : Bool) → Deed D
+
+-- what was read, and the files that were opened
+abbrev pub bytes_of : Option (Vec ℕ) → Option (List ℕ)
+bytes_of = option_map (λ bytes. bytes.items)
+
+abbrev pub files_of : {D O : Type 0} → Option (Files D × O) → Option (Files D)
+files_of = option_map (λ found. found.0)
+
+-- the most that can be asked for of a file: the whole of it
+abbrev pub whole : ℕ
+whole = 2 ^ 64 - 1
+
+-- behind what was done before, these deeds were done; nothing is said where that wasn't known
+abbrev pub Does : {D : Type 0} → Option (List (Deed D)) → Option (List (Deed D)) → List (Deed D)
+    → Type 0
+Does None after deeds = ⊤
+Does (Some before) after deeds = after ≡ Some (before ++ deeds)
+
+-- what is told of a store, or why there is none
+abbrev pub of_store : {A : Type 0} → Result A StoreRefusal → Result A NoHub
+of_store (Ok told) = Ok told
+of_store (Err refusal) = Err (none.Store refusal)
+
+-- why what was read gives no register
+abbrev pub IsWhy : Option (List ℕ) → NoHub → Type 0
+IsWhy None why = why ≡ none.Unreadable
+IsWhy (Some text) why =
+    (fault : RegFault) × (OrMemory (Err fault) (register_of text) × (why ≡ none.Register fault))
+
+-- the register that was read, or why there is none
+abbrev pub IsRegisterOf : Option (List ℕ) → Result RegisterValue NoHub → Type 0
+IsRegisterOf bytes (Err why) = IsWhy bytes why
+IsRegisterOf None (Ok register) = ⊥
+IsRegisterOf (Some text) (Ok register) = register_of text ≡ Ok register
+
+-- the file at a path was read whole, and this is the register found there
+pub record FindsRegister {D : Type 0} (before after : Option (List (Deed D))) (path : List ℕ)
+    (found : Result RegisterValue NoHub) : Type 0 where
+  pub bytes : Option (List ℕ)
+  pub does : Does before after (Read path whole bytes ∷ [])
+  pub told : IsRegisterOf bytes found
+
+-- the store's files at a path were opened, or couldn't be
+abbrev pub FindsFiles : {D O : Type 0} → Option (List (Deed D)) → Option (List (Deed D)) → List ℕ
+    → Purpose → Result (Files D × O) NoHub → Type 0
+FindsFiles before after path purpose (Ok found) =
+    Does before after (Opened path purpose (Some found.0) ∷ [])
+FindsFiles before after path purpose (Err why) =
+    (why ≡ none.Store Fault) × Does before after (Opened path purpose None ∷ [])
+
+-- a call read what it needs besides: a submission its file, up to a byte more than a hub takes
+abbrev pub ReadsFor : {D : Type 0} → Option (List (Deed D)) → Option (List (Deed D)) → Call
+    → Option (List ℕ) → Type 0
+ReadsFor before after (Submit code volume path) bytes =
+    Does before after (Read path.now (suc most_bytes) bytes ∷ [])
+ReadsFor before after _ bytes = after ≡ before
+
+-- Below, before and after are what was done by then, and told is what came of it, or why there is
+-- no hub.
+
+-- the register at a path is looked for, and where it is found, this follows
+pub data WithRegister {D A : Type 0} (path : List ℕ)
+    (Then : RegisterValue → Option (List (Deed D)) → Option (List (Deed D)) → Result A NoHub
+    → Type 0)
+    (before after : Option (List (Deed D))) (told : Result A NoHub) : Type 0 where
+  Lacks : (why : NoHub) → FindsRegister before after path (Err why) → told ≡ Err why
+      → WithRegister path Then before after told
+  Finds : (register : RegisterValue) (between : Option (List (Deed D)))
+      → FindsRegister before between path (Ok register) → Then register between after told
+      → WithRegister path Then before after told
+
+-- the store's files at a path are opened for a purpose, and where they can be, this follows
+pub data WithFiles {D A : Type 0} (path : List ℕ) (purpose : Purpose)
+    (Then : Files D → Option (List (Deed D)) → Option (List (Deed D)) → Result A NoHub → Type 0)
+    (before after : Option (List (Deed D))) (told : Result A NoHub) : Type 0 where
+  Unopened : Does before after (Opened path purpose None ∷ []) → told ≡ Err (none.Store Fault)
+      → WithFiles path purpose Then before after told
+  Open : (files : Files D) (between : Option (List (Deed D)))
+      → Does before between (Opened path purpose (Some files) ∷ [])
+      → Then files between after told → WithFiles path purpose Then before after told

@@ -1,0 +1,123 @@
+//! The system's own files and ports.
+ghost use Rattle.std.specs.Prelude.{None};
+
+use crate::purpose::Purpose;
+use crate::site::Site;
+use sqlite::{Files, Options, Unknown};
+use sqlite_std_file::{FileFrom, open};
+use std::fs;
+use std::io::{self, IsTerminal, Read};
+use std::net::{Ipv4Addr, TcpListener};
+use std::random::RandomSource;
+
+/// The bytes of a page of a store's file.
+const PAGE: u64 = 4096;
+
+/// The fewest pages that are kept at hand, and the most: 256 MB.
+const FEWEST: u64 = 2_000;
+
+const MOST: u64 = 64_000;
+
+/// So many bytes of a store's file take about a second to open, since it is read through.
+const A_SECOND: u64 = 20_000_000;
+
+// The pages that are kept at hand: all of a file of so many bytes and half as many more, where they
+// aren't too many.
+fn pages_for(bytes: u64) -> usize {
+    let pages = bytes / PAGE;
+    pages.saturating_add(pages / 2).clamp(FEWEST, MOST) as usize
+}
+
+/// The system on which the program runs.
+#[derive(Drop)]
+pub struct Host<'a> {
+    rt: &'a HostRuntime,
+}
+
+impl<'a> Host<'a> {
+    pub fn of(rt: &'a HostRuntime) -> Host<'a> {
+        Host { rt }
+    }
+
+    // So many bytes at most of a file.
+    fn read_some(&self, path: &str, most: u64) -> io::Result<Vec<u8>> {
+        let mut bytes = Vec::new(self.rt.alloc());
+        fs::open(self.rt, path)?.take(most).read_to_end(&mut bytes)?;
+        Ok(bytes)
+    }
+
+    // A number that nobody foresees, for the salts of a store's log.
+    fn salt(&self) -> io::Result<u64> {
+        let mut bytes = [0; 8];
+        self.rt.fill_bytes(&mut bytes)?;
+        Ok(u64::from_le_bytes(bytes))
+    }
+
+    // How a store's files are used, where the database has so many bytes.
+    fn options_for(&self, bytes: u64) -> Option<Options> {
+        let salt = self.salt().ok()?;
+        let mut options = Options::new(salt);
+        options.cache_pages = pages_for(bytes);
+        Some(options)
+    }
+
+    // The bytes of the file at a path; none where nothing is there.
+    fn size_at(&self, path: &str) -> Option<u64> {
+        let found = fs::metadata(self.rt, path).ok()?;
+        Some(found.len())
+    }
+
+    // Says what is being done with a store's file of so many bytes, where that takes over a second
+    // and a person waits: standard error is a terminal. What can't be said is lost.
+    fn announce(&self, bytes: u64, what: &str) {
+        if bytes > A_SECOND && self.rt.stderr().is_terminal() {
+            let _lost = eprintln!(self.rt; "{what}");
+        }
+    }
+
+    fn options_to_use(&self, path: &str) -> Option<Options> {
+        let bytes = self.size_at(path)?;
+        let options = self.options_for(bytes)?;
+        self.announce(bytes, "opening ..");
+        Some(options)
+    }
+
+    // What is written stays at hand as long as there is room, or the log would grow to many times
+    // the file.
+    fn options_to_migrate(&self, path: &str) -> Option<Options> {
+        let bytes = self.size_at(path)?;
+        let mut options = self.options_for(bytes.saturating_mul(2))?;
+        options.spill_pages = options.cache_pages;
+        self.announce(bytes, "migrating ..");
+        Some(options)
+    }
+
+    // How the files of a store at a path are used.
+    fn options(&self, path: &str, purpose: Purpose) -> Option<Options> {
+        match purpose {
+            Purpose::Make => self.options_for(0),
+            Purpose::Use => self.options_to_use(path),
+            Purpose::Migrate => self.options_to_migrate(path),
+        }
+    }
+}
+
+impl Site for Host<'_> {
+    type Medium = FileFrom<Unknown>;
+
+    ghost deeds = { λ _. None };
+
+    fn read(&mut self, path: &str, most: u64) -> Option<Vec<u8>> {
+        self.read_some(path, most).ok()
+    }
+
+    fn open(&mut self, path: &str, purpose: Purpose) -> Option<(Files<Self::Medium>, Options)> {
+        let options = self.options(path, purpose)?;
+        let files = open(self.rt, path, Unknown).ok()?;
+        Some((files, options))
+    }
+
+    fn listen(&mut self, port: u16) -> Option<TcpListener> {
+        TcpListener::bind(self.rt, (Ipv4Addr::LOCALHOST, port)).ok()
+    }
+}

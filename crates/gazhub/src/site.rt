@@ -1,0 +1,38 @@
+//! What a command reaches outside: files at paths, and a port.
+ghost use Rattle.std.specs.Prelude.{[], ◌∷◌, IfSome, IsTrue, List, Option, is_some};
+ghost use Rattle.gazhub.specs.Sites.{Deed, Does, Listened, Opened, Read, bytes_of, files_of};
+
+use crate::purpose::Purpose;
+use sqlite::{Files, Options};
+use sqlite_disk::Disk;
+use std::net::TcpListener;
+
+/// Where the files are that commands name. What was done there is told in its order, where it is
+/// known; of a system's files it isn't, since others change them too.
+pub trait Site {
+    /// The disk on which a store's files are.
+    type Medium: Disk + Drop;
+
+    // What was done here, where that is known.
+    ghost deeds: { Self → Option (List (Deed Self.Medium)) };
+
+    /// So many bytes at most of the file at a path; none where it can't be read.
+    fn read(&mut self, path: &str, most: u64) -> Option<Vec<u8>>
+        ensures { Does (deeds self.old) (deeds self.new)
+            (Read path.now most (bytes_of result) ∷ []) };
+
+    /// The database at a path and its log, which are made where they are missing, and how they are
+    /// used; none where they can't be opened, where a store is to be there and isn't, or where the
+    /// system gives no random bytes. That it takes long may be said on standard error.
+    fn open(&mut self, path: &str, purpose: Purpose) -> Option<(Files<Self::Medium>, Options)>
+        ensures log { IfSome result (λ found. IsTrue (Self.Medium.Disk.is_usable found.0.log)) }
+        ensures db { IfSome result (λ found. IsTrue (Self.Medium.Disk.is_usable found.0.db)) }
+        ensures opened { Does (deeds self.old) (deeds self.new)
+            (Opened path.now purpose (files_of result) ∷ []) };
+
+    /// A listener at a port of 127.0.0.1, for 0 at one that the system chooses; none where it can't
+    /// be had.
+    fn listen(&mut self, port: u16) -> Option<TcpListener>
+        ensures { Does (deeds self.old) (deeds self.new)
+            (Listened port (is_some result) ∷ []) };
+}
