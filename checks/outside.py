@@ -6,6 +6,7 @@ from concurrent.futures import ThreadPoolExecutor
 from pathlib import Path
 
 from checks import (
+    asked,
     at_hand,
     breaking,
     calls,
@@ -87,7 +88,8 @@ def of_program(program: Path, root: Path) -> Iterator[Case]:
 
 def of_stores(root: Path, room: Path) -> Iterator[Case]:
     """Of stores in files: the conversations and the list of calls over them, other people's SQLite, rows of custody, damage, stores of the schema before and their migration, rows as
-    they are written, registers that grow, what they cost, rings; memory that is wanting, and histories over stores that fail and over a keeper in memory that does."""
+    they are written, registers that grow, what they cost, how often a keeper is asked, rings; memory that is wanting, and histories over stores that fail and over a keeper in
+    memory that does."""
     yield from in_lanes(
         (
             # (the longest comes first)
@@ -108,6 +110,7 @@ def of_stores(root: Path, room: Path) -> Iterator[Case]:
             lambda: named("a register that grows:", growing.run_all(room)),
             lambda: named("steps:", steps.run_all(root, room)),
             lambda: named("left:", left.run_all(room)),
+            lambda: named("asked:", asked.run_all(room)),
             lambda: held(rings.run_all(room)),
             lambda: named("breaking:", breaking.stay_all(root, room)),
             lambda: named("wanting memory:", wanting.run_all(built(room, "gazhub"), built(room, "gaz_bench"))),

@@ -83,6 +83,10 @@ class Hubs:
         """The answers over the keeper in memory."""
         return _run([self.bench, "play", self.register], requests)
 
+    def counted(self, requests: bytes) -> Answered:
+        """The same, and how often the keeper was asked is said."""
+        return _run([self.bench, "counted", self.register], requests)
+
 
 def _run(words: list[str | Path], given: bytes) -> Answered:
     try:

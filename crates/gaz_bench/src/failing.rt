@@ -1,4 +1,4 @@
-//! A hub over a keeper of which calls fail.
+//! A hub over a keeper of which calls are counted, and some fail.
 ghost use Rattle.gaz_shelf.specs.Around.{seen_around};
 ghost use Rattle.gaz_keeper.specs.Keeper.{IsNotOpen};
 
@@ -6,7 +6,8 @@ use crate::playing::{answer, register_in};
 use anyhow::Result;
 use gaz_keeper::Inbox;
 use gaz_register::Register;
-use gaz_shelf::{Faulty, MemShelf, Seed};
+use gaz_shelf::{Calls, Faulty, MemShelf, Seed};
+use std::mem::forget;
 
 /// The calls of a keeper that fail, by their numbers from 1, and 0 for none.
 #[derive(Clone, Copy)]
@@ -24,22 +25,44 @@ fn failing_twice<K: Inbox + Drop>(keeper: K, calls: Failing) -> Faulty<Faulty<K>
     Faulty::new(Faulty::new(keeper, calls.second), calls.first)
 }
 
-// Answers the requests on standard input over a keeper of which these calls fail.
+// Answers the requests on standard input over a keeper of which these calls fail: how often each
+// call was made.
 fn answer_failing<K: Inbox + Drop>(
     rt: &HostRuntime,
     register: Register,
     keeper: K,
     calls: Failing,
-) -> Result<()>
+) -> Result<Calls>
     requires { IsNotOpen (K.seen keeper).progress }
 {
-    answer(rt, register, failing_twice(keeper, calls))
+    let hub = answer(rt, register, failing_twice(keeper, calls))?;
+    let counted = hub.shelf().counted();
+    forget(hub);
+    Ok(counted)
 }
 
 /// Answers the requests on standard input at a hub of the register in a file, over a keeper in
-/// memory of which these calls fail.
-pub fn over_maps(rt: &HostRuntime, register: &str, calls: Failing) -> Result<()> {
+/// memory of which these calls fail: how often each call was made.
+pub fn over_maps(rt: &HostRuntime, register: &str, calls: Failing) -> Result<Calls> {
     let register = register_in(rt, register)?;
     let keeper = MemShelf::new(rt.alloc(), Seed::of(1));
     answer_failing(rt, register, keeper, calls)
+}
+
+/// Does so where none fails, and says on standard error how often the keeper was asked `current`,
+/// `property_of`, `reached` and `received`.
+pub fn count_over_maps(rt: &HostRuntime, register: &str) -> Result<()> {
+    let calls = over_maps(
+        rt,
+        register,
+        Failing {
+            first: 0,
+            second: 0,
+        },
+    )?;
+    eprintln!(rt;
+        "{} {} {} {}",
+        calls.current, calls.property_of, calls.reached, calls.received
+    )?;
+    Ok(())
 }

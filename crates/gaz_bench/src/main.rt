@@ -24,6 +24,8 @@
 //! * `failing REGISTER FIRST SECOND` does as `play`, but the keeper's call of the number FIRST
 //!   fails, from 1, and of the calls that come to the keeper within that which fails so, the one of
 //!   the number SECOND; 0 is none.
+//! * `counted REGISTER` does as `play`, and says on standard error how often the keeper was asked
+//!   `current`, `property_of`, `reached` and `received`.
 //! * `calls STORE REGISTER` makes the calls of the list that each keeper answers alike, over a new
 //!   store in a file; `calls STORE REGISTER NUMBER` those of its part of that number, from 0, over
 //!   what the parts before it left; `calls-at-hand STORE REGISTER` all of them, and brings what is
@@ -42,7 +44,7 @@ mod replying;
 mod stored;
 
 use anyhow::Result;
-use failing::{Failing, over_maps};
+use failing::{Failing, count_over_maps, over_maps};
 use floor::play_script;
 use gaz_store::StoreRefusal;
 use gaz_stored::ReadFrom;
@@ -75,7 +77,11 @@ fn calls_of(first: &str, second: &str) -> Result<Failing> {
 fn measured(rt: &HostRuntime, words: &[&str]) -> Result<()> {
     match words {
         ["play", register] => play(rt, register),
-        ["failing", register, first, second] => over_maps(rt, register, calls_of(first, second)?),
+        ["failing", register, first, second] => {
+            over_maps(rt, register, calls_of(first, second)?)?;
+            Ok(())
+        }
+        ["counted", register] => count_over_maps(rt, register),
         ["calls", store, register] => make_calls(rt, store, register, Way::All),
         ["calls", store, register, number] => {
             make_calls(rt, store, register, Way::Part(number.parse::<u64>()?))

@@ -19,16 +19,15 @@ pub fn register_in(rt: &HostRuntime, path: &str) -> Result<Register> {
     Ok(Register::read(rt.alloc(), &fs::read(rt, path)?)?)
 }
 
-/// Answers the requests on standard input over a keeper.
-pub fn answer<K: Inbox + Drop>(rt: &HostRuntime, register: Register, keeper: K) -> Result<()>
+/// Answers the requests on standard input over a keeper, and leaves the hub.
+pub fn answer<K: Inbox + Drop>(rt: &HostRuntime, register: Register, keeper: K) -> Result<Hub<K>>
     requires { IsNotOpen (K.seen keeper).progress }
 {
     let mut hub = Hub::new(rt.alloc(), register, keeper);
     let mut w = BufWriter::new(rt.alloc(), io::writer(rt))?;
     let ended = converse(rt.alloc(), &mut rt.reader(), &mut w, &mut hub, MOST);
-    forget(hub);
     ensure!(ended.is_ok(), "the stream failed");
-    Ok(())
+    Ok(hub)
 }
 
 /// Answers the requests on standard input at a hub of the register in a file, over a keeper in
@@ -36,5 +35,6 @@ pub fn answer<K: Inbox + Drop>(rt: &HostRuntime, register: Register, keeper: K) 
 pub fn play(rt: &HostRuntime, path: &str) -> Result<()> {
     let register = register_in(rt, path)?;
     let keeper = MemShelf::new(rt.alloc(), Seed::of(1));
-    answer(rt, register, keeper)
+    forget(answer(rt, register, keeper)?);
+    Ok(())
 }

@@ -17,4 +17,4 @@ mod volumes;
 pub use lists::{part, parts, performs, performs_all};
 pub use refusal::Refusal;
 pub use steps::Part;
-pub use tried::{Tried, counting_shelf, looked_up};
+pub use tried::{Tried, counting_shelf};

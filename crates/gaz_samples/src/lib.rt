@@ -1,9 +1,8 @@
-//! What the crates of tests share: files, a register, items as text, and one list of calls over any
-//! keeper.
+//! What the crates of tests share: files, a register, and one list of calls over any keeper.
 #![tactic(auto)]
 
 pub mod files;
-pub mod items;
+mod items;
 pub mod keepers;
 
 /// A register of three custodians.

@@ -7,11 +7,6 @@ pub(crate) fn holds(rt: &impl Abort, is_so: bool, what: &str) {
     assert!(rt; is_so, "{what}");
 }
 
-/// The same of a place in a table.
-pub(crate) fn holds_at(rt: &impl Abort, is_so: bool, table: &str, place: u64) {
-    assert!(rt; is_so, "{table}, place {place}");
-}
-
 /// So many are wanted, and so many were found.
 pub(crate) fn counts(rt: &impl Abort, found: u64, wanted: u64) {
     assert_eq!(rt; found, wanted);

@@ -4,13 +4,9 @@ ghost use Rattle.std.specs.Prelude.{◌≡◌, ℕ, IfOk, None, Some};
 ghost use Rattle.gaz_keeper.specs.Keeper.{IsNotOpen, Open};
 
 use crate::keepers::refusal::Refusal;
-use gaz_changefile::ChangeFile;
-use gaz_extract::{Closed, closed_streets};
 use gaz_ids::{Code, Volume};
-use gaz_keeper::{Inbox, Verdict};
+use gaz_keeper::Inbox;
 use gaz_records::{Key, SharedItem};
-use gaz_register::Register;
-use gaz_rules::judge;
 use gaz_shelf::{Conclusion, Faulty, MemShelf, Seed, are_entries, write_volume};
 use std::alloc::Global;
 
@@ -26,11 +22,6 @@ pub struct Tried<K: Inbox + Drop> {
 /// One around whole maps that counts its calls, and received nothing.
 pub fn counting_shelf(alloc: Global) -> Tried<Faulty<MemShelf>> {
     Tried::new(Faulty::new(MemShelf::new(alloc, Seed::of(1)), 0))
-}
-
-/// How often an item was looked up in it.
-pub fn looked_up(shelf: &Tried<Faulty<MemShelf>>) -> u64 {
-    shelf.keeper.counted().current
 }
 
 impl<K: Inbox + Drop> Tried<K> {
@@ -155,34 +146,5 @@ impl<K: Inbox + Drop> Tried<K> {
             return Err(Refusal::Misused);
         }
         Ok(self.keeper.receive(code, volume, bytes)?)
-    }
-}
-
-// What goes over any keeper.
-impl<K: Inbox + Drop> Tried<K> {
-    /// A file is judged as a custodian's next volume. `Misused` where one is in progress.
-    pub fn judge(
-        &mut self,
-        alloc: Global,
-        register: &Register,
-        code: Code,
-        file: &ChangeFile,
-    ) -> Result<Verdict, Refusal> {
-        if self.judged.is_some() {
-            return Err(Refusal::Misused);
-        }
-        Ok(judge(alloc, &mut self.keeper, register, code, file)?)
-    }
-
-    /// The addresses on streets that others closed. `Misused` where one is in progress.
-    pub fn closed_streets(
-        &mut self,
-        alloc: Global,
-        register: &Register,
-    ) -> Result<Vec<Closed>, Refusal> {
-        if self.judged.is_some() {
-            return Err(Refusal::Misused);
-        }
-        Ok(closed_streets(alloc, &mut self.keeper, register)?)
     }
 }
