@@ -1,7 +1,6 @@
-"""Tests of what is kept of schema 1: its rows are written twice, in SQL and in the repository's own language, and lie in files as the last program
-of that schema left them. All three say the same. Tests of `written` and `schema1`, too."""
+"""Tests of what is kept of schema 1: its rows are written in SQL, and lie in files as the last program of that schema left them. Both say the same.
+Tests of `written` and `schema1`, too."""
 
-import ast
 import re
 import shutil
 import sqlite3
@@ -11,20 +10,14 @@ import unittest
 from pathlib import Path
 
 from checks import schema1, tables, written
-from checks.conversations import find
+from checks.conversations import find, requests_in
 from checks.history import FILES, file_of
-from checks.stores import TEXT, Hubs
+from checks.stores import TEXT, Hubs, get, post
 from checks.written import FIRST, PASSED, SECOND, STORES
 
 TOP = Path(__file__).resolve().parent.parent
-MODULE = TOP / "crates" / "gaz_trials" / "src" / "schema1_rows.rt"
-COLUMNS = {
-    "meta": ["id", "number", "register"],
-    "received": ["cust", "volume", "bytes", "state", "place", "rule"],
-    "version": ["cust", "kind", "id", "blpu", "street", "lang", "live", "born", "gone", "body"],
-}
-FIELD = re.compile(r'(\w+): (b?"(?:[^"\\]|\\.)*"|[0-9_]+)')
-CONTINUED = re.compile(r"\\\n\s*")
+POST = re.compile(rb"POST /custodians/(\d+)/volumes/(\d+) .*?\r\n\r\n", re.DOTALL)
+NEVER = 1_000_000  # where a row that is current goes
 ROWS = {
     "meta": [(1, 1, TEXT)],
     "received": [(1001, 1, b"a 'file'\n", 1, 0, 0), (1001, 2, b"", 2, 3, 21), (1001, 4, b"x", 0, 0, 0)],
@@ -32,16 +25,19 @@ ROWS = {
 }
 
 
-def rows_in(text: str, table: str) -> list[tuple]:
-    """The rows of a table as a module has them: values of a struct with a field for each column, which Python writes alike once a text is on one line."""
-    found = [FIELD.findall(it) for it in re.findall(rf"\b{table.capitalize()} \{{([^{{}}]*)\}}[,;\]]", CONTINUED.sub("", text))]
-    assert all([name for name, _ in fields] == COLUMNS[table] for fields in found), table
-    return [tuple(ast.literal_eval(value) for _, value in fields) for fields in found]
+def first_files(requests: bytes) -> dict[tuple[int, int], bytes]:
+    """The first file of each custodian and volume in a stream."""
+    files: dict[tuple[int, int], bytes] = {}
+    for request in requests_in(requests):
+        if found := POST.match(request):
+            files.setdefault((int(found[1]), int(found[2])), request[found.end() :])
+    return files
 
 
-def rows_of_module(name: str) -> dict[str, list[tuple]]:
-    text = (MODULE.with_suffix("") / f"{name}.rt").read_text()
-    return {"meta": rows_in(MODULE.read_text(), "meta"), **{table: rows_in(text, table) for table in ("received", "version")}}
+def strays(rows: dict[str, list[tuple]]) -> list[tuple]:
+    """The items that came or went in a volume which wasn't applied."""
+    applied = {row[:2] for row in rows["received"] if row[3] == 1}
+    return [row for row in rows["version"] if not {(row[0], row[7])} | {(row[0], row[8])} - {(row[0], NEVER)} <= applied]
 
 
 class InAFolder(unittest.TestCase):
@@ -79,7 +75,6 @@ class Writing(InAFolder):
         self.assertEqual({"tables", *names}, {path.stem for path in FIRST.folder.glob("*.sql")})
         self.assertEqual({"tables", PASSED.name, *names}, {path.stem for path in SECOND.folder.glob("*.sql")})
         self.assertEqual({"history", *names}, {path.stem for path in FIRST.folder.glob("*.db")})
-        self.assertEqual(names, {path.stem for path in MODULE.with_suffix("").glob("*.rt")})
 
     def test_their_conversations_are_there(self) -> None:
         names = {one.name for one in find(TOP)}
@@ -87,20 +82,28 @@ class Writing(InAFolder):
 
 
 class TheSameRows(InAFolder):
-    def test_the_module_has_those_in_sql(self) -> None:
-        for it in STORES:
-            self.assertEqual(FIRST.rows(it), written.text_of(rows_of_module(it.name)), it.name)
-
-    def test_another_row_or_column_of_a_module_is_seen(self) -> None:
-        text = (MODULE.with_suffix("") / "a_street_and_a_held_file.rt").read_text()
-        self.assertEqual([0, 0], [rows_in(text.replace("street: 101", "street: 0"), "version")[0][at] for at in (3, 4)])
-        self.assertEqual(1, len(rows_in(text, "version")))
-        with self.assertRaises(AssertionError):
-            rows_in(text.replace("blpu: 0,", ""), "version")
-
     def test_the_last_program_left_them(self) -> None:
         for it in STORES:
             self.assertEqual(FIRST.rows(it), written.text_of(tables.rows_of(self.left(it.name))), it.name)
+
+    def test_they_are_of_the_files_of_their_conversations(self) -> None:
+        for it in STORES:
+            rows = tables.rows_of(self.left(it.name))
+            self.assertEqual([(1, 1, TEXT)], rows["meta"], it.name)
+            self.assertEqual(first_files(it.requests(TOP)), {row[:2]: row[2] for row in rows["received"]}, it.name)
+
+    def test_items_came_and_went_in_applied_volumes(self) -> None:
+        for it in STORES:
+            self.assertEqual([], strays(tables.rows_of(self.left(it.name))), it.name)
+
+    def test_an_item_of_another_volume_is_seen(self) -> None:
+        street, name = ROWS["version"]
+        self.assertEqual([street, name], strays(ROWS))  # one went in a rejected volume, of the other's custodian there is none
+        self.assertEqual([], strays(ROWS | {"version": [(*street[:8], NEVER, street[9])]}))
+        self.assertEqual([(*street[:7], 4, NEVER, street[9])], strays(ROWS | {"version": [(*street[:7], 4, NEVER, street[9])]}))
+
+    def test_the_first_file_of_a_pair_counts(self) -> None:
+        self.assertEqual({(1001, 2): b"a", (1001, 1): b""}, first_files(post(1001, 2, b"a") + get("/closed") + post(1001, 1, b"") + post(1001, 2, b"b")))
 
     def test_the_history_is_in_a_file(self) -> None:
         rows = tables.rows_of(self.left("history"))
@@ -119,7 +122,7 @@ class TheSameRows(InAFolder):
 
     def test_schema_2_has_them_moved(self) -> None:
         for it in STORES:
-            self.assertEqual(SECOND.rows(it), written.text_of(written.moved(rows_of_module(it.name))), it.name)
+            self.assertEqual(SECOND.rows(it), written.text_of(written.moved(tables.rows_of(self.left(it.name)))), it.name)
 
 
 # What a program may do with a store that it is given.

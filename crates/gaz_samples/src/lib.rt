@@ -1,7 +1,6 @@
-//! What the crates of tests share: files, a register, and one list of calls over any keeper.
+//! What the crates of tests share: a register, and one list of calls over any keeper.
 #![tactic(auto)]
 
-pub mod files;
 mod items;
 pub mod keepers;
 

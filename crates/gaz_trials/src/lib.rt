@@ -18,6 +18,4 @@ mod records;
 #[cfg(test)]
 mod registers;
 #[cfg(test)]
-mod schema1_rows;
-#[cfg(test)]
 mod wanted;
