@@ -1,4 +1,4 @@
-"""Texts of registers, from outside: with which fault the program refuses each, or that it reads it."""
+"""Texts of registers, from outside: with which fault the program refuses each, or that it reads it; and the text that a store has of one."""
 
 import subprocess
 import tempfile
@@ -6,27 +6,9 @@ from dataclasses import dataclass
 from pathlib import Path
 
 from checks.conversations import DEADLINE, difference
+from checks.sample import SAMPLE, TEXT
 from checks.sessions import fails
-
-# The sample of docs/register.md.
-SAMPLE = """[[custodian]]
-code = 1001
-name = "Upper County"
-uprn = [[1, 99999], [999999999000, 999999999999]]
-usrn = [[100, 199], [99999999, 99999999]]
-
-[[custodian]]
-code = 1002
-name = "Lower District"
-uprn = [[100000, 199999]]
-usrn = [[200, 299]]
-
-[[custodian]]
-code = 1003
-name = "Bay District"
-uprn = [[200000, 299999]]
-usrn = [[300, 399]]
-"""
+from checks.tables import opened
 
 # Parts of the sample that are edited, each where it first stands.
 CODE = "code = 1001"
@@ -46,7 +28,15 @@ TWO_FAULTS = b"""custodian = [
     { code = 0, name = "B", uprn = [], usrn = [] },
 ]"""
 
-WORDS = ("status", "--store", "s.db", "--register", "r.toml", "1001")
+# Two custodians, neither they nor their blocks by rising number, and how a store has them.
+TWO = """custodian = [
+    { code = 7, name = "Q, \\"x\\"", uprn = [[5, 6], [1, 1]], usrn = [] },
+    { code = 3, name = "é", uprn = [], usrn = [[2, 2]] },
+]"""
+TWO_IN_ORDER = '3,é,,2-2\n7,"Q, ""x""",1-1 5-6,\n'
+
+STORE = ("--store", "s.db", "--register", "r.toml")
+WORDS = ("status", *STORE, "1001")
 
 
 @dataclass(frozen=True)
@@ -56,6 +46,15 @@ class Case:
     name: str
     text: bytes
     fault: str | None
+
+
+@dataclass(frozen=True)
+class Kept:
+    """The text of a register, and the text of it that a store has which is made under it."""
+
+    name: str
+    text: str
+    kept: str
 
 
 def edited(name: str, old: str, new: str, fault: str | None) -> Case:
@@ -145,6 +144,8 @@ SEVERAL = (
 
 CASES = (*NO_CUSTODIANS, *SHAPES, *CODES, *NAMES, *BLOCKS, *SEVERAL)
 
+KEPT = (Kept("custodians and blocks stand in order", TWO, TWO_IN_ORDER), Kept("the sample in a store", SAMPLE, TEXT))
+
 
 def fault_of(program: Path, case: Case, deadline: float = DEADLINE) -> str | None:
     """What is wrong with how the program ends over a register: where it reads it, it is at a loss for the store, which isn't there."""
@@ -164,6 +165,19 @@ def fault_of(program: Path, case: Case, deadline: float = DEADLINE) -> str | Non
     return "; ".join(fault for fault in faults if fault) or None
 
 
+def kept_fault(program: Path, case: Kept) -> str | None:
+    """What is wrong with a store that the program makes under a register."""
+    with tempfile.TemporaryDirectory(prefix="check-register-") as made:
+        Path(made, "r.toml").write_text(case.text)
+        ran = subprocess.run(["timeout", f"{DEADLINE:g}", program, "init", *STORE], cwd=made, input=b"", capture_output=True)
+        if (ran.returncode, ran.stdout, ran.stderr) != (0, b"ready\n", b""):
+            return f"exit status {ran.returncode}, said {ran.stdout + ran.stderr!r}"
+        with opened(Path(made, "s.db")) as conn:
+            found = conn.execute("SELECT register FROM meta").fetchall()
+    return None if found == [(case.kept,)] else f"the store has {found!r}"
+
+
 def run_all(program: Path) -> list[tuple[str, str | None]]:
     """Each text, and what is wrong with what the program makes of it."""
-    return [(case.name, fault_of(program.resolve(), case)) for case in CASES]
+    program = program.resolve()
+    return [(case.name, fault_of(program, case)) for case in CASES] + [(case.name, kept_fault(program, case)) for case in KEPT]

@@ -1,10 +1,11 @@
 """Tests of `registers`, over small programs in a temporary folder."""
 
+import sys
 import tempfile
 import unittest
 from pathlib import Path
 
-from checks.registers import CASES, Case, edited, fault_of, run_all
+from checks.registers import CASES, KEPT, Case, edited, fault_of, kept_fault, run_all
 
 # Reads a register that has a code, and no more of it; then it looks for the store.
 RIGHT = """#!/bin/sh
@@ -17,6 +18,14 @@ echo ready
 CREDULOUS = """#!/bin/sh
 echo "gazhub: Fault" >&2
 exit 3
+"""
+# A program that makes a store with this text of a register.
+MAKING = f"""#!{sys.executable} -S
+import sqlite3
+with sqlite3.connect("s.db") as conn:
+    conn.execute("CREATE TABLE meta (register TEXT)")
+    conn.execute("INSERT INTO meta VALUES (?)", ({{!r}},))
+print("ready")
 """
 READ = Case("a code", b"code = 1\n", None)
 REFUSED = Case("no code", b"name = 1\n", "Shape")
@@ -57,16 +66,27 @@ class Reading(unittest.TestCase):
         self.assertEqual(self.fault("#!/bin/sh\nexec sleep 60\n", READ, deadline=1), "didn't end within 1 s")
 
     def test_a_program_that_refuses_nothing_fails_where_a_fault_is_wanted(self) -> None:
-        ran = run_all(self.program(CREDULOUS))
-        self.assertEqual([name for name, _ in ran], [case.name for case in CASES])
-        self.assertEqual([name for name, fault in ran if fault], [case.name for case in CASES if case.fault])
+        ran, kept = run_all(self.program(CREDULOUS)), [case.name for case in KEPT]
+        self.assertEqual([name for name, _ in ran], [case.name for case in CASES] + kept)
+        self.assertEqual([name for name, fault in ran if fault], [case.name for case in CASES if case.fault] + kept)
+
+    def test_the_text_that_a_store_has_is_asked_for(self) -> None:
+        for case in KEPT:
+            self.assertIsNone(kept_fault(self.program(MAKING.format(case.kept)), case), case.name)
+
+    def test_another_text_in_a_store_is_reported(self) -> None:
+        case, given = KEPT[0], '7,"Q, ""x""",5-6 1-1,\n3,é,,2-2\n'
+        self.assertEqual(f"the store has {[(given,)]!r}", kept_fault(self.program(MAKING.format(given)), case))
+
+    def test_a_store_that_is_not_made_is_reported(self) -> None:
+        self.assertEqual("exit status 3, said b'gazhub: Fault\\n'", kept_fault(self.program(CREDULOUS), KEPT[0]))
 
     def test_what_is_edited_is_a_part_of_the_sample(self) -> None:
         with self.assertRaises(ValueError):
             edited("another code", "code = 1004", "code = 1005", None)
 
     def test_each_case_has_its_name_and_text(self) -> None:
-        self.assertEqual(len(CASES), len({case.name for case in CASES}))
+        self.assertEqual(len(CASES) + len(KEPT), len({case.name for case in (*CASES, *KEPT)}))
         self.assertEqual(len(CASES), len({case.text for case in CASES}))
 
 

@@ -1,6 +1,5 @@
 //! What no reply, no contract and no run of a program tells: what keepers in memory answer to
-//! one list of calls; and objects, items, files and registers as callers of the lower crates read
-//! and write them.
+//! one list of calls; which field of an item is at fault; and files that are read and written.
 #![tactic(auto)]
 
 #[cfg(test)]
@@ -12,10 +11,6 @@ mod files_back;
 #[cfg(test)]
 mod mirrors;
 #[cfg(test)]
-mod objects;
-#[cfg(test)]
 mod records;
-#[cfg(test)]
-mod registers;
 #[cfg(test)]
 mod wanted;
