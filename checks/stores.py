@@ -75,9 +75,9 @@ class Hubs:
         """The same as `over`, but read from memory where the store can be brought to hand."""
         return _run([self.bench, "at-hand", store, self.register], requests)
 
-    def calls(self, word: str, store: Path, *number: str) -> Answered:
-        """What is said where the calls are made that each keeper answers alike, or those of a part."""
-        return _run([self.bench, word, store, self.register, *number], b"")
+    def calls(self, word: str, store: Path) -> Answered:
+        """What is said where the calls are made that each keeper answers alike, over a new store in a file."""
+        return _run([self.bench, word, store, self.register], b"")
 
     def without_store(self, requests: bytes) -> Answered:
         """The answers over the keeper in memory."""

@@ -1,40 +1,37 @@
-"""Tests of the list of calls over stores, by programs that answer otherwise."""
+"""Tests of the list of calls over stores, by a program that answers otherwise."""
 
 import tempfile
 import unittest
 from pathlib import Path
 
 from checks import calls
-from checks.stores import Hubs
+from checks.stores import built
 
-# A list of so many parts, and what it says at one of them, or of all.
+# It answers otherwise where it is asked by this word, or where a store is there already.
 PROGRAM = """#!/usr/bin/env python3
-import sys
-number = int(sys.argv[4]) if len(sys.argv) > 4 else None
-if number == {parts}:
-    sys.exit("there is no such part")
-if number == {bad} or number is None and {bad} >= 0:
+import pathlib, sys
+word, store, _ = sys.argv[1:]
+if word == "{bad}" or pathlib.Path(store).exists():
     sys.exit("Otherwise")
 """
 
 
 class Calls(unittest.TestCase):
-    def faults(self, parts: int, bad: int) -> list[str | None]:
+    def faults(self, bad: str) -> list[str | None]:
         with tempfile.TemporaryDirectory() as made:
-            program = Path(made) / "gaz_bench"
-            program.write_text(PROGRAM.format(parts=parts, bad=bad))
+            program = built(Path(made), "gaz_bench")
+            program.parent.mkdir(parents=True)
+            program.write_text(PROGRAM.format(bad=bad))
             program.chmod(0o755)
-            return [run(Hubs(program, Path("register")), Path("store")) for _, run in calls.WAYS]
+            return [fault for _, fault in calls.run_all(Path(made))]
 
     def test_all_is_answered(self) -> None:
-        self.assertEqual([None] * 3, self.faults(20, -1))
-
-    def test_too_few_parts_are_told(self) -> None:
-        self.assertEqual([None, "there are 19 parts", None], self.faults(19, -1))
+        self.assertEqual([None] * 2, self.faults(""))
 
     def test_another_answer_is_told(self) -> None:
         otherwise = "exit status 1, Otherwise"
-        self.assertEqual([otherwise, f"part 7: {otherwise}", otherwise], self.faults(20, 7))
+        self.assertEqual([otherwise, None], self.faults("calls"))
+        self.assertEqual([None, otherwise], self.faults("calls-at-hand"))
 
 
 if __name__ == "__main__":

@@ -1,4 +1,4 @@
-//! The list of calls, over a store in a file.
+//! The list of calls, over a new store in a file.
 ghost use Rattle.std.specs.Prelude.{IfOk};
 ghost use Rattle.gaz_keeper.specs.Keeper.{IsNotOpen};
 ghost use Rattle.gaz_mirror.specs.Mirrored.{seen_mirrored};
@@ -6,7 +6,7 @@ ghost use Rattle.gaz_store.specs.Store.{progress_of};
 
 use crate::at_file::{Work, over_file};
 use crate::playing::register_in;
-use crate::stored::{Beginning, beginning_at, rests};
+use crate::stored::rests;
 use anyhow::{Context, Result, bail, ensure};
 use gaz_hub::Hub;
 use gaz_keeper::Inbox;
@@ -14,7 +14,7 @@ use gaz_loaded::Listed;
 use gaz_mirror::{Mirror, Unshared};
 use gaz_mirrored::mirrored;
 use gaz_register::Register;
-use gaz_samples::keepers::{Part, Refusal, Tried, part, parts, performs};
+use gaz_samples::keepers::{Part, Refusal, Tried, parts, performs};
 use gaz_shelf::Seed;
 use gaz_store::Store;
 use sqlite::{Alter, Connection};
@@ -26,21 +26,16 @@ const PAGES: usize = 200;
 /// The tables of the list, of which the first two pass nothing on.
 const TABLES: u64 = 4;
 
-// The store behind a connection, which is made or opened.
+// The store that is made behind a connection.
 fn store_in<S: Alter + Drop>(
     alloc: Global,
     conn: Connection<S>,
     register: &Register,
-    beginning: Beginning,
 ) -> Result<Store<S>>
     ensures { IfOk result (λ store. IsNotOpen (progress_of store.judging)) }
 {
     rests(&conn)?;
-    let begun = match beginning {
-        Beginning::Made => Store::create(alloc, Seed::of(1), conn, register),
-        Beginning::Opened => Store::open(alloc, Seed::of(1), conn, register),
-    };
-    match begun {
+    match Store::create(alloc, Seed::of(1), conn, register) {
         Ok(store) => Ok(store),
         Err((_, refusal)) => bail!("there is no store: {refusal:?}"),
     }
@@ -100,15 +95,6 @@ fn performed<K: Inbox + Drop>(alloc: Global, keeper: K, tables: u64) -> Result<K
     at_rest(keeper)
 }
 
-// The same behind those of a part.
-fn performed_part<K: Inbox + Drop>(alloc: Global, keeper: K, part: &Part) -> Result<K>
-    requires { IsNotOpen (K.seen keeper).progress }
-{
-    let mut keeper = Tried::new(keeper);
-    told(part, performs(alloc, &mut keeper, part))?;
-    at_rest(keeper)
-}
-
 // Numbers pass on in a keeper over two; in the end all is at hand.
 fn goes_on<L: Inbox + Drop, U: Unshared + Drop>(alloc: Global, mirror: Mirror<L, U>) -> Result<()>
     requires { IsNotOpen (seen_mirrored mirror).progress }
@@ -128,14 +114,12 @@ fn goes_on_at_hand<K: Listed + Drop>(alloc: Global, register: Register, keeper: 
     goes_on(alloc, mirror)
 }
 
-/// What of the list is done.
+/// How the list is done.
 #[derive(Clone, Copy)]
 pub enum Way {
-    /// All of it.
-    All,
-    /// The part of this number, from 0, over what the parts before it left.
-    Part(u64),
-    /// All of it, and before numbers pass on, what is kept is brought to hand.
+    /// Over the store.
+    Stored,
+    /// Before numbers pass on, what is kept is brought to hand.
     AtHand,
 }
 
@@ -149,11 +133,7 @@ fn listed<K: Listed + Drop>(
     requires { IsNotOpen (K.seen keeper).progress }
 {
     match way {
-        Way::All => Ok(Some(performed(alloc, keeper, TABLES)?)),
-        Way::Part(number) => {
-            let part = part(number).context("there is no such part")?;
-            Ok(Some(performed_part(alloc, keeper, part)?))
-        }
+        Way::Stored => Ok(Some(performed(alloc, keeper, TABLES)?)),
         Way::AtHand => {
             goes_on_at_hand(alloc, register, performed(alloc, keeper, 2)?)?;
             Ok(None)
@@ -164,7 +144,6 @@ fn listed<K: Listed + Drop>(
 #[derive(Drop)]
 struct Listing {
     register: Register,
-    beginning: Beginning,
     way: Way,
 }
 
@@ -176,13 +155,9 @@ impl Work for Listing {
         rt: &HostRuntime,
         conn: Connection<S>,
     ) -> Result<(Option<Connection<S>>, ())> {
-        let Listing {
-            register,
-            beginning,
-            way,
-        } = self;
+        let Listing { register, way } = self;
         let alloc = rt.alloc();
-        let store = store_in(alloc, conn, &register, beginning)?;
+        let store = store_in(alloc, conn, &register)?;
         match listed(alloc, register, store, way)? {
             Some(store) => Ok((Some(store.into_connection()), ())),
             None => Ok((None, ())),
@@ -190,12 +165,11 @@ impl Work for Listing {
     }
 }
 
-/// Makes calls of the list over the store in the file at this path, which is made where there is
-/// none. An error where one is answered otherwise than it is to be.
+/// Makes the calls of the list over a new store in the file at this path. An error where one is
+/// answered otherwise than it is to be.
 pub fn make_calls(rt: &HostRuntime, path: &str, register: &str, way: Way) -> Result<()> {
     let listing = Listing {
         register: register_in(rt, register)?,
-        beginning: beginning_at(rt, path),
         way,
     };
     over_file(rt, path, PAGES, listing)?.context("no connection")

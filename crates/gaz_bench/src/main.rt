@@ -27,10 +27,8 @@
 //! * `counted REGISTER` does as `play`, and says on standard error how often the keeper was asked
 //!   `current`, `property_of`, `reached` and `received`.
 //! * `calls STORE REGISTER` makes the calls of the list that each keeper answers alike, over a new
-//!   store in a file; `calls STORE REGISTER NUMBER` those of its part of that number, from 0, over
-//!   what the parts before it left; `calls-at-hand STORE REGISTER` all of them, and brings what is
-//!   kept to hand before numbers pass on. Where one is answered otherwise, that is said on standard
-//!   error.
+//!   store in a file; `calls-at-hand STORE REGISTER` does so too, and brings what is kept to hand
+//!   before numbers pass on. Where one is answered otherwise, that is said on standard error.
 #![tactic(auto)]
 
 mod at_file;
@@ -82,10 +80,7 @@ fn measured(rt: &HostRuntime, words: &[&str]) -> Result<()> {
             Ok(())
         }
         ["counted", register] => count_over_maps(rt, register),
-        ["calls", store, register] => make_calls(rt, store, register, Way::All),
-        ["calls", store, register, number] => {
-            make_calls(rt, store, register, Way::Part(number.parse::<u64>()?))
-        }
+        ["calls", store, register] => make_calls(rt, store, register, Way::Stored),
         ["calls-at-hand", store, register] => make_calls(rt, store, register, Way::AtHand),
         ["floor", path, script, pages] => play_script(rt, path, script, pages.parse::<usize>()?),
         ["replies", requests, replies] => reply_as_learned(rt, requests, replies),

@@ -23,7 +23,7 @@ const MOST_PAGES: u64 = 64_000;
 
 /// How a store begins.
 #[derive(Clone, Copy)]
-pub enum Beginning {
+enum Beginning {
     Made,
     Opened,
 }
@@ -65,8 +65,8 @@ fn refusal_of(held: Result<Result<Served, Stopped>, StoreRefusal>) -> Result<Opt
     }
 }
 
-/// How the store in a file begins: it is opened where a file is there.
-pub fn beginning_at(rt: &HostRuntime, path: &str) -> Beginning {
+// How the store in a file begins: it is opened where a file is there.
+fn beginning_at(rt: &HostRuntime, path: &str) -> Beginning {
     match fs::metadata(rt, path) {
         Ok(_) => Beginning::Opened,
         Err(_) => Beginning::Made,

@@ -14,7 +14,7 @@ mod told;
 mod tried;
 mod volumes;
 
-pub use lists::{part, parts, performs, performs_all};
+pub use lists::{parts, performs, performs_all};
 pub use refusal::Refusal;
 pub use steps::Part;
 pub use tried::{Tried, counting_shelf};

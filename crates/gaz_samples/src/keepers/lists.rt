@@ -52,20 +52,6 @@ pub fn parts(table: u64) -> Option<&'static [Part]> {
     }
 }
 
-/// The part of this number, from 0, of all tables; none where there are fewer.
-pub fn part(number: u64) -> Option<&'static Part> {
-    let mut left = number;
-    for table in 0..4 {
-        let parts = parts(table)?;
-        let length = parts.len() as u64;
-        if left < length {
-            return parts.get(left as usize);
-        }
-        left -= length;
-    }
-    None
-}
-
 // Whether a step is answered as it is to be.
 fn is_made<K: Inbox + Drop>(
     alloc: Global,
