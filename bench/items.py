@@ -1,9 +1,6 @@
 """Items in Python's standard library: read from fields that are split already, and written as rows."""
-import csv
 import datetime
-import io
 import re
-import time
 
 DAY = re.compile(r"\d{4}-\d\d-\d\d\Z", re.ASCII)
 LABEL = re.compile(r"[A-Z0-9]+\Z")
@@ -179,20 +176,3 @@ KINDS = {
     "24": (read_lpi, lpi_row),
 }
 PASSING = {"91": read_release, "92": read_adoption}  # by which a property passes between custodians
-
-
-def best_times(kind, text, rounds):
-    """The least seconds of reading all items and of writing all rows, and the rows."""
-    read, row = KINDS[kind]
-    rows = list(csv.reader(io.StringIO(text, newline="")))
-    reading, writing = [], []
-    for _ in range(rounds):
-        start = time.perf_counter()
-        items = [read(fields) for fields in rows]
-        reading.append(time.perf_counter() - start)
-        start = time.perf_counter()
-        sink = io.StringIO()
-        csv.writer(sink, lineterminator="\n").writerows(map(row, items))
-        written = sink.getvalue()
-        writing.append(time.perf_counter() - start)
-    return min(reading), min(writing), written

@@ -1,18 +1,9 @@
-"""What reading costs: change files, registers, items; and what a hostile file costs."""
-import items
+"""What reading costs: change files and registers; and what a hostile file costs."""
 import registers
 import streams
 from hub_files import read
 from measure import MIB, blocked_peak, in_file, least_seconds, output_of, register_of
 from sides import IN_MEMORY, Place, played
-
-KINDS = {
-    "11": ("streets", "{k},1,2001-04-01,", "{k},1,1990-01-01,2024-04-30"),
-    "15": ("descriptors", "{k},ENG,High Street,,Arden,Arden", '{k},ENG,"Mill Lane, rear of",,Bay,Bay Area'),
-    "21": ("BLPUs", "{k},1,450000,250000,,AR1 2DN,2001-04-01,", "{k},6,0,0,,,2010-05-01,"),
-    "23": ("cross references", "X{k},{k},TAX01,A/17,2010-05-01,", "X{k},{k},TAX01,A/17,2010-05-01,2024-04-30"),
-    "24": ("LPIs", "L{k},{k},ENG,1,101,,,,,Flat 2,12,A,14,,,2001-04-01,", "L{k},{k},ENG,1,101,,,,,,14,,,,,2024-04-01,"),
-}
 
 
 def reading_seconds(what, folder, data, rounds):
@@ -63,24 +54,9 @@ def register_row(folder, count=400):
     return f"reading a register of {count} custodians", f"{theirs / ours:.1f} times tomllib's parsing", f"{len(text) / ours / 1e6:,.0f} MB/s"
 
 
-def item_rows(folder, kind, count=5000):
-    """Items read from fields that are split already, and the rows of items written into one buffer."""
-    title, *forms = KINDS[kind]
-    text = "".join(forms[k % 2].format(k=k) + "\n" for k in range(1, count + 1))
-    path = in_file(folder, "rows.csv", text.encode())
-    times, rows = output_of("gaz_bench", kind, path, 300).split(b"\n", 1)
-    theirs = items.best_times(kind, text, 10)
-    assert rows.decode() == theirs[2] == text, f"rows differ: {title}"
-    for action, ours, their in zip((f"reading {title} from fields", f"writing rows of {title}"), times.split(), theirs):
-        spent = int(ours) / 1e9
-        yield action, f"{their / spent:.1f} times the baseline", f"{count / spent:,.0f} items/s"
-
-
 def rows(folder):
     yield file_row(folder, "5,000 streets", streams.streets_file(5000))
     yield file_row(folder, "5,000 mixed changes", streams.mixed_file())
     yield from hostile_rows(folder)
     yield from memory_rows(folder)
     yield register_row(folder)
-    for kind in KINDS:
-        yield from item_rows(folder, kind)

@@ -2,9 +2,6 @@
 //!
 //! * `file FILE ROUNDS` reads a good change file, `any FILE ROUNDS` a change file whatever its
 //!   outcome, `register FILE ROUNDS` a register. It prints the least time in microseconds.
-//! * `IDENTIFIER FILE ROUNDS` takes a record identifier and a file of rows of that kind, which
-//!   begin behind the order field. It prints a line with the least time in nanoseconds of reading
-//!   all items and that of writing all rows, and then the rows.
 //! * `floor FILE SCRIPT PAGES` runs the statements of a script, which is in a file, over the
 //!   database in another, with so many pages at hand. It prints how many rows they found and the
 //!   nanoseconds that they took, under the names that the script tells (`floor.rt`).
@@ -37,7 +34,6 @@ mod floor;
 mod listing;
 mod playing;
 mod reading;
-mod records;
 mod replying;
 mod stored;
 
@@ -48,7 +44,7 @@ use gaz_store::StoreRefusal;
 use gaz_stored::ReadFrom;
 use listing::{Way, make_calls};
 use playing::play;
-use reading::print_rounds;
+use reading::print_reading;
 use replying::reply_as_learned;
 use std::env;
 use std::process::ExitCode;
@@ -84,7 +80,7 @@ fn measured(rt: &HostRuntime, words: &[&str]) -> Result<()> {
         ["calls-at-hand", store, register] => make_calls(rt, store, register, Way::AtHand),
         ["floor", path, script, pages] => play_script(rt, path, script, pages.parse::<usize>()?),
         ["replies", requests, replies] => reply_as_learned(rt, requests, replies),
-        [word, path, rounds] => print_rounds(rt, word, path, rounds),
+        [word, path, rounds] => print_reading(rt, word, path, rounds),
         _ => Ok(()),
     }
 }

@@ -1,10 +1,8 @@
-//! Reading files, registers and items.
+//! Reading files and registers.
 
-use crate::records::records_nanos;
 use anyhow::{Context, Result, ensure};
 use gaz_changefile::{FileFault, read_file};
 use gaz_ids::{Code, Volume};
-use gaz_records::Kind;
 use gaz_register::Register;
 use std::fs;
 use std::time::Instant;
@@ -61,28 +59,11 @@ fn best_micros(rt: &HostRuntime, what: What, bytes: &[u8], rounds: u32) -> Resul
     Ok(best)
 }
 
-// Prints the least time of so many readings of a file.
-fn print_reading(rt: &HostRuntime, word: &str, path: &str, rounds: &str) -> Result<()> {
+/// Prints the least time of so many readings of a file.
+pub fn print_reading(rt: &HostRuntime, word: &str, path: &str, rounds: &str) -> Result<()> {
     let what = what_of(word).context("neither a change file nor a register")?;
     let bytes = fs::read(rt, path)?;
     let best = best_micros(rt, what, &bytes, rounds.parse::<u32>()?)?;
     println!(rt; "{best}")?;
     Ok(())
-}
-
-// Prints the least times of reading and writing rows of a kind, and the rows.
-fn print_records(rt: &HostRuntime, kind: Kind, path: &str, rounds: &str) -> Result<()> {
-    let text = fs::read_to_string(rt, path)?;
-    let timed = records_nanos(rt, kind, &text, rounds.parse::<u32>()?)?;
-    println!(rt; "{} {}", timed.reading, timed.writing)?;
-    print!(rt; "{}", String::from_utf8(timed.rows)?)?;
-    Ok(())
-}
-
-/// Times what takes a file and a number of rounds.
-pub fn print_rounds(rt: &HostRuntime, word: &str, path: &str, rounds: &str) -> Result<()> {
-    match Kind::read(word.as_bytes()) {
-        Some(kind) => print_records(rt, kind, path, rounds),
-        None => print_reading(rt, word, path, rounds),
-    }
 }
