@@ -7,7 +7,7 @@ use Rattle.gaz_stored.specs.declared.attending.Unserved.{Unserved}
 use Rattle.gaz_stored.specs.declared.attending.Unserved.TheVariants.{NoPort, Unwritten}
 use Rattle.gaz_words.specs.declared.command.Places.{Places}
 use Rattle.gazhub.specs.Endings.{is_silent}
-use Rattle.gazhub.specs.Serving.{AreLeft, AreSome, Begins, Fewer, NeverTold, NoMore, Serves, ServesOnce, ServesRest, Untold, Whole, said_of_serving}
+use Rattle.gazhub.specs.Serving.{AreLeft, AreSome, Begins, Fewer, NeverTold, NoMore, ServeComesTo, ServesOnce, ServesRest, Untold, Whole, said_of_serving}
 use Rattle.gazhub.specs.Sites.{Deed}
 use Rattle.gazhub.specs.declared.ending.Ending.{Ending}
 use Rattle.gazhub.specs.declared.ending.Ending.TheVariants.{Done, Failed, Lost, Memory, NoHub, NotDone, ReadFault, Usage, WriteFault}
@@ -46,11 +46,11 @@ module _ {D : Type 0} (g : disk.Ghosts D) (places : Places) (port connections : 
       → ServesOnce g places port left between after (Ok told) → told ≡ None → ServesRest g places port connections before after WriteFault
   untold left told between after left_are once e = Untold left between left_are (subst (λ told. ServesOnce g places port left between after (Ok told)) e once)
 
-  pub never_told : (told : Option ℕ) (after : Option (List (Deed D))) → ServesOnce g places port connections before after (Ok told) → told ≡ None → Serves g places port connections before after WriteFault
+  pub never_told : (told : Option ℕ) (after : Option (List (Deed D))) → ServesOnce g places port connections before after (Ok told) → told ≡ None → ServeComesTo g places port connections before after WriteFault
   never_told told after once e = NeverTold (subst (λ told. ServesOnce g places port connections before after (Ok told)) e once)
 
   pub begins : (served : ℕ) (told : Option ℕ) (between after : Option (List (Deed D))) (ending : Ending) → ServesOnce g places port connections before between (Ok told) → told ≡ Some served
-      → ServesRest g places port (connections - served) between after ending → Serves g places port connections before after ending
+      → ServesRest g places port (connections - served) between after ending → ServeComesTo g places port connections before after ending
   begins served told between after ending once e rest = Begins served between ending (subst (λ told. ServesOnce g places port connections before between (Ok told)) e once) rest
 
   -- something may have been printed

@@ -21,9 +21,9 @@ use Rattle.gaz_words.specs.declared.command.Command.TheVariants.{Play, Init, Ask
 use Rattle.gaz_words.specs.declared.command.Command.TheVariants.{Extend, Migrate}
 use Rattle.gazhub.specs.Endings.{is_silent, line_of, status_of}
 use Rattle.gazhub.specs.Playing.{Plays}
-use Rattle.gazhub.specs.Serving.{Serves}
+use Rattle.gazhub.specs.Serving.{ServeComesTo}
 use Rattle.gazhub.specs.Sites.{Deed}
-use Rattle.gazhub.specs.Working.{Asks, Extends, Makes, Migrates}
+use Rattle.gazhub.specs.Working.{AskComesTo, ExtendComesTo, InitComesTo, MigrateComesTo}
 use Rattle.gazhub.specs.declared.ending.Ending.{Ending}
 use Rattle.gazhub.specs.declared.ending.Ending.TheVariants.{Done, NotDone, Usage, Memory}
 use Rattle.gazhub.specs.declared.ending.Ending.TheVariants.{ReadFault, WriteFault, NoHub, Failed}
@@ -57,15 +57,13 @@ abbrev pub done_where : ℕ → Ending
 done_where zero = Done
 done_where (suc n) = NotDone
 
--- how the program ends once this was printed
-abbrev pub ends_by : Said → Ending
-ends_by (said.Failed fault) = Failed fault
-ends_by said = done_where (saying.status_of said)
-
--- what a command says was printed, and the program ends by it, unless the output failed
+-- what a command says was printed, and the program ends by it, unless the output failed; of a fault
+-- nothing is printed
 abbrev pub IsTold : Option (List ℕ) → Option (List ℕ) → Said → Ending → Type 0
+IsTold held holds (said.Failed fault) ending = (ending ≡ Failed fault) × Keeps held holds
 IsTold held holds said WriteFault = Unit {0}
-IsTold held holds said ending = Appends held holds (text_of said) × (ending ≡ ends_by said)
+IsTold held holds said ending =
+    Appends held holds (text_of said) × (ending ≡ done_where (saying.status_of said))
 
 -- how the program ends where a command came to this, or there was no hub
 abbrev pub IsFinished : Option (List ℕ) → Option (List ℕ) → Result Said WhyNoHub → Ending → Type 0
@@ -99,18 +97,18 @@ module _ {D : Type 0} (g : disk.Ghosts D) (text : List ℕ) (most : ℕ)
 
   -- connections are answered
   pub record EndsServing (places : Places) (serving : Serving) (ending : Ending) : Type 0 where
-    pub serves : Serves g places serving.port serving.connections before after ending
+    pub serves : ServeComesTo g places serving.port serving.connections before after ending
     pub silent : StaysSilent through ending
 
   -- how the program ends, by the command
   abbrev pub EndsAt : Command → Ending → Type 0
   EndsAt Play ending = Converses ending
-  EndsAt (Init places) ending = Finishes (Makes g places before after) through ending
-  EndsAt (Ask places call) ending = Finishes (Asks g places call before after) through ending
+  EndsAt (Init places) ending = Finishes (InitComesTo g places before after) through ending
+  EndsAt (Ask places call) ending = Finishes (AskComesTo g places call before after) through ending
   EndsAt (Serve places serving) ending = EndsServing places serving ending
   EndsAt (Extend places path) ending =
-      Finishes (Extends g places path.now before after) through ending
-  EndsAt (Migrate places) ending = Finishes (Migrates g places before after) through ending
+      Finishes (ExtendComesTo g places path.now before after) through ending
+  EndsAt (Migrate places) ending = Finishes (MigrateComesTo g places before after) through ending
 
   -- help is printed, or is said to be at fault, and nothing is done
   pub record Explains (ending : Ending) : Type 0 where
@@ -120,9 +118,9 @@ module _ {D : Type 0} (g : disk.Ghosts D) (text : List ℕ) (most : ℕ)
 
   -- what the words mean is done, or explained
   pub data EndsByMeaning (Means : Result Command Error → Type 0) (ending : Ending) : Type 0 where
-    Obeys : (command : Command) → Means (Ok command) → EndsAt command ending
+    Followed : (command : Command) → Means (Ok command) → EndsAt command ending
         → EndsByMeaning Means ending
-    Told : (error : Error) → Means (Err error) → Explains ending → EndsByMeaning Means ending
+    Explained : (error : Error) → Means (Err error) → Explains ending → EndsByMeaning Means ending
 
   -- the words ask for a conversation, or it is looked for what they mean
   abbrev pub EndsAtWords : Bool → (Result Command Error → Type 0) → Ending → Type 0

@@ -60,7 +60,8 @@ module _ {D : Type 0} (g : disk.Ghosts D) where
     ServesOnce connections = WithRegister places.register.now (λ register.
         WithFiles places.store.now Use (ServesIn port connections register))
 
-    -- of so many connections these are left, behind openings of the store each of which answered some
+    -- of so many connections these are left, behind openings of the store each of which answered
+    -- some
     pub data AreLeft (connections : ℕ) (before : Option (List (Deed D)))
         : ℕ → Option (List (Deed D)) → Type 0 where
       All : AreLeft connections before connections before
@@ -82,13 +83,13 @@ module _ {D : Type 0} (g : disk.Ghosts D) where
           → ServesRest connections before after (Lost why)
 
     -- the first opening says where connections come; a store that failed is opened again
-    pub data Serves (connections : ℕ) (before after : Option (List (Deed D)))
+    pub data ServeComesTo (connections : ℕ) (before after : Option (List (Deed D)))
         : Ending → Type 0 where
       NeverBegins : (why : WhyNoHub) → ServesOnce connections before after (Err why)
-          → Serves connections before after (NoHub why)
+          → ServeComesTo connections before after (NoHub why)
       NeverTold : ServesOnce connections before after (Ok None)
-          → Serves connections before after WriteFault
+          → ServeComesTo connections before after WriteFault
       Begins : (served : ℕ) (between : Option (List (Deed D))) (ending : Ending)
           → ServesOnce connections before between (Ok (Some served))
           → ServesRest (connections - served) between after ending
-          → Serves connections before after ending
+          → ServeComesTo connections before after ending

@@ -87,9 +87,9 @@ pub data WithRegister {D A : Type 0} (path : List ℕ)
     (Then : RegisterValue → Option (List (Deed D)) → Option (List (Deed D)) → Result A NoHub
     → Type 0)
     (before after : Option (List (Deed D))) (told : Result A NoHub) : Type 0 where
-  Lacks : (why : NoHub) → FindsRegister before after path (Err why) → told ≡ Err why
+  NoRegister : (why : NoHub) → FindsRegister before after path (Err why) → told ≡ Err why
       → WithRegister path Then before after told
-  Finds : (register : RegisterValue) (between : Option (List (Deed D)))
+  HasRegister : (register : RegisterValue) (between : Option (List (Deed D)))
       → FindsRegister before between path (Ok register) → Then register between after told
       → WithRegister path Then before after told
 
@@ -97,8 +97,8 @@ pub data WithRegister {D A : Type 0} (path : List ℕ)
 pub data WithFiles {D A : Type 0} (path : List ℕ) (purpose : Purpose)
     (Then : Files D → Option (List (Deed D)) → Option (List (Deed D)) → Result A NoHub → Type 0)
     (before after : Option (List (Deed D))) (told : Result A NoHub) : Type 0 where
-  Unopened : Does before after (Opened path purpose None ∷ []) → told ≡ Err (none.Store Fault)
+  NoFiles : Does before after (Opened path purpose None ∷ []) → told ≡ Err (none.Store Fault)
       → WithFiles path purpose Then before after told
-  Open : (files : Files D) (between : Option (List (Deed D)))
+  HasFiles : (files : Files D) (between : Option (List (Deed D)))
       → Does before between (Opened path purpose (Some files) ∷ [])
       → Then files between after told → WithFiles path purpose Then before after told

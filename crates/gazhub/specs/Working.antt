@@ -63,14 +63,14 @@ module _ {D : Type 0} (g : disk.Ghosts D) where
 
   -- the register and then the store are looked for at the places that the words name, and one of
   -- these is done
-  abbrev pub Makes : Places → Option (List (Deed D)) → Option (List (Deed D)) → Result Said NoHub
-      → Type 0
-  Makes places = WithRegister places.register.now (λ register.
+  abbrev pub InitComesTo : Places → Option (List (Deed D)) → Option (List (Deed D))
+      → Result Said NoHub → Type 0
+  InitComesTo places = WithRegister places.register.now (λ register.
       WithFiles places.store.now purpose.Make (MakesIn register))
 
-  abbrev pub Asks : Places → Call → Option (List (Deed D)) → Option (List (Deed D))
+  abbrev pub AskComesTo : Places → Call → Option (List (Deed D)) → Option (List (Deed D))
       → Result Said NoHub → Type 0
-  Asks places call = WithRegister places.register.now (λ register.
+  AskComesTo places call = WithRegister places.register.now (λ register.
       WithFiles places.store.now purpose.Use (AsksIn call register))
 
   -- the register of the store at a path is to grow to the one that is found at another path
@@ -79,12 +79,12 @@ module _ {D : Type 0} (g : disk.Ghosts D) where
   ExtendsTo store path register =
       WithRegister path (λ grown. WithFiles store purpose.Use (GrowsIn register grown))
 
-  abbrev pub Extends : Places → List ℕ → Option (List (Deed D)) → Option (List (Deed D))
+  abbrev pub ExtendComesTo : Places → List ℕ → Option (List (Deed D)) → Option (List (Deed D))
       → Result Said NoHub → Type 0
-  Extends places path =
+  ExtendComesTo places path =
       WithRegister places.register.now (ExtendsTo places.store.now path)
 
-  abbrev pub Migrates : Places → Option (List (Deed D)) → Option (List (Deed D))
+  abbrev pub MigrateComesTo : Places → Option (List (Deed D)) → Option (List (Deed D))
       → Result Said NoHub → Type 0
-  Migrates places = WithRegister places.register.now (λ register.
+  MigrateComesTo places = WithRegister places.register.now (λ register.
       WithFiles places.store.now purpose.Migrate (MigratesIn register))

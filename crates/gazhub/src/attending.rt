@@ -2,7 +2,7 @@
 ghost use Rattle.std.specs.Prelude.{◌≡◌, IfErr, IfOk, IfSome, IsTrue, true};
 ghost use Rattle.std.specs.Io.KnownBytes.{Keeps};
 ghost use Rattle.gazhub.specs.Endings.{is_silent};
-ghost use Rattle.gazhub.specs.Serving.{AreSome, Serves, ServesIn, ServesOnce, ServesRest};
+ghost use Rattle.gazhub.specs.Serving.{AreSome, ServeComesTo, ServesIn, ServesOnce, ServesRest};
 ghost use Rattle.gazhub.specs.Serving.{said_of_serving};
 
 use crate::ending::Ending;
@@ -132,7 +132,7 @@ pub fn serve<S: Site, W: Write>(
     serving: Serving,
     w: &mut W,
 ) -> Ending
-    ensures serves { Serves S.Medium.Disk places.entry serving.port serving.connections
+    ensures serves { ServeComesTo S.Medium.Disk places.entry serving.port serving.connections
         (S.deeds site.old) (S.deeds site.new) result }
     ensures silent { is_silent result ≡ true → Keeps (W.contents w.old) (W.contents w.new) }
 {

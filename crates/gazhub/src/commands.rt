@@ -1,6 +1,6 @@
 //! Commands over the store at a path: one is made, and a hub over one is asked.
 ghost use Rattle.std.specs.Prelude.{IsTrue};
-ghost use Rattle.gazhub.specs.Working.{Asks, AsksIn, MakesIn, Makes};
+ghost use Rattle.gazhub.specs.Working.{AskComesTo, AsksIn, MakesIn, InitComesTo};
 
 use crate::files::{NoHub, of_store, open_files, read_change_file, read_register};
 use crate::purpose::Purpose;
@@ -38,7 +38,7 @@ pub fn init<S: Site>(
     seed: Seed,
     places: Places<'_>,
 ) -> Result<Said, NoHub>
-    ensures { Makes S.Medium.Disk places.entry (S.deeds site.old) (S.deeds site.new) result }
+    ensures { InitComesTo S.Medium.Disk places.entry (S.deeds site.old) (S.deeds site.new) result }
 {
     let register = read_register(site, alloc, places.register)?;
     let (files, options) = open_files(site, places.store, Purpose::Make)?;
@@ -74,7 +74,7 @@ pub fn ask<S: Site>(
     places: Places<'_>,
     call: Call<'_>,
 ) -> Result<Said, NoHub>
-    ensures { Asks S.Medium.Disk places.entry call.entry
+    ensures { AskComesTo S.Medium.Disk places.entry call.entry
         (S.deeds site.old) (S.deeds site.new) result }
 {
     let register = read_register(site, alloc, places.register)?;

@@ -2,7 +2,7 @@
 ghost use Rattle.std.specs.Prelude.{◌≡◌, IfErr, IfOk, IsTrue};
 ghost use Rattle.gazhub.specs.Filing.{OpensNone};
 ghost use Rattle.gazhub.specs.Growing.{ExtendsStore, not_extended, said_of_growth};
-ghost use Rattle.gazhub.specs.Working.{Extends, ExtendsTo, GrowsIn};
+ghost use Rattle.gazhub.specs.Working.{ExtendComesTo, ExtendsTo, GrowsIn};
 
 use crate::files::{NoHub, open_files, read_register};
 use crate::purpose::Purpose;
@@ -117,7 +117,7 @@ pub fn extend<S: Site>(
     places: Places<'_>,
     grown: &str,
 ) -> Result<Said, NoHub>
-    ensures { Extends S.Medium.Disk places.entry grown.now
+    ensures { ExtendComesTo S.Medium.Disk places.entry grown.now
         (S.deeds site.old) (S.deeds site.new) result }
 {
     let register = read_register(site, alloc, places.register)?;

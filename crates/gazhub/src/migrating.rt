@@ -1,7 +1,7 @@
 //! A store of schema 1 becomes one of schema 2.
 ghost use Rattle.std.specs.Prelude.{◌≡◌, IfErr, IfOk, IsTrue};
 ghost use Rattle.gazhub.specs.Migrating.{MigratesNone, MigratesStore, said_of_migration};
-ghost use Rattle.gazhub.specs.Working.{MigratesIn, Migrates};
+ghost use Rattle.gazhub.specs.Working.{MigratesIn, MigrateComesTo};
 
 use crate::files::{NoHub, open_files, read_register};
 use crate::purpose::Purpose;
@@ -77,7 +77,8 @@ pub fn migrate<S: Site>(
     seed: Seed,
     places: Places<'_>,
 ) -> Result<Said, NoHub>
-    ensures { Migrates S.Medium.Disk places.entry (S.deeds site.old) (S.deeds site.new) result }
+    ensures { MigrateComesTo S.Medium.Disk places.entry
+        (S.deeds site.old) (S.deeds site.new) result }
 {
     let register = read_register(site, alloc, places.register)?;
     let (files, options) = open_files(site, places.store, Purpose::Migrate)?;

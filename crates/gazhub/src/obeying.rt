@@ -163,9 +163,9 @@ pub fn report<E: Write>(errors: &mut E, ending: Ending)
 /// Gives the exit status.
 ///
 /// `words` are those behind the program's name, none where they can't be read; `seed` is none where
-/// the system gives no random bytes. The command is what the grammar finds in the words. Which files
-/// are read and opened, and in which order, is said where the site knows what was done at it, and
-/// so that what a hub over them answered is what is printed.
+/// the system gives no random bytes. The command is what the grammar finds in the words. Where the
+/// site knows what was done at it, it is said which files were read and opened, in which order, and
+/// that what is printed is what a hub over them answered.
 pub fn command<S: Site, G: Grammar, R: Read, W: Write, E: Write>(
     site: &mut S,
     alloc: Global,

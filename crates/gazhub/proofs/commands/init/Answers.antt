@@ -1,4 +1,4 @@
-use Rattle.gazhub.specs.Sites.{Finds, Open}
+use Rattle.gazhub.specs.Sites.{HasRegister, HasFiles}
 use Rattle.gazhub.proofs.Sites.{without_files, without_register}
 use Rattle.gazhub.proofs.commands.init.Goals as goal
 
@@ -7,7 +7,7 @@ returns-in_err-register g c = without_register _ _ _ _ c.from_residual.result _ 
 
 pub returns-in_err-files : goal.returns-in_err-files
 returns-in_err-files g c =
-    Finds c.in_ok-register.register _ c.in_ok-register.ensures (without_files _ _ _ _ _ c.from_residual-in_err-files.result _ c.in_err-files.ensures.found c.from_residual-in_err-files.ensures.1)
+    HasRegister c.in_ok-register.register _ c.in_ok-register.ensures (without_files _ _ _ _ _ c.from_residual-in_err-files.result _ c.in_err-files.ensures.found c.from_residual-in_err-files.ensures.1)
 
 pub returns : goal.returns
-returns g c = Finds c.in_ok-register.register _ c.in_ok-register.ensures (Open c.in_ok-files.files _ c.in_ok-files.ensures.found c.init_in.ensures)
+returns g c = HasRegister c.in_ok-register.register _ c.in_ok-register.ensures (HasFiles c.in_ok-files.files _ c.in_ok-files.ensures.found c.init_in.ensures)
