@@ -1,9 +1,10 @@
-"""`gazhub play`, and the keeper in memory, beside floors: `gaz_bench replies`, which reads the requests, compares and writes the replies that it learned, over a hash map.
+"""`gazhub play`, and the keeper in memory, beside a floor: `replies.c`, which reads the requests, compares and writes the replies that it learned, over a hash table.
 
 What a change costs is counted in instructions, by `valgrind --tool=callgrind` where that is installed: it doesn't depend on who else uses the machine.
 
     bench/rows_memory.py [PART..]   only these of repeats, look_ups and changes
 """
+import os
 import re
 import shutil
 import subprocess
@@ -11,16 +12,24 @@ import sys
 import tempfile
 
 import streams
-from measure import ROUNDS, in_file, medians, program, seconds, seconds_behind
+from measure import ROUNDS, in_file, medians, seconds, seconds_behind
 from sides import IN_MEMORY, Place, played, with_memory
 
 REPEATS, LOOK_UPS, HOMES = 99_000, 99_000, 30_000
 
 
+def floor(folder):
+    """The floor, built by the C compiler of the machine where it isn't yet."""
+    built = os.path.join(folder, "replies")
+    if not os.path.exists(built):
+        subprocess.run(["cc", "-O2", "-o", built, os.path.join(os.path.dirname(os.path.abspath(__file__)), "replies.c")], check=True)
+    return built
+
+
 def floor_of(place, learned, asked):
     """Seconds of the floor for requests, beyond learning the replies to those."""
     files = [in_file(place.folder, name, data) for name, data in zip(("learned", "told"), learned.whole)]
-    words, nothing = [program("gaz_bench"), "replies", *files], in_file(place.folder, "nothing", b"")
+    words, nothing = [floor(place.folder), *files], in_file(place.folder, "nothing", b"")
     alone, _ = seconds(words, nothing)
     whole, replies = seconds(words, in_file(place.folder, "requests", asked.whole[0]))
     assert replies == asked.whole[1], "the floor replies otherwise"

@@ -14,8 +14,6 @@
 //!   bytes, and opens and closes the store for each of them.
 //! * `at-hand STORE REGISTER` does as `stored` with all that the store keeps at hand in memory, as
 //!   the program does.
-//! * `replies REQUESTS REPLIES` learns the replies to requests, which are in two files, and answers
-//!   the requests on standard input, each by the reply that it learned for its target and body.
 //! * `play REGISTER` answers the requests on standard input at a hub of the register in a file,
 //!   over a keeper in memory.
 //! * `failing REGISTER FIRST SECOND` does as `play`, but the keeper's call of the number FIRST
@@ -34,7 +32,6 @@ mod floor;
 mod listing;
 mod playing;
 mod reading;
-mod replying;
 mod stored;
 
 use anyhow::Result;
@@ -45,7 +42,6 @@ use gaz_stored::ReadFrom;
 use listing::{Way, make_calls};
 use playing::play;
 use reading::print_reading;
-use replying::reply_as_learned;
 use std::env;
 use std::process::ExitCode;
 use stored::{stored, stored_each};
@@ -79,7 +75,6 @@ fn measured(rt: &HostRuntime, words: &[&str]) -> Result<()> {
         ["calls", store, register] => make_calls(rt, store, register, Way::Stored),
         ["calls-at-hand", store, register] => make_calls(rt, store, register, Way::AtHand),
         ["floor", path, script, pages] => play_script(rt, path, script, pages.parse::<usize>()?),
-        ["replies", requests, replies] => reply_as_learned(rt, requests, replies),
         [word, path, rounds] => print_reading(rt, word, path, rounds),
         _ => Ok(()),
     }

@@ -1,5 +1,5 @@
 -- Items go through their cells and back.
-use Rattle.std.proofs.Common.{◌≡◌, ℕ, Bool, true, false, List, [], ◌∷◌, refl, sym, ap, ◌∙◌, Option, Some, None, Result, Ok, Err, arith}
+use Rattle.std.proofs.Common.{◌≡◌, inl, inr, ℕ, Bool, true, false, List, [], ◌∷◌, refl, sym, ap, ◌∙◌, Option, Some, None, Result, Ok, Err, arith}
 use Rattle.std.specs.Prelude.{◌==◌, if◌then◌else◌}
 use Rattle.std.proofs.lemmas.Bool.Decides.{nat_tests}
 use Rattle.std.proofs.lemmas.Slice.Eq.{bytes_eq-Decides}
@@ -16,6 +16,7 @@ use Rattle.gaz_records.proofs.Both.{and-left}
 use Rattle.gaz_records.specs.Items.{ItemsReadBack, is_entry, is_item, item_of_row, item_of_text, item_text, kind_of, map_ok, read_item}
 use Rattle.gaz_records.specs.Keys.{key_of}
 use Rattle.gaz_records.specs.Kinds.{is_entry_kind, number_of}
+use Rattle.gaz_records.specs.Fields.{OrMemory}
 use Rattle.gaz_records.specs.declared.fields.FieldFault.{FieldFault}
 use Rattle.gaz_records.specs.declared.item.Item.{Item}
 use Rattle.gaz_records.specs.declared.item.Item.TheVariants as item
@@ -105,6 +106,11 @@ kind_read kind.Xref f x e = let p = mapped item.Xref (read_xref f) x e in ap kin
 kind_read kind.Lpi f x e = let p = mapped item.Lpi (read_lpi f) x e in ap kind_of (sym p.1)
 kind_read kind.Release f x e = let p = mapped item.Release (read_release f) x e in ap kind_of (sym p.1)
 kind_read kind.Adopt f x e = let p = mapped item.Adopt (read_adopt f) x e in ap kind_of (sym p.1)
+
+-- what is read as a kind is of the kind
+pub kind_read_in : (k : Kind) (f : List (List ℕ)) (x : Item) → OrMemory (Ok x) (read_item k f) → kind_of x ≡ k
+kind_read_in k f x (inl e) = kind_read k f x (sym e)
+kind_read_in k f x (inr e) = cc
 
 kind_said : (k : Kind) (row : Option (List (List ℕ))) (x : Item) → item_of_row k row ≡ Ok x → kind_of x ≡ k
 kind_said k None x e = cc

@@ -1,10 +1,10 @@
 //! The item that the cells of a row say.
-ghost use Rattle.std.specs.Prelude.{◌≡◌, Ok};
+ghost use Rattle.std.specs.Prelude.{◌≡◌, ◌⊎◌, Ok, Some};
 ghost use Rattle.gaz_records.specs.Items.{item_text};
 ghost use Rattle.gaz_records.specs.Keys.{key_of};
 ghost use Rattle.gaz_cells.specs.Ids.{id_of};
 ghost use Rattle.gaz_cells.specs.Reading.{OrMemory, agreed, disagreement};
-ghost use Rattle.gaz_cells.specs.Reading.{kind_numbered, read_cells};
+ghost use Rattle.gaz_cells.specs.Reading.{kind_numbered, read_cells, unless};
 
 use crate::cells::{Links, links_of};
 use crate::fault::CellFault;
@@ -57,6 +57,16 @@ pub fn kind_numbered(number: u64) -> Option<Kind>
     }
 }
 
+// The item, unless a cell disagrees.
+fn unless(item: Item, fault: Option<CellFault>) -> Result<Item, CellFault>
+    ensures { result ≡ unless item fault }
+{
+    match fault {
+        Some(fault) => Err(fault),
+        None => Ok(item),
+    }
+}
+
 impl<'a> Row<'a> {
     // The first cell beside the body that isn't the item's own, of which this is the id.
     fn disagreement(&self, item: &Item, id: &[u8]) -> Option<CellFault>
@@ -83,31 +93,45 @@ impl<'a> Row<'a> {
         None
     }
 
+    // The first cell beside the body that isn't the item's own; `Memory` may come instead.
+    fn fault_beside(&self, alloc: Global, item: &Item) -> Option<CellFault>
+        requires { item_text item.now ≡ self.now.body }
+        ensures { (result ≡ disagreement self.now item.now) ⊎ (result ≡ Some CellFault.Memory) }
+    {
+        match id_of(alloc, &key_of(item)) {
+            Ok(id) => self.disagreement(item, &id),
+            Err(_) => Some(CellFault::Memory),
+        }
+    }
+
+    // The first cell that isn't the item's own; `Memory` may come instead.
+    fn fault_in(&self, alloc: Global, item: &Item) -> Option<CellFault>
+        ensures { (result ≡ disagreement self.now item.now) ⊎ (result ≡ Some CellFault.Memory) }
+    {
+        let Ok(body) = item_text(alloc, item) else {
+            return Some(CellFault::Memory);
+        };
+        if self.body != body.as_slice() {
+            return Some(CellFault::Body);
+        }
+        self.fault_beside(alloc, item)
+    }
+
     /// The item whose row is the body, where the other cells are its own.
     pub(crate) fn compared(&self, alloc: Global, item: Item) -> Result<Item, CellFault>
         requires { item_text item ≡ self.now.body }
         ensures { OrMemory result (agreed self.now (Ok item)) }
     {
-        let Ok(id) = id_of(alloc, &key_of(&item)) else {
-            return Err(CellFault::Memory);
-        };
-        match self.disagreement(&item, &id) {
-            Some(fault) => Err(fault),
-            None => Ok(item),
-        }
+        let fault = self.fault_beside(alloc, &item);
+        unless(item, fault)
     }
 
     // The item of the body, where all cells are its own.
     fn checked(&self, alloc: Global, item: Item) -> Result<Item, CellFault>
         ensures { OrMemory result (agreed self.now (Ok item)) }
     {
-        let Ok(body) = item_text(alloc, &item) else {
-            return Err(CellFault::Memory);
-        };
-        if self.body != body.as_slice() {
-            return Err(CellFault::Body);
-        }
-        self.compared(alloc, item)
+        let fault = self.fault_in(alloc, &item);
+        unless(item, fault)
     }
 
     #[tactic(auto, unfolding(crate::specs::Reading::read_cells))]

@@ -14,7 +14,7 @@ use Rattle.gaz_changefile.specs.Lines.{is_basis, is_change, is_trailer, line_of,
 use Rattle.gaz_changefile.specs.Reading.{Bad, Good, by_faults, fault_at, faults, reading}
 use Rattle.gaz_changefile.specs.Rules.{before_of, custodian_at, first_broken, header_rules, later_rules, rules_at}
 use Rattle.gaz_changefile.specs.Fault.{IsFault}
-use Rattle.gaz_changefile.specs.Steps.{Adds, IsFirstOf, before_in, listed}
+use Rattle.gaz_changefile.specs.Steps.{Adds, IsFirstOf, ReadsOn, before_in, listed}
 use Rattle.gaz_changefile.specs.declared.change.Basis.{Basis}
 use Rattle.gaz_changefile.specs.declared.draft.FileDraft.{FileDraft}
 use Rattle.gaz_changefile.specs.declared.file.FileFault.{FileFault}
@@ -261,6 +261,30 @@ pub told : (bytes : List ℕ) (c v place : ℕ) (rules : List (ℕ × Bool)) (f 
     → ((rule : ℕ) → first_broken rules ≡ Some rule → reading bytes c v ≡ Bad place rule) → IsFault bytes c v f
 told bytes c v place rules (fault.Bad p rule) h k = rw h.0 (k rule h.1)
 told bytes c v place rules fault.Memory h k = tt
+
+-- ---- one step
+
+-- where no row was found none was left
+pub on_end : (c v : ℕ) (rows before left : List Fields) (after : Option (List Fields)) (place : ℕ) (old new : FileDraft) (found : Bool) → found ≡ false
+    → ReadsOn place left after old new (Ok found) → Kept c v rows before left place old → Kept c v rows before [] place new
+on_end c v rows before [] after place old new found is h k = rw h.2 k
+on_end c v rows before (row ∷ rest) after place old new found is h k = absurd (let no = sym h.0 ∙ is in cc)
+
+-- where one was found it was read, and the others are left
+pub on_row : (c v : ℕ) (rows before left : List Fields) (after : Option (List Fields)) (place : ℕ) (old new : FileDraft) (found : Bool) → found ≡ true
+    → ReadsOn place left after old new (Ok found) → Kept c v rows before left place old
+    → (now : List Fields) × (rest : List Fields) × Kept c v rows now rest (place + 1) new × (after ≡ Some rest)
+on_row c v rows before [] after place old new found is h k = absurd (let no = sym h.0 ∙ is in cc)
+on_row c v rows before (row ∷ rest) after place old new found is h k =
+    (before ++ (row ∷ []), rest, kept_more c v rows before row rest place old new k h.2, h.1)
+
+-- a fault is the reading's
+pub on_fault : (bytes : List ℕ) (c v : ℕ) (before left : List Fields) (after : Option (List Fields)) (place : ℕ) (old new : FileDraft) (f : FileFault) → IsUtf8 bytes
+    → ReadsOn place left after old new (Err f) → Kept c v (rows_of bytes) before left place old → IsFault bytes c v f
+on_fault bytes c v before [] after place old new f text h k = rw h tt
+on_fault bytes c v before (row ∷ rest) after place old new f text h k =
+    told bytes c v place (later_rules old.own (before_in old) (Some row)) f h (λ rule broken.
+    read_text bytes c v text ∙ bad_next c v (rows_of bytes) before row rest place old _ rule k broken)
 
 -- two clauses on an `Ok`
 pub ok_both : {T E : Type 0} (r : Result T E) (P : T → Type 0) (Q : Type 0) (R : T → Type 0) → IfOk r P → OnOk r Q → ((x : T) → P x → Q → R x) → IfOk r R

@@ -97,6 +97,13 @@ is_allowed_if_read own None item = false
 is_allowed_if_read own (Some a) (Err e) = false
 is_allowed_if_read own (Some a) (Ok x) = may_name own a (named_in x)
 
+-- a change record whose item was read: the change is allowed, and its order is the next
+unfoldable pub read_rules : ℕ → ℕ → Item → Fields → List (ℕ × Bool)
+read_rules own before item row =
+    (6, not (is_allowed_if_read own (action_of (field row 1)) (Ok item)))
+    ∷ (7, not (is_value (before + 1) (read_order (field row 2))))
+    ∷ []
+
 -- a change record in a file of the own custodian, behind so many others: at most 5,000, the fields
 -- of its kind, each in its form and the change allowed, the next order
 unfoldable pub change_rules : ℕ → ℕ → Kind → Fields → List (ℕ × Bool)

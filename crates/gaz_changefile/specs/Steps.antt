@@ -1,6 +1,6 @@
 -- How a file is read record by record.
 use Rattle.std.specs.Prelude.{◌≡◌, ◌≤◌, ℕ, ◌+◌, List, [], ◌∷◌, ◌++◌, length, Option, Some, None}
-use Rattle.std.specs.Prelude.{Bool, false, cond}
+use Rattle.std.specs.Prelude.{Bool, false, true, cond, Result, Ok, Err}
 use Rattle.gaz_ids.specs.Limits.{most_changes}
 use Rattle.gaz_rows.specs.Rows.{Fields}
 use Rattle.gaz_changefile.specs.Contents.{basis_at, change_at}
@@ -52,3 +52,14 @@ pub record Adds (old new : FileDraft) (place : ℕ) (row : Fields) : Type 0 wher
   pub own : new.own ≡ old.own
   pub profile : new.profile ≡ old.profile
   pub date : new.date ≡ old.date
+
+-- a file went on with the first of the rows that were left, and the others are left, or there was
+-- none, and it stays; a fault is that row's
+abbrev pub ReadsOn : ℕ → List Fields → Option (List Fields) → FileDraft → FileDraft
+    → Result Bool FileFault → Type 0
+ReadsOn place [] left old new (Ok found) = (found ≡ false) × (left ≡ Some []) × (new ≡ old)
+ReadsOn place [] left old new (Err fault) = fault ≡ Memory
+ReadsOn place (row ∷ rows) left old new (Ok found) =
+    (found ≡ true) × (left ≡ Some rows) × Adds old new place row
+ReadsOn place (row ∷ rows) left old new (Err fault) =
+    IsFirstOf place (later_rules old.own (before_in old) (Some row)) fault

@@ -1,6 +1,7 @@
 ghost use Rattle.std.specs.Prelude.{◌≡◌, ◌≤◌, ◌<◌, ◌+◌, IfErr, IfOk, OnOk, Some, None};
 ghost use Rattle.csv.specs.Records.{fields_of};
-ghost use Rattle.gaz_changefile.specs.Rules.{change_rules, first_broken, trailer_rules};
+ghost use Rattle.gaz_changefile.specs.Lines.{action_of, field};
+ghost use Rattle.gaz_changefile.specs.Rules.{change_rules, first_broken, read_rules, trailer_rules};
 ghost use Rattle.gaz_changefile.specs.Contents.{basis_in, change_in};
 ghost use Rattle.gaz_changefile.specs.Steps.{IsFirstOf, KeepsAll};
 
@@ -13,7 +14,7 @@ use crate::numbers::{Count, is_value};
 use crate::rule;
 use csv::ByteRecord;
 use gaz_ids::{Code, MOST_CHANGES, Order, Volume};
-use gaz_records::{FieldFault, Kind, SharedItem, read_item};
+use gaz_records::{FieldFault, Item, Kind, SharedItem, read_item};
 use std::alloc::Global;
 
 /// The basis that a record of three fields says.
@@ -32,7 +33,34 @@ pub(crate) fn basis_in(row: &ByteRecord) -> Option<Basis>
     Some(Basis { custodian, volume })
 }
 
-#[tactic(auto, unfolding(crate::specs::Rules::change_rules))]
+#[tactic(auto, unfolding(crate::specs::Rules::read_rules))]
+// The action of a change record with this item.
+fn read_action(
+    row: &ByteRecord,
+    own: Code,
+    item: &Item,
+    place: u64,
+    before: usize,
+) -> Result<Action, FileFault>
+    requires { before ≤ MOST_CHANGES }
+    ensures bad { IfErr result (IsFirstOf place
+        (read_rules own before item.now (fields_of row.now))) }
+    ensures good { OnOk result (KeepsAll (read_rules own before item.now (fields_of row.now))) }
+    ensures action { IfOk result (λ action. action_of (field (fields_of row.now) 1) ≡ Some action) }
+{
+    let Some(action) = Action::read(field(row, 1)) else {
+        return Err(FileFault::at(place, rule::FORM));
+    };
+    if !is_allowed(own, action, item) {
+        return Err(FileFault::at(place, rule::FORM));
+    }
+    if !is_value(Order::read(field(row, 2)), before as u64 + 1) {
+        return Err(FileFault::at(place, rule::ORDER));
+    }
+    Ok(action)
+}
+
+#[tactic(auto, unfolding(crate::specs::Rules::change_rules, crate::specs::Rules::read_rules))]
 /// The change of the record at `place` in a file of this custodian, behind so many other change
 /// records.
 pub(crate) fn read_change(
@@ -60,15 +88,7 @@ pub(crate) fn read_change(
         Err(FieldFault::Form { .. }) => return Err(FileFault::at(place, rule::FORM)),
         Err(FieldFault::Memory) => return Err(FileFault::Memory),
     };
-    let Some(action) = Action::read(field(row, 1)) else {
-        return Err(FileFault::at(place, rule::FORM));
-    };
-    if !is_allowed(own, action, &item) {
-        return Err(FileFault::at(place, rule::FORM));
-    }
-    if !is_value(Order::read(field(row, 2)), before as u64 + 1) {
-        return Err(FileFault::at(place, rule::ORDER));
-    }
+    let action = read_action(row, own, &item, place, before)?;
     Ok(Change {
         place,
         action,

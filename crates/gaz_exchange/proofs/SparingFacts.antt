@@ -47,6 +47,13 @@ piece_begun before mid after was bs more out pending all same grown some spent o
     let other = ap length grown in
     omega (arith, one, other, length-append was (bs ++ more), length-append bs more, length-append was bs, length-append out pending, length-append pending more, some, spent, once)
 
+-- nothing is pending, so that all that came is used
+pub used_up : (was bs more out pending all : List ℕ) → was ++ bs ≡ out ++ pending → all ≡ pending ++ more → length all ≡ 0 → length (was ++ (bs ++ more)) ≡ length out
+used_up was bs more out pending all same grown none =
+    let one = ap length same in
+    let other = ap length grown in
+    omega (arith, one, other, length-append was (bs ++ more), length-append bs more, length-append was bs, length-append out pending, length-append pending more, none)
+
 -- the bytes behind those that were used
 module _ (before mid after : ℕ) (bytes behind more : List ℕ) (used : OneForEachUsed before mid bytes behind) where
   all_behind : (FoundNone : Type 0) → OneForEach mid after (behind ++ more) FoundNone → OneForEach before after (bytes ++ more) FoundNone

@@ -1,4 +1,4 @@
-ghost use Rattle.std.specs.Prelude.{◌≡◌, Ok, OnErr};
+ghost use Rattle.std.specs.Prelude.{◌≡◌, [], Ok, OnErr};
 ghost use Rattle.std.specs.Io.KnownBytes.{Keeps};
 ghost use Rattle.gaz_keeper.specs.Keeper.{IsNotOpen};
 ghost use Rattle.gaz_hub.specs.Hubs.{door_of};
@@ -173,6 +173,43 @@ fn finish<W: Sink>(w: &mut W, requests: u64, most: u64) -> Result<Served, Stoppe
     Ok(Served { requests, ended })
 }
 
+// Answers the requests of a stream in turn, at most `most` of them, by an intake that has read
+// nothing.
+fn take_turns<R: Source, W: Sink, K: Inbox + Drop>(
+    alloc: Global,
+    r: &mut R,
+    w: &mut W,
+    hub: &mut Hub<K>,
+    intake: &mut Intake,
+    most: u64,
+) -> Result<Served, Stopped>
+    requires idle { IsNotOpen (K.seen hub.old.keeper).progress }
+    requires unread { intake.old.inlet ≡ [] }
+    ensures conversation { CountedConversation (door_of hub.old.register) most
+        (transfer R.remaining W.contents r.old r.new w.old w.new) (R.reads r.old) (R.reads r.new)
+        (hub_seen K.seen hub.old) (hub_seen K.seen hub.new) result }
+    ensures failed { StopsByFault R.failed W.failed r.new w.new result }
+    ensures register { hub.new.register ≡ hub.old.register }
+{
+    for n in 0..most {
+        match take_turn(alloc, r, w, hub, intake, n + 1 == most) {
+            Turn::Answered => {}
+            Turn::Closed => return finish(w, n + 1, most),
+            Turn::Over => {
+                return Ok(Served {
+                    requests: n,
+                    ended: Ended::InputEnd,
+                });
+            }
+            Turn::Stopped(cause) => return Err(Stopped { requests: n, cause }),
+        }
+    }
+    Ok(Served {
+        requests: most,
+        ended: Ended::Most,
+    })
+}
+
 /// Answers the requests of a stream in turn, at most `most` of them.
 ///
 /// What is written and how the conversation ends is known whatever the hub's keeper does. Where it
@@ -198,21 +235,5 @@ pub fn converse<R: Source, W: Sink, K: Inbox + Drop>(
     ensures register { hub.new.register ≡ hub.old.register }
 {
     let mut intake = Intake::new(alloc);
-    for n in 0..most {
-        match take_turn(alloc, r, w, hub, &mut intake, n + 1 == most) {
-            Turn::Answered => {}
-            Turn::Closed => return finish(w, n + 1, most),
-            Turn::Over => {
-                return Ok(Served {
-                    requests: n,
-                    ended: Ended::InputEnd,
-                });
-            }
-            Turn::Stopped(cause) => return Err(Stopped { requests: n, cause }),
-        }
-    }
-    Ok(Served {
-        requests: most,
-        ended: Ended::Most,
-    })
+    take_turns(alloc, r, w, hub, &mut intake, most)
 }

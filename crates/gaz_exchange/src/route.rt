@@ -1,5 +1,5 @@
 //! The routes, and what is at a target.
-ghost use Rattle.std.specs.Prelude.{◌≡◌, false, true, IfSome, IsUtf8};
+ghost use Rattle.std.specs.Prelude.{◌≡◌, [], false, true, IfSome, IsUtf8, OnOk};
 ghost use Rattle.gaz_exchange.specs.Asking.{call_at};
 ghost use Rattle.gaz_exchange.specs.Incoming.{IsCallAt};
 ghost use Rattle.gaz_exchange.specs.Routing.{routes};
@@ -9,7 +9,7 @@ use crate::calls::{
     Method, Routed, closed_call, custodian_call, extract_call, property_call, volume_call,
 };
 use crate::fault::Fault;
-use matchit::Router;
+use matchit::{InsertError, Router};
 use std::alloc::Global;
 use std::marker::Model;
 
@@ -23,28 +23,25 @@ pub enum Place {
     Closed,
 }
 
+// Adds the routes to a router that has none.
+fn add_routes(router: &mut Router<Place>) -> Result<(), InsertError>
+    requires { router.old ≡ [] }
+    ensures { OnOk result (router.new ≡ routes) }
+{
+    router.insert("/custodians/{c}/volumes/{v}", Place::Volume)?;
+    router.insert("/custodians/{c}", Place::Custodian)?;
+    router.insert("/extract/{c}/{v}", Place::Extract)?;
+    router.insert("/uprn/{n}", Place::Uprn)?;
+    router.insert("/closed", Place::Closed)?;
+    Ok(())
+}
+
 // The routes; none where there is no memory for them.
 fn make_router(alloc: Global) -> Option<Router<Place>>
     ensures { IfSome result (λ router. router ≡ routes) }
 {
     let mut router = Router::new(alloc);
-    match router.insert("/custodians/{c}/volumes/{v}", Place::Volume) {
-        Ok(()) => {}
-        Err(_) => return None,
-    }
-    match router.insert("/custodians/{c}", Place::Custodian) {
-        Ok(()) => {}
-        Err(_) => return None,
-    }
-    match router.insert("/extract/{c}/{v}", Place::Extract) {
-        Ok(()) => {}
-        Err(_) => return None,
-    }
-    match router.insert("/uprn/{n}", Place::Uprn) {
-        Ok(()) => {}
-        Err(_) => return None,
-    }
-    match router.insert("/closed", Place::Closed) {
+    match add_routes(&mut router) {
         Ok(()) => Some(router),
         Err(_) => None,
     }

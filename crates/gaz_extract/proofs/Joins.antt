@@ -26,8 +26,14 @@ around [] x rest = ap (λ z. x ++ z) (tails rest)
 around (None ∷ os) x rest = around os x rest
 around (Some t ∷ os) x rest = first_joined t os x rest ∙ ap (λ z. (t ++ codes ", ") ++ z) (around os x rest) ∙ sym (append_assoc (t ++ codes ", ") (flat_map before os) (x ++ flat_map after rest))
 
-pub line_is : (s n p : Part) (x : List ℕ) (l t a z : Part) → (((((((before s ++ before n) ++ before p) ++ x) ++ after l) ++ after t) ++ after a) ++ after z) ≡ joined (s ∷ n ∷ p ∷ Some x ∷ l ∷ t ∷ a ∷ z ∷ [])
+line_is : (s n p : Part) (x : List ℕ) (l t a z : Part) → (((((((before s ++ before n) ++ before p) ++ x) ++ after l) ++ after t) ++ after a) ++ after z) ≡ joined (s ∷ n ∷ p ∷ Some x ∷ l ∷ t ∷ a ∷ z ∷ [])
 line_is s n p x l t a z =
     let whole = around (s ∷ n ∷ p ∷ []) x (l ∷ t ∷ a ∷ z ∷ []) in
     let pieces : (((((((before s ++ before n) ++ before p) ++ x) ++ after l) ++ after t) ++ after a) ++ after z) ≡ flat_map before (s ∷ n ∷ p ∷ []) ++ (x ++ flat_map after (l ∷ t ∷ a ∷ z ∷ [])) = simp (append_assoc, append-nil) in
     pieces ∙ sym whole
+
+-- a line behind what was there
+pub line_behind : (o : List ℕ) (s n p : Part) (x : List ℕ) (l t a z : Part) → (((((((o ++ (before s ++ before n)) ++ before p) ++ x) ++ after l) ++ after t) ++ after a) ++ after z) ≡ o ++ joined (s ∷ n ∷ p ∷ Some x ∷ l ∷ t ∷ a ∷ z ∷ [])
+line_behind o s n p x l t a z =
+    let behind : (((((((o ++ (before s ++ before n)) ++ before p) ++ x) ++ after l) ++ after t) ++ after a) ++ after z) ≡ o ++ (((((((before s ++ before n) ++ before p) ++ x) ++ after l) ++ after t) ++ after a) ++ after z) = simp append_assoc in
+    behind ∙ ap (λ y. o ++ y) (line_is s n p x l t a z)

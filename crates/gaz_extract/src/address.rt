@@ -117,7 +117,27 @@ fn add_area(out: &mut String, descriptor: &Descriptor) -> Result<(), AllocError>
     out.push_str(descriptor.area.as_str())
 }
 
-#[tactic(auto, using(crate::proofs::Joins::line_is))]
+#[tactic(auto, using(crate::proofs::Joins::line_behind))]
+// Adds the parts of an address line.
+fn add_line(
+    out: &mut String,
+    lpi: &Lpi,
+    descriptor: &Descriptor,
+    blpu: &Blpu,
+) -> Result<(), AllocError>
+    ensures { OnOk result (string_bytes out.new ≡ string_bytes out.old
+        ++ line_text lpi.now descriptor.now blpu.now) }
+{
+    add_secondary(out, &lpi.secondary)?;
+    add_before(out, &lpi.primary.text)?;
+    add_street(out, &lpi.primary.range, descriptor.description.as_str())?;
+    add_after(out, &descriptor.locality)?;
+    add_after(out, &descriptor.town)?;
+    add_area(out, descriptor)?;
+    add_after(out, &blpu.postcode)?;
+    Ok(())
+}
+
 /// The address line: with comma and space between them the parts that are there, which are the
 /// secondary text, the secondary numbers, the primary text, the primary numbers and the street's
 /// description (one space between them), the locality, the town, the administrative area where its
@@ -131,16 +151,6 @@ pub fn line(
     ensures { IfOk result (λ l. l ≡ line_text lpi.now descriptor.now blpu.now) }
 {
     let mut out = String::with_capacity(alloc, LINE_ROOM)?;
-    add_secondary(&mut out, &lpi.secondary)?;
-    add_before(&mut out, &lpi.primary.text)?;
-    add_street(
-        &mut out,
-        &lpi.primary.range,
-        descriptor.description.as_str(),
-    )?;
-    add_after(&mut out, &descriptor.locality)?;
-    add_after(&mut out, &descriptor.town)?;
-    add_area(&mut out, descriptor)?;
-    add_after(&mut out, &blpu.postcode)?;
+    add_line(&mut out, lpi, descriptor, blpu)?;
     Ok(AddressLine { text: out })
 }

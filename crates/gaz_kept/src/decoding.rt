@@ -1,8 +1,9 @@
 //! What the cells of a found row say: keys by their ids, and items by their bodies.
-ghost use Rattle.std.specs.Prelude.{◌≡◌, ◌≤◌, ◌<◌, pos, true, IfOk, IfSome, Some};
+ghost use Rattle.std.specs.Prelude.{◌≡◌, ◌≤◌, ◌<◌, pos, true, IfOk, IfSome, Ok, Some};
 ghost use Rattle.std.specs.String.{string_bytes};
 ghost use Rattle.sqlite.specs.Order.{column};
 ghost use Rattle.sqlite.specs.declared.types.Value.TheVariants.{Int, Text};
+ghost use Rattle.gaz_records.specs.Keys.{key_of};
 ghost use Rattle.gaz_cells.specs.Ids.{id_of, is_key, key_named, kind_in};
 ghost use Rattle.gaz_kept.specs.Decoding.{IsBodyOf, IsItemAt};
 ghost use Rattle.gaz_kept.specs.Versions.{text_in};
@@ -86,26 +87,40 @@ pub fn are_one(a: &Key, b: &Key) -> bool
     a.compare(b).is_eq()
 }
 
+// An item, where it stands at the key.
+fn item_at(key: &Key, item: Item) -> Result<Item, RowFault>
+    ensures { IfOk result (λ x. (x ≡ item) × (key_of x ≡ key.now)) }
+{
+    if are_one(&key_of(&item), key) {
+        Ok(item)
+    } else {
+        Err(RowFault::Wrong)
+    }
+}
+
+// The item that was read, where it stands at the key.
+fn read_at(key: &Key, read: Result<Item, FieldFault>) -> Result<Item, RowFault>
+    ensures { IfOk result (λ x. (read ≡ Ok x) × (key_of x ≡ key.now)) }
+{
+    match read {
+        Ok(item) => item_at(key, item),
+        Err(FieldFault::Memory) => Err(RowFault::Memory),
+        Err(_) => Err(RowFault::Wrong),
+    }
+}
+
 // The item of a body, where it stands at the key.
 fn item_of(alloc: Global, key: &Key, body: &[u8]) -> Result<Item, RowFault>
     ensures { IfOk result (IsBodyOf key.now body.now) }
 {
-    match item_of_text(alloc, kind_in(key), body) {
-        Ok(item) if are_one(&key_of(&item), key) => Ok(item),
-        Err(FieldFault::Memory) => Err(RowFault::Memory),
-        _ => Err(RowFault::Wrong),
-    }
+    read_at(key, item_of_text(alloc, kind_in(key), body))
 }
 
 // The same by a reader of many bodies.
 fn next_item(bodies: &mut Bodies<'_>, key: &Key, body: &[u8]) -> Result<Item, RowFault>
     ensures { IfOk result (IsBodyOf key.now body.now) }
 {
-    match bodies.item(kind_in(key), body) {
-        Ok(item) if are_one(&key_of(&item), key) => Ok(item),
-        Err(FieldFault::Memory) => Err(RowFault::Memory),
-        _ => Err(RowFault::Wrong),
-    }
+    read_at(key, bodies.item(kind_in(key), body))
 }
 
 /// The item at a key that the body in a column says.

@@ -1,8 +1,10 @@
 //! What has become of keys, written as a custodian's next volume.
 ghost use Rattle.std.specs.Prelude.{◌≡◌, if◌then◌else◌};
+ghost use Rattle.gaz_cells.specs.Ids.{id_of};
 ghost use Rattle.gaz_overlay.specs.Rows.{never};
 ghost use Rattle.gaz_overlay.specs.Writings.{writing_at};
 ghost use Rattle.gaz_tables.specs.Stores.{AddsRow, StaysInside};
+ghost use Rattle.gaz_tables.specs.Versions.{Closes};
 ghost use Rattle.gaz_kept.specs.Keeping.{AddsItem, ClosesRow, WritesKey, WritesKeys};
 ghost use Rattle.gaz_kept.specs.Keeping.{WritesVersions, row_values};
 ghost use Rattle.gaz_kept.specs.Versions.{values_of};
@@ -101,6 +103,31 @@ fn add_item<S: Alter>(
     add_row(tx, alloc, code, volume, gone, &row.item)
 }
 
+// Ends the row of a kind that was born in a volume under the name of a key, within a transaction.
+pub(crate) fn end_born<S: Alter>(
+    tx: &mut Transaction<'_, S>,
+    alloc: Global,
+    code: Code,
+    volume: Volume,
+    kind: u32,
+    key: &Key,
+    born: u64,
+) -> Result<(), Error>
+    ensures same_reference { tx.new.conn.ghost_name ≡ tx.old.conn.ghost_name }
+    ensures ended { WritesVersions S.Store tx.old.conn.now tx.new.conn.now result
+        (Closes code kind (id_of key.now) born volume) }
+    ensures inside { StaysInside S.Store tx.old.conn.now tx.new.conn.now result }
+{
+    let born = narrow(born)?;
+    let name = match name_of(alloc, key) {
+        Ok(name) => name,
+        Err(fault) => return Err(error_of(fault)),
+    };
+    let cust = code.number() as u32;
+    versions::close(tx, cust, kind, &name, born, volume.number() as u32)?;
+    Ok(())
+}
+
 // Ends the row of a key that was born in a volume, where one is to end, within a transaction.
 fn close_row<S: Alter>(
     tx: &mut Transaction<'_, S>,
@@ -115,18 +142,13 @@ fn close_row<S: Alter>(
         (ClosesRow code volume key.now closes) }
     ensures inside { StaysInside S.Store tx.old.conn.now tx.new.conn.now result }
 {
-    let Some(born) = closes else {
-        return Ok(());
-    };
-    let born = narrow(born)?;
-    let name = match name_of(alloc, key) {
-        Ok(name) => name,
-        Err(fault) => return Err(error_of(fault)),
-    };
-    let cust = code.number() as u32;
-    let kind = kind_in(key).number() as u32;
-    versions::close(tx, cust, kind, &name, born, volume.number() as u32)?;
-    Ok(())
+    match closes {
+        Some(born) => {
+            let kind = kind_in(key).number() as u32;
+            end_born(tx, alloc, code, volume, kind, key, born)
+        }
+        None => Ok(()),
+    }
 }
 
 // Writes what has become of a key, within a transaction.

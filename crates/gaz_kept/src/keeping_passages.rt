@@ -8,13 +8,11 @@ ghost use Rattle.gaz_tables.specs.Stores.{StaysInside};
 ghost use Rattle.gaz_kept.specs.Keeping.{AddsPassage, EndsRow, WritesNumber, WritesNumbers};
 ghost use Rattle.gaz_kept.specs.Keeping.{WritesVersions};
 
-use crate::decoding::name_of;
-use crate::keeping_keys::{NEVER, insert_cells};
-use crate::row_cells::{error_of, narrow, passage_cells};
+use crate::keeping_keys::{NEVER, end_born, insert_cells};
+use crate::row_cells::passage_cells;
 use gaz_ids::{Code, Hop, Uprn, Volume};
 use gaz_overlay::Overlay;
 use gaz_records::Key;
-use gaz_tables::versions;
 use gaz_views::Custody;
 use sqlite::{Alter, Error, Transaction};
 use std::alloc::Global;
@@ -83,17 +81,13 @@ fn end_row<S: Alter>(
         (EndsRow code volume uprn closes) }
     ensures inside { StaysInside S.Store tx.old.conn.now tx.new.conn.now result }
 {
-    let Some(born) = closes else {
-        return Ok(());
-    };
-    let born = narrow(born)?;
-    let name = match name_of(alloc, &Key::Blpu(uprn)) {
-        Ok(name) => name,
-        Err(fault) => return Err(error_of(fault)),
-    };
-    let cust = code.number() as u32;
-    versions::close(tx, cust, CUSTODY, &name, born, volume.number() as u32)?;
-    Ok(())
+    match closes {
+        Some(born) => {
+            let key = Key::Blpu(uprn);
+            end_born(tx, alloc, code, volume, CUSTODY, &key, born)
+        }
+        None => Ok(()),
+    }
 }
 
 // Writes what became of a number, where it was passed on, within a transaction.

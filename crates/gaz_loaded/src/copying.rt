@@ -1,7 +1,7 @@
 //! Received files that are brought to hand.
 ghost use Rattle.std.specs.Prelude.{◌≡◌, IsSome, OnOk};
 ghost use Rattle.std.specs.FinMap as map;
-ghost use Rattle.gaz_keeper.specs.Keeper.{Idle};
+ghost use Rattle.gaz_keeper.specs.Keeper.{Idle, IsNew, with_received};
 ghost use Rattle.gaz_shelf.specs.Mem.{content_in, seen_in};
 ghost use Rattle.gaz_loaded.specs.Files.{AreThere, Copies, OnlyReads};
 
@@ -9,6 +9,24 @@ use crate::entering::enter;
 use gaz_ids::{Code, Volume};
 use gaz_keeper::{Inbox, ShelfFault};
 use gaz_shelf::MemShelf;
+
+// Receives a file at hand. A fault where one is there under its pair.
+fn copy_bytes(
+    shelf: &mut MemShelf,
+    code: Code,
+    volume: Volume,
+    bytes: &[u8],
+) -> Result<(), ShelfFault>
+    requires { (seen_in shelf.old).progress ≡ Idle }
+    ensures idle { OnOk result ((seen_in shelf.new).progress ≡ Idle) }
+    ensures received { OnOk result (IsNew (content_in shelf.old) code volume
+        × (content_in shelf.new ≡ with_received (content_in shelf.old) code volume bytes.now)) }
+{
+    if shelf.received(code, volume)?.is_some() {
+        return Err(ShelfFault::Memory);
+    }
+    shelf.receive(code, volume, bytes)
+}
 
 // A file that was received, and what became of it. A fault where there is none, or where it is at
 // hand.
@@ -29,10 +47,7 @@ fn copy_volume<L: Inbox>(
     let Some(bytes) = lower.received(code, volume)? else {
         return Err(ShelfFault::Memory);
     };
-    if shelf.received(code, volume)?.is_some() {
-        return Err(ShelfFault::Memory);
-    }
-    shelf.receive(code, volume, &bytes)?;
+    copy_bytes(shelf, code, volume, &bytes)?;
     match lower.verdict(code, volume)? {
         Some(verdict) => enter(shelf, code, volume, verdict),
         None => Ok(()),

@@ -1,10 +1,14 @@
 -- What a change of a judgement tells of a keeper over two.
 use Rattle.std.proofs.Common.{◌≡◌, refl, sym, subst, ◌∙◌}
-use Rattle.std.specs.Prelude.{true, Option, None, Some, Result, Ok, Err, OnOk, is_ok}
-use Rattle.gaz_keeper.specs.Keeper.{Content, Enters, Goes, IsNotOpen, IsSound, LeavesAtMost, LeavesJust, Progress, Seen}
+use Rattle.std.proofs.lemmas.Bool.{false≢true}
+use Rattle.std.specs.Prelude.{◌≢◌, true, Option, None, Some, Result, Ok, Err, OnErr, OnOk, is_ok}
+use Rattle.std.specs.Option.{ForSome}
+use Rattle.gaz_keeper.specs.Keeper.{Broken, Content, Enters, Goes, Idle, IsLeft, IsNotOpen, IsSound, LeavesAtMost, LeavesJust, Open, Progress, Seen}
 use Rattle.gaz_keeper.specs.declared.fault.ShelfFault.{ShelfFault}
+use Rattle.gaz_mirror.specs.InStep.{IsInStep}
 use Rattle.gaz_mirror.specs.Mirroring.{mirrored, progress_with, stands_below}
 use Rattle.gaz_mirror.specs.declared.gathered.Gathered.{Gathered}
+use Rattle.gaz_mirror.proofs.Ahead.{at_some, where_ok}
 
 module _ {U : Type 0} (seen : U → Seen) (old new : Seen) (was now : Option U) where
   -- what the lower one leaves, both leave
@@ -60,8 +64,8 @@ both seen sole old new was now (Ok x) (Ok y) asked asked' becomes becomes' commi
   whole = λ sound. goes.whole (λ fine. (sound fine).lower);
   committed = λ sound met. leaves_just seen old new (Some was) (Some now) (Ok x) commits (goes.committed (λ fine. (sound fine).lower) met);
 }
-both seen sole old new was now (Ok x) (Err e) asked asked' becomes becomes' commits commits' after after' ok ok' goes above asks same = cc
-both seen sole old new was now (Err e) r' asked asked' becomes becomes' commits commits' after after' ok ok' goes above asks same = cc
+both seen sole old new was now (Ok x) (Err e) asked asked' becomes becomes' commits commits' after after' ok ok' goes above asks same = absurd (false≢true ok')
+both seen sole old new was now (Err e) r' asked asked' becomes becomes' commits commits' after after' ok ok' goes above asks same = absurd (false≢true ok)
 
 pub goes_both : {U T : Type 0} (seen : U → Seen) (sole : (u : U) → (seen u).unharmed) (old new : Seen) (upper : Option U) (was now : U) (r r' : Result T ShelfFault) (asked asked' : Type 0)
     (becomes becomes' : Content) (commits commits' : Option Content) (after after' : Progress) → upper ≡ Some was → is_ok r ≡ true → is_ok r' ≡ true
@@ -111,8 +115,8 @@ both_enter seen sole old new was now (Ok x) (Ok y) asked asked' becomes becomes'
   whole = λ sound. enters.whole (λ fine. (sound fine).lower);
   committed = λ sound met. leaves_just seen old new (Some was) (Some now) (Ok x) (Some becomes) (enters.committed (λ fine. (sound fine).lower) met);
 }
-both_enter seen sole old new was now (Ok x) (Err e) asked asked' becomes becomes' ok ok' enters above asks same = cc
-both_enter seen sole old new was now (Err e) r' asked asked' becomes becomes' ok ok' enters above asks same = cc
+both_enter seen sole old new was now (Ok x) (Err e) asked asked' becomes becomes' ok ok' enters above asks same = absurd (false≢true ok')
+both_enter seen sole old new was now (Err e) r' asked asked' becomes becomes' ok ok' enters above asks same = absurd (false≢true ok)
 
 pub enters_both : {U T : Type 0} (seen : U → Seen) (sole : (u : U) → (seen u).unharmed) (old new : Seen) (upper : Option U) (was now : U) (r r' : Result T ShelfFault) (asked asked' : Type 0)
     (becomes becomes' : Content) → upper ≡ Some was → is_ok r ≡ true → is_ok r' ≡ true → Enters old new r asked becomes → Enters (seen was) (seen now) r' asked' becomes'
@@ -143,3 +147,48 @@ enters_settled seen old new was now gathered r asked f none =
 pub settled : (lower : Progress) (gathered : Option Gathered) → IsNotOpen (progress_with lower gathered) → gathered ≡ None
 settled lower None closed = refl
 settled lower (Some g) closed = absurd (closed g.code refl)
+
+-- ---- in answers
+
+-- what went well told of no fault
+pub no_fault : {T : Type 0} (P : Type 0) (r : Result T ShelfFault) → is_ok r ≡ true → OnErr r P
+no_fault P (Ok x) ok = tt
+no_fault P (Err e) ok = absurd (false≢true ok)
+
+-- nothing is said of what isn't there
+pub for_none : {A : Type 0} (P : A → Type 0) (o : Option A) → o ≡ None → ForSome o P
+for_none P None is = λ x there. cc
+for_none P (Some y) is = cc
+
+idle_is_whole : (p : Progress) → p ≡ Idle → p ≢ Broken
+idle_is_whole p idle broken = let clash : Idle ≡ Broken = sym idle ∙ broken in cc
+
+-- two keepers are in step where both have ended a judgement
+pub in_step_ended : {U : Type 0} (seen : U → Seen) (low : Progress) (now : U) (r r' : Result (Unit {0}) ShelfFault) → is_ok r ≡ true → is_ok r' ≡ true → OnOk r (low ≡ Idle) → OnOk r' ((seen now).progress ≡ Idle)
+    → ForSome (Some now) (λ u. IsInStep low (seen u).progress)
+in_step_ended seen low now r r' ok ok' below above =
+    let lower : low ≡ Idle = where_ok r ok below in
+    at_some (λ u. IsInStep low (seen u).progress) now (record { same = where_ok r' ok' above ∙ sym lower; whole = idle_is_whole low lower })
+
+left_in_step : (p low above : Progress) → IsNotOpen p → p ≢ Broken → IsLeft p low → IsLeft p above → IsInStep low above
+left_in_step Idle low above closed whole below up = record { same = up ∙ sym below; whole = idle_is_whole low below }
+left_in_step (Open c) low above closed whole below up = absurd (closed c refl)
+left_in_step Broken low above closed whole below up = absurd (whole refl)
+
+-- two that were in step are so after a call while no judgement is in progress
+pub in_step_left : {U : Type 0} (seen : U → Seen) (was low : Progress) (before now : U) → IsNotOpen was → IsInStep was (seen before).progress → IsLeft was low → IsLeft (seen before).progress (seen now).progress
+    → ForSome (Some now) (λ u. IsInStep low (seen u).progress)
+in_step_left seen was low before now closed step below above =
+    at_some (λ u. IsInStep low (seen u).progress) now (left_in_step was low (seen now).progress closed step.whole below (subst (λ (p : Progress). IsLeft p (seen now).progress) step.same above))
+
+-- and after a change that both made of their working views
+pub in_step_on : {U : Type 0} (seen : U → Seen) (was low : Progress) (before now : U) (r r' : Result (Unit {0}) ShelfFault) → is_ok r ≡ true → is_ok r' ≡ true → IsInStep was (seen before).progress → OnOk r (low ≡ was) → OnOk r' ((seen now).progress ≡ (seen before).progress)
+    → ForSome (Some now) (λ u. IsInStep low (seen u).progress)
+in_step_on seen was low before now r r' ok ok' step below above =
+    let lower : low ≡ was = where_ok r ok below in
+    at_some (λ u. IsInStep low (seen u).progress) now (record { same = where_ok r' ok' above ∙ step.same ∙ sym lower; whole = λ broken. step.whole (sym lower ∙ broken) })
+
+-- where the two are in no judgement, the lower one isn't
+pub closed_below : (lower : Progress) (gathered : Option Gathered) → IsNotOpen (progress_with lower gathered) → IsNotOpen lower
+closed_below lower None closed = closed
+closed_below lower (Some g) closed = absurd (closed g.code refl)

@@ -1,22 +1,18 @@
 -- Fields that are written one behind the other.
-use Rattle.std.proofs.Common.{◌≡◌, ℕ, ◌+◌, ◌<◌, ◌≤◌, false, List, [], ◌∷◌, ◌++◌, length, get_or, drop, refl, sym, ◌∙◌, append_assoc, add-one, drop-cons}
-use Rattle.std.specs.Prelude.{◌==◌}
+use Rattle.std.proofs.Common.{◌≡◌, ℕ, ◌+◌, ◌<◌, ◌≤◌, List, [], ◌∷◌, ◌++◌, length, get_or, drop, refl, sym, ◌∙◌, append_assoc, add-one, arith, drop-cons}
 use Rattle.std.proofs.lemmas.List.{append-nil, drop_all}
 use Rattle.csv.specs.Writing.{default_writer, escaped, field_text, fields_text}
 use Rattle.gaz_rows.specs.Rows.{line_of}
 
--- a byte between quotes
-pub escape_quote : (o s : List ℕ) (i : ℕ) → i < length s → get_or s i 0 ≡ 34
-    → ((o ++ (34 ∷ [])) ++ (get_or s i 0 ∷ [])) ++ escaped default_writer (drop (i + 1) s) ≡ o ++ escaped default_writer (drop i s)
+escaped-cons : (b : ℕ) (s : List ℕ) → escaped default_writer (b ∷ []) ++ escaped default_writer s ≡ escaped default_writer (b ∷ s)
 unfolding escaped
-escape_quote o s i h e =
-    rw (append_assoc o (34 ∷ []) (get_or s i 0 ∷ []), append_assoc o (34 ∷ get_or s i 0 ∷ []) (escaped default_writer (drop (i + 1) s)), drop-cons s i 0 h, add-one, e) refl
+escaped-cons b s = grind arith
 
-pub escape_plain : (o s : List ℕ) (i : ℕ) → i < length s → (get_or s i 0 == 34) ≡ false
-    → (o ++ (get_or s i 0 ∷ [])) ++ escaped default_writer (drop (i + 1) s) ≡ o ++ escaped default_writer (drop i s)
-unfolding escaped
-escape_plain o s i h e =
-    rw (append_assoc o (get_or s i 0 ∷ []) (escaped default_writer (drop (i + 1) s)), drop-cons s i 0 h, add-one, e) refl
+-- a byte between quotes, and those behind it
+pub escape_byte : (o s : List ℕ) (i : ℕ) → i < length s
+    → (o ++ escaped default_writer (get_or s i 0 ∷ [])) ++ escaped default_writer (drop (i + 1) s) ≡ o ++ escaped default_writer (drop i s)
+escape_byte o s i h =
+    rw (append_assoc o (escaped default_writer (get_or s i 0 ∷ [])) (escaped default_writer (drop (i + 1) s)), escaped-cons (get_or s i 0) (drop (i + 1) s), drop-cons s i 0 h, add-one) refl
 
 pub escape_end : (o s r : List ℕ) (i : ℕ) → length s ≤ i → o ++ escaped default_writer (drop i s) ≡ r → o ≡ r
 unfolding escaped
@@ -42,4 +38,4 @@ more o a b xs ys h k = rw (k, h, append_assoc o (fields_text default_writer xs) 
 pub row_is : (o a b x : List ℕ) (xs : List (List ℕ)) → a ≡ o ++ field_text default_writer x → b ≡ a ++ fields_text default_writer xs → b ≡ o ++ line_of (x ∷ xs)
 row_is o a b x xs h k = rw (k, h, append_assoc o (field_text default_writer x) (fields_text default_writer xs)) refl
 
-pub ruleset writing = (escape_quote, escape_plain, one_more)
+pub ruleset writing = (one_more)

@@ -1,14 +1,14 @@
 -- BLPUs: what their fields say, and how they are written.
-use Rattle.std.specs.Prelude.{ℕ, ◌&&◌, nat_le, List, [], ◌∷◌, Option, Some, None, is_some, Result}
-use Rattle.std.specs.Prelude.{Bool, true, decimal}
+use Rattle.std.specs.Prelude.{ℕ, ◌+◌, ◌&&◌, nat_le, List, [], ◌∷◌, drop, Option, Some, None}
+use Rattle.std.specs.Prelude.{is_some, Result, Bool, true, decimal}
 use Rattle.gaz_ids.specs.Codes.{status_text}
 use Rattle.gaz_ids.specs.declared.status.Status.{Status}
 use Rattle.gaz_ids.specs.declared.status.Status.TheVariants.{Approved}
 use Rattle.gaz_addressable.specs.Objects.{is_text_or_none}
 use Rattle.gaz_records.specs.Days.{CivilDay, are_days, date_text, end_text, ends_by, is_day, no_day}
 use Rattle.gaz_records.specs.Fields.{or_empty, value_or}
-use Rattle.gaz_records.specs.Forms.{BlpuStatus, Date, Digits, EndDate, Opt, TextTo, in_form}
-use Rattle.gaz_records.specs.Forms.{of_blpu, says}
+use Rattle.gaz_records.specs.Forms.{BlpuStatus, Date, Digits, EndDate, Opt, TextTo, first_bad}
+use Rattle.gaz_records.specs.Forms.{in_form, of_blpu, says, unless_bad}
 use Rattle.gaz_records.specs.Table.{blpu_table, uprn}
 use Rattle.gaz_records.specs.declared.fields.FieldFault.{FieldFault}
 
@@ -38,6 +38,23 @@ blpu_said f = record {
 -- the BLPU that fields say, or what is wrong with them
 unfoldable pub read_blpu : List (List ℕ) → Result BlpuValue FieldFault
 read_blpu f = in_form blpu_table f (blpu_said f)
+
+-- what a number says and the fields of a BLPU behind it, from a place on
+abbrev pub behind_said : ℕ → List (List ℕ) → ℕ → BlpuValue
+behind_said number f i = record {
+  uprn = number;
+  status = value_or Approved (says BlpuStatus f i);
+  easting = value_or 0 (says (Digits 6 0 700_000) f (i + 1));
+  northing = value_or 0 (says (Digits 7 0 1_300_000) f (i + 2));
+  parent = value_or None (says (Opt uprn) f (i + 3));
+  postcode = value_or None (says (Opt (TextTo 8)) f (i + 4));
+  start = value_or no_day (says Date f (i + 5));
+  end = value_or None (says (Opt EndDate) f (i + 6));
+}
+
+-- the BLPU of a number and of the fields behind it, or what is wrong with these
+unfoldable pub read_behind : ℕ → List (List ℕ) → ℕ → Result BlpuValue FieldFault
+read_behind number f i = unless_bad (first_bad (drop 1 blpu_table) f i) (behind_said number f i)
 
 abbrev pub parent_text : Option ℕ → List ℕ
 parent_text None = []

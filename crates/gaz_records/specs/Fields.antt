@@ -23,9 +23,9 @@ abbrev pub value_or : {A : Type 0} → A → Option A → A
 value_or otherwise None = otherwise
 value_or otherwise (Some x) = x
 
--- the fields, where there are so many
-abbrev pub counted : ℕ → List (List ℕ) → Result (List (List ℕ)) FieldFault
-counted count f = if length f == count then Ok f else Err fault.Count
+-- nothing where there are so many fields
+abbrev pub counted : ℕ → List (List ℕ) → Result Unit FieldFault
+counted count f = if length f == count then Ok tt else Err fault.Count
 
 -- what the field at a place says, or that it has a wrong form
 abbrev pub TellsField : {A : Type 0} → Result A FieldFault → ℕ → Option A → Type 0

@@ -11,10 +11,11 @@ use Rattle.gaz_ids.specs.declared.status.Status.TheVariants.{Historical}
 use Rattle.gaz_addressable.specs.Texts.{text_of}
 use Rattle.gaz_addressable.specs.Objects.{ObjectValue, object_of}
 use Rattle.gaz_addressable.specs.declared.object.ObjFault.{ObjFault}
-use Rattle.gaz_records.specs.Days.{CivilDay, date_of, day_le}
-use Rattle.gaz_records.specs.Fields.{field, ok_of}
+use Rattle.gaz_records.specs.Days.{CivilDay, date_of, day_le, no_day}
+use Rattle.gaz_records.specs.Fields.{field, ok_of, value_or}
 use Rattle.gaz_records.specs.Labels.{label_of}
 use Rattle.gaz_records.specs.declared.fields.FieldFault.{FieldFault}
+use Rattle.gaz_records.specs.declared.reading_codes.Dates.{Dates}
 use Rattle.gaz_records.specs.declared.fields.FieldFault.TheVariants as fault
 
 pub data Form : Type 0 where
@@ -127,6 +128,17 @@ total_width (form ∷ forms) = width form + total_width forms
 abbrev pub unless_bad : {A : Type 0} → Option ℕ → A → Result A FieldFault
 unless_bad None x = Ok x
 unless_bad (Some n) x = Err (fault.Form n)
+
+-- what a date and the end date behind it say
+abbrev pub dates_said : List (List ℕ) → ℕ → Dates
+dates_said f i = record {
+  start = value_or no_day (says Date f i);
+  end = value_or None (says (Opt EndDate) f (i + 1));
+}
+
+-- a date and the end date behind it, or what is wrong with them
+abbrev pub dates_at : List (List ℕ) → ℕ → Result Dates FieldFault
+dates_at f i = unless_bad (first_bad (Date ∷ Opt EndDate ∷ []) f i) (dates_said f i)
 
 -- so many fields, each in its form, say this value
 abbrev pub in_form : {A : Type 0} → List Form → List (List ℕ) → A → Result A FieldFault

@@ -1,5 +1,4 @@
-ghost use Rattle.std.specs.Prelude.{◌≡◌, ◌≤◌, ◌++◌, drop, OnOk, true};
-ghost use Rattle.csv.specs.Records.{fields_of};
+ghost use Rattle.std.specs.Prelude.{◌≡◌, ◌++◌, OnOk, true};
 ghost use Rattle.gaz_records.specs.Fields.{OrMemory};
 ghost use Rattle.gaz_records.specs.Adopts.{adopt_texts, is_adopt, read_adopt};
 ghost use Rattle.gaz_records.specs.Appending.{AddsLine, Grows};
@@ -8,7 +7,6 @@ use crate::blpu::Blpu;
 use crate::fields::FieldFault;
 use crate::reading::Fields;
 use crate::row::{add_number, next_number};
-use csv::ByteRecord;
 use gaz_ids::{Code, Hop};
 use std::alloc::{AllocError, Global};
 
@@ -22,33 +20,16 @@ pub struct Adopt {
 }
 
 impl Adopt {
-    #[tactic(auto, using(std::proofs::lemmas::Bool::Decides::nat_tests), unfolding(crate::specs::Adopts::read_adopt))]
-    /// The adoption that the fields behind the first ones say.
-    pub(crate) fn read(alloc: Global, row: &ByteRecord, skip: usize) -> Result<Adopt, FieldFault>
-        requires { skip ≤ 3 }
-        ensures { OrMemory result (read_adopt (drop skip (fields_of row.now))) }
+    #[tactic(auto, using(std::proofs::lemmas::Bool::Decides::nat_tests), unfolding(crate::specs::Adopts::read_adopt, crate::specs::Blpus::read_behind))]
+    /// The adoption that the fields say.
+    pub(crate) fn read(alloc: Global, fields: &Fields) -> Result<Adopt, FieldFault>
+        ensures { OrMemory result (read_adopt fields.now) }
     {
-        let fields = Fields::open(row, skip, 10)?;
+        fields.count_is(10)?;
         let uprn = fields.number(0)?;
         let from = fields.number(1)?;
         let hop = fields.number(2)?;
-        let status = fields.blpu_status(3)?;
-        let easting = fields.number(4)?;
-        let northing = fields.number(5)?;
-        let parent = fields.opt_number(6)?;
-        let postcode = fields.opt_text(alloc, 7)?;
-        let start = fields.day(8)?;
-        let end = fields.end_day(9, &start)?;
-        let blpu = Blpu {
-            uprn,
-            status,
-            easting,
-            northing,
-            parent,
-            postcode,
-            start,
-            end,
-        };
+        let blpu = Blpu::read_behind(alloc, fields, uprn, 3)?;
         Ok(Adopt { blpu, from, hop })
     }
 

@@ -1,14 +1,13 @@
-ghost use Rattle.std.specs.Prelude.{◌≡◌, ◌≤◌, ◌++◌, drop, OnOk, true};
-ghost use Rattle.csv.specs.Records.{fields_of};
+ghost use Rattle.std.specs.Prelude.{◌≡◌, ◌≤◌, ◌++◌, OnOk, true};
 ghost use Rattle.gaz_records.specs.Fields.{OrMemory};
-ghost use Rattle.gaz_records.specs.Blpus.{blpu_texts, is_blpu, read_blpu, texts_behind};
+ghost use Rattle.gaz_records.specs.Blpus.{blpu_texts, is_blpu, read_behind, read_blpu};
+ghost use Rattle.gaz_records.specs.Blpus.{texts_behind};
 ghost use Rattle.gaz_records.specs.Appending.{AddsFields, AddsLine, Grows};
 
 use crate::day::Day;
 use crate::fields::FieldFault;
 use crate::reading::Fields;
 use crate::row::{add_number, next_dates, next_field, next_number, next_parent, next_text};
-use csv::ByteRecord;
 use gaz_addressable::Text;
 use gaz_ids::{Number, Status, Uprn};
 use std::alloc::{AllocError, Global};
@@ -59,21 +58,33 @@ impl Model for Blpu {
 }
 
 impl Blpu {
-    #[tactic(auto, using(std::proofs::lemmas::Bool::Decides::nat_tests), unfolding(crate::specs::Blpus::read_blpu))]
-    /// The BLPU that the fields behind the first ones say.
-    pub(crate) fn read(alloc: Global, row: &ByteRecord, skip: usize) -> Result<Blpu, FieldFault>
-        requires { skip ≤ 3 }
-        ensures { OrMemory result (read_blpu (drop skip (fields_of row.now))) }
+    #[tactic(auto, using(std::proofs::lemmas::Bool::Decides::nat_tests), unfolding(crate::specs::Blpus::read_blpu, crate::specs::Blpus::read_behind))]
+    /// The BLPU that the fields say.
+    pub(crate) fn read(alloc: Global, fields: &Fields) -> Result<Blpu, FieldFault>
+        ensures { OrMemory result (read_blpu fields.now) }
     {
-        let fields = Fields::open(row, skip, 8)?;
+        fields.count_is(8)?;
         let uprn = fields.number(0)?;
-        let status = fields.blpu_status(1)?;
-        let easting = fields.number(2)?;
-        let northing = fields.number(3)?;
-        let parent = fields.opt_number(4)?;
-        let postcode = fields.opt_text(alloc, 5)?;
-        let start = fields.day(6)?;
-        let end = fields.end_day(7, &start)?;
+        Blpu::read_behind(alloc, fields, uprn, 1)
+    }
+
+    #[tactic(auto, using(std::proofs::lemmas::Bool::Decides::nat_tests), unfolding(crate::specs::Blpus::read_behind))]
+    /// The BLPU of a number and of the fields behind it, the first of which is at a place.
+    pub(crate) fn read_behind(
+        alloc: Global,
+        fields: &Fields,
+        uprn: Uprn,
+        at: usize,
+    ) -> Result<Blpu, FieldFault>
+        requires { at ≤ 3 }
+        ensures { OrMemory result (read_behind uprn fields.now at) }
+    {
+        let status = fields.blpu_status(at)?;
+        let easting = fields.number(at + 1)?;
+        let northing = fields.number(at + 2)?;
+        let parent = fields.opt_number(at + 3)?;
+        let postcode = fields.opt_text(alloc, at + 4)?;
+        let dates = fields.dates(at + 5)?;
         Ok(Blpu {
             uprn,
             status,
@@ -81,8 +92,8 @@ impl Blpu {
             northing,
             parent,
             postcode,
-            start,
-            end,
+            start: dates.start,
+            end: dates.end,
         })
     }
 

@@ -1,5 +1,4 @@
-ghost use Rattle.std.specs.Prelude.{◌≡◌, ◌≤◌, ◌++◌, drop, OnOk, true};
-ghost use Rattle.csv.specs.Records.{fields_of};
+ghost use Rattle.std.specs.Prelude.{◌≡◌, ◌++◌, OnOk, true};
 ghost use Rattle.gaz_records.specs.Fields.{OrMemory};
 ghost use Rattle.gaz_records.specs.Descriptors.{descriptor_texts, is_descriptor, read_descriptor};
 ghost use Rattle.gaz_records.specs.Appending.{AddsLine, Grows};
@@ -7,7 +6,6 @@ ghost use Rattle.gaz_records.specs.Appending.{AddsLine, Grows};
 use crate::fields::FieldFault;
 use crate::reading::Fields;
 use crate::row::{add_number, next_field, next_text};
-use csv::ByteRecord;
 use gaz_addressable::Text;
 use gaz_ids::{Lang, Usrn};
 use std::alloc::{AllocError, Global};
@@ -43,16 +41,11 @@ impl Model for Descriptor {
 
 impl Descriptor {
     #[tactic(auto, using(std::proofs::lemmas::Bool::Decides::nat_tests), unfolding(crate::specs::Descriptors::read_descriptor))]
-    /// The descriptor that the fields behind the first ones say.
-    pub(crate) fn read(
-        alloc: Global,
-        row: &ByteRecord,
-        skip: usize,
-    ) -> Result<Descriptor, FieldFault>
-        requires { skip ≤ 3 }
-        ensures { OrMemory result (read_descriptor (drop skip (fields_of row.now))) }
+    /// The descriptor that the fields say.
+    pub(crate) fn read(alloc: Global, fields: &Fields) -> Result<Descriptor, FieldFault>
+        ensures { OrMemory result (read_descriptor fields.now) }
     {
-        let fields = Fields::open(row, skip, 6)?;
+        fields.count_is(6)?;
         let usrn = fields.number(0)?;
         let lang = fields.lang(1)?;
         let description = fields.text(alloc, 2)?;

@@ -10,6 +10,7 @@ use crate::blpu::Blpu;
 use crate::descriptor::Descriptor;
 use crate::fields::FieldFault;
 use crate::lpi::Lpi;
+use crate::reading::Fields;
 use crate::release::Release;
 use crate::street::Street;
 use crate::xref::Xref;
@@ -52,6 +53,42 @@ pub enum Item {
 // A view shares one of these for each record of a gazetteer, so each is small.
 const _: () = prove!(size_of::<Item>() == 136);
 
+// The item of a kind that fields say.
+fn said(alloc: Global, kind: Kind, fields: &Fields) -> Result<Item, FieldFault>
+    ensures { OrMemory result (read_item kind fields.now) }
+{
+    match kind {
+        Kind::Street => match Street::read(fields) {
+            Ok(street) => Ok(Item::Street(street)),
+            Err(fault) => Err(fault),
+        },
+        Kind::Descriptor => match Descriptor::read(alloc, fields) {
+            Ok(descriptor) => Ok(Item::Descriptor(descriptor)),
+            Err(fault) => Err(fault),
+        },
+        Kind::Blpu => match Blpu::read(alloc, fields) {
+            Ok(blpu) => Ok(Item::Blpu(blpu)),
+            Err(fault) => Err(fault),
+        },
+        Kind::Xref => match Xref::read(alloc, fields) {
+            Ok(xref) => Ok(Item::Xref(xref)),
+            Err(fault) => Err(fault),
+        },
+        Kind::Lpi => match Lpi::read(alloc, fields) {
+            Ok(lpi) => Ok(Item::Lpi(lpi)),
+            Err(fault) => Err(fault),
+        },
+        Kind::Release => match Release::read(fields) {
+            Ok(release) => Ok(Item::Release(release)),
+            Err(fault) => Err(fault),
+        },
+        Kind::Adopt => match Adopt::read(alloc, fields) {
+            Ok(adopt) => Ok(Item::Adopt(adopt)),
+            Err(fault) => Err(fault),
+        },
+    }
+}
+
 /// The item of a kind that the fields of a record behind the first `skip` ones say.
 ///
 /// `Count` where there are too few or too many of them, else `Form` with the first field, from 1,
@@ -65,36 +102,7 @@ pub fn read_item(
     requires { skip ≤ 3 }
     ensures { OrMemory result (read_item kind (drop skip (fields_of row.now))) }
 {
-    match kind {
-        Kind::Street => match Street::read(row, skip) {
-            Ok(street) => Ok(Item::Street(street)),
-            Err(fault) => Err(fault),
-        },
-        Kind::Descriptor => match Descriptor::read(alloc, row, skip) {
-            Ok(descriptor) => Ok(Item::Descriptor(descriptor)),
-            Err(fault) => Err(fault),
-        },
-        Kind::Blpu => match Blpu::read(alloc, row, skip) {
-            Ok(blpu) => Ok(Item::Blpu(blpu)),
-            Err(fault) => Err(fault),
-        },
-        Kind::Xref => match Xref::read(alloc, row, skip) {
-            Ok(xref) => Ok(Item::Xref(xref)),
-            Err(fault) => Err(fault),
-        },
-        Kind::Lpi => match Lpi::read(alloc, row, skip) {
-            Ok(lpi) => Ok(Item::Lpi(lpi)),
-            Err(fault) => Err(fault),
-        },
-        Kind::Release => match Release::read(row, skip) {
-            Ok(release) => Ok(Item::Release(release)),
-            Err(fault) => Err(fault),
-        },
-        Kind::Adopt => match Adopt::read(alloc, row, skip) {
-            Ok(adopt) => Ok(Item::Adopt(adopt)),
-            Err(fault) => Err(fault),
-        },
-    }
+    said(alloc, kind, &Fields::behind(row, skip))
 }
 
 /// The item of a kind that a text says which is one row: `Count` where it isn't one row, else as
@@ -155,13 +163,13 @@ fn add_row(item: &Item, out: &mut Vec<u8>) -> Result<(), AllocError>
     ensures kept { Grows out.old.items out.new.items }
 {
     match item {
-        Item::Street(street) => Ok(street.write(out)?),
-        Item::Descriptor(descriptor) => Ok(descriptor.write(out)?),
-        Item::Blpu(blpu) => Ok(blpu.write(out)?),
-        Item::Xref(xref) => Ok(xref.write(out)?),
-        Item::Lpi(lpi) => Ok(lpi.write(out)?),
-        Item::Release(release) => Ok(release.write(out)?),
-        Item::Adopt(adopt) => Ok(adopt.write(out)?),
+        Item::Street(street) => street.write(out),
+        Item::Descriptor(descriptor) => descriptor.write(out),
+        Item::Blpu(blpu) => blpu.write(out),
+        Item::Xref(xref) => xref.write(out),
+        Item::Lpi(lpi) => lpi.write(out),
+        Item::Release(release) => release.write(out),
+        Item::Adopt(adopt) => adopt.write(out),
     }
 }
 

@@ -1,5 +1,4 @@
-ghost use Rattle.std.specs.Prelude.{◌≡◌, ◌≤◌, ◌++◌, drop, OnOk, true};
-ghost use Rattle.csv.specs.Records.{fields_of};
+ghost use Rattle.std.specs.Prelude.{◌≡◌, ◌++◌, OnOk, true};
 ghost use Rattle.gaz_records.specs.Fields.{OrMemory};
 ghost use Rattle.gaz_records.specs.Lpis.{is_lpi, lpi_texts, read_lpi};
 ghost use Rattle.gaz_records.specs.Appending.{AddsLine, Grows};
@@ -9,7 +8,6 @@ use crate::fields::FieldFault;
 use crate::label::RecordKey;
 use crate::reading::Fields;
 use crate::row::{add_field, next_dates, next_field, next_number, next_object, next_secondary};
-use csv::ByteRecord;
 use gaz_addressable::Object;
 use gaz_ids::{Lang, Status, Uprn, Usrn};
 use std::alloc::{AllocError, Global};
@@ -59,12 +57,11 @@ impl Model for Lpi {
 
 impl Lpi {
     #[tactic(auto, using(std::proofs::lemmas::Bool::Decides::nat_tests), unfolding(crate::specs::Lpis::read_lpi))]
-    /// The LPI that the fields behind the first ones say.
-    pub(crate) fn read(alloc: Global, row: &ByteRecord, skip: usize) -> Result<Lpi, FieldFault>
-        requires { skip ≤ 3 }
-        ensures { OrMemory result (read_lpi (drop skip (fields_of row.now))) }
+    /// The LPI that the fields say.
+    pub(crate) fn read(alloc: Global, fields: &Fields) -> Result<Lpi, FieldFault>
+        ensures { OrMemory result (read_lpi fields.now) }
     {
-        let fields = Fields::open(row, skip, 17)?;
+        fields.count_is(17)?;
         let key = fields.label(0)?;
         let uprn = fields.number(1)?;
         let lang = fields.lang(2)?;
@@ -72,8 +69,7 @@ impl Lpi {
         let usrn = fields.number(4)?;
         let secondary = fields.opt_object(alloc, 5)?;
         let primary = fields.object(alloc, 10)?;
-        let start = fields.day(15)?;
-        let end = EndDay::of(fields.end_day(16, &start)?);
+        let dates = fields.dates(15)?;
         Ok(Lpi {
             key,
             uprn,
@@ -82,8 +78,8 @@ impl Lpi {
             usrn,
             secondary,
             primary,
-            start,
-            end,
+            start: dates.start,
+            end: EndDay::of(dates.end),
         })
     }
 

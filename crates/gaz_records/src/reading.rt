@@ -34,17 +34,24 @@ pub(crate) fn bad(i: usize) -> FieldFault
 }
 
 impl<'a> Fields<'a> {
-    #[tactic(auto, using(std::proofs::lemmas::Bool::Decides::nat_tests, crate::proofs::Places::field_drops))]
-    /// The fields, of which there are to be so many.
-    pub fn open(row: &'a ByteRecord, skip: usize, count: usize) -> Result<Self, FieldFault>
-        requires few { skip ≤ 3 }
-        requires count { (1 ≤ count) × (count ≤ 17) }
-        ensures { result ≡ counted count (drop skip (fields_of row.now)) }
+    /// The fields behind the first ones.
+    pub fn behind(row: &'a ByteRecord, skip: usize) -> Self
+        requires { skip ≤ 3 }
+        ensures { result ≡ drop skip (fields_of row.now) }
     {
-        if row.len() != skip + count {
+        Fields { row, skip }
+    }
+
+    #[tactic(auto, using(std::proofs::lemmas::Bool::Decides::nat_tests, crate::proofs::Places::field_drops))]
+    /// Whether there are so many fields.
+    pub fn count_is(&self, count: usize) -> Result<(), FieldFault>
+        requires { (1 ≤ count) × (count ≤ 17) }
+        ensures { result ≡ counted count self.now }
+    {
+        if self.row.len() != self.skip + count {
             return Err(FieldFault::Count);
         }
-        Ok(Fields { row, skip })
+        Ok(())
     }
 
     #[tactic(auto, using(crate::proofs::Places::field_drops))]

@@ -3,12 +3,19 @@ ghost use Rattle.std.specs.Prelude.{◌≡◌, ◌≤◌, ◌-◌, is_some, IfOk
 ghost use Rattle.gaz_records.specs.Days.{ends_by};
 ghost use Rattle.gaz_records.specs.Fields.{TellsField};
 ghost use Rattle.gaz_records.specs.Forms.{BlpuStatus, Date, Digits, EndDate, Language, LpiStatus};
-ghost use Rattle.gaz_records.specs.Forms.{Opt, of_blpu, says};
+ghost use Rattle.gaz_records.specs.Forms.{Opt, dates_at, of_blpu, says};
 
 use crate::day::Day;
 use crate::fields::FieldFault;
 use crate::reading::{Fields, bad};
 use gaz_ids::{Lang, Number, Status};
+
+/// The dates on which a record began and on which it ended, if it has.
+#[derive(Clone, Copy)]
+pub struct Dates {
+    pub start: Day,
+    pub end: Option<Day>,
+}
 
 impl<'a> Fields<'a> {
     #[tactic(auto, unfolding(crate::specs::Forms::says))]
@@ -116,5 +123,16 @@ impl<'a> Fields<'a> {
             }
             None => Err(bad(i)),
         }
+    }
+
+    /// A date, and an end date behind it that may be left out and isn't before it.
+    pub fn dates(&self, i: usize) -> Result<Dates, FieldFault>
+        requires { i ≤ 15 }
+        ensures tells { result ≡ dates_at self.now i }
+        ensures order { IfOk result (λ dates. ends_by dates.start dates.end ≡ true) }
+    {
+        let start = self.day(i)?;
+        let end = self.end_day(i + 1, &start)?;
+        Ok(Dates { start, end })
     }
 }

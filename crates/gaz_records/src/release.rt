@@ -1,5 +1,4 @@
-ghost use Rattle.std.specs.Prelude.{◌≡◌, ◌≤◌, ◌++◌, drop, OnOk, true};
-ghost use Rattle.csv.specs.Records.{fields_of};
+ghost use Rattle.std.specs.Prelude.{◌≡◌, ◌++◌, OnOk, true};
 ghost use Rattle.gaz_records.specs.Fields.{OrMemory};
 ghost use Rattle.gaz_records.specs.Releases.{is_release, read_release, release_texts};
 ghost use Rattle.gaz_records.specs.Appending.{AddsLine, Grows};
@@ -7,7 +6,6 @@ ghost use Rattle.gaz_records.specs.Appending.{AddsLine, Grows};
 use crate::fields::FieldFault;
 use crate::reading::Fields;
 use crate::row::{add_number, next_number};
-use csv::ByteRecord;
 use gaz_ids::{Code, Hop, Uprn};
 use std::alloc::AllocError;
 
@@ -22,12 +20,11 @@ pub struct Release {
 
 impl Release {
     #[tactic(auto, using(std::proofs::lemmas::Bool::Decides::nat_tests), unfolding(crate::specs::Releases::read_release))]
-    /// The release that the fields behind the first ones say.
-    pub(crate) fn read(row: &ByteRecord, skip: usize) -> Result<Release, FieldFault>
-        requires { skip ≤ 3 }
-        ensures { result ≡ read_release (drop skip (fields_of row.now)) }
+    /// The release that the fields say.
+    pub(crate) fn read(fields: &Fields) -> Result<Release, FieldFault>
+        ensures { result ≡ read_release fields.now }
     {
-        let fields = Fields::open(row, skip, 3)?;
+        fields.count_is(3)?;
         let uprn = fields.number(0)?;
         let to = fields.number(1)?;
         let hop = fields.number(2)?;

@@ -26,17 +26,28 @@ fn needs_quotes(field: &[u8]) -> bool
     false
 }
 
-#[tactic(auto, using(std::proofs::lemmas::Bool::Decides::nat_tests, crate::proofs::Written::writing, crate::proofs::Growing::growing))]
+#[tactic(auto, using(std::proofs::lemmas::Bool::Decides::nat_tests, crate::proofs::Growing::growing), unfolding(csv::specs::Writing::escaped))]
+// Adds a byte of a field between its quotes, where a quote stands twice.
+fn add_byte(out: &mut Vec<u8>, byte: u8) -> Result<(), AllocError>
+    ensures row { OnOk result
+        (out.new.items ≡ out.old.items ++ escaped default_writer (byte ∷ [])) }
+    ensures kept { Grows out.old.items out.new.items }
+{
+    if byte == b'"' {
+        return out.extend_from_slice(b"\"\"");
+    }
+    out.push(byte)?;
+    Ok(())
+}
+
+#[tactic(auto, using(crate::proofs::Growing::growing))]
 // Adds the bytes of a field between its quotes, in which each quote stands twice.
 fn add_escaped(out: &mut Vec<u8>, field: &[u8]) -> Result<(), AllocError>
     ensures row { OnOk result (out.new.items ≡ out.old.items ++ escaped default_writer field.now) }
     ensures kept { Grows out.old.items out.new.items }
 {
     for byte in field {
-        if *byte == b'"' {
-            out.push(b'"')?;
-        }
-        out.push(*byte)?;
+        add_byte(out, *byte)?;
     }
     Ok(())
 }
@@ -180,7 +191,6 @@ fn next_end(out: &mut Vec<u8>, end: &Option<Day>) -> Result<(), AllocError>
     }
 }
 
-#[tactic(auto, using(crate::proofs::Growing::growing))]
 /// Adds a start date and an end date, if there is one, each behind a comma.
 pub fn next_dates(out: &mut Vec<u8>, start: &Day, end: &Option<Day>) -> Result<(), AllocError>
     ensures row { OnOk result (AddsFields out.old.items out.new.items

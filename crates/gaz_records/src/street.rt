@@ -1,5 +1,4 @@
-ghost use Rattle.std.specs.Prelude.{◌≡◌, ◌≤◌, ◌++◌, drop, OnOk, true};
-ghost use Rattle.csv.specs.Records.{fields_of};
+ghost use Rattle.std.specs.Prelude.{◌≡◌, ◌++◌, OnOk, true};
 ghost use Rattle.gaz_records.specs.Streets.{is_street, read_street, street_texts};
 ghost use Rattle.gaz_records.specs.Appending.{AddsLine, Grows};
 
@@ -7,7 +6,6 @@ use crate::day::Day;
 use crate::fields::FieldFault;
 use crate::reading::Fields;
 use crate::row::{add_number, next_dates, next_number};
-use csv::ByteRecord;
 use gaz_ids::{Number, Usrn};
 use std::alloc::AllocError;
 use std::marker::Model;
@@ -41,21 +39,19 @@ impl Model for Street {
 
 impl Street {
     #[tactic(auto, using(std::proofs::lemmas::Bool::Decides::nat_tests), unfolding(crate::specs::Streets::read_street))]
-    /// The street that the fields behind the first ones say.
-    pub(crate) fn read(row: &ByteRecord, skip: usize) -> Result<Street, FieldFault>
-        requires { skip ≤ 3 }
-        ensures { result ≡ read_street (drop skip (fields_of row.now)) }
+    /// The street that the fields say.
+    pub(crate) fn read(fields: &Fields) -> Result<Street, FieldFault>
+        ensures { result ≡ read_street fields.now }
     {
-        let fields = Fields::open(row, skip, 4)?;
+        fields.count_is(4)?;
         let usrn = fields.number(0)?;
         let sort: Sort = fields.number(1)?;
-        let start = fields.day(2)?;
-        let end = fields.end_day(3, &start)?;
+        let dates = fields.dates(2)?;
         Ok(Street {
             usrn,
             sort: sort.number() as u8,
-            start,
-            end,
+            start: dates.start,
+            end: dates.end,
         })
     }
 
@@ -71,7 +67,6 @@ impl Street {
         }
     }
 
-    #[tactic(auto, using(crate::proofs::Growing::growing))]
     /// Adds the row of the fields as `csv` writes it, without a line end.
     pub(crate) fn write(&self, out: &mut Vec<u8>) -> Result<(), AllocError>
         ensures row { OnOk result (AddsLine out.old.items out.new.items (street_texts self.now)) }

@@ -1,5 +1,4 @@
-ghost use Rattle.std.specs.Prelude.{◌≡◌, ◌≤◌, ◌++◌, drop, OnOk, true};
-ghost use Rattle.csv.specs.Records.{fields_of};
+ghost use Rattle.std.specs.Prelude.{◌≡◌, ◌++◌, OnOk, true};
 ghost use Rattle.gaz_records.specs.Fields.{OrMemory};
 ghost use Rattle.gaz_records.specs.Xrefs.{is_xref, read_xref, xref_texts};
 ghost use Rattle.gaz_records.specs.Appending.{AddsLine, Grows};
@@ -9,7 +8,6 @@ use crate::fields::FieldFault;
 use crate::label::{RecordKey, Source};
 use crate::reading::Fields;
 use crate::row::{add_field, next_dates, next_field, next_number};
-use csv::ByteRecord;
 use gaz_addressable::Text;
 use gaz_ids::Uprn;
 use std::alloc::{AllocError, Global};
@@ -50,25 +48,23 @@ impl Model for Xref {
 
 impl Xref {
     #[tactic(auto, using(std::proofs::lemmas::Bool::Decides::nat_tests), unfolding(crate::specs::Xrefs::read_xref))]
-    /// The cross reference that the fields behind the first ones say.
-    pub(crate) fn read(alloc: Global, row: &ByteRecord, skip: usize) -> Result<Xref, FieldFault>
-        requires { skip ≤ 3 }
-        ensures { OrMemory result (read_xref (drop skip (fields_of row.now))) }
+    /// The cross reference that the fields say.
+    pub(crate) fn read(alloc: Global, fields: &Fields) -> Result<Xref, FieldFault>
+        ensures { OrMemory result (read_xref fields.now) }
     {
-        let fields = Fields::open(row, skip, 6)?;
+        fields.count_is(6)?;
         let key = fields.label(0)?;
         let uprn = fields.number(1)?;
         let source = fields.label(2)?;
         let reference = fields.text(alloc, 3)?;
-        let start = fields.day(4)?;
-        let end = fields.end_day(5, &start)?;
+        let dates = fields.dates(4)?;
         Ok(Xref {
             key,
             uprn,
             source,
             reference,
-            start,
-            end,
+            start: dates.start,
+            end: dates.end,
         })
     }
 

@@ -11,7 +11,6 @@ use Rattle.sqlite_schema.specs.declared.schema.Column.{Column}
 use Rattle.sqlite_schema.specs.declared.schema.Keys.{Keys}
 use Rattle.sqlite_schema.specs.declared.program.Program.{Program}
 use Rattle.sqlite_trees.specs.declared.store.Shape.TheVariants as shape
-use Rattle.sqlite_rules.specs.Action.{works}
 use Rattle.sqlite_rules.specs.Edit.{Applies, are_fresh, is_taken, numbered}
 use Rattle.sqlite_rules.specs.Lists.{Has}
 use Rattle.sqlite_rules.proofs.ProbeLemmas.{has_mapped, mapped_has}
@@ -39,6 +38,7 @@ use Rattle.gaz_sql_facts.specs.Changes.{Changes, InPlace}
 use Rattle.gaz_sql_facts.specs.Copies.{AreCopied, copying}
 use Rattle.gaz_sql_facts.specs.Selects.{passes, shows, Selects}
 use Rattle.gaz_sql_facts.specs.Tables.{keyed}
+use Rattle.gaz_sql_facts.proofs.Free.{free_insert}
 use Rattle.gaz_sql_facts.proofs.Inserts.{went, same_value, others_stay}
 use Rattle.gaz_sql_facts.proofs.Lists.{matched, map_map, limited_map, unmapped, sorted_unmapped}
 use Rattle.gaz_sql_facts.proofs.Selects.{selected, found, counted}
@@ -108,7 +108,6 @@ all_pass (r ∷ rows) = ap (λ l. r ∷ l) (all_pass rows)
 -- INSERT INTO the table at this place SELECT project FROM the table at `from`; `copy` are the values that a row there is copied to
 module _ (schema : Schema) (at tree from : ℕ) (name primary : List ℕ) (uniques : List (List ℕ)) (columns : List Column) (checks project : List Term) (by : List Collation) (copy : Row → Row)
     (listed : slice_get schema.tables at ≡ Some (keyed None name tree columns primary uniques checks))
-    (free : (olds news : List Row) (keys : Keys) → works schema keys 0 tree olds news ≡ [])
     (shown : (r : Row) → shows project [] r ≡ Null ∷ copy r)
     (kept : (db : Database) → db.schema ≡ schema → IsDatabase db → (r : Row) → Has (db.trees from) r → cast_all columns (copy r) ≡ copy r) where
   abbrev table : Table
@@ -170,7 +169,7 @@ module _ (schema : Schema) (at tree from : ℕ) (name primary : List ℕ) (uniqu
       let all : Selects [] project [] None (old.trees from) [] asked.0 =
       subst (λ t. Selects [] project [] None t [] asked.0) (overlay_none old.trees from) (copies from project by _ [] asked.0 (asked.1.answer Null)) in
       let edit = edit_of old.trees table [] Chosen 0 asked.0 in
-      let applied : Applies schema mode.keys old.trees edit written.0 = one_step schema mode.keys old.trees written.0 edit (free [] edit.news mode.keys) written.1 in
+      let applied : Applies schema mode.keys old.trees edit written.0 = one_step schema mode.keys old.trees written.0 edit (free_insert schema mode.keys tree edit.news) written.1 in
       let made : after.trees ≡ written.0 = ap (λ (d : Database). d.trees) now ∙ trees in
       let a : Applies schema mode.keys old.trees edit after.trees = subst (λ t. Applies schema mode.keys old.trees edit t) (sym made) applied in
       record {

@@ -6,9 +6,9 @@ use Rattle.sqlite.specs.Change.{next_tree}
 use Rattle.sqlite.specs.declared.types.Value.TheVariants.{Int}
 use Rattle.sqlite.specs.Effect.{Database}
 use Rattle.sqlite.specs.Order.{Row}
-use Rattle.gaz_sql_facts.specs.Archive.{archived, never_lent, notes}
-use Rattle.gaz_sql_facts.specs.Examples.{AreCopiedNotes, WorkedCopies, WorkedEmptied, WorkedGains, WorkedExamples, tea, ice, old_tea, old_ice, lent_jam, tea_again, two_notes}
-use Rattle.gaz_sql_facts.specs.Notes.{note, note_schema}
+use Rattle.gaz_sql_facts.specs.Examples.{AreCopiedNotes, WorkedCopies, WorkedEmptied, WorkedGains, WorkedExamples}
+use Rattle.gaz_sql_facts.specs.Samples.{archived, ice, lent_jam, never_lent, note, note_schema, notes, old_ice, old_tea, tea, tea_again, two_notes}
+use Rattle.gaz_sql_facts.proofs.StandingExamples.{simple, standing}
 
 clash : {A : Type 0} → false ≡ true → A
 clash e = absurd (cc)
@@ -109,13 +109,13 @@ gains : WorkedGains
 gains = record {
   archive_is_last = refl;
   index_is_last = refl;
-  not_with_a_row = λ old new is one it. some_row (new.trees archived) old_tea (subst (λ s. new.trees (next_tree s) ≡ []) is it.gains.empty) one;
+  not_with_a_row = λ old new is one it. some_row (new.trees archived) old_tea (subst (λ s. new.trees (next_tree s) ≡ []) is it.empty) one;
   not_without_a_note = λ old new is two one it.
-      let wrong = fewer 1 (old.trees notes) (new.trees notes) (it.gains.others note (has_note old is)) two (ap length one) in omega (arith, wrong);
+      let wrong = fewer 1 (old.trees notes) (new.trees notes) (it.others note (has_note old is)) two (ap length one) in omega (arith, wrong);
   index_loses_no_note = λ old new is two none it.
       let first : Has old.schema.tables note = subst (λ s. Has s.tables note) (sym is) (inl refl) in
-      let wrong = fewer 0 (old.trees notes) (new.trees notes) (it.gains.others note first) two (ap length none) in omega (arith, wrong);
+      let wrong = fewer 0 (old.trees notes) (new.trees notes) (it.others note first) two (ap length none) in omega (arith, wrong);
 }
 
 pub worked_examples_hold : WorkedExamples
-worked_examples_hold = record { on_copies = copies; on_emptied = emptied; on_gains = gains }
+worked_examples_hold = record { on_copies = copies; on_emptied = emptied; on_gains = gains; on_standing = standing; on_simple = simple }

@@ -1,41 +1,18 @@
--- Worked examples: what a copy, an emptied table and a new archive are, and what they are not.
-use Rattle.std.specs.Prelude.{◌≡◌, pos, List, [], ◌∷◌, codes}
+-- Worked examples: what a copy, an emptied table and a new archive are, where a table stands, which
+-- texts ask for it alone, and what none of these are.
+use Rattle.std.specs.Prelude.{◌≡◌, true, false, List, [], ◌∷◌, codes}
 use Rattle.sqlite_catalog.specs.Change.{created, indexed}
-use Rattle.sqlite.specs.declared.types.Value.TheVariants.{Int, Text as Words, Blob as Bytes}
 use Rattle.sqlite.specs.Effect.{Database}
 use Rattle.sqlite.specs.Order.{Row}
-use Rattle.gaz_sql_facts.specs.Archive.{MakesArchive, MakesByDay, archive, archived, by_day}
-use Rattle.gaz_sql_facts.specs.Archive.{never_lent, notes, with_archive, with_by_day}
 use Rattle.gaz_sql_facts.specs.Copies.{AreCopied}
 use Rattle.gaz_sql_facts.specs.Emptied.{IsEmptied}
-use Rattle.gaz_sql_facts.specs.Notes.{note_schema}
-
--- two notes of shelf 7, under the rowids 3 and 9
-abbrev pub tea : Row
-tea = Int (pos 3) ∷ Int (pos 7) ∷ Words (codes "tea") ∷ Int (pos 1) ∷ Bytes (codes "hot") ∷ []
-
-abbrev pub ice : Row
-ice = Int (pos 9) ∷ Int (pos 7) ∷ Words (codes "ice") ∷ Int (pos 2) ∷ Bytes (codes "cold") ∷ []
-
--- the same two in the archive, which numbers its rows itself, and one that was there and was lent
-abbrev pub old_tea : Row
-old_tea = Int (pos 2) ∷ Int (pos 7) ∷ Words (codes "tea") ∷ Int (pos 1) ∷ Bytes (codes "hot")
-    ∷ Int (pos 0) ∷ []
-
-abbrev pub old_ice : Row
-old_ice = Int (pos 3) ∷ Int (pos 7) ∷ Words (codes "ice") ∷ Int (pos 2) ∷ Bytes (codes "cold")
-    ∷ Int (pos 0) ∷ []
-
-abbrev pub lent_jam : Row
-lent_jam = Int (pos 1) ∷ Int (pos 8) ∷ Words (codes "jam") ∷ Int (pos 1) ∷ Bytes (codes "red")
-    ∷ Int (pos 4) ∷ []
-
--- the tea once more, under another rowid
-abbrev pub tea_again : Row
-tea_again = Int (pos 4) ∷ never_lent tea
-
-abbrev pub two_notes : List Row
-two_notes = tea ∷ ice ∷ []
+use Rattle.gaz_sql_facts.specs.Gains.{GainsIndex, GainsTable}
+use Rattle.gaz_sql_facts.specs.Samples.{archive, archived, behind_archive, behind_namesake, by_day}
+use Rattle.gaz_sql_facts.specs.Samples.{ice, lent_jam, moved_note, never_lent, note, note_schema}
+use Rattle.gaz_sql_facts.specs.Samples.{notes, old_ice, old_tea, tea_again, two_notes}
+use Rattle.gaz_sql_facts.specs.Samples.{under_archive, with_archive, with_by_day}
+use Rattle.gaz_sql_facts.specs.Simple.{is_simple_text}
+use Rattle.gaz_sql_facts.specs.Standing.{IsApart, ReadsAs, StandsAt}
 
 -- what a copy of the two notes makes of the rows of an archive
 abbrev pub AreCopiedNotes : List Row → List Row → Type 0
@@ -55,17 +32,48 @@ pub record WorkedEmptied : Type 0 where
   pub was_empty : IsEmptied [] []
   pub not_with_one_left : ¬ IsEmptied two_notes (ice ∷ [])
 
+-- an archive, and its index, of which it isn't said yet at which tree they come to stand
+abbrev pub GainsArchive : Database → Database → Type 0
+GainsArchive = GainsTable (record archive { tree = 0 })
+
+abbrev pub GainsByDay : Database → Database → Type 0
+GainsByDay = GainsIndex archive (record by_day { tree = 0 })
+
 pub record WorkedGains : Type 0 where
   pub archive_is_last : created note_schema (record archive { tree = 0 }) ≡ with_archive
   pub index_is_last : indexed with_archive archive (record by_day { tree = 0 }) ≡ with_by_day
   pub not_with_a_row : (old new : Database) → old.schema ≡ note_schema
-      → new.trees archived ≡ old_tea ∷ [] → ¬ MakesArchive old new
+      → new.trees archived ≡ old_tea ∷ [] → ¬ GainsArchive old new
   pub not_without_a_note : (old new : Database) → old.schema ≡ note_schema
-      → old.trees notes ≡ two_notes → new.trees notes ≡ ice ∷ [] → ¬ MakesArchive old new
+      → old.trees notes ≡ two_notes → new.trees notes ≡ ice ∷ [] → ¬ GainsArchive old new
   pub index_loses_no_note : (old new : Database) → old.schema ≡ with_archive
-      → old.trees notes ≡ two_notes → new.trees notes ≡ [] → ¬ MakesByDay old new
+      → old.trees notes ≡ two_notes → new.trees notes ≡ [] → ¬ GainsByDay old new
+
+pub record WorkedStanding : Type 0 where
+  pub first : StandsAt with_by_day 0 note
+  pub behind_another : StandsAt behind_archive 1 moved_note
+  pub not_at_the_other : ¬ StandsAt behind_archive 0 moved_note
+  pub not_behind_its_name : ¬ StandsAt behind_namesake 1 moved_note
+  pub read_alike : ReadsAs note moved_note
+  pub not_with_a_column_more : ¬ ReadsAs note (record archive { name = codes "note" })
+  pub apart : IsApart behind_archive 40
+  pub not_apart : ¬ IsApart under_archive 40
+  pub other_apart : IsApart under_archive archived
+
+pub record WorkedSimple : Type 0 where
+  pub query : is_simple_text note (codes "SELECT body FROM note WHERE since > ?1 ORDER BY name LIMIT 9") ≡ true
+  pub insert : is_simple_text note (codes "INSERT INTO note VALUES (?1, ?2, 3, ?4)") ≡ true
+  pub update : is_simple_text note (codes "UPDATE note SET since = ?1 WHERE rowid = 3 OR shelf = 7") ≡ true
+  pub delete : is_simple_text note (codes "DELETE FROM note") ≡ true
+  pub not_another_table : is_simple_text note (codes "SELECT body FROM archive") ≡ false
+  pub not_another_column : is_simple_text note (codes "SELECT lent FROM note") ≡ false
+  pub not_two_tables : is_simple_text note (codes "SELECT body FROM note, archive") ≡ false
+  pub not_a_subquery : is_simple_text note (codes "DELETE FROM note WHERE shelf = (SELECT 7)") ≡ false
+  pub not_a_way_out : is_simple_text note (codes "INSERT OR IGNORE INTO note VALUES (1, 2, 3, 4)") ≡ false
 
 pub record WorkedExamples : Type 0 where
   pub on_copies : WorkedCopies
   pub on_emptied : WorkedEmptied
   pub on_gains : WorkedGains
+  pub on_standing : WorkedStanding
+  pub on_simple : WorkedSimple

@@ -1,22 +1,13 @@
--- What the statements over the archive come to, one after another.
-use Rattle.std.specs.Prelude.{◌≡◌, []}
-use Rattle.sqlite.specs.Effect.{Database}
-use Rattle.gaz_sql_facts.specs.Archive.{CopiesNotes, HasArchive, MakesArchive, MakesByDay}
-use Rattle.gaz_sql_facts.specs.Archive.{archived, never_lent, notes}
-use Rattle.gaz_sql_facts.specs.Changes.{Changes}
-use Rattle.gaz_sql_facts.specs.Copies.{AreCopied}
-use Rattle.gaz_sql_facts.specs.Emptied.{IsEmptied}
-use Rattle.gaz_sql_facts.specs.Notes.{HasNotes}
+-- What texts over one table hang on.
+use Rattle.std.specs.Prelude.{◌≡◌, ℕ, true, List}
+use Rattle.sqlite_schema.specs.declared.schema.Table.{Table}
+use Rattle.gaz_sql_facts.specs.Meaning.{Means, MeansAnywhere, OnTable, placed}
+use Rattle.gaz_sql_facts.specs.Simple.{is_simple_text}
+use Rattle.gaz_sql_facts.specs.Standing.{StandsAt, alone}
 
--- the notes have moved: the archive has each of them once and nothing else, and their table is left
--- without a row
-pub record MovesNotes (old new : Database) : Type 0 where
-  pub tables : HasArchive new
-  pub rows : AreCopied never_lent (old.trees notes) [] (new.trees archived)
-  pub emptied : new.trees notes ≡ []
-
--- an archive that is made and indexed, filled and left alone has what the notes were
-abbrev pub NotesAreMoved : Type 0
-NotesAreMoved = (old made with_index filled new : Database) → HasNotes old → MakesArchive old made
-    → MakesByDay made with_index → Changes archived (CopiesNotes with_index) with_index filled
-    → Changes notes IsEmptied filled new → MovesNotes old new
+-- a simple text means the same command of a table in any schema in which it stands as where that
+-- table is alone, whatever its tree, keys, checks and foreign keys
+abbrev pub TextsStandAlone : Type 0
+TextsStandAlone = (table : Table) (text : List ℕ) (it : OnTable) → StandsAt (alone table) 0 table
+    → is_simple_text table text ≡ true → Means (alone table) text (placed 0 table.tree it)
+    → MeansAnywhere table text it

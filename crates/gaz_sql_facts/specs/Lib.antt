@@ -1,10 +1,12 @@
-pub mod Archive
 pub mod Changes
 pub mod Copies
 pub mod Emptied
 pub mod Examples
 pub mod Gains
 pub mod Laws
-pub mod Notes
+pub mod Meaning
+pub mod Samples
 pub mod Selects
+pub mod Simple
+pub mod Standing
 pub mod Tables

@@ -1,13 +1,13 @@
-//! What whoever moves rows between tables may rest on.
+//! What whoever states texts of SQL may rest on.
 ghost use Rattle.gaz_sql_facts.specs.Examples.{WorkedExamples};
-ghost use Rattle.gaz_sql_facts.specs.Laws.{NotesAreMoved};
+ghost use Rattle.gaz_sql_facts.specs.Laws.{TextsStandAlone};
 
 /// What the definitions come to on worked examples.
 pub fn worked_examples()
     ensures { WorkedExamples }
 {}
 
-/// The statements over the archive, one after another, move every note and lose none.
-pub fn notes_are_moved()
-    ensures { NotesAreMoved }
+/// A simple text over one table hangs on nothing else of a schema.
+pub fn texts_stand_alone()
+    ensures { TextsStandAlone }
 {}

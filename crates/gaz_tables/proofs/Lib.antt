@@ -16,6 +16,8 @@ pub mod ReceivedWrites
 pub mod RowidMeanings
 pub mod RowidQueries
 pub mod Shown
+pub mod Standing
+pub mod StandingTexts
 pub mod Staying
 pub mod Steps
 pub mod Tests

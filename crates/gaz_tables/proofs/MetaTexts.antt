@@ -15,46 +15,55 @@ use Rattle.sqlite.specs.declared.error.Error.{Error}
 use Rattle.sqlite.specs.declared.types.Value.TheVariants.{Null, Int, Text}
 use Rattle.sqlite.specs.Edit.{id_in}
 use Rattle.sqlite.specs.Effect.{Database}
-use Rattle.sqlite.specs.Listing.{understood}
 use Rattle.sqlite.specs.Order.{Row}
 use Rattle.sqlite.specs.Source.TheVariants.{Values}
 use Rattle.sqlite.specs.State.{State, ExecutesInside}
 use Rattle.sqlite.specs.Term.{Term, lit, col}
 use Rattle.sqlite.specs.View.{is_int}
 use Rattle.gaz_sql_facts.specs.Changes.{Changes, InPlace}
+use Rattle.gaz_sql_facts.specs.Meaning.{MeansAnywhere, OnTable}
 use Rattle.gaz_sql_facts.specs.Selects.{selecting, every, equals, Selects}
 use Rattle.gaz_sql_facts.proofs.Inserts.{inserted}
+use Rattle.gaz_tables.proofs.Standing.{of_meta}
 use Rattle.gaz_tables.proofs.Shown.{answered, shows_some}
 use Rattle.gaz_tables.proofs.Tests.{Test, SuitsAll, means, met}
-use Rattle.gaz_sql_facts.proofs.Texts.{IsCommand, IsSelect}
+use Rattle.gaz_sql_facts.proofs.TextMoves.{anywhere}
+use Rattle.gaz_sql_facts.proofs.Texts.{IsCommand, IsSelect, is_command, is_select}
 use Rattle.gaz_sql_facts.proofs.Typed.{cast_null, cast_int}
 use Rattle.gaz_sql_facts.proofs.Updates.{updated, changed_to}
 use Rattle.gaz_tables.specs.Metas.{AddsMeta, FindsTwo, IsAny, Rewrites, id_of, rows_text}
-use Rattle.gaz_tables.specs.Schema.{store_schema, metas, meta_columns}
+use Rattle.gaz_tables.specs.Schema.{store_schema, metas, meta_columns, meta}
 use Rattle.gaz_tables.specs.Stores.{HasTables}
+use Rattle.gaz_tables.specs.Texts.{insert_meta_text as insert_text, rewrite_meta_text as rewrite_text}
 
 abbrev pub rows_terms : List Term
 rows_terms = col 1 0 ∷ col 1 2 ∷ col 1 3 ∷ []
 
+abbrev pub rows_on : OnTable
+rows_on = OnTable.Selects [] rows_terms [] (lit (Int (pos 2))) (codes "id" ∷ codes "number" ∷ codes "register" ∷ [])
+
+pub rows_anywhere : MeansAnywhere meta rows_text rows_on
+unfolding everything
+rows_anywhere = anywhere meta rows_text rows_on refl refl (record { read = _; is = refl; command_is = refl; no_rows = refl; no_time = refl })
+
 pub rows_is : IsSelect store_schema rows_text (selecting metas [] rows_terms [] (lit (Int (pos 2)))) (codes "id" ∷ codes "number" ∷ codes "register" ∷ [])
-unfolding understood everything
-rows_is = record { is = refl; plain = (refl, refl); unlisted = refl }
+rows_is = is_select store_schema rows_text _ _ (of_meta rows_text rows_on rows_anywhere)
 
 pub rows_found : (db : Database) (r : Result (Vec Row Global) Error) → IfOk r (λ rows. Selects [] rows_terms [] (Some 2) (db.trees metas) [] rows.items) → IfOk r (λ rows. FindsTwo (db.trees metas) rows.items)
 rows_found db r h = answered r (λ answer s. shows_some [] rows_terms [] (db.trees metas) IsAny (λ r there p. tt) (λ r there fits. refl) 2 answer s) h
 
-abbrev pub insert_text : List ℕ
-insert_text = codes "INSERT INTO meta VALUES (1, ?1, ?2)"
-
 abbrev pub insert_terms : List Term
 insert_terms = lit (Int (pos 1)) ∷ lit Null ∷ col 0 0 ∷ col 0 1 ∷ []
 
-pub insert_is : IsCommand store_schema insert_text (Insert 2 (Values insert_terms 4))
-unfolding understood everything
-insert_is = record { is = refl; plain = (refl, refl) }
+abbrev pub insert_on : OnTable
+insert_on = OnTable.Inserts insert_terms 4
 
-abbrev pub rewrite_text : List ℕ
-rewrite_text = codes "UPDATE meta SET number = ?1, register = ?2 WHERE id = 1"
+pub insert_anywhere : MeansAnywhere meta insert_text insert_on
+unfolding everything
+insert_anywhere = anywhere meta insert_text insert_on refl refl (record { read = _; is = refl; command_is = refl; no_rows = refl; no_time = refl })
+
+pub insert_is : IsCommand store_schema insert_text (Insert 2 (Values insert_terms 4))
+insert_is = is_command store_schema insert_text _ (of_meta insert_text insert_on insert_anywhere)
 
 abbrev pub first_tests : List Term
 first_tests = equals (col 1 0) (lit (Int (pos 1))) ∷ []
@@ -62,9 +71,15 @@ first_tests = equals (col 1 0) (lit (Int (pos 1))) ∷ []
 abbrev pub rewrite_terms : List Term
 rewrite_terms = col 1 0 ∷ col 1 0 ∷ lit Null ∷ col 0 0 ∷ col 0 1 ∷ []
 
+abbrev pub rewrite_on : OnTable
+rewrite_on = OnTable.Updates first_tests rewrite_terms
+
+pub rewrite_anywhere : MeansAnywhere meta rewrite_text rewrite_on
+unfolding everything
+rewrite_anywhere = anywhere meta rewrite_text rewrite_on refl refl (record { read = _; is = refl; command_is = refl; no_rows = refl; no_time = refl })
+
 pub rewrite_is : IsCommand store_schema rewrite_text (Update 2 (record { lets = []; body = selecting metas first_tests rewrite_terms [] every }))
-unfolding understood everything
-rewrite_is = record { is = refl; plain = (refl, refl) }
+rewrite_is = is_command store_schema rewrite_text _ (of_meta rewrite_text rewrite_on rewrite_anywhere)
 
 kept_values : (number : ℕ) (register : List ℕ) → cast_all meta_columns (Null ∷ Int (pos number) ∷ Text register ∷ []) ≡ Null ∷ Int (pos number) ∷ Text register ∷ []
 kept_values number register = ap (λ v. v ∷ cast kind.Integer (Int (pos number)) ∷ Text register ∷ []) cast_null ∙ ap (λ v. Null ∷ v ∷ Text register ∷ []) (cast_int (pos number))
@@ -79,7 +94,7 @@ module _ (old new : State) (has : HasTables old.now) (number : ℕ) (register : 
   pub insert_done : (r : Result ℕ Error) → ExecutesInside 0 insert_text meta_params old new r → OnOk r (Changes metas (AddsMeta number register) old.now new.now × InPlace old new)
   insert_done (Err e) h = tt
   insert_done (Ok count) h =
-      inserted store_schema 2 metas (Some 0) _ _ [] meta_columns _ insert_terms 4 meta_params (Int (pos 1)) values refl (λ _ _ _. refl) refl
+      inserted store_schema 2 metas (Some 0) _ _ [] meta_columns _ insert_terms 4 meta_params (Int (pos 1)) values refl refl
       (ap (λ v. v ∷ cast_all meta_columns values) (cast_int (pos 1)) ∙ ap (λ vs. Int (pos 1) ∷ vs) (kept_values number register)) insert_text insert_is old new has.schema_is count h.0
 
   abbrev wanted : List Test

@@ -18,17 +18,21 @@ use Rattle.sqlite_trees.specs.declared.store.Shape.TheVariants as shape
 use Rattle.gaz_sql_facts.specs.Changes.{Changes, InPlace}
 use Rattle.gaz_sql_facts.specs.Copies.{AreCopied, copying}
 use Rattle.gaz_sql_facts.specs.Emptied.{IsEmptied}
+use Rattle.gaz_sql_facts.specs.Meaning.{MeansAnywhere, OnTable}
 use Rattle.gaz_sql_facts.specs.Selects.{selecting, every}
 use Rattle.gaz_sql_facts.proofs.Copies.{filled}
 use Rattle.gaz_sql_facts.proofs.Emptied.{emptied, empty_is_shaped}
-use Rattle.gaz_sql_facts.proofs.Texts.{IsCommand}
+use Rattle.gaz_sql_facts.proofs.TextMoves.{anywhere}
+use Rattle.gaz_sql_facts.proofs.Texts.{IsCommand, is_command}
 use Rattle.gaz_sql_facts.proofs.Typed.{typed, kept_by_cast}
+use Rattle.gaz_tables.proofs.Standing.{of_version}
 use Rattle.gaz_tables.proofs.Staying.{stays}
 use Rattle.gaz_tables.specs.Creating.{Gains}
 use Rattle.gaz_tables.specs.Metas.{Rewrites}
 use Rattle.gaz_tables.specs.Migrating.{CopiesRows, HasFirstTables, Migrates, MovesRows, with_hop}
 use Rattle.gaz_tables.specs.Schema.{first_schema, store_schema, version, received, meta, version2, version_columns, version2_columns, old_versions, versions, metas}
 use Rattle.gaz_tables.specs.Stores.{HasTables}
+use Rattle.gaz_tables.specs.Texts.{empty_versions_text as empty_text}
 
 abbrev pub copy_text : List ℕ
 copy_text = codes "INSERT INTO version2 SELECT cust, kind, id, blpu, street, lang, live, born, gone, body, 0 FROM version"
@@ -43,20 +47,23 @@ pub copy_is : IsCommand store_schema copy_text (Insert 3 (Asked (record { lets =
 unfolding understood everything
 copy_is = record { is = refl; plain = (refl, refl) }
 
-abbrev pub empty_text : List ℕ
-empty_text = codes "DELETE FROM version"
-
 abbrev pub empty_terms : List Term
 empty_terms = col 1 0 ∷ []
 
+abbrev pub empty_on : OnTable
+empty_on = OnTable.Deletes [] empty_terms
+
+pub empty_anywhere : MeansAnywhere version empty_text empty_on
+unfolding everything
+empty_anywhere = anywhere version empty_text empty_on refl refl (record { read = _; is = refl; command_is = refl; no_rows = refl; no_time = refl })
+
 pub empty_is : IsCommand store_schema empty_text (Delete 0 (record { lets = []; body = selecting old_versions [] empty_terms [] every }))
-unfolding understood everything
-empty_is = record { is = refl; plain = (refl, refl) }
+empty_is = is_command store_schema empty_text _ (of_version empty_text empty_on empty_anywhere)
 
 module _ (old new : State) (has : HasTables old.now) where
   pub copy_done : (r : Result ℕ Error) → ExecutesInside 0 copy_text [] old new r → OnOk r (Changes versions (CopiesRows old.now) old.now new.now × InPlace old new)
   copy_done (Err e) h = tt
-  copy_done (Ok count) h = filled store_schema 3 versions old_versions _ _ ((1 ∷ 2 ∷ 3 ∷ 8 ∷ []) ∷ []) version2_columns _ copy_terms copy_collations with_hop refl (λ _ _ _. refl) (λ r. refl)
+  copy_done (Ok count) h = filled store_schema 3 versions old_versions _ _ ((1 ∷ 2 ∷ 3 ∷ 8 ∷ []) ∷ []) version2_columns _ copy_terms copy_collations with_hop refl (λ r. refl)
       (λ db is good r there. kept_by_cast version2_columns (with_hop r)
       (let first : Has db.schema.tables version = subst (λ s. Has s.tables version) (sym is) (inl refl) in
       let t = typed db r version good first there refl refl in

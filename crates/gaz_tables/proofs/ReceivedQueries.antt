@@ -1,41 +1,47 @@
 -- What the queries of `received` mean.
-use Rattle.std.proofs.Common.{ℕ, List, [], ◌∷◌, codes, refl}
+use Rattle.std.proofs.Common.{List, [], ◌∷◌, codes, refl}
 use Rattle.sqlite_tied.specs.Compute.{everything}
 use Rattle.sqlite.specs.Collation.TheVariants.{Binary}
-use Rattle.sqlite.specs.Listing.{understood}
 use Rattle.sqlite.specs.Term.{Term, col, op2}
 use Rattle.sqlite_sql.specs.declared.ops.BinaryOp.TheVariants.{Compare}
 use Rattle.sqlite_sql.specs.declared.ops.CompareOp.TheVariants.{Gt}
+use Rattle.gaz_sql_facts.specs.Meaning.{MeansAnywhere, OnTable}
 use Rattle.gaz_sql_facts.specs.Selects.{selecting, every, equals, rising}
-use Rattle.gaz_sql_facts.proofs.Texts.{IsSelect}
-use Rattle.gaz_tables.specs.Schema.{store_schema, receiveds}
+use Rattle.gaz_sql_facts.proofs.TextMoves.{anywhere}
+use Rattle.gaz_sql_facts.proofs.Texts.{IsSelect, is_select}
+use Rattle.gaz_tables.proofs.Standing.{of_received}
+use Rattle.gaz_tables.specs.Schema.{store_schema, receiveds, received}
+use Rattle.gaz_tables.specs.Texts.{file_text, verdict_text, volumes_above_text as above_text}
 
 -- WHERE cust = ?1 AND volume = ?2
 abbrev pub volume_tests : List Term
 volume_tests = equals (col 1 1) (col 0 0) ∷ equals (col 1 2) (col 0 1) ∷ []
 
-abbrev pub file_text : List ℕ
-file_text = codes "SELECT bytes, state, place, rule FROM received WHERE cust = ?1 AND volume = ?2"
-
 abbrev pub file_terms : List Term
 file_terms = col 1 3 ∷ col 1 4 ∷ col 1 5 ∷ col 1 6 ∷ []
 
-pub file_is : IsSelect store_schema file_text (selecting receiveds volume_tests file_terms [] every) (codes "bytes" ∷ codes "state" ∷ codes "place" ∷ codes "rule" ∷ [])
-unfolding understood everything
-file_is = record { is = refl; plain = (refl, refl); unlisted = refl }
+abbrev pub file_on : OnTable
+file_on = OnTable.Selects volume_tests file_terms [] every (codes "bytes" ∷ codes "state" ∷ codes "place" ∷ codes "rule" ∷ [])
 
-abbrev pub verdict_text : List ℕ
-verdict_text = codes "SELECT state, place, rule FROM received WHERE cust = ?1 AND volume = ?2"
+pub file_anywhere : MeansAnywhere received file_text file_on
+unfolding everything
+file_anywhere = anywhere received file_text file_on refl refl (record { read = _; is = refl; command_is = refl; no_rows = refl; no_time = refl })
+
+pub file_is : IsSelect store_schema file_text (selecting receiveds volume_tests file_terms [] every) (codes "bytes" ∷ codes "state" ∷ codes "place" ∷ codes "rule" ∷ [])
+file_is = is_select store_schema file_text _ _ (of_received file_text file_on file_anywhere)
 
 abbrev pub verdict_terms : List Term
 verdict_terms = col 1 4 ∷ col 1 5 ∷ col 1 6 ∷ []
 
-pub verdict_is : IsSelect store_schema verdict_text (selecting receiveds volume_tests verdict_terms [] every) (codes "state" ∷ codes "place" ∷ codes "rule" ∷ [])
-unfolding understood everything
-verdict_is = record { is = refl; plain = (refl, refl); unlisted = refl }
+abbrev pub verdict_on : OnTable
+verdict_on = OnTable.Selects volume_tests verdict_terms [] every (codes "state" ∷ codes "place" ∷ codes "rule" ∷ [])
 
-abbrev pub above_text : List ℕ
-above_text = codes "SELECT volume FROM received WHERE cust = ?1 AND volume > ?2 ORDER BY volume LIMIT ?3"
+pub verdict_anywhere : MeansAnywhere received verdict_text verdict_on
+unfolding everything
+verdict_anywhere = anywhere received verdict_text verdict_on refl refl (record { read = _; is = refl; command_is = refl; no_rows = refl; no_time = refl })
+
+pub verdict_is : IsSelect store_schema verdict_text (selecting receiveds volume_tests verdict_terms [] every) (codes "state" ∷ codes "place" ∷ codes "rule" ∷ [])
+verdict_is = is_select store_schema verdict_text _ _ (of_received verdict_text verdict_on verdict_anywhere)
 
 abbrev pub above_tests : List Term
 above_tests = equals (col 1 1) (col 0 0) ∷ op2 (Compare Gt Binary) (col 1 2) (col 0 1) ∷ []
@@ -43,6 +49,12 @@ above_tests = equals (col 1 1) (col 0 0) ∷ op2 (Compare Gt Binary) (col 1 2) (
 abbrev pub above_terms : List Term
 above_terms = col 1 2 ∷ []
 
+abbrev pub above_on : OnTable
+above_on = OnTable.Selects above_tests above_terms ((col 1 2, rising) ∷ []) (col 0 2) (codes "volume" ∷ [])
+
+pub above_anywhere : MeansAnywhere received above_text above_on
+unfolding everything
+above_anywhere = anywhere received above_text above_on refl refl (record { read = _; is = refl; command_is = refl; no_rows = refl; no_time = refl })
+
 pub above_is : IsSelect store_schema above_text (selecting receiveds above_tests above_terms ((col 1 2, rising) ∷ []) (col 0 2)) (codes "volume" ∷ [])
-unfolding understood everything
-above_is = record { is = refl; plain = (refl, refl); unlisted = refl }
+above_is = is_select store_schema above_text _ _ (of_received above_text above_on above_anywhere)

@@ -1,39 +1,45 @@
 -- What the texts that write `received` do.
-use Rattle.std.proofs.Common.{ℕ, ℤ, pos, List, [], ◌∷◌, codes, None, inl, inr, Ok, Err, Result, OnOk, refl}
+use Rattle.std.proofs.Common.{ℕ, ℤ, pos, List, [], ◌∷◌, None, inl, inr, Ok, Err, Result, OnOk, refl}
 use Rattle.sqlite_tied.specs.Compute.{everything}
 use Rattle.sqlite_rules.specs.Lists.{Has}
 use Rattle.sqlite_sql.specs.declared.ops.CompareOp.TheVariants.{Eq}
 use Rattle.sqlite.specs.Command.TheVariants.{Insert, Update}
 use Rattle.sqlite.specs.declared.error.Error.{Error}
 use Rattle.sqlite.specs.declared.types.Value.TheVariants.{Null, Int, Blob}
-use Rattle.sqlite.specs.Listing.{understood}
 use Rattle.sqlite.specs.Order.{Row, column}
 use Rattle.sqlite.specs.Source.TheVariants.{Values}
 use Rattle.sqlite.specs.State.{State, ExecutesInside}
 use Rattle.sqlite.specs.Term.{Term, lit, col}
 use Rattle.gaz_sql_facts.specs.Changes.{Changes, InPlace}
+use Rattle.gaz_sql_facts.specs.Meaning.{MeansAnywhere, OnTable}
 use Rattle.gaz_sql_facts.specs.Selects.{selecting, every, equals}
 use Rattle.gaz_sql_facts.proofs.Inserts.{inserted, kept_row}
+use Rattle.gaz_tables.proofs.Standing.{of_received}
 use Rattle.gaz_tables.proofs.Tests.{Test, SuitsAll, means, met}
-use Rattle.gaz_sql_facts.proofs.Texts.{IsCommand}
+use Rattle.gaz_sql_facts.proofs.TextMoves.{anywhere}
+use Rattle.gaz_sql_facts.proofs.Texts.{IsCommand, is_command}
 use Rattle.gaz_sql_facts.proofs.Updates.{updated, kept_values, changed_to}
 use Rattle.gaz_tables.specs.Schema.{store_schema, receiveds, received, received_columns}
 use Rattle.gaz_tables.specs.Stores.{HasTables, AddsRow}
 use Rattle.gaz_tables.specs.Receiveds.{unjudged, judged, Applies, Rejects}
+use Rattle.gaz_tables.specs.Texts.{receive_text, apply_text, reject_text}
 use Rattle.gaz_tables.proofs.ReceivedRows.{cust_is, volume_is}
 
 abbrev received_uniques : List (List ℕ)
 received_uniques = (1 ∷ 2 ∷ []) ∷ []
 
-abbrev pub receive_text : List ℕ
-receive_text = codes "INSERT INTO received VALUES (?1, ?2, ?3, 0, 0, 0)"
-
 abbrev pub receive_terms : List Term
 receive_terms = lit Null ∷ col 0 0 ∷ col 0 1 ∷ col 0 2 ∷ lit (Int (pos 0)) ∷ lit (Int (pos 0)) ∷ lit (Int (pos 0)) ∷ []
 
+abbrev pub receive_on : OnTable
+receive_on = OnTable.Inserts receive_terms 7
+
+pub receive_anywhere : MeansAnywhere received receive_text receive_on
+unfolding everything
+receive_anywhere = anywhere received receive_text receive_on refl refl (record { read = _; is = refl; command_is = refl; no_rows = refl; no_time = refl })
+
 pub receive_is : IsCommand store_schema receive_text (Insert 1 (Values receive_terms 7))
-unfolding understood everything
-receive_is = record { is = refl; plain = (refl, refl) }
+receive_is = is_command store_schema receive_text _ (of_received receive_text receive_on receive_anywhere)
 
 module _ (old new : State) (has : HasTables old.now) (cust volume : ℕ) (bytes : List ℕ) where
   abbrev pub receive_params : Row
@@ -42,11 +48,8 @@ module _ (old new : State) (has : HasTables old.now) (cust volume : ℕ) (bytes 
   pub receive_done : (r : Result ℕ Error) → ExecutesInside 0 receive_text receive_params old new r → OnOk r (Changes receiveds (AddsRow (unjudged cust volume bytes)) old.now new.now × InPlace old new)
   receive_done (Err e) h = tt
   receive_done (Ok count) h =
-      inserted store_schema 1 receiveds None _ _ received_uniques received_columns _ receive_terms 7 receive_params Null (unjudged cust volume bytes) refl (λ _ _ _. refl) refl
+      inserted store_schema 1 receiveds None _ _ received_uniques received_columns _ receive_terms 7 receive_params Null (unjudged cust volume bytes) refl refl
       (kept_row received_columns (unjudged cust volume bytes) ((pos cust, refl), ((pos volume, refl), ((bytes, refl), ((pos 0, refl), ((pos 0, refl), ((pos 0, refl), tt))))))) receive_text receive_is old new has.schema_is count h.0
-
-abbrev pub apply_text : List ℕ
-apply_text = codes "UPDATE received SET state = 1, place = 0, rule = 0 WHERE cust = ?1 AND volume = ?2"
 
 abbrev pub apply_tests : List Term
 apply_tests = equals (col 1 1) (col 0 0) ∷ equals (col 1 2) (col 0 1) ∷ []
@@ -54,9 +57,15 @@ apply_tests = equals (col 1 1) (col 0 0) ∷ equals (col 1 2) (col 0 1) ∷ []
 abbrev pub apply_terms : List Term
 apply_terms = col 1 0 ∷ col 1 0 ∷ col 1 1 ∷ col 1 2 ∷ col 1 3 ∷ lit (Int (pos 1)) ∷ lit (Int (pos 0)) ∷ lit (Int (pos 0)) ∷ []
 
+abbrev pub apply_on : OnTable
+apply_on = OnTable.Updates apply_tests apply_terms
+
+pub apply_anywhere : MeansAnywhere received apply_text apply_on
+unfolding everything
+apply_anywhere = anywhere received apply_text apply_on refl refl (record { read = _; is = refl; command_is = refl; no_rows = refl; no_time = refl })
+
 pub apply_is : IsCommand store_schema apply_text (Update 1 (record { lets = []; body = selecting receiveds apply_tests apply_terms [] every }))
-unfolding understood everything
-apply_is = record { is = refl; plain = (refl, refl) }
+apply_is = is_command store_schema apply_text _ (of_received apply_text apply_on apply_anywhere)
 
 module _ (old new : State) (has : HasTables old.now) (cust volume : ℕ) where
   abbrev pub apply_params : Row
@@ -80,18 +89,21 @@ module _ (old new : State) (has : HasTables old.now) (cust volume : ℕ) where
         it.1,
       )
 
-abbrev pub reject_text : List ℕ
-reject_text = codes "UPDATE received SET state = 2, place = ?3, rule = ?4 WHERE cust = ?1 AND volume = ?2"
-
 abbrev pub reject_tests : List Term
 reject_tests = equals (col 1 1) (col 0 0) ∷ equals (col 1 2) (col 0 1) ∷ []
 
 abbrev pub reject_terms : List Term
 reject_terms = col 1 0 ∷ col 1 0 ∷ col 1 1 ∷ col 1 2 ∷ col 1 3 ∷ lit (Int (pos 2)) ∷ col 0 2 ∷ col 0 3 ∷ []
 
+abbrev pub reject_on : OnTable
+reject_on = OnTable.Updates reject_tests reject_terms
+
+pub reject_anywhere : MeansAnywhere received reject_text reject_on
+unfolding everything
+reject_anywhere = anywhere received reject_text reject_on refl refl (record { read = _; is = refl; command_is = refl; no_rows = refl; no_time = refl })
+
 pub reject_is : IsCommand store_schema reject_text (Update 1 (record { lets = []; body = selecting receiveds reject_tests reject_terms [] every }))
-unfolding understood everything
-reject_is = record { is = refl; plain = (refl, refl) }
+reject_is = is_command store_schema reject_text _ (of_received reject_text reject_on reject_anywhere)
 
 module _ (old new : State) (has : HasTables old.now) (cust volume : ℕ) (place : ℤ) (rule : ℕ) where
   abbrev pub reject_params : Row

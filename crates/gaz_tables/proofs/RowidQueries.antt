@@ -2,13 +2,16 @@
 use Rattle.std.proofs.Common.{ℕ, List, [], ◌∷◌, codes, refl}
 use Rattle.sqlite_tied.specs.Compute.{everything}
 use Rattle.sqlite.specs.Collation.TheVariants.{Binary}
-use Rattle.sqlite.specs.Listing.{understood}
 use Rattle.sqlite.specs.Term.{Term, col, op2}
 use Rattle.sqlite_sql.specs.declared.ops.BinaryOp.TheVariants.{Compare}
 use Rattle.sqlite_sql.specs.declared.ops.CompareOp.TheVariants.{Gt}
+use Rattle.gaz_sql_facts.specs.Meaning.{MeansAnywhere, OnTable}
 use Rattle.gaz_sql_facts.specs.Selects.{selecting, rising}
-use Rattle.gaz_sql_facts.proofs.Texts.{IsSelect}
-use Rattle.gaz_tables.specs.Schema.{store_schema, versions}
+use Rattle.gaz_sql_facts.proofs.TextMoves.{anywhere}
+use Rattle.gaz_sql_facts.proofs.Texts.{IsSelect, is_select}
+use Rattle.gaz_tables.proofs.Standing.{of_version2}
+use Rattle.gaz_tables.specs.Schema.{store_schema, versions, version2}
+use Rattle.gaz_tables.specs.Texts.{first_rows_text as first_text, rows_behind_text as behind_text}
 
 -- all that a row has, and its name
 abbrev pub row_terms : List Term
@@ -17,22 +20,28 @@ row_terms = col 1 0 ∷ col 1 1 ∷ col 1 2 ∷ col 1 3 ∷ col 1 4 ∷ col 1 5 
 abbrev pub row_names : List (List ℕ)
 row_names = codes "rowid" ∷ codes "cust" ∷ codes "kind" ∷ codes "id" ∷ codes "blpu" ∷ codes "street" ∷ codes "lang" ∷ codes "live" ∷ codes "born" ∷ codes "gone" ∷ codes "body" ∷ codes "hop" ∷ []
 
-abbrev pub first_text : List ℕ
-first_text = codes "SELECT rowid, cust, kind, id, blpu, street, lang, live, born, gone, body, hop FROM version2 ORDER BY rowid LIMIT ?1"
-
 abbrev pub first_tests : List Term
 first_tests = []
 
-pub first_is : IsSelect store_schema first_text (selecting versions first_tests row_terms ((col 1 0, rising) ∷ []) (col 0 0)) row_names
-unfolding understood everything
-first_is = record { is = refl; plain = (refl, refl); unlisted = refl }
+abbrev pub first_on : OnTable
+first_on = OnTable.Selects first_tests row_terms ((col 1 0, rising) ∷ []) (col 0 0) row_names
 
-abbrev pub behind_text : List ℕ
-behind_text = codes "SELECT rowid, cust, kind, id, blpu, street, lang, live, born, gone, body, hop FROM version2 WHERE rowid > ?1 ORDER BY rowid LIMIT ?2"
+pub first_anywhere : MeansAnywhere version2 first_text first_on
+unfolding everything
+first_anywhere = anywhere version2 first_text first_on refl refl (record { read = _; is = refl; command_is = refl; no_rows = refl; no_time = refl })
+
+pub first_is : IsSelect store_schema first_text (selecting versions first_tests row_terms ((col 1 0, rising) ∷ []) (col 0 0)) row_names
+first_is = is_select store_schema first_text _ _ (of_version2 first_text first_on first_anywhere)
 
 abbrev pub behind_tests : List Term
 behind_tests = op2 (Compare Gt Binary) (col 1 0) (col 0 0) ∷ []
 
+abbrev pub behind_on : OnTable
+behind_on = OnTable.Selects behind_tests row_terms ((col 1 0, rising) ∷ []) (col 0 1) row_names
+
+pub behind_anywhere : MeansAnywhere version2 behind_text behind_on
+unfolding everything
+behind_anywhere = anywhere version2 behind_text behind_on refl refl (record { read = _; is = refl; command_is = refl; no_rows = refl; no_time = refl })
+
 pub behind_is : IsSelect store_schema behind_text (selecting versions behind_tests row_terms ((col 1 0, rising) ∷ []) (col 0 1)) row_names
-unfolding understood everything
-behind_is = record { is = refl; plain = (refl, refl); unlisted = refl }
+behind_is = is_select store_schema behind_text _ _ (of_version2 behind_text behind_on behind_anywhere)

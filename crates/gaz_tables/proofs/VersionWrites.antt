@@ -1,39 +1,45 @@
 -- What the texts that write `version2` do.
-use Rattle.std.proofs.Common.{ℕ, ℤ, pos, Bool, if◌then◌else◌, List, [], ◌∷◌, codes, None, inl, inr, Ok, Err, Result, OnOk, refl}
+use Rattle.std.proofs.Common.{ℕ, ℤ, pos, Bool, if◌then◌else◌, List, [], ◌∷◌, None, inl, inr, Ok, Err, Result, OnOk, refl}
 use Rattle.sqlite_tied.specs.Compute.{everything}
 use Rattle.sqlite_rules.specs.Lists.{Has}
 use Rattle.sqlite_sql.specs.declared.ops.CompareOp.TheVariants.{Eq}
 use Rattle.sqlite.specs.Command.TheVariants.{Insert, Update}
 use Rattle.sqlite.specs.declared.error.Error.{Error}
 use Rattle.sqlite.specs.declared.types.Value.TheVariants.{Null, Int, Text}
-use Rattle.sqlite.specs.Listing.{understood}
 use Rattle.sqlite.specs.Order.{Row, column}
 use Rattle.sqlite.specs.Source.TheVariants.{Values}
 use Rattle.sqlite.specs.State.{State, ExecutesInside}
 use Rattle.sqlite.specs.Term.{Term, lit, col}
 use Rattle.gaz_sql_facts.specs.Changes.{Changes, InPlace}
+use Rattle.gaz_sql_facts.specs.Meaning.{MeansAnywhere, OnTable}
 use Rattle.gaz_sql_facts.specs.Selects.{selecting, every, equals}
 use Rattle.gaz_sql_facts.proofs.Inserts.{inserted, kept_row}
+use Rattle.gaz_tables.proofs.Standing.{of_version2}
 use Rattle.gaz_tables.proofs.Tests.{Test, SuitsAll, means, met}
-use Rattle.gaz_sql_facts.proofs.Texts.{IsCommand}
+use Rattle.gaz_sql_facts.proofs.TextMoves.{anywhere}
+use Rattle.gaz_sql_facts.proofs.Texts.{IsCommand, is_command}
 use Rattle.gaz_sql_facts.proofs.Updates.{updated, kept_values, changed_to}
 use Rattle.gaz_tables.specs.Schema.{store_schema, versions, version2, version2_columns}
 use Rattle.gaz_tables.specs.Stores.{HasTables, AddsRow}
+use Rattle.gaz_tables.specs.Texts.{insert_version_text as insert_text, close_version_text as close_text}
 use Rattle.gaz_tables.specs.Versions.{version_values, Closes, gone_at}
 use Rattle.gaz_tables.proofs.VersionRows.{cust_is, kind_is, id_is, born_is}
 
 abbrev version_uniques : List (List ℕ)
 version_uniques = (1 ∷ 2 ∷ 3 ∷ 8 ∷ []) ∷ []
 
-abbrev pub insert_text : List ℕ
-insert_text = codes "INSERT INTO version2 (cust, kind, id, blpu, street, lang, live, born, gone, body, hop) VALUES (?1, ?2, ?3, ?4, ?5, ?6, ?7, ?8, ?9, ?10, ?11)"
-
 abbrev pub insert_terms : List Term
 insert_terms = lit Null ∷ col 0 0 ∷ col 0 1 ∷ col 0 2 ∷ col 0 3 ∷ col 0 4 ∷ col 0 5 ∷ col 0 6 ∷ col 0 7 ∷ col 0 8 ∷ col 0 9 ∷ col 0 10 ∷ []
 
+abbrev pub insert_on : OnTable
+insert_on = OnTable.Inserts insert_terms 12
+
+pub insert_anywhere : MeansAnywhere version2 insert_text insert_on
+unfolding everything
+insert_anywhere = anywhere version2 insert_text insert_on refl refl (record { read = _; is = refl; command_is = refl; no_rows = refl; no_time = refl })
+
 pub insert_is : IsCommand store_schema insert_text (Insert 3 (Values insert_terms 12))
-unfolding understood everything
-insert_is = record { is = refl; plain = (refl, refl) }
+insert_is = is_command store_schema insert_text _ (of_version2 insert_text insert_on insert_anywhere)
 
 module _ (old new : State) (has : HasTables old.now) (cust kind : ℕ) (id : List ℕ) (blpu : ℤ) (street lang : ℕ) (live : Bool) (born gone : ℕ) (body : List ℕ) (hop : ℕ) where
   abbrev pub insert_params : Row
@@ -42,11 +48,8 @@ module _ (old new : State) (has : HasTables old.now) (cust kind : ℕ) (id : Lis
   pub insert_done : (r : Result ℕ Error) → ExecutesInside 0 insert_text insert_params old new r → OnOk r (Changes versions (AddsRow (version_values cust kind id blpu street lang live born gone body hop)) old.now new.now × InPlace old new)
   insert_done (Err e) h = tt
   insert_done (Ok count) h =
-      inserted store_schema 3 versions None _ _ version_uniques version2_columns _ insert_terms 12 insert_params Null (version_values cust kind id blpu street lang live born gone body hop) refl (λ _ _ _. refl) refl
+      inserted store_schema 3 versions None _ _ version_uniques version2_columns _ insert_terms 12 insert_params Null (version_values cust kind id blpu street lang live born gone body hop) refl refl
       (kept_row version2_columns (version_values cust kind id blpu street lang live born gone body hop) ((pos cust, refl), ((pos kind, refl), ((id, refl), ((blpu, refl), ((pos street, refl), ((pos lang, refl), ((if live then pos 1 else pos 0, refl), ((pos born, refl), ((pos gone, refl), ((body, refl), ((pos hop, refl), tt)))))))))))) insert_text insert_is old new has.schema_is count h.0
-
-abbrev pub close_text : List ℕ
-close_text = codes "UPDATE version2 SET gone = ?5 WHERE cust = ?1 AND kind = ?2 AND id = ?3 AND born = ?4"
 
 abbrev pub close_tests : List Term
 close_tests = equals (col 1 1) (col 0 0) ∷ equals (col 1 2) (col 0 1) ∷ equals (col 1 3) (col 0 2) ∷ equals (col 1 8) (col 0 3) ∷ []
@@ -54,9 +57,15 @@ close_tests = equals (col 1 1) (col 0 0) ∷ equals (col 1 2) (col 0 1) ∷ equa
 abbrev pub close_terms : List Term
 close_terms = col 1 0 ∷ col 1 0 ∷ col 1 1 ∷ col 1 2 ∷ col 1 3 ∷ col 1 4 ∷ col 1 5 ∷ col 1 6 ∷ col 1 7 ∷ col 1 8 ∷ col 0 4 ∷ col 1 10 ∷ col 1 11 ∷ []
 
+abbrev pub close_on : OnTable
+close_on = OnTable.Updates close_tests close_terms
+
+pub close_anywhere : MeansAnywhere version2 close_text close_on
+unfolding everything
+close_anywhere = anywhere version2 close_text close_on refl refl (record { read = _; is = refl; command_is = refl; no_rows = refl; no_time = refl })
+
 pub close_is : IsCommand store_schema close_text (Update 3 (record { lets = []; body = selecting versions close_tests close_terms [] every }))
-unfolding understood everything
-close_is = record { is = refl; plain = (refl, refl) }
+close_is = is_command store_schema close_text _ (of_version2 close_text close_on close_anywhere)
 
 module _ (old new : State) (has : HasTables old.now) (cust kind : ℕ) (id : List ℕ) (born gone : ℕ) where
   abbrev pub close_params : Row

@@ -5,9 +5,20 @@ use Rattle.sqlite.specs.Order.{Row}
 use Rattle.sqlite_rules.specs.Lists.{Has}
 use Rattle.sqlite_schema.specs.declared.schema.Table.{Table}
 use Rattle.gaz_sql_facts.specs.Changes.{Changes}
+use Rattle.gaz_sql_facts.specs.Meaning.{MeansAnywhere, OnTable}
+use Rattle.gaz_tables.specs.Metas.{rows_text}
 use Rattle.gaz_tables.specs.Receiveds.{IsVolume}
-use Rattle.gaz_tables.specs.Schema.{store_schema, receiveds, versions}
+use Rattle.gaz_tables.specs.Schema.{meta, received, receiveds, store_schema, version, version2}
+use Rattle.gaz_tables.specs.Schema.{versions}
 use Rattle.gaz_tables.specs.Stores.{HasTables}
+use Rattle.gaz_tables.specs.Texts.{apply_text, approved_of_text, approved_on_text}
+use Rattle.gaz_tables.specs.Texts.{close_version_text, custody_behind_text, empty_versions_text}
+use Rattle.gaz_tables.specs.Texts.{file_text, first_rows_text, held_versions_text}
+use Rattle.gaz_tables.specs.Texts.{insert_meta_text, insert_version_text, newest_custody_text}
+use Rattle.gaz_tables.specs.Texts.{newest_custody_until_text, newest_version_text}
+use Rattle.gaz_tables.specs.Texts.{newest_version_until_text, parts_of_text, receive_text}
+use Rattle.gaz_tables.specs.Texts.{reject_text, rewrite_meta_text, rows_behind_text}
+use Rattle.gaz_tables.specs.Texts.{verdict_text, volumes_above_text}
 use Rattle.gaz_tables.specs.Versions.{IsOfBirth}
 
 -- no two rows of one key are born in one volume
@@ -33,3 +44,33 @@ TablesStay = (tree : ℕ) (old new : Database) → HasTables old → Changes tre
     → HasTables new
     × ((t : Table) → Has store_schema.tables t → t.tree ≢ tree
     → new.trees t.tree ≡ old.trees t.tree)
+
+-- the text is one command on the table, in any schema in which such a table stands
+abbrev pub HangsOn : Table → List ℕ → Type 0
+HangsOn table text = (it : OnTable) × MeansAnywhere table text it
+
+-- no statement over one table asks for anything beside it
+pub record StatementsStandAlone : Type 0 where
+  pub newest_version : HangsOn version2 newest_version_text
+  pub newest_version_until : HangsOn version2 newest_version_until_text
+  pub held_versions : HangsOn version2 held_versions_text
+  pub approved_of : HangsOn version2 approved_of_text
+  pub approved_on : HangsOn version2 approved_on_text
+  pub parts_of : HangsOn version2 parts_of_text
+  pub insert_version : HangsOn version2 insert_version_text
+  pub close_version : HangsOn version2 close_version_text
+  pub newest_custody : HangsOn version2 newest_custody_text
+  pub newest_custody_until : HangsOn version2 newest_custody_until_text
+  pub custody_behind : HangsOn version2 custody_behind_text
+  pub first_rows : HangsOn version2 first_rows_text
+  pub rows_behind : HangsOn version2 rows_behind_text
+  pub file : HangsOn received file_text
+  pub verdict : HangsOn received verdict_text
+  pub volumes_above : HangsOn received volumes_above_text
+  pub receive : HangsOn received receive_text
+  pub apply : HangsOn received apply_text
+  pub reject : HangsOn received reject_text
+  pub meta_rows : HangsOn meta rows_text
+  pub insert_meta : HangsOn meta insert_meta_text
+  pub rewrite_meta : HangsOn meta rewrite_meta_text
+  pub empty_versions : HangsOn version empty_versions_text

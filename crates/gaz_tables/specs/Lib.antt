@@ -10,4 +10,5 @@ pub mod Rowids
 pub mod Schema
 pub mod Shows
 pub mod Stores
+pub mod Texts
 pub mod Versions

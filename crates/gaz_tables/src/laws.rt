@@ -1,6 +1,6 @@
 //! What whoever keeps something in the tables may rest on.
 ghost use Rattle.gaz_tables.specs.Examples.{WorkedExamples};
-ghost use Rattle.gaz_tables.specs.Laws.{BornOnce, ReceivedOnce, TablesStay};
+ghost use Rattle.gaz_tables.specs.Laws.{BornOnce, ReceivedOnce, StatementsStandAlone, TablesStay};
 
 /// What the definitions come to on worked examples.
 pub fn worked_examples()
@@ -20,4 +20,9 @@ pub fn received_once()
 /// A write leaves the database one of the four tables, and the other three as they were.
 pub fn tables_stay()
     ensures { TablesStay }
+{}
+
+/// Each statement over one table means the same in any schema in which such a table stands.
+pub fn statements_stand_alone()
+    ensures { StatementsStandAlone }
 {}

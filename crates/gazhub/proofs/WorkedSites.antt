@@ -1,9 +1,9 @@
 -- Worked examples on what is done at a site.
-use Rattle.std.proofs.Common.{List, ℕ, Ok, ap, refl, subst, sym}
+use Rattle.std.proofs.Common.{List, ℕ, Ok, ap, inl, inr, refl, subst, sym, true}
 use Rattle.std.specs.Prelude.{Option, Some, None, [], ◌∷◌}
 use Rattle.sqlite_disk.specs.declared.Disk as disk
 use Rattle.gaz_register.specs.Registers.{RegisterValue}
-use Rattle.gazhub.specs.Sites.{Deed, FindsRegister, IsRegisterOf, Listened, Opened, Read}
+use Rattle.gazhub.specs.Sites.{Deed, FindsRegister, IsRegisterOf, Listened, NoFiles, Opened, Read}
 use Rattle.gazhub.specs.WorkedSites.{WorkedSites, nothing_done, read_in_vain}
 
 -- what the last deed read
@@ -25,6 +25,18 @@ module _ {D : Type 0} (g : disk.Ghosts D) where
     not_read = λ path e. absurd (cc);
     unreadable = λ path. record { bytes = None; does = refl; told = refl };
     not_found = not_found;
+    submits = λ code volume path bytes. refl;
+    not_submitted = λ code volume path bytes e. absurd (cc);
+    asks = λ code. refl;
+    no_files = λ path purpose. NoFiles refl refl;
+    listens = λ port. inr (true, refl);
+    listens_still = λ port done. inl refl;
+    not_listened = λ port path it. elim it [
+      | inl e ↦ absurd (cc)
+      | inr e ↦ absurd (let same = e.1 in cc)
+    ];
+    failed = λ fault. (refl, refl);
+    not_done = λ fault it. absurd (let same = it.0 in cc);
     lost = λ places port connections after why it. elim it [ ];
     not_explained = λ it. it;
   }

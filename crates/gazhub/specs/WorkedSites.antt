@@ -1,14 +1,22 @@
 -- Worked examples on what is done at a site, and on how the program ends.
-use Rattle.std.specs.Prelude.{[], ◌∷◌, ℕ, List, Option, Some, None, Ok, Err}
+use Rattle.std.specs.Prelude.{[], ◌∷◌, ℕ, suc, true, List, Option, Some, None, Ok, Err}
+use Rattle.std.specs.Borrow.{Bor}
 use Rattle.sqlite_disk.specs.declared.Disk as disk
+use Rattle.gaz_commands.specs.declared.said.CommandFault.{CommandFault}
+use Rattle.gaz_commands.specs.declared.said.Said.TheVariants as said
+use Rattle.gaz_ids.specs.Limits.{most_bytes}
+use Rattle.gaz_kept.specs.declared.refusal.StoreRefusal.TheVariants.{Fault}
 use Rattle.gaz_register.specs.Registers.{RegisterValue}
+use Rattle.gaz_words.specs.declared.command.Call.TheVariants.{Status, Submit}
 use Rattle.gaz_words.specs.declared.command.Places.{Places}
-use Rattle.gazhub.specs.Commands.{IsExplained}
-use Rattle.gazhub.specs.Serving.{ServesRest}
-use Rattle.gazhub.specs.Sites.{Deed, Does, FindsRegister, Read, whole}
-use Rattle.gazhub.specs.declared.ending.Ending.TheVariants.{NoHub, NotDone}
+use Rattle.gazhub.specs.Commands.{IsExplained, IsTold}
+use Rattle.gazhub.specs.Serving.{Listens, ServesRest}
+use Rattle.gazhub.specs.Sites.{Deed, Does, FindsRegister, Listened, Opened, Read, ReadsFor, WithFiles}
+use Rattle.gazhub.specs.Sites.{whole}
+use Rattle.gazhub.specs.declared.ending.Ending.TheVariants.{Done, Failed, NoHub, NotDone}
 use Rattle.gazhub.specs.declared.files.NoHub.{NoHub as WhyNoHub}
-use Rattle.gazhub.specs.declared.files.NoHub.TheVariants.{Unreadable}
+use Rattle.gazhub.specs.declared.files.NoHub.TheVariants.{Store, Unreadable}
+use Rattle.gazhub.specs.declared.purpose.Purpose.{Purpose}
 
 module _ {D : Type 0} (g : disk.Ghosts D) where
   -- nothing was done yet; a file was read, and gave nothing
@@ -26,6 +34,24 @@ module _ {D : Type 0} (g : disk.Ghosts D) where
         → FindsRegister nothing_done (read_in_vain path) path (Err Unreadable)
     pub not_found : (path : List ℕ) (register : RegisterValue)
         → ¬ FindsRegister nothing_done (read_in_vain path) path (Ok register)
+    -- a submission reads its file, up to a byte more than a hub takes; a question reads none
+    pub submits : (code volume path : Bor (List ℕ)) (bytes : Option (List ℕ))
+        → ReadsFor nothing_done (Some (Read path.now (suc most_bytes) bytes ∷ []))
+        (Submit code volume path) bytes
+    pub not_submitted : (code volume path : Bor (List ℕ)) (bytes : Option (List ℕ))
+        → ¬ ReadsFor nothing_done nothing_done (Submit code volume path) bytes
+    pub asks : (code : Bor (List ℕ)) → ReadsFor nothing_done nothing_done (Status code) None
+    -- files that can't be opened are no store
+    pub no_files : (path : List ℕ) (purpose : Purpose)
+        → WithFiles {A = Unit {0}} path purpose (λ files before after told. ⊥) nothing_done
+        (Some (Opened path purpose None ∷ [])) (Err (Store Fault))
+    -- a port is listened at, or was before
+    pub listens : (port : ℕ) → Listens port nothing_done (Some (Listened port true ∷ []))
+    pub listens_still : (port : ℕ) (done : Option (List (Deed D))) → Listens port done done
+    pub not_listened : (port : ℕ) (path : List ℕ) → ¬ Listens port nothing_done (read_in_vain path)
+    -- a fault ends the program as one, and prints nothing
+    pub failed : (fault : CommandFault) → IsTold (Some []) (Some []) (said.Failed fault) (Failed fault)
+    pub not_done : (fault : CommandFault) → ¬ IsTold (Some []) (Some []) (said.Failed fault) Done
     -- where no hub was there to begin with, none was lost
     pub lost : (places : Places) (port connections : ℕ) (after : Option (List (Deed D)))
         (why : WhyNoHub) → ¬ ServesRest g places port connections nothing_done after (NoHub why)

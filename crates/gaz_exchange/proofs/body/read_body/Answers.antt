@@ -1,6 +1,6 @@
-use Rattle.std.proofs.Common.{◌++◌, inl, take, arith, refl, length-append, length-take}
+use Rattle.std.proofs.Common.{◌++◌, ap, inl, inr, length, take, arith, refl, length-append, length-take}
 use Rattle.std.proofs.KnownBytes.{Consumes-trans, Keeps-trans}
-use Rattle.gaz_exchange.proofs.SparingFacts.{piece_begun}
+use Rattle.gaz_exchange.proofs.SparingFacts.{piece_begun, used_up}
 use Rattle.gaz_exchange.proofs.StreamFacts.{body_more}
 use Rattle.gaz_exchange.proofs.body.read_body.Goals as goal
 
@@ -25,3 +25,32 @@ returns-in_default-extend_from_slice-clause-read g c =
     let (kept, bs, eaten, same, fits, asked) = c.pieces.invariant in
     let (more, drunk, grown, some) = c.in-Some.ensures.read in
     (bs ++ more, Consumes-trans _ _ _ _ _ eaten drunk, (omega arith, inl (piece_begun _ _ _ c.args.inlet.now bs more c.pieces.out.items c.pieces.inlet _ same grown some asked c.in-Some.ensures.counted)))
+
+pub returns-clause-read : goal.returns-clause-read
+returns-clause-read g c =
+    let (kept, bs, eaten, same, fits, asked) = c.pieces.invariant in
+    let whole = ap length same in
+    (bs, eaten, ((same, omega arith), omega (arith, asked, whole, length-append c.args.inlet.now bs, length-append c.pieces.out.items c.pieces.inlet)))
+
+pub returns-in-End-clause-read : goal.returns-in-End-clause-read
+returns-in-End-clause-read g c =
+    let (kept, bs, eaten, same, fits, asked) = c.pieces.invariant in
+    let (more, drunk, grown, ended) = c.in-End.ensures.read in
+    let all = used_up c.args.inlet.now bs more c.pieces.out.items c.pieces.inlet _ same grown ended.0 in
+    (bs ++ more, Consumes-trans _ _ _ _ _ eaten drunk, ((omega (arith, all), ended.1), inr (omega (arith, all, asked, c.in-End.ensures.counted), ended.1)))
+
+pub returns-in-Failed-clause-read : goal.returns-in-Failed-clause-read
+returns-in-Failed-clause-read g c =
+    let (kept, bs, eaten, same, fits, asked) = c.pieces.invariant in
+    let (more, drunk, grown, none) = c.in-Failed.ensures.read in
+    let all = used_up c.args.inlet.now bs more c.pieces.out.items c.pieces.inlet _ same grown none in (
+      bs ++ more,
+      Consumes-trans _ _ _ _ _ eaten drunk,
+      (
+        omega (arith, all),
+        elim c.in-Failed.ensures.counted [
+          | inl each ↦ inl (omega (arith, all, asked, each))
+          | inr last ↦ inr (omega (arith, all, asked, last.0), last.1)
+        ],
+      ),
+    )

@@ -1,36 +1,38 @@
-use Rattle.std.proofs.Common.{refl}
+use Rattle.std.proofs.Common.{sym}
 use Rattle.std.specs.Fmt.{digits}
 use Rattle.gaz_exchange.specs.Replies.{message, reply_text}
+use Rattle.gaz_exchange.specs.declared.fault.Fault.TheVariants.{Door}
+use Rattle.gaz_exchange.specs.declared.reply.Reply.TheVariants.{Refused}
 use Rattle.gaz_exchange.proofs.fault.door_text.Goals as goal
 
 pub returns-then-is_last : goal.returns-then-is_last
 unfolding reply_text message digits
-returns-then-is_last c = rw (c.in-UnknownCustodian.is, c.if-is_last.true) refl
+returns-then-is_last c = λ i. reply_text (Refused (Door (sym c.in-UnknownCustodian.is i))) (sym c.if-is_last.true i)
 
 pub returns-else-is_last : goal.returns-else-is_last
 unfolding reply_text message digits
-returns-else-is_last c = rw (c.in-UnknownCustodian.is, c.if-is_last.false) refl
+returns-else-is_last c = λ i. reply_text (Refused (Door (sym c.in-UnknownCustodian.is i))) (sym c.if-is_last.false i)
 
 pub returns-then-is_last-2 : goal.returns-then-is_last-2
 unfolding reply_text message digits
-returns-then-is_last-2 c = rw (c.in-BadVolume.is, c.if-is_last-2.true) refl
+returns-then-is_last-2 c = λ i. reply_text (Refused (Door (sym c.in-BadVolume.is i))) (sym c.if-is_last-2.true i)
 
 pub returns-else-is_last-2 : goal.returns-else-is_last-2
 unfolding reply_text message digits
-returns-else-is_last-2 c = rw (c.in-BadVolume.is, c.if-is_last-2.false) refl
+returns-else-is_last-2 c = λ i. reply_text (Refused (Door (sym c.in-BadVolume.is i))) (sym c.if-is_last-2.false i)
 
 pub returns-then-is_last-3 : goal.returns-then-is_last-3
 unfolding reply_text message digits
-returns-then-is_last-3 c = rw (c.in-TooLarge.is, c.if-is_last-3.true) refl
+returns-then-is_last-3 c = λ i. reply_text (Refused (Door (sym c.in-TooLarge.is i))) (sym c.if-is_last-3.true i)
 
 pub returns-else-is_last-3 : goal.returns-else-is_last-3
 unfolding reply_text message digits
-returns-else-is_last-3 c = rw (c.in-TooLarge.is, c.if-is_last-3.false) refl
+returns-else-is_last-3 c = λ i. reply_text (Refused (Door (sym c.in-TooLarge.is i))) (sym c.if-is_last-3.false i)
 
 pub returns-then-is_last-4 : goal.returns-then-is_last-4
 unfolding reply_text message digits
-returns-then-is_last-4 c = rw (c.in-UnknownProfile.is, c.if-is_last-4.true) refl
+returns-then-is_last-4 c = λ i. reply_text (Refused (Door (sym c.in-UnknownProfile.is i))) (sym c.if-is_last-4.true i)
 
 pub returns-else-is_last-4 : goal.returns-else-is_last-4
 unfolding reply_text message digits
-returns-else-is_last-4 c = rw (c.in-UnknownProfile.is, c.if-is_last-4.false) refl
+returns-else-is_last-4 c = λ i. reply_text (Refused (Door (sym c.in-UnknownProfile.is i))) (sym c.if-is_last-4.false i)

@@ -5,24 +5,19 @@ use Rattle.std.specs.Prelude.{None, Some}
 use Rattle.gaz_keeper.specs.Board.{verdict_on}
 use Rattle.gaz_keeper.specs.Keeper.{Content, with_received}
 use Rattle.gaz_shelf.specs.Mem.{content_in}
-use Rattle.gaz_loaded.proofs.Copied.{bytes_there, copied_held, copied_judged, nothing_there, now_there_by, still_there_by}
+use Rattle.gaz_loaded.proofs.Copied.{bytes_there, copied_held, copied_judged, now_there_by, still_there_by}
 use Rattle.gaz_loaded.proofs.Entered.{on_ok}
 use Rattle.gaz_loaded.proofs.Reading.{only_reads, reads_then}
 use Rattle.gaz_loaded.proofs.copying.copy_volume.Goals as goal
 
 pub enter-requires-clause-there : goal.enter-requires-clause-there
 enter-requires-clause-there g c =
-    let a = g.L.Shelf.seen c.args.lower.now in
     let k = content_in c.args.shelf.now in
-    let l = content_in c.received-2.new.self in
-    let m = content_in c.receive.new.self in
+    let m = content_in c.copy_bytes.new.shelf in
     let code = c.args.code in
     let volume = c.args.volume in
     let bytes = c.deref.result.now in
-    let same : l ≡ k = c.in_ok-received.ensures.keeps.content tt tt in
-    let none : map.get k.files (code, volume) ≡ None = nothing_there c.in_ok-received.field-0 (map.get k.files (code, volume)) (c.in_ok-received.ensures.right tt tt) (sym c.is_some.ensures ∙ c.if-is_some.false) in
-    let new : map.get l.files (code, volume) ≡ None = ap (λ (x : Content). map.get x.files (code, volume)) same ∙ none in
-    now_there_by k m code volume bytes (c.in_ok-receive.ensures.enters.done tt new tt ∙ ap (λ x. with_received x code volume bytes) same)
+    now_there_by k m code volume bytes c.in_ok-copy_bytes.ensures.received.1
 
 pub returns-in-Some-2-clause-copies : goal.returns-in-Some-2-clause-copies
 returns-in-Some-2-clause-copies g c =
@@ -30,15 +25,12 @@ returns-in-Some-2-clause-copies g c =
     let b = g.L.Shelf.seen c.received.new.self in
     let d = g.L.Shelf.seen c.verdict.new.self in
     let k = content_in c.args.shelf.now in
-    let l = content_in c.received-2.new.self in
-    let m = content_in c.receive.new.self in
+    let m = content_in c.copy_bytes.new.shelf in
     let code = c.args.code in
     let volume = c.args.volume in
     let bytes = c.deref.result.now in
-    let same : l ≡ k = c.in_ok-received.ensures.keeps.content tt tt in
-    let none : map.get k.files (code, volume) ≡ None = nothing_there c.in_ok-received.field-0 (map.get k.files (code, volume)) (c.in_ok-received.ensures.right tt tt) (sym c.is_some.ensures ∙ c.if-is_some.false) in
-    let new : map.get l.files (code, volume) ≡ None = ap (λ (x : Content). map.get x.files (code, volume)) same ∙ none in
-    let becomes : m ≡ with_received k code volume bytes = c.in_ok-receive.ensures.enters.done tt new tt ∙ ap (λ x. with_received x code volume bytes) same in
+    let none : map.get k.files (code, volume) ≡ None = c.in_ok-copy_bytes.ensures.received.0 in
+    let becomes : m ≡ with_received k code volume bytes = c.in_ok-copy_bytes.ensures.received.1 in
     let reads = reads_then a b d (only_reads a b c.received.result _ c.received.ensures) (only_reads b d c.verdict.result _ c.verdict.ensures) in
     let there : a.stands → d.unharmed → map.get a.content.files (code, volume) ≡ Some bytes =
     λ stood fine. bytes_there c.in_ok-bytes.field-0 c.in-Some.bytes bytes (map.get a.content.files (code, volume)) (c.in_ok-bytes.ensures.right stood (c.verdict.ensures.keeps.harm fine)) c.in-Some.is c.deref.ensures.value in
@@ -52,17 +44,12 @@ returns-in-Some-2-clause-copies g c =
 
 pub returns-in-Some-2-clause-there : goal.returns-in-Some-2-clause-there
 returns-in-Some-2-clause-there g c =
-    let a = g.L.Shelf.seen c.args.lower.now in
     let k = content_in c.args.shelf.now in
-    let l = content_in c.received-2.new.self in
-    let m = content_in c.receive.new.self in
+    let m = content_in c.copy_bytes.new.shelf in
     let code = c.args.code in
     let volume = c.args.volume in
     let bytes = c.deref.result.now in
-    let same : l ≡ k = c.in_ok-received.ensures.keeps.content tt tt in
-    let none : map.get k.files (code, volume) ≡ None = nothing_there c.in_ok-received.field-0 (map.get k.files (code, volume)) (c.in_ok-received.ensures.right tt tt) (sym c.is_some.ensures ∙ c.if-is_some.false) in
-    let new : map.get l.files (code, volume) ≡ None = ap (λ (x : Content). map.get x.files (code, volume)) same ∙ none in
-    let there = now_there_by k m code volume bytes (c.in_ok-receive.ensures.enters.done tt new tt ∙ ap (λ x. with_received x code volume bytes) same) in
+    let there = now_there_by k m code volume bytes c.in_ok-copy_bytes.ensures.received.1 in
     on_ok c.enter.result (still_there_by m (content_in c.enter.new.shelf) code volume c.in-Some-2.verdict there) c.enter.ensures.enters
 
 pub returns-clause-copies : goal.returns-clause-copies
@@ -71,15 +58,12 @@ returns-clause-copies g c =
     let b = g.L.Shelf.seen c.received.new.self in
     let d = g.L.Shelf.seen c.verdict.new.self in
     let k = content_in c.args.shelf.now in
-    let l = content_in c.received-2.new.self in
-    let m = content_in c.receive.new.self in
+    let m = content_in c.copy_bytes.new.shelf in
     let code = c.args.code in
     let volume = c.args.volume in
     let bytes = c.deref.result.now in
-    let same : l ≡ k = c.in_ok-received.ensures.keeps.content tt tt in
-    let none : map.get k.files (code, volume) ≡ None = nothing_there c.in_ok-received.field-0 (map.get k.files (code, volume)) (c.in_ok-received.ensures.right tt tt) (sym c.is_some.ensures ∙ c.if-is_some.false) in
-    let new : map.get l.files (code, volume) ≡ None = ap (λ (x : Content). map.get x.files (code, volume)) same ∙ none in
-    let becomes : m ≡ with_received k code volume bytes = c.in_ok-receive.ensures.enters.done tt new tt ∙ ap (λ x. with_received x code volume bytes) same in
+    let none : map.get k.files (code, volume) ≡ None = c.in_ok-copy_bytes.ensures.received.0 in
+    let becomes : m ≡ with_received k code volume bytes = c.in_ok-copy_bytes.ensures.received.1 in
     let reads = reads_then a b d (only_reads a b c.received.result _ c.received.ensures) (only_reads b d c.verdict.result _ c.verdict.ensures) in
     let there : a.stands → d.unharmed → map.get a.content.files (code, volume) ≡ Some bytes =
     λ stood fine. bytes_there c.in_ok-bytes.field-0 c.in-Some.bytes bytes (map.get a.content.files (code, volume)) (c.in_ok-bytes.ensures.right stood (c.verdict.ensures.keeps.harm fine)) c.in-Some.is c.deref.ensures.value in
@@ -87,14 +71,9 @@ returns-clause-copies g c =
 
 pub returns-clause-there : goal.returns-clause-there
 returns-clause-there g c =
-    let a = g.L.Shelf.seen c.args.lower.now in
     let k = content_in c.args.shelf.now in
-    let l = content_in c.received-2.new.self in
-    let m = content_in c.receive.new.self in
+    let m = content_in c.copy_bytes.new.shelf in
     let code = c.args.code in
     let volume = c.args.volume in
     let bytes = c.deref.result.now in
-    let same : l ≡ k = c.in_ok-received.ensures.keeps.content tt tt in
-    let none : map.get k.files (code, volume) ≡ None = nothing_there c.in_ok-received.field-0 (map.get k.files (code, volume)) (c.in_ok-received.ensures.right tt tt) (sym c.is_some.ensures ∙ c.if-is_some.false) in
-    let new : map.get l.files (code, volume) ≡ None = ap (λ (x : Content). map.get x.files (code, volume)) same ∙ none in
-    now_there_by k m code volume bytes (c.in_ok-receive.ensures.enters.done tt new tt ∙ ap (λ x. with_received x code volume bytes) same)
+    now_there_by k m code volume bytes c.in_ok-copy_bytes.ensures.received.1

@@ -1,8 +1,10 @@
 -- Nothing is gathered.
-use Rattle.std.proofs.Common.{ap, subst, sym}
+use Rattle.std.proofs.Common.{◌∙◌, ap, refl, subst, sym}
 use Rattle.std.specs.Prelude.{None, Some}
+use Rattle.std.specs.Option.{ForSome}
 use Rattle.gaz_keeper.specs.Keeper.{Content, IsAtHand, after_skip}
-use Rattle.gaz_mirror.proofs.Changing.{enters_below, enters_both, enters_settled, settled}
+use Rattle.gaz_mirror.specs.InStep.{IsAhead}
+use Rattle.gaz_mirror.proofs.Changing.{closed_below, enters_below, enters_both, enters_settled, for_none, in_step_left, no_fault, settled}
 use Rattle.gaz_mirror.proofs.boards.MirrorShelf.skip.Goals as goal
 
 pub invariant_of-self-2 : goal.invariant_of-self-2
@@ -30,3 +32,18 @@ returns-clause-enters g c =
     enters_settled g.U.Shelf.seen below new m.upper (Some c.skip.new.self) m.gathered c.skip-done.result asked skipped (settled below.progress m.gathered c.requires)
     (enters_both g.U.Shelf.seen g.met.U.Unshared.never_harmed below new m.upper c.in-Some.upper c.skip.new.self c.skip-done.result c.skip.result (asked below.content) (asked above.content)
     (skipped below.content) (skipped above.content) c.in-Some.is (cc) (cc) c.skip-done.ensures c.skip.ensures (λ same. subst asked (sym same)) (ap skipped))
+
+pub invariant_of-self : goal.invariant_of-self
+invariant_of-self g c =
+    let m = c.args.self.now in
+    let was = (g.L.Shelf.seen m.lower).progress in
+    let low = (g.L.Shelf.seen c.skip-done.new.self).progress in
+    let none = settled was m.gathered c.requires in
+    record {
+      in_step = λ _. in_step_left g.U.Shelf.seen was low c.in-Some.upper c.skip.new.self (closed_below was m.gathered c.requires) (m.in_step none c.in-Some.upper c.in-Some.is) c.skip-done.ensures.progress c.skip.ensures.progress;
+      at_hand = λ x is. refl;
+      ahead = for_none (λ x. ForSome (Some c.skip.new.self) (λ u. IsAhead low (g.U.Shelf.seen u).progress x)) m.gathered none;
+    }
+
+pub returns-clause-drops : goal.returns-clause-drops
+returns-clause-drops g c = no_fault _ c.skip-done.result (sym c.is_ok.ensures.value ∙ c.if-is_ok.true)

@@ -1,8 +1,10 @@
 -- Nothing is gathered.
-use Rattle.std.proofs.Common.{ap, subst, sym}
+use Rattle.std.proofs.Common.{◌∙◌, ap, refl, subst, sym}
 use Rattle.std.specs.Prelude.{None, Some}
+use Rattle.std.specs.Option.{ForSome}
 use Rattle.gaz_keeper.specs.Keeper.{Content, IsNew, with_received}
-use Rattle.gaz_mirror.proofs.Changing.{enters_below, enters_both, enters_settled, settled}
+use Rattle.gaz_mirror.specs.InStep.{IsAhead}
+use Rattle.gaz_mirror.proofs.Changing.{closed_below, enters_below, enters_both, enters_settled, for_none, in_step_left, no_fault, settled}
 use Rattle.gaz_mirror.proofs.files.MirrorInbox.receive.Goals as goal
 
 pub invariant_of-self-2 : goal.invariant_of-self-2
@@ -31,3 +33,18 @@ returns-clause-enters g c =
     enters_settled g.U.Shelf.seen below new m.upper (Some c.receive.new.self) m.gathered c.receive-done.result asked received (settled below.progress m.gathered c.requires)
     (enters_both g.U.Shelf.seen g.met.U.Unshared.never_harmed below new m.upper c.in-Some.upper c.receive.new.self c.receive-done.result c.receive.result (asked below.content) (asked above.content)
     (received below.content) (received above.content) c.in-Some.is (cc) (cc) c.receive-done.ensures.enters c.receive.ensures.enters (λ same. subst asked (sym same)) (ap received))
+
+pub invariant_of-self : goal.invariant_of-self
+invariant_of-self g c =
+    let m = c.args.self.now in
+    let was = (g.L.Shelf.seen m.lower).progress in
+    let low = (g.L.Shelf.seen c.receive-done.new.self).progress in
+    let none = settled was m.gathered c.requires in
+    record {
+      in_step = λ _. in_step_left g.U.Shelf.seen was low c.in-Some.upper c.receive.new.self (closed_below was m.gathered c.requires) (m.in_step none c.in-Some.upper c.in-Some.is) c.receive-done.ensures.enters.progress c.receive.ensures.enters.progress;
+      at_hand = λ x is. refl;
+      ahead = for_none (λ x. ForSome (Some c.receive.new.self) (λ u. IsAhead low (g.U.Shelf.seen u).progress x)) m.gathered none;
+    }
+
+pub returns-clause-drops : goal.returns-clause-drops
+returns-clause-drops g c = no_fault _ c.receive-done.result (sym c.is_ok.ensures.value ∙ c.if-is_ok.true)

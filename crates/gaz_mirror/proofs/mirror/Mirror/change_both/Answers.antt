@@ -1,9 +1,11 @@
-use Rattle.std.proofs.Common.{ap, ◌∙◌}
+use Rattle.std.proofs.Common.{ap, ◌∙◌, refl, sym}
 use Rattle.std.specs.Prelude.{⊤, None, Some}
+use Rattle.std.specs.Option.{ForSome}
 use Rattle.gaz_keeper.specs.Keeper.{Content, Progress, with_working}
 use Rattle.gaz_mirror.specs.Gathering.{makes}
 use Rattle.gaz_mirror.specs.declared.gathered.Change.{Change}
-use Rattle.gaz_mirror.proofs.Changing.{goes_below, goes_both, goes_settled}
+use Rattle.gaz_mirror.specs.InStep.{IsAhead}
+use Rattle.gaz_mirror.proofs.Changing.{for_none, goes_below, goes_both, goes_settled, in_step_on, no_fault}
 use Rattle.gaz_mirror.proofs.mirror.Mirror.change_both.Goals as goal
 
 abbrev with_change : Change → Content → Content
@@ -27,3 +29,19 @@ returns-2-clause-makes g c =
     let new = g.L.Shelf.seen c.make-made.new.keeper in
     goes_settled g.U.Shelf.seen below new m.upper None m.gathered c.make-made.result (λ _. ⊤) (λ (p : Progress). with_change c.args.change) (λ (k : Content). None) (λ (p : Progress). p) c.requires.settled
     (goes_below g.U.Shelf.seen below new m.upper c.make-made.result _ (with_change c.args.change below.content) _ _ c.make-made.ensures.makes)
+
+pub invariant_of-self : goal.invariant_of-self
+invariant_of-self g c =
+    let m = c.args.self.now in
+    let ok = sym c.is_ok.ensures.value ∙ c.if-is_ok.true in
+    let ok' = sym c.is_ok-2.ensures.value ∙ c.if-is_ok-2.true in
+    let was = (g.L.Shelf.seen m.lower).progress in
+    let low = (g.L.Shelf.seen c.make-made.new.keeper).progress in
+    record {
+      in_step = λ _. in_step_on g.U.Shelf.seen was low c.in-Some.upper c.make.new.keeper c.make-made.result c.make.result ok ok' (m.in_step c.requires.settled c.in-Some.upper c.in-Some.is) c.make-made.ensures.makes.on c.make.ensures.makes.on;
+      at_hand = λ x is. refl;
+      ahead = for_none (λ x. ForSome (Some c.make.new.keeper) (λ u. IsAhead low (g.U.Shelf.seen u).progress x)) m.gathered c.requires.settled;
+    }
+
+pub returns-clause-drops : goal.returns-clause-drops
+returns-clause-drops g c = no_fault _ c.make-made.result (sym c.is_ok.ensures.value ∙ c.if-is_ok.true)

@@ -2,6 +2,7 @@ use Rattle.std.proofs.Common.{◌≡◌, [], ◌∷◌, ap, ◌∙◌}
 use Rattle.std.specs.Prelude.{decimal}
 use Rattle.gaz_records.specs.Blpus.{texts_behind}
 use Rattle.gaz_records.specs.declared.adopt.Adopt.{Adopt}
+use Rattle.gaz_records.proofs.Growing.{◌>>◌}
 use Rattle.gaz_records.proofs.Written.{more, row_is}
 use Rattle.gaz_records.proofs.adopt.Adopt.write.Goals as goal
 
@@ -20,3 +21,15 @@ returns-clause-row c =
     let two = more _ _ _ (f ∷ []) (h ∷ []) from hop in
     let all = more _ _ _ (f ∷ h ∷ []) (texts_behind x.blpu) two c.in_ok-write_behind.ensures.row in
     row_is c.args.out.now.items _ _ (decimal x.blpu.uprn) (f ∷ h ∷ texts_behind x.blpu) uprn all
+
+pub returns-in_err-next_number-clause-kept : goal.returns-in_err-next_number-clause-kept
+returns-in_err-next_number-clause-kept c = c.add_number.ensures.kept >> c.next_number.ensures.kept
+
+pub returns-in_err-next_number-2-clause-kept : goal.returns-in_err-next_number-2-clause-kept
+returns-in_err-next_number-2-clause-kept c = c.add_number.ensures.kept >> c.next_number.ensures.kept >> c.next_number-2.ensures.kept
+
+pub returns-in_err-write_behind-clause-kept : goal.returns-in_err-write_behind-clause-kept
+returns-in_err-write_behind-clause-kept c = c.add_number.ensures.kept >> c.next_number.ensures.kept >> c.next_number-2.ensures.kept >> c.write_behind.ensures.kept
+
+pub returns-clause-kept : goal.returns-clause-kept
+returns-clause-kept c = c.add_number.ensures.kept >> c.next_number.ensures.kept >> c.next_number-2.ensures.kept >> c.write_behind.ensures.kept

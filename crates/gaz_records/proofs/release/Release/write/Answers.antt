@@ -1,5 +1,6 @@
 use Rattle.std.proofs.Common.{[], ◌∷◌}
 use Rattle.std.specs.Prelude.{decimal}
+use Rattle.gaz_records.proofs.Growing.{◌>>◌}
 use Rattle.gaz_records.proofs.Written.{more, row_is}
 use Rattle.gaz_records.proofs.release.Release.write.Goals as goal
 
@@ -13,3 +14,12 @@ returns-clause-row c =
     let h = decimal x.hop in
     let all = more _ _ _ (t ∷ []) (h ∷ []) to hop in
     row_is c.args.out.now.items _ _ (decimal x.uprn) (t ∷ h ∷ []) uprn all
+
+pub returns-in_err-next_number-clause-kept : goal.returns-in_err-next_number-clause-kept
+returns-in_err-next_number-clause-kept c = c.add_number.ensures.kept >> c.next_number.ensures.kept
+
+pub returns-in_err-next_number-2-clause-kept : goal.returns-in_err-next_number-2-clause-kept
+returns-in_err-next_number-2-clause-kept c = c.add_number.ensures.kept >> c.next_number.ensures.kept >> c.next_number-2.ensures.kept
+
+pub returns-clause-kept : goal.returns-clause-kept
+returns-clause-kept c = c.add_number.ensures.kept >> c.next_number.ensures.kept >> c.next_number-2.ensures.kept

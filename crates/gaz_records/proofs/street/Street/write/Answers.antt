@@ -1,6 +1,7 @@
 use Rattle.std.proofs.Common.{[], ◌∷◌}
 use Rattle.std.specs.Prelude.{decimal}
 use Rattle.gaz_records.specs.Days.{date_text, end_text}
+use Rattle.gaz_records.proofs.Growing.{◌>>◌}
 use Rattle.gaz_records.proofs.Written.{more, row_is}
 use Rattle.gaz_records.proofs.street.Street.write.Goals as goal
 
@@ -12,3 +13,12 @@ returns-clause-row c =
     let dates = date_text x.start ∷ end_text x.end ∷ [] in
     let rest = more _ _ _ (decimal x.sort ∷ []) dates sort c.in_ok-next_dates.ensures.row in
     rw (← c.self.view_is) (row_is c.args.out.now.items _ _ (decimal x.usrn) (decimal x.sort ∷ dates) usrn rest)
+
+pub returns-in_err-next_number-clause-kept : goal.returns-in_err-next_number-clause-kept
+returns-in_err-next_number-clause-kept c = c.add_number.ensures.kept >> c.next_number.ensures.kept
+
+pub returns-in_err-next_dates-clause-kept : goal.returns-in_err-next_dates-clause-kept
+returns-in_err-next_dates-clause-kept c = c.add_number.ensures.kept >> c.next_number.ensures.kept >> c.next_dates.ensures.kept
+
+pub returns-clause-kept : goal.returns-clause-kept
+returns-clause-kept c = c.add_number.ensures.kept >> c.next_number.ensures.kept >> c.next_dates.ensures.kept

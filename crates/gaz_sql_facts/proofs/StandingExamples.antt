@@ -1,0 +1,59 @@
+-- Where the table of notes stands and where not, and which texts ask for it alone.
+use Rattle.std.proofs.Common.{◌≡◌, ℕ, codes, true, false, Option, Some, length, refl, sym, ap, ◌∙◌, arith}
+use Rattle.sqlite_tied.specs.Compute.{everything}
+use Rattle.sqlite_schema.specs.declared.schema.Column.{Column}
+use Rattle.sqlite_schema.specs.Names.{same_name, table_named}
+use Rattle.sqlite_value.specs.Keys.{joined}
+use Rattle.gaz_sql_facts.specs.Examples.{WorkedSimple, WorkedStanding}
+use Rattle.gaz_sql_facts.specs.Samples.{archive, behind_archive, behind_namesake, moved_note, note, under_archive, with_by_day}
+use Rattle.gaz_sql_facts.specs.Standing.{IsApart, ReadsAs, StandsAt}
+
+first : StandsAt with_by_day 0 note
+unfolding same_name
+first = record { named = refl; listed = refl; by_tree = refl; stored = refl }
+
+behind_another : StandsAt behind_archive 1 moved_note
+unfolding same_name
+behind_another = record { named = refl; listed = refl; by_tree = refl; stored = refl }
+
+two_places : (o : Option ℕ) → o ≡ Some 0 → o ≡ Some 1 → ⊥
+two_places o here there = let both : ◌≡◌ {A = Option ℕ} (Some 0) (Some 1) = sym here ∙ there in absurd (cc)
+
+stands_behind : table_named behind_archive (codes "note") ≡ Some 1
+unfolding same_name
+stands_behind = refl
+
+other_is_first : table_named behind_namesake (codes "note") ≡ Some 0
+unfolding same_name
+other_is_first = refl
+
+wider : ReadsAs note (record archive { name = codes "note" }) → ⊥
+wider reads = let same : 5 ≡ 4 = ap {B = ℕ} (length {A = Column}) reads.columns in omega (arith, same)
+
+apart : IsApart behind_archive 40
+apart = (refl, (refl, tt))
+
+not_apart : IsApart under_archive 40 → ⊥
+unfolding same_name joined
+not_apart it = let wrong : true ≡ false = it.0 in absurd (cc)
+
+other_apart : IsApart under_archive 2
+unfolding same_name joined
+other_apart = (refl, (refl, tt))
+
+pub standing : WorkedStanding
+standing = record {
+  first = first;
+  behind_another = behind_another;
+  not_at_the_other = λ it. two_places _ it.named stands_behind;
+  not_behind_its_name = λ it. two_places _ other_is_first it.named;
+  read_alike = record { name = refl; columns = refl; key = refl; computed = refl; stamps = refl };
+  not_with_a_column_more = wider;
+  apart = apart;
+  not_apart = not_apart;
+  other_apart = other_apart;
+}
+
+pub simple : WorkedSimple
+unfolding everything
+simple = record { query = refl; insert = refl; update = refl; delete = refl; not_another_table = refl; not_another_column = refl; not_two_tables = refl; not_a_subquery = refl; not_a_way_out = refl }
