@@ -26,7 +26,7 @@ SPARE = 2
 WITHOUT_STEPS = {
     "SELECT 1": "Fault",
     "UPDATE meta SET register = 'x'": "Fault",
-    "DROP TABLE version": "BadSchema",
+    "DROP TABLE received": "BadSchema",
     "DROP TABLE version2": "BadSchema",
 }
 

@@ -27,8 +27,9 @@ use Rattle.gaz_overlay.proofs.Apart.{writings_keep}
 use Rattle.gaz_overlay.proofs.Making.{changes_make}
 use Rattle.gaz_tables.proofs.Staying.{stays}
 use Rattle.gaz_tables.specs.Receiveds.{Applies}
-use Rattle.gaz_tables.specs.Schema.{received, receiveds, version2, versions}
+use Rattle.gaz_tables.specs.Schema.{received, version2}
 use Rattle.gaz_tables.specs.Stores.{HasTables}
+use Rattle.gaz_tables.specs.Tables.{rows_of}
 use Rattle.gaz_kept.specs.Contents.{board_in}
 use Rattle.gaz_kept.specs.Files.{Judged, files_in, reached_in, verdicts_in, volume_in}
 use Rattle.gaz_kept.specs.Histories.{AreSame}
@@ -56,49 +57,49 @@ is_applied : IsVerdict 1 0 0 Applied
 is_applied = record { verdict = refl; states = omega arith; rules = omega arith; no_place = λ other. refl; no_rule = λ other. refl }
 
 -- a custodian's next volume is judged, where it is at hand
-pub mark_judges : (c : ℕ) (changes : Changes) (old new : Database) → IsKept old → IsSome (finite.get (files_in (old.trees receiveds)) (c, reached_in (old.trees receiveds) c + 1))
-    → KeepsVolume c (reached_in (old.trees receiveds) c + 1) changes old new
-    → IsJudged c (reached_in (old.trees receiveds) c + 1) Applied (old.trees receiveds) (new.trees receiveds)
+pub mark_judges : (c : ℕ) (changes : Changes) (old new : Database) → IsKept old → IsSome (finite.get (files_in (rows_of old received)) (c, reached_in (rows_of old received) c + 1))
+    → KeepsVolume c (reached_in (rows_of old received) c + 1) changes old new
+    → IsJudged c (reached_in (rows_of old received) c + 1) Applied (rows_of old received) (rows_of new received)
 mark_judges c changes old new kept at_hand keeps =
-    let n = reached_in (old.trees receiveds) c in
-    let s = stays versions _ old keeps.between kept.tables keeps.rows in
-    let same : keeps.between.trees receiveds ≡ old.trees receiveds = s.1 received (inr (inl refl)) (λ e. absurd (omega (arith, e))) in
-    let row = row_of (old.trees receiveds) (are_files old kept) c (n + 1) at_hand in
-    files_change.update c 1 0 0 Applied (old.trees receiveds) (new.trees receiveds) is_applied (are_files old kept) (kept.first c) row.row row.there row.is
-    (subst (λ l. Applies c (n + 1) l (new.trees receiveds)) same keeps.mark.rows)
+    let n = reached_in (rows_of old received) c in
+    let s = stays version2 _ old keeps.between kept.tables.there.versions keeps.rows kept.tables in
+    let same : rows_of keeps.between received ≡ rows_of old received = s.1 received kept.tables.there.receiveds refl in
+    let row = row_of (rows_of old received) (are_files old kept) c (n + 1) at_hand in
+    files_change.update c 1 0 0 Applied (rows_of old received) (rows_of new received) is_applied (are_files old kept) (kept.first c) row.row row.there row.is
+    (subst (λ l. Applies c (n + 1) l (rows_of new received)) same keeps.mark.rows)
 
 module _ (c volume : ℕ) (changes : Changes) (working : View) (old new : Database) (it : IsToKeep old c volume changes working) (keeps : KeepsVolume c volume changes old new) where
   abbrev n : ℕ
-  n = reached_in (old.trees receiveds) c
+  n = reached_in (rows_of old received) c
 
   abbrev mid : Database
   mid = keeps.between
 
   -- ---- the tables
 
-  rows_written : HasTables mid × (mid.trees receiveds ≡ old.trees receiveds)
+  rows_written : HasTables mid × (rows_of mid received ≡ rows_of old received)
   rows_written =
-      let s = stays versions _ old mid it.kept.tables keeps.rows in
-      (s.0, s.1 received (inr (inl refl)) (λ e. absurd (omega (arith, e))))
+      let s = stays version2 _ old mid it.kept.tables.there.versions keeps.rows it.kept.tables in
+      (s.0, s.1 received it.kept.tables.there.receiveds refl)
 
-  marked : HasTables new × (new.trees versions ≡ mid.trees versions)
+  marked : HasTables new × (rows_of new version2 ≡ rows_of mid version2)
   marked =
-      let s = stays receiveds _ mid new rows_written.0 keeps.mark in
-      (s.0, s.1 version2 (inr (inr (inr (inl refl)))) (λ e. absurd (omega (arith, e))))
+      let s = stays received _ mid new rows_written.0.there.receiveds keeps.mark rows_written.0 in
+      (s.0, s.1 version2 rows_written.0.there.versions refl)
 
   -- ---- the mark
 
-  at_hand : IsSome (finite.get (files_in (old.trees receiveds)) (c, n + 1))
-  at_hand = subst (λ m. IsSome (finite.get (files_in (old.trees receiveds)) (c, m + 1))) (board_reads (old.trees receiveds) (old.trees versions) c).reached it.at_hand
+  at_hand : IsSome (finite.get (files_in (rows_of old received)) (c, n + 1))
+  at_hand = subst (λ m. IsSome (finite.get (files_in (rows_of old received)) (c, m + 1))) (board_reads (rows_of old received) (rows_of old version2) c).reached it.at_hand
 
-  its_row : IsThere c (n + 1) (old.trees receiveds)
-  its_row = row_of (old.trees receiveds) (are_files old it.kept) c (n + 1) at_hand
+  its_row : IsThere c (n + 1) (rows_of old received)
+  its_row = row_of (rows_of old received) (are_files old it.kept) c (n + 1) at_hand
 
-  judges : IsJudged c (n + 1) Applied (old.trees receiveds) (new.trees receiveds)
+  judges : IsJudged c (n + 1) Applied (rows_of old received) (rows_of new received)
   judges = mark_judges c changes old new it.kept at_hand (subst (λ v. KeepsVolume c v changes old new) it.next keeps)
 
-  reached_now : reached_in (new.trees receiveds) c ≡ n + 1
-  reached_now = ap length judges.verdicts ∙ length-append (verdicts_in (old.trees receiveds) c) (Applied ∷ [])
+  reached_now : reached_in (rows_of new received) c ≡ n + 1
+  reached_now = ap length judges.verdicts ∙ length-append (verdicts_in (rows_of old received) c) (Applied ∷ [])
 
   room : n + 1 < never
   room =
@@ -110,16 +111,16 @@ module _ (c volume : ℕ) (changes : Changes) (working : View) (old new : Databa
   -- ---- the rows
 
   abbrev was : Rows
-  was = histories_in (old.trees versions) c
+  was = histories_in (rows_of old version2) c
 
   abbrev was_passed : List PassageRow
-  was_passed = passages_in (old.trees versions) c
+  was_passed = passages_in (rows_of old version2) c
 
   abbrev now : Rows
-  now = histories_in (mid.trees versions) c
+  now = histories_in (rows_of mid version2) c
 
   abbrev now_passed : List PassageRow
-  now_passed = passages_in (mid.trees versions) c
+  now_passed = passages_in (rows_of mid version2) c
 
   through : AreThrough n was
   through = it.kept.histories c
@@ -133,18 +134,18 @@ module _ (c volume : ℕ) (changes : Changes) (working : View) (old new : Databa
   abbrev keys : List Key
   keys = finite.keys changes.touched
 
-  all_written : WritesAll c (n + 1) changes (old.trees versions) (mid.trees versions)
-  all_written = subst (λ v. WritesAll c v changes (old.trees versions) (mid.trees versions)) it.next keeps.rows.rows
+  all_written : WritesAll c (n + 1) changes (rows_of old version2) (rows_of mid version2)
+  all_written = subst (λ v. WritesAll c v changes (rows_of old version2) (rows_of mid version2)) it.next keeps.rows.rows
 
   -- the rows once the keys are written
   abbrev keyed : List Row
   keyed = all_written.0
 
-  done : IsUnderWay c (n + 1) changes (onto keys []) (onto keys []) (old.trees versions) keyed
+  done : IsUnderWay c (n + 1) changes (onto keys []) (onto keys []) (rows_of old version2) keyed
   done =
-      write_keys c n room changes (old.trees versions) through it.told own entries keys [] (old.trees versions) keyed
+      write_keys c n room changes (rows_of old version2) through it.told own entries keys [] (rows_of old version2) keyed
       (are_new keys_total [] (finite.entries changes.touched) (finite.entries_sorted changes.touched) (λ d none. absurd none))
-      (nothing_yet c (n + 1) changes (old.trees versions) it.kept.rows) all_written.1
+      (nothing_yet c (n + 1) changes (rows_of old version2) it.kept.rows) all_written.1
 
   -- ---- the numbers
 
@@ -178,9 +179,9 @@ module _ (c volume : ℕ) (changes : Changes) (working : View) (old new : Databa
   listed_passed : (k : ℕ) → Has numbers k → is_passed changes k ≡ true
   listed_passed k there = finite.contains_key-keys changes.passed k ∙ ties_has nat_cmp_total nat_cmp-IsAntisymmetric k numbers there
 
-  on_the_way : IsOnTheWay c n changes (onto numbers []) keyed (mid.trees versions)
+  on_the_way : IsOnTheWay c n changes (onto numbers []) keyed (rows_of mid version2)
   on_the_way =
-      write_numbers c n room changes keyed known numbers [] keyed (mid.trees versions)
+      write_numbers c n room changes keyed known numbers [] keyed (rows_of mid version2)
       (are_new nat_cmp_total [] (finite.entries changes.passed) (finite.entries_sorted changes.passed) (λ d none. absurd none)) listed_passed
       (not_begun c n changes keyed done.rows keyed_through) all_written.2
 
@@ -211,51 +212,51 @@ module _ (c volume : ℕ) (changes : Changes) (working : View) (old new : Databa
   view_now : (t : ℕ) → view_of_rows now now_passed t ≡ view_of_rows (written (n + 1) changes (singly was)) now_passed t
   view_now t = ap (λ v. with_passages v now_passed t) (same_rows (written (n + 1) changes (singly was)) now written_through.apart same_now t)
 
-  next_is : view_in (new.trees versions) c (n + 1) ≡ working
+  next_is : view_in (rows_of new version2) c (n + 1) ≡ working
   next_is = ap (λ l. view_in l c (n + 1)) marked.1 ∙ view_now (n + 1) ∙ volume_kept.next
 
-  past_is : (t : ℕ) → t ≤ n → view_in (new.trees versions) c t ≡ view_in (old.trees versions) c t
+  past_is : (t : ℕ) → t ≤ n → view_in (rows_of new version2) c t ≡ view_in (rows_of old version2) c t
   past_is t le = ap (λ l. view_in l c t) marked.1 ∙ view_now t ∙ volume_kept.past t le ∙ singly_views t
 
-  others_same : (d : ℕ) → d ≢ c → AreSame (histories_in (old.trees versions) d) (histories_in (mid.trees versions) d)
+  others_same : (d : ℕ) → d ≢ c → AreSame (histories_in (rows_of old version2) d) (histories_in (rows_of mid version2) d)
   others_same d other = same_then _ _ _ (done.others d other) (on_the_way.histories d)
 
-  passed_same : (d : ℕ) → d ≢ c → AreSame (passages_in (old.trees versions) d) (passages_in (mid.trees versions) d)
+  passed_same : (d : ℕ) → d ≢ c → AreSame (passages_in (rows_of old version2) d) (passages_in (rows_of mid version2) d)
   passed_same d other = same_then _ _ _ (done.passages d) (on_the_way.others d other)
 
-  others_are : (d : ℕ) → d ≢ c → (t : ℕ) → view_in (new.trees versions) d t ≡ view_in (old.trees versions) d t
+  others_are : (d : ℕ) → d ≢ c → (t : ℕ) → view_in (rows_of new version2) d t ≡ view_in (rows_of old version2) d t
   others_are d other t =
       ap (λ l. view_in l d t) marked.1
-      ∙ same_views (reached_in (old.trees receiveds) d) (histories_in (old.trees versions) d) (histories_in (mid.trees versions) d) (passages_in (old.trees versions) d) (passages_in (mid.trees versions) d)
+      ∙ same_views (reached_in (rows_of old received) d) (histories_in (rows_of old version2) d) (histories_in (rows_of mid version2) d) (passages_in (rows_of old version2) d) (passages_in (rows_of mid version2) d)
       (it.kept.histories d).apart (others_same d other) (it.kept.passages d) (passed_same d other) t
 
   -- ---- the tables are a store's again
 
-  first_now : (d : ℕ) → AreFirst (new.trees receiveds) d
+  first_now : (d : ℕ) → AreFirst (rows_of new received) d
   first_now d = elim (cases_eq d c) [
-    | inl same ↦ subst (AreFirst (new.trees receiveds)) (sym same) judges.first
+    | inl same ↦ subst (AreFirst (rows_of new received)) (sym same) judges.first
     | inr other ↦ subst (λ (m : Judged). finite.keys m ≡ range_with_len 1 (length (finite.values m))) (sym (judges.others d other)) (it.kept.first d)
   ]
 
-  through_now : (d : ℕ) → AreThrough (reached_in (new.trees receiveds) d) (histories_in (new.trees versions) d)
-  through_now d = subst (λ l. AreThrough (reached_in (new.trees receiveds) d) (histories_in l d)) (sym marked.1) (by_custodian (cases_eq d c))
+  through_now : (d : ℕ) → AreThrough (reached_in (rows_of new received) d) (histories_in (rows_of new version2) d)
+  through_now d = subst (λ l. AreThrough (reached_in (rows_of new received) d) (histories_in l d)) (sym marked.1) (by_custodian (cases_eq d c))
     where
-      by_custodian : (d ≡ c) ⊎ ((d ≡ c) → ⊥) → AreThrough (reached_in (new.trees receiveds) d) (histories_in (mid.trees versions) d)
+      by_custodian : (d ≡ c) ⊎ ((d ≡ c) → ⊥) → AreThrough (reached_in (rows_of new received) d) (histories_in (rows_of mid version2) d)
       by_custodian (inl same) =
-          subst (λ e. AreThrough (reached_in (new.trees receiveds) e) (histories_in (mid.trees versions) e)) (sym same)
+          subst (λ e. AreThrough (reached_in (rows_of new received) e) (histories_in (rows_of mid version2) e)) (sym same)
           (subst (λ m. AreThrough m now) (sym reached_now) (through_same (n + 1) (written (n + 1) changes (singly was)) now same_now written_through))
-      by_custodian (inr other) = subst (λ (m : Judged). AreThrough (length (finite.values m)) (histories_in (mid.trees versions) d)) (sym (judges.others d other))
-          (through_same (reached_in (old.trees receiveds) d) (histories_in (old.trees versions) d) (histories_in (mid.trees versions) d) (others_same d other) (it.kept.histories d))
+      by_custodian (inr other) = subst (λ (m : Judged). AreThrough (length (finite.values m)) (histories_in (rows_of mid version2) d)) (sym (judges.others d other))
+          (through_same (reached_in (rows_of old received) d) (histories_in (rows_of old version2) d) (histories_in (rows_of mid version2) d) (others_same d other) (it.kept.histories d))
 
-  passages_now : (d : ℕ) → ArePassages (reached_in (new.trees receiveds) d) (passages_in (new.trees versions) d)
-  passages_now d = subst (λ l. ArePassages (reached_in (new.trees receiveds) d) (passages_in l d)) (sym marked.1) (by_custodian (cases_eq d c))
+  passages_now : (d : ℕ) → ArePassages (reached_in (rows_of new received) d) (passages_in (rows_of new version2) d)
+  passages_now d = subst (λ l. ArePassages (reached_in (rows_of new received) d) (passages_in l d)) (sym marked.1) (by_custodian (cases_eq d c))
     where
-      by_custodian : (d ≡ c) ⊎ ((d ≡ c) → ⊥) → ArePassages (reached_in (new.trees receiveds) d) (passages_in (mid.trees versions) d)
+      by_custodian : (d ≡ c) ⊎ ((d ≡ c) → ⊥) → ArePassages (reached_in (rows_of new received) d) (passages_in (rows_of mid version2) d)
       by_custodian (inl same) =
-          subst (λ e. ArePassages (reached_in (new.trees receiveds) e) (passages_in (mid.trees versions) e)) (sym same)
+          subst (λ e. ArePassages (reached_in (rows_of new received) e) (passages_in (rows_of mid version2) e)) (sym same)
           (subst (λ m. ArePassages m now_passed) (sym reached_now) on_the_way.written.are)
-      by_custodian (inr other) = subst (λ (m : Judged). ArePassages (length (finite.values m)) (passages_in (mid.trees versions) d)) (sym (judges.others d other))
-          (passages_same (reached_in (old.trees receiveds) d) (passages_in (old.trees versions) d) (passages_in (mid.trees versions) d) (passed_same d other) (it.kept.passages d))
+      by_custodian (inr other) = subst (λ (m : Judged). ArePassages (length (finite.values m)) (passages_in (rows_of mid version2) d)) (sym (judges.others d other))
+          (passages_same (reached_in (rows_of old received) d) (passages_in (rows_of old version2) d) (passages_in (rows_of mid version2) d) (passed_same d other) (it.kept.passages d))
 
   kept_now : IsKept new
   kept_now = record {
@@ -267,11 +268,11 @@ module _ (c volume : ℕ) (changes : Changes) (working : View) (old new : Databa
     passages = passages_now;
   }
 
-  board_now : board_in (new.trees receiveds) (new.trees versions) ≡ adds (board_in (old.trees receiveds) (old.trees versions)) c (record { verdict = Applied; view = working })
+  board_now : board_in (rows_of new received) (rows_of new version2) ≡ adds (board_in (rows_of old received) (rows_of old version2)) c (record { verdict = Applied; view = working })
   board_now =
-      board_adds (old.trees receiveds) (new.trees receiveds) (old.trees versions) (new.trees versions) c Applied judges.verdicts
+      board_adds (rows_of old received) (rows_of new received) (rows_of old version2) (rows_of new version2) c Applied judges.verdicts
       (λ d other. ap finite.values (judges.others d other)) past_is others_are
-      ∙ ap (λ v. adds (board_in (old.trees receiveds) (old.trees versions)) c (record { verdict = Applied; view = v })) next_is
+      ∙ ap (λ v. adds (board_in (rows_of old received) (rows_of old version2)) c (record { verdict = Applied; view = v })) next_is
 
 pub keep_stands : KeepStands
 keep_stands c volume changes working old new it keeps = record {

@@ -38,3 +38,4 @@ pub mod Asked
 pub mod Migrated
 pub mod Moved
 pub mod WorkedMigrated
+pub mod SameTrees

@@ -1,5 +1,5 @@
 -- What the rows of `meta` tell, from what is shown of them.
-use Rattle.std.proofs.Common.{◌≡◌, ◌≢◌, ◌∙◌, ◌&&◌, inl, inr, ℕ, pos, Bool, true, false, not, codes, List, [], ◌∷◌, filter, map, take, Ok, Err, Result, IfOk, Vec, IsPermutation, refl, sym, ap, subst}
+use Rattle.std.proofs.Common.{◌≡◌, ◌≢◌, ◌∙◌, ◌&&◌, inl, inr, ℕ, pos, Bool, true, false, not, codes, List, [], ◌∷◌, filter, map, take, Some, Ok, Err, Result, IfOk, Vec, IsPermutation, refl, sym, ap, subst}
 use Rattle.std.specs.declared.alloc.Global.{Global}
 use Rattle.std.proofs.lemmas.List.Sorted.{IsPermutation-sym}
 use Rattle.sqlite.proofs.Callers.{one_permutation}
@@ -13,19 +13,22 @@ use Rattle.sqlite.specs.Table.{Table}
 use Rattle.std.specs.List.{list_any}
 use Rattle.sqlite.specs.Term.{lit}
 use Rattle.sqlite_tied.specs.Compute.{everything}
-use Rattle.gaz_sql_facts.specs.Selects.{selecting}
+use Rattle.gaz_sql_facts.specs.Selects.{Selects, selecting}
 use Rattle.gaz_sql_facts.proofs.Texts.{IsSelect, answers}
+use Rattle.gaz_tables.proofs.Four.{meta_first, rows_at}
+use Rattle.gaz_tables.proofs.Standing.{listed, table}
 use Rattle.gaz_tables.proofs.MetaTexts.{rows_found, rows_terms}
 use Rattle.sqlite.specs.declared.error.Error.{Error}
 use Rattle.sqlite.specs.declared.types.Value.TheVariants.{Int, Text}
 use Rattle.sqlite_rules.specs.Lists.{Has}
 use Rattle.sqlite_rules.proofs.ListLemmas.{some_from, some_has}
-use Rattle.std.proofs.lemmas.Bool.{and_parts, or_left}
+use Rattle.std.proofs.lemmas.Bool.{and_from, and_parts, or_left}
 use Rattle.sqlite_schema.specs.Names.{same_name}
 use Rattle.sqlite_trees.specs.declared.store.Store.{Ghosts}
 use Rattle.gaz_tables.specs.Metas.{FindsTwo, meta_row, meta_shown, rows_text}
-use Rattle.gaz_tables.specs.Schema.{first_schema, meta, metas, received, store_schema, version, version2}
+use Rattle.gaz_tables.specs.Schema.{first_schema, meta, metas, received, version, version2}
 use Rattle.gaz_tables.specs.Stores.{HasTables}
+use Rattle.gaz_tables.specs.Tables.{AreThere, HasTable, rows_of}
 use Rattle.gaz_kept.specs.Numbered.{HasMeta, IsAnswer, IsJudged, IsNumbered, IsOne, IsTold}
 use Rattle.gaz_kept.specs.Opening.{CreateOpens, has_all, has_name, is_like, schema_number}
 use Rattle.gaz_kept.specs.OpeningFirst.{has_first}
@@ -33,14 +36,26 @@ use Rattle.gaz_kept.proofs.Rewritten.{alone}
 use Rattle.gaz_kept.specs.declared.refusal.StoreRefusal.{StoreRefusal}
 use Rattle.gaz_kept.specs.declared.refusal.StoreRefusal.TheVariants.{BadSchema, OtherRegister, Fault}
 
--- a store has its tables
-pub has_all_store : has_all store_schema ≡ true
-unfolding has_all same_name
-has_all_store = refl
+-- a table that stands has its name and its columns
+has_version2 : (schema : Schema) → HasTable version2 schema → list_any (is_like version2) schema.tables ≡ true
+unfolding same_name
+has_version2 schema has = some_from (is_like version2) schema.tables (table version2 schema has) (listed version2 schema has) refl
 
--- so nothing of it is missing
-pub nothing_lacks : (schema : Schema) → schema ≡ store_schema → false ≡ has_all schema → ⊥
-nothing_lacks schema same lacks = let e : ◌≡◌ {A = Bool} false true = lacks ∙ ap has_all same ∙ has_all_store in absurd (cc)
+has_received : (schema : Schema) → HasTable received schema → list_any (is_like received) schema.tables ≡ true
+unfolding same_name
+has_received schema has = some_from (is_like received) schema.tables (table received schema has) (listed received schema has) refl
+
+has_meta : (schema : Schema) → HasTable meta schema → list_any (is_like meta) schema.tables ≡ true
+unfolding same_name
+has_meta schema has = some_from (is_like meta) schema.tables (table meta schema has) (listed meta schema has) refl
+
+-- so where a store's tables are there, nothing is missing
+pub all_found : (schema : Schema) → AreThere schema → has_all schema ≡ true
+unfolding has_all
+all_found schema has = and_from _ _ (has_version2 schema has.versions) (and_from _ _ (has_received schema has.receiveds) (has_meta schema has.metas))
+
+pub nothing_lacks : (schema : Schema) → AreThere schema → false ≡ has_all schema → ⊥
+nothing_lacks schema has lacks = let e : ◌≡◌ {A = Bool} false true = lacks ∙ all_found schema has in absurd (cc)
 
 -- a database of schema 1 has its tables, and none of schema 2
 pub has_first_tables : has_first first_schema ≡ true
@@ -54,7 +69,7 @@ nothing_first_lacks schema same lacks = let e : ◌≡◌ {A = Bool} false true 
 pub not_both : (schema : Schema) → has_all schema ≡ true → has_first schema ≡ true → ⊥
 unfolding has_all has_first
 not_both schema all first =
-    let second = and_parts _ _ (and_parts _ _ all).1 in
+    let second = and_parts _ _ all in
     let t = some_has (is_like version2) schema.tables second.0 in
     let named = some_from (λ u. same_name u.name (codes "version2")) schema.tables t.0 t.1 (and_parts _ _ t.2).0 in
     let there : has_name (codes "version2") schema ≡ true = or_left _ _ named in
@@ -64,8 +79,8 @@ not_both schema all first =
     let none = (and_parts (at meta) alone (and_parts (at received) (at meta && alone) behind).1).1 in
     absurd (let clash : ◌≡◌ {A = Bool} false true = ap not (sym there) ∙ none in cc)
 
-pub not_store : (schema : Schema) → schema ≡ store_schema → has_first schema ≡ true → ⊥
-not_store schema same first = not_both schema (ap has_all same ∙ has_all_store) first
+pub not_store : (schema : Schema) → AreThere schema → has_first schema ≡ true → ⊥
+not_store schema has first = not_both schema (all_found schema has) first
 
 pub is_first : (schema : Schema) → schema ≡ first_schema → has_first schema ≡ true
 is_first schema same = ap has_first same ∙ has_first_tables
@@ -85,16 +100,18 @@ rows_is_first = record { is = refl; plain = (refl, refl); unlisted = refl }
 
 -- what is found, once a transaction is begun, of the tables of schema 2 and of schema 1
 pub found : {S : Type 0} (g : Ghosts S) (before begun after : Held S) → begun ≡ record before { in_transaction = true } → (r : Result (Vec Row Global) Error)
-    → (HasTables (state g begun).now → IfOk r (λ rows. FindsTwo ((state g begun).now.trees metas) rows.items))
+    → (HasTables (state g begun).now → IfOk r (λ rows. FindsTwo (rows_of (state g begun).now meta) rows.items))
     → IfOk r (λ rows. Shown rows_text [] (state g begun) (state g after) rows.items)
-    → HasMeta (state g before).now → IfOk r (λ rows. FindsTwo ((state g before).now.trees metas) rows.items)
+    → HasMeta (state g before).now → IfOk r (λ rows. FindsTwo (rows_of (state g before).now meta) rows.items)
 found g before begun after same (Err e) finds shown has = tt
 found g before begun after same (Ok rows) finds shown has =
     let now : (state g begun).now ≡ (state g before).now = ap (λ h. (state g h).now) same in
     elim has [
-      | inl tables ↦ subst (λ (db : Database). FindsTwo (db.trees metas) rows.items) now (finds (subst HasTables (sym now) tables))
-      | inr first ↦ subst (λ (db : Database). FindsTwo (db.trees metas) rows.items) now
-          (rows_found (state g begun).now (Ok rows) (answers _ _ _ _ _ _ _ _ rows_is_first _ (state g begun) (state g after) (ap (λ (db : Database). db.schema) now ∙ first.schema_is) (Ok rows) shown))
+      | inl tables ↦ subst (λ (db : Database). FindsTwo (rows_of db meta) rows.items) now (finds (subst HasTables (sym now) tables))
+      | inr first ↦ subst (λ (db : Database). FindsTwo (rows_of db meta) rows.items) now
+          (let is : (state g begun).now.schema ≡ first_schema = ap (λ (db : Database). db.schema) now ∙ first.schema_is in
+          let all = answers _ _ _ _ _ _ _ _ rows_is_first _ (state g begun) (state g after) is (Ok rows) shown in
+          rows_found (state g begun).now (Ok rows) (subst (λ l. Selects [] rows_terms [] (Some 2) l [] rows.items) (sym (rows_at (state g begun).now first_schema is meta metas meta_first)) all))
     ]
 
 -- ---- what is shown
@@ -137,5 +154,5 @@ module _ (number : ℕ) (rows shown : List Row) (h : FindsTwo rows shown) where
 
 pub create_opens : CreateOpens
 create_opens register db new =
-    let only : (r : Row) → Has (db.trees metas) r → r ≡ meta_row schema_number register = λ r there. elim (new.meta_alone.only r there) [ inl is ↦ is | inr none ↦ absurd none ] in
-    (meta_row schema_number register, record { only = alone schema_number register (db.trees metas) new.tables.metas_shaped.0 new.meta_alone.there only; id = refl; number_is = refl }, refl)
+    let only : (r : Row) → Has (rows_of db meta) r → r ≡ meta_row schema_number register = λ r there. elim (new.meta_alone.only r there) [ inl is ↦ is | inr none ↦ absurd none ] in
+    (meta_row schema_number register, record { only = alone schema_number register (rows_of db meta) new.tables.metas_shaped.0 new.meta_alone.there only; id = refl; number_is = refl }, refl)

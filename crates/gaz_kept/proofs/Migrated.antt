@@ -11,7 +11,8 @@ use Rattle.gaz_views.specs.View.{View}
 use Rattle.gaz_overlay.specs.Passages.{PassageRow}
 use Rattle.gaz_overlay.specs.Rows.{HistoryRow}
 use Rattle.gaz_tables.specs.Migrating.{HasFirstTables, Migrates, with_hop}
-use Rattle.gaz_tables.specs.Schema.{metas, old_versions, receiveds, versions}
+use Rattle.gaz_tables.specs.Schema.{meta, received, version, version2}
+use Rattle.gaz_tables.specs.Tables.{rows_of}
 use Rattle.gaz_kept.specs.Contents.{board_in}
 use Rattle.gaz_kept.specs.Files.{files_in, reached_in, verdicts_in}
 use Rattle.gaz_kept.specs.Histories.{AreSame}
@@ -69,56 +70,56 @@ passage_too c v w s = refl
 
 module _ (register : List ℕ) (old new : Database) (was : IsFirstKept old) (moves : Migrates schema_number register old new) where
   abbrev sources : List Row
-  sources = old.trees old_versions
+  sources = rows_of old version
 
   -- each row that came is a copy
-  source : (r : Row) → Has (new.trees versions) r → (s : Row) × Has sources s × ((n : ℤ) × (r ≡ Int n ∷ with_hop s))
+  source : (r : Row) → Has (rows_of new version2) r → (s : Row) × Has sources s × ((n : ℤ) × (r ≡ Int n ∷ with_hop s))
   source r there = elim (moves.rows.only r there) [ inl none ↦ absurd none | inr from ↦ from ]
 
-  each_version : (r : Row) → Has (new.trees versions) r → IsVersion r
+  each_version : (r : Row) → Has (rows_of new version2) r → IsVersion r
   each_version r there =
       let it = source r there in
       subst IsVersion (sym it.2.1) (version_too (column it.0 0) (Int it.2.0) it.0 (was.rows (first_row it.0) (mapped_has first_row sources it.0 it.1)))
 
   -- the histories have the same rows
-  only : (c : ℕ) (h : HistoryRow) → Has (histories_in (new.trees versions) c) h → Has (histories_in (first_rows sources) c) h
+  only : (c : ℕ) (h : HistoryRow) → Has (histories_in (rows_of new version2) c) h → Has (histories_in (first_rows sources) c) h
   only c h there =
-      let r = read_from (history_in c) (new.trees versions) h there in
+      let r = read_from (history_in c) (rows_of new version2) h there in
       let it = source r.0 r.1 in
       read_in (history_in c) (first_rows sources) (first_row it.0) h (mapped_has first_row sources it.0 it.1)
       (history_too c (column it.0 0) (Int it.2.0) it.0 ∙ ap (history_in c) (sym it.2.1) ∙ r.2)
 
-  kept : (c : ℕ) (h : HistoryRow) → Has (histories_in (first_rows sources) c) h → Has (histories_in (new.trees versions) c) h
+  kept : (c : ℕ) (h : HistoryRow) → Has (histories_in (first_rows sources) c) h → Has (histories_in (rows_of new version2) c) h
   kept c h there =
       let r = read_from (history_in c) (first_rows sources) h there in
       let s = has_mapped first_row sources r.0 r.1 in
       let made = moves.rows.done s.0 s.1 in
-      read_in (history_in c) (new.trees versions) (Int made.0 ∷ with_hop s.0) h made.1
+      read_in (history_in c) (rows_of new version2) (Int made.0 ∷ with_hop s.0) h made.1
       (history_too c (Int made.0) (column s.0 0) s.0 ∙ ap (history_in c) (sym s.2) ∙ r.2)
 
   -- so have the passages
-  only_passed : (c : ℕ) (p : PassageRow) → Has (passages_in (new.trees versions) c) p → Has (passages_in (first_rows sources) c) p
+  only_passed : (c : ℕ) (p : PassageRow) → Has (passages_in (rows_of new version2) c) p → Has (passages_in (first_rows sources) c) p
   only_passed c p there =
-      let r = read_from (passage_in c) (new.trees versions) p there in
+      let r = read_from (passage_in c) (rows_of new version2) p there in
       let it = source r.0 r.1 in
       read_in (passage_in c) (first_rows sources) (first_row it.0) p (mapped_has first_row sources it.0 it.1)
       (passage_too c (column it.0 0) (Int it.2.0) it.0 ∙ ap (passage_in c) (sym it.2.1) ∙ r.2)
 
-  kept_passed : (c : ℕ) (p : PassageRow) → Has (passages_in (first_rows sources) c) p → Has (passages_in (new.trees versions) c) p
+  kept_passed : (c : ℕ) (p : PassageRow) → Has (passages_in (first_rows sources) c) p → Has (passages_in (rows_of new version2) c) p
   kept_passed c p there =
       let r = read_from (passage_in c) (first_rows sources) p there in
       let s = has_mapped first_row sources r.0 r.1 in
       let made = moves.rows.done s.0 s.1 in
-      read_in (passage_in c) (new.trees versions) (Int made.0 ∷ with_hop s.0) p made.1
+      read_in (passage_in c) (rows_of new version2) (Int made.0 ∷ with_hop s.0) p made.1
       (passage_too c (Int made.0) (column s.0 0) s.0 ∙ ap (passage_in c) (sym s.2) ∙ r.2)
 
-  same_passed : (c : ℕ) → AreSame (passages_in (first_rows sources) c) (passages_in (new.trees versions) c)
+  same_passed : (c : ℕ) → AreSame (passages_in (first_rows sources) c) (passages_in (rows_of new version2) c)
   same_passed c = record { only = only_passed c; kept = kept_passed c }
 
-  same : (c : ℕ) → AreSame (histories_in (first_rows sources) c) (histories_in (new.trees versions) c)
+  same : (c : ℕ) → AreSame (histories_in (first_rows sources) c) (histories_in (rows_of new version2) c)
   same c = record { only = only c; kept = kept c }
 
-  through : (c n : ℕ) → AreThrough n (histories_in (first_rows sources) c) → AreThrough n (histories_in (new.trees versions) c)
+  through : (c n : ℕ) → AreThrough n (histories_in (first_rows sources) c) → AreThrough n (histories_in (rows_of new version2) c)
   through c n h = record {
     until = λ r there. h.until r (only c r there);
     apart = record {
@@ -133,27 +134,27 @@ module _ (register : List ℕ) (old new : Database) (was : IsFirstKept old) (mov
     files = λ r there. was.files r (subst (λ l. Has l r) moves.files there);
     first = λ c. subst (λ l. AreFirst l c) (sym moves.files) (was.first c);
     rows = each_version;
-    histories = λ c. subst (λ l. AreThrough (reached_in l c) (histories_in (new.trees versions) c)) (sym moves.files) (through c (reached_in (old.trees receiveds) c) (was.histories c));
-    passages = λ c. subst (λ l. ArePassages (reached_in l c) (passages_in (new.trees versions) c)) (sym moves.files) (passages_same (reached_in (old.trees receiveds) c) (passages_in (first_rows sources) c) (passages_in (new.trees versions) c) (same_passed c) (was.passages c));
+    histories = λ c. subst (λ l. AreThrough (reached_in l c) (histories_in (rows_of new version2) c)) (sym moves.files) (through c (reached_in (rows_of old received) c) (was.histories c));
+    passages = λ c. subst (λ l. ArePassages (reached_in l c) (passages_in (rows_of new version2) c)) (sym moves.files) (passages_same (reached_in (rows_of old received) c) (passages_in (first_rows sources) c) (passages_in (rows_of new version2) c) (same_passed c) (was.passages c));
   }
 
-  views : (c t : ℕ) → view_in (new.trees versions) c t ≡ view_in (first_rows sources) c t
+  views : (c t : ℕ) → view_in (rows_of new version2) c t ≡ view_in (first_rows sources) c t
   views c t =
-      same_views (reached_in (old.trees receiveds) c) (histories_in (first_rows sources) c) (histories_in (new.trees versions) c) (passages_in (first_rows sources) c) (passages_in (new.trees versions) c)
+      same_views (reached_in (rows_of old received) c) (histories_in (first_rows sources) c) (histories_in (rows_of new version2) c) (passages_in (first_rows sources) c) (passages_in (rows_of new version2) c)
       (was.histories c).apart (same c) (was.passages c) (same_passed c) t
 
-  board : board_in (new.trees receiveds) (new.trees versions) ≡ board_in (old.trees receiveds) (first_rows sources)
+  board : board_in (rows_of new received) (rows_of new version2) ≡ board_in (rows_of old received) (first_rows sources)
   board = λ i c. judgements (verdicts_in (moves.files i) c) (λ t. views c t i)
 
-stands : (register : List ℕ) (working : View) (old new : Database) → IsFirstKept old → Migrates schema_number register old new → Stands new working (first_content_in old.trees working)
+stands : (register : List ℕ) (working : View) (old new : Database) → IsFirstKept old → Migrates schema_number register old new → Stands new working (first_content_in old working)
 stands register working old new was moves = record {
   kept = new_kept register old new was moves;
   content = λ i. record { files = files_in (moves.files i); board = board register old new was moves i; working = working };
 }
 
-is_of : (one other : List ℕ) (old new : Database) → HasFirstTables old → IsOfFirst one (old.trees metas) → Migrates schema_number other old new → IsOf other (new.trees metas)
+is_of : (one other : List ℕ) (old new : Database) → HasFirstTables old → IsOfFirst one (rows_of old meta) → Migrates schema_number other old new → IsOf other (rows_of new meta)
 is_of one other old new has mine moves =
-    becomes_of first_number schema_number one other (old.trees metas) (new.trees metas) moves.tables.metas_shaped.0 mine moves.meta
+    becomes_of first_number schema_number one other (rows_of old meta) (rows_of new meta) moves.tables.metas_shaped.0 mine moves.meta
 
 pub migration_stands : MigrationStands
 migration_stands = record { stands = stands; is_of = is_of }

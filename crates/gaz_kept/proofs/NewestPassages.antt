@@ -18,10 +18,11 @@ use Rattle.gaz_cells.specs.Ids.{id_of}
 use Rattle.gaz_overlay.specs.Passages.{PassageRow, has_passed}
 use Rattle.gaz_overlay.specs.Rows.{never}
 use Rattle.gaz_tables.specs.Custody.{FindsCustody, FindsCustodyUntil, custody_shown}
-use Rattle.gaz_tables.specs.Schema.{receiveds, versions}
+use Rattle.gaz_tables.specs.Schema.{received, version2}
 use Rattle.gaz_tables.specs.Shows.{IsGreatest, ShowsGreatest}
 use Rattle.gaz_tables.specs.Versions as table
 use Rattle.gaz_tables.specs.Versions.{IsOfKey, IsOfKeyUntil, born_place}
+use Rattle.gaz_tables.specs.Tables.{rows_of}
 use Rattle.gaz_kept.specs.Files.{reached_in}
 use Rattle.gaz_kept.specs.Histories.{AreVersions}
 use Rattle.gaz_kept.specs.Kept.{IsKept, IsPassageRow}
@@ -154,17 +155,17 @@ its_use uprn (Some passed) (Some p) tells = refl
 
 module _ (db : Database) (kept : IsKept db) (c uprn : ℕ) (known : is_uprn uprn ≡ true) (answer : List Row) (passed : Option Passed) (says : SaysPassage answer passed) where
   abbrev passages : List PassageRow
-  passages = passages_in (db.trees versions) c
+  passages = passages_in (rows_of db version2) c
 
   abbrev reached : ℕ
-  reached = reached_in (db.trees receiveds) c
+  reached = reached_in (rows_of db received) c
 
   -- the newest of all is that of the last view
-  pub passage_told : FindsCustody c (id_of (key.Blpu uprn)) (db.trees versions) answer → TellsAt passages reached uprn passed
+  pub passage_told : FindsCustody c (id_of (key.Blpu uprn)) (rows_of db version2) answer → TellsAt passages reached uprn passed
   passage_told found = by_row t.row t.tells t.last
     where
       t : Told (λ b. ⊤) passages uprn passed
-      t = newest_said c uprn (db.trees versions) answer kept.rows known found passed says
+      t = newest_said c uprn (rows_of db version2) answer kept.rows known found passed says
 
       by_row : (o : Option PassageRow) → TellsPassage uprn passed o → AreLastBy (λ b. ⊤) passages uprn o → TellsAt passages reached uprn passed
       by_row None tells none = record { row = None; tells = tells; last = λ r there number early. none r there number tt }
@@ -174,11 +175,11 @@ module _ (db : Database) (kept : IsKept db) (c uprn : ℕ) (known : is_uprn uprn
         last = record { there = last.there; of_number = last.of_number; born = ((kept.passages c).until p last.there).born; last = λ r there number early. last.last r there number tt };
       }
 
-  pub passage_until_told : (volume : ℕ) → FindsCustodyUntil c (id_of (key.Blpu uprn)) volume (db.trees versions) answer → TellsAt passages volume uprn passed
+  pub passage_until_told : (volume : ℕ) → FindsCustodyUntil c (id_of (key.Blpu uprn)) volume (rows_of db version2) answer → TellsAt passages volume uprn passed
   passage_until_told volume found = by_row t.row t.tells t.last
     where
       t : Told (λ b. b ≤ volume) passages uprn passed
-      t = until_said c uprn (db.trees versions) answer kept.rows known volume found passed says
+      t = until_said c uprn (rows_of db version2) answer kept.rows known volume found passed says
 
       by_row : (o : Option PassageRow) → TellsPassage uprn passed o → AreLastBy (λ b. b ≤ volume) passages uprn o → TellsAt passages volume uprn passed
       by_row None tells none = record { row = None; tells = tells; last = none }
@@ -186,36 +187,36 @@ module _ (db : Database) (kept : IsKept db) (c uprn : ℕ) (known : is_uprn uprn
 
 -- ---- what follows
 
-module _ (db : Database) (kept : IsKept db) (c t uprn : ℕ) (passed : Option Passed) (room : t < never) (told : TellsAt (passages_in (db.trees versions) c) t uprn passed) where
+module _ (db : Database) (kept : IsKept db) (c t uprn : ℕ) (passed : Option Passed) (room : t < never) (told : TellsAt (passages_in (rows_of db version2) c) t uprn passed) where
   -- what became of the number after the volume
-  pub custody_then : custody_of passed ≡ custody_at (view_in (db.trees versions) c t) uprn
+  pub custody_then : custody_of passed ≡ custody_at (view_in (rows_of db version2) c t) uprn
   custody_then =
-      let say = rows_say (reached_in (db.trees receiveds) c) t uprn (passages_in (db.trees versions) c) told.row room (kept.passages c) told.last in
+      let say = rows_say (reached_in (rows_of db received) c) t uprn (passages_in (rows_of db version2) c) told.row room (kept.passages c) told.last in
       sym (say.custody ∙ its_custody uprn passed told.row told.tells)
 
   -- whether its BLPU's key was used by that
-  pub passed_then : has_passed (passages_in (db.trees versions) c) t (key.Blpu uprn) ≡ is_some passed
+  pub passed_then : has_passed (passages_in (rows_of db version2) c) t (key.Blpu uprn) ≡ is_some passed
   passed_then =
-      let say = rows_say (reached_in (db.trees receiveds) c) t uprn (passages_in (db.trees versions) c) told.row room (kept.passages c) told.last in
+      let say = rows_say (reached_in (rows_of db received) c) t uprn (passages_in (rows_of db version2) c) told.row room (kept.passages c) told.last in
       say.used ∙ its_use uprn passed told.row told.tells
 
-module _ (db : Database) (kept : IsKept db) (c uprn : ℕ) (passed : Option Passed) (told : TellsAt (passages_in (db.trees versions) c) (reached_in (db.trees receiveds) c) uprn passed) where
+module _ (db : Database) (kept : IsKept db) (c uprn : ℕ) (passed : Option Passed) (told : TellsAt (passages_in (rows_of db version2) c) (reached_in (rows_of db received) c) uprn passed) where
   pub custody_now : custody_of passed ≡ custody_at (last_in db c) uprn
-  custody_now = custody_then db kept c (reached_in (db.trees receiveds) c) uprn passed (reached_room db c kept) told
+  custody_now = custody_then db kept c (reached_in (rows_of db received) c) uprn passed (reached_room db c kept) told
 
-  pub passed_now : has_passed (passages_in (db.trees versions) c) (reached_in (db.trees receiveds) c) (key.Blpu uprn) ≡ is_some passed
-  passed_now = passed_then db kept c (reached_in (db.trees receiveds) c) uprn passed (reached_room db c kept) told
+  pub passed_now : has_passed (passages_in (rows_of db version2) c) (reached_in (rows_of db received) c) (key.Blpu uprn) ≡ is_some passed
+  passed_now = passed_then db kept c (reached_in (rows_of db received) c) uprn passed (reached_room db c kept) told
 
   -- the passage is current
-  pub told_passage : (p : Passed) → passed ≡ Some p → HasPassage (passages_in (db.trees versions) c) uprn p.born
+  pub told_passage : (p : Passed) → passed ≡ Some p → HasPassage (passages_in (rows_of db version2) c) uprn p.born
   told_passage p is = by_row told.row (subst (λ o. TellsPassage uprn o told.row) is told.tells) told.last
     where
-      by_row : (o : Option PassageRow) → TellsPassage uprn (Some p) o → IsLastOf (reached_in (db.trees receiveds) c) (passages_in (db.trees versions) c) uprn o → HasPassage (passages_in (db.trees versions) c) uprn p.born
+      by_row : (o : Option PassageRow) → TellsPassage uprn (Some p) o → IsLastOf (reached_in (rows_of db received) c) (passages_in (rows_of db version2) c) uprn o → HasPassage (passages_in (rows_of db version2) c) uprn p.born
       by_row None tells none = absurd tells
       by_row (Some row) tells last = record {
         row = row;
         there = last.there;
         of_number = tells.of_number;
         of_birth = tells.born;
-        is_current = last_is_current (reached_in (db.trees receiveds) c) uprn (passages_in (db.trees versions) c) row (kept.passages c) last;
+        is_current = last_is_current (reached_in (rows_of db received) c) uprn (passages_in (rows_of db version2) c) row (kept.passages c) last;
       }

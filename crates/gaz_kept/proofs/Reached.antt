@@ -10,7 +10,8 @@ use Rattle.sqlite_rules.specs.Lists.{Has}
 use Rattle.sqlite_rules.proofs.ProbeLemmas.{has_mapped}
 use Rattle.gaz_views.specs.declared.verdict.Verdict.{Verdict}
 use Rattle.gaz_overlay.specs.Rows.{never}
-use Rattle.gaz_tables.specs.Schema.{receiveds}
+use Rattle.gaz_tables.specs.Schema.{received}
+use Rattle.gaz_tables.specs.Tables.{rows_of}
 use Rattle.gaz_kept.specs.Files.{judged_in, judged_volumes, reached_in}
 use Rattle.gaz_kept.specs.Kept.{AreFirst, IsFile, IsKept}
 use Rattle.gaz_kept.proofs.Judging.{said_by}
@@ -50,5 +51,5 @@ module _ (rows : List Row) (each : (r : Row) → Has rows r → IsFile r) (c : �
           (subst (λ l. Has l (1 + n)) (sym (first ∙ ap (range_with_len 1) is)) (has_last 1 n)))
 
 -- so in a store's tables
-pub reached_room : (db : Database) (c : ℕ) → IsKept db → reached_in (db.trees receiveds) c < never
-reached_room db c kept = let most = reached_most (db.trees receiveds) kept.files c (kept.first c) in omega arith
+pub reached_room : (db : Database) (c : ℕ) → IsKept db → reached_in (rows_of db received) c < never
+reached_room db c kept = let most = reached_most (rows_of db received) kept.files c (kept.first c) in omega arith

@@ -1,5 +1,5 @@
 -- A row of `meta` that gets another register keeps what the tables stand for.
-use Rattle.std.proofs.Common.{◌≡◌, ◌∙◌, inl, inr, ℕ, pos, List, [], ◌∷◌, refl, sym, ap, subst, arith}
+use Rattle.std.proofs.Common.{◌≡◌, ◌∙◌, inl, inr, ℕ, pos, List, [], ◌∷◌, refl, sym, ap, subst}
 use Rattle.std.specs.declared.cmp.Ordering.TheVariants.{Less}
 use Rattle.sqlite.specs.Effect.{Database}
 use Rattle.sqlite.specs.Order.{Row, value_cmp}
@@ -11,8 +11,9 @@ use Rattle.sqlite_value.proofs.OrderLemmas.{value_cmp-Int}
 use Rattle.gaz_views.specs.View.{View}
 use Rattle.gaz_tables.proofs.Staying.{stays}
 use Rattle.gaz_tables.specs.Metas.{IsFirst, Rewrites, id_of, meta_row}
-use Rattle.gaz_tables.specs.Schema.{metas, received, receiveds, version2, versions}
+use Rattle.gaz_tables.specs.Schema.{meta, received, version2}
 use Rattle.gaz_tables.specs.Stores.{HasTables}
+use Rattle.gaz_tables.specs.Tables.{rows_of}
 use Rattle.gaz_kept.specs.Contents.{board_in, content_in}
 use Rattle.gaz_kept.specs.Files.{files_in, reached_in}
 use Rattle.gaz_kept.specs.Kept.{AreFirst, ArePassages, AreThrough, IsKept}
@@ -29,15 +30,15 @@ module _ (register : List ℕ) (old new : Database) (has : HasTables old) (write
   Becomes = Rewrites schema_number register
 
   pub tables_still : HasTables new
-  tables_still = (stays metas Becomes old new has writes).0
+  tables_still = (stays meta Becomes old new has.there.metas writes has).0
 
-  pub files_still : new.trees receiveds ≡ old.trees receiveds
-  files_still = (stays metas Becomes old new has writes).1 received (inr (inl refl)) (λ e. absurd (omega (arith, e)))
+  pub files_still : rows_of new received ≡ rows_of old received
+  files_still = (stays meta Becomes old new has.there.metas writes has).1 received has.there.receiveds refl
 
-  pub versions_still : new.trees versions ≡ old.trees versions
-  versions_still = (stays metas Becomes old new has writes).1 version2 (inr (inr (inr (inl refl)))) (λ e. absurd (omega (arith, e)))
+  pub versions_still : rows_of new version2 ≡ rows_of old version2
+  versions_still = (stays meta Becomes old new has.there.metas writes has).1 version2 has.there.versions refl
 
-stands : (register : List ℕ) (working : View) (old new : Database) → IsKept old → Registers register old new → Stands new working (content_in old.trees working)
+stands : (register : List ℕ) (working : View) (old new : Database) → IsKept old → Registers register old new → Stands new working (content_in old working)
 stands register working old new kept writes =
     let files = files_still register old new kept.tables writes in
     let rows = versions_still register old new kept.tables writes in
@@ -47,8 +48,8 @@ stands register working old new kept writes =
         files = λ r there. kept.files r (subst (λ l. Has l r) files there);
         first = λ c. subst (λ l. AreFirst l c) (sym files) (kept.first c);
         rows = λ r there. kept.rows r (subst (λ l. Has l r) rows there);
-        histories = λ c. subst (λ l. AreThrough (reached_in (new.trees receiveds) c) (histories_in l c)) (sym rows) (subst (λ l. AreThrough (reached_in l c) (histories_in (old.trees versions) c)) (sym files) (kept.histories c));
-        passages = λ c. subst (λ l. ArePassages (reached_in (new.trees receiveds) c) (passages_in l c)) (sym rows) (subst (λ l. ArePassages (reached_in l c) (passages_in (old.trees versions) c)) (sym files) (kept.passages c));
+        histories = λ c. subst (λ l. AreThrough (reached_in (rows_of new received) c) (histories_in l c)) (sym rows) (subst (λ l. AreThrough (reached_in l c) (histories_in (rows_of old version2) c)) (sym files) (kept.histories c));
+        passages = λ c. subst (λ l. ArePassages (reached_in (rows_of new received) c) (passages_in l c)) (sym rows) (subst (λ l. ArePassages (reached_in l c) (passages_in (rows_of old version2) c)) (sym files) (kept.passages c));
       };
       content = λ i. record { files = files_in (files i); board = board_in (files i) (rows i); working = working };
     }
@@ -89,9 +90,9 @@ becomes_of was number one other old new rises mine writes =
       refl,
     )
 
-is_of : (one other : List ℕ) (old new : Database) → HasTables old → IsOf one (old.trees metas) → Registers other old new → IsOf other (new.trees metas)
+is_of : (one other : List ℕ) (old new : Database) → HasTables old → IsOf one (rows_of old meta) → Registers other old new → IsOf other (rows_of new meta)
 is_of one other old new has mine writes =
-    becomes_of schema_number schema_number one other (old.trees metas) (new.trees metas) (tables_still other old new has writes).metas_shaped.0 mine writes.rows
+    becomes_of schema_number schema_number one other (rows_of old meta) (rows_of new meta) (tables_still other old new has writes).metas_shaped.0 mine writes.rows
 
 pub rewrites_stand : RewritesStand
 rewrites_stand = record { stands = stands; is_of = is_of }

@@ -20,13 +20,13 @@ use Rattle.gaz_views.specs.declared.verdict.Verdict.TheVariants.{Rejected}
 use Rattle.gaz_keeper.proofs.Pairs.{pairs_exact, pairs_total}
 use Rattle.gaz_keeper.specs.Board.{Board, adds, last_view, view_after}
 use Rattle.gaz_overlay.specs.Rows.{HistoryRow, IsUntil, never}
-use Rattle.gaz_sql_facts.specs.Changes.{Changes}
 use Rattle.gaz_tables.proofs.ReceivedOnce.{once}
 use Rattle.gaz_tables.proofs.Staying.{stays}
 use Rattle.gaz_tables.specs.Receiveds as table
 use Rattle.gaz_tables.specs.Receiveds.{IsVolume, Rejects, unjudged}
-use Rattle.gaz_tables.specs.Schema.{receiveds, version2, versions}
-use Rattle.gaz_tables.specs.Stores.{HasTables}
+use Rattle.gaz_tables.specs.Schema.{received, version2}
+use Rattle.gaz_tables.specs.Stores.{ChangesTable, HasTables}
+use Rattle.gaz_tables.specs.Tables.{rows_of}
 use Rattle.gaz_kept.specs.Contents.{board_in}
 use Rattle.gaz_kept.specs.Files.{Judged, custodian_in, file_in, files_in, judged_volumes, reached_in, verdicts_in, volume_in}
 use Rattle.gaz_kept.specs.Judging.{AreFiles, Arrives, IsJudged, IsVerdict}
@@ -53,14 +53,14 @@ no_judgements f = refl
 none_through : (n : ℕ) → AreThrough n []
 none_through n = record { until = λ r there. absurd there; apart = record { once = λ a b ha hb key born. absurd ha; in_turn = λ a b ha hb key less. absurd ha } }
 
-empty_kept : (db : Database) → HasTables db → db.trees versions ≡ [] → db.trees receiveds ≡ [] → IsKept db
+empty_kept : (db : Database) → HasTables db → rows_of db version2 ≡ [] → rows_of db received ≡ [] → IsKept db
 empty_kept db has no_versions no_files = record {
   tables = has;
   files = λ r there. absurd (subst (λ l. Has l r) no_files there);
   first = λ c. subst (λ l. AreFirst l c) (sym no_files) (subst (λ es. map (λ (e : ℕ × Verdict). e.0) es ≡ range_with_len 1 (length (map (λ (e : ℕ × Verdict). e.1) es))) (sym (nothing_judged c)) refl);
   rows = λ r there. absurd (subst (λ l. Has l r) no_versions there);
-  histories = λ c. subst (λ l. AreThrough (reached_in (db.trees receiveds) c) (histories_in l c)) (sym no_versions) (none_through (reached_in (db.trees receiveds) c));
-  passages = λ c. subst (λ l. ArePassages (reached_in (db.trees receiveds) c) (passages_in l c)) (sym no_versions) (no_passages (reached_in (db.trees receiveds) c));
+  histories = λ c. subst (λ l. AreThrough (reached_in (rows_of db received) c) (histories_in l c)) (sym no_versions) (none_through (reached_in (rows_of db received) c));
+  passages = λ c. subst (λ l. ArePassages (reached_in (rows_of db received) c) (passages_in l c)) (sym no_versions) (no_passages (reached_in (rows_of db received) c));
 }
 
 empty_board : board_in [] [] ≡ (λ c. [])
@@ -76,23 +76,23 @@ create_stands number register db new = record {
 
 -- ---- what the tables hold
 
-pub are_files : (db : Database) → IsKept db → AreFiles (db.trees receiveds)
+pub are_files : (db : Database) → IsKept db → AreFiles (rows_of db received)
 are_files db kept = record { each = kept.files; once = λ r s hr hs same. once_each r s hr hs same.0 same.1 }
   where
-    once_each : (r s : Row) → Has (db.trees receiveds) r → Has (db.trees receiveds) s → custodian_in r ≡ custodian_in s → volume_in r ≡ volume_in s → r ≡ s
+    once_each : (r s : Row) → Has (rows_of db received) r → Has (rows_of db received) s → custodian_in r ≡ custodian_in s → volume_in r ≡ volume_in s → r ≡ s
     once_each r s hr hs cust vol =
         let f = kept.files r hr in
         let g = kept.files s hs in
         sym (once db kept.tables r s hr hs (pos (custodian_in r)) (pos (volume_in r)) f.cust (whole (table.cust_of s) (custodian_in r) g.cust (sym cust)) f.volume (whole (table.volume_of s) (volume_in r) g.volume (sym vol)))
 
 -- a write of `received` leaves the rows of `version2`
-module _ (Becomes : List Row → List Row → Type 0) (old new : Database) (kept : IsKept old) (changes : Changes receiveds Becomes old new) where
-  both : HasTables new × (new.trees versions ≡ old.trees versions)
+module _ (Becomes : List Row → List Row → Type 0) (old new : Database) (kept : IsKept old) (changes : ChangesTable received Becomes old new) where
+  both : HasTables new × (rows_of new version2 ≡ rows_of old version2)
   both =
-      let s = stays receiveds Becomes old new kept.tables changes in
-      (s.0, s.1 version2 (inr (inr (inr (inl refl)))) (λ e. absurd (omega (arith, e))))
+      let s = stays received Becomes old new kept.tables.there.receiveds changes kept.tables in
+      (s.0, s.1 version2 kept.tables.there.versions refl)
 
-  still_rows : (r : Row) → Has (new.trees versions) r → IsVersion r
+  still_rows : (r : Row) → Has (rows_of new version2) r → IsVersion r
   still_rows r there = kept.rows r (subst (λ l. Has l r) both.1 there)
 
 -- ---- a file comes
@@ -104,17 +104,17 @@ receive_stands c volume bytes working old new first last kept is_new changes = r
     files = a.are_files.each;
     first = λ d. subst (λ (m : Judged). finite.keys m ≡ range_with_len 1 (length (finite.values m))) (sym (a.judged d)) (kept.first d);
     rows = still_rows _ old new kept changes;
-    histories = λ d. subst (λ (m : Judged). AreThrough (length (finite.values m)) (histories_in (new.trees versions) d)) (sym (a.judged d)) (subst (λ l. AreThrough (reached_in (old.trees receiveds) d) (histories_in l d)) (sym tables.1) (kept.histories d));
-    passages = λ d. subst (λ (m : Judged). ArePassages (length (finite.values m)) (passages_in (new.trees versions) d)) (sym (a.judged d)) (subst (λ l. ArePassages (reached_in (old.trees receiveds) d) (passages_in l d)) (sym tables.1) (kept.passages d));
+    histories = λ d. subst (λ (m : Judged). AreThrough (length (finite.values m)) (histories_in (rows_of new version2) d)) (sym (a.judged d)) (subst (λ l. AreThrough (reached_in (rows_of old received) d) (histories_in l d)) (sym tables.1) (kept.histories d));
+    passages = λ d. subst (λ (m : Judged). ArePassages (length (finite.values m)) (passages_in (rows_of new version2) d)) (sym (a.judged d)) (subst (λ l. ArePassages (reached_in (rows_of old received) d) (passages_in l d)) (sym tables.1) (kept.passages d));
   };
   content = λ i. record { files = a.files i; board = λ d. judgements (finite.values (a.judged d i)) (view_in (tables.1 i) d); working = working };
 }
   where
-    tables : HasTables new × (new.trees versions ≡ old.trees versions)
+    tables : HasTables new × (rows_of new version2 ≡ rows_of old version2)
     tables = both _ old new kept changes
 
-    a : Arrives c volume bytes (old.trees receiveds) (new.trees receiveds)
-    a = files_change.insert (Int (next_rowid (old.trees receiveds))) c volume bytes (old.trees receiveds) (new.trees receiveds) first last (are_files old kept) is_new changes.rows
+    a : Arrives c volume bytes (rows_of old received) (rows_of new received)
+    a = files_change.insert (Int (next_rowid (rows_of old received))) c volume bytes (rows_of old received) (rows_of new received) first last (are_files old kept) is_new changes.rows
 
 -- ---- a volume is rejected
 
@@ -152,25 +152,25 @@ through_next n rows h = record { until = λ r there. later r (h.until r there); 
     later r u = record { born = (let b = u.born in omega arith); gone = gone r u.gone }
 
 module _ (c place rule : ℕ) (old new : Database) (small : rule ≤ 255) (kept : IsKept old)
-    (at_hand : IsSome (finite.get (files_in (old.trees receiveds)) (c, reached_in (old.trees receiveds) c + 1)))
-    (changes : Changes receiveds (Rejects c (reached_in (old.trees receiveds) c + 1) (pos place) rule) old new) where
+    (at_hand : IsSome (finite.get (files_in (rows_of old received)) (c, reached_in (rows_of old received) c + 1)))
+    (changes : ChangesTable received (Rejects c (reached_in (rows_of old received) c + 1) (pos place) rule) old new) where
   abbrev n : ℕ
-  n = reached_in (old.trees receiveds) c
+  n = reached_in (rows_of old received) c
 
-  skip_tables : HasTables new × (new.trees versions ≡ old.trees versions)
+  skip_tables : HasTables new × (rows_of new version2 ≡ rows_of old version2)
   skip_tables = both _ old new kept changes
 
-  its_row : IsThere c (n + 1) (old.trees receiveds)
-  its_row = row_of (old.trees receiveds) (are_files old kept) c (n + 1) at_hand
+  its_row : IsThere c (n + 1) (rows_of old received)
+  its_row = row_of (rows_of old received) (are_files old kept) c (n + 1) at_hand
 
   is_verdict : IsVerdict 2 place rule (Rejected place rule)
   is_verdict = record { verdict = refl; states = omega arith; rules = small; no_place = λ other. absurd (other refl); no_rule = λ other. absurd (other refl) }
 
-  pub judges : IsJudged c (n + 1) (Rejected place rule) (old.trees receiveds) (new.trees receiveds)
-  judges = files_change.update c 2 place rule (Rejected place rule) (old.trees receiveds) (new.trees receiveds) is_verdict (are_files old kept) (kept.first c) its_row.row its_row.there its_row.is changes.rows
+  pub judges : IsJudged c (n + 1) (Rejected place rule) (rows_of old received) (rows_of new received)
+  judges = files_change.update c 2 place rule (Rejected place rule) (rows_of old received) (rows_of new received) is_verdict (are_files old kept) (kept.first c) its_row.row its_row.there its_row.is changes.rows
 
-  reached_now : reached_in (new.trees receiveds) c ≡ n + 1
-  reached_now = ap length judges.verdicts ∙ length-append (verdicts_in (old.trees receiveds) c) (Rejected place rule ∷ [])
+  reached_now : reached_in (rows_of new received) c ≡ n + 1
+  reached_now = ap length judges.verdicts ∙ length-append (verdicts_in (rows_of old received) c) (Rejected place rule ∷ [])
 
   room : n + 1 < never
   room =
@@ -179,29 +179,29 @@ module _ (c place rule : ℕ) (old new : Database) (small : rule ≤ 255) (kept 
       let last = f.last in
       omega arith
 
-  skip_first : (d : ℕ) → AreFirst (new.trees receiveds) d
+  skip_first : (d : ℕ) → AreFirst (rows_of new received) d
   skip_first d = elim (cases_eq d c) [
-    | inl same ↦ subst (AreFirst (new.trees receiveds)) (sym same) judges.first
+    | inl same ↦ subst (AreFirst (rows_of new received)) (sym same) judges.first
     | inr other ↦ subst (λ (m : Judged). finite.keys m ≡ range_with_len 1 (length (finite.values m))) (sym (judges.others d other)) (kept.first d)
   ]
 
-  skip_through : (d : ℕ) → AreThrough (reached_in (new.trees receiveds) d) (histories_in (new.trees versions) d)
-  skip_through d = subst (λ l. AreThrough (reached_in (new.trees receiveds) d) (histories_in l d)) (sym skip_tables.1) (by_custodian (cases_eq d c))
+  skip_through : (d : ℕ) → AreThrough (reached_in (rows_of new received) d) (histories_in (rows_of new version2) d)
+  skip_through d = subst (λ l. AreThrough (reached_in (rows_of new received) d) (histories_in l d)) (sym skip_tables.1) (by_custodian (cases_eq d c))
     where
-      by_custodian : (d ≡ c) ⊎ ((d ≡ c) → ⊥) → AreThrough (reached_in (new.trees receiveds) d) (histories_in (old.trees versions) d)
+      by_custodian : (d ≡ c) ⊎ ((d ≡ c) → ⊥) → AreThrough (reached_in (rows_of new received) d) (histories_in (rows_of old version2) d)
       by_custodian (inl same) =
-          subst (λ e. AreThrough (reached_in (new.trees receiveds) e) (histories_in (old.trees versions) e)) (sym same)
-          (subst (λ m. AreThrough m (histories_in (old.trees versions) c)) (sym reached_now) (through_next n (histories_in (old.trees versions) c) (kept.histories c)))
-      by_custodian (inr other) = subst (λ (m : Judged). AreThrough (length (finite.values m)) (histories_in (old.trees versions) d)) (sym (judges.others d other)) (kept.histories d)
+          subst (λ e. AreThrough (reached_in (rows_of new received) e) (histories_in (rows_of old version2) e)) (sym same)
+          (subst (λ m. AreThrough m (histories_in (rows_of old version2) c)) (sym reached_now) (through_next n (histories_in (rows_of old version2) c) (kept.histories c)))
+      by_custodian (inr other) = subst (λ (m : Judged). AreThrough (length (finite.values m)) (histories_in (rows_of old version2) d)) (sym (judges.others d other)) (kept.histories d)
 
-  skip_passages : (d : ℕ) → ArePassages (reached_in (new.trees receiveds) d) (passages_in (new.trees versions) d)
-  skip_passages d = subst (λ l. ArePassages (reached_in (new.trees receiveds) d) (passages_in l d)) (sym skip_tables.1) (by_custodian (cases_eq d c))
+  skip_passages : (d : ℕ) → ArePassages (reached_in (rows_of new received) d) (passages_in (rows_of new version2) d)
+  skip_passages d = subst (λ l. ArePassages (reached_in (rows_of new received) d) (passages_in l d)) (sym skip_tables.1) (by_custodian (cases_eq d c))
     where
-      by_custodian : (d ≡ c) ⊎ ((d ≡ c) → ⊥) → ArePassages (reached_in (new.trees receiveds) d) (passages_in (old.trees versions) d)
+      by_custodian : (d ≡ c) ⊎ ((d ≡ c) → ⊥) → ArePassages (reached_in (rows_of new received) d) (passages_in (rows_of old version2) d)
       by_custodian (inl same) =
-          subst (λ e. ArePassages (reached_in (new.trees receiveds) e) (passages_in (old.trees versions) e)) (sym same)
-          (subst (λ m. ArePassages m (passages_in (old.trees versions) c)) (sym reached_now) (passages_next n (passages_in (old.trees versions) c) (kept.passages c)))
-      by_custodian (inr other) = subst (λ (m : Judged). ArePassages (length (finite.values m)) (passages_in (old.trees versions) d)) (sym (judges.others d other)) (kept.passages d)
+          subst (λ e. ArePassages (reached_in (rows_of new received) e) (passages_in (rows_of old version2) e)) (sym same)
+          (subst (λ m. ArePassages m (passages_in (rows_of old version2) c)) (sym reached_now) (passages_next n (passages_in (rows_of old version2) c) (kept.passages c)))
+      by_custodian (inr other) = subst (λ (m : Judged). ArePassages (length (finite.values m)) (passages_in (rows_of old version2) d)) (sym (judges.others d other)) (kept.passages d)
 
   skip_kept : IsKept new
   skip_kept = record {
@@ -214,20 +214,20 @@ module _ (c place rule : ℕ) (old new : Database) (small : rule ≤ 255) (kept 
   }
 
   abbrev board : Board
-  board = board_in (old.trees receiveds) (old.trees versions)
+  board = board_in (rows_of old received) (rows_of old version2)
 
   -- the view after the next volume is the last one
-  last_is : view_in (old.trees versions) c (n + 1) ≡ last_view board c
+  last_is : view_in (rows_of old version2) c (n + 1) ≡ last_view board c
   last_is =
-      let reads = board_reads (old.trees receiveds) (old.trees versions) c in
+      let reads = board_reads (rows_of old received) (rows_of old version2) c in
       let le : n ≤ n = omega arith in
-      views_stay n (histories_in (old.trees versions) c) (passages_in (old.trees versions) c) room (kept.histories c) (kept.passages c)
-      ∙ sym (reads.view (born_later c (old.trees versions) kept.rows) (passed_later c (old.trees versions) kept.rows) n le)
+      views_stay n (histories_in (rows_of old version2) c) (passages_in (rows_of old version2) c) room (kept.histories c) (kept.passages c)
+      ∙ sym (reads.view (born_later c (rows_of old version2) kept.rows) (passed_later c (rows_of old version2) kept.rows) n le)
       ∙ ap (λ t. view_after board c t) (sym reads.reached)
 
-  skip_board : board_in (new.trees receiveds) (new.trees versions) ≡ adds board c (record { verdict = Rejected place rule; view = last_view board c })
+  skip_board : board_in (rows_of new received) (rows_of new version2) ≡ adds board c (record { verdict = Rejected place rule; view = last_view board c })
   skip_board =
-      board_adds (old.trees receiveds) (new.trees receiveds) (old.trees versions) (new.trees versions) c (Rejected place rule) judges.verdicts
+      board_adds (rows_of old received) (rows_of new received) (rows_of old version2) (rows_of new version2) c (Rejected place rule) judges.verdicts
       (λ d other. ap finite.values (judges.others d other))
       (λ t le. ap (λ l. view_in l c t) skip_tables.1)
       (λ d other t. ap (λ l. view_in l d t) skip_tables.1)
@@ -235,8 +235,8 @@ module _ (c place rule : ℕ) (old new : Database) (small : rule ≤ 255) (kept 
 
 skip_stands : SkipStands
 skip_stands c place rule working old new small kept at_hand changes =
-    let reads = board_reads (old.trees receiveds) (old.trees versions) c in
-    let there = subst (λ m. IsSome (finite.get (files_in (old.trees receiveds)) (c, m + 1))) reads.reached at_hand in
+    let reads = board_reads (rows_of old received) (rows_of old version2) c in
+    let there = subst (λ m. IsSome (finite.get (files_in (rows_of old received)) (c, m + 1))) reads.reached at_hand in
     record {
       kept = skip_kept c place rule old new small kept there changes;
       content = λ i. record { files = (judges c place rule old new small kept there changes).files i; board = skip_board c place rule old new small kept there changes i; working = empty_view };

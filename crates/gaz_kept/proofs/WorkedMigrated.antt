@@ -15,11 +15,13 @@ use Rattle.gaz_overlay.specs.Rows.{view_after}
 use Rattle.gaz_sql_facts.specs.Copies.{AreCopied}
 use Rattle.gaz_tables.specs.Metas.{Rewrites, id_of, meta_row}
 use Rattle.gaz_tables.specs.Migrating.{with_hop}
+use Rattle.gaz_tables.specs.Schema.{meta, received, version, version2}
+use Rattle.gaz_tables.specs.Tables.{rows_of, tree_named}
 use Rattle.gaz_kept.specs.Examples.{changed}
 use Rattle.gaz_kept.specs.Migrated.{first_rows}
 use Rattle.gaz_kept.specs.Numbered.{IsNumbered}
 use Rattle.gaz_kept.specs.OpeningFirst.{has_first}
-use Rattle.gaz_kept.specs.WorkedMigrated.{HasMoved, IsMigration, WorkedFirst, WorkedMigrated, WorkedMove, first_101, first_changed, first_table, late_101, moved_changed, moved_rows}
+use Rattle.gaz_kept.specs.WorkedMigrated.{HasMoved, IsMigration, WorkedFirst, WorkedMigrated, WorkedMove, first_101, first_changed, first_database, first_table, late_101, moved_changed, moved_rows}
 use Rattle.gaz_kept.specs.WorkedOpening.{others, ours}
 use Rattle.gaz_kept.specs.Versions.{histories_in, living, view_in}
 use Rattle.gaz_kept.proofs.Examples.{said}
@@ -76,14 +78,32 @@ numbered_2 = record {
   kept = λ r there other. elim there [ inl same ↦ absurd (other (ap id_of same)) | inr none ↦ absurd none ];
 }
 
+-- which rows the database of schema 1 has
+its_rows : rows_of first_database version ≡ first_table
+unfolding tree_named same_name
+its_rows = refl
+
+its_files : rows_of first_database received ≡ []
+unfolding tree_named same_name
+its_files = refl
+
+its_meta : rows_of first_database meta ≡ meta_row 1 ours ∷ []
+unfolding tree_named same_name
+its_meta = refl
+
 both : (new : Database) → HasMoved moved_rows 2 new → IsMigration new
 both new h = record {
+  schema_is = h.schema_is;
   tables = h.tables;
-  rows = subst (AreCopied with_hop first_table []) (sym h.items_are) copied;
+  rows = subst (λ l. AreCopied with_hop l [] (rows_of new version2)) (sym its_rows) (subst (AreCopied with_hop first_table []) (sym h.items_are) copied);
   emptied = h.emptied;
-  files = h.no_files;
-  meta = subst (Rewrites 2 ours (meta_row 1 ours ∷ [])) (sym h.meta_is) numbered_2;
+  files = h.no_files ∙ sym its_files;
+  meta = subst (λ l. Rewrites 2 ours l (rows_of new meta)) (sym its_meta) (subst (Rewrites 2 ours (meta_row 1 ours ∷ [])) (sym h.meta_is) numbered_2);
 }
+
+-- it has a row of street 101
+was_there : Has (rows_of first_database version) first_101
+was_there = subst (λ l. Has l first_101) (sym its_rows) (inl refl)
 
 -- a row is born in its volume
 born_apart : (n : ℤ) (r : Row) → Int n ∷ with_hop first_101 ≡ r → column r 8 ≢ Int (pos 2)
@@ -91,7 +111,7 @@ born_apart n r same late = let e : ◌≡◌ {A = Value} (Int (pos 1)) (Int (pos
 
 left : (new : Database) → HasMoved (moved_changed ∷ []) 2 new → ¬ IsMigration new
 left new h is =
-    let made = is.rows.done first_101 (inl refl) in
+    let made = is.rows.done first_101 was_there in
     elim (subst (λ l. Has l (Int made.0 ∷ with_hop first_101)) h.items_are made.1) [
       | inl same ↦ born_apart made.0 moved_changed same refl
       | inr none ↦ absurd none
@@ -99,7 +119,7 @@ left new h is =
 
 late : (new : Database) → HasMoved (moved_changed ∷ late_101 ∷ []) 2 new → ¬ IsMigration new
 late new h is =
-    let made = is.rows.done first_101 (inl refl) in
+    let made = is.rows.done first_101 was_there in
     elim (subst (λ l. Has l (Int made.0 ∷ with_hop first_101)) h.items_are made.1) [
       | inl same ↦ born_apart made.0 moved_changed same refl
       | inr more ↦ elim more [
@@ -112,7 +132,7 @@ number_of_1 : (r : Row) → meta_row 2 ours ≡ r → ¬ (column r 2 ≡ Int (po
 number_of_1 r same one = let e : ◌≡◌ {A = Value} (Int (pos 2)) (Int (pos 1)) = ap (λ x. column x 2) same ∙ one in absurd (cc)
 
 still_1 : (new : Database) → HasMoved moved_rows 1 new → ¬ IsMigration new
-still_1 new h is = elim (subst (λ l. Has l (meta_row 2 ours)) h.meta_is (is.meta.done (meta_row 1 ours) (inl refl) refl)) [
+still_1 new h is = elim (subst (λ l. Has l (meta_row 2 ours)) h.meta_is (is.meta.done (meta_row 1 ours) (subst (λ l. Has l (meta_row 1 ours)) (sym its_meta) (inl refl)) refl)) [
   | inl same ↦ number_of_1 (meta_row 1 ours) same refl
   | inr none ↦ absurd none
 ]

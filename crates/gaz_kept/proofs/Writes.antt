@@ -1,5 +1,5 @@
 -- One write of `version2` after another, within a transaction.
-use Rattle.std.proofs.Common.{◌≡◌, ◌∙◌, ℕ, false, true, List, [], ◌∷◌, ◌++◌, refl, sym, ap, subst, inl, le_refl, arith}
+use Rattle.std.proofs.Common.{◌≡◌, ◌≢◌, ◌∙◌, ℕ, false, true, List, [], ◌∷◌, ◌++◌, refl, sym, ap, subst, inl, le_refl, arith}
 use Rattle.std.specs.Prelude.{Result, Ok, Err, OnOk, IsTrue}
 use Rattle.sqlite.proofs.StateLemmas.{survives_then}
 use Rattle.sqlite.specs.Effect.{Database}
@@ -12,39 +12,40 @@ use Rattle.sqlite_trees.specs.declared.store.Store.{Ghosts}
 use Rattle.gaz_records.specs.declared.key.Key.{Key}
 use Rattle.gaz_overlay.specs.Changes.{Changes as Made}
 use Rattle.gaz_overlay.specs.Writings.{passage_at, writing_at}
-use Rattle.gaz_sql_facts.specs.Changes.{AreTreesOf, Changes}
+use Rattle.gaz_sql_facts.specs.Changes.{AreTreesOf}
 use Rattle.gaz_tables.proofs.Staying.{stays}
 use Rattle.gaz_tables.proofs.Steps.{clean_before}
-use Rattle.gaz_tables.specs.Schema.{versions}
-use Rattle.gaz_tables.specs.Stores.{HasTables, StaysInside}
+use Rattle.gaz_tables.specs.Schema.{version2}
+use Rattle.gaz_tables.specs.Stores.{ChangesTable, HasTables, StaysInside}
+use Rattle.gaz_tables.specs.Tables.{rows_of, tree_of}
 use Rattle.gaz_kept.specs.Keeping.{KeepsVolume, WritesKey, WritesKeys, WritesNumber, WritesNumbers, WritesVersions, WritesVolume}
 
 abbrev pub Becomes : Type 1
 Becomes = List Row → List Row → Type 0
 
 -- what leaves the rows leaves the table
-pub same_table : (Is : Becomes) (db : Database) → HasTables db → Is (db.trees versions) (db.trees versions) → Changes versions Is db db
+pub same_table : (Is : Becomes) (db : Database) → HasTables db → Is (rows_of db version2) (rows_of db version2) → ChangesTable version2 Is db db
 same_table Is db has same = record { schema_stays = refl; sound = has.sound; rows = same; shaped = λ good. good; others = λ t listed other. refl }
 
 pub table_then : (One Two Both : Becomes) → ((a b c : List Row) → One a b → Two b c → Both a c) → (old mid new : Database)
-    → Changes versions One old mid → Changes versions Two mid new → Changes versions Both old new
+    → ChangesTable version2 One old mid → ChangesTable version2 Two mid new → ChangesTable version2 Both old new
 table_then One Two Both join old mid new one two = record {
   schema_stays = two.schema_stays ∙ one.schema_stays;
   sound = two.sound;
   rows = join _ _ _ one.rows two.rows;
   shaped = λ good. two.shaped (one.shaped good);
-  others = λ t listed other. two.others t (subst (λ s. Has s.tables t) (sym one.schema_stays) listed) other ∙ one.others t listed other;
+  others = λ t listed other. two.others t (subst (λ s. Has s.tables t) (sym one.schema_stays) listed) (subst (λ s. t.tree ≢ tree_of version2 s) (sym one.schema_stays) other) ∙ one.others t listed other;
 }
 
 module _ {S A B : Type 0} (g : Ghosts S) (old mid new : Held S) (x : A) (r : Result B Error) (first : StaysInside g old mid (Ok x)) (second : StaysInside g mid new r)
     (One Two Both : Becomes) (join : (a b c : List Row) → One a b → Two b c → Both a c) where
   pub writes_then : WritesVersions g old mid (Ok x) One → WritesVersions g mid new r Two → WritesVersions g old new r Both
-  writes_then one two clean has = by_result r (two clean (stays versions One _ _ has done).0)
+  writes_then one two clean has = by_result r (two clean (stays version2 One _ _ has.there.versions done has).0)
     where
-      done : Changes versions One (state g old).now (state g mid).now
+      done : ChangesTable version2 One (state g old).now (state g mid).now
       done = one (clean_before g old mid new x r first second clean) has
 
-      by_result : (q : Result B Error) → OnOk q (Changes versions Two (state g mid).now (state g new).now) → OnOk q (Changes versions Both (state g old).now (state g new).now)
+      by_result : (q : Result B Error) → OnOk q (ChangesTable version2 Two (state g mid).now (state g new).now) → OnOk q (ChangesTable version2 Both (state g old).now (state g new).now)
       by_result (Err e) h = tt
       by_result (Ok y) h = table_then One Two Both join _ _ _ done h
 
@@ -52,7 +53,7 @@ module _ {S A B : Type 0} (g : Ghosts S) (old mid new : Held S) (x : A) (r : Res
 pub writes_as : {S A : Type 0} (g : Ghosts S) (old new : Held S) (r : Result A Error) (One Two : Becomes) → ((a b : List Row) → One a b → Two a b) → WritesVersions g old new r One → WritesVersions g old new r Two
 writes_as {A = A} g old new r One Two passes written clean has = by_result r (written clean has)
   where
-    by_result : (q : Result A Error) → OnOk q (Changes versions One (state g old).now (state g new).now) → OnOk q (Changes versions Two (state g old).now (state g new).now)
+    by_result : (q : Result A Error) → OnOk q (ChangesTable version2 One (state g old).now (state g new).now) → OnOk q (ChangesTable version2 Two (state g old).now (state g new).now)
     by_result (Err e) h = tt
     by_result (Ok y) h = record { schema_stays = h.schema_stays; sound = h.sound; rows = passes _ _ h.rows; shaped = h.shaped; others = h.others }
 

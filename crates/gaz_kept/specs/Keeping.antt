@@ -32,9 +32,10 @@ use Rattle.gaz_overlay.specs.declared.touch.NewRow.{NewRow}
 use Rattle.gaz_overlay.specs.declared.touch.Writing.{Writing}
 use Rattle.gaz_sql_facts.specs.Changes as table
 use Rattle.gaz_tables.specs.Receiveds.{Applies}
-use Rattle.gaz_tables.specs.Schema.{receiveds, versions}
-use Rattle.gaz_tables.specs.Stores.{AddsRow, HasTables}
+use Rattle.gaz_tables.specs.Schema.{received, version2}
+use Rattle.gaz_tables.specs.Stores.{AddsRow, ChangesTable, HasTables}
 use Rattle.gaz_tables.specs.Versions.{Closes, version_values}
+use Rattle.gaz_tables.specs.Tables.{rows_of}
 use Rattle.gaz_kept.specs.Contents.{content_in}
 use Rattle.gaz_kept.specs.Kept.{IsKept}
 use Rattle.gaz_kept.specs.LastViews.{last_in}
@@ -109,8 +110,8 @@ WritesAll c volume changes old new = (between : List Row)
 -- each of them is written, and the volume is marked applied
 pub record KeepsVolume (c volume : ℕ) (changes : Changes) (old new : Database) : Type 0 where
   pub between : Database
-  pub rows : table.Changes versions (WritesAll c volume changes) old between
-  pub mark : table.Changes receiveds (Applies c volume) between new
+  pub rows : ChangesTable version2 (WritesAll c volume changes) old between
+  pub mark : ChangesTable received (Applies c volume) between new
 
 -- ---- what it comes to
 
@@ -126,16 +127,16 @@ pub record IsToKeep (db : Database) (c volume : ℕ) (changes : Changes)
     (working : View) : Type 0 where
   pub kept : IsKept db
   pub next : volume ≡ next_in db c
-  pub at_hand : IsAtHand (content_in db.trees empty_view) c
+  pub at_hand : IsAtHand (content_in db empty_view) c
   pub made : Make (last_in db c) changes working
-  pub told : AreTold changes (histories_in (db.trees versions) c)
-  pub passed : AreToldPassages changes (db.trees versions) c
+  pub told : AreTold changes (histories_in (rows_of db version2) c)
+  pub passed : AreToldPassages changes (rows_of db version2) c
 
 -- the board has one more judgement of the custodian: applied, with this view
 abbrev pub Applied : ℕ → View → Database → Database → Type 0
 Applied c working old new =
     let judgement : Judgement = record { verdict = verdict.Applied; view = working } in
-    Stands new empty_view (with_judgement (content_in old.trees empty_view) c judgement)
+    Stands new empty_view (with_judgement (content_in old empty_view) c judgement)
 
 -- what is written makes just that of what the tables stand for
 abbrev pub KeepStands : Type 0
@@ -179,7 +180,7 @@ module _ {S : Type 0} (g : Ghosts S) (before after : Held S) where
   abbrev pub WritesVersions : {A : Type 0} → Result A Error → (List Row → List Row → Type 0)
       → Type 0
   WritesVersions result Becomes = HasCleanDisk new → HasTables old.now
-      → OnOk result (table.Changes versions Becomes old.now new.now)
+      → OnOk result (ChangesTable version2 Becomes old.now new.now)
 
   -- within a transaction, a volume is written and marked applied
   abbrev pub WritesVolume : {A : Type 0} → Result A Error → ℕ → ℕ → Changes → Type 0

@@ -12,10 +12,11 @@ use Rattle.gaz_cells.specs.Custody.{custody_in}
 use Rattle.gaz_overlay.specs.Passages.{PassageRow}
 use Rattle.gaz_overlay.specs.Rows.{HistoryRow, IsUntil, never}
 use Rattle.gaz_tables.specs.Receiveds as file
-use Rattle.gaz_tables.specs.Schema.{receiveds, versions}
+use Rattle.gaz_tables.specs.Schema.{received, version2}
 use Rattle.gaz_tables.specs.Stores.{HasTables}
 use Rattle.gaz_tables.specs.Versions.{blpu_of, body_of, born_of, cust_of, gone_of, hop_of, id_of}
 use Rattle.gaz_tables.specs.Versions.{kind_of, lang_of, live_of, street_of}
+use Rattle.gaz_tables.specs.Tables.{rows_of}
 use Rattle.gaz_kept.specs.Files.{bytes_in, judged_volumes, reached_in, volume_in}
 use Rattle.gaz_kept.specs.Versions.{custody_cells_in, histories_in, item_in, number_in, passages_in}
 use Rattle.gaz_kept.specs.Versions.{text_in}
@@ -144,4 +145,4 @@ pub record AreKept (Tables : Type 0) (received items : List Row) : Type 0 where
 
 -- the database is what a store keeps
 abbrev pub IsKept : Database → Type 0
-IsKept db = AreKept (HasTables db) (db.trees receiveds) (db.trees versions)
+IsKept db = AreKept (HasTables db) (rows_of db received) (rows_of db version2)

@@ -2,11 +2,11 @@
 use Rattle.std.specs.Prelude.{ℕ, List, ◌∷◌, map}
 use Rattle.sqlite.specs.Effect.{Database}
 use Rattle.sqlite.specs.Order.{Row, column}
-use Rattle.sqlite_trees.specs.Tree.{Trees}
 use Rattle.gaz_views.specs.View.{View}
 use Rattle.gaz_keeper.specs.Keeper.{Content}
 use Rattle.gaz_tables.specs.Migrating.{HasFirstTables, Migrates, with_hop}
-use Rattle.gaz_tables.specs.Schema.{metas, old_versions, receiveds}
+use Rattle.gaz_tables.specs.Schema.{meta, received, version}
+use Rattle.gaz_tables.specs.Tables.{rows_of}
 use Rattle.gaz_kept.specs.Contents.{content_of}
 use Rattle.gaz_kept.specs.Kept.{AreKept}
 use Rattle.gaz_kept.specs.Opening.{IsOf, schema_number}
@@ -23,19 +23,19 @@ first_rows rows = map first_row rows
 -- the database of schema 1 is what a store keeps
 abbrev pub IsFirstKept : Database → Type 0
 IsFirstKept db =
-    AreKept (HasFirstTables db) (db.trees receiveds) (first_rows (db.trees old_versions))
+    AreKept (HasFirstTables db) (rows_of db received) (first_rows (rows_of db version))
 
 -- its tables hold files and board; the working view stands beside them
-abbrev pub first_content_in : Trees → View → Content
-first_content_in trees working =
-    content_of (trees receiveds) (first_rows (trees old_versions)) working
+abbrev pub first_content_in : Database → View → Content
+first_content_in db working =
+    content_of (rows_of db received) (first_rows (rows_of db version)) working
 
 pub record MigrationStands : Type 0 where
   -- the tables are a store's, and stand for what those of schema 1 stood for
   pub stands : (register : List ℕ) (working : View) (old new : Database) → IsFirstKept old
       → Migrates schema_number register old new
-      → Stands new working (first_content_in old.trees working)
+      → Stands new working (first_content_in old working)
   -- of one register they make a store of this register
   pub is_of : (one other : List ℕ) (old new : Database) → HasFirstTables old
-      → IsOfFirst one (old.trees metas) → Migrates schema_number other old new
-      → IsOf other (new.trees metas)
+      → IsOfFirst one (rows_of old meta) → Migrates schema_number other old new
+      → IsOf other (rows_of new meta)

@@ -11,8 +11,9 @@ use Rattle.sqlite.specs.declared.types.Value.TheVariants.{Int, Text}
 use Rattle.sqlite_trees.specs.declared.store.Store.{Ghosts}
 use Rattle.gaz_tables.specs.Metas.{FindsTwo, id_of, number_of, register_of, rows_text}
 use Rattle.gaz_tables.specs.Migrating.{HasFirstTables}
-use Rattle.gaz_tables.specs.Schema.{metas}
+use Rattle.gaz_tables.specs.Schema.{meta}
 use Rattle.gaz_tables.specs.Stores.{HasTables}
+use Rattle.gaz_tables.specs.Tables.{rows_of}
 use Rattle.gaz_kept.specs.declared.refusal.StoreRefusal.{StoreRefusal}
 use Rattle.gaz_kept.specs.declared.refusal.StoreRefusal.TheVariants.{BadSchema, Fault}
 use Rattle.gaz_kept.specs.declared.refusal.StoreRefusal.TheVariants.{OtherRegister}
@@ -26,7 +27,7 @@ abbrev pub FindsMeta : {S : Type 0} → Ghosts S → Held S → Held S → Resul
     → Type 0
 FindsMeta g before after result =
     HasCleanDisk (state g after) → HasMeta (state g before).now
-    → IfOk result (λ rows. FindsTwo ((state g before).now.trees metas) rows.items)
+    → IfOk result (λ rows. FindsTwo (rows_of (state g before).now meta) rows.items)
 
 -- what SQL answers, within a transaction of its own, where it is asked for the rows of `meta`
 abbrev pub IsAnswer : {S : Type 0} → Ghosts S → Held S → List Row → Type 0
@@ -86,11 +87,11 @@ module _ (number : ℕ) where
       → Result (Unit {0}) StoreRefusal → Type 0
   JudgesMeta g before after register result =
       HasCleanDisk (state g after) → HasMeta (state g before).now
-      → IsJudged register ((state g before).now.trees metas) result
+      → IsJudged register (rows_of (state g before).now meta) result
 
   -- the same, where they are read
   abbrev pub JudgesRead : {S : Type 0} → Ghosts S → Held S → Held S → List ℕ
       → Result (Result (Unit {0}) StoreRefusal) Error → Type 0
   JudgesRead g before after register result =
       HasCleanDisk (state g after) → HasMeta (state g before).now
-      → IfOk result (IsJudged register ((state g before).now.trees metas))
+      → IfOk result (IsJudged register (rows_of (state g before).now meta))

@@ -12,8 +12,9 @@ use Rattle.sqlite.specs.Table.{Table}
 use Rattle.sqlite_schema.specs.Names.{same_name}
 use Rattle.sqlite_trees.specs.declared.store.Store.{Ghosts}
 use Rattle.gaz_tables.specs.Creating.{IsBare, IsNewStore, no_schema}
-use Rattle.gaz_tables.specs.Schema.{meta, metas, received, version, version2}
+use Rattle.gaz_tables.specs.Schema.{meta, received, version2}
 use Rattle.gaz_tables.specs.Stores.{HasTables}
+use Rattle.gaz_tables.specs.Tables.{rows_of}
 use Rattle.gaz_kept.specs.Numbered as numbered
 use Rattle.gaz_kept.specs.declared.refusal.StoreRefusal.{StoreRefusal}
 use Rattle.gaz_kept.specs.declared.refusal.Unread.{Unread}
@@ -50,9 +51,8 @@ is_like like t =
 -- each table of a store is there and is understood, with its columns
 unfoldable pub has_all : Schema → Bool
 has_all schema =
-    list_any (is_like version) schema.tables
-    && (list_any (is_like version2) schema.tables
-    && (list_any (is_like received) schema.tables && list_any (is_like meta) schema.tables))
+    list_any (is_like version2) schema.tables
+    && (list_any (is_like received) schema.tables && list_any (is_like meta) schema.tables)
 
 -- ---- the row of `meta`
 
@@ -71,7 +71,7 @@ IsJudged = numbered.IsJudged schema_number
 -- a new store is one of its register
 abbrev pub CreateOpens : Type 0
 CreateOpens = (register : List ℕ) (db : Database)
-    → IsNewStore schema_number register db → IsOf register (db.trees metas)
+    → IsNewStore schema_number register db → IsOf register (rows_of db meta)
 
 -- ---- a call on a connection, whose state `g` shows
 
@@ -100,7 +100,7 @@ abbrev pub TellsWhether : {S : Type 0} → Ghosts S → Held S → Held S → Li
     → Result Bool Unread → Type 0
 TellsWhether g before after register result =
     HasCleanDisk (state g after) → HasTables (state g before).now
-    → IfOk result (λ own. IsTrue own ↔ IsOf register ((state g before).now.trees metas))
+    → IfOk result (λ own. IsTrue own ↔ IsOf register (rows_of (state g before).now meta))
 
 module _ {S : Type 0} (g : Ghosts S) (before after : Held S)
     (result : Result (Unit {0}) StoreRefusal) where
@@ -127,4 +127,4 @@ module _ {S : Type 0} (g : Ghosts S) (before after : Held S)
   -- what is told of a store's tables
   abbrev pub Judges : List ℕ → Type 0
   Judges register = HasCleanDisk new → HasTables old.now
-      → IsJudged register (old.now.trees metas) result
+      → IsJudged register (rows_of old.now meta) result

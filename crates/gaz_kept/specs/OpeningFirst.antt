@@ -9,7 +9,8 @@ use Rattle.sqlite_trees.specs.Tree.{Trees}
 use Rattle.sqlite_trees.specs.declared.store.Store.{Ghosts}
 use Rattle.gaz_sql_facts.specs.Changes.{AreTreesOf}
 use Rattle.gaz_tables.specs.Migrating.{HasFirstTables, Migrates}
-use Rattle.gaz_tables.specs.Schema.{meta, metas, received, version}
+use Rattle.gaz_tables.specs.Schema.{meta, received, version}
+use Rattle.gaz_tables.specs.Tables.{rows_of}
 use Rattle.gaz_kept.specs.Numbered as numbered
 use Rattle.gaz_kept.specs.Opening.{Rests, has_name, is_like, schema_number}
 use Rattle.gaz_kept.specs.declared.refusal.StoreRefusal.{StoreRefusal}
@@ -55,7 +56,7 @@ module _ {S : Type 0} (g : Ghosts S) (before after : Held S)
   -- what is told of the tables of schema 1
   abbrev pub JudgesFirst : List ℕ → Type 0
   JudgesFirst register = HasCleanDisk new → HasFirstTables old.now
-      → IsJudgedFirst register (old.now.trees metas) result
+      → IsJudgedFirst register (rows_of old.now meta) result
 
   -- the database of schema 1 becomes one of schema 2 of the register, and that is committed
   abbrev pub Moves : List ℕ → Type 0

@@ -12,9 +12,10 @@ use Rattle.gaz_records.specs.declared.key.Key.TheVariants as key
 use Rattle.gaz_views.specs.Examples.{street}
 use Rattle.gaz_tables.specs.Metas.{meta_row}
 use Rattle.gaz_tables.specs.Migrating.{Migrates, with_hop}
-use Rattle.gaz_tables.specs.Schema.{first_schema, meta, metas, old_versions, received, receiveds}
-use Rattle.gaz_tables.specs.Schema.{store_schema, version, versions}
+use Rattle.gaz_tables.specs.Schema.{first_schema, meta, metas, old_versions, received, store_schema}
+use Rattle.gaz_tables.specs.Schema.{version, version2}
 use Rattle.gaz_tables.specs.Stores.{HasTables}
+use Rattle.gaz_tables.specs.Tables.{rows_of}
 use Rattle.gaz_kept.specs.Examples.{changed, row_101}
 use Rattle.gaz_kept.specs.Migrated.{first_row, first_rows}
 use Rattle.gaz_kept.specs.OpeningFirst.{IsJudgedFirst, has_first}
@@ -77,11 +78,12 @@ late_101 = Int (pos 2) ∷ values_of 1001 2 2 (street 101)
 
 -- a database of schema 2 with these rows and no file, whose row of `meta` has a number
 pub record HasMoved (items : List Row) (number : ℕ) (db : Database) : Type 0 where
+  pub schema_is : db.schema ≡ store_schema
   pub tables : HasTables db
-  pub items_are : db.trees versions ≡ items
-  pub emptied : db.trees old_versions ≡ []
-  pub no_files : db.trees receiveds ≡ []
-  pub meta_is : db.trees metas ≡ meta_row number ours ∷ []
+  pub items_are : rows_of db version2 ≡ items
+  pub emptied : rows_of db version ≡ []
+  pub no_files : rows_of db received ≡ []
+  pub meta_is : rows_of db meta ≡ meta_row number ours ∷ []
 
 abbrev pub IsMigration : Database → Type 0
 IsMigration new = Migrates 2 ours first_database new

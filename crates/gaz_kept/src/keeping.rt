@@ -3,7 +3,7 @@ ghost use Rattle.std.specs.Prelude.{◌≡◌, false, OnOk};
 ghost use Rattle.sqlite.specs.Held.{state};
 ghost use Rattle.gaz_sql_facts.specs.Changes.{LeavesTheCommit};
 ghost use Rattle.gaz_tables.specs.Receiveds.{Applies};
-ghost use Rattle.gaz_tables.specs.Schema.{receiveds};
+ghost use Rattle.gaz_tables.specs.Schema.{received};
 ghost use Rattle.gaz_tables.specs.Stores.{StaysInside, Undoes, WasOpen, WritesInside};
 ghost use Rattle.gaz_kept.specs.Keeping.{Keeps, MayKeep, WritesAll, WritesVersions, WritesVolume};
 
@@ -43,7 +43,7 @@ fn mark_applied<S: Alter>(
 ) -> Result<usize, Error>
     ensures same_reference { tx.new.conn.ghost_name ≡ tx.old.conn.ghost_name }
     ensures applied { WritesInside S.Store tx.old.conn.now tx.new.conn.now
-        receiveds result (Applies code volume) }
+        received result (Applies code volume) }
     ensures inside { StaysInside S.Store tx.old.conn.now tx.new.conn.now result }
 {
     receiveds::apply(tx, code.number() as u32, volume.number() as u32)

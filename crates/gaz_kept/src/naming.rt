@@ -116,7 +116,7 @@ pub(crate) fn has_all(schema: &Schema) -> bool
     ensures { result ≡ has_all schema.now }
 {
     let tables = schema.tables.as_slice();
-    has_version(tables) & (has_version2(tables) & (has_received(tables) & has_meta(tables)))
+    has_version2(tables) & (has_received(tables) & has_meta(tables))
 }
 
 // Whether each table of schema 1 is there, with its columns, and none of schema 2.

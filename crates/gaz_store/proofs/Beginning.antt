@@ -8,7 +8,8 @@ use Rattle.gaz_views.specs.View.{empty_view}
 use Rattle.gaz_sql_facts.specs.Changes.{LeavesTheCommit}
 use Rattle.gaz_tables.specs.Creating.{IsBare, IsNewStore, no_schema}
 use Rattle.gaz_tables.specs.Migrating.{HasFirstTables, Migrates}
-use Rattle.gaz_tables.specs.Schema.{metas, receiveds}
+use Rattle.gaz_tables.specs.Schema.{meta, received}
+use Rattle.gaz_tables.specs.Tables.{rows_of}
 use Rattle.gaz_kept.specs.Contents.{content_in}
 use Rattle.gaz_kept.specs.Kept.{IsKept}
 use Rattle.gaz_kept.specs.Migrated.{IsFirstKept, first_content_in}
@@ -24,11 +25,12 @@ use Rattle.gaz_store.specs.Remembered.{AreSo, Remembered}
 use Rattle.gaz_store.specs.Store.{StoreStands, seen_beside}
 use Rattle.gaz_store.specs.declared.progress.Judging.TheVariants.{Idle}
 use Rattle.gaz_kept.proofs.LawfulViews.{content_lawful}
+use Rattle.gaz_kept.proofs.SameTrees.{same_content}
 use Rattle.gaz_store.proofs.Whole.{kept_of, whole_still}
 
 module _ (new : State) (a : Remembered) (so : (files : List Row) → AreSo a files) where
-  standing : (register : List ℕ) → IsKept new.now → IsOf register (new.now.trees metas) → StoreStands register new a Idle
-  standing register kept whose = record { tables = record { kept = kept; whose = whose; so = so (new.now.trees receiveds); lawful = content_lawful new.now kept empty_view lawful_empty }; beside = tt }
+  standing : (register : List ℕ) → IsKept new.now → IsOf register (rows_of new.now meta) → StoreStands register new a Idle
+  standing register kept whose = record { tables = record { kept = kept; whose = whose; so = so (rows_of new.now received); lawful = content_lawful new.now kept empty_view lawful_empty }; beside = tt }
 
   pub is_made : (old : State) (register : List ℕ) (f : ℕ) → f ≡ 0
       → (HasCleanDisk new → IsBare no_schema old.now → IsNewStore schema_number register new.now × (new.committed ≡ new.now)) → LeavesTheCommit new
@@ -39,16 +41,16 @@ module _ (new : State) (a : Remembered) (so : (files : List Row) → AreSo a fil
     stands = λ h bare. standing register (tables_stand.create schema_number register new.now (made h.clean bare).0).kept (create_opens register new.now (made h.clean bare).0);
     content = λ h bare. (tables_stand.create schema_number register new.now (made h.clean bare).0).content;
     leaves = λ h bare k l.
-        l.content ∙ ap (λ t. content_in t empty_view) (certain h.is_open l.trees l.left ∙ ap (λ d. d.trees) (made h.clean bare).1)
-        ∙ (tables_stand.create schema_number register new.now (made h.clean bare).0).content;
-    whole = λ h bare db clean left schema.
-        kept_of register new.now db (certain h.is_open db.trees left ∙ ap (λ d. d.trees) (made h.clean bare).1) schema
+        let s = tables_stand.create schema_number register new.now (made h.clean bare).0 in
+        l.content ∙ same_content new.now l.db s.kept l.sound (certain h.is_open l.db.trees l.left ∙ ap (λ d. d.trees) (made h.clean bare).1) empty_view ∙ s.content;
+    whole = λ h bare trees clean left.
+        kept_of register new.now trees (certain h.is_open trees left ∙ ap (λ d. d.trees) (made h.clean bare).1)
         (tables_stand.create schema_number register new.now (made h.clean bare).0).kept (create_opens register new.now (made h.clean bare).0);
     of_register = λ h bare. create_opens register new.now (made h.clean bare).0;
   }
 
   pub is_opened : (old : State) (register : List ℕ) (f : ℕ) → f ≡ 0
-      → (HasCleanDisk new → HasCleanDisk old) → (HasCleanDisk new → Rests old new) → (HasCleanDisk new → IsKept old.now → IsOf register (old.now.trees metas)) → Survives old new (λ _. ⊥)
+      → (HasCleanDisk new → HasCleanDisk old) → (HasCleanDisk new → Rests old new) → (HasCleanDisk new → IsKept old.now → IsOf register (rows_of old.now meta)) → Survives old new (λ _. ⊥)
       → IsOpened old new register (seen_beside register new a Idle f)
   is_opened old register f none harm rests told leaves = record {
     idle = refl;
@@ -57,8 +59,8 @@ module _ (new : State) (a : Remembered) (so : (files : List Row) → AreSo a fil
     rests = rests;
     stands = λ h kept.
         let same = sym ((rests h.clean).now h.is_open) in
-        standing register (subst IsKept same kept) (subst (λ (db : Database). IsOf register (db.trees metas)) same (told h.clean kept));
-    content = λ h kept. ap (λ d. content_in d.trees empty_view) ((rests h.clean).now h.is_open);
+        standing register (subst IsKept same kept) (subst (λ (db : Database). IsOf register (rows_of db meta)) same (told h.clean kept));
+    content = λ h kept. ap (λ d. content_in d empty_view) ((rests h.clean).now h.is_open);
     of_register = λ h kept. told h.clean kept;
     leaves = leaves;
     whole = whole_still register old new leaves;
@@ -66,7 +68,7 @@ module _ (new : State) (a : Remembered) (so : (files : List Row) → AreSo a fil
 
   pub is_moved : (old : State) (register : List ℕ) (f : ℕ) → f ≡ 0
       → (HasCleanDisk new → HasCleanDisk old) → (HasCleanDisk new → HasFirstTables old.now → Migrates schema_number register old.now new.now × (new.committed ≡ new.now))
-      → (HasCleanDisk new → HasFirstTables old.now → IsOfFirst register (old.now.trees metas)) → (HasFirstTables old.now → LeavesTheCommit new)
+      → (HasCleanDisk new → HasFirstTables old.now → IsOfFirst register (rows_of old.now meta)) → (HasFirstTables old.now → LeavesTheCommit new)
       → IsMoved old new register (seen_beside register new a Idle f)
   is_moved old register f none harm moves whose certain = record {
     idle = refl;
@@ -77,15 +79,15 @@ module _ (new : State) (a : Remembered) (so : (files : List Row) → AreSo a fil
     stands = λ h first. standing register (stood h.clean first).kept (still_of h.clean first);
     content = λ h first. (stood h.clean first).content;
     leaves = λ h first k l.
-        l.content ∙ ap (λ t. content_in t empty_view) (certain first.tables h.is_open l.trees l.left ∙ ap (λ d. d.trees) (moves h.clean first.tables).1)
-        ∙ (stood h.clean first).content;
-    whole = λ h first db clean left schema.
-        kept_of register new.now db (certain first.tables h.is_open db.trees left ∙ ap (λ d. d.trees) (moves h.clean first.tables).1) schema
+        let s = stood h.clean first in
+        l.content ∙ same_content new.now l.db s.kept l.sound (certain first.tables h.is_open l.db.trees l.left ∙ ap (λ d. d.trees) (moves h.clean first.tables).1) empty_view ∙ s.content;
+    whole = λ h first trees clean left.
+        kept_of register new.now trees (certain first.tables h.is_open trees left ∙ ap (λ d. d.trees) (moves h.clean first.tables).1)
         (stood h.clean first).kept (still_of h.clean first);
   }
     where
-      stood : HasCleanDisk new → IsFirstKept old.now → Stands new.now empty_view (first_content_in old.now.trees empty_view)
+      stood : HasCleanDisk new → IsFirstKept old.now → Stands new.now empty_view (first_content_in old.now empty_view)
       stood clean first = migration_stands.stands register empty_view old.now new.now first (moves clean first.tables).0
 
-      still_of : HasCleanDisk new → IsFirstKept old.now → IsOf register (new.now.trees metas)
+      still_of : HasCleanDisk new → IsFirstKept old.now → IsOf register (rows_of new.now meta)
       still_of clean first = migration_stands.is_of register register old.now new.now first.tables (whose clean first.tables) (moves clean first.tables).0

@@ -23,9 +23,10 @@ use Rattle.gaz_views.specs.Words.{entries}
 use Rattle.gaz_overlay.specs.Rows.{HistoryRow}
 use Rattle.gaz_sql_facts.proofs.Lists.{has_permuted, permuted_has}
 use Rattle.gaz_tables.proofs.Unique.{page_rises}
-use Rattle.gaz_tables.specs.Schema.{versions}
+use Rattle.gaz_tables.specs.Schema.{version2}
 use Rattle.gaz_tables.specs.Shows.{ShowsPage}
 use Rattle.gaz_tables.specs.Versions.{id_place}
+use Rattle.gaz_tables.specs.Tables.{rows_of}
 use Rattle.gaz_kept.specs.Kept.{IsKept}
 use Rattle.gaz_kept.specs.Versions.{history_in, view_in}
 use Rattle.gaz_store.proofs.Holding.{HoldsItem, by_rows, entry_in_view, entry_of, one_row, row_of, said_entry, said_history}
@@ -44,8 +45,8 @@ kind_of_key (item.Adopt x) h = cc
 
 -- the rows that fit are just those that hold an item of a kind whose entry passes a test
 pub record FitJust (db : Database) (c t : ℕ) (k : Kind) (p : Key × Item → Bool) (Fits : Row → Type 0) : Type 0 where
-  pub item : (r : Row) → Has (db.trees versions) r → Fits r → (x : Item) × HoldsItem c t r x × (kind_of x ≡ k) × (p (entry_of x) ≡ true)
-  pub row : (r : Row) (x : Item) → Has (db.trees versions) r → HoldsItem c t r x → p (entry_of x) ≡ true → Fits r
+  pub item : (r : Row) → Has (rows_of db version2) r → Fits r → (x : Item) × HoldsItem c t r x × (kind_of x ≡ k) × (p (entry_of x) ≡ true)
+  pub row : (r : Row) (x : Item) → Has (rows_of db version2) r → HoldsItem c t r x → p (entry_of x) ≡ true → Fits r
 
 -- what a row has in its custodian's view
 abbrev entry_in : ℕ → Row → Option (Key × Item)
@@ -53,7 +54,7 @@ entry_in c r = option_map (λ h. (h.key, h.item)) (history_in c r)
 
 module _ (db : Database) (kept : IsKept db) (c t : ℕ) (k : Kind) (p : Key × Item → Bool) (Fits : Row → Type 0) (just : FitJust db c t k p Fits) where
   abbrev rows : List Row
-  rows = db.trees versions
+  rows = rows_of db version2
 
   abbrev v : View
   v = view_in rows c t

@@ -29,9 +29,10 @@ use Rattle.gaz_views.specs.Words.{comes_after, is_approved, is_approved_on, is_i
 use Rattle.gaz_cells.specs.Columns.{CellsValue, blpu_of, lang_in, live_number, live_of, parent_number, street_of}
 use Rattle.gaz_cells.specs.Ids.{id_of, kind_in}
 use Rattle.gaz_overlay.specs.Rows.{HistoryRow, never}
-use Rattle.gaz_tables.specs.Schema.{receiveds, versions}
+use Rattle.gaz_tables.specs.Schema.{received, version2}
 use Rattle.gaz_tables.specs.Versions as table
 use Rattle.gaz_tables.specs.Versions.{IsApproved, IsApprovedOn, IsBehind, IsHolding, IsPartOf}
+use Rattle.gaz_tables.specs.Tables.{rows_of}
 use Rattle.gaz_kept.specs.Files.{reached_in}
 use Rattle.gaz_kept.specs.Kept.{IsKept, IsVersion}
 use Rattle.gaz_store.specs.Paging.{IsStart, is_behind}
@@ -138,18 +139,18 @@ module _ (db : Database) (kept : IsKept db) (c t : ℕ) (k : Kind) (entry : is_e
 
 module _ (db : Database) (kept : IsKept db) (c : ℕ) where
   abbrev n : ℕ
-  n = reached_in (db.trees receiveds) c
+  n = reached_in (rows_of db received) c
 
-  current_holds : (r : Row) (x : Item) → Has (db.trees versions) r → number_in (table.cust_of r) ≡ c → item_in r ≡ Some x → table.gone_of r ≡ Int table.never → HoldsItem c n r x
+  current_holds : (r : Row) (x : Item) → Has (rows_of db version2) r → number_in (table.cust_of r) ≡ c → item_in r ≡ Some x → table.gone_of r ≡ Int table.never → HoldsItem c n r x
   current_holds r x there cust is gone =
       let h = living (number_in (table.born_of r)) (number_in (table.gone_of r)) x in
-      let born = ((kept.histories c).until h (read_in (history_in c) (db.trees versions) r h there (said_history r (kept.rows r there) x is c cust))).born in
+      let born = ((kept.histories c).until h (read_in (history_in c) (rows_of db version2) r h there (said_history r (kept.rows r there) x is c cust))).born in
       let room = reached_room db c kept in
       let ends : number_in (table.gone_of r) ≡ 1000000 = ap number_in gone in
       record { cust = cust; item = is; born = born; gone = omega arith }
 
-  holds_current : (r : Row) (x : Item) → Has (db.trees versions) r → HoldsItem c n r x → table.gone_of r ≡ Int table.never
-  holds_current r x there h = whole (table.gone_of r) 1000000 (own_row r (kept.rows r there) x h.item).gone (by_gone ((kept.histories c).until row (read_in (history_in c) (db.trees versions) r row there (said_history r (kept.rows r there) x h.item c h.cust))).gone)
+  holds_current : (r : Row) (x : Item) → Has (rows_of db version2) r → HoldsItem c n r x → table.gone_of r ≡ Int table.never
+  holds_current r x there h = whole (table.gone_of r) 1000000 (own_row r (kept.rows r there) x h.item).gone (by_gone ((kept.histories c).until row (read_in (history_in c) (rows_of db version2) r row there (said_history r (kept.rows r there) x h.item c h.cust))).gone)
     where
       row : HistoryRow
       row = living (number_in (table.born_of r)) (number_in (table.gone_of r)) x
@@ -228,7 +229,7 @@ module _ (db : Database) (kept : IsKept db) (c usrn : ℕ) (start : List ℕ) wh
   abbrev pub left_on : Key × Item → Bool
   left_on e = is_approved_on usrn None e.1 && is_behind start e.0
 
-  pub approved_just : FitJust db c (reached_in (db.trees receiveds) c) kind.Lpi left_on (IsApprovedOn c usrn start)
+  pub approved_just : FitJust db c (reached_in (rows_of db received) c) kind.Lpi left_on (IsApprovedOn c usrn start)
   approved_just = record {
     item = λ r there fit.
         let version = kept.rows r there in
@@ -295,7 +296,7 @@ module _ (db : Database) (kept : IsKept db) (c : ℕ) (k : Kind) (entry : is_ent
   abbrev pub part_left : Key × Item → Bool
   part_left e = is_of_blpu k uprn e.1 && is_behind start e.0
 
-  pub parts_just : FitJust db c (reached_in (db.trees receiveds) c) k part_left (IsPartOf c (number_of k) (pos uprn) start)
+  pub parts_just : FitJust db c (reached_in (rows_of db received) c) k part_left (IsPartOf c (number_of k) (pos uprn) start)
   parts_just = record {
     item = λ r there fit.
         let version = kept.rows r there in

@@ -16,14 +16,17 @@ use Rattle.gaz_keeper.specs.Keeper as keeper
 use Rattle.gaz_keeper.specs.Keeper.{Content, IsLawful, IsLeft, IsNotOpen, Progress, after_stop}
 use Rattle.gaz_keeper.specs.declared.fault.ShelfFault.{ShelfFault}
 use Rattle.gaz_keeper.specs.declared.fault.ShelfFault.TheVariants as shelf
-use Rattle.gaz_tables.specs.Schema.{metas, receiveds, store_schema}
+use Rattle.gaz_sql_facts.specs.Changes.{AreTreesOf}
+use Rattle.gaz_tables.specs.Schema.{meta, received}
 use Rattle.gaz_tables.specs.Stores.{HasTables}
+use Rattle.gaz_tables.specs.Tables.{rows_of}
 use Rattle.gaz_kept.specs.Contents.{content_in}
 use Rattle.gaz_kept.specs.Kept.{IsKept}
 use Rattle.gaz_kept.specs.Opening.{IsOf}
 use Rattle.gaz_kept.specs.Rewriting.{Registers}
 use Rattle.gaz_kept.specs.Stands.{Stands}
 use Rattle.gaz_kept.proofs.Rewritten.{files_still, rewrites_stand}
+use Rattle.gaz_kept.proofs.SameTrees.{same_content}
 use Rattle.gaz_store.specs.Altering.{Alters, AltersTables}
 use Rattle.gaz_store.specs.Asking.{Asks, AsksTables, IsAnyway}
 use Rattle.gaz_store.specs.Growing.{IsKeptOfEither, KeepsContent, LeavesEither, TellsRegisters, TellsWhose, as_keeper, as_kept, of_keeper, register_then}
@@ -83,7 +86,7 @@ module _ {S : Type 0} (g : Ghosts S) (before mid after : Held S) (register grown
       let same = asks.rests fine has in
       let mine = (told fine.clean has).0 refl in
       let tables = subst HasTables (sym same) has in
-      (mine, rewrites_stand.is_of text (register_text grown) (state g mid).now (state g after).now tables (subst (λ (db : Database). IsOf text (db.trees metas)) (sym same) mine) (alters.done h tables))
+      (mine, rewrites_stand.is_of text (register_text grown) (state g mid).now (state g after).now tables (subst (λ (db : Database). IsOf text (rows_of db meta)) (sym same) mine) (alters.done h tables))
 
 -- ---- what a store's call tells
 
@@ -94,13 +97,13 @@ module _ {S : Type 0} {g : Ghosts S} (old new : Tables S g) (wording : List ℕ)
   abbrev becomes : Database
   becomes = (state g new.conn).now
 
-  files_so : {T : Type 0} → IsKept was → (r : Result T ShelfFault) → OnOk r (Registers wording was becomes) → OnErr r (becomes ≡ was) → becomes.trees receiveds ≡ was.trees receiveds
+  files_so : {T : Type 0} → IsKept was → (r : Result T ShelfFault) → OnOk r (Registers wording was becomes) → OnErr r (becomes ≡ was) → rows_of becomes received ≡ rows_of was received
   files_so kept (Ok x) writes same = files_still wording was becomes kept.tables writes
-  files_so kept (Err e) writes same = ap (λ (db : Database). db.trees receiveds) same
+  files_so kept (Err e) writes same = ap (λ (db : Database). rows_of db received) same
 
-  still_so : {T : Type 0} → (r : Result T ShelfFault) → AltersTables old new r (Registers wording) → IsUnharmed (state g new.conn) → IsKept was → AreSo old.at_hand (was.trees receiveds) → AreSo new.at_hand (becomes.trees receiveds)
+  still_so : {T : Type 0} → (r : Result T ShelfFault) → AltersTables old new r (Registers wording) → IsUnharmed (state g new.conn) → IsKept was → AreSo old.at_hand (rows_of was received) → AreSo new.at_hand (rows_of becomes received)
   still_so r alters h kept so =
-      subst (λ a. AreSo a (becomes.trees receiveds)) (sym alters.at_hand)
+      subst (λ a. AreSo a (rows_of becomes received)) (sym alters.at_hand)
       (subst (AreSo old.at_hand) (sym (files_so kept r (alters.alters.done h kept.tables) (alters.alters.undone h kept.tables))) so)
 
 module _ {S : Type 0} {g : Ghosts S} (was grown : RegisterValue) (old new : Tables S g) (p q : Progress) (r : Result (Unit {0}) ExtendFault)
@@ -121,7 +124,7 @@ module _ {S : Type 0} {g : Ghosts S} (was grown : RegisterValue) (old new : Tabl
   Stood = StandsFor old_text before old.at_hand empty_view
 
   abbrev content : Content
-  content = content_in before.now.trees empty_view
+  content = content_in before.now empty_view
 
   abbrev Written : Database → Type 0
   Written db = Registers grown_text before.now db
@@ -130,24 +133,24 @@ module _ {S : Type 0} {g : Ghosts S} (was grown : RegisterValue) (old new : Tabl
   written : Stood → (db : Database) → Written db → Stands db empty_view content
   written stood db writes = rewrites_stand.stands grown_text empty_view before.now db stood.kept writes
 
-  written_of : Stood → (db : Database) → Written db → IsOf grown_text (db.trees metas)
+  written_of : Stood → (db : Database) → Written db → IsOf grown_text (rows_of db meta)
   written_of stood db writes = rewrites_stand.is_of old_text grown_text before.now db stood.kept.tables stood.whose writes
 
-  stands_so : Stood → IsUnharmed after → (r : Result (Unit {0}) ExtendFault) → AreSo new.at_hand (after.now.trees receiveds) → OnOk (as_kept r) (Written after.now) → OnErr (as_kept r) (after.now ≡ before.now)
+  stands_so : Stood → IsUnharmed after → (r : Result (Unit {0}) ExtendFault) → AreSo new.at_hand (rows_of after.now received) → OnOk (as_kept r) (Written after.now) → OnErr (as_kept r) (after.now ≡ before.now)
       → StandsFor (register_text (register_then was grown r)) after new.at_hand empty_view
   stands_so stood h (Ok done) so writes same =
       let s = written stood after.now writes in
       record { kept = s.kept; whose = written_of stood after.now writes; so = so; lawful = subst IsLawful (sym s.content) stood.lawful }
   stands_so stood h (Err why) so writes same = record {
     kept = subst IsKept (sym same) stood.kept;
-    whose = subst (λ (db : Database). IsOf old_text (db.trees metas)) (sym same) stood.whose;
+    whose = subst (λ (db : Database). IsOf old_text (rows_of db meta)) (sym same) stood.whose;
     so = so;
-    lawful = subst (λ (db : Database). IsLawful (content_in db.trees empty_view)) (sym same) stood.lawful;
+    lawful = subst (λ (db : Database). IsLawful (content_in db empty_view)) (sym same) stood.lawful;
   }
 
-  content_so : Stood → (r : Result (Unit {0}) ExtendFault) → OnOk (as_kept r) (Written after.now) → OnErr (as_kept r) (after.now ≡ before.now) → content_in after.now.trees empty_view ≡ content
+  content_so : Stood → (r : Result (Unit {0}) ExtendFault) → OnOk (as_kept r) (Written after.now) → OnErr (as_kept r) (after.now ≡ before.now) → content_in after.now empty_view ≡ content
   content_so stood (Ok done) writes same = (written stood after.now writes).content
-  content_so stood (Err why) writes same = ap (λ (db : Database). content_in db.trees empty_view) same
+  content_so stood (Err why) writes same = ap (λ (db : Database). content_in db empty_view) same
 
   -- what is left once it is committed
   left_trees : (r : Result (Unit {0}) ExtendFault) → (HasCleanDisk after → OnOk (as_kept r) (IsTrue after.is_open)) → (IsUnharmed after → HasTables before.now → OnOk (as_kept r) (Written after.now))
@@ -165,14 +168,15 @@ module _ {S : Type 0} {g : Ghosts S} (was grown : RegisterValue) (old new : Tabl
   commits (Err why) left = tt
   commits (Ok done) left = λ k l.
       let it = left l.clean in
-      (it.0, l.content ∙ ap (λ t. content_in t empty_view) (it.3 l.trees l.left) ∙ (written it.1 after.now it.2).content)
+      let s = written it.1 after.now it.2 in
+      (it.0, l.content ∙ same_content after.now l.db s.kept l.sound (it.3 l.db.trees l.left) empty_view ∙ s.content)
 
   wholly : (r : Result (Unit {0}) ExtendFault) → OnOk r (HasCleanDisk after → (IsUnharmed before × Stood × Written after.now × ((trees : Trees) → after.may_leave trees → trees ≡ after.now.trees)))
       → OnOk r (LeavesKept (register_text (register_then was grown r)) after)
   wholly (Err why) left = tt
-  wholly (Ok done) left = λ db clean here schema.
+  wholly (Ok done) left = λ trees clean here.
       let it = left clean in
-      kept_of grown_text after.now db (it.3 db.trees here) schema (written it.1 after.now it.2).kept (written_of it.1 after.now it.2)
+      kept_of grown_text after.now trees (it.3 trees here) (written it.1 after.now it.2).kept (written_of it.1 after.now it.2)
 
   cleared_so : (r : Result (Unit {0}) ExtendFault) → q ≢ keeper.Broken → OnOk r (q ≢ keeper.Broken)
   cleared_so (Ok done) h = h
@@ -191,24 +195,23 @@ module _ {S : Type 0} {g : Ghosts S} (was grown : RegisterValue) (old new : Tabl
     counts = record { kept = alters.tallies.kept; store = alters.tallies.store; trust = alters.alters.trust };
     leaves = λ sound k l.
         let s = alters.alters.leaves (λ h. (sound h).kept.tables) in
-        elim (s.crash l.clean l.trees l.left) [
-          | inl was ↦ inl (record { clean = omega (arith, s.clean, l.clean); trees = l.trees; left = was; content = l.content })
-          | inr made ↦ inr (made.unharmed, l.content ∙ ap (λ t. content_in t empty_view) made.shown ∙ (written (sound made.unharmed) made.db made.becomes).content)
+        elim (s.crash l.clean l.db.trees l.left) [
+          | inl was ↦ inl (record { clean = omega (arith, s.clean, l.clean); db = l.db; sound = l.sound; left = was; content = l.content })
+          | inr made ↦ inr (let w = written (sound made.unharmed) made.db made.becomes in (made.unharmed, l.content ∙ same_content made.db l.db w.kept l.sound made.shown empty_view ∙ w.content))
         ];
     committed = λ sound. commits r (left_trees r alters.alters.is_open alters.alters.done alters.alters.committed sound);
     whole = λ sound. wholly r (left_trees r alters.alters.is_open alters.alters.done alters.alters.committed sound);
   }
 
   -- what a stop leaves
-  tables_leave : (IsUnharmed before → Stood) → LeavesKept old_text before → (db : Database) → HasCleanDisk after → after.may_leave db.trees → db.schema ≡ store_schema → IsKeptOfEither old_text grown_text db
-  tables_leave sound whole db clean here schema =
+  tables_leave : (IsUnharmed before → Stood) → LeavesKept old_text before → (trees : Trees) → HasCleanDisk after → after.may_leave trees → AreTreesOf (IsKeptOfEither old_text grown_text) trees
+  tables_leave sound whole trees clean here =
       let s = alters.alters.leaves (λ h. (sound h).kept.tables) in
-      elim (s.crash clean db.trees here) [
-        | inl was ↦ let it = whole db (omega (arith, s.clean, clean)) was schema in record { kept = it.kept; whose = inl it.whose }
+      elim (s.crash clean trees here) [
+        | inl was ↦ let it = whole trees (omega (arith, s.clean, clean)) was in (it.0, it.1, record { kept = it.2.kept; whose = inl it.2.whose })
         | inr made ↦
             let stood = sound made.unharmed in
-            let it = kept_of grown_text made.db db made.shown schema (written stood made.db made.becomes).kept (written_of stood made.db made.becomes) in
-            record { kept = it.kept; whose = inr it.whose }
+            (made.db, made.shown, record { kept = (written stood made.db made.becomes).kept; whose = inr (written_of stood made.db made.becomes) })
       ]
 
 -- what is told of the tables, of the store

@@ -26,8 +26,9 @@ use Rattle.gaz_cells.specs.Columns.{CellsValue, cells_of}
 use Rattle.gaz_cells.specs.Ids.{id_of, is_key}
 use Rattle.gaz_overlay.specs.Rows.{HistoryRow, view_after}
 use Rattle.gaz_tables.proofs.VersionOnce.{born_once}
-use Rattle.gaz_tables.specs.Schema.{versions}
+use Rattle.gaz_tables.specs.Schema.{version2}
 use Rattle.gaz_tables.specs.Versions as table
+use Rattle.gaz_tables.specs.Tables.{rows_of}
 use Rattle.gaz_kept.specs.Kept.{IsItemRow, IsKept, IsVersion}
 use Rattle.gaz_kept.specs.Versions.{cells_in, histories_in, history_in, item_in, living, number_in, text_in, view_in}
 use Rattle.gaz_kept.proofs.Sorted.{map_from, map_has}
@@ -98,7 +99,7 @@ module _ (r : Row) (version : IsVersion r) (x : Item) (is : item_in r ≡ Some x
 
 module _ (db : Database) (kept : IsKept db) (c t : ℕ) where
   abbrev rows : List Row
-  rows = db.trees versions
+  rows = rows_of db version2
 
   abbrev histories : List HistoryRow
   histories = histories_in rows c

@@ -16,8 +16,9 @@ use Rattle.gaz_keeper.specs.declared.fault.ShelfFault.{ShelfFault}
 use Rattle.gaz_overlay.specs.Passages.{PassageRow}
 use Rattle.gaz_tables.proofs.RowidMeanings.{rowid_is}
 use Rattle.gaz_tables.specs.Rowids.{rowid_of}
-use Rattle.gaz_tables.specs.Schema.{versions}
+use Rattle.gaz_tables.specs.Schema.{version2}
 use Rattle.gaz_tables.specs.Versions.{kind_of}
+use Rattle.gaz_tables.specs.Tables.{rows_of}
 use Rattle.gaz_kept.specs.Kept.{IsItemRow, IsKept, IsVersion}
 use Rattle.gaz_kept.specs.Versions.{number_in, passages_in}
 use Rattle.gaz_kept.proofs.CustodyFollows.{no_item}
@@ -41,13 +42,13 @@ use Rattle.gaz_store.proofs.LivesTold.{tables_rest}
 pub lives_rest : {S R : Type 0} {store : Ghosts S} {T : Type 0} (register : List ℕ) (old : Store S R store) (tables : Tables S store) (k : Judging) (r : Result T ShelfFault) (P : Database → T → Type 0)
     → AsksTables old.tables tables r P
     → (seen_in register old).stands → (seen_in register (record old { tables = tables; judging = k })).unharmed → lives_kept (record old { tables = tables; judging = k }) ≡ lives_kept old
-lives_rest register old tables k r P asks stood unharmed = ap (λ (db : Database). filter_map told_in (db.trees versions)) (tables_rest register old tables k r P asks stood unharmed)
+lives_rest register old tables k r P asks stood unharmed = ap (λ (db : Database). filter_map told_in (rows_of db version2)) (tables_rest register old tables k r P asks stood unharmed)
 
 pub passages_rest : {S R : Type 0} {store : Ghosts S} {T : Type 0} (register : List ℕ) (old : Store S R store) (tables : Tables S store) (k : Judging) (r : Result T ShelfFault) (P : Database → T → Type 0)
     → AsksTables old.tables tables r P
     → (seen_in register old).stands → (seen_in register (record old { tables = tables; judging = k })).unharmed → passages_kept (record old { tables = tables; judging = k }) ≡ passages_kept old
 passages_rest register old tables k r P asks stood unharmed =
-    let said : Database → ℕ → List PassageRow = λ db c. passages_in (db.trees versions) c in
+    let said : Database → ℕ → List PassageRow = λ db c. passages_in (rows_of db version2) c in
     ap said (tables_rest register old tables k r P asks stood unharmed)
 
 -- ---- the last of a list
@@ -130,20 +131,20 @@ told_items r v = by_test (number_in (kind_of r) == 92) refl
 -- a row that says a life tells it
 module _ (db : Database) (kept : IsKept db) where
   abbrev all : List Told
-  all = filter_map told_in (db.trees versions)
+  all = filter_map told_in (rows_of db version2)
 
-  tells_it : (r : Row) (x : Life) → Has (db.trees versions) r → SaysLife r x → told_in r ≡ Some (told x)
+  tells_it : (r : Row) (x : Life) → Has (rows_of db version2) r → SaysLife r x → told_in r ≡ Some (told x)
   tells_it r x there says =
       let s = item_of r (item_row x.code r (kept.rows r there) (told x).life says.history) in
       let same = some_same _ (told x).life (history_of x.code r s (λ i. number_in (says.custodian i))) says.history in
       ap (option_map (told_with r)) s.said
       ∙ (λ i. Some (record { place = id_in (says.place i); code = number_in (says.custodian i); life = same i }))
 
-  module _ (after : Option ℤ) (lives : List Life) (it : TellsLives after lives (db.trees versions)) where
+  module _ (after : Option ℤ) (lives : List Life) (it : TellsLives after lives (rows_of db version2)) where
     are_there : (x : Life) → Has lives x → Has all (told x) × IsBehind after (told x)
     are_there x here =
         let r = it.said x here in
-        (read_in told_in (db.trees versions) r.0 (told x) r.1 (tells_it r.0 x r.1 r.3), is_behind after r.0 r.2 r.3)
+        (read_in told_in (rows_of db version2) r.0 (told x) r.1 (tells_it r.0 x r.1 r.3), is_behind after r.0 r.2 r.3)
       where
         is_behind : (after : Option ℤ) (r : Row) → IsRowBehind after r → SaysLife r x → IsBehind after (told x)
         is_behind None r behind says = tt
@@ -153,9 +154,9 @@ module _ (db : Database) (kept : IsKept db) where
             subst (λ m. n <ℤ m) same behind.2
 
     -- the row that tells it, with its rowid
-    row_told : (y : Told) → Has all y → (r : Row) × Has (db.trees versions) r × (told_in r ≡ Some y) × (rowid_of r ≡ Int y.place)
+    row_told : (y : Told) → Has all y → (r : Row) × Has (rows_of db version2) r × (told_in r ≡ Some y) × (rowid_of r ≡ Int y.place)
     row_told y there =
-        let r = read_from told_in (db.trees versions) y there in
+        let r = read_from told_in (rows_of db version2) y there in
         let s = item_of r.0 (told_row r.0 (kept.rows r.0 r.1) y r.2) in
         let same = some_same (told_with r.0 s.item) y (ap (option_map (told_with r.0)) s.said) r.2 in
         let rowid = (rowid_is db kept.tables r.0 r.1).1 in

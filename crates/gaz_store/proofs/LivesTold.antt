@@ -23,8 +23,9 @@ use Rattle.gaz_overlay.specs.Rows.{never}
 use Rattle.gaz_sql_facts.proofs.Lists.{has_permuted, permuted_has}
 use Rattle.gaz_tables.proofs.RowidMeanings.{rowid_is}
 use Rattle.gaz_tables.specs.Rowids.{FindsInTurn, row_shown, rowid_of}
-use Rattle.gaz_tables.specs.Schema.{versions}
+use Rattle.gaz_tables.specs.Schema.{version2}
 use Rattle.gaz_tables.specs.Versions.{born_of, cust_of, gone_of}
+use Rattle.gaz_tables.specs.Tables.{rows_of}
 use Rattle.gaz_kept.specs.Kept.{IsKept}
 use Rattle.gaz_kept.specs.Versions.{history_in, item_in, living, number_in}
 use Rattle.gaz_kept.proofs.RowsRead.{not_none}
@@ -85,7 +86,7 @@ filtered_rises R p (x ∷ xs) up = by_test (filtered_rises R p xs up.1) (p x)
 
 module _ (db : Database) (kept : IsKept db) where
   abbrev rows : List Row
-  rows = db.trees versions
+  rows = rows_of db version2
 
   abbrev IsHistory : Row → Life → Type 0
   IsHistory r life = history_in life.code r ≡ Some (living life.born (loaded.gone_of life.gone) life.item)

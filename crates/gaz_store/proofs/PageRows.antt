@@ -27,10 +27,11 @@ use Rattle.gaz_views.specs.Words.{comes_after, entries, is_of, page}
 use Rattle.gaz_cells.proofs.Digits.{digits_size}
 use Rattle.gaz_cells.specs.Digits.{digits_in}
 use Rattle.gaz_cells.specs.Ids.{id_of, is_key, kind_in}
-use Rattle.gaz_tables.specs.Schema.{receiveds, versions}
+use Rattle.gaz_tables.specs.Schema.{received, version2}
 use Rattle.gaz_tables.specs.Shows.{ShowsPage}
 use Rattle.gaz_tables.specs.Versions as table
 use Rattle.gaz_tables.specs.Versions.{FindsHolding, IsHolding, body_shown, id_place}
+use Rattle.gaz_tables.specs.Tables.{rows_of}
 use Rattle.gaz_keeper.specs.Board.{reached}
 use Rattle.gaz_kept.specs.Contents.{board_of}
 use Rattle.gaz_kept.specs.Files.{reached_in}
@@ -101,9 +102,9 @@ start_later k a later q own =
 
 module _ (db : Database) (kept : IsKept db) (c t : ℕ) (k : Kind) (kind_entry : is_entry_kind k ≡ true) (after : Option Key) (start : List ℕ) (begins : IsStart k after (Some start)) (most : ℕ) (answer : List Row) where
   abbrev v : View
-  v = view_in (db.trees versions) c t
+  v = view_in (rows_of db version2) c t
 
-  reads : (r : Row) (x : Item) → Has (db.trees versions) r → HoldsItem c t r x → kind_of x ≡ k → item_said k (body_shown r) ≡ Some x
+  reads : (r : Row) (x : Item) → Has (rows_of db version2) r → HoldsItem c t r x → kind_of x ≡ k → item_said k (body_shown r) ≡ Some x
   reads r x there h same =
       let version = kept.rows r there in
       let body = (fits x (said_known r version x h.item) (said_entry r version x h.item)).body in
@@ -111,24 +112,24 @@ module _ (db : Database) (kept : IsKept db) (c t : ℕ) (k : Kind) (kind_entry :
       ∙ (λ i. ok_of (item_of_text (kind_of x) ((sym (said_cells r version x h.item) i).body)))
       ∙ ap ok_of body
 
-  pub page_told : FindsHolding c (number_of k) start t most (db.trees versions) answer → (items : List Item) → SayItems k answer items → items ≡ page v k after most
+  pub page_told : FindsHolding c (number_of k) start t most (rows_of db version2) answer → (items : List Item) → SayItems k answer items → items ≡ page v k after most
   page_told found items say =
       page_read db kept c t k (comes_in db kept c t k kind_entry after start begins) (IsHolding c (number_of k) start t) (holding_just db kept c t k kind_entry after start begins) most body_shown answer found
       (item_said k) (λ e. e.1) reads items say
 
 -- and so of the board
-pub page_on_board : (db : Database) → IsKept db → (c t : ℕ) (k : Kind) → is_entry_kind k ≡ true → (start : List ℕ) (most : ℕ) (answer : List Row) → FindsHolding c (number_of k) start t most (db.trees versions) answer
+pub page_on_board : (db : Database) → IsKept db → (c t : ℕ) (k : Kind) → is_entry_kind k ≡ true → (start : List ℕ) (most : ℕ) (answer : List Row) → FindsHolding c (number_of k) start t most (rows_of db version2) answer
     → (items : List Item) → SayItems k answer items → IsPageFrom (board_of db) c t k (Some start) most items
 page_on_board db kept c t k entry start most answer found items say after begins within =
-    let reads = board_reads (db.trees receiveds) (db.trees versions) c in
-    let reached : t ≤ reached_in (db.trees receiveds) c = subst (λ n. t ≤ n) reads.reached within in
+    let reads = board_reads (rows_of db received) (rows_of db version2) c in
+    let reached : t ≤ reached_in (rows_of db received) c = subst (λ n. t ≤ n) reads.reached within in
     page_told db kept c t k entry after start begins most answer found items say
-    ∙ ap (λ v. page v k after most) (sym (reads.view (born_later c (db.trees versions) kept.rows) (passed_later c (db.trees versions) kept.rows) t reached))
+    ∙ ap (λ v. page v k after most) (sym (reads.view (born_later c (rows_of db version2) kept.rows) (passed_later c (rows_of db version2) kept.rows) t reached))
 
 -- a volume beyond the last isn't reached
 pub not_reached : (db : Database) → IsKept db → (c t : ℕ) → 999_999 < t → ¬ (t ≤ reached (board_of db) c)
 not_reached db kept c t late within =
-    let reads = board_reads (db.trees receiveds) (db.trees versions) c in
+    let reads = board_reads (rows_of db received) (rows_of db version2) c in
     let room = reached_room db c kept in
     let is = reads.reached in
     absurd (omega (arith, room, is, within, late))

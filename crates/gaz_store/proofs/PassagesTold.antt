@@ -32,8 +32,9 @@ use Rattle.gaz_overlay.specs.Passages.{PassageRow}
 use Rattle.gaz_sql_facts.proofs.Lists.{first_least, has_permuted, permuted_has}
 use Rattle.gaz_tables.specs.Custody.{FindsCustodyBehind, IsCustodyBehind, by_id_and_birth, listed_shown}
 use Rattle.gaz_tables.specs.Custody.{ComesBehind as Comes}
-use Rattle.gaz_tables.specs.Schema.{versions}
+use Rattle.gaz_tables.specs.Schema.{version2}
 use Rattle.gaz_tables.specs.Versions as table
+use Rattle.gaz_tables.specs.Tables.{rows_of}
 use Rattle.gaz_kept.specs.Kept.{IsKept}
 use Rattle.gaz_kept.specs.Versions.{custody_cells_in, number_in, passage_in, passing, text_in}
 use Rattle.gaz_kept.proofs.PassageStatements.{Known, its_owner, kind_passage, known_of, passage_row}
@@ -112,7 +113,7 @@ tail_sorted x xs h k d low high = let e : suc k + 1 ≡ suc (k + 1) = omega arit
 
 module _ (db : Database) (kept : IsKept db) (c : ℕ) where
   abbrev rows : List Row
-  rows = db.trees versions
+  rows = rows_of db version2
 
   abbrev all : List PassageRow
   all = passages_of db c

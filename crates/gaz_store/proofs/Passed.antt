@@ -1,7 +1,6 @@
 -- What the newest passage of a number tells of its custodian's last view, and of the key of its BLPU.
-use Rattle.std.proofs.Common.{◌≡◌, ◌≢◌, ◌∙◌, ◌≤◌, ◌||◌, ◌==◌, ℕ, Bool, true, false, cond, List, [], ◌∷◌, refl, sym, ap, subst, arith, true≢false}
+use Rattle.std.proofs.Common.{◌≡◌, ◌≢◌, ◌∙◌, ◌≤◌, ◌||◌, ℕ, Bool, true, false, List, [], ◌∷◌, refl, sym, ap, subst, arith, true≢false}
 use Rattle.std.specs.Prelude.{Option, Some, None, is_some}
-use Rattle.std.specs.FinMap as finite
 use Rattle.std.specs.FinSet as set
 use Rattle.sqlite.specs.Effect.{Database}
 use Rattle.sqlite.specs.Order.{Row}
@@ -13,11 +12,12 @@ use Rattle.gaz_records.specs.declared.key.Key.TheVariants as key
 use Rattle.gaz_views.specs.View.{custody_at, was_used}
 use Rattle.gaz_overlay.specs.Over.{IsStood, key_view}
 use Rattle.gaz_overlay.specs.Passages.{PassageRow, passed_keys}
-use Rattle.gaz_overlay.specs.Rows.{HasCurrent, HistoryRow, never, view_after}
+use Rattle.gaz_overlay.specs.Rows.{HistoryRow, view_after}
 use Rattle.gaz_overlay.specs.declared.touch.Stood.{Stood}
 use Rattle.gaz_overlay.specs.declared.touch.Stood.TheVariants.{NoRow, Past, Since}
 use Rattle.gaz_tables.specs.Custody.{FindsCustody, FindsCustodyUntil}
-use Rattle.gaz_tables.specs.Schema.{receiveds, versions}
+use Rattle.gaz_tables.specs.Schema.{received, version2}
+use Rattle.gaz_tables.specs.Tables.{rows_of}
 use Rattle.gaz_kept.specs.Files.{reached_in}
 use Rattle.gaz_kept.specs.Kept.{IsKept}
 use Rattle.gaz_kept.specs.LastViews.{last_in}
@@ -33,15 +33,15 @@ use Rattle.gaz_kept.proofs.Reached.{reached_room}
 use Rattle.gaz_store.specs.Passing.{MayKnow, TellsPassed, any_passed, is_any, knows_none, passages_of, was_passed}
 
 module _ (db : Database) (c uprn : ℕ) (id : List ℕ) (answer : List Row) (passed : Option Passed) (kept : IsKept db) (known : is_key (key.Blpu uprn) ≡ true) (is_id : id ≡ id_of (key.Blpu uprn)) where
-  pub passed_told : FindsCustody c id (db.trees versions) answer → SaysPassage answer passed → TellsPassed db c uprn passed
+  pub passed_told : FindsCustody c id (rows_of db version2) answer → SaysPassage answer passed → TellsPassed db c uprn passed
   passed_told found says = record {
     custody = custody_now db kept c uprn passed t;
     used = sym (passed_now db kept c uprn passed t);
     current = λ volume is. by_some volume passed refl is;
   }
     where
-      t : TellsAt (passages_in (db.trees versions) c) (reached_in (db.trees receiveds) c) uprn passed
-      t = passage_told db kept c uprn known answer passed says (subst (λ i. FindsCustody c i (db.trees versions) answer) is_id found)
+      t : TellsAt (passages_in (rows_of db version2) c) (reached_in (rows_of db received) c) uprn passed
+      t = passage_told db kept c uprn known answer passed says (subst (λ i. FindsCustody c i (rows_of db version2) answer) is_id found)
 
       by_some : (volume : ℕ) (o : Option Passed) → passed ≡ o → born_of o ≡ Some volume → HasPassage (passages_of db c) uprn volume
       by_some volume None none is = cc
@@ -49,12 +49,12 @@ module _ (db : Database) (c uprn : ℕ) (id : List ℕ) (answer : List Row) (pas
           let born : p.born ≡ volume = cc in
           subst (HasPassage (passages_of db c) uprn) born (told_passage db kept c uprn passed t p some)
 
-  pub passed_until_told : (volume : ℕ) → volume ≤ reached_in (db.trees receiveds) c → FindsCustodyUntil c id volume (db.trees versions) answer → SaysPassage answer passed
-      → custody_of passed ≡ custody_at (view_in (db.trees versions) c volume) uprn
+  pub passed_until_told : (volume : ℕ) → volume ≤ reached_in (rows_of db received) c → FindsCustodyUntil c id volume (rows_of db version2) answer → SaysPassage answer passed
+      → custody_of passed ≡ custody_at (view_in (rows_of db version2) c volume) uprn
   passed_until_told volume within found says =
       let room = reached_room db c kept in
       custody_then db kept c volume uprn passed (omega (arith, room, within))
-      (passage_until_told db kept c uprn known answer passed says volume (subst (λ i. FindsCustodyUntil c i volume (db.trees versions) answer) is_id found))
+      (passage_until_told db kept c uprn known answer passed says volume (subst (λ i. FindsCustodyUntil c i volume (rows_of db version2) answer) is_id found))
 
 -- where that is known, it is so
 pub known_none : (db : Database) (c : ℕ) (known : Option Bool) → MayKnow known db c → knows_none known ≡ true → any_passed db c ≡ false
@@ -78,12 +78,12 @@ module _ (db : Database) (kept : IsKept db) (c : ℕ) (known : any_passed db c �
     current = λ volume is. cc;
   }
     where
-      t : TellsAt (passages_in (db.trees versions) c) (reached_in (db.trees receiveds) c) uprn None
+      t : TellsAt (passages_in (rows_of db version2) c) (reached_in (rows_of db received) c) uprn None
       t = record { row = None; tells = tt; last = λ p there of_number born. none p there }
 
 -- the key of no number is used by that
 pub not_of_number : (db : Database) (c : ℕ) (k : Key) → ((n : ℕ) → key.Blpu n ≢ k) → false ≡ was_passed db c k
-not_of_number db c k other = sym (no_key_passed (passages_of db c) (reached_in (db.trees receiveds) c) k other)
+not_of_number db c k other = sym (no_key_passed (passages_of db c) (reached_in (rows_of db received) c) k other)
 
 -- and none is where no number was passed on
 pub none_used : (db : Database) → IsKept db → (c : ℕ) → any_passed db c ≡ false → (k : Key) → false ≡ was_passed db c k
@@ -95,12 +95,12 @@ none_used db kept c none (key.Lpi t) = not_of_number db c (key.Lpi t) (λ m is. 
 
 -- ---- a key
 
-module _ (db : Database) (c : ℕ) (k : Key) (life : Option Life) (kept : IsKept db) (newest : IsNewest (histories_in (db.trees versions) c) k life) where
+module _ (db : Database) (c : ℕ) (k : Key) (life : Option Life) (kept : IsKept db) (newest : IsNewest (histories_in (rows_of db version2) c) k life) where
   abbrev rows : List HistoryRow
-  rows = histories_in (db.trees versions) c
+  rows = histories_in (rows_of db version2) c
 
   abbrev n : ℕ
-  n = reached_in (db.trees receiveds) c
+  n = reached_in (rows_of db received) c
 
   -- it is used by its items, or by what became of its number
   used_is : was_used (last_in db c) k ≡ (is_some life || was_passed db c k)

@@ -22,7 +22,8 @@ use Rattle.gaz_overlay.specs.Laws.{custody_laid_at}
 use Rattle.gaz_overlay.proofs.Laid.{lawful_adopted}
 use Rattle.gaz_overlay.proofs.Making.{changes_make}
 use Rattle.gaz_overlay.proofs.PassedTree.{noted_already, noted_first}
-use Rattle.gaz_tables.specs.Schema.{versions}
+use Rattle.gaz_tables.specs.Schema.{version2}
+use Rattle.gaz_tables.specs.Tables.{rows_of}
 use Rattle.gaz_kept.specs.LastViews.{last_in}
 use Rattle.gaz_kept.specs.NewestPassages.{HasPassage, born_of, custody_of}
 use Rattle.gaz_kept.specs.Versions.{histories_in}
@@ -102,7 +103,7 @@ adopted_turns db j (item.Blpu b) from hop uprn since blpu own touched told w mak
     let its : IsToldSince db j b.uprn since = subst (λ (n : ℕ). IsToldSince db j n since) number told in
     record {
       made = changes_make.adopted (last_in db j.code) j.changes w makes.made b from hop since touched its.is_since;
-      told = record { told = (told_put (histories_in (db.trees versions) j.code) j.changes (item.Blpu b) makes.told).told };
+      told = record { told = (told_put (histories_in (rows_of db version2) j.code) j.changes (item.Blpu b) makes.told).told };
       passed = told_noted db j b.uprn since its makes.passed;
       known = makes.known;
     }

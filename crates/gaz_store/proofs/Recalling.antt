@@ -14,7 +14,8 @@ use Rattle.sqlite.specs.State.{State}
 use Rattle.sqlite_trees.specs.declared.store.Store.{Ghosts}
 use Rattle.gaz_keeper.specs.Board.{reached}
 use Rattle.gaz_keeper.specs.declared.fault.ShelfFault.{ShelfFault}
-use Rattle.gaz_tables.specs.Schema.{receiveds, versions}
+use Rattle.gaz_tables.specs.Schema.{received, version2}
+use Rattle.gaz_tables.specs.Tables.{rows_of}
 use Rattle.gaz_kept.specs.Contents.{board_of}
 use Rattle.gaz_kept.specs.Kept.{IsKept}
 use Rattle.gaz_kept.proofs.Boards.{board_reads}
@@ -50,10 +51,10 @@ module _ {S : Type 0} {store : Ghosts S} where
   at t = state store t.conn
 
   -- an answer that is at hand
-  pub at_hand_already : (t : Tables S store) (c : ℕ) (h : AtHand) → Some h ≡ get nat_cmp t.at_hand c → Recalls t t (Ok h) (λ db x. IsSo (db.trees receiveds) c x)
+  pub at_hand_already : (t : Tables S store) (c : ℕ) (h : AtHand) → Some h ≡ get nat_cmp t.at_hand c → Recalls t t (Ok h) (λ db x. IsSo (rows_of db received) c x)
   at_hand_already t c h is = record {
-    asks = asks_nothing (at t) (Ok h) (λ db x. AreSo t.at_hand (db.trees receiveds) → IsSo (db.trees receiveds) c x)
-        (λ u kept so. if_some_at (get nat_cmp t.at_hand c) h (IsSo ((at t).now.trees receiveds) c) (sym is) (so c));
+    asks = asks_nothing (at t) (Ok h) (λ db x. AreSo t.at_hand (rows_of db received) → IsSo (rows_of db received) c x)
+        (λ u kept so. if_some_at (get nat_cmp t.at_hand c) h (IsSo (rows_of (at t).now received) c) (sym is) (so c));
     tallies = record { kept = omega arith; store = tt };
     at_hand = λ u kept so. so;
   }
@@ -61,50 +62,50 @@ module _ {S : Type 0} {store : Ghosts S} where
   -- an answer for which the tables were asked
   pub recalls_asked : {T : Type 0} (old new : Tables S store) (r : Result T ShelfFault) (R : Database → T → Type 0) → AsksTables old new r R → Recalls old new r R
   recalls_asked {T} old new r R asks = record {
-    asks = asks_as (at old) (at new) r r R (λ db x. AreSo old.at_hand (db.trees receiveds) → R db x) asks.asks (λ db kept. anyway db r);
+    asks = asks_as (at old) (at new) r r R (λ db x. AreSo old.at_hand (rows_of db received) → R db x) asks.asks (λ db kept. anyway db r);
     tallies = asks.tallies;
-    at_hand = λ u kept so. subst (λ (m : Remembered). AreSo m ((at old).now.trees receiveds)) (sym asks.at_hand) so;
+    at_hand = λ u kept so. subst (λ (m : Remembered). AreSo m (rows_of (at old).now received)) (sym asks.at_hand) so;
   }
     where
-      anyway : (db : Database) (r : Result T ShelfFault) → IfOk r (R db) → IfOk r (λ x. AreSo old.at_hand (db.trees receiveds) → R db x)
+      anyway : (db : Database) (r : Result T ShelfFault) → IfOk r (R db) → IfOk r (λ x. AreSo old.at_hand (rows_of db received) → R db x)
       anyway db (Ok x) is = λ so. is
       anyway db (Err e) is = tt
 
   -- counts for which the tables were asked, and which are at hand then if there is memory to keep them
   pub recalls_noting : {X E : Type 0} (old mid new : Tables S store) (one : Result AtHand ShelfFault) (c : ℕ) (h : AtHand) (noted : Result X E)
-      → AsksTables old mid one (λ db x. IsSo (db.trees receiveds) c x) → one ≡ Ok h
+      → AsksTables old mid one (λ db x. IsSo (rows_of db received) c x) → one ≡ Ok h
       → new.conn ≡ mid.conn → new.failures ≡ mid.failures
       → OnOk noted (Updates nat_cmp mid.at_hand new.at_hand c (Some h)) → OnErr noted (IsUnchanged mid.at_hand new.at_hand)
-      → Recalls old new (Ok h) (λ db x. IsSo (db.trees receiveds) c x)
+      → Recalls old new (Ok h) (λ db x. IsSo (rows_of db received) c x)
   recalls_noting {X} {E} old mid new one c h noted asked is conn failures updates stays = record {
-    asks = subst (λ t. Asks (at old) (state store t) (Ok h) (λ db x. AreSo old.at_hand (db.trees receiveds) → IsSo (db.trees receiveds) c x)) (sym conn) before.asks;
+    asks = subst (λ t. Asks (at old) (state store t) (Ok h) (λ db x. AreSo old.at_hand (rows_of db received) → IsSo (rows_of db received) c x)) (sym conn) before.asks;
     tallies = subst (λ (n : ℕ). Tallies old.failures n (Ok h)) (sym failures) before.tallies;
     at_hand = λ u kept so.
         let v = subst (λ t. IsUnharmed (state store t)) conn u in
         by_noted noted updates stays (here.asks.right v kept) (before.at_hand v kept so);
   }
     where
-      here : AsksTables old mid (Ok h) (λ db x. IsSo (db.trees receiveds) c x)
-      here = subst (λ r. AsksTables old mid r (λ db x. IsSo (db.trees receiveds) c x)) is asked
+      here : AsksTables old mid (Ok h) (λ db x. IsSo (rows_of db received) c x)
+      here = subst (λ r. AsksTables old mid r (λ db x. IsSo (rows_of db received) c x)) is asked
 
-      before : Recalls old mid (Ok h) (λ db x. IsSo (db.trees receiveds) c x)
-      before = recalls_asked old mid (Ok h) (λ db x. IsSo (db.trees receiveds) c x) here
+      before : Recalls old mid (Ok h) (λ db x. IsSo (rows_of db received) c x)
+      before = recalls_asked old mid (Ok h) (λ db x. IsSo (rows_of db received) c x) here
 
       by_noted : (r : Result X E) → OnOk r (Updates nat_cmp mid.at_hand new.at_hand c (Some h)) → OnErr r (IsUnchanged mid.at_hand new.at_hand)
-          → IsSo ((at old).now.trees receiveds) c h → AreSo mid.at_hand ((at old).now.trees receiveds) → AreSo new.at_hand ((at old).now.trees receiveds)
-      by_noted (Ok x) u s so all = noted_so mid.at_hand new.at_hand c h ((at old).now.trees receiveds) u so all
-      by_noted (Err e) u s so all = same_so mid.at_hand new.at_hand ((at old).now.trees receiveds) s all
+          → IsSo (rows_of (at old).now received) c h → AreSo mid.at_hand (rows_of (at old).now received) → AreSo new.at_hand (rows_of (at old).now received)
+      by_noted (Ok x) u s so all = noted_so mid.at_hand new.at_hand c h (rows_of (at old).now received) u so all
+      by_noted (Err e) u s so all = same_so mid.at_hand new.at_hand (rows_of (at old).now received) s all
 
   -- what is made of an answer that was recalled
   pub recalled : {A T : Type 0} (old new : Tables S store) (one : Result A ShelfFault) (a : A) (x : T) (P : Database → A → Type 0) (R : Database → T → Type 0)
       → Recalls old new one P → one ≡ Ok a → ((db : Database) → IsKept db → P db a → R db x) → Recalls old new (Ok x) R
   recalled {A} {T} old new one a x P R recalls is goes = record {
-    asks = asks_as (at old) (at new) one (Ok x) (λ db y. AreSo old.at_hand (db.trees receiveds) → P db y) (λ db y. AreSo old.at_hand (db.trees receiveds) → R db y) recalls.asks
-        (λ db kept was so. goes db kept (subst (λ (r : Result A ShelfFault). IfOk r (λ y. AreSo old.at_hand (db.trees receiveds) → P db y)) is was so));
+    asks = asks_as (at old) (at new) one (Ok x) (λ db y. AreSo old.at_hand (rows_of db received) → P db y) (λ db y. AreSo old.at_hand (rows_of db received) → R db y) recalls.asks
+        (λ db kept was so. goes db kept (subst (λ (r : Result A ShelfFault). IfOk r (λ y. AreSo old.at_hand (rows_of db received) → P db y)) is was so));
     tallies = record { kept = recalls.tallies.kept; store = tt };
     at_hand = recalls.at_hand;
   }
 
 -- what is counted as judged is what is reached
-pub reached_told : (db : Database) (c : ℕ) (h : AtHand) → IsSo (db.trees receiveds) c h → h.reached ≡ reached (board_of db) c
-reached_told db c h so = so.reached ∙ sym (board_reads (db.trees receiveds) (db.trees versions) c).reached
+pub reached_told : (db : Database) (c : ℕ) (h : AtHand) → IsSo (rows_of db received) c h → h.reached ≡ reached (board_of db) c
+reached_told db c h so = so.reached ∙ sym (board_reads (rows_of db received) (rows_of db version2) c).reached

@@ -10,9 +10,10 @@ use Rattle.gaz_kept.specs.Judging.{IsJudged}
 use Rattle.gaz_keeper.specs.Board.{reached}
 use Rattle.gaz_keeper.specs.declared.fault.ShelfFault.{ShelfFault}
 use Rattle.gaz_keeper.specs.declared.fault.ShelfFault.TheVariants.{Store}
-use Rattle.gaz_sql_facts.specs.Changes.{Changes}
 use Rattle.gaz_tables.specs.Receiveds.{Rejects}
-use Rattle.gaz_tables.specs.Schema.{receiveds, versions}
+use Rattle.gaz_tables.specs.Schema.{received, version2}
+use Rattle.gaz_tables.specs.Tables.{rows_of}
+use Rattle.gaz_tables.specs.Stores.{ChangesTable}
 use Rattle.gaz_kept.specs.Contents.{board_of}
 use Rattle.gaz_kept.specs.Files.{reached_in}
 use Rattle.gaz_kept.specs.Kept.{IsKept}
@@ -43,11 +44,11 @@ Recalled c db n = n ≡ reached (board_of db) c
 
 -- a volume is rejected
 abbrev pub RejectsAt : ℕ → ℕ → ℕ → ℕ → Database → Database → Type 0
-RejectsAt c volume place rule = Changes receiveds (Rejects c volume (pos place) rule)
+RejectsAt c volume place rule = ChangesTable received (Rejects c volume (pos place) rule)
 
 -- as rejected
 pub skip_judges : (c place rule : ℕ) → rule ≤ 255 → (db after : Database) → IsKept db → IsNextIn c db → RejectsAt c (next_in db c) place rule db after
-    → IsJudged c (reached_in (db.trees receiveds) c + 1) (Rejected place rule) (db.trees receiveds) (after.trees receiveds)
+    → IsJudged c (reached_in (rows_of db received) c + 1) (Rejected place rule) (rows_of db received) (rows_of after received)
 skip_judges c place rule small db after kept there rejects = judges c place rule db after small kept there rejects
 
 module _ {S : Type 0} {store : Ghosts S} where
@@ -62,9 +63,9 @@ module _ {S : Type 0} {store : Ghosts S} where
   comes old new r c v bytes range alters tallies noted same = record {
     alters = alters;
     tallies = tallies;
-    at_hand = λ h kept so fresh. on_result r _ _ _ _ (AreSo new.at_hand ((at new).now.trees receiveds)) (alters.done h kept.tables) (alters.undone h kept.tables) noted same
+    at_hand = λ h kept so fresh. on_result r _ _ _ _ (AreSo new.at_hand (rows_of (at new).now received)) (alters.done h kept.tables) (alters.undone h kept.tables) noted same
         (λ changes counts. come_so c v bytes (at old).now (at new).now old.at_hand new.at_hand range.0 range.1 kept fresh changes counts so)
-        (λ still stays. subst (λ (m : Remembered). AreSo m ((at new).now.trees receiveds)) (sym stays) (subst (λ (db : Database). AreSo old.at_hand (db.trees receiveds)) (sym still) so));
+        (λ still stays. subst (λ (m : Remembered). AreSo m (rows_of (at new).now received)) (sym stays) (subst (λ (db : Database). AreSo old.at_hand (rows_of db received)) (sym still) so));
   }
 
   pub received_ok : {T : Type 0} (old mid new : Tables S store) (r : Result T ShelfFault) (x : T) (c v : ℕ) (bytes : List ℕ) → (1 ≤ v) × (v ≤ 999_999)
@@ -86,7 +87,7 @@ module _ {S : Type 0} {store : Ghosts S} where
 
   -- the next volume of a custodian is judged so: where it was recalled which is next
   module _ {T : Type 0} (c : ℕ) (verdict : Verdict) (Makes : ℕ → Database → Database → Type 0)
-      (judged : (db after : Database) → IsKept db → IsNextIn c db → Makes (next_in db c) db after → IsJudged c (reached_in (db.trees receiveds) c + 1) verdict (db.trees receiveds) (after.trees receiveds)) where
+      (judged : (db after : Database) → IsKept db → IsNextIn c db → Makes (next_in db c) db after → IsJudged c (reached_in (rows_of db received) c + 1) verdict (rows_of db received) (rows_of after received)) where
     judges_next : (old mid new : Tables S store) (r : Result T ShelfFault) (n next : ℕ) → next ≡ n + 1
         → Recalls old mid (Ok n) (Recalled c)
         → Alters (at mid) (at new) r (Makes next) → Tallies mid.failures new.failures r
@@ -95,22 +96,22 @@ module _ {S : Type 0} {store : Ghosts S} where
     judges_next old mid new r n next is_next recalls alters tallies noted same = record {
       alters = both;
       tallies = tallies_then old.failures mid.failures new.failures (Ok n) r recalls.tallies tallies;
-      at_hand = λ h kept so there. on_result r _ _ _ _ (AreSo new.at_hand ((at new).now.trees receiveds)) (both.done h kept.tables) (both.undone h kept.tables) noted same
+      at_hand = λ h kept so there. on_result r _ _ _ _ (AreSo new.at_hand (rows_of (at new).now received)) (both.done h kept.tables) (both.undone h kept.tables) noted same
           (λ changes counts.
-          judged_so c verdict ((at old).now.trees receiveds) ((at new).now.trees receiveds) mid.at_hand new.at_hand
+          judged_so c verdict (rows_of (at old).now received) (rows_of (at new).now received) mid.at_hand new.at_hand
           (judged (at old).now (at new).now kept there (changes kept so)) there counts (recalls.at_hand (alters.harm h) kept so))
-          (λ still stays. subst (λ (m : Remembered). AreSo m ((at new).now.trees receiveds)) (sym stays)
-          (subst (λ (db : Database). AreSo mid.at_hand (db.trees receiveds)) (sym still) (recalls.at_hand (alters.harm h) kept so)));
+          (λ still stays. subst (λ (m : Remembered). AreSo m (rows_of (at new).now received)) (sym stays)
+          (subst (λ (db : Database). AreSo mid.at_hand (rows_of db received)) (sym still) (recalls.at_hand (alters.harm h) kept so)));
     }
       where
-        reads : (db : Database) → reached (board_of db) c ≡ reached_in (db.trees receiveds) c
-        reads db = (board_reads (db.trees receiveds) (db.trees versions) c).reached
+        reads : (db : Database) → reached (board_of db) c ≡ reached_in (rows_of db received) c
+        reads db = (board_reads (rows_of db received) (rows_of db version2) c).reached
 
-        which : IsUnharmed (at mid) → IsKept (at old).now → AreSo old.at_hand ((at old).now.trees receiveds) → next ≡ next_in (at old).now c
+        which : IsUnharmed (at mid) → IsKept (at old).now → AreSo old.at_hand (rows_of (at old).now received) → next ≡ next_in (at old).now c
         which h kept so = is_next ∙ ap (λ m. m + 1) (recalls.asks.right h kept so ∙ reads (at old).now)
 
         both : Alters (at old) (at new) r (WhereSo old.at_hand (MakesNext Makes c))
-        both = alters_then (at old) (at mid) (at new) (Ok n) r (λ db m. AreSo old.at_hand (db.trees receiveds) → Recalled c db m) (Makes next) (WhereSo old.at_hand (MakesNext Makes c)) recalls.asks alters
+        both = alters_then (at old) (at mid) (at new) (Ok n) r (λ db m. AreSo old.at_hand (rows_of db received) → Recalled c db m) (Makes next) (WhereSo old.at_hand (MakesNext Makes c)) recalls.asks alters
             (λ h db makes kept so. subst (λ m. Makes m (at old).now db) (which h kept so) makes)
 
     pub judged_ok : (old mid noted new : Tables S store) (first : Result ℕ ShelfFault) (r : Result T ShelfFault) (x : T) (n next : ℕ) → next ≡ n + 1
@@ -137,9 +138,9 @@ module _ {S : Type 0} {store : Ghosts S} where
   pub writes_not : {A T : Type 0} (old new : Tables S store) (one : Result A ShelfFault) (e : ShelfFault) (P : Database → A → Type 0) (IsAsked : Database → Type 0) (Becomes : Database → Database → Type 0)
       → Recalls old new one P → Tallies {T = T} old.failures new.failures (Err e) → Writes {T = T} old new (Err e) IsAsked Becomes
   writes_not old new one e P IsAsked Becomes recalls tallies = record {
-    alters = alters_not (at old) (at new) one e (λ db x. AreSo old.at_hand (db.trees receiveds) → P db x) Becomes recalls.asks;
+    alters = alters_not (at old) (at new) one e (λ db x. AreSo old.at_hand (rows_of db received) → P db x) Becomes recalls.asks;
     tallies = tallies;
-    at_hand = λ h kept so ask. subst (λ (db : Database). AreSo new.at_hand (db.trees receiveds)) (sym (recalls.asks.rests h kept.tables)) (recalls.at_hand h kept so);
+    at_hand = λ h kept so ask. subst (λ (db : Database). AreSo new.at_hand (rows_of db received)) (sym (recalls.asks.rests h kept.tables)) (recalls.at_hand h kept so);
   }
 
   -- of what was recalled
@@ -155,9 +156,9 @@ module _ {S : Type 0} {store : Ghosts S} where
   writes_failing {A} {T} old mid new one e P IsAsked Becomes recalls fails =
       writes_not {T = T} old new one e P IsAsked Becomes
       (record {
-        asks = subst (λ h. Asks (at old) (state store h) one (λ db x. AreSo old.at_hand (db.trees receiveds) → P db x)) (sym fails.conn) recalls.asks;
+        asks = subst (λ h. Asks (at old) (state store h) one (λ db x. AreSo old.at_hand (rows_of db received) → P db x)) (sym fails.conn) recalls.asks;
         tallies = record { kept = omega (arith, recalls.tallies.kept, fails.kept); store = later one recalls.tallies.store };
-        at_hand = λ h kept so. subst (λ (m : Remembered). AreSo m ((at old).now.trees receiveds)) (sym fails.at_hand) (recalls.at_hand (subst (λ h. IsUnharmed (state store h)) fails.conn h) kept so);
+        at_hand = λ h kept so. subst (λ (m : Remembered). AreSo m (rows_of (at old).now received)) (sym fails.at_hand) (recalls.at_hand (subst (λ h. IsUnharmed (state store h)) fails.conn h) kept so);
       })
       (record { kept = omega (arith, recalls.tallies.kept, fails.kept); store = λ is. let more = fails.counted is in omega (arith, recalls.tallies.kept, more) })
     where

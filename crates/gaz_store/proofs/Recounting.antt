@@ -16,10 +16,10 @@ use Rattle.sqlite.specs.Order.{Row}
 use Rattle.gaz_views.specs.declared.verdict.Verdict.{Verdict}
 use Rattle.gaz_keeper.proofs.Pairs.{pairs_total}
 use Rattle.gaz_keeper.specs.Received.{Received, count_above, with_file}
-use Rattle.gaz_sql_facts.specs.Changes.{Changes}
 use Rattle.gaz_tables.specs.Receiveds.{unjudged}
-use Rattle.gaz_tables.specs.Schema.{receiveds}
-use Rattle.gaz_tables.specs.Stores.{AddsRow}
+use Rattle.gaz_tables.specs.Schema.{received}
+use Rattle.gaz_tables.specs.Stores.{AddsRow, ChangesTable}
+use Rattle.gaz_tables.specs.Tables.{rows_of}
 use Rattle.gaz_kept.specs.Files.{Judged, files_in, reached_in, verdicts_in}
 use Rattle.gaz_kept.specs.Judging.{Arrives, IsJudged}
 use Rattle.gaz_kept.specs.Kept.{IsKept}
@@ -120,34 +120,34 @@ so_here before after c Becomes old new counts so goes =
     counts.own
 
 module _ (c v : ℕ) (bytes : List ℕ) (old new : Database) (before after : Remembered) (first : 1 ≤ v) (last : v ≤ 999_999) (kept : IsKept old)
-    (fresh : finite.get (files_in (old.trees receiveds)) (c, v) ≡ None) (changes : Changes receiveds (AddsRow (unjudged c v bytes)) old new)
-    (counts : Recounts c OneMore before after) (so : AreSo before (old.trees receiveds)) where
-  arrives : Arrives c v bytes (old.trees receiveds) (new.trees receiveds)
-  arrives = files_change.insert (Int (next_rowid (old.trees receiveds))) c v bytes (old.trees receiveds) (new.trees receiveds) first last (are_files old kept) fresh changes.rows
+    (fresh : finite.get (files_in (rows_of old received)) (c, v) ≡ None) (changes : ChangesTable received (AddsRow (unjudged c v bytes)) old new)
+    (counts : Recounts c OneMore before after) (so : AreSo before (rows_of old received)) where
+  arrives : Arrives c v bytes (rows_of old received) (rows_of new received)
+  arrives = files_change.insert (Int (next_rowid (rows_of old received))) c v bytes (rows_of old received) (rows_of new received) first last (are_files old kept) fresh changes.rows
 
-  same_reached : (d : ℕ) → reached_in (new.trees receiveds) d ≡ reached_in (old.trees receiveds) d
+  same_reached : (d : ℕ) → reached_in (rows_of new received) d ≡ reached_in (rows_of old received) d
   same_reached d = ap (λ (m : Judged). length (finite.values m)) (arrives.judged d)
 
   -- the file is above the judged ones
-  above : reached_in (old.trees receiveds) c < v
-  above = by_place (leb_tells v (reached_in (old.trees receiveds) c))
+  above : reached_in (rows_of old received) c < v
+  above = by_place (leb_tells v (reached_in (rows_of old received) c))
     where
-      by_place : ((nat_le v (reached_in (old.trees receiveds) c) ≡ true) × (v ≤ reached_in (old.trees receiveds) c)) ⊎ ((nat_le v (reached_in (old.trees receiveds) c) ≡ false) × (reached_in (old.trees receiveds) c < v)) → reached_in (old.trees receiveds) c < v
+      by_place : ((nat_le v (reached_in (rows_of old received) c) ≡ true) × (v ≤ reached_in (rows_of old received) c)) ⊎ ((nat_le v (reached_in (rows_of old received) c) ≡ false) × (reached_in (rows_of old received) c < v)) → reached_in (rows_of old received) c < v
       by_place (inl le) = let clash : false ≡ true = subst IsSome fresh (judged_there old kept c v first le.1) in absurd (cc)
       by_place (inr lt) = lt.1
 
-  held_now : (d : ℕ) → held_in (new.trees receiveds) d ≡ count_above (with_file (files_in (old.trees receiveds)) c v bytes) d (reached_in (old.trees receiveds) d)
+  held_now : (d : ℕ) → held_in (rows_of new received) d ≡ count_above (with_file (files_in (rows_of old received)) c v bytes) d (reached_in (rows_of old received) d)
   held_now d = λ i. count_above (arrives.files i) d (same_reached d i)
 
-  pub come_so : AreSo after (new.trees receiveds)
+  pub come_so : AreSo after (rows_of new received)
   come_so d = elim (cases_eq d c) [
-    | inl here ↦ subst (λ e. IfSome (get nat_cmp after e) (IsSo (new.trees receiveds) e)) (sym here)
-        (so_here before after c OneMore (old.trees receiveds) (new.trees receiveds) counts so (λ was h one s. record {
+    | inl here ↦ subst (λ e. IfSome (get nat_cmp after e) (IsSo (rows_of new received) e)) (sym here)
+        (so_here before after c OneMore (rows_of old received) (rows_of new received) counts so (λ was h one s. record {
           reached = one.reached ∙ s.reached ∙ sym (same_reached c);
-          held = one.held ∙ ap (λ n. n + 1) s.held ∙ sym (held_now c ∙ come_here (files_in (old.trees receiveds)) c v bytes fresh (reached_in (old.trees receiveds) c) above);
+          held = one.held ∙ ap (λ n. n + 1) s.held ∙ sym (held_now c ∙ come_here (files_in (rows_of old received)) c v bytes fresh (reached_in (rows_of old received) c) above);
         }))
-    | inr other ↦ so_elsewhere before after c OneMore (old.trees receiveds) (new.trees receiveds) counts so d other (same_reached d)
-        (held_now d ∙ come_elsewhere (files_in (old.trees receiveds)) c v bytes d other (reached_in (old.trees receiveds) d))
+    | inr other ↦ so_elsewhere before after c OneMore (rows_of old received) (rows_of new received) counts so d other (same_reached d)
+        (held_now d ∙ come_elsewhere (files_in (rows_of old received)) c v bytes d other (reached_in (rows_of old received) d))
   ]
 
 module _ (c : ℕ) (verdict : Verdict) (old new : List Row) (before after : Remembered) (judges : IsJudged c (reached_in old c + 1) verdict old new)

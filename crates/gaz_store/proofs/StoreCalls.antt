@@ -1,5 +1,5 @@
 -- What a store's calls tell of it as a keeper that begin, change and end a judgement, and that write without one.
-use Rattle.std.proofs.Common.{◌≡◌, ◌≤◌, ℕ, false, List, Result, Ok, Err, refl, sym, subst}
+use Rattle.std.proofs.Common.{◌≡◌, ◌≤◌, ℕ, List, Result, Ok, Err, refl, sym, subst}
 use Rattle.std.specs.Prelude.{⊤, None, Some}
 use Rattle.sqlite.specs.Effect.{Database}
 use Rattle.sqlite.specs.Held.{state}
@@ -85,7 +85,7 @@ module _ {S R : Type 0} {store : Ghosts S} (register : List ℕ) (old : Store S 
   turns m n t r becomes is code lawful asks ok =
       let a = subst (λ q. AsksTables old.tables t q (λ db x. Turns db m n becomes)) ok asks in
       subst (λ k. Goes (seen_beside register s old.tables.at_hand k old.tables.failures) (seen_in register (record old { tables = t; judging = Open n })) (Ok (tt {0})) ⊤
-      (with_working (content_in s.now.trees (working_of s.now k)) (becomes (working_of s.now k))) None (progress_of k)) (sym is)
+      (with_working (content_in s.now (working_of s.now k)) (becomes (working_of s.now k))) None (progress_of k)) (sym is)
       (goes_on register s (state store t.conn) old.tables.at_hand t.at_hand m n old.tables.failures t.failures becomes lawful code a.asks a.tallies a.at_hand)
 
   -- a fault of the tables breaks the judgement
@@ -105,7 +105,7 @@ module _ {S R : Type 0} {store : Ghosts S} (register : List ℕ) (old : Store S 
       (Some (after_keep (seen_in register old).progress (seen_in register old).content)) keeper.Idle
   keeps m t r is writes ok =
       subst (λ k. Goes (seen_beside register s old.tables.at_hand k old.tables.failures) (seen_in register (record old { tables = t; judging = Idle })) (Ok (tt {0})) ⊤
-      (after_keep (progress_of k) (content_in s.now.trees (working_of s.now k))) (Some (after_keep (progress_of k) (content_in s.now.trees (working_of s.now k)))) keeper.Idle) (sym is)
+      (after_keep (progress_of k) (content_in s.now (working_of s.now k))) (Some (after_keep (progress_of k) (content_in s.now (working_of s.now k)))) keeper.Idle) (sym is)
       (goes_kept register s (state store t.conn) old.tables.at_hand t.at_hand m old.tables.failures t.failures r writes.alters writes.tallies writes.at_hand ok)
 
   pub keeps_not : (m : Judgement) (t : Tables S store) (k : Judging) → k ≡ Broken → (r : Result (Unit {0}) ShelfFault) (e : ShelfFault) → old.judging ≡ Open m
@@ -116,7 +116,7 @@ module _ {S R : Type 0} {store : Ghosts S} (register : List ℕ) (old : Store S 
       subst (λ j. Goes {T = Unit {0}} (seen_in register old) (seen_in register (record old { tables = t; judging = j })) (Err e) ⊤ (after_keep (seen_in register old).progress (seen_in register old).content)
       (Some (after_keep (seen_in register old).progress (seen_in register old).content)) keeper.Idle) (sym broken)
       (subst (λ k. Goes {T = Unit {0}} (seen_beside register s old.tables.at_hand k old.tables.failures) (seen_in register (record old { tables = t; judging = Broken })) (Err e) ⊤
-      (after_keep (progress_of k) (content_in s.now.trees (working_of s.now k))) (Some (after_keep (progress_of k) (content_in s.now.trees (working_of s.now k)))) keeper.Idle) (sym is)
+      (after_keep (progress_of k) (content_in s.now (working_of s.now k))) (Some (after_keep (progress_of k) (content_in s.now (working_of s.now k)))) keeper.Idle) (sym is)
       (goes_not_kept register s (state store t.conn) old.tables.at_hand t.at_hand m old.tables.failures t.failures r writes.alters writes.tallies writes.at_hand e err))
 
   -- a file comes
@@ -126,7 +126,7 @@ module _ {S R : Type 0} {store : Ghosts S} (register : List ℕ) (old : Store S 
   received t k same r c v bytes range not writes =
       subst (λ j. Enters (seen_in register old) (seen_in register (record old { tables = t; judging = j })) r (IsNew (seen_in register old).content c v) (with_received (seen_in register old).content c v bytes)) (sym same)
       (enters_beside register s (state store t.conn) old.tables.at_hand t.at_hand old.judging old.tables.failures t.failures r
-      (λ w. IsNew (content_in s.now.trees w) c v) (λ w. with_received (content_in s.now.trees w) c v bytes) not
+      (λ w. IsNew (content_in s.now w) c v) (λ w. with_received (content_in s.now w) c v bytes) not
       (receive_enters register old.tables t (progress_of old.judging) (progress_of (cleared old.judging)) empty_view r c v bytes range.0 range.1 writes (left_cleared old.judging) (on_ok_all r (not_broken old.judging))))
 
   -- a volume is rejected
@@ -136,5 +136,5 @@ module _ {S R : Type 0} {store : Ghosts S} (register : List ℕ) (old : Store S 
   skipped t k same r c place rule small not writes =
       subst (λ j. Enters (seen_in register old) (seen_in register (record old { tables = t; judging = j })) r (IsAtHand (seen_in register old).content c) (after_skip (seen_in register old).content c place rule)) (sym same)
       (enters_beside register s (state store t.conn) old.tables.at_hand t.at_hand old.judging old.tables.failures t.failures r
-      (λ w. IsAtHand (content_in s.now.trees w) c) (λ w. after_skip (content_in s.now.trees w) c place rule) not
+      (λ w. IsAtHand (content_in s.now w) c) (λ w. after_skip (content_in s.now w) c place rule) not
       (skip_enters register old.tables t (progress_of old.judging) (progress_of (cleared old.judging)) r c place rule small writes (left_cleared old.judging) (on_ok_all r (not_broken old.judging))))

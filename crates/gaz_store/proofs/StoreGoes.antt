@@ -1,5 +1,5 @@
 -- What a store's calls tell of it as a keeper that make and end a judgement.
-use Rattle.std.proofs.Common.{◌≡◌, ◌⊎◌, ◌∙◌, ◌+◌, inl, inr, ℕ, false, List, Result, Ok, Err, OnErr, OnOk, arith, refl, sym, ap, subst, le_refl, true≢false}
+use Rattle.std.proofs.Common.{◌≡◌, ◌⊎◌, ◌∙◌, ◌+◌, inl, inr, ℕ, List, Result, Ok, Err, OnErr, OnOk, arith, refl, sym, ap, subst, le_refl}
 use Rattle.std.specs.Prelude.{⊤, IsSome, IsTrue, None, Some}
 use Rattle.std.specs.FinMap as finite
 use Rattle.std.specs.Option.{option_map_or}
@@ -24,7 +24,8 @@ use Rattle.gaz_overlay.proofs.Making.{changes_make}
 use Rattle.gaz_keeper.specs.Keeper as keeper
 use Rattle.gaz_keeper.specs.Keeper.{Content, Goes, IsAtHand, IsLawful, after_abandon, after_begin, after_stop, with_judgement, with_working}
 use Rattle.gaz_keeper.specs.declared.fault.ShelfFault.{ShelfFault}
-use Rattle.gaz_tables.specs.Schema.{metas, receiveds, versions}
+use Rattle.gaz_tables.specs.Schema.{meta, received, version2}
+use Rattle.gaz_tables.specs.Tables.{rows_of}
 use Rattle.gaz_kept.specs.Contents.{content_in}
 use Rattle.gaz_kept.specs.Files.{files_in, reached_in}
 use Rattle.gaz_kept.specs.Keeping.{AreToldPassages}
@@ -35,6 +36,7 @@ use Rattle.gaz_kept.specs.Stands.{Stands, next_in}
 use Rattle.gaz_kept.specs.Versions.{histories_in}
 use Rattle.gaz_kept.proofs.Boards.{board_reads}
 use Rattle.gaz_kept.proofs.KeepStands.{keep_stands}
+use Rattle.gaz_kept.proofs.SameTrees.{same_content}
 use Rattle.gaz_store.specs.Altering.{Alters, MayWrite}
 use Rattle.gaz_store.specs.Asking.{Asks, Tallies}
 use Rattle.gaz_store.specs.Beside.{Makes, Turns}
@@ -52,7 +54,7 @@ use Rattle.gaz_store.proofs.Whose.{of_volume}
 -- ---- a judgement is given up, or begins
 
 pub goes_idle : (register : List ℕ) (s : State) (a : Remembered) (j : Judging) (f : ℕ)
-    → Goes (seen_beside register s a j f) (seen_beside register s a Idle f) (Ok (tt {0})) ⊤ (after_abandon (content_in s.now.trees (working_of s.now j))) None keeper.Idle
+    → Goes (seen_beside register s a j f) (seen_beside register s a Idle f) (Ok (tt {0})) ⊤ (after_abandon (content_in s.now (working_of s.now j))) None keeper.Idle
 goes_idle register s a j f = record {
   harm = λ h. h;
   stands = λ stood ask h. record {
@@ -89,8 +91,8 @@ module _ (register : List ℕ) (s : State) (a : Remembered) (j : Judging) (f c :
   made_is : view_made db (record { code = c; changes = no_changes; any_passed = None }) ≡ last_in db c
   made_is = nothing (last_in db c)
 
-  pub goes_open : Goes (seen_beside register s a j f) (seen_beside register s a (Open (record { code = c; changes = no_changes; any_passed = None })) f) (Ok (tt {0})) (IsAtHand (content_in db.trees (working_of db j)) c)
-      (after_begin (content_in db.trees (working_of db j)) c) None (keeper.Open c)
+  pub goes_open : Goes (seen_beside register s a j f) (seen_beside register s a (Open (record { code = c; changes = no_changes; any_passed = None })) f) (Ok (tt {0})) (IsAtHand (content_in db (working_of db j)) c)
+      (after_begin (content_in db (working_of db j)) c) None (keeper.Open c)
   goes_open = record {
     harm = λ h. h;
     stands = λ stood ask h. record {
@@ -98,14 +100,14 @@ module _ (register : List ℕ) (s : State) (a : Remembered) (j : Judging) (f c :
         kept = stood.tables.kept;
         whose = stood.tables.whose;
         so = stood.tables.so;
-        lawful = content_lawful db stood.tables.kept _ (subst IsLawfulView (sym made_is) (view_lawful db stood.tables.kept c (reached_in (db.trees receiveds) c)));
+        lawful = content_lawful db stood.tables.kept _ (subst IsLawfulView (sym made_is) (view_lawful db stood.tables.kept c (reached_in (rows_of db received) c)));
       };
       beside = record {
         at_hand = ask;
-        makes = record { made = subst (Make (last_in db c) no_changes) (sym made_is) (changes_make.nothing (last_in db c)); told = told_nothing (histories_in (db.trees versions) c); passed = passed_nothing (db.trees versions) c; known = λ any is. cc };
+        makes = record { made = subst (Make (last_in db c) no_changes) (sym made_is) (changes_make.nothing (last_in db c)); told = told_nothing (histories_in (rows_of db version2) c); passed = passed_nothing (rows_of db version2) c; known = λ any is. cc };
       };
     };
-    done = λ stood ask h. ap (content_in db.trees) (made_is ∙ sym (last_is db stood.tables.kept c));
+    done = λ stood ask h. ap (content_in db) (made_is ∙ sym (last_is db stood.tables.kept c));
     undone = λ stood ask h. tt;
     on = refl;
     broken = tt;
@@ -123,8 +125,9 @@ stays old new r P asks kept k l =
     let s = asks.leaves (λ h. (kept h).tables) in
     record {
       clean = omega (arith, s.clean, l.clean);
-      trees = l.trees;
-      left = elim (s.crash l.clean l.trees l.left) [ inl was ↦ was | inr never ↦ absurd never ];
+      db = l.db;
+      sound = l.sound;
+      left = elim (s.crash l.clean l.db.trees l.left) [ inl was ↦ was | inr never ↦ absurd never ];
       content = l.content;
     }
 
@@ -137,28 +140,28 @@ module _ (register : List ℕ) (old new : State) (a b : Remembered) (m n : Judge
   turned stood h = asks.right h stood.tables.kept w stood.beside.makes
 
   standing : StoreStands register old a (Open m) → IsUnharmed new → (db : Database) → old.now ≡ db
-      → (IsKept db) × (IsOf register (db.trees metas)) × (AreSo b (db.trees receiveds)) × (IsLawful (content_in db.trees (view_made db n))) × (IsUnderWay db n)
+      → (IsKept db) × (IsOf register (rows_of db meta)) × (AreSo b (rows_of db received)) × (IsLawful (content_in db (view_made db n))) × (IsUnderWay db n)
   standing stood h d0 now =
-      subst (λ d. (IsKept d) × (IsOf register (d.trees metas)) × (AreSo b (d.trees receiveds)) × (IsLawful (content_in d.trees (view_made d n))) × (IsUnderWay d n)) now (
+      subst (λ d. (IsKept d) × (IsOf register (rows_of d meta)) × (AreSo b (rows_of d received)) × (IsLawful (content_in d (view_made d n))) × (IsUnderWay d n)) now (
         stood.tables.kept,
         stood.tables.whose,
-        subst (λ r. AreSo r (old.now.trees receiveds)) (sym same) stood.tables.so,
+        subst (λ r. AreSo r (rows_of old.now received)) (sym same) stood.tables.so,
         content_lawful old.now stood.tables.kept _ (subst IsLawfulView (turned stood h).made.is_laid (lawful w stood.tables.lawful.working)),
         record {
-          at_hand = subst (IsAtHand (content_in old.now.trees empty_view)) (sym code) stood.beside.at_hand;
+          at_hand = subst (IsAtHand (content_in old.now empty_view)) (sym code) stood.beside.at_hand;
           makes = subst (Makes old.now n) (turned stood h).made.is_laid (turned stood h);
         },
       )
 
-  pub goes_on : Goes (seen_beside register old a (Open m) f) (seen_beside register new b (Open n) g) (Ok (tt {0})) ⊤ (with_working (content_in old.now.trees w) (becomes w)) None (keeper.Open m.code)
+  pub goes_on : Goes (seen_beside register old a (Open m) f) (seen_beside register new b (Open n) g) (Ok (tt {0})) ⊤ (with_working (content_in old.now w) (becomes w)) None (keeper.Open m.code)
   goes_on = record {
     harm = asks.harm;
     stands = λ stood ask h.
         let s = standing stood h new.now (sym (asks.rests h stood.tables.kept.tables)) in
         record { tables = record { kept = s.0; whose = s.1; so = s.2; lawful = s.3 }; beside = s.4 };
     done = λ stood ask h.
-        ap (λ (db : Database). content_in db.trees (view_made db n)) (asks.rests h stood.tables.kept.tables)
-        ∙ ap (content_in old.now.trees) (sym (turned stood h).made.is_laid);
+        ap (λ (db : Database). content_in db (view_made db n)) (asks.rests h stood.tables.kept.tables)
+        ∙ ap (content_in old.now) (sym (turned stood h).made.is_laid);
     undone = λ stood ask h. tt;
     on = ap keeper.Open code;
     broken = tt;
@@ -178,7 +181,7 @@ goes_wrong {T} register old new a b j f g e one P becomes after asks tallies sam
       let s = standing stood h new.now (sym (asks.rests h stood.tables.kept.tables)) in
       record { tables = record { kept = s.0; whose = s.1; so = s.2; lawful = content_lawful new.now s.0 empty_view lawful_empty }; beside = tt };
   done = λ stood ask h. tt;
-  undone = λ stood ask h. ap (λ (db : Database). content_in db.trees empty_view) (asks.rests h stood.tables.kept.tables);
+  undone = λ stood ask h. ap (λ (db : Database). content_in db empty_view) (asks.rests h stood.tables.kept.tables);
   on = tt;
   broken = refl;
   counts = record { kept = tallies.kept; store = tallies.store; trust = asks.trust };
@@ -187,19 +190,19 @@ goes_wrong {T} register old new a b j f g e one P becomes after asks tallies sam
   whole = λ sound ask. whole_still register old new (asks.leaves (λ h. (sound h).tables.kept.tables));
 }
   where
-    standing : StoreStands register old a j → IsUnharmed new → (db : Database) → old.now ≡ db → (IsKept db) × (IsOf register (db.trees metas)) × (AreSo b (db.trees receiveds))
-    standing stood h d0 now = subst (λ d. (IsKept d) × (IsOf register (d.trees metas)) × (AreSo b (d.trees receiveds))) now (stood.tables.kept, stood.tables.whose, subst (λ r. AreSo r (old.now.trees receiveds)) (sym same) stood.tables.so)
+    standing : StoreStands register old a j → IsUnharmed new → (db : Database) → old.now ≡ db → (IsKept db) × (IsOf register (rows_of db meta)) × (AreSo b (rows_of db received))
+    standing stood h d0 now = subst (λ d. (IsKept d) × (IsOf register (rows_of d meta)) × (AreSo b (rows_of d received))) now (stood.tables.kept, stood.tables.whose, subst (λ r. AreSo r (rows_of old.now received)) (sym same) stood.tables.so)
 
 -- ---- a judgement is kept
 
 module _ (register : List ℕ) (old new : State) (a b : Remembered) (m : Judgement) (f g : ℕ) (r : Result (Unit {0}) ShelfFault)
     (alters : Alters old new r (WhereSo a (AppliesNext m.code m.changes))) (tallies : Tallies f g r)
-    (at_hand : IsUnharmed new → IsKept old.now → AreSo a (old.now.trees receiveds) → IsNextIn m.code old.now → AreSo b (new.now.trees receiveds)) where
+    (at_hand : IsUnharmed new → IsKept old.now → AreSo a (rows_of old.now received) → IsNextIn m.code old.now → AreSo b (rows_of new.now received)) where
   abbrev worked : View
   worked = view_made old.now m
 
   abbrev becomes : Content
-  becomes = with_judgement (content_in old.now.trees worked) m.code (record { verdict = verdict.Applied; view = worked })
+  becomes = with_judgement (content_in old.now worked) m.code (record { verdict = verdict.Applied; view = worked })
 
   abbrev Stood : Type 0
   Stood = StoreStands register old a (Open m)
@@ -210,13 +213,13 @@ module _ (register : List ℕ) (old new : State) (a b : Remembered) (m : Judgeme
       (record { kept = stood.tables.kept; next = refl; at_hand = stood.beside.at_hand; made = stood.beside.makes.made; told = stood.beside.makes.told; passed = stood.beside.makes.passed })
       (applies stood.tables.kept stood.tables.so)
 
-  whose_so : Stood → (db : Database) → WhereSo a (AppliesNext m.code m.changes) old.now db → IsOf register (db.trees metas)
+  whose_so : Stood → (db : Database) → WhereSo a (AppliesNext m.code m.changes) old.now db → IsOf register (rows_of db meta)
   whose_so stood db applies = of_volume register m.code (next_in old.now m.code) m.changes old.now db stood.tables.kept.tables stood.tables.whose (applies stood.tables.kept stood.tables.so)
 
   is_next : Stood → IsNextIn m.code old.now
   is_next stood =
-      subst (λ n. IsSome (finite.get (files_in (old.now.trees receiveds)) (m.code, n + 1)))
-      (board_reads (old.now.trees receiveds) (old.now.trees versions) m.code).reached stood.beside.at_hand
+      subst (λ n. IsSome (finite.get (files_in (rows_of old.now received)) (m.code, n + 1)))
+      (board_reads (rows_of old.now received) (rows_of old.now version2) m.code).reached stood.beside.at_hand
 
   stands_so : Stood → IsUnharmed new → (r : Result (Unit {0}) ShelfFault) → OnOk r (WhereSo a (AppliesNext m.code m.changes) old.now new.now) → OnErr r (new.now ≡ old.now) → StandsFor register new b empty_view
   stands_so stood h (Ok x) applies same =
@@ -224,7 +227,7 @@ module _ (register : List ℕ) (old new : State) (a b : Remembered) (m : Judgeme
       record { kept = s.kept; whose = whose_so stood new.now applies; so = at_hand h stood.tables.kept stood.tables.so (is_next stood); lawful = content_lawful new.now s.kept empty_view lawful_empty }
   stands_so stood h (Err e) applies same =
       let kept = subst IsKept (sym same) stood.tables.kept in
-      record { kept = kept; whose = subst (λ (db : Database). IsOf register (db.trees metas)) (sym same) stood.tables.whose; so = at_hand h stood.tables.kept stood.tables.so (is_next stood); lawful = content_lawful new.now kept empty_view lawful_empty }
+      record { kept = kept; whose = subst (λ (db : Database). IsOf register (rows_of db meta)) (sym same) stood.tables.whose; so = at_hand h stood.tables.kept stood.tables.so (is_next stood); lawful = content_lawful new.now kept empty_view lawful_empty }
 
   stands : Stood → IsUnharmed new → StandsFor register new b empty_view
   stands stood h = stands_so stood h r (alters.done h stood.tables.kept.tables) (alters.undone h stood.tables.kept.tables)
@@ -232,16 +235,16 @@ module _ (register : List ℕ) (old new : State) (a b : Remembered) (m : Judgeme
   may_be : (IsUnharmed old → Stood) → (k : Content) → MayLeave new k → MayLeave old k ⊎ (IsUnharmed old × (k ≡ after_stop becomes))
   may_be sound k l =
       let s = alters.leaves (λ h. (sound h).tables.kept.tables) in
-      elim (s.crash l.clean l.trees l.left) [
-        | inl was ↦ inl (record { clean = omega (arith, s.clean, l.clean); trees = l.trees; left = was; content = l.content })
-        | inr made ↦ inr (made.unharmed, l.content ∙ ap (λ t. content_in t empty_view) made.shown ∙ (kept_so (sound made.unharmed) made.db made.becomes).content)
+      elim (s.crash l.clean l.db.trees l.left) [
+        | inl was ↦ inl (record { clean = omega (arith, s.clean, l.clean); db = l.db; sound = l.sound; left = was; content = l.content })
+        | inr made ↦ inr (let s = kept_so (sound made.unharmed) made.db made.becomes in (made.unharmed, l.content ∙ same_content made.db l.db s.kept l.sound made.shown empty_view ∙ s.content))
       ]
 
   still_whole : (IsUnharmed old → Stood) → LeavesKept register old → LeavesKept register new
   still_whole sound = whole_then register old new (MayWrite old (WhereSo a (AppliesNext m.code m.changes))) (alters.leaves (λ h. (sound h).tables.kept.tables))
-      (λ db made schema.
+      (λ trees made.
       let stood = sound made.unharmed in
-      kept_of register made.db db made.shown schema (kept_so stood made.db made.becomes).kept (whose_so stood made.db made.becomes))
+      kept_of register made.db trees made.shown (kept_so stood made.db made.becomes).kept (whose_so stood made.db made.becomes))
 
   pub goes_kept : r ≡ Ok (tt {0}) → Goes (seen_beside register old a (Open m) f) (seen_beside register new b Idle g) (Ok (tt {0})) ⊤ becomes (Some becomes) keeper.Idle
   goes_kept is = record {
@@ -265,15 +268,17 @@ module _ (register : List ℕ) (old new : State) (a b : Remembered) (m : Judgeme
 
       left_alone : Stood → IsUnharmed new → (k : Content) → MayLeave new k → k ≡ after_stop becomes
       left_alone stood h k l =
-          l.content ∙ ap (λ t. content_in t empty_view) (subst (λ q. OnOk q ((trees : Trees) → new.may_leave trees → trees ≡ new.now.trees)) is (alters.committed h stood.tables.kept.tables) l.trees l.left)
-          ∙ (kept_so stood new.now (done stood h)).content
+          let s = kept_so stood new.now (done stood h) in
+          l.content
+          ∙ same_content new.now l.db s.kept l.sound (subst (λ q. OnOk q ((trees : Trees) → new.may_leave trees → trees ≡ new.now.trees)) is (alters.committed h stood.tables.kept.tables) l.db.trees l.left) empty_view
+          ∙ s.content
 
   pub goes_not_kept : (e : ShelfFault) → r ≡ Err e → Goes {T = Unit {0}} (seen_beside register old a (Open m) f) (seen_beside register new b Broken g) (Err e) ⊤ becomes (Some becomes) keeper.Idle
   goes_not_kept e is = record {
     harm = alters.harm;
     stands = λ stood ask h. record { tables = stands stood h; beside = tt };
     done = λ stood ask h. tt;
-    undone = λ stood ask h. ap (λ (db : Database). content_in db.trees empty_view) (subst (λ q. OnErr q (new.now ≡ old.now)) is (alters.undone h stood.tables.kept.tables));
+    undone = λ stood ask h. ap (λ (db : Database). content_in db empty_view) (subst (λ q. OnErr q (new.now ≡ old.now)) is (alters.undone h stood.tables.kept.tables));
     on = tt;
     broken = refl;
     counts = record { kept = tallies.kept; store = (subst (λ q. Tallies f g q) is tallies).store; trust = alters.trust };

@@ -18,7 +18,8 @@ use Rattle.gaz_kept.proofs.Boards.{board_reads}
 use Rattle.gaz_keeper.specs.Keeper as keeper
 use Rattle.gaz_keeper.specs.Keeper.{IsLawful, IsLeft, Reads, view_of, viewed}
 use Rattle.gaz_keeper.specs.declared.fault.ShelfFault.{ShelfFault}
-use Rattle.gaz_tables.specs.Schema.{metas, receiveds, versions}
+use Rattle.gaz_tables.specs.Schema.{meta, received, version2}
+use Rattle.gaz_tables.specs.Tables.{rows_of}
 use Rattle.gaz_kept.specs.Contents.{board_of, content_in}
 use Rattle.gaz_kept.specs.Files.{files_in, reached_in}
 use Rattle.gaz_kept.specs.Versions.{view_in}
@@ -94,7 +95,7 @@ module _ {T : Type 0} (register : List ℕ) (old new : State) (before after : Re
     (IsRight : Database → T → Type 0) (Q : T → Type 0) (goes_on : GoesOnAs (cleared j) k)
     (beside : IsUnharmed new → IsKept old.now → StandsBeside old.now (cleared j) → StandsBeside old.now k)
     (asks : Asks old new r IsRight) (tallies : Tallies f g r)
-    (at_hand : IsUnharmed new → IsKept old.now → AreSo before (old.now.trees receiveds) → AreSo after (old.now.trees receiveds))
+    (at_hand : IsUnharmed new → IsKept old.now → AreSo before (rows_of old.now received) → AreSo after (rows_of old.now received))
     (goes : (x : T) → StoreStands register old before j → StandsBeside old.now k → IsRight old.now x → Q x) where
   still : StoreStands register old before j → IsUnharmed new → new.now ≡ old.now
   still stood h = asks.rests h stood.tables.kept.tables
@@ -106,11 +107,11 @@ module _ {T : Type 0} (register : List ℕ) (old new : State) (before after : Re
   beside_then stood h = beside h stood.tables.kept (beside_cleared old.now j stood.beside)
 
   abbrev StandsNow : Database → Type 0
-  StandsNow db = (IsKept db) × (IsOf register (db.trees metas)) × (AreSo after (db.trees receiveds)) × (IsLawful (content_in db.trees (working_of db k))) × (StandsBeside db k)
+  StandsNow db = (IsKept db) × (IsOf register (rows_of db meta)) × (AreSo after (rows_of db received)) × (IsLawful (content_in db (working_of db k))) × (StandsBeside db k)
 
   stands_then : StoreStands register old before j → IsUnharmed new → (db : Database) → old.now ≡ db → StandsNow db
   stands_then stood h db same = subst StandsNow same
-      (stood.tables.kept, stood.tables.whose, at_hand h stood.tables.kept stood.tables.so, subst (λ w. IsLawful (content_in old.now.trees w)) (sym (working_then old.now)) stood.tables.lawful, beside_then stood h)
+      (stood.tables.kept, stood.tables.whose, at_hand h stood.tables.kept stood.tables.so, subst (λ w. IsLawful (content_in old.now w)) (sym (working_then old.now)) stood.tables.lawful, beside_then stood h)
 
   pub noted_reads : Reads (seen_beside register old before j f) (seen_beside register new after k g) r Q
   noted_reads = record {
@@ -120,15 +121,16 @@ module _ {T : Type 0} (register : List ℕ) (old new : State) (before after : Re
           let s = stands_then stood h new.now (sym (still stood h)) in
           record { tables = record { kept = s.0; whose = s.1; so = s.2; lawful = s.3 }; beside = s.4 };
       content = λ stood h.
-          ap (λ w. content_in new.now.trees w) (working_then new.now)
-          ∙ ap (λ (db : Database). content_in db.trees (working_of db j)) (still stood h);
+          ap (λ w. content_in new.now w) (working_then new.now)
+          ∙ ap (λ (db : Database). content_in db (working_of db j)) (still stood h);
       progress = subst (IsLeft (progress_of j)) (sym goes_on.progress) (left_cleared j);
       leaves = λ sound k l.
           let s = asks.leaves (λ h. (sound h).tables.kept.tables) in
           record {
             clean = omega (arith, s.clean, l.clean);
-            trees = l.trees;
-            left = elim (s.crash l.clean l.trees l.left) [ inl was ↦ was | inr never ↦ absurd never ];
+            db = l.db;
+            sound = l.sound;
+            left = elim (s.crash l.clean l.db.trees l.left) [ inl was ↦ was | inr never ↦ absurd never ];
             content = l.content;
           };
       whole = λ sound. whole_still register old new (asks.leaves (λ h. (sound h).tables.kept.tables));
@@ -141,7 +143,7 @@ module _ {T : Type 0} (register : List ℕ) (old new : State) (before after : Re
 -- and one that leaves the judgement as it is
 module _ {T : Type 0} (register : List ℕ) (old new : State) (before after : Remembered) (j : Judging) (f g : ℕ) (r : Result T ShelfFault)
     (IsRight : Database → T → Type 0) (Q : T → Type 0) (asks : Asks old new r IsRight) (tallies : Tallies f g r)
-    (at_hand : IsUnharmed new → IsKept old.now → AreSo before (old.now.trees receiveds) → AreSo after (old.now.trees receiveds))
+    (at_hand : IsUnharmed new → IsKept old.now → AreSo before (rows_of old.now received) → AreSo after (rows_of old.now received))
     (goes : (x : T) → StoreStands register old before j → IsRight old.now x → Q x) where
   pub store_reads : Reads (seen_beside register old before j f) (seen_beside register new after (cleared j) g) r Q
   store_reads = noted_reads register old new before after j (cleared j) f g r IsRight Q (goes_on_alone (cleared j)) (λ h kept stands. stands) asks tallies at_hand (λ x stood beside is. goes x stood is)
@@ -149,16 +151,16 @@ module _ {T : Type 0} (register : List ℕ) (old new : State) (before after : Re
 -- ---- what is seen of a custodian
 
 -- elsewhere, its last view
-viewed_last : (db : Database) → IsKept db → (j : Judging) (c : ℕ) → IsElsewhere j c → viewed (progress_of j) (content_in db.trees (working_of db j)) c ≡ last_in db c
+viewed_last : (db : Database) → IsKept db → (j : Judging) (c : ℕ) → IsElsewhere j c → viewed (progress_of j) (content_in db (working_of db j)) c ≡ last_in db c
 viewed_last db kept Idle c other = last_is db kept c
 viewed_last db kept (Open m) c other =
-    ap (λ b. cond b (view_made db m) (keeper.viewed keeper.Idle (content_in db.trees (view_made db m)) c)) (ne_eqb c m.code (λ e. other (sym e)))
+    ap (λ b. cond b (view_made db m) (keeper.viewed keeper.Idle (content_in db (view_made db m)) c)) (ne_eqb c m.code (λ e. other (sym e)))
     ∙ last_is db kept c
 viewed_last db kept Broken c other = last_is db kept c
 
 -- where its volume is judged, the view that the changes make
-viewed_here : (db : Database) (m : Judgement) (c : ℕ) → m.code ≡ c → viewed (keeper.Open m.code) (content_in db.trees (view_made db m)) c ≡ view_made db m
-viewed_here db m c is = ap (λ b. cond b (view_made db m) (keeper.viewed keeper.Idle (content_in db.trees (view_made db m)) c)) (eq-eqb c m.code (sym is))
+viewed_here : (db : Database) (m : Judgement) (c : ℕ) → m.code ≡ c → viewed (keeper.Open m.code) (content_in db (view_made db m)) c ≡ view_made db m
+viewed_here db m c is = ap (λ b. cond b (view_made db m) (keeper.viewed keeper.Idle (content_in db (view_made db m)) c)) (eq-eqb c m.code (sym is))
 
 -- ---- calls of a store
 
@@ -173,14 +175,14 @@ module _ {S R : Type 0} {store : Ghosts S} {T : Type 0} (register : List ℕ) (o
   pub tells : (P : Database → T → Type 0) (Q : T → Type 0) → AsksTables old.tables tables r P → ((x : T) → IsKept db → P db x → Q x) → Tells Q k
   tells P Q asks goes =
       subst (Tells Q) (sym is_cleared)
-      (store_reads register _ _ _ _ old.judging _ _ r P Q asks.asks asks.tallies (λ h kept so. subst (λ m. AreSo m (db.trees receiveds)) (sym asks.at_hand) so)
+      (store_reads register _ _ _ _ old.judging _ _ r P Q asks.asks asks.tallies (λ h kept so. subst (λ m. AreSo m (rows_of db received)) (sym asks.at_hand) so)
       (λ x stood is. goes x stood.tables.kept is))
 
   -- what is at hand, or asked
   pub tells_recalled : (P : Database → T → Type 0) (Q : T → Type 0) → Recalls old.tables tables r P → ((x : T) → IsKept db → P db x → Q x) → Tells Q k
   tells_recalled P Q recalls goes =
       subst (Tells Q) (sym is_cleared)
-      (store_reads register _ _ _ _ old.judging _ _ r (λ d x. AreSo old.tables.at_hand (d.trees receiveds) → P d x) Q recalls.asks recalls.tallies recalls.at_hand
+      (store_reads register _ _ _ _ old.judging _ _ r (λ d x. AreSo old.tables.at_hand (rows_of d received) → P d x) Q recalls.asks recalls.tallies recalls.at_hand
       (λ x stood is. goes x stood.tables.kept (is stood.tables.so)))
 
   -- what is asked of a custodian's last view, while its volume isn't judged
@@ -195,12 +197,12 @@ module _ {S R : Type 0} {store : Ghosts S} {T : Type 0} (register : List ℕ) (o
   tells_beside P c m is own asks =
       subst (Tells (λ x. P (view_of (seen_in register old) c) x)) (sym is_cleared)
       (store_reads register _ _ _ _ old.judging _ _ r (λ d x. Beside d m (λ w. P w x)) (λ x. P (view_of (seen_in register old) c) x) asks.asks asks.tallies
-      (λ h kept so. subst (λ a. AreSo a (db.trees receiveds)) (sym asks.at_hand) so)
+      (λ h kept so. subst (λ a. AreSo a (rows_of db received)) (sym asks.at_hand) so)
       (λ x stood right. by_judging old.judging (open_still old.judging m (sym is_cleared ∙ is)) stood.beside x right))
     where
-      by_judging : (j : Judging) → j ≡ Open m → StandsBeside db j → (x : T) → Beside db m (λ w. P w x) → P (viewed (progress_of j) (content_in db.trees (working_of db j)) c) x
+      by_judging : (j : Judging) → j ≡ Open m → StandsBeside db j → (x : T) → Beside db m (λ w. P w x) → P (viewed (progress_of j) (content_in db (working_of db j)) c) x
       by_judging j same beside x right =
-          subst (λ k. P (viewed (progress_of k) (content_in db.trees (working_of db k)) c) x) (sym same)
+          subst (λ k. P (viewed (progress_of k) (content_in db (working_of db k)) c) x) (sym same)
           (subst (λ v. P v x) (sym (viewed_here db m c own)) (right (view_made db m) (subst (StandsBeside db) same beside).makes))
 
   -- what is asked of its view, whichever it is, once more is known of the judgement
@@ -210,23 +212,23 @@ module _ {S R : Type 0} {store : Ghosts S} {T : Type 0} (register : List ℕ) (o
       → Tells (λ x. P (view_of (seen_in register old) c) x) next
   tells_noted P c next goes_on beside asks =
       noted_reads register _ _ _ _ old.judging next _ _ r (λ d x. IsOfView d next c (λ v. P v x)) (λ x. P (view_of (seen_in register old) c) x) goes_on beside asks.asks asks.tallies
-      (λ h kept so. subst (λ a. AreSo a (db.trees receiveds)) (sym asks.at_hand) so)
+      (λ h kept so. subst (λ a. AreSo a (rows_of db received)) (sym asks.at_hand) so)
       (λ x stood stands right. subst (λ v. P v x) viewed_next (by_judging next stood.tables.kept stands x right))
     where
-      cleared_view : (j : Judging) → viewed (progress_of (cleared j)) (content_in db.trees (working_of db (cleared j))) c ≡ viewed (progress_of j) (content_in db.trees (working_of db j)) c
+      cleared_view : (j : Judging) → viewed (progress_of (cleared j)) (content_in db (working_of db (cleared j))) c ≡ viewed (progress_of j) (content_in db (working_of db j)) c
       cleared_view Idle = refl
       cleared_view (Open m) = refl
       cleared_view Broken = refl
 
-      viewed_next : viewed (progress_of next) (content_in db.trees (working_of db next)) c ≡ viewed (progress_of old.judging) (content_in db.trees (working_of db old.judging)) c
-      viewed_next = (λ i. viewed (goes_on.progress i) (content_in db.trees (goes_on.working db i)) c) ∙ cleared_view old.judging
+      viewed_next : viewed (progress_of next) (content_in db (working_of db next)) c ≡ viewed (progress_of old.judging) (content_in db (working_of db old.judging)) c
+      viewed_next = (λ i. viewed (goes_on.progress i) (content_in db (goes_on.working db i)) c) ∙ cleared_view old.judging
 
-      by_judging : (j : Judging) → IsKept db → StandsBeside db j → (x : T) → IsOfView db j c (λ v. P v x) → P (viewed (progress_of j) (content_in db.trees (working_of db j)) c) x
+      by_judging : (j : Judging) → IsKept db → StandsBeside db j → (x : T) → IsOfView db j c (λ v. P v x) → P (viewed (progress_of j) (content_in db (working_of db j)) c) x
       by_judging Idle kept beside x right = subst (λ v. P v x) (sym (viewed_last db kept Idle c tt)) right
       by_judging Broken kept beside x right = subst (λ v. P v x) (sym (viewed_last db kept Broken c tt)) right
       by_judging (Open m) kept beside x right = by_test (m.code == c) refl
         where
-          by_test : (b : Bool) → (m.code == c) ≡ b → P (viewed (keeper.Open m.code) (content_in db.trees (view_made db m)) c) x
+          by_test : (b : Bool) → (m.code == c) ≡ b → P (viewed (keeper.Open m.code) (content_in db (view_made db m)) c) x
           by_test true is =
               let own = eqb-true m.code c is in
               subst (λ v. P v x) (sym (viewed_here db m c own)) (right.0 own (view_made db m) beside.makes)
@@ -260,25 +262,25 @@ module _ {S R : Type 0} {store : Ghosts S} {T : Type 0} (register : List ℕ) (o
 
 -- how many files wait above the judged ones
 pub tells_held : {S R : Type 0} {store : Ghosts S} (register : List ℕ) (old : Store S R store) (tables : Tables S store) (k : Judging) → k ≡ cleared old.judging → (r : Result ℕ ShelfFault) (c : ℕ)
-    → Recalls old.tables tables r (λ d n. n ≡ held_in (d.trees receiveds) c)
+    → Recalls old.tables tables r (λ d n. n ≡ held_in (rows_of d received) c)
     → Reads (seen_in register old) (seen_in register (record old { tables = tables; judging = k })) r (λ n. n ≡ count_above (seen_in register old).content.files c (reached (seen_in register old).content.board c))
 tells_held {S} {R} {store} register old tables k is_cleared r c recalls =
     let db = (state store old.tables.conn).now in
-    tells_recalled register old tables k is_cleared r (λ d n. n ≡ held_in (d.trees receiveds) c) _ recalls
-    (λ n kept is. is ∙ ap (count_above (files_in (db.trees receiveds)) c) (sym (board_reads (db.trees receiveds) (db.trees versions) c).reached))
+    tells_recalled register old tables k is_cleared r (λ d n. n ≡ held_in (rows_of d received) c) _ recalls
+    (λ n kept is. is ∙ ap (count_above (files_in (rows_of db received)) c) (sym (board_reads (rows_of db received) (rows_of db version2) c).reached))
 
 -- ---- what is read of the board
 
 -- the item at a key after a volume that is reached
 pub at_so : (db : Database) → IsKept db → (c volume : ℕ) (k : Key) (i : Option Item)
-    → (volume ≤ reached_in (db.trees receiveds) c → i ≡ map.get (view_in (db.trees versions) c volume).items k) → IsItemAt (board_of db) c volume k i
+    → (volume ≤ reached_in (rows_of db received) c → i ≡ map.get (view_in (rows_of db version2) c volume).items k) → IsItemAt (board_of db) c volume k i
 at_so db kept c volume k i is le =
-    let within = subst (λ n. volume ≤ n) (board_reads (db.trees receiveds) (db.trees versions) c).reached le in
+    let within = subst (λ n. volume ≤ n) (board_reads (rows_of db received) (rows_of db version2) c).reached le in
     is within ∙ ap (λ v. map.get v.items k) (sym (board_view db kept c volume within))
 
 -- and what last became of a number
 pub custody_at_so : (db : Database) → IsKept db → (c volume uprn : ℕ) (x : Option Custody)
-    → (volume ≤ reached_in (db.trees receiveds) c → x ≡ custody_at (view_in (db.trees versions) c volume) uprn) → IsCustodyAt (board_of db) c volume uprn x
+    → (volume ≤ reached_in (rows_of db received) c → x ≡ custody_at (view_in (rows_of db version2) c volume) uprn) → IsCustodyAt (board_of db) c volume uprn x
 custody_at_so db kept c volume uprn x is le =
-    let within = subst (λ n. volume ≤ n) (board_reads (db.trees receiveds) (db.trees versions) c).reached le in
+    let within = subst (λ n. volume ≤ n) (board_reads (rows_of db received) (rows_of db version2) c).reached le in
     is within ∙ ap (λ v. custody_at v uprn) (sym (board_view db kept c volume within))

@@ -33,7 +33,7 @@ use Rattle.gaz_cells.specs.Columns.{CellsValue, lang_in}
 use Rattle.gaz_cells.proofs.Ids.{ids_back}
 use Rattle.gaz_cells.specs.Ids.{id_of, key_named}
 use Rattle.gaz_overlay.specs.Changes.{Changes}
-use Rattle.gaz_tables.specs.Schema.{receiveds, versions}
+use Rattle.gaz_tables.specs.Schema.{received, version2}
 use Rattle.gaz_tables.specs.Versions as table
 use Rattle.gaz_tables.specs.Versions.{FindsApprovedOn, FindsParts, IsApprovedOn, IsPartOf, id_place, id_shown, lang_shown}
 use Rattle.gaz_kept.specs.Files.{reached_in}
@@ -45,6 +45,7 @@ use Rattle.gaz_store.specs.declared.steps.Step.{Step}
 use Rattle.gaz_store.specs.declared.steps.Step.TheVariants.{Told, Behind}
 use Rattle.gaz_kept.specs.Versions.{item_in, number_in, text_in}
 use Rattle.gaz_tables.specs.Shows.{ShowsPage}
+use Rattle.gaz_tables.specs.Tables.{rows_of}
 use Rattle.gaz_store.proofs.Chosen.{FitJust, chosen_fits, chosen_rises, fit_chosen}
 use Rattle.gaz_store.proofs.Fits.{approved_just, in_lang, key_kind, part_is, parts_just}
 use Rattle.gaz_store.proofs.Holding.{HoldsItem, entry_in_view, entry_of, row_of, said_cells, said_id, said_key, said_text}
@@ -63,17 +64,17 @@ any_none p xs none = by_test (list_any p xs) refl
 -- ---- a page of rows that hold entries behind an id
 
 module _ (db : Database) (kept : IsKept db) (c : ℕ) (kd : Kind) (start : List ℕ) (on : Item → Bool) (Fits : Row → Type 0)
-    (just : FitJust db c (reached_in (db.trees receiveds) c) kd (λ e. on e.1 && is_behind start e.0) Fits)
-    (most : ℕ) (show : Row → Row) (answer : List Row) (found : ShowsPage Fits id_place most show (db.trees versions) answer)
+    (just : FitJust db c (reached_in (rows_of db received) c) kd (λ e. on e.1 && is_behind start e.0) Fits)
+    (most : ℕ) (show : Row → Row) (answer : List Row) (found : ShowsPage Fits id_place most show (rows_of db version2) answer)
     (says : Row → Bool) (passes : Key × Item → Bool)
-    (same_test : (r : Row) (x : Item) → Has (db.trees versions) r → HoldsItem c (reached_in (db.trees receiveds) c) r x → kind_of x ≡ kd → passes (entry_of x) ≡ (on x && says (show r)))
+    (same_test : (r : Row) (x : Item) → Has (rows_of db version2) r → HoldsItem c (reached_in (rows_of db received) c) r x → kind_of x ≡ kd → passes (entry_of x) ≡ (on x && says (show r)))
     (of_kind : (x : Item) → on x ≡ true → kind_of x ≡ kd) (only_on : (e : Key × Item) → passes e ≡ true → on e.1 ≡ true)
     (first_shown : (r : Row) → column (show r) 0 ≡ table.id_of r) where
   abbrev rows : List Row
-  rows = db.trees versions
+  rows = rows_of db version2
 
   abbrev n : ℕ
-  n = reached_in (db.trees receiveds) c
+  n = reached_in (rows_of db received) c
 
   abbrev v : View
   v = last_in db c
@@ -162,7 +163,7 @@ module _ (db : Database) (kept : IsKept db) (c : ℕ) (kd : Kind) (start : List 
 -- at first all are behind
 pub walk_begins : (db : Database) → IsKept db → (c : ℕ) (passes : Key × Item → Bool) → AreBehind passes (last_in db c) []
 walk_begins db kept c passes e there pass =
-    let r = row_of db kept c (reached_in (db.trees receiveds) c) e there in
+    let r = row_of db kept c (reached_in (rows_of db received) c) e there in
     ap (λ (f : Key × Item). is_behind [] f.0) r.3 ∙ all_behind (key_of e.1) (said_key r.0 (kept.rows r.0 r.1) e.1 r.2.item)
 
 -- ---- a page of a street
@@ -180,12 +181,12 @@ an_lpi usrn (item.Release x) on = cc
 an_lpi usrn (item.Adopt x) on = cc
 an_lpi usrn (item.Lpi x) on = refl
 
-module _ (db : Database) (kept : IsKept db) (c usrn : ℕ) (lang : Option Lang) (passed : Option Changes) (start : List ℕ) (most : ℕ) (answer : List Row) (found : FindsApprovedOn c usrn start most (db.trees versions) answer) where
-  lang_cell : (r : Row) (x : Item) → Has (db.trees versions) r → HoldsItem c (reached_in (db.trees receiveds) c) r x → lang_in x ≡ number_in (table.lang_of r)
+module _ (db : Database) (kept : IsKept db) (c usrn : ℕ) (lang : Option Lang) (passed : Option Changes) (start : List ℕ) (most : ℕ) (answer : List Row) (found : FindsApprovedOn c usrn start most (rows_of db version2) answer) where
+  lang_cell : (r : Row) (x : Item) → Has (rows_of db version2) r → HoldsItem c (reached_in (rows_of db received) c) r x → lang_in x ≡ number_in (table.lang_of r)
   lang_cell r x there h = ap (λ (d : CellsValue). d.links.lang) (said_cells r (kept.rows r there) x h.item)
 
   -- the test on an item is that on its row, once it is on the street
-  street_test : (r : Row) (x : Item) → Has (db.trees versions) r → HoldsItem c (reached_in (db.trees receiveds) c) r x → kind_of x ≡ kind.Lpi
+  street_test : (r : Row) (x : Item) → Has (rows_of db version2) r → HoldsItem c (reached_in (rows_of db received) c) r x → kind_of x ≡ kind.Lpi
       → is_left_on usrn lang passed (entry_of x) ≡ (is_approved_on usrn None x && says_left lang passed (lang_shown r))
   street_test r x there h of_kind =
       ap (λ b. b && leaves passed (Some (key_of x)))
@@ -206,8 +207,8 @@ module _ (db : Database) (kept : IsKept db) (c usrn : ℕ) (lang : Option Lang) 
 -- ---- a page of what names a BLPU
 
 module _ (db : Database) (kept : IsKept db) (c : ℕ) (kd : Kind) (kind_entry : is_entry_kind kd ≡ true) (uprn : ℕ) (some : 1 ≤ uprn) (passed : Option Changes) (start : List ℕ) (most : ℕ) (answer : List Row)
-    (found : FindsParts c (number_of kd) (pos uprn) start most (db.trees versions) answer) where
-  part_test : (r : Row) (x : Item) → Has (db.trees versions) r → HoldsItem c (reached_in (db.trees receiveds) c) r x → kind_of x ≡ kd
+    (found : FindsParts c (number_of kd) (pos uprn) start most (rows_of db version2) answer) where
+  part_test : (r : Row) (x : Item) → Has (rows_of db version2) r → HoldsItem c (reached_in (rows_of db received) c) r x → kind_of x ≡ kd
       → is_left_part kd uprn passed (entry_of x) ≡ (is_of_blpu kd uprn x && names_left kd passed (id_shown r))
   part_test r x there h of_kind = ap (λ k. is_of_blpu kd uprn x && leaves passed k) (sym (named r (kept.rows r there) x h.item kd of_kind))
 

@@ -35,7 +35,8 @@ use Rattle.gaz_overlay.specs.declared.touch.Stood.TheVariants.{NoRow, Since}
 use Rattle.gaz_overlay.specs.declared.touch.Touch.{Touch}
 use Rattle.gaz_overlay.proofs.Making.{changes_make}
 use Rattle.gaz_overlay.proofs.Questions.{laid_questions}
-use Rattle.gaz_tables.specs.Schema.{receiveds, versions}
+use Rattle.gaz_tables.specs.Schema.{received, version2}
+use Rattle.gaz_tables.specs.Tables.{rows_of}
 use Rattle.gaz_kept.specs.Contents.{content_in}
 use Rattle.gaz_kept.specs.Files.{reached_in}
 use Rattle.gaz_kept.specs.Kept.{IsKept}
@@ -95,12 +96,12 @@ module _ (db : Database) (kept : IsKept db) (j : Judgement) where
   last = last_in db j.code
 
   abbrev rows : List HistoryRow
-  rows = histories_in (db.trees versions) j.code
+  rows = histories_in (rows_of db version2) j.code
 
   pub touched_turns : (k : Key) (stood : Stood) (item : Option Item) → is_touched j.changes k ≡ false → TellsStood rows last k stood item → Turns db j (with_changes j (with_touched j.changes k stood item)) (λ w. w)
   touched_turns k stood item fresh tells w makes = record {
     made = subst (λ o. Make last (with_touched j.changes k stood o) w) (sym tells.is_item)
-        (changes_make.touched last j.changes w (view_lawful db kept j.code (reached_in (db.trees receiveds) j.code)) makes.made k stood fresh tells.is_stood);
+        (changes_make.touched last j.changes w (view_lawful db kept j.code (reached_in (rows_of db received) j.code)) makes.made k stood fresh tells.is_stood);
     told = told_touched rows j.changes k stood item makes.told tells.current;
     passed = makes.passed;
     known = makes.known;
@@ -126,7 +127,7 @@ left_entries s p (e ∷ es) = by_test (left_entries s p es) (p e.1)
 
 pub stands_on : (db : Database) (m n : Judgement) → n.code ≡ m.code → n.changes ≡ m.changes → Turns db m n (λ w. w) → IsUnderWay db m → IsUnderWay db n
 stands_on db m n code changes turns stands = record {
-  at_hand = subst (IsAtHand (content_in db.trees empty_view)) (sym code) stands.at_hand;
+  at_hand = subst (IsAtHand (content_in db empty_view)) (sym code) stands.at_hand;
   makes = subst (Makes db n) (λ i. laid (last_in db (sym code i)) (sym changes i).view) (turns (view_made db m) stands.makes);
 }
 

@@ -16,7 +16,8 @@ use Rattle.gaz_keeper.specs.Board.{verdict_on}
 use Rattle.gaz_sql_facts.proofs.Lists.{has_permuted, permuted_has}
 use Rattle.gaz_tables.specs.Receiveds as table
 use Rattle.gaz_tables.specs.Receiveds.{FindsVerdict, IsVolume, verdict_shown}
-use Rattle.gaz_tables.specs.Schema.{receiveds, versions}
+use Rattle.gaz_tables.specs.Schema.{received, version2}
+use Rattle.gaz_tables.specs.Tables.{rows_of}
 use Rattle.gaz_store.specs.Answers.{SaysVerdict}
 use Rattle.gaz_kept.specs.Contents.{board_in}
 use Rattle.gaz_kept.specs.Files.{custodian_in, judged_in, judged_volumes, verdict_in, volume_in}
@@ -78,8 +79,8 @@ module _ (c v : ℕ) (rows answer : List Row) (are : AreFiles rows) (found : Fin
           said ∙ sym (one_there r (subst (λ l. Has l r) (sym is) (inl refl)))
 
 -- and so it is that on the board
-pub verdict_told : (c v : ℕ) (db : Database) (answer : List Row) → IsKept db → FindsVerdict c v (db.trees receiveds) answer → (x : Option Verdict) → SaysVerdict answer x
-    → x ≡ verdict_on (board_in (db.trees receiveds) (db.trees versions)) c v
+pub verdict_told : (c v : ℕ) (db : Database) (answer : List Row) → IsKept db → FindsVerdict c v (rows_of db received) answer → (x : Option Verdict) → SaysVerdict answer x
+    → x ≡ verdict_on (board_in (rows_of db received) (rows_of db version2)) c v
 verdict_told c v db answer kept found x says =
-    says_judged c v (db.trees receiveds) answer (are_files db kept) found x says
-    ∙ sym ((board_reads (db.trees receiveds) (db.trees versions) c).verdict (kept.first c) v)
+    says_judged c v (rows_of db received) answer (are_files db kept) found x says
+    ∙ sym ((board_reads (rows_of db received) (rows_of db version2) c).verdict (kept.first c) v)

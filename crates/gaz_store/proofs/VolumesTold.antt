@@ -14,7 +14,8 @@ use Rattle.sqlite_rules.proofs.ProbeLemmas.{mapped_has}
 use Rattle.gaz_keeper.proofs.Pairs.{pairs_exact, pairs_total}
 use Rattle.gaz_sql_facts.proofs.Lists.{has_permuted, permuted_has}
 use Rattle.gaz_tables.specs.Receiveds.{FindsAbove, IsAbove, bytes_of, volume_of, volume_shown}
-use Rattle.gaz_tables.specs.Schema.{receiveds}
+use Rattle.gaz_tables.specs.Schema.{received}
+use Rattle.gaz_tables.specs.Tables.{rows_of}
 use Rattle.gaz_kept.specs.Files.{bytes_in, custodian_in, file_in, files_in, volume_in}
 use Rattle.gaz_kept.specs.Judging.{AreFiles}
 use Rattle.gaz_kept.specs.Kept.{IsKept}
@@ -102,14 +103,14 @@ module _ (c v : ℕ) (rows answer : List Row) (are : AreFiles rows) (found : Fin
   }
 
 -- none is above the last volume
-pub none_above : (db : Database) → IsKept db → (c v : ℕ) (volumes : List ℕ) → 999_999 < v → volumes ≡ [] → TellsVolumes (files_in (db.trees receiveds)) c v volumes
-none_above db kept c v volumes late none = subst (TellsVolumes (files_in (db.trees receiveds)) c v) (sym none) (record {
+pub none_above : (db : Database) → IsKept db → (c v : ℕ) (volumes : List ℕ) → 999_999 < v → volumes ≡ [] → TellsVolumes (files_in (rows_of db received)) c v volumes
+none_above db kept c v volumes late none = subst (TellsVolumes (files_in (rows_of db received)) c v) (sym none) (record {
   received = λ n here. absurd here;
   higher = λ n here. absurd here;
   complete = λ n last some above here le. absurd here;
   rising = tt;
   ends = λ empty n above some.
-      let r = row_of (db.trees receiveds) (are_files db kept) c n some in
+      let r = row_of (rows_of db received) (are_files db kept) c n some in
       let last = (kept.files r.row r.there).last in
       let is : volume_in r.row ≡ n = ap number_in r.is.of_volume in
       absurd (omega (arith, late, above, last, is));

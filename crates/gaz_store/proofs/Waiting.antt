@@ -27,7 +27,8 @@ use Rattle.gaz_keeper.specs.Board.{Board, Judgement, reached, verdict_on}
 use Rattle.gaz_keeper.specs.Received.{count_above}
 use Rattle.gaz_sql_facts.proofs.Lists.{has_permuted, permuted_has}
 use Rattle.gaz_tables.specs.Receiveds.{FindsAbove, IsAbove, bytes_of, volume_of, volume_shown}
-use Rattle.gaz_tables.specs.Schema.{receiveds, versions}
+use Rattle.gaz_tables.specs.Schema.{received, version2}
+use Rattle.gaz_tables.specs.Tables.{rows_of}
 use Rattle.gaz_kept.specs.Contents.{board_of}
 use Rattle.gaz_kept.specs.Files.{bytes_in, custodian_in, file_in, files_in, judged_in, reached_in, volume_in}
 use Rattle.gaz_kept.specs.Judging.{AreFiles, BoardReads}
@@ -138,9 +139,9 @@ is_judged board c t = by_place (slice_get_cases (board c) t).1
     by_place (inr past) = let le = past.0 in ap (λ o. is_some (option_map (λ (j : Judgement). j.verdict) o)) past.1 ∙ sym (lt-leb (suc t) (length (board c)) (omega (arith, le)))
 
 -- whether a volume is judged tells whether it is reached
-pub judged_upto : (db : Database) (c v : ℕ) (x : Option Verdict) → 1 ≤ v → x ≡ verdict_on (board_of db) c v → is_some x ≡ nat_le v (reached_in (db.trees receiveds) c)
+pub judged_upto : (db : Database) (c v : ℕ) (x : Option Verdict) → 1 ≤ v → x ≡ verdict_on (board_of db) c v → is_some x ≡ nat_le v (reached_in (rows_of db received) c)
 judged_upto db c zero x first is = absurd (omega arith)
-judged_upto db c (suc t) x first is = ap is_some is ∙ is_judged (board_of db) c t ∙ ap (nat_le (suc t)) (board_reads (db.trees receiveds) (db.trees versions) c).reached
+judged_upto db c (suc t) x first is = ap is_some is ∙ is_judged (board_of db) c t ∙ ap (nat_le (suc t)) (board_reads (rows_of db received) (rows_of db version2) c).reached
 
 -- the row of a judged volume
 record IsJudgedRow (c v : ℕ) (rows : List Row) : Type 0 where
@@ -149,26 +150,26 @@ record IsJudgedRow (c v : ℕ) (rows : List Row) : Type 0 where
   cust : custodian_in row ≡ c
   volume : volume_in row ≡ v
 
-judged_row : (db : Database) → IsKept db → (c t : ℕ) → suc t ≤ reached_in (db.trees receiveds) c → IsJudgedRow c (suc t) (db.trees receiveds)
+judged_row : (db : Database) → IsKept db → (c t : ℕ) → suc t ≤ reached_in (rows_of db received) c → IsJudgedRow c (suc t) (rows_of db received)
 judged_row db kept c t le = by_verdict (verdict_on (board_of db) c (suc t)) refl (is_judged (board_of db) c t ∙ le-leb (suc t) (reached (board_of db) c) (omega (arith, reads.reached, le)))
   where
-    reads : BoardReads (db.trees receiveds) (db.trees versions) c
-    reads = board_reads (db.trees receiveds) (db.trees versions) c
+    reads : BoardReads (rows_of db received) (rows_of db version2) c
+    reads = board_reads (rows_of db received) (rows_of db version2) c
 
-    by_verdict : (o : Option Verdict) → verdict_on (board_of db) c (suc t) ≡ o → is_some o ≡ true → IsJudgedRow c (suc t) (db.trees receiveds)
+    by_verdict : (o : Option Verdict) → verdict_on (board_of db) c (suc t) ≡ o → is_some o ≡ true → IsJudgedRow c (suc t) (rows_of db received)
     by_verdict None is some = let clash : false ≡ true = some in absurd (cc)
     by_verdict (Some w) is some =
-        let entries = filter_map (judged_in c) (db.trees receiveds) in
+        let entries = filter_map (judged_in c) (rows_of db received) in
         let entry = pairs.found nat_cmp_total exact_unsigned (suc t) entries w (sym (finite.get-from_entries nat_cmp_total entries (suc t)) ∙ sym (reads.verdict (kept.first c) (suc t)) ∙ is) in
-        let r = read_from (judged_in c) (db.trees receiveds) (suc t, w) entry in
+        let r = read_from (judged_in c) (rows_of db received) (suc t, w) entry in
         let said = said_by c r.0 (suc t) w r.2 in
         record { row = r.0; there = r.1; cust = said.custodian; volume = said.volume }
 
 -- it isn't beyond the last volume
-pub reached_within : (db : Database) → IsKept db → (c : ℕ) → reached_in (db.trees receiveds) c ≤ 999_999
-reached_within db kept c = by_count (reached_in (db.trees receiveds) c) refl
+pub reached_within : (db : Database) → IsKept db → (c : ℕ) → reached_in (rows_of db received) c ≤ 999_999
+reached_within db kept c = by_count (reached_in (rows_of db received) c) refl
   where
-    by_count : (n : ℕ) → reached_in (db.trees receiveds) c ≡ n → reached_in (db.trees receiveds) c ≤ 999_999
+    by_count : (n : ℕ) → reached_in (rows_of db received) c ≡ n → reached_in (rows_of db received) c ≤ 999_999
     by_count zero is = omega (arith, is)
     by_count (suc t) is =
         let r = judged_row db kept c t (omega (arith, is)) in
@@ -176,12 +177,12 @@ reached_within db kept c = by_count (reached_in (db.trees receiveds) c) refl
         omega (arith, is, r.volume, last)
 
 -- and it was received
-pub judged_there : (db : Database) → IsKept db → (c v : ℕ) → 1 ≤ v → v ≤ reached_in (db.trees receiveds) c → IsSome (finite.get (files_in (db.trees receiveds)) (c, v))
+pub judged_there : (db : Database) → IsKept db → (c v : ℕ) → 1 ≤ v → v ≤ reached_in (rows_of db received) c → IsSome (finite.get (files_in (rows_of db received)) (c, v))
 judged_there db kept c zero first le = absurd (omega arith)
 judged_there db kept c (suc t) first le =
     let r = judged_row db kept c t le in
     let keys : key_in r.row ≡ (c, suc t) = λ i. (r.cust i, r.volume i) in
     let are = are_files db kept in
-    let there_is = finite.get-from_entries pairs_total (map file_in (db.trees receiveds)) (key_in r.row)
-    ∙ at_one pairs_total pairs_exact (key_in r.row) (map file_in (db.trees receiveds)) (bytes_in (bytes_of r.row)) (single_files (db.trees receiveds) are) (mapped_has file_in (db.trees receiveds) r.row r.there) in
-    subst (λ (p : ℕ × ℕ). IsSome (finite.get (files_in (db.trees receiveds)) p)) keys (subst IsSome (sym there_is) refl)
+    let there_is = finite.get-from_entries pairs_total (map file_in (rows_of db received)) (key_in r.row)
+    ∙ at_one pairs_total pairs_exact (key_in r.row) (map file_in (rows_of db received)) (bytes_in (bytes_of r.row)) (single_files (rows_of db received) are) (mapped_has file_in (rows_of db received) r.row r.there) in
+    subst (λ (p : ℕ × ℕ). IsSome (finite.get (files_in (rows_of db received)) p)) keys (subst IsSome (sym there_is) refl)

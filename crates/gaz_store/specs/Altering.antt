@@ -6,8 +6,9 @@ use Rattle.sqlite.specs.State.{HasCleanDisk, State, Survives}
 use Rattle.sqlite_trees.specs.Tree.{Trees}
 use Rattle.sqlite_trees.specs.declared.store.Store.{Ghosts}
 use Rattle.gaz_keeper.specs.declared.fault.ShelfFault.{ShelfFault}
-use Rattle.gaz_tables.specs.Schema.{receiveds}
+use Rattle.gaz_tables.specs.Schema.{received}
 use Rattle.gaz_tables.specs.Stores.{HasTables}
+use Rattle.gaz_tables.specs.Tables.{rows_of}
 use Rattle.gaz_kept.specs.Kept.{IsKept}
 use Rattle.gaz_store.specs.Asking.{Tallies}
 use Rattle.gaz_store.specs.Remembered.{AreSo}
@@ -48,6 +49,6 @@ pub record Writes {S : Type 0} {store : Ghosts S} {T : Type 0} (old new : Tables
   pub alters : Alters (state store old.conn) (state store new.conn) result Becomes
   pub tallies : Tallies old.failures new.failures result
   pub at_hand : IsUnharmed (state store new.conn) → IsKept (state store old.conn).now
-      → AreSo old.at_hand ((state store old.conn).now.trees receiveds)
+      → AreSo old.at_hand (rows_of (state store old.conn).now received)
       → IsAsked (state store old.conn).now
-      → AreSo new.at_hand ((state store new.conn).now.trees receiveds)
+      → AreSo new.at_hand (rows_of (state store new.conn).now received)

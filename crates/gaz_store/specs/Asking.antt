@@ -8,8 +8,9 @@ use Rattle.sqlite.specs.State.{HasCleanDisk, State, Survives}
 use Rattle.sqlite_trees.specs.declared.store.Store.{Ghosts}
 use Rattle.gaz_keeper.specs.declared.fault.ShelfFault.{ShelfFault}
 use Rattle.gaz_keeper.specs.declared.fault.ShelfFault.TheVariants.{Store}
-use Rattle.gaz_tables.specs.Schema.{receiveds}
+use Rattle.gaz_tables.specs.Schema.{received}
 use Rattle.gaz_tables.specs.Stores.{HasTables}
+use Rattle.gaz_tables.specs.Tables.{rows_of}
 use Rattle.gaz_kept.specs.Kept.{IsKept}
 use Rattle.gaz_store.specs.Remembered.{AreSo}
 use Rattle.gaz_store.specs.Seen.{IsSettled, IsUnharmed}
@@ -44,11 +45,11 @@ pub record AsksTables {S : Type 0} {store : Ghosts S} {T : Type 0} (old new : Ta
 pub record Recalls {S : Type 0} {store : Ghosts S} {T : Type 0} (old new : Tables S store)
     (result : Result T ShelfFault) (IsRight : Database → T → Type 0) : Type 0 where
   pub asks : Asks (state store old.conn) (state store new.conn) result
-      (λ db x. AreSo old.at_hand (db.trees receiveds) → IsRight db x)
+      (λ db x. AreSo old.at_hand (rows_of db received) → IsRight db x)
   pub tallies : Tallies old.failures new.failures result
   pub at_hand : IsUnharmed (state store new.conn) → IsKept (state store old.conn).now
-      → AreSo old.at_hand ((state store old.conn).now.trees receiveds)
-      → AreSo new.at_hand ((state store old.conn).now.trees receiveds)
+      → AreSo old.at_hand (rows_of (state store old.conn).now received)
+      → AreSo new.at_hand (rows_of (state store old.conn).now received)
 
 -- ---- within a call
 

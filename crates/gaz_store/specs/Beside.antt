@@ -7,7 +7,8 @@ use Rattle.gaz_views.specs.Numbered.{as_blpu}
 use Rattle.gaz_views.specs.View.{View, with_adoption}
 use Rattle.gaz_overlay.specs.Over.{Make}
 use Rattle.gaz_overlay.specs.Rows.{AreTold}
-use Rattle.gaz_tables.specs.Schema.{versions}
+use Rattle.gaz_tables.specs.Schema.{version2}
+use Rattle.gaz_tables.specs.Tables.{rows_of}
 use Rattle.gaz_kept.specs.Keeping.{AreToldPassages}
 use Rattle.gaz_kept.specs.LastViews.{last_in}
 use Rattle.gaz_kept.specs.Versions.{histories_in}
@@ -18,8 +19,8 @@ use Rattle.gaz_store.specs.declared.judgement.Judgement.{Judgement}
 -- which passages are current; and what is known of whether a number was passed on is so
 pub record Makes (db : Database) (j : Judgement) (working : View) : Type 0 where
   pub made : Make (last_in db j.code) j.changes working
-  pub told : AreTold j.changes (histories_in (db.trees versions) j.code)
-  pub passed : AreToldPassages j.changes (db.trees versions) j.code
+  pub told : AreTold j.changes (histories_in (rows_of db version2) j.code)
+  pub passed : AreToldPassages j.changes (rows_of db version2) j.code
   pub known : MayKnow j.any_passed db j.code
 
 -- after a call the changes make another working view of the same last one

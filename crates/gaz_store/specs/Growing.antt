@@ -4,6 +4,7 @@ use Rattle.std.specs.Prelude.{OnOk, IsTrue}
 use Rattle.sqlite.specs.Effect.{Database}
 use Rattle.sqlite.specs.Held.{Held, state}
 use Rattle.sqlite.specs.State.{HasCleanDisk, State}
+use Rattle.sqlite_trees.specs.Tree.{Trees}
 use Rattle.sqlite_trees.specs.declared.store.Store.{Ghosts}
 use Rattle.gaz_register.specs.Growing.{Extends, growth_of}
 use Rattle.gaz_register.specs.Registers.{RegisterValue}
@@ -13,8 +14,10 @@ use Rattle.gaz_register.specs.declared.growth.GrowFault.TheVariants as growth
 use Rattle.gaz_keeper.specs.Keeper.{Broken, Counts, IsLeft, IsSound, LeavesAtMost, LeavesJust, Seen}
 use Rattle.gaz_keeper.specs.declared.fault.ShelfFault.{ShelfFault}
 use Rattle.gaz_keeper.specs.declared.fault.ShelfFault.TheVariants as shelf
-use Rattle.gaz_tables.specs.Schema.{metas, store_schema}
+use Rattle.gaz_sql_facts.specs.Changes.{AreTreesOf}
+use Rattle.gaz_tables.specs.Schema.{meta}
 use Rattle.gaz_tables.specs.Stores.{HasTables}
+use Rattle.gaz_tables.specs.Tables.{rows_of}
 use Rattle.gaz_kept.specs.Kept.{IsKept}
 use Rattle.gaz_kept.specs.Opening.{IsOf}
 use Rattle.gaz_kept.specs.Rewriting.{Registers}
@@ -73,12 +76,12 @@ pub record KeepsContent (old new : Seen) (result : Result (Unit {0}) ExtendFault
 -- the tables of a database are those of a store of one of two registers
 pub record IsKeptOfEither (one other : List ℕ) (db : Database) : Type 0 where
   pub kept : IsKept db
-  pub whose : IsOf one (db.trees metas) ⊎ IsOf other (db.trees metas)
+  pub whose : IsOf one (rows_of db meta) ⊎ IsOf other (rows_of db meta)
 
 -- where a stop left a store of the one, it leaves a store of one of them
 abbrev pub LeavesEither : Seen → State → List ℕ → List ℕ → Type 0
-LeavesEither old now one other = IsSound old → old.whole → (db : Database) → HasCleanDisk now
-    → now.may_leave db.trees → db.schema ≡ store_schema → IsKeptOfEither one other db
+LeavesEither old now one other = IsSound old → old.whole → (trees : Trees) → HasCleanDisk now
+    → now.may_leave trees → AreTreesOf (IsKeptOfEither one other) trees
 
 -- the row of `meta` gets the text of the register and that is committed, or a fault changes nothing
 abbrev pub WritesRegister : State → State → RegisterValue → Result (Unit {0}) ExtendFault → Type 0
@@ -97,15 +100,15 @@ TellsGrowth old grown (Err Memory) = ⊤
 module _ {S : Type 0} (g : Ghosts S) (before after : Held S) where
   -- the only row of `meta` was of this register, and is of that one
   abbrev pub WasOf : RegisterValue → Type 0
-  WasOf register = IsOf (register_text register) ((state g before).now.trees metas)
+  WasOf register = IsOf (register_text register) (rows_of (state g before).now meta)
 
   abbrev pub NowOf : RegisterValue → Type 0
-  NowOf register = IsOf (register_text register) ((state g after).now.trees metas)
+  NowOf register = IsOf (register_text register) (rows_of (state g after).now meta)
 
   -- whether it was of this text, as it is told
   abbrev pub TellsWhose : List ℕ → Result Bool ShelfFault → Type 0
   TellsWhose register result = HasCleanDisk (state g after) → HasTables (state g before).now
-      → IfOk result (λ b. IsTrue b ↔ IsOf register ((state g before).now.trees metas))
+      → IfOk result (λ b. IsTrue b ↔ IsOf register (rows_of (state g before).now meta))
 
   -- `OtherRegister` where it wasn't of the old register, before anything is looked for; then it is
   -- of the grown one just where that is told

@@ -6,8 +6,9 @@ use Rattle.sqlite.specs.Order.{Row}
 use Rattle.sqlite_trees.specs.declared.store.Store.{Ghosts}
 use Rattle.gaz_records.specs.declared.item.Item.{Item}
 use Rattle.gaz_tables.specs.Rowids.{rowid_of}
-use Rattle.gaz_tables.specs.Schema.{versions}
+use Rattle.gaz_tables.specs.Schema.{version2}
 use Rattle.gaz_tables.specs.Versions.{born_of, cust_of, gone_of}
+use Rattle.gaz_tables.specs.Tables.{rows_of}
 use Rattle.gaz_overlay.specs.Passages.{PassageRow}
 use Rattle.gaz_kept.specs.Versions.{item_in, living, number_in, passages_in}
 use Rattle.gaz_loaded.specs.Lives.{Told}
@@ -28,9 +29,9 @@ told_in r = option_map (told_with r) (item_in r)
 
 -- what the rows of `version2` tell
 abbrev pub lives_kept : {S R : Type 0} → {store : Ghosts S} → Store S R store → List Told
-lives_kept t = filter_map told_in ((database_of t).trees versions)
+lives_kept t = filter_map told_in (rows_of (database_of t) version2)
 
 -- and of a custodian's numbers
 abbrev pub passages_kept : {S R : Type 0} → {store : Ghosts S} → Store S R store → ℕ
     → List PassageRow
-passages_kept t c = passages_in ((database_of t).trees versions) c
+passages_kept t c = passages_in (rows_of (database_of t) version2) c

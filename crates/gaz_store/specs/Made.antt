@@ -11,8 +11,9 @@ use Rattle.gaz_records.specs.declared.item.Item.{Item}
 use Rattle.gaz_keeper.specs.Board.{reached}
 use Rattle.gaz_overlay.specs.Rows as rows
 use Rattle.gaz_overlay.specs.Rows.{HistoryRow}
-use Rattle.gaz_tables.specs.Schema.{receiveds, versions}
+use Rattle.gaz_tables.specs.Schema.{received, version2}
 use Rattle.gaz_tables.specs.Versions.{born_of, cust_of, gone_of}
+use Rattle.gaz_tables.specs.Tables.{rows_of}
 use Rattle.gaz_kept.specs.Contents.{board_of}
 use Rattle.gaz_kept.specs.Files.{reached_in}
 use Rattle.gaz_kept.specs.Kept.{AreInTurn, ArePassages, IsKept}
@@ -60,24 +61,25 @@ own_key r x (Some y) is =
 
 -- and the board's views are made of it
 board_of_told : (db : Database) → IsKept db
-    → AreOf (filter_map told_in (db.trees versions)) (passages_in (db.trees versions)) (board_of db)
+    → AreOf (filter_map told_in (rows_of db version2)) (passages_in (rows_of db version2))
+    (board_of db)
 board_of_told db kept = record {
   own = λ x there.
-      let r = read_from told_in (db.trees versions) x there in
+      let r = read_from told_in (rows_of db version2) x there in
       own_key r.0 x (item_in r.0) r.2;
-  apart = λ c. subst AreInTurn (sym (lives_are c (db.trees versions))) (kept.histories c).apart;
+  apart = λ c. subst AreInTurn (sym (lives_are c (rows_of db version2))) (kept.histories c).apart;
   passed = λ c.
-      subst (λ n. ArePassages n (passages_in (db.trees versions) c)) (sym (reached_so c))
+      subst (λ n. ArePassages n (passages_in (rows_of db version2) c)) (sym (reached_so c))
       (kept.passages c);
   few = λ c. subst (λ n. n < rows.never) (sym (reached_so c)) (reached_room db c kept);
   views = λ c t le.
       board_view db kept c t (subst (λ n. t ≤ n) (reached_so c) le)
-      ∙ ap (λ l. rows.view_of_rows l (passages_in (db.trees versions) c) t)
-      (sym (lives_are c (db.trees versions)));
+      ∙ ap (λ l. rows.view_of_rows l (passages_in (rows_of db version2) c) t)
+      (sym (lives_are c (rows_of db version2)));
 }
   where
-    reached_so : (c : ℕ) → reached (board_of db) c ≡ reached_in (db.trees receiveds) c
-    reached_so c = (board_reads (db.trees receiveds) (db.trees versions) c).reached
+    reached_so : (c : ℕ) → reached (board_of db) c ≡ reached_in (rows_of db received) c
+    reached_so c = (board_reads (rows_of db received) (rows_of db version2) c).reached
 
 pub kept_are : {S R : Type 0} {store : Ghosts S} (register : List ℕ) (t : Store S R store)
     → (seen_in register t).stands

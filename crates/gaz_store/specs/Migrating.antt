@@ -4,7 +4,8 @@ use Rattle.sqlite.specs.State.{HasCleanDisk, State}
 use Rattle.gaz_views.specs.View.{empty_view}
 use Rattle.gaz_keeper.specs.Keeper.{Idle, LeavesOnly, Seen}
 use Rattle.gaz_tables.specs.Migrating.{HasFirstTables, Migrates}
-use Rattle.gaz_tables.specs.Schema.{metas}
+use Rattle.gaz_tables.specs.Schema.{meta}
+use Rattle.gaz_tables.specs.Tables.{rows_of}
 use Rattle.gaz_kept.specs.Migrated.{IsFirstKept, first_content_in}
 use Rattle.gaz_kept.specs.Opening.{schema_number}
 use Rattle.gaz_kept.specs.OpeningFirst.{IsOfFirst}
@@ -17,10 +18,11 @@ pub record IsMoved (old new : State) (register : List ℕ) (now : Seen) : Type 0
   pub harm : now.unharmed → HasCleanDisk old
   pub becomes : now.unharmed → HasFirstTables old.now
       → Migrates schema_number register old.now new.now
-  pub of_register : now.unharmed → HasFirstTables old.now → IsOfFirst register (old.now.trees metas)
+  pub of_register : now.unharmed → HasFirstTables old.now
+      → IsOfFirst register (rows_of old.now meta)
   pub stands : now.unharmed → IsFirstKept old.now → now.stands
   pub content : now.unharmed → IsFirstKept old.now
-      → now.content ≡ first_content_in old.now.trees empty_view
+      → now.content ≡ first_content_in old.now empty_view
   pub leaves : now.unharmed → IsFirstKept old.now
-      → LeavesOnly (first_content_in old.now.trees empty_view) now
+      → LeavesOnly (first_content_in old.now empty_view) now
   pub whole : now.unharmed → IsFirstKept old.now → now.whole

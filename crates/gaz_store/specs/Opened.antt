@@ -6,7 +6,8 @@ use Rattle.sqlite_trees.specs.declared.store.Store.{Ghosts}
 use Rattle.gaz_views.specs.View.{empty_view}
 use Rattle.gaz_keeper.specs.Keeper.{Idle, LeavesOnly, Seen, empty_content}
 use Rattle.gaz_tables.specs.Creating.{IsBare, no_schema}
-use Rattle.gaz_tables.specs.Schema.{metas}
+use Rattle.gaz_tables.specs.Schema.{meta}
+use Rattle.gaz_tables.specs.Tables.{rows_of}
 use Rattle.gaz_kept.specs.Contents.{content_in}
 use Rattle.gaz_kept.specs.Kept.{IsKept}
 use Rattle.gaz_kept.specs.Opening.{IsOf, Rests}
@@ -23,7 +24,7 @@ pub record IsMade (old new : State) (register : List ℕ) (now : Seen) : Type 0 
   pub content : now.unharmed → IsBare no_schema old.now → now.content ≡ empty_content
   pub leaves : now.unharmed → IsBare no_schema old.now → LeavesOnly empty_content now
   pub whole : now.unharmed → IsBare no_schema old.now → now.whole
-  pub of_register : now.unharmed → IsBare no_schema old.now → IsOf register (new.now.trees metas)
+  pub of_register : now.unharmed → IsBare no_schema old.now → IsOf register (rows_of new.now meta)
 
 -- of a store's tables, as a store of this register: they stand for what they did, and a stop
 -- leaves nothing more
@@ -33,8 +34,8 @@ pub record IsOpened (old new : State) (register : List ℕ) (now : Seen) : Type 
   pub harm : now.unharmed → HasCleanDisk old
   pub rests : HasCleanDisk new → Rests old new
   pub stands : now.unharmed → IsKept old.now → now.stands
-  pub content : now.unharmed → IsKept old.now → now.content ≡ content_in old.now.trees empty_view
-  pub of_register : now.unharmed → IsKept old.now → IsOf register (old.now.trees metas)
+  pub content : now.unharmed → IsKept old.now → now.content ≡ content_in old.now empty_view
+  pub of_register : now.unharmed → IsKept old.now → IsOf register (rows_of old.now meta)
   pub leaves : Survives old new (λ _. ⊥)
   pub whole : LeavesKept register old → now.whole
 

@@ -2,14 +2,14 @@
 use Rattle.std.specs.Prelude.{◌≡◌, ℕ, Bool, false, true, not, List, [], ◌∷◌}
 use Rattle.std.specs.Prelude.{Option, None, Some, is_some}
 use Rattle.sqlite.specs.Effect.{Database}
-use Rattle.sqlite_rules.specs.Lists.{Has}
 use Rattle.gaz_records.specs.declared.key.Key.{Key}
 use Rattle.gaz_records.specs.declared.key.Key.TheVariants as key
 use Rattle.gaz_views.specs.View.{custody_at}
 use Rattle.gaz_overlay.specs.Changes.{is_passed}
 use Rattle.gaz_overlay.specs.Making.{IsSince}
 use Rattle.gaz_overlay.specs.Passages.{PassageRow, has_passed}
-use Rattle.gaz_tables.specs.Schema.{receiveds, versions}
+use Rattle.gaz_tables.specs.Schema.{received, version2}
+use Rattle.gaz_tables.specs.Tables.{rows_of}
 use Rattle.gaz_kept.specs.Files.{reached_in}
 use Rattle.gaz_kept.specs.LastViews.{last_in}
 use Rattle.gaz_kept.specs.NewestPassages.{HasPassage, born_of, custody_of}
@@ -19,11 +19,11 @@ use Rattle.gaz_store.specs.declared.judgement.Judgement.{Judgement}
 
 -- what became of a custodian's numbers
 abbrev pub passages_of : Database → ℕ → List PassageRow
-passages_of db c = passages_in (db.trees versions) c
+passages_of db c = passages_in (rows_of db version2) c
 
 -- a key counts as used because its number was passed on
 abbrev pub was_passed : Database → ℕ → Key → Bool
-was_passed db c k = has_passed (passages_of db c) (reached_in (db.trees receiveds) c) k
+was_passed db c k = has_passed (passages_of db c) (reached_in (rows_of db received) c) k
 
 -- one of a custodian's numbers was passed on
 abbrev pub is_any : List PassageRow → Bool

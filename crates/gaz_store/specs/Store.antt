@@ -49,7 +49,7 @@ working_of db Broken = empty_view
 
 -- it judges a volume that is at hand, and its changes make that view
 pub record IsUnderWay (db : Database) (j : Judgement) : Type 0 where
-  pub at_hand : IsAtHand (content_in db.trees empty_view) j.code
+  pub at_hand : IsAtHand (content_in db empty_view) j.code
   pub makes : Makes db j (view_made db j)
 
 abbrev pub StandsBeside : Database → Judging → Type 0
@@ -73,7 +73,7 @@ pub record StoreStands (register : List ℕ) (s : State) (at_hand : Remembered) 
 
 abbrev pub seen_beside : List ℕ → State → Remembered → Judging → ℕ → Seen
 seen_beside register s at_hand judging failures = record {
-  content = content_in s.now.trees (working_of s.now judging);
+  content = content_in s.now (working_of s.now judging);
   stands = StoreStands register s at_hand judging;
   lawful = λ stood. stood.tables.lawful;
   trusted = HasCleanDisk s;

@@ -1,7 +1,8 @@
 //! A BLPU with its addresses.
 ghost use Rattle.std.specs.Prelude.{◌≡◌, pos};
-ghost use Rattle.gaz_tables.specs.Schema.{versions};
+ghost use Rattle.gaz_tables.specs.Schema.{version2};
 ghost use Rattle.gaz_tables.specs.Versions.{FindsApprovedOf};
+ghost use Rattle.gaz_tables.specs.Tables.{rows_of};
 ghost use Rattle.gaz_views.specs.Words.{address_of, approved_of, property_of};
 ghost use Rattle.gaz_store.specs.Asking.{AsksTables};
 ghost use Rattle.gaz_kept.specs.LastViews.{last_in};
@@ -19,7 +20,7 @@ impl<S: Alter> Tables<S> {
     // The rows of a BLPU's approved LPIs that are current, in whatever order.
     fn approved_rows(&mut self, code: Code, uprn: Uprn) -> Result<Vec<Row>, ShelfFault>
         ensures { AsksTables self.old self.new result
-            (λ db rows. FindsApprovedOf code (pos uprn) (db.trees versions) rows.items) }
+            (λ db rows. FindsApprovedOf code (pos uprn) (rows_of db version2) rows.items) }
     {
         if let Err(fault) = self.ready() {
             return Err(fault);

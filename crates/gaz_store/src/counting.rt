@@ -3,7 +3,8 @@ ghost use Rattle.std.specs.Prelude.{◌≡◌, ◌≤◌, ◌+◌, ⊤, nat_le, 
 ghost use Rattle.gaz_keeper.specs.Board.{reached};
 ghost use Rattle.gaz_keeper.specs.Received.{count_above};
 ghost use Rattle.gaz_tables.specs.Receiveds.{FindsAbove};
-ghost use Rattle.gaz_tables.specs.Schema.{receiveds};
+ghost use Rattle.gaz_tables.specs.Schema.{received};
+ghost use Rattle.gaz_tables.specs.Tables.{rows_of};
 ghost use Rattle.gaz_store.specs.Asking.{AsksTables, Recalls};
 ghost use Rattle.gaz_kept.specs.Contents.{board_of};
 ghost use Rattle.gaz_kept.specs.Files.{files_in, reached_in};
@@ -31,7 +32,7 @@ impl<S: Alter> Tables<S> {
     /// How many files of a custodian wait above the judged ones.
     pub fn held(&mut self, code: Code) -> Result<u64, ShelfFault>
         ensures { Recalls self.old self.new result
-            (λ db n. n ≡ held_in (db.trees receiveds) code) }
+            (λ db n. n ≡ held_in (rows_of db received) code) }
     {
         let at_hand = self.counts(code)?;
         Ok(at_hand.held)
@@ -40,7 +41,7 @@ impl<S: Alter> Tables<S> {
     // How many are judged and how many wait: what is at hand of them, or else what is counted,
     // which is at hand from then on.
     fn counts(&mut self, code: Code) -> Result<AtHand, ShelfFault>
-        ensures { Recalls self.old self.new result (λ db h. IsSo (db.trees receiveds) code h) }
+        ensures { Recalls self.old self.new result (λ db h. IsSo (rows_of db received) code h) }
     {
         if let Some(at_hand) = self.at_hand.get(&code).copied() {
             return Ok(at_hand);
@@ -58,7 +59,7 @@ impl<S: Alter> Tables<S> {
     // How many are judged and how many wait, counted by statements.
     fn count(&mut self, code: Code) -> Result<AtHand, ShelfFault>
         ensures { AsksTables self.old self.new result
-            (λ db h. IsSo (db.trees receiveds) code h) }
+            (λ db h. IsSo (rows_of db received) code h) }
     {
         let reached = self.count_judged(code)?;
         match self.count_above(code, reached) {
@@ -71,7 +72,7 @@ impl<S: Alter> Tables<S> {
     // goes with each that is looked at.
     fn count_judged(&mut self, code: Code) -> Result<u64, ShelfFault>
         ensures asks { AsksTables self.old self.new result
-            (λ db n. n ≡ reached_in (db.trees receiveds) code) }
+            (λ db n. n ≡ reached_in (rows_of db received) code) }
         ensures range { IfOk result (λ n. n ≤ 999_999) }
     {
         let mut reached: u64 = 0;
@@ -91,7 +92,7 @@ impl<S: Alter> Tables<S> {
     fn is_judged(&mut self, code: Code, volume: u64) -> Result<bool, ShelfFault>
         requires { (1 ≤ volume) × (volume ≤ 999_999) }
         ensures { AsksTables self.old self.new result
-            (λ db b. b ≡ nat_le volume (reached_in (db.trees receiveds) code)) }
+            (λ db b. b ≡ nat_le volume (reached_in (rows_of db received) code)) }
     {
         let Some(volume) = Volume::of(volume) else {
             return Err(self.fail());
@@ -104,7 +105,7 @@ impl<S: Alter> Tables<S> {
     fn count_above(&mut self, code: Code, volume: u64) -> Result<u64, ShelfFault>
         requires { volume ≤ 999_999 }
         ensures { AsksTables self.old self.new result
-            (λ db n. n ≡ count_above (files_in (db.trees receiveds)) code volume) }
+            (λ db n. n ≡ count_above (files_in (rows_of db received)) code volume) }
     {
         let rows = self.rows_above(code, volume, MANY)?;
         if rows.len() >= MANY as usize {
@@ -122,7 +123,7 @@ impl<S: Alter> Tables<S> {
     ) -> Result<Vec<Row>, ShelfFault>
         requires { volume ≤ 999_999 }
         ensures { AsksTables self.old self.new result
-            (λ db rows. FindsAbove code volume most (db.trees receiveds) rows.items) }
+            (λ db rows. FindsAbove code volume most (rows_of db received) rows.items) }
     {
         if let Err(fault) = self.ready() {
             return Err(fault);

@@ -1,7 +1,8 @@
 //! What last became of numbers that were passed on.
 ghost use Rattle.std.specs.Prelude.{◌≡◌, ◌≤◌};
 ghost use Rattle.gaz_tables.specs.Custody.{FindsCustody, FindsCustodyUntil};
-ghost use Rattle.gaz_tables.specs.Schema.{receiveds, versions};
+ghost use Rattle.gaz_tables.specs.Schema.{received, version2};
+ghost use Rattle.gaz_tables.specs.Tables.{rows_of};
 ghost use Rattle.gaz_views.specs.View.{custody_at};
 ghost use Rattle.gaz_kept.specs.Files.{reached_in};
 ghost use Rattle.gaz_kept.specs.LastViews.{last_in};
@@ -25,7 +26,7 @@ impl<S: Alter> Tables<S> {
     // The newest row of kind 92 of this id.
     fn custody_rows(&mut self, code: Code, id: &str) -> Result<Vec<Row>, ShelfFault>
         ensures { AsksTables self.old self.new result
-            (λ db rows. FindsCustody code id.now (db.trees versions) rows.items) }
+            (λ db rows. FindsCustody code id.now (rows_of db version2) rows.items) }
     {
         if let Err(fault) = self.ready() {
             return Err(fault);
@@ -43,7 +44,7 @@ impl<S: Alter> Tables<S> {
         id: &str,
     ) -> Result<Vec<Row>, ShelfFault>
         ensures { AsksTables self.old self.new result
-            (λ db rows. FindsCustodyUntil code id.now volume (db.trees versions) rows.items) }
+            (λ db rows. FindsCustodyUntil code id.now volume (rows_of db version2) rows.items) }
     {
         if let Err(fault) = self.ready() {
             return Err(fault);
@@ -77,8 +78,8 @@ impl<S: Alter> Tables<S> {
         uprn: Uprn,
     ) -> Result<Option<Passed>, ShelfFault>
         ensures { AsksTables self.old self.new result
-            (λ db passed. volume ≤ reached_in (db.trees receiveds) code
-            → custody_of passed ≡ custody_at (view_in (db.trees versions) code volume) uprn) }
+            (λ db passed. volume ≤ reached_in (rows_of db received) code
+            → custody_of passed ≡ custody_at (view_in (rows_of db version2) code volume) uprn) }
     {
         let name = match name_of(self.alloc, &Key::Blpu(uprn)) {
             Ok(name) => name,
@@ -108,8 +109,8 @@ impl<S: Alter> Tables<S> {
         uprn: Uprn,
     ) -> Result<Option<Custody>, ShelfFault>
         ensures { AsksTables self.old self.new result
-            (λ db x. volume ≤ reached_in (db.trees receiveds) code
-            → x ≡ custody_at (view_in (db.trees versions) code volume) uprn) }
+            (λ db x. volume ≤ reached_in (rows_of db received) code
+            → x ≡ custody_at (view_in (rows_of db version2) code volume) uprn) }
     {
         let passed = self.passed_until(code, capped(volume), uprn)?;
         Ok(custody_of(&passed))

@@ -5,7 +5,8 @@ ghost use Rattle.sqlite.specs.Order.{column};
 ghost use Rattle.sqlite.specs.declared.types.Value.TheVariants.{Int};
 ghost use Rattle.gaz_keeper.specs.Board.{verdict_on};
 ghost use Rattle.gaz_tables.specs.Receiveds.{FindsFile, FindsVerdict};
-ghost use Rattle.gaz_tables.specs.Schema.{receiveds};
+ghost use Rattle.gaz_tables.specs.Schema.{received};
+ghost use Rattle.gaz_tables.specs.Tables.{rows_of};
 ghost use Rattle.gaz_store.specs.Answers.{SaysBytes, SaysVerdict};
 ghost use Rattle.gaz_store.specs.Asking.{AsksTables};
 ghost use Rattle.gaz_kept.specs.Contents.{board_of};
@@ -27,7 +28,7 @@ impl<S: Alter> Tables<S> {
         volume: Volume,
     ) -> Result<Vec<Row>, ShelfFault>
         ensures { AsksTables self.old self.new result
-            (λ db rows. FindsVerdict code volume (db.trees receiveds) rows.items) }
+            (λ db rows. FindsVerdict code volume (rows_of db received) rows.items) }
     {
         if let Err(fault) = self.ready() {
             return Err(fault);
@@ -55,7 +56,7 @@ impl<S: Alter> Tables<S> {
     /// The bytes of a volume with its state, place and rule, where it was received.
     pub(crate) fn file_rows(&mut self, code: Code, volume: Volume) -> Result<Vec<Row>, ShelfFault>
         ensures { AsksTables self.old self.new result
-            (λ db rows. FindsFile code volume (db.trees receiveds) rows.items) }
+            (λ db rows. FindsFile code volume (rows_of db received) rows.items) }
     {
         if let Err(fault) = self.ready() {
             return Err(fault);
@@ -68,7 +69,7 @@ impl<S: Alter> Tables<S> {
     pub fn received(&mut self, code: Code, volume: Volume) -> Result<Option<Vec<u8>>, ShelfFault>
         ensures { AsksTables self.old self.new result
             (λ db bytes. option_map (λ b. b.items) bytes
-            ≡ map.get (files_in (db.trees receiveds)) (code, volume)) }
+            ≡ map.get (files_in (rows_of db received)) (code, volume)) }
     {
         let rows = self.file_rows(code, volume)?;
         match first_bytes(&rows) {

@@ -3,8 +3,9 @@ ghost use Rattle.std.specs.Prelude.{◌≡◌, true, false, ◌≤◌, is_some};
 ghost use Rattle.std.specs.FinMap as map;
 ghost use Rattle.gaz_cells.specs.Ids.{id_of, kind_in};
 ghost use Rattle.gaz_records.specs.Kinds.{number_of};
-ghost use Rattle.gaz_tables.specs.Schema.{receiveds, versions};
+ghost use Rattle.gaz_tables.specs.Schema.{received, version2};
 ghost use Rattle.gaz_tables.specs.Versions.{FindsNewest, FindsNewestUntil};
+ghost use Rattle.gaz_tables.specs.Tables.{rows_of};
 ghost use Rattle.gaz_views.specs.View.{was_used};
 ghost use Rattle.gaz_store.specs.Asking.{AsksTables};
 ghost use Rattle.gaz_kept.specs.Files.{reached_in};
@@ -28,7 +29,7 @@ impl<S: Alter> Tables<S> {
     // The newest row of a key of this kind and id.
     fn newest_rows(&mut self, code: Code, kind: Kind, id: &str) -> Result<Vec<Row>, ShelfFault>
         ensures { AsksTables self.old self.new result
-            (λ db rows. FindsNewest code (number_of kind) id.now (db.trees versions) rows.items) }
+            (λ db rows. FindsNewest code (number_of kind) id.now (rows_of db version2) rows.items) }
     {
         if let Err(fault) = self.ready() {
             return Err(fault);
@@ -48,7 +49,7 @@ impl<S: Alter> Tables<S> {
         id: &str,
     ) -> Result<Vec<Row>, ShelfFault>
         ensures { AsksTables self.old self.new result (λ db rows. FindsNewestUntil
-            code (number_of kind) id.now volume (db.trees versions) rows.items) }
+            code (number_of kind) id.now volume (rows_of db version2) rows.items) }
     {
         if let Err(fault) = self.ready() {
             return Err(fault);
@@ -62,7 +63,7 @@ impl<S: Alter> Tables<S> {
     /// The newest row of a key, where it has one.
     pub fn newest(&mut self, code: Code, key: &Key) -> Result<Option<Life>, ShelfFault>
         ensures { AsksTables self.old self.new result
-            (λ db life. IsNewest (histories_in (db.trees versions) code) key.now life) }
+            (λ db life. IsNewest (histories_in (rows_of db version2) code) key.now life) }
     {
         let name = match name_of(self.alloc, key) {
             Ok(name) => name,
@@ -83,7 +84,7 @@ impl<S: Alter> Tables<S> {
         key: &Key,
     ) -> Result<Option<Life>, ShelfFault>
         ensures { AsksTables self.old self.new result (λ db life. IsNewestUntil
-            volume (histories_in (db.trees versions) code) key.now life) }
+            volume (histories_in (rows_of db version2) code) key.now life) }
     {
         let name = match name_of(self.alloc, key) {
             Ok(name) => name,
@@ -152,7 +153,8 @@ impl<S: Alter> Tables<S> {
         key: &Key,
     ) -> Result<(Stood, Option<SharedItem>), ShelfFault>
         ensures { AsksTables self.old self.new result (λ db s.
-            TellsStood (histories_in (db.trees versions) code) (last_in db code) key.now s.0 s.1) }
+            TellsStood (histories_in (rows_of db version2) code) (last_in db code)
+            key.now s.0 s.1) }
     {
         let life = self.newest(code, key)?;
         Ok((stood_by(&life), current_in(life)))
@@ -166,8 +168,8 @@ impl<S: Alter> Tables<S> {
         key: &Key,
     ) -> Result<Option<SharedItem>, ShelfFault>
         ensures { AsksTables self.old self.new result
-            (λ db i. volume ≤ reached_in (db.trees receiveds) code
-            → i ≡ map.get (view_in (db.trees versions) code volume).items key.now) }
+            (λ db i. volume ≤ reached_in (rows_of db received) code
+            → i ≡ map.get (view_in (rows_of db version2) code volume).items key.now) }
     {
         let life = self.newest_until(code, capped(volume), key)?;
         Ok(item_after(volume, life))

@@ -4,7 +4,8 @@ ghost use Rattle.gaz_keeper.specs.Keeper.{Reads};
 ghost use Rattle.gaz_loaded.specs.Telling as listed;
 ghost use Rattle.gaz_loaded.specs.Passing as listed_passages;
 ghost use Rattle.gaz_loaded.specs.Telling.{AreEntries};
-ghost use Rattle.gaz_tables.specs.Schema.{versions};
+ghost use Rattle.gaz_tables.specs.Schema.{version2};
+ghost use Rattle.gaz_tables.specs.Tables.{rows_of};
 ghost use Rattle.gaz_store.specs.Listing.{lives_kept, passages_kept};
 ghost use Rattle.gaz_store.specs.Lives.{TablesRest, TellsLives, database_of};
 ghost use Rattle.gaz_store.specs.Store.{seen_in};
@@ -43,7 +44,7 @@ impl<S: Alter, R: OfRegister> Listed for Store<S, R> {
         ensures tells { listed.TellsLives (seen_in R.text) lives_kept self.old self.new
             result place }
         ensures reads { Reads (seen_in R.text self.old) (seen_in R.text self.new) result
-            (λ lives. TellsLives place lives.items ((database_of self.old).trees versions)) }
+            (λ lives. TellsLives place lives.items (rows_of (database_of self.old) version2)) }
         ensures rests { TablesRest R.text self.old self.new }
         ensures entries { IfOk result (λ lives. AreEntries lives.items) }
     {

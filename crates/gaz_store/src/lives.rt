@@ -2,7 +2,8 @@
 ghost use Rattle.std.specs.Prelude.{◌≡◌, true, All, IfOk};
 ghost use Rattle.gaz_records.specs.Items.{is_entry};
 ghost use Rattle.gaz_tables.specs.Rowids.{FindsBehind, FindsFirst, FindsInTurn};
-ghost use Rattle.gaz_tables.specs.Schema.{versions};
+ghost use Rattle.gaz_tables.specs.Schema.{version2};
+ghost use Rattle.gaz_tables.specs.Tables.{rows_of};
 ghost use Rattle.gaz_store.specs.Asking.{AsksTables};
 ghost use Rattle.gaz_store.specs.Lives.{AreEntries, IsRowBehind, TellsLives, TellsPage};
 
@@ -20,7 +21,7 @@ impl<S: Alter> Tables<S> {
     // The rows, by rising rowids: the first so many.
     fn first_rows(&mut self) -> Result<Vec<Row>, ShelfFault>
         ensures { AsksTables self.old self.new result
-            (λ db rows. FindsFirst MOST (db.trees versions) rows.items) }
+            (λ db rows. FindsFirst MOST (rows_of db version2) rows.items) }
     {
         if let Err(fault) = self.ready() {
             return Err(fault);
@@ -32,7 +33,7 @@ impl<S: Alter> Tables<S> {
     // Those behind a rowid.
     fn rows_behind(&mut self, after: i64) -> Result<Vec<Row>, ShelfFault>
         ensures { AsksTables self.old self.new result
-            (λ db rows. FindsBehind after MOST (db.trees versions) rows.items) }
+            (λ db rows. FindsBehind after MOST (rows_of db version2) rows.items) }
     {
         if let Err(fault) = self.ready() {
             return Err(fault);
@@ -44,7 +45,7 @@ impl<S: Alter> Tables<S> {
     // The same, or from the first row.
     fn rows_in_turn(&mut self, after: Option<i64>) -> Result<Vec<Row>, ShelfFault>
         ensures { AsksTables self.old self.new result (λ db rows.
-            FindsInTurn (IsRowBehind after) MOST (db.trees versions) rows.items) }
+            FindsInTurn (IsRowBehind after) MOST (rows_of db version2) rows.items) }
     {
         match after {
             Some(after) => self.rows_behind(after),
@@ -55,7 +56,7 @@ impl<S: Alter> Tables<S> {
     // What a page of the rows behind a rowid tells, or one from the first.
     fn lives_step(&mut self, after: Option<i64>) -> Result<LifePage, ShelfFault>
         ensures asks { AsksTables self.old self.new result
-            (λ db page. TellsPage after (db.trees versions) page) }
+            (λ db page. TellsPage after (rows_of db version2) page) }
         ensures entries { IfOk result AreEntries }
     {
         let rows = self.rows_in_turn(after)?;
@@ -69,7 +70,7 @@ impl<S: Alter> Tables<S> {
     /// most 512. Rows of kind 92 are passed over, also where there is nothing else on a page.
     pub fn lives_behind(&mut self, after: Option<i64>) -> Result<Vec<Life>, ShelfFault>
         ensures asks { AsksTables self.old self.new result
-            (λ db lives. TellsLives after lives.items (db.trees versions)) }
+            (λ db lives. TellsLives after lives.items (rows_of db version2)) }
         ensures entries { IfOk result
             (λ lives. All (λ life. is_entry life.item ≡ true) lives.items) }
     {

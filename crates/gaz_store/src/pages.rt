@@ -3,8 +3,9 @@ ghost use Rattle.std.specs.Prelude.{◌≡◌, ◌≤◌, true, IfOk, Some, opti
 ghost use Rattle.std.specs.String.{string_bytes};
 ghost use Rattle.gaz_keeper.specs.Telling.{IsPageAt};
 ghost use Rattle.gaz_records.specs.Kinds.{is_entry_kind, number_of};
-ghost use Rattle.gaz_tables.specs.Schema.{versions};
+ghost use Rattle.gaz_tables.specs.Schema.{version2};
 ghost use Rattle.gaz_tables.specs.Versions.{FindsHolding};
+ghost use Rattle.gaz_tables.specs.Tables.{rows_of};
 ghost use Rattle.gaz_store.specs.Asking.{AsksTables};
 ghost use Rattle.gaz_kept.specs.Contents.{board_of};
 ghost use Rattle.gaz_store.specs.Paging.{IsPageFrom, IsStart, SayItems, item_said};
@@ -89,7 +90,7 @@ impl<S: Alter> Tables<S> {
     ) -> Result<Vec<Row>, ShelfFault>
         ensures { AsksTables self.old self.new result (λ db rows.
             FindsHolding code (number_of kind) start.now volume most
-            (db.trees versions) rows.items) }
+            (rows_of db version2) rows.items) }
     {
         if let Err(fault) = self.ready() {
             return Err(fault);
@@ -111,7 +112,7 @@ impl<S: Alter> Tables<S> {
     ) -> Result<Vec<Row>, ShelfFault>
         ensures { AsksTables self.old self.new result (λ db rows.
             FindsHolding code (number_of kind) start.now volume most
-            (db.trees versions) rows.items) }
+            (rows_of db version2) rows.items) }
     {
         if most <= MOST_ROWS as usize {
             return self.holding(code, kind, start, volume, most as u32);

@@ -4,7 +4,8 @@ ghost use Rattle.std.specs.String.{string_bytes};
 ghost use Rattle.sqlite.specs.Order.{column};
 ghost use Rattle.gaz_cells.specs.Ids.{key_named};
 ghost use Rattle.gaz_tables.specs.Custody.{FindsCustodyBehind};
-ghost use Rattle.gaz_tables.specs.Schema.{versions};
+ghost use Rattle.gaz_tables.specs.Schema.{version2};
+ghost use Rattle.gaz_tables.specs.Tables.{rows_of};
 ghost use Rattle.gaz_kept.specs.Versions.{text_in};
 ghost use Rattle.gaz_loaded.specs.Passing.{AreToldBehind};
 ghost use Rattle.gaz_store.specs.Asking.{AsksTables};
@@ -112,7 +113,7 @@ impl<S: Alter> Tables<S> {
         most: u32,
     ) -> Result<Vec<Row>, ShelfFault>
         ensures { AsksTables self.old self.new result (λ db rows.
-            FindsCustodyBehind code id.now born most (db.trees versions) rows.items) }
+            FindsCustodyBehind code id.now born most (rows_of db version2) rows.items) }
     {
         if let Err(fault) = self.ready() {
             return Err(fault);

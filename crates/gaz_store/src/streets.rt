@@ -1,8 +1,9 @@
 //! What stands on a street, and what names a BLPU, in a custodian's last view.
 ghost use Rattle.std.specs.Prelude.{◌≡◌, ◌≤◌, option_map, pos, true};
 ghost use Rattle.std.specs.List.{list_any};
-ghost use Rattle.gaz_tables.specs.Schema.{versions};
+ghost use Rattle.gaz_tables.specs.Schema.{version2};
 ghost use Rattle.gaz_tables.specs.Versions.{FindsApprovedOn, FindsParts};
+ghost use Rattle.gaz_tables.specs.Tables.{rows_of};
 ghost use Rattle.gaz_records.specs.Kinds.{is_entry_kind, number_of};
 ghost use Rattle.gaz_views.specs.Words.{approved_on, entries, has_children, tied};
 ghost use Rattle.gaz_kept.specs.LastViews.{last_in};
@@ -28,7 +29,7 @@ impl<S: Alter> Tables<S> {
         most: u32,
     ) -> Result<Vec<Row>, ShelfFault>
         ensures { AsksTables self.old self.new result (λ db rows.
-            FindsApprovedOn code usrn start.now most (db.trees versions) rows.items) }
+            FindsApprovedOn code usrn start.now most (rows_of db version2) rows.items) }
     {
         if let Err(fault) = self.ready() {
             return Err(fault);
@@ -50,7 +51,7 @@ impl<S: Alter> Tables<S> {
     ) -> Result<Vec<Row>, ShelfFault>
         ensures asks { AsksTables self.old self.new result (λ db rows.
             FindsParts code (number_of kind) (pos uprn) start.now most
-            (db.trees versions) rows.items) }
+            (rows_of db version2) rows.items) }
         ensures some { 1 ≤ uprn }
     {
         let blpu = uprn.number() as i64;

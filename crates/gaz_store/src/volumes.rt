@@ -2,7 +2,8 @@
 ghost use Rattle.std.specs.Prelude.{◌≡◌, pos, IfOk};
 ghost use Rattle.sqlite.specs.Order.{column};
 ghost use Rattle.sqlite.specs.declared.types.Value.TheVariants.{Int};
-ghost use Rattle.gaz_tables.specs.Schema.{receiveds};
+ghost use Rattle.gaz_tables.specs.Schema.{received};
+ghost use Rattle.gaz_tables.specs.Tables.{rows_of};
 ghost use Rattle.gaz_kept.specs.Files.{files_in};
 ghost use Rattle.gaz_store.specs.Asking.{AsksTables};
 ghost use Rattle.gaz_store.specs.Volumes.{SayVolumes, TellsVolumes};
@@ -45,7 +46,7 @@ impl<S: Alter> Tables<S> {
     /// The received volumes of a custodian above one, rising: at most 512.
     pub fn volumes_above(&mut self, code: Code, volume: u64) -> Result<Vec<Volume>, ShelfFault>
         ensures { AsksTables self.old self.new result (λ db volumes.
-            TellsVolumes (files_in (db.trees receiveds)) code volume volumes.items) }
+            TellsVolumes (files_in (rows_of db received)) code volume volumes.items) }
     {
         if volume > LAST_VOLUME {
             return Ok(Vec::new(self.alloc));

@@ -2,9 +2,9 @@
 ghost use Rattle.std.specs.Prelude.{◌≡◌, ◌≢◌, ℕ, Some, IfSome};
 ghost use Rattle.std.specs.BTreeMap.{get};
 ghost use Rattle.std.specs.Ordering.{nat_cmp};
-ghost use Rattle.gaz_sql_facts.specs.Changes.{Changes};
 ghost use Rattle.gaz_tables.specs.Receiveds.{Rejects};
-ghost use Rattle.gaz_tables.specs.Schema.{receiveds};
+ghost use Rattle.gaz_tables.specs.Schema.{received};
+ghost use Rattle.gaz_tables.specs.Stores.{ChangesTable};
 ghost use Rattle.gaz_store.specs.Altering.{AltersTables, Writes};
 ghost use Rattle.gaz_store.specs.Remembered.{OneJudged, OneMore, Recounts};
 ghost use Rattle.gaz_store.specs.Writing.{Comes, IsNewIn, IsNextIn, RejectsNext, WhereSo};
@@ -70,7 +70,7 @@ impl<S: Alter> Tables<S> {
     // Marks a volume rejected at a place by a rule.
     fn reject(&mut self, cust: u32, volume: u32, place: i64, rule: u8) -> Result<(), ShelfFault>
         ensures { AltersTables self.old self.new result
-            (Changes receiveds (Rejects cust volume place rule)) }
+            (ChangesTable received (Rejects cust volume place rule)) }
     {
         if let Err(fault) = self.ready() {
             return Err(fault);

@@ -8,7 +8,8 @@ use Rattle.sqlite_trees.specs.declared.store.Store.{Ghosts}
 use Rattle.gaz_register.specs.Registers.{RegisterValue}
 use Rattle.gaz_register.specs.Texts.{register_text}
 use Rattle.gaz_tables.specs.Creating.{IsBare, no_schema}
-use Rattle.gaz_tables.specs.Schema.{metas}
+use Rattle.gaz_tables.specs.Schema.{meta}
+use Rattle.gaz_tables.specs.Tables.{rows_of}
 use Rattle.gaz_kept.specs.Opening.{IsOf, Tells}
 use Rattle.gaz_store.specs.Opened.{IsMade, IsOpened}
 use Rattle.gaz_store.specs.Seen.{IsUnharmed}
@@ -67,7 +68,7 @@ module _ {S : Type 0} {g : Ghosts S} (register : RegisterValue) (most : ℕ) (th
             (λ clean bare. went_on_new text register first told.last.lower commands responses (runs bare) clean (state g before) made bare);
         goes_on = goes;
         whose =
-            subst (λ h. IsUnharmed (state g h) → IsBare no_schema (state g before).now → IsOf text ((state g h).now.trees metas)) told.back
+            subst (λ h. IsUnharmed (state g h) → IsBare no_schema (state g before).now → IsOf text (rows_of (state g h).now meta)) told.back
             (λ fine bare. whose_then text register first told.last.lower commands responses (runs bare) fine (begins_new text register first ((runs bare).harm fine) (state g before) made bare));
         abides = λ fine bare. abides_after d new_hub commands responses (hub_in (state g after).now) refl (goes fine bare).abides;
         stops = λ is_fine bare.

@@ -7,7 +7,8 @@ use Rattle.sqlite_trees.specs.declared.store.Store.{Ghosts}
 use Rattle.gaz_views.specs.View.{View, empty_view}
 use Rattle.gaz_keeper.specs.Keeper as keeper
 use Rattle.gaz_keeper.specs.Keeper.{IsLeft, IsNotOpen, Progress, Seen}
-use Rattle.gaz_tables.specs.Schema.{receiveds}
+use Rattle.gaz_tables.specs.Schema.{received}
+use Rattle.gaz_tables.specs.Tables.{rows_of}
 use Rattle.gaz_kept.specs.Contents.{content_in}
 use Rattle.gaz_kept.specs.Kept.{IsKept}
 use Rattle.gaz_kept.specs.Versions.{number_in}
@@ -39,9 +40,9 @@ pub rests_bare : {S N : Type 0} {g : Ghosts S} (text : List ℕ) → RestsBare {
 rests_bare {S} {N} {g} text t e = rests (state g t.tables.conn).now t.judging e
 
 -- each file in the tables came as a volume from 1 on
-volumes : (db : Database) (working : View) → IsKept db → AreVolumes (content_in db.trees working).files
+volumes : (db : Database) (working : View) → IsKept db → AreVolumes (content_in db working).files
 volumes db working kept p there =
-    let r = row_of (db.trees receiveds) (are_files db kept) p.0 p.1 there in
+    let r = row_of (rows_of db received) (are_files db kept) p.0 p.1 there in
     let first = (kept.files r.row r.there).first in
     subst (λ n. 1 ≤ n) (ap number_in r.is.of_volume) first
 

@@ -7,8 +7,9 @@ use Rattle.sqlite.specs.State.{State}
 use Rattle.sqlite_trees.specs.declared.store.Store.{Ghosts}
 use Rattle.gaz_register.specs.Registers.{RegisterValue, blocks_of}
 use Rattle.gaz_register.specs.Texts.{register_text}
-use Rattle.gaz_tables.specs.Schema.{metas}
+use Rattle.gaz_tables.specs.Schema.{meta}
 use Rattle.gaz_tables.specs.Stores.{HasTables}
+use Rattle.gaz_tables.specs.Tables.{rows_of}
 use Rattle.gaz_views.specs.View.{empty_view}
 use Rattle.gaz_kept.specs.Contents.{content_in}
 use Rattle.gaz_kept.specs.Kept.{IsKept}
@@ -21,7 +22,7 @@ use Rattle.gaz_store.specs.Store.{seen_in}
 use Rattle.gaz_store.specs.declared.growing.ExtendFault.{ExtendFault}
 use Rattle.gaz_store.specs.declared.growing.ExtendFault.TheVariants.{OtherRegister, RemovedCustodian, ChangedBlocks, Fault, Memory}
 use Rattle.gaz_store.specs.declared.store.Store.{Store}
-use Rattle.gaz_store.proofs.Whole.{kept_as}
+use Rattle.gaz_kept.proofs.SameTrees.{same_content, same_kept, same_rows}
 use Rattle.gaz_hub.specs.Hubs.{AreKnown, door_of, state_of}
 use Rattle.gaz_hub.specs.Standing.{IsPartial}
 use Rattle.gaz_hub.specs.Step.{HubState}
@@ -43,10 +44,10 @@ still register old new stood kept same = record {
 -- whose the store is, of another connection that showed the same
 told_before : {S : Type 0} (g : Ghosts S) (one other after : Held S) (register grown : RegisterValue) (told : Result (Unit {0}) ExtendFault) → (state g other).now ≡ (state g one).now
     → ToldOf g one after register grown told → ToldOf g other after register grown told
-told_before g one other after register grown (Ok done) same it = (subst (λ (db : Database). IsOf (register_text register) (db.trees metas)) (sym same) it.0, it.1)
-told_before g one other after register grown (Err OtherRegister) same it = λ mine. it (subst (λ (db : Database). IsOf (register_text register) (db.trees metas)) same mine)
-told_before g one other after register grown (Err RemovedCustodian) same it = subst (λ (db : Database). IsOf (register_text register) (db.trees metas)) (sym same) it
-told_before g one other after register grown (Err ChangedBlocks) same it = subst (λ (db : Database). IsOf (register_text register) (db.trees metas)) (sym same) it
+told_before g one other after register grown (Ok done) same it = (subst (λ (db : Database). IsOf (register_text register) (rows_of db meta)) (sym same) it.0, it.1)
+told_before g one other after register grown (Err OtherRegister) same it = λ mine. it (subst (λ (db : Database). IsOf (register_text register) (rows_of db meta)) same mine)
+told_before g one other after register grown (Err RemovedCustodian) same it = subst (λ (db : Database). IsOf (register_text register) (rows_of db meta)) (sym same) it
+told_before g one other after register grown (Err ChangedBlocks) same it = subst (λ (db : Database). IsOf (register_text register) (rows_of db meta)) (sym same) it
 told_before g one other after register grown (Err Fault) same it = tt
 told_before g one other after register grown (Err Memory) same it = tt
 
@@ -90,7 +91,7 @@ module _ {S : Type 0} {g : Ghosts S} (register grown : RegisterValue) (first las
       still register was.now is.now stood (keeps.stands stands h).tables.kept
       (ap state_of (keeps.content stands h) ∙ ap state_of (opened.content fine stood.kept))
 
-  whose_so : IsUnharmed is → StandForRun register was.now → IsOf (register_text (register_then register grown told)) (is.now.trees metas)
+  whose_so : IsUnharmed is → StandForRun register was.now → IsOf (register_text (register_then register grown told)) (rows_of is.now meta)
   whose_so h stood = (keeps.stands (opened.stands (keeps.harm h) stood.kept) h).tables.whose
 
   stops_so : IsUnharmed mid → StandForRun register was.now → LeavesItself was → (db : Database) → MayBeLeft is db → StopsBetween register grown was.now db
@@ -99,17 +100,17 @@ module _ {S : Type 0} {g : Ghosts S} (register grown : RegisterValue) (first las
         | inl here ↦
             let trees = itself db.trees (opened.harm fine) (as_before here) in
             record {
-              still = still register was.now db stood (kept_as was.now db trees left.schema stood.kept) (ap (λ t. state_of (content_in t empty_view)) trees);
-              whose = inl (subst (λ t. IsOf (register_text register) (t metas)) (sym trees) (opened.of_register fine stood.kept));
+              still = still register was.now db stood (same_kept was.now db stood.kept left.sound trees) (ap state_of (same_content was.now db stood.kept left.sound trees empty_view));
+              whose = inl (subst (IsOf (register_text register)) (sym (same_rows was.now db stood.kept left.sound trees meta)) (opened.of_register fine stood.kept));
             }
         | inr made ↦
             let kept = subst IsKept (sym (shown fine)) stood.kept in
             let s = rewrites_stand.stands (register_text grown) empty_view mid.now made.db kept made.becomes in
             record {
-              still = still register was.now db stood (kept_as made.db db made.shown left.schema s.kept)
-                  (ap (λ t. state_of (content_in t empty_view)) made.shown ∙ ap state_of s.content ∙ ap hub_in (shown fine));
-              whose = inr (subst (λ t. IsOf (register_text grown) (t metas)) (sym made.shown)
-                  (rewrites_stand.is_of (register_text register) (register_text grown) mid.now made.db kept.tables (subst (λ (d : Database). IsOf (register_text register) (d.trees metas)) (sym (shown fine)) (opened.of_register fine stood.kept)) made.becomes));
+              still = still register was.now db stood (same_kept made.db db s.kept left.sound made.shown)
+                  (ap state_of (same_content made.db db s.kept left.sound made.shown empty_view) ∙ ap state_of s.content ∙ ap hub_in (shown fine));
+              whose = inr (subst (IsOf (register_text grown)) (sym (same_rows made.db db s.kept left.sound made.shown meta))
+                  (rewrites_stand.is_of (register_text register) (register_text grown) mid.now made.db kept.tables (subst (λ (d : Database). IsOf (register_text register) (rows_of d meta)) (sym (shown fine)) (opened.of_register fine stood.kept)) made.becomes));
             }
       ]
     where

@@ -6,7 +6,8 @@ use Rattle.sqlite_trees.specs.declared.store.Store.{Ghosts}
 use Rattle.gaz_register.specs.Registers.{RegisterValue, blocks_of}
 use Rattle.gaz_keeper.specs.Keeper.{Content}
 use Rattle.gaz_tables.specs.Creating.{IsBare, no_schema}
-use Rattle.gaz_tables.specs.Schema.{metas}
+use Rattle.gaz_tables.specs.Schema.{meta}
+use Rattle.gaz_tables.specs.Tables.{rows_of}
 use Rattle.gaz_kept.specs.Opening.{IsOf}
 use Rattle.gaz_store.specs.Opened.{IsMade, IsOpened}
 use Rattle.gaz_store.specs.Seen.{IsUnharmed}
@@ -54,7 +55,7 @@ module _ {S R : Type 0} {g : Ghosts S} (text : List ℕ) (register : RegisterVal
 module _ {S R N : Type 0} {g : Ghosts S} (text : List ℕ) (register : RegisterValue) (first : Store S R g) (last : Store S N g) (commands : List Command) (responses : List Response)
     (runs : Runs (door_of register) (seen_in text first) (seen_in text last) commands responses) (fine : IsUnharmed (state g last.tables.conn)) where
   -- of a store of the register again
-  pub whose_then : StandsForRun (door_of register) (seen_in text first) → IsOf text ((state g last.tables.conn).now.trees metas)
+  pub whose_then : StandsForRun (door_of register) (seen_in text first) → IsOf text (rows_of (state g last.tables.conn).now meta)
   whose_then was = (runs.stands was.stands fine).0.tables.whose
 
   goes_on : (before : HubState) → StandsForRun (door_of register) (seen_in text first) → state_of (seen_in text first).content ≡ before

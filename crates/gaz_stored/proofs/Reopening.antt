@@ -7,8 +7,9 @@ use Rattle.sqlite_trees.specs.declared.store.Store.{Ghosts}
 use Rattle.gaz_register.specs.Registers.{RegisterValue}
 use Rattle.gaz_register.specs.Texts.{register_text}
 use Rattle.gaz_tables.specs.Metas.{register_of}
-use Rattle.gaz_tables.specs.Schema.{metas}
+use Rattle.gaz_tables.specs.Schema.{meta}
 use Rattle.gaz_tables.specs.Stores.{HasTables}
+use Rattle.gaz_tables.specs.Tables.{rows_of}
 use Rattle.gaz_kept.specs.Opening.{IsJudged, IsOf}
 use Rattle.gaz_kept.specs.declared.refusal.StoreRefusal.{StoreRefusal}
 use Rattle.gaz_kept.specs.declared.refusal.StoreRefusal.TheVariants.{BadSchema, Fault, OtherRegister}
@@ -27,8 +28,8 @@ judged text rows whose (Err OtherRegister) is =
 judged text rows whose (Err Fault) is = inr refl
 
 module _ {S : Type 0} (g : Ghosts S) where
-  pub opens : (register : RegisterValue) (conn next : Held S) → HasTables (state g conn).now → IsOf (register_text register) ((state g conn).now.trees metas) → OpensThen g register conn next
-  opens register conn next has whose answer clean judges = judged (register_text register) ((state g conn).now.trees metas) whose answer (judges clean has)
+  pub opens : (register : RegisterValue) (conn next : Held S) → HasTables (state g conn).now → IsOf (register_text register) (rows_of (state g conn).now meta) → OpensThen g register conn next
+  opens register conn next has whose answer clean judges = judged (register_text register) (rows_of (state g conn).now meta) whose answer (judges clean has)
 
   pub opens_again : OpensAgain g
   opens_again = record {

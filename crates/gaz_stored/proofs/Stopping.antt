@@ -9,12 +9,15 @@ use Rattle.gaz_register.specs.Texts.{register_text}
 use Rattle.gaz_views.specs.View.{empty_view}
 use Rattle.gaz_keeper.specs.Keeper.{Content, LeavesOnly, after_stop}
 use Rattle.gaz_tables.specs.Creating.{IsBare, no_schema}
-use Rattle.gaz_tables.specs.Schema.{metas}
+use Rattle.gaz_tables.specs.Schema.{meta}
+use Rattle.gaz_tables.specs.Tables.{rows_of}
 use Rattle.gaz_kept.specs.Contents.{content_in}
 use Rattle.gaz_kept.specs.Kept.{IsKept}
 use Rattle.gaz_kept.specs.Opening.{IsOf}
 use Rattle.gaz_store.specs.Opened.{IsMade, IsOpened}
-use Rattle.gaz_store.specs.Seen.{IsKeptOf, IsUnharmed, LeavesKept}
+use Rattle.gaz_store.specs.Seen.{IsUnharmed, LeavesKept, kept_by_trees}
+use Rattle.gaz_kept.proofs.SameTrees.{same_content}
+use Rattle.gaz_store.proofs.Whole.{kept_of}
 use Rattle.gaz_store.specs.Store.{seen_in}
 use Rattle.gaz_store.specs.declared.store.Store.{Store}
 use Rattle.gaz_hub.specs.Found.{HasFilesAfter, HasFilesOf}
@@ -27,14 +30,9 @@ use Rattle.gaz_stored.specs.Runs.{StandForRun, hub_in}
 use Rattle.gaz_stored.specs.Stopping.{FindsLater, LeavesItself}
 use Rattle.gaz_stored.proofs.Going.{begins_new, begins_opened}
 
--- databases of equal parts are equal
-same_database : (one two : Database) → two.schema ≡ one.schema → two.trees ≡ one.trees → two ≡ one
-same_database one two schema trees = λ i. record { schema = schema i; trees = trees i }
-
 -- where a stop leaves just the tables of a store, what it leaves is a store's
-kept_itself : (text : List ℕ) (s : State) → IsKept s.now → IsOf text (s.now.trees metas) → LeavesItself s → LeavesKept text s
-kept_itself text s kept whose itself db clean left schema =
-    subst (IsKeptOf text) (sym (same_database s.now db (schema ∙ sym kept.tables.schema_is) (itself db.trees clean left))) (record { kept = kept; whose = whose })
+kept_itself : (text : List ℕ) (s : State) → IsKept s.now → IsOf text (rows_of s.now meta) → LeavesItself s → LeavesKept text s
+kept_itself text s kept whose itself trees clean left = kept_of text s.now trees (itself trees clean left) kept whose
 
 module _ {S N : Type 0} {g : Ghosts S} (register : RegisterValue) (first last : Store S N g) (commands : List Command) (responses : List Response)
     (runs : Runs (door_of register) (seen_in (register_text register) first) (seen_in (register_text register) last) commands responses) (is_fine : IsUnharmed (state g first.tables.conn)) where
@@ -45,9 +43,9 @@ module _ {S N : Type 0} {g : Ghosts S} (register : RegisterValue) (first last : 
   finds : (before : HubState) → StandsForRun (door_of register) (seen_in text first) → state_of (seen_in text first).content ≡ before → LeavesOnly (seen_in text first).content (seen_in text first) → (seen_in text first).whole
       → FindsLater register before commands responses (state g last.tables.conn)
   finds before was begins just whole db left =
-      let k = content_in db.trees empty_view in
-      let found = every_stop_over (seen_in text) (door_of register) first last commands responses was just runs k (record { clean = left.clean; trees = db.trees; left = left.left; content = refl }) in
-      let it = (runs.stops (λ _. was.stands)).whole whole db left.clean left.left left.schema in
+      let k = content_in db empty_view in
+      let found = every_stop_over (seen_in text) (door_of register) first last commands responses was just runs k (record { clean = left.clean; db = db; sound = left.sound; left = left.left; content = refl }) in
+      let it = kept_by_trees text db left.sound ((runs.stops (λ _. was.stands)).whole whole db.trees left.clean left.left) in
       record {
         whose = it.whose;
         stands = record { kept = it.kept; known = found.known; partial = found.partial };
@@ -67,10 +65,10 @@ module _ {S N : Type 0} {g : Ghosts S} (register : RegisterValue) (first last : 
       → FindsLater register (hub_in old.now) commands responses (state g last.tables.conn)
   finds_opened old opened stood itself =
       let same = opened.content is_fine stood.kept in
-      finds (hub_in old.now) (begins_opened text register first is_fine old opened stood) (ap state_of same) (λ k l. only k l.clean l.trees l.left l.content) (opened.whole (kept_itself text old stood.kept (opened.of_register is_fine stood.kept) itself))
+      finds (hub_in old.now) (begins_opened text register first is_fine old opened stood) (ap state_of same) only (opened.whole (kept_itself text old stood.kept (opened.of_register is_fine stood.kept) itself))
     where
-      only : (k : Content) → HasCleanDisk (state g first.tables.conn) → (trees : _) → (state g first.tables.conn).may_leave trees → k ≡ content_in trees empty_view → k ≡ after_stop (seen_in text first).content
-      only k clean trees left e = elim (opened.leaves.crash clean trees left) [
-        | inl was ↦ e ∙ ap (λ t. content_in t empty_view) (itself trees (opened.harm is_fine) was) ∙ ap after_stop (sym (opened.content is_fine stood.kept))
+      only : LeavesOnly (seen_in text first).content (seen_in text first)
+      only k l = elim (opened.leaves.crash l.clean l.db.trees l.left) [
+        | inl was ↦ l.content ∙ same_content old.now l.db stood.kept l.sound (itself l.db.trees (opened.harm is_fine) was) empty_view ∙ ap after_stop (sym (opened.content is_fine stood.kept))
         | inr never ↦ absurd never
       ]

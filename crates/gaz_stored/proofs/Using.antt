@@ -6,7 +6,8 @@ use Rattle.sqlite.specs.State.{HasCleanDisk}
 use Rattle.sqlite_trees.specs.declared.store.Store.{Ghosts}
 use Rattle.gaz_register.specs.Registers.{RegisterValue}
 use Rattle.gaz_register.specs.Texts.{register_text}
-use Rattle.gaz_tables.specs.Schema.{metas}
+use Rattle.gaz_tables.specs.Schema.{meta}
+use Rattle.gaz_tables.specs.Tables.{rows_of}
 use Rattle.gaz_kept.specs.Opening.{IsOf, Tells}
 use Rattle.gaz_store.specs.Opened.{IsOpened}
 use Rattle.gaz_store.specs.Seen.{IsUnharmed}
@@ -35,7 +36,7 @@ module _ {S N : Type 0} {g : Ghosts S} (register : RegisterValue) (first last : 
             subst (λ h. IsUnharmed (state g h) → StandForRun register (state g before).now → GoesOn register (hub_in (state g before).now) commands responses (state g h).now) back
             (λ fine stood. goes_on_opened text register first last commands responses (runs stood) fine (state g before) opened stood);
         whose =
-            subst (λ h. IsUnharmed (state g h) → StandForRun register (state g before).now → IsOf text ((state g h).now.trees metas)) back
+            subst (λ h. IsUnharmed (state g h) → StandForRun register (state g before).now → IsOf text (rows_of (state g h).now meta)) back
             (λ fine stood. whose_then text register first last commands responses (runs stood) fine (begins_opened text register first ((runs stood).harm fine) (state g before) opened stood));
         stops = λ is_fine stood itself.
             subst (λ h. FindsLater register (hub_in (state g before).now) commands responses (state g h)) back

@@ -8,7 +8,8 @@ use Rattle.sqlite_trees.specs.declared.store.Store.{Ghosts}
 use Rattle.gaz_register.specs.Registers.{RegisterValue}
 use Rattle.gaz_register.specs.Texts.{register_text}
 use Rattle.gaz_tables.specs.Creating.{IsBare, no_schema}
-use Rattle.gaz_tables.specs.Schema.{metas}
+use Rattle.gaz_tables.specs.Schema.{meta}
+use Rattle.gaz_tables.specs.Tables.{rows_of}
 use Rattle.gaz_kept.specs.Opening.{IsOf}
 use Rattle.gaz_store.specs.Opened.{IsMade, IsRefused}
 use Rattle.gaz_store.specs.Seen.{IsUnharmed}
@@ -75,7 +76,7 @@ pub record AnswersNew {S : Type 0} (g : Ghosts S) (register : RegisterValue) (mo
       (responses_of converses.conversation.exchanges) (state g after).now
   -- they are of this register
   pub whose : IsUnharmed (state g after) → IsBare no_schema (state g before).now
-      → IsOf (register_text register) ((state g after).now.trees metas)
+      → IsOf (register_text register) (rows_of (state g after).now meta)
   -- so what is received is what came first
   pub abides : IsUnharmed (state g after) → IsBare no_schema (state g before).now
       → Abides (door_of register) (commands_of converses.conversation.exchanges)

@@ -6,8 +6,9 @@ use Rattle.sqlite.specs.Held.{Held, state}
 use Rattle.sqlite_trees.specs.declared.store.Store.{Ghosts}
 use Rattle.gaz_register.specs.Registers.{RegisterValue}
 use Rattle.gaz_register.specs.Texts.{register_text}
-use Rattle.gaz_tables.specs.Schema.{metas}
+use Rattle.gaz_tables.specs.Schema.{meta}
 use Rattle.gaz_tables.specs.Stores.{HasTables}
+use Rattle.gaz_tables.specs.Tables.{rows_of}
 use Rattle.gaz_kept.specs.Opening.{IsOf, Tells}
 use Rattle.gaz_store.specs.Growing.{TellsGrowth, ToldOf, register_then}
 use Rattle.gaz_store.specs.Opened.{IsOpened}
@@ -26,8 +27,8 @@ pub record StandsStill (register : RegisterValue) (old new : Database) : Type 0 
 -- what a stop leaves: the same, of either register
 pub record StopsBetween (register grown : RegisterValue) (old new : Database) : Type 0 where
   pub still : StandsStill register old new
-  pub whose : IsOf (register_text register) (new.trees metas)
-      ⊎ IsOf (register_text grown) (new.trees metas)
+  pub whose : IsOf (register_text register) (rows_of new meta)
+      ⊎ IsOf (register_text grown) (rows_of new meta)
 
 -- the store that was opened so was to grow from this register to that one, and this was told
 pub record ExtendsOpened {S : Type 0} (g : Ghosts S) (register grown : RegisterValue)
@@ -49,7 +50,7 @@ pub record ExtendsOpened {S : Type 0} (g : Ghosts S) (register grown : RegisterV
       → StandsStill register (state g before).now (state g after).now
   -- as a store of the register that was told
   pub whose : IsUnharmed (state g after) → StandForRun register (state g before).now
-      → IsOf (register_text (register_then register grown told)) ((state g after).now.trees metas)
+      → IsOf (register_text (register_then register grown told)) (rows_of (state g after).now meta)
   -- and so does what a stop leaves at the end, where a stop left just these tables at the beginning
   pub stops : IsUnharmed (state g first.tables.conn) → StandForRun register (state g before).now
       → LeavesItself (state g before) → (db : Database) → MayBeLeft (state g after) db

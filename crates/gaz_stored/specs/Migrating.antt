@@ -9,7 +9,8 @@ use Rattle.gaz_register.specs.Registers.{RegisterValue, blocks_of}
 use Rattle.gaz_register.specs.Texts.{register_text}
 use Rattle.gaz_views.specs.View.{empty_view}
 use Rattle.gaz_tables.specs.Migrating.{Migrates}
-use Rattle.gaz_tables.specs.Schema.{metas}
+use Rattle.gaz_tables.specs.Schema.{meta}
+use Rattle.gaz_tables.specs.Tables.{rows_of}
 use Rattle.gaz_kept.specs.Migrated.{IsFirstKept, first_content_in}
 use Rattle.gaz_kept.specs.Opening.{IsOf, Tells, schema_number}
 use Rattle.gaz_kept.specs.OpeningFirst.{IsOfFirst, TellsFirst, Untouched, has_first}
@@ -24,7 +25,7 @@ use Rattle.gaz_stored.specs.declared.migrating.Migration.TheVariants.{Done, Curr
 
 -- the hub that the tables of schema 1 stand for
 abbrev pub first_hub_in : Database → HubState
-first_hub_in db = state_of (first_content_in db.trees empty_view)
+first_hub_in db = state_of (first_content_in db empty_view)
 
 -- the tables are those of schema 1, and stand for a partial run of files of custodians that are
 -- known
@@ -38,11 +39,11 @@ pub record FirstStandForRun (register : RegisterValue) (db : Database) : Type 0 
 pub record StandsMoved (register : RegisterValue) (old new : Database) : Type 0 where
   pub hub : hub_in new ≡ first_hub_in old
   pub stands : StandForRun register new
-  pub whose : IsOf (register_text register) (new.trees metas)
+  pub whose : IsOf (register_text register) (rows_of new meta)
 
 -- the tables of schema 1 are of this register
 abbrev pub IsFirstOf : RegisterValue → Database → Type 0
-IsFirstOf register db = IsOfFirst (register_text register) (db.trees metas)
+IsFirstOf register db = IsOfFirst (register_text register) (rows_of db meta)
 
 -- a migration makes just that of tables of the register that stood for a partial run
 abbrev pub MigratedStands : Type 0

@@ -13,7 +13,7 @@ use Rattle.gaz_hub.specs.Step.{Command, HubState, Response}
 
 -- the hub that the tables stand for: what was received, and how far it is judged
 abbrev pub hub_in : Database → HubState
-hub_in db = state_of (content_in db.trees empty_view)
+hub_in db = state_of (content_in db empty_view)
 
 -- the tables are a store's, and stand for a partial run of files of custodians that are known
 pub record StandForRun (register : RegisterValue) (db : Database) : Type 0 where

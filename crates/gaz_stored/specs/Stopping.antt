@@ -1,11 +1,12 @@
 -- What a stop leaves of a conversation over a database.
 use Rattle.std.specs.Prelude.{◌≡◌, ⊤, List, [], ◌∷◌}
-use Rattle.sqlite.specs.Effect.{Database}
+use Rattle.sqlite.specs.Effect.{Database, IsDatabase}
 use Rattle.sqlite.specs.State.{HasCleanDisk, State}
 use Rattle.sqlite_trees.specs.Tree.{Trees}
 use Rattle.gaz_register.specs.Registers.{RegisterValue}
 use Rattle.gaz_register.specs.Texts.{register_text}
-use Rattle.gaz_tables.specs.Schema.{metas, store_schema}
+use Rattle.gaz_tables.specs.Schema.{meta}
+use Rattle.gaz_tables.specs.Tables.{rows_of}
 use Rattle.gaz_kept.specs.Opening.{IsOf}
 use Rattle.gaz_hub.specs.Found.{HasFilesAfter, HasFilesOf}
 use Rattle.gaz_hub.specs.Hubs.{door_of}
@@ -16,11 +17,11 @@ use Rattle.gaz_store.specs.Seen.{IsUnharmed}
 use Rattle.gaz_stored.specs.Chains.{Talk, after_all}
 use Rattle.gaz_stored.specs.Runs.{StandForRun, hub_in}
 
--- a database of a store's tables that a stop at this moment may leave, on a disk that returned what
--- was written
+-- a sound database whose trees a stop at this moment may leave, on a disk that returned what was
+-- written
 pub record MayBeLeft (s : State) (db : Database) : Type 0 where
   pub clean : HasCleanDisk s
-  pub schema : db.schema ≡ store_schema
+  pub sound : IsDatabase db
   pub left : s.may_leave db.trees
 
 -- a stop leaves just what the connection shows
@@ -33,7 +34,7 @@ pub record IsFoundLater (register : RegisterValue) (before : HubState) (commands
     (responses : List Response) (after : State) (db : Database) : Type 0 where
   pub stands : StandForRun register db
   -- they are of the register
-  pub whose : IsOf (register_text register) (db.trees metas)
+  pub whose : IsOf (register_text register) (rows_of db meta)
   -- of files that had been received, and that in hand at most, whatever became of the connection
   pub ever : HasFilesAfter (door_of register) before commands responses (hub_in db).received
   -- with each that one of the commands received

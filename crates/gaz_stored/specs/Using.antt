@@ -6,7 +6,8 @@ use Rattle.sqlite.specs.State.{HasCleanDisk}
 use Rattle.sqlite_trees.specs.declared.store.Store.{Ghosts}
 use Rattle.gaz_register.specs.Registers.{RegisterValue}
 use Rattle.gaz_register.specs.Texts.{register_text}
-use Rattle.gaz_tables.specs.Schema.{metas}
+use Rattle.gaz_tables.specs.Schema.{meta}
+use Rattle.gaz_tables.specs.Tables.{rows_of}
 use Rattle.gaz_kept.specs.Opening.{IsOf, Tells}
 use Rattle.gaz_store.specs.Opened.{IsOpened}
 use Rattle.gaz_store.specs.Seen.{IsUnharmed}
@@ -57,7 +58,7 @@ pub record Uses {S R : Type 0} (g : Ghosts S) (register : RegisterValue) (first 
       → GoesOn register (hub_in (state g before).now) commands responses (state g after).now
   -- then the row of `meta` is of the register again
   pub whose : IsUnharmed (state g after) → StandForRun register (state g before).now
-      → IsOf (register_text register) ((state g after).now.trees metas)
+      → IsOf (register_text register) (rows_of (state g after).now meta)
   -- where a stop left just these tables at the beginning and the connection is open once the store
   -- is opened: what a stop leaves at the end
   pub stops : IsUnharmed (state g first.tables.conn) → StandForRun register (state g before).now

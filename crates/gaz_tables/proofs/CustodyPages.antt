@@ -29,8 +29,9 @@ use Rattle.gaz_tables.proofs.Shown.{answered}
 use Rattle.gaz_tables.proofs.Tests.{means, met}
 use Rattle.gaz_tables.proofs.VersionRows.{cust_is, kind_is, id_is, born_is}
 use Rattle.gaz_tables.specs.Custody.{ComesBehind, FindsCustodyBehind, IsBornAfter, IsCustodyBehind}
-use Rattle.gaz_tables.specs.Schema.{versions}
+use Rattle.gaz_tables.specs.Schema.{version2}
 use Rattle.gaz_tables.specs.Stores.{HasTables}
+use Rattle.gaz_tables.specs.Tables.{rows_of}
 use Rattle.gaz_tables.specs.Versions.{born_of, cust_of, id_of, kind_of}
 
 -- ---- one test or another
@@ -51,7 +52,7 @@ either_is s t m n = or_of (test Gt (collated Binary (Text s) (Text t))) (test Gt
 
 -- ---- behind an id and a volume
 
-module _ (db : Database) (has : HasTables db) (id : List ℕ) (born : ℕ) (r : Row) (there : Has (db.trees versions) r) where
+module _ (db : Database) (has : HasTables db) (id : List ℕ) (born : ℕ) (r : Row) (there : Has (rows_of db version2) r) where
   abbrev later : Bool
   later = holds_of Gt (born_of r) (Int (pos born))
 
@@ -103,7 +104,7 @@ module _ (db : Database) (has : HasTables db) (cust : ℕ) (id : List ℕ) (born
   abbrev pub behind_params : Row
   behind_params = Int (pos cust) ∷ Text id ∷ Int (pos born) ∷ Int (pos most) ∷ []
 
-  fits : (r : Row) → Has (db.trees versions) r → passes behind_tests behind_params r ≡ true → IsCustodyBehind cust id born r
+  fits : (r : Row) → Has (rows_of db version2) r → passes behind_tests behind_params r ≡ true → IsCustodyBehind cust id born r
   fits r there p =
       let low = from db has id born r there in
       let high = passed db has id born r there in
@@ -116,7 +117,7 @@ module _ (db : Database) (has : HasTables db) (cust : ℕ) (id : List ℕ) (born
         behind = comes_is db has id born r there (and_from low high behind.0 (and_parts high true behind.1).0);
       }
 
-  taken : (r : Row) → Has (db.trees versions) r → IsCustodyBehind cust id born r → passes behind_tests behind_params r ≡ true
+  taken : (r : Row) → Has (rows_of db version2) r → IsCustodyBehind cust id born r → passes behind_tests behind_params r ≡ true
   taken r there f =
       let low = from db has id born r there in
       let high = passed db has id born r there in
@@ -124,7 +125,7 @@ module _ (db : Database) (has : HasTables db) (cust : ℕ) (id : List ℕ) (born
       and_from (holds_of Eq (cust_of r) (Int (pos cust))) (holds_of Eq (kind_of r) (Int (pos 92)) && (low && (high && true))) (same_int (cust_of r) (pos cust) f.of_cust)
       (and_from (holds_of Eq (kind_of r) (Int (pos 92))) (low && (high && true)) (same_int (kind_of r) (pos 92) f.of_kind) (and_from low (high && true) both.0 (and_from high true both.1 refl)))
 
-  page_found : (answer : List Row) → Selects behind_tests behind_terms ((col 1 3, rising) ∷ (col 1 8, rising) ∷ []) (Some most) (db.trees versions) behind_params answer → FindsCustodyBehind cust id born most (db.trees versions) answer
+  page_found : (answer : List Row) → Selects behind_tests behind_terms ((col 1 3, rising) ∷ (col 1 8, rising) ∷ []) (Some most) (rows_of db version2) behind_params answer → FindsCustodyBehind cust id born most (rows_of db version2) answer
   page_found answer s = record {
     chosen = s.chosen;
     picks = record { test = passes behind_tests behind_params; sound = fits; complete = taken; same = s.same };
@@ -132,6 +133,6 @@ module _ (db : Database) (has : HasTables db) (cust : ℕ) (id : List ℕ) (born
     shown = s.shown;
   }
 
-  pub behind_found : (r : Result (Vec Row Global) Error) → IfOk r (λ rows. Selects behind_tests behind_terms ((col 1 3, rising) ∷ (col 1 8, rising) ∷ []) (Some most) (db.trees versions) behind_params rows.items)
-      → IfOk r (λ rows. FindsCustodyBehind cust id born most (db.trees versions) rows.items)
+  pub behind_found : (r : Result (Vec Row Global) Error) → IfOk r (λ rows. Selects behind_tests behind_terms ((col 1 3, rising) ∷ (col 1 8, rising) ∷ []) (Some most) (rows_of db version2) behind_params rows.items)
+      → IfOk r (λ rows. FindsCustodyBehind cust id born most (rows_of db version2) rows.items)
   behind_found r h = answered r page_found h

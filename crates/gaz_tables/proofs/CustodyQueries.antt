@@ -7,11 +7,9 @@ use Rattle.sqlite.specs.Term.{Term, lit, col, op2}
 use Rattle.sqlite_sql.specs.declared.ops.BinaryOp.TheVariants.{Compare, Or}
 use Rattle.sqlite_sql.specs.declared.ops.CompareOp.TheVariants.{Ge, Gt, Le}
 use Rattle.gaz_sql_facts.specs.Meaning.{MeansAnywhere, OnTable}
-use Rattle.gaz_sql_facts.specs.Selects.{selecting, equals, falling, rising}
+use Rattle.gaz_sql_facts.specs.Selects.{equals, falling, rising}
 use Rattle.gaz_sql_facts.proofs.TextMoves.{anywhere}
-use Rattle.gaz_sql_facts.proofs.Texts.{IsSelect, is_select}
-use Rattle.gaz_tables.proofs.Standing.{of_version2}
-use Rattle.gaz_tables.specs.Schema.{store_schema, versions, version2}
+use Rattle.gaz_tables.specs.Schema.{version2}
 use Rattle.gaz_tables.specs.Texts.{newest_custody_text as newest_text, newest_custody_until_text as newest_until_text, custody_behind_text as behind_text}
 
 abbrev pub custody_terms : List Term
@@ -30,9 +28,6 @@ pub newest_anywhere : MeansAnywhere version2 newest_text newest_on
 unfolding everything
 newest_anywhere = anywhere version2 newest_text newest_on refl refl (record { read = _; is = refl; command_is = refl; no_rows = refl; no_time = refl })
 
-pub newest_is : IsSelect store_schema newest_text (selecting versions newest_tests custody_terms ((col 1 8, falling) ∷ []) (lit (Int (pos 1)))) custody_names
-newest_is = is_select store_schema newest_text _ _ (of_version2 newest_text newest_on newest_anywhere)
-
 abbrev pub newest_until_tests : List Term
 newest_until_tests = equals (col 1 1) (col 0 0) ∷ equals (col 1 2) (lit (Int (pos 92))) ∷ equals (col 1 3) (col 0 1) ∷ op2 (Compare Le Binary) (col 1 8) (col 0 2) ∷ []
 
@@ -42,9 +37,6 @@ newest_until_on = OnTable.Selects newest_until_tests custody_terms ((col 1 8, fa
 pub newest_until_anywhere : MeansAnywhere version2 newest_until_text newest_until_on
 unfolding everything
 newest_until_anywhere = anywhere version2 newest_until_text newest_until_on refl refl (record { read = _; is = refl; command_is = refl; no_rows = refl; no_time = refl })
-
-pub newest_until_is : IsSelect store_schema newest_until_text (selecting versions newest_until_tests custody_terms ((col 1 8, falling) ∷ []) (lit (Int (pos 1)))) custody_names
-newest_until_is = is_select store_schema newest_until_text _ _ (of_version2 newest_until_text newest_until_on newest_until_anywhere)
 
 abbrev pub behind_terms : List Term
 behind_terms = col 1 3 ∷ custody_terms
@@ -59,6 +51,3 @@ behind_on = OnTable.Selects behind_tests behind_terms ((col 1 3, rising) ∷ (co
 pub behind_anywhere : MeansAnywhere version2 behind_text behind_on
 unfolding everything
 behind_anywhere = anywhere version2 behind_text behind_on refl refl (record { read = _; is = refl; command_is = refl; no_rows = refl; no_time = refl })
-
-pub behind_is : IsSelect store_schema behind_text (selecting versions behind_tests behind_terms ((col 1 3, rising) ∷ (col 1 8, rising) ∷ []) (col 0 3)) (codes "id" ∷ custody_names)
-behind_is = is_select store_schema behind_text _ _ (of_version2 behind_text behind_on behind_anywhere)

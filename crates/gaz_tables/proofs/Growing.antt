@@ -1,16 +1,19 @@
 -- What a new store is made of.
-use Rattle.std.proofs.Common.{◌≡◌, inl, inr, ℕ, List, [], arith, refl, sym, subst, ◌∙◌}
+use Rattle.std.proofs.Common.{◌≡◌, inl, inr, ℕ, List, [], refl, sym, subst, ◌∙◌}
 use Rattle.sqlite.specs.Schema.{Schema}
 use Rattle.sqlite.specs.Table.{Table}
 use Rattle.sqlite_rules.specs.Lists.{Has}
 use Rattle.sqlite_rules.proofs.ListLemmas.{all_from, all_has}
 use Rattle.sqlite.specs.Effect.{Database, IsDatabase}
-use Rattle.gaz_sql_facts.specs.Changes.{Changes, IsAdded}
+use Rattle.gaz_sql_facts.specs.Changes.{IsAdded}
 use Rattle.gaz_sql_facts.proofs.Emptied.{empty_is_shaped}
+use Rattle.gaz_tables.proofs.Four.{meta_tree, own_tables, received_tree, rows_at, version_there, version_tree, version2_tree}
+use Rattle.gaz_tables.proofs.Staying.{other_name, rows_stay, tables_now}
 use Rattle.gaz_tables.specs.Creating.{Gains, IsBare, IsNewStore}
 use Rattle.gaz_tables.specs.Metas.{AddsMeta, meta_row}
-use Rattle.gaz_tables.specs.Schema.{first_schema, store_schema, version, received, version2, old_versions, versions, receiveds, metas}
-use Rattle.gaz_tables.specs.Stores.{HasTables}
+use Rattle.gaz_tables.specs.Schema.{first_schema, store_schema, version, received, meta, version2}
+use Rattle.gaz_tables.specs.Stores.{ChangesTable, HasTables}
+use Rattle.gaz_tables.specs.Tables.{HasTable, rows_of}
 
 -- a database without rows that gains something has none still
 pub bare_gains : (has gets : Schema) (old new : Database) → IsBare has old → Gains has gets old new → IsBare gets new
@@ -44,37 +47,34 @@ still_listed t (inr (inl is)) = inr (inl is)
 still_listed t (inr (inr (inl is))) = inr (inr (inl is))
 still_listed t (inr (inr (inr never))) = absurd never
 
-pub bare_tables : (db : Database) → IsBare store_schema db → IsDatabase db → HasTables db
-bare_tables db bare sound = record {
-  schema_is = bare.schema_is;
-  sound = sound;
-  old_versions_shaped = empty_is_shaped (db.trees old_versions) bare.empty.0;
-  versions_shaped = empty_is_shaped (db.trees versions) bare.empty.1.1.1.0;
-  receiveds_shaped = empty_is_shaped (db.trees receiveds) bare.empty.1.0;
-  metas_shaped = empty_is_shaped (db.trees metas) bare.empty.1.1.0;
-}
+-- where the schema is a store's, each of its tables is empty
+module _ (db : Database) (bare : IsBare store_schema db) where
+  no_old_versions : rows_of db version ≡ []
+  no_old_versions = rows_at db store_schema bare.schema_is version version.tree version_tree ∙ bare.empty.0
+
+  no_versions : rows_of db version2 ≡ []
+  no_versions = rows_at db store_schema bare.schema_is version2 version2.tree version2_tree ∙ bare.empty.1.1.1.0
+
+  no_receiveds : rows_of db received ≡ []
+  no_receiveds = rows_at db store_schema bare.schema_is received received.tree received_tree ∙ bare.empty.1.0
+
+  no_metas : rows_of db meta ≡ []
+  no_metas = rows_at db store_schema bare.schema_is meta meta.tree meta_tree ∙ bare.empty.1.1.0
+
+  pub bare_tables : IsDatabase db → HasTables db
+  bare_tables sound = own_tables db bare.schema_is sound (empty_is_shaped (rows_of db version2) no_versions) (empty_is_shaped (rows_of db received) no_receiveds) (empty_is_shaped (rows_of db meta) no_metas)
 
 -- the empty tables with one row of `meta` are a new store
-pub new_store : (number : ℕ) (register : List ℕ) (old new : Database) → IsBare store_schema old → IsDatabase old → Changes metas (AddsMeta number register) old new → IsNewStore number register new
+pub new_store : (number : ℕ) (register : List ℕ) (old new : Database) → IsBare store_schema old → IsDatabase old → ChangesTable meta (AddsMeta number register) old new → IsNewStore number register new
 new_store number register old new bare sound h =
-    let tables = bare_tables old bare sound in
-    let first : Has old.schema.tables version = subst (λ s. Has s.tables version) (sym bare.schema_is) (inl refl) in
-    let second : Has old.schema.tables received = subst (λ s. Has s.tables received) (sym bare.schema_is) (inr (inl refl)) in
-    let last : Has old.schema.tables version2 = subst (λ s. Has s.tables version2) (sym bare.schema_is) (inr (inr (inr (inl refl)))) in
-    let no_old_versions : new.trees old_versions ≡ [] = h.others version first (λ e. omega (arith, e)) ∙ bare.empty.0 in
-    let no_versions : new.trees versions ≡ [] = h.others version2 last (λ e. omega (arith, e)) ∙ bare.empty.1.1.1.0 in
-    let no_receiveds : new.trees receiveds ≡ [] = h.others received second (λ e. omega (arith, e)) ∙ bare.empty.1.0 in
+    let has = bare_tables old bare sound in
+    let old_there : HasTable version old.schema = subst (HasTable version) (sym bare.schema_is) version_there in
+    let still = rows_stay meta (AddsMeta number register) old new has.there.metas h in
     record {
-      tables = record {
-        schema_is = h.schema_stays ∙ bare.schema_is;
-        sound = h.sound;
-        old_versions_shaped = empty_is_shaped (new.trees old_versions) no_old_versions;
-        versions_shaped = empty_is_shaped (new.trees versions) no_versions;
-        receiveds_shaped = empty_is_shaped (new.trees receiveds) no_receiveds;
-        metas_shaped = h.shaped tables.metas_shaped;
-      };
-      no_old_versions = no_old_versions;
-      no_versions = no_versions;
-      no_receiveds = no_receiveds;
-      meta_alone = subst (λ l. IsAdded (meta_row number register) l (new.trees metas)) bare.empty.1.1.0 h.rows;
+      schema_is = h.schema_stays ∙ bare.schema_is;
+      tables = tables_now meta (AddsMeta number register) old new has.there.metas h has;
+      no_old_versions = still version old_there (other_name version meta refl) ∙ no_old_versions old bare;
+      no_versions = still version2 has.there.versions (other_name version2 meta refl) ∙ no_versions old bare;
+      no_receiveds = still received has.there.receiveds (other_name received meta refl) ∙ no_receiveds old bare;
+      meta_alone = subst (λ l. IsAdded (meta_row number register) l (rows_of new meta)) (no_metas old bare) h.rows;
     }

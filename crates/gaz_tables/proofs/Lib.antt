@@ -3,6 +3,7 @@ pub mod Examples
 pub mod CustodyMeanings
 pub mod CustodyPages
 pub mod CustodyQueries
+pub mod Four
 pub mod Growing
 pub mod Making
 pub mod MetaTexts
@@ -20,7 +21,9 @@ pub mod Standing
 pub mod StandingTexts
 pub mod Staying
 pub mod Steps
+pub mod StoreExamples
 pub mod Tests
+pub mod Trees
 pub mod Unique
 pub mod VersionMeanings
 pub mod VersionOnce

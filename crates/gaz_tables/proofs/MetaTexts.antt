@@ -10,30 +10,30 @@ use Rattle.sqlite_sql.specs.declared.ops.CompareOp.TheVariants.{Eq}
 use Rattle.sqlite_trees.specs.Tree.{rowid}
 use Rattle.sqlite.specs.Cast.{cast, cast_all}
 use Rattle.sqlite.specs.Kind.TheVariants as kind
-use Rattle.sqlite.specs.Command.TheVariants.{Insert, Update}
 use Rattle.sqlite.specs.declared.error.Error.{Error}
 use Rattle.sqlite.specs.declared.types.Value.TheVariants.{Null, Int, Text}
 use Rattle.sqlite.specs.Edit.{id_in}
 use Rattle.sqlite.specs.Effect.{Database}
 use Rattle.sqlite.specs.Order.{Row}
-use Rattle.sqlite.specs.Source.TheVariants.{Values}
 use Rattle.sqlite.specs.State.{State, ExecutesInside}
 use Rattle.sqlite.specs.Term.{Term, lit, col}
 use Rattle.sqlite.specs.View.{is_int}
-use Rattle.gaz_sql_facts.specs.Changes.{Changes, InPlace}
+use Rattle.gaz_sql_facts.specs.Changes.{InPlace}
 use Rattle.gaz_sql_facts.specs.Meaning.{MeansAnywhere, OnTable}
-use Rattle.gaz_sql_facts.specs.Selects.{selecting, every, equals, Selects}
+use Rattle.gaz_sql_facts.specs.Selects.{selecting, equals, Selects}
+use Rattle.gaz_sql_facts.proofs.Free.{free}
 use Rattle.gaz_sql_facts.proofs.Inserts.{inserted}
-use Rattle.gaz_tables.proofs.Standing.{of_meta}
 use Rattle.gaz_tables.proofs.Shown.{answered, shows_some}
+use Rattle.gaz_tables.proofs.Standing.{apart, changes_table, command_here, means_here, rest, stands}
 use Rattle.gaz_tables.proofs.Tests.{Test, SuitsAll, means, met}
 use Rattle.gaz_sql_facts.proofs.TextMoves.{anywhere}
-use Rattle.gaz_sql_facts.proofs.Texts.{IsCommand, IsSelect, is_command, is_select}
+use Rattle.gaz_sql_facts.proofs.Texts.{IsSelect, is_select}
 use Rattle.gaz_sql_facts.proofs.Typed.{cast_null, cast_int}
 use Rattle.gaz_sql_facts.proofs.Updates.{updated, changed_to}
 use Rattle.gaz_tables.specs.Metas.{AddsMeta, FindsTwo, IsAny, Rewrites, id_of, rows_text}
-use Rattle.gaz_tables.specs.Schema.{store_schema, metas, meta_columns, meta}
-use Rattle.gaz_tables.specs.Stores.{HasTables}
+use Rattle.gaz_tables.specs.Schema.{meta_columns, meta}
+use Rattle.gaz_tables.specs.Stores.{ChangesTable, HasTables}
+use Rattle.gaz_tables.specs.Tables.{rows_of, tree_of}
 use Rattle.gaz_tables.specs.Texts.{insert_meta_text as insert_text, rewrite_meta_text as rewrite_text}
 
 abbrev pub rows_terms : List Term
@@ -46,11 +46,11 @@ pub rows_anywhere : MeansAnywhere meta rows_text rows_on
 unfolding everything
 rows_anywhere = anywhere meta rows_text rows_on refl refl (record { read = _; is = refl; command_is = refl; no_rows = refl; no_time = refl })
 
-pub rows_is : IsSelect store_schema rows_text (selecting metas [] rows_terms [] (lit (Int (pos 2)))) (codes "id" ∷ codes "number" ∷ codes "register" ∷ [])
-rows_is = is_select store_schema rows_text _ _ (of_meta rows_text rows_on rows_anywhere)
+pub rows_here : (db : Database) → HasTables db → IsSelect db.schema rows_text (selecting (tree_of meta db.schema) [] rows_terms [] (lit (Int (pos 2)))) (codes "id" ∷ codes "number" ∷ codes "register" ∷ [])
+rows_here db has = is_select db.schema rows_text _ _ (means_here meta db.schema has.there.metas rows_text rows_on rows_anywhere)
 
-pub rows_found : (db : Database) (r : Result (Vec Row Global) Error) → IfOk r (λ rows. Selects [] rows_terms [] (Some 2) (db.trees metas) [] rows.items) → IfOk r (λ rows. FindsTwo (db.trees metas) rows.items)
-rows_found db r h = answered r (λ answer s. shows_some [] rows_terms [] (db.trees metas) IsAny (λ r there p. tt) (λ r there fits. refl) 2 answer s) h
+pub rows_found : (db : Database) (r : Result (Vec Row Global) Error) → IfOk r (λ rows. Selects [] rows_terms [] (Some 2) (rows_of db meta) [] rows.items) → IfOk r (λ rows. FindsTwo (rows_of db meta) rows.items)
+rows_found db r h = answered r (λ answer s. shows_some [] rows_terms [] (rows_of db meta) IsAny (λ r there p. tt) (λ r there fits. refl) 2 answer s) h
 
 abbrev pub insert_terms : List Term
 insert_terms = lit (Int (pos 1)) ∷ lit Null ∷ col 0 0 ∷ col 0 1 ∷ []
@@ -61,9 +61,6 @@ insert_on = OnTable.Inserts insert_terms 4
 pub insert_anywhere : MeansAnywhere meta insert_text insert_on
 unfolding everything
 insert_anywhere = anywhere meta insert_text insert_on refl refl (record { read = _; is = refl; command_is = refl; no_rows = refl; no_time = refl })
-
-pub insert_is : IsCommand store_schema insert_text (Insert 2 (Values insert_terms 4))
-insert_is = is_command store_schema insert_text _ (of_meta insert_text insert_on insert_anywhere)
 
 abbrev pub first_tests : List Term
 first_tests = equals (col 1 0) (lit (Int (pos 1))) ∷ []
@@ -78,9 +75,6 @@ pub rewrite_anywhere : MeansAnywhere meta rewrite_text rewrite_on
 unfolding everything
 rewrite_anywhere = anywhere meta rewrite_text rewrite_on refl refl (record { read = _; is = refl; command_is = refl; no_rows = refl; no_time = refl })
 
-pub rewrite_is : IsCommand store_schema rewrite_text (Update 2 (record { lets = []; body = selecting metas first_tests rewrite_terms [] every }))
-rewrite_is = is_command store_schema rewrite_text _ (of_meta rewrite_text rewrite_on rewrite_anywhere)
-
 kept_values : (number : ℕ) (register : List ℕ) → cast_all meta_columns (Null ∷ Int (pos number) ∷ Text register ∷ []) ≡ Null ∷ Int (pos number) ∷ Text register ∷ []
 kept_values number register = ap (λ v. v ∷ cast kind.Integer (Int (pos number)) ∷ Text register ∷ []) cast_null ∙ ap (λ v. Null ∷ v ∷ Text register ∷ []) (cast_int (pos number))
 
@@ -91,21 +85,26 @@ module _ (old new : State) (has : HasTables old.now) (number : ℕ) (register : 
   abbrev values : Row
   values = Null ∷ Int (pos number) ∷ Text register ∷ []
 
-  pub insert_done : (r : Result ℕ Error) → ExecutesInside 0 insert_text meta_params old new r → OnOk r (Changes metas (AddsMeta number register) old.now new.now × InPlace old new)
+  pub insert_done : (r : Result ℕ Error) → ExecutesInside 0 insert_text meta_params old new r → OnOk r (ChangesTable meta (AddsMeta number register) old.now new.now × InPlace old new)
   insert_done (Err e) h = tt
   insert_done (Ok count) h =
-      inserted store_schema 2 metas (Some 0) _ _ [] meta_columns _ insert_terms 4 meta_params (Int (pos 1)) values refl refl
-      (ap (λ v. v ∷ cast_all meta_columns values) (cast_int (pos 1)) ∙ ap (λ vs. Int (pos 1) ∷ vs) (kept_values number register)) insert_text insert_is old new has.schema_is count h.0
+      let s = old.now.schema in
+      let t = has.there.metas in
+      let it = inserted s t.place (rest meta s t) (Some 0) meta.name [] meta_columns insert_terms 4 meta_params (Int (pos 1)) values (stands meta s t).listed refl
+      (ap (λ v. v ∷ cast_all meta_columns values) (cast_int (pos 1)) ∙ ap (λ vs. Int (pos 1) ∷ vs) (kept_values number register)) insert_text (command_here meta s t insert_text insert_on insert_anywhere) old new refl count h.0 in
+      (changes_table meta (AddsMeta number register) old.now new.now it.0, it.1)
 
   abbrev wanted : List Test
   wanted = (0, Eq, Int (pos 1)) ∷ []
 
-  suits : (r : Row) → Has (old.now.trees metas) r → SuitsAll wanted r
-  suits r there = let e = int_is (rowid r) (all_has (λ x. IsTrue (is_int (rowid x))) (old.now.trees metas) r has.metas_shaped.1 there) in ((id_in (rowid r), e), tt)
+  suits : (r : Row) → Has (rows_of old.now meta) r → SuitsAll wanted r
+  suits r there = let e = int_is (rowid r) (all_has (λ x. IsTrue (is_int (rowid x))) (rows_of old.now meta) r has.metas_shaped.1 there) in ((id_in (rowid r), e), tt)
 
-  pub rewrite_done : (r : Result ℕ Error) → ExecutesInside 0 rewrite_text meta_params old new r → OnOk r (Changes metas (Rewrites number register) old.now new.now × InPlace old new)
+  pub rewrite_done : (r : Result ℕ Error) → ExecutesInside 0 rewrite_text meta_params old new r → OnOk r (ChangesTable meta (Rewrites number register) old.now new.now × InPlace old new)
   rewrite_done (Err e) h = tt
   rewrite_done (Ok count) h =
-      let it = updated store_schema 2 metas (Some 0) _ _ [] meta_columns _ first_tests rewrite_terms meta_params (λ r. values) refl (λ _ _ _. refl) (λ r. refl) (λ _ _ _ _ _. kept_values number register)
-      rewrite_text rewrite_is old new has.schema_is count has.sound has.metas_shaped h.0 in
-      (changed_to metas (λ r. id_of r ∷ values) old.now new.now (λ r there p. (means wanted r refl (suits r there) p).0) (λ r there fits. met wanted r (suits r there) (fits, tt)) it.0, it.1)
+      let s = old.now.schema in
+      let t = has.there.metas in
+      let it = updated s t.place (rest meta s t) (Some 0) meta.name [] meta_columns first_tests rewrite_terms meta_params (λ r. values) (stands meta s t).listed (λ olds news keys. free s keys (tree_of meta s) olds news (apart meta s t)) (λ r. refl) (λ _ _ _ _ _. kept_values number register)
+      rewrite_text (command_here meta s t rewrite_text rewrite_on rewrite_anywhere) old new refl count has.sound has.metas_shaped h.0 in
+      (changes_table meta (Rewrites number register) old.now new.now (changed_to (tree_of meta s) (λ r. id_of r ∷ values) old.now new.now (λ r there p. (means wanted r refl (suits r there) p).0) (λ r there fits. met wanted r (suits r there) (fits, tt)) it.0), it.1)

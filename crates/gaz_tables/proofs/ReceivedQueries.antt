@@ -6,11 +6,9 @@ use Rattle.sqlite.specs.Term.{Term, col, op2}
 use Rattle.sqlite_sql.specs.declared.ops.BinaryOp.TheVariants.{Compare}
 use Rattle.sqlite_sql.specs.declared.ops.CompareOp.TheVariants.{Gt}
 use Rattle.gaz_sql_facts.specs.Meaning.{MeansAnywhere, OnTable}
-use Rattle.gaz_sql_facts.specs.Selects.{selecting, every, equals, rising}
+use Rattle.gaz_sql_facts.specs.Selects.{every, equals, rising}
 use Rattle.gaz_sql_facts.proofs.TextMoves.{anywhere}
-use Rattle.gaz_sql_facts.proofs.Texts.{IsSelect, is_select}
-use Rattle.gaz_tables.proofs.Standing.{of_received}
-use Rattle.gaz_tables.specs.Schema.{store_schema, receiveds, received}
+use Rattle.gaz_tables.specs.Schema.{received}
 use Rattle.gaz_tables.specs.Texts.{file_text, verdict_text, volumes_above_text as above_text}
 
 -- WHERE cust = ?1 AND volume = ?2
@@ -27,9 +25,6 @@ pub file_anywhere : MeansAnywhere received file_text file_on
 unfolding everything
 file_anywhere = anywhere received file_text file_on refl refl (record { read = _; is = refl; command_is = refl; no_rows = refl; no_time = refl })
 
-pub file_is : IsSelect store_schema file_text (selecting receiveds volume_tests file_terms [] every) (codes "bytes" ∷ codes "state" ∷ codes "place" ∷ codes "rule" ∷ [])
-file_is = is_select store_schema file_text _ _ (of_received file_text file_on file_anywhere)
-
 abbrev pub verdict_terms : List Term
 verdict_terms = col 1 4 ∷ col 1 5 ∷ col 1 6 ∷ []
 
@@ -39,9 +34,6 @@ verdict_on = OnTable.Selects volume_tests verdict_terms [] every (codes "state" 
 pub verdict_anywhere : MeansAnywhere received verdict_text verdict_on
 unfolding everything
 verdict_anywhere = anywhere received verdict_text verdict_on refl refl (record { read = _; is = refl; command_is = refl; no_rows = refl; no_time = refl })
-
-pub verdict_is : IsSelect store_schema verdict_text (selecting receiveds volume_tests verdict_terms [] every) (codes "state" ∷ codes "place" ∷ codes "rule" ∷ [])
-verdict_is = is_select store_schema verdict_text _ _ (of_received verdict_text verdict_on verdict_anywhere)
 
 abbrev pub above_tests : List Term
 above_tests = equals (col 1 1) (col 0 0) ∷ op2 (Compare Gt Binary) (col 1 2) (col 0 1) ∷ []
@@ -55,6 +47,3 @@ above_on = OnTable.Selects above_tests above_terms ((col 1 2, rising) ∷ []) (c
 pub above_anywhere : MeansAnywhere received above_text above_on
 unfolding everything
 above_anywhere = anywhere received above_text above_on refl refl (record { read = _; is = refl; command_is = refl; no_rows = refl; no_time = refl })
-
-pub above_is : IsSelect store_schema above_text (selecting receiveds above_tests above_terms ((col 1 2, rising) ∷ []) (col 0 2)) (codes "volume" ∷ [])
-above_is = is_select store_schema above_text _ _ (of_received above_text above_on above_anywhere)

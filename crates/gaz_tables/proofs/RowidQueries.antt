@@ -6,11 +6,9 @@ use Rattle.sqlite.specs.Term.{Term, col, op2}
 use Rattle.sqlite_sql.specs.declared.ops.BinaryOp.TheVariants.{Compare}
 use Rattle.sqlite_sql.specs.declared.ops.CompareOp.TheVariants.{Gt}
 use Rattle.gaz_sql_facts.specs.Meaning.{MeansAnywhere, OnTable}
-use Rattle.gaz_sql_facts.specs.Selects.{selecting, rising}
+use Rattle.gaz_sql_facts.specs.Selects.{rising}
 use Rattle.gaz_sql_facts.proofs.TextMoves.{anywhere}
-use Rattle.gaz_sql_facts.proofs.Texts.{IsSelect, is_select}
-use Rattle.gaz_tables.proofs.Standing.{of_version2}
-use Rattle.gaz_tables.specs.Schema.{store_schema, versions, version2}
+use Rattle.gaz_tables.specs.Schema.{version2}
 use Rattle.gaz_tables.specs.Texts.{first_rows_text as first_text, rows_behind_text as behind_text}
 
 -- all that a row has, and its name
@@ -30,9 +28,6 @@ pub first_anywhere : MeansAnywhere version2 first_text first_on
 unfolding everything
 first_anywhere = anywhere version2 first_text first_on refl refl (record { read = _; is = refl; command_is = refl; no_rows = refl; no_time = refl })
 
-pub first_is : IsSelect store_schema first_text (selecting versions first_tests row_terms ((col 1 0, rising) ∷ []) (col 0 0)) row_names
-first_is = is_select store_schema first_text _ _ (of_version2 first_text first_on first_anywhere)
-
 abbrev pub behind_tests : List Term
 behind_tests = op2 (Compare Gt Binary) (col 1 0) (col 0 0) ∷ []
 
@@ -42,6 +37,3 @@ behind_on = OnTable.Selects behind_tests row_terms ((col 1 0, rising) ∷ []) (c
 pub behind_anywhere : MeansAnywhere version2 behind_text behind_on
 unfolding everything
 behind_anywhere = anywhere version2 behind_text behind_on refl refl (record { read = _; is = refl; command_is = refl; no_rows = refl; no_time = refl })
-
-pub behind_is : IsSelect store_schema behind_text (selecting versions behind_tests row_terms ((col 1 0, rising) ∷ []) (col 0 1)) row_names
-behind_is = is_select store_schema behind_text _ _ (of_version2 behind_text behind_on behind_anywhere)

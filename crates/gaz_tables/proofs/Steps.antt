@@ -17,11 +17,12 @@ use Rattle.sqlite.specs.declared.error.Error.{Error}
 use Rattle.sqlite_trees.specs.declared.store.Store.{Ghosts}
 use Rattle.sqlite_trees.specs.Tree.{Trees}
 use Rattle.gaz_sql_facts.proofs.Texts.{spared_query}
-use Rattle.gaz_sql_facts.specs.Changes.{Changes, InPlace}
+use Rattle.gaz_sql_facts.specs.Changes.{InPlace}
 use Rattle.gaz_tables.specs.Creating.{Gains, Grows, Widens}
 use Rattle.gaz_tables.proofs.Growing.{gains_both}
-use Rattle.gaz_tables.specs.Stores.{HasTables, KeepsTables, StaysInside, WasOpen, WritesInside}
-use Rattle.gaz_tables.proofs.Staying.{stays}
+use Rattle.gaz_tables.specs.Stores.{ChangesTable, HasTables, KeepsTables, StaysInside, WasOpen, WritesInside}
+use Rattle.gaz_tables.specs.Tables.{HasTable}
+use Rattle.gaz_tables.proofs.Staying.{tables_now}
 
 -- ---- a statement
 
@@ -108,13 +109,13 @@ none_done P (Err e) failed = tt
 none_done P (Ok y) failed = absurd (let no = failed in cc)
 
 -- a statement leaves the tables there
-pub keeps_tables : {S : Type 0} (g : Ghosts S) (old new : Held S) (table : ℕ) (Becomes : List Row → List Row → Type 0) (r : Result ℕ Error)
-    → WritesInside g old new table r Becomes → KeepsTables g old new r
-keeps_tables g old new table Becomes r writes clean has = by_result r (writes clean has)
+pub keeps_tables : {S : Type 0} (g : Ghosts S) (old new : Held S) (table : Table) (Becomes : List Row → List Row → Type 0) (r : Result ℕ Error)
+    → (HasTables (state g old).now → HasTable table (state g old).now.schema) → WritesInside g old new table r Becomes → KeepsTables g old new r
+keeps_tables g old new table Becomes r there writes clean has = by_result r (writes clean has)
   where
-    by_result : (r : Result ℕ Error) → OnOk r (Changes table Becomes (state g old).now (state g new).now × InPlace (state g old) (state g new)) → OnOk r (HasTables (state g new).now)
+    by_result : (r : Result ℕ Error) → OnOk r (ChangesTable table Becomes (state g old).now (state g new).now × InPlace (state g old) (state g new)) → OnOk r (HasTables (state g new).now)
     by_result (Err e) h = tt
-    by_result (Ok count) h = (stays table Becomes (state g old).now (state g new).now has h.0).0
+    by_result (Ok count) h = tables_now table Becomes (state g old).now (state g new).now (there has) h.0 has
 
 module _ {S A B : Type 0} (g : Ghosts S) (old new : Held S) where
   -- what is done answers another value, or a fault

@@ -7,11 +7,9 @@ use Rattle.sqlite.specs.Term.{Term, lit, col, op2}
 use Rattle.sqlite_sql.specs.declared.ops.BinaryOp.TheVariants.{Compare}
 use Rattle.sqlite_sql.specs.declared.ops.CompareOp.TheVariants.{Gt, Le}
 use Rattle.gaz_sql_facts.specs.Meaning.{MeansAnywhere, OnTable}
-use Rattle.gaz_sql_facts.specs.Selects.{selecting, every, equals, rising, falling}
+use Rattle.gaz_sql_facts.specs.Selects.{every, equals, rising, falling}
 use Rattle.gaz_sql_facts.proofs.TextMoves.{anywhere}
-use Rattle.gaz_sql_facts.proofs.Texts.{IsSelect, is_select}
-use Rattle.gaz_tables.proofs.Standing.{of_version2}
-use Rattle.gaz_tables.specs.Schema.{store_schema, versions, version2}
+use Rattle.gaz_tables.specs.Schema.{version2}
 use Rattle.gaz_tables.specs.Texts.{newest_version_text as newest_text, newest_version_until_text as newest_until_text, held_versions_text as holding_text, approved_of_text, approved_on_text, parts_of_text}
 
 abbrev pub newest_tests : List Term
@@ -27,9 +25,6 @@ pub newest_anywhere : MeansAnywhere version2 newest_text newest_on
 unfolding everything
 newest_anywhere = anywhere version2 newest_text newest_on refl refl (record { read = _; is = refl; command_is = refl; no_rows = refl; no_time = refl })
 
-pub newest_is : IsSelect store_schema newest_text (selecting versions newest_tests newest_terms ((col 1 8, falling) ∷ []) (lit (Int (pos 1)))) (codes "born" ∷ codes "gone" ∷ codes "body" ∷ [])
-newest_is = is_select store_schema newest_text _ _ (of_version2 newest_text newest_on newest_anywhere)
-
 abbrev pub newest_until_tests : List Term
 newest_until_tests = equals (col 1 1) (col 0 0) ∷ equals (col 1 2) (col 0 1) ∷ equals (col 1 3) (col 0 2) ∷ op2 (Compare Le Binary) (col 1 8) (col 0 3) ∷ []
 
@@ -42,9 +37,6 @@ newest_until_on = OnTable.Selects newest_until_tests newest_until_terms ((col 1 
 pub newest_until_anywhere : MeansAnywhere version2 newest_until_text newest_until_on
 unfolding everything
 newest_until_anywhere = anywhere version2 newest_until_text newest_until_on refl refl (record { read = _; is = refl; command_is = refl; no_rows = refl; no_time = refl })
-
-pub newest_until_is : IsSelect store_schema newest_until_text (selecting versions newest_until_tests newest_until_terms ((col 1 8, falling) ∷ []) (lit (Int (pos 1)))) (codes "born" ∷ codes "gone" ∷ codes "body" ∷ [])
-newest_until_is = is_select store_schema newest_until_text _ _ (of_version2 newest_until_text newest_until_on newest_until_anywhere)
 
 abbrev pub holding_tests : List Term
 holding_tests = equals (col 1 1) (col 0 0) ∷ equals (col 1 2) (col 0 1) ∷ op2 (Compare Gt Binary) (col 1 3) (col 0 2) ∷ op2 (Compare Le Binary) (col 1 8) (col 0 3) ∷ op2 (Compare Gt Binary) (col 1 9) (col 0 3) ∷ []
@@ -59,9 +51,6 @@ pub holding_anywhere : MeansAnywhere version2 holding_text holding_on
 unfolding everything
 holding_anywhere = anywhere version2 holding_text holding_on refl refl (record { read = _; is = refl; command_is = refl; no_rows = refl; no_time = refl })
 
-pub holding_is : IsSelect store_schema holding_text (selecting versions holding_tests holding_terms ((col 1 3, rising) ∷ []) (col 0 4)) (codes "id" ∷ codes "body" ∷ [])
-holding_is = is_select store_schema holding_text _ _ (of_version2 holding_text holding_on holding_anywhere)
-
 abbrev pub approved_of_tests : List Term
 approved_of_tests = equals (col 1 1) (col 0 0) ∷ equals (col 1 2) (lit (Int (pos 24))) ∷ equals (col 1 4) (col 0 1) ∷ equals (col 1 7) (lit (Int (pos 1))) ∷ equals (col 1 9) (lit (Int (pos 1000000))) ∷ []
 
@@ -74,9 +63,6 @@ approved_of_on = OnTable.Selects approved_of_tests approved_of_terms [] every (c
 pub approved_of_anywhere : MeansAnywhere version2 approved_of_text approved_of_on
 unfolding everything
 approved_of_anywhere = anywhere version2 approved_of_text approved_of_on refl refl (record { read = _; is = refl; command_is = refl; no_rows = refl; no_time = refl })
-
-pub approved_of_is : IsSelect store_schema approved_of_text (selecting versions approved_of_tests approved_of_terms [] every) (codes "id" ∷ codes "body" ∷ [])
-approved_of_is = is_select store_schema approved_of_text _ _ (of_version2 approved_of_text approved_of_on approved_of_anywhere)
 
 abbrev pub approved_on_tests : List Term
 approved_on_tests = equals (col 1 1) (col 0 0) ∷ equals (col 1 2) (lit (Int (pos 24))) ∷ equals (col 1 5) (col 0 1) ∷ equals (col 1 7) (lit (Int (pos 1))) ∷ equals (col 1 9) (lit (Int (pos 1000000))) ∷ op2 (Compare Gt Binary) (col 1 3) (col 0 2) ∷ []
@@ -91,9 +77,6 @@ pub approved_on_anywhere : MeansAnywhere version2 approved_on_text approved_on_o
 unfolding everything
 approved_on_anywhere = anywhere version2 approved_on_text approved_on_on refl refl (record { read = _; is = refl; command_is = refl; no_rows = refl; no_time = refl })
 
-pub approved_on_is : IsSelect store_schema approved_on_text (selecting versions approved_on_tests approved_on_terms ((col 1 3, rising) ∷ []) (col 0 3)) (codes "id" ∷ codes "lang" ∷ [])
-approved_on_is = is_select store_schema approved_on_text _ _ (of_version2 approved_on_text approved_on_on approved_on_anywhere)
-
 abbrev pub parts_of_tests : List Term
 parts_of_tests = equals (col 1 1) (col 0 0) ∷ equals (col 1 2) (col 0 1) ∷ equals (col 1 4) (col 0 2) ∷ equals (col 1 9) (lit (Int (pos 1000000))) ∷ op2 (Compare Gt Binary) (col 1 3) (col 0 3) ∷ []
 
@@ -106,6 +89,3 @@ parts_of_on = OnTable.Selects parts_of_tests parts_of_terms ((col 1 3, rising) �
 pub parts_of_anywhere : MeansAnywhere version2 parts_of_text parts_of_on
 unfolding everything
 parts_of_anywhere = anywhere version2 parts_of_text parts_of_on refl refl (record { read = _; is = refl; command_is = refl; no_rows = refl; no_time = refl })
-
-pub parts_of_is : IsSelect store_schema parts_of_text (selecting versions parts_of_tests parts_of_terms ((col 1 3, rising) ∷ []) (col 0 4)) (codes "id" ∷ [])
-parts_of_is = is_select store_schema parts_of_text _ _ (of_version2 parts_of_text parts_of_on parts_of_anywhere)

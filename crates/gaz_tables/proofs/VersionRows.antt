@@ -1,18 +1,20 @@
 -- A row of `version2` has a value of its column's kind in each column.
-use Rattle.std.proofs.Common.{inl, inr, refl, sym, subst}
+use Rattle.std.proofs.Common.{refl}
 use Rattle.sqlite.specs.Effect.{Database}
 use Rattle.sqlite.specs.Kind.TheVariants.{Integer, Text}
 use Rattle.sqlite.specs.Order.{Row}
 use Rattle.sqlite_rules.specs.Lists.{Has}
 use Rattle.gaz_sql_facts.specs.Tables.{AreOf, IsOf, cells}
 use Rattle.gaz_sql_facts.proofs.Typed.{typed}
-use Rattle.gaz_tables.specs.Schema.{version2, version2_columns, versions}
+use Rattle.gaz_tables.proofs.Standing.{listed, table}
+use Rattle.gaz_tables.specs.Schema.{version2, version2_columns}
 use Rattle.gaz_tables.specs.Stores.{HasTables}
+use Rattle.gaz_tables.specs.Tables.{rows_of}
 use Rattle.gaz_tables.specs.Versions.{cust_of, kind_of, id_of, blpu_of, street_of, live_of, born_of, gone_of}
 
-module _ (db : Database) (has : HasTables db) (r : Row) (there : Has (db.trees versions) r) where
+module _ (db : Database) (has : HasTables db) (r : Row) (there : Has (rows_of db version2) r) where
   cells_are : AreOf version2_columns (cells version2_columns 1 r)
-  cells_are = typed db r version2 has.sound (subst (λ s. Has s.tables version2) (sym has.schema_is) (inr (inr (inr (inl refl))))) there refl refl
+  cells_are = typed db r (table version2 db.schema has.there.versions) has.sound (listed version2 db.schema has.there.versions) there refl refl
 
   pub cust_is : IsOf Integer (cust_of r)
   cust_is = cells_are.0

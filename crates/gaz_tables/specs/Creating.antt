@@ -13,8 +13,9 @@ use Rattle.gaz_sql_facts.specs.Changes.{AreTreesOf, IsAdded}
 use Rattle.gaz_tables.specs.Metas.{meta_row}
 use Rattle.gaz_tables.specs.Schema.{version, received, meta, version2}
 use Rattle.gaz_tables.specs.Schema.{of_keys, by_blpu, by_street, of_volumes, of_keys2, by_blpu2}
-use Rattle.gaz_tables.specs.Schema.{old_versions, versions, receiveds, metas}
+use Rattle.gaz_tables.specs.Schema.{store_schema}
 use Rattle.gaz_tables.specs.Stores.{HasTables}
+use Rattle.gaz_tables.specs.Tables.{rows_of}
 
 -- the schema as it grows
 abbrev pub no_schema : Schema
@@ -67,13 +68,14 @@ pub record Gains (has gets : Schema) (old new : Database) : Type 0 where
   pub stay : (t : Table) → Has has.tables t → new.trees t.tree ≡ old.trees t.tree
   pub fresh : (t : Table) → Has gets.tables t → Has has.tables t ⊎ (new.trees t.tree ≡ [])
 
--- a new store: the tables, and the row of `meta` alone
+-- a new store: the tables of `store_schema`, and the row of `meta` alone
 pub record IsNewStore (number : ℕ) (register : List ℕ) (db : Database) : Type 0 where
+  pub schema_is : db.schema ≡ store_schema
   pub tables : HasTables db
-  pub no_old_versions : db.trees old_versions ≡ []
-  pub no_versions : db.trees versions ≡ []
-  pub no_receiveds : db.trees receiveds ≡ []
-  pub meta_alone : IsAdded (meta_row number register) [] (db.trees metas)
+  pub no_old_versions : rows_of db version ≡ []
+  pub no_versions : rows_of db version2 ≡ []
+  pub no_receiveds : rows_of db received ≡ []
+  pub meta_alone : IsAdded (meta_row number register) [] (rows_of db meta)
 
 -- a call on a connection, whose state `g` shows
 module _ {S : Type 0} (g : Ghosts S) (before after : Held S) where

@@ -1,5 +1,5 @@
--- Worked examples: what is found among four rows of `version2` and three of `received`, and what a
--- write makes of a row.
+-- Worked examples: what is found among four rows of `version2` and three of `received`, what a write
+-- makes of a row, and which schemas have a store's tables.
 use Rattle.std.specs.Prelude.{◌≡◌, ℕ, ℤ, pos, List, [], ◌∷◌, codes, true, false}
 use Rattle.sqlite.specs.Order.{Row}
 use Rattle.sqlite.specs.declared.types.Value.TheVariants.{Int, Text, Blob}
@@ -7,6 +7,7 @@ use Rattle.gaz_tables.specs.CustodyExamples.{WorkedCustody}
 use Rattle.gaz_tables.specs.Metas.{meta_row, meta_shown}
 use Rattle.gaz_tables.specs.Receiveds.{FindsAbove, FindsVerdict, file_shown, judged, unjudged}
 use Rattle.gaz_tables.specs.Rowids.{FindsBehind, FindsFirst, row_shown}
+use Rattle.gaz_tables.specs.StoreExamples.{WorkedStores}
 use Rattle.gaz_tables.specs.Versions.{Closes, FindsApprovedOf, FindsHolding, FindsNewest}
 use Rattle.gaz_tables.specs.Versions.{FindsNewestUntil, gone_at, version_values}
 
@@ -96,3 +97,4 @@ pub record WorkedExamples : Type 0 where
   pub on_rowids : WorkedRowids
   pub on_receiveds : WorkedReceiveds
   pub on_custody : WorkedCustody
+  pub on_stores : WorkedStores

@@ -1,16 +1,17 @@
 -- What whoever keeps something in the tables may rest on.
 use Rattle.std.specs.Prelude.{◌≡◌, ◌≢◌, ℕ, List}
-use Rattle.sqlite.specs.Effect.{Database}
+use Rattle.sqlite.specs.Effect.{Database, IsDatabase}
 use Rattle.sqlite.specs.Order.{Row}
+use Rattle.sqlite.specs.View.{IsShaped}
 use Rattle.sqlite_rules.specs.Lists.{Has}
 use Rattle.sqlite_schema.specs.declared.schema.Table.{Table}
-use Rattle.gaz_sql_facts.specs.Changes.{Changes}
+use Rattle.sqlite_trees.specs.declared.store.Shape.TheVariants as shape
 use Rattle.gaz_sql_facts.specs.Meaning.{MeansAnywhere, OnTable}
 use Rattle.gaz_tables.specs.Metas.{rows_text}
 use Rattle.gaz_tables.specs.Receiveds.{IsVolume}
-use Rattle.gaz_tables.specs.Schema.{meta, received, receiveds, store_schema, version, version2}
-use Rattle.gaz_tables.specs.Schema.{versions}
-use Rattle.gaz_tables.specs.Stores.{HasTables}
+use Rattle.gaz_tables.specs.Schema.{meta, received, store_schema, version, version2}
+use Rattle.gaz_tables.specs.Stores.{ChangesTable, HasTables}
+use Rattle.gaz_tables.specs.Tables.{HasTable, rows_of}
 use Rattle.gaz_tables.specs.Texts.{apply_text, approved_of_text, approved_on_text}
 use Rattle.gaz_tables.specs.Texts.{close_version_text, custody_behind_text, empty_versions_text}
 use Rattle.gaz_tables.specs.Texts.{file_text, first_rows_text, held_versions_text}
@@ -24,26 +25,38 @@ use Rattle.gaz_tables.specs.Versions.{IsOfBirth}
 -- no two rows of one key are born in one volume
 abbrev pub BornOnce : Type 0
 BornOnce = (db : Database) (cust kind : ℕ) (id : List ℕ) (born : ℕ) (r s : Row) → HasTables db
-    → Has (db.trees versions) r → Has (db.trees versions) s → IsOfBirth cust kind id born r
+    → Has (rows_of db version2) r → Has (rows_of db version2) s → IsOfBirth cust kind id born r
     → IsOfBirth cust kind id born s → s ≡ r
 
 -- no volume is received twice
 abbrev pub ReceivedOnce : Type 0
 ReceivedOnce = (db : Database) (cust volume : ℕ) (r s : Row) → HasTables db
-    → Has (db.trees receiveds) r → Has (db.trees receiveds) s → IsVolume cust volume r
+    → Has (rows_of db received) r → Has (rows_of db received) s → IsVolume cust volume r
     → IsVolume cust volume s → s ≡ r
 
 -- the table becomes any rows
 abbrev pub BecomesAny : List Row → List Row → Type 0
 BecomesAny old new = Unit {0}
 
--- where a table's rows become others, the database still is of the four tables, and the other three
--- have the same rows
+-- where a table's rows become others, the database still has a store's tables, and each other table
+-- has the same rows
 abbrev pub TablesStay : Type 0
-TablesStay = (tree : ℕ) (old new : Database) → HasTables old → Changes tree BecomesAny old new
+TablesStay = (table : Table) (old new : Database) → HasTables old → HasTable table old.schema
+    → ChangesTable table BecomesAny old new
     → HasTables new
-    × ((t : Table) → Has store_schema.tables t → t.tree ≢ tree
-    → new.trees t.tree ≡ old.trees t.tree)
+    × ((other : Table) → HasTable other old.schema → other.name ≢ table.name
+    → rows_of new other ≡ rows_of old other)
+
+-- a sound database of a store's own schema has a store's tables
+abbrev pub OwnTables : Type 0
+OwnTables = (db : Database) → db.schema ≡ store_schema → IsDatabase db
+    → IsShaped shape.Table (rows_of db version2) → IsShaped shape.Table (rows_of db received)
+    → IsShaped shape.Table (rows_of db meta) → HasTables db
+
+-- where a database has a store's tables, each of the same trees has them, with the same rows
+abbrev pub TreesTell : Type 0
+TreesTell = (one other : Database) → HasTables one → IsDatabase other → other.trees ≡ one.trees
+    → HasTables other × ((table : Table) → rows_of other table ≡ rows_of one table)
 
 -- the text is one command on the table, in any schema in which such a table stands
 abbrev pub HangsOn : Table → List ℕ → Type 0

@@ -9,6 +9,8 @@ pub mod Receiveds
 pub mod Rowids
 pub mod Schema
 pub mod Shows
+pub mod StoreExamples
 pub mod Stores
+pub mod Tables
 pub mod Texts
 pub mod Versions

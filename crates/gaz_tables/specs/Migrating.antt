@@ -7,21 +7,33 @@ use Rattle.sqlite.specs.Held.{Held, state}
 use Rattle.sqlite.specs.Order.{Row, column}
 use Rattle.sqlite.specs.State.{State, HasCleanDisk, Survives}
 use Rattle.sqlite.specs.View.{IsShaped}
+use Rattle.sqlite_schema.specs.declared.schema.Table.{Table}
 use Rattle.sqlite_trees.specs.declared.store.Shape.TheVariants as shape
 use Rattle.sqlite_trees.specs.declared.store.Store.{Ghosts}
-use Rattle.gaz_sql_facts.specs.Changes.{AreTreesOf}
+use Rattle.gaz_sql_facts.specs.Changes.{AreTreesOf, InPlace}
 use Rattle.gaz_sql_facts.specs.Copies.{AreCopied}
 use Rattle.gaz_tables.specs.Metas.{Rewrites}
-use Rattle.gaz_tables.specs.Schema.{first_schema, old_versions, versions, receiveds, metas}
-use Rattle.gaz_tables.specs.Stores.{HasTables}
+use Rattle.gaz_tables.specs.Schema.{first_schema, store_schema}
+use Rattle.gaz_tables.specs.Schema.{meta, received, version, version2}
+use Rattle.gaz_tables.specs.Stores.{ChangesTable, HasTables}
+use Rattle.gaz_tables.specs.Tables.{rows_of}
 
 -- the database is one of the three tables of schema 1, in order
 pub record HasFirstTables (db : Database) : Type 0 where
   pub schema_is : db.schema ≡ first_schema
   pub sound : IsDatabase db
-  pub versions_shaped : IsShaped shape.Table (db.trees old_versions)
-  pub receiveds_shaped : IsShaped shape.Table (db.trees receiveds)
-  pub metas_shaped : IsShaped shape.Table (db.trees metas)
+  pub versions_shaped : IsShaped shape.Table (rows_of db version)
+  pub receiveds_shaped : IsShaped shape.Table (rows_of db received)
+  pub metas_shaped : IsShaped shape.Table (rows_of db meta)
+
+-- the database is one of the four tables that schema 2 makes of them, in order
+pub record HasFourTables (db : Database) : Type 0 where
+  pub schema_is : db.schema ≡ store_schema
+  pub sound : IsDatabase db
+  pub old_versions_shaped : IsShaped shape.Table (rows_of db version)
+  pub versions_shaped : IsShaped shape.Table (rows_of db version2)
+  pub receiveds_shaped : IsShaped shape.Table (rows_of db received)
+  pub metas_shaped : IsShaped shape.Table (rows_of db meta)
 
 -- the values of a row of `version`, and hop 0 behind them
 abbrev pub with_hop : Row → Row
@@ -30,24 +42,25 @@ with_hop r = column r 1 ∷ column r 2 ∷ column r 3 ∷ column r 4 ∷ column 
 
 -- `version2` gets each row of `version` once, and keeps what it had
 abbrev pub CopiesRows : Database → List Row → List Row → Type 0
-CopiesRows db old new = AreCopied with_hop (db.trees old_versions) old new
+CopiesRows db old new = AreCopied with_hop (rows_of db version) old new
 
 -- the rows of `version` stand in `version2`, where none stood, and nothing else changes
 pub record MovesRows (old new : Database) : Type 0 where
-  pub tables : HasTables new
-  pub rows : CopiesRows old [] (new.trees versions)
-  pub emptied : new.trees old_versions ≡ []
-  pub files : new.trees receiveds ≡ old.trees receiveds
-  pub meta : new.trees metas ≡ old.trees metas
+  pub tables : HasFourTables new
+  pub rows : CopiesRows old [] (rows_of new version2)
+  pub emptied : rows_of new version ≡ []
+  pub files : rows_of new received ≡ rows_of old received
+  pub meta : rows_of new meta ≡ rows_of old meta
 
 -- a database of schema 1 becomes one of schema 2 with the same rows and files, whose row of `meta`
 -- has this number and register
 pub record Migrates (number : ℕ) (register : List ℕ) (old new : Database) : Type 0 where
+  pub schema_is : new.schema ≡ store_schema
   pub tables : HasTables new
-  pub rows : CopiesRows old [] (new.trees versions)
-  pub emptied : new.trees old_versions ≡ []
-  pub files : new.trees receiveds ≡ old.trees receiveds
-  pub meta : Rewrites number register (old.trees metas) (new.trees metas)
+  pub rows : CopiesRows old [] (rows_of new version2)
+  pub emptied : rows_of new version ≡ []
+  pub files : rows_of new received ≡ rows_of old received
+  pub meta : Rewrites number register (rows_of old meta) (rows_of new meta)
 
 -- a call on a connection, whose state `g` shows
 module _ {S : Type 0} (g : Ghosts S) (before after : Held S) where
@@ -57,9 +70,14 @@ module _ {S : Type 0} (g : Ghosts S) (before after : Held S) where
   abbrev new : State
   new = state g after
 
+  -- within a transaction over the four tables, the rows of one become others
+  abbrev pub WritesFour : Table → Result ℕ Error → (List Row → List Row → Type 0) → Type 0
+  WritesFour table result Becomes = HasCleanDisk new → HasFourTables old.now
+      → OnOk result (ChangesTable table Becomes old.now new.now × InPlace old new)
+
   -- within a transaction, the rows of `version` are moved
   abbrev pub MovesInside : {A : Type 0} → Result A Error → Type 0
-  MovesInside result = HasCleanDisk new → HasTables old.now → old.now.trees versions ≡ []
+  MovesInside result = HasCleanDisk new → HasFourTables old.now → rows_of old.now version2 ≡ []
       → OnOk result (MovesRows old.now new.now)
 
   -- within a transaction, the database of schema 1 becomes one of schema 2

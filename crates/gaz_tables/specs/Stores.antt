@@ -1,5 +1,5 @@
--- A store of the four tables, and what a statement makes of it.
-use Rattle.std.specs.Prelude.{◌≡◌, ℕ, List, [], ◌∷◌, Result, Vec, IfOk, OnOk, OnErr, IsTrue}
+-- A store of three tables, whatever else is in its database, and what a statement makes of it.
+use Rattle.std.specs.Prelude.{◌≡◌, ◌≢◌, ℕ, List, [], ◌∷◌, Result, Vec, IfOk, OnOk, OnErr, IsTrue}
 use Rattle.std.specs.declared.alloc.Global.{Global}
 use Rattle.sqlite.specs.Order.{Row}
 use Rattle.sqlite.specs.declared.types.Value.TheVariants.{Int}
@@ -9,19 +9,32 @@ use Rattle.sqlite.specs.Effect.{Database, IsDatabase}
 use Rattle.sqlite.specs.Held.{Held, state}
 use Rattle.sqlite.specs.State.{State, HasCleanDisk, IsUnchanged, KeepsCommit, Shown, Survives}
 use Rattle.sqlite.specs.View.{IsShaped}
+use Rattle.sqlite_rules.specs.Lists.{Has}
+use Rattle.sqlite_schema.specs.declared.schema.Table.{Table}
 use Rattle.sqlite_trees.specs.declared.store.Store.{Ghosts}
 use Rattle.sqlite_trees.specs.declared.store.Shape.TheVariants as shape
-use Rattle.gaz_sql_facts.specs.Changes.{AreTreesOf, Changes, InPlace, IsAdded, IsSpared, IsUndone}
-use Rattle.gaz_tables.specs.Schema.{store_schema, old_versions, versions, receiveds, metas}
+use Rattle.gaz_sql_facts.specs.Changes.{AreTreesOf, InPlace, IsAdded, IsSpared, IsUndone}
+use Rattle.gaz_tables.specs.Schema.{meta, received, version2}
+use Rattle.gaz_tables.specs.Tables.{AreThere, rows_of, tree_of}
 
--- the database is one of the four tables, in order
+-- the database has a store's three tables, whatever else it has
 pub record HasTables (db : Database) : Type 0 where
-  pub schema_is : db.schema ≡ store_schema
+  pub there : AreThere db.schema
   pub sound : IsDatabase db
-  pub old_versions_shaped : IsShaped shape.Table (db.trees old_versions)
-  pub versions_shaped : IsShaped shape.Table (db.trees versions)
-  pub receiveds_shaped : IsShaped shape.Table (db.trees receiveds)
-  pub metas_shaped : IsShaped shape.Table (db.trees metas)
+  pub versions_shaped : IsShaped shape.Table (rows_of db version2)
+  pub receiveds_shaped : IsShaped shape.Table (rows_of db received)
+  pub metas_shaped : IsShaped shape.Table (rows_of db meta)
+
+-- the table of this one's name becomes other rows, no rowid comes twice in it if none did, and no
+-- other table of the database changes
+pub record ChangesTable (table : Table) (Becomes : List Row → List Row → Type 0)
+    (old new : Database) : Type 0 where
+  pub schema_stays : new.schema ≡ old.schema
+  pub sound : IsDatabase new
+  pub rows : Becomes (rows_of old table) (rows_of new table)
+  pub shaped : IsShaped shape.Table (rows_of old table) → IsShaped shape.Table (rows_of new table)
+  pub others : (t : Table) → Has old.schema.tables t → t.tree ≢ tree_of table old.schema
+      → new.trees t.tree ≡ old.trees t.tree
 
 -- the rows and one more, of these values, under a new rowid
 abbrev pub AddsRow : Row → List Row → List Row → Type 0
@@ -59,9 +72,9 @@ module _ {S : Type 0} (g : Ghosts S) (before after : Held S) where
   -- ---- a query
 
   -- the answer is of the rows that the table had
-  abbrev pub Finds : ℕ → Result (Vec Row Global) Error → (List Row → List Row → Type 0) → Type 0
+  abbrev pub Finds : Table → Result (Vec Row Global) Error → (List Row → List Row → Type 0) → Type 0
   Finds table result IsAnswer = HasCleanDisk new → HasTables old.now
-      → IfOk result (λ rows. IsAnswer (old.now.trees table) rows.items)
+      → IfOk result (λ rows. IsAnswer (rows_of old.now table) rows.items)
 
   -- a query that answers changes nothing
   abbrev pub Stays : Result (Vec Row Global) Error → Type 0
@@ -87,32 +100,33 @@ module _ {S : Type 0} (g : Ghosts S) (before after : Held S) where
       HasCleanDisk new → IsTrue old.in_transaction → OnErr result (IsSpared old new)
 
   -- the table's rows become others
-  abbrev pub WritesInside : ℕ → Result ℕ Error → (List Row → List Row → Type 0) → Type 0
+  abbrev pub WritesInside : Table → Result ℕ Error → (List Row → List Row → Type 0) → Type 0
   WritesInside table result Becomes = HasCleanDisk new → HasTables old.now
-      → OnOk result (Changes table Becomes old.now new.now × InPlace old new)
+      → OnOk result (ChangesTable table Becomes old.now new.now × InPlace old new)
 
-  -- the database stays one of the four tables
+  -- the database still has a store's tables
   abbrev pub KeepsTables : {A : Type 0} → Result A Error → Type 0
   KeepsTables result = HasCleanDisk new → HasTables old.now → OnOk result (HasTables new.now)
 
   -- ---- in a transaction of its own
 
   -- the table's rows become others and are committed
-  abbrev pub Commits : {A : Type 0} → ℕ → Result A Error → (List Row → List Row → Type 0) → Type 0
+  abbrev pub Commits : {A : Type 0} → Table → Result A Error → (List Row → List Row → Type 0)
+      → Type 0
   Commits table result Becomes = HasCleanDisk new → HasTables old.now
-      → OnOk result (Changes table Becomes old.now new.now × (new.committed ≡ new.now))
+      → OnOk result (ChangesTable table Becomes old.now new.now × (new.committed ≡ new.now))
 
   -- a fault commits nothing, whatever tables there are
   abbrev pub Undoes : {A : Type 0} → Result A Error → Type 0
   Undoes result = HasCleanDisk new → OnErr result (IsUndone old new)
 
   -- a stop may leave what it could before, or the table with other rows
-  abbrev pub MayLeave : ℕ → (List Row → List Row → Type 0) → Type 0
+  abbrev pub MayLeave : Table → (List Row → List Row → Type 0) → Type 0
   MayLeave table Becomes = (HasCleanDisk old → HasTables old.now)
-      → Survives old new (AreTreesOf (Changes table Becomes old.now))
+      → Survives old new (AreTreesOf (ChangesTable table Becomes old.now))
 
 -- a query of a table tells this of its rows, and changes nothing
-pub record Queries {S : Type 0} (g : Ghosts S) (before after : Held S) (table : ℕ)
+pub record Queries {S : Type 0} (g : Ghosts S) (before after : Held S) (table : Table)
     (result : Result (Vec Row Global) Error) (IsAnswer : List Row → List Row → Type 0)
     : Type 0 where
   pub found : Finds g before after table result IsAnswer

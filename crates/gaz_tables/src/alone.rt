@@ -5,7 +5,7 @@ ghost use Rattle.sqlite.specs.Held.{state};
 ghost use Rattle.gaz_sql_facts.specs.Changes.{LeavesTheCommit};
 ghost use Rattle.gaz_tables.specs.Metas.{Rewrites};
 ghost use Rattle.gaz_tables.specs.Receiveds.{Rejects, unjudged};
-ghost use Rattle.gaz_tables.specs.Schema.{metas, receiveds};
+ghost use Rattle.gaz_tables.specs.Schema.{meta, received};
 ghost use Rattle.gaz_tables.specs.Stores.{AddsRow, Commits, MayLeave, Undoes, WasOpen};
 
 use crate::{metas, receiveds};
@@ -21,10 +21,10 @@ pub fn receive<S: Alter>(
     requires { conn.old.in_transaction ≡ false }
     ensures over { conn.new.in_transaction ≡ false }
     ensures open { WasOpen S.Store conn.old conn.new result }
-    ensures written { Commits S.Store conn.old conn.new receiveds result
+    ensures written { Commits S.Store conn.old conn.new received result
         (AddsRow (unjudged cust volume bytes.now)) }
     ensures undone { Undoes S.Store conn.old conn.new result }
-    ensures leaves { MayLeave S.Store conn.old conn.new receiveds
+    ensures leaves { MayLeave S.Store conn.old conn.new received
         (AddsRow (unjudged cust volume bytes.now)) }
     ensures certain { OnOk result (LeavesTheCommit (state S.Store conn.new)) }
 {
@@ -44,10 +44,10 @@ pub fn reject<S: Alter>(
     requires { conn.old.in_transaction ≡ false }
     ensures over { conn.new.in_transaction ≡ false }
     ensures open { WasOpen S.Store conn.old conn.new result }
-    ensures written { Commits S.Store conn.old conn.new receiveds result
+    ensures written { Commits S.Store conn.old conn.new received result
         (Rejects cust volume place.now rule) }
     ensures undone { Undoes S.Store conn.old conn.new result }
-    ensures leaves { MayLeave S.Store conn.old conn.new receiveds
+    ensures leaves { MayLeave S.Store conn.old conn.new received
         (Rejects cust volume place.now rule) }
     ensures certain { OnOk result (LeavesTheCommit (state S.Store conn.new)) }
 {
@@ -61,10 +61,10 @@ pub fn rewrite<S: Alter>(conn: &mut Connection<S>, number: u32, register: &str) 
     requires { conn.old.in_transaction ≡ false }
     ensures over { conn.new.in_transaction ≡ false }
     ensures open { WasOpen S.Store conn.old conn.new result }
-    ensures written { Commits S.Store conn.old conn.new metas result
+    ensures written { Commits S.Store conn.old conn.new meta result
         (Rewrites number register.now) }
     ensures undone { Undoes S.Store conn.old conn.new result }
-    ensures leaves { MayLeave S.Store conn.old conn.new metas (Rewrites number register.now) }
+    ensures leaves { MayLeave S.Store conn.old conn.new meta (Rewrites number register.now) }
     ensures certain { OnOk result (LeavesTheCommit (state S.Store conn.new)) }
 {
     let mut tx = conn.transaction();

@@ -1,5 +1,5 @@
 //! The statements that read the rows of kind 92 of the table `version2`.
-ghost use Rattle.gaz_tables.specs.Schema.{versions};
+ghost use Rattle.gaz_tables.specs.Schema.{version2};
 ghost use Rattle.std.specs.Prelude.{◌≡◌, false};
 ghost use Rattle.gaz_tables.specs.Custody.{FindsCustody, FindsCustodyBehind, FindsCustodyUntil};
 ghost use Rattle.gaz_tables.specs.Stores.{Queries};
@@ -9,7 +9,7 @@ use sqlite::{Alter, Connection, Error, Row, params};
 /// `born`, `gone`, `live`, `street`, `hop`, `lang` and `body` of the newest row of a number, or no
 /// row.
 pub fn newest<S: Alter>(conn: &mut Connection<S>, cust: u32, id: &str) -> Result<Vec<Row>, Error>
-    ensures asked { Queries S.Store conn.old conn.new versions result (FindsCustody cust id.now) }
+    ensures asked { Queries S.Store conn.old conn.new version2 result (FindsCustody cust id.now) }
     ensures mode { conn.old.in_transaction ≡ false → conn.new.in_transaction ≡ false }
 {
     conn.query_all(
@@ -26,7 +26,7 @@ pub fn newest_until<S: Alter>(
     id: &str,
     volume: u32,
 ) -> Result<Vec<Row>, Error>
-    ensures asked { Queries S.Store conn.old conn.new versions result
+    ensures asked { Queries S.Store conn.old conn.new version2 result
         (FindsCustodyUntil cust id.now volume) }
     ensures mode { conn.old.in_transaction ≡ false → conn.new.in_transaction ≡ false }
 {
@@ -46,7 +46,7 @@ pub fn behind<S: Alter>(
     born: u32,
     most: u32,
 ) -> Result<Vec<Row>, Error>
-    ensures asked { Queries S.Store conn.old conn.new versions result
+    ensures asked { Queries S.Store conn.old conn.new version2 result
         (FindsCustodyBehind cust id.now born most) }
     ensures mode { conn.old.in_transaction ≡ false → conn.new.in_transaction ≡ false }
 {

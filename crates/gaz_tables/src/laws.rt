@@ -1,6 +1,7 @@
 //! What whoever keeps something in the tables may rest on.
 ghost use Rattle.gaz_tables.specs.Examples.{WorkedExamples};
-ghost use Rattle.gaz_tables.specs.Laws.{BornOnce, ReceivedOnce, StatementsStandAlone, TablesStay};
+ghost use Rattle.gaz_tables.specs.Laws.{BornOnce, OwnTables, ReceivedOnce, StatementsStandAlone};
+ghost use Rattle.gaz_tables.specs.Laws.{TablesStay, TreesTell};
 
 /// What the definitions come to on worked examples.
 pub fn worked_examples()
@@ -17,9 +18,19 @@ pub fn received_once()
     ensures { ReceivedOnce }
 {}
 
-/// A write leaves the database one of the four tables, and the other three as they were.
+/// A write leaves a database a store's tables, and each table that it doesn't write as it was.
 pub fn tables_stay()
     ensures { TablesStay }
+{}
+
+/// A sound database of a store's own schema has a store's tables.
+pub fn own_tables()
+    ensures { OwnTables }
+{}
+
+/// The trees of a database tell whether it has a store's tables, and their rows.
+pub fn trees_tell()
+    ensures { TreesTell }
 {}
 
 /// Each statement over one table means the same in any schema in which such a table stands.

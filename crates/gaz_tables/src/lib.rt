@@ -1,4 +1,4 @@
-//! The four tables of a store, with one function a statement.
+//! The tables of a store, with one function a statement.
 #![tactic(auto)]
 
 pub mod alone;

@@ -3,7 +3,7 @@ ghost use Rattle.std.specs.Prelude.{◌≡◌};
 ghost use Rattle.sqlite.specs.Held.{state};
 ghost use Rattle.sqlite.specs.State.{Survives};
 ghost use Rattle.gaz_tables.specs.Metas.{AddsMeta, FindsTwo, Rewrites, rows_text};
-ghost use Rattle.gaz_tables.specs.Schema.{metas};
+ghost use Rattle.gaz_tables.specs.Schema.{meta};
 ghost use Rattle.gaz_tables.specs.Stores.{Answers, Finds, KeepsInside, SparesInside, Stays};
 ghost use Rattle.gaz_tables.specs.Stores.{StaysInside, WasOpen, WritesInside};
 
@@ -13,7 +13,7 @@ use sqlite::{Alter, Error, Row, Transaction, params};
 pub fn rows<S: Alter>(tx: &mut Transaction<'_, S>) -> Result<Vec<Row>, Error>
     ensures same_reference { tx.new.conn.ghost_name ≡ tx.old.conn.ghost_name }
     ensures answered { Answers S.Store tx.old.conn.now tx.new.conn.now rows_text result }
-    ensures found { Finds S.Store tx.old.conn.now tx.new.conn.now metas result FindsTwo }
+    ensures found { Finds S.Store tx.old.conn.now tx.new.conn.now meta result FindsTwo }
     ensures stays { Stays S.Store tx.old.conn.now tx.new.conn.now result }
     ensures open { WasOpen S.Store tx.old.conn.now tx.new.conn.now result }
     ensures kept { KeepsInside S.Store tx.old.conn.now tx.new.conn.now }
@@ -31,7 +31,7 @@ pub fn insert<S: Alter>(
 ) -> Result<usize, Error>
     ensures same_reference { tx.new.conn.ghost_name ≡ tx.old.conn.ghost_name }
     ensures added { WritesInside S.Store tx.old.conn.now tx.new.conn.now
-        metas result (AddsMeta number register.now) }
+        meta result (AddsMeta number register.now) }
     ensures spared { SparesInside S.Store tx.old.conn.now tx.new.conn.now result }
     ensures open { WasOpen S.Store tx.old.conn.now tx.new.conn.now result }
     ensures inside { StaysInside S.Store tx.old.conn.now tx.new.conn.now result }
@@ -50,7 +50,7 @@ pub fn rewrite<S: Alter>(
 ) -> Result<usize, Error>
     ensures same_reference { tx.new.conn.ghost_name ≡ tx.old.conn.ghost_name }
     ensures rewritten { WritesInside S.Store tx.old.conn.now tx.new.conn.now
-        metas result (Rewrites number register.now) }
+        meta result (Rewrites number register.now) }
     ensures spared { SparesInside S.Store tx.old.conn.now tx.new.conn.now result }
     ensures open { WasOpen S.Store tx.old.conn.now tx.new.conn.now result }
     ensures inside { StaysInside S.Store tx.old.conn.now tx.new.conn.now result }

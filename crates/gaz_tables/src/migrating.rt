@@ -4,9 +4,9 @@ ghost use Rattle.sqlite.specs.Held.{state};
 ghost use Rattle.gaz_sql_facts.specs.Changes.{LeavesTheCommit};
 ghost use Rattle.gaz_sql_facts.specs.Emptied.{IsEmptied};
 ghost use Rattle.gaz_tables.specs.Migrating.{CopiesRows, MayMigrate, MigratesAlone};
-ghost use Rattle.gaz_tables.specs.Migrating.{MigratesInside, MovesInside};
-ghost use Rattle.gaz_tables.specs.Schema.{old_versions, versions};
-ghost use Rattle.gaz_tables.specs.Stores.{StaysInside, Undoes, WasOpen, WritesInside};
+ghost use Rattle.gaz_tables.specs.Migrating.{MigratesInside, MovesInside, WritesFour};
+ghost use Rattle.gaz_tables.specs.Schema.{version, version2};
+ghost use Rattle.gaz_tables.specs.Stores.{StaysInside, Undoes, WasOpen};
 
 use crate::creating::make_second;
 use crate::metas;
@@ -15,8 +15,8 @@ use sqlite::{Alter, Connection, Error, Transaction};
 // Copies each row of `version` into `version2`, with hop 0, within a transaction.
 fn copy_rows<S: Alter>(tx: &mut Transaction<'_, S>) -> Result<usize, Error>
     ensures same_reference { tx.new.conn.ghost_name ≡ tx.old.conn.ghost_name }
-    ensures copied { WritesInside S.Store tx.old.conn.now tx.new.conn.now
-        versions result (CopiesRows (state S.Store tx.old.conn.now).now) }
+    ensures copied { WritesFour S.Store tx.old.conn.now tx.new.conn.now
+        version2 result (CopiesRows (state S.Store tx.old.conn.now).now) }
     ensures inside { StaysInside S.Store tx.old.conn.now tx.new.conn.now result }
 {
     tx.execute(
@@ -28,8 +28,8 @@ fn copy_rows<S: Alter>(tx: &mut Transaction<'_, S>) -> Result<usize, Error>
 // Takes out every row of `version`, within a transaction.
 fn empty_rows<S: Alter>(tx: &mut Transaction<'_, S>) -> Result<usize, Error>
     ensures same_reference { tx.new.conn.ghost_name ≡ tx.old.conn.ghost_name }
-    ensures emptied { WritesInside S.Store tx.old.conn.now tx.new.conn.now
-        old_versions result IsEmptied }
+    ensures emptied { WritesFour S.Store tx.old.conn.now tx.new.conn.now
+        version result IsEmptied }
     ensures inside { StaysInside S.Store tx.old.conn.now tx.new.conn.now result }
 {
     tx.execute("DELETE FROM version", &[])

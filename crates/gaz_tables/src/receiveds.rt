@@ -1,5 +1,5 @@
 //! The statements of the table `received`.
-ghost use Rattle.gaz_tables.specs.Schema.{receiveds};
+ghost use Rattle.gaz_tables.specs.Schema.{received};
 ghost use Rattle.std.specs.Prelude.{◌≡◌, false};
 ghost use Rattle.gaz_tables.specs.Stores.{AddsRow, Finds, Queries, SparesInside, StaysInside};
 ghost use Rattle.gaz_tables.specs.Stores.{WasOpen, WritesInside};
@@ -10,8 +10,8 @@ use sqlite::{Alter, Connection, Error, Row, Transaction, params};
 
 /// `bytes`, `state`, `place` and `rule` of a volume, or no row.
 pub fn file<S: Alter>(conn: &mut Connection<S>, cust: u32, volume: u32) -> Result<Vec<Row>, Error>
-    ensures asked { Queries S.Store conn.old conn.new receiveds result (FindsFile cust volume) }
-    ensures one { Finds S.Store conn.old conn.new receiveds result AtMostOne }
+    ensures asked { Queries S.Store conn.old conn.new received result (FindsFile cust volume) }
+    ensures one { Finds S.Store conn.old conn.new received result AtMostOne }
     ensures mode { conn.old.in_transaction ≡ false → conn.new.in_transaction ≡ false }
 {
     conn.query_all(
@@ -26,8 +26,8 @@ pub fn verdict<S: Alter>(
     cust: u32,
     volume: u32,
 ) -> Result<Vec<Row>, Error>
-    ensures asked { Queries S.Store conn.old conn.new receiveds result (FindsVerdict cust volume) }
-    ensures one { Finds S.Store conn.old conn.new receiveds result AtMostOne }
+    ensures asked { Queries S.Store conn.old conn.new received result (FindsVerdict cust volume) }
+    ensures one { Finds S.Store conn.old conn.new received result AtMostOne }
     ensures mode { conn.old.in_transaction ≡ false → conn.new.in_transaction ≡ false }
 {
     conn.query_all(
@@ -43,7 +43,7 @@ pub fn above<S: Alter>(
     volume: u32,
     most: u32,
 ) -> Result<Vec<Row>, Error>
-    ensures asked { Queries S.Store conn.old conn.new receiveds result
+    ensures asked { Queries S.Store conn.old conn.new received result
         (FindsAbove cust volume most) }
     ensures mode { conn.old.in_transaction ≡ false → conn.new.in_transaction ≡ false }
 {
@@ -62,7 +62,7 @@ pub fn receive<S: Alter>(
 ) -> Result<usize, Error>
     ensures same_reference { tx.new.conn.ghost_name ≡ tx.old.conn.ghost_name }
     ensures added { WritesInside S.Store tx.old.conn.now tx.new.conn.now
-        receiveds result (AddsRow (unjudged cust volume bytes.now)) }
+        received result (AddsRow (unjudged cust volume bytes.now)) }
     ensures spared { SparesInside S.Store tx.old.conn.now tx.new.conn.now result }
     ensures open { WasOpen S.Store tx.old.conn.now tx.new.conn.now result }
     ensures inside { StaysInside S.Store tx.old.conn.now tx.new.conn.now result }
@@ -77,7 +77,7 @@ pub fn receive<S: Alter>(
 pub fn apply<S: Alter>(tx: &mut Transaction<'_, S>, cust: u32, volume: u32) -> Result<usize, Error>
     ensures same_reference { tx.new.conn.ghost_name ≡ tx.old.conn.ghost_name }
     ensures applied { WritesInside S.Store tx.old.conn.now tx.new.conn.now
-        receiveds result (Applies cust volume) }
+        received result (Applies cust volume) }
     ensures spared { SparesInside S.Store tx.old.conn.now tx.new.conn.now result }
     ensures open { WasOpen S.Store tx.old.conn.now tx.new.conn.now result }
     ensures inside { StaysInside S.Store tx.old.conn.now tx.new.conn.now result }
@@ -98,7 +98,7 @@ pub fn reject<S: Alter>(
 ) -> Result<usize, Error>
     ensures same_reference { tx.new.conn.ghost_name ≡ tx.old.conn.ghost_name }
     ensures rejected { WritesInside S.Store tx.old.conn.now tx.new.conn.now
-        receiveds result (Rejects cust volume place.now rule) }
+        received result (Rejects cust volume place.now rule) }
     ensures spared { SparesInside S.Store tx.old.conn.now tx.new.conn.now result }
     ensures open { WasOpen S.Store tx.old.conn.now tx.new.conn.now result }
     ensures inside { StaysInside S.Store tx.old.conn.now tx.new.conn.now result }

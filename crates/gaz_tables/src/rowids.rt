@@ -1,5 +1,5 @@
 //! The statements that go through the table `version2` in the order of its rowids.
-ghost use Rattle.gaz_tables.specs.Schema.{versions};
+ghost use Rattle.gaz_tables.specs.Schema.{version2};
 ghost use Rattle.std.specs.Prelude.{◌≡◌, false};
 ghost use Rattle.gaz_tables.specs.Stores.{Queries};
 ghost use Rattle.gaz_tables.specs.Rowids.{FindsBehind, FindsFirst};
@@ -8,7 +8,7 @@ use sqlite::{Alter, Connection, Error, Row, params};
 
 /// Rowid and columns of the rows, by rising rowids: at most so many.
 pub fn first<S: Alter>(conn: &mut Connection<S>, most: u32) -> Result<Vec<Row>, Error>
-    ensures asked { Queries S.Store conn.old conn.new versions result (FindsFirst most) }
+    ensures asked { Queries S.Store conn.old conn.new version2 result (FindsFirst most) }
     ensures mode { conn.old.in_transaction ≡ false → conn.new.in_transaction ≡ false }
 {
     conn.query_all(
@@ -19,7 +19,7 @@ pub fn first<S: Alter>(conn: &mut Connection<S>, most: u32) -> Result<Vec<Row>, 
 
 /// Rowid and columns of the rows behind a rowid, by rising rowids: at most so many.
 pub fn behind<S: Alter>(conn: &mut Connection<S>, after: &i64, most: u32) -> Result<Vec<Row>, Error>
-    ensures asked { Queries S.Store conn.old conn.new versions result (FindsBehind after.now most) }
+    ensures asked { Queries S.Store conn.old conn.new version2 result (FindsBehind after.now most) }
     ensures mode { conn.old.in_transaction ≡ false → conn.new.in_transaction ≡ false }
 {
     conn.query_all(

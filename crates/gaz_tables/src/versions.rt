@@ -1,5 +1,5 @@
 //! The statements of the table `version2`.
-ghost use Rattle.gaz_tables.specs.Schema.{versions};
+ghost use Rattle.gaz_tables.specs.Schema.{version2};
 ghost use Rattle.std.specs.Prelude.{◌≡◌, false};
 ghost use Rattle.gaz_tables.specs.Stores.{AddsRow, Queries, SparesInside, StaysInside, WasOpen};
 ghost use Rattle.gaz_tables.specs.Stores.{WritesInside};
@@ -16,7 +16,7 @@ pub fn newest<S: Alter>(
     kind: u32,
     id: &str,
 ) -> Result<Vec<Row>, Error>
-    ensures asked { Queries S.Store conn.old conn.new versions result
+    ensures asked { Queries S.Store conn.old conn.new version2 result
         (FindsNewest cust kind id.now) }
     ensures mode { conn.old.in_transaction ≡ false → conn.new.in_transaction ≡ false }
 {
@@ -36,7 +36,7 @@ pub fn newest_until<S: Alter>(
     id: &str,
     volume: u32,
 ) -> Result<Vec<Row>, Error>
-    ensures asked { Queries S.Store conn.old conn.new versions result
+    ensures asked { Queries S.Store conn.old conn.new version2 result
         (FindsNewestUntil cust kind id.now volume) }
     ensures mode { conn.old.in_transaction ≡ false → conn.new.in_transaction ≡ false }
 {
@@ -57,7 +57,7 @@ pub fn holding<S: Alter>(
     volume: u32,
     most: u32,
 ) -> Result<Vec<Row>, Error>
-    ensures asked { Queries S.Store conn.old conn.new versions result
+    ensures asked { Queries S.Store conn.old conn.new version2 result
         (FindsHolding cust kind after.now volume most) }
     ensures mode { conn.old.in_transaction ≡ false → conn.new.in_transaction ≡ false }
 {
@@ -74,7 +74,7 @@ pub fn approved_of<S: Alter>(
     cust: u32,
     blpu: &i64,
 ) -> Result<Vec<Row>, Error>
-    ensures asked { Queries S.Store conn.old conn.new versions result
+    ensures asked { Queries S.Store conn.old conn.new version2 result
         (FindsApprovedOf cust blpu.now) }
     ensures mode { conn.old.in_transaction ≡ false → conn.new.in_transaction ≡ false }
 {
@@ -94,7 +94,7 @@ pub fn approved_on<S: Alter>(
     after: &str,
     most: u32,
 ) -> Result<Vec<Row>, Error>
-    ensures asked { Queries S.Store conn.old conn.new versions result
+    ensures asked { Queries S.Store conn.old conn.new version2 result
         (FindsApprovedOn cust street after.now most) }
     ensures mode { conn.old.in_transaction ≡ false → conn.new.in_transaction ≡ false }
 {
@@ -115,7 +115,7 @@ pub fn parts_of<S: Alter>(
     after: &str,
     most: u32,
 ) -> Result<Vec<Row>, Error>
-    ensures asked { Queries S.Store conn.old conn.new versions result
+    ensures asked { Queries S.Store conn.old conn.new version2 result
         (FindsParts cust kind blpu.now after.now most) }
     ensures mode { conn.old.in_transaction ≡ false → conn.new.in_transaction ≡ false }
 {
@@ -143,7 +143,7 @@ pub fn insert<S: Alter>(
 ) -> Result<usize, Error>
     ensures same_reference { tx.new.conn.ghost_name ≡ tx.old.conn.ghost_name }
     ensures added { WritesInside S.Store tx.old.conn.now tx.new.conn.now
-        versions result (AddsRow
+        version2 result (AddsRow
         (version_values cust kind id.now blpu.now street lang live born gone body.now hop)) }
     ensures spared { SparesInside S.Store tx.old.conn.now tx.new.conn.now result }
     ensures open { WasOpen S.Store tx.old.conn.now tx.new.conn.now result }
@@ -168,7 +168,7 @@ pub fn close<S: Alter>(
 ) -> Result<usize, Error>
     ensures same_reference { tx.new.conn.ghost_name ≡ tx.old.conn.ghost_name }
     ensures closed { WritesInside S.Store tx.old.conn.now tx.new.conn.now
-        versions result (Closes cust kind id.now born gone) }
+        version2 result (Closes cust kind id.now born gone) }
     ensures spared { SparesInside S.Store tx.old.conn.now tx.new.conn.now result }
     ensures open { WasOpen S.Store tx.old.conn.now tx.new.conn.now result }
     ensures inside { StaysInside S.Store tx.old.conn.now tx.new.conn.now result }

@@ -32,7 +32,7 @@ module _ {D : Type 0} (g : disk.Ghosts D) (files : Files D) (left : Option (File
   -- a store that was current is as it was
   still : (told : Migration) → MigratesOpened over_files register conn back told → IsUnharmed (file_state back) → StandForRun register (file_state conn).now
       → GoesOn register (hub_in (file_state conn).now) (asks_nothing g files left register conn back).commands (asks_nothing g files left register conn back).responses (file_state back).now
-  still Done is fine stood = absurd (not_store (file_state conn).now.schema stood.kept.tables.schema_is (was_first (has_first (file_state conn).now.schema) is.told_is))
+  still Done is fine stood = absurd (not_store (file_state conn).now.schema stood.kept.tables.there (was_first (has_first (file_state conn).now.schema) is.told_is))
   still Current is fine stood = goes_on_resting register (file_state conn).now (file_state back).now (((is.current refl).rests fine.clean).now fine.is_open) stood
 
   pub migrates_store : (held : Result Migration StoreRefusal) → StopsMoving over_files register conn back → IfOk held (MigratesOpened over_files register conn back) → IfOk held (MigratesStore g files left register)

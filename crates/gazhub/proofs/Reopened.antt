@@ -15,8 +15,9 @@ use Rattle.sqlite_trees.specs.Tree.{Trees}
 use Rattle.std.specs.Prelude.{Some}
 use Rattle.gaz_register.specs.Registers.{RegisterValue}
 use Rattle.gaz_register.specs.Texts.{register_text}
-use Rattle.gaz_tables.specs.Schema.{metas}
+use Rattle.gaz_tables.specs.Schema.{meta}
 use Rattle.gaz_tables.specs.Stores.{HasTables}
+use Rattle.gaz_tables.specs.Tables.{rows_of}
 use Rattle.gaz_kept.specs.Opening.{IsOf}
 use Rattle.gaz_store.specs.Seen.{IsUnharmed}
 use Rattle.gaz_stored.proofs.Reopening as reopening
@@ -62,5 +63,5 @@ module _ {D : Type 0} (g : disk.Ghosts D) where
     grown = λ files left register grown told it stood fine. record { tables = (it.extends.stays fine stood).stands.kept.tables; whose = it.extends.whose fine stood };
     opens = λ register old conn next files has fine closes connects clean.
         let same = sym (shown_again old conn files fine closes connects clean) in
-        reopening.opens over_files register conn next (subst HasTables same has.tables) (subst (λ (db : Database). IsOf (register_text register) (db.trees metas)) same has.whose);
+        reopening.opens over_files register conn next (subst HasTables same has.tables) (subst (λ (db : Database). IsOf (register_text register) (rows_of db meta)) same has.whose);
   }

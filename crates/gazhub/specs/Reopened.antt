@@ -9,8 +9,9 @@ use Rattle.sqlite_store.specs.declared.store.FileStore.{FileStore}
 use Rattle.gaz_register.specs.Registers.{RegisterValue}
 use Rattle.gaz_register.specs.Texts.{register_text}
 use Rattle.gaz_tables.specs.Creating.{IsBare, no_schema}
-use Rattle.gaz_tables.specs.Schema.{metas}
+use Rattle.gaz_tables.specs.Schema.{meta}
 use Rattle.gaz_tables.specs.Stores.{HasTables}
+use Rattle.gaz_tables.specs.Tables.{rows_of}
 use Rattle.gaz_kept.specs.Opening.{IsOf}
 use Rattle.gaz_store.specs.Growing.{register_then}
 use Rattle.gaz_store.specs.Seen.{IsUnharmed}
@@ -28,7 +29,7 @@ module _ {D : Type 0} (g : disk.Ghosts D) where
   -- the tables behind a connection are a store's of this register
   pub record HasStore (register : RegisterValue) (conn : Held (FileStore D g)) : Type 0 where
     pub tables : HasTables (file_state conn).now
-    pub whose : IsOf (register_text register) ((file_state conn).now.trees metas)
+    pub whose : IsOf (register_text register) (rows_of (file_state conn).now meta)
 
   -- Below, the files are those that are given, and those that are given back.
   pub record NextOpens : Type 0 where

@@ -2,7 +2,8 @@ use Rattle.std.proofs.Common.{◌∙◌, ◌≡◌, ℕ, List, Ok, inr, subst}
 use Rattle.sqlite.specs.Held.{state}
 use Rattle.sqlite.specs.State.{Survives}
 use Rattle.gaz_register.specs.Texts.{register_text}
-use Rattle.gaz_tables.specs.Schema.{metas}
+use Rattle.gaz_tables.specs.Schema.{meta}
+use Rattle.gaz_tables.specs.Tables.{rows_of}
 use Rattle.gaz_kept.specs.Numbered.{IsJudged, TellsRows}
 use Rattle.gaz_kept.specs.OpeningFirst.{AreMoved, first_number}
 use Rattle.gaz_kept.proofs.Moved.{clean_before, judged_then, leaves_then, refused_then, told_then}
@@ -19,8 +20,8 @@ pub returns-in-Ok-compared-clause-judged : goal.returns-in-Ok-compared-clause-ju
 returns-in-Ok-compared-clause-judged g c clean has =
     let early = clean_before (state g.S.Store c.compared.new.conn) (state g.S.Store c.moved.new.conn) _ _ c.moved.ensures.leaves clean in
     let words : c.deref.result.now ≡ register_text c.args.register.now = c.deref.ensures ∙ c.in-Ok.ensures in
-    judged_then first_number (register_text c.args.register.now) ((state g.S.Store c.args.conn.now).now.trees metas)
-    (subst (λ (t : List ℕ). IsJudged first_number t ((state g.S.Store c.args.conn.now).now.trees metas) (Ok tt)) words (c.in-Ok-compared.ensures.judged early (inr has))) c.moved.result c.moved.ensures.causes
+    judged_then first_number (register_text c.args.register.now) (rows_of (state g.S.Store c.args.conn.now).now meta)
+    (subst (λ (t : List ℕ). IsJudged first_number t (rows_of (state g.S.Store c.args.conn.now).now meta) (Ok tt)) words (c.in-Ok-compared.ensures.judged early (inr has))) c.moved.result c.moved.ensures.causes
 
 pub returns-in-Ok-compared-clause-rests : goal.returns-in-Ok-compared-clause-rests
 returns-in-Ok-compared-clause-rests g c clean =

@@ -8,7 +8,7 @@ returns-then-is_first-clause-told g c clean all =
 
 pub returns-then-is_first-clause-judged : goal.returns-then-is_first-clause-judged
 returns-then-is_first-clause-judged g c clean has =
-    absurd (not_store c.args.conn.now.schema has.schema_is (sym c.if-is_first.ensures))
+    absurd (not_store c.args.conn.now.schema has.there (sym c.if-is_first.ensures))
 
 pub returns-else-is_first-clause-moved : goal.returns-else-is_first-clause-moved
 returns-else-is_first-clause-moved g c clean has =

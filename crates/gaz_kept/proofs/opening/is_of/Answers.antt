@@ -5,4 +5,4 @@ use Rattle.gaz_kept.proofs.opening.is_of.Goals as goal
 
 pub returns-then-not-has_all-clause-told : goal.returns-then-not-has_all-clause-told
 returns-then-not-has_all-clause-told g c clean has =
-    absurd (nothing_lacks c.args.conn.now.schema has.schema_is (c.if-not-has_all.ensures ∙ ap has_all c.schema.ensures.value))
+    absurd (nothing_lacks c.args.conn.now.schema has.there (c.if-not-has_all.ensures ∙ ap has_all c.schema.ensures.value))

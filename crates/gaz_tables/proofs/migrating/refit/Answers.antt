@@ -1,4 +1,5 @@
 use Rattle.sqlite.specs.Held.{state}
+use Rattle.gaz_tables.proofs.Four.{tables_of}
 use Rattle.gaz_tables.proofs.Moving.{migrates, none_yet, tables_gained}
 use Rattle.gaz_tables.proofs.Steps.{clean_before, inside_done, inside_failed, inside_then}
 use Rattle.gaz_tables.proofs.migrating.refit.Goals as goal
@@ -32,4 +33,4 @@ returns-clause-migrated g c clean has =
     let early = clean_before g.S.Store _ _ _ _ _ one.inside two.inside late in
     let gains = one.made early has.schema_is in
     let moves = two.moved late (tables_gained old made has gains) (none_yet old made has gains) in
-    migrates old made has gains moved (state g.S.Store c.rewrite.new.tx.conn.now).now c.args.number c.args.register.now moves (three.rewritten clean moves.tables).0
+    migrates old made has gains moved (state g.S.Store c.rewrite.new.tx.conn.now).now c.args.number c.args.register.now moves (three.rewritten clean (tables_of moved moves.tables)).0

@@ -1,5 +1,4 @@
-use Rattle.std.proofs.Common.{◌∙◌, sym}
-use Rattle.std.specs.Prelude.{Some}
+use Rattle.std.proofs.Common.{◌∙◌}
 use Rattle.gaz_store.proofs.Answered.{answered_ok}
 use Rattle.gaz_store.proofs.Composing.{asked_nothing}
 use Rattle.gaz_store.proofs.judgement.Judgement.ask_passed.Goals as goal

@@ -1,4 +1,4 @@
-use Rattle.std.proofs.Common.{◌≡◌, ◌∙◌, ◌||◌, ap, sym}
+use Rattle.std.proofs.Common.{◌∙◌, ◌||◌, ap, sym}
 use Rattle.gaz_kept.specs.LastViews.{last_in}
 use Rattle.gaz_views.specs.View.{was_used}
 use Rattle.gaz_store.proofs.Answered.{asked_as}

@@ -1,4 +1,4 @@
-use Rattle.std.proofs.Common.{refl, subst, sym}
+use Rattle.std.proofs.Common.{subst}
 use Rattle.gaz_store.specs.Store.{StandsBeside}
 use Rattle.gaz_store.proofs.Answered.{asked_as}
 use Rattle.gaz_store.proofs.Turning.{stands_on}

@@ -4,7 +4,8 @@ use Rattle.sqlite.specs.State.{HasCleanDisk}
 use Rattle.gaz_register.specs.Texts.{register_text}
 use Rattle.gaz_sql_facts.specs.Changes.{LeavesTheCommit}
 use Rattle.gaz_tables.specs.Migrating.{HasFirstTables}
-use Rattle.gaz_tables.specs.Schema.{metas}
+use Rattle.gaz_tables.specs.Schema.{meta}
+use Rattle.gaz_tables.specs.Tables.{rows_of}
 use Rattle.gaz_kept.specs.Kept.{IsKept}
 use Rattle.gaz_kept.specs.Opening.{IsOf, Judges, Tells}
 use Rattle.gaz_kept.specs.OpeningFirst.{IsOfFirst, JudgesFirst, MayMove, Moves, TellsFirst, Untouched}
@@ -45,7 +46,7 @@ returns-in-Ok-clause-opened g c none =
     is_opened (state g.S.Store c.over.result.conn) c.over.result.at_hand c.over.ensures.so was text c.over.result.failures c.over.ensures.failures
     (λ clean. let s = whole.leaves in let le = s.clean in omega (arith, le, clean))
     whole.rests
-    (subst (λ h. HasCleanDisk (state g.S.Store h) → IsKept was.now → IsOf text (was.now.trees metas)) (sym c.over.ensures.conn) (λ clean kept. c.in-Ok.ensures.judged clean kept.tables))
+    (subst (λ h. HasCleanDisk (state g.S.Store h) → IsKept was.now → IsOf text (rows_of was.now meta)) (sym c.over.ensures.conn) (λ clean kept. c.in-Ok.ensures.judged clean kept.tables))
     whole.leaves
 
 pub returns-in-Ok-clause-moved : goal.returns-in-Ok-clause-moved
@@ -56,5 +57,5 @@ returns-in-Ok-clause-moved g c =
     is_moved (state g.S.Store c.over.result.conn) c.over.result.at_hand c.over.ensures.so was text c.over.result.failures c.over.ensures.failures
     (subst (λ h. HasCleanDisk (state g.S.Store h) → HasCleanDisk was) (sym c.over.ensures.conn) before)
     (subst (λ h. Moves g.S.Store c.args.conn h (Ok tt) text) (sym c.over.ensures.conn) c.in-Ok.ensures.moved)
-    (subst (λ h. HasCleanDisk (state g.S.Store h) → HasFirstTables was.now → IsOfFirst text (was.now.trees metas)) (sym c.over.ensures.conn) (λ clean has. c.in-Ok.ensures.judged_first clean has))
+    (subst (λ h. HasCleanDisk (state g.S.Store h) → HasFirstTables was.now → IsOfFirst text (rows_of was.now meta)) (sym c.over.ensures.conn) (λ clean has. c.in-Ok.ensures.judged_first clean has))
     (subst (λ h. HasFirstTables was.now → LeavesTheCommit (state g.S.Store h)) (sym c.over.ensures.conn) (λ has. c.in-Ok.ensures.certain (is_first was.now.schema has.schema_is)))

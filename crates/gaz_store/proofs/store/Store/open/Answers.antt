@@ -2,7 +2,8 @@ use Rattle.std.proofs.Common.{Ok, arith, subst, sym}
 use Rattle.sqlite.specs.Held.{state}
 use Rattle.sqlite.specs.State.{HasCleanDisk, Survives}
 use Rattle.gaz_register.specs.Texts.{register_text}
-use Rattle.gaz_tables.specs.Schema.{metas}
+use Rattle.gaz_tables.specs.Schema.{meta}
+use Rattle.gaz_tables.specs.Tables.{rows_of}
 use Rattle.gaz_kept.specs.Kept.{IsKept}
 use Rattle.gaz_kept.specs.Opening.{IsOf, Judges, Rests, Tells}
 use Rattle.gaz_store.proofs.Beginning.{is_opened}
@@ -13,7 +14,7 @@ returns-in-Ok-clause-opened g c =
     is_opened (state g.S.Store c.over.result.conn) c.over.result.at_hand c.over.ensures.so (state g.S.Store c.args.conn) (register_text c.args.register.now) c.over.result.failures c.over.ensures.failures
     (subst (λ h. HasCleanDisk (state g.S.Store h) → HasCleanDisk (state g.S.Store c.args.conn)) (sym c.over.ensures.conn) (λ clean. let s = c.in-Ok.ensures.leaves in let le = s.clean in omega (arith, le, clean)))
     (subst (λ h. HasCleanDisk (state g.S.Store h) → Rests (state g.S.Store c.args.conn) (state g.S.Store h)) (sym c.over.ensures.conn) c.in-Ok.ensures.rests)
-    (subst (λ h. HasCleanDisk (state g.S.Store h) → IsKept (state g.S.Store c.args.conn).now → IsOf (register_text c.args.register.now) ((state g.S.Store c.args.conn).now.trees metas)) (sym c.over.ensures.conn)
+    (subst (λ h. HasCleanDisk (state g.S.Store h) → IsKept (state g.S.Store c.args.conn).now → IsOf (register_text c.args.register.now) (rows_of (state g.S.Store c.args.conn).now meta)) (sym c.over.ensures.conn)
     (λ clean kept. c.in-Ok.ensures.judged clean kept.tables))
     (subst (λ h. Survives (state g.S.Store c.args.conn) (state g.S.Store h) (λ _. ⊥)) (sym c.over.ensures.conn) c.in-Ok.ensures.leaves)
 

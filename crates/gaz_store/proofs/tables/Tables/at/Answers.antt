@@ -1,5 +1,6 @@
 use Rattle.std.proofs.Common.{◌≤◌, ◌∙◌, IfOk, arith, subst}
-use Rattle.gaz_tables.specs.Schema.{receiveds, versions}
+use Rattle.gaz_tables.specs.Schema.{received, version2}
+use Rattle.gaz_tables.specs.Tables.{rows_of}
 use Rattle.gaz_kept.specs.Newest.{IsNewestUntil}
 use Rattle.gaz_kept.specs.Versions.{histories_in}
 use Rattle.gaz_store.proofs.Composing.{answered}
@@ -10,7 +11,7 @@ use Rattle.gaz_store.proofs.tables.Tables.at.Goals as goal
 pub returns : goal.returns
 returns g c =
     answered _ _ _ _ _ _ c.newest_until.ensures (λ db kept found reached.
-    let most = reached_most (db.trees receiveds) kept.files c.args.code (kept.first c.args.code) in
+    let most = reached_most (rows_of db received) kept.files c.args.code (kept.first c.args.code) in
     let within : c.args.volume ≤ 999_999 = omega (arith, most, reached) in
     c.item_after.ensures ∙ at_told db c.args.code c.args.key.now c.in_ok-life.life kept c.args.volume c.capped.result (c.capped.ensures within)
-    (subst (λ r. IfOk r (IsNewestUntil c.capped.result (histories_in (db.trees versions) c.args.code) c.args.key.now)) c.in_ok-life.was found))
+    (subst (λ r. IfOk r (IsNewestUntil c.capped.result (histories_in (rows_of db version2) c.args.code) c.args.key.now)) c.in_ok-life.was found))

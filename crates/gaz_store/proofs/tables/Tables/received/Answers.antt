@@ -1,6 +1,7 @@
 use Rattle.std.proofs.Common.{subst, IfOk}
 use Rattle.gaz_tables.specs.Receiveds.{FindsFile}
-use Rattle.gaz_tables.specs.Schema.{receiveds}
+use Rattle.gaz_tables.specs.Schema.{received}
+use Rattle.gaz_tables.specs.Tables.{rows_of}
 use Rattle.gaz_store.specs.Answers.{SaysBytes}
 use Rattle.gaz_store.proofs.Bytes.{bytes_told}
 use Rattle.gaz_store.proofs.Composing.{answered}
@@ -10,6 +11,6 @@ use Rattle.gaz_store.proofs.tables.Tables.received.Goals as goal
 pub returns-in-Ok : goal.returns-in-Ok
 returns-in-Ok g c =
     answered _ _ _ _ _ _ c.file_rows.ensures (λ db kept found.
-    bytes_told c.args.code c.args.volume (db.trees receiveds) c.in_ok-rows.rows.items (are_files db kept)
-    (subst (λ r. IfOk r (λ rows. FindsFile c.args.code c.args.volume (db.trees receiveds) rows.items)) c.in_ok-rows.was found)
+    bytes_told c.args.code c.args.volume (rows_of db received) c.in_ok-rows.rows.items (are_files db kept)
+    (subst (λ r. IfOk r (λ rows. FindsFile c.args.code c.args.volume (rows_of db received) rows.items)) c.in_ok-rows.was found)
     c.in-Ok.bytes (subst (λ rows. SaysBytes rows c.in-Ok.bytes) c.deref.ensures.value c.in-Ok.ensures))

@@ -1,5 +1,6 @@
 use Rattle.std.proofs.Common.{subst, sym}
-use Rattle.gaz_tables.specs.Schema.{versions}
+use Rattle.gaz_tables.specs.Schema.{version2}
+use Rattle.gaz_tables.specs.Tables.{rows_of}
 use Rattle.gaz_kept.specs.LastViews.{last_in}
 use Rattle.gaz_kept.specs.Newest.{TellsStood, current_in}
 use Rattle.gaz_kept.specs.Versions.{histories_in}
@@ -11,7 +12,7 @@ pub returns : goal.returns
 returns g c =
     let life = c.in_ok-life.life in
     answered_ok _ _ _ life _ _ _ c.newest.ensures c.in_ok-life.was (λ db kept newest.
-    let rows = histories_in (db.trees versions) c.args.code in
+    let rows = histories_in (rows_of db version2) c.args.code in
     let last = last_in db c.args.code in
     subst (λ i. TellsStood rows last c.args.key.now c.stood_by.result i) (sym c.current_in.ensures)
     (subst (λ s. TellsStood rows last c.args.key.now s (current_in life)) (sym c.stood_by.ensures)

@@ -1,6 +1,7 @@
 use Rattle.std.proofs.Common.{subst, IfOk}
 use Rattle.gaz_tables.specs.Receiveds.{FindsVerdict}
-use Rattle.gaz_tables.specs.Schema.{receiveds}
+use Rattle.gaz_tables.specs.Schema.{received}
+use Rattle.gaz_tables.specs.Tables.{rows_of}
 use Rattle.gaz_store.specs.Answers.{SaysVerdict}
 use Rattle.gaz_store.proofs.Composing.{answered}
 use Rattle.gaz_store.proofs.Verdicts.{verdict_told}
@@ -10,5 +11,5 @@ pub returns-in-Some : goal.returns-in-Some
 returns-in-Some g c =
     answered _ _ _ _ _ _ c.verdict_rows.ensures (λ db kept found.
     verdict_told c.args.code c.args.volume db c.in_ok-rows.rows.items kept
-    (subst (λ r. IfOk r (λ rows. FindsVerdict c.args.code c.args.volume (db.trees receiveds) rows.items)) c.in_ok-rows.was found)
+    (subst (λ r. IfOk r (λ rows. FindsVerdict c.args.code c.args.volume (rows_of db received) rows.items)) c.in_ok-rows.was found)
     c.in-Some.verdict (subst (λ rows. SaysVerdict rows c.in-Some.verdict) c.deref.ensures.value c.in-Some.ensures))

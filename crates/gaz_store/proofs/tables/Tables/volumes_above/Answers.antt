@@ -1,5 +1,6 @@
 use Rattle.std.proofs.Common.{arith, subst}
-use Rattle.gaz_tables.specs.Schema.{receiveds}
+use Rattle.gaz_tables.specs.Schema.{received}
+use Rattle.gaz_tables.specs.Tables.{rows_of}
 use Rattle.gaz_kept.proofs.Stands.{are_files}
 use Rattle.gaz_store.specs.Volumes.{SayVolumes}
 use Rattle.gaz_store.proofs.Answered.{answered_ok}
@@ -14,5 +15,5 @@ returns-then-volume-gt-LAST_VOLUME g c =
 pub returns-in-Ok : goal.returns-in-Ok
 returns-in-Ok g c =
     answered_ok _ _ _ c.in_ok-rows.rows c.in-Ok.volumes _ _ c.rows_above.ensures c.in_ok-rows.was (λ db kept found.
-    volumes_told c.args.code c.args.volume (db.trees receiveds) c.in_ok-rows.rows.items (are_files db kept) found c.in-Ok.volumes.items
+    volumes_told c.args.code c.args.volume (rows_of db received) c.in_ok-rows.rows.items (are_files db kept) found c.in-Ok.volumes.items
     (subst (λ rows. SayVolumes rows c.in-Ok.volumes.items) c.deref.ensures.value c.in-Ok.ensures))
