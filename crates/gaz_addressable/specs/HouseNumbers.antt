@@ -99,10 +99,6 @@ to_text (Some x) = 45 ∷ number_text x
 abbrev pub range_text : RangeValue → List ℕ
 range_text r = number_text r.from ++ to_text r.to
 
-abbrev pub numbers_text : Option RangeValue → List ℕ
-numbers_text None = []
-numbers_text (Some r) = range_text r
-
 -- ---- 12 before 12A before 12B before 13
 
 -- a number with no suffix, and one with a letter

@@ -1,5 +1,4 @@
 ghost use Rattle.std.specs.Prelude.{◌≡◌, IfOk, Ok, map, true};
-ghost use Rattle.gaz_addressable.specs.HouseNumbers.{numbers_text};
 ghost use Rattle.gaz_addressable.specs.Objects.{digits_text, from_of, is_object, letter_text};
 ghost use Rattle.gaz_addressable.specs.Objects.{object_of_fields, or_empty, texts_of, to_of};
 
@@ -65,16 +64,6 @@ impl Object {
         }
         if let Some(text) = &self.text {
             let _ = text.as_bytes();
-        }
-    }
-
-    /// The house numbers, as `12A-14`, and no byte where there are none.
-    pub fn numbers_text(&self, alloc: Global) -> Result<Vec<u8>, AllocError>
-        ensures { IfOk result (λ t. t.items ≡ numbers_text self.now.range) }
-    {
-        match &self.range {
-            Some(range) => Ok(format!(in alloc; "{range}")?.into_bytes()),
-            None => Ok(Vec::new(alloc)),
         }
     }
 

@@ -5,7 +5,6 @@ ghost use Rattle.gaz_cells.specs.Columns.{cells_of, links_of, live_number, paren
 ghost use Rattle.gaz_cells.specs.Reading.{read_cells};
 
 use crate::id::id_of;
-use crate::reading::Row;
 use gaz_ids::{Status, Uprn};
 use gaz_records::{Item, item_text, key_of};
 use std::alloc::{AllocError, Global};
@@ -147,17 +146,5 @@ impl Cells {
             links,
             body,
         })
-    }
-
-    /// The same columns, as a row that is read.
-    pub fn as_row(&self) -> Row<'_>
-        ensures { result ≡ self.now }
-    {
-        Row {
-            kind: self.kind,
-            id: &self.id,
-            links: self.links,
-            body: &self.body,
-        }
     }
 }

@@ -34,14 +34,6 @@ impl AddressLine {
     {
         self.text.as_str()
     }
-
-    /// The text of the line, without taking memory.
-    pub fn into_string(self) -> String
-        ensures { string_bytes result ≡ self }
-    {
-        let AddressLine { text } = self;
-        text
-    }
 }
 
 // Adds a part that another follows.
