@@ -12,11 +12,11 @@ use gaz_hub::Hub;
 use gaz_keeper::Inbox;
 use gaz_loaded::Listed;
 use gaz_mirror::{Mirror, Unshared};
-use gaz_mirrored::mirrored;
 use gaz_register::Register;
 use gaz_samples::keepers::{Part, Refusal, Tried, parts, performs};
 use gaz_shelf::Seed;
 use gaz_store::Store;
+use gaz_stored::mirrored;
 use sqlite::{Alter, Connection};
 use std::alloc::Global;
 

@@ -9,7 +9,7 @@ use Rattle.gaz_hub.specs.Seen.{hub_seen}
 use Rattle.gaz_hub.specs.Step.{Command, Door, Response}
 use Rattle.gaz_hub.specs.declared.hub.Hub.{Hub}
 use Rattle.gaz_hub.proofs.HubRuns.{runs_one}
-use Rattle.gaz_mirrored.proofs.Filled.{over_parts}
+use Rattle.gaz_stored.proofs.Filled.{over_parts}
 use Rattle.gaz_hub.specs.Waiting.{Remembered, remembering}
 use Rattle.gaz_register.specs.Registers.{RegisterValue}
 use Rattle.gaz_keeper.specs.Keeper.{Seen}

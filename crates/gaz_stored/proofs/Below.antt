@@ -25,7 +25,7 @@ use Rattle.gaz_hub.proofs.HubRuns.{runs_still, runs_then}
 use Rattle.gaz_mirror.specs.Mirroring.{content_of, mirrored, progress_with, stands_below}
 use Rattle.gaz_mirror.specs.declared.gathered.Gathered.{Gathered}
 use Rattle.gaz_loaded.specs.Files.{OnlyReads}
-use Rattle.gaz_mirrored.specs.Filling.{AreVolumes, CanBeMirrored, RestsBare}
+use Rattle.gaz_stored.specs.Filling.{AreVolumes, CanBeMirrored, RestsBare}
 use Rattle.gaz_loaded.proofs.Reading.{reads_nothing}
 
 -- ---- what a store is mirrored by

@@ -22,7 +22,7 @@ use Rattle.gaz_hub.proofs.HubRuns.{runs_then}
 use Rattle.gaz_keeper.specs.Keeper.{IsNotOpen}
 use Rattle.gaz_mirror.specs.Mirrored.{seen_mirrored}
 use Rattle.gaz_loaded.specs.Files.{OnlyReads}
-use Rattle.gaz_mirrored.proofs.Filled.{over_parts}
+use Rattle.gaz_stored.proofs.Filled.{over_parts}
 use Rattle.gaz_stored.specs.Answering.{Settles}
 use Rattle.gaz_stored.specs.Attending.{ServesOpened, ServesOver}
 use Rattle.gaz_stored.specs.Keepers.{ServesWith}

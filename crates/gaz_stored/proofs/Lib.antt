@@ -15,3 +15,7 @@ pub mod ExtendsOpened
 pub mod Moving
 pub mod GrownChains
 pub mod Reopening
+mod Alike
+pub mod Filled
+mod Volumes
+mod FillingExamples

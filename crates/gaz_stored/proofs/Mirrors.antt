@@ -5,7 +5,7 @@ use Rattle.gaz_keeper.specs.Keeper.{IsNotOpen}
 use Rattle.gaz_keeper.specs.declared.shelf.Shelf.{Ghosts}
 use Rattle.gaz_loaded.specs.Files.{OnlyReads}
 use Rattle.gaz_mirror.specs.Mirrored.{seen_mirrored}
-use Rattle.gaz_mirrored.specs.Filling.{CanBeMirrored, RestsBare}
+use Rattle.gaz_stored.specs.Filling.{CanBeMirrored, RestsBare}
 use Rattle.gaz_hub.specs.Hubs.{door_of}
 use Rattle.gaz_hub.specs.Laws.{StandsForRun}
 use Rattle.gaz_stored.specs.Keepers.{MirrorOf, Mirrors}

@@ -9,7 +9,7 @@ use Rattle.gaz_shelf.specs.declared.mem_shelf.MemShelf.{MemShelf}
 use Rattle.gaz_loaded.specs.Files.{OnlyReads}
 use Rattle.gaz_mirror.specs.Mirrored.{seen_mirrored}
 use Rattle.gaz_mirror.specs.declared.mirror.Mirror.{Mirror}
-use Rattle.gaz_mirrored.specs.Filling.{CanBeMirrored, RestsBare}
+use Rattle.gaz_stored.specs.Filling.{CanBeMirrored, RestsBare}
 use Rattle.gaz_hub.specs.Hubs.{Runs, door_of}
 use Rattle.gaz_hub.specs.Laws.{StandsForRun}
 use Rattle.gaz_hub.specs.Step.{Command, Pose, Replied}

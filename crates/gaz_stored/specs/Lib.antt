@@ -12,3 +12,5 @@ pub mod Keepers
 pub mod Migrating
 pub mod GrownChains
 pub mod Reopening
+pub mod Filling
+pub mod FillingExamples

@@ -1,6 +1,8 @@
 //! What a reader of the definitions may rely on.
 ghost use Rattle.gaz_stored.specs.Chains.{ChainsAreOne};
 ghost use Rattle.gaz_stored.specs.Examples.{WorkedExamples};
+ghost use Rattle.gaz_stored.specs.Filling.{VolumesStay};
+ghost use Rattle.gaz_stored.specs.FillingExamples.{WorkedFilling};
 ghost use Rattle.gaz_stored.specs.GrownChains.{GrownChainsAreOne};
 ghost use Rattle.gaz_stored.specs.Migrating.{MigratedStands};
 ghost use Rattle.gaz_stored.specs.Reopening.{OpensAgain};
@@ -11,6 +13,16 @@ use sqlite::Alter;
 /// What the definitions come to on worked examples.
 pub fn worked_examples()
     ensures { WorkedExamples }
+{}
+
+/// Which files came as volumes, and which keepers can be brought to hand, on worked examples.
+pub fn worked_filling()
+    ensures { WorkedFilling }
+{}
+
+/// Where files came as volumes from 1 on, they do after any commands.
+pub fn volumes_stay()
+    ensures { VolumesStay }
 {}
 
 /// Conversations one after another over a database that was made a store, or whose tables stood for

@@ -6,12 +6,12 @@ ghost use Rattle.gaz_hub.specs.Laws.{StandsForRun};
 ghost use Rattle.gaz_hub.specs.Seen.{RemembersNothing};
 ghost use Rattle.gaz_mirror.specs.Mirrored.{seen_mirrored};
 ghost use Rattle.gaz_loaded.specs.Files.{OnlyReads};
-ghost use Rattle.gaz_mirrored.specs.Filling.{CanBeMirrored, RestsBare};
+ghost use Rattle.gaz_stored.specs.Filling.{CanBeMirrored, RestsBare};
 
 use gaz_hub::Hub;
 use gaz_loaded::Listed;
 use gaz_mirror::Mirror;
-use gaz_mirrored::mirrored;
+use crate::joining::mirrored;
 use gaz_shelf::{MemShelf, Seed};
 use std::alloc::Global;
 

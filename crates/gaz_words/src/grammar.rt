@@ -89,6 +89,14 @@ fn number<'a>(alloc: Global, name: &'a str, shown: &'a str, help: &'a str, most:
     path(alloc, name, shown, help).value_parser(ValueParser::Unsigned(0, most))
 }
 
+// A command with one more argument.
+fn takes<'a>(
+    command: Result<Command<'a>, AllocError>,
+    arg: Arg<'a>,
+) -> Result<Command<'a>, AllocError> {
+    command?.arg(arg)
+}
+
 // A command over a store.
 fn over_store<'a>(
     alloc: Global,
@@ -96,16 +104,15 @@ fn over_store<'a>(
     about: &'a str,
     example: &'a str,
 ) -> Result<Command<'a>, AllocError> {
-    Command::new(alloc, name)
-        .about(about)
-        .after_help(example)
-        .arg(path(alloc, "store", "STORE", "The store's file"))?
-        .arg(path(
-            alloc,
-            "register",
-            "REGISTER",
-            "The register's file, in TOML",
-        ))
+    let command = Command::new(alloc, name).about(about).after_help(example);
+    let store = path(alloc, "store", "STORE", "The store's file");
+    let register = path(
+        alloc,
+        "register",
+        "REGISTER",
+        "The register's file, in TOML",
+    );
+    takes(command.arg(store), register)
 }
 
 fn code<'a>(alloc: Global) -> Arg<'a> {
@@ -116,73 +123,83 @@ fn volume<'a>(alloc: Global) -> Arg<'a> {
     word(alloc, "VOLUME", "The volume, 1 to 999999")
 }
 
+fn init<'a>(alloc: Global) -> Result<Command<'a>, AllocError> {
+    over_store(alloc, "init", INIT, INIT_EXAMPLE)
+}
+
 fn submit<'a>(alloc: Global) -> Result<Command<'a>, AllocError> {
-    over_store(alloc, "submit", SUBMIT, SUBMIT_EXAMPLE)?
-        .arg(code(alloc))?
-        .arg(volume(alloc))?
-        .arg(word(alloc, "FILE", "The change file, in CSV"))
+    let command = over_store(alloc, "submit", SUBMIT, SUBMIT_EXAMPLE);
+    let command = takes(takes(command, code(alloc)), volume(alloc));
+    takes(command, word(alloc, "FILE", "The change file, in CSV"))
 }
 
 fn status<'a>(alloc: Global) -> Result<Command<'a>, AllocError> {
-    over_store(alloc, "status", STATUS, STATUS_EXAMPLE)?.arg(code(alloc))
+    let command = over_store(alloc, "status", STATUS, STATUS_EXAMPLE);
+    takes(command, code(alloc))
 }
 
 fn line<'a>(alloc: Global) -> Result<Command<'a>, AllocError> {
     let uprn = word(alloc, "UPRN", "The property's number, of at most 12 digits");
-    over_store(alloc, "line", LINE, LINE_EXAMPLE)?.arg(uprn)
+    takes(over_store(alloc, "line", LINE, LINE_EXAMPLE), uprn)
 }
 
 fn extract<'a>(alloc: Global) -> Result<Command<'a>, AllocError> {
-    over_store(alloc, "extract", EXTRACT, EXTRACT_EXAMPLE)?
-        .arg(code(alloc))?
-        .arg(volume(alloc))
+    let command = over_store(alloc, "extract", EXTRACT, EXTRACT_EXAMPLE);
+    takes(takes(command, code(alloc)), volume(alloc))
+}
+
+fn port<'a>(alloc: Global) -> Arg<'a> {
+    let help = "The port; for 0 the system chooses one";
+    number(alloc, "port", "PORT", help, MOST_PORT)
+}
+
+fn connections<'a>(alloc: Global) -> Arg<'a> {
+    let help = "How many connections are answered";
+    number(alloc, "connections", "CONNECTIONS", help, MOST_CONNECTIONS)
 }
 
 fn serve<'a>(alloc: Global) -> Result<Command<'a>, AllocError> {
-    let port = number(
-        alloc,
-        "port",
-        "PORT",
-        "The port; for 0 the system chooses one",
-        MOST_PORT,
-    );
-    let connections = number(
-        alloc,
-        "connections",
-        "CONNECTIONS",
-        "How many connections are answered",
-        MOST_CONNECTIONS,
-    );
-    over_store(alloc, "serve", SERVE, SERVE_EXAMPLE)?
-        .arg(port)?
-        .arg(connections)
+    let command = over_store(alloc, "serve", SERVE, SERVE_EXAMPLE);
+    takes(takes(command, port(alloc)), connections(alloc))
 }
 
 fn extend<'a>(alloc: Global) -> Result<Command<'a>, AllocError> {
-    let grown = path(
-        alloc,
-        "grown",
-        "GROWN",
-        "The file of the register that it grows to, in TOML",
-    );
-    over_store(alloc, "extend", EXTEND, EXTEND_EXAMPLE)?.arg(grown)
+    let help = "The file of the register that it grows to, in TOML";
+    let command = over_store(alloc, "extend", EXTEND, EXTEND_EXAMPLE);
+    takes(command, path(alloc, "grown", "GROWN", help))
+}
+
+fn migrate<'a>(alloc: Global) -> Result<Command<'a>, AllocError> {
+    over_store(alloc, "migrate", MIGRATE, MIGRATE_EXAMPLE)
+}
+
+// The program without a command.
+fn program<'a>(alloc: Global) -> Result<Command<'a>, AllocError> {
+    let program = Command::new(alloc, "gazhub").no_binary_name(true);
+    Ok(program.bin_name("gazhub")?.version("0.1.0").about(ABOUT))
+}
+
+// The program with one more command.
+fn with<'a>(
+    program: Result<Command<'a>, AllocError>,
+    command: Result<Command<'a>, AllocError>,
+) -> Result<Command<'a>, AllocError> {
+    let command = command?;
+    program?.subcommand(command)
+}
+
+// The program with what makes a store and what asks one.
+fn with_asking<'a>(alloc: Global) -> Result<Command<'a>, AllocError> {
+    let play = Command::new(alloc, "play").about(PLAY);
+    let program = with(program(alloc), Ok(play));
+    let program = with(program, init(alloc));
+    let program = with(program, submit(alloc));
+    let program = with(program, status(alloc));
+    with(with(program, line(alloc)), extract(alloc))
 }
 
 /// All words that the program takes, behind its name.
 pub fn grammar<'a>(alloc: Global) -> Result<Command<'a>, AllocError> {
-    let play = Command::new(alloc, "play").about(PLAY);
-    Command::new(alloc, "gazhub")
-        .no_binary_name(true)
-        .bin_name("gazhub")?
-        .version("0.1.0")
-        .about(ABOUT)
-        .subcommand(play)?
-        .subcommand(over_store(alloc, "init", INIT, INIT_EXAMPLE)?)?
-        .subcommand(submit(alloc)?)?
-        .subcommand(status(alloc)?)?
-        .subcommand(line(alloc)?)?
-        .subcommand(extract(alloc)?)?
-        .subcommand(serve(alloc)?)?
-        .subcommand(extend(alloc)?)?
-        .subcommand(over_store(alloc, "migrate", MIGRATE, MIGRATE_EXAMPLE)?)
+    let program = with(with_asking(alloc), serve(alloc));
+    with(with(program, extend(alloc)), migrate(alloc))
 }

@@ -8,7 +8,7 @@ ghost use Rattle.gaz_hub.specs.Laws.{StandsForRun};
 ghost use Rattle.gaz_hub.specs.Seen.{RemembersNothing};
 ghost use Rattle.gaz_loaded.specs.Files.{OnlyReads};
 ghost use Rattle.gaz_mirror.specs.Mirrored.{seen_mirrored};
-ghost use Rattle.gaz_mirrored.specs.Filling.{CanBeMirrored, RestsBare};
+ghost use Rattle.gaz_stored.specs.Filling.{CanBeMirrored, RestsBare};
 ghost use Rattle.gaz_shelf.specs.Mem.{seen_in};
 
 use crate::filling::fill;

@@ -13,7 +13,7 @@ use Rattle.gaz_hub.specs.Standing.{IsPartial, Register}
 use Rattle.gaz_hub.specs.Step.{Door, blocks}
 use Rattle.gaz_hub.proofs.Orders.{empty_lawful, leads_lawful}
 use Rattle.gaz_loaded.specs.Loading.{IsOfThese}
-use Rattle.gaz_mirrored.specs.Filling.{CanBeMirrored, codes_of}
+use Rattle.gaz_stored.specs.Filling.{CanBeMirrored, codes_of}
 
 -- a volume that is judged was received
 judged_came : (G : Register) (F : Received) (B : Board) (c volume : ℕ) → IsPartial G F B → 1 ≤ volume → volume ≤ reached B c → is_some (finite.get F (c, volume)) ≡ true

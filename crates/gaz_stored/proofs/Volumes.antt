@@ -11,7 +11,7 @@ use Rattle.gaz_hub.specs.declared.refusal.DoorRefusal.{DoorRefusal}
 use Rattle.gaz_hub.specs.declared.refusal.DoorRefusal.TheVariants as at_door
 use Rattle.gaz_hub.proofs.AnswerSteps.{early_let_in}
 use Rattle.gaz_hub.proofs.Steps.{goes, pairs_same}
-use Rattle.gaz_mirrored.specs.Filling.{AreVolumes, VolumesStay}
+use Rattle.gaz_stored.specs.Filling.{AreVolumes, VolumesStay}
 
 is_volume_in : (known volume : Bool) (o : Option DoorRefusal) → cond (not known) (Some at_door.UnknownCustodian) (cond (not volume) (Some at_door.BadVolume) o) ≡ None → volume ≡ true
 is_volume_in known true o e = refl

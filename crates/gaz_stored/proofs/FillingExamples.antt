@@ -20,8 +20,8 @@ use Rattle.gaz_register.specs.Registers.{blocks_of}
 use Rattle.gaz_hub.specs.Hubs.{door_of}
 use Rattle.gaz_hub.specs.Sample.{sample_custodians}
 use Rattle.gaz_hub.specs.Standing.{IsPartial}
-use Rattle.gaz_mirrored.specs.Examples.{WorkedFilling, at_rest}
-use Rattle.gaz_mirrored.specs.Filling.{AreVolumes, CanBeMirrored, RestsBare}
+use Rattle.gaz_stored.specs.FillingExamples.{WorkedFilling, at_rest}
+use Rattle.gaz_stored.specs.Filling.{AreVolumes, CanBeMirrored, RestsBare}
 
 -- ---- files
 

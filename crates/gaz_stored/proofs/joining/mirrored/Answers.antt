@@ -4,8 +4,8 @@ use Rattle.gaz_hub.specs.Hubs.{door_of}
 use Rattle.gaz_hub.specs.Laws.{StandsForRun}
 use Rattle.gaz_mirror.specs.Mirrored.{seen_mirrored}
 use Rattle.gaz_shelf.specs.Mem.{seen_in}
-use Rattle.gaz_mirrored.proofs.Filled.{of_lower, of_made, stands_mirrored}
-use Rattle.gaz_mirrored.proofs.joining.mirrored.Goals as goal
+use Rattle.gaz_stored.proofs.Filled.{of_lower, of_made, stands_mirrored}
+use Rattle.gaz_stored.proofs.joining.mirrored.Goals as goal
 
 pub join-requires : goal.join-requires
 join-requires g c = λ u is. let filled = c.fill-upper.ensures.filled u is in (filled.lower, filled.upper)

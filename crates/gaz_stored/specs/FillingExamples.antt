@@ -6,7 +6,7 @@ use Rattle.gaz_keeper.specs.Keeper.{Content, Seen, after_stop, empty_content}
 use Rattle.gaz_keeper.specs.Received.{with_file}
 use Rattle.gaz_hub.specs.Hubs.{door_of}
 use Rattle.gaz_hub.specs.Sample.{sample_custodians}
-use Rattle.gaz_mirrored.specs.Filling.{AreVolumes, CanBeMirrored, RestsBare, codes_of}
+use Rattle.gaz_stored.specs.Filling.{AreVolumes, CanBeMirrored, RestsBare, codes_of}
 
 -- a keeper that is its content, and never judges
 abbrev pub at_rest : Content → Seen

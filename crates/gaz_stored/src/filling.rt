@@ -3,7 +3,7 @@ ghost use Rattle.std.specs.Prelude.{◌≡◌, map, IfOk};
 ghost use Rattle.std.specs.Option.{ForSome};
 ghost use Rattle.gaz_keeper.specs.Keeper.{IsNotOpen};
 ghost use Rattle.gaz_loaded.specs.Files.{OnlyReads};
-ghost use Rattle.gaz_mirrored.specs.Filling.{IsFilled, codes_of};
+ghost use Rattle.gaz_stored.specs.Filling.{IsFilled, codes_of};
 
 use gaz_ids::Code;
 use gaz_loaded::{Listed, load};

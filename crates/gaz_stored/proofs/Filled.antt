@@ -18,8 +18,8 @@ use Rattle.gaz_hub.proofs.Advancing.{may_keep}
 use Rattle.gaz_loaded.specs.Files.{OnlyReads}
 use Rattle.gaz_mirror.specs.Mirroring.{StandsWith, mirrored}
 use Rattle.gaz_mirror.specs.declared.gathered.Gathered.{Gathered}
-use Rattle.gaz_mirrored.specs.Filling.{CanBeMirrored, IsFilled}
-use Rattle.gaz_mirrored.proofs.Alike.{of_these}
+use Rattle.gaz_stored.specs.Filling.{CanBeMirrored, IsFilled}
+use Rattle.gaz_stored.proofs.Alike.{of_these}
 
 module _ (reg : RegisterValue) (b c : Seen) (reads : OnlyReads b c) (can : CanBeMirrored (door_of reg) b) (fine : c.unharmed) (lower_bare : c.progress ≡ Idle → c.content.working ≡ empty_view) where
   stood : c.stands

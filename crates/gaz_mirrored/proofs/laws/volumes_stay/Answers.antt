@@ -1,5 +1,0 @@
-use Rattle.gaz_mirrored.proofs.Volumes.{volumes_stay_holds}
-use Rattle.gaz_mirrored.proofs.laws.volumes_stay.Goals as goal
-
-pub returns : goal.returns
-returns c = volumes_stay_holds
