@@ -2,7 +2,7 @@
 
 import difflib
 import re
-from dataclasses import dataclass, field
+from dataclasses import dataclass, field, replace
 from pathlib import Path
 
 from checks.source import Function, constant_at, functions, names
@@ -168,7 +168,7 @@ def moved(function: Function, hunks: list[Hunk]) -> Function:
             more = len(hunk.lines) - (hunk.last - hunk.first)
             first += more * (hunk.last < function.first)
             last += more * (hunk.first < function.last)
-    return Function(function.file, function.name, function.owner, first, last)
+    return replace(function, first=first, last=last)
 
 
 def paths(edits: list[Edit]) -> list[str]:

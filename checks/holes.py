@@ -16,13 +16,14 @@ def homes(sources: dict[str, str]) -> dict[str, str]:
 
 
 def stands_alone(text: str, function: Function) -> bool:
-    """Whether it has a body and a proof of its own wherever it is read: no method of a trait, no function within one, no test, none that
-    calls itself, whose proof is that of what calls each other."""
+    """Whether it has a body and a proof of its own wherever it is read: none within a function or a trait, no test, none that calls itself,
+    whose proof is that of what calls each other, and none that lets go of a value, which more than calls lead to."""
     lines = text.split("\n")[function.first - 1 : function.last]
     is_inside = lines[0].startswith(" ") and not function.owner
     calls_itself = call_of(function).search("\n".join(lines[1:])) is not None
     has_more = any(it.strip().startswith("#[") and not TACTIC.match(it) for it in lines)
-    return not is_inside and not calls_itself and not lines[-1].endswith(";") and not has_more
+    drops = function.is_of_trait and function.name == "drop"
+    return not is_inside and not calls_itself and not drops and not lines[-1].endswith(";") and not has_more
 
 
 def call_of(function: Function) -> re.Pattern:
@@ -32,9 +33,11 @@ def call_of(function: Function) -> re.Pattern:
 
 
 def folder_of(function: Function, homes: dict[str, str]) -> str | None:
-    """Where its proof stands, if its file and its type tell: a method of a trait has none here."""
+    """Where its proof stands, if its file and its type tell: a method of a trait stands where the impl does."""
     if not function.owner:
         return f"proofs/{module_folder(function.file)}{function.name}"
+    if function.is_of_trait:
+        return f"proofs/{module_folder(function.file)}{function.owner}/{function.name}"
     home = homes.get(function.owner)
     return None if home is None else f"proofs/{home}{function.owner}/{function.name}"
 

@@ -135,7 +135,7 @@ fn again(n: u8) {
         sources = {"src/a/b.rt": self.SHELF, "proofs/a/b/Shelf/one/Answers.antt": "", "proofs/a/b/free/Answers.antt": ""}
         changed = {it for it in functions("src/a/b.rt", self.SHELF) if it.name == "free"}
         made = holes("small", sources, changed)
-        proofs = {"proofs/a/b/Shelf/one/Answers.antt", "proofs/a/b/Shelf/one/Proof.antt", "proofs/a/b/Shelf/two/Proof.antt"}
+        proofs = {"proofs/a/b/Shelf/one/Answers.antt", *(f"proofs/a/b/{it}/Proof.antt" for it in ("Shelf/one", "Shelf/two", "ShelfKeeps/keeps"))}
         self.assertEqual(proofs | {"src/a/b.rt"}, set(made))
         self.assertIsNone(made["proofs/a/b/Shelf/one/Answers.antt"])
         self.assertIn("use Rattle.small.proofs.a.b.Shelf.two.Statement as stated", made["proofs/a/b/Shelf/two/Proof.antt"])
