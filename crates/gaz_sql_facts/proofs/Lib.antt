@@ -1,15 +1,19 @@
 pub mod CommandMoves
 pub mod Copies
 pub mod Emptied
+pub mod Ends
 pub mod Equal
 pub mod Examples
 pub mod Free
 pub mod Gains
+pub mod Grown
 pub mod InsertMoves
 pub mod Inserts
 pub mod Lists
 pub mod Looks
 pub mod Lower
+pub mod MadeTexts
+pub mod Making
 pub mod Outputs
 pub mod Parts
 pub mod Queries
@@ -23,6 +27,6 @@ pub mod TextMoves
 pub mod Texts
 pub mod Typed
 pub mod Typing
-pub mod UpdateMoves
 pub mod Unique
+pub mod UpdateMoves
 pub mod Updates

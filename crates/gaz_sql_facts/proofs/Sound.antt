@@ -44,13 +44,23 @@ zip_has R (x ∷ xs) [] y h there = absurd there
 zip_has R (x ∷ xs) (z ∷ ys) y h (inl same) = (x, subst (R x) (sym same) h.0)
 zip_has R (x ∷ xs) (z ∷ ys) y h (inr later) = zip_has R xs ys y h.1 later
 
+-- a table that is listed is one that a store keeps, and none that a statement computes
+pub low_tree : (db : Database) (table : Table) → IsDatabase db → Has db.schema.tables table → nat_le (2 ^ 31) table.tree ≡ false
+low_tree db table sound there =
+    let row = zip_has _ _ db.schema.tables table sound.lists.listed.tables there in
+    let low = row.1.described.low in
+    lt-leb (2 ^ 31) table.tree (omega (arith, low))
+
 -- where a table is listed, and first at its tree, it stands
 pub stands_from : (db : Database) (at : ℕ) (table : Table) → IsDatabase db → slice_get db.schema.tables at ≡ Some table → find (λ t. t.tree == table.tree) db.schema.tables ≡ Some table → StandsAt db.schema at table
 stands_from db at table sound is first =
-    let row = zip_has _ _ db.schema.tables table sound.lists.listed.tables (has_got db.schema.tables at table is) in
-    let low = row.1.described.low in
     let none : 0 + at ≡ at = omega arith in
-    record { named = first_named db.schema.tables 0 at table sound.lists.listed.named is ∙ ap Some none; listed = is; by_tree = first; stored = lt-leb (2 ^ 31) table.tree (omega (arith, low)) }
+    record {
+      named = first_named db.schema.tables 0 at table sound.lists.listed.named is ∙ ap Some none;
+      listed = is;
+      by_tree = first;
+      stored = low_tree db table sound (has_got db.schema.tables at table is);
+    }
 
 -- each UNIQUE of a table that is listed has its index, whatever other indexes there are
 pub guard_of : (db : Database) (at : ℕ) (table : Table) (j : ℕ) (key : List ℕ) → IsDatabase db → slice_get db.schema.tables at ≡ Some table → slice_get table.uniques j ≡ Some key → (tree : ℕ) × Has db.schema.indexes (automatic table j key tree)

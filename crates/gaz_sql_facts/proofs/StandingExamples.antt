@@ -1,10 +1,12 @@
--- Where the table of notes stands and where not, and which texts ask for it alone.
-use Rattle.std.proofs.Common.{◌≡◌, ℕ, codes, true, false, Option, Some, length, refl, sym, ap, ◌∙◌, arith}
+-- Where the table of notes stands and where not, which names are free, and which texts ask for a table alone or make one.
+use Rattle.std.proofs.Common.{◌≡◌, ℕ, codes, true, false, Option, None, Some, length, refl, sym, ap, ◌∙◌, arith}
+use Rattle.std.specs.Fmt.{digits}
 use Rattle.sqlite_tied.specs.Compute.{everything}
 use Rattle.sqlite_schema.specs.declared.schema.Column.{Column}
-use Rattle.sqlite_schema.specs.Names.{same_name, table_named}
+use Rattle.sqlite_schema.specs.Names.{index_named, same_name, table_named}
 use Rattle.sqlite_value.specs.Keys.{joined}
-use Rattle.gaz_sql_facts.specs.Examples.{WorkedSimple, WorkedStanding}
+use Rattle.gaz_sql_facts.specs.Examples.{WorkedMaking, WorkedSimple, WorkedStanding}
+use Rattle.gaz_sql_facts.specs.Making.{IsFree, IsUnreferred}
 use Rattle.gaz_sql_facts.specs.Samples.{archive, behind_archive, behind_namesake, moved_note, note, under_archive, with_by_day}
 use Rattle.gaz_sql_facts.specs.Standing.{IsApart, ReadsAs, StandsAt}
 
@@ -57,3 +59,44 @@ standing = record {
 pub simple : WorkedSimple
 unfolding everything
 simple = record { query = refl; insert = refl; update = refl; delete = refl; not_another_table = refl; not_another_column = refl; not_two_tables = refl; not_a_subquery = refl; not_a_way_out = refl }
+
+free : IsFree with_by_day (codes "lent")
+unfolding same_name
+free = record { no_table = refl; no_index = refl; no_view = refl }
+
+used : (k : ℕ) (o : Option ℕ) → o ≡ Some k → o ≡ None → ⊥
+used k o some none = let both : ◌≡◌ {A = Option ℕ} (Some k) None = sym some ∙ none in absurd (cc)
+
+is_table : table_named with_by_day (codes "NOTE") ≡ Some 0
+unfolding same_name
+is_table = refl
+
+is_index : index_named with_by_day (codes "By_day") ≡ Some 2
+unfolding same_name
+is_index = refl
+
+is_of_a_key : index_named with_by_day (codes "sqlite_autoindex_note_1") ≡ Some 0
+unfolding same_name digits
+is_of_a_key = refl
+
+unreferred : IsUnreferred behind_archive (codes "note")
+unfolding same_name
+unreferred = (refl, (refl, tt))
+
+referred : IsUnreferred under_archive (codes "NOTE") → ⊥
+unfolding same_name
+referred it = let wrong : true ≡ false = it.0 in absurd (cc)
+
+pub making : WorkedMaking
+unfolding everything
+making = record {
+  free = free;
+  not_a_table = λ it. used 0 _ is_table it.no_table;
+  not_an_index = λ it. used 2 _ is_index it.no_index;
+  not_of_a_key = λ it. used 0 _ is_of_a_key it.no_index;
+  unreferred = unreferred;
+  referred = referred;
+  table = refl;
+  index = refl;
+  not_a_query = refl;
+}

@@ -140,7 +140,7 @@ module _ (s s' : Schema) (at at' : ℕ) (like table : Table) (stands : StandsAt 
       }
 
 -- a table that reads as another one is that one, but for what no text asks
-is_as_read : (like table : Table) → ReadsAs like table → table ≡ as_read like table
+pub is_as_read : (like table : Table) → ReadsAs like table → table ≡ as_read like table
 is_as_read like table reads = λ i. record table { name = reads.name i; columns = reads.columns i; key = reads.key i; computed = reads.computed i; stamps = reads.stamps i }
 
 pub texts_stand_alone : TextsStandAlone

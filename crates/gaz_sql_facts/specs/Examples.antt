@@ -1,12 +1,13 @@
 -- Worked examples: what a copy, an emptied table and a new archive are, where a table stands, which
--- texts ask for it alone, and what none of these are.
-use Rattle.std.specs.Prelude.{◌≡◌, true, false, List, [], ◌∷◌, codes}
+-- names are free, which texts ask for a table alone or make one, and what none of these are.
+use Rattle.std.specs.Prelude.{◌≡◌, true, false, List, [], ◌∷◌, None, Some, codes}
 use Rattle.sqlite_catalog.specs.Change.{created, indexed}
 use Rattle.sqlite.specs.Effect.{Database}
 use Rattle.sqlite.specs.Order.{Row}
 use Rattle.gaz_sql_facts.specs.Copies.{AreCopied}
 use Rattle.gaz_sql_facts.specs.Emptied.{IsEmptied}
 use Rattle.gaz_sql_facts.specs.Gains.{GainsIndex, GainsTable}
+use Rattle.gaz_sql_facts.specs.Making.{IsFree, IsUnreferred, index_made, table_made}
 use Rattle.gaz_sql_facts.specs.Samples.{archive, archived, behind_archive, behind_namesake, by_day}
 use Rattle.gaz_sql_facts.specs.Samples.{ice, lent_jam, moved_note, never_lent, note, note_schema}
 use Rattle.gaz_sql_facts.specs.Samples.{notes, old_ice, old_tea, tea_again, two_notes}
@@ -71,9 +72,21 @@ pub record WorkedSimple : Type 0 where
   pub not_a_subquery : is_simple_text note (codes "DELETE FROM note WHERE shelf = (SELECT 7)") ≡ false
   pub not_a_way_out : is_simple_text note (codes "INSERT OR IGNORE INTO note VALUES (1, 2, 3, 4)") ≡ false
 
+pub record WorkedMaking : Type 0 where
+  pub free : IsFree with_by_day (codes "lent")
+  pub not_a_table : ¬ IsFree with_by_day (codes "NOTE")
+  pub not_an_index : ¬ IsFree with_by_day (codes "By_day")
+  pub not_of_a_key : ¬ IsFree with_by_day (codes "sqlite_autoindex_note_1")
+  pub unreferred : IsUnreferred behind_archive (codes "note")
+  pub referred : ¬ IsUnreferred under_archive (codes "NOTE")
+  pub table : table_made (codes "CREATE TABLE lent (day TEXT)") ≡ Some (codes "lent")
+  pub index : index_made (codes "CREATE INDEX d ON note (since)") ≡ Some (codes "d", codes "note")
+  pub not_a_query : table_made (codes "SELECT day FROM lent") ≡ None
+
 pub record WorkedExamples : Type 0 where
   pub on_copies : WorkedCopies
   pub on_emptied : WorkedEmptied
   pub on_gains : WorkedGains
   pub on_standing : WorkedStanding
   pub on_simple : WorkedSimple
+  pub on_making : WorkedMaking

@@ -4,6 +4,7 @@ pub mod Emptied
 pub mod Examples
 pub mod Gains
 pub mod Laws
+pub mod Making
 pub mod Meaning
 pub mod Samples
 pub mod Selects
