@@ -10,6 +10,7 @@ use Rattle.sqlite.specs.Order.{Row, column, value_cmp}
 use Rattle.sqlite.specs.declared.types.Value.{Value}
 use Rattle.sqlite.specs.declared.types.Value.TheVariants.{Int, Text}
 use Rattle.sqlite_rules.specs.Lists.{Has}
+use Rattle.gaz_tables.proofs.CreatingExamples.{creating_holds}
 use Rattle.gaz_tables.proofs.CustodyExamples.{custody_holds}
 use Rattle.gaz_tables.proofs.StoreExamples.{stores_hold}
 use Rattle.gaz_tables.specs.Shows.{Picks}
@@ -325,4 +326,4 @@ on_receiveds = record {
 }
 
 pub worked_examples_hold : WorkedExamples
-worked_examples_hold = record { on_versions = on_versions; on_rowids = on_rowids; on_receiveds = on_receiveds; on_custody = custody_holds; on_stores = stores_hold }
+worked_examples_hold = record { on_versions = on_versions; on_rowids = on_rowids; on_receiveds = on_receiveds; on_custody = custody_holds; on_stores = stores_hold; on_creating = creating_holds }

@@ -1,8 +1,9 @@
+pub mod CreatingExamples
 pub mod CustodyExamples
-pub mod Examples
 pub mod CustodyMeanings
 pub mod CustodyPages
 pub mod CustodyQueries
+pub mod Examples
 pub mod Four
 pub mod Growing
 pub mod Making
@@ -14,6 +15,7 @@ pub mod ReceivedOnce
 pub mod ReceivedQueries
 pub mod ReceivedRows
 pub mod ReceivedWrites
+pub mod Rooms
 pub mod RowidMeanings
 pub mod RowidQueries
 pub mod Shown

@@ -29,7 +29,8 @@ use Rattle.gaz_sql_facts.proofs.Typed.{typed, kept_by_cast}
 use Rattle.gaz_tables.proofs.Four.{four_still, meta_first, meta_tree, old_there, received_first, received_tree, rows_at, tables_of, version_first, version_stands, version_tree, version2_tree}
 use Rattle.gaz_tables.proofs.Standing.{changes_table}
 use Rattle.gaz_tables.proofs.Staying.{other_name, rows_stay, tables_now}
-use Rattle.gaz_tables.specs.Creating.{Gains}
+use Rattle.gaz_tables.proofs.CreatingExamples.{of_schema_1, room_in_first}
+use Rattle.gaz_tables.specs.Creating.{Gains, HasRoomForSecond, second_in}
 use Rattle.gaz_tables.specs.Metas.{Rewrites}
 use Rattle.gaz_tables.specs.Migrating.{CopiesRows, HasFirstTables, HasFourTables, Migrates, MovesRows, with_hop}
 use Rattle.gaz_tables.specs.Schema.{first_schema, store_schema, version, received, meta, version2, version_columns, version2_columns, old_versions, versions}
@@ -117,17 +118,25 @@ not_first (inr (inl is)) = let e : ◌≡◌ {A = ℕ} 7 4 = ap number_of is in 
 not_first (inr (inr (inl is))) = let e : ◌≡◌ {A = ℕ} 7 6 = ap number_of is in omega (arith, e)
 not_first (inr (inr (inr never))) = never
 
-module _ (old made : Database) (has : HasFirstTables old) (gains : Gains first_schema store_schema old made) where
+-- a database of schema 1 has room for what schema 2 has beside it, and gets just the schema of a new store
+module _ (old : Database) (has : HasFirstTables old) where
+  pub has_room : HasRoomForSecond old.schema
+  has_room = subst HasRoomForSecond (sym has.schema_is) room_in_first
+
+  pub gains_store : (made : Database) → Gains (second_in old.schema) old made → Gains store_schema old made
+  gains_store made = subst (λ s. Gains s old made) (ap second_in has.schema_is ∙ of_schema_1)
+
+module _ (old made : Database) (has : HasFirstTables old) (gains : Gains store_schema old made) where
   -- what is new is empty
   pub none_yet : rows_of made version2 ≡ []
-  none_yet = rows_at made store_schema gains.schema_is version2 versions version2_tree ∙ elim (gains.fresh version2 (inr (inr (inr (inl refl))))) [
-    | inl was ↦ absurd (not_first was)
-    | inr none ↦ none
+  none_yet = rows_at made store_schema gains.schema_is version2 versions version2_tree ∙ elim (gains.fresh version2 (subst (λ s. Has s.tables version2) (sym gains.schema_is) (inr (inr (inr (inl refl)))))) [
+    | inl was ↦ absurd (not_first (subst (λ s. Has s.tables version2) has.schema_is was))
+    | inr fresh ↦ fresh.empty
   ]
 
   -- each table that was there has the rows that it had
   stays_whole : (t : Table) → Has first_schema.tables t → tree_of t first_schema ≡ t.tree → tree_of t store_schema ≡ t.tree → rows_of made t ≡ rows_of old t
-  stays_whole t listed first second = rows_at made store_schema gains.schema_is t t.tree second ∙ gains.stay t listed ∙ sym (rows_at old first_schema has.schema_is t t.tree first)
+  stays_whole t listed first second = rows_at made store_schema gains.schema_is t t.tree second ∙ (gains.stay t (subst (λ s. Has s.tables t) (sym has.schema_is) listed)).1 ∙ sym (rows_at old first_schema has.schema_is t t.tree first)
 
   old_rows_stay : rows_of made version ≡ rows_of old version
   old_rows_stay = stays_whole version (inl refl) version_first version_tree

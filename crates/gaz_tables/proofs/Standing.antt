@@ -63,7 +63,7 @@ module _ (like : Table) (schema : Schema) (has : HasTable like schema) where
   pub apart : IsApart schema (tree_of like schema)
   apart = subst (IsApart schema) (sym tree_is) has.apart
 
-  reads : ReadsAs like table
+  pub reads : ReadsAs like table
   reads = record { name = refl; columns = refl; key = refl; computed = refl; stamps = refl }
 
   module _ (text : List ℕ) (it : OnTable) (means : MeansAnywhere like text it) where

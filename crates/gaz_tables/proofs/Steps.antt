@@ -10,7 +10,6 @@ use Rattle.sqlite.specs.Held.{Held, state}
 use Rattle.sqlite.specs.Order.{Row}
 use Rattle.sqlite.specs.Schema.{Schema}
 use Rattle.sqlite.specs.Table.{Table}
-use Rattle.sqlite_rules.specs.Lists.{Has}
 use Rattle.sqlite.specs.Clock.{timed}
 use Rattle.sqlite.specs.State.{State, HasCleanDisk, ExecutesInside, FailsToQuery, IsTooLate, KeepsCommit, Shown, ShowsRows, Survives}
 use Rattle.sqlite.specs.declared.error.Error.{Error}
@@ -18,7 +17,7 @@ use Rattle.sqlite_trees.specs.declared.store.Store.{Ghosts}
 use Rattle.sqlite_trees.specs.Tree.{Trees}
 use Rattle.gaz_sql_facts.proofs.Texts.{spared_query}
 use Rattle.gaz_sql_facts.specs.Changes.{InPlace}
-use Rattle.gaz_tables.specs.Creating.{Gains, Grows, Widens}
+use Rattle.gaz_tables.specs.Creating.{Gains, Widens}
 use Rattle.gaz_tables.proofs.Growing.{gains_both}
 use Rattle.gaz_tables.specs.Stores.{ChangesTable, HasTables, KeepsTables, StaysInside, WasOpen, WritesInside}
 use Rattle.gaz_tables.specs.Tables.{HasTable}
@@ -94,15 +93,20 @@ module _ {S A B : Type 0} (g : Ghosts S) (old mid new : Held S) (x : A) (r : Res
   pub tables_then : KeepsTables g old mid (Ok x) → KeepsTables g mid new r → KeepsTables g old new r
   tables_then one two clean has = two clean (one (clean_before clean) has)
 
-  pub widens_then : (has between gets : Schema) → ((t : Table) → Has has.tables t → Has between.tables t) → Widens g old mid has between (Ok x) → Widens g mid new between gets r → Widens g old new has gets r
-  widens_then has between gets into one two clean is = let first = one (clean_before clean) is in by_result r (two clean first.schema_is) first
+  -- what a database gains by one call and then by another, where the second has its room once the first is done
+  pub widens_then : (First Second Both : Schema → Type 0) (between gets : Schema → Schema) → (Both (state g old).now.schema → First (state g old).now.schema)
+      → (Both (state g old).now.schema → Gains (between (state g old).now.schema) (state g old).now (state g mid).now → Second (between (state g old).now.schema))
+      → Widens g old mid First between (Ok x) → Widens g mid new Second gets r → Widens g old new Both (λ s. gets (between s)) r
+  widens_then First Second Both between gets begins goes_on one two clean room =
+      let first = one (clean_before clean) (begins room) in
+      by_result r (two clean (subst Second (sym first.schema_is) (goes_on room first))) first
     where
-      by_result : (r : Result B Error) → OnOk r (Gains between gets (state g mid).now (state g new).now) → Gains has between (state g old).now (state g mid).now → OnOk r (Gains has gets (state g old).now (state g new).now)
+      by_result : (r : Result B Error) → OnOk r (Gains (gets (state g mid).now.schema) (state g mid).now (state g new).now) → Gains (between (state g old).now.schema) (state g old).now (state g mid).now
+          → OnOk r (Gains (gets (between (state g old).now.schema)) (state g old).now (state g new).now)
       by_result (Err e) h first = tt
-      by_result (Ok y) h first = gains_both has between gets (state g old).now (state g mid).now (state g new).now into first h
-
-  pub grows_then : (has between gets : Schema) → Grows g old mid has between (Ok x) → Grows g mid new between gets r → Grows g old new has gets r
-  grows_then has between gets one two clean bare = two clean (one (clean_before clean) bare).0
+      by_result (Ok y) h first =
+          gains_both (between (state g old).now.schema) (gets (between (state g old).now.schema)) (state g old).now (state g mid).now (state g new).now first
+          (subst (λ s. Gains (gets s) (state g mid).now (state g new).now) first.schema_is h)
 
 pub none_done : {B : Type 0} (P : Type 0) (q : Result B Error) → IsErr q → OnOk q P
 none_done P (Err e) failed = tt

@@ -1,8 +1,9 @@
--- Worked examples: what is found among four rows of `version2` and three of `received`, what a write
--- makes of a row, and which schemas have a store's tables.
+-- Worked examples: what is found among four rows of `version2` and three of `received`, what a
+-- write makes of a row, which schemas have a store's tables, and which have room for them.
 use Rattle.std.specs.Prelude.{◌≡◌, ℕ, ℤ, pos, List, [], ◌∷◌, codes, true, false}
 use Rattle.sqlite.specs.Order.{Row}
 use Rattle.sqlite.specs.declared.types.Value.TheVariants.{Int, Text, Blob}
+use Rattle.gaz_tables.specs.CreatingExamples.{WorkedCreating}
 use Rattle.gaz_tables.specs.CustodyExamples.{WorkedCustody}
 use Rattle.gaz_tables.specs.Metas.{meta_row, meta_shown}
 use Rattle.gaz_tables.specs.Receiveds.{FindsAbove, FindsVerdict, file_shown, judged, unjudged}
@@ -98,3 +99,4 @@ pub record WorkedExamples : Type 0 where
   pub on_receiveds : WorkedReceiveds
   pub on_custody : WorkedCustody
   pub on_stores : WorkedStores
+  pub on_creating : WorkedCreating

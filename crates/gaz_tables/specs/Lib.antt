@@ -1,4 +1,5 @@
 pub mod Creating
+pub mod CreatingExamples
 pub mod Custody
 pub mod CustodyExamples
 pub mod Examples

@@ -1,12 +1,15 @@
-//! The tables and indexes of a new store.
+//! The tables and indexes of a new store, beside whatever is there.
 ghost use Rattle.std.specs.Prelude.{◌≡◌, false, OnOk};
 ghost use Rattle.sqlite.specs.Held.{state};
 ghost use Rattle.gaz_sql_facts.specs.Changes.{LeavesTheCommit};
-ghost use Rattle.gaz_tables.specs.Creating.{Creates, Furnishes, Grows, MayCreate, Widens};
-ghost use Rattle.gaz_tables.specs.Creating.{with_by_blpu, with_by_blpu2, with_by_street};
-ghost use Rattle.gaz_tables.specs.Creating.{no_schema, with_received, with_version};
-ghost use Rattle.gaz_tables.specs.Creating.{with_version2};
-ghost use Rattle.gaz_tables.specs.Schema.{first_schema, store_schema};
+ghost use Rattle.gaz_tables.specs.Creating.{Creates, Furnishes, MayCreate, Widens};
+ghost use Rattle.gaz_tables.specs.Creating.{HasRoomForFirst, HasRoomForOthers};
+ghost use Rattle.gaz_tables.specs.Creating.{HasRoomForSecond, HasRoomForVersions};
+ghost use Rattle.gaz_tables.specs.Creating.{TakesIndex, TakesTable};
+ghost use Rattle.gaz_tables.specs.Creating.{first_in, index_put, others_in, second_in};
+ghost use Rattle.gaz_tables.specs.Creating.{table_put, versions_in};
+ghost use Rattle.gaz_tables.specs.Schema.{by_blpu, by_blpu2, by_street, by_street2};
+ghost use Rattle.gaz_tables.specs.Schema.{meta, received, version, version2};
 ghost use Rattle.gaz_tables.specs.Stores.{StaysInside, Undoes, WasOpen};
 
 use crate::metas;
@@ -15,7 +18,8 @@ use sqlite::{Alter, Connection, Error, Transaction};
 // Makes the table `version`, within a transaction.
 fn make_version<S: Alter>(tx: &mut Transaction<'_, S>) -> Result<usize, Error>
     ensures same_reference { tx.new.conn.ghost_name ≡ tx.old.conn.ghost_name }
-    ensures made { Grows S.Store tx.old.conn.now tx.new.conn.now no_schema with_version result }
+    ensures made { Widens S.Store tx.old.conn.now tx.new.conn.now
+        (TakesTable version) (table_put version) result }
     ensures inside { StaysInside S.Store tx.old.conn.now tx.new.conn.now result }
 {
     tx.execute(
@@ -31,7 +35,8 @@ fn make_version<S: Alter>(tx: &mut Transaction<'_, S>) -> Result<usize, Error>
 // Makes the index of `blpu`, within a transaction.
 fn make_by_blpu<S: Alter>(tx: &mut Transaction<'_, S>) -> Result<usize, Error>
     ensures same_reference { tx.new.conn.ghost_name ≡ tx.old.conn.ghost_name }
-    ensures made { Grows S.Store tx.old.conn.now tx.new.conn.now with_version with_by_blpu result }
+    ensures made { Widens S.Store tx.old.conn.now tx.new.conn.now
+        (TakesIndex version by_blpu) (index_put version by_blpu) result }
     ensures inside { StaysInside S.Store tx.old.conn.now tx.new.conn.now result }
 {
     tx.execute(
@@ -43,8 +48,8 @@ fn make_by_blpu<S: Alter>(tx: &mut Transaction<'_, S>) -> Result<usize, Error>
 // Makes the index of `street`, within a transaction.
 fn make_by_street<S: Alter>(tx: &mut Transaction<'_, S>) -> Result<usize, Error>
     ensures same_reference { tx.new.conn.ghost_name ≡ tx.old.conn.ghost_name }
-    ensures made { Grows S.Store tx.old.conn.now tx.new.conn.now
-        with_by_blpu with_by_street result }
+    ensures made { Widens S.Store tx.old.conn.now tx.new.conn.now
+        (TakesIndex version by_street) (index_put version by_street) result }
     ensures inside { StaysInside S.Store tx.old.conn.now tx.new.conn.now result }
 {
     tx.execute(
@@ -56,8 +61,8 @@ fn make_by_street<S: Alter>(tx: &mut Transaction<'_, S>) -> Result<usize, Error>
 // Makes the table `received`, within a transaction.
 fn make_received<S: Alter>(tx: &mut Transaction<'_, S>) -> Result<usize, Error>
     ensures same_reference { tx.new.conn.ghost_name ≡ tx.old.conn.ghost_name }
-    ensures made { Grows S.Store tx.old.conn.now tx.new.conn.now
-        with_by_street with_received result }
+    ensures made { Widens S.Store tx.old.conn.now tx.new.conn.now
+        (TakesTable received) (table_put received) result }
     ensures inside { StaysInside S.Store tx.old.conn.now tx.new.conn.now result }
 {
     tx.execute(
@@ -71,7 +76,8 @@ fn make_received<S: Alter>(tx: &mut Transaction<'_, S>) -> Result<usize, Error>
 // Makes the table `meta`, within a transaction.
 fn make_meta<S: Alter>(tx: &mut Transaction<'_, S>) -> Result<usize, Error>
     ensures same_reference { tx.new.conn.ghost_name ≡ tx.old.conn.ghost_name }
-    ensures made { Grows S.Store tx.old.conn.now tx.new.conn.now with_received first_schema result }
+    ensures made { Widens S.Store tx.old.conn.now tx.new.conn.now
+        (TakesTable meta) (table_put meta) result }
     ensures inside { StaysInside S.Store tx.old.conn.now tx.new.conn.now result }
 {
     tx.execute(
@@ -85,7 +91,7 @@ fn make_meta<S: Alter>(tx: &mut Transaction<'_, S>) -> Result<usize, Error>
 fn make_version2<S: Alter>(tx: &mut Transaction<'_, S>) -> Result<usize, Error>
     ensures same_reference { tx.new.conn.ghost_name ≡ tx.old.conn.ghost_name }
     ensures made { Widens S.Store tx.old.conn.now tx.new.conn.now
-        first_schema with_version2 result }
+        (TakesTable version2) (table_put version2) result }
     ensures inside { StaysInside S.Store tx.old.conn.now tx.new.conn.now result }
 {
     tx.execute(
@@ -102,7 +108,7 @@ fn make_version2<S: Alter>(tx: &mut Transaction<'_, S>) -> Result<usize, Error>
 fn make_by_blpu2<S: Alter>(tx: &mut Transaction<'_, S>) -> Result<usize, Error>
     ensures same_reference { tx.new.conn.ghost_name ≡ tx.old.conn.ghost_name }
     ensures made { Widens S.Store tx.old.conn.now tx.new.conn.now
-        with_version2 with_by_blpu2 result }
+        (TakesIndex version2 by_blpu2) (index_put version2 by_blpu2) result }
     ensures inside { StaysInside S.Store tx.old.conn.now tx.new.conn.now result }
 {
     tx.execute(
@@ -115,7 +121,7 @@ fn make_by_blpu2<S: Alter>(tx: &mut Transaction<'_, S>) -> Result<usize, Error>
 fn make_by_street2<S: Alter>(tx: &mut Transaction<'_, S>) -> Result<usize, Error>
     ensures same_reference { tx.new.conn.ghost_name ≡ tx.old.conn.ghost_name }
     ensures made { Widens S.Store tx.old.conn.now tx.new.conn.now
-        with_by_blpu2 store_schema result }
+        (TakesIndex version2 by_street2) (index_put version2 by_street2) result }
     ensures inside { StaysInside S.Store tx.old.conn.now tx.new.conn.now result }
 {
     tx.execute(
@@ -127,7 +133,8 @@ fn make_by_street2<S: Alter>(tx: &mut Transaction<'_, S>) -> Result<usize, Error
 // Makes the table `version` and its indexes, within a transaction.
 fn make_versions<S: Alter>(tx: &mut Transaction<'_, S>) -> Result<(), Error>
     ensures same_reference { tx.new.conn.ghost_name ≡ tx.old.conn.ghost_name }
-    ensures made { Grows S.Store tx.old.conn.now tx.new.conn.now no_schema with_by_street result }
+    ensures made { Widens S.Store tx.old.conn.now tx.new.conn.now
+        HasRoomForVersions versions_in result }
     ensures inside { StaysInside S.Store tx.old.conn.now tx.new.conn.now result }
 {
     make_version(tx)?;
@@ -139,8 +146,8 @@ fn make_versions<S: Alter>(tx: &mut Transaction<'_, S>) -> Result<(), Error>
 // Makes the tables `received` and `meta`, within a transaction.
 fn make_others<S: Alter>(tx: &mut Transaction<'_, S>) -> Result<(), Error>
     ensures same_reference { tx.new.conn.ghost_name ≡ tx.old.conn.ghost_name }
-    ensures made { Grows S.Store tx.old.conn.now tx.new.conn.now
-        with_by_street first_schema result }
+    ensures made { Widens S.Store tx.old.conn.now tx.new.conn.now
+        HasRoomForOthers others_in result }
     ensures inside { StaysInside S.Store tx.old.conn.now tx.new.conn.now result }
 {
     make_received(tx)?;
@@ -151,7 +158,8 @@ fn make_others<S: Alter>(tx: &mut Transaction<'_, S>) -> Result<(), Error>
 // Makes the tables of schema 1 and their indexes, within a transaction.
 fn make_first<S: Alter>(tx: &mut Transaction<'_, S>) -> Result<(), Error>
     ensures same_reference { tx.new.conn.ghost_name ≡ tx.old.conn.ghost_name }
-    ensures made { Grows S.Store tx.old.conn.now tx.new.conn.now no_schema first_schema result }
+    ensures made { Widens S.Store tx.old.conn.now tx.new.conn.now
+        HasRoomForFirst first_in result }
     ensures inside { StaysInside S.Store tx.old.conn.now tx.new.conn.now result }
 {
     make_versions(tx)?;
@@ -163,7 +171,7 @@ fn make_first<S: Alter>(tx: &mut Transaction<'_, S>) -> Result<(), Error>
 pub(crate) fn make_second<S: Alter>(tx: &mut Transaction<'_, S>) -> Result<(), Error>
     ensures same_reference { tx.new.conn.ghost_name ≡ tx.old.conn.ghost_name }
     ensures made { Widens S.Store tx.old.conn.now tx.new.conn.now
-        first_schema store_schema result }
+        HasRoomForSecond second_in result }
     ensures inside { StaysInside S.Store tx.old.conn.now tx.new.conn.now result }
 {
     make_version2(tx)?;

@@ -1,7 +1,8 @@
 use Rattle.sqlite.specs.Held.{state}
-use Rattle.gaz_tables.proofs.Growing.{bare_gains, bare_tables, new_store}
-use Rattle.gaz_tables.proofs.Steps.{clean_before, inside_done, inside_failed, inside_then}
-use Rattle.gaz_tables.specs.Schema.{first_schema, store_schema}
+use Rattle.gaz_tables.proofs.Growing.{empty_tables, new_store}
+use Rattle.gaz_tables.proofs.Rooms.{room_for_first, room_for_second}
+use Rattle.gaz_tables.proofs.Steps.{clean_before, inside_done, inside_failed, inside_then, widens_then}
+use Rattle.gaz_tables.specs.Creating.{HasRoom, HasRoomForFirst, HasRoomForSecond, first_in, second_in}
 use Rattle.gaz_tables.proofs.creating.furnish.Goals as goal
 
 pub returns-in_err-make_first-clause-inside : goal.returns-in_err-make_first-clause-inside
@@ -22,14 +23,13 @@ returns-clause-inside g c =
     inside_done g.S.Store _ _ _ _ (inside_then g.S.Store _ _ _ _ _ two c.in_ok-insert.ensures.inside)
 
 pub returns-clause-made : goal.returns-clause-made
-returns-clause-made g c clean bare =
+returns-clause-made g c clean room =
     let one = c.in_ok-make_first.ensures in
     let two = c.in_ok-make_second.ensures in
     let three = c.in_ok-insert.ensures in
-    let before = clean_before g.S.Store _ _ _ _ _ (inside_then g.S.Store _ _ _ _ _ one.inside two.inside) three.inside clean in
-    let first = one.made (clean_before g.S.Store _ _ _ _ _ one.inside two.inside before) bare in
-    let gained = two.made before first.0.schema_is in
-    let old = (state g.S.Store c.make_second.new.tx.conn.now).now in
-    let empty = bare_gains first_schema store_schema (state g.S.Store c.make_first.new.tx.conn.now).now old first.0 gained in
-    let put = three.added clean (bare_tables old empty gained.sound) in
-    new_store c.args.number c.args.register.now old (state g.S.Store c.insert.new.tx.conn.now).now empty gained.sound put.0
+    let made = widens_then g.S.Store _ _ _ _ _ one.inside two.inside HasRoomForFirst HasRoomForSecond HasRoom first_in second_in (room_for_first _) (λ room gains. room_for_second _ room) one.made two.made in
+    let gains = made (clean_before g.S.Store _ _ _ _ _ (inside_then g.S.Store _ _ _ _ _ one.inside two.inside) three.inside clean) room in
+    let old = (state g.S.Store c.args.tx.now.conn.now).now in
+    let full = (state g.S.Store c.make_second.new.tx.conn.now).now in
+    let put = three.added clean (empty_tables old full room gains) in
+    new_store old full room gains c.args.number c.args.register.now (state g.S.Store c.insert.new.tx.conn.now).now put.0

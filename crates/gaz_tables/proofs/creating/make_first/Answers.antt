@@ -1,6 +1,6 @@
-use Rattle.gaz_tables.proofs.Steps.{grows_then, inside_done, inside_failed, inside_then}
-use Rattle.gaz_tables.specs.Creating.{no_schema, with_by_street}
-use Rattle.gaz_tables.specs.Schema.{first_schema}
+use Rattle.gaz_tables.proofs.Rooms.{others_then, versions_first}
+use Rattle.gaz_tables.proofs.Steps.{inside_done, inside_failed, inside_then, widens_then}
+use Rattle.gaz_tables.specs.Creating.{HasRoomForFirst, HasRoomForOthers, HasRoomForVersions, others_in, versions_in}
 use Rattle.gaz_tables.proofs.creating.make_first.Goals as goal
 
 pub returns-in_err-make_versions-clause-inside : goal.returns-in_err-make_versions-clause-inside
@@ -17,4 +17,4 @@ pub returns-clause-made : goal.returns-clause-made
 returns-clause-made g c =
     let one = c.in_ok-make_versions.ensures in
     let two = c.in_ok-make_others.ensures in
-    grows_then g.S.Store _ _ _ _ _ one.inside two.inside no_schema with_by_street first_schema one.made two.made
+    widens_then g.S.Store _ _ _ _ _ one.inside two.inside HasRoomForVersions HasRoomForOthers HasRoomForFirst versions_in others_in (versions_first _) (λ room gains. others_then _ room) one.made two.made

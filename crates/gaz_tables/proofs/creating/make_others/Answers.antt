@@ -1,6 +1,7 @@
-use Rattle.gaz_tables.proofs.Steps.{grows_then, inside_done, inside_failed, inside_then}
-use Rattle.gaz_tables.specs.Creating.{with_by_street, with_received}
-use Rattle.gaz_tables.specs.Schema.{first_schema}
+use Rattle.gaz_tables.proofs.Rooms.{takes_meta, takes_received}
+use Rattle.gaz_tables.proofs.Steps.{inside_done, inside_failed, inside_then, widens_then}
+use Rattle.gaz_tables.specs.Creating.{HasRoomForOthers, TakesTable, table_put}
+use Rattle.gaz_tables.specs.Schema.{meta, received}
 use Rattle.gaz_tables.proofs.creating.make_others.Goals as goal
 
 pub returns-in_err-make_received-clause-inside : goal.returns-in_err-make_received-clause-inside
@@ -17,4 +18,4 @@ pub returns-clause-made : goal.returns-clause-made
 returns-clause-made g c =
     let one = c.in_ok-make_received.ensures in
     let two = c.in_ok-make_meta.ensures in
-    grows_then g.S.Store _ _ _ _ _ one.inside two.inside with_by_street with_received first_schema one.made two.made
+    widens_then g.S.Store _ _ _ _ _ one.inside two.inside (TakesTable received) (TakesTable meta) HasRoomForOthers (table_put received) (table_put meta) (takes_received _) (λ room gains. takes_meta _ room) one.made two.made

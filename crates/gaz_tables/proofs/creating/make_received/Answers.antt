@@ -4,8 +4,8 @@ use Rattle.gaz_tables.proofs.Steps.{done_inside, stays_inside}
 use Rattle.gaz_tables.proofs.creating.make_received.Goals as goal
 
 pub returns-clause-made : goal.returns-clause-made
-returns-clause-made g c clean bare = done_inside g.S.Store c.args.tx.now.conn.now c.execute.new.self.conn.now _ _ c.execute.result _ c.execute.ensures.ended c.execute.ensures.runs _ (λ inside.
-    received_made (state g.S.Store c.args.tx.now.conn.now) (state g.S.Store c.execute.new.self.conn.now) bare c.execute.result (c.execute.ensures.runs clean inside))
+returns-clause-made g c clean takes = done_inside g.S.Store c.args.tx.now.conn.now c.execute.new.self.conn.now _ _ c.execute.result _ c.execute.ensures.ended c.execute.ensures.runs _ (λ inside.
+    received_made (state g.S.Store c.args.tx.now.conn.now) (state g.S.Store c.execute.new.self.conn.now) c.execute.result takes (c.execute.ensures.runs clean inside))
 
 pub returns-clause-inside : goal.returns-clause-inside
 returns-clause-inside g c = stays_inside g.S.Store c.args.tx.now.conn.now c.execute.new.self.conn.now _ _ c.execute.result _ c.execute.ensures.ended c.execute.ensures.runs c.execute.ensures.survives

@@ -1,5 +1,7 @@
-use Rattle.gaz_tables.proofs.Steps.{grows_then, inside_done, inside_failed, inside_then}
-use Rattle.gaz_tables.specs.Creating.{no_schema, with_version, with_by_blpu, with_by_street}
+use Rattle.gaz_tables.proofs.Rooms.{low_of, takes_by_blpu, takes_by_street, takes_version}
+use Rattle.gaz_tables.proofs.Steps.{inside_done, inside_failed, inside_then, widens_then}
+use Rattle.gaz_tables.specs.Creating.{HasRoomForVersions, TakesIndex, TakesTable, index_put, table_put}
+use Rattle.gaz_tables.specs.Schema.{by_blpu, by_street, version}
 use Rattle.gaz_tables.proofs.creating.make_versions.Goals as goal
 
 pub returns-in_err-make_version-clause-inside : goal.returns-in_err-make_version-clause-inside
@@ -24,5 +26,7 @@ returns-clause-made g c =
     let one = c.in_ok-make_version.ensures in
     let two = c.in_ok-make_by_blpu.ensures in
     let three = c.in_ok-make_by_street.ensures in
-    let made = grows_then g.S.Store _ _ _ _ _ one.inside two.inside no_schema with_version with_by_blpu one.made two.made in
-    grows_then g.S.Store _ _ _ _ _ (inside_then g.S.Store _ _ _ _ _ one.inside two.inside) three.inside no_schema with_by_blpu with_by_street made three.made
+    let made = widens_then g.S.Store _ _ _ _ _ one.inside two.inside (TakesTable version) (TakesIndex version by_blpu) HasRoomForVersions (table_put version) (index_put version by_blpu)
+    (takes_version _) (λ room gains. takes_by_blpu _ room (low_of _ _ gains.sound gains.schema_is)) one.made two.made in
+    widens_then g.S.Store _ _ _ _ _ (inside_then g.S.Store _ _ _ _ _ one.inside two.inside) three.inside HasRoomForVersions (TakesIndex version by_street) HasRoomForVersions (λ s. index_put version by_blpu (table_put version s)) (index_put version by_street)
+    (λ room. room) (λ room gains. takes_by_street _ room (low_of _ _ gains.sound gains.schema_is)) made three.made
