@@ -153,6 +153,6 @@ module _ (number : ℕ) (rows shown : List Row) (h : FindsTwo rows shown) where
 -- ---- a new store
 
 pub create_opens : CreateOpens
-create_opens register db new =
+create_opens register old db new =
     let only : (r : Row) → Has (rows_of db meta) r → r ≡ meta_row schema_number register = λ r there. elim (new.meta_alone.only r there) [ inl is ↦ is | inr none ↦ absurd none ] in
     (meta_row schema_number register, record { only = alone schema_number register (rows_of db meta) new.tables.metas_shaped.0 new.meta_alone.there only; id = refl; number_is = refl }, refl)

@@ -67,7 +67,7 @@ empty_board : board_in [] [] ≡ (λ c. [])
 empty_board = λ i c. (ap (λ es. judgements (map (λ (e : ℕ × Verdict). e.1) es) (view_in [] c)) (nothing_judged c) ∙ no_judgements (view_in [] c)) i
 
 create_stands : CreateStands
-create_stands number register db new = record {
+create_stands number register old db new = record {
   kept = empty_kept db new.tables new.no_versions new.no_receiveds;
   content =
       (λ i. record { files = files_in (new.no_receiveds i); board = board_in (new.no_receiveds i) (new.no_versions i); working = empty_view })

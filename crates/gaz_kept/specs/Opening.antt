@@ -11,7 +11,7 @@ use Rattle.sqlite.specs.State.{State, HasCleanDisk}
 use Rattle.sqlite.specs.Table.{Table}
 use Rattle.sqlite_schema.specs.Names.{same_name}
 use Rattle.sqlite_trees.specs.declared.store.Store.{Ghosts}
-use Rattle.gaz_tables.specs.Creating.{IsBare, IsNewStore, no_schema}
+use Rattle.gaz_tables.specs.Creating.{HasRoom, IsNewStore}
 use Rattle.gaz_tables.specs.Schema.{meta, received, version2}
 use Rattle.gaz_tables.specs.Stores.{HasTables}
 use Rattle.gaz_tables.specs.Tables.{rows_of}
@@ -70,8 +70,8 @@ IsJudged = numbered.IsJudged schema_number
 
 -- a new store is one of its register
 abbrev pub CreateOpens : Type 0
-CreateOpens = (register : List ℕ) (db : Database)
-    → IsNewStore schema_number register db → IsOf register (rows_of db meta)
+CreateOpens = (register : List ℕ) (old db : Database)
+    → IsNewStore schema_number register old db → IsOf register (rows_of db meta)
 
 -- ---- a call on a connection, whose state `g` shows
 
@@ -114,10 +114,12 @@ module _ {S : Type 0} (g : Ghosts S) (before after : Held S)
   abbrev pub RestsRefused : Type 0
   RestsRefused = HasCleanDisk new → OnErr result (Rests old new)
 
-  -- the empty database becomes a new store of the register and is committed
+  -- a database that has room becomes a new store of the register, with all that was there beside
+  -- it, and is committed
   abbrev pub Makes : List ℕ → Type 0
-  Makes register = HasCleanDisk new → IsBare no_schema old.now
-      → OnOk result (IsNewStore schema_number register new.now × (new.committed ≡ new.now))
+  Makes register = HasCleanDisk new → HasRoom old.now.schema
+      → OnOk result (IsNewStore schema_number register old.now new.now
+      × (new.committed ≡ new.now))
 
   -- what is told of the rows of `meta` where the tables are there, whatever they are
   abbrev pub Tells : List ℕ → Type 0

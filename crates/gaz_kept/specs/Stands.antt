@@ -20,8 +20,8 @@ pub record Stands (db : Database) (working : View) (k : Content) : Type 0 where
 
 -- a new store stands for nothing received and nothing judged
 abbrev pub CreateStands : Type 0
-CreateStands = (number : ℕ) (register : List ℕ) (db : Database)
-    → IsNewStore number register db → Stands db empty_view empty_content
+CreateStands = (number : ℕ) (register : List ℕ) (old db : Database)
+    → IsNewStore number register old db → Stands db empty_view empty_content
 
 -- a file that is new is received
 abbrev pub ReceiveStands : Type 0

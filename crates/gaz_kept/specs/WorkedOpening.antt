@@ -4,9 +4,9 @@ use Rattle.sqlite.specs.Order.{Row}
 use Rattle.sqlite.specs.Schema.{Schema}
 use Rattle.sqlite.specs.Table.{Table}
 use Rattle.sqlite.specs.declared.types.Value.TheVariants.{Int, Text, Null}
-use Rattle.gaz_tables.specs.Creating.{no_schema, with_received}
+use Rattle.gaz_tables.specs.Creating.{no_schema}
 use Rattle.gaz_tables.specs.Metas.{meta_row}
-use Rattle.gaz_tables.specs.Schema.{first_schema, meta, store_schema}
+use Rattle.gaz_tables.specs.Schema.{first_schema, meta, received, store_schema, version, version2}
 use Rattle.gaz_kept.specs.Opening.{IsJudged, has_all, has_any, has_column, is_like}
 use Rattle.gaz_kept.specs.declared.refusal.StoreRefusal.TheVariants.{BadSchema, OtherRegister}
 
@@ -17,6 +17,10 @@ meta_of_another = record meta { name = codes "META"; columns = [] }
 abbrev pub schema_of_another : Schema
 schema_of_another = record { tables = meta_of_another ∷ []; indexes = []; views = [] }
 
+-- a store's own schema without its table `meta`
+abbrev pub without_meta : Schema
+without_meta = record store_schema { tables = version ∷ received ∷ version2 ∷ [] }
+
 pub record WorkedSchemas : Type 0 where
   pub empty_is_free : has_any no_schema ≡ false
   pub empty_is_no_store : has_all no_schema ≡ false
@@ -24,7 +28,7 @@ pub record WorkedSchemas : Type 0 where
   pub store_has_all : has_all store_schema ≡ true
   pub first_is_taken : has_any first_schema ≡ true
   pub first_is_no_store : has_all first_schema ≡ false
-  pub without_meta : has_all with_received ≡ false
+  pub not_without_meta : has_all without_meta ≡ false
   pub other_case : has_any schema_of_another ≡ true
   pub no_columns : is_like meta meta_of_another ≡ false
   pub column_in_other_case : has_column meta (codes "Register") ≡ true
