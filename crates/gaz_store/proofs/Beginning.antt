@@ -6,7 +6,7 @@ use Rattle.sqlite.specs.State.{HasCleanDisk, State, Survives}
 use Rattle.gaz_views.proofs.Lawful.{lawful_empty}
 use Rattle.gaz_views.specs.View.{empty_view}
 use Rattle.gaz_sql_facts.specs.Changes.{LeavesTheCommit}
-use Rattle.gaz_tables.specs.Creating.{IsBare, IsNewStore, no_schema}
+use Rattle.gaz_tables.specs.Creating.{HasRoom, IsNewStore}
 use Rattle.gaz_tables.specs.Migrating.{HasFirstTables, Migrates}
 use Rattle.gaz_tables.specs.Schema.{meta, received}
 use Rattle.gaz_tables.specs.Tables.{rows_of}
@@ -33,20 +33,21 @@ module _ (new : State) (a : Remembered) (so : (files : List Row) → AreSo a fil
   standing register kept whose = record { tables = record { kept = kept; whose = whose; so = so (rows_of new.now received); lawful = content_lawful new.now kept empty_view lawful_empty }; beside = tt }
 
   pub is_made : (old : State) (register : List ℕ) (f : ℕ) → f ≡ 0
-      → (HasCleanDisk new → IsBare no_schema old.now → IsNewStore schema_number register new.now × (new.committed ≡ new.now)) → LeavesTheCommit new
+      → (HasCleanDisk new → HasRoom old.now.schema → IsNewStore schema_number register old.now new.now × (new.committed ≡ new.now)) → LeavesTheCommit new
       → IsMade old new register (seen_beside register new a Idle f)
   is_made old register f none made certain = record {
     idle = refl;
     failures = none;
-    stands = λ h bare. standing register (tables_stand.create schema_number register new.now (made h.clean bare).0).kept (create_opens register new.now (made h.clean bare).0);
-    content = λ h bare. (tables_stand.create schema_number register new.now (made h.clean bare).0).content;
-    leaves = λ h bare k l.
-        let s = tables_stand.create schema_number register new.now (made h.clean bare).0 in
-        l.content ∙ same_content new.now l.db s.kept l.sound (certain h.is_open l.db.trees l.left ∙ ap (λ d. d.trees) (made h.clean bare).1) empty_view ∙ s.content;
-    whole = λ h bare trees clean left.
-        kept_of register new.now trees (certain h.is_open trees left ∙ ap (λ d. d.trees) (made h.clean bare).1)
-        (tables_stand.create schema_number register new.now (made h.clean bare).0).kept (create_opens register new.now (made h.clean bare).0);
-    of_register = λ h bare. create_opens register new.now (made h.clean bare).0;
+    stands = λ h room. standing register (tables_stand.create schema_number register old.now new.now (made h.clean room).0).kept (create_opens register old.now new.now (made h.clean room).0);
+    content = λ h room. (tables_stand.create schema_number register old.now new.now (made h.clean room).0).content;
+    leaves = λ h room k l.
+        let s = tables_stand.create schema_number register old.now new.now (made h.clean room).0 in
+        l.content ∙ same_content new.now l.db s.kept l.sound (certain h.is_open l.db.trees l.left ∙ ap (λ d. d.trees) (made h.clean room).1) empty_view ∙ s.content;
+    whole = λ h room trees clean left.
+        kept_of register new.now trees (certain h.is_open trees left ∙ ap (λ d. d.trees) (made h.clean room).1)
+        (tables_stand.create schema_number register old.now new.now (made h.clean room).0).kept (create_opens register old.now new.now (made h.clean room).0);
+    of_register = λ h room. create_opens register old.now new.now (made h.clean room).0;
+    others = λ h room. (made h.clean room).0.others;
   }
 
   pub is_opened : (old : State) (register : List ℕ) (f : ℕ) → f ≡ 0

@@ -5,7 +5,7 @@ use Rattle.sqlite.specs.State.{State, HasCleanDisk, Survives}
 use Rattle.sqlite_trees.specs.declared.store.Store.{Ghosts}
 use Rattle.gaz_views.specs.View.{empty_view}
 use Rattle.gaz_keeper.specs.Keeper.{Idle, LeavesOnly, Seen, empty_content}
-use Rattle.gaz_tables.specs.Creating.{IsBare, no_schema}
+use Rattle.gaz_tables.specs.Creating.{HasRoom, KeepsEach}
 use Rattle.gaz_tables.specs.Schema.{meta}
 use Rattle.gaz_tables.specs.Tables.{rows_of}
 use Rattle.gaz_kept.specs.Contents.{content_in}
@@ -15,16 +15,17 @@ use Rattle.gaz_kept.specs.declared.refusal.StoreRefusal.{StoreRefusal}
 use Rattle.gaz_store.specs.Seen.{LeavesKept}
 use Rattle.gaz_store.specs.declared.store.Store.{Store}
 
--- of an empty database, as a store of this register: nothing is received or judged, and a stop
--- leaves just that
+-- of a database that has room, as a store of this register: nothing is received or judged, a stop
+-- leaves just that, and each table that was there is there still, with the rows it had
 pub record IsMade (old new : State) (register : List ℕ) (now : Seen) : Type 0 where
   pub idle : now.progress ≡ Idle
   pub failures : now.failures ≡ 0
-  pub stands : now.unharmed → IsBare no_schema old.now → now.stands
-  pub content : now.unharmed → IsBare no_schema old.now → now.content ≡ empty_content
-  pub leaves : now.unharmed → IsBare no_schema old.now → LeavesOnly empty_content now
-  pub whole : now.unharmed → IsBare no_schema old.now → now.whole
-  pub of_register : now.unharmed → IsBare no_schema old.now → IsOf register (rows_of new.now meta)
+  pub stands : now.unharmed → HasRoom old.now.schema → now.stands
+  pub content : now.unharmed → HasRoom old.now.schema → now.content ≡ empty_content
+  pub leaves : now.unharmed → HasRoom old.now.schema → LeavesOnly empty_content now
+  pub whole : now.unharmed → HasRoom old.now.schema → now.whole
+  pub of_register : now.unharmed → HasRoom old.now.schema → IsOf register (rows_of new.now meta)
+  pub others : now.unharmed → HasRoom old.now.schema → KeepsEach old.now new.now
 
 -- of a store's tables, as a store of this register: they stand for what they did, and a stop
 -- leaves nothing more

@@ -20,8 +20,8 @@ use std::alloc::Global;
 use std::marker::PhantomData;
 
 impl<S: Alter, R: OfRegister> Store<S, R> {
-    /// Makes a store of a register in an empty database, behind a connection outside a transaction.
-    /// Who picks keys is not to foresee the seed.
+    /// Makes a store of a register in the database behind a connection outside a transaction,
+    /// beside whatever is there. Who picks keys is not to foresee the seed.
     ///
     /// `BadSchema` where a table named as one of a store's is there; `Fault` where memory or the
     /// database failed. After a refusal the connection is handed back, over what was there. A stop

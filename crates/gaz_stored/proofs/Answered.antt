@@ -7,7 +7,7 @@ use Rattle.sqlite.specs.State.{HasCleanDisk}
 use Rattle.sqlite_trees.specs.declared.store.Store.{Ghosts}
 use Rattle.gaz_register.specs.Registers.{RegisterValue}
 use Rattle.gaz_register.specs.Texts.{register_text}
-use Rattle.gaz_tables.specs.Creating.{IsBare, no_schema}
+use Rattle.gaz_tables.specs.Creating.{HasRoom}
 use Rattle.gaz_tables.specs.Schema.{meta}
 use Rattle.gaz_tables.specs.Tables.{rows_of}
 use Rattle.gaz_kept.specs.Opening.{IsOf, Tells}
@@ -54,26 +54,26 @@ module _ {S : Type 0} {g : Ghosts S} (register : RegisterValue) (most : ℕ) (th
       let commands = commands_of told.conversation.exchanges in
       let responses = responses_of told.conversation.exchanges in
       let text = register_text register in
-      let runs : IsBare no_schema (state g before).now → Runs d (seen_in text first) (seen_in text told.last.lower) commands responses =
-      λ bare. over_store Brand text register most through first after ended told (λ fine. begins_new text register first fine (state g before) made bare) in
+      let runs : HasRoom (state g before).now.schema → Runs d (seen_in text first) (seen_in text told.last.lower) commands responses =
+      λ room. over_store Brand text register most through first after ended told (λ fine. begins_new text register first fine (state g before) made room) in
       let goes =
-      subst (λ h. IsUnharmed (state g h) → IsBare no_schema (state g before).now → GoesOn register new_hub commands responses (state g h).now) told.back
-      (λ fine bare. goes_on_new text register first told.last.lower commands responses (runs bare) fine (state g before) made bare) in
+      subst (λ h. IsUnharmed (state g h) → HasRoom (state g before).now.schema → GoesOn register new_hub commands responses (state g h).now) told.back
+      (λ fine room. goes_on_new text register first told.last.lower commands responses (runs room) fine (state g before) made room) in
       record {
         first = first;
         made = made;
         converses = told;
         went_on =
-            subst (λ h. HasCleanDisk (state g h) → IsBare no_schema (state g before).now → WentOn register new_hub commands responses) told.back
-            (λ clean bare. went_on_new text register first told.last.lower commands responses (runs bare) clean (state g before) made bare);
+            subst (λ h. HasCleanDisk (state g h) → HasRoom (state g before).now.schema → WentOn register new_hub commands responses) told.back
+            (λ clean room. went_on_new text register first told.last.lower commands responses (runs room) clean (state g before) made room);
         goes_on = goes;
         whose =
-            subst (λ h. IsUnharmed (state g h) → IsBare no_schema (state g before).now → IsOf text (rows_of (state g h).now meta)) told.back
-            (λ fine bare. whose_then text register first told.last.lower commands responses (runs bare) fine (begins_new text register first ((runs bare).harm fine) (state g before) made bare));
-        abides = λ fine bare. abides_after d new_hub commands responses (hub_in (state g after).now) refl (goes fine bare).abides;
-        stops = λ is_fine bare.
+            subst (λ h. IsUnharmed (state g h) → HasRoom (state g before).now.schema → IsOf text (rows_of (state g h).now meta)) told.back
+            (λ fine room. whose_then text register first told.last.lower commands responses (runs room) fine (begins_new text register first ((runs room).harm fine) (state g before) made room));
+        abides = λ fine room. abides_after d new_hub commands responses (hub_in (state g after).now) refl (goes fine room).abides;
+        stops = λ is_fine room.
             subst (λ h. FindsLater register new_hub commands responses (state g h)) told.back
-            (finds_new register first told.last.lower commands responses (runs bare) is_fine (state g before) made bare);
+            (finds_new register first told.last.lower commands responses (runs room) is_fine (state g before) made room);
       }
 
 -- a store that stood for a partial run does after settling

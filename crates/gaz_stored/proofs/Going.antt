@@ -5,7 +5,7 @@ use Rattle.sqlite.specs.State.{HasCleanDisk, State}
 use Rattle.sqlite_trees.specs.declared.store.Store.{Ghosts}
 use Rattle.gaz_register.specs.Registers.{RegisterValue, blocks_of}
 use Rattle.gaz_keeper.specs.Keeper.{Content}
-use Rattle.gaz_tables.specs.Creating.{IsBare, no_schema}
+use Rattle.gaz_tables.specs.Creating.{HasRoom}
 use Rattle.gaz_tables.specs.Schema.{meta}
 use Rattle.gaz_tables.specs.Tables.{rows_of}
 use Rattle.gaz_kept.specs.Opening.{IsOf}
@@ -30,13 +30,13 @@ partly register h = IsPartial (blocks_of register) h.received h.board
 -- ---- how it begins
 
 module _ {S R : Type 0} {g : Ghosts S} (text : List ℕ) (register : RegisterValue) (first : Store S R g) (is_fine : IsUnharmed (state g first.tables.conn)) where
-  -- a store that was made where there was no table
-  pub begins_new : (old : State) → IsMade old (state g first.tables.conn) text (seen_in text first) → IsBare no_schema old.now → StandsForRun (door_of register) (seen_in text first)
-  begins_new old made bare =
+  -- a store that was made where there was room
+  pub begins_new : (old : State) → IsMade old (state g first.tables.conn) text (seen_in text first) → HasRoom old.now.schema → StandsForRun (door_of register) (seen_in text first)
+  begins_new old made room =
       let d = door_of register in
-      let empty = made.content is_fine bare in
+      let empty = made.content is_fine room in
       record {
-        stands = (made.stands is_fine bare, may_begin d (seen_in text first).content (ap (λ (k : Content). k.files) empty) (ap (λ (k : Content). k.board) empty));
+        stands = (made.stands is_fine room, may_begin d (seen_in text first).content (ap (λ (k : Content). k.files) empty) (ap (λ (k : Content). k.board) empty));
         partial = subst (partly register) (sym (ap state_of empty)) (nothing_partial d);
       }
 
@@ -73,12 +73,12 @@ module _ {S R N : Type 0} {g : Ghosts S} (text : List ℕ) (register : RegisterV
         stands = record { kept = stands.0.tables.kept; known = stands.1.known; partial = abides.partial };
       }
 
-  -- of a store that was made where there was no table
-  pub goes_on_new : (old : State) → IsMade old (state g first.tables.conn) text (seen_in text first) → IsBare no_schema old.now
+  -- of a store that was made where there was room
+  pub goes_on_new : (old : State) → IsMade old (state g first.tables.conn) text (seen_in text first) → HasRoom old.now.schema
       → GoesOn register new_hub commands responses (state g last.tables.conn).now
-  goes_on_new old made bare =
+  goes_on_new old made room =
       let is_fine = runs.harm fine in
-      goes_on new_hub (begins_new text register first is_fine old made bare) (ap state_of (made.content is_fine bare))
+      goes_on new_hub (begins_new text register first is_fine old made room) (ap state_of (made.content is_fine room))
 
   -- of a store that was opened where the tables stood for a partial run
   pub goes_on_opened : (old : State) → IsOpened old (state g first.tables.conn) text (seen_in text first) → StandForRun register old.now
@@ -113,9 +113,9 @@ module _ {S R N : Type 0} {g : Ghosts S} (text : List ℕ) (register : RegisterV
           let reached = runs.reaches began.0.stands clean in
           to reached.0 (subst (λ h. Run (door_of register) h commands responses reached.0) began.1 reached.1)
 
-  -- from a store that was made where there was no table
-  pub went_on_new : (old : State) → IsMade old (state g first.tables.conn) text (seen_in text first) → IsBare no_schema old.now → WentOn register new_hub commands responses
-  went_on_new old made bare = went_on new_hub (nothing_partial (door_of register)) (λ fine. (begins_new text register first fine old made bare, ap state_of (made.content fine bare)))
+  -- from a store that was made where there was room
+  pub went_on_new : (old : State) → IsMade old (state g first.tables.conn) text (seen_in text first) → HasRoom old.now.schema → WentOn register new_hub commands responses
+  went_on_new old made room = went_on new_hub (nothing_partial (door_of register)) (λ fine. (begins_new text register first fine old made room, ap state_of (made.content fine room)))
 
   -- from one that was opened where the tables stood for a partial run
   pub went_on_opened : (old : State) → IsOpened old (state g first.tables.conn) text (seen_in text first) → StandForRun register old.now → WentOn register (hub_in old.now) commands responses

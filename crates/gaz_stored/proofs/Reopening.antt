@@ -35,8 +35,8 @@ module _ {S : Type 0} (g : Ghosts S) where
   opens_again = record {
     used = λ register first before after next commands responses uses stood fine.
         opens register after next (uses.goes_on fine stood).stands.kept.tables (uses.whose fine stood);
-    made = λ register most through before after next ended answers bare fine.
-        opens register after next (answers.goes_on fine bare).stands.kept.tables (answers.whose fine bare);
+    made = λ register most through before after next ended answers room fine.
+        opens register after next (answers.goes_on fine room).stands.kept.tables (answers.whose fine room);
     grown = λ register grown before after next told extends stood fine.
         opens (register_then register grown told) after next (extends.stays fine stood).stands.kept.tables (extends.whose fine stood);
     left = λ register before commands responses after conn next finds may.

@@ -8,7 +8,7 @@ use Rattle.gaz_register.specs.Registers.{RegisterValue}
 use Rattle.gaz_register.specs.Texts.{register_text}
 use Rattle.gaz_views.specs.View.{empty_view}
 use Rattle.gaz_keeper.specs.Keeper.{Content, LeavesOnly, after_stop}
-use Rattle.gaz_tables.specs.Creating.{IsBare, no_schema}
+use Rattle.gaz_tables.specs.Creating.{HasRoom}
 use Rattle.gaz_tables.specs.Schema.{meta}
 use Rattle.gaz_tables.specs.Tables.{rows_of}
 use Rattle.gaz_kept.specs.Contents.{content_in}
@@ -55,11 +55,11 @@ module _ {S N : Type 0} {g : Ghosts S} (register : RegisterValue) (first last : 
         now = λ fine. subst (λ h. HasFilesOf (door_of register) h (state_of (seen_in text last).content) commands responses k.files) begins (found.now fine);
       }
 
-  pub finds_new : (old : State) → IsMade old (state g first.tables.conn) text (seen_in text first) → IsBare no_schema old.now
+  pub finds_new : (old : State) → IsMade old (state g first.tables.conn) text (seen_in text first) → HasRoom old.now.schema
       → FindsLater register new_hub commands responses (state g last.tables.conn)
-  finds_new old made bare =
-      let empty = made.content is_fine bare in
-      finds new_hub (begins_new text register first is_fine old made bare) (ap state_of empty) (subst (λ k. LeavesOnly k (seen_in text first)) (sym empty) (made.leaves is_fine bare)) (made.whole is_fine bare)
+  finds_new old made room =
+      let empty = made.content is_fine room in
+      finds new_hub (begins_new text register first is_fine old made room) (ap state_of empty) (subst (λ k. LeavesOnly k (seen_in text first)) (sym empty) (made.leaves is_fine room)) (made.whole is_fine room)
 
   pub finds_opened : (old : State) → IsOpened old (state g first.tables.conn) text (seen_in text first) → StandForRun register old.now → LeavesItself old
       → FindsLater register (hub_in old.now) commands responses (state g last.tables.conn)

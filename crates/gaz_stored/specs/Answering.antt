@@ -7,7 +7,7 @@ use Rattle.sqlite.specs.State.{HasCleanDisk}
 use Rattle.sqlite_trees.specs.declared.store.Store.{Ghosts}
 use Rattle.gaz_register.specs.Registers.{RegisterValue}
 use Rattle.gaz_register.specs.Texts.{register_text}
-use Rattle.gaz_tables.specs.Creating.{IsBare, no_schema}
+use Rattle.gaz_tables.specs.Creating.{HasRoom}
 use Rattle.gaz_tables.specs.Schema.{meta}
 use Rattle.gaz_tables.specs.Tables.{rows_of}
 use Rattle.gaz_kept.specs.Opening.{IsOf}
@@ -65,24 +65,24 @@ pub record AnswersNew {S : Type 0} (g : Ghosts S) (register : RegisterValue) (mo
   pub made : IsMade (state g before) (state g first.tables.conn) (register_text register)
       (seen_in (register_text register) first)
   pub converses : Converses Brand (register_text register) register most through first after ended
-  -- where there was no table, the hub begins with nothing and goes on from it, whatever a failure
+  -- where there was room, the hub begins with nothing and goes on from it, whatever a failure
   -- shut
-  pub went_on : HasCleanDisk (state g after) → IsBare no_schema (state g before).now
+  pub went_on : HasCleanDisk (state g after) → HasRoom (state g before).now.schema
       → WentOn register new_hub (commands_of converses.conversation.exchanges)
       (responses_of converses.conversation.exchanges)
   -- and to what the tables stand for, where the connection is open in the end
-  pub goes_on : IsUnharmed (state g after) → IsBare no_schema (state g before).now
+  pub goes_on : IsUnharmed (state g after) → HasRoom (state g before).now.schema
       → GoesOn register new_hub (commands_of converses.conversation.exchanges)
       (responses_of converses.conversation.exchanges) (state g after).now
   -- they are of this register
-  pub whose : IsUnharmed (state g after) → IsBare no_schema (state g before).now
+  pub whose : IsUnharmed (state g after) → HasRoom (state g before).now.schema
       → IsOf (register_text register) (rows_of (state g after).now meta)
   -- so what is received is what came first
-  pub abides : IsUnharmed (state g after) → IsBare no_schema (state g before).now
+  pub abides : IsUnharmed (state g after) → HasRoom (state g before).now.schema
       → Abides (door_of register) (commands_of converses.conversation.exchanges)
       (responses_of converses.conversation.exchanges) (hub_in (state g after).now)
   -- where the store was made and the connection is open then: what a stop leaves at the end
-  pub stops : IsUnharmed (state g first.tables.conn) → IsBare no_schema (state g before).now
+  pub stops : IsUnharmed (state g first.tables.conn) → HasRoom (state g before).now.schema
       → FindsLater register new_hub (commands_of converses.conversation.exchanges)
       (responses_of converses.conversation.exchanges) (state g after)
 

@@ -6,7 +6,7 @@ use Rattle.sqlite.specs.State.{HasCleanDisk}
 use Rattle.sqlite_trees.specs.declared.store.Store.{Ghosts}
 use Rattle.gaz_register.specs.Registers.{RegisterValue}
 use Rattle.gaz_register.specs.Texts.{register_text}
-use Rattle.gaz_tables.specs.Creating.{IsBare, no_schema}
+use Rattle.gaz_tables.specs.Creating.{HasRoom}
 use Rattle.gaz_kept.specs.Opening.{Judges}
 use Rattle.gaz_kept.specs.declared.refusal.StoreRefusal.{StoreRefusal}
 use Rattle.gaz_kept.specs.declared.refusal.StoreRefusal.TheVariants.{Fault}
@@ -43,11 +43,11 @@ module _ {S : Type 0} (g : Ghosts S) where
         → Uses g register first before after commands responses
         → StandForRun register (state g before).now → IsUnharmed (state g after)
         → OpensThen register after next
-    -- or over which a store was made where there was no table
+    -- or over which a store was made where there was room
     pub made : (register : RegisterValue) (most : ℕ) (through : Transfer)
         (before after next : Held S) (ended : Result Served Stopped)
         → AnswersNew g register most through before after ended
-        → IsBare no_schema (state g before).now → IsUnharmed (state g after)
+        → HasRoom (state g before).now.schema → IsUnharmed (state g after)
         → OpensThen register after next
     -- or whose register was to grow: under the one that was told
     pub grown : (register grown : RegisterValue) (before after next : Held S)

@@ -70,9 +70,9 @@ fn settle<S: Alter + Drop, N: OfRegister>(
     (register, store.named(), told)
 }
 
-/// Makes a store of a register in the empty database behind a connection outside a transaction, and
-/// answers the requests of a stream over it, at most `most` of them. It stops only where the reader
-/// or the writer failed. Who picks keys is not to foresee the seed.
+/// Makes a store of a register in the database behind a connection outside a transaction, beside
+/// whatever is there, and answers the requests of a stream over it, at most `most` of them. It
+/// stops only where the reader or the writer failed. Who picks keys is not to foresee the seed.
 ///
 /// `BadSchema` where a table named as one of a store's is there; `Fault` where memory or the
 /// database failed. No conversation is held then, and the database holds what it held.

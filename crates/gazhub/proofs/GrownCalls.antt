@@ -25,8 +25,8 @@ module _ {D : Type 0} (g : disk.Ghosts D) (one : GrownChainsAreOne) where
 
   pub grown_calls_are_one : GrownCallsAreOne g
   grown_calls_are_one = record {
-    made = λ first later founds bare turn whole.
-        let goes = founds.goes_on whole.0.unharmed bare in
+    made = λ first later founds room turn whole.
+        let goes = founds.goes_on whole.0.unharmed room in
         one.made first.register _ _ (extends-composes.itself first.register, goes, chains first.register first.visit later founds.closes goes.stands whole.0 turn whole.1);
     opened = λ first later visits stood turn whole.
         let goes = visits.goes_on whole.0.unharmed stood in

@@ -46,8 +46,8 @@ module _ {D : Type 0} (g : disk.Ghosts D) where
 
   pub calls_are_one : ChainsAreOne → CallsAreOne g
   calls_are_one one = record {
-    made = λ register first later founds bare turn whole.
-        let goes = founds.goes_on whole.0.unharmed bare in
+    made = λ register first later founds room turn whole.
+        let goes = founds.goes_on whole.0.unharmed room in
         one.made register _ _ (goes, chains register first later founds.closes goes.stands whole.0 turn whole.1);
     opened = λ register first later visits stood turn whole.
         let goes = visits.goes_on whole.0.unharmed stood in

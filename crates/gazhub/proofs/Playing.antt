@@ -1,5 +1,5 @@
 -- What is told of a conversation over a store in memory.
-use Rattle.std.proofs.Common.{◌≡◌, ℕ, List, Ok, Result, IsTrue, refl, subst}
+use Rattle.std.proofs.Common.{◌≡◌, ℕ, List, Ok, Result, IsTrue, refl, subst, sym}
 use Rattle.std.specs.Prelude.{IfOk}
 use Rattle.sqlite.specs.Files.{over_files}
 use Rattle.gaz_quiet.specs.Databases.{Quiet, no_tables, quiet_state}
@@ -12,7 +12,8 @@ use Rattle.gaz_hub.proofs.Runs.{abides_after}
 use Rattle.gaz_exchange.specs.Conversing.{Transfer}
 use Rattle.gaz_exchange.specs.declared.conversation.Served.{Served}
 use Rattle.gaz_exchange.specs.declared.conversation.Stopped.{Stopped}
-use Rattle.gaz_tables.specs.Creating.{IsBare, no_schema}
+use Rattle.gaz_tables.proofs.CreatingExamples.{room_in_nothing}
+use Rattle.gaz_tables.specs.Creating.{HasRoom}
 use Rattle.gaz_kept.specs.declared.refusal.StoreRefusal.{StoreRefusal}
 use Rattle.gaz_store.specs.Seen.{IsUnharmed}
 use Rattle.gaz_stored.specs.Answering.{AnswersNew}
@@ -26,8 +27,8 @@ pub plays : (text : List ℕ) (most : ℕ) (through : Transfer) (ended : Result 
     → register_of text ≡ Ok register → (quiet_state before).now.schema ≡ no_tables → AnswersNew over_files register most through before after ended
     → Plays text most through ended
 plays text most through ended register before after described empty told =
-    let bare : IsBare no_schema (quiet_state before).now = record { schema_is = empty; empty = tt } in
-    let went = told.went_on (quiet_is_clean after) bare in
+    let room : HasRoom (quiet_state before).now.schema = subst HasRoom (sym empty) room_in_nothing in
+    let went = told.went_on (quiet_is_clean after) room in
     record {
       register = register;
       described = described;
@@ -38,7 +39,7 @@ plays text most through ended register before after described empty told =
       hub = went.last;
       abides = abides_after (door_of register) new_hub _ _ went.last refl went.abides;
       answers = went.answers;
-      tables = λ is_open. told.abides (unharmed after is_open) bare;
+      tables = λ is_open. told.abides (unharmed after is_open) room;
     }
 
 -- the same of what is left once a conversation was held

@@ -57,7 +57,7 @@ module _ {D : Type 0} (g : disk.Ghosts D) where
 
   pub next_opens : NextOpens g
   next_opens = record {
-    made = λ files left register answer it bare fine. record { tables = (it.founds.goes_on fine bare).stands.kept.tables; whose = it.made.of_register fine bare };
+    made = λ files left register answer it room fine. record { tables = (it.founds.goes_on fine room).stands.kept.tables; whose = it.made.of_register fine room };
     asked = λ files left register call answer it stood fine. asked_has register call it.conn it.after answer it.asks stood fine;
     served = λ files left register most held it stood fine. served_has register most held it.conn it.after it.attends stood fine;
     grown = λ files left register grown told it stood fine. record { tables = (it.extends.stays fine stood).stands.kept.tables; whose = it.extends.whose fine stood };

@@ -8,7 +8,7 @@ use Rattle.sqlite_disk.specs.declared.Disk as disk
 use Rattle.sqlite_store.specs.declared.store.FileStore.{FileStore}
 use Rattle.gaz_keeper.specs.Keeper.{Content}
 use Rattle.gaz_register.specs.Registers.{RegisterValue}
-use Rattle.gaz_tables.specs.Creating.{IsBare, no_schema}
+use Rattle.gaz_tables.specs.Creating.{HasRoom}
 use Rattle.gaz_hub.specs.Hubs.{door_of, state_of}
 use Rattle.gaz_hub.specs.Step.{new_hub}
 use Rattle.gaz_hub.proofs.Answers.{every_answer_holds}
@@ -50,13 +50,13 @@ module _ {D : Type 0} {g : disk.Ghosts D} (register : RegisterValue) where
       → GoesOn register (hub_in (file_state before).now) [] [] (file_state back).now
   goes_on_refused before back refused fine stood = goes_on_resting register _ _ ((refused.rests fine.clean).now fine.is_open) stood
 
-  -- a store that was made where there was no table
+  -- a store that was made where there was room
   pub goes_on_none : {R : Type 0} (old : State) (store : Store (FileStore D g) R over_files) (text : _) → IsMade old (file_state store.tables.conn) text (seen_in text store) → IsUnharmed (file_state store.tables.conn)
-      → IsBare no_schema old.now → GoesOn register new_hub [] [] (file_state store.tables.conn).now
-  goes_on_none old store text made fine bare =
+      → HasRoom old.now.schema → GoesOn register new_hub [] [] (file_state store.tables.conn).now
+  goes_on_none old store text made fine room =
       let d = door_of register in
       let now = (file_state store.tables.conn).now in
-      let empty = made.content fine bare in
+      let empty = made.content fine room in
       let run : hub_in now ≡ new_hub = ap state_of empty in
       let abides = every_run_from_holds d new_hub (hub_in now) [] [] (nothing_partial d) run in
       record {
@@ -64,7 +64,7 @@ module _ {D : Type 0} {g : disk.Ghosts D} (register : RegisterValue) where
         abides = abides;
         answers = every_answer_holds d new_hub (hub_in now) [] [] (nothing_partial d) run;
         stands = record {
-          kept = (made.stands fine bare).tables.kept;
+          kept = (made.stands fine room).tables.kept;
           known = (may_begin d (seen_in text store).content (ap (λ (k : Content). k.files) empty) (ap (λ (k : Content). k.board) empty)).known;
           partial = abides.partial;
         };

@@ -4,7 +4,7 @@ use Rattle.sqlite_disk.specs.declared.Disk as disk
 use Rattle.sqlite_disk.specs.declared.Files.{Files}
 use Rattle.gaz_register.specs.Growing.{Extends}
 use Rattle.gaz_register.specs.Registers.{RegisterValue}
-use Rattle.gaz_tables.specs.Creating.{IsBare, no_schema}
+use Rattle.gaz_tables.specs.Creating.{HasRoom}
 use Rattle.gaz_hub.specs.Step.{HubState, new_hub}
 use Rattle.gaz_stored.specs.GrownChains.{GoesOnGrown, Turn, after_turns}
 use Rattle.gaz_stored.specs.Runs.{StandForRun, hub_in}
@@ -39,9 +39,9 @@ module _ {D : Type 0} (g : disk.Ghosts D) where
 
   -- a visit, and those that come after it; where a register grew, the visit is one of nothing asked
   pub record GrownCallsAreOne : Type 0 where
-    -- to a store that was made where there was no table
+    -- to a store that was made where there was room
     pub made : (first : Stay) (later : List Stay)
-        → Founds g first.register first.visit → IsBare no_schema (found_by g first.visit)
+        → Founds g first.register first.visit → HasRoom (found_by g first.visit).schema
         → AreGrown first.register first.visit.left later
         → AreWhole g (map (λ stay. stay.visit) (first ∷ later))
         → IsOneGrownRun new_hub first later

@@ -2,7 +2,7 @@
 use Rattle.std.specs.Prelude.{List, ◌∷◌}
 use Rattle.sqlite_disk.specs.declared.Disk as disk
 use Rattle.gaz_register.specs.Registers.{RegisterValue}
-use Rattle.gaz_tables.specs.Creating.{IsBare, no_schema}
+use Rattle.gaz_tables.specs.Creating.{HasRoom}
 use Rattle.gaz_hub.specs.Step.{HubState, new_hub}
 use Rattle.gaz_stored.specs.Chains.{after_all, all_commands, all_responses}
 use Rattle.gaz_stored.specs.Runs.{GoesOn, StandForRun, hub_in}
@@ -21,9 +21,9 @@ module _ {D : Type 0} (g : disk.Ghosts D) where
 
   -- a visit, and those that come after it
   pub record CallsAreOne : Type 0 where
-    -- to a store that was made where there was no table
+    -- to a store that was made where there was room
     pub made : (register : RegisterValue) (first : Visit g) (later : List (Visit g))
-        → Founds g register first → IsBare no_schema (found_by g first)
+        → Founds g register first → HasRoom (found_by g first).schema
         → AreInTurn g register first.left later → AreWhole g (first ∷ later)
         → IsOneRun register new_hub first later
     -- to one whose tables stood for a partial run

@@ -8,7 +8,7 @@ use Rattle.sqlite_disk.specs.declared.Files.{Files}
 use Rattle.sqlite_store.specs.declared.store.FileStore.{FileStore}
 use Rattle.gaz_register.specs.Registers.{RegisterValue}
 use Rattle.gaz_register.specs.Texts.{register_text}
-use Rattle.gaz_tables.specs.Creating.{IsBare, no_schema}
+use Rattle.gaz_tables.specs.Creating.{HasRoom}
 use Rattle.gaz_tables.specs.Schema.{meta}
 use Rattle.gaz_tables.specs.Stores.{HasTables}
 use Rattle.gaz_tables.specs.Tables.{rows_of}
@@ -36,7 +36,7 @@ module _ {D : Type 0} (g : disk.Ghosts D) where
     -- where a store was made
     pub made : (files : Files D) (left : Option (Files D)) (register : RegisterValue)
         (answer : Said) (it : MakesStore g files left register answer)
-        → IsBare no_schema (file_state it.conn).now
+        → HasRoom (file_state it.conn).now.schema
         → IsUnharmed (file_state it.store.tables.conn) → HasStore register it.store.tables.conn
     -- where a call was asked, or connections were answered, over a partial run
     pub asked : (files : Files D) (left : Option (Files D)) (register : RegisterValue)

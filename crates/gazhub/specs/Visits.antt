@@ -14,7 +14,7 @@ use Rattle.sqlite_store.specs.declared.store.FileStore.{FileStore}
 use Rattle.sqlite_trees.specs.View.{IsClean}
 use Rattle.sqlite_wal.specs.Reads.{AreClean}
 use Rattle.gaz_register.specs.Registers.{RegisterValue}
-use Rattle.gaz_tables.specs.Creating.{IsBare, no_schema}
+use Rattle.gaz_tables.specs.Creating.{HasRoom}
 use Rattle.gaz_hub.specs.Step.{Command, Response, new_hub}
 use Rattle.gaz_store.specs.Seen.{IsUnharmed}
 use Rattle.gaz_stored.specs.Chains.{Talk}
@@ -67,10 +67,10 @@ module _ {D : Type 0} (g : disk.Ghosts D) where
         → GoesOn register (hub_in (found_by visit)) visit.commands visit.responses (left_by visit)
     pub closes : Closes visit.after visit.left
 
-  -- a hub of the register began with nothing, where there was no table
+  -- a hub of the register began with nothing, where there was room
   pub record Founds (register : RegisterValue) (visit : Visit) : Type 0 where
     pub connects : Connects visit.files visit.conn
-    pub goes_on : IsUnharmed (file_state visit.after) → IsBare no_schema (found_by visit)
+    pub goes_on : IsUnharmed (file_state visit.after) → HasRoom (found_by visit).schema
         → GoesOn register new_hub visit.commands visit.responses (left_by visit)
     pub closes : Closes visit.after visit.left
 

@@ -9,7 +9,7 @@ use gaz_stored::laws::{chains_are_one, grown_chains_are_one};
 use sqlite_disk::Disk;
 
 /// Calls over the same files, each of which opens what the one before gave back, are one run of one
-/// hub: after a store was made where there was no table, or over one whose tables stood for a
+/// hub: after a store was made where there was room, or over one whose tables stood for a
 /// partial run, or behind a call that made one of tables of schema 1 that did, on a disk that
 /// returns what is written and where no failure shut a connection.
 pub fn calls_are_one<D: Disk>()

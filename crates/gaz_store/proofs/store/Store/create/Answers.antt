@@ -3,7 +3,7 @@ use Rattle.sqlite.specs.Held.{state}
 use Rattle.sqlite.specs.State.{HasCleanDisk}
 use Rattle.gaz_sql_facts.specs.Changes.{LeavesTheCommit}
 use Rattle.gaz_register.specs.Texts.{register_text}
-use Rattle.gaz_tables.specs.Creating.{IsBare, IsNewStore, MayCreate, no_schema}
+use Rattle.gaz_tables.specs.Creating.{HasRoom, IsNewStore, MayCreate}
 use Rattle.gaz_kept.specs.Opening.{schema_number}
 use Rattle.gaz_store.proofs.Beginning.{is_made}
 use Rattle.gaz_store.proofs.store.Store.create.Goals as goal
@@ -11,7 +11,7 @@ use Rattle.gaz_store.proofs.store.Store.create.Goals as goal
 pub returns-in-Ok-clause-made : goal.returns-in-Ok-clause-made
 returns-in-Ok-clause-made g c =
     is_made (state g.S.Store c.over.result.conn) c.over.result.at_hand c.over.ensures.so (state g.S.Store c.args.conn) (register_text c.args.register.now) c.over.result.failures c.over.ensures.failures
-    (subst (λ h. HasCleanDisk (state g.S.Store h) → IsBare no_schema (state g.S.Store c.args.conn).now → IsNewStore schema_number (register_text c.args.register.now) (state g.S.Store h).now × ((state g.S.Store h).committed ≡ (state g.S.Store h).now))
+    (subst (λ h. HasCleanDisk (state g.S.Store h) → HasRoom (state g.S.Store c.args.conn).now.schema → IsNewStore schema_number (register_text c.args.register.now) (state g.S.Store c.args.conn).now (state g.S.Store h).now × ((state g.S.Store h).committed ≡ (state g.S.Store h).now))
     (sym c.over.ensures.conn) c.in-Ok.ensures.created)
     (subst (λ h. LeavesTheCommit (state g.S.Store h)) (sym c.over.ensures.conn) c.in-Ok.ensures.certain)
 
