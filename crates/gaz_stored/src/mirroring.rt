@@ -8,10 +8,10 @@ ghost use Rattle.gaz_mirror.specs.Mirrored.{seen_mirrored};
 ghost use Rattle.gaz_loaded.specs.Files.{OnlyReads};
 ghost use Rattle.gaz_stored.specs.Filling.{CanBeMirrored, RestsBare};
 
+use crate::joining::mirrored;
 use gaz_hub::Hub;
 use gaz_loaded::Listed;
 use gaz_mirror::Mirror;
-use crate::joining::mirrored;
 use gaz_shelf::{MemShelf, Seed};
 use std::alloc::Global;
 
