@@ -22,8 +22,7 @@ def stands_alone(text: str, function: Function) -> bool:
     is_inside = lines[0].startswith(" ") and not function.owner
     calls_itself = call_of(function).search("\n".join(lines[1:])) is not None
     has_more = any(it.strip().startswith("#[") and not TACTIC.match(it) for it in lines)
-    drops = function.is_of_trait and function.name == "drop"
-    return not is_inside and not calls_itself and not drops and not lines[-1].endswith(";") and not has_more
+    return not is_inside and not calls_itself and function.trait != "Drop" and not lines[-1].endswith(";") and not has_more
 
 
 def call_of(function: Function) -> re.Pattern:
@@ -33,10 +32,11 @@ def call_of(function: Function) -> re.Pattern:
 
 
 def folder_of(function: Function, homes: dict[str, str]) -> str | None:
-    """Where its proof stands, if its file and its type tell: a method of a trait stands where the impl does."""
+    """Where its proof stands, if its file and its type tell: that of a method of a trait stands where the impl does, and how it is called
+    where the trait is of a type, or stands for all of its kind, isn't told."""
     if not function.owner:
         return f"proofs/{module_folder(function.file)}{function.name}"
-    if function.is_of_trait:
+    if function.trait and function.owner.removesuffix(function.trait) in homes:
         return f"proofs/{module_folder(function.file)}{function.owner}/{function.name}"
     home = homes.get(function.owner)
     return None if home is None else f"proofs/{home}{function.owner}/{function.name}"

@@ -19,7 +19,7 @@ class Function:
     owner: str  # the type of its impl, with the trait behind it where there is one; none for a free function
     first: int
     last: int
-    is_of_trait: bool = False
+    trait: str = ""  # that of its impl, where there is one that is of no type
 
     def holds(self, line: int) -> bool:
         return self.first <= line <= self.last
@@ -81,32 +81,32 @@ def first_line(lines: list[str], start: int) -> int:
     return start
 
 
-def owner_at(lines: list[str], start: int) -> tuple[str, str, bool]:
+def owner_at(lines: list[str], start: int) -> tuple[str, str, str]:
     """The name under which the functions of the impl that begins at this index are proved, the type's and then the trait's; what stands
-    behind it where the file has several impls of that name: what the trait is of; and whether it is of a trait."""
+    behind it where the file has several impls of that name: what the trait is of; and the trait alone."""
     last = next(at for at in range(start, len(lines)) if "{" in lines[at])
     found = IMPL.match(" ".join(it.strip() for it in lines[start : last + 1]))
     if not found:
-        return "", "", False
+        return "", "", ""
     trait, of, of_type = (it.rpartition("::")[2] for it in (found[1] or "", found[2] or "", found[3]))
-    return of_type + trait, of, bool(trait)
+    return of_type + trait, of, trait
 
 
 def functions(file: str, text: str) -> list[Function]:
     """The functions of a file, in its order."""
-    lines, found, owner, is_of_trait, at = text.split("\n"), [], "", False, 0
+    lines, found, owner, trait, at = text.split("\n"), [], "", "", 0
     impls = {it: owner_at(lines, it) for it, line in enumerate(lines) if line.startswith("impl")}
     counts = Counter(name for name, _, _ in impls.values())
     while at < len(lines):
         if at in impls:
-            name, of, is_of_trait = impls[at]
-            owner = name + of if counts[name] > 1 else name
+            name, of, trait = impls[at]
+            owner, trait = name + of if counts[name] > 1 else name, "" if of else trait
         elif lines[at] == "}":
-            owner, is_of_trait = "", False
+            owner, trait = "", ""
         head = HEAD.match(lines[at])
         if head:
             last = last_line(lines, at, head[1])
-            found.append(Function(file, head[2], owner, first_line(lines, at) + 1, last + 1, is_of_trait))
+            found.append(Function(file, head[2], owner, first_line(lines, at) + 1, last + 1, trait))
             at = last
         at += 1
     return found
