@@ -115,9 +115,10 @@ def rejected_rows(place):
     load, *files = place.asked(list(streams.gazetteer(homes=2_500)), *files)
     assert all(it.count(b'"rejected","record":5001') for it in files)
     ours, memory, theirs = behind(sides_over(place, place.loaded(load)), load, files)
-    commit = statistics.median(commit_alone(place) for _ in range(ROUNDS))
-    told = f"{1e3 * ours:.1f} ms, one commit {1e3 * commit:.1f}, Python over sqlite3 {1e3 * theirs:.1f}"
-    yield "a rejected file of 5,000 changes", f"{ours / (memory + commit):.2f} times its judging in memory and one commit (at most 1.3)", told
+    size = len(files[0].whole[0])  # (the head of its request with it)
+    commit = statistics.median(commit_alone(place, size) for _ in range(ROUNDS))
+    told = f"{1e3 * ours:.1f} ms, a commit of {size / 1e3:.0f} kB {1e3 * commit:.1f}, Python over sqlite3 {1e3 * theirs:.1f}"
+    yield "a rejected file of 5,000 changes", f"{ours / (memory + commit):.2f} times its judging in memory and a commit of its bytes (at most 1.3)", told
     yield IN_MEMORY, f"{memory / ours:.2f} of that time", f"{1e3 * memory:.1f} ms"
 
 

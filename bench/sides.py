@@ -236,9 +236,9 @@ def anew(makers, load, asked):
     return medians([[behind([make()], load, [asked])[0] for make in makers] for _ in range(ROUNDS)])
 
 
-def commit_alone(place):
-    """Seconds of a small file's receiving by the statement alone, with its commit."""
-    _, nanoseconds = by_library(place.fresh(), (tables(), ("receive", received())), FEWEST)["receive"]
+def commit_alone(place, size=100):
+    """Seconds of the receiving of a file of so many bytes by the statement alone, with its commit."""
+    _, nanoseconds = by_library(place.fresh(), (tables(), ("receive", received(size))), FEWEST)["receive"]
     return nanoseconds / FILES / 1e9
 
 

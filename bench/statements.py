@@ -42,9 +42,9 @@ def each_alone(name, files):
         yield from within([(RECEIVEDS[name], values)])
 
 
-def received():
-    """200 files of 100 bytes."""
-    return each_alone("receive", ((CUST, volume, b"A" * 100) for volume in range(FILES)))
+def received(size=100):
+    """200 files of so many bytes."""
+    return each_alone("receive", ((CUST, volume, b"A" * size) for volume in range(FILES)))
 
 
 def word_of(value):
